@@ -1,0 +1,167 @@
+use crate::instr::{Arg, Instr, Operand};
+use hip_types::{Bits, Name, NoMemory, Row, Scalar, Structural, Width};
+use std::alloc::Global;
+
+#[derive(Debug, Drop)]
+pub struct Edge {
+    pub value: Operand,
+    pub label: Name,
+}
+
+#[derive(Debug, Drop)]
+pub struct Phi {
+    pub dest: Name,
+    pub ty: Scalar,
+    pub edges: Row<Edge>,
+}
+
+#[derive(Debug, Drop)]
+pub struct Case {
+    pub value: Bits,
+    pub label: Name,
+}
+
+#[derive(Debug, Drop)]
+pub enum End {
+    Br {
+        label: Name,
+    },
+    CondBr {
+        cond: Operand,
+        yes: Name,
+        no: Name,
+    },
+    Switch {
+        width: Width,
+        value: Operand,
+        other: Name,
+        cases: Row<Case>,
+    },
+    Ret(Option<Arg>),
+    Unreachable,
+}
+
+#[derive(Debug, Drop)]
+pub struct Block {
+    pub label: Name,
+    pub phis: Row<Phi>,
+    pub body: Row<Instr>,
+    pub end: End,
+}
+
+impl Structural for Edge {
+    fn copy(&self, alloc: Global) -> Result<Edge, NoMemory> {
+        Ok(Edge {
+            value: self.value.copy(alloc)?,
+            label: self.label.copy(alloc)?,
+        })
+    }
+
+    fn same(&self, other: &Edge) -> bool {
+        self.value.same(&other.value) && self.label.same(&other.label)
+    }
+}
+
+impl Structural for Phi {
+    fn copy(&self, alloc: Global) -> Result<Phi, NoMemory> {
+        Ok(Phi {
+            dest: self.dest.copy(alloc)?,
+            ty: self.ty,
+            edges: self.edges.copy(alloc)?,
+        })
+    }
+
+    fn same(&self, other: &Phi) -> bool {
+        self.dest.same(&other.dest) && self.ty == other.ty && self.edges.same(&other.edges)
+    }
+}
+
+impl Structural for Case {
+    fn copy(&self, alloc: Global) -> Result<Case, NoMemory> {
+        Ok(Case {
+            value: self.value,
+            label: self.label.copy(alloc)?,
+        })
+    }
+
+    fn same(&self, other: &Case) -> bool {
+        self.value.same(&other.value) && self.label.same(&other.label)
+    }
+}
+
+impl Structural for End {
+    fn copy(&self, alloc: Global) -> Result<End, NoMemory> {
+        match self {
+            End::Br { label } => Ok(End::Br {
+                label: label.copy(alloc)?,
+            }),
+            End::CondBr { cond, yes, no } => Ok(End::CondBr {
+                cond: cond.copy(alloc)?,
+                yes: yes.copy(alloc)?,
+                no: no.copy(alloc)?,
+            }),
+            End::Switch {
+                width,
+                value,
+                other,
+                cases,
+            } => Ok(End::Switch {
+                width: *width,
+                value: value.copy(alloc)?,
+                other: other.copy(alloc)?,
+                cases: cases.copy(alloc)?,
+            }),
+            End::Ret(arg) => Ok(End::Ret(arg.copy(alloc)?)),
+            End::Unreachable => Ok(End::Unreachable),
+        }
+    }
+
+    fn same(&self, other: &End) -> bool {
+        match (self, other) {
+            (End::Br { label }, End::Br { label: to }) => label.same(to),
+            (
+                End::CondBr { cond, yes, no },
+                End::CondBr {
+                    cond: test,
+                    yes: left,
+                    no: right,
+                },
+            ) => cond.same(test) && yes.same(left) && no.same(right),
+            (
+                End::Switch {
+                    width,
+                    value,
+                    other: rest,
+                    cases,
+                },
+                End::Switch {
+                    width: wide,
+                    value: x,
+                    other: last,
+                    cases: arms,
+                },
+            ) => width.same(wide) && value.same(x) && rest.same(last) && cases.same(arms),
+            (End::Ret(arg), End::Ret(with)) => arg.same(with),
+            (End::Unreachable, End::Unreachable) => true,
+            _ => false,
+        }
+    }
+}
+
+impl Structural for Block {
+    fn copy(&self, alloc: Global) -> Result<Block, NoMemory> {
+        Ok(Block {
+            label: self.label.copy(alloc)?,
+            phis: self.phis.copy(alloc)?,
+            body: self.body.copy(alloc)?,
+            end: self.end.copy(alloc)?,
+        })
+    }
+
+    fn same(&self, other: &Block) -> bool {
+        self.label.same(&other.label)
+            && self.phis.same(&other.phis)
+            && self.body.same(&other.body)
+            && self.end.same(&other.end)
+    }
+}

@@ -1,0 +1,128 @@
+ghost use Rattle.std.specs.Prelude.{◌≡◌, ◌↔◌, IsTrue, IfOk};
+
+use crate::block::Block;
+use crate::constant::Const;
+use hip_types::{Name, NoMemory, Row, Scalar, Structural, Ty};
+use std::alloc::Global;
+
+#[derive(Debug, Drop)]
+pub struct GlobalVar {
+    pub name: Name,
+    /// Whether it is a `constant`.
+    pub fixed: bool,
+    pub ty: Ty,
+    pub init: Const,
+    pub persistent: bool,
+    pub align: Option<u64>,
+}
+
+#[derive(Debug, Drop)]
+pub struct Extern {
+    pub ret: Option<Scalar>,
+    pub name: Name,
+    pub params: Row<Scalar>,
+}
+
+#[derive(Debug, Drop)]
+pub struct Param {
+    pub ty: Scalar,
+    pub name: Name,
+}
+
+#[derive(Debug, Drop)]
+pub struct Function {
+    pub ret: Option<Scalar>,
+    pub name: Name,
+    pub params: Row<Param>,
+    pub blocks: Row<Block>,
+}
+
+#[derive(Debug, Drop)]
+pub struct Program {
+    pub globals: Row<GlobalVar>,
+    pub externs: Row<Extern>,
+    pub functions: Row<Function>,
+}
+
+impl Structural for GlobalVar {
+    fn copy(&self, alloc: Global) -> Result<GlobalVar, NoMemory> {
+        Ok(GlobalVar {
+            name: self.name.copy(alloc)?,
+            fixed: self.fixed,
+            ty: self.ty.copy(alloc)?,
+            init: self.init.copy(alloc)?,
+            persistent: self.persistent,
+            align: self.align,
+        })
+    }
+
+    fn same(&self, other: &GlobalVar) -> bool {
+        self.name.same(&other.name)
+            && self.fixed == other.fixed
+            && self.ty.same(&other.ty)
+            && self.init.same(&other.init)
+            && self.persistent == other.persistent
+            && self.align == other.align
+    }
+}
+
+impl Structural for Extern {
+    fn copy(&self, alloc: Global) -> Result<Extern, NoMemory> {
+        Ok(Extern {
+            ret: self.ret,
+            name: self.name.copy(alloc)?,
+            params: self.params.copy(alloc)?,
+        })
+    }
+
+    fn same(&self, other: &Extern) -> bool {
+        self.ret == other.ret && self.name.same(&other.name) && self.params.same(&other.params)
+    }
+}
+
+impl Structural for Param {
+    fn copy(&self, alloc: Global) -> Result<Param, NoMemory> {
+        Ok(Param {
+            ty: self.ty,
+            name: self.name.copy(alloc)?,
+        })
+    }
+
+    fn same(&self, other: &Param) -> bool {
+        self.ty == other.ty && self.name.same(&other.name)
+    }
+}
+
+impl Structural for Function {
+    fn copy(&self, alloc: Global) -> Result<Function, NoMemory> {
+        Ok(Function {
+            ret: self.ret,
+            name: self.name.copy(alloc)?,
+            params: self.params.copy(alloc)?,
+            blocks: self.blocks.copy(alloc)?,
+        })
+    }
+
+    fn same(&self, other: &Function) -> bool {
+        self.ret == other.ret
+            && self.name.same(&other.name)
+            && self.params.same(&other.params)
+            && self.blocks.same(&other.blocks)
+    }
+}
+
+pub fn copy(alloc: Global, program: &Program) -> Result<Program, NoMemory>
+    ensures { IfOk result (λ p. p ≡ program.now) }
+{
+    Ok(Program {
+        globals: program.globals.copy(alloc)?,
+        externs: program.externs.copy(alloc)?,
+        functions: program.functions.copy(alloc)?,
+    })
+}
+
+pub fn same(a: &Program, b: &Program) -> bool
+    ensures { IsTrue result ↔ (a.now ≡ b.now) }
+{
+    a.globals.same(&b.globals) && a.externs.same(&b.externs) && a.functions.same(&b.functions)
+}

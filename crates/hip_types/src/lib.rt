@@ -1,0 +1,20 @@
+//! Lists, numbers' types, types and their layout.
+#![tactic(auto)]
+
+mod layout;
+mod link;
+mod memory;
+mod number;
+mod row;
+mod structural;
+mod text;
+mod ty;
+
+pub use layout::{align, field_offset, fits, gep_offset, size};
+pub use link::Link;
+pub use memory::NoMemory;
+pub use number::{BinaryOp, Bits, CastOp, Pred, Scalar, Width};
+pub use row::{Name, Row};
+pub use structural::Structural;
+pub use text::Text;
+pub use ty::{Ty, copy_ty, same_ty};

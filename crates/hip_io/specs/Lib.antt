@@ -1,3 +1,5 @@
+pub mod Cabinets
 pub mod Counts
+pub mod Fakes
 pub mod SinkLaws
 pub mod Sinks

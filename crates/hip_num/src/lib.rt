@@ -5,8 +5,12 @@
 mod arithmetic;
 mod cast;
 mod comparison;
+mod read;
 mod sign;
+mod write;
 
 pub use arithmetic::{NumTrap, binary};
 pub use cast::{narrow, widen};
 pub use comparison::compare;
+pub use read::{read_decimal, read_hex, read_signed};
+pub use write::{decimal_into, hex_into, natural_into};

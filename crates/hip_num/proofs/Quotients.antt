@@ -1,11 +1,10 @@
 -- Quotients and rests of numbers with a sign that 64 bits hold.
-use Rattle.std.proofs.Common.{ℕ, zero, suc, ◌+◌, ◌-◌, ◌*◌, ◌/◌, ◌%◌, ◌^◌, ◌<◌, ◌≤◌, ◌≡◌, None, refl, sym, ap, subst, ◌∙◌, arith, inl, inr, ⊎_elim}
+use Rattle.std.proofs.Common.{ℕ, zero, suc, ◌-◌, ◌/◌, ◌^◌, ◌<◌, ◌≤◌, ◌≡◌, None, refl, sym, ap, ◌∙◌, arith}
 use Rattle.std.specs.Prelude.{ℤ, pos, negsuc, neg_ℤ, FitsSigned, int_div, int_rem}
 use Rattle.std.specs.Int.{w64}
 use Rattle.std.specs.Int.Signed.{mag, mag_rem}
 use Rattle.std.proofs.Math.Nat.{div-le_self}
 use Rattle.std.proofs.lemmas.Nat.{div_below}
-use Rattle.std.proofs.lemmas.Bool.{cases_lt}
 use Rattle.hip_types.specs.declared.number.Width.{Width}
 use Rattle.hip_types.specs.declared.number.Width.TheVariants.{W1, W8, W16, W32, W64}
 use Rattle.hip_types.specs.Numbers.{modulus, signed, sign_of, wrapped, wrapped-signed, signed-low}

@@ -1,4 +1,4 @@
-use Rattle.std.proofs.Common.{ℕ, ◌≡◌, ◌<◌, None, Ok, refl, ap, sym, subst, ◌∙◌, rules}
+use Rattle.std.proofs.Common.{◌≡◌, ◌<◌, None, Ok, ap, sym, subst, ◌∙◌, rules}
 use Rattle.std.specs.Prelude.{ℤ, Option, FitsSigned, int_div}
 use Rattle.std.specs.Int.{w64}
 use Rattle.std.proofs.lemmas.Int.{quot_is}

@@ -1,4 +1,4 @@
-use Rattle.std.proofs.Common.{ℕ, ◌≡◌, None, Ok, ap, sym, ◌∙◌, rules}
+use Rattle.std.proofs.Common.{◌≡◌, None, Ok, ap, sym, ◌∙◌, rules}
 use Rattle.std.specs.Prelude.{ℤ, Option, FitsSigned, int_rem}
 use Rattle.std.specs.Int.{w64}
 use Rattle.std.proofs.lemmas.Int.{rem_is}

@@ -1,0 +1,81 @@
+-- Constants: the types and the names in them, and whether a constant has the shape of a type.
+use Rattle.std.specs.Prelude.{ℕ, ◌+◌, ◌-◌, ◌^◌, ◌==◌, ◌&&◌, nat_lt, if◌then◌else◌, Bool, true, false, List, [], ◌∷◌, ◌++◌, length, map, is_some}
+use Rattle.hip_types.specs.declared.number.Bits.{Bits}
+use Rattle.hip_types.specs.declared.ty.Ty.{Ty, out-Ty}
+use Rattle.hip_types.specs.declared.ty.Ty.TheOpen.{Ty-F}
+use Rattle.hip_types.specs.declared.ty.Ty.TheVariants.{Ptr}
+use Rattle.hip_types.specs.Widths.{bits_of}
+use Rattle.hip_types.specs.Layout.{gep_of}
+use Rattle.hip_ir.specs.declared.constant.Const.{Const}
+use Rattle.hip_ir.specs.declared.constant.Const.TheOpen.{Const-F, ConstGep-F, TypedConst-F}
+use Rattle.hip_ir.specs.declared.constant.Const.TheFolds.{fold-Const}
+use Rattle.hip_typing.specs.Types.{same_type, same_width}
+
+abbrev joined : {A : Type 0} → List (List A) → List A
+joined [] = []
+joined (xs ∷ rest) = xs ++ joined rest
+
+-- the types that are written in a constant
+abbrev types_step : Const-F (List Ty) (List Ty) (List Ty) → List Ty
+types_step (Const-F.Gep types) = types
+types_step (Const-F.Array items) = joined items
+types_step (Const-F.Struct items) = joined items
+types_step _ = []
+
+abbrev pub types_in : Const → List Ty
+types_in = fold-Const (List Ty) (List Ty) (List Ty) types_step (λ gep. gep.ty ∷ gep.base) (λ item. item.ty ∷ item.value)
+
+-- the names of globals in it
+abbrev names_step : Const-F (List (List ℕ)) (List (List ℕ)) (List (List ℕ)) → List (List ℕ)
+names_step (Const-F.Address name) = name ∷ []
+names_step (Const-F.Gep names) = names
+names_step (Const-F.Array items) = joined items
+names_step (Const-F.Struct items) = joined items
+names_step _ = []
+
+abbrev pub names_in : Const → List (List ℕ)
+names_in = fold-Const (List (List ℕ)) (List (List ℕ)) (List (List ℕ)) names_step (λ gep. gep.base) (λ item. item.value)
+
+-- an index, sign-extended to 64 bits
+abbrev pub index_of : Bits → ℕ
+index_of b = if nat_lt b.value (2 ^ (bits_of b.width - 1)) then b.value else (b.value + 2 ^ 64) - 2 ^ bits_of b.width
+
+abbrev all_have : List (Ty → Bool) → Ty → Bool
+all_have [] t = true
+all_have (item ∷ items) t = item t && all_have items t
+
+abbrev each_has : List (Ty → Bool) → List Ty → Bool
+each_has [] [] = true
+each_has (item ∷ items) (t ∷ ts) = item t && each_has items ts
+each_has _ _ = false
+
+abbrev array_has : List (Ty → Bool) → Ty-F Ty → Bool
+array_has items (Ty-F.Array n t) = length items == n && all_have items t
+array_has items _ = false
+
+abbrev struct_has : List (Ty → Bool) → Ty-F Ty → Bool
+struct_has items (Ty-F.Struct ts) = each_has items ts
+struct_has items _ = false
+
+abbrev is_int_of : Bits → Ty-F Ty → Bool
+is_int_of b (Ty-F.Int w) = same_width b.width w
+is_int_of b _ = false
+
+abbrev is_pointer : Ty-F Ty → Bool
+is_pointer Ty-F.Ptr = true
+is_pointer _ = false
+
+abbrev shape_step : Const-F (Ty → Bool) Bool (Ty → Bool) → Ty → Bool
+shape_step (Const-F.Int b) t = is_int_of b (out-Ty t)
+shape_step Const-F.Null t = is_pointer (out-Ty t)
+shape_step Const-F.Zero t = true
+shape_step (Const-F.Address name) t = is_pointer (out-Ty t)
+shape_step (Const-F.Gep path) t = is_pointer (out-Ty t) && path
+shape_step (Const-F.Array items) t = array_has items (out-Ty t)
+shape_step (Const-F.Struct items) t = struct_has items (out-Ty t)
+
+-- The lists of the constant have the type's lengths and member types, and its paths exist.
+abbrev pub has_shape : Const → Ty → Bool
+has_shape = fold-Const (Ty → Bool) Bool (Ty → Bool) shape_step
+    (λ gep. gep.base Ptr && is_some (gep_of gep.ty (map index_of gep.indices)))
+    (λ item t. same_type item.ty t && item.value t)

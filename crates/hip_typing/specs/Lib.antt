@@ -1,0 +1,9 @@
+pub mod Addresses
+pub mod Check
+pub mod Constants
+pub mod Externs
+pub mod Finding
+pub mod Names
+pub mod Paths
+pub mod Registers
+pub mod Types

@@ -1,0 +1,32 @@
+-- Names that differ.
+use Rattle.std.specs.Prelude.{ℕ, ◌+◌, ◌||◌, not, Bool, true, false, List, [], ◌∷◌, ◌++◌, map, Contains}
+use Rattle.std.specs.Str.{bytes_eq}
+use Rattle.hip_typing.specs.Check.{Check, asks, and_then, nothing_asked}
+use Rattle.hip_typing.specs.Finding.{Fault}
+use Rattle.hip_typing.specs.declared.fault.Place.{Place}
+
+-- a name, and the place at which it is declared
+pub record Named : Type 0 where
+  pub name : List ℕ
+  pub place : Place
+
+abbrev pub is_among : List (List ℕ) → List ℕ → Bool
+is_among [] name = false
+is_among (x ∷ xs) name = bytes_eq x name || is_among xs name
+
+-- each name differs from the earlier ones and from all before it
+abbrev pub differ_after : List (List ℕ) → List Named → Check
+differ_after earlier [] = nothing_asked
+differ_after earlier (x ∷ xs) =
+    and_then (asks (¬ Contains earlier x.name) (not (is_among earlier x.name)) Fault.Duplicate x.place) (differ_after (earlier ++ x.name ∷ []) xs)
+
+abbrev pub all_differ : List Named → Check
+all_differ names = differ_after [] names
+
+-- the items of a list, each with its number, made into something else
+abbrev pub numbered_from : {A B : Type 0} → ℕ → (ℕ → A → B) → List A → List B
+numbered_from n make [] = []
+numbered_from n make (x ∷ xs) = make n x ∷ numbered_from (n + 1) make xs
+
+abbrev pub numbered : {A B : Type 0} → (ℕ → A → B) → List A → List B
+numbered make xs = numbered_from 0 make xs

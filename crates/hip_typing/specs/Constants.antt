@@ -1,10 +1,11 @@
 -- Constants: the types and the names in them, and whether a constant has the shape of a type.
-use Rattle.std.specs.Prelude.{ℕ, ◌+◌, ◌-◌, ◌^◌, ◌==◌, ◌&&◌, nat_lt, if◌then◌else◌, Bool, true, false, List, [], ◌∷◌, ◌++◌, length, map, is_some}
+use Rattle.std.specs.Prelude.{ℕ, ◌==◌, ◌&&◌, Bool, true, false, List, [], ◌∷◌, ◌++◌, length, map, is_some}
 use Rattle.hip_types.specs.declared.number.Bits.{Bits}
 use Rattle.hip_types.specs.declared.ty.Ty.{Ty, out-Ty}
 use Rattle.hip_types.specs.declared.ty.Ty.TheOpen.{Ty-F}
 use Rattle.hip_types.specs.declared.ty.Ty.TheVariants.{Ptr}
-use Rattle.hip_types.specs.Widths.{bits_of}
+use Rattle.hip_types.specs.declared.number.Width.TheVariants.{W64}
+use Rattle.hip_types.specs.Numbers.{signed, wrapped}
 use Rattle.hip_types.specs.Layout.{gep_of}
 use Rattle.hip_ir.specs.declared.constant.Const.{Const}
 use Rattle.hip_ir.specs.declared.constant.Const.TheOpen.{Const-F, ConstGep-F, TypedConst-F}
@@ -38,7 +39,7 @@ names_in = fold-Const (List (List ℕ)) (List (List ℕ)) (List (List ℕ)) name
 
 -- an index, sign-extended to 64 bits
 abbrev pub index_of : Bits → ℕ
-index_of b = if nat_lt b.value (2 ^ (bits_of b.width - 1)) then b.value else (b.value + 2 ^ 64) - 2 ^ bits_of b.width
+index_of b = wrapped W64 (signed b.width b.value)
 
 abbrev all_have : List (Ty → Bool) → Ty → Bool
 all_have [] t = true

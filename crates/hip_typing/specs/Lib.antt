@@ -1,9 +1,11 @@
 pub mod Addresses
 pub mod Check
 pub mod Constants
+pub mod Equal
 pub mod Externs
 pub mod Finding
 pub mod Names
 pub mod Paths
+pub mod Places
 pub mod Registers
 pub mod Types

@@ -8,4 +8,5 @@ pub mod Names
 pub mod Paths
 pub mod Places
 pub mod Registers
+pub mod Sound
 pub mod Types

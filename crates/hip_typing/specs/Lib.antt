@@ -1,12 +1,13 @@
 pub mod Addresses
 pub mod Check
+pub mod CheckLaws
 pub mod Constants
 pub mod Equal
 pub mod Externs
-pub mod Finding
 pub mod Names
 pub mod Paths
 pub mod Places
 pub mod Registers
 pub mod Sound
+pub mod SoundLaws
 pub mod Types

@@ -1,14 +1,19 @@
 -- Names that differ.
-use Rattle.std.specs.Prelude.{ℕ, ◌+◌, ◌||◌, not, Bool, true, false, List, [], ◌∷◌, ◌++◌, map, Contains}
+use Rattle.std.specs.Prelude.{ℕ, ◌+◌, ◌≡◌, ◌⊎◌, ◌||◌, not, Bool, true, false, List, [], ◌∷◌, ◌++◌, map}
 use Rattle.std.specs.Str.{bytes_eq}
 use Rattle.hip_typing.specs.Check.{Check, asks, and_then, nothing_asked}
-use Rattle.hip_typing.specs.Finding.{Fault}
+use Rattle.hip_typing.specs.declared.fault.Fault.TheVariants as breaks
 use Rattle.hip_typing.specs.declared.fault.Place.{Place}
 
 -- a name, and the place at which it is declared
 pub record Named : Type 0 where
   pub name : List ℕ
   pub place : Place
+
+-- one of the names is this one
+abbrev pub IsAmong : List (List ℕ) → List ℕ → Type 0
+IsAmong [] name = ⊥
+IsAmong (x ∷ xs) name = (x ≡ name) ⊎ IsAmong xs name
 
 abbrev pub is_among : List (List ℕ) → List ℕ → Bool
 is_among [] name = false
@@ -18,7 +23,7 @@ is_among (x ∷ xs) name = bytes_eq x name || is_among xs name
 abbrev pub differ_after : List (List ℕ) → List Named → Check
 differ_after earlier [] = nothing_asked
 differ_after earlier (x ∷ xs) =
-    and_then (asks (¬ Contains earlier x.name) (not (is_among earlier x.name)) Fault.Duplicate x.place) (differ_after (earlier ++ x.name ∷ []) xs)
+    and_then (asks (¬ IsAmong earlier x.name) (not (is_among earlier x.name)) breaks.Duplicate x.place) (differ_after (earlier ++ x.name ∷ []) xs)
 
 abbrev pub all_differ : List Named → Check
 all_differ names = differ_after [] names

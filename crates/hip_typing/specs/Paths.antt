@@ -1,9 +1,9 @@
 -- Paths through a function, and what is assigned on them.
-use Rattle.std.specs.Prelude.{ℕ, ◌≡◌, ◌||◌, IsTrue, Bool, true, false, List, [], ◌∷◌, ◌++◌, map, take, Option, Some, None, slice_get, option_map, unwrap_or, Contains}
+use Rattle.std.specs.Prelude.{ℕ, ◌≡◌, ◌||◌, IsTrue, Bool, true, false, List, [], ◌∷◌, ◌++◌, map, take, Option, Some, None, slice_get, option_map, unwrap_or}
 use Rattle.std.specs.List.{flat_map}
 use Rattle.hip_ir.specs.declared.block.Block.{Block}
 use Rattle.hip_ir.specs.declared.program.Function.{Function}
-use Rattle.hip_typing.specs.Names.{is_among}
+use Rattle.hip_typing.specs.Names.{IsAmong}
 use Rattle.hip_typing.specs.Registers.{Register, block_registers, phi_registers, body_registers, parameter_registers, end_labels}
 
 abbrev label_at : Function → ℕ → Option (List ℕ)
@@ -16,7 +16,7 @@ labels_named_at f b = unwrap_or (option_map (λ block. end_labels block.end) (sl
 pub record LeadsTo (f : Function) (b c : ℕ) : Type 0 where
   pub label : List ℕ
   pub here : label_at f c ≡ Some label
-  pub named : Contains (labels_named_at f b) label
+  pub named : IsAmong (labels_named_at f b) label
 
 -- each block of the list is led to by the one before it, the first by b
 abbrev pub IsChain : Function → ℕ → List ℕ → Type 0
@@ -58,7 +58,7 @@ pub record IsUnassigned (f : Function) (last : ℕ) (point : Point) (name : List
   pub leads : IsPathTo f path last
   pub earlier : List ℕ
   pub is : path ≡ earlier ++ last ∷ []
-  pub none : ¬ Contains (assigned_on f earlier last point) name
+  pub none : ¬ IsAmong (assigned_on f earlier last point) name
 
 -- The register has been assigned on every path to the point.
 abbrev pub IsAssigned : Function → ℕ → Point → List ℕ → Type 0

@@ -33,7 +33,7 @@ use Rattle.hip_typing.specs.Check.{Check, asks, asks_true, and_then}
 use Rattle.hip_typing.specs.Constants.{has_shape, index_of}
 use Rattle.hip_typing.specs.Equal.{same_bits, same_operand}
 use Rattle.hip_typing.specs.Externs.{Signature}
-use Rattle.hip_typing.specs.Finding.{Fault}
+use Rattle.hip_typing.specs.declared.fault.Fault.TheVariants as breaks
 use Rattle.hip_typing.specs.Names.{is_among}
 use Rattle.hip_typing.specs.Registers.{Register, Use, find_register, registers_of, instr_uses, end_uses, phi_uses, end_labels, used_registers, used_globals, used_types}
 use Rattle.hip_typing.specs.Types.{same_scalar, all_pass}
@@ -81,11 +81,11 @@ are_among known names = list_all (is_among known) names
 abbrev uses_known : Scope → List Use → Bool
 uses_known s us = list_all (λ n. is_some (find_register s.registers n)) (used_registers us) && are_among (global_names s) (used_globals us)
 
-abbrev fits_test : Ty → Bool
+abbrev pub fits_test : Ty → Bool
 fits_test t = nat_le (shape t).largest 67108864 && nat_le (shape t).depth 32
 
 abbrev pub types_fit : List Ty → Place → Check
-types_fit ts place = asks (All Fits ts) (list_all fits_test ts) Fault.TooLarge place
+types_fit ts place = asks (All Fits ts) (list_all fits_test ts) breaks.TooLarge place
 
 abbrev pub type_of : Scalar → Ty
 type_of (scalars.Int w) = types.Int w
@@ -177,8 +177,8 @@ written_types _ = []
 
 abbrev pub instr_check : Scope → Instr → Place → Check
 instr_check s i place =
-    and_then (asks_true (uses_known s (instr_uses i) && callee_known s i) Fault.Unknown place)
-        (and_then (types_fit (written_types i ++ used_types (instr_uses i)) place) (asks_true (uses_agree s (instr_uses i) && instr_agrees s i) Fault.Mismatch place))
+    and_then (asks_true (uses_known s (instr_uses i) && callee_known s i) breaks.Unknown place)
+        (and_then (types_fit (written_types i ++ used_types (instr_uses i)) place) (asks_true (uses_agree s (instr_uses i) && instr_agrees s i) breaks.Mismatch place))
 
 -- ---- ends
 
@@ -205,10 +205,10 @@ is_entry (b ∷ bs) label = bytes_eq b.label label
 
 abbrev pub end_check : Scope → End → Place → Check
 end_check s e place =
-    and_then (asks_true (uses_known s (end_uses e) && are_among (labels s) (end_labels e)) Fault.Unknown place)
+    and_then (asks_true (uses_known s (end_uses e) && are_among (labels s) (end_labels e)) breaks.Unknown place)
         (and_then (types_fit (used_types (end_uses e)) place)
-            (and_then (asks_true (uses_agree s (end_uses e) && end_agrees s e) Fault.Mismatch place)
-                (and_then (asks_true (cases_differ (end_cases e)) Fault.Duplicate place) (asks_true (not (list_any (is_entry s.function.blocks) (end_labels e))) Fault.BadEdge place))))
+            (and_then (asks_true (uses_agree s (end_uses e) && end_agrees s e) breaks.Mismatch place)
+                (and_then (asks_true (cases_differ (end_cases e)) breaks.Duplicate place) (asks_true (not (list_any (is_entry s.function.blocks) (end_labels e))) breaks.BadEdge place))))
 
 -- ---- phis
 
@@ -232,6 +232,6 @@ edges_agree before edges =
 
 abbrev pub phi_check : Scope → List ℕ → Phi → Place → Check
 phi_check s label p place =
-    and_then (asks_true (uses_known s (phi_uses p) && are_among (labels s) (map (λ e. e.label) p.edges)) Fault.Unknown place)
+    and_then (asks_true (uses_known s (phi_uses p) && are_among (labels s) (map (λ e. e.label) p.edges)) breaks.Unknown place)
         (and_then (types_fit (used_types (phi_uses p)) place)
-            (and_then (asks_true (uses_agree s (phi_uses p)) Fault.Mismatch place) (asks_true (edges_agree (predecessors s.function.blocks label) p.edges) Fault.BadEdge place)))
+            (and_then (asks_true (uses_agree s (phi_uses p)) breaks.Mismatch place) (asks_true (edges_agree (predecessors s.function.blocks label) p.edges) breaks.BadEdge place)))

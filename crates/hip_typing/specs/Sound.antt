@@ -20,7 +20,10 @@ use Rattle.hip_typing.specs.Addresses.{region_size, volatile_start, volatile_end
 use Rattle.hip_typing.specs.Check.{Check, asks, asks_true, and_then, each, each_from}
 use Rattle.hip_typing.specs.Constants.{has_shape, names_in, types_in}
 use Rattle.hip_typing.specs.Externs.{Signature, known_signature}
-use Rattle.hip_typing.specs.Finding.{Fault, Finding}
+use Rattle.hip_typing.specs.declared.fault.Fault.{Fault}
+use Rattle.hip_typing.specs.declared.fault.Fault.TheVariants as breaks
+use Rattle.hip_typing.specs.declared.fault.Finding.{Finding}
+use Rattle.hip_typing.specs.declared.fault.Finding.{Finding}
 use Rattle.hip_typing.specs.Names.{Named, all_differ, is_among, numbered}
 use Rattle.hip_typing.specs.Paths.{Point, Before, AtEnd, IsAssigned, IsUnassigned}
 use Rattle.hip_typing.specs.Places.{Scope, scope_of, types_fit, instr_check, end_check, phi_check}
@@ -51,7 +54,7 @@ names_check P = all_differ (top_names P)
 abbrev pub global_check : List (List ℕ) → ℕ → GlobalVar → Check
 global_check known n g =
     and_then (types_fit (g.ty ∷ types_in g.init) (places.Global n))
-        (and_then (asks_true (has_shape g.init g.ty) Fault.BadGlobal (places.Global n)) (asks_true (list_all (is_among known) (names_in g.init)) Fault.Unknown (places.Global n)))
+        (and_then (asks_true (has_shape g.init g.ty) breaks.BadGlobal (places.Global n)) (asks_true (list_all (is_among known) (names_in g.init)) breaks.Unknown (places.Global n)))
 
 abbrev pub globals_check : Program → Check
 globals_check P = each (global_check (map (λ g. g.name) P.globals)) P.globals
@@ -72,14 +75,14 @@ is_of e (Some s) = same_result e.ret s.ret && all_pass (map (λ t u. same_scalar
 
 abbrev pub externs_check : Program → Check
 externs_check P =
-    and_then (each (λ n g. asks_true (is_free g.name) Fault.BadExtern (places.Global n)) P.globals)
-        (and_then (each (λ n e. asks_true (is_of e (known_signature e.name)) Fault.BadExtern (places.Extern n)) P.externs) (each (λ n f. asks_true (is_free f.name) Fault.BadExtern (places.Head n)) P.functions))
+    and_then (each (λ n g. asks_true (is_free g.name) breaks.BadExtern (places.Global n)) P.globals)
+        (and_then (each (λ n e. asks_true (is_of e (known_signature e.name)) breaks.BadExtern (places.Extern n)) P.externs) (each (λ n f. asks_true (is_free f.name) breaks.BadExtern (places.Head n)) P.functions))
 
 -- ---- the region and the volatile globals are not too large
 
 abbrev pub sizes_check : Program → Check
 sizes_check P =
-    asks_true (nat_le (region_size P) 67108864 && nat_le (volatile_end P) (volatile_start + 16777216)) Fault.TooLarge places.Whole
+    asks_true (nat_le (region_size P) 67108864 && nat_le (volatile_end P) (volatile_start + 16777216)) breaks.TooLarge places.Whole
 
 -- ---- `main` is there, has no parameters and answers an i32
 
@@ -96,7 +99,7 @@ has_main [] = false
 has_main (f ∷ fs) = if bytes_eq f.name (codes "main") then no_params f.params && is_i32 f.ret else has_main fs
 
 abbrev pub main_check : Program → Check
-main_check P = asks_true (has_main P.functions) Fault.NoMain places.Whole
+main_check P = asks_true (has_main P.functions) breaks.NoMain places.Whole
 
 -- ---- parameters, labels and registers of a function differ
 
@@ -122,7 +125,7 @@ registers_check P = each (λ f fn. all_differ (function_names f fn)) P.functions
 
 -- ---- each place of each function
 
-abbrev block_check : Scope → ℕ → ℕ → Block → Check
+abbrev pub block_check : Scope → ℕ → ℕ → Block → Check
 block_check s f b block =
     and_then (each (λ i p. phi_check s block.label p (places.Phi (site f b i))) block.phis)
         (and_then (each (λ i instr. instr_check s instr (places.Body (site f b i))) block.body) (end_check s block.end (places.End f b)))
@@ -211,15 +214,15 @@ BreaksFirst P fault place = IsSpelled P × ((rules_check P).found ≡ Some (reco
 -- The first rule that fails, at the first place, in the order of the rules above.
 abbrev is_first : Program → Place → TypeFault → Type 0
 is_first P place faults.BadShape = (¬ IsSpelled P) × (place ≡ places.Whole)
-is_first P place faults.Duplicate = BreaksFirst P Fault.Duplicate place
-is_first P place faults.Unknown = BreaksFirst P Fault.Unknown place
-is_first P place faults.Mismatch = BreaksFirst P Fault.Mismatch place
-is_first P place faults.NoMain = BreaksFirst P Fault.NoMain place
+is_first P place faults.Duplicate = BreaksFirst P breaks.Duplicate place
+is_first P place faults.Unknown = BreaksFirst P breaks.Unknown place
+is_first P place faults.Mismatch = BreaksFirst P breaks.Mismatch place
+is_first P place faults.NoMain = BreaksFirst P breaks.NoMain place
 is_first P place (faults.Unassigned path) = IsSpelled P × ((rules_check P).found ≡ None) × IsFirstUnassigned P place path
-is_first P place faults.BadExtern = BreaksFirst P Fault.BadExtern place
-is_first P place faults.BadGlobal = BreaksFirst P Fault.BadGlobal place
-is_first P place faults.BadEdge = BreaksFirst P Fault.BadEdge place
-is_first P place faults.TooLarge = BreaksFirst P Fault.TooLarge place
+is_first P place faults.BadExtern = BreaksFirst P breaks.BadExtern place
+is_first P place faults.BadGlobal = BreaksFirst P breaks.BadGlobal place
+is_first P place faults.BadEdge = BreaksFirst P breaks.BadEdge place
+is_first P place faults.TooLarge = BreaksFirst P breaks.TooLarge place
 is_first P place faults.NoMemory = ⊥
 
 abbrev pub IsFirstFault : Program → TypeRefusal → Type 0

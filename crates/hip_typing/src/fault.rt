@@ -37,3 +37,23 @@ pub struct TypeRefusal {
     pub fault: TypeFault,
     pub place: Place,
 }
+
+/// The faults that the rules find, all but those of paths and of spelling by one look at a place.
+#[derive(Clone, Copy, Debug, PartialEq, Eq)]
+pub enum Fault {
+    Duplicate,
+    Unknown,
+    Mismatch,
+    NoMain,
+    BadExtern,
+    BadGlobal,
+    BadEdge,
+    TooLarge,
+}
+
+/// A fault and its place.
+#[derive(Clone, Copy, Debug, PartialEq, Eq)]
+pub struct Finding {
+    pub fault: Fault,
+    pub place: Place,
+}

@@ -1,5 +1,6 @@
 -- Names that differ.
-use Rattle.std.specs.Prelude.{ℕ, ◌+◌, ◌≡◌, ◌⊎◌, ◌||◌, not, Bool, true, false, List, [], ◌∷◌, ◌++◌, map}
+use Rattle.std.specs.Prelude.{ℕ, ◌+◌, ◌≡◌, ◌⊎◌, not, Bool, List, [], ◌∷◌, ◌++◌, Option, position}
+use Rattle.std.specs.List.{list_any}
 use Rattle.std.specs.Str.{bytes_eq}
 use Rattle.hip_typing.specs.Check.{Check, asks, and_then, nothing_asked}
 use Rattle.hip_typing.specs.declared.fault.Fault.TheVariants as breaks
@@ -16,8 +17,11 @@ IsAmong [] name = ⊥
 IsAmong (x ∷ xs) name = (x ≡ name) ⊎ IsAmong xs name
 
 abbrev pub is_among : List (List ℕ) → List ℕ → Bool
-is_among [] name = false
-is_among (x ∷ xs) name = bytes_eq x name || is_among xs name
+is_among names name = list_any (bytes_eq name) names
+
+-- the number of the first name that is this one
+abbrev pub number_of : List (List ℕ) → List ℕ → Option ℕ
+number_of names name = position (bytes_eq name) names
 
 -- each name differs from the earlier ones and from all before it
 abbrev pub differ_after : List (List ℕ) → List Named → Check

@@ -1,4 +1,5 @@
 pub mod Addresses
+pub mod Answers
 pub mod Check
 pub mod CheckLaws
 pub mod Constants
@@ -8,6 +9,7 @@ pub mod Names
 pub mod Paths
 pub mod Places
 pub mod Registers
+pub mod Seen
 pub mod Sound
 pub mod SoundLaws
 pub mod Types

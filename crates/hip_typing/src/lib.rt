@@ -2,6 +2,8 @@
 #![tactic(auto)]
 
 mod fault;
+mod named;
 mod names;
+mod refused;
 
 pub use fault::{Place, TypeFault, TypeRefusal};

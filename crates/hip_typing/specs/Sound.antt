@@ -40,11 +40,17 @@ use Rattle.hip_typing.specs.declared.fault.TypeRefusal.{TypeRefusal}
 abbrev named : List ℕ → Place → Named
 named name place = record { name = name; place = place }
 
+abbrev pub global_names : List GlobalVar → List Named
+global_names globals = numbered (λ n g. named g.name (places.Global n)) globals
+
+abbrev pub extern_names : List Extern → List Named
+extern_names externs = numbered (λ n e. named e.name (places.Extern n)) externs
+
+abbrev pub function_names : List Function → List Named
+function_names functions = numbered (λ n f. named f.name (places.Head n)) functions
+
 abbrev top_names : Program → List Named
-top_names P =
-    numbered (λ n g. named g.name (places.Global n)) P.globals
-    ++ numbered (λ n e. named e.name (places.Extern n)) P.externs
-    ++ numbered (λ n f. named f.name (places.Head n)) P.functions
+top_names P = global_names P.globals ++ extern_names P.externs ++ function_names P.functions
 
 abbrev pub names_check : Program → Check
 names_check P = all_differ (top_names P)
@@ -117,11 +123,11 @@ abbrev block_names : ℕ → ℕ → Block → List Named
 block_names f b block =
     named block.label (places.Head f) ∷ (numbered (λ i p. named p.dest (places.Phi (site f b i))) block.phis ++ all_of (numbered (instr_names f b) block.body))
 
-abbrev function_names : ℕ → Function → List Named
-function_names f fn = map (λ p. named p.name (places.Head f)) fn.params ++ all_of (numbered (block_names f) fn.blocks)
+abbrev pub inner_names : ℕ → Function → List Named
+inner_names f fn = map (λ p. named p.name (places.Head f)) fn.params ++ all_of (numbered (block_names f) fn.blocks)
 
 abbrev pub registers_check : Program → Check
-registers_check P = each (λ f fn. all_differ (function_names f fn)) P.functions
+registers_check P = each (λ f fn. all_differ (inner_names f fn)) P.functions
 
 -- ---- each place of each function
 

@@ -30,7 +30,7 @@ use Rattle.hip_ir.specs.declared.program.Extern.{Extern}
 use Rattle.hip_ir.specs.declared.program.Function.{Function}
 use Rattle.hip_ir.specs.declared.program.Program.{Program}
 use Rattle.hip_typing.specs.Check.{Check, asks, asks_true, and_then}
-use Rattle.hip_typing.specs.Constants.{has_shape, index_of}
+use Rattle.hip_typing.specs.Constants.{goes_in, has_shape, index_of}
 use Rattle.hip_typing.specs.Equal.{same_bits, same_operand}
 use Rattle.hip_typing.specs.Externs.{Signature}
 use Rattle.hip_typing.specs.declared.fault.Fault.TheVariants as breaks
@@ -130,22 +130,18 @@ named_field fields (Reg name) = None
 named_field fields (Fixed value) = literal_field fields (out-Const value)
 
 -- the type that an index enters: an array's element, or the field that a literal names
-abbrev entered : Operand → Ty-F Ty → Option Ty
-entered index (Ty-F.Array n element) = Some element
-entered index (Ty-F.Struct fields) = named_field fields index
-entered index _ = None
+abbrev entered_by : Operand → Ty-F Ty → Option Ty
+entered_by index (Ty-F.Array n element) = Some element
+entered_by index (Ty-F.Struct fields) = named_field fields index
+entered_by index _ = None
 
-abbrev goes_in : (Ty → Bool) → Option Ty → Bool
-goes_in rest None = false
-goes_in rest (Some t) = rest t
-
-abbrev path_exists : List Arg → Ty → Bool
-path_exists [] t = true
-path_exists (index ∷ indices) t = goes_in (path_exists indices) (entered index.value (out-Ty t))
+abbrev args_enter : List Arg → Ty → Bool
+args_enter [] t = true
+args_enter (index ∷ indices) t = goes_in (args_enter indices) (entered_by index.value (out-Ty t))
 
 abbrev gep_agrees : List Arg → Ty → Bool
 gep_agrees [] t = false
-gep_agrees (first ∷ indices) t = path_exists indices t
+gep_agrees (first ∷ indices) t = args_enter indices t
 
 abbrev same_result : Option Scalar → Option Scalar → Bool
 same_result None None = true

@@ -86,11 +86,11 @@ abbrev pub path_exists : List Bits → Ty → Bool
 path_exists [] t = false
 path_exists (first ∷ further) t = enters further t
 
-abbrev all_have : List (Ty → Bool) → Ty → Bool
+abbrev pub all_have : List (Ty → Bool) → Ty → Bool
 all_have [] t = true
 all_have (item ∷ items) t = item t && all_have items t
 
-abbrev each_has : List (Ty → Bool) → List Ty → Bool
+abbrev pub each_has : List (Ty → Bool) → List Ty → Bool
 each_has [] [] = true
 each_has (item ∷ items) (t ∷ ts) = item t && each_has items ts
 each_has _ _ = false

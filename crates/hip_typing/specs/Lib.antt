@@ -12,4 +12,5 @@ pub mod Registers
 pub mod Seen
 pub mod Sound
 pub mod SoundLaws
+pub mod TypeLaws
 pub mod Types

@@ -38,11 +38,15 @@ abbrev is_struct : List (Ty → Bool) → Ty-F Ty → Bool
 is_struct tests (Ty-F.Struct ts) = all_pass tests ts
 is_struct tests _ = false
 
+-- one level of a type, with the test of each type inside in its place
+abbrev pub same_level : Ty-F (Ty → Bool) → Ty-F Ty → Bool
+same_level (Ty-F.Int w) t = is_int w t
+same_level Ty-F.Ptr t = is_ptr t
+same_level (Ty-F.Array n item) t = is_array n item t
+same_level (Ty-F.Struct tests) t = is_struct tests t
+
 abbrev pub same_step : Ty-F (Ty → Bool) → Ty → Bool
-same_step (Ty-F.Int w) t = is_int w (out-Ty t)
-same_step Ty-F.Ptr t = is_ptr (out-Ty t)
-same_step (Ty-F.Array n item) t = is_array n item (out-Ty t)
-same_step (Ty-F.Struct tests) t = is_struct tests (out-Ty t)
+same_step tests t = same_level tests (out-Ty t)
 
 abbrev pub same_type : Ty → Ty → Bool
 same_type = fold-Ty (Ty → Bool) same_step

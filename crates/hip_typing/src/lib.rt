@@ -6,5 +6,6 @@ mod fault;
 mod named;
 mod names;
 mod refused;
+mod shape;
 
 pub use fault::{Place, TypeFault, TypeRefusal};

@@ -1,5 +1,5 @@
 -- Constants with too many or too few members.
-use Rattle.std.proofs.Common.{ℕ, suc, ◌≡◌, ◌&&◌, Bool, true, false, List, [], ◌∷◌, map, length, refl, sym, ap}
+use Rattle.std.proofs.Common.{suc, ◌≡◌, ◌&&◌, Bool, true, false, List, [], ◌∷◌, map, length, refl, ap}
 use Rattle.hip_types.specs.declared.ty.Ty.{Ty}
 use Rattle.hip_ir.specs.declared.constant.TypedConst.{TypedConst}
 use Rattle.hip_typing.specs.Constants.{item_has_shape, each_has}

@@ -1,16 +1,16 @@
 -- Each rule is exact: its check finds nothing exactly where what it asks holds.
-use Rattle.std.specs.Prelude.{ℕ, ◌+◌, ◌≡◌, ◌≤◌, ◌&&◌, ◌||◌, not, nat_le, Bool, true, false, List, [], ◌∷◌, ◌++◌, All, Option, Some, None, IsTrue, if◌then◌else◌}
+use Rattle.std.specs.Prelude.{ℕ, ◌+◌, ◌≡◌, ◌&&◌, ◌||◌, not, Bool, true, false, List, [], ◌∷◌, ◌++◌, All, Option, Some, None}
 use Rattle.std.specs.List.{list_all}
 use Rattle.std.specs.Str.{bytes_eq}
-use Rattle.std.proofs.Common.{refl, sym, inl, inr, ◌⊎◌, arith}
+use Rattle.std.proofs.Common.{refl, sym, inl, inr}
 use Rattle.std.proofs.lemmas.List.Sums.{AllPass-from_list_all, list_all-from_AllPass}
 use Rattle.std.proofs.lemmas.Bool.{leb-true, le-leb}
 use Rattle.std.specs.Cmp.Derive.{both_true}
 use Rattle.std.proofs.lemmas.Slice.Eq.{bytes_eq-Decides}
-use Rattle.hip_types.specs.Layout.{Fits, shape}
+use Rattle.hip_types.specs.Layout.{Fits}
 use Rattle.hip_types.specs.declared.ty.Ty.{Ty}
-use Rattle.hip_typing.specs.Check.{Check, IsExact, or_else, nothing_asked, asks, asks_true, and_then, each_from, each}
-use Rattle.hip_typing.specs.Names.{Named, IsAmong, is_among, differ_after, all_differ}
+use Rattle.hip_typing.specs.Check.{Check, IsExact, or_else, nothing_asked, asks, asks_true, and_then, each_from}
+use Rattle.hip_typing.specs.Names.{Named, IsAmong, is_among, differ_after}
 use Rattle.hip_typing.specs.declared.fault.Fault.{Fault}
 use Rattle.hip_typing.specs.declared.fault.Fault.TheVariants as breaks
 use Rattle.hip_typing.specs.declared.fault.Finding.{Finding}

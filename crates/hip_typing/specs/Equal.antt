@@ -5,7 +5,7 @@ use Rattle.hip_types.specs.declared.number.Bits.{Bits}
 use Rattle.hip_ir.specs.declared.constant.Const.{Const, out-Const}
 use Rattle.hip_ir.specs.declared.constant.ConstGep.{ConstGep}
 use Rattle.hip_ir.specs.declared.constant.TypedConst.{TypedConst}
-use Rattle.hip_ir.specs.declared.constant.Const.TheOpen.{Const-F, ConstGep-F, TypedConst-F}
+use Rattle.hip_ir.specs.declared.constant.Const.TheOpen.{Const-F}
 use Rattle.hip_ir.specs.declared.constant.Const.TheFolds.{fold-Const}
 use Rattle.hip_ir.specs.declared.instr.Operand.{Operand}
 use Rattle.hip_ir.specs.declared.instr.Operand.TheVariants.{Reg, Fixed}

@@ -19,6 +19,10 @@ IsAmong (x ∷ xs) name = (x ≡ name) ⊎ IsAmong xs name
 abbrev pub is_among : List (List ℕ) → List ℕ → Bool
 is_among names name = list_any (bytes_eq name) names
 
+-- the first list has the same names as the second, perhaps in another order or more often
+abbrev pub Knows : List (List ℕ) → List (List ℕ) → Type 0
+Knows known names = (name : List ℕ) → is_among known name ≡ is_among names name
+
 -- the number of the first name that is this one
 abbrev pub number_of : List (List ℕ) → List ℕ → Option ℕ
 number_of names name = position (bytes_eq name) names

@@ -1,5 +1,5 @@
 -- Paths through a function, and what is assigned on them.
-use Rattle.std.specs.Prelude.{ℕ, ◌≡◌, ◌||◌, IsTrue, Bool, true, false, List, [], ◌∷◌, ◌++◌, map, take, Option, Some, None, slice_get, option_map, unwrap_or}
+use Rattle.std.specs.Prelude.{ℕ, ◌≡◌, List, [], ◌∷◌, ◌++◌, map, take, Option, Some, slice_get, option_map, unwrap_or}
 use Rattle.std.specs.List.{flat_map}
 use Rattle.hip_ir.specs.declared.block.Block.{Block}
 use Rattle.hip_ir.specs.declared.program.Function.{Function}

@@ -1,6 +1,6 @@
 -- The rules of an instruction, a phi and a block's end, at their place.
-use Rattle.std.specs.Prelude.{ℕ, ◌≤◌, ◌&&◌, ◌||◌, not, nat_lt, nat_le, Bool, true, false, List, [], ◌∷◌, ◌++◌, map, All, Option, Some, None, is_some, slice_get, if◌then◌else◌}
-use Rattle.std.specs.List.{flat_map, list_all, list_any}
+use Rattle.std.specs.Prelude.{ℕ, ◌&&◌, ◌||◌, not, nat_lt, nat_le, Bool, true, false, List, [], ◌∷◌, ◌++◌, map, All, Option, Some, None, is_some, slice_get, if◌then◌else◌}
+use Rattle.std.specs.List.{list_all, list_any}
 use Rattle.std.specs.Str.{bytes_eq}
 use Rattle.hip_types.specs.Layout.{Fits, shape}
 use Rattle.hip_types.specs.Widths.{bits_of}
@@ -174,7 +174,7 @@ written_types _ = []
 abbrev pub instr_check : Scope → Instr → Place → Check
 instr_check s i place =
     and_then (asks_true (uses_known s (instr_uses i) && callee_known s i) breaks.Unknown place)
-        (and_then (types_fit (written_types i ++ used_types (instr_uses i)) place) (asks_true (uses_agree s (instr_uses i) && instr_agrees s i) breaks.Mismatch place))
+    (and_then (types_fit (written_types i ++ used_types (instr_uses i)) place) (asks_true (uses_agree s (instr_uses i) && instr_agrees s i) breaks.Mismatch place))
 
 -- ---- ends
 
@@ -202,9 +202,9 @@ is_entry (b ∷ bs) label = bytes_eq b.label label
 abbrev pub end_check : Scope → End → Place → Check
 end_check s e place =
     and_then (asks_true (uses_known s (end_uses e) && are_among (labels s) (end_labels e)) breaks.Unknown place)
-        (and_then (types_fit (used_types (end_uses e)) place)
-            (and_then (asks_true (uses_agree s (end_uses e) && end_agrees s e) breaks.Mismatch place)
-                (and_then (asks_true (cases_differ (end_cases e)) breaks.Duplicate place) (asks_true (not (list_any (is_entry s.function.blocks) (end_labels e))) breaks.BadEdge place))))
+    (and_then (types_fit (used_types (end_uses e)) place)
+    (and_then (asks_true (uses_agree s (end_uses e) && end_agrees s e) breaks.Mismatch place)
+    (and_then (asks_true (cases_differ (end_cases e)) breaks.Duplicate place) (asks_true (not (list_any (is_entry s.function.blocks) (end_labels e))) breaks.BadEdge place))))
 
 -- ---- phis
 
@@ -229,5 +229,5 @@ edges_agree before edges =
 abbrev pub phi_check : Scope → List ℕ → Phi → Place → Check
 phi_check s label p place =
     and_then (asks_true (uses_known s (phi_uses p) && are_among (labels s) (map (λ e. e.label) p.edges)) breaks.Unknown place)
-        (and_then (types_fit (used_types (phi_uses p)) place)
-            (and_then (asks_true (uses_agree s (phi_uses p)) breaks.Mismatch place) (asks_true (edges_agree (predecessors s.function.blocks label) p.edges) breaks.BadEdge place)))
+    (and_then (types_fit (used_types (phi_uses p)) place)
+    (and_then (asks_true (uses_agree s (phi_uses p)) breaks.Mismatch place) (asks_true (edges_agree (predecessors s.function.blocks label) p.edges) breaks.BadEdge place)))

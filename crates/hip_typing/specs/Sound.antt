@@ -1,8 +1,7 @@
 -- Sound programs, and the first rule that another program breaks.
-use Rattle.std.specs.Prelude.{ℕ, ◌+◌, ◌≡◌, ◌≤◌, ◌<◌, ◌&&◌, not, nat_le, Bool, true, false, List, [], ◌∷◌, ◌++◌, map, length, take, All, Option, Some, None, is_some, slice_get, codes, if◌then◌else◌}
+use Rattle.std.specs.Prelude.{ℕ, ◌+◌, ◌≡◌, ◌<◌, ◌&&◌, not, nat_le, Bool, true, false, List, [], ◌∷◌, ◌++◌, map, All, Option, Some, None, is_some, slice_get, codes, if◌then◌else◌}
 use Rattle.std.specs.List.{flat_map, list_all}
 use Rattle.std.specs.Str.{bytes_eq}
-use Rattle.hip_types.specs.Layout.{Fits}
 use Rattle.hip_types.specs.declared.number.Scalar.{Scalar}
 use Rattle.hip_types.specs.declared.number.Scalar.TheVariants as scalars
 use Rattle.hip_types.specs.declared.number.Width.TheVariants.{W32}
@@ -17,17 +16,15 @@ use Rattle.hip_ir.specs.declared.program.Program.{Program}
 use Rattle.hip_ir.specs.declared.site.Site.{Site}
 use Rattle.hip_ir.specs.Reading.{IsSpelled}
 use Rattle.hip_typing.specs.Addresses.{region_size, volatile_start, volatile_end}
-use Rattle.hip_typing.specs.Check.{Check, asks, asks_true, and_then, each, each_from}
+use Rattle.hip_typing.specs.Check.{Check, asks_true, and_then, each}
 use Rattle.hip_typing.specs.Constants.{has_shape, names_in, types_in}
 use Rattle.hip_typing.specs.Externs.{Signature, known_signature}
 use Rattle.hip_typing.specs.declared.fault.Fault.{Fault}
 use Rattle.hip_typing.specs.declared.fault.Fault.TheVariants as breaks
-use Rattle.hip_typing.specs.declared.fault.Finding.{Finding}
-use Rattle.hip_typing.specs.declared.fault.Finding.{Finding}
 use Rattle.hip_typing.specs.Names.{Named, all_differ, is_among, numbered}
 use Rattle.hip_typing.specs.Paths.{Point, Before, AtEnd, IsAssigned, IsUnassigned}
 use Rattle.hip_typing.specs.Places.{Scope, scope_of, types_fit, instr_check, end_check, phi_check}
-use Rattle.hip_typing.specs.Registers.{assigned_by, instr_uses, end_uses, phi_uses, used_registers}
+use Rattle.hip_typing.specs.Registers.{assigned_by, instr_uses, end_uses, used_registers}
 use Rattle.hip_typing.specs.Types.{same_scalar, all_pass}
 use Rattle.hip_typing.specs.declared.fault.Place.{Place}
 use Rattle.hip_typing.specs.declared.fault.Place.TheVariants as places
@@ -60,7 +57,7 @@ names_check P = all_differ (top_names P)
 abbrev pub global_check : List (List ℕ) → ℕ → GlobalVar → Check
 global_check known n g =
     and_then (types_fit (g.ty ∷ types_in g.init) (places.Global n))
-        (and_then (asks_true (has_shape g.init g.ty) breaks.BadGlobal (places.Global n)) (asks_true (list_all (is_among known) (names_in g.init)) breaks.Unknown (places.Global n)))
+    (and_then (asks_true (has_shape g.init g.ty) breaks.BadGlobal (places.Global n)) (asks_true (list_all (is_among known) (names_in g.init)) breaks.Unknown (places.Global n)))
 
 abbrev pub globals_check : Program → Check
 globals_check P = each (global_check (map (λ g. g.name) P.globals)) P.globals
@@ -82,7 +79,7 @@ is_of e (Some s) = same_result e.ret s.ret && all_pass (map (λ t u. same_scalar
 abbrev pub externs_check : Program → Check
 externs_check P =
     and_then (each (λ n g. asks_true (is_free g.name) breaks.BadExtern (places.Global n)) P.globals)
-        (and_then (each (λ n e. asks_true (is_of e (known_signature e.name)) breaks.BadExtern (places.Extern n)) P.externs) (each (λ n f. asks_true (is_free f.name) breaks.BadExtern (places.Head n)) P.functions))
+    (and_then (each (λ n e. asks_true (is_of e (known_signature e.name)) breaks.BadExtern (places.Extern n)) P.externs) (each (λ n f. asks_true (is_free f.name) breaks.BadExtern (places.Head n)) P.functions))
 
 -- ---- the region and the volatile globals are not too large
 
@@ -134,7 +131,7 @@ registers_check P = each (λ f fn. all_differ (inner_names f fn)) P.functions
 abbrev pub block_check : Scope → ℕ → ℕ → Block → Check
 block_check s f b block =
     and_then (each (λ i p. phi_check s block.label p (places.Phi (site f b i))) block.phis)
-        (and_then (each (λ i instr. instr_check s instr (places.Body (site f b i))) block.body) (end_check s block.end (places.End f b)))
+    (and_then (each (λ i instr. instr_check s instr (places.Body (site f b i))) block.body) (end_check s block.end (places.End f b)))
 
 abbrev pub places_check : Program → Check
 places_check P = each (λ f fn. each (block_check (scope_of P fn) f) fn.blocks) P.functions
@@ -197,7 +194,7 @@ pub record IsSound (P : Program) : Type 0 where
 abbrev pub rules_check : Program → Check
 rules_check P =
     and_then (names_check P)
-        (and_then (globals_check P) (and_then (externs_check P) (and_then (sizes_check P) (and_then (main_check P) (and_then (registers_check P) (places_check P))))))
+    (and_then (globals_check P) (and_then (externs_check P) (and_then (sizes_check P) (and_then (main_check P) (and_then (registers_check P) (places_check P))))))
 
 -- The path shows that the use is not assigned; every use before it is.
 pub record IsFirstUnassigned (P : Program) (place : Place) (path : List ℕ) : Type 0 where

@@ -1,5 +1,5 @@
 -- The test of types passes exactly where they are equal.
-use Rattle.std.specs.Prelude.{ℕ, ◌≡◌, ◌==◌, ◌&&◌, Bool, true, false, List, [], ◌∷◌, map}
+use Rattle.std.specs.Prelude.{◌≡◌, ◌&&◌, Bool, true, false, List, [], ◌∷◌, map}
 use Rattle.std.proofs.Common.{refl, sym, ap, subst, ◌∙◌}
 use Rattle.std.proofs.lemmas.Bool.{eqb-true, eq-eqb}
 use Rattle.std.specs.Cmp.{both_ways}
@@ -10,7 +10,6 @@ use Rattle.hip_types.specs.declared.ty.Ty.{Ty, out-Ty, map-Ty, roll-out-Ty, out-
 use Rattle.hip_types.specs.declared.ty.Ty.TheOpen.{Ty-F}
 use Rattle.hip_types.specs.declared.ty.Ty.TheViews.{roll-Ty}
 use Rattle.hip_types.specs.declared.ty.Ty.TheFolds.{ind-Ty, fold-roll-Ty}
-use Rattle.hip_types.specs.Widths.{bits_of}
 use Rattle.hip_typing.specs.Types.{same_width, same_type, same_level, same_step, all_pass}
 
 pub same_width-equal : (v w : Width) → same_width v w ≡ true → v ≡ w

@@ -3,6 +3,7 @@
 
 mod constants;
 mod fault;
+mod globals;
 mod named;
 mod names;
 mod refused;

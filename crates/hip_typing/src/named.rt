@@ -35,7 +35,10 @@ pub fn check_all_differ(alloc: Global, names: &[NamedPlace<'_>]) -> Result<(), R
 }
 
 /// Adds the names of globals.
-fn push_globals<'a>(names: &mut Row<NamedPlace<'a>>, globals: &'a [GlobalVar]) -> Result<(), NoMemory>
+fn push_globals<'a>(
+    names: &mut Row<NamedPlace<'a>>,
+    globals: &'a [GlobalVar],
+) -> Result<(), NoMemory>
     ensures { OnOk result (seen names.new ≡ seen names.old ++ global_names globals.now) }
 {
     'globals: for number in 0..globals.len() {
@@ -61,7 +64,10 @@ fn push_externs<'a>(names: &mut Row<NamedPlace<'a>>, externs: &'a [Extern]) -> R
 }
 
 /// Adds the names of functions.
-fn push_functions<'a>(names: &mut Row<NamedPlace<'a>>, functions: &'a [Function]) -> Result<(), NoMemory>
+fn push_functions<'a>(
+    names: &mut Row<NamedPlace<'a>>,
+    functions: &'a [Function],
+) -> Result<(), NoMemory>
     ensures { OnOk result (seen names.new ≡ seen names.old ++ function_names functions.now) }
 {
     'functions: for number in 0..functions.len() {

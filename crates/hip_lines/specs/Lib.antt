@@ -1,0 +1,9 @@
+pub mod Line
+pub mod Loose
+pub mod Image
+pub mod Pending
+pub mod Parts
+pub mod LineLaws
+pub mod LooseLaws
+pub mod ImageLaws
+pub mod PendingLaws

@@ -1,0 +1,6 @@
+//! The store queues of the cache lines of a persistent region.
+#![tactic(auto)]
+
+mod part;
+
+pub use part::{LooseByte, Part};

@@ -1,0 +1,10 @@
+-- Counts of what went wrong outside.
+use Rattle.std.specs.Prelude.{ℕ, ◌+◌, ◌-◌, ◌^◌, ◌≤◌, min}
+
+-- A count rose in a call: it is greater after the call, or it stands at the last value that it can have.
+abbrev pub Rose : ℕ → ℕ → Type 0
+Rose before after = min (before + 1) (2 ^ 64 - 1) ≤ after
+
+-- one more, or the last value
+abbrev pub counted : ℕ → ℕ
+counted before = min (before + 1) (2 ^ 64 - 1)

@@ -3,6 +3,7 @@ pub mod Loose
 pub mod Image
 pub mod Pending
 pub mod Parts
+pub mod Queues
 pub mod LineLaws
 pub mod LooseLaws
 pub mod ImageLaws

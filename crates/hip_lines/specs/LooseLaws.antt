@@ -81,6 +81,18 @@ module _ {P : Type 0} (covers : P → ℕ → Bool) where
       join false c None h = bare c h
       join c e (Some (k, x)) h = tail k x h
 
+  -- the last part over a byte after one more part, and after the first parts are let go
+  pub last_over-append : (b : ℕ) (ps : List P) (p : P) → last_over covers b (ps ++ p ∷ []) ≡ cond (covers p b) (Some (length ps, p)) (last_over covers b ps)
+  last_over-append b [] p = here (covers p b)
+    where
+      here : (c : Bool) → later covers (cond c (Some (0, p)) None) None ≡ cond c (Some (0, p)) None
+      here c = refl
+  last_over-append b (q ∷ ps) p = ap (later covers (cond (covers q b) (Some (0, q)) None)) (last_over-append b ps p) ∙ here (covers p b)
+    where
+      here : (c : Bool) → later covers (cond (covers q b) (Some (0, q)) None) (cond c (Some (length ps, p)) (last_over covers b ps)) ≡ cond c (Some (suc (length ps), p)) (later covers (cond (covers q b) (Some (0, q)) None) (last_over covers b ps))
+      here true = refl
+      here false = refl
+
   -- a byte is loose exactly where the parts that are not durable have a last one over it; its place counts from the durable number
   pub loose-drop : (l : Line P) (b k : ℕ) (x : P) → IsLastOver covers (drop l.durable l.parts) b k x → IsLooseBy covers l b (l.durable + k) x
   loose-drop l b k x h = record { last_over = record { at = sym (get-drop l.durable l.parts k) ∙ h.at; over = h.over; last = after }; not_durable = omega arith }

@@ -1,19 +1,15 @@
 -- What contracts see of the lines of a region: for each line its pending parts, and the room that was made for a store.
-use Rattle.std.specs.Prelude.{◌≡◌, ℕ, zero, suc, ◌+◌, ◌-◌, ◌/◌, Bool, ◌&&◌, nat_lt, nat_le, List, [], ◌++◌, map, replicate, Option, None, option_map, option_and_then, option_to_list, slice_get}
+use Rattle.std.specs.Prelude.{◌≡◌, ℕ, zero, suc, ◌+◌, ◌-◌, ◌/◌, Bool, ◌&&◌, nat_lt, nat_le, List, [], ◌++◌, map, replicate, Option, Some, None, option_map, option_and_then, option_to_list, slice_get}
 use Rattle.hip_lines.specs.Line.{start_in, end_in, change_range}
 use Rattle.hip_lines.specs.Loose.{last_over}
 use Rattle.hip_lines.specs.Pending.{Pending, none_pending, pending_with, pending_flushed, pending_fenced}
 use Rattle.hip_lines.specs.declared.part.Part.{Part}
 use Rattle.hip_lines.specs.declared.part.LooseByte.{LooseByte}
 
--- an offset and a size, of a store
-pub record Span : Type 0 where
-  pub offset : ℕ
-  pub size : ℕ
-
+-- the pending parts of each line, and the offset and the size of the store that room was made for
 pub record Held : Type 0 where
   pub lines : List (Pending Part)
-  pub room : Option Span
+  pub room : Option (ℕ × ℕ)
 
 -- the part covers byte b
 abbrev pub part_covers : Part → ℕ → Bool
@@ -50,6 +46,11 @@ loose_at ws b = option_and_then (λ w. loose_in w b) (slice_get ws (b / 64))
 abbrev pub loose_from : List (Pending Part) → ℕ → ℕ → List LooseByte
 loose_from ws o zero = []
 loose_from ws o (suc n) = option_to_list (loose_at ws o) ++ loose_from ws (suc o) n
+
+-- one more than the place of the last pending part over a byte, or 0
+abbrev pub mark_of : Option (ℕ × Part) → ℕ
+mark_of None = 0
+mark_of (Some f) = f.0 + 1
 
 -- a call that changes no line leaves the room as it is, and one that does leaves no room
 pub record KeepsRoom (old new : Held) : Type 0 where

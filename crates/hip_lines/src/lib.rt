@@ -2,5 +2,6 @@
 #![tactic(auto)]
 
 mod part;
+mod queue;
 
 pub use part::{LooseByte, Part};

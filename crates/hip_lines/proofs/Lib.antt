@@ -1,1 +1,4 @@
 pub mod Marks
+pub mod KeptSteps
+pub mod Listed
+pub mod Tables

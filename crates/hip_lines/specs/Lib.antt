@@ -4,6 +4,8 @@ pub mod Image
 pub mod Pending
 pub mod Parts
 pub mod Queues
+pub mod Kept
+pub mod Views
 pub mod LineLaws
 pub mod LooseLaws
 pub mod ImageLaws

@@ -2,3 +2,4 @@ pub mod Marks
 pub mod KeptSteps
 pub mod Listed
 pub mod Tables
+pub mod Helds

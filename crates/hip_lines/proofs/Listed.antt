@@ -17,7 +17,7 @@ use Rattle.hip_lines.specs.Kept.{Queues, pending_by, pending_at, ListsFlushed, C
 pub same_or_not : (j k : ℕ) → ((is_at (nat_cmp j) k ≡ true) × (j ≡ k)) ⊎ ((is_at (nat_cmp j) k ≡ false) × (j ≢ k))
 same_or_not j k = grind (arith, common_steps)
 
-some_flushed : (o : Option Queue) → nat_lt 0 (pending_by o).flushed ≡ true → IsSome o
+pub some_flushed : (o : Option Queue) → nat_lt 0 (pending_by o).flushed ≡ true → IsSome o
 some_flushed None e = absurd (let h : ⊥ = cc in h)
 some_flushed (Some q) e = refl
 

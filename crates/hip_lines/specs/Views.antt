@@ -1,5 +1,5 @@
 -- What the lines of a region stand for.
-use Rattle.std.specs.Prelude.{ℕ, zero, suc, ◌≤◌, List, [], ◌∷◌, vec_capacity}
+use Rattle.std.specs.Prelude.{ℕ, zero, suc, ◌≤◌, ◌^◌, List, [], ◌∷◌, vec_capacity}
 use Rattle.std.specs.BTreeMap.{btree_map_len}
 use Rattle.hip_lines.specs.Pending.{Pending}
 use Rattle.hip_lines.specs.Parts.{Held}
@@ -19,6 +19,7 @@ abbrev pub held_of : Inside → Held
 held_of s = record { lines = lines_of s.count s.queues; room = s.room }
 
 pub record IsKept (s : Inside) : Type 0 where
+  pub small : s.count ≤ 2 ^ 20
   pub numbered : AreNumbered s.queues
   pub below : AreBelow s.count s.queues
   pub flushed : ListsFlushed s.flushed.items s.queues

@@ -1,6 +1,6 @@
 //! The queues of the lines that hold something.
 
-ghost use Rattle.std.specs.Prelude.{◌≡◌, ℕ, ◌+◌, ◌-◌, ◌*◌, ◌/◌, ◌%◌, ◌<◌, ◌≤◌, [], ◌∷◌, ◌≢◌, ◌^◌, cond, true, false, Some, length, vec_len, vec_capacity, OnOk, None, IsSome};
+ghost use Rattle.std.specs.Prelude.{◌≡◌, ℕ, ◌+◌, ◌-◌, ◌*◌, ◌/◌, ◌%◌, ◌<◌, ◌≤◌, [], ◌∷◌, ◌≢◌, ◌^◌, cond, true, false, Some, length, vec_len, vec_capacity, OnOk, IsOk, None, IsSome, MatchBool};
 ghost use Rattle.std.specs.Ordering.{nat_cmp};
 ghost use Rattle.std.specs.BTreeMap.{get, btree_map_len};
 ghost use Rattle.hip_lines.specs.Line.{has_bytes};
@@ -103,6 +103,37 @@ pub fn make_room_in(alloc: Global, queues: &mut BTreeMap<u64, Queue>, flushed: &
         make_room_at(alloc, queues, flushed, line)?;
     }
     Ok(())
+}
+
+/// Makes room for the parts of a store where the room that was made is not for it.
+pub fn ensure_room(alloc: Global, queues: &mut BTreeMap<u64, Queue>, flushed: &mut Vec<u64>, room: Option<(u64, u32)>, offset: u64, size: u32) -> Result<(), NoMemory>
+    requires some { 0 < size }
+    requires fits { offset + size < 2 ^ 64 }
+    requires listed { ListsFlushed flushed.old.items queues.old }
+    requires room { HasRoomFor queues.old room }
+    ensures same { (j : ℕ) → pending_at queues.new j ≡ pending_at queues.old j }
+    ensures kept { (j : ℕ) → HasRoomAt queues.old j → HasRoomAt queues.new j }
+    ensures ok { OnOk result (HasRoomFor queues.new (Some (offset, size))) }
+    ensures ready { room ≡ Some (offset, size) → IsOk result }
+    ensures numbered { AreNumbered queues.old → AreNumbered queues.new }
+    ensures below { (n : ℕ) → offset + size ≤ 64 * n → AreBelow n queues.old → AreBelow n queues.new }
+    ensures flushed { flushed.new.items ≡ flushed.old.items }
+    ensures spare { btree_map_len queues.old ≤ vec_capacity flushed.old → btree_map_len queues.new ≤ vec_capacity flushed.new }
+{
+    if is_room_for(room, offset, size) {
+        return Ok(());
+    }
+    make_room_in(alloc, queues, flushed, offset, size)
+}
+
+// Whether the room is that of this store.
+fn is_room_for(room: Option<(u64, u32)>, offset: u64, size: u32) -> bool
+    ensures { MatchBool result (room ≡ Some (offset, size)) (room ≢ Some (offset, size)) }
+{
+    match room {
+        Some((at, count)) => at == offset && count == size,
+        None => false,
+    }
 }
 
 /// Takes up the parts of a store in the room that was made for them.

@@ -3,3 +3,4 @@ pub mod KeptSteps
 pub mod Listed
 pub mod Tables
 pub mod Helds
+pub mod LooseRest

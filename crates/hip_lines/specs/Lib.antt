@@ -6,6 +6,8 @@ pub mod Parts
 pub mod Queues
 pub mod Kept
 pub mod Views
+pub mod Next
+pub mod Rest
 pub mod LineLaws
 pub mod LooseLaws
 pub mod ImageLaws

@@ -3,7 +3,9 @@
 ghost use Rattle.std.specs.Prelude.{◌≡◌, ℕ, ◌+◌, ◌-◌, ◌*◌, ◌/◌, ◌%◌, ◌<◌, ◌≤◌, [], ◌∷◌, ◌≢◌, ◌^◌, cond, true, false, Some, length, vec_len, vec_capacity, OnOk, IsOk, None, IsSome, MatchBool};
 ghost use Rattle.std.specs.Ordering.{nat_cmp};
 ghost use Rattle.std.specs.BTreeMap.{get, btree_map_len};
+ghost use Rattle.std.specs.Option.{option_copied};
 ghost use Rattle.hip_lines.specs.Line.{has_bytes};
+ghost use Rattle.hip_lines.specs.Next.{IsQueueFrom};
 ghost use Rattle.hip_lines.specs.Pending.{pending_with, pending_flushed, pending_fenced};
 ghost use Rattle.hip_lines.specs.Parts.{part_in};
 ghost use Rattle.hip_lines.specs.Kept.{pending_at, HasRoomAt, HasRoomFor, AreNumbered, AreBelow, ListsFlushed, ChangesLine};
@@ -205,5 +207,16 @@ pub fn fence_in(queues: &mut BTreeMap<u64, Queue>, flushed: &[u64])
 {
     for line in flushed {
         fence_at(queues, *line);
+    }
+}
+
+/// The first queue at a line or after it.
+pub fn queue_from(queues: &BTreeMap<u64, Queue>, line: u64) -> Option<&Queue>
+    requires { AreNumbered queues.now }
+    ensures { IsQueueFrom queues.now line (option_copied result) }
+{
+    match queues.range(line..).next() {
+        Some((_, queue)) => Some(queue),
+        None => None,
     }
 }

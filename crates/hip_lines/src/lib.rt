@@ -3,8 +3,13 @@
 
 mod kept;
 mod lines;
+mod loose;
 mod part;
 mod queue;
 
 pub use lines::Lines;
+pub use loose::NotDurable;
 pub use part::{LooseByte, Part};
+
+#[cfg(test)]
+mod tests;

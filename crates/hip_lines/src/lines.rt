@@ -1,7 +1,8 @@
 ghost use Rattle.std.specs.Prelude.{◌≡◌, ℕ, ◌+◌, ◌*◌, ◌/◌, ◌%◌, ◌<◌, ◌≤◌, length, IfOk, IsOk, OnOk, OnErr, Some, None};
-ghost use Rattle.hip_lines.specs.Parts.{pending_stored, pending_flushed_all, pending_fenced_all, none_pending_all, KeepsRoom};
+ghost use Rattle.hip_lines.specs.Parts.{pending_stored, pending_flushed_all, pending_fenced_all, none_pending_all, loose_from, KeepsRoom};
 
 use crate::kept::{ensure_room, fence_in, flush_at, make_room_in, push_in};
+use crate::loose::NotDurable;
 use crate::queue::{LINE, Queue};
 use hip_types::NoMemory;
 use std::alloc::Global;
@@ -101,5 +102,13 @@ impl Lines {
             self.flushed.clear();
             self.room = None;
         }
+    }
+
+    /// The bytes of a range that are not durable, ascending, each by the last part over it.
+    pub fn not_durable(&self, from: u64, len: u64) -> NotDurable<'_>
+        requires { from + len ≤ 64 * length self.now.lines }
+        ensures { result ≡ loose_from self.now.lines from len }
+    {
+        NotDurable::new(&self.queues, from, len)
     }
 }

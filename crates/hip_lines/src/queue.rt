@@ -24,6 +24,7 @@ pub struct Queue {
 impl Queue {
     ghost use Rattle.hip_lines.specs.Pending.{none_pending, pending_with, pending_flushed, pending_fenced};
     ghost use Rattle.hip_lines.specs.Parts.{loose_in};
+    ghost use Rattle.hip_lines.specs.Next.{IsFirstLoose};
     ghost use Rattle.hip_lines.specs.Queues.{pending_in, HasRoom};
 
     pub fn new(alloc: Global, line: u64) -> Queue
@@ -83,6 +84,20 @@ impl Queue {
         lower_marks(&mut self.last, self.flushed);
         drop_front(&mut self.parts, self.flushed);
         self.flushed = 0;
+    }
+
+    /// The first loose byte from an offset up to another, both of the line.
+    pub fn first_loose(&self, from: u64, to: u64) -> Option<LooseByte>
+        requires line { 64 * self.now.line ≤ from }
+        requires end { to ≤ 64 * self.now.line + 64 }
+        ensures { IsFirstLoose (pending_in self.now) from to result }
+    {
+        for offset in from..to {
+            if let Some(found) = self.loose_byte(offset) {
+                return Some(found);
+            }
+        }
+        None
     }
 
     /// The byte at this offset of the line, if it is loose.

@@ -1,18 +1,17 @@
 -- What calls on the queues are for the lines of a region.
-use Rattle.std.proofs.Common.{◌≡◌, ◌≢◌, ◌⊎◌, inl, inr, ℕ, zero, suc, ◌+◌, ◌*◌, ◌/◌, ◌-◌, ◌<◌, ◌≤◌, Bool, true, false, cond, nat_lt, ◌||◌, rules, List, [], ◌∷◌, ◌++◌, length, map, replicate, Option, Some, None, IsSome, IsOk, OnErr, Result, Ok, Err, refl, sym, ap, ◌∙◌, subst, arith, vec_capacity}
-use Rattle.std.proofs.lemmas.Grind.{common_steps}
+use Rattle.std.proofs.Common.{◌≡◌, ◌≢◌, ◌⊎◌, inl, inr, ℕ, ◌/◌, ◌<◌, Bool, true, false, cond, nat_lt, ◌||◌, rules, List, [], ◌∷◌, length, Option, Some, None, IsSome, OnErr, Result, Ok, Err, refl, sym, ap, ◌∙◌, subst, arith}
 use Rattle.std.proofs.lemmas.Bool.Decides.{nat_tests}
 use Rattle.std.specs.List.{list_any, IsDistinct}
 use Rattle.std.specs.Ordering.{nat_cmp, eq_by_cmp}
-use Rattle.std.specs.BTreeMap.{get, is_at, btree_map_len, IsEmpty}
+use Rattle.std.specs.BTreeMap.{get, is_at, IsEmpty}
 use Rattle.std.specs.Map.{lookup}
 use Rattle.hip_lines.specs.declared.part.Part.{Part}
 use Rattle.hip_lines.specs.declared.queue.Queue.{Queue}
 use Rattle.hip_lines.specs.Line.{has_bytes}
 use Rattle.hip_lines.specs.Pending.{Pending, none_pending, pending_with, pending_flushed, pending_fenced}
-use Rattle.hip_lines.specs.Parts.{Held, part_in, pending_stored, pending_flushed_all, pending_fenced_all, none_pending_all, KeepsRoom}
+use Rattle.hip_lines.specs.Parts.{part_in, pending_stored, pending_flushed_all, pending_fenced_all, none_pending_all}
 use Rattle.hip_lines.specs.Kept.{Queues, pending_by, pending_at, HasRoomAt, HasRoomFor, AreNumbered, AreBelow, ListsFlushed, ChangesLine}
-use Rattle.hip_lines.specs.Views.{table_from, lines_of}
+use Rattle.hip_lines.specs.Views.{lines_of}
 use Rattle.hip_lines.proofs.Listed.{same_or_not, some_flushed}
 use Rattle.hip_lines.proofs.Tables.{length-table_from, table_same, table_changed, table_mapped, table_replicated, table_at}
 
@@ -35,6 +34,9 @@ length-lines_of n m = length-table_from (pending_at m) 0 n
 
 pub held-length : (n : ℕ) (m : Queues) (ls : List (Pending Part)) → lines_of n m ≡ ls → length ls ≡ n
 held-length n m ls e = ap length (sym e) ∙ length-lines_of n m
+
+pub held-same_length : (n : ℕ) (m m' : Queues) (ls : List (Pending Part)) → lines_of n m ≡ ls → length (lines_of n m') ≡ length ls
+held-same_length n m m' ls e = length-lines_of n m' ∙ sym (held-length n m ls e)
 
 pub lines-same : (n : ℕ) (m m' : Queues) → ((j : ℕ) → pending_at m' j ≡ pending_at m j) → lines_of n m' ≡ lines_of n m
 unfolding lines_of
@@ -118,6 +120,7 @@ fence-changes n (j ∷ js) m m' l b h p e =
   where
     below : (k : ℕ) → nat_lt 0 k ≡ true → 0 < k
     below k e = grind (arith, nat_tests)
+
     first : ((is_at (nat_cmp j) j ≡ true) × (j ≡ j)) ⊎ ((is_at (nat_cmp j) j ≡ false) × (j ≢ j)) → list_any (is_at (nat_cmp j)) (j ∷ js) ≡ true
     first (inl x) = ap (λ c. c || list_any (is_at (nat_cmp j)) js) x.0
     first (inr x) = absurd (x.1 refl)

@@ -1,10 +1,9 @@
 -- What the loops over a store's lines keep.
-use Rattle.std.proofs.Common.{◌≡◌, ◌≢◌, ◌⊎◌, inl, inr, ℕ, zero, suc, ◌+◌, ◌*◌, ◌/◌, ◌-◌, ◌<◌, ◌≤◌, Bool, true, false, cond, nat_lt, ◌&&◌, List, [], ◌∷◌, ◌++◌, length, take, Option, Some, None, refl, sym, ap, ◌∙◌, subst, arith, vec_capacity}
+use Rattle.std.proofs.Common.{◌≡◌, ℕ, ◌<◌, ◌≤◌, cond, nat_lt, ◌&&◌}
 use Rattle.std.specs.Ordering.{nat_cmp}
 use Rattle.std.specs.BTreeMap.{get, btree_map_len}
-use Rattle.hip_lines.specs.declared.part.Part.{Part}
 use Rattle.hip_lines.specs.Line.{has_bytes}
-use Rattle.hip_lines.specs.Pending.{Pending, pending_with, pending_fenced}
+use Rattle.hip_lines.specs.Pending.{pending_with}
 use Rattle.hip_lines.specs.Parts.{part_in}
 use Rattle.hip_lines.specs.Kept.{Queues, pending_at, HasRoomAt, AreNumbered, AreBelow}
 

@@ -1,5 +1,5 @@
 -- The loose bytes of a range, from queue to queue.
-use Rattle.std.proofs.Common.{◌≡◌, ◌≢◌, ◌⊎◌, inl, inr, ℕ, zero, suc, ◌+◌, ◌*◌, ◌/◌, ◌-◌, ◌<◌, ◌≤◌, ◌^◌, IsSome, Bor, min, max, Bool, true, false, cond, List, [], ◌∷◌, ◌++◌, length, map, Option, Some, None, option_map, option_to_list, refl, sym, ap, ap₂, ◌∙◌, slice_get, option_and_then, subst, arith}
+use Rattle.std.proofs.Common.{◌≡◌, ◌≢◌, ◌⊎◌, inl, inr, ℕ, zero, suc, ◌+◌, ◌*◌, ◌/◌, ◌-◌, ◌<◌, ◌≤◌, ◌^◌, IsSome, Bor, min, max, List, [], ◌∷◌, ◌++◌, length, Option, Some, None, option_map, option_to_list, refl, sym, ap, ap₂, ◌∙◌, slice_get, option_and_then, subst, arith}
 use Rattle.std.specs.Iterator.{MakesProgress, item_count}
 use Rattle.std.specs.Option.{option_copied}
 use Rattle.std.specs.Ordering.{nat_cmp}
@@ -14,7 +14,7 @@ use Rattle.hip_lines.specs.Queues.{pending_in}
 use Rattle.hip_lines.specs.Kept.{Queues, pending_by, pending_at, AreBelow}
 use Rattle.hip_lines.specs.Views.{table_from, lines_of}
 use Rattle.hip_lines.proofs.Tables.{slice_get-table_from}
-use Rattle.hip_lines.specs.Next.{NoneLoose, IsFirstLoose, loose_of, NoQueues, IsQueueFrom, IsNextQueue}
+use Rattle.hip_lines.specs.Next.{NoneLoose, IsFirstLoose, loose_of, IsQueueFrom, IsNextQueue}
 
 -- how many lines the region can have from the queue's line on
 abbrev pub lines_left : Option Queue → ℕ
@@ -62,6 +62,7 @@ before m at stop q h s none b from to = go (split b)
   where
     split : (b : ℕ) → (b < q.line * 64) ⊎ (q.line * 64 ≤ b)
     split b = grind arith
+
     go : (b < q.line * 64) ⊎ (q.line * 64 ≤ b) → loose_in (pending_at m (b / 64)) b ≡ None
     go (inl lt) = none_without m b (h.2 (b / 64) (omega arith) (omega arith))
     go (inr ge) = ap (λ w. loose_in w b) (in_queue m b q h.0 (omega arith)) ∙ none b (omega arith) to
@@ -110,6 +111,7 @@ rest-end m at end from stop q c h s e = go (split at end)
   where
     split : (a b : ℕ) → (a ≤ b) ⊎ (b < a)
     split a b = grind arith
+
     go : (at ≤ end) ⊎ (end < at) → loose_of m at (end - at) ≡ []
     go (inl le) = let z : end - end ≡ 0 = omega arith in loose_of-skip_to m at end end le (omega arith) (λ b low high. none_before m at end from stop q c h s b low (omega (arith, e, high))) ∙ ap (loose_of m end) z
     go (inr gt) = let z : end - at ≡ 0 = omega arith in ap (loose_of m at) z
@@ -120,6 +122,7 @@ rest-no_queue m at end None h n = go (split at end)
   where
     split : (a b : ℕ) → (a ≤ b) ⊎ (b < a)
     split a b = grind arith
+
     go : (at ≤ end) ⊎ (end < at) → loose_of m at (end - at) ≡ []
     go (inl le) = let z : end - end ≡ 0 = omega arith in loose_of-skip_to m at end end le (omega arith) (λ b from to. none_without m b (h (b / 64) (omega arith))) ∙ ap (loose_of m end) z
     go (inr gt) = let z : end - at ≡ 0 = omega arith in ap (loose_of m at) z

@@ -1,5 +1,5 @@
 -- The pending parts of all lines, as a list, from those of each line by its number.
-use Rattle.std.proofs.Common.{◌≡◌, ◌⊎◌, inl, inr, ℕ, zero, suc, ◌+◌, ◌*◌, ◌/◌, ◌-◌, ◌<◌, ◌≤◌, Bool, true, false, cond, List, [], ◌∷◌, length, map, replicate, Option, Some, None, slice_get, refl, sym, ap, ap₂, ◌∙◌, subst, arith}
+use Rattle.std.proofs.Common.{◌≡◌, ℕ, zero, suc, ◌+◌, ◌<◌, cond, ◌∷◌, length, map, replicate, Some, slice_get, refl, sym, ap, ap₂, ◌∙◌, arith}
 use Rattle.hip_lines.specs.Line.{has_bytes, change_from}
 use Rattle.hip_lines.specs.Views.{table_from}
 

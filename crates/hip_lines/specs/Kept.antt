@@ -1,5 +1,5 @@
 -- The queues of the lines that hold something, by line number.
-use Rattle.std.specs.Prelude.{◌≡◌, ◌≢◌, ℕ, zero, suc, ◌<◌, ◌≤◌, ◌<◌, Bool, true, nat_lt, List, [], ◌∷◌, Option, Some, None, IsSome, vec_capacity}
+use Rattle.std.specs.Prelude.{◌≡◌, ◌≢◌, ℕ, ◌<◌, ◌≤◌, ◌<◌, true, nat_lt, List, Option, Some, None, IsSome}
 use Rattle.std.specs.List.{list_any, IsDistinct}
 use Rattle.std.specs.Ordering.{nat_cmp, eq_by_cmp}
 use Rattle.std.specs.BTreeMap.{BTreeMap, get, is_at, btree_map_len}

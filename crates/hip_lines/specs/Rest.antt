@@ -1,5 +1,5 @@
 -- What is left of an iterator over loose bytes.
-use Rattle.std.specs.Prelude.{ℕ, ◌-◌, ◌≤◌, ◌^◌, List}
+use Rattle.std.specs.Prelude.{◌-◌, ◌≤◌, ◌^◌, List}
 use Rattle.std.specs.Option.{option_copied}
 use Rattle.hip_lines.specs.declared.part.LooseByte.{LooseByte}
 use Rattle.hip_lines.specs.declared.loose.NotDurable.TheInside.{Inside}

@@ -17,7 +17,12 @@ use std::alloc::Global;
 use std::collections::BTreeMap;
 
 // Makes room for one more part of a line.
-fn make_room_at(alloc: Global, queues: &mut BTreeMap<u64, Queue>, flushed: &mut Vec<u64>, line: u64) -> Result<(), NoMemory>
+fn make_room_at(
+    alloc: Global,
+    queues: &mut BTreeMap<u64, Queue>,
+    flushed: &mut Vec<u64>,
+    line: u64,
+) -> Result<(), NoMemory>
     requires { length flushed.old.items ≤ btree_map_len queues.old }
     ensures same { (j : ℕ) → pending_at queues.new j ≡ pending_at queues.old j }
     ensures kept { (j : ℕ) → HasRoomAt queues.old j → HasRoomAt queues.new j }
@@ -35,7 +40,12 @@ fn make_room_at(alloc: Global, queues: &mut BTreeMap<u64, Queue>, flushed: &mut 
 }
 
 // Adds an empty queue with room for one part.
-fn add_queue(alloc: Global, queues: &mut BTreeMap<u64, Queue>, flushed: &mut Vec<u64>, line: u64) -> Result<(), NoMemory>
+fn add_queue(
+    alloc: Global,
+    queues: &mut BTreeMap<u64, Queue>,
+    flushed: &mut Vec<u64>,
+    line: u64,
+) -> Result<(), NoMemory>
     requires absent { get nat_cmp queues.old line ≡ None }
     requires listed { length flushed.old.items ≤ btree_map_len queues.old }
     ensures same { (j : ℕ) → pending_at queues.new j ≡ pending_at queues.old j }
@@ -88,7 +98,13 @@ fn fence_at(queues: &mut BTreeMap<u64, Queue>, line: u64)
 }
 
 /// Makes room for the parts of a store.
-pub fn make_room_in(alloc: Global, queues: &mut BTreeMap<u64, Queue>, flushed: &mut Vec<u64>, offset: u64, size: u32) -> Result<(), NoMemory>
+pub fn make_room_in(
+    alloc: Global,
+    queues: &mut BTreeMap<u64, Queue>,
+    flushed: &mut Vec<u64>,
+    offset: u64,
+    size: u32,
+) -> Result<(), NoMemory>
     requires some { 0 < size }
     requires fits { offset + size < 2 ^ 64 }
     requires listed { ListsFlushed flushed.old.items queues.old }
@@ -108,7 +124,14 @@ pub fn make_room_in(alloc: Global, queues: &mut BTreeMap<u64, Queue>, flushed: &
 }
 
 /// Makes room for the parts of a store where the room that was made is not for it.
-pub fn ensure_room(alloc: Global, queues: &mut BTreeMap<u64, Queue>, flushed: &mut Vec<u64>, room: Option<(u64, u32)>, offset: u64, size: u32) -> Result<(), NoMemory>
+pub fn ensure_room(
+    alloc: Global,
+    queues: &mut BTreeMap<u64, Queue>,
+    flushed: &mut Vec<u64>,
+    room: Option<(u64, u32)>,
+    offset: u64,
+    size: u32,
+) -> Result<(), NoMemory>
     requires some { 0 < size }
     requires fits { offset + size < 2 ^ 64 }
     requires listed { ListsFlushed flushed.old.items queues.old }

@@ -39,6 +39,7 @@ impl Lines {
         requires whole { size % 64 ≡ 0 }
         requires small { size ≤ 67108864 }
         ensures lines { IfOk result (λ lines. lines.lines ≡ none_pending_all (size / 64)) }
+        ensures length { IfOk result (λ lines. length lines.lines ≡ size / 64) }
         ensures room { IfOk result (λ lines. lines.room ≡ None) }
     {
         Ok(Lines {
@@ -60,7 +61,13 @@ impl Lines {
         ensures err { OnErr result (self.new.room ≡ None) }
     {
         self.room = None;
-        make_room_in(self.alloc, &mut self.queues, &mut self.flushed, offset, size)?;
+        make_room_in(
+            self.alloc,
+            &mut self.queues,
+            &mut self.flushed,
+            offset,
+            size,
+        )?;
         self.room = Some((offset, size));
         Ok(())
     }
@@ -73,9 +80,17 @@ impl Lines {
         ensures ok { OnOk result (self.new.lines ≡ pending_stored offset size tag self.old.lines) }
         ensures no_room { OnOk result (self.new.room ≡ None) }
         ensures err { OnErr result (self.new ≡ self.old) }
+        ensures length { length self.new.lines ≡ length self.old.lines }
         ensures ready { self.old.room ≡ Some (offset, size) → IsOk result }
     {
-        ensure_room(self.alloc, &mut self.queues, &mut self.flushed, self.room, offset, size)?;
+        ensure_room(
+            self.alloc,
+            &mut self.queues,
+            &mut self.flushed,
+            self.room,
+            offset,
+            size,
+        )?;
         self.room = None;
         push_in(&mut self.queues, offset, size, tag);
         Ok(())
@@ -85,6 +100,7 @@ impl Lines {
     pub fn flush(&mut self, offset: u64)
         requires { offset < 64 * length self.old.lines }
         ensures lines { self.new.lines ≡ pending_flushed_all offset 1 self.old.lines }
+        ensures length { length self.new.lines ≡ length self.old.lines }
         ensures room { KeepsRoom self.old self.new }
     {
         if flush_at(&mut self.queues, &mut self.flushed, offset / LINE) {
@@ -95,6 +111,7 @@ impl Lines {
     /// Makes all flushed parts durable.
     pub fn fence(&mut self)
         ensures lines { self.new.lines ≡ pending_fenced_all self.old.lines }
+        ensures length { length self.new.lines ≡ length self.old.lines }
         ensures room { KeepsRoom self.old self.new }
     {
         if !self.flushed.is_empty() {

@@ -1,4 +1,4 @@
-use Rattle.std.proofs.Common.{◌≡◌, arith, rules, subst, sym, List, ℕ}
+use Rattle.std.proofs.Common.{arith, subst, sym, List, ℕ}
 use Rattle.std.proofs.lemmas.Grind.{common_steps}
 use Rattle.hip_lines.specs.Kept.{ListsFlushed}
 use Rattle.hip_lines.proofs.Listed.{length-listed_more, listed-more}

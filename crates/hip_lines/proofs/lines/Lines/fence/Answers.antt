@@ -2,7 +2,7 @@ use Rattle.std.proofs.Common.{◌≡◌, ◌<◌, arith, refl, sym, ap, ◌∙�
 use Rattle.std.proofs.lemmas.Bool.Decides.{nat_tests}
 use Rattle.hip_lines.specs.Parts.{Held, pending_fenced_all}
 use Rattle.hip_lines.specs.Kept.{ListsFlushed}
-use Rattle.hip_lines.proofs.Helds.{held-length, lines-same, lines-fenced, listed-fenced, fence-changes, none_listed}
+use Rattle.hip_lines.proofs.Helds.{held-same_length, lines-fenced, listed-fenced, fence-changes, none_listed}
 use Rattle.hip_lines.proofs.lines.Lines.fence.Goals as goal
 
 not_empty : (xs : List ℕ) (n : ℕ) (b : Bool) → n ≡ length xs → b ≡ (n == 0) → b ≡ false → 0 < length xs
@@ -39,3 +39,6 @@ returns-else-not-is_empty-clause-lines c =
     sym (ap (λ (h : Held). h.lines) c.self.view_is)
     ∙ lines-fenced c.self.inside.count c.self.inside.queues c.self.inside.queues (none_listed c.self.inside.queues (subst (λ (xs : List ℕ). ListsFlushed xs c.self.inside.queues) (is_nil c.self.inside.flushed.items c.self.inside.flushed.len c.is_empty.result c.self.inside.flushed.ok.0 c.is_empty.ensures c.if-not-is_empty.false) c.self.invariant.flushed))
     ∙ ap pending_fenced_all (ap (λ (h : Held). h.lines) c.self.view_is)
+
+pub returns-then-not-is_empty-clause-length : goal.returns-then-not-is_empty-clause-length
+returns-then-not-is_empty-clause-length c = held-same_length c.self.inside.count c.self.inside.queues c.fence_in.new.queues _ (ap (λ (h : Held). h.lines) c.self.view_is)

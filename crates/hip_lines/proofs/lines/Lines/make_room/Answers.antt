@@ -1,4 +1,4 @@
-use Rattle.std.proofs.Common.{◌≡◌, arith, sym, ap, ◌∙◌, length}
+use Rattle.std.proofs.Common.{arith, ap, ◌∙◌}
 use Rattle.hip_lines.specs.Parts.{Held}
 use Rattle.hip_lines.proofs.Helds.{held-length, lines-same, listed-same}
 use Rattle.hip_lines.proofs.lines.Lines.make_room.Goals as goal

@@ -1,5 +1,5 @@
 use Rattle.std.proofs.Common.{arith}
-use Rattle.hip_lines.proofs.Helds.{lines-empty, numbered-empty, below-empty, none_listed-empty}
+use Rattle.hip_lines.proofs.Helds.{length-lines_of, lines-empty, numbered-empty, below-empty, none_listed-empty}
 use Rattle.hip_lines.proofs.lines.Lines.new.Goals as goal
 
 pub invariant_of-result : goal.invariant_of-result
@@ -14,3 +14,6 @@ invariant_of-result c = record {
 
 pub returns-clause-lines : goal.returns-clause-lines
 returns-clause-lines c = lines-empty _ c.new.result c.new.ensures.empty
+
+pub returns-clause-length : goal.returns-clause-length
+returns-clause-length c = length-lines_of _ c.new.result

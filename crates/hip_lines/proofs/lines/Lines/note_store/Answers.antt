@@ -1,6 +1,6 @@
-use Rattle.std.proofs.Common.{◌≡◌, arith, sym, ap, ap₂, ◌∙◌, length, ◌+◌, ◌*◌, ◌≤◌}
+use Rattle.std.proofs.Common.{arith, ap, ◌∙◌}
 use Rattle.hip_lines.specs.Parts.{Held, pending_stored}
-use Rattle.hip_lines.proofs.Helds.{held-length, lines-same, lines-stored, listed-same, listed-stored, room-kept, on_err}
+use Rattle.hip_lines.proofs.Helds.{held-same_length, held-length, lines-same, lines-stored, listed-same, listed-stored, room-kept, on_err}
 use Rattle.hip_lines.proofs.lines.Lines.note_store.Goals as goal
 
 pub ensure_room-requires-clause-fits : goal.ensure_room-requires-clause-fits
@@ -36,3 +36,9 @@ pub returns-clause-ok : goal.returns-clause-ok
 returns-clause-ok c =
     lines-stored c.args.offset c.args.size c.args.tag c.self.inside.count c.ensure_room.new.queues c.push_in.new.queues c.push_in.ensures.pending
     ∙ ap (pending_stored c.args.offset c.args.size c.args.tag) (lines-same c.self.inside.count c.self.inside.queues c.ensure_room.new.queues c.ensure_room.ensures.same ∙ ap (λ (h : Held). h.lines) c.self.view_is)
+
+pub returns-in_err-ensure_room-clause-length : goal.returns-in_err-ensure_room-clause-length
+returns-in_err-ensure_room-clause-length c = held-same_length c.self.inside.count c.self.inside.queues c.ensure_room.new.queues _ (ap (λ (h : Held). h.lines) c.self.view_is)
+
+pub returns-clause-length : goal.returns-clause-length
+returns-clause-length c = held-same_length c.self.inside.count c.self.inside.queues c.push_in.new.queues _ (ap (λ (h : Held). h.lines) c.self.view_is)

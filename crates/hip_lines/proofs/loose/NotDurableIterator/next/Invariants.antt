@@ -1,6 +1,5 @@
-use Rattle.std.proofs.Common.{◌≡◌, ◌≤◌, ◌-◌, ◌+◌, ℕ, ◌^◌, Option, Some, None}
+use Rattle.std.proofs.Common.{◌≡◌}
 use Rattle.std.specs.Option.{option_copied}
-use Rattle.hip_lines.specs.declared.queue.Queue.{Queue}
 use Rattle.hip_lines.specs.Rest.{rest_of, IsStanding}
 use Rattle.hip_lines.proofs.LooseRest.{lines_left}
 use Rattle.hip_lines.proofs.loose.NotDurableIterator.next.Given as goal

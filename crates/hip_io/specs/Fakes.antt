@@ -1,0 +1,78 @@
+-- What contracts see of the cabinets and the sink in memory.
+use Rattle.std.specs.Prelude.{ℕ, ◌≡◌, ◌≤◌, if◌then◌else◌, List, Option, Some, None, is_some, option_map, option_and_then, slice_get, drop}
+use Rattle.std.specs.Str.{bytes_eq}
+use Rattle.hip_io.specs.Cabinets.{CabinetState, file_of}
+use Rattle.hip_io.specs.Sinks.{SinkState}
+use Rattle.hip_io.specs.declared.cabinet.NamedFile.{NamedFile}
+use Rattle.hip_io.specs.declared.cabinet.Taken.{Taken}
+use Rattle.hip_io.specs.declared.cabinet.Taken.TheVariants.{Got, End, Failed}
+use Rattle.hip_io.specs.declared.failing_cabinet.FailAt.{FailAt}
+use Rattle.hip_io.specs.declared.failing_cabinet.FailAt.TheVariants.{Fetch, Byte}
+use Rattle.hip_io.specs.declared.mem_cabinet.Place.{Place}
+
+-- a file that is read: its name, and what is left of it
+pub record OpenFile : Type 0 where
+  pub name : List ℕ
+  pub rest : List ℕ
+
+-- Files in memory, which give at most `chunk` bytes at a time and never fail.
+pub record MemFiles : Type 0 where
+  pub files : List NamedFile
+  pub chunk : ℕ
+  pub current : Option OpenFile
+  pub misses : ℕ
+
+abbrev pub mem_cabinet_state : MemFiles → CabinetState
+mem_cabinet_state m = record {
+  files = Some m.files;
+  is_current = is_some m.current;
+  name = option_map (λ file. file.name) m.current;
+  rest = option_map (λ file. file.rest) m.current;
+  misses = m.misses;
+  faults = 0;
+}
+
+-- Bytes in memory, and for how many more there is room.
+pub record MemBytes : Type 0 where
+  pub bytes : List ℕ
+  pub room : ℕ
+  pub faults : ℕ
+
+abbrev pub mem_sink_state : MemBytes → SinkState
+mem_sink_state m = record { bytes = Some m.bytes; faults = m.faults }
+
+-- Where the code of a cabinet stands: a file by its number, and how many of its bytes were taken.
+abbrev pub open_file : List NamedFile → Option Place → Option OpenFile
+open_file files place = option_and_then (λ p. option_map (λ f. record { name = f.name; rest = drop p.taken f.bytes }) (slice_get files p.file)) place
+
+-- the file of that number is the first one of the name
+pub record IsFirstAt (files : List NamedFile) (name : List ℕ) (at : ℕ) : Type 0 where
+  pub file : NamedFile
+  pub here : slice_get files at ≡ Some file
+  pub named : file.name ≡ name
+  pub first : file_of files name ≡ Some file.bytes
+
+abbrev pub GotAtMost : ℕ → Taken → Type 0
+GotAtMost most (Got n) = n ≤ most
+GotAtMost most End = Unit {0}
+GotAtMost most Failed = Unit {0}
+
+-- Files in memory of which one fails: at each fetch, or once so many of its bytes were taken. `left` is there
+-- while that file is current: how many bytes it still gives.
+pub record FailingFiles : Type 0 where
+  pub inner : MemFiles
+  pub name : List ℕ
+  pub at : FailAt
+  pub left : Option ℕ
+  pub faults : ℕ
+
+abbrev pub failing_cabinet_state : FailingFiles → CabinetState
+failing_cabinet_state f = record (mem_cabinet_state f.inner) { faults = f.faults }
+
+abbrev limit_of : FailAt → Option ℕ
+limit_of Fetch = None
+limit_of (Byte n) = Some n
+
+-- how many bytes a file of this name gives once it is fetched, if it is the one that fails
+abbrev pub left_of : FailingFiles → List ℕ → Option ℕ
+left_of f name = if bytes_eq f.name name then limit_of f.at else None

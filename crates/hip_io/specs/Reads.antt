@@ -1,0 +1,82 @@
+-- What it means to read a whole file of a cabinet.
+use Rattle.std.specs.Prelude.{ℕ, ◌+◌, ◌≡◌, ◌≤◌, ◌<◌, true, List, [], ◌++◌, length, drop, Option, Some, IfSome, option_map, Result, Ok, Err}
+use Rattle.hip_io.specs.Counts.{Rose}
+use Rattle.hip_io.specs.Cabinets.{CabinetState, StaysOpen, IsMissed, file_of}
+use Rattle.hip_io.specs.declared.read.ReadRefusal.{ReadRefusal}
+use Rattle.hip_io.specs.declared.read.ReadRefusal.TheVariants as refusals
+use Rattle.hip_io.specs.declared.cabinet.NamedFile.{NamedFile}
+
+-- These bytes were taken, one piece after another, and nothing failed.
+pub record HasTakenAll (old new : CabinetState) (bytes : List ℕ) : Type 0 where
+  pub stays : StaysOpen old new
+  pub faults : new.faults ≡ old.faults
+  pub rest : old.rest ≡ option_map (λ rest. bytes ++ rest) new.rest
+
+-- The file of that name has these bytes, and they were all taken.
+pub record IsWholeFile (files : List NamedFile) (name bytes : List ℕ) (new : CabinetState) : Type 0 where
+  pub found : file_of files name ≡ Some bytes
+  pub named : new.name ≡ Some name
+  pub rest : new.rest ≡ Some []
+
+pub record HasReadWhole (old new : CabinetState) (name : List ℕ) (limit : ℕ) (bytes : List ℕ) : Type 0 where
+  pub files : new.files ≡ old.files
+  pub misses : new.misses ≡ old.misses
+  pub faults : new.faults ≡ old.faults
+  pub current : new.is_current ≡ true
+  pub named : IfSome new.name (λ n. n ≡ name)
+  pub fits : length bytes ≤ limit
+  pub told : IfSome old.files (λ files. IsWholeFile files name bytes new)
+
+-- The file of that name has more bytes than the limit, of which one more than the limit was taken.
+pub record IsLongFile (files : List NamedFile) (name : List ℕ) (limit : ℕ) (new : CabinetState) : Type 0 where
+  pub bytes : List ℕ
+  pub found : file_of files name ≡ Some bytes
+  pub long : limit < length bytes
+  pub named : new.name ≡ Some name
+  pub rest : new.rest ≡ Some (drop (limit + 1) bytes)
+
+pub record HasReadTooMuch (old new : CabinetState) (name : List ℕ) (limit : ℕ) : Type 0 where
+  pub files : new.files ≡ old.files
+  pub misses : new.misses ≡ old.misses
+  pub faults : new.faults ≡ old.faults
+  pub current : new.is_current ≡ true
+  pub named : IfSome new.name (λ n. n ≡ name)
+  pub told : IfSome old.files (λ files. IsLongFile files name limit new)
+
+pub record HasFailedRead (old new : CabinetState) : Type 0 where
+  pub files : new.files ≡ old.files
+  pub misses : new.misses ≡ old.misses
+  pub later : old.faults ≤ new.faults
+  pub rose : Rose old.faults new.faults
+
+pub record HasReadPart (old new : CabinetState) : Type 0 where
+  pub files : new.files ≡ old.files
+  pub misses : new.misses ≡ old.misses
+  pub faults : new.faults ≡ old.faults
+
+-- what `read_all` does, by its answer
+abbrev pub HasRead : CabinetState → CabinetState → List ℕ → ℕ → Result (List ℕ) ReadRefusal → Type 0
+HasRead old new name limit (Ok bytes) = HasReadWhole old new name limit bytes
+HasRead old new name limit (Err refusals.Missing) = IsMissed old new name
+HasRead old new name limit (Err refusals.ReadFault) = HasFailedRead old new
+HasRead old new name limit (Err refusals.TooLarge) = HasReadTooMuch old new name limit
+HasRead old new name limit (Err refusals.NoMemory) = HasReadPart old new
+
+-- the whole rest of the current file was taken
+pub record HasTakenRest (old new : CabinetState) (limit : ℕ) (bytes : List ℕ) : Type 0 where
+  pub taken : HasTakenAll old new bytes
+  pub fits : length bytes ≤ limit
+  pub ended : IfSome new.rest (λ rest. rest ≡ [])
+
+-- more than the limit was taken
+pub record HasTakenTooMuch (old new : CabinetState) (limit : ℕ) : Type 0 where
+  pub bytes : List ℕ
+  pub taken : HasTakenAll old new bytes
+  pub long : length bytes ≡ limit + 1
+
+abbrev pub HasReadRest : CabinetState → CabinetState → ℕ → Result (List ℕ) ReadRefusal → Type 0
+HasReadRest old new limit (Ok bytes) = HasTakenRest old new limit bytes
+HasReadRest old new limit (Err refusals.Missing) = ⊥
+HasReadRest old new limit (Err refusals.ReadFault) = HasFailedRead old new
+HasReadRest old new limit (Err refusals.TooLarge) = HasTakenTooMuch old new limit
+HasReadRest old new limit (Err refusals.NoMemory) = HasReadPart old new

@@ -1,0 +1,6 @@
+pub mod Bytes
+pub mod Tokens
+pub mod Seen
+pub mod Longest
+pub mod Lines
+pub mod Cuts

@@ -1,0 +1,12 @@
+//! Which programs are sound, and where their data lies.
+#![tactic(auto)]
+
+mod constants;
+mod fault;
+mod globals;
+mod named;
+mod names;
+mod refused;
+mod shape;
+
+pub use fault::{Place, TypeFault, TypeRefusal};

@@ -2,11 +2,13 @@
 #![tactic(auto)]
 
 mod constants;
+mod externs;
 mod fault;
 mod globals;
 mod named;
 mod names;
 mod refused;
 mod shape;
+mod whole;
 
 pub use fault::{Place, TypeFault, TypeRefusal};

@@ -119,22 +119,36 @@ main_check P = asks_true (has_main P.functions) breaks.NoMain places.Whole
 abbrev site : ℕ → ℕ → ℕ → Site
 site f b i = record { function = f; block = b; index = i }
 
-abbrev instr_names : ℕ → ℕ → ℕ → Instr → List Named
+abbrev pub instr_names : ℕ → ℕ → ℕ → Instr → List Named
 instr_names f b i instr = map (λ r. named r.name (places.Body (site f b i))) (assigned_by instr)
 
-abbrev all_of : List (List Named) → List Named
+abbrev pub all_of : List (List Named) → List Named
 all_of [] = []
 all_of (ns ∷ rest) = ns ++ all_of rest
 
-abbrev block_names : ℕ → ℕ → Block → List Named
-block_names f b block =
-    named block.label (places.Head f) ∷ (numbered (λ i p. named p.dest (places.Phi (site f b i))) block.phis ++ all_of (numbered (instr_names f b) block.body))
+abbrev pub phi_names : ℕ → ℕ → List Phi → List Named
+phi_names f b phis = numbered (λ i p. named p.dest (places.Phi (site f b i))) phis
+
+abbrev pub body_names : ℕ → ℕ → List Instr → List Named
+body_names f b body = all_of (numbered (instr_names f b) body)
+
+abbrev pub block_names : ℕ → ℕ → Block → List Named
+block_names f b block = named block.label (places.Head f) ∷ (phi_names f b block.phis ++ body_names f b block.body)
+
+abbrev pub param_names : ℕ → List Param → List Named
+param_names f params = numbered (λ n p. named p.name (places.Head f)) params
+
+abbrev pub blocks_names : ℕ → List Block → List Named
+blocks_names f blocks = all_of (numbered (block_names f) blocks)
 
 abbrev pub inner_names : ℕ → Function → List Named
-inner_names f fn = map (λ p. named p.name (places.Head f)) fn.params ++ all_of (numbered (block_names f) fn.blocks)
+inner_names f fn = param_names f fn.params ++ blocks_names f fn.blocks
+
+abbrev pub inner_check : ℕ → Function → Check
+inner_check f fn = all_differ (inner_names f fn)
 
 abbrev pub registers_check : Program → Check
-registers_check P = each (λ f fn. all_differ (inner_names f fn)) P.functions
+registers_check P = each inner_check P.functions
 
 -- ---- each place of each function
 

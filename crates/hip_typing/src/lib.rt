@@ -5,6 +5,7 @@ mod constants;
 mod externs;
 mod fault;
 mod globals;
+mod inner;
 mod named;
 mod names;
 mod refused;

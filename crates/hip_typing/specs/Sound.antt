@@ -34,7 +34,7 @@ use Rattle.hip_typing.specs.declared.fault.TypeRefusal.{TypeRefusal}
 
 -- ---- names of globals, externs and functions differ, the three lists taken in this order
 
-abbrev named : List ℕ → Place → Named
+abbrev pub named : List ℕ → Place → Named
 named name place = record { name = name; place = place }
 
 abbrev pub global_names : List GlobalVar → List Named
@@ -64,22 +64,29 @@ globals_check P = each (global_check (map (λ g. g.name) P.globals)) P.globals
 
 -- ---- externs are of the table, and nothing else has a name of the table
 
-abbrev is_free : List ℕ → Bool
+abbrev pub is_free : List ℕ → Bool
 is_free name = not (is_some (known_signature name))
 
-abbrev same_result : Option Scalar → Option Scalar → Bool
+abbrev pub same_result : Option Scalar → Option Scalar → Bool
 same_result None None = true
 same_result (Some a) (Some b) = same_scalar a b
 same_result _ _ = false
 
-abbrev is_of : Extern → Option Signature → Bool
+abbrev pub is_of : Extern → Option Signature → Bool
 is_of e None = false
 is_of e (Some s) = same_result e.ret s.ret && all_pass (map (λ t u. same_scalar t u) s.params) e.params
 
+abbrev pub free_global : ℕ → GlobalVar → Check
+free_global n g = asks_true (is_free g.name) breaks.BadExtern (places.Global n)
+
+abbrev pub known_declaration : ℕ → Extern → Check
+known_declaration n e = asks_true (is_of e (known_signature e.name)) breaks.BadExtern (places.Extern n)
+
+abbrev pub free_function : ℕ → Function → Check
+free_function n f = asks_true (is_free f.name) breaks.BadExtern (places.Head n)
+
 abbrev pub externs_check : Program → Check
-externs_check P =
-    and_then (each (λ n g. asks_true (is_free g.name) breaks.BadExtern (places.Global n)) P.globals)
-    (and_then (each (λ n e. asks_true (is_of e (known_signature e.name)) breaks.BadExtern (places.Extern n)) P.externs) (each (λ n f. asks_true (is_free f.name) breaks.BadExtern (places.Head n)) P.functions))
+externs_check P = and_then (each free_global P.globals) (and_then (each known_declaration P.externs) (each free_function P.functions))
 
 -- ---- the region and the volatile globals are not too large
 
@@ -89,15 +96,15 @@ sizes_check P =
 
 -- ---- `main` is there, has no parameters and answers an i32
 
-abbrev is_i32 : Option Scalar → Bool
+abbrev pub is_i32 : Option Scalar → Bool
 is_i32 (Some (scalars.Int W32)) = true
 is_i32 _ = false
 
-abbrev no_params : List Param → Bool
+abbrev pub no_params : List Param → Bool
 no_params [] = true
 no_params _ = false
 
-abbrev has_main : List Function → Bool
+abbrev pub has_main : List Function → Bool
 has_main [] = false
 has_main (f ∷ fs) = if bytes_eq f.name (codes "main") then no_params f.params && is_i32 f.ret else has_main fs
 
@@ -106,25 +113,37 @@ main_check P = asks_true (has_main P.functions) breaks.NoMain places.Whole
 
 -- ---- parameters, labels and registers of a function differ
 
-abbrev site : ℕ → ℕ → ℕ → Site
+abbrev pub site : ℕ → ℕ → ℕ → Site
 site f b i = record { function = f; block = b; index = i }
 
-abbrev instr_names : ℕ → ℕ → ℕ → Instr → List Named
+abbrev pub parameter_names : ℕ → List Param → List Named
+parameter_names f params = map (λ p. named p.name (places.Head f)) params
+
+abbrev pub phi_names : ℕ → ℕ → List Phi → List Named
+phi_names f b phis = numbered (λ i p. named p.dest (places.Phi (site f b i))) phis
+
+abbrev pub instr_names : ℕ → ℕ → ℕ → Instr → List Named
 instr_names f b i instr = map (λ r. named r.name (places.Body (site f b i))) (assigned_by instr)
 
-abbrev all_of : List (List Named) → List Named
+abbrev pub all_of : List (List Named) → List Named
 all_of [] = []
 all_of (ns ∷ rest) = ns ++ all_of rest
 
-abbrev block_names : ℕ → ℕ → Block → List Named
+abbrev pub body_names : ℕ → ℕ → List Instr → List Named
+body_names f b body = all_of (numbered (instr_names f b) body)
+
+abbrev pub block_names : ℕ → ℕ → Block → List Named
 block_names f b block =
-    named block.label (places.Head f) ∷ (numbered (λ i p. named p.dest (places.Phi (site f b i))) block.phis ++ all_of (numbered (instr_names f b) block.body))
+    named block.label (places.Head f) ∷ (phi_names f b block.phis ++ body_names f b block.body)
 
 abbrev pub inner_names : ℕ → Function → List Named
-inner_names f fn = map (λ p. named p.name (places.Head f)) fn.params ++ all_of (numbered (block_names f) fn.blocks)
+inner_names f fn = parameter_names f fn.params ++ all_of (numbered (block_names f) fn.blocks)
+
+abbrev pub function_check : ℕ → Function → Check
+function_check f fn = all_differ (inner_names f fn)
 
 abbrev pub registers_check : Program → Check
-registers_check P = each (λ f fn. all_differ (inner_names f fn)) P.functions
+registers_check P = each function_check P.functions
 
 -- ---- each place of each function
 

@@ -2,8 +2,11 @@
 #![tactic(auto)]
 
 mod constants;
+mod entry;
+mod externs;
 mod fault;
 mod globals;
+mod inner;
 mod named;
 mod names;
 mod refused;

@@ -4,4 +4,3 @@ pub mod ShapeLemmas
 pub mod KnownLemmas
 pub mod Loops
 pub mod GlobalLemmas
-pub mod PassLemmas

@@ -11,7 +11,7 @@ use Rattle.hip_ir.specs.declared.constant.Const.TheOpen.{Const-F, ConstGep-F, Ty
 use Rattle.hip_ir.specs.declared.constant.ConstGep.{ConstGep}
 use Rattle.hip_ir.specs.declared.constant.TypedConst.{TypedConst}
 use Rattle.hip_ir.specs.declared.constant.Const.TheFolds.{fold-Const, fold-ConstGep, fold-TypedConst}
-use Rattle.hip_typing.specs.Types.{same_type, same_width}
+use Rattle.hip_typing.specs.Types.{same_type, same_width, all_pass}
 
 abbrev pub joined : {A : Type 0} → List (List A) → List A
 joined [] = []
@@ -90,17 +90,12 @@ abbrev pub all_have : List (Ty → Bool) → Ty → Bool
 all_have [] t = true
 all_have (item ∷ items) t = item t && all_have items t
 
-abbrev pub each_has : List (Ty → Bool) → List Ty → Bool
-each_has [] [] = true
-each_has (item ∷ items) (t ∷ ts) = item t && each_has items ts
-each_has _ _ = false
-
 abbrev array_has : List (Ty → Bool) → Ty-F Ty → Bool
 array_has items (Ty-F.Array n t) = length items == n && all_have items t
 array_has items _ = false
 
 abbrev struct_has : List (Ty → Bool) → Ty-F Ty → Bool
-struct_has items (Ty-F.Struct ts) = each_has items ts
+struct_has items (Ty-F.Struct ts) = all_pass items ts
 struct_has items _ = false
 
 abbrev is_int_of : Bits → Ty-F Ty → Bool

@@ -1,5 +1,5 @@
 -- Sound programs, and the first rule that another program breaks.
-use Rattle.std.specs.Prelude.{ℕ, ◌+◌, ◌≡◌, ◌<◌, ◌&&◌, not, nat_le, Bool, true, false, List, [], ◌∷◌, ◌++◌, map, All, Option, Some, None, is_some, slice_get, codes, if◌then◌else◌}
+use Rattle.std.specs.Prelude.{ℕ, ◌+◌, ◌≡◌, ◌<◌, ◌&&◌, nat_le, Bool, true, false, List, [], ◌∷◌, ◌++◌, map, All, Option, Some, None, is_none, slice_get, codes, if◌then◌else◌}
 use Rattle.std.specs.List.{flat_map, list_all}
 use Rattle.std.specs.Str.{bytes_eq}
 use Rattle.hip_types.specs.declared.number.Scalar.{Scalar}
@@ -18,7 +18,7 @@ use Rattle.hip_ir.specs.Reading.{IsSpelled}
 use Rattle.hip_typing.specs.Addresses.{region_size, volatile_start, volatile_end}
 use Rattle.hip_typing.specs.Check.{Check, asks_true, and_then, each}
 use Rattle.hip_typing.specs.Constants.{has_shape, names_in, types_in}
-use Rattle.hip_typing.specs.Externs.{Signature, known_signature}
+use Rattle.hip_typing.specs.Externs.{Signature, known_signature, call_of}
 use Rattle.hip_typing.specs.declared.fault.Fault.{Fault}
 use Rattle.hip_typing.specs.declared.fault.Fault.TheVariants as breaks
 use Rattle.hip_typing.specs.Names.{Named, all_differ, is_among, numbered}
@@ -65,7 +65,7 @@ globals_check P = each (global_check (map (λ g. g.name) P.globals)) P.globals
 -- ---- externs are of the table, and nothing else has a name of the table
 
 abbrev pub is_free : List ℕ → Bool
-is_free name = not (is_some (known_signature name))
+is_free name = is_none (call_of name)
 
 abbrev pub same_result : Option Scalar → Option Scalar → Bool
 same_result None None = true
@@ -74,19 +74,19 @@ same_result _ _ = false
 
 abbrev pub is_of : Extern → Option Signature → Bool
 is_of e None = false
-is_of e (Some s) = same_result e.ret s.ret && all_pass (map (λ t u. same_scalar t u) s.params) e.params
+is_of e (Some s) = same_result e.ret s.ret && all_pass (map same_scalar s.params) e.params
 
 abbrev pub free_global : ℕ → GlobalVar → Check
 free_global n g = asks_true (is_free g.name) breaks.BadExtern (places.Global n)
 
-abbrev pub known_declaration : ℕ → Extern → Check
-known_declaration n e = asks_true (is_of e (known_signature e.name)) breaks.BadExtern (places.Extern n)
+abbrev pub declared : ℕ → Extern → Check
+declared n e = asks_true (is_of e (known_signature e.name)) breaks.BadExtern (places.Extern n)
 
 abbrev pub free_function : ℕ → Function → Check
 free_function n f = asks_true (is_free f.name) breaks.BadExtern (places.Head n)
 
 abbrev pub externs_check : Program → Check
-externs_check P = and_then (each free_global P.globals) (and_then (each known_declaration P.externs) (each free_function P.functions))
+externs_check P = and_then (each free_global P.globals) (and_then (each declared P.externs) (each free_function P.functions))
 
 -- ---- the region and the volatile globals are not too large
 
@@ -96,17 +96,20 @@ sizes_check P =
 
 -- ---- `main` is there, has no parameters and answers an i32
 
-abbrev pub is_i32 : Option Scalar → Bool
+abbrev is_i32 : Option Scalar → Bool
 is_i32 (Some (scalars.Int W32)) = true
 is_i32 _ = false
 
-abbrev pub no_params : List Param → Bool
+abbrev no_params : List Param → Bool
 no_params [] = true
 no_params _ = false
 
+abbrev pub is_main : Function → Bool
+is_main f = no_params f.params && is_i32 f.ret
+
 abbrev pub has_main : List Function → Bool
 has_main [] = false
-has_main (f ∷ fs) = if bytes_eq f.name (codes "main") then no_params f.params && is_i32 f.ret else has_main fs
+has_main (f ∷ fs) = if bytes_eq f.name (codes "main") then is_main f else has_main fs
 
 abbrev pub main_check : Program → Check
 main_check P = asks_true (has_main P.functions) breaks.NoMain places.Whole

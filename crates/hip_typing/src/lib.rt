@@ -2,7 +2,6 @@
 #![tactic(auto)]
 
 mod constants;
-mod entry;
 mod externs;
 mod fault;
 mod globals;
@@ -11,5 +10,6 @@ mod named;
 mod names;
 mod refused;
 mod shape;
+mod whole;
 
 pub use fault::{Place, TypeFault, TypeRefusal};

@@ -1,7 +1,7 @@
 ghost use Rattle.std.specs.Prelude.{◌≡◌, map};
 ghost use Rattle.hip_types.specs.declared.ty.Ty.{out-Ty};
-ghost use Rattle.hip_typing.specs.Constants.{index_of, entered, enters, path_exists, has_shape, gep_is_sound, item_has_shape, all_have, each_has};
-ghost use Rattle.hip_typing.specs.Types.{same_type};
+ghost use Rattle.hip_typing.specs.Constants.{index_of, entered, enters, path_exists, has_shape, gep_is_sound, item_has_shape, all_have};
+ghost use Rattle.hip_typing.specs.Types.{all_pass, same_type};
 ghost use Rattle.std.specs.Option.{option_copied};
 
 use hip_ir::{Const, ConstGep, TypedConst};
@@ -108,7 +108,7 @@ fn items_have(items: &[TypedConst], ty: &Ty) -> bool
 
 #[cycle(shape)]
 fn items_match(items: &[TypedConst], types: &[Ty]) -> bool
-    ensures { result ≡ each_has (map item_has_shape items.now) types.now }
+    ensures { result ≡ all_pass (map item_has_shape items.now) types.now }
 {
     if items.len() != types.len() {
         return false;

@@ -1,32 +1,30 @@
-ghost use Rattle.hip_typing.specs.Answers.{Answers};
-ghost use Rattle.hip_typing.specs.Sound as spec;
-ghost use Rattle.hip_typing.specs.Sound.{main_check};
 ghost use Rattle.std.specs.Prelude.{◌≡◌};
+ghost use Rattle.hip_typing.specs.Answers.{Answers};
+ghost use Rattle.hip_typing.specs.Sound.{is_main, has_main, main_check};
 
 use crate::fault::{Fault, Place};
 use crate::refused::{Refused, ask};
 use hip_ir::{Function, Program};
 use hip_types::{Scalar, Width};
 
-fn is_i32(ret: Option<Scalar>) -> bool
-    ensures { result ≡ spec.is_i32 ret }
+fn is_main(function: &Function) -> bool
+    ensures { result ≡ is_main function.now }
 {
-    matches!(ret, Some(Scalar::Int(Width::W32)))
+    function.params.len() == 0 && matches!(function.ret, Some(Scalar::Int(Width::W32)))
 }
 
-/// Whether the first function of the name `main` has no parameter and answers an i32.
 fn has_main(functions: &[Function]) -> bool
-    ensures { result ≡ spec.has_main functions.now }
+    ensures { result ≡ has_main functions.now }
 {
     'functions: for function in functions {
         if function.name.as_slice() == b"main".as_slice() {
-            return function.params.is_empty() && is_i32(function.ret);
+            return is_main(function);
         }
     }
     false
 }
 
-/// `main` is there, has no parameters and answers an i32.
+/// A function `main` without parameters answers an i32.
 pub fn check_main(program: &Program) -> Result<(), Refused>
     ensures { Answers result (main_check program.now).found }
 {

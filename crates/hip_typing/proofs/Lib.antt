@@ -5,3 +5,4 @@ pub mod KnownLemmas
 pub mod Loops
 pub mod GlobalLemmas
 pub mod AddressLemmas
+pub mod TableLemmas

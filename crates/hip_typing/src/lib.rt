@@ -11,6 +11,7 @@ mod named;
 mod names;
 mod refused;
 mod shape;
+mod table;
 mod whole;
 
 pub use fault::{Place, TypeFault, TypeRefusal};

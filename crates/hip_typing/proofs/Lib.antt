@@ -6,3 +6,4 @@ pub mod Loops
 pub mod GlobalLemmas
 pub mod AddressLemmas
 pub mod TableLemmas
+pub mod RegisterLemmas

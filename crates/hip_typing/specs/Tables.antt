@@ -1,7 +1,9 @@
 -- Tables of values by names, in which the first value of a name counts.
-use Rattle.std.specs.Prelude.{ℕ, ◌≡◌, List, [], ◌∷◌, length, Option, Some, None, if◌then◌else◌, option_and_then, slice_get}
+use Rattle.std.specs.Prelude.{ℕ, ◌≡◌, List, [], ◌∷◌, ◌++◌, map, length, Option, Some, None, if◌then◌else◌, option_and_then, slice_get}
 use Rattle.std.specs.Str.{bytes_eq}
+use Rattle.hip_types.specs.declared.number.Scalar.{Scalar}
 use Rattle.hip_typing.specs.Names.{number_of}
+use Rattle.hip_typing.specs.Registers.{Register, find_register}
 
 -- a value under a name
 pub record Entry (V : Type 0) : Type 0 where
@@ -21,3 +23,16 @@ value_beside names values name = option_and_then (slice_get values) (number_of n
 pub record StandsFor {V : Type 0} (names : List (List ℕ)) (values : List V) (entries : List (Entry V)) : Type 0 where
   pub as_long : length names ≡ length values
   pub finds : (name : List ℕ) → value_beside names values name ≡ value_of entries name
+
+-- ---- registers
+
+abbrev pub register_entry : Register → Entry (Option Scalar)
+register_entry r = record { name = r.name; value = r.ty }
+
+-- a table grows by these registers
+pub record Adds (names : List (List ℕ)) (values : List (Option Scalar)) (more_names : List (List ℕ)) (more_values : List (Option Scalar)) (registers : List Register) : Type 0 where
+  pub adds : (entries : List (Entry (Option Scalar))) → StandsFor names values entries → StandsFor more_names more_values (entries ++ map register_entry registers)
+
+-- the table finds each register of the list
+pub record Finds (names : List (List ℕ)) (values : List (Option Scalar)) (registers : List Register) : Type 0 where
+  pub finds : (name : List ℕ) → value_beside names values name ≡ find_register registers name

@@ -10,6 +10,7 @@ mod inner;
 mod named;
 mod names;
 mod refused;
+mod registers;
 mod shape;
 mod table;
 mod whole;

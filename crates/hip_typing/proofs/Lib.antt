@@ -4,3 +4,4 @@ pub mod ShapeLemmas
 pub mod KnownLemmas
 pub mod Loops
 pub mod GlobalLemmas
+pub mod AddressLemmas

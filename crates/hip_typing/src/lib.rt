@@ -1,6 +1,7 @@
 //! Which programs are sound, and where their data lies.
 #![tactic(auto)]
 
+mod addresses;
 mod constants;
 mod externs;
 mod fault;

@@ -1,5 +1,5 @@
 -- Laws that tie what a `Ram` shows to the memory that it holds.
-use Rattle.std.proofs.Common.{◌≡◌, ◌⊎◌, inl, inr, ℕ, zero, suc, ◌+◌, ◌*◌, ◌/◌, ◌%◌, ◌-◌, ◌^◌, ◌<◌, ◌≤◌, Bool, true, false, cond, ◌&&◌, ◌||◌, nat_lt, nat_le, List, [], ◌∷◌, ◌++◌, length, take, slice_index, refl, sym, ap, ap₂, ◌∙◌, subst, arith, length-append}
+use Rattle.std.proofs.Common.{◌≡◌, ◌⊎◌, inl, inr, ℕ, zero, suc, ◌+◌, ◌*◌, ◌/◌, ◌%◌, ◌-◌, ◌^◌, ◌<◌, ◌≤◌, Bool, true, false, cond, ◌&&◌, ◌||◌, nat_lt, nat_le, List, [], ◌∷◌, ◌++◌, length, take, drop, slice_index, refl, sym, ap, ap₂, ◌∙◌, subst, arith, length-append}
 use Rattle.std.proofs.lemmas.Bool.Decides.{nat_tests}
 use Rattle.hip_mem.specs.Memory.{Write, write_covers, byte_written, byte_from, volatile_start, stack_start, stack_end, is_in, Memory, initial_byte, byte_at, bytes_at, with_write}
 use Rattle.hip_mem.specs.Bytes.{zeros}
@@ -224,3 +224,120 @@ holds-pop mark r m p low high h = record {
         let e : byte_in (after_pop mark r) a ≡ byte_in r a = rw (x.0, s.0, o.0) refl in
         e ∙ h.bytes a u
     go a v (inr x) (inr s) o (inr z) = absurd (let i = x.0 in let j = s.0 in let k = z.0 in let e : is_valid (after_pop mark r) a ≡ false = rw (i, j, k) refl in let n : ⊥ = cc in n)
+
+-- ---- ranges of valid bytes
+
+both_true : (b c : Bool) → (b && c) ≡ true → (b ≡ true) × (c ≡ true)
+both_true true true e = (refl, refl)
+both_true true false e = absurd (let n : ⊥ = cc in n)
+both_true false c e = absurd (let n : ⊥ = cc in n)
+
+pub are_valid-at : (r : Areas) (a n k : ℕ) → are_valid r a n ≡ true → k < n → is_valid r (a + k) ≡ true
+are_valid-at r a zero k e h = absurd (omega arith)
+are_valid-at r a (suc n) zero e h = ap (is_valid r) (let z : a + 0 ≡ a = omega arith in z) ∙ (both_true (is_valid r a) (are_valid r (suc a) n) e).0
+are_valid-at r a (suc n) (suc k) e h = ap (is_valid r) (let z : a + suc k ≡ suc a + k = omega arith in z) ∙ are_valid-at r (suc a) n k (both_true (is_valid r a) (are_valid r (suc a) n) e).1 (omega arith)
+
+pub are_valid-from_each : (r : Areas) (n a : ℕ) → ((k : ℕ) → k < n → is_valid r (a + k) ≡ true) → are_valid r a n ≡ true
+are_valid-from_each r zero a h = refl
+are_valid-from_each r (suc n) a h =
+    let e : is_valid r a ≡ true = ap (is_valid r) (let z : a ≡ a + 0 = omega arith in z) ∙ h 0 (omega arith) in
+    let f : are_valid r (suc a) n ≡ true = are_valid-from_each r n (suc a) (λ k lt. ap (is_valid r) (let z : suc a + k ≡ a + suc k = omega arith in z) ∙ h (suc k) (omega arith)) in
+    rw (e, f) refl
+
+pub are_valid-after_write : (w : Write) (r : Areas) (a n : ℕ) → are_valid (after_write w r) a n ≡ are_valid r a n
+are_valid-after_write w r a zero = refl
+are_valid-after_write w r a (suc n) = ap₂ (λ b c. b && c) (is_valid-after_write w r a) (are_valid-after_write w r (suc a) n)
+
+-- the valid bytes of what holds a memory are the memory's
+pub bytes_in-bytes_at : (r : Areas) (m : Memory) (n a : ℕ) → Holds r m → are_valid r a n ≡ true → bytes_in r a n ≡ bytes_at m a n
+bytes_in-bytes_at r m zero a h e = refl
+bytes_in-bytes_at r m (suc n) a h e = let b = both_true (is_valid r a) (are_valid r (suc a) n) e in ap₂ (λ x xs. x ∷ xs) (h.bytes a b.0) (bytes_in-bytes_at r m n (suc a) h b.1)
+
+-- what was written is read
+bytes_in-written : (w : Write) (r : Areas) (n k : ℕ) → are_valid r (w.addr + k) n ≡ true → k + n ≡ length w.bytes → bytes_in (after_write w r) (w.addr + k) n ≡ drop k w.bytes
+bytes_in-written w r zero k e h = sym (drop-all k w.bytes (omega arith))
+  where
+    drop-all : (k : ℕ) (xs : List ℕ) → length xs ≤ k → drop k xs ≡ []
+    drop-all zero [] h = refl
+    drop-all zero (x ∷ xs) h = absurd (omega arith)
+    drop-all (suc k) [] h = refl
+    drop-all (suc k) (x ∷ xs) h = drop-all k xs (omega arith)
+bytes_in-written w r (suc n) k e h =
+    let b = both_true (is_valid r (w.addr + k)) (are_valid r (suc (w.addr + k)) n) e in
+    let z : suc (w.addr + k) ≡ w.addr + suc k = omega arith in
+    ap₂ (λ x xs. x ∷ xs)
+    (byte_in-after_write w r (w.addr + k) b.0 ∙ over (covered_or_not w (w.addr + k)) ∙ ap (slice_index w.bytes) (let y : w.addr + k - w.addr ≡ k = omega arith in y))
+    (ap (λ a. bytes_in (after_write w r) a n) z ∙ bytes_in-written w r n (suc k) (ap (λ a. are_valid r a n) (sym z) ∙ b.1) (omega arith))
+    ∙ sym (drop-first k w.bytes (omega arith))
+  where
+    drop-first : (k : ℕ) (xs : List ℕ) → k < length xs → drop k xs ≡ slice_index xs k ∷ drop (suc k) xs
+    drop-first k [] h = absurd (omega arith)
+    drop-first zero (x ∷ xs) h = refl
+    drop-first (suc k) (x ∷ xs) h = drop-first k xs (omega arith)
+    over : ((write_covers w (w.addr + k) ≡ true) × (w.addr ≤ w.addr + k) × (w.addr + k < w.addr + length w.bytes)) ⊎ ((write_covers w (w.addr + k) ≡ false) × ((w.addr + k < w.addr) ⊎ (w.addr + length w.bytes ≤ w.addr + k))) → byte_written w (w.addr + k) (byte_in r (w.addr + k)) ≡ slice_index w.bytes (w.addr + k - w.addr)
+    over (inl x) = ap (λ b. cond b (slice_index w.bytes (w.addr + k - w.addr)) (byte_in r (w.addr + k))) x.0
+    over (inr x) = absurd (out x.1)
+      where
+        out : (w.addr + k < w.addr) ⊎ (w.addr + length w.bytes ≤ w.addr + k) → ⊥
+        out (inl l) = omega (arith, l)
+        out (inr l) = omega (arith, l, h)
+
+pub bytes_in-after_write : (w : Write) (r : Areas) → are_valid r w.addr (length w.bytes) ≡ true → bytes_in (after_write w r) w.addr (length w.bytes) ≡ w.bytes
+bytes_in-after_write w r e =
+    let z : w.addr + 0 ≡ w.addr = omega arith in
+    ap (λ a. bytes_in (after_write w r) a (length w.bytes)) (sym z) ∙ bytes_in-written w r (length w.bytes) 0 (ap (λ a. are_valid r a (length w.bytes)) z ∙ e) (omega arith)
+
+-- ---- in a `Ram`, whose areas do not touch, valid bytes in a row lie in one area
+
+-- the n bytes from a on lie in an area
+abbrev pub Fits : ℕ → List ℕ → ℕ → ℕ → Type 0
+Fits start xs a n = (start ≤ a) × (a + n ≤ start + length xs)
+
+abbrev pub FitsOne : Areas → ℕ → ℕ → Type 0
+FitsOne r a n = Fits volatile_start r.volatile a n ⊎ (Fits stack_start r.stack a n ⊎ Fits r.base r.region a n)
+
+pub valid-where : (r : Areas) (a : ℕ) → is_valid r a ≡ true → FitsOne r a 1
+valid-where r a e = go (in_or_not volatile_start r.volatile a) (in_or_not stack_start r.stack a) (in_or_not r.base r.region a)
+  where
+    go : ((is_in volatile_start r.volatile a ≡ true) × (volatile_start ≤ a) × (a < volatile_start + length r.volatile)) ⊎ ((is_in volatile_start r.volatile a ≡ false) × ((a < volatile_start) ⊎ (volatile_start + length r.volatile ≤ a))) → ((is_in stack_start r.stack a ≡ true) × (stack_start ≤ a) × (a < stack_start + length r.stack)) ⊎ ((is_in stack_start r.stack a ≡ false) × ((a < stack_start) ⊎ (stack_start + length r.stack ≤ a))) → ((is_in r.base r.region a ≡ true) × (r.base ≤ a) × (a < r.base + length r.region)) ⊎ ((is_in r.base r.region a ≡ false) × ((a < r.base) ⊎ (r.base + length r.region ≤ a))) → FitsOne r a 1
+    go (inl x) y z = inl (x.1, omega (arith, x.2))
+    go (inr x) (inl y) z = inr (inl (y.1, omega (arith, y.2)))
+    go (inr x) (inr y) (inl z) = inr (inr (z.1, omega (arith, z.2)))
+    go (inr x) (inr y) (inr z) = absurd (let p = x.0 in let q = y.0 in let s = z.0 in let f : is_valid r a ≡ false = rw (p, q, s) refl in let n : ⊥ = cc in n)
+
+pub where-valid : (r : Areas) (a : ℕ) → FitsOne r a 1 → is_valid r a ≡ true
+where-valid r a (inl x) = let e = in_area volatile_start r.volatile a x.0 (omega (arith, x.1)) in rw e refl
+where-valid r a (inr (inl x)) = let e = in_area stack_start r.stack a x.0 (omega (arith, x.1)) in go (is_in volatile_start r.volatile a) e
+  where
+    go : (b : Bool) → is_in stack_start r.stack a ≡ true → (b || (is_in stack_start r.stack a || is_in r.base r.region a)) ≡ true
+    go true e = refl
+    go false e = rw e refl
+where-valid r a (inr (inr x)) = let e = in_area r.base r.region a x.0 (omega (arith, x.1)) in go (is_in volatile_start r.volatile a) (is_in stack_start r.stack a) e
+  where
+    go : (b c : Bool) → is_in r.base r.region a ≡ true → (b || (c || is_in r.base r.region a)) ≡ true
+    go true c e = refl
+    go false true e = refl
+    go false false e = e
+
+pub are_valid-fits : (r : Areas) (n a : ℕ) → IsLaidOut r → are_valid r a (suc n) ≡ true → FitsOne r a (suc n)
+are_valid-fits r zero a l e = valid-where r a (both_true (is_valid r a) true e).0
+are_valid-fits r (suc n) a l e = let b = both_true (is_valid r a) (are_valid r (suc a) (suc n)) e in join (valid-where r a b.0) (are_valid-fits r n (suc a) l b.1)
+  where
+    join : FitsOne r a 1 → FitsOne r (suc a) (suc n) → FitsOne r a (suc (suc n))
+    join (inl x) (inl y) = inl (x.0, omega (arith, y.1))
+    join (inr (inl x)) (inr (inl y)) = inr (inl (x.0, omega (arith, y.1)))
+    join (inr (inr x)) (inr (inr y)) = inr (inr (x.0, omega (arith, y.1)))
+    join (inl x) (inr (inl y)) = absurd (omega (arith, x.1, y.0, l.volatile))
+    join (inl x) (inr (inr y)) = absurd (omega (arith, x.1, y.0, l.volatile, l.low))
+    join (inr (inl x)) (inl y) = absurd (omega (arith, x.0, y.1, l.volatile))
+    join (inr (inl x)) (inr (inr y)) = absurd (omega (arith, x.1, y.0, l.stack, l.low))
+    join (inr (inr x)) (inl y) = absurd (omega (arith, x.0, y.1, l.volatile, l.low))
+    join (inr (inr x)) (inr (inl y)) = absurd (omega (arith, x.0, y.1, l.stack, l.low))
+
+pub fits-are_valid : (r : Areas) (n a : ℕ) → FitsOne r a n → are_valid r a n ≡ true
+fits-are_valid r n a f = are_valid-from_each r n a (λ k lt. where-valid r (a + k) (part k lt f))
+  where
+    part : (k : ℕ) → k < n → FitsOne r a n → FitsOne r (a + k) 1
+    part k lt (inl x) = inl (omega (arith, x.0), omega (arith, x.1))
+    part k lt (inr (inl x)) = inr (inl (omega (arith, x.0), omega (arith, x.1)))
+    part k lt (inr (inr x)) = inr (inr (omega (arith, x.0), omega (arith, x.1)))

@@ -1,6 +1,7 @@
 //! The volatile and persistent bytes of the machine.
 #![tactic(auto)]
 
+mod page;
 mod refusal;
 
 pub use refusal::{MemTrap, PushRefusal, StoreRefusal};

@@ -2,6 +2,7 @@
 #![tactic(auto)]
 
 mod page;
+mod pages;
 mod refusal;
 
 pub use refusal::{MemTrap, PushRefusal, StoreRefusal};

@@ -88,12 +88,12 @@ holds-write w r m h = record {
   bytes = λ a v. let u : is_valid r a ≡ true = sym (is_valid-after_write w r a) ∙ v in byte_in-after_write w r a u ∙ ap (byte_written w a) (h.bytes a u) ∙ sym (byte_at-with_write w m a);
 }
 
-index-append_left : (xs ys : List ℕ) (i : ℕ) → i < length xs → slice_index (xs ++ ys) i ≡ slice_index xs i
+pub index-append_left : (xs ys : List ℕ) (i : ℕ) → i < length xs → slice_index (xs ++ ys) i ≡ slice_index xs i
 index-append_left [] ys i h = absurd (omega arith)
 index-append_left (x ∷ xs) ys zero h = refl
 index-append_left (x ∷ xs) ys (suc i) h = index-append_left xs ys i (omega arith)
 
-index-append_right : (xs ys : List ℕ) (i : ℕ) → length xs ≤ i → slice_index (xs ++ ys) i ≡ slice_index ys (i - length xs)
+pub index-append_right : (xs ys : List ℕ) (i : ℕ) → length xs ≤ i → slice_index (xs ++ ys) i ≡ slice_index ys (i - length xs)
 index-append_right [] ys i h = ap (slice_index ys) (let e : i ≡ i - 0 = omega arith in e)
 index-append_right (x ∷ xs) ys zero h = absurd (omega arith)
 index-append_right (x ∷ xs) ys (suc i) h = index-append_right xs ys i (omega arith) ∙ ap (slice_index ys) (let e : i - length xs ≡ suc i - suc (length xs) = omega arith in e)
@@ -109,7 +109,7 @@ length-take-le zero xs h = refl
 length-take-le (suc n) [] h = absurd (omega arith)
 length-take-le (suc n) (x ∷ xs) h = ap suc (length-take-le n xs (omega arith))
 
-covered_or_not : (w : Write) (a : ℕ) → ((write_covers w a ≡ true) × (w.addr ≤ a) × (a < w.addr + length w.bytes)) ⊎ ((write_covers w a ≡ false) × ((a < w.addr) ⊎ (w.addr + length w.bytes ≤ a)))
+pub covered_or_not : (w : Write) (a : ℕ) → ((write_covers w a ≡ true) × (w.addr ≤ a) × (a < w.addr + length w.bytes)) ⊎ ((write_covers w a ≡ false) × ((a < w.addr) ⊎ (w.addr + length w.bytes ≤ a)))
 covered_or_not w a = grind (arith, nat_tests)
 
 -- a write that does not cover the byte

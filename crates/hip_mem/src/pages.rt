@@ -107,3 +107,76 @@ fn clear_page(pages: &mut BTreeMap<u64, Page>, number: u64, from: usize, to: usi
         page.clear(from, to);
     }
 }
+
+/// Writes bytes from an address on, of at most two pages: all of them or none.
+pub fn write(alloc: Global, pages: &mut BTreeMap<u64, Page>, addr: u64, bytes: &[u8]) -> Result<(), NoMemory>
+    requires few { length bytes.now ≤ 4096 }
+    requires fits { addr + 8192 < 2 ^ 64 }
+    ensures ok { OnOk result ((a : ℕ) → page_byte pages.new a ≡ byte_written (record { addr = addr; bytes = bytes.now }) a (page_byte pages.old a)) }
+    ensures err { OnErr result ((a : ℕ) → page_byte pages.new a ≡ page_byte pages.old a) }
+{
+    let at = (addr % PAGE) as usize;
+    if bytes.len() <= PAGE as usize - at {
+        return write_page(alloc, pages, addr / PAGE, at, bytes);
+    }
+    make_page(alloc, pages, addr / PAGE + 1)?;
+    let (low, high) = bytes.split_at(PAGE as usize - at);
+    write_page(alloc, pages, addr / PAGE, at, low)?;
+    write_page(alloc, pages, addr / PAGE + 1, 0, high)
+}
+
+/// Makes the bytes of a range zeros, in time of the pages that it has.
+pub fn clear(pages: &mut BTreeMap<u64, Page>, from: u64, to: u64)
+    requires forward { from ≤ to }
+    requires fits { to + 8192 < 2 ^ 64 }
+    ensures { (a : ℕ) → page_byte pages.new a ≡ cond (nat_le from a && nat_lt a to) 0 (page_byte pages.old a) }
+{
+    let end = (to + PAGE - 1) / PAGE;
+    let mut next = from / PAGE;
+    while let Some(number) = first_page(pages, next) {
+        if number >= end {
+            break;
+        }
+        let start = number * PAGE;
+        let low = from.max(start) - start;
+        let high = to.min(start + PAGE) - start;
+        clear_page(pages, number, low as usize, high as usize);
+        next = number + 1;
+    }
+}
+
+/// Writes bytes where there are zeros, and makes pages only for parts that are not all zeros.
+pub fn fill(alloc: Global, pages: &mut BTreeMap<u64, Page>, start: u64, bytes: &[u8]) -> Result<(), NoMemory>
+    requires aligned { start % 4096 ≡ 0 }
+    requires fits { start + length bytes.now + 8192 < 2 ^ 64 }
+    requires zeros { (a : ℕ) → start ≤ a → a < start + length bytes.now → page_byte pages.old a ≡ 0 }
+    ensures { OnOk result ((a : ℕ) → page_byte pages.new a ≡ byte_written (record { addr = start; bytes = bytes.now }) a (page_byte pages.old a)) }
+{
+    let mut done = 0;
+    while done < bytes.len() {
+        let end = bytes.len().min(done + PAGE as usize);
+        fill_page(alloc, pages, start + done as u64, &bytes[done..end])?;
+        done = end;
+    }
+    Ok(())
+}
+
+// The same for bytes from a page's start on, of one page.
+fn fill_page(alloc: Global, pages: &mut BTreeMap<u64, Page>, addr: u64, bytes: &[u8]) -> Result<(), NoMemory>
+    requires aligned { addr % 4096 ≡ 0 }
+    requires few { length bytes.now ≤ 4096 }
+    requires zeros { (a : ℕ) → addr ≤ a → a < addr + length bytes.now → page_byte pages.old a ≡ 0 }
+    ensures { OnOk result ((a : ℕ) → page_byte pages.new a ≡ byte_written (record { addr = addr; bytes = bytes.now }) a (page_byte pages.old a)) }
+{
+    if is_zero(bytes) {
+        return Ok(());
+    }
+    write_page(alloc, pages, addr / PAGE, 0, bytes)
+}
+
+// Whether all bytes are 0.
+fn is_zero(bytes: &[u8]) -> bool
+    ensures { result ≡ true → (i : ℕ) → slice_index bytes.now i ≡ 0 }
+{
+    bytes.iter().all(|byte| *byte == 0)
+}

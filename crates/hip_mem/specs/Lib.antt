@@ -4,3 +4,4 @@ pub mod Areas
 pub mod BytesLaws
 pub mod AreasLaws
 pub mod Pages
+pub mod Rams

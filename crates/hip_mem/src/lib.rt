@@ -3,6 +3,8 @@
 
 mod page;
 mod pages;
+mod ram;
 mod refusal;
 
+pub use ram::Ram;
 pub use refusal::{MemTrap, PushRefusal, StoreRefusal};

@@ -1,8 +1,6 @@
 -- Writes part by part.
-use Rattle.std.proofs.Common.{◌≡◌, ◌⊎◌, inl, inr, ℕ, zero, suc, ◌+◌, ◌*◌, ◌/◌, ◌%◌, ◌-◌, ◌<◌, ◌≤◌, min, Bool, true, false, cond, ◌&&◌, nat_lt, nat_le, List, [], ◌∷◌, ◌++◌, length, take, drop, slice_index, slice_range, refl, sym, ap, ap₂, ◌∙◌, subst, arith, length-append}
-use Rattle.std.proofs.lemmas.Bool.Decides.{nat_tests}
-use Rattle.std.proofs.lemmas.Grind.{common_steps}
-use Rattle.hip_mem.specs.Memory.{Write, write_covers, byte_written}
+use Rattle.std.proofs.Common.{◌≡◌, ◌⊎◌, inl, inr, ℕ, zero, suc, ◌+◌, ◌-◌, ◌<◌, ◌≤◌, true, false, cond, List, [], ◌∷◌, ◌++◌, length, take, drop, slice_index, slice_range, refl, sym, ap, ◌∙◌, arith, length-append}
+use Rattle.hip_mem.specs.Memory.{write_covers, byte_written}
 use Rattle.hip_mem.specs.AreasLaws.{covered_or_not, not_written, index-append_left, index-append_right}
 use Rattle.hip_mem.specs.Pages.{Pages, page_byte}
 
@@ -24,8 +22,10 @@ written-append addr xs ys a old = go (split a addr) (split a (addr + length xs))
   where
     split : (m n : ℕ) → (m < n) ⊎ (n ≤ m)
     split m n = grind arith
+
     len : length (xs ++ ys) ≡ length xs + length ys
     len = length-append xs ys
+
     go : (a < addr) ⊎ (addr ≤ a) → (a < addr + length xs) ⊎ (addr + length xs ≤ a) → (a < addr + length xs + length ys) ⊎ (addr + length xs + length ys ≤ a) → byte_written (record { addr = addr; bytes = xs ++ ys }) a old ≡ byte_written (record { addr = addr + length xs; bytes = ys }) a (byte_written (record { addr = addr; bytes = xs }) a old)
     go (inl l) y z = not_written (record { addr = addr; bytes = xs ++ ys }) a old (inl l) ∙ sym (not_written (record { addr = addr + length xs; bytes = ys }) a (byte_written (record { addr = addr; bytes = xs }) a old) (inl (omega arith)) ∙ not_written (record { addr = addr; bytes = xs }) a old (inl l))
     go (inr l) (inl m) z = written addr (xs ++ ys) a old l (omega (arith, len)) ∙ index-append_left xs ys (a - addr) (omega (arith, l, m)) ∙ sym (not_written (record { addr = addr + length xs; bytes = ys }) a (byte_written (record { addr = addr; bytes = xs }) a old) (inl m) ∙ written addr xs a old l m)

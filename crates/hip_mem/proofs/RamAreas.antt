@@ -1,9 +1,9 @@
 -- The areas of a `Ram`, by its pages.
-use Rattle.std.proofs.Common.{◌≡◌, ◌⊎◌, inl, inr, ℕ, zero, suc, ◌+◌, ◌*◌, ◌/◌, ◌%◌, ◌-◌, ◌^◌, ◌<◌, ◌≤◌, Bool, true, false, cond, List, [], ◌∷◌, ◌++◌, length, take, slice_index, refl, sym, ap, ap₂, ◌∙◌, subst, arith}
-use Rattle.hip_mem.specs.Memory.{Write, byte_written, volatile_start, stack_start, stack_end, is_in}
+use Rattle.std.proofs.Common.{◌≡◌, ◌⊎◌, inl, inr, ℕ, zero, suc, ◌+◌, ◌-◌, ◌^◌, ◌<◌, ◌≤◌, true, false, List, [], ◌∷◌, ◌++◌, length, take, slice_index, refl, ap, ap₂, ◌∙◌, arith}
+use Rattle.hip_mem.specs.Memory.{Write, byte_written, volatile_start, stack_start, is_in}
 use Rattle.hip_mem.specs.Bytes.{zeros}
-use Rattle.hip_mem.specs.Areas.{Areas, IsLaidOut, mark_of, are_valid, byte_in, bytes_in, area_written, after_write, after_push, after_pop}
-use Rattle.hip_mem.specs.AreasLaws.{in_or_not, Fits, FitsOne, are_valid-fits, fits-are_valid}
+use Rattle.hip_mem.specs.Areas.{IsLaidOut, mark_of, byte_in, bytes_in, area_written}
+use Rattle.hip_mem.specs.AreasLaws.{in_or_not, FitsOne}
 use Rattle.hip_mem.specs.declared.ram.Ram.TheInside.{Inside}
 use Rattle.hip_mem.specs.Pages.{Pages, page_byte, page_bytes}
 use Rattle.hip_mem.specs.Rams.{area, areas_of, IsRam}
@@ -73,6 +73,7 @@ byte_in-pages s a h f = go f (in_or_not volatile_start (area s.pages volatile_st
   where
     at : (start n : ℕ) → start ≤ a → a < start + length (area s.pages start n) → slice_index (area s.pages start n) (a - start) ≡ page_byte s.pages a
     at start n low high = slice_index-area s.pages start n (a - start) (omega (arith, low, high, length-area s.pages start n)) ∙ ap (page_byte s.pages) (let e : start + (a - start) ≡ a = omega arith in e)
+
     go : FitsOne (areas_of s) a 1 → ((is_in volatile_start (area s.pages volatile_start s.volatile) a ≡ true) × (volatile_start ≤ a) × (a < volatile_start + length (area s.pages volatile_start s.volatile))) ⊎ ((is_in volatile_start (area s.pages volatile_start s.volatile) a ≡ false) × ((a < volatile_start) ⊎ (volatile_start + length (area s.pages volatile_start s.volatile) ≤ a))) → ((is_in stack_start (area s.pages stack_start (s.mark - stack_start)) a ≡ true) × (stack_start ≤ a) × (a < stack_start + length (area s.pages stack_start (s.mark - stack_start)))) ⊎ ((is_in stack_start (area s.pages stack_start (s.mark - stack_start)) a ≡ false) × ((a < stack_start) ⊎ (stack_start + length (area s.pages stack_start (s.mark - stack_start)) ≤ a))) → byte_in (areas_of s) a ≡ page_byte s.pages a
     go f (inl x) y = rw x.0 (at volatile_start s.volatile x.1 x.2)
     go f (inr x) (inl y) = rw (x.0, y.0) (at stack_start (s.mark - stack_start) y.1 y.2)
@@ -96,6 +97,7 @@ bytes_in-pages s (suc n) a h f = ap₂ (λ x xs. x ∷ xs) (byte_in-pages s a h 
     first (inl x) = inl (x.0, omega (arith, x.1))
     first (inr (inl x)) = inr (inl (x.0, omega (arith, x.1)))
     first (inr (inr x)) = inr (inr (x.0, omega (arith, x.1)))
+
     rest : FitsOne (areas_of s) a (suc n) → FitsOne (areas_of s) (suc a) n
     rest (inl x) = inl (omega (arith, x.0), omega (arith, x.1))
     rest (inr (inl x)) = inr (inl (omega (arith, x.0), omega (arith, x.1)))

@@ -1,13 +1,13 @@
 -- What the calls of a `Ram` do, by its pages.
-use Rattle.std.proofs.Common.{◌≡◌, ◌⊎◌, inl, inr, ℕ, zero, suc, ◌+◌, ◌*◌, ◌/◌, ◌%◌, ◌-◌, ◌^◌, ◌<◌, ◌≤◌, ◌&&◌, Bool, true, false, cond, IsTrue, ◌↔◌, ◌==◌, Option, Some, None, Result, Ok, Err, OnOk, OnErr, nat_le, nat_lt, List, [], ◌∷◌, ◌++◌, length, take, slice_index, replicate, refl, sym, ap, ap₂, ◌∙◌, subst, arith}
+use Rattle.std.proofs.Common.{◌≡◌, ◌⊎◌, inl, inr, ℕ, zero, suc, ◌+◌, ◌%◌, ◌-◌, ◌^◌, ◌<◌, ◌≤◌, ◌&&◌, Bool, true, false, cond, IsTrue, ◌↔◌, ◌==◌, Option, Some, None, Result, Ok, Err, OnOk, OnErr, nat_le, nat_lt, List, [], ◌∷◌, ◌++◌, length, take, slice_index, refl, sym, ap, ap₂, ◌∙◌, arith}
 use Rattle.std.proofs.lemmas.Bool.Decides.{nat_tests}
 use Rattle.std.specs.Int.{next_multiple_of}
 use Rattle.hip_mem.specs.declared.refusal.MemTrap.{MemTrap}
 use Rattle.hip_mem.specs.declared.refusal.MemTrap.TheVariants.{Misaligned, BadAddress}
 use Rattle.hip_mem.specs.Memory.{Write, byte_written, volatile_start, stack_start, stack_end}
 use Rattle.hip_mem.specs.Bytes.{little_endian, zeros}
-use Rattle.hip_mem.specs.BytesLaws.{little_endian-take, from_le_bytes-little_endian}
-use Rattle.hip_mem.specs.Areas.{Areas, IsLaidOut, mark_of, are_valid, byte_in, bytes_in, access_trap, or_trap, loaded, block_address, pushed_mark, after_write, after_push, after_pop}
+use Rattle.hip_mem.specs.BytesLaws.{little_endian-take}
+use Rattle.hip_mem.specs.Areas.{Areas, mark_of, are_valid, bytes_in, access_trap, or_trap, loaded, block_address, pushed_mark, after_write, after_push, after_pop}
 use Rattle.hip_mem.specs.AreasLaws.{FitsOne, are_valid-fits, fits-are_valid, not_written}
 use Rattle.hip_mem.specs.declared.ram.Ram.TheInside.{Inside}
 use Rattle.hip_mem.specs.Pages.{Pages, page_byte, page_bytes}
@@ -126,12 +126,12 @@ areas-pushed mark s s' i b v r k low high h =
     same_areas _ _ _ _ _ _ _ _ b
     (ap (area s'.pages volatile_start) v ∙ area-same s.pages s'.pages volatile_start s.volatile (λ a from to. cleared_outside s.pages s'.pages s.mark mark a (h a) (inl (omega (arith, to, i.volatile, i.start)))))
     (ap (λ n. area s'.pages stack_start (n - stack_start)) k
-        ∙ ap (area s'.pages stack_start) (let e : mark - stack_start ≡ (s.mark - stack_start) + (mark - s.mark) = omega (arith, i.start) in e)
-        ∙ area-more s'.pages stack_start (s.mark - stack_start) (mark - s.mark)
-        ∙ ap₂ (λ xs ys. xs ++ ys)
-        (area-same s.pages s'.pages stack_start (s.mark - stack_start) (λ a from to. cleared_outside s.pages s'.pages s.mark mark a (h a) (inl (omega (arith, to, i.start)))))
-        (area-zeros s'.pages (stack_start + (s.mark - stack_start)) (mark - s.mark) (λ a from to. cleared_inside s.pages s'.pages s.mark mark a (h a) (omega (arith, from, i.start)) (omega (arith, to, i.start, low)))
-            ∙ ap (λ n. zeros (mark - n)) (sym (mark-is s i))))
+    ∙ ap (area s'.pages stack_start) (let e : mark - stack_start ≡ (s.mark - stack_start) + (mark - s.mark) = omega (arith, i.start) in e)
+    ∙ area-more s'.pages stack_start (s.mark - stack_start) (mark - s.mark)
+    ∙ ap₂ (λ xs ys. xs ++ ys)
+    (area-same s.pages s'.pages stack_start (s.mark - stack_start) (λ a from to. cleared_outside s.pages s'.pages s.mark mark a (h a) (inl (omega (arith, to, i.start)))))
+    (area-zeros s'.pages (stack_start + (s.mark - stack_start)) (mark - s.mark) (λ a from to. cleared_inside s.pages s'.pages s.mark mark a (h a) (omega (arith, from, i.start)) (omega (arith, to, i.start, low)))
+    ∙ ap (λ n. zeros (mark - n)) (sym (mark-is s i))))
     (ap₂ (area s'.pages) b r ∙ area-same s.pages s'.pages s.base s.region (λ a from to. cleared_outside s.pages s'.pages s.mark mark a (h a) (inr (omega (arith, from, i.low, high)))))
 
 pub areas-popped : (mark : ℕ) (s s' : Inside) → IsRam s → s'.base ≡ s.base → s'.volatile ≡ s.volatile → s'.region ≡ s.region → s'.pages ≡ s.pages → s'.mark ≡ mark → mark ≤ s.mark → areas_of s' ≡ after_pop mark (areas_of s)

@@ -1,10 +1,10 @@
 -- Laws that tie what a `Ram` shows to the memory that it holds.
-use Rattle.std.proofs.Common.{◌≡◌, ◌⊎◌, inl, inr, ℕ, zero, suc, ◌+◌, ◌*◌, ◌/◌, ◌%◌, ◌-◌, ◌^◌, ◌<◌, ◌≤◌, Bool, true, false, cond, ◌&&◌, ◌||◌, nat_lt, nat_le, List, [], ◌∷◌, ◌++◌, length, take, drop, slice_index, refl, sym, ap, ap₂, ◌∙◌, subst, arith, length-append}
+use Rattle.std.proofs.Common.{◌≡◌, ◌⊎◌, inl, inr, ℕ, zero, suc, ◌+◌, ◌-◌, ◌<◌, ◌≤◌, Bool, true, false, cond, ◌&&◌, ◌||◌, nat_lt, nat_le, List, [], ◌∷◌, ◌++◌, length, take, drop, slice_index, refl, sym, ap, ap₂, ◌∙◌, arith, length-append}
 use Rattle.std.proofs.lemmas.Bool.Decides.{nat_tests}
 use Rattle.hip_mem.specs.Memory.{Write, write_covers, byte_written, byte_from, volatile_start, stack_start, stack_end, is_in, Memory, initial_byte, byte_at, bytes_at, with_write}
 use Rattle.hip_mem.specs.Bytes.{zeros}
 use Rattle.hip_mem.specs.BytesLaws.{length-zeros, slice_index-zeros}
-use Rattle.hip_mem.specs.Areas.{Areas, IsLaidOut, mark_of, is_valid, are_valid, byte_in, bytes_in, area_written, after_write, after_push, after_pop, Holds}
+use Rattle.hip_mem.specs.Areas.{Areas, IsLaidOut, mark_of, is_valid, are_valid, byte_in, bytes_in, area_written, after_write, block_address, after_push, after_pop, Holds}
 
 -- ---- tests
 
@@ -50,8 +50,10 @@ byte_in-after_write w r a v = go (in_or_not volatile_start r.volatile a) (in_or_
   where
     v' : is_in volatile_start (area_written w volatile_start r.volatile) a ≡ is_in volatile_start r.volatile a
     v' = is_in-length volatile_start r.volatile _ a (length-area_written w volatile_start r.volatile)
+
     s' : is_in stack_start (area_written w stack_start r.stack) a ≡ is_in stack_start r.stack a
     s' = is_in-length stack_start r.stack _ a (length-area_written w stack_start r.stack)
+
     go : ((is_in volatile_start r.volatile a ≡ true) × (volatile_start ≤ a) × (a < volatile_start + length r.volatile)) ⊎ ((is_in volatile_start r.volatile a ≡ false) × ((a < volatile_start) ⊎ (volatile_start + length r.volatile ≤ a))) → ((is_in stack_start r.stack a ≡ true) × (stack_start ≤ a) × (a < stack_start + length r.stack)) ⊎ ((is_in stack_start r.stack a ≡ false) × ((a < stack_start) ⊎ (stack_start + length r.stack ≤ a))) → ((is_in r.base r.region a ≡ true) × (r.base ≤ a) × (a < r.base + length r.region)) ⊎ ((is_in r.base r.region a ≡ false) × ((a < r.base) ⊎ (r.base + length r.region ≤ a))) → byte_in (after_write w r) a ≡ byte_written w a (byte_in r a)
     go (inl x) y z = rw (v', x.0) (area_byte w volatile_start r.volatile a x.1 x.2)
     go (inr x) (inl y) z = rw (v', x.0, s', y.0) (area_byte w stack_start r.stack a y.1 y.2)
@@ -73,8 +75,10 @@ holds-new base volatile region h k = record { base = refl; volatile = refl; regi
   where
     r : Areas
     r = record { base = base; volatile = volatile; stack = []; region = region }
+
     none : (a : ℕ) → is_in stack_start [] a ≡ false
     none a = grind (arith, nat_tests)
+
     go : (a : ℕ) → is_valid (record { base = base; volatile = volatile; stack = []; region = region }) a ≡ true → ((is_in volatile_start volatile a ≡ true) × (volatile_start ≤ a) × (a < volatile_start + length volatile)) ⊎ ((is_in volatile_start volatile a ≡ false) × ((a < volatile_start) ⊎ (volatile_start + length volatile ≤ a))) → ((is_in base region a ≡ true) × (base ≤ a) × (a < base + length region)) ⊎ ((is_in base region a ≡ false) × ((a < base) ⊎ (base + length region ≤ a))) → byte_in (record { base = base; volatile = volatile; stack = []; region = region }) a ≡ initial_byte (record { base = base; volatile = volatile; region = region; writes = [] }) a
     go a v (inl x) z = rw x.0 refl
     go a v (inr x) (inl z) = rw (x.0, none a, z.0) refl
@@ -130,6 +134,7 @@ zeros_written addr n a old h k = go (covered_or_not (record { addr = addr; bytes
   where
     w : Write
     w = record { addr = addr; bytes = zeros n }
+
     go : ((write_covers (record { addr = addr; bytes = zeros n }) a ≡ true) × (addr ≤ a) × (a < addr + length (zeros n))) ⊎ ((write_covers (record { addr = addr; bytes = zeros n }) a ≡ false) × ((a < addr) ⊎ (addr + length (zeros n) ≤ a))) → byte_written (record { addr = addr; bytes = zeros n }) a old ≡ 0
     go (inl x) = ap (λ b. cond b (slice_index (zeros n) (a - addr)) old) x.0 ∙ slice_index-zeros n (a - addr)
     go (inr x) = absurd (both x.1)
@@ -164,9 +169,11 @@ holds-push mark r m p low high h = record {
   where
     len : length (r.stack ++ zeros (mark - mark_of r)) ≡ mark - stack_start
     len = omega (arith, low, length-append r.stack (zeros (mark - mark_of r)), length-zeros (mark - mark_of r))
+
     kept : (a : ℕ) → is_valid r a ≡ true → (a < mark_of r) ⊎ (mark ≤ a) → byte_in r a ≡ byte_written (push_write mark r) a (byte_at m a)
     kept a u (inl l) = h.bytes a u ∙ sym (not_written (push_write mark r) a (byte_at m a) (inl l))
     kept a u (inr l) = h.bytes a u ∙ sym (not_written (push_write mark r) a (byte_at m a) (inr (omega (arith, low, l, length-zeros (mark - mark_of r)))))
+
     go : (a : ℕ) → is_valid (after_push mark r) a ≡ true → ((is_in volatile_start r.volatile a ≡ true) × (volatile_start ≤ a) × (a < volatile_start + length r.volatile)) ⊎ ((is_in volatile_start r.volatile a ≡ false) × ((a < volatile_start) ⊎ (volatile_start + length r.volatile ≤ a))) → ((is_in stack_start (r.stack ++ zeros (mark - mark_of r)) a ≡ true) × (stack_start ≤ a) × (a < stack_start + length (r.stack ++ zeros (mark - mark_of r)))) ⊎ ((is_in stack_start (r.stack ++ zeros (mark - mark_of r)) a ≡ false) × ((a < stack_start) ⊎ (stack_start + length (r.stack ++ zeros (mark - mark_of r)) ≤ a))) → ((is_in stack_start r.stack a ≡ true) × (stack_start ≤ a) × (a < stack_start + length r.stack)) ⊎ ((is_in stack_start r.stack a ≡ false) × ((a < stack_start) ⊎ (stack_start + length r.stack ≤ a))) → ((is_in r.base r.region a ≡ true) × (r.base ≤ a) × (a < r.base + length r.region)) ⊎ ((is_in r.base r.region a ≡ false) × ((a < r.base) ⊎ (r.base + length r.region ≤ a))) → byte_in (after_push mark r) a ≡ byte_written (push_write mark r) a (byte_at m a)
     go a v (inl x) s o z =
         let u : is_valid r a ≡ true = rw x.0 refl in
@@ -204,6 +211,7 @@ holds-pop mark r m p low high h = record {
   where
     len : length (take (mark - stack_start) r.stack) ≡ mark - stack_start
     len = length-take-le (mark - stack_start) r.stack (omega (arith, high))
+
     go : (a : ℕ) → is_valid (after_pop mark r) a ≡ true → ((is_in volatile_start r.volatile a ≡ true) × (volatile_start ≤ a) × (a < volatile_start + length r.volatile)) ⊎ ((is_in volatile_start r.volatile a ≡ false) × ((a < volatile_start) ⊎ (volatile_start + length r.volatile ≤ a))) → ((is_in stack_start (take (mark - stack_start) r.stack) a ≡ true) × (stack_start ≤ a) × (a < stack_start + length (take (mark - stack_start) r.stack))) ⊎ ((is_in stack_start (take (mark - stack_start) r.stack) a ≡ false) × ((a < stack_start) ⊎ (stack_start + length (take (mark - stack_start) r.stack) ≤ a))) → ((is_in stack_start r.stack a ≡ true) × (stack_start ≤ a) × (a < stack_start + length r.stack)) ⊎ ((is_in stack_start r.stack a ≡ false) × ((a < stack_start) ⊎ (stack_start + length r.stack ≤ a))) → ((is_in r.base r.region a ≡ true) × (r.base ≤ a) × (a < r.base + length r.region)) ⊎ ((is_in r.base r.region a ≡ false) × ((a < r.base) ⊎ (r.base + length r.region ≤ a))) → byte_in (after_pop mark r) a ≡ byte_at m a
     go a v (inl x) s o z =
         let u : is_valid r a ≡ true = rw x.0 refl in
@@ -274,6 +282,7 @@ bytes_in-written w r (suc n) k e h =
     drop-first k [] h = absurd (omega arith)
     drop-first zero (x ∷ xs) h = refl
     drop-first (suc k) (x ∷ xs) h = drop-first k xs (omega arith)
+
     over : ((write_covers w (w.addr + k) ≡ true) × (w.addr ≤ w.addr + k) × (w.addr + k < w.addr + length w.bytes)) ⊎ ((write_covers w (w.addr + k) ≡ false) × ((w.addr + k < w.addr) ⊎ (w.addr + length w.bytes ≤ w.addr + k))) → byte_written w (w.addr + k) (byte_in r (w.addr + k)) ≡ slice_index w.bytes (w.addr + k - w.addr)
     over (inl x) = ap (λ b. cond b (slice_index w.bytes (w.addr + k - w.addr)) (byte_in r (w.addr + k))) x.0
     over (inr x) = absurd (out x.1)
@@ -341,3 +350,31 @@ fits-are_valid r n a f = are_valid-from_each r n a (λ k lt. where-valid r (a + 
     part k lt (inl x) = inl (omega (arith, x.0), omega (arith, x.1))
     part k lt (inr (inl x)) = inr (inl (omega (arith, x.0), omega (arith, x.1)))
     part k lt (inr (inr x)) = inr (inr (omega (arith, x.0), omega (arith, x.1)))
+
+-- ---- the mark, and that a `Ram` stays laid out
+
+pub mark_of-after_write : (w : Write) (r : Areas) → mark_of (after_write w r) ≡ mark_of r
+mark_of-after_write w r = ap (λ n. stack_start + n) (length-area_written w stack_start r.stack)
+
+pub mark_of-after_pop : (mark : ℕ) (r : Areas) → stack_start ≤ mark → mark ≤ mark_of r → mark_of (after_pop mark r) ≡ mark
+mark_of-after_pop mark r low high = omega (arith, length-take-le (mark - stack_start) r.stack (omega (arith, high)), low)
+
+pub laid_out-after_write : (w : Write) (r : Areas) → IsLaidOut r → IsLaidOut (after_write w r)
+laid_out-after_write w r h = record {
+  low = h.low;
+  high = h.high;
+  aligned = h.aligned;
+  volatile = omega (arith, h.volatile, length-area_written w volatile_start r.volatile);
+  stack = omega (arith, h.stack, length-area_written w stack_start r.stack);
+  region = omega (arith, h.region, length-area_written w r.base r.region);
+}
+
+pub laid_out-after_push : (mark : ℕ) (r : Areas) → mark_of r ≤ mark → mark ≤ stack_end → IsLaidOut r → IsLaidOut (after_push mark r)
+laid_out-after_push mark r low high h = record { low = h.low; high = h.high; aligned = h.aligned; volatile = h.volatile; stack = omega (arith, low, high, mark_of-after_push mark r low); region = h.region }
+
+pub laid_out-after_pop : (mark : ℕ) (r : Areas) → stack_start ≤ mark → mark ≤ mark_of r → IsLaidOut r → IsLaidOut (after_pop mark r)
+laid_out-after_pop mark r low high h = record { low = h.low; high = h.high; aligned = h.aligned; volatile = h.volatile; stack = omega (arith, high, h.stack, mark_of-after_pop mark r low high); region = h.region }
+
+-- a new block does not lie below the mark
+pub mark-le-block : (r : Areas) (align : ℕ) → mark_of r ≤ block_address r align
+mark-le-block r align = omega arith

@@ -8,3 +8,6 @@ mod refusal;
 
 pub use ram::Ram;
 pub use refusal::{MemTrap, PushRefusal, StoreRefusal};
+
+#[cfg(test)]
+mod tests;

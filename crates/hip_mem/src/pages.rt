@@ -40,7 +40,13 @@ pub fn read(pages: &BTreeMap<u64, Page>, addr: u64, into: &mut [u8])
 }
 
 // Writes bytes of one page, which is made where it was not there.
-fn write_page(alloc: Global, pages: &mut BTreeMap<u64, Page>, number: u64, at: usize, bytes: &[u8]) -> Result<(), NoMemory>
+fn write_page(
+    alloc: Global,
+    pages: &mut BTreeMap<u64, Page>,
+    number: u64,
+    at: usize,
+    bytes: &[u8],
+) -> Result<(), NoMemory>
     requires { at + length bytes.now ≤ 4096 }
     ensures ok { OnOk result ((i : ℕ) → byte_by (get nat_cmp pages.new number) i ≡ cond (nat_le at i && nat_lt i (at + length bytes.now)) (slice_index bytes.now (i - at)) (byte_by (get nat_cmp pages.old number) i)) }
     ensures others { (j : ℕ) → j ≢ number → get nat_cmp pages.new j ≡ get nat_cmp pages.old j }
@@ -57,7 +63,13 @@ fn write_page(alloc: Global, pages: &mut BTreeMap<u64, Page>, number: u64, at: u
 }
 
 // Makes a page with these bytes, and zeros elsewhere.
-fn add_page(alloc: Global, pages: &mut BTreeMap<u64, Page>, number: u64, at: usize, bytes: &[u8]) -> Result<(), NoMemory>
+fn add_page(
+    alloc: Global,
+    pages: &mut BTreeMap<u64, Page>,
+    number: u64,
+    at: usize,
+    bytes: &[u8],
+) -> Result<(), NoMemory>
     requires few { at + length bytes.now ≤ 4096 }
     requires absent { get nat_cmp pages.old number ≡ None }
     ensures ok { OnOk result ((i : ℕ) → byte_by (get nat_cmp pages.new number) i ≡ cond (nat_le at i && nat_lt i (at + length bytes.now)) (slice_index bytes.now (i - at)) 0) }
@@ -109,7 +121,12 @@ fn clear_page(pages: &mut BTreeMap<u64, Page>, number: u64, from: usize, to: usi
 }
 
 /// Writes bytes from an address on, of at most two pages: all of them or none.
-pub fn write(alloc: Global, pages: &mut BTreeMap<u64, Page>, addr: u64, bytes: &[u8]) -> Result<(), NoMemory>
+pub fn write(
+    alloc: Global,
+    pages: &mut BTreeMap<u64, Page>,
+    addr: u64,
+    bytes: &[u8],
+) -> Result<(), NoMemory>
     requires few { length bytes.now ≤ 4096 }
     requires fits { addr + 8192 < 2 ^ 64 }
     ensures ok { OnOk result ((a : ℕ) → page_byte pages.new a ≡ byte_written (record { addr = addr; bytes = bytes.now }) a (page_byte pages.old a)) }
@@ -146,7 +163,12 @@ pub fn clear(pages: &mut BTreeMap<u64, Page>, from: u64, to: u64)
 }
 
 /// Writes bytes where there are zeros, and makes pages only for parts that are not all zeros.
-pub fn fill(alloc: Global, pages: &mut BTreeMap<u64, Page>, start: u64, bytes: &[u8]) -> Result<(), NoMemory>
+pub fn fill(
+    alloc: Global,
+    pages: &mut BTreeMap<u64, Page>,
+    start: u64,
+    bytes: &[u8],
+) -> Result<(), NoMemory>
     requires aligned { start % 4096 ≡ 0 }
     requires fits { start + length bytes.now + 8192 < 2 ^ 64 }
     requires zeros { (a : ℕ) → start ≤ a → a < start + length bytes.now → page_byte pages.old a ≡ 0 }
@@ -162,7 +184,12 @@ pub fn fill(alloc: Global, pages: &mut BTreeMap<u64, Page>, start: u64, bytes: &
 }
 
 // The same for bytes from a page's start on, of one page.
-fn fill_page(alloc: Global, pages: &mut BTreeMap<u64, Page>, addr: u64, bytes: &[u8]) -> Result<(), NoMemory>
+fn fill_page(
+    alloc: Global,
+    pages: &mut BTreeMap<u64, Page>,
+    addr: u64,
+    bytes: &[u8],
+) -> Result<(), NoMemory>
     requires aligned { addr % 4096 ≡ 0 }
     requires few { length bytes.now ≤ 4096 }
     requires zeros { (a : ℕ) → addr ≤ a → a < addr + length bytes.now → page_byte pages.old a ≡ 0 }

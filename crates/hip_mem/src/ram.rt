@@ -12,7 +12,9 @@ use std::collections::BTreeMap;
 use std::marker::Model;
 
 const VOLATILE_START: u64 = 65_536;
+
 const STACK_START: u64 = 268_435_456;
+
 const STACK_END: u64 = 285_212_672;
 
 /// The bytes of a machine, which contracts see as the three areas of valid bytes.
@@ -80,7 +82,13 @@ impl Ram {
     }
 
     /// Writes the low bytes of a number, the lowest first.
-    pub fn store(&mut self, addr: u64, size: u32, align: u32, value: u64) -> Result<(), StoreRefusal>
+    pub fn store(
+        &mut self,
+        addr: u64,
+        size: u32,
+        align: u32,
+        value: u64,
+    ) -> Result<(), StoreRefusal>
         requires some { 0 < size }
         requires few { size ≤ 8 }
         requires align { 0 < align }
@@ -204,7 +212,12 @@ fn read_low(pages: &BTreeMap<u64, Page>, addr: u64, into: &mut [u8], size: usize
     read(pages, addr, &mut into[..size]);
 }
 
-fn put(alloc: Global, pages: &mut BTreeMap<u64, Page>, addr: u64, bytes: &[u8]) -> Result<(), StoreRefusal>
+fn put(
+    alloc: Global,
+    pages: &mut BTreeMap<u64, Page>,
+    addr: u64,
+    bytes: &[u8],
+) -> Result<(), StoreRefusal>
     requires few { length bytes.now ≤ 4096 }
     requires fits { addr + 8192 < 2 ^ 64 }
     ensures ok { OnOk result ((a : ℕ) → page_byte pages.new a ≡ byte_written (record { addr = addr; bytes = bytes.now }) a (page_byte pages.old a)) }

@@ -1,4 +1,4 @@
-use Rattle.std.proofs.Common.{◌≡◌, IsTrue, ◌↔◌, true, false, Bool, inl, inr, refl, arith}
+use Rattle.std.proofs.Common.{◌≡◌, IsTrue, ◌↔◌, true, false, Bool, inl, inr, refl}
 use Rattle.hip_mem.proofs.RamCalls.{valid_where, valid_last}
 use Rattle.hip_mem.proofs.ram.Ram.are_valid.Goals as goal
 

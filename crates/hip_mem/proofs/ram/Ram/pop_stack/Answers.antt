@@ -1,4 +1,4 @@
-use Rattle.std.proofs.Common.{arith, refl, sym, ap, ◌∙◌}
+use Rattle.std.proofs.Common.{arith, refl, ap, ◌∙◌}
 use Rattle.hip_mem.specs.Areas.{mark_of, after_pop}
 use Rattle.hip_mem.proofs.RamAreas.{mark-is}
 use Rattle.hip_mem.proofs.RamCalls.{areas-popped}

@@ -1,4 +1,4 @@
-use Rattle.std.proofs.Common.{◌≡◌, ◌∙◌, ap, sym, refl, arith}
+use Rattle.std.proofs.Common.{◌∙◌, ap, sym, refl, arith}
 use Rattle.hip_mem.specs.Areas.{after_push}
 use Rattle.hip_mem.proofs.RamCalls.{pushed-is, block-is, areas-pushed}
 use Rattle.hip_mem.proofs.ram.Ram.push_stack.Goals as goal

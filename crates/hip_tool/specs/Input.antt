@@ -1,12 +1,16 @@
 -- The input of a run.
-use Rattle.std.specs.Prelude.{ℕ, ◌*◌, ◌%◌, ◌^◌, ◌≡◌, ◌≤◌, Bool, true, ◌&&◌, nat_le, ◌==◌, length}
-use Rattle.std.specs.Int.{next_multiple_of}
+use Rattle.std.specs.Prelude.{ℕ, List, [], ◌∷◌, ◌%◌, ◌^◌, ◌≡◌, ◌≤◌, Bool, true, ◌&&◌, nat_le, ◌==◌, length}
+use Rattle.hip_ir.specs.declared.program.GlobalVar.{GlobalVar}
 use Rattle.hip_ir.specs.declared.program.Program.{Program}
 use Rattle.hip_tool.specs.declared.input.Input.{Input}
 
--- How many bytes the region of persistent globals has: whole cache lines. Each global is one number of eight bytes.
+-- How many bytes the region of persistent globals has: whole cache lines. The one global is a number of eight bytes.
+abbrev pub region_of : List GlobalVar → ℕ
+region_of [] = 0
+region_of (global ∷ globals) = 64
+
 abbrev pub region_size : Program → ℕ
-region_size program = next_multiple_of (8 * length program.globals) 64
+region_size program = region_of program.globals
 
 -- a multiple of 4,096 from 2^32 to 2^46
 abbrev pub is_base : ℕ → Bool

@@ -4,4 +4,7 @@ pub mod Pieces
 pub mod Input
 pub mod OneStore
 pub mod Run
+pub mod Misfit
+pub mod ReadsEntries
+pub mod Replays
 pub mod Seen

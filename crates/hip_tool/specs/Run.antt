@@ -28,13 +28,13 @@ use Rattle.hip_tool.specs.declared.apply.Plan.{Plan}
 abbrev pub stop_entry : OneStore → ℕ → Entry
 stop_entry s limit = if nat_lt limit 2 then Cut else Stop (signed_32 s.code.value)
 
-abbrev pub steps_of : Option OneStore → Input → List Entry
-steps_of None input = []
-steps_of (Some s) input = if input.limit == 0 then Cut ∷ [] else Store input.base s.value.value 8 ∷ stop_entry s input.limit ∷ []
+abbrev pub steps_of : Option OneStore → ℕ → ℕ → List Entry
+steps_of None limit base = []
+steps_of (Some s) limit base = if limit == 0 then Cut ∷ [] else Store base s.value.value 8 ∷ stop_entry s limit ∷ []
 
 -- the trace of the run
 unfoldable pub trace : Program → Input → List Entry
-trace program input = Start input.limit ∷ Register input.base (region_size program) ∷ steps_of (one_store program) input
+trace program input = Start input.limit ∷ Register input.base (region_size program) ∷ steps_of (one_store program) input.limit input.base
 
 abbrev pub store_site : Site
 store_site = record { function = 0; block = 0; index = 0 }

@@ -1,0 +1,390 @@
+-- The grammar of programs: instructions and blocks.
+use Rattle.std.specs.Prelude.{ℕ, Bool, true, false, ◌||◌, List, [], ◌∷◌, Option, Some, None, codes, if◌then◌else◌}
+use Rattle.std.specs.Str.{bytes_eq}
+use Rattle.hip_types.specs.declared.number.BinaryOp.{BinaryOp}
+use Rattle.hip_types.specs.declared.number.BinaryOp.TheVariants as ops
+use Rattle.hip_types.specs.declared.number.CastOp.TheVariants as casts
+use Rattle.hip_types.specs.declared.number.Scalar.{Scalar}
+use Rattle.hip_types.specs.declared.number.Scalar.TheVariants as scalars
+use Rattle.hip_types.specs.declared.number.Width.{Width}
+use Rattle.hip_types.specs.declared.number.Width.TheVariants.{W1}
+use Rattle.hip_tokens.specs.Tokens.{Tok, Word}
+use Rattle.hip_rules.specs.Rule.{Verdict, Yes, No}
+use Rattle.hip_rules.specs.Reader.{folded}
+use Rattle.hip_rules.specs.Part.{Part, gives, token, ◌>>=◌, either, repeated, optional, passing, separated, listed, phased}
+use Rattle.hip_ir.specs.declared.block.Block.{Block}
+use Rattle.hip_ir.specs.declared.block.Case.{Case}
+use Rattle.hip_ir.specs.declared.block.Edge.{Edge}
+use Rattle.hip_ir.specs.declared.block.End.{End}
+use Rattle.hip_ir.specs.declared.block.End.TheVariants as ends
+use Rattle.hip_ir.specs.declared.block.Phi.{Phi}
+use Rattle.hip_ir.specs.declared.fault.Fault.{Fault}
+use Rattle.hip_ir.specs.declared.instr.Flags.{Flags}
+use Rattle.hip_ir.specs.declared.instr.Instr.{Instr}
+use Rattle.hip_ir.specs.declared.instr.Instr.TheVariants as instrs
+use Rattle.hip_ir.specs.Words.{is_word, is_mark, is_local, comma, a_local, a_global, a_label, a_word_of, is_word_of, or_no, is_there, ret_word, binary_word, pred_word, int_cast_word}
+use Rattle.hip_ir.specs.Numbers.{a_literal, an_alignment}
+use Rattle.hip_ir.specs.Grammar.{word, mark, maybe_word, int, scalar, type, is_width, is_scalar, operand, arg, index}
+
+-- ret = "void" | scalar
+abbrev pub ret : Part Fault (Option Scalar)
+ret = token (a_word_of ret_word)
+
+-- align = "," "align" NUM
+unfoldable pub align : Part Fault ℕ
+align = do
+  _ ← mark 44
+  _ ← word (codes "align")
+  token an_alignment
+
+abbrev pub maybe_align : Part Fault (Option ℕ)
+maybe_align = optional comma align
+
+-- ---- phis
+
+-- LOCAL "="
+unfoldable pub assigned : Part Fault (List ℕ)
+assigned = do
+  name ← token a_local
+  _ ← mark 61
+  gives name
+
+-- edge = "[" operand "," LOCAL "]"
+unfoldable pub edge : Scalar → Part Fault Edge
+edge s = do
+  _ ← mark 91
+  value ← operand s
+  _ ← mark 44
+  label ← token a_local
+  _ ← mark 93
+  gives (record { value = value; label = label })
+
+-- phi = LOCAL "=" "phi" scalar edge { "," edge }, behind its LOCAL "="
+unfoldable pub phi : List ℕ → Part Fault Phi
+phi dest = do
+  _ ← word (codes "phi")
+  s ← scalar
+  edges ← separated comma (edge s)
+  gives (record { dest = dest; ty = s; edges = edges })
+
+-- ---- instructions, those that assign a register behind LOCAL "="
+
+abbrev pub no_flags : Flags
+no_flags = record { nuw = false; nsw = false; exact = false }
+
+abbrev pub with_flag : Flags → Flags → Flags
+with_flag f g = record { nuw = f.nuw || g.nuw; nsw = f.nsw || g.nsw; exact = f.exact || g.exact }
+
+-- add, sub, mul and shl
+abbrev pub may_wrap : BinaryOp → Bool
+may_wrap ops.Add = true
+may_wrap ops.Sub = true
+may_wrap ops.Mul = true
+may_wrap ops.Shl = true
+may_wrap _ = false
+
+-- udiv, sdiv, lshr and ashr
+abbrev pub may_be_exact : BinaryOp → Bool
+may_be_exact ops.Udiv = true
+may_be_exact ops.Sdiv = true
+may_be_exact ops.Lshr = true
+may_be_exact ops.Ashr = true
+may_be_exact _ = false
+
+abbrev pub wrap_word : List ℕ → Option Flags
+wrap_word t =
+    if bytes_eq t (codes "nuw") then Some (record { nuw = true; nsw = false; exact = false })
+    else (if bytes_eq t (codes "nsw") then Some (record { nuw = false; nsw = true; exact = false })
+    else None)
+
+abbrev pub exact_word : List ℕ → Option Flags
+exact_word t = if bytes_eq t (codes "exact") then Some (record { nuw = false; nsw = false; exact = true }) else None
+
+-- `nuw` or `nsw` after one, `exact` after the other
+abbrev pub flag_word : BinaryOp → List ℕ → Option Flags
+flag_word op t = if may_wrap op then wrap_word t else (if may_be_exact op then exact_word t else None)
+
+unfoldable pub flags : BinaryOp → Part Fault Flags
+flags op = do
+  found ← repeated (is_word_of (flag_word op)) (token (a_word_of (flag_word op)))
+  gives (folded with_flag no_flags found)
+
+-- binop { flag } int operand "," operand
+unfoldable pub binary : List ℕ → Part Fault Instr
+binary dest = do
+  op ← token (a_word_of binary_word)
+  set ← flags op
+  w ← int
+  a ← operand (scalars.Int w)
+  _ ← mark 44
+  b ← operand (scalars.Int w)
+  gives (instrs.Binary dest op set w a b)
+
+-- "icmp" pred scalar operand "," operand
+unfoldable pub compare : List ℕ → Part Fault Instr
+compare dest = do
+  _ ← word (codes "icmp")
+  pred ← token (a_word_of pred_word)
+  s ← scalar
+  a ← operand s
+  _ ← mark 44
+  b ← operand s
+  gives (instrs.Compare dest pred s a b)
+
+-- "select" "i1" operand "," arg "," arg, where the second type is the first again
+unfoldable pub select : List ℕ → Part Fault Instr
+select dest = do
+  _ ← word (codes "select")
+  _ ← word (codes "i1")
+  cond ← operand (scalars.Int W1)
+  _ ← mark 44
+  s ← scalar
+  a ← operand s
+  _ ← mark 44
+  _ ← passing (is_scalar s)
+  b ← operand s
+  gives (instrs.Select dest cond s a b)
+
+-- ("zext" | "sext" | "trunc") int operand "to" int
+unfoldable pub int_cast : List ℕ → Part Fault Instr
+int_cast dest = do
+  op ← token (a_word_of int_cast_word)
+  w ← int
+  a ← operand (scalars.Int w)
+  _ ← word (codes "to")
+  v ← int
+  gives (instrs.Cast dest op (scalars.Int w) a (scalars.Int v))
+
+-- "ptrtoint" "ptr" operand "to" int
+unfoldable pub ptrtoint : List ℕ → Part Fault Instr
+ptrtoint dest = do
+  _ ← word (codes "ptrtoint")
+  _ ← word (codes "ptr")
+  a ← operand scalars.Ptr
+  _ ← word (codes "to")
+  w ← int
+  gives (instrs.Cast dest casts.Ptrtoint scalars.Ptr a (scalars.Int w))
+
+-- "inttoptr" int operand "to" "ptr"
+unfoldable pub inttoptr : List ℕ → Part Fault Instr
+inttoptr dest = do
+  _ ← word (codes "inttoptr")
+  w ← int
+  a ← operand (scalars.Int w)
+  _ ← word (codes "to")
+  _ ← word (codes "ptr")
+  gives (instrs.Cast dest casts.Inttoptr (scalars.Int w) a scalars.Ptr)
+
+-- "alloca" type [ align ]
+unfoldable pub alloca : List ℕ → Part Fault Instr
+alloca dest = do
+  _ ← word (codes "alloca")
+  ty ← type
+  n ← maybe_align
+  gives (instrs.Alloca dest ty n)
+
+-- "load" scalar "," "ptr" operand [ align ]
+unfoldable pub load : List ℕ → Part Fault Instr
+load dest = do
+  _ ← word (codes "load")
+  s ← scalar
+  _ ← mark 44
+  _ ← word (codes "ptr")
+  addr ← operand scalars.Ptr
+  n ← maybe_align
+  gives (instrs.Load dest s addr n)
+
+-- "getelementptr" [ "inbounds" ] type "," "ptr" operand "," index { "," index }
+unfoldable pub gep : List ℕ → Part Fault Instr
+gep dest = do
+  _ ← word (codes "getelementptr")
+  inbounds ← maybe_word (codes "inbounds")
+  ty ← type
+  _ ← mark 44
+  _ ← word (codes "ptr")
+  base ← operand scalars.Ptr
+  _ ← mark 44
+  indices ← separated comma index
+  gives (instrs.Gep dest inbounds ty base indices)
+
+-- [ "tail" ] "call" ret GLOBAL "(" [ arg { "," arg } ] ")"
+unfoldable pub plain_call : Option (List ℕ) → Part Fault Instr
+plain_call dest = do
+  _ ← word (codes "call")
+  result ← ret
+  callee ← token a_global
+  _ ← mark 40
+  args ← listed comma (is_mark 41) arg
+  gives (instrs.Call dest result callee args)
+
+unfoldable pub call : Option (List ℕ) → Part Fault Instr
+call dest = do
+  _ ← optional (is_word (codes "tail")) (word (codes "tail"))
+  plain_call dest
+
+-- "store" scalar operand "," "ptr" operand [ align ]
+unfoldable pub store : Part Fault Instr
+store = do
+  _ ← word (codes "store")
+  s ← scalar
+  value ← operand s
+  _ ← mark 44
+  _ ← word (codes "ptr")
+  addr ← operand scalars.Ptr
+  n ← maybe_align
+  gives (instrs.Store s value addr n)
+
+-- the instructions on memory, and calls
+unfoldable pub memory_instr : List ℕ → Part Fault Instr
+memory_instr dest =
+    either (is_word (codes "alloca")) (alloca dest)
+    (either (is_word (codes "load")) (load dest)
+    (either (is_word (codes "getelementptr")) (gep dest)
+    (call (Some dest))))
+
+unfoldable pub cast_instr : List ℕ → Part Fault Instr
+cast_instr dest =
+    either (is_word_of int_cast_word) (int_cast dest)
+    (either (is_word (codes "ptrtoint")) (ptrtoint dest)
+    (either (is_word (codes "inttoptr")) (inttoptr dest)
+    (memory_instr dest)))
+
+-- an instruction behind LOCAL "="
+unfoldable pub value_instr : List ℕ → Part Fault Instr
+value_instr dest =
+    either (is_word_of binary_word) (binary dest)
+    (either (is_word (codes "icmp")) (compare dest)
+    (either (is_word (codes "select")) (select dest)
+    (cast_instr dest)))
+
+-- an instruction that assigns no register
+unfoldable pub effect_instr : Part Fault Instr
+effect_instr = either (is_word (codes "store")) store (call None)
+
+-- The cases of instr that begin by LOCAL "=" are taken together: a front that cases share is a front of each of them.
+unfoldable pub assigning_instr : Part Fault Instr
+assigning_instr = do
+  dest ← assigned
+  value_instr dest
+
+unfoldable pub instr : Part Fault Instr
+instr = either is_local assigning_instr effect_instr
+
+abbrev pub begins_effect : Tok → Bool
+begins_effect t = is_word (codes "store") t || (is_word (codes "tail") t || is_word (codes "call") t)
+
+abbrev pub begins_instr : Tok → Bool
+begins_instr t = is_local t || begins_effect t
+
+-- ---- ends of blocks
+
+-- "label" LOCAL
+unfoldable pub target : Part Fault (List ℕ)
+target = do
+  _ ← word (codes "label")
+  token a_local
+
+unfoldable pub jump : Part Fault End
+jump = do
+  label ← target
+  gives (ends.Br label)
+
+-- "i1" operand "," "label" LOCAL "," "label" LOCAL
+unfoldable pub branch : Part Fault End
+branch = do
+  _ ← word (codes "i1")
+  cond ← operand (scalars.Int W1)
+  _ ← mark 44
+  yes_label ← target
+  _ ← mark 44
+  no_label ← target
+  gives (ends.CondBr cond yes_label no_label)
+
+unfoldable pub br : Part Fault End
+br = do
+  _ ← word (codes "br")
+  either (is_word (codes "label")) jump branch
+
+-- int literal "," "label" LOCAL, where the type is the switch's
+unfoldable pub case : Width → Part Fault Case
+case w = do
+  _ ← passing (is_width w)
+  value ← token (a_literal w)
+  _ ← mark 44
+  label ← target
+  gives (record { value = value; label = label })
+
+-- "switch" int operand "," "label" LOCAL "[" { int literal "," "label" LOCAL } "]"
+unfoldable pub switch : Part Fault End
+switch = do
+  _ ← word (codes "switch")
+  w ← int
+  value ← operand (scalars.Int w)
+  _ ← mark 44
+  other ← target
+  _ ← mark 91
+  cases ← repeated (is_width w) (case w)
+  _ ← mark 93
+  gives (ends.Switch w value other cases)
+
+unfoldable pub ret_void : Part Fault End
+ret_void = do
+  _ ← word (codes "void")
+  gives (ends.Ret None)
+
+unfoldable pub ret_arg : Part Fault End
+ret_arg = do
+  value ← arg
+  gives (ends.Ret (Some value))
+
+-- "ret" "void" | "ret" arg
+unfoldable pub ret_end : Part Fault End
+ret_end = do
+  _ ← word (codes "ret")
+  either (is_word (codes "void")) ret_void ret_arg
+
+unfoldable pub unreachable : Part Fault End
+unreachable = do
+  _ ← word (codes "unreachable")
+  gives ends.Unreachable
+
+unfoldable pub end : Part Fault End
+end = either (is_word (codes "br")) br (either (is_word (codes "switch")) switch (either (is_word (codes "ret")) ret_end unreachable))
+
+-- ---- blocks
+
+unfoldable pub closing : List ℕ → List Phi → List Instr → Part Fault Block
+closing label phis body = do
+  last ← end
+  gives (record { label = label; phis = phis; body = body; end = last })
+
+-- { instr } end
+unfoldable pub instrs_and_end : List ℕ → List Phi → Part Fault Block
+instrs_and_end label phis = do
+  body ← repeated begins_instr instr
+  closing label phis body
+
+-- the same behind a first instruction
+unfoldable pub after_first : List ℕ → List Phi → Instr → Part Fault Block
+after_first label phis first = do
+  body ← repeated begins_instr instr
+  closing label phis (first ∷ body)
+
+unfoldable pub after_name : List ℕ → List Phi → List ℕ → Part Fault Block
+after_name label phis dest = do
+  first ← value_instr dest
+  after_first label phis first
+
+unfoldable pub from_effect : List ℕ → List Phi → Part Fault Block
+from_effect label phis = do
+  first ← effect_instr
+  after_first label phis first
+
+unfoldable pub after_phis : List ℕ → List Phi → Part Fault Block
+after_phis label phis = either begins_effect (from_effect label phis) (closing label phis [])
+
+-- block = LABEL { phi } { instr } end
+unfoldable pub block : Part Fault Block
+block = do
+  label ← token a_label
+  phased is_local assigned (is_word (codes "phi")) phi (after_name label) (after_phis label) (instrs_and_end label)

@@ -1,0 +1,258 @@
+-- The canonical text of a program.
+use Rattle.std.specs.Prelude.{ℕ, ◌-◌, ◌^◌, Bool, true, false, ◌==◌, List, [], ◌∷◌, ◌++◌, map, Option, Some, None, codes, nat_lt, if◌then◌else◌}
+use Rattle.std.specs.Fmt.{decimal}
+use Rattle.std.specs.List.{flat_map}
+use Rattle.hip_types.specs.Widths.{bits_of}
+use Rattle.hip_types.specs.declared.number.BinaryOp.{BinaryOp}
+use Rattle.hip_types.specs.declared.number.BinaryOp.TheVariants as ops
+use Rattle.hip_types.specs.declared.number.Bits.{Bits}
+use Rattle.hip_types.specs.declared.number.CastOp.{CastOp}
+use Rattle.hip_types.specs.declared.number.CastOp.TheVariants as casts
+use Rattle.hip_types.specs.declared.number.Pred.{Pred}
+use Rattle.hip_types.specs.declared.number.Pred.TheVariants as preds
+use Rattle.hip_types.specs.declared.number.Scalar.{Scalar}
+use Rattle.hip_types.specs.declared.number.Width.{Width}
+use Rattle.hip_types.specs.declared.number.Width.TheVariants.{W1, W8, W16, W32, W64}
+use Rattle.hip_types.specs.declared.ty.Ty.{Ty}
+use Rattle.hip_types.specs.declared.ty.Ty.TheFolds.{fold-Ty}
+use Rattle.hip_types.specs.declared.ty.Ty.TheOpen.{Ty-F}
+use Rattle.hip_ir.specs.declared.block.Block.{Block}
+use Rattle.hip_ir.specs.declared.block.Case.{Case}
+use Rattle.hip_ir.specs.declared.block.Edge.{Edge}
+use Rattle.hip_ir.specs.declared.block.End.{End}
+use Rattle.hip_ir.specs.declared.block.End.TheVariants as ends
+use Rattle.hip_ir.specs.declared.block.Phi.{Phi}
+use Rattle.hip_ir.specs.declared.constant.Const.{Const}
+use Rattle.hip_ir.specs.declared.constant.Const.TheFolds.{fold-Const}
+use Rattle.hip_ir.specs.declared.constant.Const.TheOpen.{Const-F, ConstGep-F, TypedConst-F}
+use Rattle.hip_ir.specs.declared.instr.Arg.{Arg}
+use Rattle.hip_ir.specs.declared.instr.Flags.{Flags}
+use Rattle.hip_ir.specs.declared.instr.Instr.{Instr}
+use Rattle.hip_ir.specs.declared.instr.Instr.TheVariants as instrs
+use Rattle.hip_ir.specs.declared.instr.Operand.{Operand}
+use Rattle.hip_ir.specs.declared.instr.Operand.TheVariants as operands
+use Rattle.hip_ir.specs.declared.program.Extern.{Extern}
+use Rattle.hip_ir.specs.declared.program.Function.{Function}
+use Rattle.hip_ir.specs.declared.program.GlobalVar.{GlobalVar}
+use Rattle.hip_ir.specs.declared.program.Param.{Param}
+use Rattle.hip_ir.specs.declared.program.Program.{Program}
+use Rattle.hip_ir.specs.Words.{width_text, scalar_text}
+
+-- ---- lists
+
+-- each with a comma before it
+abbrev pub after_commas : List (List ℕ) → List ℕ
+after_commas [] = []
+after_commas (t ∷ ts) = codes ", " ++ (t ++ after_commas ts)
+
+-- a comma between each two
+abbrev pub commas : List (List ℕ) → List ℕ
+commas [] = []
+commas (t ∷ ts) = t ++ after_commas ts
+
+abbrev pub bracketed : List (List ℕ) → List ℕ
+bracketed ts = codes "[" ++ (commas ts ++ codes "]")
+
+-- `{ a, b }`, and `{}` of nothing
+abbrev pub braced : List (List ℕ) → List ℕ
+braced [] = codes "{}"
+braced (t ∷ ts) = codes "{ " ++ (commas (t ∷ ts) ++ codes " }")
+
+abbrev pub parenthesized : List (List ℕ) → List ℕ
+parenthesized ts = codes "(" ++ (commas ts ++ codes ")")
+
+-- ---- types
+
+-- `[3 x i32]`, `{ i64, ptr }`, `{}`
+abbrev pub type_step : Ty-F (List ℕ) → List ℕ
+type_step (Ty-F.Int w) = width_text w
+type_step Ty-F.Ptr = codes "ptr"
+type_step (Ty-F.Array n e) = codes "[" ++ (decimal n ++ (codes " x " ++ (e ++ codes "]")))
+type_step (Ty-F.Struct fs) = braced fs
+
+abbrev pub type_text : Ty → List ℕ
+type_text = fold-Ty (List ℕ) type_step
+
+abbrev pub ret_text : Option Scalar → List ℕ
+ret_text None = codes "void"
+ret_text (Some s) = scalar_text s
+
+-- ---- constants
+
+abbrev pub truth_text : ℕ → List ℕ
+truth_text n = if n == 0 then codes "false" else codes "true"
+
+-- the signed value of n below 2^w
+abbrev pub signed_text : ℕ → ℕ → List ℕ
+signed_text w n = if nat_lt n (2 ^ (w - 1)) then decimal n else codes "-" ++ decimal (2 ^ w - n)
+
+-- signed decimal, and `true` and `false` of one bit
+abbrev pub number_text : Width → ℕ → List ℕ
+number_text W1 n = truth_text n
+number_text W8 n = signed_text 8 n
+number_text W16 n = signed_text 16 n
+number_text W32 n = signed_text 32 n
+number_text W64 n = signed_text 64 n
+
+abbrev pub literal_text : Bits → List ℕ
+literal_text b = number_text b.width b.value
+
+-- `i64 5`
+abbrev pub index_text : Bits → List ℕ
+index_text b = width_text b.width ++ (codes " " ++ literal_text b)
+
+abbrev pub inbounds_text : Bool → List ℕ
+inbounds_text true = codes "inbounds "
+inbounds_text false = []
+
+abbrev pub const_step : Const-F (List ℕ) (List ℕ) (List ℕ) → List ℕ
+const_step (Const-F.Int b) = literal_text b
+const_step Const-F.Null = codes "null"
+const_step Const-F.Zero = codes "zeroinitializer"
+const_step (Const-F.Address name) = codes "@" ++ name
+const_step (Const-F.Gep gep) = gep
+const_step (Const-F.Array items) = bracketed items
+const_step (Const-F.Struct items) = braced items
+
+-- `getelementptr inbounds (T, ptr C, i64 0, i32 1)`
+abbrev pub gep_step : ConstGep-F (List ℕ) (List ℕ) (List ℕ) → List ℕ
+gep_step gep = codes "getelementptr " ++ (inbounds_text gep.inbounds ++ (codes "(" ++ (type_text gep.ty ++ (codes ", ptr " ++ (gep.base ++ (after_commas (map index_text gep.indices) ++ codes ")"))))))
+
+abbrev pub typed_step : TypedConst-F (List ℕ) (List ℕ) (List ℕ) → List ℕ
+typed_step item = type_text item.ty ++ (codes " " ++ item.value)
+
+abbrev pub const_text : Const → List ℕ
+const_text = fold-Const (List ℕ) (List ℕ) (List ℕ) const_step gep_step typed_step
+
+-- ---- operands
+
+abbrev pub operand_text : Operand → List ℕ
+operand_text (operands.Reg name) = codes "%" ++ name
+operand_text (operands.Fixed value) = const_text value
+
+abbrev pub arg_text : Arg → List ℕ
+arg_text arg = scalar_text arg.ty ++ (codes " " ++ operand_text arg.value)
+
+abbrev pub align_text : Option ℕ → List ℕ
+align_text None = []
+align_text (Some n) = codes ", align " ++ decimal n
+
+-- ---- instructions
+
+abbrev pub binary_text : BinaryOp → List ℕ
+binary_text ops.Add = codes "add"
+binary_text ops.Sub = codes "sub"
+binary_text ops.Mul = codes "mul"
+binary_text ops.Udiv = codes "udiv"
+binary_text ops.Sdiv = codes "sdiv"
+binary_text ops.Urem = codes "urem"
+binary_text ops.Srem = codes "srem"
+binary_text ops.And = codes "and"
+binary_text ops.Or = codes "or"
+binary_text ops.Xor = codes "xor"
+binary_text ops.Shl = codes "shl"
+binary_text ops.Lshr = codes "lshr"
+binary_text ops.Ashr = codes "ashr"
+
+abbrev pub pred_text : Pred → List ℕ
+pred_text preds.Eq = codes "eq"
+pred_text preds.Ne = codes "ne"
+pred_text preds.Ugt = codes "ugt"
+pred_text preds.Uge = codes "uge"
+pred_text preds.Ult = codes "ult"
+pred_text preds.Ule = codes "ule"
+pred_text preds.Sgt = codes "sgt"
+pred_text preds.Sge = codes "sge"
+pred_text preds.Slt = codes "slt"
+pred_text preds.Sle = codes "sle"
+
+abbrev pub cast_text : CastOp → List ℕ
+cast_text casts.Zext = codes "zext"
+cast_text casts.Sext = codes "sext"
+cast_text casts.Trunc = codes "trunc"
+cast_text casts.Ptrtoint = codes "ptrtoint"
+cast_text casts.Inttoptr = codes "inttoptr"
+
+-- a word and a space, or nothing
+abbrev pub flag_text : List ℕ → Bool → List ℕ
+flag_text word true = word
+flag_text word false = []
+
+-- `nuw ` before `nsw `, and `exact `
+abbrev pub flags_text : Flags → List ℕ
+flags_text flags = flag_text (codes "nuw ") flags.nuw ++ (flag_text (codes "nsw ") flags.nsw ++ flag_text (codes "exact ") flags.exact)
+
+-- `%x = `
+abbrev pub assigned_text : List ℕ → List ℕ
+assigned_text dest = codes "%" ++ (dest ++ codes " = ")
+
+abbrev pub result_text : Option (List ℕ) → List ℕ
+result_text None = []
+result_text (Some dest) = assigned_text dest
+
+abbrev pub instr_text : Instr → List ℕ
+instr_text (instrs.Binary dest op flags w a b) = assigned_text dest ++ (binary_text op ++ (codes " " ++ (flags_text flags ++ (width_text w ++ (codes " " ++ (operand_text a ++ (codes ", " ++ operand_text b)))))))
+instr_text (instrs.Compare dest pred ty a b) = assigned_text dest ++ (codes "icmp " ++ (pred_text pred ++ (codes " " ++ (scalar_text ty ++ (codes " " ++ (operand_text a ++ (codes ", " ++ operand_text b)))))))
+instr_text (instrs.Select dest cond ty a b) =
+    assigned_text dest ++ (codes "select i1 " ++ (operand_text cond ++ (codes ", " ++ (scalar_text ty ++ (codes " " ++ (operand_text a ++ (codes ", " ++ (scalar_text ty ++ (codes " " ++ operand_text b)))))))))
+instr_text (instrs.Cast dest op from a to) = assigned_text dest ++ (cast_text op ++ (codes " " ++ (scalar_text from ++ (codes " " ++ (operand_text a ++ (codes " to " ++ scalar_text to))))))
+instr_text (instrs.Alloca dest ty n) = assigned_text dest ++ (codes "alloca " ++ (type_text ty ++ align_text n))
+instr_text (instrs.Load dest ty addr n) = assigned_text dest ++ (codes "load " ++ (scalar_text ty ++ (codes ", ptr " ++ (operand_text addr ++ align_text n))))
+instr_text (instrs.Store ty value addr n) = codes "store " ++ (scalar_text ty ++ (codes " " ++ (operand_text value ++ (codes ", ptr " ++ (operand_text addr ++ align_text n)))))
+instr_text (instrs.Gep dest inbounds ty base indices) =
+    assigned_text dest ++ (codes "getelementptr " ++ (inbounds_text inbounds ++ (type_text ty ++ (codes ", ptr " ++ (operand_text base ++ after_commas (map arg_text indices))))))
+instr_text (instrs.Call dest ret callee args) = result_text dest ++ (codes "call " ++ (ret_text ret ++ (codes " @" ++ (callee ++ parenthesized (map arg_text args)))))
+
+-- ---- blocks
+
+-- `[ 0, %entry ]`
+abbrev pub edge_text : Edge → List ℕ
+edge_text edge = codes "[ " ++ (operand_text edge.value ++ (codes ", %" ++ (edge.label ++ codes " ]")))
+
+abbrev pub phi_text : Phi → List ℕ
+phi_text phi = assigned_text phi.dest ++ (codes "phi " ++ (scalar_text phi.ty ++ (codes " " ++ commas (map edge_text phi.edges))))
+
+-- `i64 1, label %a `
+abbrev pub case_text : Case → List ℕ
+case_text case = index_text case.value ++ (codes ", label %" ++ (case.label ++ codes " "))
+
+abbrev pub end_text : End → List ℕ
+end_text (ends.Br label) = codes "br label %" ++ label
+end_text (ends.CondBr cond yes_label no_label) = codes "br i1 " ++ (operand_text cond ++ (codes ", label %" ++ (yes_label ++ (codes ", label %" ++ no_label))))
+end_text (ends.Switch w value other cases) = codes "switch " ++ (width_text w ++ (codes " " ++ (operand_text value ++ (codes ", label %" ++ (other ++ (codes " [ " ++ (flat_map case_text cases ++ codes "]")))))))
+end_text (ends.Ret None) = codes "ret void"
+end_text (ends.Ret (Some arg)) = codes "ret " ++ arg_text arg
+end_text ends.Unreachable = codes "unreachable"
+
+-- two spaces, and a line feed at the end
+abbrev pub line_of : List ℕ → List ℕ
+line_of t = codes "  " ++ (t ++ codes "\n")
+
+abbrev pub block_text : Block → List ℕ
+block_text block = block.label ++ (codes ":\n" ++ (flat_map (λ p. line_of (phi_text p)) block.phis ++ (flat_map (λ i. line_of (instr_text i)) block.body ++ line_of (end_text block.end))))
+
+-- ---- programs
+
+abbrev pub section_text : Bool → List ℕ
+section_text true = codes ", section \".pm\""
+section_text false = []
+
+abbrev pub fixed_text : Bool → List ℕ
+fixed_text true = codes "constant "
+fixed_text false = codes "global "
+
+abbrev pub global_text : GlobalVar → List ℕ
+global_text g = codes "@" ++ (g.name ++ (codes " = " ++ (fixed_text g.fixed ++ (type_text g.ty ++ (codes " " ++ (const_text g.init ++ (section_text g.persistent ++ (align_text g.align ++ codes "\n"))))))))
+
+abbrev pub extern_text : Extern → List ℕ
+extern_text e = codes "declare " ++ (ret_text e.ret ++ (codes " @" ++ (e.name ++ (parenthesized (map scalar_text e.params) ++ codes "\n"))))
+
+abbrev pub param_text : Param → List ℕ
+param_text p = scalar_text p.ty ++ (codes " %" ++ p.name)
+
+abbrev pub function_text : Function → List ℕ
+function_text f = codes "define " ++ (ret_text f.ret ++ (codes " @" ++ (f.name ++ (parenthesized (map param_text f.params) ++ (codes " {\n" ++ (flat_map block_text f.blocks ++ codes "}\n"))))))
+
+-- the globals, then the externs, then the functions
+abbrev pub show : Program → List ℕ
+show p = flat_map global_text p.globals ++ (flat_map extern_text p.externs ++ flat_map function_text p.functions)

@@ -1,0 +1,12 @@
+/// What is wrong with the first token by which a text leaves the grammar, or with the end of a text that stops too early.
+#[derive(Clone, Copy, Debug, PartialEq, Eq)]
+pub enum Fault {
+    /// It may not stand there, or the text ends too early.
+    Syntax,
+    /// It belongs to a form of LLVM's text that is not read.
+    Unsupported,
+    /// It is a number out of the range of its place.
+    Range,
+    /// It opens a level of nesting too many.
+    TooDeep,
+}

@@ -7,4 +7,7 @@ pub mod Run
 pub mod Misfit
 pub mod ReadsEntries
 pub mod Replays
+pub mod Order
+pub mod Status
+pub mod Lines
 pub mod Seen

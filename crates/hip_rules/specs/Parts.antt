@@ -1,7 +1,7 @@
 -- When the reading of a part is exact, by the tokens that may begin it and the tokens that may follow it.
 use Rattle.std.proofs.Common.{◌≡◌, ℕ, ◌≤◌, ◌<◌, Bool, true, false, cond, ◌||◌, List, [], ◌∷◌, length, Option, Some, Ok, Err, inl, inr, refl, sym, ap, subst, ◌∙◌, arith}
 use Rattle.hip_tokens.specs.Tokens.{Tok, At}
-use Rattle.hip_rules.specs.Rule.{Rule, Verdict, No, done, one, both, ◌or◌, perhaps}
+use Rattle.hip_rules.specs.Rule.{Rule, Verdict, No, done, one, both, ◌or◌, perhaps, many, AllDerive}
 use Rattle.hip_rules.specs.Reader.{Outcome, next, on_ok}
 use Rattle.hip_rules.specs.Part.{Part, gives, token, ◌>>=◌, either, repeated, optional, phased, the, passing, one_more_by, separated, none_up_to, some_up_to, listed}
 use Rattle.hip_rules.specs.Exact.{IsExact, Exactly, Accepts, IsAbsent, never, never_next, joined, next_left, next_right, next_widens, next_not_left, next_not_right, mapped, both_empty, both_whole, both_within, both_later, both_closed, one_exact, done_exact, both_exact, then_exact, or_exact, or_takes_some, exact_widens, many_exact, perhaps_exact, both_absent, or_absent, token_absent, token_takes_some}
@@ -228,3 +228,86 @@ phased_exact {F} {X} {P} {B} head part after_head no_head following kh kf c afte
     (λ ts e. apart_next c kh a3 ts e)
     (λ ps ts e. apart_absent (no_head ps) none d c (s ps) a4 ts e)
     same
+
+-- ---- the links of a chain of parts
+
+pub begins : {F B : Type 0} (k : Tok → Bool) (f : Unit {0} → Part F B) (d : Tok → Bool) → ((a : Unit {0}) → Exact (f a) d) → IsRead (passing k >>= f) k d
+begins {F} k f d q = then_read (passing {F = F} k) f k d (passing_read k never) q
+
+pub token_begins : {F A B : Type 0} (p : Tok → Verdict F A) (first : Tok → Bool) (f : A → Part F B) (d : Tok → Bool) → ((t : Tok) → first t ≡ false → p t ≡ No) → ((a : A) → Exact (f a) d) → IsRead (token p >>= f) first d
+token_begins p first f d h q = then_read (token p) f first d (token_read p first never h) q
+
+pub link : {F A B : Type 0} (p : Tok → Verdict F A) (f : A → Part F B) (d : Tok → Bool) → ((a : A) → Exact (f a) d) → Exact (token p >>= f) d
+link p f d q = then_exact (one p) (λ a. (f a).rule) _ (λ a. (f a).read) d (one_exact p) q
+
+pub part_link : {F A B : Type 0} (l : Part F A) (f : A → Part F B) (d : Tok → Bool) → Exact l never → ((a : A) → Exact (f a) d) → Exact (l >>= f) d
+part_link l f d p q = then_exact l.rule (λ a. (f a).rule) l.read (λ a. (f a).read) d p q
+
+pub token_exact : {F A : Type 0} (p : Tok → Verdict F A) (d : Tok → Bool) → Exact (token p) d
+token_exact p d = exact_widens (one p) _ never d (next_widens never d (never_passes d)) (one_exact p)
+
+-- a part that nothing may go on, where the test is never asked
+pub closed_exact : {F A : Type 0} (p : Part F A) (d : Tok → Bool) → Exact p never → Exact p d
+closed_exact p d q = exact_widens p.rule p.read never d (next_widens never d (never_passes d)) q
+
+-- an optional part whose own follow set is within its first tokens
+pub optional_same : {F A : Type 0} (l : Part F A) (k : Tok → Bool) → IsRead l k never → Exact (optional k l) k
+optional_same l k p = exact_widens _ _ (joined k never) k (next_widens (joined k never) k (by_never k)) (optional_exact l k never p)
+
+pub repeated_same : {F A : Type 0} (l : Part F A) (k : Tok → Bool) → IsRead l k never → Exact (repeated k l) k
+repeated_same l k p = exact_widens _ _ (joined k never) k (next_widens (joined k never) k (by_never k)) (repeated_exact l k never p (never_apart k))
+
+pub apart_sym : (c d : Tok → Bool) → Apart c d → Apart d c
+apart_sym c d p t e = by_right (c t) refl
+  where
+    by_right : (x : Bool) → c t ≡ x → c t ≡ false
+    by_right true h = absurd (let k = p t h in cc)
+    by_right false h = h
+
+pub apart_joined : (d a b : Tok → Bool) → Apart d a → Apart d b → Apart d (joined a b)
+apart_joined d a b p q t e = rw (p t e) (q t e)
+
+-- more tokens may begin a part than do
+next_not_wide : (first wide : Tok → Bool) → ((t : Tok) → wide t ≡ false → first t ≡ false) → (ts : List At) → next wide ts ≡ false → next first ts ≡ false
+next_not_wide first wide h [] e = refl
+next_not_wide first wide h (t ∷ ts) e = h t.tok e
+
+pub begins_by : {F A : Type 0} (p : Part F A) (first wide c : Tok → Bool) → ((t : Tok) → wide t ≡ false → first t ≡ false) → IsRead p first c → IsRead p wide c
+begins_by p first wide c h r = record { exact = r.exact; absent = λ ts e. r.absent ts (next_not_wide first wide h ts e); some = r.some }
+
+-- any number of parts, and then one that takes a token at least
+module _ (F A B : Type 0) (l : Part F A) (f : List A → Part F B) (k c second d : Tok → Bool) (p : IsRead l k c) (own : Apart c k) (q : (xs : List A) → IsRead (f xs) second d) (apart : Apart (joined k c) second) where
+  nothing_repeated : (ts : List At) → IsAbsent l.rule ts → (xs : List A) (m : List At) → AllDerive l.rule ts xs m → m ≡ ts
+  nothing_repeated ts here [] m t = t
+  nothing_repeated ts here (x ∷ xs) m t = absurd (here.derives x t.0 t.1)
+
+  repeated_absent : (ts : List At) → next (joined k second) ts ≡ false → IsAbsent (both (many l.rule) (λ xs. (f xs).rule)) ts
+  unfolding both many
+  repeated_absent ts e =
+      let here = p.absent ts (next_not_left k second ts e) in
+      let after = next_not_right k second ts e in
+      record {
+        derives = λ b m t. ((q t.0).absent ts after).derives b m (subst (λ z. (f t.0).rule.Derives z b m) (nothing_repeated ts here t.0 t.1 t.2) t.3);
+        front = λ m t. elim t [
+          | inl u ↦ here.front m (subst (λ z. l.rule.Front z m) (nothing_repeated ts here u.0 u.1 u.2) u.3)
+          | inr u ↦ ((q u.0).absent ts after).front m (subst (λ z. (f u.0).rule.Front z m) (nothing_repeated ts here u.0 u.1 u.2) u.3)
+        ];
+        refused = λ why m t. elim t [
+          | inl u ↦ here.refused why m (subst (λ z. l.rule.Refuses why z m) (nothing_repeated ts here u.0 u.1 u.2) u.3)
+          | inr u ↦ ((q u.0).absent ts after).refused why m (subst (λ z. (f u.0).rule.Refuses why z m) (nothing_repeated ts here u.0 u.1 u.2) u.3)
+        ];
+      }
+
+  repeated_some : (ts : List At) (b : B) (rest : List At) → (both (many l.rule) (λ xs. (f xs).rule)).Derives ts b rest → length rest < length ts
+  unfolding both
+  repeated_some ts b rest t =
+      let i = derives_within (repeated k l) (joined k c) (repeated_exact l k c p own) ts t.0 t.1 t.2 in
+      let j = (q t.0).some t.1 b rest t.3 in
+      omega arith
+
+  pub repeated_then_read : IsRead (repeated k l >>= f) (joined k second) d
+  repeated_then_read = record {
+    exact = next_exact (repeated k l) f (joined k c) second d (repeated_exact l k c p own) q apart;
+    absent = repeated_absent;
+    some = repeated_some;
+  }

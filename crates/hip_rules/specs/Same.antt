@@ -175,3 +175,14 @@ module _ (F A B : Type 0) (l : Rule F A) (k : List A → Rule F B) where
     ];
     refuses_back = λ w ts rest t. elim t [ inl u ↦ unroll_stop w ts u.0 u.1 rest u.2 u.3 | inr u ↦ unroll_end_stop w ts u.0 u.1 rest u.2 u.3 ];
   }
+
+-- Where a repeated part has two cases, of which one begins by a head, what is repeated and then closed is the first part by its head, the first part of the other case, or the close.
+pub head_or_other : {F X A B : Type 0} (h : Rule F X) (f : X → Rule F A) (e : Rule F A) (k : List A → Rule F B)
+    → IsSame (both h (λ x. both (f x) (λ i. both (many (both h f or e)) (λ is. k (i ∷ is)))) or (both e (λ i. both (many (both h f or e)) (λ is. k (i ∷ is))) or k [])) (both (many (both h f or e)) k)
+head_or_other {F} {X} {A} {B} h f e k =
+    let G : A → Rule F B = λ i. both (many (both h f or e)) (λ is. k (i ∷ is)) in
+    let one : IsSame (both h (λ x. both (f x) G) or (both e G or k [])) ((both h (λ x. both (f x) G) or both e G) or k []) = same_sym _ _ (or_assoc (both h (λ x. both (f x) G)) (both e G) (k [])) in
+    let two : IsSame (both h (λ x. both (f x) G) or both e G) (both (both h f or e) G) =
+    same_trans _ _ _ (or_same _ _ _ _ (same_sym _ _ (both_assoc h f G)) (same_refl (both e G))) (same_sym _ _ (both_over_or (both h f) e G)) in
+    let three : IsSame ((both h (λ x. both (f x) G) or both e G) or k []) (both (both h f or e) G or k []) = or_same _ _ _ _ two (same_refl (k [])) in
+    same_trans _ _ _ one (same_trans _ _ _ three (many_unrolls F A B (both h f or e) k))

@@ -1,4 +1,5 @@
 pub mod Digits
 pub mod Fields
+pub mod Shown
 pub mod ReaderLaws
 pub mod ReplayLaws

@@ -7,7 +7,11 @@ pub mod Run
 pub mod Misfit
 pub mod ReadsEntries
 pub mod Replays
+pub mod Reading
 pub mod Order
 pub mod Status
 pub mod Lines
+pub mod Texts
+pub mod Answer
+pub mod Call
 pub mod Seen

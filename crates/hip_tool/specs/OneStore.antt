@@ -31,7 +31,9 @@ use Rattle.hip_ir.specs.declared.program.Program.{Program}
 -- The parts of such a program. The function stores `value` to the global named `target`, and returns `code`.
 pub record OneStore : Type 0 where
   pub global : List ℕ
+  pub init : Bits
   pub function : List ℕ
+  pub label : List ℕ
   pub value : Bits
   pub target : List ℕ
   pub code : Bits
@@ -88,11 +90,11 @@ abbrev pub of_width : (Width → Bool) → Option Bits → Option Bits
 of_width is_width None = None
 of_width is_width (Some bits) = if is_width bits.width then Some bits else None
 
--- `@x = global i64 NUM, section ".pm"`, by its name
-abbrev pub number_global : GlobalVar → Option (List ℕ)
+-- `@x = global i64 NUM, section ".pm"`, by its name and its number
+abbrev pub number_global : GlobalVar → Option (List ℕ × Bits)
 number_global g =
     if not g.fixed && (is_i64_type g.ty && (g.persistent && is_none g.align))
-    then option_map (λ bits. g.name) (of_width is_w64 (number_of g.init)) else None
+    then option_map (λ bits. (g.name, bits)) (of_width is_w64 (number_of g.init)) else None
 
 -- `store i64 NUM, ptr @x`, by its value and its address
 abbrev pub number_store : Instr → Option (Bits × List ℕ)
@@ -114,13 +116,13 @@ abbrev pub only_store : List Instr → Option (Bits × List ℕ)
 only_store (instr ∷ []) = number_store instr
 only_store _ = None
 
--- what a block stores and returns, which has no phi and stores once
-abbrev pub block_parts : List Phi → List Instr → End → Option (Bits × List ℕ × Bits)
-block_parts [] body end = option_and_then (λ s. option_map (λ code. (s.0, s.1, code)) (number_return end)) (only_store body)
-block_parts (phi ∷ phis) body end = None
+-- what a block is labelled, stores and returns, which has no phi and stores once
+abbrev pub block_parts : List Phi → List Instr → End → List ℕ → Option (List ℕ × Bits × List ℕ × Bits)
+block_parts [] body end label = option_and_then (λ s. option_map (λ code. (label, s.0, s.1, code)) (number_return end)) (only_store body)
+block_parts (phi ∷ phis) body end label = None
 
-abbrev pub only_block : List Block → Option (Bits × List ℕ × Bits)
-only_block (block ∷ []) = block_parts block.phis block.body block.end
+abbrev pub only_block : List Block → Option (List ℕ × Bits × List ℕ × Bits)
+only_block (block ∷ []) = block_parts block.phis block.body block.end block.label
 only_block _ = None
 
 abbrev pub returns_i32 : Option Scalar → Bool
@@ -128,22 +130,22 @@ returns_i32 None = false
 returns_i32 (Some s) = is_i32 s
 
 -- `define i32 @f() { LABEL store ret }`
-abbrev pub store_function : List ℕ → Option Scalar → List Param → List Block → List ℕ → Option OneStore
+abbrev pub store_function : List ℕ × Bits → Option Scalar → List Param → List Block → List ℕ → Option OneStore
 store_function global ret [] blocks name =
     if returns_i32 ret
-    then option_map (λ b. record { global = global; function = name; value = b.0; target = b.1; code = b.2 }) (only_block blocks) else None
+    then option_map (λ b. record { global = global.0; init = global.1; function = name; label = b.0; value = b.1; target = b.2; code = b.3 }) (only_block blocks) else None
 store_function global ret (param ∷ params) blocks name = None
 
-abbrev pub only_function : List ℕ → List Function → Option OneStore
+abbrev pub only_function : List ℕ × Bits → List Function → Option OneStore
 only_function global (f ∷ []) = store_function global f.ret f.params f.blocks f.name
 only_function global _ = None
 
-abbrev pub only_global : List GlobalVar → Option (List ℕ)
+abbrev pub only_global : List GlobalVar → Option (List ℕ × Bits)
 only_global (g ∷ []) = number_global g
 only_global _ = None
 
-abbrev pub without_externs : List Extern → Option (List ℕ) → List Function → Option OneStore
-without_externs [] global functions = option_and_then (λ name. only_function name functions) global
+abbrev pub without_externs : List Extern → Option (List ℕ × Bits) → List Function → Option OneStore
+without_externs [] global functions = option_and_then (λ g. only_function g functions) global
 without_externs (e ∷ es) global functions = None
 
 -- a program of one global, no extern and one function, which stores once

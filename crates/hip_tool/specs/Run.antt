@@ -1,14 +1,19 @@
 -- The run of a program that stores once: its trace, its report, and what is repaired. The store is the first step
 -- and the return of `main` the second. Each is a turn, and the run is cut where the turns have reached the limit.
-use Rattle.std.specs.Prelude.{ℕ, ◌+◌, Bool, List, [], ◌∷◌, ◌++◌, map, take, Option, Some, None, nat_lt, ◌==◌, if◌then◌else◌, codes}
+use Rattle.std.specs.Prelude.{ℕ, ◌+◌, Bool, true, false, List, [], ◌∷◌, ◌++◌, map, take, Option, Some, None, nat_lt, ◌==◌, if◌then◌else◌, codes}
 use Rattle.hip_types.specs.declared.number.Bits.{Bits}
 use Rattle.hip_types.specs.declared.number.Scalar.TheVariants.{Ptr}
-use Rattle.hip_ir.specs.declared.constant.Const.TheVariants.{Address}
+use Rattle.hip_types.specs.declared.number.Scalar.TheVariants.{Int}
+use Rattle.hip_types.specs.declared.number.Width.TheVariants.{W32, W64}
+use Rattle.hip_types.specs.declared.ty.Ty.TheVariants as types
+use Rattle.hip_ir.specs.declared.constant.Const.TheVariants as consts
 use Rattle.hip_ir.specs.declared.instr.Operand.{Operand}
 use Rattle.hip_ir.specs.declared.instr.Operand.TheVariants.{Fixed}
 use Rattle.hip_ir.specs.declared.instr.Arg.{Arg}
 use Rattle.hip_ir.specs.declared.instr.Instr.{Instr}
-use Rattle.hip_ir.specs.declared.instr.Instr.TheVariants.{Call}
+use Rattle.hip_ir.specs.declared.instr.Instr.TheVariants as instrs
+use Rattle.hip_ir.specs.declared.block.End.TheVariants.{Ret}
+use Rattle.hip_ir.specs.declared.program.GlobalVar.{GlobalVar}
 use Rattle.hip_ir.specs.declared.block.Block.{Block}
 use Rattle.hip_ir.specs.declared.program.Extern.{Extern}
 use Rattle.hip_ir.specs.declared.program.Function.{Function}
@@ -22,7 +27,7 @@ use Rattle.hip_tool.specs.declared.entry.Entry.TheVariants.{Start, Register, Sto
 use Rattle.hip_tool.specs.declared.input.Input.{Input}
 use Rattle.hip_tool.specs.declared.report.Kind.TheVariants.{MissingBoth}
 use Rattle.hip_tool.specs.declared.report.Report.{Report}
-use Rattle.hip_tool.specs.declared.apply.Plan.{Plan}
+use Rattle.hip_tool.specs.declared.repair.Plan.{Plan}
 
 -- the entries of the steps and of the ending: the global lies at the base of the region
 abbrev pub stop_entry : OneStore → ℕ → Entry
@@ -68,25 +73,38 @@ declarations =
 
 -- `call void @llvm.x86.clwb(ptr A)` and `call void @llvm.x86.sse.sfence()`
 abbrev pub flush_of : List ℕ → Instr
-flush_of target = Call None None flush_name ((record { ty = Ptr; value = Fixed (Address target) }) ∷ [])
+flush_of target = instrs.Call None None flush_name ((record { ty = Ptr; value = Fixed (consts.Address target) }) ∷ [])
 
 abbrev pub fence_instr : Instr
-fence_instr = Call None None fence_name []
+fence_instr = instrs.Call None None fence_name []
 
--- the body has one store, and the flush and the fence stand directly after it
-abbrev pub with_flush : List ℕ → Block → Block
-with_flush target b = record b { body = b.body ++ flush_of target ∷ fence_instr ∷ [] }
+-- the program of these parts, with more declarations, and more instructions directly after the store
+abbrev pub tree : List Extern → List Instr → OneStore → Program
+tree externs inserted s = record {
+  globals = (record { name = s.global; fixed = false; ty = types.Int W64; init = consts.Int s.init; persistent = true; align = None }) ∷ [];
+  externs = externs;
+  functions = (record {
+    ret = Some (Int W32);
+    name = s.function;
+    params = [];
+    blocks = (record {
+      label = s.label;
+      phis = [];
+      body = instrs.Store (Int W64) (Fixed (consts.Int s.value)) (Fixed (consts.Address s.target)) None ∷ inserted;
+      end = Ret (Some (record { ty = Int W32; value = Fixed (consts.Int s.code) }));
+    }) ∷ [];
+  }) ∷ [];
+}
 
-abbrev pub flushed_function : List ℕ → Function → Function
-flushed_function target f = record f { blocks = map (with_flush target) f.blocks }
+-- the flush and the fence stand directly after the store of a plan that has it
+abbrev pub tree_by : List Site → OneStore → Program
+tree_by [] s = tree [] [] s
+tree_by (site ∷ sites) s = tree declarations (flush_of s.target ∷ fence_instr ∷ []) s
 
-abbrev pub flushed : Program → Option OneStore → Program
-flushed program None = program
-flushed program (Some s) = record program { externs = program.externs ++ declarations; functions = map (flushed_function s.target) program.functions }
+abbrev pub repaired_by : Program → Plan → Option OneStore → Program
+repaired_by program p None = program
+repaired_by program p (Some s) = tree_by p.flush_after s
 
-abbrev pub repaired_by : Program → List Site → Program
-repaired_by program [] = program
-repaired_by program (site ∷ sites) = flushed program (one_store program)
-
+-- the repaired program
 unfoldable pub repaired : Program → Plan → Program
-repaired program p = repaired_by program p.flush_after
+repaired program p = repaired_by program p (one_store program)

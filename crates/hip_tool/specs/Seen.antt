@@ -22,8 +22,11 @@ triple_seen p = (p.0.now, p.1.now, p.2.now)
 abbrev pub seen_store : Bits × Bor (List ℕ) → Bits × List ℕ
 seen_store p = (p.0, p.1.now)
 
-abbrev pub seen_parts : Bits × Bor (List ℕ) × Bits → Bits × List ℕ × Bits
-seen_parts p = (p.0, p.1.now, p.2)
+abbrev pub seen_global : Bor (List ℕ) × Bits → List ℕ × Bits
+seen_global p = (p.0.now, p.1)
+
+abbrev pub seen_parts : Bor (List ℕ) × Bits × Bor (List ℕ) × Bits → List ℕ × Bits × List ℕ × Bits
+seen_parts p = (p.0.now, p.1, p.2.now, p.3)
 
 abbrev pub seen_one_store : code.OneStore → OneStore
-seen_one_store s = record { global = s.global.now; function = s.function.now; value = s.value; target = s.target.now; code = s.code }
+seen_one_store s = record { global = s.global.now; init = s.init; function = s.function.now; label = s.label.now; value = s.value; target = s.target.now; code = s.code }

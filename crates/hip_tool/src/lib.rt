@@ -1,7 +1,6 @@
 //! The commands of hippo.
 #![tactic(auto)]
 
-mod apply;
 mod entry;
 mod input;
 mod lines;
@@ -11,6 +10,7 @@ mod one_store;
 mod plan;
 mod reader;
 mod refusal;
+mod repair;
 mod replay;
 mod report;
 mod status;

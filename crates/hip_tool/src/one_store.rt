@@ -3,7 +3,7 @@
 ghost use Rattle.std.specs.Prelude.{◌≡◌, List, ℕ, Bool, Option, option_map};
 ghost use Rattle.std.specs.Option.{option_copied};
 ghost use Rattle.hip_tool.specs.OneStore.{number_of, address_of, number_in, address_in, of_width, is_w32, is_w64, is_i32, is_i64, is_i64_type, number_global, number_store, returned, number_return, only_store, block_parts, only_block, returns_i32, store_function, only_function, only_global, without_externs, one_store, is_extern_name, are_names, is_sound};
-ghost use Rattle.hip_tool.specs.Seen.{seen_store, seen_parts, seen_one_store};
+ghost use Rattle.hip_tool.specs.Seen.{seen_store, seen_global, seen_parts, seen_one_store};
 
 use hip_ir::{
     Arg, Block, Const, End, Extern, Function, GlobalVar, Instr, Operand, Param, Phi, Program,
@@ -14,7 +14,9 @@ use hip_types::{Bits, Scalar, Ty, Width};
 #[derive(Clone, Copy, Debug)]
 pub(crate) struct OneStore<'a> {
     pub(crate) global: &'a [u8],
+    pub(crate) init: Bits,
     pub(crate) function: &'a [u8],
+    pub(crate) label: &'a [u8],
     pub(crate) value: Bits,
     pub(crate) target: &'a [u8],
     pub(crate) code: Bits,
@@ -101,13 +103,13 @@ fn with_32_bits(bits: Option<Bits>) -> Option<Bits>
     }
 }
 
-/// The name of a global that is one persistent number.
-fn number_global(global: &GlobalVar) -> Option<&[u8]>
-    ensures { option_copied result ≡ number_global global.now }
+/// The name of a global that is one persistent number, and the number.
+fn number_global(global: &GlobalVar) -> Option<(&[u8], Bits)>
+    ensures { option_map seen_global result ≡ number_global global.now }
 {
     if !global.fixed && is_i64_type(&global.ty) && global.persistent && global.align.is_none() {
         match with_64_bits(number_of(&global.init)) {
-            Some(_) => Some(global.name.as_slice()),
+            Some(bits) => Some((global.name.as_slice(), bits)),
             None => None,
         }
     } else {
@@ -172,13 +174,18 @@ fn only_store(body: &[Instr]) -> Option<(Bits, &[u8])>
     }
 }
 
-fn block_parts<'a>(phis: &[Phi], body: &'a [Instr], end: &End) -> Option<(Bits, &'a [u8], Bits)>
-    ensures { option_map seen_parts result ≡ block_parts phis.now body.now end.now }
+fn block_parts<'a>(
+    phis: &[Phi],
+    body: &'a [Instr],
+    end: &End,
+    label: &'a [u8],
+) -> Option<(&'a [u8], Bits, &'a [u8], Bits)>
+    ensures { option_map seen_parts result ≡ block_parts phis.now body.now end.now label.now }
 {
     match phis {
         [] => match only_store(body) {
             Some((value, target)) => match number_return(end) {
-                Some(code) => Some((value, target, code)),
+                Some(code) => Some((label, value, target, code)),
                 None => None,
             },
             None => None,
@@ -187,11 +194,16 @@ fn block_parts<'a>(phis: &[Phi], body: &'a [Instr], end: &End) -> Option<(Bits, 
     }
 }
 
-fn only_block(blocks: &[Block]) -> Option<(Bits, &[u8], Bits)>
+fn only_block(blocks: &[Block]) -> Option<(&[u8], Bits, &[u8], Bits)>
     ensures { option_map seen_parts result ≡ only_block blocks.now }
 {
     match blocks {
-        [block] => block_parts(block.phis.as_slice(), block.body.as_slice(), &block.end),
+        [block] => block_parts(
+            block.phis.as_slice(),
+            block.body.as_slice(),
+            &block.end,
+            block.label.as_slice(),
+        ),
         _ => None,
     }
 }
@@ -205,16 +217,18 @@ fn returns_i32(ret: Option<Scalar>) -> bool
     }
 }
 
-fn store_function<'a>(global: &'a [u8], function: &'a Function) -> Option<OneStore<'a>>
-    ensures { option_map seen_one_store result ≡ store_function global.now function.now.ret function.now.params function.now.blocks function.now.name }
+fn store_function<'a>(global: &'a [u8], init: Bits, function: &'a Function) -> Option<OneStore<'a>>
+    ensures { option_map seen_one_store result ≡ store_function (global.now, init) function.now.ret function.now.params function.now.blocks function.now.name }
 {
     match function.params.as_slice() {
         [] => {
             if returns_i32(function.ret) {
                 match only_block(function.blocks.as_slice()) {
-                    Some((value, target, code)) => Some(OneStore {
+                    Some((label, value, target, code)) => Some(OneStore {
                         global,
+                        init,
                         function: function.name.as_slice(),
+                        label,
                         value,
                         target,
                         code,
@@ -229,17 +243,21 @@ fn store_function<'a>(global: &'a [u8], function: &'a Function) -> Option<OneSto
     }
 }
 
-fn only_function<'a>(global: &'a [u8], functions: &'a [Function]) -> Option<OneStore<'a>>
-    ensures { option_map seen_one_store result ≡ only_function global.now functions.now }
+fn only_function<'a>(
+    global: &'a [u8],
+    init: Bits,
+    functions: &'a [Function],
+) -> Option<OneStore<'a>>
+    ensures { option_map seen_one_store result ≡ only_function (global.now, init) functions.now }
 {
     match functions {
-        [function] => store_function(global, function),
+        [function] => store_function(global, init, function),
         _ => None,
     }
 }
 
-fn only_global(globals: &[GlobalVar]) -> Option<&[u8]>
-    ensures { option_copied result ≡ only_global globals.now }
+fn only_global(globals: &[GlobalVar]) -> Option<(&[u8], Bits)>
+    ensures { option_map seen_global result ≡ only_global globals.now }
 {
     match globals {
         [global] => number_global(global),
@@ -254,7 +272,7 @@ pub(crate) fn one_store(program: &Program) -> Option<OneStore<'_>>
 {
     match program.externs.as_slice() {
         [] => match only_global(program.globals.as_slice()) {
-            Some(global) => only_function(global, program.functions.as_slice()),
+            Some((global, init)) => only_function(global, init, program.functions.as_slice()),
             None => None,
         },
         _ => None,

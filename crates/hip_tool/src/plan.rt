@@ -3,7 +3,7 @@
 ghost use Rattle.std.specs.Prelude.{◌≡◌, List, IfOk, take};
 ghost use Rattle.hip_tool.specs.Run.{plan};
 
-use crate::apply::Plan;
+use crate::repair::Plan;
 use crate::report::Report;
 use hip_ir::Site;
 use hip_types::{NoMemory, Row};

@@ -1,0 +1,24 @@
+-- Which program a text is, and which refusal another text gets.
+use Rattle.std.specs.Prelude.{ℕ, ◌≡◌, true, false, List, Result, Ok, Err}
+use Rattle.hip_ir.specs.declared.fault.Fault.TheVariants as faults
+use Rattle.hip_ir.specs.declared.program.Program.{Program}
+use Rattle.hip_ir.specs.Reading.{Reads, IsRefusal}
+use Rattle.hip_tool.specs.declared.refusal.ParseRefusal.{ParseRefusal}
+use Rattle.hip_tool.specs.declared.refusal.ParseRefusal.TheVariants as refusals
+
+-- the text is refused so; never for want of memory
+abbrev pub RefusesText : List ℕ → ParseRefusal → Type 0
+RefusesText text (refusals.Syntax line) = IsRefusal text faults.Syntax line
+RefusesText text (refusals.Unsupported line) = IsRefusal text faults.Unsupported line
+RefusesText text (refusals.Range line) = IsRefusal text faults.Range line
+RefusesText text (refusals.TooDeep line) = IsRefusal text faults.TooDeep line
+RefusesText text refusals.NoMemory = ⊥
+
+-- what reading a text answers
+abbrev pub Parses : List ℕ → Result Program ParseRefusal → Type 0
+Parses text (Ok program) = Reads text program
+Parses text (Err (refusals.Syntax line)) = RefusesText text (refusals.Syntax line)
+Parses text (Err (refusals.Unsupported line)) = RefusesText text (refusals.Unsupported line)
+Parses text (Err (refusals.Range line)) = RefusesText text (refusals.Range line)
+Parses text (Err (refusals.TooDeep line)) = RefusesText text (refusals.TooDeep line)
+Parses text (Err refusals.NoMemory) = Unit {0}

@@ -1,13 +1,18 @@
 -- What a call of `hippo` does to the outside.
-use Rattle.std.specs.Prelude.{ℕ, ◌≡◌, ◌≤◌, List, [], ◌++◌, Option, Some, None, IsSome, IfSome, ◌⊎◌, Result, Ok, Err}
+use Rattle.std.specs.Prelude.{ℕ, ◌≡◌, ◌≤◌, true, List, [], ◌++◌, length, Option, Some, None, IsSome, IfSome, ◌⊎◌, Result, Ok, Err}
 use Rattle.hip_io.specs.Counts.{Rose}
 use Rattle.hip_io.specs.Cabinets.{CabinetState}
 use Rattle.hip_io.specs.Sinks.{SinkState, AppendsAll, AppendsPrefix}
 use Rattle.hip_io.specs.declared.cabinet.NamedFile.{NamedFile}
 use Rattle.hip_ir.specs.declared.program.Program.{Program}
-use Rattle.hip_tool.specs.Answer.{Cause, Repairs, ProgramCause, TraceCause, IsProgram, IsTraceFile}
+use Rattle.hip_tool.specs.Answer.{Cause, Repairs, ProgramCause, TraceCause, IsProgram, IsTraceFile, RefusesProgram}
+use Rattle.hip_ir.specs.Reading.{Reads}
+use Rattle.hip_tool.specs.OneStore.{is_sound}
+use Rattle.hip_tool.specs.Run.{reports, plan}
+use Rattle.hip_tool.specs.declared.command.Found.{Found}
 use Rattle.hip_tool.specs.Lines.{line_of}
 use Rattle.hip_tool.specs.declared.input.Input.{Input}
+use Rattle.hip_tool.specs.declared.status.FileRole.TheVariants as roles
 use Rattle.hip_tool.specs.declared.status.Status.{Status}
 use Rattle.hip_tool.specs.declared.status.Status.TheVariants.{Done, Usage, Missing, ReadFault, WriteFault, BadProgram, Misfit, NoMemory, TooLarge, Trapped, Cut}
 use Rattle.hip_tool.specs.declared.words.Order.{Order}
@@ -133,10 +138,82 @@ HasAnswered given old new out out_new notes notes_new Cut = ⊥
 
 -- ---- the stages
 
+-- the statuses with which the look at the program, and that at the trace, may end
+abbrev pub MayStopProgram : Status → Type 0
+MayStopProgram (Missing file) = file ≡ roles.Program
+MayStopProgram ReadFault = Unit {0}
+MayStopProgram (BadProgram why) = Unit {0}
+MayStopProgram NoMemory = Unit {0}
+MayStopProgram TooLarge = Unit {0}
+MayStopProgram Done = ⊥
+MayStopProgram Usage = ⊥
+MayStopProgram WriteFault = ⊥
+MayStopProgram (Misfit entry kind) = ⊥
+MayStopProgram (Trapped kind) = ⊥
+MayStopProgram Cut = ⊥
+
+abbrev pub MayStopTrace : Status → Type 0
+MayStopTrace (Missing file) = file ≡ roles.Trace
+MayStopTrace ReadFault = Unit {0}
+MayStopTrace (Misfit entry kind) = Unit {0}
+MayStopTrace NoMemory = Unit {0}
+MayStopTrace (BadProgram why) = ⊥
+MayStopTrace TooLarge = ⊥
+MayStopTrace Done = ⊥
+MayStopTrace Usage = ⊥
+MayStopTrace WriteFault = ⊥
+MayStopTrace (Trapped kind) = ⊥
+MayStopTrace Cut = ⊥
+
 abbrev pub LoadsProgram : List ℕ → CabinetState → CabinetState → Result Program Status → Type 0
-LoadsProgram name old new (Ok program) = IsSteady old new × IfSome old.files (λ fs. IsProgram fs name program)
-LoadsProgram name old new (Err status) = CountsBy status old new × IfSome old.files (λ fs. ProgramCause fs name status)
+LoadsProgram name old new (Ok program) = IsSteady old new × IfSome old.files (λ fs. IsProgram fs name program) × (is_sound program ≡ true)
+LoadsProgram name old new (Err status) = CountsBy status old new × IfSome old.files (λ fs. ProgramCause fs name status) × MayStopProgram status
 
 abbrev pub LoadsTrace : Program → List ℕ → CabinetState → CabinetState → Result Input Status → Type 0
 LoadsTrace program name old new (Ok input) = IsSteady old new × IfSome old.files (λ fs. IsTraceFile fs name program input)
-LoadsTrace program name old new (Err status) = CountsBy status old new × IfSome old.files (λ fs. TraceCause fs name program status)
+LoadsTrace program name old new (Err status) = CountsBy status old new × IfSome old.files (λ fs. TraceCause fs name program status) × MayStopTrace status
+
+abbrev pub ReadsProgram : List ℕ → Result Program Status → Type 0
+ReadsProgram text (Ok program) = Reads text program × (is_sound program ≡ true)
+ReadsProgram text (Err (BadProgram why)) = RefusesProgram text why
+ReadsProgram text (Err NoMemory) = Unit {0}
+ReadsProgram text (Err Done) = ⊥
+ReadsProgram text (Err Usage) = ⊥
+ReadsProgram text (Err (Missing file)) = ⊥
+ReadsProgram text (Err ReadFault) = ⊥
+ReadsProgram text (Err WriteFault) = ⊥
+ReadsProgram text (Err (Misfit entry kind)) = ⊥
+ReadsProgram text (Err TooLarge) = ⊥
+ReadsProgram text (Err (Trapped kind)) = ⊥
+ReadsProgram text (Err Cut) = ⊥
+
+-- the repair of a program for a run: how many reports, and the plan
+pub record IsFound (files : List NamedFile) (program_name trace_name : List ℕ) (found : Found) : Type 0 where
+  pub is_program : IsProgram files program_name found.program
+  pub input : Input
+  pub is_trace : IsTraceFile files trace_name found.program input
+  pub reports_are : found.reports ≡ length (reports input)
+  pub plan_is : found.plan ≡ plan (reports input)
+
+abbrev pub Finds : Option Order → CabinetState → CabinetState → Result Found Status → Type 0
+Finds given old new (Ok found) = IsSteady old new × ForOrder given old.files (λ fs p t. IsFound fs p t found) × (is_sound found.program ≡ true)
+Finds given old new (Err status) = IsRefused given status old new
+
+-- what writing both texts answers
+abbrev pub PutsTexts : SinkState → SinkState → SinkState → SinkState → List ℕ → List ℕ → Status → Type 0
+PutsTexts out out_new notes notes_new out_text notes_text Done = AppendsAll out out_new out_text × AppendsAll notes notes_new notes_text
+PutsTexts out out_new notes notes_new out_text notes_text WriteFault = IsCutShort out out_new notes notes_new out_text notes_text
+PutsTexts out out_new notes notes_new out_text notes_text Usage = ⊥
+PutsTexts out out_new notes notes_new out_text notes_text (Missing file) = ⊥
+PutsTexts out out_new notes notes_new out_text notes_text ReadFault = ⊥
+PutsTexts out out_new notes notes_new out_text notes_text (BadProgram why) = ⊥
+PutsTexts out out_new notes notes_new out_text notes_text (Misfit entry kind) = ⊥
+PutsTexts out out_new notes notes_new out_text notes_text NoMemory = ⊥
+PutsTexts out out_new notes notes_new out_text notes_text TooLarge = ⊥
+PutsTexts out out_new notes notes_new out_text notes_text (Trapped kind) = ⊥
+PutsTexts out out_new notes notes_new out_text notes_text Cut = ⊥
+
+pub record IsFoundFor (program : Program) (input : Input) (found : Found) : Type 0 where
+  pub program_is : found.program ≡ program
+  pub reports_are : found.reports ≡ length (reports input)
+  pub plan_is : found.plan ≡ plan (reports input)

@@ -1,6 +1,7 @@
 //! The commands of hippo.
 #![tactic(auto)]
 
+mod command;
 mod entry;
 mod input;
 mod lines;
@@ -16,6 +17,7 @@ mod report;
 mod status;
 mod words;
 
+pub use command::hippo;
 pub use misfit::MisfitKind;
 pub use refusal::{ParseRefusal, Place, TypeFault, TypeRefusal};
 pub use status::{FileRole, ProgramRefusal, Status, TrapKind};

@@ -80,6 +80,7 @@ fn copy_items(alloc: Global, items: &[TypedConst]) -> Result<Row<TypedConst>, No
     ensures { IfOk result (λ all. all ≡ items.now) }
 {
     let mut copies = Row::new(alloc);
+    copies.reserve(items.len())?;
     for item in items {
         copies.push(copy_typed(alloc, item)?)?;
     }

@@ -1,0 +1,5 @@
+pub mod Memory
+pub mod Bytes
+pub mod Areas
+pub mod BytesLaws
+pub mod AreasLaws

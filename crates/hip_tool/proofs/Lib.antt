@@ -1,3 +1,4 @@
+pub mod AnswerLaws
 pub mod Digits
 pub mod Fields
 pub mod Shown

@@ -88,8 +88,8 @@ whole_is g line d f lines e k = ap (λ (x : List ℕ). x ++ (d ++ (f ++ []))) (a
 plain_regroup : (g h s l : List ℕ) → g ++ (h ++ (s ++ l)) ≡ ((g ++ h) ++ s) ++ l
 plain_regroup g h s l = simp append_assoc
 
-flushed_regroup : (g d h s i l : List ℕ) → g ++ (d ++ (h ++ ((s ++ i) ++ l))) ≡ ((((g ++ d) ++ h) ++ s) ++ i) ++ l
-flushed_regroup g d h s i l = simp append_assoc
+flushed_regroup : (g d h s l : List ℕ) → g ++ (d ++ (h ++ (s ++ l))) ≡ (((g ++ d) ++ h) ++ s) ++ l
+flushed_regroup g d h s l = simp append_assoc
 
 pub shows_plain : (s : OneStore) → plain_text s ≡ show (tree [] [] s)
 shows_plain s =
@@ -107,7 +107,7 @@ shows_flushed s =
     sym (whole_is (global_text (global_of s)) (global_line s.global s.init) declaration_lines (function_shown s (store ++ inserted) end) (head_lines s.function s.label ++ ((store_line s.value s.target ++ inserted_lines s.target) ++ last_lines s.code)) (global_is s)
     (function_lines s (store ++ inserted) end (store_line s.value s.target ++ inserted_lines s.target) (last_lines s.code)
     (ap (λ (x : List ℕ). x ++ inserted) (store_is s) ∙ ap (λ (x : List ℕ). store_line s.value s.target ++ x) (flush_is s.target)) (return_is s))
-    ∙ flushed_regroup (global_line s.global s.init) declaration_lines (head_lines s.function s.label) (store_line s.value s.target) (inserted_lines s.target) (last_lines s.code))
+    ∙ flushed_regroup (global_line s.global s.init) declaration_lines (head_lines s.function s.label) (store_line s.value s.target ++ inserted_lines s.target) (last_lines s.code))
 
 pub shows_nothing_inserted : (sites given : List Site) (s : OneStore) → given ≡ sites → length given < 1 → plain_text s ≡ show (tree_by sites s)
 shows_nothing_inserted [] given s e lt = shows_plain s

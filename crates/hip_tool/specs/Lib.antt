@@ -14,4 +14,5 @@ pub mod Lines
 pub mod Texts
 pub mod Answer
 pub mod Call
+pub mod Laws
 pub mod Seen

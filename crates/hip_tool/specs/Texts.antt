@@ -27,7 +27,7 @@ abbrev pub plain_text : OneStore → List ℕ
 plain_text s = global_line s.global s.init ++ head_lines s.function s.label ++ store_line s.value s.target ++ last_lines s.code
 
 abbrev pub flushed_text : OneStore → List ℕ
-flushed_text s = global_line s.global s.init ++ declaration_lines ++ head_lines s.function s.label ++ store_line s.value s.target ++ inserted_lines s.target ++ last_lines s.code
+flushed_text s = global_line s.global s.init ++ declaration_lines ++ head_lines s.function s.label ++ (store_line s.value s.target ++ inserted_lines s.target) ++ last_lines s.code
 
 -- numbers from `half` on stand for negative ones
 abbrev pub signed_by : ℕ → ℕ → ℕ → List ℕ

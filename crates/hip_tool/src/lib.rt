@@ -4,6 +4,7 @@
 mod command;
 mod entry;
 mod input;
+mod laws;
 mod lines;
 mod misfit;
 mod numbers;
@@ -18,7 +19,11 @@ mod status;
 mod words;
 
 pub use command::hippo;
+pub use laws::{headers_are_valid, repairs_are_one, repairs_exclude_refusals};
 pub use misfit::MisfitKind;
 pub use refusal::{ParseRefusal, Place, TypeFault, TypeRefusal};
 pub use status::{FileRole, ProgramRefusal, Status, TrapKind};
 pub use words::{Order, WordsRefusal, read_words};
+
+#[cfg(test)]
+mod tests;

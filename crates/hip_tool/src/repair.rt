@@ -115,6 +115,14 @@ fn put_last<S: Sink>(before: Put, out: &mut S, code: Bits) -> Put
     put_after(put, out, b"\n}\n")
 }
 
+/// The store, and directly after it the flush and the fence.
+fn put_flushed_store<S: Sink>(before: Put, out: &mut S, store: OneStore<'_>) -> Put
+    ensures { Writes before result (S.state out.old) (S.state out.new) (store_line store.entry.value store.entry.target.now ++ inserted_lines store.entry.target.now) }
+{
+    let put = put_store(before, out, store.value, store.target);
+    put_inserted(put, out, store.target)
+}
+
 /// The program without a repair.
 fn put_plain<S: Sink>(out: &mut S, store: OneStore<'_>) -> Put
     ensures { Writes Put.Done result (S.state out.old) (S.state out.new) (plain_text (seen_one_store store.entry)) }
@@ -136,8 +144,7 @@ fn put_flushed<S: Sink>(out: &mut S, store: OneStore<'_>) -> Put
         b"declare void @llvm.x86.clwb(ptr)\ndeclare void @llvm.x86.sse.sfence()\n",
     );
     let put = put_head(put, out, store.function, store.label);
-    let put = put_store(put, out, store.value, store.target);
-    let put = put_inserted(put, out, store.target);
+    let put = put_flushed_store(put, out, store);
     put_last(put, out, store.code)
 }
 

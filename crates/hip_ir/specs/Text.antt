@@ -3,7 +3,7 @@ use Rattle.std.specs.Prelude.{ℕ, Bool, true, false, ◌||◌, List, [], ◌∷
 use Rattle.hip_types.specs.declared.number.Scalar.{Scalar}
 use Rattle.hip_tokens.specs.Tokens.{Tok}
 use Rattle.hip_rules.specs.Reader.{folded}
-use Rattle.hip_rules.specs.Part.{Part, gives, token, ◌>>=◌, either, repeated, optional, listed}
+use Rattle.hip_rules.specs.Part.{Part, gives, token, ◌>>=◌, either, repeated, optional, listed, skipped}
 use Rattle.hip_ir.specs.declared.block.Block.{Block}
 use Rattle.hip_ir.specs.declared.fault.Fault.{Fault}
 use Rattle.hip_ir.specs.declared.program.Extern.{Extern}
@@ -38,6 +38,14 @@ target_item = do
   _ ← mark 61
   _ ← token a_string
   gives DroppedItem
+
+-- { link | unnamed }
+abbrev pub linkages : Part Fault (Unit {0})
+linkages = skipped (is_word_of linkage_word) (token (a_word_of linkage_word))
+
+-- { link }
+abbrev pub links : Part Fault (Unit {0})
+links = skipped (is_word_of link_word) (token (a_word_of link_word))
 
 -- ---- globals
 
@@ -80,7 +88,7 @@ unfoldable pub global : Part Fault Item
 global = do
   name ← token a_global
   _ ← mark 61
-  _ ← repeated (is_word_of linkage_word) (token (a_word_of linkage_word))
+  _ ← linkages
   fixed ← token (a_word_of fixed_word)
   ty ← type
   init ← const ty
@@ -121,7 +129,7 @@ blocks = do
 unfoldable pub function : Part Fault Item
 function = do
   _ ← word (codes "define")
-  _ ← repeated (is_word_of link_word) (token (a_word_of link_word))
+  _ ← links
   result ← ret
   name ← token a_global
   _ ← mark 40

@@ -1,0 +1,4 @@
+pub mod Digits
+pub mod Consts
+pub mod Loops
+pub mod Some

@@ -16,8 +16,8 @@ use Rattle.hip_tool.specs.Run.{trace}
 use Rattle.hip_tool.specs.Answer.{IsText, IsProgram, IsTraceFile, Cause, Repairs, RefusesProgram}
 use Rattle.hip_tool.specs.Reading.{IsRefusedText, RefusesText}
 use Rattle.hip_tool.specs.Laws.{HeadersAreValid, RepairsExclude, RepairsAreOne}
-use Rattle.hip_tool.specs.declared.refusal.ParseRefusal.{ParseRefusal}
-use Rattle.hip_tool.specs.declared.refusal.ParseRefusal.TheVariants as parse
+use Rattle.hip_parse.specs.declared.error.ParseRefusal.{ParseRefusal}
+use Rattle.hip_parse.specs.declared.error.ParseRefusal.TheVariants as parse
 use Rattle.hip_tool.specs.declared.entry.Entry.{Entry}
 use Rattle.hip_tool.specs.declared.entry.Entry.TheVariants.{Start, Register, Store, Stop, Cut}
 use Rattle.hip_tool.specs.declared.input.Input.{Input}

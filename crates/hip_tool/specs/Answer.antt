@@ -13,7 +13,7 @@ use Rattle.hip_tool.specs.Run.{reports, plan, repaired}
 use Rattle.hip_tool.specs.declared.input.Input.{Input}
 use Rattle.hip_tool.specs.declared.misfit.MisfitKind.{MisfitKind}
 use Rattle.hip_tool.specs.declared.repair.Plan.{Plan}
-use Rattle.hip_tool.specs.declared.refusal.ParseRefusal.{ParseRefusal}
+use Rattle.hip_parse.specs.declared.error.ParseRefusal.{ParseRefusal}
 use Rattle.hip_tool.specs.declared.refusal.TypeFault.TheVariants as faults
 use Rattle.hip_tool.specs.declared.refusal.Place.TheVariants as places
 use Rattle.hip_tool.specs.declared.refusal.TypeRefusal.{TypeRefusal}

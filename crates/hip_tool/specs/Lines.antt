@@ -4,8 +4,8 @@ use Rattle.std.specs.Fmt.{decimal}
 use Rattle.hip_ir.specs.declared.site.Site.{Site}
 use Rattle.hip_tool.specs.declared.misfit.MisfitKind.{MisfitKind}
 use Rattle.hip_tool.specs.declared.misfit.MisfitKind.TheVariants as kinds
-use Rattle.hip_tool.specs.declared.refusal.ParseRefusal.{ParseRefusal}
-use Rattle.hip_tool.specs.declared.refusal.ParseRefusal.TheVariants as parse
+use Rattle.hip_parse.specs.declared.error.ParseRefusal.{ParseRefusal}
+use Rattle.hip_parse.specs.declared.error.ParseRefusal.TheVariants as parse
 use Rattle.hip_tool.specs.declared.refusal.TypeFault.{TypeFault}
 use Rattle.hip_tool.specs.declared.refusal.TypeFault.TheVariants as fault
 use Rattle.hip_tool.specs.declared.refusal.Place.{Place}

@@ -1,11 +1,11 @@
 -- Which refusal a text gets that reads as no program.
-use Rattle.std.specs.Prelude.{ℕ, List, Result, Ok, Err}
+use Rattle.std.specs.Prelude.{ℕ, List}
 use Rattle.hip_ir.specs.declared.fault.Fault.{Fault}
 use Rattle.hip_ir.specs.declared.fault.Fault.TheVariants as faults
 use Rattle.hip_ir.specs.declared.program.Program.{Program}
 use Rattle.hip_ir.specs.Reading.{Reads, IsRefusal}
-use Rattle.hip_tool.specs.declared.refusal.ParseRefusal.{ParseRefusal}
-use Rattle.hip_tool.specs.declared.refusal.ParseRefusal.TheVariants as refusals
+use Rattle.hip_parse.specs.declared.error.ParseRefusal.{ParseRefusal}
+use Rattle.hip_parse.specs.declared.error.ParseRefusal.TheVariants as refusals
 
 -- No program is read from the text, and this is the refused token's fault and line.
 pub record IsRefusedText (text : List ℕ) (why : Fault) (line : ℕ) : Type 0 where
@@ -19,12 +19,3 @@ RefusesText text (refusals.Unsupported line) = IsRefusedText text faults.Unsuppo
 RefusesText text (refusals.Range line) = IsRefusedText text faults.Range line
 RefusesText text (refusals.TooDeep line) = IsRefusedText text faults.TooDeep line
 RefusesText text refusals.NoMemory = ⊥
-
--- what reading a text answers
-abbrev pub Parses : List ℕ → Result Program ParseRefusal → Type 0
-Parses text (Ok program) = Reads text program
-Parses text (Err (refusals.Syntax line)) = RefusesText text (refusals.Syntax line)
-Parses text (Err (refusals.Unsupported line)) = RefusesText text (refusals.Unsupported line)
-Parses text (Err (refusals.Range line)) = RefusesText text (refusals.Range line)
-Parses text (Err (refusals.TooDeep line)) = RefusesText text (refusals.TooDeep line)
-Parses text (Err refusals.NoMemory) = Unit {0}

@@ -4,7 +4,6 @@ ghost use Rattle.std.specs.Prelude.{◌≡◌, ℕ, List, ◌++◌, true, Some, 
 ghost use Rattle.std.specs.Fmt.{decimal};
 ghost use Rattle.hip_io.specs.Sinks.{Writes};
 ghost use Rattle.hip_ir.specs.Show.{show};
-ghost use Rattle.hip_tool.specs.Reading.{Parses};
 ghost use Rattle.hip_tool.specs.OneStore.{one_store, is_sound};
 ghost use Rattle.hip_tool.specs.Order.{order};
 ghost use Rattle.hip_tool.specs.Run.{repaired};
@@ -16,7 +15,7 @@ use crate::input::Input;
 use crate::lines::{put_line, put_number};
 use crate::one_store::{OneStore, is_sound, one_store};
 use crate::plan::plan;
-use crate::refusal::{ParseRefusal, Place, TypeFault, TypeRefusal};
+use crate::refusal::{Place, TypeFault, TypeRefusal};
 use crate::repair::{Plan, put_repaired};
 use crate::replay::{ReplayRefusal, replay};
 use crate::report::reports;
@@ -24,6 +23,7 @@ use crate::status::{FileRole, ProgramRefusal, Status};
 use crate::words::{Order, WordsRefusal, read_words};
 use hip_io::{Cabinet, Fetched, Put, ReadRefusal, Sink, put_after, read_all};
 use hip_ir::Program;
+use hip_parse::{ParseRefusal, parse};
 use hip_types::NoMemory;
 use std::alloc::Global;
 
@@ -36,12 +36,6 @@ pub(crate) struct Found {
     pub(crate) program: Program,
     pub(crate) reports: usize,
     pub(crate) plan: Plan,
-}
-
-fn parse(_alloc: Global, _text: &[u8]) -> Result<Program, ParseRefusal>
-    ensures { Parses _text.now result }
-{
-    Err(ParseRefusal::NoMemory)
 }
 
 /// The sound program that a text reads as.

@@ -21,7 +21,7 @@ mod words;
 pub use command::hippo;
 pub use laws::{headers_are_valid, repairs_are_one, repairs_exclude_refusals};
 pub use misfit::MisfitKind;
-pub use refusal::{ParseRefusal, Place, TypeFault, TypeRefusal};
+pub use refusal::{Place, TypeFault, TypeRefusal};
 pub use status::{FileRole, ProgramRefusal, Status, TrapKind};
 pub use words::{Order, WordsRefusal, read_words};
 

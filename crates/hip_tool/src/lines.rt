@@ -6,9 +6,10 @@ ghost use Rattle.hip_io.specs.Sinks.{Writes};
 ghost use Rattle.hip_tool.specs.Lines.{line_of, role_word, kind_word, fault_words, block_text, place_text, parse_word, parse_line, text_refusal, form_refusal, program_refusal, misfit_text};
 
 use crate::misfit::MisfitKind;
-use crate::refusal::{ParseRefusal, Place, TypeFault};
+use crate::refusal::{Place, TypeFault};
 use crate::status::{FileRole, ProgramRefusal, Status};
 use hip_io::{Put, Sink, put_after};
+use hip_parse::ParseRefusal;
 use itoa::Buffer;
 
 /// A number in decimal digits.
@@ -57,8 +58,8 @@ fn fault_words(fault: &TypeFault) -> &'static [u8]
     }
 }
 
-fn parse_word(refusal: ParseRefusal) -> &'static [u8]
-    ensures { result.now ≡ parse_word refusal }
+fn parse_word(refusal: &ParseRefusal) -> &'static [u8]
+    ensures { result.now ≡ parse_word refusal.now }
 {
     match refusal {
         ParseRefusal::Syntax { .. } => b"syntax".as_slice(),
@@ -69,14 +70,14 @@ fn parse_word(refusal: ParseRefusal) -> &'static [u8]
     }
 }
 
-fn parse_line(refusal: ParseRefusal) -> u64
-    ensures { result ≡ parse_line refusal }
+fn parse_line(refusal: &ParseRefusal) -> u64
+    ensures { result ≡ parse_line refusal.now }
 {
     match refusal {
         ParseRefusal::Syntax { line }
         | ParseRefusal::Unsupported { line }
         | ParseRefusal::Range { line }
-        | ParseRefusal::TooDeep { line } => line,
+        | ParseRefusal::TooDeep { line } => *line,
         ParseRefusal::NoMemory => 0,
     }
 }
@@ -175,8 +176,8 @@ fn put_program_refusal<S: Sink>(out: &mut S, refusal: &ProgramRefusal) -> Put
     match refusal {
         ProgramRefusal::Text(refusal) => put_text_refusal(
             out,
-            parse_word(*refusal),
-            parse_line(*refusal),
+            parse_word(refusal),
+            parse_line(refusal),
         ),
         ProgramRefusal::Form(refusal) => put_form_refusal(
             out,

@@ -3,21 +3,6 @@
 use hip_ir::Site;
 use hip_types::Row;
 
-/// Why a text is no program. The line is that of the refused token, or of the last byte where the text ends too
-/// early.
-#[derive(Clone, Copy, Debug, PartialEq, Eq)]
-pub enum ParseRefusal {
-    /// No such token may stand there, or the text ends too early.
-    Syntax { line: u64 },
-    /// The token belongs to a form that is not read.
-    Unsupported { line: u64 },
-    /// A number outside the range of its place.
-    Range { line: u64 },
-    /// A level of nesting too many.
-    TooDeep { line: u64 },
-    NoMemory,
-}
-
 /// Which rule of sound programs fails.
 #[derive(Debug, Drop)]
 pub enum TypeFault {

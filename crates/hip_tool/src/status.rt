@@ -4,7 +4,8 @@ ghost use Rattle.std.specs.Prelude.{◌≡◌};
 ghost use Rattle.hip_tool.specs.Status.{code_of};
 
 use crate::misfit::MisfitKind;
-use crate::refusal::{ParseRefusal, TypeRefusal};
+use crate::refusal::TypeRefusal;
+use hip_parse::ParseRefusal;
 
 /// Which of the two files.
 #[derive(Clone, Copy, Debug, PartialEq, Eq)]

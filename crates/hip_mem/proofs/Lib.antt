@@ -1,1 +1,3 @@
-
+pub mod Fills
+pub mod RamAreas
+pub mod RamCalls

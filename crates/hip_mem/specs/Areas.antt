@@ -1,9 +1,9 @@
 -- What contracts see of a `Ram`: the base of the region, and the bytes of the three areas that are valid.
-use Rattle.std.specs.Prelude.{◌≡◌, ℕ, zero, suc, ◌+◌, ◌-◌, ◌*◌, ◌%◌, ◌^◌, ◌<◌, ◌≤◌, Bool, true, false, cond, ◌&&◌, ◌||◌, ◌==◌, nat_lt, nat_le, List, [], ◌∷◌, ◌++◌, length, take, slice_index, Option, Some, None, Result, Ok, Err}
+use Rattle.std.specs.Prelude.{◌≡◌, ℕ, zero, suc, ◌+◌, ◌-◌, ◌%◌, ◌^◌, ◌≤◌, Bool, true, cond, ◌&&◌, ◌||◌, ◌==◌, List, [], ◌∷◌, ◌++◌, length, take, slice_index, Option, Some, None, Result, Ok, Err}
 use Rattle.std.specs.Int.{next_multiple_of}
 use Rattle.hip_mem.specs.declared.refusal.MemTrap.{MemTrap}
 use Rattle.hip_mem.specs.declared.refusal.MemTrap.TheVariants.{Misaligned, BadAddress}
-use Rattle.hip_mem.specs.Memory.{Write, byte_written, volatile_start, stack_start, stack_end, is_in, Memory, byte_at}
+use Rattle.hip_mem.specs.Memory.{Write, byte_written, volatile_start, stack_start, is_in, Memory, byte_at}
 use Rattle.hip_mem.specs.Bytes.{little_endian, zeros}
 
 -- the volatile globals, the stack below the mark, and the region

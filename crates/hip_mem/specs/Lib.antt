@@ -3,3 +3,5 @@ pub mod Bytes
 pub mod Areas
 pub mod BytesLaws
 pub mod AreasLaws
+pub mod Pages
+pub mod Rams

@@ -1,5 +1,5 @@
 -- The memory of a machine: its initial bytes and the list of all writes so far.
-use Rattle.std.specs.Prelude.{ℕ, suc, zero, ◌+◌, ◌-◌, ◌<◌, ◌≤◌, Bool, cond, ◌&&◌, nat_lt, nat_le, List, [], ◌∷◌, ◌++◌, length, slice_index}
+use Rattle.std.specs.Prelude.{ℕ, suc, zero, ◌+◌, ◌-◌, Bool, cond, ◌&&◌, nat_lt, nat_le, List, [], ◌∷◌, ◌++◌, length, slice_index}
 
 -- bytes that were written from an address on: a store's, or the zeros of a new stack block
 pub record Write : Type 0 where

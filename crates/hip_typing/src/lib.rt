@@ -1,6 +1,7 @@
 //! Which programs are sound, and where their data lies.
 #![tactic(auto)]
 
+mod addresses;
 mod constants;
 mod externs;
 mod fault;
@@ -9,7 +10,9 @@ mod inner;
 mod named;
 mod names;
 mod refused;
+mod registers;
 mod shape;
+mod table;
 mod whole;
 
 pub use fault::{Place, TypeFault, TypeRefusal};

@@ -1,15 +1,17 @@
+//! `hippo`: repairs durability bugs in programs that use persistent memory.
 #![tactic(auto)]
 
 mod files;
 mod stream;
 
 use files::FileCabinet;
-use hip_io::{Cabinet, Sink};
+use hip_tool::{Status, hippo};
 use std::io::ErrorKind;
 use std::process::ExitCode;
 use std::{env, io};
 use stream::Stream;
 
+/// The words after the program's name. There are none where one of them is not text.
 fn words(rt: &HostRuntime) -> Result<Vec<String>, io::Error> {
     let mut words = Vec::new(rt.alloc());
     let mut all = match env::args(rt) {
@@ -27,17 +29,19 @@ fn words(rt: &HostRuntime) -> Result<Vec<String>, io::Error> {
 fn main(rt: HostRuntime) -> ExitCode {
     let words = match words(&rt) {
         Ok(words) => words,
-        Err(_) => return ExitCode::from(7),
+        Err(_) => return ExitCode::from(Status::NoMemory.code()),
     };
     let mut cabinet = FileCabinet::new(&rt);
     let mut out = Stream::new(rt.stdout());
     let mut notes = Stream::new(rt.stderr());
-    for word in &words {
-        let _ = cabinet.fetch(word.as_str());
-        let _ = out.put(word.as_bytes());
-        let _ = notes.put(b"\n");
-    }
-    ExitCode::from(3)
+    let status = hippo(
+        rt.alloc(),
+        words.as_slice(),
+        &mut cabinet,
+        &mut out,
+        &mut notes,
+    );
+    ExitCode::from(status.code())
 }
 
 #[cfg(test)]

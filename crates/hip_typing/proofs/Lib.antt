@@ -7,3 +7,4 @@ pub mod GlobalLemmas
 pub mod AddressLemmas
 pub mod TableLemmas
 pub mod RegisterLemmas
+pub mod CalleeLemmas

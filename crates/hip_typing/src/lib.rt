@@ -2,6 +2,7 @@
 #![tactic(auto)]
 
 mod addresses;
+mod callees;
 mod constants;
 mod externs;
 mod fault;

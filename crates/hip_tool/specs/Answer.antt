@@ -14,9 +14,9 @@ use Rattle.hip_tool.specs.declared.input.Input.{Input}
 use Rattle.hip_tool.specs.declared.misfit.MisfitKind.{MisfitKind}
 use Rattle.hip_tool.specs.declared.repair.Plan.{Plan}
 use Rattle.hip_parse.specs.declared.error.ParseRefusal.{ParseRefusal}
-use Rattle.hip_tool.specs.declared.refusal.TypeFault.TheVariants as faults
-use Rattle.hip_tool.specs.declared.refusal.Place.TheVariants as places
-use Rattle.hip_tool.specs.declared.refusal.TypeRefusal.{TypeRefusal}
+use Rattle.hip_typing.specs.declared.fault.TypeFault.TheVariants as faults
+use Rattle.hip_typing.specs.declared.fault.Place.TheVariants as places
+use Rattle.hip_typing.specs.declared.fault.TypeRefusal.{TypeRefusal}
 use Rattle.hip_tool.specs.declared.status.FileRole.{FileRole}
 use Rattle.hip_tool.specs.declared.status.FileRole.TheVariants as roles
 use Rattle.hip_tool.specs.declared.status.ProgramRefusal.{ProgramRefusal}

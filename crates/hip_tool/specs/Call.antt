@@ -8,7 +8,7 @@ use Rattle.hip_ir.specs.declared.program.Program.{Program}
 use Rattle.hip_tool.specs.Answer.{Cause, Repairs, ProgramCause, TraceCause, IsProgram, IsTraceFile, RefusesProgram}
 use Rattle.hip_ir.specs.Reading.{Reads}
 use Rattle.hip_tool.specs.OneStore.{is_sound}
-use Rattle.hip_tool.specs.Run.{reports, plan}
+use Rattle.hip_tool.specs.Run.{reports, plan, repaired}
 use Rattle.hip_tool.specs.declared.command.Found.{Found}
 use Rattle.hip_tool.specs.Lines.{line_of}
 use Rattle.hip_tool.specs.declared.input.Input.{Input}
@@ -187,16 +187,18 @@ ReadsProgram text (Err TooLarge) = ⊥
 ReadsProgram text (Err (Trapped kind)) = ⊥
 ReadsProgram text (Err Cut) = ⊥
 
--- the repair of a program for a run: how many reports, and the plan
+-- what the files give: the repaired program, how many reports, and the plan
 pub record IsFound (files : List NamedFile) (program_name trace_name : List ℕ) (found : Found) : Type 0 where
-  pub is_program : IsProgram files program_name found.program
+  pub program : Program
+  pub is_program : IsProgram files program_name program
   pub input : Input
-  pub is_trace : IsTraceFile files trace_name found.program input
+  pub is_trace : IsTraceFile files trace_name program input
   pub reports_are : found.reports ≡ length (reports input)
   pub plan_is : found.plan ≡ plan (reports input)
+  pub program_is : found.program ≡ repaired program (plan (reports input))
 
 abbrev pub Finds : Option Order → CabinetState → CabinetState → Result Found Status → Type 0
-Finds given old new (Ok found) = IsSteady old new × ForOrder given old.files (λ fs p t. IsFound fs p t found) × (is_sound found.program ≡ true)
+Finds given old new (Ok found) = IsSteady old new × ForOrder given old.files (λ fs p t. IsFound fs p t found)
 Finds given old new (Err status) = IsRefused given status old new
 
 -- what writing both texts answers
@@ -214,6 +216,6 @@ PutsTexts out out_new notes notes_new out_text notes_text (Trapped kind) = ⊥
 PutsTexts out out_new notes notes_new out_text notes_text Cut = ⊥
 
 pub record IsFoundFor (program : Program) (input : Input) (found : Found) : Type 0 where
-  pub program_is : found.program ≡ program
+  pub program_is : found.program ≡ repaired program (plan (reports input))
   pub reports_are : found.reports ≡ length (reports input)
   pub plan_is : found.plan ≡ plan (reports input)

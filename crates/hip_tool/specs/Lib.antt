@@ -11,7 +11,6 @@ pub mod Reading
 pub mod Order
 pub mod Status
 pub mod Lines
-pub mod Texts
 pub mod Answer
 pub mod Call
 pub mod Laws

@@ -6,11 +6,11 @@ use Rattle.hip_tool.specs.declared.misfit.MisfitKind.{MisfitKind}
 use Rattle.hip_tool.specs.declared.misfit.MisfitKind.TheVariants as kinds
 use Rattle.hip_parse.specs.declared.error.ParseRefusal.{ParseRefusal}
 use Rattle.hip_parse.specs.declared.error.ParseRefusal.TheVariants as parse
-use Rattle.hip_tool.specs.declared.refusal.TypeFault.{TypeFault}
-use Rattle.hip_tool.specs.declared.refusal.TypeFault.TheVariants as fault
-use Rattle.hip_tool.specs.declared.refusal.Place.{Place}
-use Rattle.hip_tool.specs.declared.refusal.Place.TheVariants as place
-use Rattle.hip_tool.specs.declared.refusal.TypeRefusal.{TypeRefusal}
+use Rattle.hip_typing.specs.declared.fault.TypeFault.{TypeFault}
+use Rattle.hip_typing.specs.declared.fault.TypeFault.TheVariants as fault
+use Rattle.hip_typing.specs.declared.fault.Place.{Place}
+use Rattle.hip_typing.specs.declared.fault.Place.TheVariants as place
+use Rattle.hip_typing.specs.declared.fault.TypeRefusal.{TypeRefusal}
 use Rattle.hip_tool.specs.declared.status.FileRole.{FileRole}
 use Rattle.hip_tool.specs.declared.status.FileRole.TheVariants as role
 use Rattle.hip_tool.specs.declared.status.ProgramRefusal.{ProgramRefusal}

@@ -12,6 +12,7 @@ use Rattle.hip_ir.specs.declared.instr.Operand.TheVariants.{Fixed}
 use Rattle.hip_ir.specs.declared.instr.Arg.{Arg}
 use Rattle.hip_ir.specs.declared.instr.Instr.{Instr}
 use Rattle.hip_ir.specs.declared.instr.Instr.TheVariants as instrs
+use Rattle.hip_ir.specs.declared.block.End.{End}
 use Rattle.hip_ir.specs.declared.block.End.TheVariants.{Ret}
 use Rattle.hip_ir.specs.declared.program.GlobalVar.{GlobalVar}
 use Rattle.hip_ir.specs.declared.block.Block.{Block}
@@ -78,23 +79,26 @@ flush_of target = instrs.Call None None flush_name ((record { ty = Ptr; value = 
 abbrev pub fence_instr : Instr
 fence_instr = instrs.Call None None fence_name []
 
--- the program of these parts, with more declarations, and more instructions directly after the store
-abbrev pub tree : List Extern → List Instr → OneStore → Program
-tree externs inserted s = record {
-  globals = (record { name = s.global; fixed = false; ty = types.Int W64; init = consts.Int s.init; persistent = true; align = None }) ∷ [];
-  externs = externs;
-  functions = (record {
-    ret = Some (Int W32);
-    name = s.function;
-    params = [];
-    blocks = (record {
-      label = s.label;
-      phis = [];
-      body = instrs.Store (Int W64) (Fixed (consts.Int s.value)) (Fixed (consts.Address s.target)) None ∷ inserted;
-      end = Ret (Some (record { ty = Int W32; value = Fixed (consts.Int s.code) }));
-    }) ∷ [];
-  }) ∷ [];
+-- the parts of the program, with more declarations, and more instructions directly after the store
+abbrev pub global_part : OneStore → GlobalVar
+global_part s = record { name = s.global; fixed = false; ty = types.Int W64; init = consts.Int s.init; persistent = true; align = None }
+
+abbrev pub store_part : OneStore → Instr
+store_part s = instrs.Store (Int W64) (Fixed (consts.Int s.value)) (Fixed (consts.Address s.target)) None
+
+abbrev pub end_part : OneStore → End
+end_part s = Ret (Some (record { ty = Int W32; value = Fixed (consts.Int s.code) }))
+
+abbrev pub function_part : List Instr → OneStore → Function
+function_part inserted s = record {
+  ret = Some (Int W32);
+  name = s.function;
+  params = [];
+  blocks = (record { label = s.label; phis = []; body = store_part s ∷ inserted; end = end_part s }) ∷ [];
 }
+
+abbrev pub tree : List Extern → List Instr → OneStore → Program
+tree externs inserted s = record { globals = global_part s ∷ []; externs = externs; functions = function_part inserted s ∷ [] }
 
 -- the flush and the fence stand directly after the store of a plan that has it
 abbrev pub tree_by : List Site → OneStore → Program

@@ -15,22 +15,23 @@ use crate::input::Input;
 use crate::lines::{put_line, put_number};
 use crate::one_store::{OneStore, is_sound, one_store};
 use crate::plan::plan;
-use crate::refusal::{Place, TypeFault, TypeRefusal};
-use crate::repair::{Plan, put_repaired};
+use hip_typing::{Place, TypeFault, TypeRefusal};
+use crate::repair::{Plan, apply};
 use crate::replay::{ReplayRefusal, replay};
 use crate::report::reports;
 use crate::status::{FileRole, ProgramRefusal, Status};
 use crate::words::{Order, WordsRefusal, read_words};
-use hip_io::{Cabinet, Fetched, Put, ReadRefusal, Sink, put_after, read_all};
+use hip_io::{Cabinet, Fetched, Put, ReadRefusal, Sink, WriteFault, put_after, read_all};
 use hip_ir::Program;
 use hip_parse::{ParseRefusal, parse};
 use hip_types::NoMemory;
+use hip_write::write;
 use std::alloc::Global;
 
 /// How many bytes a program's text may have.
 const TEXT_LIMIT: u64 = 16_777_216;
 
-/// What is to be written: the program, how many reports there are, and the plan.
+/// What is to be written: the repaired program, how many reports there are, and the plan.
 #[derive(Debug, Drop)]
 pub(crate) struct Found {
     pub(crate) program: Program,
@@ -98,14 +99,34 @@ fn load_trace<C: Cabinet>(
     }
 }
 
-/// What the reports of the run are, and the plan for them.
-fn plan_for(alloc: Global, program: Program, input: &Input) -> Result<Found, NoMemory>
-    ensures { IfOk result (λ f. IsFoundFor program input.now f) }
+#[tactic(auto, unfolding(crate::specs::OneStore::is_sound))]
+fn store_of(program: &Program) -> OneStore<'_>
+    requires { is_sound program.now ≡ true }
+    ensures { one_store program.now ≡ Some (seen_one_store result) }
+{
+    match one_store(program) {
+        Some(store) => store,
+        None => unreachable!(),
+    }
+}
+
+#[tactic(auto, unfolding(crate::specs::Run::repaired))]
+fn repair(alloc: Global, program: &Program, plan: &Plan) -> Result<Program, NoMemory>
+    requires { is_sound program.now ≡ true }
+    ensures { IfOk result (λ p. p ≡ repaired program.now plan.now) }
+{
+    apply(alloc, store_of(program), plan)
+}
+
+/// The reports of the run, the plan for them, and the repaired program.
+fn plan_for(alloc: Global, program: &Program, input: &Input) -> Result<Found, NoMemory>
+    requires { is_sound program.now ≡ true }
+    ensures { IfOk result (λ f. IsFoundFor program.now input.now f) }
 {
     let reports = reports(alloc, input)?;
     let plan = plan(alloc, reports.as_slice())?;
     Ok(Found {
-        program,
+        program: repair(alloc, program, &plan)?,
         reports: reports.len(),
         plan,
     })
@@ -128,7 +149,7 @@ fn find_repair<C: Cabinet>(
         Ok(input) => input,
         Err(status) => return Err(status),
     };
-    match plan_for(alloc, program, &input) {
+    match plan_for(alloc, &program, &input) {
         Ok(found) => Ok(found),
         Err(NoMemory) => Err(Status::NoMemory),
     }
@@ -182,31 +203,21 @@ fn put_status<N: Sink>(notes: &mut N, status: &Status)
     let _put = put_line(notes, status);
 }
 
-#[tactic(auto, unfolding(crate::specs::OneStore::is_sound))]
-fn store_of(program: &Program) -> OneStore<'_>
-    requires { is_sound program.now ≡ true }
-    ensures { one_store program.now ≡ Some (seen_one_store result) }
+/// The canonical text of the program.
+fn put_program<S: Sink>(out: &mut S, program: &Program) -> Put
+    ensures { Writes Put.Done result (S.state out.old) (S.state out.new) (show program.now) }
 {
-    match one_store(program) {
-        Some(store) => store,
-        None => unreachable!(),
+    match write(program, out) {
+        Ok(()) => Put::Done,
+        Err(WriteFault) => Put::Failed,
     }
-}
-
-#[tactic(auto, unfolding(crate::specs::Run::repaired))]
-fn put_program<S: Sink>(out: &mut S, program: &Program, plan: &Plan) -> Put
-    requires { is_sound program.now ≡ true }
-    ensures { Writes Put.Done result (S.state out.old) (S.state out.new) (show (repaired program.now plan.now)) }
-{
-    put_repaired(out, store_of(program), plan)
 }
 
 /// Both texts, the program's first.
 fn put_texts<S: Sink, N: Sink>(found: &Found, out: &mut S, notes: &mut N) -> Status
-    requires { is_sound found.now.program ≡ true }
-    ensures { PutsTexts (S.state out.old) (S.state out.new) (N.state notes.old) (N.state notes.new) (show (repaired found.now.program found.now.plan)) (counts_text found.now.reports found.now.plan) result }
+    ensures { PutsTexts (S.state out.old) (S.state out.new) (N.state notes.old) (N.state notes.new) (show found.now.program) (counts_text found.now.reports found.now.plan) result }
 {
-    match put_program(out, &found.program, &found.plan) {
+    match put_program(out, &found.program) {
         Put::Done => match put_counts(notes, found.reports, &found.plan) {
             Put::Done => Status::Done,
             Put::Failed => cut_short(notes),

@@ -11,7 +11,6 @@ mod numbers;
 mod one_store;
 mod plan;
 mod reader;
-mod refusal;
 mod repair;
 mod replay;
 mod report;
@@ -21,7 +20,6 @@ mod words;
 pub use command::hippo;
 pub use laws::{headers_are_valid, repairs_are_one, repairs_exclude_refusals};
 pub use misfit::MisfitKind;
-pub use refusal::{Place, TypeFault, TypeRefusal};
 pub use status::{FileRole, ProgramRefusal, Status, TrapKind};
 pub use words::{Order, WordsRefusal, read_words};
 

@@ -1,19 +1,15 @@
-//! The repaired program, and its text.
+//! The repaired program.
 
-ghost use Rattle.std.specs.Prelude.{◌≡◌, ◌≤◌, ℕ, List, ◌++◌, ◌-◌, ◌^◌, codes, Some, option_map};
-ghost use Rattle.std.specs.Fmt.{decimal};
-ghost use Rattle.hip_io.specs.Sinks.{Writes};
-ghost use Rattle.hip_ir.specs.Show.{literal_text, show};
-ghost use Rattle.hip_tool.specs.OneStore.{one_store};
-ghost use Rattle.hip_tool.specs.Run.{repaired, tree_by};
-ghost use Rattle.hip_tool.specs.Texts.{global_line, declaration_lines, head_lines, store_line, inserted_lines, last_lines, plain_text, flushed_text, signed_by};
+ghost use Rattle.std.specs.Prelude.{◌≡◌, [], ◌∷◌, IfOk};
+ghost use Rattle.hip_tool.specs.Run.{flush_of, fence_instr, flush_name, fence_name, declarations, global_part, store_part, end_part, function_part, tree, tree_by};
 ghost use Rattle.hip_tool.specs.Seen.{seen_one_store};
 
-use crate::lines::put_number;
 use crate::one_store::OneStore;
-use hip_io::{Put, Sink, put_after};
-use hip_ir::Site;
-use hip_types::{Bits, Row, Width};
+use hip_ir::{
+    Arg, Block, Const, End, Extern, Function, GlobalVar, Instr, Operand, Program, Site,
+};
+use hip_types::{Name, NoMemory, Row, Scalar, Ty, Width};
+use std::alloc::Global;
 
 /// The sites after which a flush or a fence is inserted, and the calls that are given a persistent clone.
 #[derive(Debug, Drop)]
@@ -23,137 +19,193 @@ pub(crate) struct Plan {
     pub(crate) hoist: Row<Site>,
 }
 
-/// The signed value of a number, or `true` and `false` of one bit.
-fn put_literal<S: Sink>(before: Put, out: &mut S, bits: Bits) -> Put
-    ensures { Writes before result (S.state out.old) (S.state out.new) (literal_text bits) }
+fn one<T: Drop>(alloc: Global, item: T) -> Result<Row<T>, NoMemory>
+    ensures { IfOk result (λ row. row ≡ item ∷ []) }
 {
-    match bits.width {
-        Width::W1 => put_after(
-            before,
-            out,
-            if bits.value == 0 {
-                b"false".as_slice()
-            } else {
-                b"true".as_slice()
-            },
-        ),
-        Width::W8 => put_signed(before, out, 0x80, 0x100, bits.value),
-        Width::W16 => put_signed(before, out, 0x8000, 0x1_0000, bits.value),
-        Width::W32 => put_signed(before, out, 0x8000_0000, 0x1_0000_0000, bits.value),
-        Width::W64 => put_signed(
-            before,
-            out,
-            0x8000_0000_0000_0000,
-            0x1_0000_0000_0000_0000,
-            bits.value,
-        ),
-    }
+    let mut row = Row::new(alloc);
+    row.push(item)?;
+    Ok(row)
 }
 
-fn put_negative<S: Sink>(before: Put, out: &mut S, n: u128) -> Put
-    ensures { Writes before result (S.state out.old) (S.state out.new) (codes "-" ++ decimal n) }
+fn flush_name(alloc: Global) -> Result<Name, NoMemory>
+    ensures { IfOk result (λ name. name ≡ flush_name) }
 {
-    let put = put_after(before, out, b"-");
-    put_number(put, out, n)
+    Row::from_slice(alloc, b"llvm.x86.clwb")
 }
 
-/// The signed value of a number below `whole`, of which those from `half` on stand for negative ones.
-fn put_signed<S: Sink>(before: Put, out: &mut S, half: u128, whole: u128, value: u64) -> Put
-    ensures { Writes before result (S.state out.old) (S.state out.new) (signed_by half whole value) }
+fn fence_name(alloc: Global) -> Result<Name, NoMemory>
+    ensures { IfOk result (λ name. name ≡ fence_name) }
 {
-    let value = u128::from(value);
-    if value < half {
-        put_number(before, out, value)
-    } else {
-        put_negative(before, out, whole.saturating_sub(value))
-    }
+    Row::from_slice(alloc, b"llvm.x86.sse.sfence")
 }
 
-fn put_global<S: Sink>(before: Put, out: &mut S, name: &[u8], init: Bits) -> Put
-    ensures { Writes before result (S.state out.old) (S.state out.new) (global_line name.now init) }
+fn address(alloc: Global, name: &[u8]) -> Result<Operand, NoMemory>
+    ensures { IfOk result (λ operand. operand ≡ Operand.Fixed (Const.Address name.now)) }
 {
-    let put = put_after(before, out, b"@");
-    let put = put_after(put, out, name);
-    let put = put_after(put, out, b" = global i64 ");
-    let put = put_literal(put, out, init);
-    put_after(put, out, b", section \".pm\"\n")
+    Ok(Operand::Fixed(Const::Address(Row::from_slice(alloc, name)?)))
 }
 
-fn put_head<S: Sink>(before: Put, out: &mut S, function: &[u8], label: &[u8]) -> Put
-    ensures { Writes before result (S.state out.old) (S.state out.new) (head_lines function.now label.now) }
+/// The flush of the cache line of the address.
+fn flush_of(alloc: Global, target: &[u8]) -> Result<Instr, NoMemory>
+    ensures { IfOk result (λ instr. instr ≡ flush_of target.now) }
 {
-    let put = put_after(before, out, b"define i32 @");
-    let put = put_after(put, out, function);
-    let put = put_after(put, out, b"() {\n");
-    let put = put_after(put, out, label);
-    put_after(put, out, b":\n")
+    let arg = Arg {
+        ty: Scalar::Ptr,
+        value: address(alloc, target)?,
+    };
+    Ok(Instr::Call {
+        dest: None,
+        ret: None,
+        callee: flush_name(alloc)?,
+        args: one(alloc, arg)?,
+    })
 }
 
-fn put_store<S: Sink>(before: Put, out: &mut S, value: Bits, target: &[u8]) -> Put
-    ensures { Writes before result (S.state out.old) (S.state out.new) (store_line value target.now) }
+fn fence(alloc: Global) -> Result<Instr, NoMemory>
+    ensures { IfOk result (λ instr. instr ≡ fence_instr) }
 {
-    let put = put_after(before, out, b"  store i64 ");
-    let put = put_literal(put, out, value);
-    let put = put_after(put, out, b", ptr @");
-    let put = put_after(put, out, target);
-    put_after(put, out, b"\n")
+    Ok(Instr::Call {
+        dest: None,
+        ret: None,
+        callee: fence_name(alloc)?,
+        args: Row::new(alloc),
+    })
 }
 
-fn put_inserted<S: Sink>(before: Put, out: &mut S, target: &[u8]) -> Put
-    ensures { Writes before result (S.state out.old) (S.state out.new) (inserted_lines target.now) }
+fn declarations(alloc: Global) -> Result<Row<Extern>, NoMemory>
+    ensures { IfOk result (λ externs. externs ≡ declarations) }
 {
-    let put = put_after(before, out, b"  call void @llvm.x86.clwb(ptr @");
-    let put = put_after(put, out, target);
-    put_after(put, out, b")\n  call void @llvm.x86.sse.sfence()\n")
+    let mut externs = one(
+        alloc,
+        Extern {
+            ret: None,
+            name: flush_name(alloc)?,
+            params: one(alloc, Scalar::Ptr)?,
+        },
+    )?;
+    externs.push(Extern {
+        ret: None,
+        name: fence_name(alloc)?,
+        params: Row::new(alloc),
+    })?;
+    Ok(externs)
 }
 
-fn put_last<S: Sink>(before: Put, out: &mut S, code: Bits) -> Put
-    ensures { Writes before result (S.state out.old) (S.state out.new) (last_lines code) }
+fn global(alloc: Global, store: OneStore<'_>) -> Result<GlobalVar, NoMemory>
+    ensures { IfOk result (λ global. global ≡ global_part (seen_one_store store.entry)) }
 {
-    let put = put_after(before, out, b"  ret i32 ");
-    let put = put_literal(put, out, code);
-    put_after(put, out, b"\n}\n")
+    Ok(GlobalVar {
+        name: Row::from_slice(alloc, store.global)?,
+        fixed: false,
+        ty: Ty::Int(Width::W64),
+        init: Const::Int(store.init),
+        persistent: true,
+        align: None,
+    })
 }
 
-/// The store, and directly after it the flush and the fence.
-fn put_flushed_store<S: Sink>(before: Put, out: &mut S, store: OneStore<'_>) -> Put
-    ensures { Writes before result (S.state out.old) (S.state out.new) (store_line store.entry.value store.entry.target.now ++ inserted_lines store.entry.target.now) }
+fn store_instr(alloc: Global, store: OneStore<'_>) -> Result<Instr, NoMemory>
+    ensures { IfOk result (λ instr. instr ≡ store_part (seen_one_store store.entry)) }
 {
-    let put = put_store(before, out, store.value, store.target);
-    put_inserted(put, out, store.target)
+    Ok(Instr::Store {
+        ty: Scalar::Int(Width::W64),
+        value: Operand::Fixed(Const::Int(store.value)),
+        addr: address(alloc, store.target)?,
+        align: None,
+    })
 }
 
-/// The program without a repair.
-fn put_plain<S: Sink>(out: &mut S, store: OneStore<'_>) -> Put
-    ensures { Writes Put.Done result (S.state out.old) (S.state out.new) (plain_text (seen_one_store store.entry)) }
+fn end(store: OneStore<'_>) -> End
+    ensures { result ≡ end_part (seen_one_store store.entry) }
 {
-    let put = put_global(Put::Done, out, store.global, store.init);
-    let put = put_head(put, out, store.function, store.label);
-    let put = put_store(put, out, store.value, store.target);
-    put_last(put, out, store.code)
+    End::Ret(Some(Arg {
+        ty: Scalar::Int(Width::W32),
+        value: Operand::Fixed(Const::Int(store.code)),
+    }))
 }
 
-/// The program with a flush and a fence after its store.
-fn put_flushed<S: Sink>(out: &mut S, store: OneStore<'_>) -> Put
-    ensures { Writes Put.Done result (S.state out.old) (S.state out.new) (flushed_text (seen_one_store store.entry)) }
+/// The store, and directly after it the instructions that are inserted.
+fn body(
+    alloc: Global,
+    store: OneStore<'_>,
+    inserted: Row<Instr>,
+) -> Result<Row<Instr>, NoMemory>
+    ensures { IfOk result (λ body. body ≡ store_part (seen_one_store store.entry) ∷ inserted) }
 {
-    let put = put_global(Put::Done, out, store.global, store.init);
-    let put = put_after(
-        put,
-        out,
-        b"declare void @llvm.x86.clwb(ptr)\ndeclare void @llvm.x86.sse.sfence()\n",
-    );
-    let put = put_head(put, out, store.function, store.label);
-    let put = put_flushed_store(put, out, store);
-    put_last(put, out, store.code)
+    let mut body = one(alloc, store_instr(alloc, store)?)?;
+    body.append(inserted)?;
+    Ok(body)
 }
 
-/// The canonical text of the repaired program.
-pub(crate) fn put_repaired<S: Sink>(out: &mut S, store: OneStore<'_>, plan: &Plan) -> Put
-    ensures { Writes Put.Done result (S.state out.old) (S.state out.new) (show (tree_by plan.now.flush_after (seen_one_store store.entry))) }
+fn block(
+    alloc: Global,
+    store: OneStore<'_>,
+    inserted: Row<Instr>,
+) -> Result<Block, NoMemory>
+    ensures { IfOk result (λ block. block ≡ record { label = store.entry.label.now; phis = []; body = store_part (seen_one_store store.entry) ∷ inserted; end = end_part (seen_one_store store.entry) }) }
+{
+    Ok(Block {
+        label: Row::from_slice(alloc, store.label)?,
+        phis: Row::new(alloc),
+        body: body(alloc, store, inserted)?,
+        end: end(store),
+    })
+}
+
+fn function(
+    alloc: Global,
+    store: OneStore<'_>,
+    inserted: Row<Instr>,
+) -> Result<Function, NoMemory>
+    ensures { IfOk result (λ function. function ≡ function_part inserted (seen_one_store store.entry)) }
+{
+    Ok(Function {
+        ret: Some(Scalar::Int(Width::W32)),
+        name: Row::from_slice(alloc, store.function)?,
+        params: Row::new(alloc),
+        blocks: one(alloc, block(alloc, store, inserted)?)?,
+    })
+}
+
+/// The parts of the program, with more declarations, and more instructions directly after the store.
+fn tree(
+    alloc: Global,
+    store: OneStore<'_>,
+    externs: Row<Extern>,
+    inserted: Row<Instr>,
+) -> Result<Program, NoMemory>
+    ensures { IfOk result (λ program. program ≡ tree externs inserted (seen_one_store store.entry)) }
+{
+    Ok(Program {
+        globals: one(alloc, global(alloc, store)?)?,
+        externs,
+        functions: one(alloc, function(alloc, store, inserted)?)?,
+    })
+}
+
+fn flush_and_fence(alloc: Global, target: &[u8]) -> Result<Row<Instr>, NoMemory>
+    ensures { IfOk result (λ inserted. inserted ≡ flush_of target.now ∷ fence_instr ∷ []) }
+{
+    let mut inserted = one(alloc, flush_of(alloc, target)?)?;
+    inserted.push(fence(alloc)?)?;
+    Ok(inserted)
+}
+
+/// The program with the flush and the fence of the plan directly after its store, and their declarations.
+pub(crate) fn apply(
+    alloc: Global,
+    store: OneStore<'_>,
+    plan: &Plan,
+) -> Result<Program, NoMemory>
+    ensures { IfOk result (λ program. program ≡ tree_by plan.now.flush_after (seen_one_store store.entry)) }
 {
     match plan.flush_after.as_slice() {
-        [] => put_plain(out, store),
-        _ => put_flushed(out, store),
+        [] => tree(alloc, store, Row::new(alloc), Row::new(alloc)),
+        _ => tree(
+            alloc,
+            store,
+            declarations(alloc)?,
+            flush_and_fence(alloc, store.target)?,
+        ),
     }
 }

@@ -4,7 +4,7 @@ ghost use Rattle.std.specs.Prelude.{◌≡◌};
 ghost use Rattle.hip_tool.specs.Status.{code_of};
 
 use crate::misfit::MisfitKind;
-use crate::refusal::TypeRefusal;
+use hip_typing::TypeRefusal;
 use hip_parse::ParseRefusal;
 
 /// Which of the two files.

@@ -2,12 +2,15 @@ use crate::instr::{Arg, Instr, Operand};
 use hip_types::{Bits, Name, NoMemory, Row, Scalar, Structural, Width};
 use std::alloc::Global;
 
+/// What a phi instruction takes where control comes from one block.
 #[derive(Debug, Drop)]
 pub struct Edge {
     pub value: Operand,
+    /// The predecessor's label.
     pub label: Name,
 }
 
+/// A phi instruction, which chooses a value by the block that control comes from.
 #[derive(Debug, Drop)]
 pub struct Phi {
     pub dest: Name,
@@ -15,32 +18,40 @@ pub struct Phi {
     pub edges: Row<Edge>,
 }
 
+/// Where a switch goes at one value.
 #[derive(Debug, Drop)]
 pub struct Case {
     pub value: Bits,
     pub label: Name,
 }
 
+/// The instruction that ends a basic block.
 #[derive(Debug, Drop)]
 pub enum End {
+    /// A branch to a block.
     Br {
         label: Name,
     },
+    /// A branch to one of two blocks, by a value of type i1.
     CondBr {
         cond: Operand,
         yes: Name,
         no: Name,
     },
+    /// A branch to the block of the case with the value, else to `other`.
     Switch {
         width: Width,
         value: Operand,
         other: Name,
         cases: Row<Case>,
     },
+    /// The return from the function, with its result.
     Ret(Option<Arg>),
+    /// A place that control never reaches.
     Unreachable,
 }
 
+/// A basic block: its phi instructions, then its other instructions, then its end.
 #[derive(Debug, Drop)]
 pub struct Block {
     pub label: Name,

@@ -3,18 +3,23 @@ ghost use Rattle.std.specs.Prelude.{◌≡◌, ◌↔◌, IsTrue, IfOk};
 use hip_types::{Bits, Link, Name, NoMemory, Row, Structural, Ty, copy_ty, same_ty};
 use std::alloc::Global;
 
+/// A constant; the type beside it says which forms may stand there.
 #[cycle(constant)]
 #[derive(Debug, Drop)]
 pub enum Const {
     Int(Bits),
+    /// The pointer `null`.
     Null,
+    /// `zeroinitializer`, under any type.
     Zero,
+    /// The address of a global.
     Address(Name),
     Gep(Link<ConstGep>),
     Array(Row<TypedConst>),
     Struct(Row<TypedConst>),
 }
 
+/// A constant `getelementptr`: the address of an element.
 #[cycle(constant)]
 #[derive(Debug, Drop)]
 pub struct ConstGep {
@@ -24,6 +29,7 @@ pub struct ConstGep {
     pub indices: Row<Bits>,
 }
 
+/// A member of an aggregate constant.
 #[cycle(constant)]
 #[derive(Debug, Drop)]
 pub struct TypedConst {
@@ -31,6 +37,7 @@ pub struct TypedConst {
     pub value: Const,
 }
 
+/// A constant of its own that is equal to the given one.
 #[cycle(copy)]
 pub fn copy_const(alloc: Global, value: &Const) -> Result<Const, NoMemory>
     ensures { IfOk result (λ c. c ≡ value.now) }
@@ -73,12 +80,14 @@ fn copy_items(alloc: Global, items: &[TypedConst]) -> Result<Row<TypedConst>, No
     ensures { IfOk result (λ all. all ≡ items.now) }
 {
     let mut copies = Row::new(alloc);
+    copies.reserve(items.len())?;
     for item in items {
         copies.push(copy_typed(alloc, item)?)?;
     }
     Ok(copies)
 }
 
+/// Whether two constants are equal.
 #[cycle(same)]
 pub fn same_const(a: &Const, b: &Const) -> bool
     ensures { IsTrue result ↔ (a.now ≡ b.now) }

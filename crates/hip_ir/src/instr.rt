@@ -2,18 +2,21 @@ use crate::constant::Const;
 use hip_types::{BinaryOp, CastOp, Name, NoMemory, Pred, Row, Scalar, Structural, Ty, Width};
 use std::alloc::Global;
 
+/// A value that an instruction takes: a register's or a constant.
 #[derive(Debug, Drop)]
 pub enum Operand {
     Reg(Name),
     Fixed(Const),
 }
 
+/// An operand with its type.
 #[derive(Debug, Drop)]
 pub struct Arg {
     pub ty: Scalar,
     pub value: Operand,
 }
 
+/// The flags of an operation on integers, which change no value.
 #[derive(Clone, Copy, Debug, PartialEq, Eq)]
 pub struct Flags {
     pub nuw: bool,
@@ -21,6 +24,8 @@ pub struct Flags {
     pub exact: bool,
 }
 
+/// An instruction that neither stands at the head of a block nor ends it. `dest` is the register that
+/// it assigns, `align` the alignment that is written, in bytes.
 #[derive(Debug, Drop)]
 pub enum Instr {
     Binary {

@@ -5,38 +5,49 @@ use crate::constant::Const;
 use hip_types::{Name, NoMemory, Row, Scalar, Structural, Ty};
 use std::alloc::Global;
 
+/// A global variable.
 #[derive(Debug, Drop)]
 pub struct GlobalVar {
     pub name: Name,
     /// Whether it is a `constant`.
     pub fixed: bool,
     pub ty: Ty,
+    /// Its initial value.
     pub init: Const,
+    /// Whether it lies in persistent memory, as `section ".pm"` says.
     pub persistent: bool,
+    /// The alignment that is written, in bytes.
     pub align: Option<u64>,
 }
 
+/// A declared function, which the machine knows by its name.
 #[derive(Debug, Drop)]
 pub struct Extern {
+    /// The type of its result; none for `void`.
     pub ret: Option<Scalar>,
     pub name: Name,
     pub params: Row<Scalar>,
 }
 
+/// A parameter of a function.
 #[derive(Debug, Drop)]
 pub struct Param {
     pub ty: Scalar,
     pub name: Name,
 }
 
+/// A function with its basic blocks.
 #[derive(Debug, Drop)]
 pub struct Function {
+    /// The type of its result; none for `void`.
     pub ret: Option<Scalar>,
     pub name: Name,
     pub params: Row<Param>,
+    /// The first one is the entry block.
     pub blocks: Row<Block>,
 }
 
+/// A program: its globals, declared functions and functions, each in the order of the text.
 #[derive(Debug, Drop)]
 pub struct Program {
     pub globals: Row<GlobalVar>,
@@ -111,6 +122,7 @@ impl Structural for Function {
     }
 }
 
+/// A program of its own that is equal to the given one.
 pub fn copy(alloc: Global, program: &Program) -> Result<Program, NoMemory>
     ensures { IfOk result (λ p. p ≡ program.now) }
 {
@@ -121,6 +133,7 @@ pub fn copy(alloc: Global, program: &Program) -> Result<Program, NoMemory>
     })
 }
 
+/// Whether two programs are equal.
 pub fn same(a: &Program, b: &Program) -> bool
     ensures { IsTrue result ↔ (a.now ≡ b.now) }
 {

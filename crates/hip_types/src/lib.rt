@@ -1,4 +1,4 @@
-//! Lists, numbers' types, types and their layout.
+//! Lists, the types of numbers, and the types of values with their layout.
 #![tactic(auto)]
 
 mod layout;
@@ -10,7 +10,7 @@ mod structural;
 mod text;
 mod ty;
 
-pub use layout::{align, field_offset, fits, gep_offset, size};
+pub use layout::{FieldPlace, align, field_offset, field_place, fits, gep_offset, size};
 pub use link::Link;
 pub use memory::NoMemory;
 pub use number::{BinaryOp, Bits, CastOp, Pred, Scalar, Width};
@@ -18,3 +18,6 @@ pub use row::{Name, Row};
 pub use structural::Structural;
 pub use text::Text;
 pub use ty::{Ty, copy_ty, same_ty};
+
+#[cfg(test)]
+mod tests;

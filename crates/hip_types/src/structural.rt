@@ -6,11 +6,13 @@ use crate::row::Row;
 use crate::ty::{Ty, copy_ty, same_ty};
 use std::alloc::Global;
 
-/// A type whose values can be copied and compared.
+/// A type whose values contracts compare by their structure.
 pub trait Structural: Drop {
+    /// A value of its own that is equal to this one.
     fn copy(&self, alloc: Global) -> Result<Self, NoMemory>
         ensures { IfOk result (λ t. t ≡ self.now) };
 
+    /// Whether two values are equal.
     fn same(&self, other: &Self) -> bool
         ensures { IsTrue result ↔ (self.now ≡ other.now) };
 }
@@ -115,6 +117,7 @@ impl<T: Structural> Structural for Option<T> {
 impl<T: Structural> Structural for Row<T> {
     fn copy(&self, alloc: Global) -> Result<Row<T>, NoMemory> {
         let mut copies = Row::new(alloc);
+        copies.reserve(self.len())?;
         for item in self.as_slice() {
             copies.push(item.copy(alloc)?)?;
         }

@@ -6,14 +6,19 @@ use crate::number::{Scalar, Width};
 use crate::row::Row;
 use std::alloc::Global;
 
+/// The type of a value in memory.
 #[derive(Debug, Drop)]
 pub enum Ty {
     Int(Width),
+    /// A pointer, of 64 bits.
     Ptr,
+    /// So many elements of one type, one after another.
     Array(u64, Link<Ty>),
+    /// Fields in order, each at the next multiple of its alignment.
     Struct(Row<Ty>),
 }
 
+/// A type of its own that is equal to the given one.
 #[cycle(copy)]
 pub fn copy_ty(alloc: Global, ty: &Ty) -> Result<Ty, NoMemory>
     ensures { IfOk result (λ t. t ≡ ty.now) }
@@ -34,12 +39,14 @@ fn copy_fields(alloc: Global, fields: &[Ty]) -> Result<Row<Ty>, NoMemory>
     ensures { IfOk result (λ all. all ≡ fields.now) }
 {
     let mut copies = Row::new(alloc);
+    copies.reserve(fields.len())?;
     for field in fields {
         copies.push(copy_ty(alloc, field)?)?;
     }
     Ok(copies)
 }
 
+/// Whether two types are equal.
 #[cycle(same)]
 pub fn same_ty(a: &Ty, b: &Ty) -> bool
     ensures { IsTrue result ↔ (a.now ≡ b.now) }

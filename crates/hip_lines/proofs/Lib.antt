@@ -1,0 +1,6 @@
+pub mod Marks
+pub mod KeptSteps
+pub mod Listed
+pub mod Tables
+pub mod Helds
+pub mod LooseRest

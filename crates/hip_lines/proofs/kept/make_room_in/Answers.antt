@@ -1,0 +1,36 @@
+use Rattle.std.proofs.Common.{◌≡◌, ◌∙◌, ◌<◌, ◌≤◌, ◌⊎◌, inl, inr, ℕ, ◌+◌, ◌/◌, ap, subst, arith, length}
+use Rattle.hip_lines.specs.Kept.{HasRoomAt}
+use Rattle.hip_lines.proofs.Listed.{length-listed}
+use Rattle.hip_lines.proofs.kept.make_room_in.Goals as goal
+
+pub make_room_at-requires : goal.make_room_at-requires
+make_room_at-requires c = omega (arith, ap length c.loop-line.invariant.1, c.loop-line.invariant.2, length-listed c.args.flushed.now.items c.args.queues.now c.requires.listed)
+
+pub returns-in_err-make_room_at-clause-below : goal.returns-in_err-make_room_at-clause-below
+returns-in_err-make_room_at-clause-below c = λ n h b.
+    let lt : c.loop-line.line < n = omega (arith, c.loop-line-test.true) in
+    c.make_room_at.ensures.below n lt (c.loop-line.invariant.0.below n (omega (arith, lt)) b)
+
+pub loop-line-preserved : goal.loop-line-preserved
+loop-line-preserved c = (
+  record {
+    same = λ j. c.make_room_at.ensures.same j ∙ c.loop-line.invariant.0.same j;
+    kept = λ j h. c.make_room_at.ensures.kept j (c.loop-line.invariant.0.kept j h);
+    room = λ j from to. go j from (split j to);
+    numbered = λ h. c.make_room_at.ensures.numbered (c.loop-line.invariant.0.numbered h);
+    below = λ n h b. c.make_room_at.ensures.below n (omega (arith, h)) (c.loop-line.invariant.0.below n (omega (arith, h)) b);
+  },
+  c.make_room_at.ensures.flushed ∙ c.loop-line.invariant.1,
+  omega (arith, c.make_room_at.ensures.len, c.loop-line.invariant.2),
+  λ h. c.make_room_at.ensures.spare (c.loop-line.invariant.3 h),
+)
+  where
+    split : (j : ℕ) → j < c.loop-line.line + 1 → (j < c.loop-line.line) ⊎ (c.loop-line.line ≡ j)
+    split j h = grind arith
+
+    go : (j : ℕ) → c.args.offset / 64 ≤ j → (j < c.loop-line.line) ⊎ (c.loop-line.line ≡ j) → HasRoomAt c.make_room_at.new.queues j
+    go j from (inl lt) = c.make_room_at.ensures.kept j (c.loop-line.invariant.0.room j from lt)
+    go j from (inr e) = subst (HasRoomAt c.make_room_at.new.queues) e c.in_ok-make_room_at.ensures.ok
+
+pub returns-clause-below : goal.returns-clause-below
+returns-clause-below c = λ n h b. c.loop-line.invariant.0.below n (omega (arith, c.loop-line-test.false, c.loop-line.auto.line-end, h, c.requires.some)) b

@@ -1,0 +1,33 @@
+use Rattle.std.proofs.Common.{arith, ap, ◌∙◌}
+use Rattle.hip_lines.specs.Parts.{Held}
+use Rattle.hip_lines.proofs.Helds.{held-length, lines-same, listed-same}
+use Rattle.hip_lines.proofs.lines.Lines.make_room.Goals as goal
+
+pub make_room_in-requires-clause-fits : goal.make_room_in-requires-clause-fits
+make_room_in-requires-clause-fits c = omega (arith, c.self.invariant.small, c.requires.within, held-length c.self.inside.count c.self.inside.queues _ (ap (λ (h : Held). h.lines) c.self.view_is))
+
+pub invariant_of-self : goal.invariant_of-self
+invariant_of-self c = record {
+  small = c.self.invariant.small;
+  numbered = c.make_room_in.ensures.numbered c.self.invariant.numbered;
+  below = c.make_room_in.ensures.below c.self.inside.count (omega (arith, c.requires.within, held-length c.self.inside.count c.self.inside.queues _ (ap (λ (h : Held). h.lines) c.self.view_is))) c.self.invariant.below;
+  flushed = listed-same _ _ c.self.inside.queues c.make_room_in.new.queues c.make_room_in.ensures.flushed c.make_room_in.ensures.same c.self.invariant.flushed;
+  spare = c.make_room_in.ensures.spare c.self.invariant.spare;
+  room = tt;
+}
+
+pub returns-in_err-make_room_in-clause-lines : goal.returns-in_err-make_room_in-clause-lines
+returns-in_err-make_room_in-clause-lines c = lines-same c.self.inside.count c.self.inside.queues c.make_room_in.new.queues c.make_room_in.ensures.same ∙ ap (λ (h : Held). h.lines) c.self.view_is
+
+pub invariant_of-self-2 : goal.invariant_of-self-2
+invariant_of-self-2 c = record {
+  small = c.self.invariant.small;
+  numbered = c.make_room_in.ensures.numbered c.self.invariant.numbered;
+  below = c.make_room_in.ensures.below c.self.inside.count (omega (arith, c.requires.within, held-length c.self.inside.count c.self.inside.queues _ (ap (λ (h : Held). h.lines) c.self.view_is))) c.self.invariant.below;
+  flushed = listed-same _ _ c.self.inside.queues c.make_room_in.new.queues c.make_room_in.ensures.flushed c.make_room_in.ensures.same c.self.invariant.flushed;
+  spare = c.make_room_in.ensures.spare c.self.invariant.spare;
+  room = c.in_ok-make_room_in.ensures.ok;
+}
+
+pub returns-clause-lines : goal.returns-clause-lines
+returns-clause-lines c = lines-same c.self.inside.count c.self.inside.queues c.make_room_in.new.queues c.make_room_in.ensures.same ∙ ap (λ (h : Held). h.lines) c.self.view_is

@@ -1,0 +1,53 @@
+-- The queues of the lines that hold something, by line number.
+use Rattle.std.specs.Prelude.{◌≡◌, ◌≢◌, ℕ, ◌<◌, ◌≤◌, ◌<◌, true, nat_lt, List, Option, Some, None, IsSome}
+use Rattle.std.specs.List.{list_any, IsDistinct}
+use Rattle.std.specs.Ordering.{nat_cmp, eq_by_cmp}
+use Rattle.std.specs.BTreeMap.{BTreeMap, get, is_at, btree_map_len}
+use Rattle.hip_lines.specs.Line.{has_bytes}
+use Rattle.hip_lines.specs.Pending.{Pending, none_pending}
+use Rattle.hip_lines.specs.declared.part.Part.{Part}
+use Rattle.hip_lines.specs.declared.queue.Queue.{Queue}
+use Rattle.hip_lines.specs.Queues.{pending_in, HasRoom}
+
+abbrev pub Queues : Type 0
+Queues = BTreeMap ℕ Queue
+
+-- a line without a queue holds nothing
+abbrev pub pending_by : Option Queue → Pending Part
+pending_by None = none_pending
+pending_by (Some q) = pending_in q
+
+abbrev pub pending_at : Queues → ℕ → Pending Part
+pending_at m j = pending_by (get nat_cmp m j)
+
+abbrev pub HasRoomBy : Option Queue → Type 0
+HasRoomBy None = ⊥
+HasRoomBy (Some q) = HasRoom q
+
+abbrev pub HasRoomAt : Queues → ℕ → Type 0
+HasRoomAt m j = HasRoomBy (get nat_cmp m j)
+
+-- room for the parts of a store, if there is one
+abbrev pub HasRoomFor : Queues → Option (ℕ × ℕ) → Type 0
+HasRoomFor m None = Unit {0}
+HasRoomFor m (Some (o, n)) = (j : ℕ) → has_bytes j o n ≡ true → HasRoomAt m j
+
+-- each queue stands at its line's number
+abbrev pub AreNumbered : Queues → Type 0
+AreNumbered m = (j : ℕ) (q : Queue) → get nat_cmp m j ≡ Some q → q.line ≡ j
+
+abbrev pub AreBelow : ℕ → Queues → Type 0
+AreBelow n m = (j : ℕ) → IsSome (get nat_cmp m j) → j < n
+
+-- the list has the lines that hold flushed parts, each once
+pub record ListsFlushed (lines : List ℕ) (m : Queues) : Type 0 where
+  pub distinct : IsDistinct (eq_by_cmp nat_cmp) lines
+  pub listed : (j : ℕ) → list_any (is_at (nat_cmp j)) lines ≡ nat_lt 0 (pending_at m j).flushed
+
+-- the line's pending parts are changed, and nothing else is
+pub record ChangesLine (change : Pending Part → Pending Part) (line : ℕ) (old new : Queues) : Type 0 where
+  pub here : pending_at new line ≡ change (pending_at old line)
+  pub others : (j : ℕ) → j ≢ line → get nat_cmp new j ≡ get nat_cmp old j
+  pub numbered : AreNumbered old → AreNumbered new
+  pub below : (n : ℕ) → AreBelow n old → AreBelow n new
+  pub len : btree_map_len new ≤ btree_map_len old

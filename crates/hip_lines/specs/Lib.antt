@@ -1,0 +1,14 @@
+pub mod Line
+pub mod Loose
+pub mod Image
+pub mod Pending
+pub mod Parts
+pub mod Queues
+pub mod Kept
+pub mod Views
+pub mod Next
+pub mod Rest
+pub mod LineLaws
+pub mod LooseLaws
+pub mod ImageLaws
+pub mod PendingLaws

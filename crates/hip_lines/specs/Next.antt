@@ -1,0 +1,38 @@
+-- The loose bytes of a range, by the queues of its lines.
+use Rattle.std.specs.Prelude.{◌≡◌, ℕ, zero, suc, ◌+◌, ◌*◌, ◌/◌, ◌<◌, ◌≤◌, List, [], ◌++◌, Option, Some, None, option_to_list}
+use Rattle.std.specs.Ordering.{nat_cmp}
+use Rattle.std.specs.BTreeMap.{get}
+use Rattle.hip_lines.specs.declared.part.Part.{Part}
+use Rattle.hip_lines.specs.declared.part.LooseByte.{LooseByte}
+use Rattle.hip_lines.specs.declared.queue.Queue.{Queue}
+use Rattle.hip_lines.specs.Pending.{Pending}
+use Rattle.hip_lines.specs.Parts.{loose_in}
+use Rattle.hip_lines.specs.Kept.{Queues, pending_at}
+
+-- no byte from `from` up to `to` is loose
+abbrev pub NoneLoose : Pending Part → ℕ → ℕ → Type 0
+NoneLoose w from to = (b : ℕ) → from ≤ b → b < to → loose_in w b ≡ None
+
+-- the first loose byte from `from` up to `to`, if there is one
+abbrev pub IsFirstLoose : Pending Part → ℕ → ℕ → Option LooseByte → Type 0
+IsFirstLoose w from to None = NoneLoose w from to
+IsFirstLoose w from to (Some f) = (from ≤ f.offset) × (f.offset < to) × (loose_in w f.offset ≡ Some f) × NoneLoose w from f.offset
+
+-- the loose bytes of the n bytes from offset o, ascending
+abbrev pub loose_of : Queues → ℕ → ℕ → List LooseByte
+loose_of m o zero = []
+loose_of m o (suc n) = option_to_list (loose_in (pending_at m (o / 64)) o) ++ loose_of m (suc o) n
+
+-- no line from `from` up to `to` has a queue
+abbrev pub NoQueues : Queues → ℕ → ℕ → Type 0
+NoQueues m from to = (j : ℕ) → from ≤ j → j < to → get nat_cmp m j ≡ None
+
+-- the first queue at a line or after it
+abbrev pub IsQueueFrom : Queues → ℕ → Option Queue → Type 0
+IsQueueFrom m line None = (j : ℕ) → line ≤ j → get nat_cmp m j ≡ None
+IsQueueFrom m line (Some q) = (get nat_cmp m q.line ≡ Some q) × (line ≤ q.line) × NoQueues m line q.line
+
+-- the queue of the line at whose bytes a search stands, or of the next one that has a queue
+abbrev pub IsNextQueue : Queues → ℕ → Option Queue → Type 0
+IsNextQueue m at None = (j : ℕ) → at / 64 ≤ j → get nat_cmp m j ≡ None
+IsNextQueue m at (Some q) = (get nat_cmp m q.line ≡ Some q) × (at ≤ 64 * q.line + 64) × NoQueues m (at / 64) q.line

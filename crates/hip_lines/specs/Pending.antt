@@ -1,0 +1,23 @@
+-- What is kept of a line where durable parts are let go: the parts from the durable number on, and how many of these are flushed.
+use Rattle.std.specs.Prelude.{ℕ, ◌-◌, List, [], ◌∷◌, ◌++◌, length, drop}
+use Rattle.hip_lines.specs.Line.{Line}
+
+pub record Pending (P : Type 0) : Type 0 where
+  pub parts : List P
+  pub flushed : ℕ
+
+-- what is kept of a line
+abbrev pub pending_of : {P : Type 0} → Line P → Pending P
+pending_of l = record { parts = drop l.durable l.parts; flushed = l.flushed - l.durable }
+
+abbrev pub none_pending : {P : Type 0} → Pending P
+none_pending = record { parts = []; flushed = 0 }
+
+abbrev pub pending_with : {P : Type 0} → P → Pending P → Pending P
+pending_with x w = record { parts = w.parts ++ x ∷ []; flushed = w.flushed }
+
+abbrev pub pending_flushed : {P : Type 0} → Pending P → Pending P
+pending_flushed w = record { parts = w.parts; flushed = length w.parts }
+
+abbrev pub pending_fenced : {P : Type 0} → Pending P → Pending P
+pending_fenced w = record { parts = drop w.flushed w.parts; flushed = 0 }

@@ -1,0 +1,13 @@
+-- What the queue of a line stands for.
+use Rattle.std.specs.Prelude.{◌+◌, ◌<◌, ◌^◌, vec_len, vec_capacity}
+use Rattle.hip_lines.specs.declared.part.Part.{Part}
+use Rattle.hip_lines.specs.declared.queue.Queue.{Queue}
+use Rattle.hip_lines.specs.Pending.{Pending}
+
+abbrev pub pending_in : Queue → Pending Part
+pending_in q = record { parts = q.parts.items; flushed = q.flushed }
+
+-- one more part can be taken up without memory
+pub record HasRoom (q : Queue) : Type 0 where
+  pub capacity : vec_len q.parts < vec_capacity q.parts
+  pub numbers : vec_len q.parts + 1 < 2 ^ 32

@@ -1,0 +1,27 @@
+-- What the lines of a region stand for.
+use Rattle.std.specs.Prelude.{ℕ, zero, suc, ◌≤◌, ◌^◌, List, [], ◌∷◌, vec_capacity}
+use Rattle.std.specs.BTreeMap.{btree_map_len}
+use Rattle.hip_lines.specs.Pending.{Pending}
+use Rattle.hip_lines.specs.Parts.{Held}
+use Rattle.hip_lines.specs.Kept.{Queues, pending_at, HasRoomFor, AreNumbered, AreBelow, ListsFlushed}
+use Rattle.hip_lines.specs.declared.part.Part.{Part}
+use Rattle.hip_lines.specs.declared.lines.Lines.TheInside.{Inside}
+
+-- the values of f at the n numbers from j
+abbrev pub table_from : {A : Type 0} → (ℕ → A) → ℕ → ℕ → List A
+table_from f j zero = []
+table_from f j (suc n) = f j ∷ table_from f (suc j) n
+
+unfoldable pub lines_of : ℕ → Queues → List (Pending Part)
+lines_of n m = table_from (pending_at m) 0 n
+
+abbrev pub held_of : Inside → Held
+held_of s = record { lines = lines_of s.count s.queues; room = s.room }
+
+pub record IsKept (s : Inside) : Type 0 where
+  pub small : s.count ≤ 2 ^ 20
+  pub numbered : AreNumbered s.queues
+  pub below : AreBelow s.count s.queues
+  pub flushed : ListsFlushed s.flushed.items s.queues
+  pub spare : btree_map_len s.queues ≤ vec_capacity s.flushed
+  pub room : HasRoomFor s.queues s.room

@@ -1,0 +1,15 @@
+//! The store queues of the cache lines of a persistent region.
+#![tactic(auto)]
+
+mod kept;
+mod lines;
+mod loose;
+mod part;
+mod queue;
+
+pub use lines::Lines;
+pub use loose::NotDurable;
+pub use part::{LooseByte, Part};
+
+#[cfg(test)]
+mod tests;

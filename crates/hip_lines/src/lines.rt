@@ -1,0 +1,131 @@
+ghost use Rattle.std.specs.Prelude.{◌≡◌, ℕ, ◌+◌, ◌*◌, ◌/◌, ◌%◌, ◌<◌, ◌≤◌, length, IfOk, IsOk, OnOk, OnErr, Some, None};
+ghost use Rattle.hip_lines.specs.Parts.{pending_stored, pending_flushed_all, pending_fenced_all, none_pending_all, loose_from, KeepsRoom};
+
+use crate::kept::{ensure_room, fence_in, flush_at, make_room_in, push_in};
+use crate::loose::NotDurable;
+use crate::queue::{LINE, Queue};
+use hip_types::NoMemory;
+use std::alloc::Global;
+use std::collections::BTreeMap;
+use std::marker::Model;
+
+/// The lines of a region, which contracts see as the pending parts of each and the room that was made.
+#[derive(Drop)]
+pub struct Lines {
+    alloc: Global,
+    count: u64,
+    // The queues of the lines that hold something, by line number.
+    queues: BTreeMap<u64, Queue>,
+    // The lines that hold flushed parts, each once, with room for every line that has a queue.
+    flushed: Vec<u64>,
+    room: Option<(u64, u32)>,
+}
+
+impl Model for Lines {
+    ghost use Rattle.hip_lines.specs.Parts.{Held};
+
+    ghost Value = { Held };
+
+    ghost use Rattle.hip_lines.specs.Views.{held_of, IsKept};
+
+    ghost view = { held_of };
+
+    ghost invariant = { IsKept };
+}
+
+impl Lines {
+    /// The lines of a region of so many bytes, into which nothing was stored.
+    pub fn new(alloc: Global, size: u64) -> Result<Lines, NoMemory>
+        requires whole { size % 64 ≡ 0 }
+        requires small { size ≤ 67108864 }
+        ensures lines { IfOk result (λ lines. lines.lines ≡ none_pending_all (size / 64)) }
+        ensures length { IfOk result (λ lines. length lines.lines ≡ size / 64) }
+        ensures room { IfOk result (λ lines. lines.room ≡ None) }
+    {
+        Ok(Lines {
+            alloc,
+            count: size / LINE,
+            queues: BTreeMap::new(alloc),
+            flushed: Vec::new(alloc),
+            room: None,
+        })
+    }
+
+    /// Makes room for the parts of a store, so that `note_store` of it takes no memory.
+    pub fn make_room(&mut self, offset: u64, size: u32) -> Result<(), NoMemory>
+        requires some { 0 < size }
+        requires few { size ≤ 8 }
+        requires within { offset + size ≤ 64 * length self.old.lines }
+        ensures lines { self.new.lines ≡ self.old.lines }
+        ensures ok { OnOk result (self.new.room ≡ Some (offset, size)) }
+        ensures err { OnErr result (self.new.room ≡ None) }
+    {
+        self.room = None;
+        make_room_in(
+            self.alloc,
+            &mut self.queues,
+            &mut self.flushed,
+            offset,
+            size,
+        )?;
+        self.room = Some((offset, size));
+        Ok(())
+    }
+
+    /// Notes the parts of a store, both or neither, each at the end of its line.
+    pub fn note_store(&mut self, offset: u64, size: u32, tag: u128) -> Result<(), NoMemory>
+        requires some { 0 < size }
+        requires few { size ≤ 8 }
+        requires within { offset + size ≤ 64 * length self.old.lines }
+        ensures ok { OnOk result (self.new.lines ≡ pending_stored offset size tag self.old.lines) }
+        ensures no_room { OnOk result (self.new.room ≡ None) }
+        ensures err { OnErr result (self.new ≡ self.old) }
+        ensures length { length self.new.lines ≡ length self.old.lines }
+        ensures ready { self.old.room ≡ Some (offset, size) → IsOk result }
+    {
+        ensure_room(
+            self.alloc,
+            &mut self.queues,
+            &mut self.flushed,
+            self.room,
+            offset,
+            size,
+        )?;
+        self.room = None;
+        push_in(&mut self.queues, offset, size, tag);
+        Ok(())
+    }
+
+    /// Flushes the line that contains the offset.
+    pub fn flush(&mut self, offset: u64)
+        requires { offset < 64 * length self.old.lines }
+        ensures lines { self.new.lines ≡ pending_flushed_all offset 1 self.old.lines }
+        ensures length { length self.new.lines ≡ length self.old.lines }
+        ensures room { KeepsRoom self.old self.new }
+    {
+        if flush_at(&mut self.queues, &mut self.flushed, offset / LINE) {
+            self.room = None;
+        }
+    }
+
+    /// Makes all flushed parts durable.
+    pub fn fence(&mut self)
+        ensures lines { self.new.lines ≡ pending_fenced_all self.old.lines }
+        ensures length { length self.new.lines ≡ length self.old.lines }
+        ensures room { KeepsRoom self.old self.new }
+    {
+        if !self.flushed.is_empty() {
+            fence_in(&mut self.queues, self.flushed.as_slice());
+            self.flushed.clear();
+            self.room = None;
+        }
+    }
+
+    /// The bytes of a range that are not durable, ascending, each by the last part over it.
+    pub fn not_durable(&self, from: u64, len: u64) -> NotDurable<'_>
+        requires { from + len ≤ 64 * length self.now.lines }
+        ensures { result ≡ loose_from self.now.lines from len }
+    {
+        NotDurable::new(&self.queues, from, len)
+    }
+}

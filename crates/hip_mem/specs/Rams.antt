@@ -1,0 +1,22 @@
+-- What a `Ram` shows.
+use Rattle.std.specs.Prelude.{◌≡◌, ℕ, ◌-◌, ◌%◌, ◌^◌, ◌≤◌, List}
+use Rattle.hip_mem.specs.declared.ram.Ram.TheInside.{Inside}
+use Rattle.hip_mem.specs.Memory.{volatile_start, stack_start, stack_end}
+use Rattle.hip_mem.specs.Areas.{Areas}
+use Rattle.hip_mem.specs.Pages.{Pages, page_bytes}
+
+-- the n bytes from an address on
+unfoldable pub area : Pages → ℕ → ℕ → List ℕ
+area m start n = page_bytes m start n
+
+abbrev pub areas_of : Inside → Areas
+areas_of s = record { base = s.base; volatile = area s.pages volatile_start s.volatile; stack = area s.pages stack_start (s.mark - stack_start); region = area s.pages s.base s.region }
+
+pub record IsRam (s : Inside) : Type 0 where
+  pub low : 2 ^ 32 ≤ s.base
+  pub high : s.base ≤ 2 ^ 46
+  pub aligned : s.base % 4096 ≡ 0
+  pub volatile : s.volatile ≤ 16777216
+  pub region : s.region ≤ 67108864
+  pub start : stack_start ≤ s.mark
+  pub end : s.mark ≤ stack_end

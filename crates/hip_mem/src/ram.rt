@@ -1,0 +1,231 @@
+ghost use Rattle.std.specs.Prelude.{◌≡◌, ℕ, ◌+◌, ◌-◌, ◌*◌, ◌/◌, ◌%◌, ◌^◌, ◌<◌, ◌≤◌, ◌↔◌, [], length, slice_index, IfOk, IfErr, OnOk, OnErr, Some, None, Err, IsTrue};
+ghost use Rattle.hip_mem.specs.Memory.{byte_written};
+ghost use Rattle.hip_mem.specs.Bytes.{little_endian};
+ghost use Rattle.hip_mem.specs.Pages.{page_byte, page_bytes};
+
+use crate::page::Page;
+use crate::pages::{clear, fill, read, write};
+use crate::refusal::{MemTrap, PushRefusal, StoreRefusal};
+use hip_types::NoMemory;
+use std::alloc::Global;
+use std::collections::BTreeMap;
+use std::marker::Model;
+
+const VOLATILE_START: u64 = 65_536;
+
+const STACK_START: u64 = 268_435_456;
+
+const STACK_END: u64 = 285_212_672;
+
+/// The bytes of a machine, which contracts see as the three areas of valid bytes.
+#[derive(Drop)]
+pub struct Ram {
+    alloc: Global,
+    base: u64,
+    // The numbers of bytes of the volatile globals and of the region.
+    volatile: u64,
+    region: u64,
+    mark: u64,
+    pages: BTreeMap<u64, Page>,
+}
+
+impl Model for Ram {
+    ghost use Rattle.hip_mem.specs.Areas.{Areas};
+
+    ghost Value = { Areas };
+
+    ghost use Rattle.hip_mem.specs.Rams.{areas_of, IsRam};
+
+    ghost view = { areas_of };
+
+    ghost invariant = { IsRam };
+}
+
+impl Ram {
+    ghost use Rattle.hip_mem.specs.Memory.{stack_start, stack_end};
+    ghost use Rattle.hip_mem.specs.Bytes.{bytes_of};
+    ghost use Rattle.hip_mem.specs.Areas.{IsLaidOut, mark_of, is_valid, are_valid, access_trap, loaded, after_write, block_address, pushed_mark, after_push, after_pop};
+
+    /// The initial bytes of the volatile globals and of the region, and an empty stack.
+    pub fn new(alloc: Global, base: u64, volatile: &[u8], region: &[u8]) -> Result<Ram, NoMemory>
+        requires low { 2 ^ 32 ≤ base }
+        requires high { base ≤ 2 ^ 46 }
+        requires aligned { base % 4096 ≡ 0 }
+        requires volatile { length volatile.now ≤ 16777216 }
+        requires region { length region.now ≤ 67108864 }
+        ensures { IfOk result (λ ram. ram ≡ record { base = base; volatile = volatile.now; stack = []; region = region.now }) }
+    {
+        let mut pages = BTreeMap::new(alloc);
+        fill(alloc, &mut pages, VOLATILE_START, volatile)?;
+        fill(alloc, &mut pages, base, region)?;
+        Ok(Ram {
+            alloc,
+            base,
+            volatile: volatile.len() as u64,
+            region: region.len() as u64,
+            mark: STACK_START,
+            pages,
+        })
+    }
+
+    /// The number of so many bytes, the lowest first.
+    pub fn load(&self, addr: u64, size: u32, align: u32) -> Result<u64, MemTrap>
+        requires some { 0 < size }
+        requires few { size ≤ 8 }
+        requires align { 0 < align }
+        ensures { result ≡ loaded self.now addr size align }
+    {
+        match self.access_trap(addr, size, align) {
+            Some(trap) => Err(trap),
+            None => Ok(number_at(&self.pages, addr, size as usize)),
+        }
+    }
+
+    /// Writes the low bytes of a number, the lowest first.
+    pub fn store(
+        &mut self,
+        addr: u64,
+        size: u32,
+        align: u32,
+        value: u64,
+    ) -> Result<(), StoreRefusal>
+        requires some { 0 < size }
+        requires few { size ≤ 8 }
+        requires align { 0 < align }
+        ensures ok { OnOk result ((access_trap self.old addr size align ≡ None) × (self.new ≡ after_write (record { addr = addr; bytes = bytes_of size value }) self.old)) }
+        ensures err { OnErr result (self.new ≡ self.old) }
+        ensures misaligned { (result ≡ Err StoreRefusal.Misaligned) ↔ (access_trap self.old addr size align ≡ Some MemTrap.Misaligned) }
+        ensures bad_address { (result ≡ Err StoreRefusal.BadAddress) ↔ (access_trap self.old addr size align ≡ Some MemTrap.BadAddress) }
+    {
+        match self.access_trap(addr, size, align) {
+            Some(MemTrap::Misaligned) => Err(StoreRefusal::Misaligned),
+            Some(MemTrap::BadAddress) => Err(StoreRefusal::BadAddress),
+            None => {
+                let bytes = value.to_le_bytes();
+                put(self.alloc, &mut self.pages, addr, &bytes[..size as usize])
+            }
+        }
+    }
+
+    /// Whether the byte is valid.
+    pub fn valid(&self, addr: u64) -> bool
+        ensures { result ≡ is_valid self.now addr }
+    {
+        self.are_valid(addr, 1)
+    }
+
+    /// The end of the stack's valid bytes.
+    pub fn mark(&self) -> u64
+        ensures value { result ≡ mark_of self.now }
+        ensures laid_out { IsLaidOut self.now }
+    {
+        self.mark
+    }
+
+    /// A block of so many bytes at the next multiple of an alignment: its address. The bytes from the old mark on are zeros.
+    pub fn push_stack(&mut self, size: u64, align: u64) -> Result<u64, PushRefusal>
+        requires { 0 < align }
+        ensures full { (result ≡ Err PushRefusal.StackFull) ↔ (stack_end < pushed_mark self.old size align) }
+        ensures block { IfOk result (λ block. block ≡ block_address self.old align) }
+        ensures ok { OnOk result (self.new ≡ after_push (pushed_mark self.old size align) self.old) }
+        ensures err { OnErr result (self.new ≡ self.old) }
+    {
+        let Some(block) = self.mark.checked_next_multiple_of(align) else {
+            return Err(PushRefusal::StackFull);
+        };
+        let Some(mark) = block.checked_add(size) else {
+            return Err(PushRefusal::StackFull);
+        };
+        if mark > STACK_END {
+            return Err(PushRefusal::StackFull);
+        }
+        clear(&mut self.pages, self.mark, mark);
+        self.mark = mark;
+        Ok(block)
+    }
+
+    /// Sets the mark back, from the stack's start to the current one.
+    pub fn pop_stack(&mut self, mark: u64)
+        requires low { stack_start ≤ mark }
+        requires high { mark ≤ mark_of self.old }
+        ensures { self.new ≡ after_pop mark self.old }
+    {
+        self.mark = mark;
+    }
+
+    // Why an access is refused, if it is.
+    fn access_trap(&self, addr: u64, size: u32, align: u32) -> Option<MemTrap>
+        requires some { 0 < size }
+        requires align { 0 < align }
+        ensures { result ≡ access_trap self.now addr size align }
+    {
+        if addr % align as u64 != 0 {
+            return Some(MemTrap::Misaligned);
+        }
+        if !self.are_valid(addr, size as u64) {
+            return Some(MemTrap::BadAddress);
+        }
+        None
+    }
+
+    fn are_valid(&self, addr: u64, size: u64) -> bool
+        requires { 0 < size }
+        ensures { result ≡ are_valid self.now addr size }
+    {
+        if lies_in(VOLATILE_START, self.volatile, addr, size) {
+            return true;
+        }
+        if lies_in(STACK_START, self.mark - STACK_START, addr, size) {
+            return true;
+        }
+        lies_in(self.base, self.region, addr, size)
+    }
+}
+
+// Whether a range lies in an area.
+fn lies_in(start: u64, len: u64, addr: u64, size: u64) -> bool
+    ensures { IsTrue result ↔ ((start ≤ addr) × (addr + size ≤ start + len)) }
+{
+    addr >= start && addr - start <= len && size <= len - (addr - start)
+}
+
+// The number of at most eight bytes, the lowest first.
+fn number_at(pages: &BTreeMap<u64, Page>, addr: u64, size: usize) -> u64
+    requires few { size ≤ 8 }
+    requires fits { addr + 8192 < 2 ^ 64 }
+    ensures { result ≡ little_endian (page_bytes pages.now addr size) }
+{
+    let mut bytes = [0u8; 8];
+    read_low(pages, addr, &mut bytes, size);
+    u64::from_le_bytes(bytes)
+}
+
+// Reads so many bytes, and leaves the others.
+fn read_low(pages: &BTreeMap<u64, Page>, addr: u64, into: &mut [u8], size: usize)
+    requires few { size ≤ length into.old }
+    requires small { size ≤ 8 }
+    requires fits { addr + 8192 < 2 ^ 64 }
+    ensures len { length into.new ≡ length into.old }
+    ensures low { (i : ℕ) → i < size → slice_index into.new i ≡ page_byte pages.now (addr + i) }
+    ensures high { (i : ℕ) → size ≤ i → slice_index into.new i ≡ slice_index into.old i }
+{
+    read(pages, addr, &mut into[..size]);
+}
+
+fn put(
+    alloc: Global,
+    pages: &mut BTreeMap<u64, Page>,
+    addr: u64,
+    bytes: &[u8],
+) -> Result<(), StoreRefusal>
+    requires few { length bytes.now ≤ 4096 }
+    requires fits { addr + 8192 < 2 ^ 64 }
+    ensures ok { OnOk result ((a : ℕ) → page_byte pages.new a ≡ byte_written (record { addr = addr; bytes = bytes.now }) a (page_byte pages.old a)) }
+    ensures err { OnErr result ((a : ℕ) → page_byte pages.new a ≡ page_byte pages.old a) }
+    ensures refusal { IfErr result (λ refusal. refusal ≡ StoreRefusal.NoMemory) }
+{
+    match write(alloc, pages, addr, bytes) {
+        Ok(()) => Ok(()),
+        Err(_) => Err(StoreRefusal::NoMemory),
+    }
+}

@@ -1,0 +1,28 @@
+/// Why a load was refused.
+#[derive(Clone, Copy, Debug, PartialEq, Eq)]
+pub enum MemTrap {
+    /// The address is no multiple of the access alignment.
+    Misaligned,
+    /// Some byte of the access is not valid.
+    BadAddress,
+}
+
+/// Why a store was refused.
+#[derive(Clone, Copy, Debug, PartialEq, Eq)]
+pub enum StoreRefusal {
+    /// The address is no multiple of the access alignment.
+    Misaligned,
+    /// Some byte of the access is not valid.
+    BadAddress,
+    /// No memory was left for a page.
+    NoMemory,
+}
+
+/// Why a stack block was refused.
+#[derive(Clone, Copy, Debug, PartialEq, Eq)]
+pub enum PushRefusal {
+    /// The new mark would pass the stack's end.
+    StackFull,
+    /// No memory was left.
+    NoMemory,
+}

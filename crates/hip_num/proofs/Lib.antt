@@ -1,0 +1,4 @@
+pub mod HexDigits
+pub mod Numerals
+pub mod Quotients
+pub mod Wraps

@@ -1,0 +1,5 @@
+pub mod Arithmetic
+pub mod Casts
+pub mod Comparisons
+pub mod Texts
+pub mod TextLaws

@@ -1,0 +1,7 @@
+use Rattle.std.proofs.Common.{◌≡◌, ◌++◌, take}
+use Rattle.hip_typing.specs.Seen.{seen}
+use Rattle.hip_typing.specs.Sound.{function_names}
+use Rattle.hip_typing.proofs.named.push_functions.Given as goal
+
+abbrev pub invariant-functions : goal.invariant-functions
+invariant-functions l = seen l.names ≡ seen l.initial.names ++ function_names (take l.number l.functions)

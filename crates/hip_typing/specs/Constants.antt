@@ -1,0 +1,132 @@
+-- Constants: the types and the names in them, and whether a constant has the shape of a type.
+use Rattle.std.specs.Prelude.{ℕ, ◌==◌, ◌&&◌, Bool, true, false, List, [], ◌∷◌, ◌++◌, length, Option, Some, None, slice_get}
+use Rattle.hip_types.specs.declared.number.Bits.{Bits}
+use Rattle.hip_types.specs.declared.ty.Ty.{Ty, out-Ty}
+use Rattle.hip_types.specs.declared.ty.Ty.TheOpen.{Ty-F}
+use Rattle.hip_types.specs.declared.ty.Ty.TheVariants.{Ptr}
+use Rattle.hip_types.specs.declared.number.Width.TheVariants.{W64}
+use Rattle.hip_types.specs.Numbers.{signed, wrapped}
+use Rattle.hip_ir.specs.declared.constant.Const.{Const}
+use Rattle.hip_ir.specs.declared.constant.Const.TheOpen.{Const-F, ConstGep-F, TypedConst-F}
+use Rattle.hip_ir.specs.declared.constant.ConstGep.{ConstGep}
+use Rattle.hip_ir.specs.declared.constant.TypedConst.{TypedConst}
+use Rattle.hip_ir.specs.declared.constant.Const.TheFolds.{fold-Const, fold-ConstGep, fold-TypedConst}
+use Rattle.hip_typing.specs.Types.{same_type, same_width, all_pass}
+
+abbrev pub joined : {A : Type 0} → List (List A) → List A
+joined [] = []
+joined (xs ∷ rest) = xs ++ joined rest
+
+-- the types that are written in a constant
+abbrev types_step : Const-F (List Ty) (List Ty) (List Ty) → List Ty
+types_step (Const-F.Gep types) = types
+types_step (Const-F.Array items) = joined items
+types_step (Const-F.Struct items) = joined items
+types_step _ = []
+
+abbrev gep_types_step : ConstGep-F (List Ty) (List Ty) (List Ty) → List Ty
+gep_types_step gep = gep.ty ∷ gep.base
+
+abbrev item_types_step : TypedConst-F (List Ty) (List Ty) (List Ty) → List Ty
+item_types_step item = item.ty ∷ item.value
+
+abbrev pub types_in : Const → List Ty
+types_in = fold-Const (List Ty) (List Ty) (List Ty) types_step gep_types_step item_types_step
+
+abbrev pub gep_types : ConstGep → List Ty
+gep_types = fold-ConstGep (List Ty) (List Ty) (List Ty) types_step gep_types_step item_types_step
+
+abbrev pub item_types : TypedConst → List Ty
+item_types = fold-TypedConst (List Ty) (List Ty) (List Ty) types_step gep_types_step item_types_step
+
+-- the names of globals in it
+abbrev names_step : Const-F (List (List ℕ)) (List (List ℕ)) (List (List ℕ)) → List (List ℕ)
+names_step (Const-F.Address name) = name ∷ []
+names_step (Const-F.Gep names) = names
+names_step (Const-F.Array items) = joined items
+names_step (Const-F.Struct items) = joined items
+names_step _ = []
+
+abbrev gep_names_step : ConstGep-F (List (List ℕ)) (List (List ℕ)) (List (List ℕ)) → List (List ℕ)
+gep_names_step gep = gep.base
+
+abbrev item_names_step : TypedConst-F (List (List ℕ)) (List (List ℕ)) (List (List ℕ)) → List (List ℕ)
+item_names_step item = item.value
+
+abbrev pub names_in : Const → List (List ℕ)
+names_in = fold-Const (List (List ℕ)) (List (List ℕ)) (List (List ℕ)) names_step gep_names_step item_names_step
+
+abbrev pub gep_names : ConstGep → List (List ℕ)
+gep_names = fold-ConstGep (List (List ℕ)) (List (List ℕ)) (List (List ℕ)) names_step gep_names_step item_names_step
+
+abbrev pub item_names : TypedConst → List (List ℕ)
+item_names = fold-TypedConst (List (List ℕ)) (List (List ℕ)) (List (List ℕ)) names_step gep_names_step item_names_step
+
+-- an index, sign-extended to 64 bits
+abbrev pub index_of : Bits → ℕ
+index_of b = wrapped W64 (signed b.width b.value)
+
+-- the type that an index enters: an array's element, or the field that it numbers
+abbrev pub entered : ℕ → Ty-F Ty → Option Ty
+entered i (Ty-F.Array n element) = Some element
+entered i (Ty-F.Struct fields) = slice_get fields i
+entered i _ = None
+
+abbrev pub goes_in : (Ty → Bool) → Option Ty → Bool
+goes_in rest None = false
+goes_in rest (Some t) = rest t
+
+-- each index enters an aggregate
+abbrev pub enters : List Bits → Ty → Bool
+enters [] t = true
+enters (i ∷ is) t = goes_in (enters is) (entered (index_of i) (out-Ty t))
+
+-- the first index steps over whole values, each further one enters
+abbrev pub path_exists : List Bits → Ty → Bool
+path_exists [] t = false
+path_exists (first ∷ further) t = enters further t
+
+abbrev pub all_have : List (Ty → Bool) → Ty → Bool
+all_have [] t = true
+all_have (item ∷ items) t = item t && all_have items t
+
+abbrev array_has : List (Ty → Bool) → Ty-F Ty → Bool
+array_has items (Ty-F.Array n t) = length items == n && all_have items t
+array_has items _ = false
+
+abbrev struct_has : List (Ty → Bool) → Ty-F Ty → Bool
+struct_has items (Ty-F.Struct ts) = all_pass items ts
+struct_has items _ = false
+
+abbrev is_int_of : Bits → Ty-F Ty → Bool
+is_int_of b (Ty-F.Int w) = same_width b.width w
+is_int_of b _ = false
+
+abbrev is_pointer : Ty-F Ty → Bool
+is_pointer Ty-F.Ptr = true
+is_pointer _ = false
+
+abbrev shape_step : Const-F (Ty → Bool) Bool (Ty → Bool) → Ty → Bool
+shape_step (Const-F.Int b) t = is_int_of b (out-Ty t)
+shape_step Const-F.Null t = is_pointer (out-Ty t)
+shape_step Const-F.Zero t = true
+shape_step (Const-F.Address name) t = is_pointer (out-Ty t)
+shape_step (Const-F.Gep path) t = is_pointer (out-Ty t) && path
+shape_step (Const-F.Array items) t = array_has items (out-Ty t)
+shape_step (Const-F.Struct items) t = struct_has items (out-Ty t)
+
+abbrev gep_shape : ConstGep-F (Ty → Bool) Bool (Ty → Bool) → Bool
+gep_shape gep = gep.base Ptr && path_exists gep.indices gep.ty
+
+abbrev item_shape : TypedConst-F (Ty → Bool) Bool (Ty → Bool) → Ty → Bool
+item_shape item t = same_type item.ty t && item.value t
+
+-- The lists of the constant have the type's lengths and member types, and its paths exist.
+abbrev pub has_shape : Const → Ty → Bool
+has_shape = fold-Const (Ty → Bool) Bool (Ty → Bool) shape_step gep_shape item_shape
+
+abbrev pub gep_is_sound : ConstGep → Bool
+gep_is_sound = fold-ConstGep (Ty → Bool) Bool (Ty → Bool) shape_step gep_shape item_shape
+
+abbrev pub item_has_shape : TypedConst → Ty → Bool
+item_has_shape = fold-TypedConst (Ty → Bool) Bool (Ty → Bool) shape_step gep_shape item_shape

@@ -1,0 +1,16 @@
+pub mod Addresses
+pub mod Answers
+pub mod Check
+pub mod CheckLaws
+pub mod Constants
+pub mod Equal
+pub mod Externs
+pub mod Names
+pub mod Paths
+pub mod Places
+pub mod Registers
+pub mod Seen
+pub mod Sound
+pub mod SoundLaws
+pub mod TypeLaws
+pub mod Types

@@ -1,0 +1,233 @@
+-- The rules of an instruction, a phi and a block's end, at their place.
+use Rattle.std.specs.Prelude.{ℕ, ◌&&◌, ◌||◌, not, nat_lt, nat_le, Bool, true, false, List, [], ◌∷◌, ◌++◌, map, All, Option, Some, None, is_some, slice_get, if◌then◌else◌}
+use Rattle.std.specs.List.{list_all, list_any}
+use Rattle.std.specs.Str.{bytes_eq}
+use Rattle.hip_types.specs.Layout.{Fits, shape}
+use Rattle.hip_types.specs.Widths.{bits_of}
+use Rattle.hip_types.specs.declared.number.CastOp.{CastOp}
+use Rattle.hip_types.specs.declared.number.CastOp.TheVariants as casts
+use Rattle.hip_types.specs.declared.number.Scalar.{Scalar}
+use Rattle.hip_types.specs.declared.number.Scalar.TheVariants as scalars
+use Rattle.hip_types.specs.declared.ty.Ty.{Ty, out-Ty}
+use Rattle.hip_types.specs.declared.ty.Ty.TheOpen.{Ty-F}
+use Rattle.hip_types.specs.declared.ty.Ty.TheVariants as types
+use Rattle.hip_ir.specs.declared.constant.Const.{Const, out-Const}
+use Rattle.hip_ir.specs.declared.constant.Const.TheOpen.{Const-F}
+use Rattle.hip_ir.specs.declared.constant.ConstGep.{ConstGep}
+use Rattle.hip_ir.specs.declared.constant.TypedConst.{TypedConst}
+use Rattle.hip_ir.specs.declared.instr.Arg.{Arg}
+use Rattle.hip_ir.specs.declared.instr.Instr.{Instr}
+use Rattle.hip_ir.specs.declared.instr.Instr.TheVariants.{Cast, Alloca, Gep, Call}
+use Rattle.hip_ir.specs.declared.instr.Operand.{Operand}
+use Rattle.hip_ir.specs.declared.instr.Operand.TheVariants.{Reg, Fixed}
+use Rattle.hip_ir.specs.declared.block.Block.{Block}
+use Rattle.hip_ir.specs.declared.block.Case.{Case}
+use Rattle.hip_ir.specs.declared.block.Edge.{Edge}
+use Rattle.hip_ir.specs.declared.block.End.{End}
+use Rattle.hip_ir.specs.declared.block.End.TheVariants.{Switch, Ret}
+use Rattle.hip_ir.specs.declared.block.Phi.{Phi}
+use Rattle.hip_ir.specs.declared.program.Extern.{Extern}
+use Rattle.hip_ir.specs.declared.program.Function.{Function}
+use Rattle.hip_ir.specs.declared.program.Program.{Program}
+use Rattle.hip_typing.specs.Check.{Check, asks, asks_true, and_then}
+use Rattle.hip_typing.specs.Constants.{goes_in, has_shape, index_of}
+use Rattle.hip_typing.specs.Equal.{same_bits, same_operand}
+use Rattle.hip_typing.specs.Externs.{Signature}
+use Rattle.hip_typing.specs.declared.fault.Fault.TheVariants as breaks
+use Rattle.hip_typing.specs.Names.{is_among}
+use Rattle.hip_typing.specs.Registers.{Register, Use, find_register, registers_of, instr_uses, end_uses, phi_uses, end_labels, used_registers, used_globals, used_types}
+use Rattle.hip_typing.specs.Types.{same_scalar, all_pass}
+use Rattle.hip_typing.specs.declared.fault.Place.{Place}
+
+-- ---- what can be called
+
+abbrev extern_of : List Extern → List ℕ → Option Signature
+extern_of [] name = None
+extern_of (e ∷ es) name = if bytes_eq e.name name then Some (record { ret = e.ret; params = e.params }) else extern_of es name
+
+abbrev function_of : List Function → List ℕ → Option Signature
+function_of [] name = None
+function_of (f ∷ fs) name = if bytes_eq f.name name then Some (record { ret = f.ret; params = map (λ p. p.ty) f.params }) else function_of fs name
+
+abbrev first_of : Option Signature → Option Signature → Option Signature
+first_of (Some s) other = Some s
+first_of None other = other
+
+-- the signature of the extern or function of that name
+abbrev pub callee_of : Program → List ℕ → Option Signature
+callee_of P name = first_of (extern_of P.externs name) (function_of P.functions name)
+
+-- ---- what a function's places refer to
+
+-- the program and the function that a place stands in, and the function's registers
+pub record Scope : Type 0 where
+  pub program : Program
+  pub function : Function
+  pub registers : List Register
+
+abbrev pub scope_of : Program → Function → Scope
+scope_of P f = record { program = P; function = f; registers = registers_of f }
+
+abbrev global_names : Scope → List (List ℕ)
+global_names s = map (λ g. g.name) s.program.globals
+
+abbrev labels : Scope → List (List ℕ)
+labels s = map (λ b. b.label) s.function.blocks
+
+abbrev are_among : List (List ℕ) → List (List ℕ) → Bool
+are_among known names = list_all (is_among known) names
+
+-- registers and globals that are named, exist
+abbrev uses_known : Scope → List Use → Bool
+uses_known s us = list_all (λ n. is_some (find_register s.registers n)) (used_registers us) && are_among (global_names s) (used_globals us)
+
+abbrev pub fits_test : Ty → Bool
+fits_test t = nat_le (shape t).largest 67108864 && nat_le (shape t).depth 32
+
+abbrev pub types_fit : List Ty → Place → Check
+types_fit ts place = asks (All Fits ts) (list_all fits_test ts) breaks.TooLarge place
+
+abbrev pub type_of : Scalar → Ty
+type_of (scalars.Int w) = types.Int w
+type_of scalars.Ptr = types.Ptr
+
+abbrev has_type : Scalar → Option (Option Scalar) → Bool
+has_type ty (Some (Some t)) = same_scalar t ty
+has_type ty _ = false
+
+-- a register has the type that its use states, a constant its shape
+abbrev use_agrees : List Register → Operand → Scalar → Bool
+use_agrees registers (Reg name) ty = has_type ty (find_register registers name)
+use_agrees registers (Fixed value) ty = has_shape value (type_of ty)
+
+abbrev uses_agree : Scope → List Use → Bool
+uses_agree s us = list_all (λ u. use_agrees s.registers u.operand u.ty) us
+
+-- ---- instructions
+
+abbrev widens : Scalar → Scalar → Bool
+widens (scalars.Int v) (scalars.Int w) = nat_lt (bits_of v) (bits_of w)
+widens _ _ = false
+
+abbrev is_integer : Scalar → Bool
+is_integer (scalars.Int w) = true
+is_integer scalars.Ptr = false
+
+-- `zext` and `sext` widen, `trunc` narrows, the other two go between pointers and integers
+abbrev cast_agrees : CastOp → Scalar → Scalar → Bool
+cast_agrees casts.Zext from to = widens from to
+cast_agrees casts.Sext from to = widens from to
+cast_agrees casts.Trunc from to = widens to from
+cast_agrees casts.Ptrtoint from to = not (is_integer from) && is_integer to
+cast_agrees casts.Inttoptr from to = is_integer from && not (is_integer to)
+
+abbrev literal_field : List Ty → Const-F Const ConstGep TypedConst → Option Ty
+literal_field fields (Const-F.Int b) = slice_get fields (index_of b)
+literal_field fields _ = None
+
+abbrev named_field : List Ty → Operand → Option Ty
+named_field fields (Reg name) = None
+named_field fields (Fixed value) = literal_field fields (out-Const value)
+
+-- the type that an index enters: an array's element, or the field that a literal names
+abbrev entered_by : Operand → Ty-F Ty → Option Ty
+entered_by index (Ty-F.Array n element) = Some element
+entered_by index (Ty-F.Struct fields) = named_field fields index
+entered_by index _ = None
+
+abbrev args_enter : List Arg → Ty → Bool
+args_enter [] t = true
+args_enter (index ∷ indices) t = goes_in (args_enter indices) (entered_by index.value (out-Ty t))
+
+abbrev gep_agrees : List Arg → Ty → Bool
+gep_agrees [] t = false
+gep_agrees (first ∷ indices) t = args_enter indices t
+
+abbrev same_result : Option Scalar → Option Scalar → Bool
+same_result None None = true
+same_result (Some a) (Some b) = same_scalar a b
+same_result _ _ = false
+
+abbrev signature_agrees : Option Scalar → List Arg → Option Signature → Bool
+signature_agrees ret args None = false
+signature_agrees ret args (Some s) = same_result s.ret ret && all_pass (map (λ t a. same_scalar t a) s.params) (map (λ a. a.ty) args)
+
+abbrev register_agrees : Option (List ℕ) → Option Scalar → Bool
+register_agrees (Some dest) None = false
+register_agrees _ _ = true
+
+abbrev instr_agrees : Scope → Instr → Bool
+instr_agrees s (Cast dest op from a to) = cast_agrees op from to
+instr_agrees s (Gep dest inbounds ty base indices) = gep_agrees indices ty
+instr_agrees s (Call dest ret callee args) = signature_agrees ret args (callee_of s.program callee) && register_agrees dest ret
+instr_agrees s _ = true
+
+abbrev callee_known : Scope → Instr → Bool
+callee_known s (Call dest ret callee args) = is_some (callee_of s.program callee)
+callee_known s _ = true
+
+abbrev written_types : Instr → List Ty
+written_types (Alloca dest ty align) = ty ∷ []
+written_types (Gep dest inbounds ty base indices) = ty ∷ []
+written_types _ = []
+
+abbrev pub instr_check : Scope → Instr → Place → Check
+instr_check s i place =
+    and_then (asks_true (uses_known s (instr_uses i) && callee_known s i) breaks.Unknown place)
+    (and_then (types_fit (written_types i ++ used_types (instr_uses i)) place) (asks_true (uses_agree s (instr_uses i) && instr_agrees s i) breaks.Mismatch place))
+
+-- ---- ends
+
+abbrev returned_agrees : Option Arg → Option Scalar → Bool
+returned_agrees None None = true
+returned_agrees (Some arg) (Some ty) = same_scalar arg.ty ty
+returned_agrees _ _ = false
+
+abbrev end_agrees : Scope → End → Bool
+end_agrees s (Ret arg) = returned_agrees arg s.function.ret
+end_agrees s _ = true
+
+abbrev cases_differ : List Case → Bool
+cases_differ [] = true
+cases_differ (c ∷ cs) = not (list_any (λ d. same_bits c.value d.value) cs) && cases_differ cs
+
+abbrev end_cases : End → List Case
+end_cases (Switch width value other cases) = cases
+end_cases _ = []
+
+abbrev is_entry : List Block → List ℕ → Bool
+is_entry [] label = false
+is_entry (b ∷ bs) label = bytes_eq b.label label
+
+abbrev pub end_check : Scope → End → Place → Check
+end_check s e place =
+    and_then (asks_true (uses_known s (end_uses e) && are_among (labels s) (end_labels e)) breaks.Unknown place)
+    (and_then (types_fit (used_types (end_uses e)) place)
+    (and_then (asks_true (uses_agree s (end_uses e) && end_agrees s e) breaks.Mismatch place)
+    (and_then (asks_true (cases_differ (end_cases e)) breaks.Duplicate place) (asks_true (not (list_any (is_entry s.function.blocks) (end_labels e))) breaks.BadEdge place))))
+
+-- ---- phis
+
+abbrev is_predecessor : List ℕ → Block → Bool
+is_predecessor label b = is_among (end_labels b.end) label
+
+-- the labels of the blocks whose end names the label
+abbrev pub predecessors : List Block → List ℕ → List (List ℕ)
+predecessors [] label = []
+predecessors (b ∷ bs) label = if is_predecessor label b then b.label ∷ predecessors bs label else predecessors bs label
+
+-- an edge carries what each other edge of its label carries
+abbrev repeats_agree : List Edge → Bool
+repeats_agree [] = true
+repeats_agree (e ∷ es) = list_all (λ d. not (bytes_eq e.label d.label) || same_operand e.value d.value) es && repeats_agree es
+
+-- each predecessor is named, and nothing else
+abbrev edges_agree : List (List ℕ) → List Edge → Bool
+edges_agree before edges =
+    are_among (map (λ e. e.label) edges) before && (are_among before (map (λ e. e.label) edges) && repeats_agree edges)
+
+abbrev pub phi_check : Scope → List ℕ → Phi → Place → Check
+phi_check s label p place =
+    and_then (asks_true (uses_known s (phi_uses p) && are_among (labels s) (map (λ e. e.label) p.edges)) breaks.Unknown place)
+    (and_then (types_fit (used_types (phi_uses p)) place)
+    (and_then (asks_true (uses_agree s (phi_uses p)) breaks.Mismatch place) (asks_true (edges_agree (predecessors s.function.blocks label) p.edges) breaks.BadEdge place)))

@@ -1,0 +1,127 @@
+-- The registers of a function, and what an instruction, a phi or an end uses of them.
+use Rattle.std.specs.Prelude.{ℕ, List, [], ◌∷◌, ◌++◌, map, Option, Some, None, if◌then◌else◌}
+use Rattle.std.specs.List.{flat_map}
+use Rattle.std.specs.Str.{bytes_eq}
+use Rattle.hip_types.specs.declared.number.Scalar.{Scalar}
+use Rattle.hip_types.specs.declared.number.Scalar.TheVariants.{Int, Ptr}
+use Rattle.hip_types.specs.declared.number.Width.TheVariants.{W1}
+use Rattle.hip_types.specs.declared.ty.Ty.{Ty}
+use Rattle.hip_ir.specs.declared.instr.Arg.{Arg}
+use Rattle.hip_ir.specs.declared.instr.Instr.{Instr}
+use Rattle.hip_ir.specs.declared.instr.Instr.TheVariants.{Binary, Compare, Select, Cast, Alloca, Load, Store, Gep, Call}
+use Rattle.hip_ir.specs.declared.instr.Operand.{Operand}
+use Rattle.hip_ir.specs.declared.instr.Operand.TheVariants.{Reg, Fixed}
+use Rattle.hip_ir.specs.declared.block.Block.{Block}
+use Rattle.hip_ir.specs.declared.block.End.{End}
+use Rattle.hip_ir.specs.declared.block.End.TheVariants.{Br, CondBr, Switch, Ret, Unreachable}
+use Rattle.hip_ir.specs.declared.block.Phi.{Phi}
+use Rattle.hip_ir.specs.declared.program.Function.{Function}
+use Rattle.hip_typing.specs.Constants.{names_in, types_in}
+
+-- A register with its type; the register of a void call has none.
+pub record Register : Type 0 where
+  pub name : List ℕ
+  pub ty : Option Scalar
+
+abbrev register : List ℕ → Scalar → List Register
+register name ty = record { name = name; ty = Some ty } ∷ []
+
+abbrev called_register : Option (List ℕ) → Option Scalar → List Register
+called_register None ret = []
+called_register (Some name) ret = record { name = name; ty = ret } ∷ []
+
+-- the register that an instruction assigns
+abbrev pub assigned_by : Instr → List Register
+assigned_by (Binary dest op flags width a b) = register dest (Int width)
+assigned_by (Compare dest pred ty a b) = register dest (Int W1)
+assigned_by (Select dest cond ty a b) = register dest ty
+assigned_by (Cast dest op from a to) = register dest to
+assigned_by (Alloca dest ty align) = register dest Ptr
+assigned_by (Load dest ty addr align) = register dest ty
+assigned_by (Store ty value addr align) = []
+assigned_by (Gep dest inbounds ty base indices) = register dest Ptr
+assigned_by (Call dest ret callee args) = called_register dest ret
+
+abbrev pub phi_registers : List Phi → List Register
+phi_registers phis = map (λ p. record { name = p.dest; ty = Some p.ty }) phis
+
+abbrev pub body_registers : List Instr → List Register
+body_registers body = flat_map assigned_by body
+
+abbrev pub block_registers : Block → List Register
+block_registers b = phi_registers b.phis ++ body_registers b.body
+
+abbrev pub parameter_registers : Function → List Register
+parameter_registers f = map (λ p. record { name = p.name; ty = Some p.ty }) f.params
+
+abbrev pub registers_of : Function → List Register
+registers_of f = parameter_registers f ++ flat_map block_registers f.blocks
+
+abbrev pub find_register : List Register → List ℕ → Option (Option Scalar)
+find_register [] name = None
+find_register (r ∷ rs) name = if bytes_eq r.name name then Some r.ty else find_register rs name
+
+-- an operand and the type that its place states
+pub record Use : Type 0 where
+  pub operand : Operand
+  pub ty : Scalar
+
+abbrev pub uses : Operand → Scalar → Use
+uses operand ty = record { operand = operand; ty = ty }
+
+abbrev pub arg_uses : List Arg → List Use
+arg_uses args = map (λ a. uses a.value a.ty) args
+
+abbrev pub instr_uses : Instr → List Use
+instr_uses (Binary dest op flags width a b) = uses a (Int width) ∷ uses b (Int width) ∷ []
+instr_uses (Compare dest pred ty a b) = uses a ty ∷ uses b ty ∷ []
+instr_uses (Select dest cond ty a b) = uses cond (Int W1) ∷ uses a ty ∷ uses b ty ∷ []
+instr_uses (Cast dest op from a to) = uses a from ∷ []
+instr_uses (Alloca dest ty align) = []
+instr_uses (Load dest ty addr align) = uses addr Ptr ∷ []
+instr_uses (Store ty value addr align) = uses value ty ∷ uses addr Ptr ∷ []
+instr_uses (Gep dest inbounds ty base indices) = uses base Ptr ∷ arg_uses indices
+instr_uses (Call dest ret callee args) = arg_uses args
+
+abbrev returned_uses : Option Arg → List Use
+returned_uses None = []
+returned_uses (Some arg) = uses arg.value arg.ty ∷ []
+
+abbrev pub end_uses : End → List Use
+end_uses (Br label) = []
+end_uses (CondBr cond first second) = uses cond (Int W1) ∷ []
+end_uses (Switch width value other cases) = uses value (Int width) ∷ []
+end_uses (Ret arg) = returned_uses arg
+end_uses Unreachable = []
+
+abbrev pub phi_uses : Phi → List Use
+phi_uses p = map (λ e. uses e.value p.ty) p.edges
+
+-- the blocks that an end names, by their labels
+abbrev pub end_labels : End → List (List ℕ)
+end_labels (Br label) = label ∷ []
+end_labels (CondBr cond first second) = first ∷ second ∷ []
+end_labels (Switch width value other cases) = other ∷ map (λ c. c.label) cases
+end_labels (Ret arg) = []
+end_labels Unreachable = []
+
+abbrev operand_registers : Operand → List (List ℕ)
+operand_registers (Reg name) = name ∷ []
+operand_registers (Fixed value) = []
+
+abbrev operand_globals : Operand → List (List ℕ)
+operand_globals (Reg name) = []
+operand_globals (Fixed value) = names_in value
+
+abbrev operand_types : Operand → List Ty
+operand_types (Reg name) = []
+operand_types (Fixed value) = types_in value
+
+abbrev pub used_registers : List Use → List (List ℕ)
+used_registers us = flat_map (λ u. operand_registers u.operand) us
+
+abbrev pub used_globals : List Use → List (List ℕ)
+used_globals us = flat_map (λ u. operand_globals u.operand) us
+
+abbrev pub used_types : List Use → List Ty
+used_types us = flat_map (λ u. operand_types u.operand) us

@@ -1,0 +1,52 @@
+-- Whether two types are one, as a test.
+use Rattle.std.specs.Prelude.{ℕ, ◌==◌, ◌&&◌, Bool, true, false, List, [], ◌∷◌}
+use Rattle.hip_types.specs.declared.number.Width.{Width}
+use Rattle.hip_types.specs.declared.number.Scalar.{Scalar}
+use Rattle.hip_types.specs.declared.number.Scalar.TheVariants as scalars
+use Rattle.hip_types.specs.declared.ty.Ty.{Ty, out-Ty}
+use Rattle.hip_types.specs.declared.ty.Ty.TheOpen.{Ty-F}
+use Rattle.hip_types.specs.declared.ty.Ty.TheFolds.{fold-Ty}
+use Rattle.hip_types.specs.Widths.{bits_of}
+
+abbrev pub same_width : Width → Width → Bool
+same_width v w = bits_of v == bits_of w
+
+abbrev pub same_scalar : Scalar → Scalar → Bool
+same_scalar (scalars.Int v) (scalars.Int w) = same_width v w
+same_scalar scalars.Ptr scalars.Ptr = true
+same_scalar _ _ = false
+
+-- each test passes at the type beside it, and there are as many of both
+abbrev pub all_pass : {A : Type 0} → List (A → Bool) → List A → Bool
+all_pass [] [] = true
+all_pass (test ∷ tests) (x ∷ xs) = test x && all_pass tests xs
+all_pass _ _ = false
+
+abbrev is_int : Width → Ty-F Ty → Bool
+is_int w (Ty-F.Int v) = same_width w v
+is_int w _ = false
+
+abbrev is_ptr : Ty-F Ty → Bool
+is_ptr Ty-F.Ptr = true
+is_ptr _ = false
+
+abbrev is_array : ℕ → (Ty → Bool) → Ty-F Ty → Bool
+is_array n item (Ty-F.Array m t) = n == m && item t
+is_array n item _ = false
+
+abbrev is_struct : List (Ty → Bool) → Ty-F Ty → Bool
+is_struct tests (Ty-F.Struct ts) = all_pass tests ts
+is_struct tests _ = false
+
+-- one level of a type, with the test of each type inside in its place
+abbrev pub same_level : Ty-F (Ty → Bool) → Ty-F Ty → Bool
+same_level (Ty-F.Int w) t = is_int w t
+same_level Ty-F.Ptr t = is_ptr t
+same_level (Ty-F.Array n item) t = is_array n item t
+same_level (Ty-F.Struct tests) t = is_struct tests t
+
+abbrev pub same_step : Ty-F (Ty → Bool) → Ty → Bool
+same_step tests t = same_level tests (out-Ty t)
+
+abbrev pub same_type : Ty → Ty → Bool
+same_type = fold-Ty (Ty → Bool) same_step

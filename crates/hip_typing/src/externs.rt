@@ -1,0 +1,199 @@
+ghost use Rattle.std.specs.Prelude.{◌≡◌, Some, map};
+ghost use Rattle.hip_typing.specs.Answers.{Answers};
+ghost use Rattle.hip_typing.specs.Check.{each};
+ghost use Rattle.hip_typing.specs.Externs.{call_of, signature, known_signature};
+ghost use Rattle.hip_typing.specs.Sound.{is_of, same_result, free_global, declared, free_function, externs_check};
+ghost use Rattle.hip_typing.specs.Types.{all_pass, same_scalar};
+
+use crate::fault::{Fault, Place};
+use crate::refused::{Refused, ask};
+use hip_ir::{Extern, Function, GlobalVar, Program};
+use hip_types::{Scalar, Width};
+
+/// The external functions that a program may declare.
+#[derive(Clone, Copy, Debug, PartialEq, Eq)]
+pub enum ExternCall {
+    ReadI64,
+    PrintI64,
+    PmAssert,
+    Clwb,
+    Clflushopt,
+    Clflush,
+    Sfence,
+    Mfence,
+    PmemFlush,
+    PmemPersist,
+    PmemDrain,
+}
+
+/// The external function of that name.
+pub fn extern_call(name: &[u8]) -> Option<ExternCall>
+    ensures { result ≡ call_of name.now }
+{
+    if name == b"read_i64".as_slice() {
+        return Some(ExternCall::ReadI64);
+    }
+    if name == b"print_i64".as_slice() {
+        return Some(ExternCall::PrintI64);
+    }
+    if name == b"pm_assert".as_slice() {
+        return Some(ExternCall::PmAssert);
+    }
+    if name == b"llvm.x86.clwb".as_slice() {
+        return Some(ExternCall::Clwb);
+    }
+    if name == b"llvm.x86.clflushopt".as_slice() {
+        return Some(ExternCall::Clflushopt);
+    }
+    if name == b"llvm.x86.sse2.clflush".as_slice() {
+        return Some(ExternCall::Clflush);
+    }
+    if name == b"llvm.x86.sse.sfence".as_slice() {
+        return Some(ExternCall::Sfence);
+    }
+    if name == b"llvm.x86.sse2.mfence".as_slice() {
+        return Some(ExternCall::Mfence);
+    }
+    if name == b"pmem_flush".as_slice() {
+        return Some(ExternCall::PmemFlush);
+    }
+    if name == b"pmem_persist".as_slice() {
+        return Some(ExternCall::PmemPersist);
+    }
+    if name == b"pmem_drain".as_slice() {
+        return Some(ExternCall::PmemDrain);
+    }
+    None
+}
+
+pub fn is_same_scalar(a: Scalar, b: Scalar) -> bool
+    ensures { result ≡ same_scalar a b }
+{
+    match (a, b) {
+        (Scalar::Int(v), Scalar::Int(w)) => v.bits() == w.bits(),
+        (Scalar::Ptr, Scalar::Ptr) => true,
+        _ => false,
+    }
+}
+
+pub fn is_same_result(a: Option<Scalar>, b: Option<Scalar>) -> bool
+    ensures { result ≡ same_result a b }
+{
+    match (a, b) {
+        (Some(a), Some(b)) => is_same_scalar(a, b),
+        (None, None) => true,
+        _ => false,
+    }
+}
+
+/// Whether the parameters have these types.
+fn params_are(params: &[Scalar], types: &[Scalar]) -> bool
+    ensures { result ≡ all_pass (map same_scalar types.now) params.now }
+{
+    if params.len() != types.len() {
+        return false;
+    }
+    'params: for at in 0..params.len() {
+        if !is_same_scalar(types[at], params[at]) {
+            return false;
+        }
+    }
+    true
+}
+
+fn is_declared(external: &Extern, ret: Option<Scalar>, params: &[Scalar]) -> bool
+    ensures { result ≡ is_of external.now (Some (record { ret = ret; params = params.now })) }
+{
+    is_same_result(external.ret, ret) && params_are(external.params.as_slice(), params)
+}
+
+/// Whether the declaration is the one that the external function has.
+pub fn is_declared_as(external: &Extern, call: ExternCall) -> bool
+    ensures { result ≡ is_of external.now (Some (signature call)) }
+{
+    let number = Scalar::Int(Width::W64);
+    match call {
+        ExternCall::ReadI64 => is_declared(external, Some(number), &[]),
+        ExternCall::PrintI64 => is_declared(external, None, &[number]),
+        ExternCall::PmAssert | ExternCall::PmemFlush | ExternCall::PmemPersist => {
+            is_declared(external, None, &[Scalar::Ptr, number])
+        }
+        ExternCall::Clwb | ExternCall::Clflushopt | ExternCall::Clflush => {
+            is_declared(external, None, &[Scalar::Ptr])
+        }
+        ExternCall::Sfence | ExternCall::Mfence | ExternCall::PmemDrain => {
+            is_declared(external, None, &[])
+        }
+    }
+}
+
+fn is_known(external: &Extern) -> bool
+    ensures { result ≡ is_of external.now (known_signature external.now.name) }
+{
+    match extern_call(external.name.as_slice()) {
+        Some(call) => is_declared_as(external, call),
+        None => false,
+    }
+}
+
+fn check_free_global(number: usize, global: &GlobalVar) -> Result<(), Refused>
+    ensures { Answers result (free_global number global.now).found }
+{
+    let is_free = extern_call(global.name.as_slice()).is_none();
+    ask(is_free, Fault::BadExtern, Place::Global(number))
+}
+
+fn check_declaration(number: usize, external: &Extern) -> Result<(), Refused>
+    ensures { Answers result (declared number external.now).found }
+{
+    ask(is_known(external), Fault::BadExtern, Place::Extern(number))
+}
+
+fn check_free_function(number: usize, function: &Function) -> Result<(), Refused>
+    ensures { Answers result (free_function number function.now).found }
+{
+    let is_free = extern_call(function.name.as_slice()).is_none();
+    ask(is_free, Fault::BadExtern, Place::Head(number))
+}
+
+fn check_free_globals(globals: &[GlobalVar]) -> Result<(), Refused>
+    ensures { Answers result (each free_global globals.now).found }
+{
+    'globals: for number in 0..globals.len() {
+        if let Err(refused) = check_free_global(number, &globals[number]) {
+            return Err(refused);
+        }
+    }
+    Ok(())
+}
+
+fn check_declarations(externs: &[Extern]) -> Result<(), Refused>
+    ensures { Answers result (each declared externs.now).found }
+{
+    'externs: for number in 0..externs.len() {
+        if let Err(refused) = check_declaration(number, &externs[number]) {
+            return Err(refused);
+        }
+    }
+    Ok(())
+}
+
+fn check_free_functions(functions: &[Function]) -> Result<(), Refused>
+    ensures { Answers result (each free_function functions.now).found }
+{
+    'functions: for number in 0..functions.len() {
+        if let Err(refused) = check_free_function(number, &functions[number]) {
+            return Err(refused);
+        }
+    }
+    Ok(())
+}
+
+/// Externs are declared as the functions that they name, and nothing else has such a name.
+pub fn check_externs(program: &Program) -> Result<(), Refused>
+    ensures { Answers result (externs_check program.now).found }
+{
+    check_free_globals(program.globals.as_slice())?;
+    check_declarations(program.externs.as_slice())?;
+    check_free_functions(program.functions.as_slice())
+}

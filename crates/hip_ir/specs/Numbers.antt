@@ -11,7 +11,7 @@ use Rattle.hip_ir.specs.declared.constant.Const.{Const}
 use Rattle.hip_ir.specs.declared.constant.Const.TheVariants as consts
 use Rattle.hip_ir.specs.declared.fault.Fault.{Fault}
 use Rattle.hip_ir.specs.declared.fault.Fault.TheVariants.{Range}
-use Rattle.hip_ir.specs.BitsLaws.{bits}
+use Rattle.hip_types.specs.Numbers.{bits}
 use Rattle.hip_ir.specs.Words.{or_no, is_word}
 
 -- the value of digits behind others

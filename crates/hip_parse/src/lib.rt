@@ -16,3 +16,6 @@ mod words;
 
 pub use error::ParseRefusal;
 pub use reading::parse;
+
+#[cfg(test)]
+mod tests;

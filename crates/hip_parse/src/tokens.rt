@@ -4,7 +4,6 @@ ghost use Rattle.std.specs.Prelude.{◌≡◌, ℕ, List, [], ◌∷◌};
 ghost use Rattle.hip_rules.specs.Reader.{next};
 ghost use Rattle.hip_rules.specs.Part.{token};
 ghost use Rattle.hip_ir.specs.Words.{a_word_of, is_word_of, width_word, scalar_word, ret_word, type_word, binary_word, pred_word, int_cast_word, link_word, unnamed_word, linkage_word, target_word, fixed_word};
-ghost use Rattle.hip_ir.specs.BitsLaws.{bits};
 ghost use Rattle.hip_ir.specs.Bodies.{flag_word};
 ghost use Rattle.hip_ir.specs.Numbers.{a_literal, an_int_const, a_count, an_alignment, truth_word};
 ghost use Rattle.hip_parse.specs.Left.{left, Gives};
@@ -16,22 +15,15 @@ use hip_ir::{Const, Fault, Flags};
 use hip_tokens::Token;
 use hip_types::{BinaryOp, Bits, CastOp, Pred, Scalar, Ty, Width};
 
-/// The value modulo 2 to the width.
-fn bits(width: Width, value: u64) -> Bits
-    ensures { result ≡ bits width value }
-{
-    Bits::new(width, value)
-}
-
 fn truth_word(width: Width, t: &[u8]) -> Option<Bits>
     ensures { result ≡ truth_word width t.now }
 {
     match width {
         Width::W1 => {
             if t == b"true".as_slice() {
-                Some(bits(Width::W1, 1))
+                Some(Bits::new(Width::W1, 1))
             } else if t == b"false".as_slice() {
-                Some(bits(Width::W1, 0))
+                Some(Bits::new(Width::W1, 0))
             } else {
                 None
             }
@@ -355,7 +347,7 @@ impl<'a> Parser<'a> {
             Some((Token::Num(t), _)) => match value_of(width, t) {
                 Some(n) => {
                     self.advance();
-                    Ok(bits(width, n))
+                    Ok(Bits::new(width, n))
                 }
                 None => Err(Some(Fault::Range)),
             },

@@ -4,3 +4,7 @@ pub mod ShapeLemmas
 pub mod KnownLemmas
 pub mod Loops
 pub mod GlobalLemmas
+pub mod AddressLemmas
+pub mod TableLemmas
+pub mod RegisterLemmas
+pub mod CalleeLemmas

@@ -20,19 +20,15 @@ one_more_name make base xs i x names p within is so_far same =
     let numbers : numbered make (take (i + 1) xs) ≡ numbered make (take i xs) ++ make i x ∷ [] = ap (numbered make) prefix ∙ numbered_from-push 0 make (take i xs) x ∙ ap (λ k. numbered make (take i xs) ++ make k x ∷ []) short in
     map-append _ names (p ∷ []) ∙ ap (λ zs. zs ++ seen (p ∷ [])) so_far ∙ ap (λ zs. base ++ numbered make (take i xs) ++ zs) same ∙ append_assoc base (numbered make (take i xs)) (make i x ∷ []) ∙ ap (λ zs. base ++ zs) (sym numbers)
 
-all_of-append : (xs ys : List (List Named)) → all_of (xs ++ ys) ≡ all_of xs ++ all_of ys
-all_of-append [] ys = refl
-all_of-append (x ∷ xs) ys = ap (λ zs. x ++ zs) (all_of-append xs ys) ∙ sym (append_assoc x (all_of xs) (all_of ys))
+all_of-append : (xs : List (List Named)) (y : List Named) → all_of (xs ++ y ∷ []) ≡ all_of xs ++ y
+all_of-append [] y = append-nil y
+all_of-append (x ∷ xs) y = ap (λ zs. x ++ zs) (all_of-append xs y) ∙ sym (append_assoc x (all_of xs) y)
 
-all_of-one : (xs : List Named) → all_of (xs ∷ []) ≡ xs
-all_of-one xs = append-nil xs
-
--- the names of one more item are added
-pub more_names : {A : Type 0} (make : ℕ → A → List Named) (base : List Named) (xs : List A) (i : ℕ) (x : A) (before after : List Named) → i < length xs → x ≡ get_or xs i x → before ≡ base ++ all_of (numbered make (take i xs)) → after ≡ before ++ make i x → after ≡ base ++ all_of (numbered make (take (i + 1) xs))
-more_names make base xs i x before after within is so_far added =
+-- one item more, each of which has several names
+pub more_names : {A : Type 0} (make : ℕ → A → List Named) (base : List Named) (xs : List A) (i : ℕ) (x : A) (names added : List NamedPlace) → i < length xs → x ≡ get_or xs i x → seen names ≡ base ++ all_of (numbered make (take i xs)) → seen added ≡ seen names ++ make i x → seen added ≡ base ++ all_of (numbered make (take (i + 1) xs))
+more_names make base xs i x names added within is so_far more =
     let prefix : take (i + 1) xs ≡ take i xs ++ x ∷ [] = subst (λ y. take (i + 1) xs ≡ take i xs ++ y ∷ []) (sym is) (take_more xs i x within) in
     let short : 0 + length (take i xs) ≡ i = zero-add (length (take i xs)) ∙ length-take-le i xs (omega (arith, within)) in
     let numbers : numbered make (take (i + 1) xs) ≡ numbered make (take i xs) ++ make i x ∷ [] = ap (numbered make) prefix ∙ numbered_from-push 0 make (take i xs) x ∙ ap (λ k. numbered make (take i xs) ++ make k x ∷ []) short in
-    let all : all_of (numbered make (take (i + 1) xs)) ≡ all_of (numbered make (take i xs)) ++ make i x =
-    ap all_of numbers ∙ all_of-append (numbered make (take i xs)) (make i x ∷ []) ∙ ap (λ zs. all_of (numbered make (take i xs)) ++ zs) (all_of-one (make i x)) in
-    added ∙ ap (λ zs. zs ++ make i x) so_far ∙ append_assoc base (all_of (numbered make (take i xs))) (make i x) ∙ ap (λ zs. base ++ zs) (sym all)
+    let all : all_of (numbered make (take (i + 1) xs)) ≡ all_of (numbered make (take i xs)) ++ make i x = ap all_of numbers ∙ all_of-append (numbered make (take i xs)) (make i x) in
+    more ∙ ap (λ zs. zs ++ make i x) so_far ∙ append_assoc base (all_of (numbered make (take i xs))) (make i x) ∙ ap (λ zs. base ++ zs) (sym all)

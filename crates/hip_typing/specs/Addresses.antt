@@ -1,12 +1,12 @@
 -- Where globals lie: volatile ones in order from 65,536, persistent ones in order from the base of the region, each at
 -- its alignment. These addresses are this project's own.
-use Rattle.std.specs.Prelude.{ℕ, zero, suc, ◌+◌, ◌%◌, ◌^◌, ◌≡◌, ◌≤◌, max, Bool, true, false, List, [], ◌∷◌, Option, Some, None, if◌then◌else◌}
+use Rattle.std.specs.Prelude.{ℕ, zero, suc, ◌+◌, ◌%◌, ◌^◌, ◌≡◌, ◌≤◌, max, Bool, true, false, List, [], ◌∷◌, All, Option, Some, None, if◌then◌else◌}
 use Rattle.std.specs.Int.{next_multiple_of}
-use Rattle.hip_types.specs.Layout.{shape}
+use Rattle.hip_types.specs.Layout.{Fits, shape}
 use Rattle.hip_ir.specs.declared.program.GlobalVar.{GlobalVar}
 use Rattle.hip_ir.specs.declared.program.Program.{Program}
 
-abbrev same : Bool → Bool → Bool
+abbrev pub same : Bool → Bool → Bool
 same true b = b
 same false true = false
 same false false = true
@@ -58,3 +58,7 @@ volatile_end P = end_of false volatile_start P.globals
 -- since a base is a multiple of every alignment.
 abbrev pub region_size : Program → ℕ
 region_size P = next_multiple_of (end_of true 0 P.globals) 64
+
+-- the types of the globals fit
+abbrev pub AllFit : List GlobalVar → Type 0
+AllFit globals = All (λ g. Fits g.ty) globals

@@ -1,15 +1,15 @@
 -- Each rule is exact: its check finds nothing exactly where what it asks holds.
-use Rattle.std.specs.Prelude.{ℕ, ◌+◌, ◌≡◌, ◌&&◌, ◌||◌, not, Bool, true, false, List, [], ◌∷◌, ◌++◌, All, Option, Some, None}
+use Rattle.std.specs.Prelude.{ℕ, zero, suc, ◌+◌, ◌<◌, ◌≡◌, ◌&&◌, ◌||◌, not, Bool, true, false, List, [], ◌∷◌, ◌++◌, length, get_or, All, Option, Some, None}
 use Rattle.std.specs.List.{list_all}
 use Rattle.std.specs.Str.{bytes_eq}
-use Rattle.std.proofs.Common.{refl, sym, inl, inr}
+use Rattle.std.proofs.Common.{refl, sym, subst, inl, inr, arith}
 use Rattle.std.proofs.lemmas.List.Sums.{AllPass-from_list_all, list_all-from_AllPass}
 use Rattle.std.proofs.lemmas.Bool.{leb-true, le-leb}
 use Rattle.std.specs.Cmp.Derive.{both_true}
 use Rattle.std.proofs.lemmas.Slice.Eq.{bytes_eq-Decides}
 use Rattle.hip_types.specs.Layout.{Fits}
 use Rattle.hip_types.specs.declared.ty.Ty.{Ty}
-use Rattle.hip_typing.specs.Check.{Check, IsExact, or_else, nothing_asked, asks, asks_true, and_then, each_from}
+use Rattle.hip_typing.specs.Check.{Check, IsExact, or_else, nothing_asked, asks, asks_true, and_then, each_from, each}
 use Rattle.hip_typing.specs.Names.{Named, IsAmong, is_among, differ_after}
 use Rattle.hip_typing.specs.declared.fault.Fault.{Fault}
 use Rattle.hip_typing.specs.declared.fault.Fault.TheVariants as breaks
@@ -102,3 +102,17 @@ all_fit-whole ts f = list_all-from_AllPass fits_test ts (λ k d h. fits-whole _ 
 
 pub types_fit-exact : (ts : List Ty) (place : Place) → IsExact (types_fit ts place)
 types_fit-exact ts place = asks-exact _ _ breaks.TooLarge place (all_fit-sound ts) (all_fit-whole ts)
+
+-- ---- what holds of each item
+
+pub each_from-holds : {A : Type 0} → (n : ℕ) (check : ℕ → A → Check) (xs : List A) (k : ℕ) (d : A) → (each_from n check xs).Holds → k < length xs → (check (n + k) (get_or xs k d)).Holds
+each_from-holds n check [] k d h within = absurd (omega arith)
+each_from-holds n check (x ∷ xs) zero d h within = let e : n + 0 ≡ n = omega arith in rw e h.0
+each_from-holds n check (x ∷ xs) (suc k) d h within =
+    let e : n + suc k ≡ n + 1 + k = omega arith in
+    rw e (each_from-holds (n + 1) check xs k d h.1 (omega arith))
+
+pub each-holds : {A : Type 0} → (check : ℕ → A → Check) (xs : List A) (k : ℕ) (d : A) → (each check xs).Holds → k < length xs → (check k (get_or xs k d)).Holds
+each-holds check xs k d h within =
+    let e : 0 + k ≡ k = omega arith in
+    subst (λ (m : ℕ). (check m (get_or xs k d)).Holds) e (each_from-holds 0 check xs k d h within)

@@ -14,3 +14,4 @@ pub mod Sound
 pub mod SoundLaws
 pub mod TypeLaws
 pub mod Types
+pub mod Tables

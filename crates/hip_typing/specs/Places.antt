@@ -41,15 +41,15 @@ use Rattle.hip_typing.specs.declared.fault.Place.{Place}
 
 -- ---- what can be called
 
-abbrev extern_of : List Extern → List ℕ → Option Signature
+abbrev pub extern_of : List Extern → List ℕ → Option Signature
 extern_of [] name = None
 extern_of (e ∷ es) name = if bytes_eq e.name name then Some (record { ret = e.ret; params = e.params }) else extern_of es name
 
-abbrev function_of : List Function → List ℕ → Option Signature
+abbrev pub function_of : List Function → List ℕ → Option Signature
 function_of [] name = None
 function_of (f ∷ fs) name = if bytes_eq f.name name then Some (record { ret = f.ret; params = map (λ p. p.ty) f.params }) else function_of fs name
 
-abbrev first_of : Option Signature → Option Signature → Option Signature
+abbrev pub first_of : Option Signature → Option Signature → Option Signature
 first_of (Some s) other = Some s
 first_of None other = other
 

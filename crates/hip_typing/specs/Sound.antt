@@ -34,7 +34,7 @@ use Rattle.hip_typing.specs.declared.fault.TypeRefusal.{TypeRefusal}
 
 -- ---- names of globals, externs and functions differ, the three lists taken in this order
 
-abbrev pub named : List ℕ → Place → Named
+abbrev named : List ℕ → Place → Named
 named name place = record { name = name; place = place }
 
 abbrev pub global_names : List GlobalVar → List Named
@@ -116,14 +116,8 @@ main_check P = asks_true (has_main P.functions) breaks.NoMain places.Whole
 
 -- ---- parameters, labels and registers of a function differ
 
-abbrev pub site : ℕ → ℕ → ℕ → Site
+abbrev site : ℕ → ℕ → ℕ → Site
 site f b i = record { function = f; block = b; index = i }
-
-abbrev pub parameter_names : ℕ → List Param → List Named
-parameter_names f params = map (λ p. named p.name (places.Head f)) params
-
-abbrev pub phi_names : ℕ → ℕ → List Phi → List Named
-phi_names f b phis = numbered (λ i p. named p.dest (places.Phi (site f b i))) phis
 
 abbrev pub instr_names : ℕ → ℕ → ℕ → Instr → List Named
 instr_names f b i instr = map (λ r. named r.name (places.Body (site f b i))) (assigned_by instr)
@@ -132,21 +126,29 @@ abbrev pub all_of : List (List Named) → List Named
 all_of [] = []
 all_of (ns ∷ rest) = ns ++ all_of rest
 
+abbrev pub phi_names : ℕ → ℕ → List Phi → List Named
+phi_names f b phis = numbered (λ i p. named p.dest (places.Phi (site f b i))) phis
+
 abbrev pub body_names : ℕ → ℕ → List Instr → List Named
 body_names f b body = all_of (numbered (instr_names f b) body)
 
 abbrev pub block_names : ℕ → ℕ → Block → List Named
-block_names f b block =
-    named block.label (places.Head f) ∷ (phi_names f b block.phis ++ body_names f b block.body)
+block_names f b block = named block.label (places.Head f) ∷ (phi_names f b block.phis ++ body_names f b block.body)
+
+abbrev pub param_names : ℕ → List Param → List Named
+param_names f params = numbered (λ n p. named p.name (places.Head f)) params
+
+abbrev pub blocks_names : ℕ → List Block → List Named
+blocks_names f blocks = all_of (numbered (block_names f) blocks)
 
 abbrev pub inner_names : ℕ → Function → List Named
-inner_names f fn = parameter_names f fn.params ++ all_of (numbered (block_names f) fn.blocks)
+inner_names f fn = param_names f fn.params ++ blocks_names f fn.blocks
 
-abbrev pub function_check : ℕ → Function → Check
-function_check f fn = all_differ (inner_names f fn)
+abbrev pub inner_check : ℕ → Function → Check
+inner_check f fn = all_differ (inner_names f fn)
 
 abbrev pub registers_check : Program → Check
-registers_check P = each function_check P.functions
+registers_check P = each inner_check P.functions
 
 -- ---- each place of each function
 

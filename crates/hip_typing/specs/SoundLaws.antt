@@ -1,5 +1,5 @@
 -- The rules of a program are exact: the first fault is none exactly where all of them hold.
-use Rattle.std.specs.Prelude.{ℕ, List, ◌∷◌}
+use Rattle.std.specs.Prelude.{ℕ, List, ◌∷◌, get_or}
 use Rattle.hip_ir.specs.declared.block.Block.{Block}
 use Rattle.hip_ir.specs.declared.block.End.{End}
 use Rattle.hip_ir.specs.declared.block.Phi.{Phi}
@@ -7,7 +7,9 @@ use Rattle.hip_ir.specs.declared.instr.Instr.{Instr}
 use Rattle.hip_ir.specs.declared.program.GlobalVar.{GlobalVar}
 use Rattle.hip_ir.specs.declared.program.Program.{Program}
 use Rattle.hip_typing.specs.Check.{IsExact}
-use Rattle.hip_typing.specs.CheckLaws.{asks_true-exact, and_then-exact, each_from-exact, differ_after-exact, types_fit-exact}
+use Rattle.std.proofs.Common.{arith}
+use Rattle.hip_typing.specs.Addresses.{AllFit}
+use Rattle.hip_typing.specs.CheckLaws.{each-holds, asks_true-exact, and_then-exact, each_from-exact, differ_after-exact, types_fit-exact}
 use Rattle.hip_typing.specs.Places.{Scope, scope_of, instr_check, end_check, phi_check}
 use Rattle.hip_typing.specs.Sound.{global_check, globals_check, externs_check, registers_check, places_check, block_check, rules_check}
 use Rattle.hip_typing.specs.Constants.{types_in}
@@ -54,3 +56,7 @@ rules-exact P =
     and_then-exact _ _ (differ_after-exact _ _)
     (and_then-exact _ _ (globals-exact P)
     (and_then-exact _ _ (externs-exact P) (and_then-exact _ _ (asks_true-exact _ _ _) (and_then-exact _ _ (asks_true-exact _ _ _) (and_then-exact _ _ (registers-exact P) (places-exact P))))))
+
+-- the types of sound globals fit
+pub globals-fit : (P : Program) → (globals_check P).Holds → AllFit P.globals
+globals-fit P h = λ k d within. (each-holds _ P.globals k d h within).0 0 (get_or P.globals k d).ty (omega arith)

@@ -1,6 +1,8 @@
 //! Which programs are sound, and where their data lies.
 #![tactic(auto)]
 
+mod addresses;
+mod callees;
 mod constants;
 mod externs;
 mod fault;
@@ -9,7 +11,9 @@ mod inner;
 mod named;
 mod names;
 mod refused;
+mod registers;
 mod shape;
+mod table;
 mod whole;
 
 pub use fault::{Place, TypeFault, TypeRefusal};

@@ -5,5 +5,4 @@ use Rattle.hip_typing.proofs.inner.push_body.Goals as goal
 
 pub body-preserved : goal.body-preserved
 body-preserved c =
-    more_names (instr_names c.args.function c.args.block) (seen c.args.names.now) c.args.body.now c.body.index c.index-body-index.result (seen c.body.names) _
-    c.body-test.true c.index-body-index.is c.body.invariant c.in_ok-push_assigned.ensures
+    more_names (instr_names c.args.function c.args.block) (seen c.args.names.now) c.args.body.now c.body.index c.index-body-index.result c.body.names c.push_instr.new.names c.body-test.true c.index-body-index.is c.body.invariant c.in_ok-push_instr.ensures

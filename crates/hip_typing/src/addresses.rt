@@ -1,0 +1,84 @@
+ghost use Rattle.std.specs.Prelude.{◌≡◌, ◌+◌, ◌<◌, ◌≤◌, ◌^◌, nat_le};
+ghost use Rattle.std.specs.Option.{SomeIff};
+ghost use Rattle.hip_types.specs.Layout.{Fits, size_of};
+ghost use Rattle.hip_typing.specs.Addresses as spec;
+ghost use Rattle.hip_typing.specs.Addresses.{AllFit, global_align, global_start};
+ghost use Rattle.hip_typing.specs.Answers.{Answers};
+ghost use Rattle.hip_typing.specs.Sound.{sizes_check};
+
+use crate::fault::{Fault, Place};
+use crate::refused::{Refused, ask};
+use hip_ir::{GlobalVar, Program};
+use hip_types::{align, size};
+
+/// How many bytes the persistent globals may take, from the first one's start to the last one's end.
+const LARGEST_REGION: u64 = 67_108_864;
+
+/// Where the first volatile global lies.
+const VOLATILE_START: u64 = 65_536;
+
+/// Where the last volatile global may end.
+const VOLATILE_LIMIT: u64 = VOLATILE_START + 16_777_216;
+
+/// The greater of the type's alignment and the one that is written.
+fn alignment(global: &GlobalVar) -> u64
+    requires { Fits global.now.ty }
+    ensures value { result ≡ global_align global.now }
+    ensures some { 0 < result }
+{
+    let natural = align(&global.ty);
+    match global.align {
+        Some(written) => written.max(natural),
+        None => natural,
+    }
+}
+
+/// Where a global ends that is laid from a place on; none from 2^64 on.
+fn end_after(at: u64, global: &GlobalVar) -> Option<u64>
+    requires { Fits global.now.ty }
+    ensures { SomeIff result (global_start at global.now + size_of global.now.ty < 2 ^ 64) (global_start at global.now + size_of global.now.ty) }
+{
+    match at.checked_next_multiple_of(alignment(global)) {
+        Some(start) => start.checked_add(size(&global.ty)),
+        None => None,
+    }
+}
+
+/// Where those of the globals end that are persistent, or that are not; none from 2^64 on.
+fn end_of(globals: &[GlobalVar], persistent: bool, start: u64) -> Option<u64>
+    requires { AllFit globals.now }
+    ensures { SomeIff result (spec.end_of persistent start globals.now < 2 ^ 64) (spec.end_of persistent start globals.now) }
+{
+    let mut at = start;
+    'globals: for global in globals {
+        if global.persistent == persistent {
+            at = match end_after(at, global) {
+                Some(end) => end,
+                None => return None,
+            };
+        }
+    }
+    Some(at)
+}
+
+/// Whether the globals that are persistent, or that are not, end at most at a limit.
+fn end_within(globals: &[GlobalVar], persistent: bool, start: u64, limit: u64) -> bool
+    requires { AllFit globals.now }
+    ensures { result ≡ nat_le (spec.end_of persistent start globals.now) limit }
+{
+    match end_of(globals, persistent, start) {
+        Some(end) => end <= limit,
+        None => false,
+    }
+}
+
+/// The region and the volatile globals are not too large.
+pub fn check_sizes(program: &Program) -> Result<(), Refused>
+    requires { AllFit program.now.globals }
+    ensures { Answers result (sizes_check program.now).found }
+{
+    let globals = program.globals.as_slice();
+    let fit = end_within(globals, true, 0, LARGEST_REGION)
+        && end_within(globals, false, VOLATILE_START, VOLATILE_LIMIT);
+    ask(fit, Fault::TooLarge, Place::Whole)
+}

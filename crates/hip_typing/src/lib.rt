@@ -14,6 +14,7 @@ mod refused;
 mod registers;
 mod shape;
 mod table;
+mod uses;
 mod whole;
 
 pub use fault::{Place, TypeFault, TypeRefusal};

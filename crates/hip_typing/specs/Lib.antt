@@ -16,3 +16,4 @@ pub mod TypeLaws
 pub mod Types
 pub mod Tables
 pub mod UsesSeen
+pub mod UseLaws

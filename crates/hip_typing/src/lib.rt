@@ -10,6 +10,7 @@ mod globals;
 mod inner;
 mod named;
 mod names;
+mod operands;
 mod refused;
 mod registers;
 mod shape;

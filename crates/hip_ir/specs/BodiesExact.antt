@@ -36,11 +36,11 @@ maybe_align_exact = optional_same align comma align_read
 
 -- ---- phis
 
-assigned_read : IsRead assigned is_local never
+pub assigned_read : IsRead assigned is_local never
 unfolding assigned
 assigned_read = token_begins a_local _ _ _ not_local (λ name. link _ _ _ (λ _. gives_exact _ _))
 
-edge_read : (s : Scalar) → IsRead (edge s) (is_mark 91) never
+pub edge_read : (s : Scalar) → IsRead (edge s) (is_mark 91) never
 unfolding edge
 edge_read s = begins _ _ _ (λ _. part_link _ _ _ (operand_read s).exact (λ value. link _ _ _ (λ _. link _ _ _ (λ label. link _ _ _ (λ _. gives_exact _ _)))))
 
@@ -196,7 +196,7 @@ br_read : IsRead br (is_word (codes "br")) never
 unfolding br
 br_read = begins _ _ _ (λ _. (either_read jump branch _ _ never jump_read branch_read (word_apart (codes "label") (is_word (codes "i1")) refl)).exact)
 
-case_read : (w : Width) → IsRead (case w) (is_width w) never
+pub case_read : (w : Width) → IsRead (case w) (is_width w) never
 unfolding case
 case_read w = begins _ _ _ (λ _. link _ _ _ (λ value. link _ _ _ (λ _. part_link _ _ _ target_exact (λ label. gives_exact _ _))))
 

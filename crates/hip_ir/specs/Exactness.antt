@@ -127,7 +127,7 @@ not_zero t e = rw e refl
 zero_read : IsRead (token zero_const) (is_word (codes "zeroinitializer")) never
 zero_read = token_read zero_const _ never not_zero
 
-typed_const_read : (value : Ty → Part Fault Const) → ((ty : Ty) → Exact (value ty) never) → IsRead (typed_const value) begins_type never
+pub typed_const_read : (value : Ty → Part Fault Const) → ((ty : Ty) → Exact (value ty) never) → IsRead (typed_const value) begins_type never
 unfolding typed_const
 typed_const_read value p = then_read type _ begins_type never (type_read 32) (λ ty. maps_exact (value ty) _ never (p ty))
 

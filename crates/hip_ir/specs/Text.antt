@@ -3,7 +3,7 @@ use Rattle.std.specs.Prelude.{ℕ, Bool, true, false, ◌||◌, List, [], ◌∷
 use Rattle.hip_types.specs.declared.number.Scalar.{Scalar}
 use Rattle.hip_tokens.specs.Tokens.{Tok}
 use Rattle.hip_rules.specs.Reader.{folded}
-use Rattle.hip_rules.specs.Part.{Part, gives, token, ◌>>=◌, either, repeated, optional, listed}
+use Rattle.hip_rules.specs.Part.{Part, gives, token, ◌>>=◌, either, repeated, optional, listed, skipped}
 use Rattle.hip_ir.specs.declared.block.Block.{Block}
 use Rattle.hip_ir.specs.declared.fault.Fault.{Fault}
 use Rattle.hip_ir.specs.declared.program.Extern.{Extern}
@@ -39,53 +39,57 @@ target_item = do
   _ ← token a_string
   gives DroppedItem
 
+-- { link | unnamed }
+abbrev pub linkages : Part Fault (Unit {0})
+linkages = skipped (is_word_of linkage_word) (token (a_word_of linkage_word))
+
+-- { link }
+abbrev pub links : Part Fault (Unit {0})
+links = skipped (is_word_of link_word) (token (a_word_of link_word))
+
 -- ---- globals
 
--- whether the global is persistent, and its alignment
-pub record Placement : Type 0 where
-  pub persistent : Bool
-  pub align : Option ℕ
-
--- "section" STRING [ align ]
-unfoldable pub section : Part Fault Placement
+-- "section" STRING [ align ], which gives whether the global is persistent, and its alignment
+unfoldable pub section : Part Fault (Bool × Option ℕ)
 section = do
   _ ← word (codes "section")
   _ ← token a_section
   n ← maybe_align
-  gives (record { persistent = true; align = n })
+  gives (true, n)
 
 -- "align" NUM
-unfoldable pub only_align : Part Fault Placement
+unfoldable pub only_align : Part Fault (Bool × Option ℕ)
 only_align = do
   _ ← word (codes "align")
   n ← token an_alignment
-  gives (record { persistent = false; align = Some n })
+  gives (false, Some n)
 
 -- [ "," "section" STRING ] [ align ], where something stands: both begin by the comma, which is taken once
-unfoldable pub placement : Part Fault Placement
+unfoldable pub placement : Part Fault (Bool × Option ℕ)
 placement = do
   _ ← mark 44
   either (is_word (codes "section")) section only_align
 
-abbrev pub is_persistent : Option Placement → Bool
-is_persistent (Some p) = p.persistent
-is_persistent None = false
+abbrev pub placed : Option (Bool × Option ℕ) → Bool × Option ℕ
+placed (Some p) = p
+placed None = (false, None)
 
-abbrev pub alignment : Option Placement → Option ℕ
-alignment (Some p) = p.align
-alignment None = None
+unfoldable pub place : Part Fault (Bool × Option ℕ)
+place = do
+  found ← optional comma placement
+  gives (placed found)
 
 -- global = GLOBAL "=" { link | unnamed } ("global" | "constant") type const [ "," "section" STRING ] [ align ]
 unfoldable pub global : Part Fault Item
 global = do
   name ← token a_global
   _ ← mark 61
-  _ ← repeated (is_word_of linkage_word) (token (a_word_of linkage_word))
+  _ ← linkages
   fixed ← token (a_word_of fixed_word)
   ty ← type
   init ← const ty
-  place ← optional comma placement
-  gives (GlobalItem (record { name = name; fixed = fixed; ty = ty; init = init; persistent = is_persistent place; align = alignment place }))
+  where_it_lies ← place
+  gives (GlobalItem (record { name = name; fixed = fixed; ty = ty; init = init; persistent = where_it_lies.0; align = where_it_lies.1 }))
 
 -- ---- externs and functions
 
@@ -121,7 +125,7 @@ blocks = do
 unfoldable pub function : Part Fault Item
 function = do
   _ ← word (codes "define")
-  _ ← repeated (is_word_of link_word) (token (a_word_of link_word))
+  _ ← links
   result ← ret
   name ← token a_global
   _ ← mark 40

@@ -5,7 +5,7 @@ use Rattle.hip_tokens.specs.Tokens.{Tok, Word, Global, Label, Local, Num, Str, M
 use Rattle.hip_rules.specs.Part.{Part, gives, token, ◌>>=◌, either, repeated, optional, listed}
 use Rattle.hip_rules.specs.Reader.{Outcome, on_ok, next}
 use Rattle.hip_rules.specs.Exact.{never, joined, Exactly, Accepts, Rejects}
-use Rattle.hip_rules.specs.Parts.{Exact, IsRead, Apart, apart_sym, apart_joined, never_apart, joined_apart, begins, token_begins, link, part_link, token_read, token_exact, closed_exact, gives_exact, next_exact, next_read, then_read, maps_exact, maps_read, either_read, optional_exact, optional_same, repeated_same, repeated_exact, separated_read, listed_read, closed_widens, widens}
+use Rattle.hip_rules.specs.Parts.{Exact, IsRead, Apart, apart_sym, apart_joined, never_apart, joined_apart, begins, token_begins, link, part_link, token_read, token_exact, closed_exact, gives_exact, next_exact, next_read, then_read, maps_exact, maps_read, either_read, optional_exact, optional_same, repeated_same, skipped_same, repeated_exact, separated_read, listed_read, closed_widens, widens}
 use Rattle.hip_ir.specs.declared.fault.Fault.{Fault}
 use Rattle.hip_ir.specs.declared.block.Block.{Block}
 use Rattle.hip_ir.specs.declared.program.Program.{Program}
@@ -13,7 +13,7 @@ use Rattle.hip_ir.specs.Words.{is_word, is_mark, is_global, is_label, is_local, 
 use Rattle.hip_ir.specs.Numbers.{an_alignment}
 use Rattle.hip_ir.specs.Grammar.{word, mark, scalar, type, const}
 use Rattle.hip_ir.specs.Bodies.{maybe_align, block}
-use Rattle.hip_ir.specs.Text.{Item, source_filename, target_item, section, only_align, placement, global, maybe_unnamed, extern_item, param, blocks, function, item, begins_item, text}
+use Rattle.hip_ir.specs.Text.{Item, linkages, links, source_filename, target_item, section, only_align, placement, place, global, maybe_unnamed, extern_item, param, blocks, function, item, begins_item, text}
 use Rattle.hip_ir.specs.Reading.{IsRefusedAt}
 use Rattle.hip_ir.specs.Unsupported.{usual}
 use Rattle.hip_ir.specs.Apart.{mark_apart, word_apart, global_apart, label_apart, words_apart, entry_apart, no_entry_apart, not_global, not_word_of}
@@ -56,6 +56,10 @@ placement_read : IsRead placement comma comma
 unfolding placement
 placement_read = begins _ _ _ (λ _. (either_read section only_align _ _ comma section_read only_align_read (word_apart (codes "section") (is_word (codes "align")) refl)).exact)
 
+place_exact : Exact place (joined comma comma)
+unfolding place
+place_exact = maps_exact (optional comma placement) _ (joined comma comma) (optional_exact placement comma comma placement_read)
+
 linkage_read : (f : List ℕ → Option (Unit {0})) → IsRead (token (a_word_of f)) (is_word_of f) never
 linkage_read f = token_read (a_word_of f) (is_word_of f) never (not_word_of f)
 
@@ -65,8 +69,8 @@ fixed_apart = entry_apart linkage_word (codes "global") _ _ refl (entry_apart li
 global_read : IsRead global is_global goes_on_item
 unfolding global
 global_read = widens global is_global (joined comma comma) goes_on_item twice (token_begins a_global is_global _ _ not_global (λ name. link _ _ _ (λ _.
-    next_exact (repeated (is_word_of linkage_word) (token (a_word_of linkage_word))) _ (is_word_of linkage_word) (is_word_of fixed_word) (joined comma comma) (repeated_same _ _ (linkage_read linkage_word))
-    (λ _. token_begins (a_word_of fixed_word) _ _ _ (not_word_of fixed_word) (λ fixed. part_link _ _ _ (type_read 32).exact (λ ty. part_link _ _ _ (const_exact 32 ty) (λ init. maps_exact (optional comma placement) _ (joined comma comma) (optional_exact placement comma comma placement_read)))))
+    next_exact linkages _ (is_word_of linkage_word) (is_word_of fixed_word) (joined comma comma) (skipped_same _ _ (linkage_read linkage_word))
+    (λ _. token_begins (a_word_of fixed_word) _ _ _ (not_word_of fixed_word) (λ fixed. part_link _ _ _ (type_read 32).exact (λ ty. part_link _ _ _ (const_exact 32 ty) (λ init. maps_exact place _ (joined comma comma) place_exact))))
     fixed_apart)))
   where
     twice : (t : Tok) → joined comma comma t ≡ true → goes_on_item t ≡ true
@@ -81,7 +85,7 @@ global_read = widens global is_global (joined comma comma) goes_on_item twice (t
 maybe_unnamed_exact : Exact maybe_unnamed (is_word_of unnamed_word)
 maybe_unnamed_exact = optional_same (token (a_word_of unnamed_word)) (is_word_of unnamed_word) (linkage_read unnamed_word)
 
-scalar_read : IsRead scalar (is_word_of scalar_word) never
+pub scalar_read : IsRead scalar (is_word_of scalar_word) never
 scalar_read = token_read (a_word_of scalar_word) _ never (not_word_of scalar_word)
 
 extern_read : IsRead extern_item (is_word (codes "declare")) goes_on_item
@@ -90,7 +94,7 @@ extern_read = widens extern_item _ (is_word_of unnamed_word) goes_on_item unname
     part_link _ _ _ (listed_read scalar comma (is_mark 41) (is_word_of scalar_word) scalar_read (mark_apart 44 (is_mark 41) refl) (mark_apart 41 (is_word_of scalar_word) refl)).exact
     (λ params. maps_exact maybe_unnamed _ (is_word_of unnamed_word) maybe_unnamed_exact))))))
 
-param_read : IsRead param (is_word_of scalar_word) never
+pub param_read : IsRead param (is_word_of scalar_word) never
 unfolding param
 param_read = token_begins (a_word_of scalar_word) _ _ _ (not_word_of scalar_word) (λ s. link _ _ _ (λ name. gives_exact _ _))
 
@@ -104,7 +108,7 @@ link_apart = apart_sym (is_word_of ret_word) (is_word_of link_word)
 
 function_read : IsRead function (is_word (codes "define")) goes_on_item
 unfolding function
-function_read = begins _ _ _ (λ _. next_exact (repeated (is_word_of link_word) (token (a_word_of link_word))) _ (is_word_of link_word) (is_word_of ret_word) goes_on_item (repeated_same _ _ (linkage_read link_word))
+function_read = begins _ _ _ (λ _. next_exact links _ (is_word_of link_word) (is_word_of ret_word) goes_on_item (skipped_same _ _ (linkage_read link_word))
     (λ _. token_begins (a_word_of ret_word) (is_word_of ret_word) _ _ (not_word_of ret_word) (λ result. link _ _ _ (λ name. link _ _ _ (λ _.
     part_link _ _ _ (listed_read param comma (is_mark 41) (is_word_of scalar_word) param_read (mark_apart 44 (is_mark 41) refl) (mark_apart 41 (is_word_of scalar_word) refl)).exact
     (λ params. next_exact maybe_unnamed _ (is_word_of unnamed_word) (is_mark 123) goes_on_item maybe_unnamed_exact
@@ -114,7 +118,7 @@ function_read = begins _ _ _ (λ _. next_exact (repeated (is_word_of link_word) 
 
 -- ---- texts
 
-item_read : IsRead item begins_item goes_on_item
+pub item_read : IsRead item begins_item goes_on_item
 unfolding item
 item_read = either_read global _ _ _ goes_on_item global_read (either_read extern_item _ _ _ goes_on_item extern_read (either_read function _ _ _ goes_on_item function_read
     (either_read source_filename target_item _ _ goes_on_item source_filename_read target_item_read

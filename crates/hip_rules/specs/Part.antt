@@ -56,6 +56,10 @@ some_up_to k close l = separated k l >>= λ items. passing close >>= λ _. gives
 unfoldable pub listed : {F A : Type 0} → (Tok → Bool) → (Tok → Bool) → Part F A → Part F (List A)
 listed k close l = either close (none_up_to close) (some_up_to k close l)
 
+-- any number, of which nothing is kept
+unfoldable pub skipped : {F A : Type 0} → (Tok → Bool) → Part F A → Part F (Unit {0})
+skipped k l = repeated k l >>= λ _. gives tt
+
 -- Any number of parts of one kind, and what follows them, which may begin by the same head.
 -- The rule reads the parts and then what follows. The reading goes by the next tokens: behind a head that no such part follows comes `after_head`, and where no head stands `no_head`.
 abbrev pub phased : {F X P B : Type 0} → (Tok → Bool) → Part F X → (Tok → Bool) → (X → Part F P) → (List P → X → Part F B) → (List P → Part F B) → (List P → Part F B) → Part F B

@@ -3,7 +3,7 @@ use Rattle.std.proofs.Common.{◌≡◌, ℕ, ◌≤◌, ◌<◌, Bool, true, fa
 use Rattle.hip_tokens.specs.Tokens.{Tok, At}
 use Rattle.hip_rules.specs.Rule.{Rule, Verdict, No, done, one, both, ◌or◌, perhaps, many, AllDerive}
 use Rattle.hip_rules.specs.Reader.{Outcome, next, on_ok}
-use Rattle.hip_rules.specs.Part.{Part, gives, token, ◌>>=◌, either, repeated, optional, phased, the, passing, one_more_by, separated, none_up_to, some_up_to, listed}
+use Rattle.hip_rules.specs.Part.{Part, gives, token, ◌>>=◌, either, repeated, optional, phased, the, passing, one_more_by, separated, none_up_to, some_up_to, listed, skipped}
 use Rattle.hip_rules.specs.Exact.{IsExact, Exactly, Accepts, IsAbsent, never, never_next, joined, next_left, next_right, next_widens, next_not_left, next_not_right, mapped, both_empty, both_whole, both_within, both_later, both_closed, one_exact, done_exact, both_exact, then_exact, or_exact, or_takes_some, exact_widens, many_exact, perhaps_exact, both_absent, or_absent, token_absent, token_takes_some}
 use Rattle.hip_rules.specs.Same.{IsSame}
 use Rattle.hip_rules.specs.Phases.{phases_exact}
@@ -311,3 +311,7 @@ module _ (F A B : Type 0) (l : Part F A) (f : List A → Part F B) (k c second d
     absent = repeated_absent;
     some = repeated_some;
   }
+
+pub skipped_same : {F A : Type 0} (l : Part F A) (k : Tok → Bool) → IsRead l k never → Exact (skipped k l) k
+unfolding skipped
+skipped_same l k p = maps_exact (repeated k l) (λ _. tt) k (repeated_same l k p)

@@ -1,0 +1,27 @@
+use Rattle.std.proofs.Common.{sym, ◌∙◌}
+use Rattle.std.proofs.lemmas.Result.{err_from_is_err_and}
+use Rattle.hip_rules.specs.Loops.{goes_on, is_done}
+use Rattle.hip_ir.specs.declared.fault.Fault.{Fault}
+use Rattle.hip_parse.specs.Left.{left}
+use Rattle.hip_parse.proofs.Loops.{ends}
+use Rattle.hip_types.specs.declared.ty.Ty.{Ty}
+use Rattle.hip_rules.specs.Part.{one_more_by}
+use Rattle.hip_ir.specs.Words.{comma}
+use Rattle.hip_ir.specs.Grammar.{type_within}
+use Rattle.hip_parse.proofs.Some.{type_some}
+use Rattle.hip_parse.proofs.parser.Parser.+types.Goals as goal
+
+pub more_fields-returns-in_err-item : goal.more_fields-returns-in_err-item
+more_fields-returns-in_err-item t c =
+    let p = err_from_is_err_and c.from_residual.result c.from_residual.ensures.1 in
+    rw (p.1, p.2) (ends Ty comma (one_more_by comma (type_within c.args.depth)).read (type_some c.args.depth) c.in_err-item.field-0.0 c.more.items (left c.more.self) (left c.next_field.new.self) _ (sym c.at_mark.ensures ∙ c.more-test.true) c.in_err-item.ensures c.more.invariant)
+
+pub more_fields-more-smaller : goal.more_fields-more-smaller
+more_fields-more-smaller t c = type_some c.args.depth (left c.more.self) (c.in_ok-item.item, left c.next_field.new.self) c.in_ok-item.ensures
+
+pub more_fields-more-preserved : goal.more_fields-more-preserved
+more_fields-more-preserved t c =
+    rw c.in_ok-push.ensures.ok (goes_on Fault Ty comma (one_more_by comma (type_within c.args.depth)).read (type_some c.args.depth) c.more.items (left c.more.self) c.in_ok-item.item (left c.next_field.new.self) _ (sym c.at_mark.ensures ∙ c.more-test.true) c.in_ok-item.ensures c.more.invariant)
+
+pub more_fields-returns : goal.more_fields-returns
+more_fields-returns t c = is_done Fault Ty comma (one_more_by comma (type_within c.args.depth)).read (type_some c.args.depth) c.more.items (left c.more.self) _ (sym c.at_mark.ensures ∙ c.more-test.false) c.more.invariant

@@ -1,0 +1,10 @@
+-- The items of the code.
+use Rattle.hip_ir.specs.Text.{Item, GlobalItem, ExternItem, FunctionItem, DroppedItem}
+use Rattle.hip_parse.specs.declared.items.Item.{Item as CodeItem}
+use Rattle.hip_parse.specs.declared.items.Item.TheVariants as code
+
+abbrev pub item_of : CodeItem → Item
+item_of (code.Global g) = GlobalItem g
+item_of (code.Extern e) = ExternItem e
+item_of (code.Function f) = FunctionItem f
+item_of code.Dropped = DroppedItem

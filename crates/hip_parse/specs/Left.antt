@@ -1,0 +1,36 @@
+-- What a parser has left, and what its methods say of it.
+use Rattle.std.specs.Prelude.{◌≡◌, ℕ, List, [], ◌∷◌, Option, Some, None, Result, Ok, Err}
+use Rattle.hip_tokens.specs.declared.lexer.Token.{Token}
+use Rattle.hip_tokens.specs.Tokens.{At, cut}
+use Rattle.hip_tokens.specs.Seen.{seen}
+use Rattle.hip_rules.specs.Reader.{Outcome}
+use Rattle.hip_ir.specs.declared.fault.Fault.{Fault}
+use Rattle.hip_parse.specs.declared.error.ReadError.{ReadError}
+use Rattle.hip_parse.specs.declared.error.ReadError.TheVariants as errors
+use Rattle.hip_parse.specs.declared.parser.Parser.{Parser}
+
+abbrev pub and_after : Option (Token × ℕ) → List At → List At
+and_after None ts = []
+and_after (Some x) ts = (record { tok = seen x.0; line = x.1 }) ∷ ts
+
+-- the tokens from the next one on
+unfoldable pub left : Parser → List At
+left p = and_after p.token (cut p.lexer.line 0 p.lexer.rest.now)
+
+abbrev pub tail : List At → List At
+tail [] = []
+tail (t ∷ ts) = ts
+
+-- What a method gave, seen by `view`, is what the reading gives. The parser then stands behind it, or at the refused place.
+abbrev pub Gives : {X Y : Type 0} → (X → Y) → Result X (Option Fault) → Outcome Fault Y → List At → Type 0
+Gives view (Ok x) read after = read ≡ Ok (view x, after)
+Gives view (Err why) read after = read ≡ Err (why, after)
+
+-- the same of a method that takes memory
+abbrev pub Fails : {Y : Type 0} → ReadError → Outcome Fault Y → List At → Type 0
+Fails errors.Memory read after = Unit {0}
+Fails (errors.Refused why) read after = read ≡ Err (why, after)
+
+abbrev pub Takes : {X Y : Type 0} → (X → Y) → Result X ReadError → Outcome Fault Y → List At → Type 0
+Takes view (Ok x) read after = read ≡ Ok (view x, after)
+Takes view (Err e) read after = Fails e read after

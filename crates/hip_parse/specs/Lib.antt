@@ -1,0 +1,3 @@
+pub mod Left
+pub mod Items
+pub mod Meaning

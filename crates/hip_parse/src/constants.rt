@@ -1,0 +1,463 @@
+//! Constants and operands.
+
+ghost use Rattle.std.specs.Prelude.{◌≡◌, ℕ, List, [], ◌∷◌, ◌++◌, IfOk, codes};
+ghost use Rattle.hip_types.specs.declared.number.Scalar.TheVariants.{Ptr};
+ghost use Rattle.hip_rules.specs.Part.{token, either, one_more_by, separated, listed};
+ghost use Rattle.hip_rules.specs.Reader.{many_at, with_front};
+ghost use Rattle.hip_ir.specs.Words.{is_mark, comma, too_deep};
+ghost use Rattle.hip_ir.specs.Numbers.{an_int_const};
+ghost use Rattle.hip_ir.specs.Grammar.{a_pointer, zero_const, literal_index, gep_inside, gep_const, pointer_within, typed_const, const_list, array_const, struct_const, const_within, scalar_const, register, fixed_operand, operand, arg, index};
+ghost use Rattle.hip_parse.specs.Left.{left, Gives, Takes};
+
+use crate::error::ReadError;
+use crate::parser::Parser;
+use hip_ir::{Arg, Const, ConstGep, Fault, Operand, TypedConst};
+use hip_tokens::Token;
+use hip_types::{Bits, Link, Name, NoMemory, Row, Scalar, Ty};
+use std::alloc::Global;
+
+/// A name of its own.
+pub(crate) fn name_of(alloc: Global, text: &[u8]) -> Result<Name, NoMemory>
+    ensures { IfOk result (λ name. name ≡ text.now) }
+{
+    match Vec::from_slice(alloc, text) {
+        Ok(bytes) => Ok(Row::from_vec(bytes)),
+        Err(_) => Err(NoMemory),
+    }
+}
+
+impl<'a> Parser<'a> {
+    // ---- constants under `ptr`
+
+    #[tactic(auto, unfolding(hip_ir::specs::Grammar::literal_index))]
+    fn literal_index(&mut self) -> Result<Bits, Option<Fault>>
+        ensures { Gives (λ x. x) result (literal_index.read (left self.old)) (left self.new) }
+    {
+        let width = self.width()?;
+        self.literal(width)
+    }
+
+    #[tactic(auto, unfolding(hip_rules::specs::Part::one_more_by))]
+    fn next_literal_index(&mut self) -> Result<Bits, Option<Fault>>
+        ensures { Gives (λ x. x) result ((one_more_by comma literal_index).read (left self.old)) (left self.new) }
+    {
+        self.mark(b',')?;
+        self.literal_index()
+    }
+
+    fn more_literal_indices(&mut self, items: Row<Bits>) -> Result<Row<Bits>, ReadError>
+        ensures { Takes (λ x. x) result (with_front items (many_at comma (one_more_by comma literal_index).read (left self.old))) (left self.new) }
+    {
+        let mut items = items;
+        'more: while self.at_mark(b',') {
+            let item = self.next_literal_index()?;
+            items.push(item)?;
+        }
+        Ok(items)
+    }
+
+    #[tactic(auto, unfolding(hip_rules::specs::Part::separated))]
+    fn literal_indices(&mut self, alloc: Global) -> Result<Row<Bits>, ReadError>
+        ensures { Takes (λ x. x) result ((separated comma literal_index).read (left self.old)) (left self.new) }
+    {
+        let first = self.literal_index()?;
+        let mut items = Row::new(alloc);
+        items.push(first)?;
+        self.more_literal_indices(items)
+    }
+
+    /// A constant under `ptr` that opens nothing.
+    #[tactic(auto, unfolding(crate::specs::Left::left))]
+    fn simple_pointer(&mut self, alloc: Global) -> Result<Const, ReadError>
+        ensures { Takes (λ x. x) result ((token a_pointer).read (left self.old)) (left self.new) }
+    {
+        match self.token {
+            Some((Token::Word(t), _)) => {
+                if t == b"null".as_slice() {
+                    self.advance();
+                    Ok(Const::Null)
+                } else if t == b"zeroinitializer".as_slice() {
+                    self.advance();
+                    Ok(Const::Zero)
+                } else {
+                    Err(ReadError::Refused(None))
+                }
+            }
+            Some((Token::Global(t), _)) => {
+                self.advance();
+                Ok(Const::Address(name_of(alloc, t)?))
+            }
+            _ => Err(ReadError::Refused(None)),
+        }
+    }
+
+    /// A `getelementptr` where none may open any more.
+    #[tactic(auto, unfolding(crate::specs::Left::left, hip_ir::specs::Grammar::gep_const))]
+    fn shallow_gep(&mut self) -> Result<Const, Option<Fault>>
+        ensures { Gives (λ x. x) result ((gep_const (λ inbounds. token (too_deep 40))).read (left self.old)) (left self.new) }
+    {
+        self.word(b"getelementptr")?;
+        let _inbounds = self.maybe_word(b"inbounds")?;
+        if self.at_mark(b'(') {
+            Err(Some(Fault::TooDeep))
+        } else {
+            Err(None)
+        }
+    }
+
+    /// A constant under `ptr`, with at most `depth` `getelementptr` in one another.
+    #[cycle(pointers)]
+    #[tactic(auto, unfolding(hip_ir::specs::Grammar::pointer_within, hip_ir::specs::Grammar::pointer_by))]
+    pub(crate) fn pointer(&mut self, alloc: Global, depth: u32) -> Result<Const, ReadError>
+        ensures { Takes (λ x. x) result ((pointer_within depth).read (left self.old)) (left self.new) }
+    {
+        if !self.at_word(b"getelementptr") {
+            self.simple_pointer(alloc)
+        } else if depth == 0 {
+            let value = self.shallow_gep()?;
+            Ok(value)
+        } else {
+            self.gep_const(alloc, depth - 1)
+        }
+    }
+
+    #[cycle(pointers)]
+    #[tactic(auto, unfolding(hip_ir::specs::Grammar::gep_const))]
+    fn gep_const(&mut self, alloc: Global, depth: u32) -> Result<Const, ReadError>
+        ensures { Takes (λ x. x) result ((gep_const (gep_inside (pointer_within depth))).read (left self.old)) (left self.new) }
+    {
+        self.word(b"getelementptr")?;
+        let inbounds = self.maybe_word(b"inbounds")?;
+        self.gep_inside(alloc, depth, inbounds)
+    }
+
+    #[cycle(pointers)]
+    #[tactic(auto, unfolding(hip_ir::specs::Grammar::gep_inside))]
+    fn gep_inside(&mut self, alloc: Global, depth: u32, inbounds: bool) -> Result<Const, ReadError>
+        ensures { Takes (λ x. x) result ((gep_inside (pointer_within depth) inbounds).read (left self.old)) (left self.new) }
+    {
+        self.mark(b'(')?;
+        let ty = self.ty(alloc, 32)?;
+        self.mark(b',')?;
+        self.word(b"ptr")?;
+        let base = self.pointer(alloc, depth)?;
+        self.mark(b',')?;
+        let indices = self.literal_indices(alloc)?;
+        self.mark(b')')?;
+        let gep = ConstGep {
+            inbounds,
+            ty,
+            base,
+            indices,
+        };
+        Ok(Const::Gep(Link::new(alloc, gep)?))
+    }
+
+    // ---- constants under any type
+
+    #[tactic(auto, unfolding(crate::specs::Left::left))]
+    fn zero_const(&mut self) -> Result<Const, Option<Fault>>
+        ensures { Gives (λ x. x) result ((token zero_const).read (left self.old)) (left self.new) }
+    {
+        if self.at_word(b"zeroinitializer") {
+            self.advance();
+            Ok(Const::Zero)
+        } else {
+            Err(None)
+        }
+    }
+
+    /// An aggregate constant where no level is left.
+    #[tactic(auto, unfolding(crate::specs::Left::left, hip_ir::specs::Grammar::array_const))]
+    fn shallow_array(&mut self) -> Result<Const, Option<Fault>>
+        ensures { Gives (λ x. x) result ((either (is_mark 91) (array_const (token (too_deep 91))) (token zero_const)).read (left self.old)) (left self.new) }
+    {
+        if self.at_mark(b'[') {
+            Err(Some(Fault::TooDeep))
+        } else {
+            self.zero_const()
+        }
+    }
+
+    #[tactic(auto, unfolding(crate::specs::Left::left, hip_ir::specs::Grammar::struct_const))]
+    fn shallow_struct(&mut self) -> Result<Const, Option<Fault>>
+        ensures { Gives (λ x. x) result ((either (is_mark 123) (struct_const (token (too_deep 123))) (token zero_const)).read (left self.old)) (left self.new) }
+    {
+        if self.at_mark(b'{') {
+            Err(Some(Fault::TooDeep))
+        } else {
+            self.zero_const()
+        }
+    }
+
+    /// A constant under the type, where no level is left.
+    #[tactic(auto, unfolding(hip_ir::specs::Grammar::const_within, hip_ir::specs::Grammar::const_by))]
+    fn shallow_const(&mut self, alloc: Global, ty: &Ty) -> Result<Const, ReadError>
+        ensures { Takes (λ x. x) result ((const_within 0 ty.now).read (left self.old)) (left self.new) }
+    {
+        match ty {
+            Ty::Int(width) => {
+                let value = self.int_const(*width)?;
+                Ok(value)
+            }
+            Ty::Ptr => self.pointer(alloc, 32),
+            Ty::Array(_, _) => {
+                let value = self.shallow_array()?;
+                Ok(value)
+            }
+            Ty::Struct(_) => {
+                let value = self.shallow_struct()?;
+                Ok(value)
+            }
+        }
+    }
+
+    /// A constant under the type, whose bracketed and braced constants are nested at most `depth` deep.
+    #[cycle(constants)]
+    #[tactic(auto, unfolding(hip_ir::specs::Grammar::const_within, hip_ir::specs::Grammar::const_by))]
+    pub(crate) fn const_value(
+        &mut self,
+        alloc: Global,
+        depth: u32,
+        ty: &Ty,
+    ) -> Result<Const, ReadError>
+        ensures { Takes (λ x. x) result ((const_within depth ty.now).read (left self.old)) (left self.new) }
+    {
+        if depth == 0 {
+            return self.shallow_const(alloc, ty);
+        }
+        match ty {
+            Ty::Int(width) => {
+                let value = self.int_const(*width)?;
+                Ok(value)
+            }
+            Ty::Ptr => self.pointer(alloc, 32),
+            Ty::Array(_, _) => self.array_value(alloc, depth - 1),
+            Ty::Struct(_) => self.struct_value(alloc, depth - 1),
+        }
+    }
+
+    #[cycle(constants)]
+    #[tactic(auto, unfolding(hip_ir::specs::Grammar::array_const))]
+    fn array_value(&mut self, alloc: Global, depth: u32) -> Result<Const, ReadError>
+        ensures { Takes (λ x. x) result ((either (is_mark 91) (array_const (const_list 91 93 (const_within depth))) (token zero_const)).read (left self.old)) (left self.new) }
+    {
+        if self.at_mark(b'[') {
+            let elements = self.elements(alloc, depth)?;
+            Ok(Const::Array(elements))
+        } else {
+            let value = self.zero_const()?;
+            Ok(value)
+        }
+    }
+
+    #[cycle(constants)]
+    #[tactic(auto, unfolding(hip_ir::specs::Grammar::struct_const))]
+    fn struct_value(&mut self, alloc: Global, depth: u32) -> Result<Const, ReadError>
+        ensures { Takes (λ x. x) result ((either (is_mark 123) (struct_const (const_list 123 125 (const_within depth))) (token zero_const)).read (left self.old)) (left self.new) }
+    {
+        if self.at_mark(b'{') {
+            let fields = self.field_values(alloc, depth)?;
+            Ok(Const::Struct(fields))
+        } else {
+            let value = self.zero_const()?;
+            Ok(value)
+        }
+    }
+
+    #[cycle(constants)]
+    #[tactic(auto, unfolding(hip_ir::specs::Grammar::const_list, hip_rules::specs::Part::listed, hip_rules::specs::Part::none_up_to, hip_rules::specs::Part::some_up_to))]
+    fn elements(&mut self, alloc: Global, depth: u32) -> Result<Row<TypedConst>, ReadError>
+        ensures { Takes (λ x. x) result ((const_list 91 93 (const_within depth)).read (left self.old)) (left self.new) }
+    {
+        self.mark(b'[')?;
+        if self.at_mark(b']') {
+            self.mark(b']')?;
+            return Ok(Row::new(alloc));
+        }
+        let items = self.some_consts(alloc, depth)?;
+        self.mark(b']')?;
+        Ok(items)
+    }
+
+    #[cycle(constants)]
+    #[tactic(auto, unfolding(hip_ir::specs::Grammar::const_list, hip_rules::specs::Part::listed, hip_rules::specs::Part::none_up_to, hip_rules::specs::Part::some_up_to))]
+    fn field_values(&mut self, alloc: Global, depth: u32) -> Result<Row<TypedConst>, ReadError>
+        ensures { Takes (λ x. x) result ((const_list 123 125 (const_within depth)).read (left self.old)) (left self.new) }
+    {
+        self.mark(b'{')?;
+        if self.at_mark(b'}') {
+            self.mark(b'}')?;
+            return Ok(Row::new(alloc));
+        }
+        let items = self.some_consts(alloc, depth)?;
+        self.mark(b'}')?;
+        Ok(items)
+    }
+
+    #[cycle(constants)]
+    #[tactic(auto, unfolding(hip_ir::specs::Grammar::typed_const))]
+    fn typed_const(&mut self, alloc: Global, depth: u32) -> Result<TypedConst, ReadError>
+        ensures { Takes (λ x. x) result ((typed_const (const_within depth)).read (left self.old)) (left self.new) }
+    {
+        let ty = self.ty(alloc, 32)?;
+        let value = self.const_value(alloc, depth, &ty)?;
+        Ok(TypedConst { ty, value })
+    }
+
+    #[cycle(constants)]
+    #[tactic(auto, unfolding(hip_rules::specs::Part::separated))]
+    fn some_consts(&mut self, alloc: Global, depth: u32) -> Result<Row<TypedConst>, ReadError>
+        ensures { Takes (λ x. x) result ((separated comma (typed_const (const_within depth))).read (left self.old)) (left self.new) }
+    {
+        let first = self.typed_const(alloc, depth)?;
+        let mut items = Row::new(alloc);
+        items.push(first)?;
+        self.more_consts(alloc, depth, items)
+    }
+
+    #[cycle(constants)]
+    #[tactic(auto, unfolding(hip_rules::specs::Part::one_more_by))]
+    fn next_const(&mut self, alloc: Global, depth: u32) -> Result<TypedConst, ReadError>
+        ensures { Takes (λ x. x) result ((one_more_by comma (typed_const (const_within depth))).read (left self.old)) (left self.new) }
+    {
+        self.mark(b',')?;
+        self.typed_const(alloc, depth)
+    }
+
+    #[cycle(constants)]
+    fn more_consts(
+        &mut self,
+        alloc: Global,
+        depth: u32,
+        items: Row<TypedConst>,
+    ) -> Result<Row<TypedConst>, ReadError>
+        ensures { Takes (λ x. x) result (with_front items (many_at comma (one_more_by comma (typed_const (const_within depth))).read (left self.old))) (left self.new) }
+    {
+        let mut items = items;
+        'more: while self.at_mark(b',') {
+            let item = self.next_const(alloc, depth)?;
+            items.push(item)?;
+        }
+        Ok(items)
+    }
+
+    // ---- operands
+
+    #[tactic(auto, unfolding(hip_ir::specs::Grammar::scalar_const))]
+    fn scalar_const(&mut self, alloc: Global, scalar: Scalar) -> Result<Const, ReadError>
+        ensures { Takes (λ x. x) result ((scalar_const scalar).read (left self.old)) (left self.new) }
+    {
+        match scalar {
+            Scalar::Int(width) => {
+                let value = self.int_const(width)?;
+                Ok(value)
+            }
+            Scalar::Ptr => self.pointer(alloc, 32),
+        }
+    }
+
+    /// A register, or a constant under the type.
+    #[tactic(auto, unfolding(hip_ir::specs::Grammar::operand, hip_ir::specs::Grammar::register, hip_ir::specs::Grammar::fixed_operand))]
+    pub(crate) fn operand(&mut self, alloc: Global, scalar: Scalar) -> Result<Operand, ReadError>
+        ensures { Takes (λ x. x) result ((operand scalar).read (left self.old)) (left self.new) }
+    {
+        if self.at_local() {
+            let name = self.local()?;
+            Ok(Operand::Reg(name_of(alloc, name)?))
+        } else {
+            let value = self.scalar_const(alloc, scalar)?;
+            Ok(Operand::Fixed(value))
+        }
+    }
+
+    #[tactic(auto, unfolding(hip_ir::specs::Grammar::arg))]
+    pub(crate) fn arg(&mut self, alloc: Global) -> Result<Arg, ReadError>
+        ensures { Takes (λ x. x) result (arg.read (left self.old)) (left self.new) }
+    {
+        let ty = self.scalar()?;
+        let value = self.operand(alloc, ty)?;
+        Ok(Arg { ty, value })
+    }
+
+    #[tactic(auto, unfolding(hip_ir::specs::Grammar::index))]
+    fn index(&mut self, alloc: Global) -> Result<Arg, ReadError>
+        ensures { Takes (λ x. x) result (index.read (left self.old)) (left self.new) }
+    {
+        let width = self.width()?;
+        let ty = Scalar::Int(width);
+        let value = self.operand(alloc, ty)?;
+        Ok(Arg { ty, value })
+    }
+
+    #[tactic(auto, unfolding(hip_rules::specs::Part::listed, hip_rules::specs::Part::none_up_to, hip_rules::specs::Part::some_up_to))]
+    pub(crate) fn args(&mut self, alloc: Global) -> Result<Row<Arg>, ReadError>
+        ensures { Takes (λ x. x) result ((listed comma (is_mark 41) arg).read (left self.old)) (left self.new) }
+    {
+        if self.at_mark(b')') {
+            self.mark(b')')?;
+            return Ok(Row::new(alloc));
+        }
+        let items = self.some_args(alloc)?;
+        self.mark(b')')?;
+        Ok(items)
+    }
+
+    #[tactic(auto, unfolding(hip_rules::specs::Part::separated))]
+    fn some_args(&mut self, alloc: Global) -> Result<Row<Arg>, ReadError>
+        ensures { Takes (λ x. x) result ((separated comma arg).read (left self.old)) (left self.new) }
+    {
+        let first = self.arg(alloc)?;
+        let mut items = Row::new(alloc);
+        items.push(first)?;
+        self.more_args(alloc, items)
+    }
+
+    #[tactic(auto, unfolding(hip_rules::specs::Part::one_more_by))]
+    fn next_arg(&mut self, alloc: Global) -> Result<Arg, ReadError>
+        ensures { Takes (λ x. x) result ((one_more_by comma arg).read (left self.old)) (left self.new) }
+    {
+        self.mark(b',')?;
+        self.arg(alloc)
+    }
+
+    fn more_args(&mut self, alloc: Global, items: Row<Arg>) -> Result<Row<Arg>, ReadError>
+        ensures { Takes (λ x. x) result (with_front items (many_at comma (one_more_by comma arg).read (left self.old))) (left self.new) }
+    {
+        let mut items = items;
+        'more: while self.at_mark(b',') {
+            let item = self.next_arg(alloc)?;
+            items.push(item)?;
+        }
+        Ok(items)
+    }
+
+    #[tactic(auto, unfolding(hip_rules::specs::Part::separated))]
+    pub(crate) fn indices(&mut self, alloc: Global) -> Result<Row<Arg>, ReadError>
+        ensures { Takes (λ x. x) result ((separated comma index).read (left self.old)) (left self.new) }
+    {
+        let first = self.index(alloc)?;
+        let mut items = Row::new(alloc);
+        items.push(first)?;
+        self.more_indices(alloc, items)
+    }
+
+    #[tactic(auto, unfolding(hip_rules::specs::Part::one_more_by))]
+    fn next_index(&mut self, alloc: Global) -> Result<Arg, ReadError>
+        ensures { Takes (λ x. x) result ((one_more_by comma index).read (left self.old)) (left self.new) }
+    {
+        self.mark(b',')?;
+        self.index(alloc)
+    }
+
+    fn more_indices(&mut self, alloc: Global, items: Row<Arg>) -> Result<Row<Arg>, ReadError>
+        ensures { Takes (λ x. x) result (with_front items (many_at comma (one_more_by comma index).read (left self.old))) (left self.new) }
+    {
+        let mut items = items;
+        'more: while self.at_mark(b',') {
+            let item = self.next_index(alloc)?;
+            items.push(item)?;
+        }
+        Ok(items)
+    }
+}

@@ -1,0 +1,381 @@
+//! Instructions.
+
+ghost use Rattle.std.specs.Prelude.{◌≡◌, ℕ, List, [], ◌∷◌, ◌++◌, codes, None};
+ghost use Rattle.hip_rules.specs.Part.{token};
+ghost use Rattle.hip_rules.specs.Reader.{many_at, next};
+ghost use Rattle.hip_ir.specs.Bodies.{align, maybe_align, assigned, with_flag, flags, binary, compare, select, int_cast, ptrtoint, inttoptr, alloca, load, gep, plain_call, call, store, memory_instr, cast_instr, value_instr, effect_instr, assigning_instr, instr, begins_effect, begins_instr};
+ghost use Rattle.hip_parse.specs.Left.{left, Gives, Takes};
+
+use crate::constants::name_of;
+use crate::error::ReadError;
+use crate::parser::Parser;
+use crate::words::scalar_text;
+use hip_ir::{Fault, Flags, Instr};
+use hip_types::{BinaryOp, CastOp, Name, Scalar, Width};
+use std::alloc::Global;
+
+/// The flags of both.
+fn with_flag(a: Flags, b: Flags) -> Flags
+    ensures { result ≡ with_flag a b }
+{
+    Flags {
+        nuw: a.nuw | b.nuw,
+        nsw: a.nsw | b.nsw,
+        exact: a.exact | b.exact,
+    }
+}
+
+impl<'a> Parser<'a> {
+    #[tactic(auto, unfolding(hip_ir::specs::Bodies::align))]
+    fn align(&mut self) -> Result<u64, Option<Fault>>
+        ensures { Gives (λ x. x) result (align.read (left self.old)) (left self.new) }
+    {
+        self.mark(b',')?;
+        self.word(b"align")?;
+        self.alignment()
+    }
+
+    pub(crate) fn maybe_align(&mut self) -> Result<Option<u64>, Option<Fault>>
+        ensures { Gives (λ x. x) result (maybe_align.read (left self.old)) (left self.new) }
+    {
+        if self.at_mark(b',') {
+            let n = self.align()?;
+            Ok(Some(n))
+        } else {
+            Ok(None)
+        }
+    }
+
+    #[tactic(auto, unfolding(hip_ir::specs::Bodies::flags))]
+    fn flags(&mut self, op: BinaryOp) -> Result<Flags, Option<Fault>>
+        ensures { Gives (λ x. x) result ((flags op).read (left self.old)) (left self.new) }
+    {
+        let mut set = Flags {
+            nuw: false,
+            nsw: false,
+            exact: false,
+        };
+        'more: while self.at_flag(op) {
+            let item = self.flag(op)?;
+            set = with_flag(set, item);
+        }
+        Ok(set)
+    }
+
+    #[tactic(auto, unfolding(hip_ir::specs::Bodies::binary))]
+    fn binary(&mut self, alloc: Global, dest: Name) -> Result<Instr, ReadError>
+        ensures { Takes (λ x. x) result ((binary dest).read (left self.old)) (left self.new) }
+    {
+        let op = self.binary_op()?;
+        let flags = self.flags(op)?;
+        let width = self.width()?;
+        let a = self.operand(alloc, Scalar::Int(width))?;
+        self.mark(b',')?;
+        let b = self.operand(alloc, Scalar::Int(width))?;
+        Ok(Instr::Binary {
+            dest,
+            op,
+            flags,
+            width,
+            a,
+            b,
+        })
+    }
+
+    #[tactic(auto, unfolding(hip_ir::specs::Bodies::compare))]
+    fn compare(&mut self, alloc: Global, dest: Name) -> Result<Instr, ReadError>
+        ensures { Takes (λ x. x) result ((compare dest).read (left self.old)) (left self.new) }
+    {
+        self.word(b"icmp")?;
+        let pred = self.pred()?;
+        let ty = self.scalar()?;
+        let a = self.operand(alloc, ty)?;
+        self.mark(b',')?;
+        let b = self.operand(alloc, ty)?;
+        Ok(Instr::Compare {
+            dest,
+            pred,
+            ty,
+            a,
+            b,
+        })
+    }
+
+    #[tactic(auto, unfolding(hip_ir::specs::Bodies::select))]
+    fn select(&mut self, alloc: Global, dest: Name) -> Result<Instr, ReadError>
+        ensures { Takes (λ x. x) result ((select dest).read (left self.old)) (left self.new) }
+    {
+        self.word(b"select")?;
+        self.word(b"i1")?;
+        let cond = self.operand(alloc, Scalar::Int(Width::W1))?;
+        self.mark(b',')?;
+        let ty = self.scalar()?;
+        let a = self.operand(alloc, ty)?;
+        self.mark(b',')?;
+        self.word(scalar_text(ty))?;
+        let b = self.operand(alloc, ty)?;
+        Ok(Instr::Select {
+            dest,
+            cond,
+            ty,
+            a,
+            b,
+        })
+    }
+
+    #[tactic(auto, unfolding(hip_ir::specs::Bodies::int_cast))]
+    fn int_cast(&mut self, alloc: Global, dest: Name) -> Result<Instr, ReadError>
+        ensures { Takes (λ x. x) result ((int_cast dest).read (left self.old)) (left self.new) }
+    {
+        let op = self.int_cast_op()?;
+        let width = self.width()?;
+        let from = Scalar::Int(width);
+        let a = self.operand(alloc, from)?;
+        self.word(b"to")?;
+        let width = self.width()?;
+        let to = Scalar::Int(width);
+        Ok(Instr::Cast {
+            dest,
+            op,
+            from,
+            a,
+            to,
+        })
+    }
+
+    #[tactic(auto, unfolding(hip_ir::specs::Bodies::ptrtoint))]
+    fn ptrtoint(&mut self, alloc: Global, dest: Name) -> Result<Instr, ReadError>
+        ensures { Takes (λ x. x) result ((ptrtoint dest).read (left self.old)) (left self.new) }
+    {
+        self.word(b"ptrtoint")?;
+        self.word(b"ptr")?;
+        let a = self.operand(alloc, Scalar::Ptr)?;
+        self.word(b"to")?;
+        let width = self.width()?;
+        Ok(Instr::Cast {
+            dest,
+            op: CastOp::Ptrtoint,
+            from: Scalar::Ptr,
+            a,
+            to: Scalar::Int(width),
+        })
+    }
+
+    #[tactic(auto, unfolding(hip_ir::specs::Bodies::inttoptr))]
+    fn inttoptr(&mut self, alloc: Global, dest: Name) -> Result<Instr, ReadError>
+        ensures { Takes (λ x. x) result ((inttoptr dest).read (left self.old)) (left self.new) }
+    {
+        self.word(b"inttoptr")?;
+        let width = self.width()?;
+        let a = self.operand(alloc, Scalar::Int(width))?;
+        self.word(b"to")?;
+        self.word(b"ptr")?;
+        Ok(Instr::Cast {
+            dest,
+            op: CastOp::Inttoptr,
+            from: Scalar::Int(width),
+            a,
+            to: Scalar::Ptr,
+        })
+    }
+
+    #[tactic(auto, unfolding(hip_ir::specs::Bodies::alloca))]
+    fn alloca(&mut self, alloc: Global, dest: Name) -> Result<Instr, ReadError>
+        ensures { Takes (λ x. x) result ((alloca dest).read (left self.old)) (left self.new) }
+    {
+        self.word(b"alloca")?;
+        let ty = self.ty(alloc, 32)?;
+        let align = self.maybe_align()?;
+        Ok(Instr::Alloca { dest, ty, align })
+    }
+
+    #[tactic(auto, unfolding(hip_ir::specs::Bodies::load))]
+    fn load(&mut self, alloc: Global, dest: Name) -> Result<Instr, ReadError>
+        ensures { Takes (λ x. x) result ((load dest).read (left self.old)) (left self.new) }
+    {
+        self.word(b"load")?;
+        let ty = self.scalar()?;
+        self.mark(b',')?;
+        self.word(b"ptr")?;
+        let addr = self.operand(alloc, Scalar::Ptr)?;
+        let align = self.maybe_align()?;
+        Ok(Instr::Load {
+            dest,
+            ty,
+            addr,
+            align,
+        })
+    }
+
+    #[tactic(auto, unfolding(hip_ir::specs::Bodies::store))]
+    fn store(&mut self, alloc: Global) -> Result<Instr, ReadError>
+        ensures { Takes (λ x. x) result (store.read (left self.old)) (left self.new) }
+    {
+        self.word(b"store")?;
+        let ty = self.scalar()?;
+        let value = self.operand(alloc, ty)?;
+        self.mark(b',')?;
+        self.word(b"ptr")?;
+        let addr = self.operand(alloc, Scalar::Ptr)?;
+        let align = self.maybe_align()?;
+        Ok(Instr::Store {
+            ty,
+            value,
+            addr,
+            align,
+        })
+    }
+
+    #[tactic(auto, unfolding(hip_ir::specs::Bodies::gep))]
+    fn gep(&mut self, alloc: Global, dest: Name) -> Result<Instr, ReadError>
+        ensures { Takes (λ x. x) result ((gep dest).read (left self.old)) (left self.new) }
+    {
+        self.word(b"getelementptr")?;
+        let inbounds = self.maybe_word(b"inbounds")?;
+        let ty = self.ty(alloc, 32)?;
+        self.mark(b',')?;
+        self.word(b"ptr")?;
+        let base = self.operand(alloc, Scalar::Ptr)?;
+        self.mark(b',')?;
+        let indices = self.indices(alloc)?;
+        Ok(Instr::Gep {
+            dest,
+            inbounds,
+            ty,
+            base,
+            indices,
+        })
+    }
+
+    #[tactic(auto, unfolding(hip_ir::specs::Bodies::plain_call))]
+    fn plain_call(&mut self, alloc: Global, dest: Option<Name>) -> Result<Instr, ReadError>
+        ensures { Takes (λ x. x) result ((plain_call dest).read (left self.old)) (left self.new) }
+    {
+        self.word(b"call")?;
+        let ret = self.ret()?;
+        let callee = self.global_name()?;
+        self.mark(b'(')?;
+        let args = self.args(alloc)?;
+        let callee = name_of(alloc, callee)?;
+        Ok(Instr::Call {
+            dest,
+            ret,
+            callee,
+            args,
+        })
+    }
+
+    #[tactic(auto, unfolding(hip_ir::specs::Bodies::call))]
+    fn call(&mut self, alloc: Global, dest: Option<Name>) -> Result<Instr, ReadError>
+        ensures { Takes (λ x. x) result ((call dest).read (left self.old)) (left self.new) }
+    {
+        if self.at_word(b"tail") {
+            self.word(b"tail")?;
+            self.plain_call(alloc, dest)
+        } else {
+            self.plain_call(alloc, dest)
+        }
+    }
+
+    /// An instruction on memory, or a call.
+    #[tactic(auto, unfolding(hip_ir::specs::Bodies::memory_instr))]
+    fn memory_instr(&mut self, alloc: Global, dest: Name) -> Result<Instr, ReadError>
+        ensures { Takes (λ x. x) result ((memory_instr dest).read (left self.old)) (left self.new) }
+    {
+        if self.at_word(b"alloca") {
+            self.alloca(alloc, dest)
+        } else if self.at_word(b"load") {
+            self.load(alloc, dest)
+        } else if self.at_word(b"getelementptr") {
+            self.gep(alloc, dest)
+        } else {
+            self.call(alloc, Some(dest))
+        }
+    }
+
+    #[tactic(auto, unfolding(hip_ir::specs::Bodies::cast_instr))]
+    fn cast_instr(&mut self, alloc: Global, dest: Name) -> Result<Instr, ReadError>
+        ensures { Takes (λ x. x) result ((cast_instr dest).read (left self.old)) (left self.new) }
+    {
+        if self.at_int_cast() {
+            self.int_cast(alloc, dest)
+        } else if self.at_word(b"ptrtoint") {
+            self.ptrtoint(alloc, dest)
+        } else if self.at_word(b"inttoptr") {
+            self.inttoptr(alloc, dest)
+        } else {
+            self.memory_instr(alloc, dest)
+        }
+    }
+
+    /// An instruction that assigns a register, behind the register and `=`.
+    #[tactic(auto, unfolding(hip_ir::specs::Bodies::value_instr))]
+    pub(crate) fn value_instr(&mut self, alloc: Global, dest: Name) -> Result<Instr, ReadError>
+        ensures { Takes (λ x. x) result ((value_instr dest).read (left self.old)) (left self.new) }
+    {
+        if self.at_binary() {
+            self.binary(alloc, dest)
+        } else if self.at_word(b"icmp") {
+            self.compare(alloc, dest)
+        } else if self.at_word(b"select") {
+            self.select(alloc, dest)
+        } else {
+            self.cast_instr(alloc, dest)
+        }
+    }
+
+    /// An instruction that assigns no register.
+    #[tactic(auto, unfolding(hip_ir::specs::Bodies::effect_instr))]
+    pub(crate) fn effect_instr(&mut self, alloc: Global) -> Result<Instr, ReadError>
+        ensures { Takes (λ x. x) result (effect_instr.read (left self.old)) (left self.new) }
+    {
+        if self.at_word(b"store") {
+            self.store(alloc)
+        } else {
+            self.call(alloc, None)
+        }
+    }
+
+    #[tactic(auto, unfolding(crate::specs::Left::left))]
+    pub(crate) fn at_effect(&self) -> bool
+        ensures { result ≡ next begins_effect (left self.now) }
+    {
+        self.at_word(b"store") || self.at_word(b"tail") || self.at_word(b"call")
+    }
+
+    #[tactic(auto, unfolding(crate::specs::Left::left))]
+    pub(crate) fn at_instr(&self) -> bool
+        ensures { result ≡ next begins_instr (left self.now) }
+    {
+        self.at_local() || self.at_effect()
+    }
+
+    /// The register that an instruction assigns.
+    #[tactic(auto, unfolding(hip_ir::specs::Bodies::assigned))]
+    pub(crate) fn assigned(&mut self, alloc: Global) -> Result<Name, ReadError>
+        ensures { Takes (λ x. x) result (assigned.read (left self.old)) (left self.new) }
+    {
+        let name = self.local()?;
+        self.mark(b'=')?;
+        Ok(name_of(alloc, name)?)
+    }
+
+    #[tactic(auto, unfolding(hip_ir::specs::Bodies::assigning_instr))]
+    fn assigning_instr(&mut self, alloc: Global) -> Result<Instr, ReadError>
+        ensures { Takes (λ x. x) result (assigning_instr.read (left self.old)) (left self.new) }
+    {
+        let dest = self.assigned(alloc)?;
+        self.value_instr(alloc, dest)
+    }
+
+    #[tactic(auto, unfolding(hip_ir::specs::Bodies::instr))]
+    pub(crate) fn instr(&mut self, alloc: Global) -> Result<Instr, ReadError>
+        ensures { Takes (λ x. x) result (instr.read (left self.old)) (left self.new) }
+    {
+        if self.at_local() {
+            self.assigning_instr(alloc)
+        } else {
+            self.effect_instr(alloc)
+        }
+    }
+}

@@ -1,0 +1,364 @@
+//! Globals, externs, functions and whole texts.
+
+ghost use Rattle.std.specs.Prelude.{◌≡◌, ℕ, List, [], ◌∷◌, ◌++◌, OnOk, codes};
+ghost use Rattle.hip_rules.specs.Part.{either, listed, separated, one_more_by};
+ghost use Rattle.hip_rules.specs.Reader.{many_at, next, with_front};
+ghost use Rattle.hip_ir.specs.Words.{comma, is_mark, is_word, is_label};
+ghost use Rattle.hip_ir.specs.Grammar.{scalar};
+ghost use Rattle.hip_ir.specs.Bodies.{block};
+ghost use Rattle.hip_ir.specs.Text.{GlobalItem, ExternItem, FunctionItem, DroppedItem, linkages, links, source_filename, target_item, section, only_align, placement, place, global, maybe_unnamed, extern_item, param, blocks, function, item, begins_item, with_item, text};
+ghost use Rattle.hip_parse.specs.Items.{item_of};
+ghost use Rattle.hip_parse.specs.Left.{left, Gives, Takes};
+
+use crate::constants::name_of;
+use crate::error::ReadError;
+use crate::parser::Parser;
+use hip_ir::{Block, Extern, Fault, Function, GlobalVar, Param, Program};
+use hip_types::{NoMemory, Row, Scalar};
+use std::alloc::Global;
+
+/// An item of a text.
+#[derive(Drop)]
+pub(crate) enum Item {
+    Global(GlobalVar),
+    Extern(Extern),
+    Function(Function),
+    /// What is read and not kept.
+    Dropped,
+}
+
+/// Puts the item at the end of its list.
+fn add(program: &mut Program, item: Item) -> Result<(), NoMemory>
+    ensures { OnOk result (program.new ≡ with_item program.old (item_of item)) }
+{
+    match item {
+        Item::Global(global) => program.globals.push(global),
+        Item::Extern(extern_item) => program.externs.push(extern_item),
+        Item::Function(function) => program.functions.push(function),
+        Item::Dropped => Ok(()),
+    }
+}
+
+impl<'a> Parser<'a> {
+    #[tactic(auto, unfolding(hip_rules::specs::Part::skipped))]
+    fn linkages(&mut self) -> Result<(), Option<Fault>>
+        ensures { Gives (λ x. x) result (linkages.read (left self.old)) (left self.new) }
+    {
+        'more: while self.at_linkage() {
+            self.linkage()?;
+        }
+        Ok(())
+    }
+
+    #[tactic(auto, unfolding(hip_rules::specs::Part::skipped))]
+    fn links(&mut self) -> Result<(), Option<Fault>>
+        ensures { Gives (λ x. x) result (links.read (left self.old)) (left self.new) }
+    {
+        'more: while self.at_link() {
+            self.link()?;
+        }
+        Ok(())
+    }
+
+    fn skip_unnamed(&mut self) -> Result<Option<()>, Option<Fault>>
+        ensures { Gives (λ x. x) result (maybe_unnamed.read (left self.old)) (left self.new) }
+    {
+        if self.at_unnamed() {
+            self.unnamed()?;
+            Ok(Some(()))
+        } else {
+            Ok(None)
+        }
+    }
+
+    #[tactic(auto, unfolding(hip_ir::specs::Text::source_filename))]
+    fn source_filename(&mut self) -> Result<Item, Option<Fault>>
+        ensures { Gives item_of result (source_filename.read (left self.old)) (left self.new) }
+    {
+        self.word(b"source_filename")?;
+        self.mark(b'=')?;
+        self.string()?;
+        Ok(Item::Dropped)
+    }
+
+    #[tactic(auto, unfolding(hip_ir::specs::Text::target_item))]
+    fn target_item(&mut self) -> Result<Item, Option<Fault>>
+        ensures { Gives item_of result (target_item.read (left self.old)) (left self.new) }
+    {
+        self.word(b"target")?;
+        self.target_name()?;
+        self.mark(b'=')?;
+        self.string()?;
+        Ok(Item::Dropped)
+    }
+
+    #[tactic(auto, unfolding(hip_ir::specs::Text::section))]
+    fn section(&mut self) -> Result<(bool, Option<u64>), Option<Fault>>
+        ensures { Gives (λ x. x) result (section.read (left self.old)) (left self.new) }
+    {
+        self.word(b"section")?;
+        self.section_name()?;
+        let align = self.maybe_align()?;
+        Ok((true, align))
+    }
+
+    #[tactic(auto, unfolding(hip_ir::specs::Text::only_align))]
+    fn only_align(&mut self) -> Result<(bool, Option<u64>), Option<Fault>>
+        ensures { Gives (λ x. x) result (only_align.read (left self.old)) (left self.new) }
+    {
+        self.word(b"align")?;
+        let align = self.alignment()?;
+        Ok((false, Some(align)))
+    }
+
+    #[tactic(auto, unfolding(hip_ir::specs::Text::placement))]
+    fn placement(&mut self) -> Result<(bool, Option<u64>), Option<Fault>>
+        ensures { Gives (λ x. x) result (placement.read (left self.old)) (left self.new) }
+    {
+        self.mark(b',')?;
+        if self.at_word(b"section") {
+            self.section()
+        } else {
+            self.only_align()
+        }
+    }
+
+    /// Whether a global is persistent, and its alignment.
+    #[tactic(auto, unfolding(hip_ir::specs::Text::place))]
+    fn place(&mut self) -> Result<(bool, Option<u64>), Option<Fault>>
+        ensures { Gives (λ x. x) result (place.read (left self.old)) (left self.new) }
+    {
+        if self.at_mark(b',') {
+            self.placement()
+        } else {
+            Ok((false, None))
+        }
+    }
+
+    #[tactic(auto, unfolding(hip_ir::specs::Text::global))]
+    fn global(&mut self, alloc: Global) -> Result<Item, ReadError>
+        ensures { Takes item_of result (global.read (left self.old)) (left self.new) }
+    {
+        let name = self.global_name()?;
+        self.mark(b'=')?;
+        self.linkages()?;
+        let fixed = self.fixed()?;
+        let ty = self.ty(alloc, 32)?;
+        let init = self.const_value(alloc, 32, &ty)?;
+        let (persistent, align) = self.place()?;
+        let name = name_of(alloc, name)?;
+        Ok(Item::Global(GlobalVar {
+            name,
+            fixed,
+            ty,
+            init,
+            persistent,
+            align,
+        }))
+    }
+
+    #[tactic(auto, unfolding(hip_rules::specs::Part::listed, hip_rules::specs::Part::none_up_to, hip_rules::specs::Part::some_up_to))]
+    fn scalars(&mut self, alloc: Global) -> Result<Row<Scalar>, ReadError>
+        ensures { Takes (λ x. x) result ((listed comma (is_mark 41) scalar).read (left self.old)) (left self.new) }
+    {
+        if self.at_mark(b')') {
+            self.mark(b')')?;
+            return Ok(Row::new(alloc));
+        }
+        let items = self.some_scalars(alloc)?;
+        self.mark(b')')?;
+        Ok(items)
+    }
+
+    #[tactic(auto, unfolding(hip_rules::specs::Part::separated))]
+    fn some_scalars(&mut self, alloc: Global) -> Result<Row<Scalar>, ReadError>
+        ensures { Takes (λ x. x) result ((separated comma scalar).read (left self.old)) (left self.new) }
+    {
+        let first = self.scalar()?;
+        let mut items = Row::new(alloc);
+        items.push(first)?;
+        self.more_scalars(items)
+    }
+
+    #[tactic(auto, unfolding(hip_rules::specs::Part::one_more_by))]
+    fn next_scalar(&mut self) -> Result<Scalar, Option<Fault>>
+        ensures { Gives (λ x. x) result ((one_more_by comma scalar).read (left self.old)) (left self.new) }
+    {
+        self.mark(b',')?;
+        self.scalar()
+    }
+
+    fn more_scalars(&mut self, items: Row<Scalar>) -> Result<Row<Scalar>, ReadError>
+        ensures { Takes (λ x. x) result (with_front items (many_at comma (one_more_by comma scalar).read (left self.old))) (left self.new) }
+    {
+        let mut items = items;
+        'more: while self.at_mark(b',') {
+            let item = self.next_scalar()?;
+            items.push(item)?;
+        }
+        Ok(items)
+    }
+
+    #[tactic(auto, unfolding(hip_ir::specs::Text::extern_item))]
+    fn extern_item(&mut self, alloc: Global) -> Result<Item, ReadError>
+        ensures { Takes item_of result (extern_item.read (left self.old)) (left self.new) }
+    {
+        self.word(b"declare")?;
+        let ret = self.ret()?;
+        let name = self.global_name()?;
+        self.mark(b'(')?;
+        let params = self.scalars(alloc)?;
+        let _unnamed = self.skip_unnamed()?;
+        let name = name_of(alloc, name)?;
+        Ok(Item::Extern(Extern { ret, name, params }))
+    }
+
+    #[tactic(auto, unfolding(hip_ir::specs::Text::param))]
+    fn param(&mut self, alloc: Global) -> Result<Param, ReadError>
+        ensures { Takes (λ x. x) result (param.read (left self.old)) (left self.new) }
+    {
+        let ty = self.scalar()?;
+        let name = self.local()?;
+        let name = name_of(alloc, name)?;
+        Ok(Param { ty, name })
+    }
+
+    #[tactic(auto, unfolding(hip_rules::specs::Part::listed, hip_rules::specs::Part::none_up_to, hip_rules::specs::Part::some_up_to))]
+    fn params(&mut self, alloc: Global) -> Result<Row<Param>, ReadError>
+        ensures { Takes (λ x. x) result ((listed comma (is_mark 41) param).read (left self.old)) (left self.new) }
+    {
+        if self.at_mark(b')') {
+            self.mark(b')')?;
+            return Ok(Row::new(alloc));
+        }
+        let items = self.some_params(alloc)?;
+        self.mark(b')')?;
+        Ok(items)
+    }
+
+    #[tactic(auto, unfolding(hip_rules::specs::Part::separated))]
+    fn some_params(&mut self, alloc: Global) -> Result<Row<Param>, ReadError>
+        ensures { Takes (λ x. x) result ((separated comma param).read (left self.old)) (left self.new) }
+    {
+        let first = self.param(alloc)?;
+        let mut items = Row::new(alloc);
+        items.push(first)?;
+        self.more_params(alloc, items)
+    }
+
+    #[tactic(auto, unfolding(hip_rules::specs::Part::one_more_by))]
+    fn next_param(&mut self, alloc: Global) -> Result<Param, ReadError>
+        ensures { Takes (λ x. x) result ((one_more_by comma param).read (left self.old)) (left self.new) }
+    {
+        self.mark(b',')?;
+        self.param(alloc)
+    }
+
+    fn more_params(&mut self, alloc: Global, items: Row<Param>) -> Result<Row<Param>, ReadError>
+        ensures { Takes (λ x. x) result (with_front items (many_at comma (one_more_by comma param).read (left self.old))) (left self.new) }
+    {
+        let mut items = items;
+        'more: while self.at_mark(b',') {
+            let item = self.next_param(alloc)?;
+            items.push(item)?;
+        }
+        Ok(items)
+    }
+
+    fn more_blocks(&mut self, alloc: Global, items: Row<Block>) -> Result<Row<Block>, ReadError>
+        ensures { Takes (λ x. x) result (with_front items (many_at is_label block.read (left self.old))) (left self.new) }
+    {
+        let mut items = items;
+        'more: while self.at_label() {
+            let item = self.block(alloc)?;
+            items.push(item)?;
+        }
+        Ok(items)
+    }
+
+    #[tactic(auto, unfolding(hip_ir::specs::Text::blocks))]
+    fn blocks(&mut self, alloc: Global) -> Result<Row<Block>, ReadError>
+        ensures { Takes (λ x. x) result (blocks.read (left self.old)) (left self.new) }
+    {
+        let first = self.block(alloc)?;
+        let mut blocks = Row::new(alloc);
+        blocks.push(first)?;
+        self.more_blocks(alloc, blocks)
+    }
+
+    #[tactic(auto, unfolding(hip_ir::specs::Text::function))]
+    fn function(&mut self, alloc: Global) -> Result<Item, ReadError>
+        ensures { Takes item_of result (function.read (left self.old)) (left self.new) }
+    {
+        self.word(b"define")?;
+        self.links()?;
+        let ret = self.ret()?;
+        let name = self.global_name()?;
+        self.mark(b'(')?;
+        let params = self.params(alloc)?;
+        let _unnamed = self.skip_unnamed()?;
+        self.mark(b'{')?;
+        let blocks = self.blocks(alloc)?;
+        self.mark(b'}')?;
+        let name = name_of(alloc, name)?;
+        Ok(Item::Function(Function {
+            ret,
+            name,
+            params,
+            blocks,
+        }))
+    }
+
+    fn dropped(&mut self) -> Result<Item, Option<Fault>>
+        ensures { Gives item_of result ((either (is_word (codes "source_filename")) source_filename target_item).read (left self.old)) (left self.new) }
+    {
+        if self.at_word(b"source_filename") {
+            self.source_filename()
+        } else {
+            self.target_item()
+        }
+    }
+
+    #[tactic(auto, unfolding(hip_ir::specs::Text::item))]
+    fn item(&mut self, alloc: Global) -> Result<Item, ReadError>
+        ensures { Takes item_of result (item.read (left self.old)) (left self.new) }
+    {
+        if self.at_global() {
+            self.global(alloc)
+        } else if self.at_word(b"declare") {
+            self.extern_item(alloc)
+        } else if self.at_word(b"define") {
+            self.function(alloc)
+        } else {
+            let item = self.dropped()?;
+            Ok(item)
+        }
+    }
+
+    #[tactic(auto, unfolding(crate::specs::Left::left))]
+    fn at_item(&self) -> bool
+        ensures { result ≡ next begins_item (left self.now) }
+    {
+        self.at_global()
+            || self.at_word(b"declare")
+            || self.at_word(b"define")
+            || self.at_word(b"source_filename")
+            || self.at_word(b"target")
+    }
+
+    #[tactic(auto, unfolding(hip_ir::specs::Text::text))]
+    pub(crate) fn program(&mut self, alloc: Global) -> Result<Program, ReadError>
+        ensures { Takes (λ x. x) result (text.read (left self.old)) (left self.new) }
+    {
+        let mut program = Program {
+            globals: Row::new(alloc),
+            externs: Row::new(alloc),
+            functions: Row::new(alloc),
+        };
+        'more: while self.at_item() {
+            let item = self.item(alloc)?;
+            add(&mut program, item)?;
+        }
+        Ok(program)
+    }
+}

@@ -1,0 +1,18 @@
+//! The reader of programs: the one program that a text reads as, or the first token by which it leaves the grammar.
+#![tactic(auto)]
+
+mod blocks;
+mod constants;
+mod error;
+mod instructions;
+mod items;
+mod numbers;
+mod parser;
+mod reading;
+mod tokens;
+mod types;
+mod unsupported;
+mod words;
+
+pub use error::ParseRefusal;
+pub use reading::parse;

@@ -15,3 +15,5 @@ pub mod SoundLaws
 pub mod TypeLaws
 pub mod Types
 pub mod Tables
+pub mod UsesSeen
+pub mod UseLaws

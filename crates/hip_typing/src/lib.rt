@@ -10,10 +10,12 @@ mod globals;
 mod inner;
 mod named;
 mod names;
+mod operands;
 mod refused;
 mod registers;
 mod shape;
 mod table;
+mod uses;
 mod whole;
 
 pub use fault::{Place, TypeFault, TypeRefusal};

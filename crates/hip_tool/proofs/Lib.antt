@@ -1,5 +1,5 @@
 pub mod AnswerLaws
-pub mod Digits
+pub mod Spelled
 pub mod Fields
 pub mod Stops
 pub mod ReaderLaws

@@ -1,47 +1,30 @@
 -- Numbers as they are spelled in a trace.
-use Rattle.std.specs.Prelude.{ℕ, ℤ, pos, negsuc, ◌+◌, ◌-◌, ◌*◌, ◌^◌, Bool, true, false, ◌&&◌, ◌||◌, not, List, [], ◌∷◌, Option, Some, None, nat_lt, nat_le, ◌==◌, if◌then◌else◌}
-use Rattle.std.specs.List.{list_all}
-
-abbrev pub is_digit : ℕ → Bool
-is_digit b = nat_le 48 b && nat_le b 57
-
--- a digit, or a letter from a to f in either case
-abbrev pub is_hex_digit : ℕ → Bool
-is_hex_digit b = is_digit b || ((nat_le 65 b && nat_le b 70) || (nat_le 97 b && nat_le b 102))
-
-abbrev pub hex_digit : ℕ → ℕ
-hex_digit b = if nat_lt b 58 then b - 48 else (if nat_lt b 71 then b - 55 else b - 87)
+use Rattle.std.specs.Prelude.{ℕ, ℤ, pos, negsuc, ◌-◌, ◌^◌, Bool, true, false, ◌&&◌, List, [], ◌∷◌, Option, Some, None, drop, nat_lt, nat_le, nat_eq, ◌==◌, codes, if◌then◌else◌}
+use Rattle.std.specs.Char.{digit_value}
+use Rattle.std.specs.List.{list_all, starts_with}
+use Rattle.std.specs.Str.Parse.{digits_value}
 
 abbrev pub is_nonempty : List ℕ → Bool
 is_nonempty [] = false
 is_nonempty (b ∷ bs) = true
 
--- the value of digits behind others, to a base
-abbrev pub value_from : ℕ → (ℕ → ℕ) → ℕ → List ℕ → ℕ
-value_from base digit n [] = n
-value_from base digit n (d ∷ ds) = value_from base digit (base * n + digit d) ds
+-- one or more digits to a base
+abbrev pub are_digits : ℕ → List ℕ → Bool
+are_digits base text = is_nonempty text && list_all (λ c. nat_lt (digit_value c) base) text
 
-abbrev pub digits_value : List ℕ → ℕ
-digits_value = value_from 10 (λ d. d - 48) 0
+abbrev pub is_number : ℕ → List ℕ → Bool
+is_number base text = are_digits base text && nat_lt (digits_value base text) (2 ^ 64)
 
-abbrev pub hex_value : List ℕ → ℕ
-hex_value = value_from 16 hex_digit 0
-
-abbrev pub kept_below : ℕ → ℕ → Option ℕ
-kept_below limit n = if nat_lt n limit then Some n else None
-
--- one or more digits, below 2^64
+-- one or more decimal digits, below 2^64
 abbrev pub decimal_of : List ℕ → Option ℕ
-decimal_of text = if is_nonempty text && list_all is_digit text then kept_below (2 ^ 64) (digits_value text) else None
+decimal_of text = if is_number 10 text then Some (digits_value 10 text) else None
 
--- `0x` and one or more hexadecimal digits, below 2^64
-abbrev pub hex_digits_of : List ℕ → Option ℕ
-hex_digits_of text = if is_nonempty text && list_all is_hex_digit text then kept_below (2 ^ 64) (hex_value text) else None
+abbrev pub is_hexadecimal : List ℕ → Bool
+is_hexadecimal text = starts_with nat_eq text (codes "0x") && is_number 16 (drop 2 text)
 
+-- `0x` and one or more hexadecimal digits of either case, below 2^64
 abbrev pub hex_of : List ℕ → Option ℕ
-hex_of [] = None
-hex_of (a ∷ []) = None
-hex_of (a ∷ b ∷ digits) = if (a == 48) && (b == 120) then hex_digits_of digits else None
+hex_of text = if is_hexadecimal text then Some (digits_value 16 (drop 2 text)) else None
 
 -- -n
 abbrev pub negated : ℕ → ℤ

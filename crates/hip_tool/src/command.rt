@@ -15,7 +15,6 @@ use crate::input::Input;
 use crate::lines::{put_line, put_number};
 use crate::one_store::{OneStore, is_sound, one_store};
 use crate::plan::plan;
-use hip_typing::{Place, TypeFault, TypeRefusal};
 use crate::repair::{Plan, apply};
 use crate::replay::{ReplayRefusal, replay};
 use crate::report::reports;
@@ -25,6 +24,7 @@ use hip_io::{Cabinet, Fetched, Put, ReadRefusal, Sink, WriteFault, put_after, re
 use hip_ir::Program;
 use hip_parse::{ParseRefusal, parse};
 use hip_types::NoMemory;
+use hip_typing::{Place, TypeFault, TypeRefusal};
 use hip_write::write;
 use std::alloc::Global;
 

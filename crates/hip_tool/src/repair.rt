@@ -5,9 +5,7 @@ ghost use Rattle.hip_tool.specs.Run.{flush_of, fence_instr, flush_name, fence_na
 ghost use Rattle.hip_tool.specs.Seen.{seen_one_store};
 
 use crate::one_store::OneStore;
-use hip_ir::{
-    Arg, Block, Const, End, Extern, Function, GlobalVar, Instr, Operand, Program, Site,
-};
+use hip_ir::{Arg, Block, Const, End, Extern, Function, GlobalVar, Instr, Operand, Program, Site};
 use hip_types::{Name, NoMemory, Row, Scalar, Ty, Width};
 use std::alloc::Global;
 
@@ -125,11 +123,7 @@ fn end(store: OneStore<'_>) -> End
 }
 
 /// The store, and directly after it the instructions that are inserted.
-fn body(
-    alloc: Global,
-    store: OneStore<'_>,
-    inserted: Row<Instr>,
-) -> Result<Row<Instr>, NoMemory>
+fn body(alloc: Global, store: OneStore<'_>, inserted: Row<Instr>) -> Result<Row<Instr>, NoMemory>
     ensures { IfOk result (λ body. body ≡ store_part (seen_one_store store.entry) ∷ inserted) }
 {
     let mut body = one(alloc, store_instr(alloc, store)?)?;
@@ -137,11 +131,7 @@ fn body(
     Ok(body)
 }
 
-fn block(
-    alloc: Global,
-    store: OneStore<'_>,
-    inserted: Row<Instr>,
-) -> Result<Block, NoMemory>
+fn block(alloc: Global, store: OneStore<'_>, inserted: Row<Instr>) -> Result<Block, NoMemory>
     ensures { IfOk result (λ block. block ≡ record { label = store.entry.label.now; phis = []; body = store_part (seen_one_store store.entry) ∷ inserted; end = end_part (seen_one_store store.entry) }) }
 {
     Ok(Block {
@@ -152,11 +142,7 @@ fn block(
     })
 }
 
-fn function(
-    alloc: Global,
-    store: OneStore<'_>,
-    inserted: Row<Instr>,
-) -> Result<Function, NoMemory>
+fn function(alloc: Global, store: OneStore<'_>, inserted: Row<Instr>) -> Result<Function, NoMemory>
     ensures { IfOk result (λ function. function ≡ function_part inserted (seen_one_store store.entry)) }
 {
     Ok(Function {
@@ -192,11 +178,7 @@ fn flush_and_fence(alloc: Global, target: &[u8]) -> Result<Row<Instr>, NoMemory>
 }
 
 /// The program with the flush and the fence of the plan directly after its store, and their declarations.
-pub(crate) fn apply(
-    alloc: Global,
-    store: OneStore<'_>,
-    plan: &Plan,
-) -> Result<Program, NoMemory>
+pub(crate) fn apply(alloc: Global, store: OneStore<'_>, plan: &Plan) -> Result<Program, NoMemory>
     ensures { IfOk result (λ program. program ≡ tree_by plan.now.flush_after (seen_one_store store.entry)) }
 {
     match plan.flush_after.as_slice() {

@@ -8,6 +8,7 @@ mod externs;
 mod fault;
 mod globals;
 mod inner;
+mod instrs;
 mod named;
 mod names;
 mod operands;

@@ -5,11 +5,14 @@ ghost use Rattle.hip_ir.specs.declared.constant.Const.{out-Const};
 ghost use Rattle.hip_typing.specs.Places as spec;
 ghost use Rattle.hip_typing.specs.Tables.{callee_seen, params_seen};
 ghost use Rattle.hip_typing.specs.Types.{all_pass, same_scalar};
+ghost use Rattle.hip_typing.specs.UsesSeen as seen;
+ghost use Rattle.hip_typing.specs.UsesSeen.{instr_agrees_in, callee_known_in};
 
-use crate::callees::{Callee, Params};
+use crate::callees::{Callee, CalleeTable, Params};
+use crate::constants::type_fits;
 use crate::externs::{is_same_result, is_same_scalar};
 use crate::shape::index;
-use hip_ir::{Arg, Const, Operand, Param};
+use hip_ir::{Arg, Const, Instr, Operand, Param};
 use hip_types::{CastOp, Name, Row, Scalar, Ty};
 
 fn widens(from: Scalar, to: Scalar) -> bool
@@ -142,4 +145,55 @@ fn named_are(params: &[Param], args: &[Arg]) -> bool
         }
     }
     true
+}
+
+/// Whether a call agrees with what it names in the result's type and in the number and the types of arguments.
+fn call_agrees(callee: Option<Callee<'_>>, ret: Option<Scalar>, args: &[Arg]) -> bool
+    ensures { result ≡ spec.signature_agrees ret args.now (option_map callee_seen callee.entry) }
+{
+    match callee {
+        Some(callee) => is_same_result(callee.ret, ret) && params_are(callee.params, args),
+        None => false,
+    }
+}
+
+/// Whether an instruction's own types agree.
+pub fn instr_agrees(callees: &CalleeTable<'_>, instr: &Instr) -> bool
+    ensures { result ≡ instr_agrees_in callees.now.names callees.now.values instr.now }
+{
+    match instr {
+        Instr::Cast { op, from, to, .. } => cast_agrees(*op, *from, *to),
+        Instr::Gep { ty, indices, .. } => gep_agrees(ty, indices.as_slice()),
+        Instr::Call {
+            dest,
+            ret,
+            callee,
+            args,
+        } => {
+            call_agrees(callees.get(callee.as_slice()), *ret, args.as_slice())
+                && register_agrees(dest, *ret)
+        }
+        _ => true,
+    }
+}
+
+/// Whether what a call names exists.
+pub fn callee_known(callees: &CalleeTable<'_>, instr: &Instr) -> bool
+    ensures { result ≡ callee_known_in callees.now.names callees.now.values instr.now }
+{
+    match instr {
+        Instr::Call { callee, .. } => callees.get(callee.as_slice()).is_some(),
+        _ => true,
+    }
+}
+
+/// Whether the type fits that an instruction writes.
+pub fn written_fits(instr: &Instr) -> bool
+    ensures { result ≡ seen.written_fits instr.now }
+{
+    match instr {
+        Instr::Alloca { ty, .. } => type_fits(ty),
+        Instr::Gep { ty, .. } => type_fits(ty),
+        _ => true,
+    }
 }

@@ -12,6 +12,7 @@ mod instrs;
 mod named;
 mod names;
 mod operands;
+mod places;
 mod refused;
 mod registers;
 mod shape;

@@ -17,3 +17,4 @@ pub mod Types
 pub mod Tables
 pub mod UsesSeen
 pub mod UseLaws
+pub mod InstrSeen

@@ -1,14 +1,17 @@
 -- What the code's uses stand for.
-use Rattle.std.specs.Prelude.{ℕ, Bool, true, List, [], ◌∷◌, ◌++◌, Option, Some, None, is_some}
+use Rattle.std.specs.Prelude.{ℕ, Bool, true, List, [], ◌∷◌, ◌++◌, Option, Some, None, is_some, option_map, ◌&&◌}
 use Rattle.std.specs.List.{list_all}
 use Rattle.hip_types.specs.declared.number.Scalar.{Scalar}
+use Rattle.hip_ir.specs.declared.instr.Instr.{Instr}
+use Rattle.hip_ir.specs.declared.instr.Instr.TheVariants.{Cast, Gep, Call}
 use Rattle.hip_ir.specs.declared.instr.Operand.{Operand}
 use Rattle.hip_ir.specs.declared.instr.Operand.TheVariants.{Reg, Fixed}
 use Rattle.hip_typing.specs.Constants.{has_shape, names_in, types_in}
 use Rattle.hip_typing.specs.Names.{is_among}
-use Rattle.hip_typing.specs.Places.{fits_test, has_type, type_of}
+use Rattle.hip_typing.specs.Places.{fits_test, has_type, type_of, cast_agrees, gep_agrees, signature_agrees, register_agrees, written_types}
 use Rattle.hip_typing.specs.Registers.{Use, uses, arg_uses}
-use Rattle.hip_typing.specs.Tables.{value_beside}
+use Rattle.hip_typing.specs.Tables.{value_beside, callee_seen}
+use Rattle.hip_typing.specs.declared.callees.Callee.{Callee}
 use Rattle.hip_typing.specs.declared.uses.OperandUse.{OperandUse}
 use Rattle.hip_typing.specs.declared.uses.Uses.{Uses}
 
@@ -41,3 +44,19 @@ operand_fits (Fixed value) = list_all fits_test (types_in value)
 
 abbrev pub operands_fit : List Use → Bool
 operands_fit us = list_all (λ u. operand_fits u.operand) us
+
+-- ---- instructions by the tables of the code
+
+abbrev pub instr_agrees_in : List (List ℕ) → List Callee → Instr → Bool
+instr_agrees_in names values (Cast dest op from a to) = cast_agrees op from to
+instr_agrees_in names values (Gep dest inbounds ty base indices) = gep_agrees indices ty
+instr_agrees_in names values (Call dest ret callee args) =
+    signature_agrees ret args (option_map callee_seen (value_beside names values callee)) && register_agrees dest ret
+instr_agrees_in names values _ = true
+
+abbrev pub callee_known_in : List (List ℕ) → List Callee → Instr → Bool
+callee_known_in names values (Call dest ret callee args) = is_some (value_beside names values callee)
+callee_known_in names values _ = true
+
+abbrev pub written_fits : Instr → Bool
+written_fits instr = list_all fits_test (written_types instr)

@@ -10,7 +10,7 @@ use Rattle.hip_lines.specs.declared.queue.Queue.{Queue}
 use Rattle.hip_lines.specs.Line.{has_bytes}
 use Rattle.hip_lines.specs.Pending.{Pending, none_pending, pending_with, pending_flushed, pending_fenced}
 use Rattle.hip_lines.specs.Parts.{part_in, pending_stored, pending_flushed_all, pending_fenced_all, none_pending_all}
-use Rattle.hip_lines.specs.Kept.{Queues, pending_by, pending_at, HasRoomAt, HasRoomFor, AreNumbered, AreBelow, ListsFlushed, ChangesLine}
+use Rattle.hip_lines.specs.Kept.{Queues, pending_by, pending_at, HasRoomAt, HasRoomFor, AreNumbered, AreBelow, ListsFlushed, ChangesLine, FlushesLines, ChangesSome}
 use Rattle.hip_lines.specs.Views.{lines_of}
 use Rattle.hip_lines.proofs.Listed.{same_or_not, some_flushed}
 use Rattle.hip_lines.proofs.Tables.{length-table_from, table_same, table_changed, table_mapped, table_replicated, table_at}
@@ -124,3 +124,11 @@ fence-changes n (j ∷ js) m m' l b h p e =
     first : ((is_at (nat_cmp j) j ≡ true) × (j ≡ j)) ⊎ ((is_at (nat_cmp j) j ≡ false) × (j ≢ j)) → list_any (is_at (nat_cmp j)) (j ∷ js) ≡ true
     first (inl x) = ap (λ c. c || list_any (is_at (nat_cmp j)) js) x.0
     first (inr x) = absurd (x.1 refl)
+
+pub lines-flushed_all : (o k n : ℕ) (m m' : Queues) → FlushesLines o k m m' → lines_of n m' ≡ pending_flushed_all o k (lines_of n m)
+unfolding lines_of
+lines-flushed_all o k n m m' f = table_changed (λ _ w. pending_flushed w) o k (pending_at m) (pending_at m') f.pending 0 n
+
+-- a line that changed is a line of the region
+pub some-changes : (n : ℕ) (m m' : Queues) → ChangesSome m m' → AreBelow n m → lines_of n m' ≡ lines_of n m → ⊥
+some-changes n m m' c b e = c.differs (lines-at n c.line m m' (b c.line c.there) e)

@@ -4,3 +4,4 @@ pub mod Listed
 pub mod Tables
 pub mod Helds
 pub mod LooseRest
+pub mod Flushes

@@ -1,6 +1,6 @@
 -- Laws of crash images: what store, flush and fence do to them, that more flushing and fencing only takes images away, and that
 -- images are exactly the contents of picks.
-use Rattle.std.proofs.Common.{◌≡◌, ◌⊎◌, inl, inr, ℕ, zero, suc, ◌+◌, ◌*◌, ◌/◌, ◌<◌, ◌≤◌, Bool, true, false, cond, List, [], ◌∷◌, ◌++◌, length, take, Some, slice_get, slice_index, refl, sym, ap, ◌∙◌, subst, arith, length-append}
+use Rattle.std.proofs.Common.{Option, None, ◌≡◌, ◌⊎◌, inl, inr, ℕ, zero, suc, ◌+◌, ◌*◌, ◌/◌, ◌<◌, ◌≤◌, Bool, true, false, cond, List, [], ◌∷◌, ◌++◌, length, take, Some, slice_get, slice_index, refl, sym, ap, ◌∙◌, subst, arith, length-append}
 use Rattle.std.proofs.lemmas.List.{take-append-le}
 use Rattle.hip_lines.specs.Line.{Line, IsOrdered, AreOrdered, with_part, flushed_line, fenced_line, has_bytes, change_from, stored, flushed, fenced}
 use Rattle.hip_lines.specs.Image.{byte_after, IsLineImageAt, IsLineImage, IsImage, parts_of, image_from, image_of, IsPick}
@@ -226,3 +226,46 @@ module _ {P : Type 0} (covers : P → ℕ → Bool) (value : P → ℕ → ℕ) 
       },
     );
   }
+
+  -- and every image is the content of a pick
+
+  get_there : (ls : List (Line P)) (j : ℕ) → j < length ls → (l : Line P) × (slice_get ls j ≡ Some l)
+  get_there [] j h = absurd (omega arith)
+  get_there (x ∷ ls) zero h = (x, refl)
+  get_there (x ∷ ls) (suc j) h = get_there ls j (omega arith)
+
+  some_line : (l l' : Line P) (o : Option (Line P)) → o ≡ Some l → o ≡ Some l' → l ≡ l'
+  some_line l l' o e f = cc
+
+  -- the number of parts that an image has of the line that stands at a place
+  pick_by : (first r : List ℕ) (ls : List (Line P)) → IsImage covers value first ls r → (j : ℕ) (o : Option (Line P)) → slice_get ls j ≡ o → ℕ
+  pick_by first r ls h j None e = 0
+  pick_by first r ls h j (Some l) e = (h.lines j l e).0
+
+  pub pick_of : (first r : List ℕ) (ls : List (Line P)) → IsImage covers value first ls r → ℕ → ℕ
+  pick_of first r ls h j = pick_by first r ls h j (slice_get ls j) refl
+
+  same_lists : (xs ys : List ℕ) → length xs ≡ length ys → ((i : ℕ) → i < length xs → slice_index xs i ≡ slice_index ys i) → xs ≡ ys
+  same_lists [] [] n h = refl
+  same_lists [] (y ∷ ys) n h = absurd (omega (arith, n))
+  same_lists (x ∷ xs) [] n h = absurd (omega (arith, n))
+  same_lists (x ∷ xs) (y ∷ ys) n h = ap (λ z. z ∷ xs) (h 0 (omega arith)) ∙ ap (λ zs. y ∷ zs) (same_lists xs ys (omega (arith, n)) (λ i lt. h (suc i) (omega arith)))
+
+  pub pick_of-pick : (first r : List ℕ) (ls : List (Line P)) (h : IsImage covers value first ls r) → IsPick covers value ls (pick_of first r ls h)
+  unfolding pick_of pick_by
+  pick_of-pick first r ls h j l e = go (slice_get ls j) refl e
+    where
+      go : (o : Option (Line P)) (f : slice_get ls j ≡ o) → o ≡ Some l → (l.durable ≤ pick_by first r ls h j o f) × (pick_by first r ls h j o f ≤ length l.parts)
+      go None f g = absurd (let z : ⊥ = cc in z)
+      go (Some l') f g = let s : l' ≡ l = some_line l' l (Some l') refl g in subst (λ (m : Line P). (m.durable ≤ (h.lines j l' f).0) × ((h.lines j l' f).0 ≤ length m.parts)) s ((h.lines j l' f).1.least, (h.lines j l' f).1.most)
+
+  pub image-image_of : (first r : List ℕ) (ls : List (Line P)) (h : IsImage covers value first ls r) → length first ≡ 64 * length ls → r ≡ image_of covers value ls (pick_of first r ls h) first
+  unfolding pick_of pick_by
+  image-image_of first r ls h n = same_lists r (image_of covers value ls (pick_of first r ls h) first) (h.whole ∙ sym (length-image_from ls (pick_of first r ls h) 0 first)) at
+    where
+      at : (b : ℕ) → b < length r → slice_index r b ≡ slice_index (image_of covers value ls (pick_of first r ls h) first) b
+      at b lt = line (slice_get ls (b / 64)) refl ∙ sym (slice_index-image_from ls (pick_of first r ls h) 0 first b (omega (arith, h.whole)) ∙ ap (λ a. byte_after covers value (take (pick_of first r ls h (a / 64)) (parts_of covers value (slice_get ls (a / 64)))) a (slice_index first b)) (let z : 0 + b ≡ b = omega arith in z))
+        where
+          line : (o : Option (Line P)) (f : slice_get ls (b / 64) ≡ o) → slice_index r b ≡ byte_after covers value (take (pick_by first r ls h (b / 64) o f) (parts_of covers value o)) b (slice_index first b)
+          line None f = absurd (let t = get_there ls (b / 64) (omega (arith, h.whole, n, lt)) in let g = t.1 in let z : ⊥ = cc in z)
+          line (Some l) f = (h.lines (b / 64) l f).1.bytes b (omega arith) (omega arith)

@@ -1,10 +1,10 @@
 -- The queues of the lines that hold something, by line number.
-use Rattle.std.specs.Prelude.{◌≡◌, ◌≢◌, ℕ, ◌<◌, ◌≤◌, ◌<◌, true, nat_lt, List, Option, Some, None, IsSome}
+use Rattle.std.specs.Prelude.{◌≡◌, ◌≢◌, ℕ, ◌<◌, ◌≤◌, cond, true, nat_lt, List, Option, Some, None, IsSome}
 use Rattle.std.specs.List.{list_any, IsDistinct}
 use Rattle.std.specs.Ordering.{nat_cmp, eq_by_cmp}
 use Rattle.std.specs.BTreeMap.{BTreeMap, get, is_at, btree_map_len}
 use Rattle.hip_lines.specs.Line.{has_bytes}
-use Rattle.hip_lines.specs.Pending.{Pending, none_pending}
+use Rattle.hip_lines.specs.Pending.{Pending, none_pending, pending_flushed}
 use Rattle.hip_lines.specs.declared.part.Part.{Part}
 use Rattle.hip_lines.specs.declared.queue.Queue.{Queue}
 use Rattle.hip_lines.specs.Queues.{pending_in, HasRoom}
@@ -51,3 +51,16 @@ pub record ChangesLine (change : Pending Part → Pending Part) (line : ℕ) (ol
   pub numbered : AreNumbered old → AreNumbered new
   pub below : (n : ℕ) → AreBelow n old → AreBelow n new
   pub len : btree_map_len new ≤ btree_map_len old
+
+-- the lines of a range are flushed, and nothing else is changed
+pub record FlushesLines (o n : ℕ) (old new : Queues) : Type 0 where
+  pub pending : (j : ℕ) → pending_at new j ≡ cond (has_bytes j o n) (pending_flushed (pending_at old j)) (pending_at old j)
+  pub numbered : AreNumbered new
+  pub below : (k : ℕ) → AreBelow k old → AreBelow k new
+  pub len : btree_map_len new ≤ btree_map_len old
+
+-- some line's pending parts differ
+pub record ChangesSome (old new : Queues) : Type 0 where
+  pub line : ℕ
+  pub there : IsSome (get nat_cmp old line)
+  pub differs : pending_at new line ≢ pending_at old line

@@ -8,7 +8,7 @@ ghost use Rattle.hip_lines.specs.Line.{has_bytes};
 ghost use Rattle.hip_lines.specs.Next.{IsQueueFrom};
 ghost use Rattle.hip_lines.specs.Pending.{pending_with, pending_flushed, pending_fenced};
 ghost use Rattle.hip_lines.specs.Parts.{part_in};
-ghost use Rattle.hip_lines.specs.Kept.{pending_at, HasRoomAt, HasRoomFor, AreNumbered, AreBelow, ListsFlushed, ChangesLine};
+ghost use Rattle.hip_lines.specs.Kept.{pending_at, HasRoomAt, HasRoomFor, AreNumbered, AreBelow, ListsFlushed, ChangesLine, FlushesLines, ChangesSome};
 
 use crate::part::Part;
 use crate::queue::{LINE, Queue};
@@ -218,6 +218,40 @@ pub fn flush_at(queues: &mut BTreeMap<u64, Queue>, flushed: &mut Vec<u64>, line:
             true
         }
     }
+}
+
+/// Flushes the lines of a range, in time of those that have a queue, and says whether that changed one.
+pub fn flush_in(
+    queues: &mut BTreeMap<u64, Queue>,
+    flushed: &mut Vec<u64>,
+    offset: u64,
+    len: u64,
+) -> bool
+    requires some { 0 < len }
+    requires fits { offset + len < 2 ^ 64 }
+    requires listed { ListsFlushed flushed.old.items queues.old }
+    requires spare { btree_map_len queues.old ≤ vec_capacity flushed.old }
+    requires numbered { AreNumbered queues.old }
+    ensures flushes { FlushesLines offset len queues.old queues.new }
+    ensures listed { ListsFlushed flushed.new.items queues.new }
+    ensures capacity { vec_capacity flushed.new ≡ vec_capacity flushed.old }
+    ensures changed { result ≡ true → ChangesSome queues.old queues.new }
+    ensures unchanged { result ≡ false → (j : ℕ) → get nat_cmp queues.new j ≡ get nat_cmp queues.old j }
+{
+    let end = (offset + len - 1) / LINE + 1;
+    let mut next = offset / LINE;
+    let mut changed = false;
+    while let Some(queue) = queue_from(queues, next) {
+        let line = queue.line;
+        if line >= end {
+            break;
+        }
+        if flush_at(queues, flushed, line) {
+            changed = true;
+        }
+        next = line + 1;
+    }
+    changed
 }
 
 /// The flushed parts of all lines are let go.

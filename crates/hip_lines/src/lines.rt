@@ -1,7 +1,7 @@
 ghost use Rattle.std.specs.Prelude.{◌≡◌, ℕ, ◌+◌, ◌*◌, ◌/◌, ◌%◌, ◌<◌, ◌≤◌, length, IfOk, IsOk, OnOk, OnErr, Some, None};
 ghost use Rattle.hip_lines.specs.Parts.{pending_stored, pending_flushed_all, pending_fenced_all, none_pending_all, loose_from, KeepsRoom};
 
-use crate::kept::{ensure_room, fence_in, flush_at, make_room_in, push_in};
+use crate::kept::{ensure_room, fence_in, flush_at, flush_in, make_room_in, push_in};
 use crate::loose::NotDurable;
 use crate::queue::{LINE, Queue};
 use hip_types::NoMemory;
@@ -104,6 +104,19 @@ impl Lines {
         ensures room { KeepsRoom self.old self.new }
     {
         if flush_at(&mut self.queues, &mut self.flushed, offset / LINE) {
+            self.room = None;
+        }
+    }
+
+    /// Flushes each line that has a byte of the range, in time of the lines that hold something.
+    pub fn flush_range(&mut self, offset: u64, len: u64)
+        requires some { 0 < len }
+        requires within { offset + len ≤ 64 * length self.old.lines }
+        ensures lines { self.new.lines ≡ pending_flushed_all offset len self.old.lines }
+        ensures length { length self.new.lines ≡ length self.old.lines }
+        ensures room { KeepsRoom self.old self.new }
+    {
+        if flush_in(&mut self.queues, &mut self.flushed, offset, len) {
             self.room = None;
         }
     }

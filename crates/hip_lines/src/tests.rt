@@ -77,3 +77,17 @@ fn many_lines(rt: HostRuntime) -> Result<(), Fail> {
     assert_next(&rt, &found, 0, 67_108_856, 8, 1, false);
     Ok(())
 }
+
+#[test]
+fn flush_of_a_range(rt: HostRuntime) -> Result<(), Fail> {
+    let mut lines = Lines::new(rt.alloc(), 256)?;
+    lines.note_store(56, 8, 1)?;
+    lines.note_store(64, 8, 2)?;
+    lines.note_store(128, 8, 3)?;
+    lines.flush_range(63, 2);
+    lines.fence();
+    let left: Vec<LooseByte> = lines.not_durable(0, 256).collect(rt.alloc())?;
+    assert_eq!(rt; left.len(), 8);
+    assert_next(&rt, &left, 0, 128, 8, 3, false);
+    Ok(())
+}

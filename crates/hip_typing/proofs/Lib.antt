@@ -5,3 +5,6 @@ pub mod KnownLemmas
 pub mod Loops
 pub mod GlobalLemmas
 pub mod AddressLemmas
+pub mod TableLemmas
+pub mod RegisterLemmas
+pub mod CalleeLemmas

@@ -14,3 +14,6 @@ pub mod Sound
 pub mod SoundLaws
 pub mod TypeLaws
 pub mod Types
+pub mod Tables
+pub mod UsesSeen
+pub mod UseLaws

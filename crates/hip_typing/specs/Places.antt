@@ -41,15 +41,15 @@ use Rattle.hip_typing.specs.declared.fault.Place.{Place}
 
 -- ---- what can be called
 
-abbrev extern_of : List Extern → List ℕ → Option Signature
+abbrev pub extern_of : List Extern → List ℕ → Option Signature
 extern_of [] name = None
 extern_of (e ∷ es) name = if bytes_eq e.name name then Some (record { ret = e.ret; params = e.params }) else extern_of es name
 
-abbrev function_of : List Function → List ℕ → Option Signature
+abbrev pub function_of : List Function → List ℕ → Option Signature
 function_of [] name = None
 function_of (f ∷ fs) name = if bytes_eq f.name name then Some (record { ret = f.ret; params = map (λ p. p.ty) f.params }) else function_of fs name
 
-abbrev first_of : Option Signature → Option Signature → Option Signature
+abbrev pub first_of : Option Signature → Option Signature → Option Signature
 first_of (Some s) other = Some s
 first_of None other = other
 
@@ -68,17 +68,17 @@ pub record Scope : Type 0 where
 abbrev pub scope_of : Program → Function → Scope
 scope_of P f = record { program = P; function = f; registers = registers_of f }
 
-abbrev global_names : Scope → List (List ℕ)
+abbrev pub global_names : Scope → List (List ℕ)
 global_names s = map (λ g. g.name) s.program.globals
 
-abbrev labels : Scope → List (List ℕ)
+abbrev pub labels : Scope → List (List ℕ)
 labels s = map (λ b. b.label) s.function.blocks
 
-abbrev are_among : List (List ℕ) → List (List ℕ) → Bool
+abbrev pub are_among : List (List ℕ) → List (List ℕ) → Bool
 are_among known names = list_all (is_among known) names
 
 -- registers and globals that are named, exist
-abbrev uses_known : Scope → List Use → Bool
+abbrev pub uses_known : Scope → List Use → Bool
 uses_known s us = list_all (λ n. is_some (find_register s.registers n)) (used_registers us) && are_among (global_names s) (used_globals us)
 
 abbrev pub fits_test : Ty → Bool
@@ -91,82 +91,82 @@ abbrev pub type_of : Scalar → Ty
 type_of (scalars.Int w) = types.Int w
 type_of scalars.Ptr = types.Ptr
 
-abbrev has_type : Scalar → Option (Option Scalar) → Bool
+abbrev pub has_type : Scalar → Option (Option Scalar) → Bool
 has_type ty (Some (Some t)) = same_scalar t ty
 has_type ty _ = false
 
 -- a register has the type that its use states, a constant its shape
-abbrev use_agrees : List Register → Operand → Scalar → Bool
+abbrev pub use_agrees : List Register → Operand → Scalar → Bool
 use_agrees registers (Reg name) ty = has_type ty (find_register registers name)
 use_agrees registers (Fixed value) ty = has_shape value (type_of ty)
 
-abbrev uses_agree : Scope → List Use → Bool
+abbrev pub uses_agree : Scope → List Use → Bool
 uses_agree s us = list_all (λ u. use_agrees s.registers u.operand u.ty) us
 
 -- ---- instructions
 
-abbrev widens : Scalar → Scalar → Bool
+abbrev pub widens : Scalar → Scalar → Bool
 widens (scalars.Int v) (scalars.Int w) = nat_lt (bits_of v) (bits_of w)
 widens _ _ = false
 
-abbrev is_integer : Scalar → Bool
+abbrev pub is_integer : Scalar → Bool
 is_integer (scalars.Int w) = true
 is_integer scalars.Ptr = false
 
 -- `zext` and `sext` widen, `trunc` narrows, the other two go between pointers and integers
-abbrev cast_agrees : CastOp → Scalar → Scalar → Bool
+abbrev pub cast_agrees : CastOp → Scalar → Scalar → Bool
 cast_agrees casts.Zext from to = widens from to
 cast_agrees casts.Sext from to = widens from to
 cast_agrees casts.Trunc from to = widens to from
 cast_agrees casts.Ptrtoint from to = not (is_integer from) && is_integer to
 cast_agrees casts.Inttoptr from to = is_integer from && not (is_integer to)
 
-abbrev literal_field : List Ty → Const-F Const ConstGep TypedConst → Option Ty
+abbrev pub literal_field : List Ty → Const-F Const ConstGep TypedConst → Option Ty
 literal_field fields (Const-F.Int b) = slice_get fields (index_of b)
 literal_field fields _ = None
 
-abbrev named_field : List Ty → Operand → Option Ty
+abbrev pub named_field : List Ty → Operand → Option Ty
 named_field fields (Reg name) = None
 named_field fields (Fixed value) = literal_field fields (out-Const value)
 
 -- the type that an index enters: an array's element, or the field that a literal names
-abbrev entered_by : Operand → Ty-F Ty → Option Ty
+abbrev pub entered_by : Operand → Ty-F Ty → Option Ty
 entered_by index (Ty-F.Array n element) = Some element
 entered_by index (Ty-F.Struct fields) = named_field fields index
 entered_by index _ = None
 
-abbrev args_enter : List Arg → Ty → Bool
+abbrev pub args_enter : List Arg → Ty → Bool
 args_enter [] t = true
 args_enter (index ∷ indices) t = goes_in (args_enter indices) (entered_by index.value (out-Ty t))
 
-abbrev gep_agrees : List Arg → Ty → Bool
+abbrev pub gep_agrees : List Arg → Ty → Bool
 gep_agrees [] t = false
 gep_agrees (first ∷ indices) t = args_enter indices t
 
-abbrev same_result : Option Scalar → Option Scalar → Bool
+abbrev pub same_result : Option Scalar → Option Scalar → Bool
 same_result None None = true
 same_result (Some a) (Some b) = same_scalar a b
 same_result _ _ = false
 
-abbrev signature_agrees : Option Scalar → List Arg → Option Signature → Bool
+abbrev pub signature_agrees : Option Scalar → List Arg → Option Signature → Bool
 signature_agrees ret args None = false
 signature_agrees ret args (Some s) = same_result s.ret ret && all_pass (map (λ t a. same_scalar t a) s.params) (map (λ a. a.ty) args)
 
-abbrev register_agrees : Option (List ℕ) → Option Scalar → Bool
+abbrev pub register_agrees : Option (List ℕ) → Option Scalar → Bool
 register_agrees (Some dest) None = false
 register_agrees _ _ = true
 
-abbrev instr_agrees : Scope → Instr → Bool
+abbrev pub instr_agrees : Scope → Instr → Bool
 instr_agrees s (Cast dest op from a to) = cast_agrees op from to
 instr_agrees s (Gep dest inbounds ty base indices) = gep_agrees indices ty
 instr_agrees s (Call dest ret callee args) = signature_agrees ret args (callee_of s.program callee) && register_agrees dest ret
 instr_agrees s _ = true
 
-abbrev callee_known : Scope → Instr → Bool
+abbrev pub callee_known : Scope → Instr → Bool
 callee_known s (Call dest ret callee args) = is_some (callee_of s.program callee)
 callee_known s _ = true
 
-abbrev written_types : Instr → List Ty
+abbrev pub written_types : Instr → List Ty
 written_types (Alloca dest ty align) = ty ∷ []
 written_types (Gep dest inbounds ty base indices) = ty ∷ []
 written_types _ = []
@@ -178,24 +178,24 @@ instr_check s i place =
 
 -- ---- ends
 
-abbrev returned_agrees : Option Arg → Option Scalar → Bool
+abbrev pub returned_agrees : Option Arg → Option Scalar → Bool
 returned_agrees None None = true
 returned_agrees (Some arg) (Some ty) = same_scalar arg.ty ty
 returned_agrees _ _ = false
 
-abbrev end_agrees : Scope → End → Bool
+abbrev pub end_agrees : Scope → End → Bool
 end_agrees s (Ret arg) = returned_agrees arg s.function.ret
 end_agrees s _ = true
 
-abbrev cases_differ : List Case → Bool
+abbrev pub cases_differ : List Case → Bool
 cases_differ [] = true
 cases_differ (c ∷ cs) = not (list_any (λ d. same_bits c.value d.value) cs) && cases_differ cs
 
-abbrev end_cases : End → List Case
+abbrev pub end_cases : End → List Case
 end_cases (Switch width value other cases) = cases
 end_cases _ = []
 
-abbrev is_entry : List Block → List ℕ → Bool
+abbrev pub is_entry : List Block → List ℕ → Bool
 is_entry [] label = false
 is_entry (b ∷ bs) label = bytes_eq b.label label
 

@@ -2,6 +2,7 @@
 #![tactic(auto)]
 
 mod addresses;
+mod callees;
 mod constants;
 mod externs;
 mod fault;
@@ -9,8 +10,12 @@ mod globals;
 mod inner;
 mod named;
 mod names;
+mod operands;
 mod refused;
+mod registers;
 mod shape;
+mod table;
+mod uses;
 mod whole;
 
 pub use fault::{Place, TypeFault, TypeRefusal};

@@ -1,0 +1,17 @@
+pub mod Numbers
+pub mod Entries
+pub mod Pieces
+pub mod Input
+pub mod OneStore
+pub mod Run
+pub mod Misfit
+pub mod ReadsEntries
+pub mod Replays
+pub mod Reading
+pub mod Order
+pub mod Status
+pub mod Lines
+pub mod Answer
+pub mod Call
+pub mod Laws
+pub mod Seen

@@ -1,0 +1,251 @@
+//! A trace, compared with the run of its program.
+
+ghost use Rattle.std.specs.Prelude.{◌≡◌, ◌+◌, ◌<◌, ◌^◌, ◌↔◌, List, [], ℕ, Option, Some, IsTrue, IfOk, length, slice_get};
+ghost use Rattle.hip_tool.specs.Numbers.{signed_32};
+ghost use Rattle.hip_tool.specs.Input.{is_base, is_limit, region_size};
+ghost use Rattle.hip_tool.specs.Misfit.{valid_limit, valid_base, input_of};
+ghost use Rattle.hip_tool.specs.OneStore.{one_store};
+ghost use Rattle.hip_tool.specs.Run.{steps_of, stop_entry};
+ghost use Rattle.hip_tool.specs.Replays.{WantsEntry, WantsLimit, WantsBase, WantsSteps, Replays};
+ghost use Rattle.hip_tool.specs.Seen.{seen_one_store};
+ghost use Rattle.std.specs.Prelude.{option_map};
+
+use crate::entry::Entry;
+use crate::input::Input;
+use crate::misfit::MisfitKind;
+use crate::one_store::{OneStore, one_store};
+use crate::reader::{TraceRefusal, next_entry};
+use hip_io::Cabinet;
+use hip_ir::Program;
+use hip_types::{NoMemory, Row};
+use std::alloc::Global;
+
+/// Why a trace was not replayed.
+#[derive(Clone, Copy, Debug, PartialEq, Eq)]
+pub(crate) enum ReplayRefusal {
+    Misfit { entry: u128, kind: MisfitKind },
+    ReadFault,
+    NoMemory,
+}
+
+/// The next entry, behind so many.
+fn want_entry<C: Cabinet>(count: u64, cabinet: &mut C) -> Result<Entry, ReplayRefusal>
+    requires { IsTrue (C.state cabinet.old).is_current }
+    ensures { WantsEntry count (C.state cabinet.old) (C.state cabinet.new) result }
+{
+    let entry = u128::from(count) + 1;
+    match next_entry(cabinet) {
+        Ok(Some(next)) => Ok(next),
+        Ok(None) => Err(ReplayRefusal::Misfit {
+            entry,
+            kind: MisfitKind::Early,
+        }),
+        Err(TraceRefusal::Malformed) => Err(ReplayRefusal::Misfit {
+            entry,
+            kind: MisfitKind::Malformed,
+        }),
+        Err(TraceRefusal::ReadFault) => Err(ReplayRefusal::ReadFault),
+    }
+}
+
+fn is_limit(limit: u64) -> bool
+    ensures { result ≡ is_limit limit }
+{
+    limit <= 1 << 40
+}
+
+fn is_base(base: u64) -> bool
+    ensures { result ≡ is_base base }
+{
+    base % 4096 == 0 && base >= 1 << 32 && base <= 1 << 46
+}
+
+fn valid_limit(entry: &Entry) -> Option<u64>
+    ensures { result ≡ valid_limit entry.now }
+{
+    match entry {
+        Entry::Start { limit } => if is_limit(*limit) { Some(*limit) } else { None },
+        _ => None,
+    }
+}
+
+fn region_size(program: &Program) -> u64
+    ensures { result ≡ region_size program.now }
+{
+    match program.globals.as_slice() {
+        [] => 0,
+        _ => 64,
+    }
+}
+
+fn valid_base(program: &Program, entry: &Entry) -> Option<u64>
+    ensures { result ≡ valid_base program.now entry.now }
+{
+    match entry {
+        Entry::Register { base, size } => {
+            if is_base(*base) && *size == region_size(program) {
+                Some(*base)
+            } else {
+                None
+            }
+        }
+        _ => None,
+    }
+}
+
+/// The limit of turns, from the first entry.
+fn read_limit<C: Cabinet>(cabinet: &mut C) -> Result<u64, ReplayRefusal>
+    requires { IsTrue (C.state cabinet.old).is_current }
+    ensures { WantsLimit (C.state cabinet.old) (C.state cabinet.new) result }
+{
+    let entry = want_entry(0, cabinet)?;
+    match valid_limit(&entry) {
+        Some(limit) => Ok(limit),
+        None => Err(ReplayRefusal::Misfit {
+            entry: 1,
+            kind: MisfitKind::Differs,
+        }),
+    }
+}
+
+/// The base of the region, from the second entry.
+fn read_base<C: Cabinet>(program: &Program, cabinet: &mut C) -> Result<u64, ReplayRefusal>
+    requires { IsTrue (C.state cabinet.old).is_current }
+    ensures { WantsBase program.now (C.state cabinet.old) (C.state cabinet.new) result }
+{
+    let entry = want_entry(1, cabinet)?;
+    match valid_base(program, &entry) {
+        Some(base) => Ok(base),
+        None => Err(ReplayRefusal::Misfit {
+            entry: 2,
+            kind: MisfitKind::Differs,
+        }),
+    }
+}
+
+/// A number of 32 bits with its sign.
+fn signed_32(n: u64) -> i32
+    ensures { result ≡ signed_32 n }
+{
+    if n < 1 << 31 {
+        return n as i32;
+    }
+    let below_zero = (1u64 << 32).saturating_sub(n);
+    if below_zero == 0 {
+        return 0;
+    }
+    -((below_zero - 1) as i32) - 1
+}
+
+fn stop_entry(store: OneStore<'_>, limit: u64) -> Entry
+    ensures { result ≡ stop_entry (seen_one_store store.entry) limit }
+{
+    if limit < 2 {
+        return Entry::Cut;
+    }
+    Entry::Stop {
+        code: signed_32(store.code.value),
+    }
+}
+
+/// The entries of the steps of the run, and of its ending.
+fn steps_of(alloc: Global, program: &Program, limit: u64, base: u64) -> Result<Row<Entry>, NoMemory>
+    ensures { IfOk result (λ r. r ≡ steps_of (one_store program.now) limit base) }
+{
+    let mut steps = Row::new(alloc);
+    if let Some(store) = one_store(program) {
+        if limit == 0 {
+            steps.push(Entry::Cut)?;
+        } else {
+            steps.push(Entry::Store {
+                addr: base,
+                value: store.value.value,
+                size: 8,
+            })?;
+            steps.push(stop_entry(store, limit))?;
+        }
+    }
+    Ok(steps)
+}
+
+/// The end of the file, behind so many entries.
+fn want_end<C: Cabinet>(count: u64, cabinet: &mut C) -> Result<(), ReplayRefusal>
+    requires { IsTrue (C.state cabinet.old).is_current }
+    ensures { WantsSteps [] count (C.state cabinet.old) (C.state cabinet.new) result }
+{
+    let entry = u128::from(count) + 1;
+    match next_entry(cabinet) {
+        Ok(None) => Ok(()),
+        Ok(Some(_)) => Err(ReplayRefusal::Misfit {
+            entry,
+            kind: MisfitKind::Extra,
+        }),
+        Err(TraceRefusal::Malformed) => Err(ReplayRefusal::Misfit {
+            entry,
+            kind: MisfitKind::Malformed,
+        }),
+        Err(TraceRefusal::ReadFault) => Err(ReplayRefusal::ReadFault),
+    }
+}
+
+/// Whether an entry is the one at a place of a list.
+fn is_at(steps: &[Entry], at: usize, entry: &Entry) -> bool
+    requires { at < length steps.now }
+    ensures { IsTrue result ↔ (slice_get steps.now at ≡ Some entry.now) }
+{
+    steps[at] == *entry
+}
+
+/// The entries that are left, compared with those of the run's steps, behind so many.
+fn compare<C: Cabinet>(steps: &[Entry], count: u64, cabinet: &mut C) -> Result<(), ReplayRefusal>
+    requires room { count + length steps.now < 2 ^ 64 }
+    requires current { IsTrue (C.state cabinet.old).is_current }
+    ensures { WantsSteps steps.now count (C.state cabinet.old) (C.state cabinet.new) result }
+{
+    'each: for at in 0..steps.len() {
+        let number = count + at as u64;
+        let entry = want_entry(number, cabinet)?;
+        if !is_at(steps, at, &entry) {
+            return Err(ReplayRefusal::Misfit {
+                entry: u128::from(number) + 1,
+                kind: MisfitKind::Differs,
+            });
+        }
+    }
+    want_end(count + steps.len() as u64, cabinet)
+}
+
+/// The input that a header gives.
+fn input_of(alloc: Global, program: &Program, limit: u64, base: u64) -> Result<Input, NoMemory>
+    ensures { IfOk result (λ i. i ≡ input_of program.now limit base) }
+{
+    let size = region_size(program) as usize;
+    Ok(Input {
+        base,
+        image: Row::from_vec(vec![in alloc; 0u8; size]?),
+        numbers: Row::new(alloc),
+        limit,
+    })
+}
+
+/// The input of the run whose trace the rest of the current file is, or where it is not a trace of the program.
+pub(crate) fn replay<C: Cabinet>(
+    alloc: Global,
+    program: &Program,
+    cabinet: &mut C,
+) -> Result<Input, ReplayRefusal>
+    requires { IsTrue (C.state cabinet.old).is_current }
+    ensures { Replays program.now (C.state cabinet.old) (C.state cabinet.new) result }
+{
+    let limit = read_limit(cabinet)?;
+    let base = read_base(program, cabinet)?;
+    let steps = match steps_of(alloc, program, limit, base) {
+        Ok(steps) => steps,
+        Err(NoMemory) => return Err(ReplayRefusal::NoMemory),
+    };
+    compare(steps.as_slice(), 2, cabinet)?;
+    match input_of(alloc, program, limit, base) {
+        Ok(input) => Ok(input),
+        Err(NoMemory) => Err(ReplayRefusal::NoMemory),
+    }
+}

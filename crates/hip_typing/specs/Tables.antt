@@ -1,0 +1,78 @@
+-- Tables of values by names, in which the first value of a name counts.
+use Rattle.std.specs.Prelude.{ℕ, ◌≡◌, List, [], ◌∷◌, ◌++◌, map, length, Option, Some, None, if◌then◌else◌, option_map, option_and_then, slice_get}
+use Rattle.std.specs.Str.{bytes_eq}
+use Rattle.hip_types.specs.declared.number.Scalar.{Scalar}
+use Rattle.hip_ir.specs.declared.program.Extern.{Extern}
+use Rattle.hip_ir.specs.declared.program.Function.{Function}
+use Rattle.hip_ir.specs.declared.program.Program.{Program}
+use Rattle.hip_typing.specs.Externs.{Signature}
+use Rattle.hip_typing.specs.Names.{number_of}
+use Rattle.hip_typing.specs.Places.{callee_of}
+use Rattle.hip_typing.specs.Registers.{Register, find_register}
+use Rattle.hip_typing.specs.declared.callees.Callee.{Callee}
+use Rattle.hip_typing.specs.declared.callees.Params.{Params}
+use Rattle.hip_typing.specs.declared.callees.Params.TheVariants.{Scalars, Named}
+
+-- a value under a name
+pub record Entry (V : Type 0) : Type 0 where
+  pub name : List ℕ
+  pub value : V
+
+-- the value of the first entry of that name
+abbrev pub value_of : {V : Type 0} → List (Entry V) → List ℕ → Option V
+value_of [] name = None
+value_of (e ∷ es) name = if bytes_eq e.name name then Some e.value else value_of es name
+
+-- the value beside the first name that is this one
+abbrev pub value_beside : {V : Type 0} → List (List ℕ) → List V → List ℕ → Option V
+value_beside names values name = option_and_then (slice_get values) (number_of names name)
+
+-- names and values stand for a list of entries
+pub record StandsFor {V : Type 0} (names : List (List ℕ)) (values : List V) (entries : List (Entry V)) : Type 0 where
+  pub as_long : length names ≡ length values
+  pub finds : (name : List ℕ) → value_beside names values name ≡ value_of entries name
+
+-- ---- registers
+
+abbrev pub register_entry : Register → Entry (Option Scalar)
+register_entry r = record { name = r.name; value = r.ty }
+
+-- a table grows by these registers
+pub record Adds (names : List (List ℕ)) (values : List (Option Scalar)) (more_names : List (List ℕ)) (more_values : List (Option Scalar)) (registers : List Register) : Type 0 where
+  pub adds : (entries : List (Entry (Option Scalar))) → StandsFor names values entries → StandsFor more_names more_values (entries ++ map register_entry registers)
+
+-- the table finds each register of the list
+pub record Finds (names : List (List ℕ)) (values : List (Option Scalar)) (registers : List Register) : Type 0 where
+  pub finds : (name : List ℕ) → value_beside names values name ≡ find_register registers name
+
+-- ---- callees
+
+abbrev pub extern_entry : Extern → Entry Signature
+extern_entry e = record { name = e.name; value = record { ret = e.ret; params = e.params } }
+
+abbrev pub function_entry : Function → Entry Signature
+function_entry f = record { name = f.name; value = record { ret = f.ret; params = map (λ p. p.ty) f.params } }
+
+abbrev pub params_seen : Params → List Scalar
+params_seen (Scalars types) = types.now
+params_seen (Named params) = map (λ p. p.ty) params.now
+
+abbrev pub callee_seen : Callee → Signature
+callee_seen c = record { ret = c.ret; params = params_seen c.params }
+
+abbrev pub entry_seen : Entry Callee → Entry Signature
+entry_seen e = record { name = e.name; value = callee_seen e.value }
+
+-- names and values that stand for the entries and for some more, which have these names and signatures
+pub record Grown (names : List (List ℕ)) (values : List Callee) (entries : List (Entry Callee)) (signatures : List (Entry Signature)) : Type 0 where
+  pub more : List (Entry Callee)
+  pub stands : StandsFor names values (entries ++ more)
+  pub are : map entry_seen more ≡ signatures
+
+-- a table grows by callees with these names and signatures
+pub record AddsCallees (names : List (List ℕ)) (values : List Callee) (more_names : List (List ℕ)) (more_values : List Callee) (signatures : List (Entry Signature)) : Type 0 where
+  pub adds : (entries : List (Entry Callee)) → StandsFor names values entries → Grown more_names more_values entries signatures
+
+-- the table finds what a program calls by a name
+pub record FindsCallees (names : List (List ℕ)) (values : List Callee) (P : Program) : Type 0 where
+  pub finds : (name : List ℕ) → option_map callee_seen (value_beside names values name) ≡ callee_of P name

@@ -1,0 +1,45 @@
+ghost use Rattle.std.specs.Prelude.{◌≡◌, List, [], ◌∷◌, ◌++◌, IfOk};
+ghost use Rattle.hip_typing.specs.Tables.{Entry, StandsFor, value_beside};
+
+use crate::names::NameSet;
+use hip_types::{NoMemory, Row};
+use std::alloc::Global;
+
+/// Values by names. The first value of a name counts.
+#[derive(Drop)]
+pub struct NameTable<'a, V> {
+    pub names: NameSet<'a>,
+    pub values: Row<V>,
+}
+
+/// A table without names.
+pub fn new_table<'a, V>(alloc: Global) -> NameTable<'a, V>
+    ensures { StandsFor result.names result.values [] }
+{
+    NameTable {
+        names: NameSet::new(alloc),
+        values: Row::new(alloc),
+    }
+}
+
+impl<'a, V: Copy> NameTable<'a, V> {
+    /// The value of a name.
+    pub fn get(&self, name: &[u8]) -> Option<V>
+        ensures { result ≡ value_beside self.now.names self.now.values name.now }
+    {
+        match self.names.number_of(name) {
+            Some(number) => self.values.get(number).copied(),
+            None => None,
+        }
+    }
+
+    /// Adds a value, unless its name has one.
+    pub fn add(&mut self, name: &'a [u8], value: V) -> Result<(), NoMemory>
+        ensures { IfOk result (λ _. (entries : List (Entry V)) → StandsFor self.old.names self.old.values entries → StandsFor self.new.names self.new.values (entries ++ record { name = name.now; value = value } ∷ [])) }
+    {
+        if self.names.insert(name)? {
+            self.values.push(value)?;
+        }
+        Ok(())
+    }
+}

@@ -1,0 +1,12 @@
+//! The canonical text of programs.
+#![tactic(auto)]
+
+mod blocks;
+mod constants;
+mod instructions;
+mod program;
+mod text;
+mod types;
+mod words;
+
+pub use program::write;

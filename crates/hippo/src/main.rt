@@ -1,0 +1,48 @@
+//! `hippo`: repairs durability bugs in programs that use persistent memory.
+#![tactic(auto)]
+
+mod files;
+mod stream;
+
+use files::FileCabinet;
+use hip_tool::{Status, hippo};
+use std::io::ErrorKind;
+use std::process::ExitCode;
+use std::{env, io};
+use stream::Stream;
+
+/// The words after the program's name. There are none where one of them is not text.
+fn words(rt: &HostRuntime) -> Result<Vec<String>, io::Error> {
+    let mut words = Vec::new(rt.alloc());
+    let mut all = match env::args(rt) {
+        Ok(all) => all,
+        Err(error) if error.kind() == ErrorKind::InvalidData => return Ok(words),
+        Err(error) => return Err(error),
+    };
+    let _program = all.next();
+    for word in all {
+        words.push(word)?;
+    }
+    Ok(words)
+}
+
+fn main(rt: HostRuntime) -> ExitCode {
+    let words = match words(&rt) {
+        Ok(words) => words,
+        Err(_) => return ExitCode::from(Status::NoMemory.code()),
+    };
+    let mut cabinet = FileCabinet::new(&rt);
+    let mut out = Stream::new(rt.stdout());
+    let mut notes = Stream::new(rt.stderr());
+    let status = hippo(
+        rt.alloc(),
+        words.as_slice(),
+        &mut cabinet,
+        &mut out,
+        &mut notes,
+    );
+    ExitCode::from(status.code())
+}
+
+#[cfg(test)]
+mod tests;

@@ -25,3 +25,5 @@ pub use words::{Order, WordsRefusal, read_words};
 
 #[cfg(test)]
 mod tests;
+#[cfg(test)]
+mod written;

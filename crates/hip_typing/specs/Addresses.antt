@@ -47,9 +47,13 @@ is_persistent [] number = false
 is_persistent (g ∷ gs) zero = g.persistent
 is_persistent (g ∷ gs) (suc number) = is_persistent gs number
 
+-- the address of the global of that number
+abbrev pub address_in : List GlobalVar → ℕ → ℕ → ℕ
+address_in globals base number =
+    if is_persistent globals number then start_of true base globals number else start_of false volatile_start globals number
+
 abbrev pub address : Program → ℕ → ℕ → ℕ
-address P base number =
-    if is_persistent P.globals number then start_of true base P.globals number else start_of false volatile_start P.globals number
+address P base number = address_in P.globals base number
 
 abbrev pub volatile_end : Program → ℕ
 volatile_end P = end_of false volatile_start P.globals

@@ -18,3 +18,4 @@ pub mod Tables
 pub mod UsesSeen
 pub mod UseLaws
 pub mod InstrSeen
+pub mod Values

@@ -19,3 +19,4 @@ pub mod UsesSeen
 pub mod UseLaws
 pub mod InstrSeen
 pub mod Values
+pub mod InitialBytes

@@ -1,0 +1,10 @@
+//! The meaning of programs over persistent memory: states, steps, runs, crash images, and what a run finds not durable.
+#![tactic(auto)]
+
+mod event;
+mod input;
+mod report;
+
+pub use event::{Ending, Event, Object, TrapKind};
+pub use input::{Input, InputFault};
+pub use report::{Findings, Kind, Mark, Marks, Report};

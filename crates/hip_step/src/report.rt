@@ -1,0 +1,54 @@
+use crate::event::Object;
+use hip_ir::Site;
+use hip_types::Row;
+
+/// What a store lacks to be durable, as the Hippocrates paper distinguishes it.
+#[derive(Debug, Clone, Copy, PartialEq, Eq)]
+pub enum Kind {
+    /// A fence came after the store, and no flush before the check.
+    MissingFlush,
+    /// The store was flushed, and no fence came behind the flush.
+    MissingFence,
+    /// Neither came.
+    MissingBoth,
+}
+
+/// A store that a check found not durable.
+#[derive(Debug, Drop)]
+pub struct Report {
+    /// The number of the store's entry in the trace, from 1.
+    pub entry: u128,
+    /// The number of the check's entry in the trace, from 1.
+    pub check_entry: u128,
+    pub kind: Kind,
+    /// The site of the flush that lacks a fence; there exactly for `MissingFence`.
+    pub flush_site: Option<Site>,
+    /// The store's site, then the site of the call that made its frame, and so on outward.
+    pub path: Row<Site>,
+    /// How many of the path's calls had returned before the check; they are the innermost ones.
+    pub closed: usize,
+}
+
+/// That a pointer operand of an instruction pointed into an object.
+#[derive(Debug, Clone, Copy, PartialEq, Eq)]
+pub struct Mark {
+    pub site: Site,
+    /// Counted from 0 among the pointer operands of the instruction.
+    pub operand: usize,
+    pub object: Object,
+}
+
+/// What the pointers of a run pointed into, without repeats, in the order of first meeting.
+#[derive(Debug, Drop)]
+pub struct Marks {
+    pub pointed: Row<Mark>,
+    /// The numbers of the persistent globals that were stored into.
+    pub hit: Row<usize>,
+}
+
+/// What a run found.
+#[derive(Debug, Drop)]
+pub struct Findings {
+    pub reports: Row<Report>,
+    pub marks: Marks,
+}

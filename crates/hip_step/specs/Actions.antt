@@ -1,18 +1,15 @@
 -- What the instruction at a frame's place does: its action.
-use Rattle.std.specs.Prelude.{ℕ, zero, suc, ◌+◌, ◌-◌, ◌%◌, ◌^◌, Bool, true, false, cond, not, ◌&&◌, ◌||◌, nat_le, nat_lt, nat_eq, List, [], ◌∷◌, ◌++◌, map, length, drop, Option, Some, None, unwrap_or, slice_get, Result, Ok, Err, ℤ}
+use Rattle.std.specs.Prelude.{ℕ, ◌+◌, ◌%◌, ◌^◌, Bool, true, false, cond, not, ◌&&◌, ◌||◌, nat_le, nat_lt, nat_eq, List, [], ◌∷◌, map, length, Option, Some, None, unwrap_or, slice_get, Result, Ok, Err, ℤ}
 use Rattle.std.specs.Int.{next_multiple_of}
 use Rattle.std.specs.Str.{bytes_eq}
 use Rattle.hip_types.specs.Layout.{shape, gep_of}
 use Rattle.hip_types.specs.Numbers.{bits, modulus, signed, wrapped}
-use Rattle.hip_types.specs.declared.number.BinaryOp.{BinaryOp}
 use Rattle.hip_types.specs.declared.number.Bits.{Bits}
 use Rattle.hip_types.specs.declared.number.CastOp.{CastOp}
 use Rattle.hip_types.specs.declared.number.CastOp.TheVariants as casts
 use Rattle.hip_types.specs.declared.number.Scalar.{Scalar}
-use Rattle.hip_types.specs.declared.number.Width.{Width}
-use Rattle.hip_types.specs.declared.number.Width.TheVariants.{W1, W32, W64}
+use Rattle.hip_types.specs.declared.number.Width.TheVariants.{W64}
 use Rattle.hip_types.specs.declared.ty.Ty.{Ty}
-use Rattle.hip_ir.specs.declared.block.Block.{Block}
 use Rattle.hip_ir.specs.declared.block.Case.{Case}
 use Rattle.hip_ir.specs.declared.block.Edge.{Edge}
 use Rattle.hip_ir.specs.declared.block.End.{End}
@@ -21,8 +18,6 @@ use Rattle.hip_ir.specs.declared.block.Phi.{Phi}
 use Rattle.hip_ir.specs.declared.instr.Arg.{Arg}
 use Rattle.hip_ir.specs.declared.instr.Instr.{Instr}
 use Rattle.hip_ir.specs.declared.instr.Instr.TheVariants.{Binary, Compare, Select, Cast, Alloca, Load, Store, Gep, Call}
-use Rattle.hip_ir.specs.declared.instr.Operand.{Operand}
-use Rattle.hip_ir.specs.declared.instr.Operand.TheVariants.{Reg, Fixed}
 use Rattle.hip_ir.specs.declared.program.Function.{Function}
 use Rattle.hip_ir.specs.declared.program.GlobalVar.{GlobalVar}
 use Rattle.hip_ir.specs.declared.program.Program.{Program}
@@ -42,7 +37,7 @@ use Rattle.hip_step.specs.declared.event.TrapKind.{TrapKind}
 use Rattle.hip_step.specs.declared.event.TrapKind.TheVariants as traps
 use Rattle.hip_step.specs.declared.input.Input.{Input}
 use Rattle.hip_step.specs.State.{Registers, Frame, World}
-use Rattle.hip_step.specs.Operands.{assigned, look_up, value_of, values_of, bound, scalar_size, width_of, access_align}
+use Rattle.hip_step.specs.Operands.{value_of, values_of, bound, scalar_size, width_of, access_align}
 use Rattle.hip_step.specs.Places.{function_number, blocks_of, block_at, phis_of, label_of, block_number}
 
 pub data Action : Type 0 where

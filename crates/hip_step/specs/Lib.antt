@@ -5,3 +5,8 @@ pub mod Operands
 pub mod Actions
 pub mod Persistence
 pub mod Step
+pub mod Crash
+pub mod Reports
+pub mod Objects
+pub mod Marks
+pub mod Scores

@@ -1,5 +1,5 @@
 -- The inputs that are valid for a program.
-use Rattle.std.specs.Prelude.{ℕ, ◌≡◌, ◌≤◌, ◌<◌, ◌^◌, All, length, FitsSigned}
+use Rattle.std.specs.Prelude.{◌≡◌, ◌≤◌, ◌<◌, ◌^◌, All, length, FitsSigned}
 use Rattle.std.specs.Int.{w64}
 use Rattle.hip_ir.specs.declared.program.Program.{Program}
 use Rattle.hip_typing.specs.Addresses.{IsBase, region_size}

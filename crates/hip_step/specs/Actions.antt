@@ -33,12 +33,13 @@ use Rattle.hip_typing.specs.Externs.{call_of}
 use Rattle.hip_typing.specs.InitialBytes.{volatile_bytes}
 use Rattle.hip_typing.specs.declared.externs.ExternCall.{ExternCall}
 use Rattle.hip_typing.specs.declared.externs.ExternCall.TheVariants as calls
+use Rattle.hip_typing.specs.Numbering.{function_number}
 use Rattle.hip_step.specs.declared.event.TrapKind.{TrapKind}
 use Rattle.hip_step.specs.declared.event.TrapKind.TheVariants as traps
 use Rattle.hip_step.specs.declared.input.Input.{Input}
 use Rattle.hip_step.specs.State.{Registers, Frame, World}
 use Rattle.hip_step.specs.Operands.{value_of, values_of, bound, scalar_size, width_of, access_align}
-use Rattle.hip_step.specs.Places.{function_number, blocks_of, block_at, phis_of, label_of, block_number}
+use Rattle.hip_step.specs.Places.{blocks_of, block_at, phis_of, label_of, block_number}
 
 pub data Action : Type 0 where
   Traps : TrapKind → Action

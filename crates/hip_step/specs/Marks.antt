@@ -1,6 +1,7 @@
 -- What the pointers of a run pointed into. (This project's own.)
 use Rattle.std.specs.Prelude.{◌≡◌, ℕ, zero, suc, Bool, true, false, cond, ◌&&◌, nat_eq, is_some, List, [], ◌∷◌, ◌++◌, Option, Some, None}
-use Rattle.std.specs.List.{flat_map, list_any}
+use Rattle.std.specs.List.{flat_map}
+use Rattle.hip_types.specs.Distinct.{met}
 use Rattle.hip_types.specs.declared.number.Scalar.{Scalar}
 use Rattle.hip_types.specs.declared.number.Scalar.TheVariants.{Int, Ptr}
 use Rattle.hip_ir.specs.declared.instr.Arg.{Arg}
@@ -9,6 +10,8 @@ use Rattle.hip_ir.specs.declared.instr.Instr.TheVariants.{Store, Call}
 use Rattle.hip_ir.specs.declared.instr.Operand.{Operand}
 use Rattle.hip_ir.specs.declared.program.Program.{Program}
 use Rattle.hip_ir.specs.declared.site.Site.{Site}
+use Rattle.hip_ir.specs.Sites.{same_site}
+use Rattle.hip_typing.specs.Numbering.{function_number}
 use Rattle.hip_step.specs.declared.event.Event.{Event}
 use Rattle.hip_step.specs.declared.event.Event.TheVariants as events
 use Rattle.hip_step.specs.declared.event.Object.{Object}
@@ -19,7 +22,7 @@ use Rattle.hip_step.specs.declared.report.Mark.{Mark}
 use Rattle.hip_step.specs.State.{Frame, State, site_of}
 use Rattle.hip_step.specs.Objects.{global_at, object_at}
 use Rattle.hip_step.specs.Operands.{value_of}
-use Rattle.hip_step.specs.Places.{function_number, code_at}
+use Rattle.hip_step.specs.Places.{code_at}
 use Rattle.hip_step.specs.Reports.{reports}
 use Rattle.hip_step.specs.Step.{event, run, has_ended}
 
@@ -40,9 +43,6 @@ pointer_operands P _ = []
 
 -- ---- marks without repeats, in the order of first meeting
 
-abbrev pub same_site : Site → Site → Bool
-same_site a b = nat_eq a.function b.function && (nat_eq a.block b.block && nat_eq a.index b.index)
-
 abbrev pub same_object : Object → Object → Bool
 same_object (objects.Global a) (objects.Global b) = nat_eq a b
 same_object (objects.Slot a) (objects.Slot b) = same_site a b
@@ -50,11 +50,6 @@ same_object _ _ = false
 
 abbrev same_mark : Mark → Mark → Bool
 same_mark a b = same_site a.site b.site && (nat_eq a.operand b.operand && same_object a.object b.object)
-
--- the items of the second list that are new are put behind the first
-abbrev met : {A : Type 0} → (A → A → Bool) → List A → List A → List A
-met same xs [] = xs
-met same xs (y ∷ ys) = met same (cond (list_any (same y) xs) xs (xs ++ y ∷ [])) ys
 
 -- ---- the marks of a step
 

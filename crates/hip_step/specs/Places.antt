@@ -9,13 +9,6 @@ use Rattle.hip_ir.specs.declared.program.Program.{Program}
 use Rattle.hip_typing.specs.Names.{number_of}
 use Rattle.hip_step.specs.State.{Frame}
 
-abbrev pub function_names : List Function → List (List ℕ)
-function_names functions = map (λ f. f.name) functions
-
--- the number of the function of that name
-abbrev pub function_number : Program → List ℕ → Option ℕ
-function_number P name = number_of (function_names P.functions) name
-
 abbrev pub blocks_in : Option Function → List Block
 blocks_in None = []
 blocks_in (Some f) = f.blocks

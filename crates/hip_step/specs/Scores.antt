@@ -2,7 +2,7 @@
 -- the Hippocrates tool.)
 use Rattle.std.specs.Prelude.{ℕ, suc, Bool, true, false, cond, ◌&&◌, nat_eq, List, [], ◌∷◌, Option, Some, None, ℤ, pos, negsuc, ◌+ℤ◌, int_lt}
 use Rattle.std.specs.List.{list_any}
-use Rattle.hip_ir.specs.Sites.{instr_of}
+use Rattle.hip_ir.specs.Sites.{instr_of, same_site}
 use Rattle.hip_ir.specs.declared.instr.Instr.{Instr}
 use Rattle.hip_ir.specs.declared.instr.Operand.{Operand}
 use Rattle.hip_ir.specs.declared.program.Program.{Program}
@@ -12,7 +12,7 @@ use Rattle.hip_step.specs.declared.event.Object.TheVariants as objects
 use Rattle.hip_step.specs.declared.report.Findings.{Findings}
 use Rattle.hip_step.specs.declared.report.Mark.{Mark}
 use Rattle.hip_step.specs.declared.report.Marks.{Marks}
-use Rattle.hip_step.specs.Marks.{pointer_operands, same_site}
+use Rattle.hip_step.specs.Marks.{pointer_operands}
 
 -- a persistent global that was stored into is marked; blocks on the stack and other globals are not
 abbrev is_marked : List ℕ → Object → Bool

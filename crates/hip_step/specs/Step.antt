@@ -7,6 +7,7 @@ use Rattle.hip_ir.specs.declared.program.Program.{Program}
 use Rattle.hip_lines.specs.Line.{Line, fresh_lines}
 use Rattle.hip_mem.specs.Bytes.{little_endian, zeros}
 use Rattle.hip_mem.specs.Memory.{stack_start}
+use Rattle.hip_typing.specs.Numbering.{function_number}
 use Rattle.hip_step.specs.declared.event.Ending.{Ending}
 use Rattle.hip_step.specs.declared.event.Ending.TheVariants.{Stop, Trap, Cut}
 use Rattle.hip_step.specs.declared.event.Event.{Event}
@@ -14,7 +15,7 @@ use Rattle.hip_step.specs.declared.event.Event.TheVariants as events
 use Rattle.hip_step.specs.declared.input.Input.{Input}
 use Rattle.hip_step.specs.State.{Frame, StorePart, World, Counts, State, levels_of, site_of}
 use Rattle.hip_step.specs.Operands.{assigned}
-use Rattle.hip_step.specs.Places.{function_number, code_at, end_at}
+use Rattle.hip_step.specs.Places.{code_at, end_at}
 use Rattle.hip_step.specs.Actions.{Action, Traps, Assigns, Allocates, Stores, Flushes, Persists, Fences, Asserts, Prints, Reads, Calls, Jumps, Returns, Deed, in_region, deed_of}
 use Rattle.hip_step.specs.Persistence.{stored_lines, flushes_lines, flushed_lines, fenced_lines}
 

@@ -20,3 +20,4 @@ pub mod UseLaws
 pub mod InstrSeen
 pub mod Values
 pub mod InitialBytes
+pub mod Numbering

@@ -1,0 +1,41 @@
+-- Names for copies of functions that nothing has yet.
+use Rattle.std.specs.Prelude.{ℕ, zero, suc, cond, List, [], ◌∷◌, ◌++◌, map, length, codes, Option, Some, None, slice_get}
+use Rattle.std.specs.Fmt.{decimal}
+use Rattle.hip_ir.specs.declared.program.Function.{Function}
+use Rattle.hip_ir.specs.declared.program.Program.{Program}
+use Rattle.hip_typing.specs.Names.{is_among}
+
+-- `f.pm`, `f.pm1`, `f.pm2` and so on
+abbrev pub candidate : List ℕ → ℕ → List ℕ
+candidate name zero = name ++ codes ".pm"
+candidate name (suc k) = name ++ (codes ".pm" ++ decimal (suc k))
+
+-- the first candidate from number k on that is not taken, among so many and the one behind them
+abbrev pub fresh_from : List (List ℕ) → List ℕ → ℕ → ℕ → List ℕ
+fresh_from taken name zero k = candidate name k
+fresh_from taken name (suc more) k = cond (is_among taken (candidate name k)) (fresh_from taken name more (suc k)) (candidate name k)
+
+-- one of more candidates than names are taken is free
+abbrev pub fresh_name : List (List ℕ) → List ℕ → List ℕ
+fresh_name taken name = fresh_from taken name (length taken) 0
+
+-- a fresh name for each of these names, which differ from one another too
+abbrev pub fresh_for : List (List ℕ) → List (List ℕ) → List (List ℕ)
+fresh_for taken [] = []
+fresh_for taken (name ∷ names) = fresh_name taken name ∷ fresh_for (fresh_name taken name ∷ taken) names
+
+-- the names of a program's globals, externs and functions
+abbrev pub names_taken : Program → List (List ℕ)
+names_taken P = map (λ g. g.name) P.globals ++ (map (λ e. e.name) P.externs ++ map (λ f. f.name) P.functions)
+
+abbrev name_in : Option Function → List ℕ
+name_in None = []
+name_in (Some f) = f.name
+
+-- the name of the function of a number
+abbrev pub name_of : Program → ℕ → List ℕ
+name_of P f = name_in (slice_get P.functions f)
+
+-- fresh names for copies of the functions of these numbers
+abbrev pub fresh_names : Program → List ℕ → List (List ℕ)
+fresh_names P functions = fresh_for (names_taken P) (map (name_of P) functions)

@@ -1,0 +1,43 @@
+-- The defined functions that calls can reach, in the order of first meeting by breadth.
+use Rattle.std.specs.Prelude.{ℕ, zero, suc, nat_eq, List, [], Option, Some, None, slice_get, option_to_list, length}
+use Rattle.std.specs.List.{flat_map}
+use Rattle.hip_types.specs.Distinct.{met}
+use Rattle.hip_ir.specs.Sites.{instr_of}
+use Rattle.hip_ir.specs.declared.instr.Instr.{Instr}
+use Rattle.hip_ir.specs.declared.instr.Instr.TheVariants.{Call}
+use Rattle.hip_ir.specs.declared.program.Function.{Function}
+use Rattle.hip_ir.specs.declared.program.Program.{Program}
+use Rattle.hip_ir.specs.declared.site.Site.{Site}
+use Rattle.hip_typing.specs.Numbering.{function_number}
+
+-- the number of the defined function that an instruction calls, if it does
+abbrev pub called_by : Program → Instr → List ℕ
+called_by P (Call dest ret callee args) = option_to_list (function_number P callee)
+called_by P _ = []
+
+abbrev called_in : Program → Option Function → List ℕ
+called_in P None = []
+called_in P (Some f) = flat_map (λ b. flat_map (called_by P) b.body) f.blocks
+
+-- the numbers of the functions that the function of a number calls, in the order of its text, whether a call is reached or not
+abbrev pub called_from : Program → ℕ → List ℕ
+called_from P f = called_in P (slice_get P.functions f)
+
+-- the list with the functions that one of it calls behind it, where they are not in it yet
+abbrev extended : Program → List ℕ → Option ℕ → List ℕ
+extended P seen None = seen
+extended P seen (Some f) = met nat_eq seen (called_from P f)
+
+-- The list is gone through from a place on, for so many steps, and is extended at each.
+abbrev pub reached : Program → ℕ → ℕ → List ℕ → List ℕ
+reached P zero place seen = seen
+reached P (suc steps) place seen = reached P steps (suc place) (extended P seen (slice_get seen place))
+
+abbrev called_at : Program → Option Instr → List ℕ
+called_at P None = []
+called_at P (Some i) = called_by P i
+
+-- the callees of these calls, and all functions that calls reach from them; each is gone through once, so as many steps as the
+-- program has functions are enough
+abbrev pub callees : Program → List Site → List ℕ
+callees P sites = reached P (length P.functions) 0 (met nat_eq [] (flat_map (λ s. called_at P (instr_of P s)) sites))

@@ -1,0 +1,20 @@
+-- Stores that never lie in the region.
+use Rattle.std.specs.Prelude.{◌≡◌, ℕ, Bool, true, List, ◌∷◌}
+use Rattle.hip_ir.specs.declared.program.Program.{Program}
+use Rattle.hip_ir.specs.declared.site.Site.{Site}
+use Rattle.hip_step.specs.declared.event.Event.{Event}
+use Rattle.hip_step.specs.declared.event.Event.TheVariants as events
+use Rattle.hip_step.specs.declared.input.Input.{Input}
+use Rattle.hip_step.specs.State.{Frame, site_of}
+use Rattle.hip_step.specs.Step.{event, run}
+use Rattle.hip_step.specs.Validity.{IsValid}
+
+abbrev stores_in_region : Event → Type 0
+stores_in_region (events.Store addr value size) = Unit {0}
+stores_in_region _ = ⊥
+
+-- A set of sites is quiet where, in the run of every valid input, no store at one of them lies in the region: a step whose
+-- frame stands there is no store into the region.
+abbrev pub IsQuiet : Program → (Site → Bool) → Type 0
+IsQuiet P skip =
+    (I : Input) → IsValid P I → (n : ℕ) (f : Frame) (fs : List Frame) → (run P I n).frames ≡ f ∷ fs → skip (site_of f) ≡ true → ¬ stores_in_region (event P I (run P I n))

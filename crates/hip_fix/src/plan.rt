@@ -1,0 +1,20 @@
+use hip_ir::Site;
+use hip_types::Row;
+
+/// Where a program is repaired. Each list is strictly ascending.
+#[derive(Debug, Drop)]
+pub struct Plan {
+    /// The stores that a flush is put after.
+    pub flush_after: Row<Site>,
+    /// The flushes that a fence is put after: flush calls, and stores that a flush is put after.
+    pub fence_after: Row<Site>,
+    /// The calls of defined functions that go to clones, with a fence behind each.
+    pub hoist: Row<Site>,
+}
+
+/// A clone: the numbers of the function that it was made of and of itself.
+#[derive(Debug, Clone, Copy, PartialEq, Eq)]
+pub struct CloneOf {
+    pub original: usize,
+    pub copy: usize,
+}

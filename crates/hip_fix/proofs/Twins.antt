@@ -1,0 +1,42 @@
+-- Functions of a program and what stands for them in the repaired program.
+use Rattle.std.proofs.Common.{◌≡◌, ◌⊎◌, ℕ, ◌+◌, ◌<◌, ◌≤◌, Bool, true, false, List, [], ◌∷◌, map, length, Option, Some, None, slice_get}
+use Rattle.std.specs.Prelude.{codes}
+use Rattle.hip_ir.specs.declared.block.Block.{Block}
+use Rattle.hip_ir.specs.declared.instr.Arg.{Arg}
+use Rattle.hip_ir.specs.declared.instr.Instr.TheVariants.{Call}
+use Rattle.hip_ir.specs.declared.program.Function.{Function}
+use Rattle.hip_ir.specs.declared.program.Program.{Program}
+use Rattle.hip_ir.specs.declared.site.Site.{Site}
+use Rattle.hip_types.specs.declared.number.Scalar.{Scalar}
+use Rattle.hip_typing.specs.Externs.{call_of}
+use Rattle.hip_typing.specs.Numbering.{function_number}
+use Rattle.hip_typing.specs.declared.externs.ExternCall.{ExternCall}
+use Rattle.hip_step.specs.Places.{blocks_of, body_at}
+use Rattle.hip_fix.specs.declared.plan.Plan.{Plan}
+use Rattle.hip_fix.specs.Harmless.{marked_at, marked_body}
+use Rattle.hip_fix.specs.Repaired.{wanted_by, clone_name, clones_of, cloned, repaired, repaired_blocks, repaired_function}
+
+-- What the theorems use of soundness: `main` is there, and each call is one of an external or a defined function.
+pub record IsCallable (P : Program) : Type 0 where
+  pub main_at : ℕ
+  pub main : function_number P (codes "main") ≡ Some main_at
+  pub calls : (f b k : ℕ) (dest : Option (List ℕ)) (ret : Option Scalar) (callee : List ℕ) (args : List Arg) → slice_get (body_at P f b) k ≡ Some (Call dest ret callee args) →
+      ((e : ExternCall) × (call_of callee ≡ Some e)) ⊎ ((g : ℕ) × (function_number P callee ≡ Some g))
+  -- no function has the name of an external one
+  pub free : (callee : List ℕ) (g : ℕ) → function_number P callee ≡ Some g → call_of callee ≡ None
+
+-- function f' of the repaired program is function f, or its clone
+pub record Twin (P : Program) (plan : Plan) (skip : Site → Bool) (clone : Bool) (f f' : ℕ) : Type 0 where
+  pub plain : clone ≡ false → (f' ≡ f) × (f' < length P.functions)
+  pub high : clone ≡ true → (k : ℕ) × (f' ≡ length P.functions + k) × (slice_get (cloned P plan) k ≡ Some f)
+  pub blocks : blocks_of (repaired P plan skip) f' ≡ repaired_blocks (clones_of P plan) (wanted_by plan skip) clone f 0 (blocks_of P f)
+  pub marked : (b : ℕ) → marked_at P plan skip f' b ≡ marked_body P (clones_of P plan) (wanted_by plan skip) clone f b
+
+-- a call of a defined function, or of its clone
+pub record CallsTwin (P : Program) (plan : Plan) (skip : Site → Bool) (to_clone : Bool) (callee' : List ℕ) (g : ℕ) (fn : Function) : Type 0 where
+  pub number : ℕ
+  pub found : function_number (repaired P plan skip) callee' ≡ Some number
+  pub free : call_of callee' ≡ None
+  pub name : List ℕ
+  pub code : slice_get (repaired P plan skip).functions number ≡ Some (repaired_function (clones_of P plan) (wanted_by plan skip) to_clone g name fn)
+  pub twin : Twin P plan skip to_clone g number

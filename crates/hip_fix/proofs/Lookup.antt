@@ -1,0 +1,60 @@
+-- Where the repaired program has its functions, and what its calls name.
+use Rattle.std.proofs.Common.{◌≡◌, ◌⊎◌, ℕ, ◌+◌, ◌<◌, ◌≤◌, Bool, true, false, List, [], ◌∷◌, length, Option, Some, None, slice_get}
+use Rattle.hip_ir.specs.Sites.{instr_of, has_site}
+use Rattle.hip_ir.specs.declared.instr.Arg.{Arg}
+use Rattle.hip_ir.specs.declared.instr.Instr.TheVariants.{Call}
+use Rattle.hip_ir.specs.declared.program.Function.{Function}
+use Rattle.hip_ir.specs.declared.program.Program.{Program}
+use Rattle.hip_ir.specs.declared.site.Site.{Site}
+use Rattle.hip_types.specs.declared.number.Scalar.{Scalar}
+use Rattle.hip_typing.specs.Externs.{call_of}
+use Rattle.hip_typing.specs.Numbering.{function_number}
+use Rattle.hip_typing.specs.Sound.{IsSound}
+use Rattle.hip_typing.specs.declared.externs.ExternCall.{ExternCall}
+use Rattle.hip_step.specs.Places.{body_at}
+use Rattle.hip_step.specs.Step.{main_number}
+use Rattle.hip_fix.specs.declared.plan.Plan.{Plan}
+use Rattle.hip_fix.specs.Repaired.{clone_name, clones_of, cloned, repaired}
+use Rattle.hip_fix.proofs.Facts.{In}
+use Rattle.hip_fix.proofs.Twins.{IsCallable, Twin, CallsTwin}
+
+-- a sound program is callable
+pub sound_callable : (P : Program) → IsSound P → IsCallable P
+sound_callable P sound = ?
+
+-- a function that has a number is there
+pub number_there : (P : Program) (name : List ℕ) (g : ℕ) → function_number P name ≡ Some g → (fn : Function) × (slice_get P.functions g ≡ Some fn)
+number_there P name g e = ?
+
+module _ (P : Program) (plan : Plan) (skip : Site → Bool) (good : IsCallable P) where
+  pub plain_twin : (f : ℕ) → f < length P.functions → Twin P plan skip false f f
+  plain_twin f h = ?
+
+  -- `main` has the same number
+  pub same_main : main_number (repaired P plan skip) ≡ main_number P
+  same_main = ?
+
+  pub main_there : main_number P < length P.functions
+  main_there = ?
+
+  -- a call of a function by its own name, and one of a clone
+  pub calls_plain : (callee : List ℕ) (g : ℕ) (fn : Function) → function_number P callee ≡ Some g → slice_get P.functions g ≡ Some fn → CallsTwin P plan skip false callee g fn
+  calls_plain callee g fn e f = ?
+
+  pub calls_clone : (callee : List ℕ) (g : ℕ) (fn : Function) → function_number P callee ≡ Some g → slice_get P.functions g ≡ Some fn → In g (cloned P plan) → CallsTwin P plan skip true (clone_name (clones_of P plan) callee) g fn
+  calls_clone callee g fn e f i = ?
+
+  -- a call of an external function names it in a clone too
+  pub extern_name : (callee : List ℕ) (e : ExternCall) → call_of callee ≡ Some e → clone_name (clones_of P plan) callee ≡ callee
+  extern_name callee e h = ?
+
+  -- the callee of a hoisted call is cloned, and so is each function that a cloned one calls
+  pub hoisted_cloned : (s : Site) (dest : Option (List ℕ)) (ret : Option Scalar) (callee : List ℕ) (args : List Arg) (g : ℕ) → has_site plan.hoist s ≡ true → instr_of P s ≡ Some (Call dest ret callee args) → function_number P callee ≡ Some g → In g (cloned P plan)
+  hoisted_cloned s dest ret callee args g h i e = ?
+
+  pub cloned_closed : (f b k : ℕ) (dest : Option (List ℕ)) (ret : Option Scalar) (callee : List ℕ) (args : List Arg) (g : ℕ) → In f (cloned P plan) → slice_get (body_at P f b) k ≡ Some (Call dest ret callee args) → function_number P callee ≡ Some g → In g (cloned P plan)
+  cloned_closed f b k dest ret callee args g i c e = ?
+
+  -- a call in a clone of a function that is defined names a clone
+  pub clone_calls : (f' b k : ℕ) (dest : Option (List ℕ)) (ret : Option Scalar) (callee' : List ℕ) (args : List Arg) (g' : ℕ) → length P.functions ≤ f' → slice_get (body_at (repaired P plan skip) f' b) k ≡ Some (Call dest ret callee' args) → function_number (repaired P plan skip) callee' ≡ Some g' → length P.functions ≤ g'
+  clone_calls f' b k dest ret callee' args g' high c e = ?

@@ -1,3 +1,5 @@
 pub mod Facts
 pub mod Twins
 pub mod Lookup
+pub mod Ahead
+pub mod Inserted

@@ -39,12 +39,17 @@ pmem_flush_name = codes "pmem_flush"
 abbrev pub is_wide : Scalar → Option ℕ → Bool
 is_wide ty align = nat_lt (access_align ty align) (scalar_size ty)
 
--- `call void @pmem_flush(ptr A, i64 S)` for a wide store of S bytes to A, and `call void @llvm.x86.clwb(ptr A)` for another
+-- `call void @llvm.x86.clwb(ptr A)`
+abbrev pub line_flush : Operand → Instr
+line_flush addr = Call None None clwb_name (record { ty = Ptr; value = addr } ∷ [])
+
+-- `call void @pmem_flush(ptr A, i64 S)`
+abbrev pub range_flush : Operand → ℕ → Instr
+range_flush addr size = Call None None pmem_flush_name (record { ty = Ptr; value = addr } ∷ record { ty = Int W64; value = Fixed (consts.Int (bits W64 size)) } ∷ [])
+
+-- the flush of a store: of the range of its bytes if it is wide, and else of its cache line
 abbrev pub flush_of : Scalar → Operand → Option ℕ → Instr
-flush_of ty addr align =
-    cond (is_wide ty align)
-        (Call None None pmem_flush_name (record { ty = Ptr; value = addr } ∷ record { ty = Int W64; value = Fixed (consts.Int (bits W64 (scalar_size ty))) } ∷ []))
-        (Call None None clwb_name (record { ty = Ptr; value = addr } ∷ []))
+flush_of ty addr align = cond (is_wide ty align) (range_flush addr (scalar_size ty)) (line_flush addr)
 
 -- `call void @llvm.x86.sse.sfence()`
 abbrev pub the_fence : Instr

@@ -3,3 +3,7 @@ pub mod Twins
 pub mod Lookup
 pub mod Ahead
 pub mod Inserted
+pub mod Blocks
+pub mod Pairs
+pub mod Sim
+pub mod Harm

@@ -5,5 +5,8 @@ pub mod Ahead
 pub mod Inserted
 pub mod Blocks
 pub mod Pairs
+pub mod Held
 pub mod Sim
 pub mod Harm
+pub mod Kept
+pub mod KeptAlong

@@ -15,7 +15,7 @@ use Rattle.hip_step.specs.Places.{body_at}
 use Rattle.hip_step.specs.Step.{main_number}
 use Rattle.hip_fix.specs.declared.plan.Plan.{Plan}
 use Rattle.hip_fix.specs.Repaired.{clone_name, clones_of, cloned, repaired}
-use Rattle.hip_fix.proofs.Facts.{In}
+use Rattle.hip_step.specs.Parts.{In}
 use Rattle.hip_fix.proofs.Twins.{IsCallable, Twin, CallsTwin}
 
 -- a sound program is callable

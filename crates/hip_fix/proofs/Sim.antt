@@ -47,7 +47,10 @@ use Rattle.hip_fix.specs.Quiet.{IsQuiet, stores_in_region}
 use Rattle.hip_fix.specs.Repaired.{Marked, flush_of, the_fence, renamed, clone_name, wanted_by, inserted_behind, clones_of, cloned, repaired, instrs_of, repaired_body, repaired_function}
 use Rattle.hip_fix.proofs.Ahead.{Ahead, ahead_stored, ahead_flushed, ahead_more_flushed, ahead_fenced, ahead_more_fenced, ahead_start}
 use Rattle.hip_fix.proofs.Blocks.{get_drop, drop_next, body_twin, end_twin, end_action_twin}
-use Rattle.hip_fix.proofs.Facts.{Lines, In, fence_if, flush_if, Keeps}
+use Rattle.hip_step.specs.Parts.{In}
+use Rattle.hip_step.specs.History.{HasHistory}
+use Rattle.hip_fix.proofs.Held.{has_history}
+use Rattle.hip_fix.proofs.Facts.{Lines, Known, fence_if, flush_if, Keeps}
 use Rattle.hip_fix.proofs.Inserted.{flush_size, flush_size_there, flush_size_small, fence_action, valid_less, flushes_there, region_base, reaches, flush_action, flush_no_turn}
 use Rattle.hip_fix.proofs.Lookup.{number_there, plain_twin, same_main, main_there, calls_plain, calls_clone, extern_name, hoisted_cloned, cloned_closed}
 use Rattle.hip_fix.proofs.Pairs.{Quiet, nothing, fence, Ready, quiet, flush, Tied, tied, Below, bottom, on, top_clone, below_size, Related, related, pending_lines, flush_range, quiet_size, ready_size}
@@ -258,7 +261,7 @@ module _ (P : Program) (plan : Plan) (skip : Site → Bool) (I : Input) (good : 
     trapped i h w c d c' d' kind = after_stop clone (at_frame k regs slots) (at_frame' k' regs slots') fs fs' ls ls' (here_tied i h) below ahead holds (Trap kind) w d d'
 
     -- an instruction behind which at most a fence is inserted
-    module _ (i : Instr) (h : Here i) (behind : inserted i ≡ cond fenced_here ((the_fence, true) ∷ []) []) (c d c' d' : Counts) where
+    module _ (i : Instr) (h : Here i) (behind : inserted i ≡ cond fenced_here ((the_fence, true) ∷ []) []) (c d c' d' : Counts) (timed : (g : Flush) → Known ls g → g.step < c.steps) where
       next_plain : (w : World) (rs : Registers) (sl sl' : List Slot) (ms ms' : Lines) → extents sl' ≡ extents sl → Ahead ms ms' → Holds up ms (fence_if fenced_here ms') →
           After (state w (at_frame (suc k) rs sl ∷ fs) ms d) (state w (at_frame' (suc k') rs sl' ∷ fs') ms' d')
       next_plain w rs sl sl' ms ms' e a q =
@@ -273,7 +276,7 @@ module _ (P : Program) (plan : Plan) (skip : Site → Bool) (I : Input) (good : 
       after_plain w (Stores a bytes) p = absurd p.is
       after_plain w (Flushes a n) p =
           next_plain w regs slots slots' _ _ same (ahead_flushed I _ _ a n ls ls' ahead)
-              (keeps.flush up ls ls' (record { step = c.steps; site = here_site }) (record { step = c'.steps; site = site_of (at_frame' k' regs slots') }) a n fenced_here (or_left (has_site plan.fence_after here_site) (has_site plan.hoist here_site)) holds)
+              (keeps.flush up ls ls' (record { step = c.steps; site = here_site }) (record { step = c'.steps; site = site_of (at_frame' k' regs slots') }) a n fenced_here (or_left (has_site plan.fence_after here_site) (has_site plan.hoist here_site)) timed holds)
       after_plain w (Persists a n) p =
           next_plain w regs slots slots' _ _ same (ahead_fenced _ _ (ahead_flushed I _ _ a n ls ls' ahead))
               (fenced_too up _ _ fenced_here (keeps.persist up ls ls' (record { step = c.steps; site = here_site }) (record { step = c'.steps; site = site_of (at_frame' k' regs slots') }) a n holds))
@@ -351,7 +354,7 @@ module _ (P : Program) (plan : Plan) (skip : Site → Bool) (I : Input) (good : 
 
     -- ---- a call of a defined function, or of its clone
 
-    module _ (to : Option (List ℕ)) (ret : Option Scalar) (callee : List ℕ) (args : List Arg) (h : Here (Call to ret callee args)) (w : World) (c d c' d' : Counts) where
+    module _ (to : Option (List ℕ)) (ret : Option Scalar) (callee : List ℕ) (args : List Arg) (h : Here (Call to ret callee args)) (w : World) (c d c' d' : Counts) (timed : (g : Flush) → Known ls g → g.step < c.steps) where
       abbrev call_instr : Instr
       call_instr = Call to ret callee args
 
@@ -391,7 +394,7 @@ module _ (P : Program) (plan : Plan) (skip : Site → Bool) (I : Input) (good : 
           (subst (λ (x : Action). After (carry_out I w (at_frame k regs slots) fs ls c d (record { turn = not (is_flush_or_fence (Some e)); action = extern_action P I w e call_values to }))
               (carry_out I w (at_frame' k' regs slots') fs' ls' c' d' (record { turn = not (is_flush_or_fence (Some e)); action = x }))) (sym (extern_same P plan skip I w e call_values to))
           (after_carry clone (at_frame k regs slots) (at_frame' k' regs slots') fs fs' ls ls' (here_tied call_instr h) below ahead holds (not (is_flush_or_fence (Some e))) _ _ w c d c' d'
-              (λ _. after_plain call_instr h refl c d c' d' (cond (not (is_flush_or_fence (Some e))) (with_turn w) w) (extern_action P I w e call_values to) (plain_extern P I w e call_values to)))))
+              (λ _. after_plain call_instr h refl c d c' d' timed (cond (not (is_flush_or_fence (Some e))) (with_turn w) w) (extern_action P I w e call_values to) (plain_extern P I w e call_values to)))))
         where
           same_name : (b2 : Bool) → cond b2 (clone_name (clones_of P plan) callee) callee ≡ callee
           same_name true = extern_name P plan skip good callee e q
@@ -449,6 +452,9 @@ module _ (P : Program) (plan : Plan) (skip : Site → Bool) (I : Input) (good : 
 
     -- ---- each instruction
 
+    timed_at : (w : World) (c : Counts) → (reach : (n : ℕ) × (run P I n ≡ state w (at_frame k regs slots ∷ fs) ls c)) → (g : Flush) → Known ls g → g.step < c.steps
+    timed_at w c reach g known = (subst HasHistory reach.1 (has_history P I reach.0)).flush_made known.0 g known.1 known.2
+
     after_instr : (i : Instr) → Here i → (w : World) (c d c' d' : Counts) → w.ending ≡ None → (reach : (n : ℕ) × (run P I n ≡ state w (at_frame k regs slots ∷ fs) ls c)) →
         After (carry_out I w (at_frame k regs slots) fs ls c d (record { turn = is_turn i; action = instr_action P I w (length fs) regs i }))
             (carry_out I w (at_frame' k' regs slots') fs' ls' c' d' (record { turn = is_turn (renamed (clones_of P plan) i to_clone); action = instr_action Q I w (length fs') regs (renamed (clones_of P plan) i to_clone) }))
@@ -467,14 +473,14 @@ module _ (P : Program) (plan : Plan) (skip : Site → Bool) (I : Input) (good : 
             positive : (b2 : Bool) → not b2 ≡ false → b2 ≡ true
             positive true z = refl
             positive false z = absurd (let n : ⊥ = cc in n)
-    after_instr (Call to ret callee args) h w c d c' d' going reach = after_call to ret callee args h w c d c' d'
-    after_instr (Binary to op flags width x y) h w c d c' d' going reach = after_carry clone (at_frame k regs slots) (at_frame' k' regs slots') fs fs' ls ls' (here_tied _ h) below ahead holds true _ _ w c d c' d' (λ _. after_plain _ h refl c d c' d' (with_turn w) _ (plain_calculated to _))
-    after_instr (Compare to pred ty x y) h w c d c' d' going reach = after_carry clone (at_frame k regs slots) (at_frame' k' regs slots') fs fs' ls ls' (here_tied _ h) below ahead holds true _ _ w c d c' d' (λ _. after_plain _ h refl c d c' d' (with_turn w) _ (record { is = tt }))
-    after_instr (Select to test ty x y) h w c d c' d' going reach = after_carry clone (at_frame k regs slots) (at_frame' k' regs slots') fs fs' ls ls' (here_tied _ h) below ahead holds true _ _ w c d c' d' (λ _. after_plain _ h refl c d c' d' (with_turn w) _ (record { is = tt }))
-    after_instr (Cast to op from x ty) h w c d c' d' going reach = after_carry clone (at_frame k regs slots) (at_frame' k' regs slots') fs fs' ls ls' (here_tied _ h) below ahead holds true _ _ w c d c' d' (λ _. after_plain _ h refl c d c' d' (with_turn w) _ (record { is = tt }))
-    after_instr (Alloca to ty align) h w c d c' d' going reach = after_carry clone (at_frame k regs slots) (at_frame' k' regs slots') fs fs' ls ls' (here_tied _ h) below ahead holds true _ _ w c d c' d' (λ _. after_plain _ h refl c d c' d' (with_turn w) _ (plain_allocated w to _ _))
-    after_instr (Load to ty addr align) h w c d c' d' going reach = after_carry clone (at_frame k regs slots) (at_frame' k' regs slots') fs fs' ls ls' (here_tied _ h) below ahead holds true _ _ w c d c' d' (λ _. after_plain _ h refl c d c' d' (with_turn w) (instr_action P I w (length fs) regs (Load to ty addr align)) (plain_load P I w (length fs) regs to ty addr align))
-    after_instr (Gep to inbounds ty pointer indices) h w c d c' d' going reach = after_carry clone (at_frame k regs slots) (at_frame' k' regs slots') fs fs' ls ls' (here_tied _ h) below ahead holds true _ _ w c d c' d' (λ _. after_plain _ h refl c d c' d' (with_turn w) _ (record { is = tt }))
+    after_instr (Call to ret callee args) h w c d c' d' going reach = after_call to ret callee args h w c d c' d' (timed_at w c reach)
+    after_instr (Binary to op flags width x y) h w c d c' d' going reach = after_carry clone (at_frame k regs slots) (at_frame' k' regs slots') fs fs' ls ls' (here_tied _ h) below ahead holds true _ _ w c d c' d' (λ _. after_plain _ h refl c d c' d' (timed_at w c reach) (with_turn w) _ (plain_calculated to _))
+    after_instr (Compare to pred ty x y) h w c d c' d' going reach = after_carry clone (at_frame k regs slots) (at_frame' k' regs slots') fs fs' ls ls' (here_tied _ h) below ahead holds true _ _ w c d c' d' (λ _. after_plain _ h refl c d c' d' (timed_at w c reach) (with_turn w) _ (record { is = tt }))
+    after_instr (Select to test ty x y) h w c d c' d' going reach = after_carry clone (at_frame k regs slots) (at_frame' k' regs slots') fs fs' ls ls' (here_tied _ h) below ahead holds true _ _ w c d c' d' (λ _. after_plain _ h refl c d c' d' (timed_at w c reach) (with_turn w) _ (record { is = tt }))
+    after_instr (Cast to op from x ty) h w c d c' d' going reach = after_carry clone (at_frame k regs slots) (at_frame' k' regs slots') fs fs' ls ls' (here_tied _ h) below ahead holds true _ _ w c d c' d' (λ _. after_plain _ h refl c d c' d' (timed_at w c reach) (with_turn w) _ (record { is = tt }))
+    after_instr (Alloca to ty align) h w c d c' d' going reach = after_carry clone (at_frame k regs slots) (at_frame' k' regs slots') fs fs' ls ls' (here_tied _ h) below ahead holds true _ _ w c d c' d' (λ _. after_plain _ h refl c d c' d' (timed_at w c reach) (with_turn w) _ (plain_allocated w to _ _))
+    after_instr (Load to ty addr align) h w c d c' d' going reach = after_carry clone (at_frame k regs slots) (at_frame' k' regs slots') fs fs' ls ls' (here_tied _ h) below ahead holds true _ _ w c d c' d' (λ _. after_plain _ h refl c d c' d' (timed_at w c reach) (with_turn w) (instr_action P I w (length fs) regs (Load to ty addr align)) (plain_load P I w (length fs) regs to ty addr align))
+    after_instr (Gep to inbounds ty pointer indices) h w c d c' d' going reach = after_carry clone (at_frame k regs slots) (at_frame' k' regs slots') fs fs' ls ls' (here_tied _ h) below ahead holds true _ _ w c d c' d' (λ _. after_plain _ h refl c d c' d' (timed_at w c reach) (with_turn w) _ (record { is = tt }))
 
   -- ---- the block's end
 

@@ -10,3 +10,4 @@ pub mod Sim
 pub mod Harm
 pub mod Kept
 pub mod KeptAlong
+pub mod Events

@@ -31,7 +31,7 @@ first_line I a = I.base + 64 * ((a - I.base) / 64)
 abbrev lines_size : Input → ℕ → ℕ → ℕ
 lines_size I a n = 64 * (((a - I.base) + n - 1) / 64 + 1) - 64 * ((a - I.base) / 64)
 
-abbrev is_bottom : List Frame → Bool
+abbrev pub is_bottom : List Frame → Bool
 is_bottom [] = true
 is_bottom (f ∷ fs) = false
 

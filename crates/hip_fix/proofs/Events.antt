@@ -25,7 +25,7 @@ use Rattle.hip_step.specs.Persistence.{flushes_lines}
 use Rattle.hip_step.specs.Places.{body_at, code_at, end_at}
 use Rattle.hip_step.specs.Reports.{Range, checked_by, next_check}
 use Rattle.hip_step.specs.State.{Registers, Slot, Level, Flush, Frame, World, Counts, State, level_list, levels_of, site_of}
-use Rattle.hip_step.specs.Step.{state, is_bottom, is_cut, event_of, event_at, event, has_ended}
+use Rattle.hip_step.specs.Step.{state, is_bottom, is_cut, deed_at, event_of, event_at, event_on_ending, event, has_ended}
 use Rattle.hip_fix.specs.declared.plan.Plan.{Plan}
 use Rattle.hip_fix.specs.Harmless.{marked_body, marked_at, is_inserted, inserted_on, stands_inserted}
 use Rattle.hip_fix.specs.Repaired.{Marked, the_fence, renamed, clone_name, wanted_by, clones_of, repaired, instrs_of, repaired_body}
@@ -160,7 +160,7 @@ module _ (P : Program) (plan : Plan) (skip : Site → Bool) (I : Input) (good : 
     rest_suits : (o : Option End) (is : List Instr) → drop k (body_at P f b) ≡ is → Suits (is_inserted (repaired_body (clones_of P plan) (wanted_by plan skip) clone f b k is)) (event_by o is) (event_by' o (instrs_of (repaired_body (clones_of P plan) (wanted_by plan skip) clone f b k is)))
     rest_suits o [] here = (
       λ z. absurd (let n : ⊥ = cc in n),
-      λ _. ap (λ (x : Action). event_at I w fs' (record { turn = true; action = x })) (end_action_twin P plan skip clone f f' tw I b k k' m m regs slots slots' dest dest lvl lvl' o) ∙ event_at_same I w fs fs' (bottoms P plan skip below) _,
+      λ _. ap (λ (x : Action). event_at I w fs' (record { turn = true; action = x })) (end_action_twin P plan skip clone f f' tw I b k k' m m regs slots slots' dest dest lvl lvl' o) ∙ event_at_same I w fs fs' (bottoms P plan skip below) (record { turn = true; action = end_action P I frame o }),
     )
     rest_suits o (i ∷ is) here = (
       λ z. absurd (let n : ⊥ = cc in n),
@@ -197,12 +197,18 @@ module _ (P : Program) (plan : Plan) (skip : Site → Bool) (I : Input) (good : 
   holds_now w regs ls ls' up site pend more range fenced (quiet fence) h e = absurd (let n : ⊥ = cc in n)
   holds_now w regs ls ls' up site pend more range fenced (flush i a n no_turn acts q) h e = absurd (let n : ⊥ = cc in n)
 
-  pub checks : (size : ℕ) (s s' : State) → Related P plan skip I Holds size s s' → s'.world.ending ≡ None → Checks s s'
+  event_going : (R : Program) (w : World) (f : Frame) (fs : List Frame) (ls : Lines) (c : Counts) → w.ending ≡ None → event R I (state w (f ∷ fs) ls c) ≡ event_at I w fs (deed_at R I w f fs)
   unfolding event
+  event_going R w f fs ls c going = ap (event_on_ending R I (state w (f ∷ fs) ls c)) going
+
+  pub checks : (size : ℕ) (s s' : State) → Related P plan skip I Holds size s s' → s'.world.ending ≡ None → Checks s s'
   checks size s s' (related {w = w} {fs = fs} {fs' = fs'} {ls = ls} {ls' = ls'} {c = c} {c' = c'} {pend = pend} {range = range} {fenced = fenced} {clone = clone} (tied {f = f} {f' = f'} {b = b} {k = k} {k' = k'} {m = m} {dest = dest} {lvl = lvl} {lvl' = lvl'} {regs = regs} {slots = slots} {slots' = slots'} rest tw e e' same) r below a h le) going =
       let suit = both_suit w f b k f' k' m dest lvl lvl' regs slots slots' clone tw fs fs' below rest e pend range fenced r e' in
+      let old : Frame = record { function = f; block = b; place = k; registers = regs; mark = m; slots = slots; dest = dest; level = lvl } in
+      let new : Frame = record { function = f'; block = b; place = k'; registers = regs; mark = m; slots = slots'; dest = dest; level = lvl' } in
+      let stands = ap (λ (o : Option Ending). inserted_on P plan skip o (new ∷ fs')) going in
       record {
-        inserted = rw going (λ z. suit.0 z);
-        same = rw going (λ z. suit.1 z);
-        holds = rw going (λ z. holds_now w regs ls ls' _ _ pend (repaired_body (clones_of P plan) (wanted_by plan skip) clone f b k rest) range fenced r h (sym (ap is_inserted (ap (drop k') (tw.marked b) ∙ e')) ∙ z));
+        inserted = λ z. ap (checked_by I) (event_going (repaired P plan skip) w new fs' ls' c' going) ∙ suit.0 (sym stands ∙ z);
+        same = λ z. event_going (repaired P plan skip) w new fs' ls' c' going ∙ suit.1 (sym stands ∙ z) ∙ sym (event_going P w old fs ls c going);
+        holds = λ z. holds_now w regs ls ls' (level_list lvl (levels_of fs)) (record { step = c'.steps; site = site_of new }) pend (repaired_body (clones_of P plan) (wanted_by plan skip) clone f b k rest) range fenced r h (sym (ap is_inserted (ap (drop k') (tw.marked b) ∙ e')) ∙ sym stands ∙ z);
       }

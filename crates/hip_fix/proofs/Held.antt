@@ -5,5 +5,5 @@ use Rattle.hip_step.specs.declared.input.Input.{Input}
 use Rattle.hip_step.specs.History.{HasHistory}
 use Rattle.hip_step.specs.Step.{run}
 
-pub has_history : (P : Program) (I : Input) (n : ℕ) → HasHistory (run P I n)
+pub has_history : (P : Program) (I : Input) (n : ℕ) → HasHistory P (run P I n)
 has_history P I n = ?

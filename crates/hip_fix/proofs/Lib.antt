@@ -11,3 +11,6 @@ pub mod Harm
 pub mod Kept
 pub mod KeptAlong
 pub mod Events
+pub mod Asked
+pub mod Cure
+pub mod Cured

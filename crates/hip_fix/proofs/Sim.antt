@@ -459,7 +459,7 @@ module _ (P : Program) (plan : Plan) (skip : Site → Bool) (I : Input) (good : 
     -- ---- each instruction
 
     timed_at : (w : World) (c : Counts) → (reach : (n : ℕ) × (run P I n ≡ state w (at_frame k regs slots ∷ fs) ls c)) → (g : Flush) → Known ls g → g.step < c.steps
-    timed_at w c reach g known = (subst HasHistory reach.1 (has_history P I reach.0)).flush_made known.0 g known.1 known.2
+    timed_at w c reach g known = (subst (HasHistory P) reach.1 (has_history P I reach.0)).flush_made known.0 g known.1 known.2
 
     after_instr : (i : Instr) → Here i → (w : World) (c d c' d' : Counts) → w.ending ≡ None → (reach : (n : ℕ) × (run P I n ≡ state w (at_frame k regs slots ∷ fs) ls c)) →
         After (carry_out I w (at_frame k regs slots) fs ls c d (record { turn = is_turn i; action = instr_action P I w (length fs) regs i }))

@@ -1,5 +1,7 @@
 -- What every run keeps: the history that the parts of stores carry, and the calls that they were made under.
 use Rattle.std.specs.Prelude.{◌≡◌, ℕ, ◌+◌, ◌<◌, Bool, true, false, List, [], ◌∷◌, ◌++◌, Option, Some, None, slice_get}
+use Rattle.hip_ir.specs.Sites.{instr_of}
+use Rattle.hip_ir.specs.declared.instr.Instr.{Instr}
 use Rattle.hip_ir.specs.declared.program.Program.{Program}
 use Rattle.hip_lines.specs.Line.{Line}
 use Rattle.hip_step.specs.declared.input.Input.{Input}
@@ -16,7 +18,7 @@ pub record IsSplit (standing : List Level) (levels : List Level) : Type 0 where
   pub returned : (v : Level) → In v closed → is_open standing v ≡ false
   pub stand : (v : Level) → In v open_ones → is_open standing v ≡ true
 
-pub record HasHistory (s : State) : Type 0 where
+pub record HasHistory (P : Program) (s : State) : Type 0 where
   -- a part was made by an earlier step, and first flushed by a later one
   pub made : (x : StorePart) → PartOf s.lines x → x.step < s.counts.steps
   pub flush_made : (x : StorePart) (f : Flush) → PartOf s.lines x → x.first_flush ≡ Some f → f.step < s.counts.steps
@@ -27,4 +29,8 @@ pub record HasHistory (s : State) : Type 0 where
   pub fenced : (x y : StorePart) → PartOf s.lines x → PartOf s.lines y → x.step ≡ y.step → x.fenced ≡ y.fenced
   -- a part that is flushed has a first flush
   pub flushed : (m k : ℕ) (l : Line StorePart) (x : StorePart) → slice_get s.lines m ≡ Some l → slice_get l.parts k ≡ Some x → k < l.flushed → (f : Flush) × (x.first_flush ≡ Some f)
+  -- stores, flushes and calls stand in the program
+  pub site_there : (x : StorePart) → PartOf s.lines x → (i : Instr) × (instr_of P x.site ≡ Some i)
+  pub flush_there : (x : StorePart) (f : Flush) → PartOf s.lines x → x.first_flush ≡ Some f → (i : Instr) × (instr_of P f.site ≡ Some i)
+  pub call_there : (x : StorePart) (v : Level) → PartOf s.lines x → In v x.levels → (i : Instr) × (instr_of P v.call ≡ Some i)
   pub split : (x : StorePart) → PartOf s.lines x → IsSplit (levels_of s.frames) x.levels

@@ -20,6 +20,15 @@ in-append (y ∷ xs) ys x (inr i) = go (in-append xs ys x i)
     go (inl j) = inl (inr j)
     go (inr j) = inr j
 
+pub append-left : {A : Type 0} (xs ys : List A) (x : A) → In x xs → In x (xs ++ ys)
+append-left [] ys x i = absurd i
+append-left (y ∷ xs) ys x (inl e) = inl e
+append-left (y ∷ xs) ys x (inr i) = inr (append-left xs ys x i)
+
+pub append-right : {A : Type 0} (xs ys : List A) (x : A) → In x ys → In x (xs ++ ys)
+append-right [] ys x i = i
+append-right (y ∷ xs) ys x i = inr (append-right xs ys x i)
+
 pub part-fenced : (ls : List (Line StorePart)) (y : StorePart) → PartOf (fenced_lines ls) y → (x : StorePart) × PartOf ls x × (y ≡ noted_fence x)
 part-fenced [] y i = absurd i
 part-fenced (l ∷ ls) y (inl i) = let r = in-map noted_fence l.parts y i in (r.0, inl r.1, r.2)

@@ -27,7 +27,7 @@ use Rattle.hip_fix.proofs.Ahead.{Ahead}
 use Rattle.hip_fix.proofs.Cure.{none_loose}
 use Rattle.hip_fix.proofs.Events.{Checks, checks}
 use Rattle.hip_fix.proofs.Facts.{Lines}
-use Rattle.hip_fix.proofs.Held.{has_history}
+use Rattle.hip_step.specs.HistoryLaws.{has_history}
 use Rattle.hip_fix.proofs.KeptAlong.{Held, held}
 use Rattle.hip_fix.proofs.Lookup.{sound_callable}
 use Rattle.hip_fix.proofs.Pairs.{Related, related}

@@ -5,7 +5,6 @@ pub mod Ahead
 pub mod Inserted
 pub mod Blocks
 pub mod Pairs
-pub mod Held
 pub mod Sim
 pub mod Harm
 pub mod Kept

@@ -13,3 +13,4 @@ pub mod Scores
 pub mod Parts
 pub mod History
 pub mod PartLaws
+pub mod HistoryLaws

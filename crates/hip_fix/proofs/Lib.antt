@@ -1,5 +1,6 @@
 pub mod Facts
 pub mod Twins
+pub mod Functions
 pub mod Lookup
 pub mod Ahead
 pub mod Inserted

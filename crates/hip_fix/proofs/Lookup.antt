@@ -18,13 +18,14 @@ use Rattle.hip_step.specs.Places.{body_at}
 use Rattle.hip_step.specs.Step.{main_number}
 use Rattle.hip_fix.specs.declared.plan.Plan.{Plan}
 use Rattle.hip_fix.specs.Repaired.{wanted_by, clone_name, clones_of, cloned, repaired, repaired_function}
+use Rattle.hip_fix.proofs.Callable.{callable_of}
 use Rattle.hip_fix.proofs.Facts.{In}
 use Rattle.hip_fix.proofs.Functions.{twin_of_plain, plain_code, plain_number, main_of, repaired_main_of}
 use Rattle.hip_fix.proofs.Twins.{IsCallable, Twin, CallsTwin}
 
 -- a sound program is callable
 pub sound_callable : (P : Program) → IsSound P → IsCallable P
-sound_callable P sound = ?
+sound_callable P sound = callable_of P sound
 
 -- a function that has a number is there
 pub number_there : (P : Program) (name : List ℕ) (g : ℕ) → function_number P name ≡ Some g → (fn : Function) × (slice_get P.functions g ≡ Some fn)

@@ -1,2 +1,4 @@
 pub mod Reach
+pub mod ReachLaws
 pub mod Fresh
+pub mod FreshLaws

@@ -5,3 +5,7 @@ pub mod Callable
 pub mod Lookup
 pub mod Ahead
 pub mod Inserted
+pub mod Blocks
+pub mod Pairs
+pub mod Sim
+pub mod Harm

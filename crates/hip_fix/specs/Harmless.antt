@@ -29,11 +29,11 @@ marked_at P plan skip f b =
     cond (nat_lt f (length P.functions)) (marked_body P (clones_of P plan) (wanted_by plan skip) false f b)
         (marked_clone P (clones_of P plan) (wanted_by plan skip) (slice_get (cloned P plan) (f - length P.functions)) b)
 
-abbrev is_inserted : List Marked → Bool
+abbrev pub is_inserted : List Marked → Bool
 is_inserted [] = false
 is_inserted (m ∷ ms) = m.1
 
-abbrev inserted_on : Program → Plan → (Site → Bool) → Option Ending → List Frame → Bool
+abbrev pub inserted_on : Program → Plan → (Site → Bool) → Option Ending → List Frame → Bool
 inserted_on P plan skip (Some e) fs = false
 inserted_on P plan skip None [] = false
 inserted_on P plan skip None (f ∷ fs) = is_inserted (drop f.place (marked_at P plan skip f.function f.block))

@@ -9,7 +9,7 @@ use Rattle.hip_step.specs.State.{Frame, site_of}
 use Rattle.hip_step.specs.Step.{event, run}
 use Rattle.hip_step.specs.Validity.{IsValid}
 
-abbrev stores_in_region : Event → Type 0
+abbrev pub stores_in_region : Event → Type 0
 stores_in_region (events.Store addr value size) = Unit {0}
 stores_in_region _ = ⊥
 

@@ -94,7 +94,7 @@ trap_of num_traps.DivZero = traps.DivZero
 trap_of num_traps.DivOverflow = traps.DivOverflow
 trap_of num_traps.ShiftRange = traps.ShiftRange
 
-abbrev calculated : List ℕ → Result Bits NumTrap → Action
+abbrev pub calculated : List ℕ → Result Bits NumTrap → Action
 calculated dest (Ok b) = Assigns (Some dest) b.value
 calculated dest (Err trap) = Traps (trap_of trap)
 
@@ -155,7 +155,7 @@ arg_value values k = unwrap_or (slice_get values k) 0
 unfoldable pub flushing : Program → Input → World → ℕ → ℕ → Action → Action
 flushing P I w a n go = cond (nat_eq n 0) go (cond (are_valid P I w a n) go (Traps traps.Address))
 
-abbrev read_next : Option (List ℕ) → List ℤ → Action
+abbrev pub read_next : Option (List ℕ) → List ℤ → Action
 read_next dest [] = Traps traps.InputEnd
 read_next dest (z ∷ rest) = Reads dest z rest
 
@@ -245,7 +245,7 @@ end_action P I f (Some ends.Unreachable) = Traps traps.Unreachable
 -- ---- what comes next
 
 -- whether an external call is a flush or a fence
-abbrev is_flush_or_fence : Option ExternCall → Bool
+abbrev pub is_flush_or_fence : Option ExternCall → Bool
 is_flush_or_fence None = false
 is_flush_or_fence (Some calls.ReadI64) = false
 is_flush_or_fence (Some calls.PrintI64) = false

@@ -72,7 +72,7 @@ pub record State : Type 0 where
   pub lines : List (Line StorePart)
   pub counts : Counts
 
-abbrev level_list : Option Level → List Level → List Level
+abbrev pub level_list : Option Level → List Level → List Level
 level_list None rest = rest
 level_list (Some l) rest = l ∷ rest
 

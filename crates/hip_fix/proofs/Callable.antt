@@ -91,7 +91,7 @@ of_table e name same h = by_call (call_of e.name) (ap call_of (sym same)) h
     by_call None f g = cc
     by_call (Some c) f g = (c, f)
 
-both_hold : (a b : Bool) → (a && b) ≡ true → (a ≡ true) × (b ≡ true)
+pub both_hold : (a b : Bool) → (a && b) ≡ true → (a ≡ true) × (b ≡ true)
 both_hold true b e = (refl, e)
 both_hold false b e = cc
 

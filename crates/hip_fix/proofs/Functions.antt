@@ -28,11 +28,11 @@ get_back (x ∷ xs) ys j = let e : suc (length xs) + j ≡ suc (length xs + j) =
 
 -- ---- the functions that stand first
 
-length-repaired_functions : (clones : List Clone) (w : Wanted) (f : ℕ) (xs : List Function) → length (repaired_functions clones w f xs) ≡ length xs
+pub length-repaired_functions : (clones : List Clone) (w : Wanted) (f : ℕ) (xs : List Function) → length (repaired_functions clones w f xs) ≡ length xs
 length-repaired_functions clones w f [] = refl
 length-repaired_functions clones w f (x ∷ xs) = ap suc (length-repaired_functions clones w (suc f) xs)
 
-names-repaired_functions : (clones : List Clone) (w : Wanted) (f : ℕ) (xs : List Function) → function_names (repaired_functions clones w f xs) ≡ function_names xs
+pub names-repaired_functions : (clones : List Clone) (w : Wanted) (f : ℕ) (xs : List Function) → function_names (repaired_functions clones w f xs) ≡ function_names xs
 names-repaired_functions clones w f [] = refl
 names-repaired_functions clones w f (x ∷ xs) = ap (λ names. x.name ∷ names) (names-repaired_functions clones w (suc f) xs)
 

@@ -2,6 +2,7 @@ pub mod Facts
 pub mod Twins
 pub mod Functions
 pub mod Callable
+pub mod Clones
 pub mod Lookup
 pub mod Ahead
 pub mod Inserted

@@ -19,6 +19,7 @@ use Rattle.hip_step.specs.Step.{main_number}
 use Rattle.hip_fix.specs.declared.plan.Plan.{Plan}
 use Rattle.hip_fix.specs.Repaired.{wanted_by, clone_name, clones_of, cloned, repaired, repaired_function}
 use Rattle.hip_fix.proofs.Callable.{callable_of}
+use Rattle.hip_fix.proofs.Clones.{called_there, closed_there, extern_kept, calls_of_clone, calls_in_clone}
 use Rattle.hip_fix.proofs.Facts.{In}
 use Rattle.hip_fix.proofs.Functions.{twin_of_plain, plain_code, plain_number, main_of, repaired_main_of}
 use Rattle.hip_fix.proofs.Twins.{IsCallable, Twin, CallsTwin}
@@ -54,19 +55,19 @@ module _ (P : Program) (plan : Plan) (skip : Site → Bool) (good : IsCallable P
   }
 
   pub calls_clone : (callee : List ℕ) (g : ℕ) (fn : Function) → function_number P callee ≡ Some g → slice_get P.functions g ≡ Some fn → In g (cloned P plan) → CallsTwin P plan skip true (clone_name (clones_of P plan) callee) g fn
-  calls_clone callee g fn e f i = ?
+  calls_clone callee g fn e f i = calls_of_clone P plan skip good callee g fn e f i
 
   -- a call of an external function names it in a clone too
   pub extern_name : (callee : List ℕ) (e : ExternCall) → call_of callee ≡ Some e → clone_name (clones_of P plan) callee ≡ callee
-  extern_name callee e h = ?
+  extern_name callee e h = extern_kept P plan good callee (λ none. cc)
 
   -- the callee of a hoisted call is cloned, and so is each function that a cloned one calls
   pub hoisted_cloned : (s : Site) (dest : Option (List ℕ)) (ret : Option Scalar) (callee : List ℕ) (args : List Arg) (g : ℕ) → has_site plan.hoist s ≡ true → instr_of P s ≡ Some (Call dest ret callee args) → function_number P callee ≡ Some g → In g (cloned P plan)
-  hoisted_cloned s dest ret callee args g h i e = ?
+  hoisted_cloned s dest ret callee args g h i e = called_there P plan.hoist s dest ret callee args g h i e
 
   pub cloned_closed : (f b k : ℕ) (dest : Option (List ℕ)) (ret : Option Scalar) (callee : List ℕ) (args : List Arg) (g : ℕ) → In f (cloned P plan) → slice_get (body_at P f b) k ≡ Some (Call dest ret callee args) → function_number P callee ≡ Some g → In g (cloned P plan)
-  cloned_closed f b k dest ret callee args g i c e = ?
+  cloned_closed f b k dest ret callee args g i c e = closed_there P plan.hoist f b k dest ret callee args g i c e
 
   -- a call in a clone of a function that is defined names a clone
   pub clone_calls : (f' b k : ℕ) (dest : Option (List ℕ)) (ret : Option Scalar) (callee' : List ℕ) (args : List Arg) (g' : ℕ) → length P.functions ≤ f' → slice_get (body_at (repaired P plan skip) f' b) k ≡ Some (Call dest ret callee' args) → function_number (repaired P plan skip) callee' ≡ Some g' → length P.functions ≤ g'
-  clone_calls f' b k dest ret callee' args g' high c e = ?
+  clone_calls f' b k dest ret callee' args g' high c e = calls_in_clone P plan skip good f' b k dest ret callee' args g' high c e

@@ -8,14 +8,14 @@ use Rattle.std.proofs.lemmas.Map.Keys.{IsDistinct-push}
 use Rattle.std.proofs.lemmas.Map.Steps.{list_any_congr}
 use Rattle.hip_types.specs.Distinct.{met}
 
-or_first : (b c : Bool) → b ≡ true → (b || c) ≡ true
+pub or_first : (b c : Bool) → b ≡ true → (b || c) ≡ true
 or_first b c e = ap (λ t. t || c) e
 
-or_second : (b c : Bool) → c ≡ true → (b || c) ≡ true
+pub or_second : (b c : Bool) → c ≡ true → (b || c) ≡ true
 or_second true c e = refl
 or_second false c e = e
 
-either : (b c : Bool) → (b || c) ≡ true → (b ≡ true) ⊎ (c ≡ true)
+pub either : (b c : Bool) → (b || c) ≡ true → (b ≡ true) ⊎ (c ≡ true)
 either true c e = inl refl
 either false c e = inr e
 

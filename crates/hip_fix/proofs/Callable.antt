@@ -1,12 +1,10 @@
 -- What a sound program's calls name.
-use Rattle.std.proofs.Common.{◌≡◌, ◌⊎◌, ℕ, zero, suc, ◌+◌, ◌<◌, Bool, true, false, cond, ◌&&◌, List, [], ◌∷◌, map, length, Option, Some, None, is_some, is_none, slice_get, option_map, refl, sym, ap, ◌∙◌, subst, inl, inr, ⊎_elim, arith}
+use Rattle.std.proofs.Common.{◌≡◌, ◌⊎◌, ℕ, suc, Bool, true, false, cond, ◌&&◌, List, [], ◌∷◌, map, Option, Some, None, is_some, is_none, slice_get, option_map, refl, sym, ap, ◌∙◌, subst, inl, inr}
 use Rattle.std.specs.Prelude.{codes, if◌then◌else◌}
 use Rattle.std.specs.Str.{bytes_eq}
 use Rattle.std.proofs.lemmas.Option.{slice_get_within, get_or_from_slice_get}
 use Rattle.std.proofs.lemmas.Slice.Eq.{bytes_eq-Decides}
-use Rattle.hip_types.specs.declared.number.Scalar.{Scalar}
 use Rattle.hip_ir.specs.declared.block.Block.{Block}
-use Rattle.hip_ir.specs.declared.instr.Arg.{Arg}
 use Rattle.hip_ir.specs.declared.instr.Instr.{Instr}
 use Rattle.hip_ir.specs.declared.instr.Instr.TheVariants.{Call}
 use Rattle.hip_ir.specs.declared.program.Extern.{Extern}
@@ -22,7 +20,7 @@ use Rattle.hip_typing.specs.Places.{extern_of, function_of, first_of, callee_of,
 use Rattle.hip_typing.specs.Sound.{IsSound, is_main, has_main, is_of, declared, free_function, externs_check, block_check, places_check}
 use Rattle.hip_typing.specs.declared.externs.ExternCall.{ExternCall}
 use Rattle.hip_typing.specs.declared.fault.Place.TheVariants as places
-use Rattle.hip_step.specs.Places.{blocks_in, blocks_of, block_at, body_of, body_at}
+use Rattle.hip_step.specs.Places.{blocks_in, body_of, body_at}
 use Rattle.hip_fix.proofs.Twins.{IsCallable}
 
 -- what a check of each item holds of the one at a place
@@ -48,6 +46,7 @@ number_behind f fs name h = by_first (bytes_eq name f.name) refl
   where
     whole : (b : Bool) → bytes_eq name f.name ≡ b → number_of (function_names (f ∷ fs)) name ≡ cond b (Some 0) (option_map suc (number_of (function_names fs) name))
     whole b e = number_of-cons f.name (function_names fs) name ∙ ap (λ t. cond t (Some 0) (option_map suc (number_of (function_names fs) name))) e
+
     by_first : (b : Bool) → bytes_eq name f.name ≡ b → HasNumber (f ∷ fs) name
     by_first true e = (0, whole true e)
     by_first false e = (suc h.0, whole false e ∙ ap (option_map suc) h.1)
@@ -104,6 +103,7 @@ instr_place P f b k i h = in_function (slice_get P.functions f) refl h
     in_block : (fn : Function) → slice_get P.functions f ≡ Some fn → (o : Option Block) → slice_get fn.blocks b ≡ o → slice_get (body_of o) k ≡ Some i → IsInstrAt P f b k i
     in_block fn e None g c = cc
     in_block fn e (Some block) g c = (fn, block, e, g, c)
+
     in_function : (o : Option Function) → slice_get P.functions f ≡ o → slice_get (body_of (slice_get (blocks_in o) b)) k ≡ Some i → IsInstrAt P f b k i
     in_function None e c = cc
     in_function (Some fn) e c = in_block fn e (slice_get fn.blocks b) refl c
@@ -117,6 +117,7 @@ callee_there P callee externs h = in_externs (extern_of P.externs callee) refl h
     in_functions : (o : Option Signature) → function_of P.functions callee ≡ o → is_some o ≡ true → IsCalled P callee
     in_functions None e g = cc
     in_functions (Some s) e g = inr (function_at P.functions callee s e)
+
     in_externs : (o : Option Signature) → extern_of P.externs callee ≡ o → is_some (first_of o (function_of P.functions callee)) ≡ true → IsCalled P callee
     in_externs None e g = in_functions (function_of P.functions callee) refl g
     in_externs (Some s) e g =
@@ -128,7 +129,7 @@ pub instr_checked : (P : Program) → (places_check P).Holds → (f b k : ℕ) (
     (instr_check (scope_of P fn) i (places.Body (record { function = f; block = b; index = k }))).Holds
 instr_checked P h f b k i fn block e g c =
     each_at (λ k instr. instr_check (scope_of P fn) instr (places.Body (record { function = f; block = b; index = k }))) block.body k i
-        (each_at (block_check (scope_of P fn) f) fn.blocks b block (each_at (λ f fn. each (block_check (scope_of P fn) f) fn.blocks) P.functions f fn h e) g).1.0 c
+    (each_at (block_check (scope_of P fn) f) fn.blocks b block (each_at (λ f fn. each (block_check (scope_of P fn) f) fn.blocks) P.functions f fn h e) g).1.0 c
 
 pub callable_of : (P : Program) → IsSound P → IsCallable P
 callable_of P sound =

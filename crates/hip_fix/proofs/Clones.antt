@@ -1,5 +1,5 @@
 -- Where the repaired program has its clones, and which functions are cloned.
-use Rattle.std.proofs.Common.{◌≡◌, ◌⊎◌, inl, inr, ⊎_elim, ℕ, zero, suc, ◌+◌, ◌<◌, ◌≤◌, Bool, true, false, cond, ◌&&◌, ◌||◌, nat_eq, nat_lt, ◌-◌, List, [], ◌∷◌, ◌++◌, map, length, Option, Some, None, slice_get, option_map, refl, sym, ap, ap₂, ◌∙◌, subst, arith, le-ltb}
+use Rattle.std.proofs.Common.{◌≡◌, ◌⊎◌, inl, inr, ⊎_elim, ℕ, zero, suc, ◌+◌, ◌<◌, ◌≤◌, Bool, true, false, cond, ◌||◌, nat_eq, nat_lt, ◌-◌, List, [], ◌∷◌, ◌++◌, map, length, Option, Some, None, slice_get, refl, sym, ap, ap₂, ◌∙◌, subst, arith, le-ltb}
 use Rattle.std.specs.Prelude.{option_to_list}
 use Rattle.std.specs.Cmp.{IsEquivalence, nat_eq_equiv}
 use Rattle.std.specs.Cmp.Lexicographic.{nat_list_eq_equiv}
@@ -8,7 +8,7 @@ use Rattle.std.specs.Str.{bytes_eq}
 use Rattle.std.proofs.lemmas.Bool.Decides.{Decides-eqb}
 use Rattle.std.proofs.lemmas.List.{length-map, map-append}
 use Rattle.std.proofs.lemmas.Map.Keys.{apart_from_distinct}
-use Rattle.std.proofs.lemmas.Option.{slice_get_within, slice_get-map, get_or_from_slice_get, same_Some}
+use Rattle.std.proofs.lemmas.Option.{slice_get_within, get_or_from_slice_get, same_Some}
 use Rattle.std.proofs.lemmas.Slice.Eq.{bytes_eq-Decides}
 use Rattle.hip_types.specs.DistinctLaws.{or_second, either, any_back, any_at, any_found}
 use Rattle.hip_types.specs.declared.number.Scalar.{Scalar}
@@ -21,13 +21,13 @@ use Rattle.hip_ir.specs.declared.program.Function.{Function}
 use Rattle.hip_ir.specs.declared.program.Program.{Program}
 use Rattle.hip_ir.specs.declared.site.Site.{Site}
 use Rattle.hip_typing.specs.Externs.{call_of}
-use Rattle.hip_typing.specs.Names.{is_among, number_of}
+use Rattle.hip_typing.specs.Names.{number_of}
 use Rattle.hip_typing.specs.Numbering.{function_names, function_number}
-use Rattle.hip_typing.specs.NumberingLaws.{number_of-first, number_of-behind, number_of-known, number_of-there, function_number-there, function_number-within}
+use Rattle.hip_typing.specs.NumberingLaws.{number_of-first, number_of-behind, number_of-known, number_of-there, function_number-there}
 use Rattle.hip_calls.specs.Fresh.{fresh_names, names_taken, name_in, name_of}
 use Rattle.hip_calls.specs.FreshLaws.{length-fresh_for, fresh_for-free, fresh_for-distinct, fresh_for-extern}
-use Rattle.hip_calls.specs.Reach.{called_by, called_at, called_from, callees}
-use Rattle.hip_calls.specs.ReachLaws.{Has, IsNamed, called-has, callees-first, callees-closed, callees-named, callees-within}
+use Rattle.hip_calls.specs.Reach.{called_at, callees}
+use Rattle.hip_calls.specs.ReachLaws.{Has, IsNamed, called-has, callees-first, callees-closed, callees-named}
 use Rattle.hip_step.specs.Operands.{scalar_size}
 use Rattle.hip_step.specs.Places.{blocks_in, body_at}
 use Rattle.hip_typing.specs.declared.externs.ExternCall.{ExternCall}
@@ -71,7 +71,7 @@ pub called_there : (P : Program) (sites : List Site) (s : Site) (dest : Option (
 called_there P sites s dest ret callee args g h i e =
     let at = any_found (same_site s) sites h in
     let one : Has (called_at P (instr_of P s)) g =
-        subst (λ o. Has (called_at P o) g) (sym i) (subst (λ o. Has (option_to_list o) g) (sym e) (ap (λ b. b || false) (nat_eq_equiv.refl g))) in
+    subst (λ o. Has (called_at P o) g) (sym i) (subst (λ o. Has (option_to_list o) g) (sym e) (ap (λ b. b || false) (nat_eq_equiv.refl g))) in
     in_has g (callees P sites) (callees-first P sites at.0 s g (at.2 ∙ ap Some (sym (same_sites s at.1 at.3))) one)
 
 pub closed_there : (P : Program) (sites : List Site) (f b k : ℕ) (dest : Option (List ℕ)) (ret : Option Scalar) (callee : List ℕ) (args : List Arg) (g : ℕ) →
@@ -95,7 +95,7 @@ kept_name P (f ∷ fs) (name ∷ names) callee none = by_first (bytes_eq (name_o
 pub extern_kept : (P : Program) (plan : Plan) → IsCallable P → (callee : List ℕ) → ¬ (call_of callee ≡ None) → clone_name (clones_of P plan) callee ≡ callee
 extern_kept P plan good callee there =
     kept_name P (cloned P plan) (fresh_names P (cloned P plan)) callee
-        (λ f h e. there (ap call_of (sym e) ∙ good.free (name_of P f) f (callees-named P plan.hoist f h)))
+    (λ f h e. there (ap call_of (sym e) ∙ good.free (name_of P f) f (callees-named P plan.hoist f h)))
 
 -- where the clone of a function is, and its name
 pub find_clone : (P : Program) (callee : List ℕ) (g : ℕ) → function_number P callee ≡ Some g → name_of P g ≡ callee → (fs : List ℕ) (names : List (List ℕ)) → length names ≡ length fs → ((f : ℕ) → Has fs f → IsNamed P f) → Has fs g →
@@ -113,7 +113,7 @@ find_clone P callee g e n (f ∷ fs) (name ∷ names) long all h =
         (0, same, refl)
     by_first false t rest =
         ⊎_elim (λ s. let same : g ≡ f = (Decides-eqb g f).0 s in let on : bytes_eq (name_of P f) callee ≡ true = (bytes_eq-Decides (name_of P f) callee).1 (ap (name_of P) (sym same) ∙ n) in cc)
-            (λ r. let later = rest r in (suc later.0, later.1, later.2)) (either (nat_eq g f) (list_any (nat_eq g) fs) h)
+        (λ r. let later = rest r in (suc later.0, later.1, later.2)) (either (nat_eq g f) (list_any (nat_eq g) fs) h)
 
 -- ---- the clones as functions
 
@@ -146,7 +146,7 @@ get_clone P clones w (f ∷ fs) (m ∷ names) zero g name fn there e n c =
     let same : f ≡ g = same_Some f g e in
     let named : m ≡ name = same_Some m name n in
     subst (λ h. slice_get (clone_in clones w h m (slice_get P.functions h) ++ clone_functions P clones w fs names) zero ≡ Some (repaired_function clones w true g name fn)) (sym same)
-        (ap (λ o. slice_get (clone_in clones w g m o ++ clone_functions P clones w fs names) zero) c ∙ ap (λ x. Some (repaired_function clones w true g x fn)) named)
+    (ap (λ o. slice_get (clone_in clones w g m o ++ clone_functions P clones w fs names) zero) c ∙ ap (λ x. Some (repaired_function clones w true g x fn)) named)
 get_clone P clones w (f ∷ fs) (m ∷ names) (suc k) g name fn there e n c =
     let at = first_there P f fs there in
     ap (λ o. slice_get (clone_in clones w f m o ++ clone_functions P clones w fs names) (suc k)) at.1 ∙ get_clone P clones w fs names k g name fn (rest_there P f fs there) e n c
@@ -238,7 +238,7 @@ module _ (P : Program) (plan : Plan) (skip : Site → Bool) where
         marked = λ b.
             cond_false (nat_lt (length P.functions + k) (length P.functions)) _ _ (le-ltb (length P.functions + k) (length P.functions) (omega arith))
             ∙ ap (λ o. (elim o as (λ _. ℕ → List Marked) [ None ↦ λ _. [] | Some f ↦ λ b. marked_body P (clones_of P plan) (wanted_by plan skip) true f b ]) b)
-                (ap (slice_get (cloned P plan)) (let n : length P.functions + k - length P.functions ≡ k = omega arith in n) ∙ e);
+            (ap (slice_get (cloned P plan)) (let n : length P.functions + k - length P.functions ≡ k = omega arith in n) ∙ e);
       }
 
   pub calls_of_clone : IsCallable P → (callee : List ℕ) (g : ℕ) (fn : Function) → function_number P callee ≡ Some g → slice_get P.functions g ≡ Some fn → In g (cloned P plan) → CallsTwin P plan skip true (clone_name (clones_of P plan) callee) g fn
@@ -311,19 +311,19 @@ module _ (dest : Option (List ℕ)) (ret : Option Scalar) (callee : List ℕ) (a
   call_in_clone clones w f b place (i ∷ is) (suc k) e =
       let s : Site = record { function = f; block = b; index = place } in
       let parts : slice_get (instrs_of (inserted_behind w true s i) ++ instrs_of (repaired_body clones w true f b (suc place) is)) k ≡ Some (Call dest ret callee args) =
-          ap (λ xs. slice_get xs k) (sym (map-append (λ (m : Marked). m.0) (inserted_behind w true s i) (repaired_body clones w true f b (suc place) is))) ∙ e in
+      ap (λ xs. slice_get xs k) (sym (map-append (λ (m : Marked). m.0) (inserted_behind w true s i) (repaired_body clones w true f b (suc place) is))) ∙ e in
       ⊎_elim (λ front. inr (inserted_calls w true s i k front))
-          (λ back. ⊎_elim (λ r. inl (suc r.0, r.1, r.2, r.3)) (λ x. inr x) (call_in_clone clones w f b (suc place) is back.0 back.1))
-          (in_append (instrs_of (inserted_behind w true s i)) (instrs_of (repaired_body clones w true f b (suc place) is)) k (Call dest ret callee args) parts)
+      (λ back. ⊎_elim (λ r. inl (suc r.0, r.1, r.2, r.3)) (λ x. inr x) (call_in_clone clones w f b (suc place) is back.0 back.1))
+      (in_append (instrs_of (inserted_behind w true s i)) (instrs_of (repaired_body clones w true f b (suc place) is)) k (Call dest ret callee args) parts)
 
 module _ (P : Program) (plan : Plan) (skip : Site → Bool) (good : IsCallable P) where
   -- no function of the repaired program has the name of an external one
   pub still_free : (name : List ℕ) (g : ℕ) → function_number (repaired P plan skip) name ≡ Some g → call_of name ≡ None
   still_free name g e =
       ⊎_elim (λ first. let known = number_of-known (function_names P.functions) name g first in good.free name known.0 known.1)
-          (λ later. fresh_extern P plan skip later.0 name later.1)
-          (in_append (function_names P.functions) (fresh P plan skip) g name
-              (ap (λ names. slice_get names g) (sym (names_then P plan skip)) ∙ number_of-there (function_names (repaired P plan skip).functions) name g e))
+      (λ later. fresh_extern P plan skip later.0 name later.1)
+      (in_append (function_names P.functions) (fresh P plan skip) g name
+      (ap (λ names. slice_get names g) (sym (names_then P plan skip)) ∙ number_of-there (function_names (repaired P plan skip).functions) name g e))
 
   clone_after : (callee' : List ℕ) (g g' : ℕ) (fn : Function) → CallsTwin P plan skip true callee' g fn → function_number (repaired P plan skip) callee' ≡ Some g' → length P.functions ≤ g'
   clone_after callee' g g' fn t e =
@@ -338,20 +338,21 @@ module _ (P : Program) (plan : Plan) (skip : Site → Bool) (good : IsCallable P
       let place : length P.functions + j ≡ f' = omega arith in
       let at = instr_place (repaired P plan skip) f' b k (Call dest ret callee' args) c in
       let clone = at_clone P (clones_of P plan) (wanted_by plan skip) (cloned P plan) (fresh P plan skip) j at.0 (cloned_there P plan skip)
-          (sym (among_clones P plan skip j) ∙ ap (slice_get (repaired P plan skip).functions) place ∙ at.2) in
+      (sym (among_clones P plan skip j) ∙ ap (slice_get (repaired P plan skip).functions) place ∙ at.2) in
       let twin = twin_of_clone P plan skip j clone.0 clone.2 in
       let body : slice_get (instrs_of (repaired_body (clones_of P plan) (wanted_by plan skip) true clone.0 b 0 (body_at P clone.0 b))) k ≡ Some (Call dest ret callee' args) =
-          ap (λ is. slice_get is k) (sym (body_twin P plan skip true clone.0 (length P.functions + j) twin b)) ∙ ap (λ f. slice_get (body_at (repaired P plan skip) f b) k) place ∙ c in
+      ap (λ is. slice_get is k) (sym (body_twin P plan skip true clone.0 (length P.functions + j) twin b)) ∙ ap (λ f. slice_get (body_at (repaired P plan skip) f b) k) place ∙ c in
       ⊎_elim (λ r. of_original clone.0 (has_at clone.0 j (cloned P plan) clone.2) r) (λ x. not_extern callee' x e)
-          (call_in_clone dest ret callee' args (clones_of P plan) (wanted_by plan skip) clone.0 b 0 (body_at P clone.0 b) k body)
+      (call_in_clone dest ret callee' args (clones_of P plan) (wanted_by plan skip) clone.0 b 0 (body_at P clone.0 b) k body)
     where
       not_extern : (name : List ℕ) → IsExtern name → function_number (repaired P plan skip) name ≡ Some g' → length P.functions ≤ g'
       not_extern name x e = let free = still_free name g' e in let both = x.1 in cc
+
       of_original : (f : ℕ) → Has (cloned P plan) f → IsRenamed dest ret callee' args (clones_of P plan) (body_at P f b) → length P.functions ≤ g'
       of_original f h r =
           ⊎_elim (λ x. not_extern r.1 x (ap (function_number (repaired P plan skip)) (sym (r.3 ∙ extern_kept P plan good r.1 (λ none. let both = x.1 in cc))) ∙ e))
-              (λ d.
-                  let there = function_number-there P r.1 d.0 d.1 in
-                  let closed = closed_there P plan.hoist f b r.0 dest ret r.1 args d.0 (in_has f (cloned P plan) h) r.2 d.1 in
-                  clone_after (clone_name (clones_of P plan) r.1) d.0 g' there.0 (calls_of_clone P plan skip good r.1 d.0 there.0 d.1 there.1 closed) (ap (function_number (repaired P plan skip)) (sym r.3) ∙ e))
-              (good.calls f b r.0 dest ret r.1 args r.2)
+          (λ d.
+          let there = function_number-there P r.1 d.0 d.1 in
+          let closed = closed_there P plan.hoist f b r.0 dest ret r.1 args d.0 (in_has f (cloned P plan) h) r.2 d.1 in
+          clone_after (clone_name (clones_of P plan) r.1) d.0 g' there.0 (calls_of_clone P plan skip good r.1 d.0 there.0 d.1 there.1 closed) (ap (function_number (repaired P plan skip)) (sym r.3) ∙ e))
+          (good.calls f b r.0 dest ret r.1 args r.2)

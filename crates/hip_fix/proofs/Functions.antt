@@ -1,8 +1,7 @@
 -- Where the repaired program has its functions.
-use Rattle.std.proofs.Common.{◌≡◌, ℕ, zero, suc, ◌+◌, ◌-◌, ◌<◌, ◌≤◌, Bool, true, false, cond, nat_lt, List, [], ◌∷◌, ◌++◌, map, length, Option, Some, None, slice_get, option_map, refl, sym, ap, ◌∙◌, subst, arith, lt-ltb, le-ltb}
+use Rattle.std.proofs.Common.{◌≡◌, ℕ, zero, suc, ◌+◌, ◌<◌, Bool, true, false, cond, nat_lt, List, [], ◌∷◌, ◌++◌, length, Option, Some, None, slice_get, option_map, refl, ap, ◌∙◌, arith, lt-ltb}
 use Rattle.std.specs.Prelude.{codes}
 use Rattle.std.proofs.lemmas.List.{map-append}
-use Rattle.std.proofs.lemmas.Option.{slice_get_within}
 use Rattle.hip_ir.specs.declared.program.Function.{Function}
 use Rattle.hip_ir.specs.declared.program.Program.{Program}
 use Rattle.hip_ir.specs.declared.site.Site.{Site}
@@ -10,10 +9,9 @@ use Rattle.hip_typing.specs.Names.{number_of}
 use Rattle.hip_typing.specs.Numbering.{function_names, function_number}
 use Rattle.hip_typing.specs.NumberingLaws.{number_of-front}
 use Rattle.hip_calls.specs.Fresh.{fresh_names}
-use Rattle.hip_step.specs.Places.{blocks_in, blocks_of}
+use Rattle.hip_step.specs.Places.{blocks_in}
 use Rattle.hip_step.specs.Step.{main_number}
 use Rattle.hip_fix.specs.declared.plan.Plan.{Plan}
-use Rattle.hip_fix.specs.Harmless.{marked_at, marked_body}
 use Rattle.hip_fix.specs.Repaired.{Clone, Wanted, wanted_by, clones_of, cloned, repaired, repaired_blocks, repaired_function, repaired_functions, clone_functions}
 use Rattle.hip_fix.proofs.Twins.{Twin}
 

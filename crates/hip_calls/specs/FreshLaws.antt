@@ -1,12 +1,13 @@
 -- Laws of fresh names: they are not taken, they differ from one another, and none is the name of an external function.
-use Rattle.std.specs.Prelude.{◌≡◌, ◌≤◌, ◌<◌, ◌||◌, ◌&&◌, ℕ, zero, suc, ◌+◌, ◌-◌, ◌*◌, ◌/◌, ◌%◌, ◌^◌, nat_eq, nat_lt, not, Bool, true, false, cond, List, [], ◌∷◌, ◌++◌, length, codes, Some, None, slice_get, if◌then◌else◌}
+use Rattle.std.specs.Prelude.{◌≡◌, ◌≤◌, ◌<◌, ◌||◌, ◌&&◌, ℕ, zero, suc, ◌+◌, ◌-◌, ◌*◌, ◌/◌, ◌%◌, ◌^◌, nat_eq, nat_lt, not, Bool, true, false, cond, List, [], ◌∷◌, ◌++◌, length, take, codes, Some, None, slice_get, if◌then◌else◌}
 use Rattle.std.specs.Cmp.Lexicographic.{nat_list_eq_equiv}
 use Rattle.std.specs.Fmt.{decimal}
 use Rattle.std.specs.List.{AllByRecursion, IsDistinct, list_any, list_all}
 use Rattle.std.specs.Str.{bytes_eq}
-use Rattle.std.proofs.Common.{refl, sym, ap, ◌∙◌, subst, ⊎_elim, arith, append_assoc, length-append, eq-or-lt_of_le}
+use Rattle.std.proofs.Common.{refl, sym, ap, ◌∙◌, subst, ⊎_elim, arith, length-append, eq-or-lt_of_le}
 use Rattle.std.proofs.lemmas.Bool.Decides.{nat_tests}
 use Rattle.std.proofs.lemmas.Fmt.{decimal_digit, decimal_step_wide}
+use Rattle.std.proofs.lemmas.List.Folds.{list_any-append}
 use Rattle.std.proofs.lemmas.Map.Made.{length-le_from_is_member}
 use Rattle.std.proofs.lemmas.Option.{same_Some}
 use Rattle.std.proofs.lemmas.Slice.Eq.{bytes_eq-Decides}
@@ -171,14 +172,34 @@ not_later : (b c : Bool) → (b || c) ≡ false → (b ≡ false) × (c ≡ fals
 not_later true c e = cc
 not_later false c e = (refl, e)
 
+among_alike : (xs ys : List (List ℕ)) (x q : List ℕ) → is_among (xs ++ x ∷ ys) q ≡ is_among (x ∷ (xs ++ ys)) q
+among_alike xs ys x q =
+    list_any-append (bytes_eq q) xs (x ∷ ys)
+    ∙ moved (list_any (bytes_eq q) xs) (bytes_eq q x) (list_any (bytes_eq q) ys) ∙ ap (λ b. bytes_eq q x || b) (sym (list_any-append (bytes_eq q) xs ys))
+  where
+    moved : (a b c : Bool) → (a || (b || c)) ≡ (b || (a || c))
+    moved true true c = refl
+    moved true false c = refl
+    moved false b c = refl
+
+first_alike : (xs ys : List (List ℕ)) (name fresh : List ℕ) → ((q : List ℕ) → is_among xs q ≡ is_among ys q) → IsFirstFree xs name fresh → IsFirstFree ys name fresh
+first_alike xs ys name fresh same f = record {
+  number = f.number;
+  is = f.is;
+  free = sym (same fresh) ∙ f.free;
+  earlier = λ j below. sym (same (candidate name j)) ∙ f.earlier j below;
+}
+
 -- each is the first candidate of its name that is not taken and is no earlier one
 pub fresh_for-first : (taken names : List (List ℕ)) (k : ℕ) (fresh : List ℕ) → slice_get (fresh_for taken names) k ≡ Some fresh →
-    (name : List ℕ) × (more : List (List ℕ)) × (slice_get names k ≡ Some name) × IsFirstFree (more ++ taken) name fresh
+    (name : List ℕ) × (slice_get names k ≡ Some name) × IsFirstFree (take k (fresh_for taken names) ++ taken) name fresh
 fresh_for-first taken [] k fresh e = cc
-fresh_for-first taken (name ∷ names) zero fresh e = (name, [], refl, subst (IsFirstFree taken name) (same_Some _ _ e) (fresh-first taken name))
+fresh_for-first taken (name ∷ names) zero fresh e = (name, refl, subst (IsFirstFree taken name) (same_Some _ _ e) (fresh-first taken name))
 fresh_for-first taken (name ∷ names) (suc k) fresh e =
-    let rest = fresh_for-first (fresh_name taken name ∷ taken) names k fresh e in
-    (rest.0, rest.1 ++ fresh_name taken name ∷ [], rest.2, subst (λ all. IsFirstFree all rest.0 fresh) (sym (append_assoc rest.1 (fresh_name taken name ∷ []) taken)) rest.3)
+    let first = fresh_name taken name in
+    let earlier = take k (fresh_for (first ∷ taken) names) in
+    let rest = fresh_for-first (first ∷ taken) names k fresh e in
+    (rest.0, rest.1, first_alike (earlier ++ first ∷ taken) (first ∷ (earlier ++ taken)) rest.0 fresh (λ q. among_alike earlier taken first q) rest.2)
 
 -- none is taken
 pub fresh_for-free : (taken names : List (List ℕ)) (k : ℕ) (fresh : List ℕ) → slice_get (fresh_for taken names) k ≡ Some fresh → is_among taken fresh ≡ false
@@ -245,5 +266,5 @@ candidate-extern name k = not_in extern_table (candidate name k) (candidate-mark
 
 pub fresh_for-extern : (taken names : List (List ℕ)) (k : ℕ) (fresh : List ℕ) → slice_get (fresh_for taken names) k ≡ Some fresh → call_of fresh ≡ None
 fresh_for-extern taken names k fresh e =
-    let first = (fresh_for-first taken names k fresh e).3 in
+    let first = (fresh_for-first taken names k fresh e).2 in
     ap call_of first.is ∙ candidate-extern _ first.number

@@ -2,3 +2,4 @@ pub mod Reach
 pub mod ReachLaws
 pub mod Fresh
 pub mod FreshLaws
+pub mod Laws

@@ -41,9 +41,9 @@ flat-has f [] k x q e h = cc
 flat-has f (y ∷ xs) zero x q e h = any_front (nat_eq q) (f y) (flat_map f xs) (subst (λ z. Has (f z) q) (sym (same_Some y x e)) h)
 flat-has f (y ∷ xs) (suc k) x q e h = any_back (nat_eq q) (f y) (flat_map f xs) (flat-has f xs k x q e h)
 
-flat-all : {A : Type 0} (f : A → List ℕ) (Q : ℕ → Type 0) → ((x : A) (q : ℕ) → Has (f x) q → Q q) → (xs : List A) (q : ℕ) → Has (flat_map f xs) q → Q q
-flat-all f Q each [] q h = cc
-flat-all f Q each (x ∷ xs) q h = ⊎_elim (λ front. each x q front) (λ back. flat-all f Q each xs q back) (any_either (nat_eq q) (f x) (flat_map f xs) h)
+flat-all : {A : Type 0} (f : A → List ℕ) (Q : ℕ → Type 0) → (xs : List A) → ((k : ℕ) (x : A) (q : ℕ) → slice_get xs k ≡ Some x → Has (f x) q → Q q) → (q : ℕ) → Has (flat_map f xs) q → Q q
+flat-all f Q [] each q h = cc
+flat-all f Q (x ∷ xs) each q h = ⊎_elim (λ front. each 0 x q refl front) (λ back. flat-all f Q xs (λ k y r e g. each (suc k) y r e g) q back) (any_either (nat_eq q) (f x) (flat_map f xs) h)
 
 -- a call of a defined function is one of its function's
 pub called-has : (P : Program) (f b k : ℕ) (fn : Function) (block : Block) (dest : Option (List ℕ)) (ret : Option Scalar) (callee : List ℕ) (args : List Arg) (g : ℕ) →
@@ -78,7 +78,7 @@ called-named P f q h = in_function (slice_get P.functions f) h
     in_function : (o : Option Function) → Has (called_in P o) q → IsNamed P q
     in_function None h = cc
     in_function (Some fn) h =
-        flat-all (λ (b : Block). flat_map (called_by P) b.body) (IsNamed P) (λ b q g. flat-all (called_by P) (IsNamed P) (λ i q c. called_by-named P i q c) b.body q g) fn.blocks q h
+        flat-all (λ (b : Block). flat_map (called_by P) b.body) (IsNamed P) fn.blocks (λ _ b q _ g. flat-all (called_by P) (IsNamed P) b.body (λ _ i q _ c. called_by-named P i q c) q g) q h
 
 called_at-named : (P : Program) (o : Option Instr) (q : ℕ) → Has (called_at P o) q → IsNamed P q
 called_at-named P None q h = cc
@@ -158,14 +158,15 @@ pub callees-distinct : (P : Program) (sites : List Site) → IsDistinct nat_eq (
 callees-distinct P sites = reached-distinct P (length P.functions) 0 _ (met-distinct nat_eq_equiv [] (flat_map (λ s. called_at P (instr_of P s)) sites) nothing-distinct)
 
 -- what holds of the callees of these calls, and is closed under calls, holds of all
-pub callees-least : (P : Program) (sites : List Site) (Q : ℕ → Type 0) → ((s : Site) (q : ℕ) → Has (called_at P (instr_of P s)) q → Q q) → IsClosed P Q → (q : ℕ) → Has (callees P sites) q → Q q
+pub callees-least : (P : Program) (sites : List Site) (Q : ℕ → Type 0) → ((k : ℕ) (s : Site) (q : ℕ) → slice_get sites k ≡ Some s → Has (called_at P (instr_of P s)) q → Q q) → IsClosed P Q → (q : ℕ) → Has (callees P sites) q → Q q
 callees-least P sites Q first closed q h =
     reached-all P Q closed (length P.functions) 0 (met nat_eq [] (flat_map (λ s. called_at P (instr_of P s)) sites))
-    (λ r g. ⊎_elim (λ none. cc) (λ new. flat-all (λ s. called_at P (instr_of P s)) Q first sites r new) (met-only nat_eq_equiv r [] (flat_map (λ s. called_at P (instr_of P s)) sites) g)) q h
+    (λ r g. ⊎_elim (λ none. cc) (λ new. flat-all (λ s. called_at P (instr_of P s)) Q sites (λ k s q e c. first k s q e c) r new)
+    (met-only nat_eq_equiv r [] (flat_map (λ s. called_at P (instr_of P s)) sites) g)) q h
 
 -- each of them is the first function of its name
 pub callees-named : (P : Program) (sites : List Site) (q : ℕ) → Has (callees P sites) q → IsNamed P q
-callees-named P sites q h = callees-least P sites (IsNamed P) (λ s r g. called_at-named P (instr_of P s) r g) (λ f r n g. called-named P f r g) q h
+callees-named P sites q h = callees-least P sites (IsNamed P) (λ _ s r _ g. called_at-named P (instr_of P s) r g) (λ f r n g. called-named P f r g) q h
 
 pub callees-within : (P : Program) (sites : List Site) (q : ℕ) → Has (callees P sites) q → q < length P.functions
 callees-within P sites q h = function_number-within P (name_of P q) q (callees-named P sites q h)

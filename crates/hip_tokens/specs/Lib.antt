@@ -4,3 +4,4 @@ pub mod Seen
 pub mod Longest
 pub mod Lines
 pub mod Cuts
+pub mod Written

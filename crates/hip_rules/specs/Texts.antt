@@ -1,6 +1,7 @@
 -- Texts of a rule: bytes from whose tokens the rule derives a value, whatever stands before them.
 use Rattle.std.proofs.Common.{◌≡◌, ℕ, Bool, true, false, List, [], ◌∷◌, ◌++◌, Option, Some, None, inl, inr, ◌&&◌, refl, sym, subst, append_assoc}
 use Rattle.std.specs.List.{list_all, flat_map}
+use Rattle.std.proofs.lemmas.Bool.{and_parts}
 use Rattle.hip_tokens.specs.Bytes.{is_blank, is_mark}
 use Rattle.hip_tokens.specs.Tokens.{Tok, Word, Label, Local, Global, Num, Mark, At, cut, line_after}
 use Rattle.hip_tokens.specs.Longest.{is_name, are_digits}
@@ -105,13 +106,6 @@ some_text {x = x} p = record { derives = λ line rest e. let q = p.derives line 
 
 -- ---- lists
 
-first_passes : {A : Type 0} (test : A → Bool) (x : A) (xs : List A) → list_all test (x ∷ xs) ≡ true → (test x ≡ true) × (list_all test xs ≡ true)
-first_passes test x xs e = by_first (test x) refl
-  where
-    by_first : (b : Bool) → test x ≡ b → (test x ≡ true) × (list_all test xs ≡ true)
-    by_first true h = (h, rw h at e)
-    by_first false h = absurd (let k = rw h at e in cc)
-
 more_text : {F A : Type 0} (l : Rule F A) (s t : List ℕ) (x : A) (xs : List A) (c : List ℕ → Bool) → IsTextOf c l s x → IsTextOf c (many l) t xs → Leaves c t c → IsTextOf c (many l) (s ++ t) (x ∷ xs)
 unfolding many
 more_text l s t x xs c p q leaves = record { derives = λ line rest e.
@@ -132,5 +126,5 @@ module _ {F A : Type 0} (l : Rule F A) (text : A → List ℕ) (c : List ℕ →
   pub many_text : (xs : List A) → list_all test xs ≡ true → IsTextOf c (many l) (flat_map text xs) xs
   many_text [] e = no_more_text l c
   many_text (x ∷ xs) e =
-      let both_pass = first_passes test x xs e in
-      more_text l (text x) (flat_map text xs) x xs c (each x both_pass.0) (many_text xs both_pass.1) (texts_leave xs)
+      let passes = and_parts (test x) (list_all test xs) e in
+      more_text l (text x) (flat_map text xs) x xs c (each x passes.0) (many_text xs passes.1) (texts_leave xs)

@@ -3,6 +3,7 @@ use Rattle.std.proofs.Common.{◌≡◌, ℕ, suc, ◌+◌, Bool, true, false, e
 use Rattle.std.specs.Prelude.{slice_index, ◌==◌}
 use Rattle.std.specs.List.{prefix_len, list_all}
 use Rattle.std.proofs.lemmas.List.{take_at, drop_at}
+use Rattle.std.proofs.lemmas.Bool.{and_parts}
 use Rattle.std.proofs.lemmas.Bool.Decides.{nat_tests}
 use Rattle.hip_tokens.specs.Bytes.{is_blank, is_digit, begins_name, goes_on_name, is_mark}
 use Rattle.hip_tokens.specs.Tokens.{Tok, Word, Label, Local, Global, Num, Mark, At, piece, piece_at, word_piece, number_piece, minus_piece, local_piece, global_piece, name_here, cut}
@@ -19,14 +20,6 @@ abbrev pub ends_word : List ℕ → Bool
 ends_word [] = true
 ends_word (b ∷ bs) = not (goes_on_name b) && not (b == 58)
 
-and_left : (a b : Bool) → (a && b) ≡ true → a ≡ true
-and_left true b e = refl
-and_left false b e = absurd cc
-
-and_right : (a b : Bool) → (a && b) ≡ true → b ≡ true
-and_right true b e = e
-and_right false b e = absurd cc
-
 not_is : (a : Bool) → not a ≡ true → a ≡ false
 not_is true e = absurd cc
 not_is false e = refl
@@ -34,22 +27,22 @@ not_is false e = refl
 prefix_ends : (p : ℕ → Bool) (xs ys : List ℕ) → list_all p xs ≡ true → begins_without p ys ≡ true → prefix_len p (xs ++ ys) ≡ length xs
 prefix_ends p [] [] a h = refl
 prefix_ends p [] (y ∷ ys) a h = rw (not_is (p y) h) refl
-prefix_ends p (x ∷ xs) ys a h = rw (and_left (p x) (list_all p xs) a, prefix_ends p xs ys (and_right (p x) (list_all p xs) a) h) (omega arith)
+prefix_ends p (x ∷ xs) ys a h = rw ((and_parts (p x) (list_all p xs) a).0, prefix_ends p xs ys ((and_parts (p x) (list_all p xs) a).1) h) (omega arith)
 
 ends_name : (rest : List ℕ) → ends_word rest ≡ true → begins_without goes_on_name rest ≡ true
 ends_name [] e = refl
-ends_name (y ∷ ys) e = and_left (not (goes_on_name y)) (not (y == 58)) e
+ends_name (y ∷ ys) e = (and_parts (not (goes_on_name y)) (not (y == 58)) e).0
 
 no_digit : (y : ℕ) → goes_on_name y ≡ false → is_digit y ≡ false
 no_digit y e = grind (arith, nat_tests)
 
 ends_number : (rest : List ℕ) → ends_word rest ≡ true → begins_without is_digit rest ≡ true
 ends_number [] e = refl
-ends_number (y ∷ ys) e = rw (no_digit y (not_is (goes_on_name y) (and_left (not (goes_on_name y)) (not (y == 58)) e))) refl
+ends_number (y ∷ ys) e = rw (no_digit y (not_is (goes_on_name y) ((and_parts (not (goes_on_name y)) (not (y == 58)) e).0))) refl
 
 no_colon : (bs rest : List ℕ) → ends_word rest ≡ true → eqb (slice_index (bs ++ rest) (length bs)) 58 ≡ false
 no_colon [] [] e = refl
-no_colon [] (y ∷ ys) e = not_is (eqb y 58) (and_right (not (goes_on_name y)) (not (eqb y 58)) e)
+no_colon [] (y ∷ ys) e = not_is (eqb y 58) ((and_parts (not (goes_on_name y)) (not (eqb y 58)) e).1)
 no_colon (b ∷ bs) rest e = no_colon bs rest e
 
 colon : (bs rest : List ℕ) → eqb (slice_index (bs ++ 58 ∷ rest) (length bs)) 58 ≡ true
@@ -64,11 +57,11 @@ digit_first d e = (grind (arith, nat_tests), grind (arith, nat_tests), grind (ar
 
 all_go_on : (name : List ℕ) → is_name name ≡ true → list_all goes_on_name name ≡ true
 all_go_on [] p = refl
-all_go_on (b ∷ bs) p = rw (and_left (begins_name b) (list_all goes_on_name bs) p, and_right (begins_name b) (list_all goes_on_name bs) p) refl
+all_go_on (b ∷ bs) p = rw ((and_parts (begins_name b) (list_all goes_on_name bs) p).0, (and_parts (begins_name b) (list_all goes_on_name bs) p).1) refl
 
 begins_here : (name rest : List ℕ) → is_name name ≡ true → name_here (name ++ rest) ≡ true
 begins_here [] rest p = absurd cc
-begins_here (b ∷ bs) rest p = and_left (begins_name b) (list_all goes_on_name bs) p
+begins_here (b ∷ bs) rest p = (and_parts (begins_name b) (list_all goes_on_name bs) p).0
 
 abbrev pub at_line : ℕ → Tok → At
 at_line line t = record { tok = t; line = line }
@@ -79,9 +72,9 @@ pub word_cut : (line : ℕ) (name rest : List ℕ) → is_name name ≡ true →
 unfolding piece_at word_piece
 word_cut line [] rest p e = absurd cc
 word_cut line (b ∷ bs) rest p e =
-    let first = and_left (begins_name b) (list_all goes_on_name bs) p in
+    let first = (and_parts (begins_name b) (list_all goes_on_name bs) p).0 in
     let o = name_first b first in
-    let len = prefix_ends goes_on_name bs rest (and_right (begins_name b) (list_all goes_on_name bs) p) (ends_name rest e) in
+    let len = prefix_ends goes_on_name bs rest ((and_parts (begins_name b) (list_all goes_on_name bs) p).1) (ends_name rest e) in
     let token : piece (Word (b ∷ bs)) (length bs) ≡ piece_at b (bs ++ rest) = rw (first, len, no_colon bs rest e, take_at bs rest (length bs) refl) refl in
     cut_token line b (bs ++ rest) (Word (b ∷ bs)) (length bs) o.0 o.1 token ∙ rw (drop_at bs rest (length bs) refl) refl
 
@@ -90,9 +83,9 @@ pub label_cut : (line : ℕ) (name rest : List ℕ) → is_name name ≡ true �
 unfolding piece_at word_piece
 label_cut line [] rest p = absurd cc
 label_cut line (b ∷ bs) rest p =
-    let first = and_left (begins_name b) (list_all goes_on_name bs) p in
+    let first = (and_parts (begins_name b) (list_all goes_on_name bs) p).0 in
     let o = name_first b first in
-    let len = prefix_ends goes_on_name bs (58 ∷ rest) (and_right (begins_name b) (list_all goes_on_name bs) p) refl in
+    let len = prefix_ends goes_on_name bs (58 ∷ rest) ((and_parts (begins_name b) (list_all goes_on_name bs) p).1) refl in
     let token : piece (Label (b ∷ bs)) (length bs + 1) ≡ piece_at b (bs ++ 58 ∷ rest) = rw (first, len, colon bs rest, take_at bs (58 ∷ rest) (length bs) refl) refl in
     cut_token line b (bs ++ 58 ∷ rest) (Label (b ∷ bs)) (length bs + 1) o.0 o.1 token ∙ rw (behind_colon bs rest) refl
   where
@@ -122,9 +115,9 @@ pub digits_cut : (line : ℕ) (ds rest : List ℕ) → are_digits ds ≡ true �
 unfolding piece_at number_piece
 digits_cut line [] rest p e = absurd cc
 digits_cut line (d ∷ ds) rest p e =
-    let first = and_left (is_digit d) (list_all is_digit ds) p in
+    let first = (and_parts (is_digit d) (list_all is_digit ds) p).0 in
     let o = digit_first d first in
-    let len = prefix_ends is_digit ds rest (and_right (is_digit d) (list_all is_digit ds) p) (ends_number rest e) in
+    let len = prefix_ends is_digit ds rest ((and_parts (is_digit d) (list_all is_digit ds) p).1) (ends_number rest e) in
     let token : piece (Num (d ∷ ds)) (length ds) ≡ piece_at d (ds ++ rest) = rw (o.2, first, len, take_at ds rest (length ds) refl) refl in
     cut_token line d (ds ++ rest) (Num (d ∷ ds)) (length ds) o.0 o.1 token ∙ rw (drop_at ds rest (length ds) refl) refl
 

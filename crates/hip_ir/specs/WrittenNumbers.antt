@@ -158,7 +158,14 @@ number_literal W64 n lt = signed_literal W64 n lt
 own_literal : (b : Bits) → IsLiteral b.width (literal_text b) b
 own_literal b = subst (IsLiteral b.width (literal_text b)) (bits-value b) (number_literal b.width b.value b.in_range)
 
-pub same_width : (v w : Width) → (bits_of v == bits_of w) ≡ true → v ≡ w
+pub own_width : (w : Width) → (bits_of w == bits_of w) ≡ true
+own_width W1 = refl
+own_width W8 = refl
+own_width W16 = refl
+own_width W32 = refl
+own_width W64 = refl
+
+same_width : (v w : Width) → (bits_of v == bits_of w) ≡ true → v ≡ w
 same_width W1 W1 e = refl
 same_width W8 W8 e = refl
 same_width W16 W16 e = refl

@@ -30,7 +30,7 @@ use Rattle.hip_ir.specs.Grammar.{maybe_word, literal_index, gep_inside, gep_cons
 use Rattle.hip_ir.specs.Show.{type_text, commas, after_commas, bracketed, braced, inbounds_text, index_text, const_step, gep_step, typed_step, const_text, operand_text, arg_text}
 use Rattle.hip_ir.specs.Spelling.{not_empty, spelled_type, spelled_gep, spelled_pointer_level, spelled_pointer_within, spelled_pointer, spelled_int, spelled_array, spelled_struct, spelled_const_by, spelled_item, spelled_const_within, spelled_scalar_const, spelled_operand, spelled_arg, spelled_index, is_int_type}
 use Rattle.hip_ir.specs.WrittenNumbers.{literal_is, int_const_is, own_width}
-use Rattle.hip_ir.specs.WrittenLists.{separated_are, none_listed, some_listed}
+use Rattle.hip_ir.specs.WrittenLists.{separated_are, none_listed, some_listed, listed_are}
 use Rattle.hip_ir.specs.WrittenTypes.{int_is, scalar_is, type_is}
 
 -- ---- texts by levels
@@ -59,7 +59,7 @@ all_pass : {A : Type 0} (xs : List A) → list_all (λ x. true) xs ≡ true
 all_pass [] = refl
 all_pass (x ∷ xs) = all_pass xs
 
-inbounds_then : {B : Type 0} (f : Bool → Rule Fault B) (d : List ℕ → Bool) (t : List ℕ) (y : B) (inbounds : Bool) → IsTextOf d (f inbounds) t y → IsTextOf d (both (maybe_word (codes "inbounds")).rule f) (inbounds_text inbounds ++ t) y
+pub inbounds_then : {B : Type 0} (f : Bool → Rule Fault B) (d : List ℕ → Bool) (t : List ℕ) (y : B) (inbounds : Bool) → IsTextOf d (f inbounds) t y → IsTextOf d (both (maybe_word (codes "inbounds")).rule f) (inbounds_text inbounds ++ t) y
 unfolding maybe_word
 inbounds_then f d t y true q = then_text f {s = codes "inbounds"} {t = 32 ∷ t} (last_text _ (some_text (word_text _ (codes "inbounds") refl refl)) (nothing_text anything)) (blank_text 32 refl q) (λ rest h. refl)
 inbounds_then f d t y false q = then_text f {s = []} (last_text _ (none_text _ anything) (nothing_text anything)) q (λ rest h. refl)
@@ -154,8 +154,7 @@ module _ (value : Ty → Part Fault Const) (test : Ty → Const → Bool) (each 
 
   brackets_are : (items : List TypedConst) → list_all (spelled_item test) items ≡ true → IsTextOf anything (const_list 91 93 value).rule (bracketed (map item_text items)) items
   unfolding const_list
-  brackets_are [] e = mark_then _ _ 91 refl refl (none_listed (typed_const value) item_text (spelled_item test) item_is 93 (codes "]") (mark_text _ 93 refl refl))
-  brackets_are (i ∷ is) e = mark_then _ _ 91 refl refl (some_listed (typed_const value) item_text (spelled_item test) item_is 93 (codes "]") (mark_text _ 93 refl refl) (λ rest h. refl) i is e)
+  brackets_are items e = mark_then _ _ 91 refl refl (listed_are (typed_const value) item_text (spelled_item test) item_is 93 (codes "]") (mark_text _ 93 refl refl) (λ rest h. refl) items e)
 
   braces_are : (items : List TypedConst) → list_all (spelled_item test) items ≡ true → IsTextOf anything (const_list 123 125 value).rule (braced (map item_text items)) items
   unfolding const_list

@@ -5,7 +5,7 @@ use Rattle.std.proofs.lemmas.Bool.{and_parts}
 use Rattle.hip_tokens.specs.Written.{ends_word}
 use Rattle.hip_rules.specs.Rule.{one, both, many}
 use Rattle.hip_rules.specs.Part.{Part, the, one_more_by, separated, none_up_to, some_up_to, listed}
-use Rattle.hip_rules.specs.Texts.{IsTextOf, Leaves, anything, then_text, last_text, nothing_text, mark_then, blank_text, left_text, right_text, many_text}
+use Rattle.hip_rules.specs.Texts.{IsTextOf, Leaves, anything, then_text, last_text, nothing_text, mark_then, blank_text, left_text, right_text, many_texts}
 use Rattle.hip_ir.specs.declared.fault.Fault.{Fault}
 use Rattle.hip_ir.specs.Words.{comma, is_mark}
 use Rattle.hip_ir.specs.Show.{commas, after_commas}
@@ -23,7 +23,7 @@ module _ {A : Type 0} (l : Part Fault A) (text : A → List ℕ) (test : A → B
   after_commas_are (x ∷ xs) = ap (λ (t : List ℕ). codes ", " ++ (text x ++ t)) (after_commas_are xs)
 
   others_are : (xs : List A) → list_all test xs ≡ true → IsTextOf ends_word (many (one_more_by comma l).rule) (after_commas (map text xs)) xs
-  others_are xs e = rw (← after_commas_are xs) (many_text (one_more_by comma l).rule behind_comma ends_word test one_more_is (λ x rest. refl) xs e)
+  others_are xs e = rw (← after_commas_are xs) (many_texts (one_more_by comma l).rule behind_comma ends_word test one_more_is (λ x rest. refl) xs e)
 
   commas_leave : (xs : List A) → Leaves ends_word (after_commas (map text xs)) ends_word
   commas_leave [] rest e = e
@@ -42,3 +42,7 @@ module _ {A : Type 0} (l : Part Fault A) (text : A → List ℕ) (test : A → B
     pub some_listed : Leaves ends_word closing anything → (x : A) (xs : List A) → list_all test (x ∷ xs) ≡ true → IsTextOf anything (listed comma (is_mark mark) l).rule (commas (map text (x ∷ xs)) ++ closing) (x ∷ xs)
     unfolding listed some_up_to
     some_listed leaves x xs e = right_text _ (then_text _ (separated_are x xs e) (last_text _ close (nothing_text anything)) leaves)
+
+    pub listed_are : Leaves ends_word closing anything → (xs : List A) → list_all test xs ≡ true → IsTextOf anything (listed comma (is_mark mark) l).rule (commas (map text xs) ++ closing) xs
+    listed_are leaves [] e = none_listed
+    listed_are leaves (x ∷ xs) e = some_listed leaves x xs e

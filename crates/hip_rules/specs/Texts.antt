@@ -1,5 +1,5 @@
 -- Texts of a rule: bytes from whose tokens the rule derives a value, whatever stands before them.
-use Rattle.std.proofs.Common.{◌≡◌, ℕ, Bool, true, false, List, [], ◌∷◌, ◌++◌, Option, Some, None, inl, inr, ◌&&◌, refl, sym, subst, append_assoc}
+use Rattle.std.proofs.Common.{◌≡◌, ℕ, Bool, true, false, List, [], ◌∷◌, ◌++◌, Option, Some, None, inl, inr, ◌&&◌, map, map-id, refl, subst, append_assoc}
 use Rattle.std.specs.List.{list_all, flat_map}
 use Rattle.std.proofs.lemmas.Bool.{and_parts}
 use Rattle.hip_tokens.specs.Bytes.{is_blank, is_mark}
@@ -29,6 +29,12 @@ nothing_text c = record { derives = λ line rest e. (line, (refl, refl)) }
 
 pub blank_text : {F A : Type 0} {l : Rule F A} {c : List ℕ → Bool} {t : List ℕ} {x : A} (b : ℕ) → is_blank b ≡ true → IsTextOf c l t x → IsTextOf c l (b ∷ t) x
 blank_text {l = l} {t = t} {x = x} b blank p = record { derives = λ line rest e. let q = p.derives (line_after line b) rest e in (q.0, rw (cut_blank line b (t ++ rest) blank) q.1) }
+
+-- a separator behind it
+pub blank_behind : {F A : Type 0} {l : Rule F A} {c : List ℕ → Bool} {s : List ℕ} {x : A} (b : ℕ) → is_blank b ≡ true → Leaves c (b ∷ []) anything → IsTextOf c l s x → IsTextOf anything l (s ++ b ∷ []) x
+blank_behind {l = l} {s = s} {x = x} b blank leaves p = record { derives = λ line rest e.
+    let q = p.derives line (b ∷ rest) (leaves rest refl) in
+    (line_after q.0 b, rw (append_assoc s (b ∷ []) rest, ← cut_blank q.0 b rest blank) q.1) }
 
 -- ---- one part after the other
 
@@ -106,25 +112,38 @@ some_text {x = x} p = record { derives = λ line rest e. let q = p.derives line 
 
 -- ---- lists
 
-more_text : {F A : Type 0} (l : Rule F A) (s t : List ℕ) (x : A) (xs : List A) (c : List ℕ → Bool) → IsTextOf c l s x → IsTextOf c (many l) t xs → Leaves c t c → IsTextOf c (many l) (s ++ t) (x ∷ xs)
+pub no_more_text : {F A : Type 0} (l : Rule F A) (c : List ℕ → Bool) → IsTextOf c (many l) [] []
 unfolding many
-more_text l s t x xs c p q leaves = record { derives = λ line rest e.
+no_more_text l c = record { derives = λ line rest e. (line, refl) }
+
+pub more_text : {F A : Type 0} {l : Rule F A} {c d : List ℕ → Bool} {s t : List ℕ} {x : A} {xs : List A} → IsTextOf c l s x → IsTextOf d (many l) t xs → Leaves c t d → IsTextOf d (many l) (s ++ t) (x ∷ xs)
+unfolding many
+more_text {s = s} {t = t} p q leaves = record { derives = λ line rest e.
     let first = p.derives line (t ++ rest) (leaves rest e) in
     let second = q.derives first.0 rest e in
     (second.0, rw (append_assoc s t rest) (cut first.0 0 (t ++ rest), first.1, second.1)) }
 
-no_more_text : {F A : Type 0} (l : Rule F A) (c : List ℕ → Bool) → IsTextOf c (many l) [] []
-unfolding many
-no_more_text l c = record { derives = λ line rest e. (line, refl) }
-
 -- what may stand behind a part, may be another
-module _ {F A : Type 0} (l : Rule F A) (text : A → List ℕ) (c : List ℕ → Bool) (test : A → Bool) (each : (x : A) → test x ≡ true → IsTextOf c l (text x) x) (leaves : (x : A) (rest : List ℕ) → c (text x ++ rest) ≡ true) where
-  pub texts_leave : (xs : List A) → Leaves c (flat_map text xs) c
+module _ {F X A : Type 0} (l : Rule F A) (text : X → List ℕ) (value : X → A) (c : List ℕ → Bool) (test : X → Bool) (each : (x : X) → test x ≡ true → IsTextOf c l (text x) (value x)) (leaves : (x : X) (rest : List ℕ) → c (text x ++ rest) ≡ true) where
+  texts_leave : (xs : List X) → Leaves c (flat_map text xs) c
   texts_leave [] rest e = e
   texts_leave (x ∷ xs) rest e = rw (append_assoc (text x) (flat_map text xs) rest) (leaves x (flat_map text xs ++ rest))
 
-  pub many_text : (xs : List A) → list_all test xs ≡ true → IsTextOf c (many l) (flat_map text xs) xs
-  many_text [] e = no_more_text l c
-  many_text (x ∷ xs) e =
-      let passes = and_parts (test x) (list_all test xs) e in
-      more_text l (text x) (flat_map text xs) x xs c (each x passes.0) (many_text xs passes.1) (texts_leave xs)
+  pub mapped_texts : (xs : List X) → list_all test xs ≡ true → IsTextOf c (many l) (flat_map text xs) (map value xs)
+  mapped_texts [] e = no_more_text l c
+  mapped_texts (x ∷ xs) e = let passes = and_parts (test x) (list_all test xs) e in more_text (each x passes.0) (mapped_texts xs passes.1) (texts_leave xs)
+
+pub many_texts : {F A : Type 0} (l : Rule F A) (text : A → List ℕ) (c : List ℕ → Bool) (test : A → Bool) → ((x : A) → test x ≡ true → IsTextOf c l (text x) x) → ((x : A) (rest : List ℕ) → c (text x ++ rest) ≡ true)
+    → (xs : List A) → list_all test xs ≡ true → IsTextOf c (many l) (flat_map text xs) xs
+many_texts l text c test each leaves xs e = subst (IsTextOf c (many l) (flat_map text xs)) (map-id xs) (mapped_texts l text (λ x. x) c test each leaves xs e)
+
+all_derive_both : {F A : Type 0} (l : Rule F A) (xs ys : List A) (ts m rest : List At) → AllDerive l ts xs m → AllDerive l m ys rest → AllDerive l ts (xs ++ ys) rest
+all_derive_both l [] ys ts m rest p q = subst (λ u. AllDerive l u ys rest) p q
+all_derive_both l (x ∷ xs) ys ts m rest p q = (p.0, p.1, all_derive_both l xs ys p.0 m rest p.2 q)
+
+pub joined_texts : {F A : Type 0} (l : Rule F A) {c d : List ℕ → Bool} {s t : List ℕ} {xs ys : List A} → IsTextOf c (many l) s xs → IsTextOf d (many l) t ys → Leaves c t d → IsTextOf d (many l) (s ++ t) (xs ++ ys)
+unfolding many
+joined_texts l {s = s} {t = t} {xs = xs} {ys = ys} p q leaves = record { derives = λ line rest e.
+    let first = p.derives line (t ++ rest) (leaves rest e) in
+    let second = q.derives first.0 rest e in
+    (second.0, rw (append_assoc s t rest) (all_derive_both l xs ys (cut line 0 (s ++ (t ++ rest))) (cut first.0 0 (t ++ rest)) (cut second.0 0 rest) first.1 second.1)) }

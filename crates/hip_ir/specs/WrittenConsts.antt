@@ -1,5 +1,5 @@
 -- A constant that is written is read again, and so is an operand.
-use Rattle.std.proofs.Common.{◌≡◌, ℕ, zero, suc, Bool, true, false, List, [], ◌∷◌, ◌++◌, map, ◌&&◌, refl, sym, ap, subst, ◌∙◌, codes}
+use Rattle.std.proofs.Common.{◌≡◌, ℕ, zero, suc, Bool, true, false, List, [], ◌∷◌, ◌++◌, map, ◌&&◌, refl, subst, codes}
 use Rattle.std.specs.List.{list_all}
 use Rattle.std.proofs.lemmas.Bool.{and_parts}
 use Rattle.hip_types.specs.declared.number.Bits.{Bits}
@@ -8,11 +8,10 @@ use Rattle.hip_types.specs.declared.number.Scalar.TheVariants as scalars
 use Rattle.hip_types.specs.declared.number.Width.{Width}
 use Rattle.hip_types.specs.declared.ty.Ty.{Ty, out-Ty}
 use Rattle.hip_types.specs.declared.ty.Ty.TheOpen.{Ty-F}
-use Rattle.hip_tokens.specs.Longest.{is_name}
 use Rattle.hip_tokens.specs.Written.{ends_word}
 use Rattle.hip_rules.specs.Rule.{Rule, one, both}
-use Rattle.hip_rules.specs.Part.{Part, the, separated, listed}
-use Rattle.hip_rules.specs.Texts.{IsTextOf, Leaves, anything, then_text, last_text, nothing_text, anywhere_text, word_text, word_then, local_text, global_text, mark_text, mark_then, blank_text, left_text, right_text, none_text, some_text}
+use Rattle.hip_rules.specs.Part.{Part}
+use Rattle.hip_rules.specs.Texts.{IsTextOf, anything, then_text, last_text, nothing_text, anywhere_text, word_text, word_then, local_text, global_text, mark_text, mark_then, blank_text, left_text, right_text, none_text, some_text}
 use Rattle.hip_ir.specs.declared.constant.Const.{Const, out-Const, roll-Const, roll-out-Const}
 use Rattle.hip_ir.specs.declared.constant.Const.TheFolds.{fold_out-Const, fold_out-ConstGep, fold_out-TypedConst, fold-ConstGep, fold-TypedConst, map-Const}
 use Rattle.hip_ir.specs.declared.constant.Const.TheOpen.{Const-F}
@@ -24,11 +23,10 @@ use Rattle.hip_ir.specs.declared.fault.Fault.{Fault}
 use Rattle.hip_ir.specs.declared.instr.Arg.{Arg}
 use Rattle.hip_ir.specs.declared.instr.Operand.{Operand}
 use Rattle.hip_ir.specs.declared.instr.Operand.TheVariants as operands
-use Rattle.hip_ir.specs.Words.{is_mark, comma}
 use Rattle.hip_ir.specs.Numbers.{an_int_const}
-use Rattle.hip_ir.specs.Grammar.{maybe_word, literal_index, gep_inside, gep_const, pointer_by, pointer_within, a_pointer, typed_const, const_list, array_const, struct_const, const_by, const_within, scalar_const, register, fixed_operand, operand, arg, index}
-use Rattle.hip_ir.specs.Show.{type_text, commas, after_commas, bracketed, braced, inbounds_text, index_text, const_step, gep_step, typed_step, const_text, operand_text, arg_text}
-use Rattle.hip_ir.specs.Spelling.{not_empty, spelled_type, spelled_gep, spelled_pointer_level, spelled_pointer_within, spelled_pointer, spelled_int, spelled_array, spelled_struct, spelled_const_by, spelled_item, spelled_const_within, spelled_scalar_const, spelled_operand, spelled_arg, spelled_index, is_int_type}
+use Rattle.hip_ir.specs.Grammar.{maybe_word, literal_index, gep_inside, gep_const, pointer_by, pointer_within, typed_const, const_list, array_const, struct_const, const_by, const_within, scalar_const, register, fixed_operand, operand, arg, index}
+use Rattle.hip_ir.specs.Show.{type_text, after_commas, bracketed, braced, inbounds_text, index_text, const_step, gep_step, typed_step, const_text, operand_text, arg_text}
+use Rattle.hip_ir.specs.Spelling.{not_empty, spelled_type, spelled_gep, spelled_pointer_level, spelled_pointer_within, spelled_int, spelled_array, spelled_struct, spelled_const_by, spelled_item, spelled_const_within, spelled_scalar_const, spelled_operand, spelled_arg, spelled_index, is_int_type}
 use Rattle.hip_ir.specs.WrittenNumbers.{literal_is, int_const_is, own_width}
 use Rattle.hip_ir.specs.WrittenLists.{separated_are, none_listed, some_listed, listed_are}
 use Rattle.hip_ir.specs.WrittenTypes.{int_is, scalar_is, type_is}
@@ -55,7 +53,7 @@ literal_index_is : (b : Bits) → true ≡ true → IsTextOf ends_word literal_i
 unfolding literal_index
 literal_index_is b e = then_text _ (int_is b.width) (blank_text 32 refl (literal_is b.width b (own_width b.width))) (λ rest h. refl)
 
-all_pass : {A : Type 0} (xs : List A) → list_all (λ x. true) xs ≡ true
+pub all_pass : {A : Type 0} (xs : List A) → list_all (λ x. true) xs ≡ true
 all_pass [] = refl
 all_pass (x ∷ xs) = all_pass xs
 

@@ -1,7 +1,6 @@
 -- An instruction that is written is read again.
 use Rattle.std.proofs.Common.{◌≡◌, ℕ, Bool, true, false, List, [], ◌∷◌, ◌++◌, map, Option, Some, None, not, ◌&&◌, ◌||◌, refl, codes}
 use Rattle.std.specs.List.{list_all}
-use Rattle.std.specs.Fmt.{decimal}
 use Rattle.std.proofs.lemmas.Bool.{and_parts}
 use Rattle.hip_types.specs.declared.number.BinaryOp.{BinaryOp}
 use Rattle.hip_types.specs.declared.number.BinaryOp.TheVariants as ops
@@ -17,9 +16,8 @@ use Rattle.hip_types.specs.declared.ty.Ty.{Ty}
 use Rattle.hip_tokens.specs.Longest.{is_name}
 use Rattle.hip_tokens.specs.Tokens.{Word}
 use Rattle.hip_tokens.specs.Written.{ends_word}
-use Rattle.hip_rules.specs.Rule.{Rule, Yes, one, both, many}
+use Rattle.hip_rules.specs.Rule.{Yes, one, many}
 use Rattle.hip_rules.specs.Texts.{IsTextOf, Leaves, anything, then_text, last_text, nothing_text, anywhere_text, word_text, word_then, local_text, global_text, mark_text, mark_then, blank_text, blank_behind, left_text, right_text, none_text, some_text, no_more_text, more_text}
-use Rattle.hip_ir.specs.declared.fault.Fault.{Fault}
 use Rattle.hip_ir.specs.declared.instr.Arg.{Arg}
 use Rattle.hip_ir.specs.declared.instr.Flags.{Flags}
 use Rattle.hip_ir.specs.declared.instr.Instr.{Instr}
@@ -28,8 +26,8 @@ use Rattle.hip_ir.specs.declared.instr.Operand.{Operand}
 use Rattle.hip_ir.specs.Words.{a_word_of, binary_word, pred_word, int_cast_word, scalar_text, width_text}
 use Rattle.hip_ir.specs.Grammar.{arg, index}
 use Rattle.hip_ir.specs.Bodies.{align, maybe_align, assigned, may_wrap, may_be_exact, wrap_word, exact_word, flag_word, flags, binary, compare, select, int_cast, ptrtoint, inttoptr, alloca, load, gep, plain_call, call, store, memory_instr, cast_instr, value_instr, effect_instr, assigning_instr, instr}
-use Rattle.hip_ir.specs.Show.{after_commas, commas, type_text, ret_text, inbounds_text, operand_text, arg_text, align_text, binary_text, pred_text, cast_text, flag_text, flags_text, assigned_text, instr_text, parenthesized}
-use Rattle.hip_ir.specs.Spelling.{not_empty, spelled_align, spelled_type, spelled_operand, spelled_arg, spelled_index, is_int_type, spelled_flags, spelled_cast, spelled_result, spelled_instr}
+use Rattle.hip_ir.specs.Show.{after_commas, type_text, ret_text, inbounds_text, operand_text, arg_text, align_text, binary_text, pred_text, cast_text, flags_text, assigned_text, instr_text, parenthesized}
+use Rattle.hip_ir.specs.Spelling.{not_empty, spelled_align, spelled_type, spelled_operand, spelled_arg, spelled_index, spelled_flags, spelled_cast, spelled_instr}
 use Rattle.hip_ir.specs.WrittenNumbers.{alignment_text}
 use Rattle.hip_ir.specs.WrittenLists.{separated_are, listed_are}
 use Rattle.hip_ir.specs.WrittenTypes.{int_is, scalar_is, same_scalar_is, ret_is, type_is}

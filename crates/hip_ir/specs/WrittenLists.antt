@@ -1,9 +1,9 @@
 -- Lists that are written with commas are read again.
-use Rattle.std.proofs.Common.{◌≡◌, ℕ, Bool, true, false, List, [], ◌∷◌, ◌++◌, map, refl, sym, ap, subst, ◌∙◌, append_assoc, codes}
+use Rattle.std.proofs.Common.{◌≡◌, ℕ, Bool, true, List, [], ◌∷◌, ◌++◌, map, refl, ap, codes}
 use Rattle.std.specs.List.{list_all, flat_map}
 use Rattle.std.proofs.lemmas.Bool.{and_parts}
 use Rattle.hip_tokens.specs.Written.{ends_word}
-use Rattle.hip_rules.specs.Rule.{one, both, many}
+use Rattle.hip_rules.specs.Rule.{one, many}
 use Rattle.hip_rules.specs.Part.{Part, the, one_more_by, separated, none_up_to, some_up_to, listed}
 use Rattle.hip_rules.specs.Texts.{IsTextOf, Leaves, anything, then_text, last_text, nothing_text, mark_then, blank_text, left_text, right_text, many_texts}
 use Rattle.hip_ir.specs.declared.fault.Fault.{Fault}

@@ -1,5 +1,5 @@
 -- A number that is written is read again.
-use Rattle.std.proofs.Common.{◌≡◌, ◌⊎◌, inl, inr, ℕ, zero, suc, ◌+◌, ◌-◌, ◌*◌, ◌/◌, ◌%◌, ◌^◌, ◌≤◌, ◌<◌, Bool, true, false, eqb, leb, ltb, List, [], ◌∷◌, ◌++◌, length, length-append, Some, not, ◌&&◌, refl, sym, ap, subst, ◌∙◌, arith, codes}
+use Rattle.std.proofs.Common.{◌≡◌, ◌⊎◌, inl, inr, ℕ, zero, suc, ◌+◌, ◌-◌, ◌*◌, ◌/◌, ◌%◌, ◌^◌, ◌≤◌, ◌<◌, Bool, true, false, eqb, leb, List, [], ◌∷◌, ◌++◌, length, length-append, refl, subst, ◌∙◌, arith, codes}
 use Rattle.std.specs.Prelude.{◌==◌, nat_lt}
 use Rattle.std.specs.List.{list_all}
 use Rattle.std.specs.Fmt.{decimal}
@@ -13,10 +13,10 @@ use Rattle.hip_types.specs.declared.number.Bits.{Bits}
 use Rattle.hip_types.specs.declared.number.Width.{Width}
 use Rattle.hip_types.specs.declared.number.Width.TheVariants.{W1, W8, W16, W32, W64}
 use Rattle.hip_tokens.specs.Bytes.{is_digit}
-use Rattle.hip_tokens.specs.Tokens.{Tok, Word, Num, At, cut}
+use Rattle.hip_tokens.specs.Tokens.{Tok, Word, Num, cut}
 use Rattle.hip_tokens.specs.Longest.{is_name, are_digits}
 use Rattle.hip_tokens.specs.Written.{ends_word, at_line, word_cut, digits_cut, minus_cut}
-use Rattle.hip_rules.specs.Rule.{Verdict, Yes, one}
+use Rattle.hip_rules.specs.Rule.{Yes, one}
 use Rattle.hip_rules.specs.Texts.{IsTextOf, token_text, digits_text}
 use Rattle.hip_ir.specs.declared.constant.Const.TheVariants as consts
 use Rattle.hip_ir.specs.Words.{is_word}
@@ -165,7 +165,7 @@ own_width W16 = refl
 own_width W32 = refl
 own_width W64 = refl
 
-same_width : (v w : Width) → (bits_of v == bits_of w) ≡ true → v ≡ w
+pub same_width : (v w : Width) → (bits_of v == bits_of w) ≡ true → v ≡ w
 same_width W1 W1 e = refl
 same_width W8 W8 e = refl
 same_width W16 W16 e = refl

@@ -1,5 +1,5 @@
 -- A type that is written is read again.
-use Rattle.std.proofs.Common.{◌≡◌, ℕ, zero, suc, Bool, true, false, List, [], ◌∷◌, ◌++◌, map, Option, Some, None, ◌&&◌, refl, sym, ap, subst, ◌∙◌, codes}
+use Rattle.std.proofs.Common.{◌≡◌, ℕ, zero, suc, Bool, true, List, [], ◌∷◌, ◌++◌, map, Option, Some, None, refl, sym, ap, subst, ◌∙◌, codes}
 use Rattle.std.specs.Prelude.{nat_lt}
 use Rattle.std.specs.List.{list_all}
 use Rattle.std.specs.Fmt.{decimal}
@@ -17,7 +17,7 @@ use Rattle.hip_rules.specs.Rule.{Rule, one}
 use Rattle.hip_rules.specs.Part.{Part, the}
 use Rattle.hip_rules.specs.Texts.{IsTextOf, anything, then_text, last_text, nothing_text, anywhere_text, word_text, word_then, mark_text, mark_then, blank_text, left_text, right_text}
 use Rattle.hip_ir.specs.declared.fault.Fault.{Fault}
-use Rattle.hip_ir.specs.Words.{a_word_of, width_word, scalar_word, ret_word, type_word, type_of, width_text, scalar_text, is_mark}
+use Rattle.hip_ir.specs.Words.{a_word_of, width_word, scalar_word, ret_word, type_word, type_of, width_text, scalar_text}
 use Rattle.hip_ir.specs.Grammar.{is_width, is_scalar, array_type, struct_type, type_by, type_within}
 use Rattle.hip_ir.specs.Show.{type_text, type_step, ret_text, braced}
 use Rattle.hip_ir.specs.Spelling.{spelled_flat, spelled_level, spelled_type_within}

@@ -32,26 +32,32 @@ blank_text {l = l} {t = t} {x = x} b blank p = record { derives = λ line rest e
 
 -- a separator behind it
 pub blank_behind : {F A : Type 0} {l : Rule F A} {c : List ℕ → Bool} {s : List ℕ} {x : A} (b : ℕ) → is_blank b ≡ true → Leaves c (b ∷ []) anything → IsTextOf c l s x → IsTextOf anything l (s ++ b ∷ []) x
-blank_behind {l = l} {s = s} {x = x} b blank leaves p = record { derives = λ line rest e.
-    let q = p.derives line (b ∷ rest) (leaves rest refl) in
-    (line_after q.0 b, rw (append_assoc s (b ∷ []) rest, ← cut_blank q.0 b rest blank) q.1) }
+blank_behind {l = l} {s = s} {x = x} b blank leaves p = record {
+  derives = λ line rest e.
+      let q = p.derives line (b ∷ rest) (leaves rest refl) in
+      (line_after q.0 b, rw (append_assoc s (b ∷ []) rest, ← cut_blank q.0 b rest blank) q.1);
+}
 
 -- ---- one part after the other
 
 pub then_text : {F A B : Type 0} {l : Rule F A} (f : A → Rule F B) {c d : List ℕ → Bool} {s t : List ℕ} {x : A} {y : B} → IsTextOf c l s x → IsTextOf d (f x) t y → Leaves c t d → IsTextOf d (both l f) (s ++ t) y
 unfolding both
-then_text f {s = s} {t = t} {x = x} p q leaves = record { derives = λ line rest e.
-    let first = p.derives line (t ++ rest) (leaves rest e) in
-    let second = q.derives first.0 rest e in
-    (second.0, rw (append_assoc s t rest) (x, cut first.0 0 (t ++ rest), first.1, second.1)) }
+then_text f {s = s} {t = t} {x = x} p q leaves = record {
+  derives = λ line rest e.
+      let first = p.derives line (t ++ rest) (leaves rest e) in
+      let second = q.derives first.0 rest e in
+      (second.0, rw (append_assoc s t rest) (x, cut first.0 0 (t ++ rest), first.1, second.1));
+}
 
 -- where the last part is nothing
 pub last_text : {F A B : Type 0} {l : Rule F A} (f : A → Rule F B) {c : List ℕ → Bool} {s : List ℕ} {x : A} {y : B} → IsTextOf c l s x → IsTextOf anything (f x) [] y → IsTextOf c (both l f) s y
 unfolding both
-last_text f {x = x} p q = record { derives = λ line rest e.
-    let first = p.derives line rest e in
-    let second = q.derives first.0 rest refl in
-    (second.0, (x, cut first.0 0 rest, first.1, second.1)) }
+last_text f {x = x} p q = record {
+  derives = λ line rest e.
+      let first = p.derives line rest e in
+      let second = q.derives first.0 rest refl in
+      (second.0, (x, cut first.0 0 rest, first.1, second.1));
+}
 
 -- ---- one token
 
@@ -88,9 +94,11 @@ mark_then p f b n e q = then_text f (mark_text p b n e) q (λ rest h. refl)
 -- a name before `:`, and what follows
 pub label_then : {F A B : Type 0} (p : Tok → Verdict F A) (f : A → Rule F B) {d : List ℕ → Bool} {t : List ℕ} {x : A} {y : B} (w : List ℕ) → is_name w ≡ true → p (Label w) ≡ Yes x → IsTextOf d (f x) t y → IsTextOf d (both (one p) f) (w ++ (58 ∷ t)) y
 unfolding both one
-label_then p f {t = t} {x = x} w n e q = record { derives = λ line rest h.
-    let second = q.derives line rest h in
-    (second.0, rw (append_assoc w (58 ∷ t) rest) (x, cut line 0 (t ++ rest), (at_line line (Label w), label_cut line w (t ++ rest) n, e), second.1)) }
+label_then p f {t = t} {x = x} w n e q = record {
+  derives = λ line rest h.
+      let second = q.derives line rest h in
+      (second.0, rw (append_assoc w (58 ∷ t) rest) (x, cut line 0 (t ++ rest), (at_line line (Label w), label_cut line w (t ++ rest) n, e), second.1));
+}
 
 -- ---- cases
 
@@ -118,10 +126,12 @@ no_more_text l c = record { derives = λ line rest e. (line, refl) }
 
 pub more_text : {F A : Type 0} {l : Rule F A} {c d : List ℕ → Bool} {s t : List ℕ} {x : A} {xs : List A} → IsTextOf c l s x → IsTextOf d (many l) t xs → Leaves c t d → IsTextOf d (many l) (s ++ t) (x ∷ xs)
 unfolding many
-more_text {s = s} {t = t} p q leaves = record { derives = λ line rest e.
-    let first = p.derives line (t ++ rest) (leaves rest e) in
-    let second = q.derives first.0 rest e in
-    (second.0, rw (append_assoc s t rest) (cut first.0 0 (t ++ rest), first.1, second.1)) }
+more_text {s = s} {t = t} p q leaves = record {
+  derives = λ line rest e.
+      let first = p.derives line (t ++ rest) (leaves rest e) in
+      let second = q.derives first.0 rest e in
+      (second.0, rw (append_assoc s t rest) (cut first.0 0 (t ++ rest), first.1, second.1));
+}
 
 -- what may stand behind a part, may be another
 module _ {F X A : Type 0} (l : Rule F A) (text : X → List ℕ) (value : X → A) (c : List ℕ → Bool) (test : X → Bool) (each : (x : X) → test x ≡ true → IsTextOf c l (text x) (value x)) (leaves : (x : X) (rest : List ℕ) → c (text x ++ rest) ≡ true) where
@@ -143,7 +153,9 @@ all_derive_both l (x ∷ xs) ys ts m rest p q = (p.0, p.1, all_derive_both l xs 
 
 pub joined_texts : {F A : Type 0} (l : Rule F A) {c d : List ℕ → Bool} {s t : List ℕ} {xs ys : List A} → IsTextOf c (many l) s xs → IsTextOf d (many l) t ys → Leaves c t d → IsTextOf d (many l) (s ++ t) (xs ++ ys)
 unfolding many
-joined_texts l {s = s} {t = t} {xs = xs} {ys = ys} p q leaves = record { derives = λ line rest e.
-    let first = p.derives line (t ++ rest) (leaves rest e) in
-    let second = q.derives first.0 rest e in
-    (second.0, rw (append_assoc s t rest) (all_derive_both l xs ys (cut line 0 (s ++ (t ++ rest))) (cut first.0 0 (t ++ rest)) (cut second.0 0 rest) first.1 second.1)) }
+joined_texts l {s = s} {t = t} {xs = xs} {ys = ys} p q leaves = record {
+  derives = λ line rest e.
+      let first = p.derives line (t ++ rest) (leaves rest e) in
+      let second = q.derives first.0 rest e in
+      (second.0, rw (append_assoc s t rest) (all_derive_both l xs ys (cut line 0 (s ++ (t ++ rest))) (cut first.0 0 (t ++ rest)) (cut second.0 0 rest) first.1 second.1));
+}

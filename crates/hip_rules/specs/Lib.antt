@@ -6,3 +6,4 @@ pub mod Same
 pub mod Phases
 pub mod Loops
 pub mod Parts
+pub mod Yields

@@ -1,5 +1,5 @@
 -- What the grammar derives of types, constants and operands meets the rules.
-use Rattle.std.proofs.Common.{◌≡◌, ℕ, zero, suc, Bool, true, false, not, ◌&&◌, ◌||◌, List, [], ◌∷◌, Option, Some, None, option_map, refl, sym, subst, codes}
+use Rattle.std.proofs.Common.{◌≡◌, ℕ, zero, suc, Bool, true, false, not, ◌&&◌, List, Option, Some, None, option_map, refl, subst, codes}
 use Rattle.std.specs.Prelude.{nat_lt, ◌==◌, if◌then◌else◌}
 use Rattle.std.specs.Str.{bytes_eq}
 use Rattle.std.specs.List.{list_all}
@@ -13,12 +13,11 @@ use Rattle.hip_types.specs.declared.number.Width.{Width}
 use Rattle.hip_types.specs.declared.number.Width.TheVariants.{W1, W8, W16, W32, W64}
 use Rattle.hip_types.specs.declared.ty.Ty.{Ty, out-Ty}
 use Rattle.hip_types.specs.declared.ty.Ty.TheOpen.{Ty-F}
-use Rattle.hip_types.specs.declared.ty.Ty.TheVariants as types
-use Rattle.hip_tokens.specs.Tokens.{Tok, Word, Label, Local, Global, Num, Str, Mark, Odd}
+use Rattle.hip_tokens.specs.Tokens.{Tok, Word, Label, Local, Global, Num}
 use Rattle.hip_tokens.specs.Longest.{is_name}
 use Rattle.hip_tokens.specs.Formed.{is_formed}
 use Rattle.hip_rules.specs.Rule.{Verdict, Yes, Because, No}
-use Rattle.hip_rules.specs.Part.{Part, token, either}
+use Rattle.hip_rules.specs.Part.{Part, token}
 use Rattle.hip_rules.specs.Yields.{Yields, token_yields, gives_yields, then_yields, after_token, either_yields, optional_yields, separated_yields, listed_yields}
 use Rattle.hip_ir.specs.declared.constant.Const.{Const, out-Const}
 use Rattle.hip_ir.specs.declared.constant.Const.TheVariants as consts
@@ -27,10 +26,10 @@ use Rattle.hip_ir.specs.declared.constant.TypedConst.{TypedConst}
 use Rattle.hip_ir.specs.declared.fault.Fault.{Fault}
 use Rattle.hip_ir.specs.declared.fault.Fault.TheVariants.{TooDeep}
 use Rattle.hip_ir.specs.Words.{is_word, is_mark, comma, a_local, a_global, a_label, too_deep, a_word_of, or_no, scalar_word, type_of, type_word}
-use Rattle.hip_ir.specs.Numbers.{magnitude, is_negative, or_range, below, bits_in_range, value_of, truth_word, a_literal, as_const, an_int_const, count_of, a_count, is_alignment, alignment_of, an_alignment}
-use Rattle.hip_ir.specs.Grammar.{array_type, struct_type, type_by, type_within, type, literal_index, a_pointer, gep_inside, gep_const, pointer_by, pointer_within, pointer_const, zero_const, typed_const, const_list, array_const, struct_const, const_by, const_within, const, maybe_word, scalar_const, register, fixed_operand, operand, arg, index}
+use Rattle.hip_ir.specs.Numbers.{magnitude, is_negative, or_range, below, bits_in_range, value_of, truth_word, a_literal, as_const, an_int_const, a_count, is_alignment, an_alignment}
+use Rattle.hip_ir.specs.Grammar.{array_type, struct_type, type_by, type_within, literal_index, a_pointer, gep_inside, gep_const, pointer_by, pointer_within, zero_const, typed_const, const_list, array_const, struct_const, const_by, const_within, maybe_word, scalar_const, register, fixed_operand, operand, arg, index}
 use Rattle.hip_ir.specs.Levels.{out-Ty-Int, out-Ty-Ptr, out-Ty-Array, out-Ty-Struct, out-Const-Int, out-Const-Null, out-Const-Zero, out-Const-Address, out-Const-Gep, out-Const-Array, out-Const-Struct}
-use Rattle.hip_ir.specs.Spelling.{not_empty, spelled_align, spelled_type_within, of_width, spelled_pointer_level, spelled_pointer_within, spelled_int, spelled_array, spelled_struct, spelled_const_by, spelled_item, spelled_const_within, spelled_scalar_const, spelled_operand, spelled_arg, is_int_type, spelled_index}
+use Rattle.hip_ir.specs.Spelling.{not_empty, spelled_type_within, of_width, spelled_pointer_level, spelled_pointer_within, spelled_int, spelled_array, spelled_struct, spelled_const_by, spelled_item, spelled_const_within, spelled_scalar_const, spelled_operand, spelled_arg, spelled_index}
 
 -- ---- single tokens
 
@@ -183,7 +182,7 @@ gep_inside_yields n inbounds p = after_token _ _ _ (λ _. then_yields _ _ _ _ (t
     then_yields _ _ _ _ (separated_yields comma literal_index (λ i. true) (λ is. not_empty is ≡ true) literal_index_yields (λ x xs h. refl)) (λ indices i. after_token _ _ _ (λ _.
     gives_yields _ _ (rw (out-Const-Gep (record { inbounds = inbounds; ty = ty; base = from; indices = indices })) (both_true t (both_true b i)))))))))))
 
-maybe_word_yields : (w : List ℕ) → Yields (maybe_word w) (λ b. Unit {0})
+pub maybe_word_yields : (w : List ℕ) → Yields (maybe_word w) (λ b. Unit {0})
 unfolding maybe_word
 maybe_word_yields w = then_yields _ _ _ _ (optional_yields _ _ (λ u. Unit {0}) (λ o. Unit {0}) (token_yields _ _ (λ t a f e. tt)) tt (λ a h. tt)) (λ found h. gives_yields _ _ tt)
 

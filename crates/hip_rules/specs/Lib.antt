@@ -7,3 +7,4 @@ pub mod Phases
 pub mod Loops
 pub mod Parts
 pub mod Texts
+pub mod Yields

@@ -187,16 +187,21 @@ abbrev pub spelled_result : Option (List ℕ) → Bool
 spelled_result None = true
 spelled_result (Some dest) = is_name dest
 
+-- the instructions on memory, and calls
+abbrev pub spelled_memory_instr : Instr → Bool
+spelled_memory_instr (instrs.Alloca dest ty n) = is_name dest && (spelled_type ty && spelled_align n)
+spelled_memory_instr (instrs.Load dest s addr n) = is_name dest && (spelled_operand scalars.Ptr addr && spelled_align n)
+spelled_memory_instr (instrs.Store s value addr n) = spelled_operand s value && (spelled_operand scalars.Ptr addr && spelled_align n)
+spelled_memory_instr (instrs.Gep dest inbounds ty base indices) = is_name dest && (spelled_type ty && (spelled_operand scalars.Ptr base && (not_empty indices && list_all spelled_index indices)))
+spelled_memory_instr (instrs.Call dest ret callee args) = spelled_result dest && (is_name callee && list_all spelled_arg args)
+spelled_memory_instr _ = false
+
 abbrev pub spelled_instr : Instr → Bool
 spelled_instr (instrs.Binary dest op flags w a b) = is_name dest && (spelled_flags op flags && (spelled_operand (scalars.Int w) a && spelled_operand (scalars.Int w) b))
 spelled_instr (instrs.Compare dest pred s a b) = is_name dest && (spelled_operand s a && spelled_operand s b)
 spelled_instr (instrs.Select dest cond s a b) = is_name dest && (spelled_operand (scalars.Int W1) cond && (spelled_operand s a && spelled_operand s b))
 spelled_instr (instrs.Cast dest op from a to) = is_name dest && (spelled_cast op from to && spelled_operand from a)
-spelled_instr (instrs.Alloca dest ty n) = is_name dest && (spelled_type ty && spelled_align n)
-spelled_instr (instrs.Load dest s addr n) = is_name dest && (spelled_operand scalars.Ptr addr && spelled_align n)
-spelled_instr (instrs.Store s value addr n) = spelled_operand s value && (spelled_operand scalars.Ptr addr && spelled_align n)
-spelled_instr (instrs.Gep dest inbounds ty base indices) = is_name dest && (spelled_type ty && (spelled_operand scalars.Ptr base && (not_empty indices && list_all spelled_index indices)))
-spelled_instr (instrs.Call dest ret callee args) = spelled_result dest && (is_name callee && list_all spelled_arg args)
+spelled_instr instr = spelled_memory_instr instr
 
 -- ---- blocks
 

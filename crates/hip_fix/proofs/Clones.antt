@@ -117,7 +117,7 @@ find_clone P callee g e n (f ∷ fs) (name ∷ names) long all h =
 
 -- ---- the clones as functions
 
-AreThere : Program → List ℕ → Type 0
+pub AreThere : Program → List ℕ → Type 0
 AreThere P fs = (f : ℕ) → Has fs f → (fn : Function) × (slice_get P.functions f ≡ Some fn)
 
 first_there : (P : Program) (f : ℕ) (fs : List ℕ) → AreThere P (f ∷ fs) → (fn : Function) × (slice_get P.functions f ≡ Some fn)
@@ -152,7 +152,7 @@ get_clone P clones w (f ∷ fs) (m ∷ names) (suc k) g name fn there e n c =
     ap (λ o. slice_get (clone_in clones w f m o ++ clone_functions P clones w fs names) (suc k)) at.1 ∙ get_clone P clones w fs names k g name fn (rest_there P f fs there) e n c
 
 -- what stands among the clones is the clone of a cloned function
-at_clone : (P : Program) (clones : List Clone) (w : Wanted) (fs : List ℕ) (names : List (List ℕ)) (k : ℕ) (x : Function) → AreThere P fs → slice_get (clone_functions P clones w fs names) k ≡ Some x →
+pub at_clone : (P : Program) (clones : List Clone) (w : Wanted) (fs : List ℕ) (names : List (List ℕ)) (k : ℕ) (x : Function) → AreThere P fs → slice_get (clone_functions P clones w fs names) k ≡ Some x →
     (g : ℕ) × (name : List ℕ) × (slice_get fs k ≡ Some g) × (slice_get names k ≡ Some name)
 at_clone P clones w [] names k x there e = cc
 at_clone P clones w (f ∷ fs) [] k x there e = cc
@@ -184,9 +184,13 @@ module _ (P : Program) (plan : Plan) (skip : Site → Bool) where
   length-fresh : length fresh ≡ length (cloned P plan)
   length-fresh = length-fresh_for (names_taken P) (map (name_of P) (cloned P plan)) ∙ length-map (cloned P plan) (name_of P)
 
-  cloned_there : AreThere P (cloned P plan)
+  pub cloned_there : AreThere P (cloned P plan)
   unfolding AreThere
   cloned_there = λ f h. let there = function_number-there P (name_of P f) f (callees-named P plan.hoist f h) in (there.0, there.1)
+
+  pub cloned_is_there : (f k : ℕ) → slice_get (cloned P plan) k ≡ Some f → (fn : Function) × (slice_get P.functions f ≡ Some fn)
+  unfolding AreThere
+  cloned_is_there f k e = cloned_there f (has_at f k (cloned P plan) e)
 
   -- the names of all functions of the repaired program
   pub names_then : function_names (repaired P plan skip).functions ≡ function_names P.functions ++ fresh
@@ -218,7 +222,7 @@ module _ (P : Program) (plan : Plan) (skip : Site → Bool) where
   pub fresh_there : (k g : ℕ) → slice_get (cloned P plan) k ≡ Some g → (name : List ℕ) × (slice_get fresh k ≡ Some name)
   fresh_there k g e = let below = slice_get_within (cloned P plan) k g e in at_place fresh k (omega (arith, length-fresh))
 
-  among_clones : (k : ℕ) → slice_get (repaired P plan skip).functions (length P.functions + k) ≡ slice_get (clone_functions P (clones_of P plan) (wanted_by plan skip) (cloned P plan) fresh) k
+  pub among_clones : (k : ℕ) → slice_get (repaired P plan skip).functions (length P.functions + k) ≡ slice_get (clone_functions P (clones_of P plan) (wanted_by plan skip) (cloned P plan) fresh) k
   among_clones k =
       ap (λ n. slice_get (repaired P plan skip).functions (n + k)) (sym (length-repaired_functions (clones_of P plan) (wanted_by plan skip) 0 P.functions))
       ∙ get_back (repaired_functions (clones_of P plan) (wanted_by plan skip) 0 P.functions) (clone_functions P (clones_of P plan) (wanted_by plan skip) (cloned P plan) fresh) k

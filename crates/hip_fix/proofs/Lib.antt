@@ -4,6 +4,9 @@ pub mod Functions
 pub mod Callable
 pub mod Clones
 pub mod Lookup
+pub mod Items
+pub mod Bodies
+pub mod Origins
 pub mod Ahead
 pub mod Inserted
 pub mod Blocks

@@ -1,5 +1,5 @@
 -- Laws of fresh names: they are not taken, they differ from one another, and none is the name of an external function.
-use Rattle.std.specs.Prelude.{◌≡◌, ◌≤◌, ◌<◌, ◌||◌, ◌&&◌, ℕ, zero, suc, ◌+◌, ◌-◌, ◌*◌, ◌/◌, ◌%◌, ◌^◌, nat_eq, nat_lt, not, Bool, true, false, cond, List, [], ◌∷◌, ◌++◌, length, take, codes, Some, None, slice_get, if◌then◌else◌}
+use Rattle.std.specs.Prelude.{◌≡◌, ◌≤◌, ◌<◌, ◌||◌, ◌&&◌, ℕ, zero, suc, ◌+◌, ◌-◌, ◌*◌, ◌/◌, ◌%◌, ◌^◌, nat_eq, nat_le, nat_lt, not, Bool, true, false, cond, List, [], ◌∷◌, ◌++◌, length, take, codes, Some, None, slice_get, if◌then◌else◌}
 use Rattle.std.specs.Cmp.Lexicographic.{nat_list_eq_equiv}
 use Rattle.std.specs.Fmt.{decimal}
 use Rattle.std.specs.List.{AllByRecursion, IsDistinct, list_any, list_all}
@@ -7,10 +7,12 @@ use Rattle.std.specs.Str.{bytes_eq}
 use Rattle.std.proofs.Common.{refl, sym, ap, ◌∙◌, subst, ⊎_elim, arith, length-append, eq-or-lt_of_le}
 use Rattle.std.proofs.lemmas.Bool.Decides.{nat_tests}
 use Rattle.std.proofs.lemmas.Fmt.{decimal_digit, decimal_step_wide}
-use Rattle.std.proofs.lemmas.List.Folds.{list_any-append}
+use Rattle.std.proofs.lemmas.List.Folds.{list_any-append, list_all-append}
 use Rattle.std.proofs.lemmas.Map.Made.{length-le_from_is_member}
 use Rattle.std.proofs.lemmas.Option.{same_Some}
 use Rattle.std.proofs.lemmas.Slice.Eq.{bytes_eq-Decides}
+use Rattle.hip_tokens.specs.Bytes.{begins_name, goes_on_name}
+use Rattle.hip_tokens.specs.Longest.{is_name}
 use Rattle.hip_typing.specs.Externs.{ExternRow, extern_table, call_in, call_of}
 use Rattle.hip_typing.specs.Names.{is_among}
 use Rattle.hip_calls.specs.Fresh.{numeral_in, numeral, candidate, fresh_from, fresh_name, fresh_for}
@@ -268,3 +270,44 @@ pub fresh_for-extern : (taken names : List (List ℕ)) (k : ℕ) (fresh : List �
 fresh_for-extern taken names k fresh e =
     let first = (fresh_for-first taken names k fresh e).2 in
     ap call_of first.is ∙ candidate-extern _ first.number
+
+-- ---- a fresh name has the form of a name
+
+digit_goes_on : (d : ℕ) → d < 10 → goes_on_name (48 + d) ≡ true
+digit_goes_on d h =
+    let low : nat_le 48 (48 + d) ≡ true = grind (arith, nat_tests) in
+    let high : nat_le (48 + d) 57 ≡ true = grind (arith, nat_tests) in
+    digit_in _ _ _ (both_true _ _ low high)
+  where
+    both_true : (a b : Bool) → a ≡ true → b ≡ true → (a && b) ≡ true
+    both_true true b e f = f
+    both_true false b e f = e
+    digit_in : (a b c : Bool) → b ≡ true → (a || b || c) ≡ true
+    digit_in true true c e = refl
+    digit_in false true c e = refl
+    digit_in a false c e = cc
+
+all_go_on : (xs ys : List ℕ) → list_all goes_on_name xs ≡ true → list_all goes_on_name ys ≡ true → list_all goes_on_name (xs ++ ys) ≡ true
+all_go_on xs ys e f = list_all-append goes_on_name xs ys ∙ ap (λ b. b && list_all goes_on_name ys) e ∙ f
+
+digits_go_on : (fuel n : ℕ) → list_all goes_on_name (numeral_in fuel n) ≡ true
+digits_go_on zero n = refl
+digits_go_on (suc fuel) n = by_size (nat_lt n 10) refl (digits_go_on fuel (n / 10))
+  where
+    one_digit : (d : ℕ) → d < 10 → list_all goes_on_name ((48 + d) ∷ []) ≡ true
+    one_digit d h = ap (λ b. b && true) (digit_goes_on d h)
+    by_size : (b : Bool) → nat_lt n 10 ≡ b → list_all goes_on_name (numeral_in fuel (n / 10)) ≡ true → list_all goes_on_name (if b then (48 + n) ∷ [] else numeral_in fuel (n / 10) ++ (48 + n % 10) ∷ []) ≡ true
+    by_size true t rest = one_digit n (grind (arith, nat_tests))
+    by_size false t rest = all_go_on (numeral_in fuel (n / 10)) ((48 + n % 10) ∷ []) rest (one_digit (n % 10) (omega arith))
+
+longer_name : (name more : List ℕ) → is_name name ≡ true → list_all goes_on_name more ≡ true → is_name (name ++ more) ≡ true
+longer_name [] more e f = cc
+longer_name (b ∷ bs) more e f = by_first (begins_name b) e
+  where
+    by_first : (t : Bool) → (t && list_all goes_on_name bs) ≡ true → (t && list_all goes_on_name (bs ++ more)) ≡ true
+    by_first true g = all_go_on bs more g f
+    by_first false g = g
+
+pub candidate-name : (name : List ℕ) (k : ℕ) → is_name name ≡ true → is_name (candidate name k) ≡ true
+candidate-name name zero e = longer_name name (codes ".pm") e refl
+candidate-name name (suc k) e = longer_name name (codes ".pm" ++ numeral (suc k)) e (digits_go_on (suc (suc k)) (suc k))

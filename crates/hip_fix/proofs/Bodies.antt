@@ -127,3 +127,24 @@ same_blocks_registers clones w clone f b [] = refl
 same_blocks_registers clones w clone f b (x ∷ xs) =
     ap (λ rs. rs ++ flat_map block_registers (repaired_blocks clones w clone f (suc b) xs)) (same_block_registers clones w clone f b x)
     ∙ ap (λ rs. block_registers x ++ rs) (same_blocks_registers clones w clone f (suc b) xs)
+
+-- ---- what is inserted
+
+-- the flush of a store, or a fence
+abbrev pub IsFlushOf : Instr → Instr → Type 0
+IsFlushOf i i' = (ty : Scalar) × (value : Operand) × (addr : Operand) × (align : Option ℕ) × (i ≡ Store ty value addr align) × (i' ≡ flush_of ty addr align)
+
+fence_kind : (i i' : Instr) (c : Bool) (k : ℕ) → slice_get (instrs_of (cond c ((the_fence, true) ∷ []) [])) k ≡ Some i' → IsFlushOf i i' ⊎ (i' ≡ the_fence)
+fence_kind i i' true zero e = inr (sym (same_Some _ _ e))
+fence_kind i i' true (suc k) e = cc
+fence_kind i i' false k e = cc
+
+store_kind : (ty : Scalar) (value addr : Operand) (align : Option ℕ) (i' : Instr) (b c : Bool) (k : ℕ) → slice_get (instrs_of (cond b ((flush_of ty addr align, true) ∷ []) [] ++ cond c ((the_fence, true) ∷ []) [])) k ≡ Some i' →
+    IsFlushOf (Store ty value addr align) i' ⊎ (i' ≡ the_fence)
+store_kind ty value addr align i' true c zero e = inl (ty, value, addr, align, refl, sym (same_Some _ _ e))
+store_kind ty value addr align i' true c (suc k) e = fence_kind (Store ty value addr align) i' c k e
+store_kind ty value addr align i' false c k e = fence_kind (Store ty value addr align) i' c k e
+
+pub inserted_kind : (w : Wanted) (clone : Bool) (s : Site) (i : Instr) (k : ℕ) (i' : Instr) → slice_get (instrs_of (inserted_behind w clone s i)) k ≡ Some i' → IsFlushOf i i' ⊎ (i' ≡ the_fence)
+inserted_kind w clone s (Store ty value addr align) k i' e = store_kind ty value addr align i' _ _ k e
+inserted_kind w clone s i k i' e = fence_kind i i' _ k e

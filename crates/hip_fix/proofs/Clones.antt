@@ -261,7 +261,7 @@ module _ (P : Program) (plan : Plan) (skip : Site → Bool) where
 
 -- ---- calls in a clone
 
-in_append : {A : Type 0} (xs ys : List A) (k : ℕ) (v : A) → slice_get (xs ++ ys) k ≡ Some v → (slice_get xs k ≡ Some v) ⊎ ((j : ℕ) × (slice_get ys j ≡ Some v))
+pub in_append : {A : Type 0} (xs ys : List A) (k : ℕ) (v : A) → slice_get (xs ++ ys) k ≡ Some v → (slice_get xs k ≡ Some v) ⊎ ((j : ℕ) × (slice_get ys j ≡ Some v))
 in_append [] ys k v e = inr (k, e)
 in_append (x ∷ xs) ys zero v e = inl e
 in_append (x ∷ xs) ys (suc k) v e = in_append xs ys k v e

@@ -5,7 +5,7 @@ use Rattle.std.proofs.lemmas.Option.{same_Some}
 use Rattle.hip_typing.specs.Check.{Check, each, each_from}
 use Rattle.hip_fix.proofs.Callable.{both_hold}
 
-both_true : (a b : Bool) → a ≡ true → b ≡ true → (a && b) ≡ true
+pub both_true : (a b : Bool) → a ≡ true → b ≡ true → (a && b) ≡ true
 both_true true b e f = f
 both_true false b e f = e
 
@@ -42,3 +42,8 @@ place_in [] ys k v e = inr (k, e, refl)
 place_in (x ∷ xs) ys zero v e = inl (e, refl)
 place_in (x ∷ xs) ys (suc k) v e =
     ⊎_elim (λ f. inl (f.0, ap (λ zs. x ∷ zs) f.1)) (λ b. inr (b.0, b.1, ap (λ zs. x ∷ zs) b.2)) (place_in xs ys k v e)
+
+pub map_at : {A B : Type 0} (f : A → B) (xs : List A) (k : ℕ) (y : B) → slice_get (map f xs) k ≡ Some y → (x : A) × (slice_get xs k ≡ Some x) × (y ≡ f x)
+map_at f [] k y e = cc
+map_at f (x ∷ xs) zero y e = (x, refl, sym (same_Some (f x) y e))
+map_at f (x ∷ xs) (suc k) y e = map_at f xs k y e

@@ -7,6 +7,8 @@ pub mod Lookup
 pub mod Items
 pub mod Bodies
 pub mod Origins
+pub mod Declarations
+pub mod SpelledAgain
 pub mod Ahead
 pub mod Inserted
 pub mod Blocks

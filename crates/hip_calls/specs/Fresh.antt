@@ -1,14 +1,22 @@
 -- Names for copies of functions that nothing has yet.
-use Rattle.std.specs.Prelude.{ℕ, zero, suc, cond, List, [], ◌∷◌, ◌++◌, map, length, codes, Option, Some, None, slice_get}
-use Rattle.std.specs.Fmt.{decimal}
+use Rattle.std.specs.Prelude.{ℕ, zero, suc, ◌+◌, ◌/◌, ◌%◌, nat_lt, cond, if◌then◌else◌, List, [], ◌∷◌, ◌++◌, map, length, codes, Option, Some, None, slice_get}
 use Rattle.hip_ir.specs.declared.program.Function.{Function}
 use Rattle.hip_ir.specs.declared.program.Program.{Program}
 use Rattle.hip_typing.specs.Names.{is_among}
 
+-- the digits of a number of at most so many
+abbrev pub numeral_in : ℕ → ℕ → List ℕ
+numeral_in zero n = []
+numeral_in (suc more) n = if nat_lt n 10 then (48 + n) ∷ [] else numeral_in more (n / 10) ++ (48 + n % 10) ∷ []
+
+-- A number in decimal, however long it is. (`decimal` of std stops at 64 digits, and names are to differ for all numbers.)
+abbrev pub numeral : ℕ → List ℕ
+numeral n = numeral_in (suc n) n
+
 -- `f.pm`, `f.pm1`, `f.pm2` and so on
 abbrev pub candidate : List ℕ → ℕ → List ℕ
 candidate name zero = name ++ codes ".pm"
-candidate name (suc k) = name ++ (codes ".pm" ++ decimal (suc k))
+candidate name (suc k) = name ++ (codes ".pm" ++ numeral (suc k))
 
 -- the first candidate from number k on that is not taken, among so many and the one behind them
 abbrev pub fresh_from : List (List ℕ) → List ℕ → ℕ → ℕ → List ℕ
@@ -28,7 +36,7 @@ fresh_for taken (name ∷ names) = fresh_name taken name ∷ fresh_for (fresh_na
 abbrev pub names_taken : Program → List (List ℕ)
 names_taken P = map (λ g. g.name) P.globals ++ (map (λ e. e.name) P.externs ++ map (λ f. f.name) P.functions)
 
-abbrev name_in : Option Function → List ℕ
+abbrev pub name_in : Option Function → List ℕ
 name_in None = []
 name_in (Some f) = f.name
 

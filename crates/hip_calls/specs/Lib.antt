@@ -1,2 +1,5 @@
 pub mod Reach
+pub mod ReachLaws
 pub mod Fresh
+pub mod FreshLaws
+pub mod Laws

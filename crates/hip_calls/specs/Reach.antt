@@ -15,7 +15,7 @@ abbrev pub called_by : Program → Instr → List ℕ
 called_by P (Call dest ret callee args) = option_to_list (function_number P callee)
 called_by P _ = []
 
-abbrev called_in : Program → Option Function → List ℕ
+abbrev pub called_in : Program → Option Function → List ℕ
 called_in P None = []
 called_in P (Some f) = flat_map (λ b. flat_map (called_by P) b.body) f.blocks
 
@@ -24,7 +24,7 @@ abbrev pub called_from : Program → ℕ → List ℕ
 called_from P f = called_in P (slice_get P.functions f)
 
 -- the list with the functions that one of it calls behind it, where they are not in it yet
-abbrev extended : Program → List ℕ → Option ℕ → List ℕ
+abbrev pub extended : Program → List ℕ → Option ℕ → List ℕ
 extended P seen None = seen
 extended P seen (Some f) = met nat_eq seen (called_from P f)
 
@@ -33,7 +33,7 @@ abbrev pub reached : Program → ℕ → ℕ → List ℕ → List ℕ
 reached P zero place seen = seen
 reached P (suc steps) place seen = reached P steps (suc place) (extended P seen (slice_get seen place))
 
-abbrev called_at : Program → Option Instr → List ℕ
+abbrev pub called_at : Program → Option Instr → List ℕ
 called_at P None = []
 called_at P (Some i) = called_by P i
 

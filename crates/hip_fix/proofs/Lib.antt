@@ -1,6 +1,14 @@
 pub mod Facts
 pub mod Twins
+pub mod Functions
+pub mod Callable
+pub mod Clones
 pub mod Lookup
+pub mod Items
+pub mod Bodies
+pub mod Origins
+pub mod Declarations
+pub mod SpelledAgain
 pub mod Ahead
 pub mod Inserted
 pub mod Blocks

@@ -126,7 +126,7 @@ abbrev pub repaired_functions : List Clone → Wanted → ℕ → List Function 
 repaired_functions clones w f [] = []
 repaired_functions clones w f (x ∷ xs) = repaired_function clones w false f x.name x ∷ repaired_functions clones w (suc f) xs
 
-abbrev clone_in : List Clone → Wanted → ℕ → List ℕ → Option Function → List Function
+abbrev pub clone_in : List Clone → Wanted → ℕ → List ℕ → Option Function → List Function
 clone_in clones w f name None = []
 clone_in clones w f name (Some x) = repaired_function clones w true f name x ∷ []
 
@@ -139,7 +139,7 @@ clone_functions P clones w _ _ = []
 abbrev pub cloned : Program → Plan → List ℕ
 cloned P plan = callees P plan.hoist
 
-abbrev clones_from : Program → List ℕ → List (List ℕ) → List Clone
+abbrev pub clones_from : Program → List ℕ → List (List ℕ) → List Clone
 clones_from P (f ∷ fs) (name ∷ names) = record { name = name; original = name_of P f } ∷ clones_from P fs names
 clones_from P _ _ = []
 

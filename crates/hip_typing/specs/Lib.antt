@@ -21,3 +21,4 @@ pub mod InstrSeen
 pub mod Values
 pub mod InitialBytes
 pub mod Numbering
+pub mod NumberingLaws

@@ -1,0 +1,13 @@
+//! Laws of the definitions of this crate.
+
+ghost use Rattle.hip_calls.specs.Laws.{CalleesAreReached, FreshNamesAreFresh};
+
+/// The callees of calls are the functions that calls reach from them, each once.
+pub fn callees_are_reached()
+    ensures { CalleesAreReached }
+{}
+
+/// Fresh names are the first that nothing has yet, and none of them is an external function's.
+pub fn fresh_names_are_fresh()
+    ensures { FreshNamesAreFresh }
+{}

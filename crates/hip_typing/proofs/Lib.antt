@@ -8,3 +8,5 @@ pub mod AddressLemmas
 pub mod TableLemmas
 pub mod RegisterLemmas
 pub mod CalleeLemmas
+pub mod PairLemmas
+pub mod ArrivalLemmas

@@ -1,5 +1,6 @@
 pub mod Addresses
 pub mod Answers
+pub mod Arrivals
 pub mod Check
 pub mod CheckLaws
 pub mod Constants
@@ -12,9 +13,12 @@ pub mod Registers
 pub mod Seen
 pub mod Sound
 pub mod SoundLaws
+pub mod ConstLaws
 pub mod TypeLaws
 pub mod Types
 pub mod Tables
+pub mod TargetsSeen
 pub mod UsesSeen
 pub mod UseLaws
 pub mod InstrSeen
+pub mod EndSeen

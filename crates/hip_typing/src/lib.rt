@@ -4,6 +4,7 @@
 mod addresses;
 mod callees;
 mod constants;
+mod ends;
 mod externs;
 mod fault;
 mod globals;
@@ -13,10 +14,12 @@ mod named;
 mod names;
 mod operands;
 mod places;
+mod predecessors;
 mod refused;
 mod registers;
 mod shape;
 mod table;
+mod targets;
 mod uses;
 mod whole;
 

@@ -10,3 +10,4 @@ pub mod RegisterLemmas
 pub mod CalleeLemmas
 pub mod PairLemmas
 pub mod ArrivalLemmas
+pub mod CarriedLemmas

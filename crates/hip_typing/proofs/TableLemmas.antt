@@ -32,7 +32,7 @@ module _ {V : Type 0} where
   at_place true at len v vs = let e : nat_lt 0 (suc len) ≡ true = grind (arith, nat_tests) in rw e refl
   at_place false at len v vs = let e : nat_lt (1 + at) (suc len) ≡ nat_lt at len = grind (arith, nat_tests) in rw e (shifted (nat_lt at len) at v vs)
 
-  beside-cons : (n : List ℕ) (ns : List (List ℕ)) (v : V) (vs : List V) (name : List ℕ) → value_beside (n ∷ ns) (v ∷ vs) name ≡ (if bytes_eq name n then Some v else value_beside ns vs name)
+  pub beside-cons : (n : List ℕ) (ns : List (List ℕ)) (v : V) (vs : List V) (name : List ℕ) → value_beside (n ∷ ns) (v ∷ vs) name ≡ (if bytes_eq name n then Some v else value_beside ns vs name)
   beside-cons n ns v vs name = at_place (bytes_eq name n) (position_or_len (bytes_eq name) ns) (length ns) v vs
 
   later_if : (b : Bool) (v : V) (o later : Option V) → (if b then Some v else or_later o later) ≡ or_later (if b then Some v else o) later

@@ -1,6 +1,7 @@
 pub mod Addresses
 pub mod Answers
 pub mod Arrivals
+pub mod Carried
 pub mod Check
 pub mod CheckLaws
 pub mod Constants
@@ -22,3 +23,4 @@ pub mod UsesSeen
 pub mod UseLaws
 pub mod InstrSeen
 pub mod EndSeen
+pub mod PhiSeen

@@ -233,13 +233,15 @@ carry_alike e d = not (bytes_eq e.label d.label) || same_operand e.value d.value
 abbrev pub repeats_agree : List Edge → Bool
 repeats_agree edges = each_pair carry_alike edges
 
+abbrev pub edge_labels : List Edge → List (List ℕ)
+edge_labels edges = map (λ e. e.label) edges
+
 -- each predecessor is named, and nothing else
 abbrev pub edges_agree : List (List ℕ) → List Edge → Bool
-edges_agree before edges =
-    are_among (map (λ e. e.label) edges) before && (are_among before (map (λ e. e.label) edges) && repeats_agree edges)
+edges_agree before edges = are_among (edge_labels edges) before && (are_among before (edge_labels edges) && repeats_agree edges)
 
 abbrev pub phi_check : Scope → List ℕ → Phi → Place → Check
 phi_check s label p place =
-    and_then (asks_true (uses_known s (phi_uses p) && are_among (labels s) (map (λ e. e.label) p.edges)) breaks.Unknown place)
+    and_then (asks_true (uses_known s (phi_uses p) && are_among (labels s) (edge_labels p.edges)) breaks.Unknown place)
     (and_then (types_fit (used_types (phi_uses p)) place)
     (and_then (asks_true (uses_agree s (phi_uses p)) breaks.Mismatch place) (asks_true (edges_agree (predecessors s.function.blocks label) p.edges) breaks.BadEdge place)))

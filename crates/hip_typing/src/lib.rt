@@ -4,6 +4,7 @@
 mod addresses;
 mod callees;
 mod constants;
+mod edges;
 mod ends;
 mod externs;
 mod fault;

@@ -18,6 +18,7 @@ pub mod ConstLaws
 pub mod TypeLaws
 pub mod Types
 pub mod Tables
+pub mod TablesSeen
 pub mod TargetsSeen
 pub mod UsesSeen
 pub mod UseLaws

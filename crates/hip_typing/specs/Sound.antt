@@ -152,13 +152,21 @@ registers_check P = each inner_check P.functions
 
 -- ---- each place of each function
 
+abbrev pub phi_at : Scope → List ℕ → ℕ → ℕ → ℕ → Phi → Check
+phi_at s label f b i p = phi_check s label p (places.Phi (site f b i))
+
+abbrev pub instr_at : Scope → ℕ → ℕ → ℕ → Instr → Check
+instr_at s f b i instr = instr_check s instr (places.Body (site f b i))
+
 abbrev pub block_check : Scope → ℕ → ℕ → Block → Check
 block_check s f b block =
-    and_then (each (λ i p. phi_check s block.label p (places.Phi (site f b i))) block.phis)
-    (and_then (each (λ i instr. instr_check s instr (places.Body (site f b i))) block.body) (end_check s block.end (places.End f b)))
+    and_then (each (phi_at s block.label f b) block.phis) (and_then (each (instr_at s f b) block.body) (end_check s block.end (places.End f b)))
+
+abbrev pub function_check : Program → ℕ → Function → Check
+function_check P f fn = each (block_check (scope_of P fn) f) fn.blocks
 
 abbrev pub places_check : Program → Check
-places_check P = each (λ f fn. each (block_check (scope_of P fn) f) fn.blocks) P.functions
+places_check P = each (function_check P) P.functions
 
 -- ---- each use of a register is assigned on every path
 

@@ -56,11 +56,7 @@ pub fn edge_labels_known(known: &NameSet<'_>, edges: &[Edge]) -> bool
 }
 
 /// Whether each predecessor is named, and nothing else, and repeats of a label carry the same operand.
-pub fn edges_agree(
-    alloc: Global,
-    before: &NameSet<'_>,
-    edges: &[Edge],
-) -> Result<bool, NoMemory>
+pub fn edges_agree(alloc: Global, before: &NameSet<'_>, edges: &[Edge]) -> Result<bool, NoMemory>
     ensures { IfOk result (λ agree. agree ≡ places.edges_agree before.now edges.now) }
 {
     if !edge_labels_known(before, edges) {

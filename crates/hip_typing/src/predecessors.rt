@@ -19,19 +19,22 @@ pub struct Predecessors<'a> {
 
 impl<'a> Predecessors<'a> {
     /// The labels of the blocks whose end names the label; none where no end names it.
-    pub fn get(&self, label: &[u8]) -> Option<&NameSet<'a>>
+    fn get(&self, label: &[u8]) -> Option<&NameSet<'a>>
         ensures { option_copied result ≡ found_at self.now.sets label.now }
     {
         self.sets.get(label)
     }
 
+    /// The labels of the blocks whose end names the label, or the empty set that is passed.
+    pub fn at<'b>(&'b self, label: &[u8], nobody: &'b NameSet<'a>) -> &'b NameSet<'a>
+        requires { nobody.now ≡ [] }
+        ensures { result.now ≡ names_at self.now.sets label.now }
+    {
+        self.get(label).unwrap_or(nobody)
+    }
+
     /// Adds a block that nothing else leads to the label from.
-    fn add_first(
-        &mut self,
-        alloc: Global,
-        label: &'a [u8],
-        from: &'a [u8],
-    ) -> Result<(), NoMemory>
+    fn add_first(&mut self, alloc: Global, label: &'a [u8], from: &'a [u8]) -> Result<(), NoMemory>
         requires { found_at self.old.sets label.now ≡ None }
         ensures { OnOk result (Arrives self.old.sets self.new.sets (label.now ∷ []) from.now) }
     {

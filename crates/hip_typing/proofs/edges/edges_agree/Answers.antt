@@ -1,4 +1,4 @@
-use Rattle.std.proofs.Common.{sym, subst, ◌∙◌, Option, Some}
+use Rattle.std.proofs.Common.{sym, subst, ◌∙◌, Option}
 use Rattle.std.specs.Borrow.{Bor}
 use Rattle.hip_ir.specs.declared.instr.Operand.{Operand}
 use Rattle.hip_typing.specs.Carried.{CarriesWhere}

@@ -1,6 +1,4 @@
-use Rattle.std.proofs.Common.{refl, sym, ap, ◌∙◌}
-use Rattle.hip_typing.specs.Carried.{carries_again}
-use Rattle.hip_typing.specs.Tables.{value_beside}
+use Rattle.std.proofs.Common.{refl, sym, ◌∙◌}
 use Rattle.hip_typing.proofs.CarriedLemmas.{edge_differs, edge_more}
 use Rattle.hip_typing.proofs.edges.operands_by_label.Goals as goal
 

@@ -1,4 +1,4 @@
-use Rattle.std.proofs.Common.{◌&&◌, ℕ, nat_eq}
+use Rattle.std.proofs.Common.{◌&&◌, nat_eq}
 use Rattle.std.specs.HashSet.{contains}
 use Rattle.hip_typing.proofs.PairLemmas.{case_repeats, cases_still_differ, case_is_seen}
 use Rattle.hip_typing.proofs.ends.cases_differ.Goals as goal

@@ -1,4 +1,4 @@
-use Rattle.std.proofs.Common.{◌≡◌, ◌&&◌, ℕ, nat_eq, take, true}
+use Rattle.std.proofs.Common.{◌≡◌, ◌&&◌, nat_eq, take, true}
 use Rattle.std.specs.List.{list_any}
 use Rattle.hip_types.specs.declared.number.Bits.{Bits}
 use Rattle.hip_types.specs.Widths.{bits_of}

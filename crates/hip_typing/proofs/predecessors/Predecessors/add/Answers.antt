@@ -1,4 +1,4 @@
-use Rattle.std.proofs.Common.{[], refl, ap, sym, subst, Option, Some, List, ℕ}
+use Rattle.std.proofs.Common.{[], refl, ap, sym, subst, Option, List, ℕ}
 use Rattle.std.specs.Prelude.{unwrap_or, IsSome}
 use Rattle.hip_typing.proofs.ArrivalLemmas.{one_arrived}
 use Rattle.hip_typing.proofs.predecessors.Predecessors.add.Goals as goal

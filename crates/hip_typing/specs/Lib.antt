@@ -11,6 +11,9 @@ pub mod Names
 pub mod Paths
 pub mod Places
 pub mod Registers
+pub mod Numbering
+pub mod Given
+pub mod GivenLaws
 pub mod Seen
 pub mod Sound
 pub mod SoundLaws

@@ -96,11 +96,11 @@ sizes_check P =
 
 -- ---- `main` is there, has no parameters and answers an i32
 
-abbrev is_i32 : Option Scalar → Bool
+abbrev pub is_i32 : Option Scalar → Bool
 is_i32 (Some (scalars.Int W32)) = true
 is_i32 _ = false
 
-abbrev no_params : List Param → Bool
+abbrev pub no_params : List Param → Bool
 no_params [] = true
 no_params _ = false
 

@@ -8,6 +8,7 @@ mod edges;
 mod ends;
 mod externs;
 mod fault;
+mod given;
 mod globals;
 mod inner;
 mod instrs;

@@ -5,3 +5,4 @@ pub mod Longest
 pub mod Formed
 pub mod Lines
 pub mod Cuts
+pub mod Written

@@ -1,5 +1,5 @@
 -- The rules on the tree are exactly what lets a program be read back.
-use Rattle.std.specs.Prelude.{◌≡◌, ◌↔◌, ℕ, Bool, true, List}
+use Rattle.std.specs.Prelude.{◌≡◌, ◌↔◌, ℕ, true, List}
 use Rattle.hip_ir.specs.declared.program.Program.{Program}
 use Rattle.hip_ir.specs.Reading.{Reads, IsSpelled}
 use Rattle.hip_ir.specs.Show.{show}

@@ -1,10 +1,11 @@
 //! Which trees some text reads as. The rules are those of the grammar that the types of the tree leave open.
 
-ghost use Rattle.std.specs.Prelude.{◌≡◌, ◌&&◌};
+ghost use Rattle.std.specs.Prelude.{◌≡◌, ◌&&◌, ◌↔◌, ℕ, List, IsTrue};
 ghost use Rattle.std.specs.List.{list_all};
 ghost use Rattle.hip_types.specs.declared.ty.Ty.{out-Ty};
 ghost use Rattle.hip_ir.specs.declared.constant.Const.{out-Const};
 ghost use Rattle.hip_ir.specs.Bodies.{may_wrap, may_be_exact};
+ghost use Rattle.hip_ir.specs.Reading.{Reads, IsSpelled};
 ghost use Rattle.hip_ir.specs.Spelling.{not_empty, spelled_align, spelled_flat, spelled_type_within, of_width, spelled_gep, spelled_pointer_within, spelled_int, spelled_item, spelled_const_within, spelled_scalar_const, spelled_operand, spelled_arg, is_int_type, spelled_index, spelled_flags, spelled_cast, spelled_result, spelled_memory_instr, spelled_instr, spelled_edge, spelled_phi, spelled_case, spelled_end, spelled_block, spelled_global, spelled_extern, spelled_param, spelled_function, spelled_program};
 
 use crate::block::{Block, Case, Edge, End, Phi};
@@ -479,13 +480,23 @@ fn spelled_functions(functions: &[Function]) -> bool
     functions.iter().all(|function| spelled_function(function))
 }
 
-/// Whether the program is one that some text reads as.
-///
-/// It takes no memory, and time linear in the program. Recursion is bounded by the limits of nesting.
-pub fn spelled(program: &Program) -> bool
+fn meets_rules(program: &Program) -> bool
     ensures { result ≡ spelled_program program.now }
 {
     spelled_globals(program.globals.as_slice())
         && spelled_externs(program.externs.as_slice())
         && spelled_functions(program.functions.as_slice())
+}
+
+/// Whether the program is the one that its canonical text reads as, which is so of every program that some text reads as.
+///
+/// It takes no memory, and time linear in the program. Recursion is bounded by the limits of nesting.
+pub fn spelled(program: &Program) -> bool
+    // The rules on the tree alone decide it.
+    ensures rules { result ≡ spelled_program program.now }
+    ensures read_back { IsTrue result ↔ IsSpelled program.now }
+    // Every program that some text reads as is spelled.
+    ensures only { (text : List ℕ) → Reads text program.now → IsTrue result }
+{
+    meets_rules(program)
 }

@@ -1,12 +1,11 @@
 -- Tests that no token passes both.
-use Rattle.std.proofs.Common.{◌≡◌, ℕ, true, false, Bool, cond, List, [], ◌∷◌, Option, Some, None, refl, sym, ap, ◌∙◌}
+use Rattle.std.proofs.Common.{◌≡◌, ℕ, true, false, Bool, cond, List, Option, Some, None, refl, ap}
 use Rattle.std.specs.Str.{bytes_eq}
 use Rattle.std.proofs.lemmas.Bool.{eqb-true}
 use Rattle.std.proofs.lemmas.Slice.Eq.{bytes_eq-Decides}
 use Rattle.hip_tokens.specs.Tokens.{Tok, Word, Label, Local, Global, Num, Str, Mark, Odd}
-use Rattle.hip_rules.specs.Rule.{Verdict, Yes, No}
-use Rattle.hip_rules.specs.Parts.{Apart, apart_sym}
-use Rattle.hip_ir.specs.declared.fault.Fault.{Fault}
+use Rattle.hip_rules.specs.Rule.{No}
+use Rattle.hip_rules.specs.Parts.{Apart}
 use Rattle.hip_ir.specs.Words.{is_word, is_mark, is_local, is_global, is_label, a_local, a_global, a_label, a_word_of, is_word_of, is_there, or_no}
 
 mark_is : (b : ℕ) (t : Tok) → is_mark b t ≡ true → t ≡ Mark b

@@ -8,8 +8,7 @@ use Rattle.hip_types.specs.declared.number.Scalar.{Scalar}
 use Rattle.hip_types.specs.declared.number.Scalar.TheVariants as scalars
 use Rattle.hip_types.specs.declared.number.Width.{Width}
 use Rattle.hip_types.specs.declared.number.Width.TheVariants.{W1}
-use Rattle.hip_tokens.specs.Tokens.{Tok, Word}
-use Rattle.hip_rules.specs.Rule.{Verdict, Yes, No}
+use Rattle.hip_tokens.specs.Tokens.{Tok}
 use Rattle.hip_rules.specs.Reader.{folded}
 use Rattle.hip_rules.specs.Part.{Part, gives, token, ◌>>=◌, either, repeated, optional, passing, separated, listed, phased}
 use Rattle.hip_ir.specs.declared.block.Block.{Block}
@@ -22,7 +21,7 @@ use Rattle.hip_ir.specs.declared.fault.Fault.{Fault}
 use Rattle.hip_ir.specs.declared.instr.Flags.{Flags}
 use Rattle.hip_ir.specs.declared.instr.Instr.{Instr}
 use Rattle.hip_ir.specs.declared.instr.Instr.TheVariants as instrs
-use Rattle.hip_ir.specs.Words.{is_word, is_mark, is_local, comma, a_local, a_global, a_label, a_word_of, is_word_of, or_no, is_there, ret_word, binary_word, pred_word, int_cast_word}
+use Rattle.hip_ir.specs.Words.{is_word, is_mark, is_local, comma, a_local, a_global, a_label, a_word_of, is_word_of, ret_word, binary_word, pred_word, int_cast_word}
 use Rattle.hip_ir.specs.Numbers.{a_literal, an_alignment}
 use Rattle.hip_ir.specs.Grammar.{word, mark, maybe_word, int, scalar, type, is_width, is_scalar, operand, arg, index}
 

@@ -1,30 +1,27 @@
 -- The reading of instructions and blocks is exact for its rule.
-use Rattle.std.proofs.Common.{◌≡◌, ℕ, true, false, Bool, cond, ◌||◌, List, [], ◌∷◌, Option, Some, None, refl, codes}
+use Rattle.std.proofs.Common.{◌≡◌, ℕ, true, false, Bool, cond, List, [], ◌∷◌, Option, Some, None, refl, codes}
 use Rattle.hip_types.specs.declared.number.BinaryOp.{BinaryOp}
-use Rattle.hip_types.specs.declared.number.BinaryOp.TheVariants as ops
 use Rattle.hip_types.specs.declared.number.CastOp.{CastOp}
-use Rattle.hip_types.specs.declared.number.CastOp.TheVariants as casts
 use Rattle.hip_types.specs.declared.number.Scalar.{Scalar}
 use Rattle.hip_types.specs.declared.number.Scalar.TheVariants as scalars
 use Rattle.hip_types.specs.declared.number.Width.{Width}
-use Rattle.hip_types.specs.declared.number.Width.TheVariants.{W1, W8, W16, W32, W64}
+use Rattle.hip_types.specs.declared.number.Width.TheVariants.{W1}
 use Rattle.hip_tokens.specs.Tokens.{Tok, Word}
-use Rattle.hip_rules.specs.Rule.{Rule, both, many, ◌or◌}
-use Rattle.hip_rules.specs.Part.{Part, gives, token, ◌>>=◌, either, repeated, optional, passing, separated, listed, phased}
+use Rattle.hip_rules.specs.Rule.{both, ◌or◌}
+use Rattle.hip_rules.specs.Part.{token, ◌>>=◌, repeated, separated, listed}
 use Rattle.hip_rules.specs.Exact.{never, joined}
 use Rattle.hip_rules.specs.Same.{IsSame, head_or_other}
-use Rattle.hip_rules.specs.Parts.{Exact, IsRead, Apart, apart_sym, apart_joined, never_apart, joined_apart, begins, token_begins, link, part_link, token_read, token_exact, closed_exact, gives_exact, next_exact, next_read, then_read, maps_exact, maps_read, either_read, optional_then_read, repeated_then_read, optional_same, repeated_same, repeated_exact, separated_read, listed_read, passing_read, closed_widens, widens, phased_exact}
+use Rattle.hip_rules.specs.Parts.{Exact, IsRead, Apart, apart_sym, apart_joined, joined_apart, begins, token_begins, link, part_link, token_read, token_exact, closed_exact, gives_exact, next_exact, next_read, then_read, maps_exact, maps_read, either_read, optional_then_read, repeated_then_read, optional_same, repeated_same, separated_read, listed_read, passing_read, phased_exact}
 use Rattle.hip_ir.specs.declared.block.Block.{Block}
-use Rattle.hip_ir.specs.declared.block.End.{End}
 use Rattle.hip_ir.specs.declared.block.Phi.{Phi}
 use Rattle.hip_ir.specs.declared.fault.Fault.{Fault}
 use Rattle.hip_ir.specs.declared.instr.Flags.{Flags}
 use Rattle.hip_ir.specs.declared.instr.Instr.{Instr}
-use Rattle.hip_ir.specs.Words.{is_word, is_mark, is_local, is_label, comma, a_local, a_label, a_word_of, is_word_of, width_word, width_text, scalar_word, ret_word, binary_word, pred_word, int_cast_word}
-use Rattle.hip_ir.specs.Numbers.{a_literal, an_alignment}
-use Rattle.hip_ir.specs.Grammar.{word, mark, maybe_word, int, scalar, type, is_width, is_scalar, operand, arg, index}
-use Rattle.hip_ir.specs.Bodies.{ret, align, maybe_align, assigned, edge, phi, may_wrap, may_be_exact, wrap_word, exact_word, flag_word, flags, binary, compare, select, int_cast, ptrtoint, inttoptr, alloca, load, gep, plain_call, call, store, memory_instr, cast_instr, value_instr, effect_instr, assigning_instr, instr, begins_effect, begins_instr, target, jump, branch, br, case, switch, ret_void, ret_arg, ret_end, unreachable, end, closing, instrs_and_end, after_first, after_name, from_effect, after_phis, block}
-use Rattle.hip_ir.specs.Apart.{mark_apart, word_apart, local_apart, label_apart, words_apart, entry_apart, no_entry_apart, not_local, not_label, not_word_of}
+use Rattle.hip_ir.specs.Words.{is_word, is_mark, is_local, is_label, comma, a_local, a_label, a_word_of, is_word_of, width_word, width_text, scalar_word, binary_word, int_cast_word}
+use Rattle.hip_ir.specs.Numbers.{an_alignment}
+use Rattle.hip_ir.specs.Grammar.{word, maybe_word, type, is_width, arg, index}
+use Rattle.hip_ir.specs.Bodies.{align, maybe_align, assigned, edge, phi, may_wrap, may_be_exact, wrap_word, exact_word, flag_word, flags, binary, compare, select, int_cast, ptrtoint, inttoptr, alloca, load, gep, plain_call, call, store, memory_instr, cast_instr, value_instr, effect_instr, assigning_instr, instr, begins_effect, begins_instr, target, jump, branch, br, case, switch, ret_void, ret_arg, ret_end, unreachable, end, closing, instrs_and_end, after_first, after_name, from_effect, after_phis, block}
+use Rattle.hip_ir.specs.Apart.{mark_apart, word_apart, local_apart, entry_apart, no_entry_apart, not_local, not_label, not_word_of}
 use Rattle.hip_ir.specs.Exactness.{maybe_word_exact, type_read, begins_type, operand_read, arg_read, index_read}
 
 align_read : IsRead align comma never

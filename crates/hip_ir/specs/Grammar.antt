@@ -1,5 +1,5 @@
 -- The grammar of programs: types, constants and operands. Each part is named as its production, which stands above it.
-use Rattle.std.specs.Prelude.{ℕ, zero, suc, Bool, true, false, List, [], ◌∷◌, Option, Some, None, codes, if◌then◌else◌}
+use Rattle.std.specs.Prelude.{ℕ, zero, suc, Bool, List, codes, if◌then◌else◌}
 use Rattle.std.specs.Str.{bytes_eq}
 use Rattle.hip_types.specs.declared.number.Bits.{Bits}
 use Rattle.hip_types.specs.declared.number.Width.{Width}
@@ -9,8 +9,8 @@ use Rattle.hip_types.specs.declared.ty.Ty.{Ty, out-Ty}
 use Rattle.hip_types.specs.declared.ty.Ty.TheOpen.{Ty-F}
 use Rattle.hip_types.specs.declared.ty.Ty.TheVariants as types
 use Rattle.hip_tokens.specs.Tokens.{Tok, Word, Global}
-use Rattle.hip_rules.specs.Rule.{Verdict, Yes, Because, No}
-use Rattle.hip_rules.specs.Part.{Part, gives, token, ◌>>=◌, either, repeated, optional, passing, separated, listed}
+use Rattle.hip_rules.specs.Rule.{Verdict, Yes, No}
+use Rattle.hip_rules.specs.Part.{Part, gives, token, ◌>>=◌, either, optional, passing, separated, listed}
 use Rattle.hip_ir.specs.declared.constant.Const.{Const}
 use Rattle.hip_ir.specs.declared.constant.Const.TheVariants as consts
 use Rattle.hip_ir.specs.declared.constant.TypedConst.{TypedConst}

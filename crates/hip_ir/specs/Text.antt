@@ -1,6 +1,5 @@
 -- The grammar of programs: globals, externs, functions and whole texts.
 use Rattle.std.specs.Prelude.{ℕ, Bool, true, false, ◌||◌, List, [], ◌∷◌, ◌++◌, Option, Some, None, codes}
-use Rattle.hip_types.specs.declared.number.Scalar.{Scalar}
 use Rattle.hip_tokens.specs.Tokens.{Tok}
 use Rattle.hip_rules.specs.Reader.{folded}
 use Rattle.hip_rules.specs.Part.{Part, gives, token, ◌>>=◌, either, repeated, optional, listed, skipped}
@@ -14,7 +13,7 @@ use Rattle.hip_ir.specs.declared.program.Program.{Program}
 use Rattle.hip_ir.specs.Words.{is_word, is_mark, is_global, is_label, comma, a_global, a_local, a_string, a_section, a_word_of, is_word_of, link_word, unnamed_word, linkage_word, target_word, fixed_word}
 use Rattle.hip_ir.specs.Numbers.{an_alignment}
 use Rattle.hip_ir.specs.Grammar.{word, mark, scalar, type, const}
-use Rattle.hip_ir.specs.Bodies.{ret, align, maybe_align, block}
+use Rattle.hip_ir.specs.Bodies.{ret, maybe_align, block}
 
 pub data Item : Type 0 where
   GlobalItem : GlobalVar → Item

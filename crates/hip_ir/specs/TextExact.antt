@@ -1,19 +1,16 @@
 -- The reading of a whole text is exact for the grammar.
-use Rattle.std.proofs.Common.{◌≡◌, ℕ, true, false, Bool, cond, ◌||◌, List, [], ◌∷◌, ◌++◌, Option, Some, None, Ok, Err, inl, inr, refl, sym, ap, subst, ◌∙◌, codes}
-use Rattle.std.specs.Str.{bytes_eq}
-use Rattle.hip_tokens.specs.Tokens.{Tok, Word, Global, Label, Local, Num, Str, Mark, Odd, At}
-use Rattle.hip_rules.specs.Part.{Part, gives, token, ◌>>=◌, either, repeated, optional, listed}
+use Rattle.std.proofs.Common.{◌≡◌, ℕ, true, false, Bool, ◌||◌, List, [], ◌∷◌, Option, Some, None, Ok, Err, inl, inr, refl, sym, ap, subst, ◌∙◌, codes}
+use Rattle.hip_tokens.specs.Tokens.{Tok, Word, At}
+use Rattle.hip_rules.specs.Part.{token, repeated, optional}
 use Rattle.hip_rules.specs.Reader.{Outcome, on_ok, next}
 use Rattle.hip_rules.specs.Exact.{never, joined, Exactly, Accepts, Rejects}
-use Rattle.hip_rules.specs.Parts.{Exact, IsRead, Apart, apart_sym, apart_joined, never_apart, joined_apart, begins, token_begins, link, part_link, token_read, token_exact, closed_exact, gives_exact, next_exact, next_read, then_read, maps_exact, maps_read, either_read, optional_exact, optional_same, repeated_same, skipped_same, repeated_exact, separated_read, listed_read, closed_widens, widens}
+use Rattle.hip_rules.specs.Parts.{Exact, IsRead, Apart, apart_sym, apart_joined, joined_apart, begins, token_begins, link, part_link, token_read, gives_exact, next_exact, then_read, maps_exact, either_read, optional_exact, optional_same, repeated_same, skipped_same, repeated_exact, listed_read, widens}
 use Rattle.hip_ir.specs.declared.fault.Fault.{Fault}
-use Rattle.hip_ir.specs.declared.block.Block.{Block}
 use Rattle.hip_ir.specs.declared.program.Program.{Program}
-use Rattle.hip_ir.specs.Words.{is_word, is_mark, is_global, is_label, is_local, comma, a_global, a_word_of, is_word_of, is_there, scalar_word, ret_word, link_word, unnamed_word, linkage_word, target_word, fixed_word}
-use Rattle.hip_ir.specs.Numbers.{an_alignment}
-use Rattle.hip_ir.specs.Grammar.{word, mark, scalar, type, const}
+use Rattle.hip_ir.specs.Words.{is_word, is_mark, is_global, is_label, comma, a_global, a_word_of, is_word_of, scalar_word, ret_word, link_word, unnamed_word, linkage_word, fixed_word}
+use Rattle.hip_ir.specs.Grammar.{scalar}
 use Rattle.hip_ir.specs.Bodies.{maybe_align, block}
-use Rattle.hip_ir.specs.Text.{Item, linkages, links, source_filename, target_item, section, only_align, placement, place, global, maybe_unnamed, extern_item, param, blocks, function, item, begins_item, text}
+use Rattle.hip_ir.specs.Text.{linkages, links, source_filename, target_item, section, only_align, placement, place, global, maybe_unnamed, extern_item, param, blocks, function, item, begins_item, text}
 use Rattle.hip_ir.specs.Reading.{IsRefusedAt}
 use Rattle.hip_ir.specs.Unsupported.{usual}
 use Rattle.hip_ir.specs.Apart.{mark_apart, word_apart, global_apart, label_apart, words_apart, entry_apart, no_entry_apart, not_global, not_word_of}

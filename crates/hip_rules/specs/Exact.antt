@@ -1,5 +1,5 @@
 -- A reader that is exact for a rule, part by part.
-use Rattle.std.proofs.Common.{◌≡◌, ℕ, zero, suc, ◌≤◌, ◌<◌, Bool, true, false, cond, List, [], ◌∷◌, length, Option, Some, None, Result, Ok, Err, ◌⊎◌, inl, inr, refl, sym, ap, subst, ◌∙◌, arith, ◌++◌, ◌||◌, append_assoc, length-append}
+use Rattle.std.proofs.Common.{◌≡◌, ℕ, zero, suc, ◌≤◌, ◌<◌, Bool, true, false, cond, List, [], ◌∷◌, length, Option, Some, None, Ok, Err, ◌⊎◌, inl, inr, refl, sym, ap, subst, ◌∙◌, arith, ◌++◌, ◌||◌, append_assoc, length-append}
 use Rattle.hip_tokens.specs.Tokens.{Tok, At}
 use Rattle.hip_rules.specs.Rule.{Rule, Later, Verdict, Yes, Because, No, done, one, both, ◌or◌, AllDerive, many, perhaps}
 use Rattle.hip_rules.specs.Reader.{Outcome, Reader, on_ok, judged, done_at, one_at, both_at, next, either_at, perhaps_at, times_at, many_at}

@@ -6,3 +6,5 @@ pub mod Same
 pub mod Phases
 pub mod Loops
 pub mod Parts
+pub mod Texts
+pub mod Yields

@@ -2,7 +2,7 @@
 use Rattle.std.proofs.Common.{◌≡◌, ℕ, zero, suc, ◌≤◌, ◌<◌, Bool, true, false, cond, List, [], ◌∷◌, ◌++◌, length, Option, Some, None, Ok, Err, refl, sym, ap, ◌∙◌, append_assoc, arith}
 use Rattle.std.proofs.lemmas.List.{append-nil}
 use Rattle.hip_tokens.specs.Tokens.{Tok, At}
-use Rattle.hip_rules.specs.Reader.{Outcome, Reader, on_ok, next, times_at, many_at, with_front, folded, taken_up, leading_at, leaders_at, with_leaders}
+use Rattle.hip_rules.specs.Reader.{Outcome, Reader, on_ok, next, times_at, many_at, with_front, taken_up, leading_at, leaders_at, with_leaders}
 
 -- a reader that takes a token at least
 abbrev pub TakesSome : {F A : Type 0} → Reader F A → Type 0

@@ -1,10 +1,10 @@
 -- When the reading of a part is exact, by the tokens that may begin it and the tokens that may follow it.
-use Rattle.std.proofs.Common.{◌≡◌, ℕ, ◌≤◌, ◌<◌, Bool, true, false, cond, ◌||◌, List, [], ◌∷◌, length, Option, Some, Ok, Err, inl, inr, refl, sym, ap, subst, ◌∙◌, arith}
+use Rattle.std.proofs.Common.{◌≡◌, ◌≤◌, ◌<◌, Bool, true, false, ◌||◌, List, [], ◌∷◌, length, Option, Ok, inl, inr, refl, ap, subst, arith}
 use Rattle.hip_tokens.specs.Tokens.{Tok, At}
 use Rattle.hip_rules.specs.Rule.{Rule, Verdict, No, done, one, both, ◌or◌, perhaps, many, AllDerive}
 use Rattle.hip_rules.specs.Reader.{Outcome, next, on_ok}
 use Rattle.hip_rules.specs.Part.{Part, gives, token, ◌>>=◌, either, repeated, optional, phased, the, passing, one_more_by, separated, none_up_to, some_up_to, listed, skipped}
-use Rattle.hip_rules.specs.Exact.{IsExact, Exactly, Accepts, IsAbsent, never, never_next, joined, next_left, next_right, next_widens, next_not_left, next_not_right, mapped, both_empty, both_whole, both_within, both_later, both_closed, one_exact, done_exact, both_exact, then_exact, or_exact, or_takes_some, exact_widens, many_exact, perhaps_exact, both_absent, or_absent, token_absent, token_takes_some}
+use Rattle.hip_rules.specs.Exact.{IsExact, Exactly, Accepts, IsAbsent, never, joined, next_widens, next_not_left, next_not_right, mapped, both_empty, both_whole, both_within, both_later, both_closed, one_exact, done_exact, both_exact, then_exact, or_exact, or_takes_some, exact_widens, many_exact, perhaps_exact, both_absent, or_absent, token_absent}
 use Rattle.hip_rules.specs.Same.{IsSame}
 use Rattle.hip_rules.specs.Phases.{phases_exact}
 use Rattle.hip_rules.specs.Loops.{TakesSome}

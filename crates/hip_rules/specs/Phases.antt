@@ -1,8 +1,8 @@
 -- Parts of one kind and then parts of another, which begin alike: the head is read once, and the next token then tells the kind.
-use Rattle.std.proofs.Common.{◌≡◌, ℕ, zero, suc, ◌≤◌, ◌<◌, Bool, true, false, cond, List, [], ◌∷◌, ◌++◌, length, Option, Some, None, Result, Ok, Err, ◌⊎◌, inl, inr, refl, sym, ap, subst, ◌∙◌, arith, append_assoc}
+use Rattle.std.proofs.Common.{◌≡◌, ℕ, zero, suc, ◌≤◌, ◌<◌, Bool, true, false, cond, List, [], ◌∷◌, ◌++◌, length, Option, Some, None, Ok, Err, refl, sym, ap, subst, ◌∙◌, arith, append_assoc}
 use Rattle.std.proofs.lemmas.List.{append-nil}
 use Rattle.hip_tokens.specs.Tokens.{Tok, At}
-use Rattle.hip_rules.specs.Rule.{Rule, both, many, AllDerive, ◌or◌}
+use Rattle.hip_rules.specs.Rule.{Rule, both, many, ◌or◌}
 use Rattle.hip_rules.specs.Reader.{Reader, Outcome, on_ok, next, leading_at, leaders_at, by_head}
 use Rattle.hip_rules.specs.Exact.{IsExact, Exactly, IsAbsent, never, never_next, joined, both_where, both_empty, both_whole, both_within, both_later, both_closed, or_left, or_right, or_empty, or_absent, both_absent, then_exact, or_exact, many_exact}
 use Rattle.hip_rules.specs.Same.{IsSame, factored, many_unrolls, unrolled, same_exactly, same_exact, same_refl, same_sym, same_trans, or_same, or_assoc, both_assoc, both_same, same_absent}

@@ -1,5 +1,5 @@
 -- No token at a place is longer than the piece there.
-use Rattle.std.proofs.Common.{sym, subst, take, ltb, get_or, one-add, ◌⊎◌, inl, inr, ◌≡◌, ℕ, ◌+◌, ◌≤◌, ◌<◌, Bool, true, false, cond, eqb, ◌&&◌, ◌||◌, List, [], ◌∷◌, ◌++◌, length, refl, ap, subst, ◌∙◌, append_assoc, arith, length-append}
+use Rattle.std.proofs.Common.{sym, subst, take, ltb, get_or, one-add, ◌≡◌, ℕ, ◌+◌, ◌≤◌, ◌<◌, Bool, true, false, cond, eqb, ◌&&◌, ◌||◌, List, [], ◌∷◌, ◌++◌, length, refl, ap, subst, ◌∙◌, append_assoc, arith, length-append}
 use Rattle.std.specs.Prelude.{slice_index}
 use Rattle.std.specs.List.{prefix_len, list_all}
 use Rattle.std.proofs.lemmas.Bool.{eqb-true, ltb-true, ltb-false}
@@ -8,6 +8,7 @@ use Rattle.std.proofs.lemmas.Bool.Decides.{nat_tests}
 use Rattle.hip_tokens.specs.Bytes.{is_mark, is_digit, begins_name, goes_on_name, in_string}
 use Rattle.hip_tokens.specs.Tokens.{Piece, Tok, Word, Label, Local, Global, Num, Str, Mark, Odd, piece, piece_at, name_here, word_piece, number_piece, minus_piece, local_piece, global_piece, string_piece}
 use Rattle.hip_tokens.specs.Longest.{is_name, are_digits, is_number, Spells, IsLongest}
+use Rattle.hip_tokens.specs.Formed.{prefix_all, name_of, name_front}
 
 and_left : (a b : Bool) → (a && b) ≡ true → a ≡ true
 and_left true b e = refl
@@ -139,14 +140,6 @@ longest b bs (Odd c) w rest h e = let n = ap length h.0 in omega arith
 
 -- ---- the piece itself is spelled
 
-prefix_by : (p : ℕ → Bool) (x : ℕ) (xs : List ℕ) (b : Bool) → p x ≡ b → list_all p (take (prefix_len p xs) xs) ≡ true → list_all p (take (cond b (1 + prefix_len p xs) 0) (x ∷ xs)) ≡ true
-prefix_by p x xs true e h = rw (one-add, e) h
-prefix_by p x xs false e h = refl
-
-prefix_all : (p : ℕ → Bool) (xs : List ℕ) → list_all p (take (prefix_len p xs) xs) ≡ true
-prefix_all p [] = refl
-prefix_all p (x ∷ xs) = prefix_by p x xs (p x) refl (prefix_all p xs)
-
 closed_at : (bs : List ℕ) (n c : ℕ) → eqb (slice_index bs n) c ≡ true → 0 < c → take (n + 1) bs ≡ take n bs ++ (c ∷ [])
 closed_at bs n c e some =
     let is : get_or bs n 0 ≡ c = eqb-true (slice_index bs n) c e in
@@ -156,16 +149,6 @@ closed_at bs n c e some =
     within : (b : Bool) → ltb n (length bs) ≡ b → n < length bs
     within true t = ltb-true n (length bs) t
     within false t = absurd (let past = get_or_past bs n 0 (ltb-false n (length bs) t) in let is : get_or bs n 0 ≡ c = eqb-true (slice_index bs n) c e in omega arith)
-
-name_of : (b : ℕ) (bs : List ℕ) → begins_name b ≡ true → is_name (b ∷ take (prefix_len goes_on_name bs) bs) ≡ true
-name_of b bs e = rw (e, prefix_all goes_on_name bs) refl
-
-name_front : (bs : List ℕ) → name_here bs ≡ true → is_name (take (prefix_len goes_on_name bs) bs) ≡ true
-name_front [] e = absurd cc
-name_front (b ∷ bs) e = rw (goes, one-add, e, prefix_all goes_on_name bs) refl
-  where
-    goes : goes_on_name b ≡ true
-    goes = rw e refl
 
 abbrev SpelledHere : ℕ → List ℕ → Piece → Type 0
 SpelledHere b bs p = Spells p.tok (b ∷ take p.more bs)

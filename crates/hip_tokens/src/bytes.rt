@@ -1,8 +1,9 @@
 //! Which bytes stand where.
 
 ghost use Rattle.std.specs.Prelude.{◌≡◌, ◌≤◌, length};
-ghost use Rattle.std.specs.List.{prefix_len};
+ghost use Rattle.std.specs.List.{prefix_len, list_all};
 ghost use Rattle.hip_tokens.specs.Bytes.{is_blank, is_digit, begins_name, goes_on_name, is_mark, in_string, in_comment};
+ghost use Rattle.hip_tokens.specs.Longest.{is_name};
 
 pub fn is_blank(b: u8) -> bool
     ensures { result ≡ is_blank b }
@@ -26,6 +27,22 @@ fn goes_on_name(b: u8) -> bool
     ensures { result ≡ goes_on_name b }
 {
     begins_name(b) || is_digit(b) || b == b'-'
+}
+
+fn all_go_on_name(bytes: &[u8]) -> bool
+    ensures { result ≡ list_all goes_on_name bytes.now }
+{
+    bytes.iter().all(|b| goes_on_name(*b))
+}
+
+/// Whether the text is what a name is: a letter, `$`, `.` or `_`, and then such bytes, digits and `-`.
+pub fn is_name(text: &[u8]) -> bool
+    ensures { result ≡ is_name text.now }
+{
+    match text.split_first() {
+        Some((first, others)) => begins_name(*first) && all_go_on_name(others),
+        None => false,
+    }
 }
 
 pub fn is_mark(b: u8) -> bool

@@ -1,0 +1,502 @@
+//! Which trees some text reads as. The rules are those of the grammar that the types of the tree leave open.
+
+ghost use Rattle.std.specs.Prelude.{◌≡◌, ◌&&◌, ◌↔◌, ℕ, List, IsTrue};
+ghost use Rattle.std.specs.List.{list_all};
+ghost use Rattle.hip_types.specs.declared.ty.Ty.{out-Ty};
+ghost use Rattle.hip_ir.specs.declared.constant.Const.{out-Const};
+ghost use Rattle.hip_ir.specs.Bodies.{may_wrap, may_be_exact};
+ghost use Rattle.hip_ir.specs.Reading.{Reads, IsSpelled};
+ghost use Rattle.hip_ir.specs.Spelling.{not_empty, spelled_align, spelled_flat, spelled_type_within, of_width, spelled_gep, spelled_pointer_within, spelled_int, spelled_item, spelled_const_within, spelled_scalar_const, spelled_operand, spelled_arg, is_int_type, spelled_index, spelled_flags, spelled_cast, spelled_result, spelled_memory_instr, spelled_instr, spelled_edge, spelled_phi, spelled_case, spelled_end, spelled_block, spelled_global, spelled_extern, spelled_param, spelled_function, spelled_program};
+
+use crate::block::{Block, Case, Edge, End, Phi};
+use crate::constant::{Const, ConstGep, TypedConst};
+use crate::instr::{Arg, Flags, Instr, Operand};
+use crate::program::{Extern, Function, GlobalVar, Param, Program};
+use hip_tokens::is_name;
+use hip_types::{BinaryOp, Bits, CastOp, Name, Scalar, Ty, Width};
+
+fn not_empty<T>(items: &[T]) -> bool
+    ensures { result ≡ not_empty items.now }
+{
+    items.first().is_some()
+}
+
+fn spelled_align(align: &Option<u64>) -> bool
+    ensures { result ≡ spelled_align align.now }
+{
+    match align {
+        Some(bytes) => *bytes != 0 && 4096 % *bytes == 0,
+        None => true,
+    }
+}
+
+// ---- types
+
+fn spelled_flat(ty: &Ty) -> bool
+    ensures { result ≡ spelled_flat (out-Ty ty.now) }
+{
+    match ty {
+        Ty::Int(_) | Ty::Ptr => true,
+        Ty::Array(_, _) | Ty::Struct(_) => false,
+    }
+}
+
+/// Whether the type is nested at most `depth` deep, with arrays that are short enough.
+#[cycle(types)]
+#[tactic(auto, unfolding(crate::specs::Spelling::spelled_type_within))]
+fn spelled_type_within(depth: u32, ty: &Ty) -> bool
+    ensures { result ≡ spelled_type_within depth ty.now }
+{
+    if depth == 0 {
+        return spelled_flat(ty);
+    }
+    match ty {
+        Ty::Int(_) | Ty::Ptr => true,
+        Ty::Array(count, element) => {
+            *count < 67_108_865 && spelled_type_within(depth - 1, element.get())
+        }
+        Ty::Struct(fields) => spelled_fields_within(depth - 1, fields.as_slice()),
+    }
+}
+
+#[cycle(types)]
+fn spelled_fields_within(depth: u32, fields: &[Ty]) -> bool
+    ensures { result ≡ list_all (spelled_type_within depth) fields.now }
+{
+    'fields: for field in fields {
+        if !spelled_type_within(depth, field) {
+            return false;
+        }
+    }
+    true
+}
+
+// ---- constants
+
+fn of_width(width: Width, value: Bits) -> bool
+    ensures { result ≡ of_width width value }
+{
+    value.width.bits() == width.bits()
+}
+
+/// Whether the constant may stand under an integer type.
+fn spelled_int(width: Width, value: &Const) -> bool
+    ensures { result ≡ spelled_int width (out-Const value.now) }
+{
+    match value {
+        Const::Int(bits) => of_width(width, *bits),
+        Const::Zero => true,
+        _ => false,
+    }
+}
+
+/// Whether the constant may stand under `ptr`, with at most `depth` `getelementptr` in one another.
+#[cycle(pointers)]
+#[tactic(auto, unfolding(crate::specs::Spelling::spelled_pointer_within))]
+fn spelled_pointer_within(depth: u32, value: &Const) -> bool
+    ensures { result ≡ spelled_pointer_within depth value.now }
+{
+    match value {
+        Const::Null | Const::Zero => true,
+        Const::Address(name) => is_name(name.as_slice()),
+        Const::Gep(gep) => depth != 0 && spelled_gep(depth - 1, gep.get()),
+        _ => false,
+    }
+}
+
+#[cycle(pointers)]
+fn spelled_gep(depth: u32, gep: &ConstGep) -> bool
+    ensures { result ≡ spelled_gep (spelled_pointer_within depth) gep.now }
+{
+    spelled_type_within(32, &gep.ty)
+        && spelled_pointer_within(depth, &gep.base)
+        && not_empty(gep.indices.as_slice())
+}
+
+/// Whether the constant may stand under the type, with lists nested at most `depth` deep.
+#[cycle(constants)]
+#[tactic(auto, unfolding(crate::specs::Spelling::spelled_const_within))]
+fn spelled_const_within(depth: u32, ty: &Ty, value: &Const) -> bool
+    ensures { result ≡ spelled_const_within depth ty.now value.now }
+{
+    match (ty, value) {
+        (Ty::Int(width), _) => spelled_int(*width, value),
+        (Ty::Ptr, _) => spelled_pointer_within(32, value),
+        (_, Const::Zero) => true,
+        (Ty::Array(_, _), Const::Array(items)) => {
+            depth != 0 && spelled_items_within(depth - 1, items.as_slice())
+        }
+        (Ty::Struct(_), Const::Struct(items)) => {
+            depth != 0 && spelled_items_within(depth - 1, items.as_slice())
+        }
+        _ => false,
+    }
+}
+
+#[cycle(constants)]
+fn spelled_item(depth: u32, item: &TypedConst) -> bool
+    ensures { result ≡ spelled_item (spelled_const_within depth) item.now }
+{
+    spelled_type_within(32, &item.ty) && spelled_const_within(depth, &item.ty, &item.value)
+}
+
+#[cycle(constants)]
+fn spelled_items_within(depth: u32, items: &[TypedConst]) -> bool
+    ensures { result ≡ list_all (spelled_item (spelled_const_within depth)) items.now }
+{
+    'items: for item in items {
+        if !spelled_item(depth, item) {
+            return false;
+        }
+    }
+    true
+}
+
+// ---- operands
+
+fn spelled_scalar_const(ty: Scalar, value: &Const) -> bool
+    ensures { result ≡ spelled_scalar_const ty value.now }
+{
+    match ty {
+        Scalar::Int(width) => spelled_int(width, value),
+        Scalar::Ptr => spelled_pointer_within(32, value),
+    }
+}
+
+fn spelled_operand(ty: Scalar, operand: &Operand) -> bool
+    ensures { result ≡ spelled_operand ty operand.now }
+{
+    match operand {
+        Operand::Reg(name) => is_name(name.as_slice()),
+        Operand::Fixed(value) => spelled_scalar_const(ty, value),
+    }
+}
+
+fn spelled_arg(arg: &Arg) -> bool
+    ensures { result ≡ spelled_arg arg.now }
+{
+    spelled_operand(arg.ty, &arg.value)
+}
+
+fn is_int_type(ty: Scalar) -> bool
+    ensures { result ≡ is_int_type ty }
+{
+    match ty {
+        Scalar::Int(_) => true,
+        Scalar::Ptr => false,
+    }
+}
+
+fn spelled_index(arg: &Arg) -> bool
+    ensures { result ≡ spelled_index arg.now }
+{
+    is_int_type(arg.ty) && spelled_operand(arg.ty, &arg.value)
+}
+
+// ---- instructions
+
+/// Whether `nuw` and `nsw` may stand after the operation.
+fn may_wrap(op: BinaryOp) -> bool
+    ensures { result ≡ may_wrap op }
+{
+    match op {
+        BinaryOp::Add | BinaryOp::Sub | BinaryOp::Mul | BinaryOp::Shl => true,
+        _ => false,
+    }
+}
+
+/// Whether `exact` may stand after the operation.
+fn may_be_exact(op: BinaryOp) -> bool
+    ensures { result ≡ may_be_exact op }
+{
+    match op {
+        BinaryOp::Udiv | BinaryOp::Sdiv | BinaryOp::Lshr | BinaryOp::Ashr => true,
+        _ => false,
+    }
+}
+
+fn spelled_flags(op: BinaryOp, flags: Flags) -> bool
+    ensures { result ≡ spelled_flags op flags }
+{
+    (may_wrap(op) || !(flags.nuw || flags.nsw)) && (may_be_exact(op) || !flags.exact)
+}
+
+fn spelled_cast(op: CastOp, from: Scalar, to: Scalar) -> bool
+    ensures { result ≡ spelled_cast op from to }
+{
+    match op {
+        CastOp::Zext | CastOp::Sext | CastOp::Trunc => is_int_type(from) && is_int_type(to),
+        CastOp::Ptrtoint => !is_int_type(from) && is_int_type(to),
+        CastOp::Inttoptr => is_int_type(from) && !is_int_type(to),
+    }
+}
+
+fn spelled_result(dest: &Option<Name>) -> bool
+    ensures { result ≡ spelled_result dest.now }
+{
+    match dest {
+        Some(name) => is_name(name.as_slice()),
+        None => true,
+    }
+}
+
+fn spelled_indices(indices: &[Arg]) -> bool
+    ensures { result ≡ list_all spelled_index indices.now }
+{
+    indices.iter().all(|index| spelled_index(index))
+}
+
+fn spelled_args(args: &[Arg]) -> bool
+    ensures { result ≡ list_all spelled_arg args.now }
+{
+    args.iter().all(|arg| spelled_arg(arg))
+}
+
+/// Whether the instruction is one on memory or a call, and meets the rules.
+fn spelled_memory_instr(instr: &Instr) -> bool
+    ensures { result ≡ spelled_memory_instr instr.now }
+{
+    match instr {
+        Instr::Alloca { dest, ty, align } => {
+            is_name(dest.as_slice()) && spelled_type_within(32, ty) && spelled_align(align)
+        }
+        Instr::Load {
+            dest,
+            addr,
+            align,
+            ..
+        } => {
+            is_name(dest.as_slice()) && spelled_operand(Scalar::Ptr, addr) && spelled_align(align)
+        }
+        Instr::Store {
+            ty,
+            value,
+            addr,
+            align,
+        } => {
+            spelled_operand(*ty, value)
+                && spelled_operand(Scalar::Ptr, addr)
+                && spelled_align(align)
+        }
+        Instr::Gep {
+            dest,
+            ty,
+            base,
+            indices,
+            ..
+        } => {
+            is_name(dest.as_slice())
+                && spelled_type_within(32, ty)
+                && spelled_operand(Scalar::Ptr, base)
+                && not_empty(indices.as_slice())
+                && spelled_indices(indices.as_slice())
+        }
+        Instr::Call {
+            dest,
+            callee,
+            args,
+            ..
+        } => { spelled_result(dest) && is_name(callee.as_slice()) && spelled_args(args.as_slice()) }
+        _ => false,
+    }
+}
+
+fn spelled_operands(ty: Scalar, a: &Operand, b: &Operand) -> bool
+    ensures { result ≡ (spelled_operand ty a.now && spelled_operand ty b.now) }
+{
+    spelled_operand(ty, a) && spelled_operand(ty, b)
+}
+
+fn spelled_instr(instr: &Instr) -> bool
+    ensures { result ≡ spelled_instr instr.now }
+{
+    match instr {
+        Instr::Binary {
+            dest,
+            op,
+            flags,
+            width,
+            a,
+            b,
+        } => {
+            is_name(dest.as_slice())
+                && spelled_flags(*op, *flags)
+                && spelled_operands(Scalar::Int(*width), a, b)
+        }
+        Instr::Compare { dest, ty, a, b, .. } => {
+            is_name(dest.as_slice()) && spelled_operands(*ty, a, b)
+        }
+        Instr::Select {
+            dest,
+            cond,
+            ty,
+            a,
+            b,
+        } => {
+            is_name(dest.as_slice())
+                && spelled_operand(Scalar::Int(Width::W1), cond)
+                && spelled_operands(*ty, a, b)
+        }
+        Instr::Cast {
+            dest,
+            op,
+            from,
+            a,
+            to,
+        } => {
+            is_name(dest.as_slice()) && spelled_cast(*op, *from, *to) && spelled_operand(*from, a)
+        }
+        _ => spelled_memory_instr(instr),
+    }
+}
+
+// ---- blocks
+
+fn spelled_edge(ty: Scalar, edge: &Edge) -> bool
+    ensures { result ≡ spelled_edge ty edge.now }
+{
+    spelled_operand(ty, &edge.value) && is_name(edge.label.as_slice())
+}
+
+fn spelled_edges(ty: Scalar, edges: &[Edge]) -> bool
+    ensures { result ≡ list_all (spelled_edge ty) edges.now }
+{
+    edges.iter().all(|edge| spelled_edge(ty, edge))
+}
+
+fn spelled_phi(phi: &Phi) -> bool
+    ensures { result ≡ spelled_phi phi.now }
+{
+    is_name(phi.dest.as_slice())
+        && not_empty(phi.edges.as_slice())
+        && spelled_edges(phi.ty, phi.edges.as_slice())
+}
+
+fn spelled_phis(phis: &[Phi]) -> bool
+    ensures { result ≡ list_all spelled_phi phis.now }
+{
+    phis.iter().all(|phi| spelled_phi(phi))
+}
+
+fn spelled_body(body: &[Instr]) -> bool
+    ensures { result ≡ list_all spelled_instr body.now }
+{
+    body.iter().all(|instr| spelled_instr(instr))
+}
+
+fn spelled_case(width: Width, case: &Case) -> bool
+    ensures { result ≡ spelled_case width case.now }
+{
+    of_width(width, case.value) && is_name(case.label.as_slice())
+}
+
+fn spelled_cases(width: Width, cases: &[Case]) -> bool
+    ensures { result ≡ list_all (spelled_case width) cases.now }
+{
+    cases.iter().all(|case| spelled_case(width, case))
+}
+
+fn spelled_end(end: &End) -> bool
+    ensures { result ≡ spelled_end end.now }
+{
+    match end {
+        End::Br { label } => is_name(label.as_slice()),
+        End::CondBr { cond, yes, no } => {
+            spelled_operand(Scalar::Int(Width::W1), cond)
+                && is_name(yes.as_slice())
+                && is_name(no.as_slice())
+        }
+        End::Switch {
+            width,
+            value,
+            other,
+            cases,
+        } => {
+            spelled_operand(Scalar::Int(*width), value)
+                && is_name(other.as_slice())
+                && spelled_cases(*width, cases.as_slice())
+        }
+        End::Ret(Some(arg)) => spelled_arg(arg),
+        End::Ret(None) | End::Unreachable => true,
+    }
+}
+
+fn spelled_block(block: &Block) -> bool
+    ensures { result ≡ spelled_block block.now }
+{
+    is_name(block.label.as_slice())
+        && spelled_phis(block.phis.as_slice())
+        && spelled_body(block.body.as_slice())
+        && spelled_end(&block.end)
+}
+
+fn spelled_blocks(blocks: &[Block]) -> bool
+    ensures { result ≡ list_all spelled_block blocks.now }
+{
+    blocks.iter().all(|block| spelled_block(block))
+}
+
+// ---- programs
+
+fn spelled_global(global: &GlobalVar) -> bool
+    ensures { result ≡ spelled_global global.now }
+{
+    is_name(global.name.as_slice())
+        && spelled_type_within(32, &global.ty)
+        && spelled_const_within(32, &global.ty, &global.init)
+        && spelled_align(&global.align)
+}
+
+fn spelled_globals(globals: &[GlobalVar]) -> bool
+    ensures { result ≡ list_all spelled_global globals.now }
+{
+    globals.iter().all(|global| spelled_global(global))
+}
+
+fn spelled_externs(externs: &[Extern]) -> bool
+    ensures { result ≡ list_all spelled_extern externs.now }
+{
+    externs.iter().all(|item| is_name(item.name.as_slice()))
+}
+
+fn spelled_params(params: &[Param]) -> bool
+    ensures { result ≡ list_all spelled_param params.now }
+{
+    params.iter().all(|param| is_name(param.name.as_slice()))
+}
+
+fn spelled_function(function: &Function) -> bool
+    ensures { result ≡ spelled_function function.now }
+{
+    is_name(function.name.as_slice())
+        && spelled_params(function.params.as_slice())
+        && not_empty(function.blocks.as_slice())
+        && spelled_blocks(function.blocks.as_slice())
+}
+
+fn spelled_functions(functions: &[Function]) -> bool
+    ensures { result ≡ list_all spelled_function functions.now }
+{
+    functions.iter().all(|function| spelled_function(function))
+}
+
+fn meets_rules(program: &Program) -> bool
+    ensures { result ≡ spelled_program program.now }
+{
+    spelled_globals(program.globals.as_slice())
+        && spelled_externs(program.externs.as_slice())
+        && spelled_functions(program.functions.as_slice())
+}
+
+/// Whether the program is the one that its canonical text reads as, which is so of every program that some text reads as.
+///
+/// It takes no memory, and time linear in the program. Recursion is bounded by the limits of nesting.
+pub fn spelled(program: &Program) -> bool
+    // The rules on the tree alone decide it.
+    ensures rules { result ≡ spelled_program program.now }
+    ensures read_back { IsTrue result ↔ IsSpelled program.now }
+    // Every program that some text reads as is spelled.
+    ensures only { (text : List ℕ) → Reads text program.now → IsTrue result }
+{
+    meets_rules(program)
+}

@@ -11,3 +11,4 @@ pub mod CalleeLemmas
 pub mod PairLemmas
 pub mod ArrivalLemmas
 pub mod CarriedLemmas
+pub mod NumberLemmas

@@ -162,7 +162,7 @@ number_steps : (b : Bool) (at len : ℕ) → cond (nat_lt (cond (not b) (1 + at)
 number_steps true at len = let e : nat_lt 0 (suc len) ≡ true = grind (arith, nat_tests) in rw e refl
 number_steps false at len = let e : nat_lt (1 + at) (suc len) ≡ nat_lt at len = grind (arith, nat_tests) in rw e (place_shifts (nat_lt at len) at)
 
-number_of-cons : (n : List ℕ) (ns : List (List ℕ)) (name : List ℕ) → number_of (n ∷ ns) name ≡ (if bytes_eq name n then Some 0 else option_map (λ k. suc k) (number_of ns name))
+pub number_of-cons : (n : List ℕ) (ns : List (List ℕ)) (name : List ℕ) → number_of (n ∷ ns) name ≡ (if bytes_eq name n then Some 0 else option_map (λ k. suc k) (number_of ns name))
 number_of-cons n ns name = number_steps (bytes_eq name n) (position_or_len (bytes_eq name) ns) (length ns)
 
 -- a function with the signature, at the number of the name

@@ -3,12 +3,12 @@
 
 mod addresses;
 mod callees;
+mod checked;
 mod constants;
 mod edges;
 mod ends;
 mod externs;
 mod fault;
-mod given;
 mod globals;
 mod inner;
 mod instrs;
@@ -27,4 +27,5 @@ mod targets;
 mod uses;
 mod whole;
 
+pub use checked::Checked;
 pub use fault::{Place, TypeFault, TypeRefusal};

@@ -1,4 +1,5 @@
 pub mod Addresses
+pub mod AddressLaws
 pub mod Answers
 pub mod Arrivals
 pub mod Carried
@@ -12,6 +13,7 @@ pub mod Paths
 pub mod Places
 pub mod Registers
 pub mod Numbering
+pub mod Checks
 pub mod Given
 pub mod GivenLaws
 pub mod Seen

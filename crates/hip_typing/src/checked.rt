@@ -1,9 +1,12 @@
-ghost use Rattle.std.specs.Prelude.{◌≡◌};
+ghost use Rattle.std.specs.Prelude.{◌≡◌, ◌<◌, length};
+ghost use Rattle.hip_typing.specs.Addresses as spec;
+ghost use Rattle.hip_typing.specs.Addresses.{IsBase};
 ghost use Rattle.hip_typing.specs.Given.{CallsAgree, OperandsAgree, LabelsExist, PhisAgree, HasMain};
-ghost use Rattle.hip_typing.specs.Names as spec;
+ghost use Rattle.hip_typing.specs.Names as names;
 ghost use Rattle.hip_typing.specs.Numbering.{function_names, function_number};
 ghost use Rattle.hip_typing.specs.Sound.{IsSound};
 
+use crate::addresses::{address, region_size};
 use hip_ir::{Function, Program};
 use std::marker::Model;
 
@@ -50,6 +53,23 @@ impl Checked {
         program
     }
 
+    /// How many bytes the region has: those of the persistent globals, rounded up to whole cache lines of 64 bytes.
+    pub fn region_size(&self) -> u64
+        ensures { result ≡ spec.region_size self.now }
+    {
+        region_size(&self.program)
+    }
+
+    /// The address of the global of that number, where the region begins at a base. It takes time linear in the number
+    /// of globals.
+    pub fn address(&self, base: u64, global: usize) -> u64
+        requires base { IsBase base }
+        requires there { global < length self.now.globals }
+        ensures { result ≡ spec.address self.now base global }
+    {
+        address(&self.program, base, global)
+    }
+
     /// The number of the function of that name, if there is one. It takes time linear in the number of functions.
     pub fn function_number(&self, name: &[u8]) -> Option<usize>
         ensures { result ≡ function_number self.now name.now }
@@ -59,7 +79,7 @@ impl Checked {
 }
 
 fn number_of(functions: &[Function], name: &[u8]) -> Option<usize>
-    ensures { result ≡ spec.number_of (function_names functions.now) name.now }
+    ensures { result ≡ names.number_of (function_names functions.now) name.now }
 {
     'each: for number in 0..functions.len() {
         if functions[number].name.as_slice() == name {

@@ -17,6 +17,7 @@ mod names;
 mod operands;
 mod places;
 mod predecessors;
+mod refusal;
 mod refused;
 mod registers;
 mod rules;

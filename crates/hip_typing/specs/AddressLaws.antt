@@ -1,19 +1,19 @@
 -- Persistent globals lie in the same order and at the same distances from each base.
-use Rattle.std.specs.Prelude.{ℕ, zero, suc, ◌+◌, ◌-◌, ◌*◌, ◌/◌, ◌%◌, ◌==◌, ◌≡◌, ◌<◌, ◌≤◌, ◌&&◌, ◌⊎◌, not, max, Bool, true, false, List, [], ◌∷◌, length, get_or, Option, Some, None, if◌then◌else◌}
+use Rattle.std.specs.Prelude.{ℕ, zero, suc, ◌+◌, ◌-◌, ◌*◌, ◌/◌, ◌%◌, ◌==◌, ◌≡◌, ◌&&◌, ◌⊎◌, not, max, Bool, true, false, List, [], ◌∷◌, Option, Some, None, if◌then◌else◌}
 use Rattle.std.specs.Int.{next_multiple_of}
 use Rattle.std.specs.List.{list_all}
-use Rattle.std.proofs.Common.{refl, sym, ap, subst, ◌∙◌, inl, inr, arith}
+use Rattle.std.proofs.Common.{refl, ap, ◌∙◌, inl, inr, arith}
 use Rattle.std.proofs.Math.Nat.{add-mul-mod_self_right, mod-add-div'}
 use Rattle.std.proofs.lemmas.Bool.{eqb-true}
 use Rattle.hip_tokens.specs.Longest.{is_name}
-use Rattle.hip_types.specs.Layout.{align_of, size_of, shape}
+use Rattle.hip_types.specs.Layout.{align_of, size_of}
 use Rattle.hip_types.specs.LayoutLaws.{IsAlignment, align_of-alignment, times_multiple}
 use Rattle.hip_ir.specs.declared.program.GlobalVar.{GlobalVar}
 use Rattle.hip_ir.specs.declared.program.Program.{Program}
 use Rattle.hip_ir.specs.Reading.{IsSpelled}
-use Rattle.hip_ir.specs.Spelling.{spelled_align, spelled_type, spelled_const, spelled_global, spelled_program}
+use Rattle.hip_ir.specs.Spelling.{spelled_align, spelled_type, spelled_const, spelled_global}
 use Rattle.hip_ir.specs.SpellingExact.{spelled_exact}
-use Rattle.hip_typing.specs.Addresses.{IsBase, same, global_align, global_start, start_of, end_of}
+use Rattle.hip_typing.specs.Addresses.{same, global_align, global_start, start_of, end_of}
 
 both_hold : (a b : Bool) → (a && b) ≡ true → (a ≡ true) × (b ≡ true)
 both_hold true b e = (refl, e)

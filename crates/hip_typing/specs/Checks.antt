@@ -1,11 +1,10 @@
 -- What the check of a program answers.
-use Rattle.std.specs.Prelude.{ℕ, ◌≡◌, ◌<◌, ◌++◌, List, [], ◌∷◌, length, get_or, All, Option, Some, None, slice_get, Result, Ok, Err}
-use Rattle.std.proofs.Common.{refl, sym, ap, subst, ◌∙◌, arith, length-append}
+use Rattle.std.specs.Prelude.{ℕ, ◌≡◌, ◌<◌, ◌++◌, List, [], ◌∷◌, length, get_or, All, Some, None, slice_get, Result, Ok, Err}
+use Rattle.std.proofs.Common.{refl, subst, arith, length-append}
 use Rattle.hip_ir.specs.declared.program.Function.{Function}
 use Rattle.hip_ir.specs.declared.program.Program.{Program}
 use Rattle.hip_ir.specs.Reading.{IsSpelled}
-use Rattle.hip_typing.specs.Check.{Check}
-use Rattle.hip_typing.specs.Sound.{IsSound, IsFirstFault, IsFirstUnassigned, RegisterUse, UseIsAssigned, AllAssigned, register_uses, rules_check}
+use Rattle.hip_typing.specs.Sound.{IsSound, IsFirstFault, IsFirstUnassigned, RegisterUse, UseIsAssigned, AllAssigned, rules_check}
 use Rattle.hip_typing.specs.SoundLaws.{rules-exact}
 use Rattle.hip_typing.specs.declared.fault.Fault.{Fault}
 use Rattle.hip_typing.specs.declared.fault.Fault.TheVariants as breaks

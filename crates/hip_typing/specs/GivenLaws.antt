@@ -1,6 +1,6 @@
 -- What holds in a sound program follows from its rules.
-use Rattle.std.specs.Prelude.{ℕ, zero, suc, ◌+◌, ◌<◌, ◌≡◌, ◌&&◌, ◌||◌, ◌⊎◌, Bool, true, false, List, [], ◌∷◌, map, length, get_or, All, Option, Some, None, is_some, slice_get, codes, IsTrue, option_map, cond, not, nat_lt, if◌then◌else◌}
-use Rattle.std.specs.List.{list_all, position_or_len}
+use Rattle.std.specs.Prelude.{ℕ, zero, suc, ◌+◌, ◌≡◌, ◌&&◌, ◌⊎◌, Bool, true, false, List, [], ◌∷◌, map, length, get_or, All, Option, Some, None, slice_get, codes, option_map, cond, not, nat_lt, if◌then◌else◌}
+use Rattle.std.specs.List.{position_or_len}
 use Rattle.std.specs.Cmp.{both_ways}
 use Rattle.std.specs.Str.{bytes_eq}
 use Rattle.std.proofs.Common.{refl, sym, ap, subst, ◌∙◌, inl, inr, arith}
@@ -11,9 +11,7 @@ use Rattle.hip_types.specs.declared.number.Scalar.{Scalar}
 use Rattle.hip_types.specs.declared.number.Scalar.TheVariants as scalars
 use Rattle.hip_types.specs.declared.number.Width.TheVariants.{W1, W8, W16, W32, W64}
 use Rattle.hip_ir.specs.declared.block.Block.{Block}
-use Rattle.hip_ir.specs.declared.block.Phi.{Phi}
 use Rattle.hip_ir.specs.declared.instr.Arg.{Arg}
-use Rattle.hip_ir.specs.declared.instr.Instr.{Instr}
 use Rattle.hip_ir.specs.declared.instr.Instr.TheVariants.{Call}
 use Rattle.hip_ir.specs.declared.instr.Operand.{Operand}
 use Rattle.hip_ir.specs.declared.instr.Operand.TheVariants.{Reg, Fixed}
@@ -24,10 +22,10 @@ use Rattle.hip_ir.specs.declared.program.Program.{Program}
 use Rattle.hip_typing.specs.Check.{Check, each_from, each}
 use Rattle.hip_typing.specs.CheckLaws.{among-sound, among-whole}
 use Rattle.hip_typing.specs.Externs.{Signature, known_signature}
-use Rattle.hip_typing.specs.Given.{IsBlockAt, CallsFunction, CallsExtern, CallsAgree, operand_is_typed, IsTyped, IsTypedBlock, OperandsAgree, HasBlock, LabelsExist, PhisAgree, HasMain}
+use Rattle.hip_typing.specs.Given.{IsBlockAt, CallsFunction, CallsExtern, CallsAgree, operand_is_typed, IsTyped, OperandsAgree, HasBlock, LabelsExist, PhisAgree, HasMain}
 use Rattle.hip_typing.specs.Names.{IsAmong, is_among, number_of}
-use Rattle.hip_typing.specs.Numbering.{function_names, function_number}
-use Rattle.hip_typing.specs.Places.{Scope, scope_of, labels, are_among, callee_of, callee_known, extern_of, function_of, first_of, same_result, signature_agrees, instr_agrees, register_agrees, use_agrees, uses_agree, uses_known, has_type, edge_labels, edges_agree, repeats_agree, predecessors, is_predecessor, instr_check, end_check, phi_check}
+use Rattle.hip_typing.specs.Numbering.{function_names}
+use Rattle.hip_typing.specs.Places.{scope_of, are_among, callee_of, extern_of, function_of, first_of, same_result, signature_agrees, use_agrees, uses_agree, has_type, edge_labels, predecessors, is_predecessor}
 use Rattle.hip_typing.specs.Registers.{Register, Use, find_register, registers_of, instr_uses, end_uses, end_labels, phi_uses}
 use Rattle.hip_typing.specs.Sound as sound
 use Rattle.hip_typing.specs.Sound.{phi_at, instr_at, block_check, function_check, places_check, externs_check, main_check, is_of, is_main, is_i32, no_params, has_main, declared}

@@ -109,9 +109,9 @@ fn start_of(globals: &[GlobalVar], persistent: bool, start: u64, number: usize) 
 {
     let mut at = start;
     'each: for index in 0..number {
-        let global = &globals[index];
-        if global.persistent == persistent {
-            at = match end_after(at, global) {
+        let earlier = &globals[index];
+        if earlier.persistent == persistent {
+            at = match end_after(at, earlier) {
                 Some(end) => end,
                 None => unreachable!(),
             };

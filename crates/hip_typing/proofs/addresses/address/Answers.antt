@@ -1,9 +1,9 @@
-use Rattle.std.proofs.Common.{◌≡◌, ◌+◌, ◌<◌, ◌≤◌, ◌^◌, true, false, length, ap, arith, sym, subst, ◌∙◌, ℕ, List, Bool}
+use Rattle.std.proofs.Common.{◌≡◌, ◌+◌, ◌<◌, ◌≤◌, true, false, length, ap, arith, sym, subst, ◌∙◌, List}
 use Rattle.std.specs.Prelude.{if◌then◌else◌}
 use Rattle.hip_ir.specs.declared.program.GlobalVar.{GlobalVar}
-use Rattle.hip_typing.specs.Addresses.{start_of, end_of, is_persistent, address, volatile_start}
+use Rattle.hip_typing.specs.Addresses.{start_of, end_of, is_persistent, volatile_start}
 use Rattle.hip_typing.specs.AddressLaws.{spelled-divide, start_of-from}
-use Rattle.hip_typing.specs.SoundLaws.{globals-fit, persistent-end, volatile-end}
+use Rattle.hip_typing.specs.SoundLaws.{globals-fit, persistent-end}
 use Rattle.hip_typing.proofs.AddressLemmas.{is_persistent-at, start_of-le}
 use Rattle.hip_typing.proofs.addresses.address.Goals as goal
 

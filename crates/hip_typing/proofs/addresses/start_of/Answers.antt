@@ -1,14 +1,13 @@
-use Rattle.std.proofs.Common.{◌≡◌, ◌+◌, ◌<◌, ◌≤◌, ◌^◌, drop, length, ap, arith, sym, subst, ◌∙◌, ℕ}
+use Rattle.std.proofs.Common.{◌≡◌, ◌<◌, drop, length, ap, arith, sym, subst, ◌∙◌, ℕ}
 use Rattle.std.specs.Int.{next_multiple_of}
-use Rattle.hip_types.specs.Layout.{size_of}
-use Rattle.hip_typing.specs.Addresses.{end_of, global_start, is_persistent}
+use Rattle.hip_typing.specs.Addresses.{end_of, global_start}
 use Rattle.hip_typing.proofs.AddressLemmas.{end_of-past, is_persistent-at, beq-same}
 use Rattle.hip_typing.proofs.addresses.start_of.Goals as goal
 
 pub unreachable-requires : goal.unreachable-requires
 unreachable-requires c =
     let within : c.each.index < length c.args.globals.now = omega (arith, c.each-test.true, c.requires.there) in
-    let past = end_of-past c.args.persistent c.each.at c.args.globals.now c.each.index c.index-globals-index.result within c.index-globals-index.is c.if-global-persistent.true in
+    let past = end_of-past c.args.persistent c.each.at c.args.globals.now c.each.index c.index-globals-index.result within c.index-globals-index.is c.if-earlier-persistent.true in
     c.in-None.ensures (omega (arith, past, c.each.invariant.end, c.requires.end))
 
 pub unreachable-requires-in-None-checked_next_multiple_of : goal.unreachable-requires-in-None-checked_next_multiple_of

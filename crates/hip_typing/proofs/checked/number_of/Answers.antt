@@ -1,4 +1,4 @@
-use Rattle.std.proofs.Common.{◌≡◌, sym, subst, ap, ◌∙◌}
+use Rattle.std.proofs.Common.{sym, ap, ◌∙◌}
 use Rattle.std.specs.Str.{bytes_eq}
 use Rattle.hip_typing.proofs.NumberLemmas.{number_here, number_later}
 use Rattle.hip_typing.proofs.checked.number_of.Goals as goal

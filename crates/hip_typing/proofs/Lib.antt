@@ -8,3 +8,8 @@ pub mod AddressLemmas
 pub mod TableLemmas
 pub mod RegisterLemmas
 pub mod CalleeLemmas
+pub mod InnerLemmas
+pub mod EntryLemmas
+pub mod AssignedLemmas
+pub mod UseLists
+pub mod DifferLemmas

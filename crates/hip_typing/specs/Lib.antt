@@ -10,6 +10,8 @@ pub mod Paths
 pub mod Places
 pub mod Registers
 pub mod Seen
+pub mod Inner
+pub mod AssignedSeen
 pub mod Sound
 pub mod SoundLaws
 pub mod TypeLaws

@@ -2,12 +2,16 @@
 #![tactic(auto)]
 
 mod addresses;
+mod assigned;
+mod assigned_functions;
 mod callees;
 mod constants;
 mod externs;
 mod fault;
 mod globals;
+mod graph;
 mod inner;
+mod inner_table;
 mod instrs;
 mod named;
 mod names;

@@ -12,3 +12,8 @@ pub mod PairLemmas
 pub mod ArrivalLemmas
 pub mod CarriedLemmas
 pub mod NumberLemmas
+pub mod InnerLemmas
+pub mod EntryLemmas
+pub mod AssignedLemmas
+pub mod UseLists
+pub mod DifferLemmas

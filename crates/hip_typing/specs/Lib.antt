@@ -17,6 +17,8 @@ pub mod Checks
 pub mod Given
 pub mod GivenLaws
 pub mod Seen
+pub mod Inner
+pub mod AssignedSeen
 pub mod Sound
 pub mod SoundLaws
 pub mod ConstLaws

@@ -109,7 +109,7 @@ end_labels (Switch width value other cases) = other ∷ map (λ c. c.label) case
 end_labels (Ret arg) = []
 end_labels Unreachable = []
 
-abbrev operand_registers : Operand → List (List ℕ)
+abbrev pub operand_registers : Operand → List (List ℕ)
 operand_registers (Reg name) = name ∷ []
 operand_registers (Fixed value) = []
 

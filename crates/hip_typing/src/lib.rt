@@ -2,6 +2,8 @@
 #![tactic(auto)]
 
 mod addresses;
+mod assigned;
+mod assigned_functions;
 mod callees;
 mod checked;
 mod constants;
@@ -10,7 +12,9 @@ mod ends;
 mod externs;
 mod fault;
 mod globals;
+mod graph;
 mod inner;
+mod inner_table;
 mod instrs;
 mod named;
 mod names;

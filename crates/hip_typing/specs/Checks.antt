@@ -1,10 +1,14 @@
 -- What the check of a program answers.
-use Rattle.std.specs.Prelude.{ℕ, ◌≡◌, ◌<◌, ◌++◌, List, [], ◌∷◌, length, get_or, All, Some, None, slice_get, Result, Ok, Err}
+use Rattle.std.specs.Prelude.{ℕ, ◌≡◌, ◌<◌, ◌++◌, List, [], ◌∷◌, length, get_or, All, Some, None, slice_get, Result, Ok, Err, Bool, true, false, IsTrue, ◌↔◌}
 use Rattle.std.proofs.Common.{refl, subst, arith, length-append}
 use Rattle.hip_ir.specs.declared.program.Function.{Function}
 use Rattle.hip_ir.specs.declared.program.Program.{Program}
 use Rattle.hip_ir.specs.Reading.{IsSpelled}
-use Rattle.hip_typing.specs.Sound.{IsSound, IsFirstFault, IsFirstUnassigned, RegisterUse, UseIsAssigned, AllAssigned, rules_check}
+use Rattle.hip_typing.specs.Answers.{Answers}
+use Rattle.hip_typing.specs.AssignedSeen.{AnswersAssigned}
+use Rattle.hip_typing.specs.declared.assigned.NotAssigned.{NotAssigned}
+use Rattle.hip_typing.specs.declared.assigned.NotAssigned.TheVariants as unassigned
+use Rattle.hip_typing.specs.Sound.{registers_check, IsSound, IsFirstFault, IsFirstUnassigned, RegisterUse, UseIsAssigned, AllAssigned, rules_check}
 use Rattle.hip_typing.specs.SoundLaws.{rules-exact}
 use Rattle.hip_typing.specs.declared.fault.Fault.{Fault}
 use Rattle.hip_typing.specs.declared.fault.Fault.TheVariants as breaks
@@ -30,6 +34,10 @@ fault_of breaks.TooLarge = faults.TooLarge
 abbrev pub refusal_of : Refused → TypeRefusal
 refusal_of (refused.Found f) = record { fault = fault_of f.fault; place = f.place }
 refusal_of refused.NoMemory = record { fault = faults.NoMemory; place = places.Whole }
+
+abbrev pub refusal_on_paths : NotAssigned → TypeRefusal
+refusal_on_paths (unassigned.Use place path) = record { fault = faults.Unassigned path; place = place }
+refusal_on_paths unassigned.NoMemory = record { fault = faults.NoMemory; place = places.Whole }
 
 -- the first fault of a program that is not sound
 pub record IsRefused (P : Program) (refusal : TypeRefusal) : Type 0 where
@@ -98,8 +106,11 @@ refused_for P fault place f = record { unsound = by_fault P fault place f; first
 
 -- ---- the answers of the stages
 
-pub refuses-unspelled : (P : Program) → ¬ IsSpelled P → Refuses P (record { fault = faults.BadShape; place = places.Whole })
-refuses-unspelled P off = refused_for P faults.BadShape places.Whole (off, refl)
+pub refuses-unspelled : (P : Program) (spelled : Bool) → IsTrue spelled ↔ IsSpelled P → spelled ≡ false → Refuses P (record { fault = faults.BadShape; place = places.Whole })
+refuses-unspelled P spelled tells off = refused_for P faults.BadShape places.Whole (λ s. let on : spelled ≡ true = tells.1 s in cc, refl)
+
+pub is_spelled : (P : Program) (spelled : Bool) → IsTrue spelled ↔ IsSpelled P → spelled ≡ true → IsSpelled P
+is_spelled P spelled tells on = tells.0 on
 
 pub refuses-found : (P : Program) (fault : Fault) (place : Place) → IsSpelled P → (rules_check P).found ≡ Some (record { fault = fault; place = place }) → Refuses P (record { fault = fault_of fault; place = place })
 refuses-found P breaks.Duplicate place s e = refused_for P faults.Duplicate place (s, e)
@@ -111,8 +122,19 @@ refuses-found P breaks.BadGlobal place s e = refused_for P faults.BadGlobal plac
 refuses-found P breaks.BadEdge place s e = refused_for P faults.BadEdge place (s, e)
 refuses-found P breaks.TooLarge place s e = refused_for P faults.TooLarge place (s, e)
 
+pub refuses-stopped : (P : Program) (r : Refused) → IsSpelled P → Answers {T = Unit {0}} (Err r) (rules_check P).found → Refuses P (refusal_of r)
+refuses-stopped P (refused.Found f) s e = refuses-found P f.fault f.place s e
+refuses-stopped P refused.NoMemory s e = refl
+
+pub registers-hold : (P : Program) → (rules_check P).found ≡ None → (registers_check P).Holds
+registers-hold P none = ((rules-exact P).sound none).1.1.1.1.1.0
+
 pub refuses-unassigned : (P : Program) (place : Place) (path : List ℕ) → IsSpelled P → (rules_check P).found ≡ None → IsFirstUnassigned P place path → Refuses P (record { fault = faults.Unassigned path; place = place })
 refuses-unassigned P place path s none u = refused_for P (faults.Unassigned path) place (s, none, u)
+
+pub refuses-on_paths : (P : Program) (e : NotAssigned) → IsSpelled P → (rules_check P).found ≡ None → AnswersAssigned {T = Unit {0}} (Err e) P → Refuses P (refusal_on_paths e)
+refuses-on_paths P (unassigned.Use place path) s none u = refuses-unassigned P place path s none u
+refuses-on_paths P unassigned.NoMemory s none u = refl
 
 -- a spelled program that breaks no rule and uses nothing unassigned is sound
 pub sound-is : (P : Program) → IsSpelled P → (rules_check P).found ≡ None → ((f : ℕ) (fn : Function) → slice_get P.functions f ≡ Some fn → AllAssigned fn f) → IsSound P

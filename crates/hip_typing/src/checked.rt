@@ -1,13 +1,19 @@
 ghost use Rattle.std.specs.Prelude.{◌≡◌, ◌<◌, length};
 ghost use Rattle.hip_typing.specs.Addresses as spec;
 ghost use Rattle.hip_typing.specs.Addresses.{IsBase};
+ghost use Rattle.hip_typing.specs.Checks.{Checks};
 ghost use Rattle.hip_typing.specs.Given.{CallsAgree, OperandsAgree, LabelsExist, PhisAgree, HasMain};
 ghost use Rattle.hip_typing.specs.Names as names;
 ghost use Rattle.hip_typing.specs.Numbering.{function_names, function_number};
 ghost use Rattle.hip_typing.specs.Sound.{IsSound};
 
 use crate::addresses::{address, region_size};
-use hip_ir::{Function, Program};
+use crate::assigned_functions::check_assigned;
+use crate::fault::{Place, TypeFault, TypeRefusal};
+use crate::refusal::{refusal_of, refusal_on_paths};
+use crate::rules::check_rules;
+use hip_ir::{Function, Program, spelled};
+use std::alloc::Global;
 use std::marker::Model;
 
 /// A program that is sound.
@@ -75,6 +81,40 @@ impl Checked {
         ensures { result ≡ function_number self.now name.now }
     {
         number_of(self.program.functions.as_slice(), name)
+    }
+}
+
+/// The first rule that the program breaks, at the first place.
+fn find_fault(alloc: Global, program: &Program) -> Result<(), TypeRefusal>
+    ensures { Checks program.now result (λ _. Unit {0}) }
+{
+    if !spelled(program) {
+        return Err(TypeRefusal {
+            fault: TypeFault::BadShape,
+            place: Place::Whole,
+        });
+    }
+    if let Err(refused) = check_rules(alloc, program) {
+        return Err(refusal_of(refused));
+    }
+    match check_assigned(alloc, program) {
+        Ok(()) => Ok(()),
+        Err(refused) => Err(refusal_on_paths(refused)),
+    }
+}
+
+/// The program, where it is sound; it is dropped on a refusal. The refusal is the first rule that the program breaks, at
+/// the first place, in this order: it is one that some text reads as; names of globals, externs and functions differ;
+/// types and initialisers of globals; externs; sizes; `main`; names inside functions; names, types, cases and edges at
+/// each place; each use of a register is assigned on every path. Want of memory is a refusal at the whole program.
+///
+/// The time is little more than linear in the program, and so is the memory that it takes for a while.
+pub fn check(alloc: Global, program: Program) -> Result<Checked, TypeRefusal>
+    ensures { Checks program result (λ checked. checked ≡ program) }
+{
+    match find_fault(alloc, &program) {
+        Ok(()) => Ok(Checked { program }),
+        Err(refusal) => Err(refusal),
     }
 }
 

@@ -32,5 +32,5 @@ mod targets;
 mod uses;
 mod whole;
 
-pub use checked::Checked;
+pub use checked::{Checked, check};
 pub use fault::{Place, TypeFault, TypeRefusal};

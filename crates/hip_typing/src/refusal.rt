@@ -1,6 +1,7 @@
 ghost use Rattle.std.specs.Prelude.{◌≡◌};
-ghost use Rattle.hip_typing.specs.Checks.{fault_of, refusal_of};
+ghost use Rattle.hip_typing.specs.Checks.{fault_of, refusal_of, refusal_on_paths};
 
+use crate::assigned::NotAssigned;
 use crate::fault::{Fault, Place, TypeFault, TypeRefusal};
 use crate::refused::Refused;
 
@@ -29,6 +30,22 @@ pub fn refusal_of(refused: Refused) -> TypeRefusal
             place: finding.place,
         },
         Refused::NoMemory => TypeRefusal {
+            fault: TypeFault::NoMemory,
+            place: Place::Whole,
+        },
+    }
+}
+
+/// The refusal of a program in which a use of a register is not assigned.
+pub fn refusal_on_paths(refused: NotAssigned) -> TypeRefusal
+    ensures { result ≡ refusal_on_paths refused }
+{
+    match refused {
+        NotAssigned::Use { place, path } => TypeRefusal {
+            fault: TypeFault::Unassigned { path },
+            place,
+        },
+        NotAssigned::NoMemory => TypeRefusal {
             fault: TypeFault::NoMemory,
             place: Place::Whole,
         },

@@ -1,6 +1,8 @@
+ghost use Rattle.std.specs.Prelude.{◌≡◌, length};
+
 use crate::tests::repair;
+use hip_ir::{Site, same};
 use hip_parse::parse;
-use hip_types::NoMemory;
 use hip_typing::{Checked, Place, TypeFault, TypeRefusal, check};
 use std::test::Fail;
 
@@ -361,4 +363,128 @@ fn refusal_of(rt: &HostRuntime, text: &str) -> Result<TypeRefusal, Fail> {
         Ok(_checked) => Err(Fail::from("sound")),
         Err(refusal) => Ok(refusal),
     }
+}
+
+#[test]
+fn unassigned_on_one_branch(rt: HostRuntime) -> Result<(), Fail> {
+    let refusal = refusal_of(&rt, ONE_BRANCH)?;
+    let place = Place::Body(Site {
+        function: 0,
+        block: 3,
+        index: 0,
+    });
+    assert_eq!(rt; refusal.place, place);
+    match refusal.fault {
+        TypeFault::Unassigned { path } => assert_eq!(rt; path.as_slice(), [0, 2, 3].as_slice()),
+        _ => assert!(rt; false),
+    }
+    Ok(())
+}
+
+#[test]
+fn uses_on_paths(rt: HostRuntime) -> Result<(), Fail> {
+    let cases = [
+        (
+            "define i32 @f() {\nentry:\n  %a = add i32 %b, 1\n  %b = add i32 %a, 1\n  ret i32 %b\n}\n",
+            "unassigned at function 1 block 0 index 0",
+        ),
+        (
+            "define i32 @f(i1 %n) {\nentry:\n  br i1 %n, label %a, label %b\na:\n  %r = add i32 1, 1\n  br label %b\nb:\n  ret i32 %r\n}\n",
+            "unassigned at function 1 block 2 end",
+        ),
+        // The use in a phi stands at the end of the predecessor.
+        (
+            "define i32 @f(i1 %n) {\nentry:\n  br i1 %n, label %a, label %b\na:\n  %r = add i32 1, 1\n  br label %b\nb:\n  %p = phi i32 [ %r, %a ], [ %r, %entry ]\n  ret i32 %p\n}\n",
+            "unassigned at function 1 block 2 phi 0",
+        ),
+    ];
+    for (function, why) in cases {
+        assert!(rt; is_refused_in(&rt, function, why)?, "{function}");
+    }
+    Ok(())
+}
+
+const SOUND: &str = "@v = global i8 7
+@x = global i8 0, section \".pm\"
+@w = global i64 9
+@y = global i64 0, section \".pm\"
+@z = global i32 0, section \".pm\", align 256
+declare i64 @read_i64()
+define i32 @f(i1 %n) {
+entry:
+  br i1 %n, label %a, label %b
+unreached:
+  %q = add i32 %s, 1
+  br label %b
+a:
+  br label %b
+b:
+  %p = phi i32 [ 1, %a ], [ 0, %entry ], [ %q, %unreached ]
+  %s = add i32 %p, 1
+  ret i32 %s
+}
+define i32 @main() {
+entry:
+  %r = call i32 @f(i1 true)
+  ret i32 %r
+}
+";
+
+/// The program that is read, where it is sound.
+fn checked(rt: &HostRuntime, text: &str) -> Result<Checked, Fail> {
+    let Ok(program) = parse(rt.alloc(), text.as_bytes()) else {
+        return Err(Fail::from("not read"));
+    };
+    match check(rt.alloc(), program) {
+        Ok(checked) => Ok(checked),
+        Err(_refusal) => Err(Fail::from("refused")),
+    }
+}
+
+#[test]
+fn sound_program(rt: HostRuntime) -> Result<(), Fail> {
+    let checked = checked(&rt, SOUND)?;
+    assert_eq!(rt; checked.function_number(b"f"), Some(0));
+    assert_eq!(rt; checked.function_number(b"main"), Some(1));
+    assert_eq!(rt; checked.function_number(b"read_i64"), None);
+    assert_eq!(rt; checked.function_number(b"v"), None);
+    assert_eq!(rt; checked.region_size(), 320);
+    let Ok(program) = parse(rt.alloc(), SOUND.as_bytes()) else {
+        return Err(Fail::from("not read"));
+    };
+    assert!(rt; same(checked.program(), &program));
+    assert!(rt; same(&checked.into_program(), &program));
+    Ok(())
+}
+
+/// The addresses of the five globals, where the region begins at 2^32.
+fn addresses(checked: &Checked) -> [u64; 5]
+    requires { length checked.now.globals ≡ 5 }
+{
+    let base = 4_294_967_296;
+    [
+        checked.address(base, 0),
+        checked.address(base, 1),
+        checked.address(base, 2),
+        checked.address(base, 3),
+        checked.address(base, 4),
+    ]
+}
+
+#[test]
+fn addresses_of_globals(rt: HostRuntime) -> Result<(), Fail> {
+    let checked = checked(&rt, SOUND)?;
+    assert_eq!(rt; checked.program().globals.len(), 5);
+    assert_eq!(rt;
+        addresses(&checked).as_slice(),
+        [
+            65_536,
+            4_294_967_296,
+            65_544,
+            4_294_967_304,
+            4_294_967_552,
+        ]
+        .as_slice()
+    );
+    Ok(())
 }

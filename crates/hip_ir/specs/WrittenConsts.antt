@@ -57,6 +57,7 @@ pub all_pass : {A : Type 0} (xs : List A) → list_all (λ x. true) xs ≡ true
 all_pass [] = refl
 all_pass (x ∷ xs) = all_pass xs
 
+-- `inbounds ` or nothing, and what follows
 pub inbounds_then : {B : Type 0} (f : Bool → Rule Fault B) (d : List ℕ → Bool) (t : List ℕ) (y : B) (inbounds : Bool) → IsTextOf d (f inbounds) t y → IsTextOf d (both (maybe_word (codes "inbounds")).rule f) (inbounds_text inbounds ++ t) y
 unfolding maybe_word
 inbounds_then f d t y true q = then_text f {s = codes "inbounds"} {t = 32 ∷ t} (last_text _ (some_text (word_text _ (codes "inbounds") refl refl)) (nothing_text anything)) (blank_text 32 refl q) (λ rest h. refl)

@@ -37,6 +37,7 @@ fixed_is : (fixed : Bool) (t : List ℕ) {B : Type 0} (f : Bool → Rule Fault B
 fixed_is true t f y q = word_then _ f (codes "constant") refl refl q
 fixed_is false t f y q = word_then _ f (codes "global") refl refl q
 
+-- `".pm"`
 section_name : IsTextOf anything (one a_section) (codes "\".pm\"") tt
 unfolding cut piece_at string_piece
 section_name = token_text _ (Str (codes ".pm")) (λ line rest e. refl) refl
@@ -120,6 +121,7 @@ function_listed : (f : Function) → spelled_function f ≡ true → IsTextOf an
 unfolding item
 function_listed f h = right_text _ (right_text _ (left_text _ (function_is f h)))
 
+-- the items of the canonical text, in its order
 abbrev items_of : Program → List Item
 items_of p = map GlobalItem p.globals ++ (map ExternItem p.externs ++ map FunctionItem p.functions)
 
@@ -131,6 +133,7 @@ items_are p h =
     (joined_texts item.rule (mapped_texts item.rule extern_text ExternItem anything spelled_extern extern_listed (λ e rest. refl) p.externs r.0)
     (mapped_texts item.rule function_text FunctionItem anything spelled_function function_listed (λ f rest. refl) p.functions r.1) (λ rest h. refl)) (λ rest h. refl)
 
+-- each goes to the end of its list
 functions_taken : (gs : List GlobalVar) (es : List Extern) (fs ms : List Function) → folded with_item (record { globals = gs; externs = es; functions = fs }) (map FunctionItem ms) ≡ record { globals = gs; externs = es; functions = fs ++ ms }
 functions_taken gs es fs [] = rw (append-nil fs) refl
 functions_taken gs es fs (m ∷ ms) = rw (← append_assoc fs (m ∷ []) ms) (functions_taken gs es (fs ++ m ∷ []) ms)
@@ -143,7 +146,6 @@ globals_taken : (gs hs : List GlobalVar) (ns : List Extern) (ms : List Function)
 globals_taken gs [] ns ms = rw (append-nil gs) (externs_taken gs [] ns ms)
 globals_taken gs (h ∷ hs) ns ms = rw (← append_assoc gs (h ∷ []) hs) (globals_taken (gs ++ h ∷ []) hs ns ms)
 
--- nothing, where the value is told by an equation
 text_is : (p : Program) → spelled_program p ≡ true → IsTextOf anything text.rule (show p) p
 unfolding text
 text_is p h = subst (IsTextOf anything text.rule (show p)) (globals_taken [] p.globals p.externs p.functions) (last_text _ (items_are p h) (nothing_text anything))

@@ -9,6 +9,7 @@ use Rattle.hip_tokens.specs.Cuts.{cut_blank}
 use Rattle.hip_tokens.specs.Written.{ends_word, at_line, word_cut, label_cut, local_cut, global_cut, digits_cut, minus_cut, mark_cut}
 use Rattle.hip_rules.specs.Rule.{Rule, Verdict, Yes, done, one, both, ◌or◌, many, perhaps, AllDerive}
 
+-- whatever stands behind
 abbrev pub anything : List ℕ → Bool
 anything rest = true
 
@@ -133,7 +134,7 @@ more_text {s = s} {t = t} p q leaves = record {
       (second.0, rw (append_assoc s t rest) (cut first.0 0 (t ++ rest), first.1, second.1));
 }
 
--- what may stand behind a part, may be another
+-- a part may stand behind another
 module _ {F X A : Type 0} (l : Rule F A) (text : X → List ℕ) (value : X → A) (c : List ℕ → Bool) (test : X → Bool) (each : (x : X) → test x ≡ true → IsTextOf c l (text x) (value x)) (leaves : (x : X) (rest : List ℕ) → c (text x ++ rest) ≡ true) where
   texts_leave : (xs : List X) → Leaves c (flat_map text xs) c
   texts_leave [] rest e = e

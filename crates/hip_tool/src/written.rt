@@ -206,6 +206,19 @@ entry:
     Ok(())
 }
 
+/// Whether the program of a text is still spelled when its last global has a name of no bytes. None where no global is read.
+fn is_spelled_without_name(rt: &HostRuntime, text: &str) -> Result<Option<bool>, NoMemory> {
+    let Ok(mut program) = parse(rt.alloc(), text.as_bytes()) else {
+        return Ok(None);
+    };
+    let Some(mut nameless) = program.globals.pop() else {
+        return Ok(None);
+    };
+    nameless.name = Row::new(rt.alloc());
+    program.globals.push(nameless)?;
+    Ok(Some(spelled(&program)))
+}
+
 #[test]
 fn no_name_is_not_spelled(rt: HostRuntime) -> Result<(), Fail> {
     let text = "@x = global i64 0, section \".pm\"
@@ -215,14 +228,6 @@ entry:
   ret i32 0
 }
 ";
-    let Ok(mut program) = parse(rt.alloc(), text.as_bytes()) else {
-        return Err(Fail);
-    };
-    let Some(mut nameless) = program.globals.pop() else {
-        return Err(Fail);
-    };
-    nameless.name = Row::new(rt.alloc());
-    program.globals.push(nameless)?;
-    assert!(rt; !spelled(&program));
+    assert!(rt; is_spelled_without_name(&rt, text)? == Some(false));
     Ok(())
 }

@@ -54,10 +54,12 @@ fn take_program(alloc: Global, program: Program) -> Result<Program, Status>
                 place: Place::Whole,
             }
         }
-        Err(TypeRefusal {
-            fault: TypeFault::NoMemory,
-            ..
-        }) => return Err(Status::NoMemory),
+        Err(
+            TypeRefusal {
+                fault: TypeFault::NoMemory,
+                ..
+            },
+        ) => return Err(Status::NoMemory),
         Err(refusal) => refusal,
     };
     Err(Status::BadProgram {

@@ -12,6 +12,15 @@ entry:
 }
 ";
 
+const CALLEES: &str = "@x = global i64 0
+declare i64 @read_i64()
+declare void @print_i64(i64)
+define void @g(i32 %n) {
+entry:
+  ret void
+}
+";
+
 /// Whether `repair` refuses the program, followed by a `main` that is sound, for this fault at this place.
 fn is_refused(rt: &HostRuntime, program: &str, why: &str) -> Result<bool, Fail> {
     let text = format!(in rt.alloc(); "{program}{MAIN}")?;
@@ -22,7 +31,7 @@ fn is_refused(rt: &HostRuntime, program: &str, why: &str) -> Result<bool, Fail> 
 
 /// Whether a function with this body is refused for this fault at this place in it.
 fn is_refused_in(rt: &HostRuntime, function: &str, why: &str) -> Result<bool, Fail> {
-    let text = format!(in rt.alloc(); "@x = global i64 0\ndeclare i64 @read_i64()\ndeclare void @print_i64(i64)\ndefine void @g(i32 %n) \{\nentry:\n  ret void\n}\n{function}")?;
+    let text = format!(in rt.alloc(); "{CALLEES}{function}")?;
     is_refused(rt, text.as_str(), why)
 }
 
@@ -68,11 +77,11 @@ fn extern_name_as_global(rt: HostRuntime) -> Result<(), Fail> {
 fn globals_and_externs(rt: HostRuntime) -> Result<(), Fail> {
     let cases = [
         (
-            "@x = global [67108865 x i8] zeroinitializer\n",
+            "@x = global [2 x [67108864 x i8]] zeroinitializer\n",
             "too large at global 0",
         ),
         (
-            "@y = global i8 0\n@x = global ptr getelementptr ([67108865 x i8], ptr @x, i64 0)\n",
+            "@y = global i8 0\n@x = global ptr getelementptr ([2 x [67108864 x i8]], ptr @x, i64 0)\n",
             "too large at global 1",
         ),
         ("@x = global [2 x i8] [i8 1]\n", "bad global at global 0"),
@@ -188,15 +197,15 @@ fn names_at_places(rt: HostRuntime) -> Result<(), Fail> {
             "unknown at function 1 block 1 phi 0",
         ),
         (
-            "define void @f() {\nentry:\n  %a = alloca [67108865 x i8]\n  ret void\n}\n",
+            "define void @f() {\nentry:\n  %a = alloca [2 x [67108864 x i8]]\n  ret void\n}\n",
             "too large at function 1 block 0 index 0",
         ),
         (
-            "define void @f() {\nentry:\n  br label %b\nb:\n  %a = phi ptr [ getelementptr ([67108865 x i8], ptr @x, i64 0), %entry ]\n  ret void\n}\n",
+            "define void @f() {\nentry:\n  br label %b\nb:\n  %a = phi ptr [ getelementptr ([2 x [67108864 x i8]], ptr @x, i64 0), %entry ]\n  ret void\n}\n",
             "too large at function 1 block 1 phi 0",
         ),
         (
-            "define ptr @f() {\nentry:\n  ret ptr getelementptr ([67108865 x i8], ptr @x, i64 0)\n}\n",
+            "define ptr @f() {\nentry:\n  ret ptr getelementptr ([2 x [67108864 x i8]], ptr @x, i64 0)\n}\n",
             "too large at function 1 block 0 end",
         ),
     ];
@@ -357,10 +366,10 @@ c:
 /// The refusal of a program that is read.
 fn refusal_of(rt: &HostRuntime, text: &str) -> Result<TypeRefusal, Fail> {
     let Ok(program) = parse(rt.alloc(), text.as_bytes()) else {
-        return Err(Fail::from("not read"));
+        return Err(Fail::new("not read"));
     };
     match check(rt.alloc(), program) {
-        Ok(_checked) => Err(Fail::from("sound")),
+        Ok(_checked) => Err(Fail::new("sound")),
         Err(refusal) => Ok(refusal),
     }
 }
@@ -433,11 +442,11 @@ entry:
 /// The program that is read, where it is sound.
 fn checked(rt: &HostRuntime, text: &str) -> Result<Checked, Fail> {
     let Ok(program) = parse(rt.alloc(), text.as_bytes()) else {
-        return Err(Fail::from("not read"));
+        return Err(Fail::new("not read"));
     };
     match check(rt.alloc(), program) {
         Ok(checked) => Ok(checked),
-        Err(_refusal) => Err(Fail::from("refused")),
+        Err(_refusal) => Err(Fail::new("refused")),
     }
 }
 
@@ -450,7 +459,7 @@ fn sound_program(rt: HostRuntime) -> Result<(), Fail> {
     assert_eq!(rt; checked.function_number(b"v"), None);
     assert_eq!(rt; checked.region_size(), 320);
     let Ok(program) = parse(rt.alloc(), SOUND.as_bytes()) else {
-        return Err(Fail::from("not read"));
+        return Err(Fail::new("not read"));
     };
     assert!(rt; same(checked.program(), &program));
     assert!(rt; same(&checked.into_program(), &program));
@@ -477,14 +486,7 @@ fn addresses_of_globals(rt: HostRuntime) -> Result<(), Fail> {
     assert_eq!(rt; checked.program().globals.len(), 5);
     assert_eq!(rt;
         addresses(&checked).as_slice(),
-        [
-            65_536,
-            4_294_967_296,
-            65_544,
-            4_294_967_304,
-            4_294_967_552,
-        ]
-        .as_slice()
+        [65_536, 4_294_967_296, 65_544, 4_294_967_304, 4_294_967_552,].as_slice()
     );
     Ok(())
 }

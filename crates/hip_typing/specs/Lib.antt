@@ -12,6 +12,9 @@ pub mod Registers
 pub mod Seen
 pub mod Inner
 pub mod AssignedSeen
+pub mod Initial
+pub mod AddressesSeen
+pub mod InitialSeen
 pub mod Sound
 pub mod SoundLaws
 pub mod TypeLaws

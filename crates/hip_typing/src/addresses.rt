@@ -15,13 +15,13 @@ use hip_types::{align, size};
 const LARGEST_REGION: u64 = 67_108_864;
 
 /// Where the first volatile global lies.
-const VOLATILE_START: u64 = 65_536;
+pub const VOLATILE_START: u64 = 65_536;
 
 /// Where the last volatile global may end.
 const VOLATILE_LIMIT: u64 = VOLATILE_START + 16_777_216;
 
 /// The greater of the type's alignment and the one that is written.
-fn alignment(global: &GlobalVar) -> u64
+pub fn alignment(global: &GlobalVar) -> u64
     requires { Fits global.now.ty }
     ensures value { result ≡ global_align global.now }
     ensures some { 0 < result }

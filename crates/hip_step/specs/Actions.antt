@@ -30,7 +30,7 @@ use Rattle.hip_num.specs.declared.arithmetic.NumTrap.{NumTrap}
 use Rattle.hip_num.specs.declared.arithmetic.NumTrap.TheVariants as num_traps
 use Rattle.hip_typing.specs.Addresses.{volatile_end}
 use Rattle.hip_typing.specs.Externs.{call_of}
-use Rattle.hip_typing.specs.InitialBytes.{volatile_bytes}
+use Rattle.hip_typing.specs.Initial.{volatile_bytes}
 use Rattle.hip_typing.specs.declared.externs.ExternCall.{ExternCall}
 use Rattle.hip_typing.specs.declared.externs.ExternCall.TheVariants as calls
 use Rattle.hip_typing.specs.Numbering.{function_number}
@@ -81,7 +81,7 @@ are_valid P I w a n = is_within volatile_start (volatile_end P) a n || (is_withi
 
 -- the memory in a run
 abbrev pub memory_of : Program → Input → World → Memory
-memory_of P I w = record { base = I.base; volatile = volatile_bytes P.globals I.base; region = I.image; writes = w.writes }
+memory_of P I w = record { base = I.base; volatile = volatile_bytes P I.base; region = I.image; writes = w.writes }
 
 -- An access of n bytes is refused by its alignment first, and then by its bytes.
 unfoldable pub accessed : Program → Input → World → ℕ → ℕ → ℕ → Action → Action

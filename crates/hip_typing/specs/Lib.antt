@@ -34,7 +34,6 @@ pub mod UsesSeen
 pub mod UseLaws
 pub mod InstrSeen
 pub mod Values
-pub mod InitialBytes
 pub mod NumberingLaws
 pub mod EndSeen
 pub mod PhiSeen

@@ -21,3 +21,4 @@ pub mod Events
 pub mod Asked
 pub mod Cure
 pub mod Cured
+pub mod CloneFlushed

@@ -124,8 +124,8 @@ module _ (P : Program) (plan : Plan) (skip : Site → Bool) (I : Input) where
     persist = λ up ls ls' flush flush' a n h q. all_fenced (length P.functions) (flushed_lines I flush' a n ls') (all_flushed (length P.functions) I flush' a n ls' (h q));
     store = λ up up' counts counts' s s' a bytes clone flush' n ls ls' region flushes same plain under quiet h q.
         all_fence_if (length P.functions) (has_site plan.fence_after s || has_site plan.hoist s) _
-            (store_kept (length P.functions) (part_of_store counts' s' up' (a - I.base) bytes) a (length bytes) flush' n ls' (has_site plan.flush_after s || (clone && not (skip s))) flushes same
-                (λ e j. plain (no_clone (has_site plan.flush_after s) clone (skip s) (quiet q) e)) (h q));
+        (store_kept (length P.functions) (part_of_store counts' s' up' (a - I.base) bytes) a (length bytes) flush' n ls' (has_site plan.flush_after s || (clone && not (skip s))) flushes same
+        (λ e j. plain (no_clone (has_site plan.flush_after s) clone (skip s) (quiet q) e)) (h q));
     call = λ up l ls ls' h q. h q;
     return = λ up l ls ls' never h q. h q;
     fenced_return = λ up l ls ls' h q. all_fenced (length P.functions) ls' (h q);

@@ -22,3 +22,4 @@ pub mod Asked
 pub mod Cure
 pub mod Cured
 pub mod CloneFlushed
+pub mod Moves

@@ -14,7 +14,7 @@ use Rattle.hip_step.specs.State.{Frame, StorePart, State}
 use Rattle.hip_step.specs.Step.{run}
 use Rattle.hip_step.specs.Validity.{IsValid}
 
-abbrev is_fence : Option ExternCall → Type 0
+abbrev pub is_fence : Option ExternCall → Type 0
 is_fence (Some calls.Sfence) = Unit {0}
 is_fence (Some calls.Mfence) = Unit {0}
 is_fence _ = ⊥
@@ -24,7 +24,7 @@ IsFenceCall (Some (Call dest ret callee args)) = is_fence (call_of callee)
 IsFenceCall _ = ⊥
 
 -- the function of that name is numbered from a number up
-abbrev is_numbered_from : ℕ → Option ℕ → Type 0
+abbrev pub is_numbered_from : ℕ → Option ℕ → Type 0
 is_numbered_from functions None = ⊥
 is_numbered_from functions (Some f) = functions ≤ f
 

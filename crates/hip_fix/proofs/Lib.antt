@@ -23,3 +23,4 @@ pub mod Cure
 pub mod Cured
 pub mod CloneFlushed
 pub mod Moves
+pub mod Under

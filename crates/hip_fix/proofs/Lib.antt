@@ -24,3 +24,4 @@ pub mod Cured
 pub mod CloneFlushed
 pub mod Moves
 pub mod Under
+pub mod FencedCalls

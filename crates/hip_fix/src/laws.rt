@@ -9,6 +9,7 @@ ghost use Rattle.hip_step.specs.declared.input.Input.{Input};
 ghost use Rattle.hip_step.specs.declared.report.Findings.{Findings};
 ghost use Rattle.hip_fix.specs.Choice.{Contains, plan_for};
 ghost use Rattle.hip_fix.specs.Clean.{IsClean};
+ghost use Rattle.hip_fix.specs.Covered.{IsCovered};
 ghost use Rattle.hip_fix.specs.Harmless.{IsHarmless};
 ghost use Rattle.hip_fix.specs.Quiet.{IsQuiet};
 ghost use Rattle.hip_fix.specs.Repaired.{repaired};
@@ -26,4 +27,10 @@ pub fn repairs_are_clean()
     ensures { (P : Program) → (plan : Plan) → (skip : Site → Bool) → (I : Input) → (found : Findings) →
         IsSound P → IsValid P I → IsQuiet P skip → IsFound P I found → Contains plan (plan_for P found) →
         IsClean (repaired P plan skip) I }
+{}
+
+/// Behind a call of a clone a fence makes all durable that was stored under the call, where the stores that the clones do
+/// not flush never lie in the region.
+pub fn hoisted_calls_are_covered()
+    ensures { (P : Program) → (plan : Plan) → (skip : Site → Bool) → IsSound P → IsQuiet P skip → IsCovered P (repaired P plan skip) }
 {}

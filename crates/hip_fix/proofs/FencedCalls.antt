@@ -23,7 +23,7 @@ use Rattle.hip_step.specs.State.{Registers, Level, Flush, StorePart, Frame, Worl
 use Rattle.hip_step.specs.Step.{perform, carry_out, event_at, counted, deed_at, on_frames, on_ending, step, run}
 use Rattle.hip_step.specs.Validity.{IsValid}
 use Rattle.hip_fix.specs.declared.plan.Plan.{Plan}
-use Rattle.hip_fix.specs.Covered.{is_fence, IsFenceCall, IsBehindClone, IsLastBefore, IsCovered}
+use Rattle.hip_fix.specs.Covered.{is_fence, IsFenceCall, IsBehindClone, IsLastBefore, IsAtClone, IsCovered}
 use Rattle.hip_fix.specs.Harmless.{marked_body, matched}
 use Rattle.hip_fix.specs.Quiet.{IsQuiet}
 use Rattle.hip_fix.specs.Repaired.{Marked, wanted_by, clones_of, repaired, instrs_of, repaired_body}
@@ -35,7 +35,7 @@ use Rattle.hip_fix.proofs.Moves.{instr_here, IsCallOf}
 use Rattle.hip_fix.proofs.Pairs.{Quiet, nothing, fence, Ready, quiet, flush, Tied, tied, Related, related, pending_lines}
 use Rattle.hip_fix.proofs.Sim.{Follows, follows, get_in}
 use Rattle.hip_fix.proofs.Twins.{IsCallable}
-use Rattle.hip_fix.proofs.Under.{SinceClones, since_clones}
+use Rattle.hip_fix.proofs.Under.{SinceClones, last_before, since_call}
 
 -- ---- a fence
 
@@ -200,12 +200,21 @@ module _ (P : Program) (plan : Plan) (skip : Site → Bool) (good : IsCallable P
           let r = pairs n in
           let flushed = flushed_there r.size (run P I (matched P plan skip I n)) s r.pair f behind.others behind.frames at.item at.behind code act in
           let top = full j in
-          let made = since_fenced N j s.lines (since_clones Q I full N calls_clones j n last behind.going top.0 top.1 top.2 behind) in
+          let made = since_fenced N j s.lines (since_call Q I full N calls_clones j n last behind.going top.0 top.1 top.2 behind).made in
           let line = line_at N s.lines m l flushed (sym (ap (λ ls. slice_get ls m) lines) ∙ e) in
           let big = made p (line.parts p (get_in l.parts k p h)) since in
           let below = flushed_at N l.flushed 0 k l.parts p line.flushed.parts h big in
           let durable = line.durable in
           omega arith
 
+      call_found : (n : ℕ) → IsBehindClone Q N (run Q I n) → (j : ℕ) × IsLastBefore Q I j n × IsAtClone Q N (run Q I j)
+      call_found n behind =
+          let r = last_before Q I full N calls_clones n behind in
+          let top = full r.0 in
+          (r.0, r.1, record { frame = top.0; others = top.1; frames = top.2; call = (since_call Q I full N calls_clones r.0 n r.1 behind.going top.0 top.1 top.2 behind).call })
+
 pub covered : (P : Program) (plan : Plan) (skip : Site → Bool) → IsSound P → IsQuiet P skip → IsCovered P (repaired P plan skip)
-covered P plan skip sound still I valid j n behind last m l e k p h since = covered_run P plan skip (sound_callable P sound) I still valid j n behind last m l e k p h since
+covered P plan skip sound still = record {
+  call = λ I valid. call_found P plan skip (sound_callable P sound) I still valid;
+  durable = λ I valid. covered_run P plan skip (sound_callable P sound) I still valid;
+}

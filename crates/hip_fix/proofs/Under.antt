@@ -1,5 +1,6 @@
 -- From the call of a clone to the fence behind it: what was stored since then was stored by clones.
-use Rattle.std.proofs.Common.{◌≡◌, ◌≢◌, ◌⊎◌, inl, inr, ⊎_elim, ℕ, zero, suc, ◌+◌, ◌-◌, ◌<◌, ◌≤◌, List, [], ◌∷◌, ◌++◌, length, Option, Some, None, slice_get, refl, sym, ap, ap₂, ◌∙◌, subst, arith, length-append}
+use Rattle.std.proofs.Common.{◌≡◌, ◌≢◌, ◌⊎◌, inl, inr, ⊎_elim, ℕ, zero, suc, ◌+◌, ◌-◌, ◌<◌, ◌≤◌, Bool, true, false, nat_lt, nat_eq, List, [], ◌∷◌, ◌++◌, length, Option, Some, None, slice_get, refl, sym, ap, ap₂, ◌∙◌, subst, arith, ltb-true, length-append}
+use Rattle.std.proofs.lemmas.Bool.Decides.{nat_tests}
 use Rattle.hip_types.specs.declared.number.Scalar.{Scalar}
 use Rattle.hip_ir.specs.declared.instr.Arg.{Arg}
 use Rattle.hip_ir.specs.declared.instr.Instr.{Instr}
@@ -143,6 +144,11 @@ module _ (Q : Program) (I : Input) (full : (i : ℕ) → (f : Frame) × (fs : Li
   none_since : (j : ℕ) → (run Q I j).world.ending ≡ None → (x : StorePart) → IsOld (run Q I j).lines x → j ≤ x.step → ⊥
   none_since j e x old le = let lt = (has_history Q I j).made old.part old.there in let s = steps_is j e in let q = old.step in omega arith
 
+  -- the state before stands at the call, and what was stored since then was stored by clones
+  pub record SinceCall (j n : ℕ) (c : Frame) : Type 0 where
+    pub call : IsCallFrom Q N (instr_here Q c)
+    pub made : SinceClones N j (run Q I n).lines
+
   record Inside (j g : ℕ) (c : Frame) (rest : List Frame) (i : ℕ) : Type 0 where
     over : Over N g c rest (run Q I i).frames
     made : N ≤ g → SinceClones N j (run Q I i).lines
@@ -165,6 +171,93 @@ module _ (Q : Program) (I : Input) (full : (i : ℕ) → (f : Frame) × (fs : Li
           go (inl old) = let h = r.made big old.part old.there (let s = old.step in omega arith) in subst (λ y. N ≤ y) (sym (ap (λ s. s.function) old.site)) h
           go (inr new) = subst (λ y. N ≤ y) (sym (ap (λ s. s.function) new.site)) (r.over.clones big).0
 
+  -- ---- as many frames again
+
+  abbrev depth : ℕ → ℕ
+  depth i = length (run Q I i).frames
+
+  module _ (low n : ℕ) (ok : (run Q I n).world.ending ≡ None) (never : (i : ℕ) → low < i → i < n → depth i ≢ depth n) where
+    -- where there are fewer frames, the first state with as many stands at a function's start
+    climb : (m i : ℕ) → i + m ≡ n → low ≤ i → depth i < depth n → AtStart (run Q I n).frames
+    climb zero i e l d = let q : i ≡ n = omega arith in let same = ap depth q in absurd (omega (arith, d, same))
+    climb (suc m) i e l d =
+        let r = full i in
+        let o = run_out i r.0 r.1 (going Q I i n (omega arith) ok) r.2 in
+        let w : depth i ≡ suc (length r.1) = ap length r.2 in
+        ⊎_elim (λ x. climb m (suc i) (omega arith) (omega arith) (omega (arith, x))) (λ x. up m (omega arith) x.0 (omega (arith, x.1)) (λ y. climb m (suc i) (omega arith) (omega arith) y))
+        (moves_less Q r.0 r.1 _ _ o.moves (going Q I (suc i) n (omega arith) ok))
+      where
+        up : (m : ℕ) → suc i + m ≡ n → AtStart (run Q I (suc i)).frames → depth (suc i) ≤ depth n → (depth (suc i) < depth n → AtStart (run Q I n).frames) → AtStart (run Q I n).frames
+        up zero e s le more = let z : suc i ≡ n = omega arith in subst (λ k. AtStart (run Q I k).frames) z s
+        up (suc m) e s le more = more (below (never (suc i) (omega arith) (omega arith)))
+          where
+            below : (depth (suc i) ≡ depth n → ⊥) → depth (suc i) < depth n
+            below ne = omega arith
+
+  -- the last number below n with a depth
+  record HasLast (d n : ℕ) : Type 0 where
+    number : ℕ
+    before : number < n
+    same : depth number ≡ d
+    between : (i : ℕ) → number < i → i < n → depth i ≢ d
+
+  one_more : (d n i : ℕ) → depth n ≢ d → (i < n → depth i ≢ d) → i < suc n → depth i ≢ d
+  one_more d n i ne old b = go (nat_lt i n) refl
+    where
+      go : (t : Bool) → nat_lt i n ≡ t → depth i ≢ d
+      go true e = old (ltb-true i n e)
+      go false e = let same : i ≡ n = grind (arith, nat_tests) in subst (λ k. depth k ≢ d) (sym same) ne
+
+  find_last : (d n : ℕ) → HasLast d n ⊎ ((i : ℕ) → i < n → depth i ≢ d)
+  find_last d zero = inr (λ i h. absurd (omega arith))
+  find_last d (suc n) = go (nat_eq (depth n) d) refl (find_last d n)
+    where
+      later : depth n ≢ d → HasLast d n ⊎ ((i : ℕ) → i < n → depth i ≢ d) → HasLast d (suc n) ⊎ ((i : ℕ) → i < suc n → depth i ≢ d)
+      later ne (inl r) = inl (record { number = r.number; before = let b = r.before in omega arith; same = r.same; between = λ i a b. one_more d n i ne (r.between i a) b })
+      later ne (inr none) = inr (λ i b. one_more d n i ne (none i) b)
+
+      go : (t : Bool) → nat_eq (depth n) d ≡ t → HasLast d n ⊎ ((i : ℕ) → i < n → depth i ≢ d) → HasLast d (suc n) ⊎ ((i : ℕ) → i < suc n → depth i ≢ d)
+      go true e r = inl (record { number = n; before = omega arith; same = (let h : depth n ≡ d = grind (arith, nat_tests) in h); between = λ i a b. absurd (omega arith) })
+      go false e r = later (λ h. let z : ⊥ = grind (arith, nat_tests) in z) r
+
+  start_depth : depth 0 ≡ 1
+  unfolding run
+  start_depth = refl
+
+  no_start_behind : (n : ℕ) → IsBehindClone Q N (run Q I n) → AtStart (run Q I n).frames → ⊥
+  no_start_behind n behind s =
+      let h = behind.frames in
+      let e = s.frames in
+      let same : behind.frame ≡ s.top = cc in
+      let q = ap (λ (x : Frame). x.place) same in
+      let b = behind.behind in
+      let p = s.place in
+      omega arith
+
+  start_at : AtStart (run Q I 0).frames
+  unfolding run
+  start_at = record { top = _; others = []; frames = refl; place = refl }
+
+  -- behind a call of a clone there is a last state before with as many frames
+  pub last_before : (n : ℕ) → IsBehindClone Q N (run Q I n) → (j : ℕ) × IsLastBefore Q I j n
+  last_before n behind = go (find_last (depth n) n)
+    where
+      deep : (m : ℕ) → m ≡ n → ((i : ℕ) → i < n → depth i ≢ depth n) → ⊥
+      deep zero e none = no_start_behind n behind (subst (λ k. AtStart (run Q I k).frames) e start_at)
+      deep (suc m) e none =
+          let ne = none 0 (omega arith) in
+          let one = start_depth in
+          let some : 1 ≤ depth n = omega (arith, ap length behind.frames) in
+          let low : depth 0 < depth n = below ne one some in
+          no_start_behind n behind (climb 0 n behind.going (λ i a b. none i b) n 0 (omega arith) (omega arith) low)
+        where
+          below : (depth 0 ≡ depth n → ⊥) → depth 0 ≡ 1 → 1 ≤ depth n → depth 0 < depth n
+          below ne one some = omega arith
+
+      go : HasLast (depth n) n ⊎ ((i : ℕ) → i < n → depth i ≢ depth n) → (j : ℕ) × IsLastBefore Q I j n
+      go (inl r) = (r.number, record { before = r.before; same = r.same; between = r.between })
+      go (inr none) = absurd (deep n refl none)
+
   module _ (j n : ℕ) (last : IsLastBefore Q I j n) (ok : (run Q I n).world.ending ≡ None) (c : Frame) (rest : List Frame) (at_j : (run Q I j).frames ≡ c ∷ rest) where
     depth_n : length (run Q I n).frames ≡ suc (length rest)
     depth_n = sym last.same ∙ ap length at_j
@@ -179,22 +272,6 @@ module _ (Q : Program) (I : Input) (full : (i : ℕ) → (f : Frame) × (fs : Li
         back : (m : ℕ) → suc i + m ≡ n → Back j g c rest (suc i) → Back j g c rest n
         back zero e x = let q : suc i ≡ n = omega arith in subst (λ k. Back j g c rest k) q x
         back (suc m) e x = absurd (last.between (suc i) (omega arith) (omega arith) (ap length x.behind.frames ∙ sym depth_n))
-
-    -- with fewer frames, the first state with as many again stands at a function's start
-    climb : (m i : ℕ) → i + m ≡ n → j < i → length (run Q I i).frames ≤ length rest → AtStart (run Q I n).frames
-    climb zero i e l d = let q : i ≡ n = omega arith in absurd (omega (arith, subst (λ k. length (run Q I k).frames ≤ length rest) q d, depth_n))
-    climb (suc m) i e l d =
-        let r = full i in
-        let o = run_out i r.0 r.1 (going Q I i n (omega arith) ok) r.2 in
-        let w = ap length r.2 in
-        ⊎_elim (λ x. climb m (suc i) (omega arith) (omega arith) (omega (arith, x))) (λ x. up m (omega arith) x.0 (omega (arith, x.1)) (λ y. climb m (suc i) (omega arith) (omega arith) y)) (moves_less Q r.0 r.1 _ _ o.moves (going Q I (suc i) n (omega arith) ok))
-      where
-        up : (m : ℕ) → suc i + m ≡ n → AtStart (run Q I (suc i)).frames → length (run Q I (suc i)).frames ≤ suc (length rest) → (length (run Q I (suc i)).frames ≤ length rest → AtStart (run Q I n).frames) → AtStart (run Q I n).frames
-        up zero e s le more = let z : suc i ≡ n = omega arith in subst (λ k. AtStart (run Q I k).frames) z s
-        up (suc m) e s le more = more (below (last.between (suc i) (omega arith) (omega arith)))
-          where
-            below : (length (run Q I (suc i)).frames ≡ length (run Q I n).frames → ⊥) → length (run Q I (suc i)).frames ≤ length rest
-            below ne = omega (arith, depth_n)
 
     module _ (behind : IsBehindClone Q N (run Q I n)) where
       same_top : (f : Frame) (fs : List Frame) → (run Q I n).frames ≡ f ∷ fs → behind.frame ≡ f
@@ -232,12 +309,12 @@ module _ (Q : Program) (I : Input) (full : (i : ℕ) → (f : Frame) × (fs : Li
       after_call : IsCall (instr_here Q c) → SinceClones N j (run Q I (suc j)).lines
       after_call is_call x there le = absurd (none_since j ok_j x (out_j.called is_call x there) le)
 
-      first : (fs : List Frame) (o : Option Ending) → (run Q I (suc j)).frames ≡ fs → o ≡ None → Moves Q c rest fs o → SinceClones N j (run Q I n).lines
+      first : (fs : List Frame) (o : Option Ending) → (run Q I (suc j)).frames ≡ fs → o ≡ None → Moves Q c rest fs o → SinceCall j n c
       first fs o q e ends = absurd (let z : ⊥ = cc in z)
       first fs o q e (goes_on g function block place) =
           let z = at_next g q in
           let call = call_here g (same_top g rest (subst (λ k. (run Q I k).frames ≡ g ∷ rest) z q)) function block place in
-          subst (λ k. SinceClones N j (run Q I k).lines) z (after_call (call_from Q N (instr_here Q c) call))
+          record { call = call; made = subst (λ k. SinceClones N j (run Q I k).lines) z (after_call (call_from Q N (instr_here Q c) call)) }
       first fs o q e (jumps g function place) = absurd (no_start g (same_top g rest (subst (λ k. (run Q I k).frames ≡ g ∷ rest) (at_next g q) q)) place)
       first fs o q e (enters h called place) =
           let l = last.before in
@@ -247,12 +324,11 @@ module _ (Q : Program) (I : Input) (full : (i : ℕ) → (f : Frame) × (fs : Li
           } in
           let back = walk h.function (n - suc j) (suc j) (omega arith) (omega arith) inside in
           let call = call_here _ (same_top _ rest back.behind.frames) refl refl refl in
-          back.made (called_from Q N h.function (instr_here Q c) call called)
+          record { call = call; made = back.made (called_from Q N h.function (instr_here Q c) call called) }
       first fs o q e (returns f gs dest v k) =
           let l = last.before in
-          let low : length (run Q I (suc j)).frames ≤ length rest = omega (arith, ap length q, ap length k) in
-          let r = climb (n - suc j) (suc j) (omega arith) (omega arith) low in
-          absurd (no_start r.top (same_top r.top r.others r.frames) r.place)
+          let low : depth (suc j) < depth n = omega (arith, ap length q, ap length k, depth_n) in
+          absurd (no_start_behind n behind (climb j n ok last.between (n - suc j) (suc j) (omega arith) (omega arith) low))
 
-      pub since_clones : SinceClones N j (run Q I n).lines
-      since_clones = let l = last.before in first _ _ refl (going Q I (suc j) n (omega arith) ok) out_j.moves
+      pub since_call : SinceCall j n c
+      since_call = let l = last.before in first _ _ refl (going Q I (suc j) n (omega arith) ok) out_j.moves

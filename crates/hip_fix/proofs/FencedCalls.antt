@@ -1,5 +1,5 @@
 -- After the fence behind a call of a clone all that was stored under the call is durable.
-use Rattle.std.proofs.Common.{◌≡◌, ◌⊎◌, inl, inr, ℕ, zero, suc, ◌+◌, ◌<◌, ◌≤◌, Bool, true, false, not, List, [], ◌∷◌, ◌++◌, length, drop, Option, Some, None, slice_get, refl, sym, ap, ◌∙◌, subst, arith}
+use Rattle.std.proofs.Common.{◌≡◌, inl, inr, ℕ, zero, suc, ◌+◌, ◌<◌, ◌≤◌, Bool, false, not, List, [], ◌∷◌, ◌++◌, length, drop, Option, Some, None, slice_get, refl, sym, ap, ◌∙◌, subst, arith}
 use Rattle.std.specs.List.{drop-map}
 use Rattle.hip_ir.specs.declared.instr.Instr.{Instr}
 use Rattle.hip_ir.specs.declared.instr.Instr.TheVariants.{Binary, Compare, Select, Cast, Alloca, Load, Store, Gep, Call}
@@ -7,20 +7,18 @@ use Rattle.hip_ir.specs.declared.program.Program.{Program}
 use Rattle.hip_ir.specs.declared.site.Site.{Site}
 use Rattle.hip_lines.specs.Line.{Line}
 use Rattle.hip_typing.specs.Externs.{call_of}
-use Rattle.hip_typing.specs.Numbering.{function_number}
 use Rattle.hip_typing.specs.Sound.{IsSound}
 use Rattle.hip_typing.specs.declared.externs.ExternCall.{ExternCall}
 use Rattle.hip_typing.specs.declared.externs.ExternCall.TheVariants as calls
-use Rattle.hip_step.specs.declared.event.Ending.{Ending}
 use Rattle.hip_step.specs.declared.input.Input.{Input}
-use Rattle.hip_step.specs.Actions.{Action, Flushes, Fences, Deed, instr_action, call_action, is_turn, is_flush_or_fence, deed_of}
+use Rattle.hip_step.specs.Actions.{Flushes, Fences, instr_action, call_action, is_turn, is_flush_or_fence, deed_of}
 use Rattle.hip_step.specs.Operands.{values_of}
 use Rattle.hip_step.specs.Parts.{In, PartOf}
 use Rattle.hip_step.specs.PartLaws.{part-fenced}
-use Rattle.hip_step.specs.Persistence.{noted_fence, fence_line, fenced_lines}
+use Rattle.hip_step.specs.Persistence.{fence_line, fenced_lines}
 use Rattle.hip_step.specs.Places.{body_at, end_at, code_at}
 use Rattle.hip_step.specs.State.{Registers, Level, Flush, StorePart, Frame, World, Counts, State, site_of}
-use Rattle.hip_step.specs.Step.{perform, carry_out, event_at, counted, deed_at, on_frames, on_ending, step, run}
+use Rattle.hip_step.specs.Step.{perform, carry_out, event_at, counted, on_frames, on_ending, step, run}
 use Rattle.hip_step.specs.Validity.{IsValid}
 use Rattle.hip_fix.specs.declared.plan.Plan.{Plan}
 use Rattle.hip_fix.specs.Covered.{is_fence, IsFenceCall, IsBehindClone, IsLastBefore, IsAtClone, IsCovered}
@@ -32,10 +30,10 @@ use Rattle.hip_fix.proofs.CloneFlushed.{AreFlushed, IsFlushed, AllFlushed, all_f
 use Rattle.hip_fix.proofs.Facts.{Lines}
 use Rattle.hip_fix.proofs.Lookup.{sound_callable, clone_calls}
 use Rattle.hip_fix.proofs.Moves.{instr_here, IsCallOf}
-use Rattle.hip_fix.proofs.Pairs.{Quiet, nothing, fence, Ready, quiet, flush, Tied, tied, Related, related, pending_lines}
+use Rattle.hip_fix.proofs.Pairs.{nothing, fence, Ready, quiet, flush, Tied, tied, Related, related, pending_lines}
 use Rattle.hip_fix.proofs.Sim.{Follows, follows, get_in}
 use Rattle.hip_fix.proofs.Twins.{IsCallable}
-use Rattle.hip_fix.proofs.Under.{SinceClones, last_before, since_call}
+use Rattle.hip_fix.proofs.SinceCall.{SinceClones, last_before, since_call}
 
 -- ---- a fence
 

@@ -23,5 +23,5 @@ pub mod Cure
 pub mod Cured
 pub mod CloneFlushed
 pub mod Moves
-pub mod Under
+pub mod SinceCall
 pub mod FencedCalls

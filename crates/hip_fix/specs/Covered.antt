@@ -1,8 +1,12 @@
 -- Under a hoisted call each store is durable after the fence that follows the call.
-use Rattle.std.specs.Prelude.{◌≡◌, ◌≢◌, ℕ, suc, ◌<◌, ◌≤◌, List, ◌∷◌, length, Option, Some, None, slice_get}
+use Rattle.std.specs.Prelude.{◌≡◌, ◌≢◌, ℕ, suc, ◌+◌, ◌<◌, ◌≤◌, Bool, true, false, List, ◌∷◌, length, take, Option, Some, None, slice_get}
+use Rattle.hip_types.specs.declared.number.Scalar.{Scalar}
+use Rattle.hip_ir.specs.Sites.{instr_of, has_site}
+use Rattle.hip_ir.specs.declared.instr.Arg.{Arg}
 use Rattle.hip_ir.specs.declared.instr.Instr.{Instr}
 use Rattle.hip_ir.specs.declared.instr.Instr.TheVariants.{Call}
 use Rattle.hip_ir.specs.declared.program.Program.{Program}
+use Rattle.hip_ir.specs.declared.site.Site.{Site}
 use Rattle.hip_lines.specs.Line.{Line}
 use Rattle.hip_typing.specs.Externs.{call_of}
 use Rattle.hip_typing.specs.Numbering.{function_number}
@@ -13,6 +17,8 @@ use Rattle.hip_step.specs.Places.{body_at}
 use Rattle.hip_step.specs.State.{Frame, StorePart, State}
 use Rattle.hip_step.specs.Step.{run}
 use Rattle.hip_step.specs.Validity.{IsValid}
+use Rattle.hip_fix.specs.declared.plan.Plan.{Plan}
+use Rattle.hip_fix.specs.Repaired.{wanted_by, clones_of, cloned, repaired, repaired_body}
 
 abbrev pub is_fence : Option ExternCall → Type 0
 is_fence (Some calls.Sfence) = Unit {0}
@@ -65,3 +71,25 @@ pub record IsCovered (P Q : Program) : Type 0 where
       (I : Input) → IsValid P I → (j n : ℕ) → IsBehindClone Q (length P.functions) (run Q I n) → IsLastBefore Q I j n →
       (m : ℕ) (l : Line StorePart) → slice_get (run Q I (suc n)).lines m ≡ Some l →
       (k : ℕ) (p : StorePart) → slice_get l.parts k ≡ Some p → j ≤ p.step → k < l.durable
+
+-- ---- the fence behind a hoisted call
+
+-- where the instruction at a site of the program stands in the repaired body, of its function or of the function's clone: behind
+-- the repaired body of what stands before it
+abbrev pub repaired_place : Program → Plan → (Site → Bool) → Bool → Site → ℕ
+repaired_place P plan skip clone s =
+    length (repaired_body (clones_of P plan) (wanted_by plan skip) clone s.function s.block 0 (take s.index (body_at P s.function s.block)))
+
+-- a call of a clone stands at that place of the block, and a fence directly behind it
+pub record IsFenced (Q : Program) (functions f b place : ℕ) : Type 0 where
+  pub call : IsCallFrom Q functions (slice_get (body_at Q f b) place)
+  pub fence : IsFenceCall (slice_get (body_at Q f b) (suc place))
+
+-- Each hoisted call of a defined function has become a call of a clone with a fence directly behind it, in its function and in
+-- the clone of its function.
+abbrev pub AreHoistsFenced : Program → Plan → (Site → Bool) → Type 0
+AreHoistsFenced P plan skip =
+    (s : Site) (dest : Option (List ℕ)) (ret : Option Scalar) (callee : List ℕ) (args : List Arg) (g : ℕ) →
+    has_site plan.hoist s ≡ true → instr_of P s ≡ Some (Call dest ret callee args) → function_number P callee ≡ Some g →
+    IsFenced (repaired P plan skip) (length P.functions) s.function s.block (repaired_place P plan skip false s)
+    × ((c : ℕ) → slice_get (cloned P plan) c ≡ Some s.function → IsFenced (repaired P plan skip) (length P.functions) (length P.functions + c) s.block (repaired_place P plan skip true s))

@@ -9,7 +9,7 @@ ghost use Rattle.hip_step.specs.declared.input.Input.{Input};
 ghost use Rattle.hip_step.specs.declared.report.Findings.{Findings};
 ghost use Rattle.hip_fix.specs.Choice.{Contains, plan_for};
 ghost use Rattle.hip_fix.specs.Clean.{IsClean};
-ghost use Rattle.hip_fix.specs.Covered.{IsCovered};
+ghost use Rattle.hip_fix.specs.Covered.{AreHoistsFenced, IsCovered};
 ghost use Rattle.hip_fix.specs.Harmless.{IsHarmless};
 ghost use Rattle.hip_fix.specs.Quiet.{IsQuiet};
 ghost use Rattle.hip_fix.specs.Repaired.{repaired};
@@ -33,4 +33,9 @@ pub fn repairs_are_clean()
 /// not flush never lie in the region.
 pub fn hoisted_calls_are_covered()
     ensures { (P : Program) → (plan : Plan) → (skip : Site → Bool) → IsSound P → IsQuiet P skip → IsCovered P (repaired P plan skip) }
+{}
+
+/// A hoisted call has become a call of a clone with a fence directly behind it.
+pub fn hoisted_calls_are_fenced()
+    ensures { (P : Program) → (plan : Plan) → (skip : Site → Bool) → IsSound P → AreHoistsFenced P plan skip }
 {}

@@ -1,5 +1,5 @@
 -- A hoisted call has become a call of a clone with a fence directly behind it.
-use Rattle.std.proofs.Common.{◌≡◌, ℕ, zero, suc, ◌+◌, ◌≤◌, Bool, true, false, cond, ◌||◌, List, [], ◌∷◌, ◌++◌, length, take, drop, Option, Some, slice_get, refl, sym, ap, ◌∙◌, subst, arith}
+use Rattle.std.proofs.Common.{◌≡◌, ℕ, zero, suc, ◌+◌, ◌≤◌, Bool, true, false, List, [], ◌∷◌, ◌++◌, length, take, drop, Option, Some, slice_get, refl, sym, ap, ◌∙◌, subst, arith}
 use Rattle.std.specs.List.{drop-map}
 use Rattle.std.proofs.lemmas.Option.{slice_get_within}
 use Rattle.hip_types.specs.declared.number.Scalar.{Scalar}
@@ -15,7 +15,7 @@ use Rattle.hip_step.specs.Places.{body_at}
 use Rattle.hip_fix.specs.declared.plan.Plan.{Plan}
 use Rattle.hip_fix.specs.Covered.{is_numbered_from, IsFenceCall, IsCallFrom, repaired_place, IsFenced, AreHoistsFenced}
 use Rattle.hip_fix.specs.Harmless.{marked_body}
-use Rattle.hip_fix.specs.Repaired.{Marked, Clone, Wanted, the_fence, renamed, clone_name, inserted_behind, wanted_by, clones_of, cloned, repaired, instrs_of, repaired_body}
+use Rattle.hip_fix.specs.Repaired.{Marked, Clone, Wanted, the_fence, clone_name, inserted_behind, wanted_by, clones_of, repaired, instrs_of, repaired_body}
 use Rattle.hip_fix.proofs.Blocks.{get_drop, drop_next, body_twin}
 use Rattle.hip_fix.proofs.Callable.{instr_place}
 use Rattle.hip_fix.proofs.Clones.{twin_of_clone}

@@ -17,3 +17,4 @@ pub mod AddressLists
 pub mod ByteLists
 pub mod ConstantParts
 pub mod InitialLemmas
+pub mod HeldLemmas

@@ -19,6 +19,9 @@ pub mod GivenLaws
 pub mod Seen
 pub mod Inner
 pub mod AssignedSeen
+pub mod Initial
+pub mod AddressesSeen
+pub mod InitialSeen
 pub mod Sound
 pub mod SoundLaws
 pub mod ConstLaws

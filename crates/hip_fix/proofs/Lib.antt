@@ -9,6 +9,7 @@ pub mod Bodies
 pub mod Origins
 pub mod Declarations
 pub mod SpelledAgain
+pub mod NamesAgain
 pub mod Ahead
 pub mod Inserted
 pub mod Blocks

@@ -10,6 +10,7 @@ pub mod Origins
 pub mod Declarations
 pub mod SpelledAgain
 pub mod NamesAgain
+pub mod HeadsAgain
 pub mod Ahead
 pub mod Inserted
 pub mod Blocks

@@ -19,11 +19,11 @@ Differ (x ∷ xs) = (is_among xs x ≡ false) × Differ xs
 abbrev pub Apart : List (List ℕ) → List (List ℕ) → Type 0
 Apart xs ys = (q : List ℕ) → is_among xs q ≡ true → is_among ys q ≡ false
 
-not_true : (b : Bool) → ¬ (b ≡ true) → b ≡ false
+pub not_true : (b : Bool) → ¬ (b ≡ true) → b ≡ false
 not_true true h = absurd (h refl)
 not_true false h = refl
 
-not_false : (b : Bool) → b ≡ false → ¬ (b ≡ true)
+pub not_false : (b : Bool) → b ≡ false → ¬ (b ≡ true)
 not_false b e f = cc
 
 among_itself : (q x : List ℕ) → bytes_eq q x ≡ true → q ≡ x

@@ -12,6 +12,7 @@ pub mod SpelledAgain
 pub mod NamesAgain
 pub mod HeadsAgain
 pub mod InnerAgain
+pub mod CalleesAgain
 pub mod Ahead
 pub mod Inserted
 pub mod Blocks

@@ -13,6 +13,7 @@ pub mod NamesAgain
 pub mod HeadsAgain
 pub mod InnerAgain
 pub mod CalleesAgain
+pub mod Needed
 pub mod Ahead
 pub mod Inserted
 pub mod Blocks

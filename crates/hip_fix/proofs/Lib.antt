@@ -14,6 +14,7 @@ pub mod HeadsAgain
 pub mod InnerAgain
 pub mod CalleesAgain
 pub mod Needed
+pub mod InsertedAgain
 pub mod Ahead
 pub mod Inserted
 pub mod Blocks

@@ -107,3 +107,52 @@ module _ (P : Program) (plan : Plan) (skip : Site → Bool) where
           (in_blocks name (clones_of P plan) w o.clone o.f 0 o.fn.blocks b block e
               (let same : 0 + b ≡ b = omega arith in
               subst (λ x. inserts name (repaired_body (clones_of P plan) w o.clone o.f x 0 block.body) ≡ true) (sym same) (in_a_body name (clones_of P plan) w o.clone o.f b 0 block.body j k i i' g n c)))
+
+  -- ---- what is needed is declared
+
+  one_added : (x : Extern) (n c : Bool) → n ≡ true → c ≡ false → is_among (map (λ e. e.name) (cond (n && not c) (x ∷ []) [])) x.name ≡ true
+  one_added x true false e f = or_first _ _ (nat_list_eq_equiv.refl x.name)
+  one_added x true true e f = cc
+  one_added x false c e f = cc
+
+  abbrev firsts : List Extern
+  firsts = cond (needs P plan w clwb_name && not (is_among (extern_names P) clwb_name)) (clwb_extern ∷ []) []
+
+  abbrev seconds : List Extern
+  seconds = cond (needs P plan w sfence_name && not (is_among (extern_names P) sfence_name)) (sfence_extern ∷ []) []
+
+  abbrev thirds : List Extern
+  thirds = cond (needs P plan w pmem_flush_name && not (is_among (extern_names P) pmem_flush_name)) (pmem_flush_extern ∷ []) []
+
+  front_added : (xs ys : List Extern) (name : List ℕ) → is_among (map (λ e. e.name) xs) name ≡ true → is_among (map (λ e. e.name) (xs ++ ys)) name ≡ true
+  front_added xs ys name h = ap (λ ns. is_among ns name) (map-append (λ (e : Extern). e.name) xs ys) ∙ any_front (bytes_eq name) (map (λ e. e.name) xs) (map (λ e. e.name) ys) h
+
+  back_added : (xs ys : List Extern) (name : List ℕ) → is_among (map (λ e. e.name) ys) name ≡ true → is_among (map (λ e. e.name) (xs ++ ys)) name ≡ true
+  back_added xs ys name h = ap (λ ns. is_among ns name) (map-append (λ (e : Extern). e.name) xs ys) ∙ any_back (bytes_eq name) (map (λ e. e.name) xs) (map (λ e. e.name) ys) h
+
+  declared_then : (name : List ℕ) → (is_among (extern_names P) name ≡ false → is_among (map (λ e. e.name) (added_externs P plan w)) name ≡ true) → is_among (extern_names (repaired P plan skip)) name ≡ true
+  declared_then name h = by_test (is_among (extern_names P) name) refl
+    where
+      by_test : (b : Bool) → is_among (extern_names P) name ≡ b → is_among (extern_names (repaired P plan skip)) name ≡ true
+      by_test true e = front_added P.externs (added_externs P plan w) name e
+      by_test false e = back_added P.externs (added_externs P plan w) name (h e)
+
+  module _ (sound : IsSound P) where
+    found_callee : (name : List ℕ) → is_among (extern_names (repaired P plan skip)) name ≡ true → callee_of (repaired P plan skip) name ≡ known_signature name
+    found_callee name h =
+        let there = extern_there (repaired P plan skip).externs name h in
+        ap (λ o. first_of o (function_of (repaired P plan skip).functions name)) there.1
+        ∙ sym (extern_signature (repaired P plan skip).externs name there.0 (externs_again P plan skip sound).1.0 there.1)
+
+    pub clwb_callee : needs P plan w clwb_name ≡ true → callee_of (repaired P plan skip) clwb_name ≡ known_signature clwb_name
+    clwb_callee n = found_callee clwb_name (declared_then clwb_name (λ f. front_added firsts (seconds ++ thirds) clwb_name (one_added clwb_extern (needs P plan w clwb_name) (is_among (extern_names P) clwb_name) n f)))
+
+    pub sfence_callee : needs P plan w sfence_name ≡ true → callee_of (repaired P plan skip) sfence_name ≡ known_signature sfence_name
+    sfence_callee n =
+        found_callee sfence_name
+            (declared_then sfence_name (λ f. back_added firsts (seconds ++ thirds) sfence_name (front_added seconds thirds sfence_name (one_added sfence_extern (needs P plan w sfence_name) (is_among (extern_names P) sfence_name) n f))))
+
+    pub pmem_flush_callee : needs P plan w pmem_flush_name ≡ true → callee_of (repaired P plan skip) pmem_flush_name ≡ known_signature pmem_flush_name
+    pmem_flush_callee n =
+        found_callee pmem_flush_name
+            (declared_then pmem_flush_name (λ f. back_added firsts (seconds ++ thirds) pmem_flush_name (back_added seconds thirds pmem_flush_name (one_added pmem_flush_extern (needs P plan w pmem_flush_name) (is_among (extern_names P) pmem_flush_name) n f))))

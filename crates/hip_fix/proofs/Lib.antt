@@ -15,6 +15,7 @@ pub mod InnerAgain
 pub mod CalleesAgain
 pub mod Needed
 pub mod InsertedAgain
+pub mod PlacesAgain
 pub mod Ahead
 pub mod Inserted
 pub mod Blocks

@@ -28,7 +28,7 @@ use Rattle.hip_typing.specs.declared.fault.Place.{Place}
 use Rattle.hip_typing.specs.declared.fault.Place.TheVariants as places
 use Rattle.hip_step.specs.Places.{body_of, body_at, blocks_in}
 use Rattle.hip_fix.specs.declared.plan.Plan.{Plan}
-use Rattle.hip_fix.specs.Repaired.{Clone, Wanted, wanted_by, clwb_name, sfence_name, pmem_flush_name, clone_name, clones_of, cloned, renamed, flush_of, the_fence, is_call_of, instrs_of, inserted_behind, repaired, repaired_block, repaired_blocks, repaired_function}
+use Rattle.hip_fix.specs.Repaired.{Clone, Wanted, wanted_by, clwb_name, sfence_name, pmem_flush_name, clone_name, clones_of, cloned, renamed, flush_of, the_fence, is_call_of, needs, instrs_of, inserted_behind, repaired, repaired_block, repaired_blocks, repaired_function}
 use Rattle.hip_fix.proofs.Bodies.{IsFlushOf, IsOriginal, IsInserted, in_body, inserted_kind, site_at, repaired_instrs, same_blocks_registers}
 use Rattle.hip_fix.proofs.Callable.{both_hold, each_at}
 use Rattle.hip_fix.proofs.CalleesAgain.{callee_again}
@@ -147,3 +147,57 @@ module _ (P : Program) (plan : Plan) (skip : Site → Bool) (sound : IsSound P) 
         call_kept dest ret callee _ args place place'
             (callee_again P plan skip sound callee (o.clone || has_site plan.hoist (record { function = o.f; block = b; index = j })) (call_cloned b j block dest ret callee args e c) (both_hold (uses_known s (arg_uses args)) _ h.0).1) h
     renamed_again b j block i place place' e c h = instr_kept i place place' refl refl h
+
+    -- an inserted instruction
+    module _ (b : ℕ) (block : Block) (there : slice_get o.fn.blocks b ≡ Some block) (place : ℕ → Place) (place' : Place) (checked : (j : ℕ) (i : Instr) → slice_get block.body j ≡ Some i → (instr_check s i (place j)).Holds) where
+      original_again : (k : ℕ) (i' : Instr) → IsOriginal clones w o.clone o.f b 0 block.body k i' → (instr_check s' i' place').Holds
+      original_again k i' x =
+          let here : 0 + x.0 ≡ x.0 = omega arith in
+          subst (λ y. (instr_check s' y place').Holds)
+              (ap (λ n. renamed clones x.1 (o.clone || has_site plan.hoist (record { function = o.f; block = b; index = n }))) (sym here) ∙ sym x.3)
+              (renamed_again b x.0 block x.1 (place x.0) place' there x.2 (checked x.0 x.1 x.2))
+
+      found_by : (k : ℕ) (i' : Instr) (x : IsInserted clones w o.clone o.f b 0 block.body k i') (name : List ℕ) → is_call_of name i' ≡ true → (name ≡ clwb_name) ⊎ (name ≡ pmem_flush_name) → callee_of Q name ≡ known_signature name
+      found_by k i' x name c which =
+          let needed = inserted_needed P plan skip name f' fn' o b block x.0 x.2 x.1 i' there x.3 x.4 c in
+          ⊎_elim (λ e. ap (callee_of Q) e ∙ clwb_callee P plan skip sound (ap (needs P plan w) (sym e) ∙ needed) ∙ ap known_signature (sym e))
+              (λ e. ap (callee_of Q) e ∙ pmem_flush_callee P plan skip sound (ap (needs P plan w) (sym e) ∙ needed) ∙ ap known_signature (sym e)) which
+
+      inserted_again : (k : ℕ) (i' : Instr) → IsInserted clones w o.clone o.f b 0 block.body k i' → (instr_check s' i' place').Holds
+      inserted_again k i' x =
+          ⊎_elim
+              (λ flush.
+                  let store : (instr_check s' (Store flush.0 flush.1 flush.2 flush.3) place').Holds =
+                      instr_kept (Store flush.0 flush.1 flush.2 flush.3) (place x.0) place' refl refl (subst (λ y. (instr_check s y (place x.0)).Holds) flush.4 (checked x.0 x.1 x.3)) in
+                  subst (λ y. (instr_check s' y place').Holds) (sym flush.5)
+                      (flush_check s' place' place' flush.1 flush.2 flush.0 flush.3 (λ name c which. found_by k i' x name (ap (is_call_of name) flush.5 ∙ c) which) store))
+              (λ fence.
+                  let needed = inserted_needed P plan skip sfence_name f' fn' o b block x.0 x.2 x.1 i' there x.3 x.4 (ap (is_call_of sfence_name) fence) in
+                  subst (λ y. (instr_check s' y place').Holds) (sym fence) (fence_check s' place' place' (sfence_callee P plan skip sound needed)))
+              (inserted_kind w o.clone (site_at clones w o.clone o.f b (0 + x.0)) x.1 x.2 i' x.4)
+
+      body_again : (k : ℕ) (i' : Instr) → slice_get (repaired_instrs clones w o.clone o.f b 0 block.body) k ≡ Some i' → (instr_check s' i' place').Holds
+      body_again k i' e = ⊎_elim (original_again k i') (inserted_again k i') (in_body clones w o.clone o.f b 0 block.body k i' e)
+
+    block_again : (b b' : ℕ) (block : Block) → slice_get o.fn.blocks b ≡ Some block → (block_check s o.f b block).Holds → (block_check s' f' b' (repaired_block clones w o.clone o.f b block)).Holds
+    block_again b b' block there h =
+        (each_make (λ i p. phi_check s' block.label p (places.Phi (record { function = f'; block = b'; index = i }))) block.phis
+            (λ i p e. phi_again block.label p (places.Phi (record { function = o.f; block = b; index = i })) (places.Phi (record { function = f'; block = b'; index = i }))
+                (each_at (λ i p. phi_check s block.label p (places.Phi (record { function = o.f; block = b; index = i }))) block.phis i p h.0 e)),
+        (each_make (λ i instr. instr_check s' instr (places.Body (record { function = f'; block = b'; index = i }))) (repaired_instrs clones w o.clone o.f b 0 block.body)
+            (λ k i' e. body_again b block there (λ j. places.Body (record { function = o.f; block = b; index = j })) (places.Body (record { function = f'; block = b'; index = k }))
+                (λ j i c. each_at (λ i instr. instr_check s instr (places.Body (record { function = o.f; block = b; index = i }))) block.body j i h.1.0 c) k i' e),
+        end_again block.end (places.End o.f b) (places.End f' b') h.1.1))
+
+    blocks_again : (each (block_check (scope_of Q fn') f') fn'.blocks).Holds
+    blocks_again =
+        subst (λ fn. (each (block_check (scope_of Q fn) f') fn.blocks).Holds) (sym o.is)
+            (each_make (block_check s' f') R.blocks
+                (λ b block' e.
+                    let at = block_there clones w o.clone o.f 0 o.fn.blocks b block' e in
+                    let here : 0 + b ≡ b = omega arith in
+                    let before = each_at (block_check s o.f) o.fn.blocks b at.0 (each_at (λ f fn. each (block_check (scope_of P fn) f) fn.blocks) P.functions o.f o.fn sound.places o.at) at.1 in
+                    subst (λ x. (block_check s' f' b x).Holds) (sym (at.2 ∙ ap (λ n. repaired_block clones w o.clone o.f n at.0) here)) (block_again b b at.0 at.1 before)))
+
+  pub places_again : (places_check (repaired P plan skip)).Holds
+  places_again = each_make (λ f fn. each (block_check (scope_of Q fn) f) fn.blocks) Q.functions (λ f' fn' e. blocks_again f' fn' (origin P plan skip f' fn' e))

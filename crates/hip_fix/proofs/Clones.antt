@@ -37,7 +37,7 @@ use Rattle.hip_fix.specs.Harmless.{marked_body}
 use Rattle.hip_fix.specs.Repaired.{Marked, clwb_name, sfence_name, pmem_flush_name, is_wide, line_flush, range_flush, flush_of, the_fence, renamed, inserted_behind, repaired_body, instrs_of, Clone, Wanted, clone_name, clones_from, clones_of, clone_in, repaired_functions, clone_functions, cloned, repaired_blocks, repaired, repaired_function, wanted_by}
 use Rattle.hip_fix.proofs.Blocks.{body_twin}
 use Rattle.hip_fix.proofs.Callable.{both_hold, instr_place}
-use Rattle.hip_fix.proofs.Facts.{In}
+use Rattle.hip_step.specs.Parts.{In}
 use Rattle.hip_fix.proofs.Functions.{length-repaired_functions, names-repaired_functions, get_back}
 use Rattle.hip_fix.proofs.Twins.{IsCallable, Twin, CallsTwin}
 

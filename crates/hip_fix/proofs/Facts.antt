@@ -1,5 +1,5 @@
 -- What a fact about the cache lines of the two runs has to be kept by, so that it holds at all corresponding states.
-use Rattle.std.proofs.Common.{◌≡◌, ◌⊎◌, ℕ, ◌-◌, ◌<◌, Bool, true, false, cond, not, ◌&&◌, ◌||◌, List, [], ◌∷◌, length}
+use Rattle.std.proofs.Common.{◌≡◌, ℕ, ◌-◌, ◌<◌, Bool, true, false, cond, not, ◌&&◌, ◌||◌, List, [], ◌∷◌, length, Some}
 use Rattle.hip_ir.specs.Sites.{has_site}
 use Rattle.hip_ir.specs.declared.program.Program.{Program}
 use Rattle.hip_ir.specs.declared.site.Site.{Site}
@@ -7,6 +7,7 @@ use Rattle.hip_lines.specs.Line.{Line, has_bytes, change_range, stored, fresh_li
 use Rattle.hip_step.specs.declared.input.Input.{Input}
 use Rattle.hip_step.specs.Actions.{in_region}
 use Rattle.hip_step.specs.Persistence.{part_of_store, flush_line, flushes_lines, flushed_lines, fenced_lines}
+use Rattle.hip_step.specs.Parts.{In, PartOf}
 use Rattle.hip_step.specs.State.{Level, Flush, StorePart, Counts}
 use Rattle.hip_fix.specs.declared.plan.Plan.{Plan}
 use Rattle.hip_fix.specs.Quiet.{IsQuiet}
@@ -14,9 +15,9 @@ use Rattle.hip_fix.specs.Quiet.{IsQuiet}
 abbrev pub Lines : Type 0
 Lines = List (Line StorePart)
 
-abbrev pub In : {A : Type 0} → A → List A → Type 0
-In v [] = ⊥
-In v (x ∷ xs) = (v ≡ x) ⊎ In v xs
+-- the lines have a part whose first flush is this one
+abbrev pub Known : Lines → Flush → Type 0
+Known ls f = (x : StorePart) × PartOf ls x × (x.first_flush ≡ Some f)
 
 abbrev pub fence_if : Bool → Lines → Lines
 fence_if b ls = cond b (fenced_lines ls) ls
@@ -31,8 +32,9 @@ pub record Keeps (P : Program) (plan : Plan) (skip : Site → Bool) (I : Input) 
   pub fence : (up : List Level) (ls ls' : Lines) → Holds up ls ls' → Holds up (fenced_lines ls) (fenced_lines ls')
   pub more_fence : (up : List Level) (ls ls' : Lines) → Holds up ls ls' → Holds up ls (fenced_lines ls')
   pub more_flush : (up : List Level) (ls ls' : Lines) (flush' : Flush) (a n : ℕ) → Holds up ls ls' → Holds up ls (flushed_lines I flush' a n ls')
-  -- a flush of both, and then the planned fence
+  -- a flush of both, later than all before, and then the planned fence
   pub flush : (up : List Level) (ls ls' : Lines) (flush flush' : Flush) (a n : ℕ) (c : Bool) → (has_site plan.fence_after flush.site ≡ true → c ≡ true) →
+      ((f : Flush) → Known ls f → f.step < flush.step) →
       Holds up ls ls' → Holds up (flushed_lines I flush a n ls) (fence_if c (flushed_lines I flush' a n ls'))
   -- a flush with a fence of both
   pub persist : (up : List Level) (ls ls' : Lines) (flush flush' : Flush) (a n : ℕ) →

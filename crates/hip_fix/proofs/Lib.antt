@@ -22,3 +22,9 @@ pub mod Blocks
 pub mod Pairs
 pub mod Sim
 pub mod Harm
+pub mod Kept
+pub mod KeptAlong
+pub mod Events
+pub mod Asked
+pub mod Cure
+pub mod Cured

@@ -13,7 +13,8 @@ use Rattle.hip_fix.specs.declared.plan.Plan.{Plan}
 use Rattle.hip_fix.specs.Harmless.{Extent, extents, SameFrame, SameFrames, marked_body}
 use Rattle.hip_fix.specs.Repaired.{Marked, the_fence, wanted_by, clones_of, cloned, repaired, repaired_body}
 use Rattle.hip_fix.proofs.Ahead.{Ahead}
-use Rattle.hip_fix.proofs.Facts.{Lines, In, fence_if}
+use Rattle.hip_step.specs.Parts.{In}
+use Rattle.hip_fix.proofs.Facts.{Lines, fence_if}
 use Rattle.hip_fix.proofs.Twins.{Twin}
 
 -- inserted instructions that may stand next in a frame below the top: perhaps a fence

@@ -47,21 +47,24 @@ use Rattle.hip_fix.specs.Quiet.{IsQuiet, stores_in_region}
 use Rattle.hip_fix.specs.Repaired.{Marked, flush_of, the_fence, renamed, clone_name, wanted_by, inserted_behind, clones_of, cloned, repaired, instrs_of, repaired_body, repaired_function}
 use Rattle.hip_fix.proofs.Ahead.{Ahead, ahead_stored, ahead_flushed, ahead_more_flushed, ahead_fenced, ahead_more_fenced, ahead_start}
 use Rattle.hip_fix.proofs.Blocks.{get_drop, drop_next, body_twin, end_twin, end_action_twin}
-use Rattle.hip_fix.proofs.Facts.{Lines, In, fence_if, flush_if, Keeps}
+use Rattle.hip_step.specs.Parts.{In}
+use Rattle.hip_step.specs.History.{HasHistory}
+use Rattle.hip_step.specs.HistoryLaws.{has_history}
+use Rattle.hip_fix.proofs.Facts.{Lines, Known, fence_if, flush_if, Keeps}
 use Rattle.hip_fix.proofs.Inserted.{flush_size, flush_size_there, flush_size_small, fence_action, valid_less, flushes_there, region_base, reaches, flush_action, flush_no_turn}
 use Rattle.hip_fix.proofs.Lookup.{number_there, plain_twin, same_main, main_there, calls_plain, calls_clone, extern_name, hoisted_cloned, cloned_closed}
 use Rattle.hip_fix.proofs.Pairs.{Quiet, nothing, fence, Ready, quiet, flush, Tied, tied, Below, bottom, on, top_clone, below_size, Related, related, pending_lines, flush_range, quiet_size, ready_size}
 use Rattle.hip_fix.proofs.Twins.{IsCallable, Twin, CallsTwin}
 
-fence_quiet : (b : Bool) → Quiet (cond b ((the_fence, true) ∷ []) []) b
+pub fence_quiet : (b : Bool) → Quiet (cond b ((the_fence, true) ∷ []) []) b
 fence_quiet true = fence
 fence_quiet false = nothing
 
-or_left : (x y : Bool) → x ≡ true → x || y ≡ true
+pub or_left : (x y : Bool) → x ≡ true → x || y ≡ true
 or_left true y e = refl
 or_left false y e = absurd (let h : ⊥ = cc in h)
 
-or_right : (x y : Bool) → y ≡ true → x || y ≡ true
+pub or_right : (x y : Bool) → y ≡ true → x || y ≡ true
 or_right true y e = refl
 or_right false y e = e
 
@@ -130,7 +133,7 @@ unfolding instr_action
 plain_load P I w below regs dest ty addr align = plain_accessed P I w _ _ _ _ (plain_assigns (Some dest) _)
 
 -- what an external function does depends on the globals alone
-extern_same : (P : Program) (plan : Plan) (skip : Site → Bool) (I : Input) (w : World) (call : ExternCall) (values : List ℕ) (dest : Option (List ℕ)) → extern_action (repaired P plan skip) I w call values dest ≡ extern_action P I w call values dest
+pub extern_same : (P : Program) (plan : Plan) (skip : Site → Bool) (I : Input) (w : World) (call : ExternCall) (values : List ℕ) (dest : Option (List ℕ)) → extern_action (repaired P plan skip) I w call values dest ≡ extern_action P I w call values dest
 unfolding flushing
 extern_same P plan skip I w calls.ReadI64 values dest = refl
 extern_same P plan skip I w calls.PrintI64 values dest = refl
@@ -152,12 +155,12 @@ store_event : (P : Program) (I : Input) (w : World) (f : Frame) (fs : List Frame
 unfolding event instr_action accessed
 store_event P I w f fs ls c ty value addr align rest going code turn aligned valid region = rw (going, code, turn, aligned, valid, region) refl
 
-get_in : {A : Type 0} (xs : List A) (k : ℕ) (x : A) → slice_get xs k ≡ Some x → In x xs
+pub get_in : {A : Type 0} (xs : List A) (k : ℕ) (x : A) → slice_get xs k ≡ Some x → In x xs
 get_in [] k x e = absurd (let h : ⊥ = cc in h)
 get_in (y ∷ xs) zero x e = inl (let h : x ≡ y = cc in h)
 get_in (y ∷ xs) (suc k) x e = inr (get_in xs k x e)
 
-instr_at_place : (P : Program) (f b k : ℕ) → instr_of P (record { function = f; block = b; index = k }) ≡ slice_get (body_at P f b) k
+pub instr_at_place : (P : Program) (f b k : ℕ) → instr_of P (record { function = f; block = b; index = k }) ≡ slice_get (body_at P f b) k
 instr_at_place P f b k = go (slice_get P.functions f)
   where
     block_go : (o : Option Block) → option_and_then (λ x. slice_get x.body k) o ≡ slice_get (body_of o) k
@@ -186,6 +189,36 @@ end_is P I f (Some (ends.CondBr test first second)) = end_jump P I f _
 end_is P I f (Some (ends.Switch width value other cases)) = end_jump P I f _
 end_is P I f (Some (ends.Ret arg)) = tt
 end_is P I f (Some ends.Unreachable) = tt
+
+-- the function that a call enters, or its clone: in a clone, and where the call is hoisted
+module _ (P : Program) (plan : Plan) (skip : Site → Bool) (good : IsCallable P) (clone : Bool) (f f' b k : ℕ) (tw : Twin P plan skip clone f f') (to : Option (List ℕ)) (ret : Option Scalar) (callee : List ℕ) (args : List Arg) (at_place : slice_get (body_at P f b) k ≡ Some (Call to ret callee args)) where
+  abbrev call_site : Site
+  call_site = record { function = f; block = b; index = k }
+
+  -- the function that is defined under the callee's name
+  pub defined_callee : call_of callee ≡ None → (g : ℕ) × (function_number P callee ≡ Some g)
+  defined_callee q = go (good.calls f b k to ret callee args at_place)
+    where
+      go : ((x : ExternCall) × (call_of callee ≡ Some x)) ⊎ ((g : ℕ) × (function_number P callee ≡ Some g)) → (g : ℕ) × (function_number P callee ≡ Some g)
+      go (inl x) = absurd (let e = x.1 in let n : ⊥ = cc in n)
+      go (inr g) = g
+
+  pub called_twin : (g : ℕ) (fn : Function) → function_number P callee ≡ Some g → slice_get P.functions g ≡ Some fn → CallsTwin P plan skip (clone || has_site plan.hoist call_site) (cond (clone || has_site plan.hoist call_site) (clone_name (clones_of P plan) callee) callee) g fn
+  called_twin g fn e there = go (clone || has_site plan.hoist call_site) (cloned_by clone (has_site plan.hoist call_site) refl refl)
+    where
+      cloned_by : (x y : Bool) → clone ≡ x → has_site plan.hoist call_site ≡ y → x || y ≡ true → In g (cloned P plan)
+      cloned_by true y u v z = let high = tw.high u in cloned_closed P plan skip good f b k to ret callee args g (get_in (cloned P plan) high.0 f high.2) at_place e
+      cloned_by false true u v z = hoisted_cloned P plan skip good call_site to ret callee args g v (instr_at_place P f b k ∙ at_place) e
+      cloned_by false false u v z = absurd (let n : ⊥ = cc in n)
+
+      go : (into : Bool) → (into ≡ true → In g (cloned P plan)) → CallsTwin P plan skip into (cond into (clone_name (clones_of P plan) callee) callee) g fn
+      go true i = calls_clone P plan skip good callee g fn e there (i refl)
+      go false i = calls_plain P plan skip good callee g fn e there
+
+-- a call of an external function names it in a clone too
+pub same_extern : (P : Program) (plan : Plan) (skip : Site → Bool) (good : IsCallable P) (callee : List ℕ) (x : ExternCall) → call_of callee ≡ Some x → (b : Bool) → cond b (clone_name (clones_of P plan) callee) callee ≡ callee
+same_extern P plan skip good callee x q true = extern_name P plan skip good callee x q
+same_extern P plan skip good callee x q false = refl
 
 module _ (P : Program) (plan : Plan) (skip : Site → Bool) (I : Input) (good : IsCallable P) (valid_input : IsValid P I) (Holds : List Level → Lines → Lines → Type 0) (keeps : Keeps P plan skip I Holds) where
   abbrev Q : Program
@@ -258,7 +291,7 @@ module _ (P : Program) (plan : Plan) (skip : Site → Bool) (I : Input) (good : 
     trapped i h w c d c' d' kind = after_stop clone (at_frame k regs slots) (at_frame' k' regs slots') fs fs' ls ls' (here_tied i h) below ahead holds (Trap kind) w d d'
 
     -- an instruction behind which at most a fence is inserted
-    module _ (i : Instr) (h : Here i) (behind : inserted i ≡ cond fenced_here ((the_fence, true) ∷ []) []) (c d c' d' : Counts) where
+    module _ (i : Instr) (h : Here i) (behind : inserted i ≡ cond fenced_here ((the_fence, true) ∷ []) []) (c d c' d' : Counts) (timed : (g : Flush) → Known ls g → g.step < c.steps) where
       next_plain : (w : World) (rs : Registers) (sl sl' : List Slot) (ms ms' : Lines) → extents sl' ≡ extents sl → Ahead ms ms' → Holds up ms (fence_if fenced_here ms') →
           After (state w (at_frame (suc k) rs sl ∷ fs) ms d) (state w (at_frame' (suc k') rs sl' ∷ fs') ms' d')
       next_plain w rs sl sl' ms ms' e a q =
@@ -273,7 +306,7 @@ module _ (P : Program) (plan : Plan) (skip : Site → Bool) (I : Input) (good : 
       after_plain w (Stores a bytes) p = absurd p.is
       after_plain w (Flushes a n) p =
           next_plain w regs slots slots' _ _ same (ahead_flushed I _ _ a n ls ls' ahead)
-              (keeps.flush up ls ls' (record { step = c.steps; site = here_site }) (record { step = c'.steps; site = site_of (at_frame' k' regs slots') }) a n fenced_here (or_left (has_site plan.fence_after here_site) (has_site plan.hoist here_site)) holds)
+              (keeps.flush up ls ls' (record { step = c.steps; site = here_site }) (record { step = c'.steps; site = site_of (at_frame' k' regs slots') }) a n fenced_here (or_left (has_site plan.fence_after here_site) (has_site plan.hoist here_site)) timed holds)
       after_plain w (Persists a n) p =
           next_plain w regs slots slots' _ _ same (ahead_fenced _ _ (ahead_flushed I _ _ a n ls ls' ahead))
               (fenced_too up _ _ fenced_here (keeps.persist up ls ls' (record { step = c.steps; site = here_site }) (record { step = c'.steps; site = site_of (at_frame' k' regs slots') }) a n holds))
@@ -351,7 +384,7 @@ module _ (P : Program) (plan : Plan) (skip : Site → Bool) (I : Input) (good : 
 
     -- ---- a call of a defined function, or of its clone
 
-    module _ (to : Option (List ℕ)) (ret : Option Scalar) (callee : List ℕ) (args : List Arg) (h : Here (Call to ret callee args)) (w : World) (c d c' d' : Counts) where
+    module _ (to : Option (List ℕ)) (ret : Option Scalar) (callee : List ℕ) (args : List Arg) (h : Here (Call to ret callee args)) (w : World) (c d c' d' : Counts) (timed : (g : Flush) → Known ls g → g.step < c.steps) where
       abbrev call_instr : Instr
       call_instr = Call to ret callee args
 
@@ -385,69 +418,48 @@ module _ (P : Program) (plan : Plan) (skip : Site → Bool) (I : Input) (good : 
       unfolding instr_action
       after_extern e q =
           subst (λ (name : List ℕ). After (carry_out I w (at_frame k regs slots) fs ls c d (record { turn = not (is_flush_or_fence (call_of callee)); action = call_action P I w (length fs) (call_of callee) callee call_values to }))
-              (carry_out I w (at_frame' k' regs slots') fs' ls' c' d' (record { turn = not (is_flush_or_fence (call_of name)); action = call_action Q I w (length fs') (call_of name) name call_values to }))) (sym (same_name to_clone))
+              (carry_out I w (at_frame' k' regs slots') fs' ls' c' d' (record { turn = not (is_flush_or_fence (call_of name)); action = call_action Q I w (length fs') (call_of name) name call_values to }))) (sym (same_extern P plan skip good callee e q to_clone))
           (subst (λ (o : Option ExternCall). After (carry_out I w (at_frame k regs slots) fs ls c d (record { turn = not (is_flush_or_fence o); action = call_action P I w (length fs) o callee call_values to }))
               (carry_out I w (at_frame' k' regs slots') fs' ls' c' d' (record { turn = not (is_flush_or_fence o); action = call_action Q I w (length fs') o callee call_values to }))) (sym q)
           (subst (λ (x : Action). After (carry_out I w (at_frame k regs slots) fs ls c d (record { turn = not (is_flush_or_fence (Some e)); action = extern_action P I w e call_values to }))
               (carry_out I w (at_frame' k' regs slots') fs' ls' c' d' (record { turn = not (is_flush_or_fence (Some e)); action = x }))) (sym (extern_same P plan skip I w e call_values to))
           (after_carry clone (at_frame k regs slots) (at_frame' k' regs slots') fs fs' ls ls' (here_tied call_instr h) below ahead holds (not (is_flush_or_fence (Some e))) _ _ w c d c' d'
-              (λ _. after_plain call_instr h refl c d c' d' (cond (not (is_flush_or_fence (Some e))) (with_turn w) w) (extern_action P I w e call_values to) (plain_extern P I w e call_values to)))))
-        where
-          same_name : (b2 : Bool) → cond b2 (clone_name (clones_of P plan) callee) callee ≡ callee
-          same_name true = extern_name P plan skip good callee e q
-          same_name false = refl
+              (λ _. after_plain call_instr h refl c d c' d' timed (cond (not (is_flush_or_fence (Some e))) (with_turn w) w) (extern_action P I w e call_values to) (plain_extern P I w e call_values to)))))
 
-      after_defined : call_of callee ≡ None → (g : ℕ) → function_number P callee ≡ Some g →
+      after_defined : call_of callee ≡ None →
           After (carry_out I w (at_frame k regs slots) fs ls c d (record { turn = is_turn call_instr; action = instr_action P I w (length fs) regs call_instr }))
               (carry_out I w (at_frame' k' regs slots') fs' ls' c' d' (record { turn = is_turn (renamed (clones_of P plan) call_instr to_clone); action = instr_action Q I w (length fs') regs (renamed (clones_of P plan) call_instr to_clone) }))
       unfolding instr_action
-      after_defined q g e = go to_clone (λ z. or_left clone (has_site plan.hoist here_site) z) (λ z. or_right clone (has_site plan.hoist here_site) z) is_cloned
+      after_defined q =
+          let at_place = get_drop (body_at P f b) k call_instr is h.0 in
+          let g = defined_callee P plan skip good clone f f' b k tw to ret callee args at_place q in
+          let there = number_there P callee g.0 g.1 in
+          by_twin g.0 there.0 g.1 there.1 (called_twin P plan skip good clone f f' b k tw to ret callee args at_place g.0 there.0 g.1 there.1)
         where
-          there : (fn : Function) × (slice_get P.functions g ≡ Some fn)
-          there = number_there P callee g e
-
-          at_place : slice_get (body_at P f b) k ≡ Some call_instr
-          at_place = get_drop (body_at P f b) k call_instr is h.0
-
-          cloned_by : (x y : Bool) → clone ≡ x → has_site plan.hoist here_site ≡ y → x || y ≡ true → In g (cloned P plan)
-          cloned_by true y u v z = let high = tw.high u in cloned_closed P plan skip good f b k to ret callee args g (get_in (cloned P plan) high.0 f high.2) at_place e
-          cloned_by false true u v z = hoisted_cloned P plan skip good here_site to ret callee args g v (instr_at_place P f b k ∙ at_place) e
-          cloned_by false false u v z = absurd (let n : ⊥ = cc in n)
-
-          is_cloned : to_clone ≡ true → In g (cloned P plan)
-          is_cloned z = cloned_by clone (has_site plan.hoist here_site) refl refl z
-
-          by_twin : (into : Bool) → (clone ≡ true → into ≡ true) → (has_site plan.hoist here_site ≡ true → into ≡ true) → (name : List ℕ) → CallsTwin P plan skip into name g there.0 →
-              After (carry_out I w (at_frame k regs slots) fs ls c d (record { turn = not (is_flush_or_fence (call_of callee)); action = call_action P I w (length fs) (call_of callee) callee call_values to }))
-                  (carry_out I w (at_frame' k' regs slots') fs' ls' c' d' (record { turn = not (is_flush_or_fence (call_of name)); action = call_action Q I w (length fs') (call_of name) name call_values to }))
-          by_twin into u v name twin =
-              subst (λ (o : Option ExternCall). After (carry_out I w (at_frame k regs slots) fs ls c d (record { turn = not (is_flush_or_fence o); action = call_action P I w (length fs) o callee call_values to }))
-                  (carry_out I w (at_frame' k' regs slots') fs' ls' c' d' (record { turn = not (is_flush_or_fence (call_of name)); action = call_action Q I w (length fs') (call_of name) name call_values to }))) (sym q)
-              (subst (λ (o : Option ExternCall). After (carry_out I w (at_frame k regs slots) fs ls c d (record { turn = true; action = entered P (length fs) callee call_values to }))
-                  (carry_out I w (at_frame' k' regs slots') fs' ls' c' d' (record { turn = not (is_flush_or_fence o); action = call_action Q I w (length fs') o name call_values to }))) (sym twin.free)
-              (after_carry clone (at_frame k regs slots) (at_frame' k' regs slots') fs fs' ls ls' (here_tied call_instr h) below ahead holds true _ _ w c d c' d'
-                  (λ _. after_bound into u v name g there.0 e there.1 twin)))
-
-          go : (into : Bool) → (clone ≡ true → into ≡ true) → (has_site plan.hoist here_site ≡ true → into ≡ true) → (into ≡ true → In g (cloned P plan)) →
+          by_twin : (g : ℕ) (fn : Function) → function_number P callee ≡ Some g → slice_get P.functions g ≡ Some fn → CallsTwin P plan skip to_clone (cond to_clone (clone_name (clones_of P plan) callee) callee) g fn →
               After (carry_out I w (at_frame k regs slots) fs ls c d (record { turn = is_turn call_instr; action = instr_action P I w (length fs) regs call_instr }))
-                  (carry_out I w (at_frame' k' regs slots') fs' ls' c' d' (record { turn = is_turn (renamed (clones_of P plan) call_instr into); action = instr_action Q I w (length fs') regs (renamed (clones_of P plan) call_instr into) }))
-          go true u v i = by_twin true u v (clone_name (clones_of P plan) callee) (calls_clone P plan skip good callee g there.0 e there.1 (i refl))
-          go false u v i = by_twin false u v callee (calls_plain P plan skip good callee g there.0 e there.1)
+                  (carry_out I w (at_frame' k' regs slots') fs' ls' c' d' (record { turn = is_turn (renamed (clones_of P plan) call_instr to_clone); action = instr_action Q I w (length fs') regs (renamed (clones_of P plan) call_instr to_clone) }))
+          by_twin g fn e there twin =
+              subst (λ (o : Option ExternCall). After (carry_out I w (at_frame k regs slots) fs ls c d (record { turn = not (is_flush_or_fence o); action = call_action P I w (length fs) o callee call_values to }))
+                  (carry_out I w (at_frame' k' regs slots') fs' ls' c' d' (record { turn = is_turn (renamed (clones_of P plan) call_instr to_clone); action = instr_action Q I w (length fs') regs (renamed (clones_of P plan) call_instr to_clone) }))) (sym q)
+              (subst (λ (o : Option ExternCall). After (carry_out I w (at_frame k regs slots) fs ls c d (record { turn = true; action = entered P (length fs) callee call_values to }))
+                  (carry_out I w (at_frame' k' regs slots') fs' ls' c' d' (record { turn = not (is_flush_or_fence o); action = call_action Q I w (length fs') o (cond to_clone (clone_name (clones_of P plan) callee) callee) call_values to }))) (sym twin.free)
+              (after_carry clone (at_frame k regs slots) (at_frame' k' regs slots') fs fs' ls ls' (here_tied call_instr h) below ahead holds true _ _ w c d c' d'
+                  (λ _. after_bound to_clone (or_left clone (has_site plan.hoist here_site)) (or_right clone (has_site plan.hoist here_site)) (cond to_clone (clone_name (clones_of P plan) callee) callee) g fn e there twin)))
 
       after_call : After (carry_out I w (at_frame k regs slots) fs ls c d (record { turn = is_turn call_instr; action = instr_action P I w (length fs) regs call_instr }))
           (carry_out I w (at_frame' k' regs slots') fs' ls' c' d' (record { turn = is_turn (renamed (clones_of P plan) call_instr to_clone); action = instr_action Q I w (length fs') regs (renamed (clones_of P plan) call_instr to_clone) }))
       after_call = go (call_of callee) refl
         where
-          defined : (call_of callee ≡ None) → ((x : ExternCall) × (call_of callee ≡ Some x)) ⊎ ((g : ℕ) × (function_number P callee ≡ Some g)) → (g : ℕ) × (function_number P callee ≡ Some g)
-          defined q (inl x) = absurd (let e = x.1 in let n : ⊥ = cc in n)
-          defined q (inr g) = g
-
           go : (o : Option ExternCall) → call_of callee ≡ o → After (carry_out I w (at_frame k regs slots) fs ls c d (record { turn = is_turn call_instr; action = instr_action P I w (length fs) regs call_instr }))
               (carry_out I w (at_frame' k' regs slots') fs' ls' c' d' (record { turn = is_turn (renamed (clones_of P plan) call_instr to_clone); action = instr_action Q I w (length fs') regs (renamed (clones_of P plan) call_instr to_clone) }))
           go (Some x) q = after_extern x q
-          go None q = let g = defined q (good.calls f b k to ret callee args (get_drop (body_at P f b) k call_instr is h.0)) in after_defined q g.0 g.1
+          go None q = after_defined q
 
     -- ---- each instruction
+
+    timed_at : (w : World) (c : Counts) → (reach : (n : ℕ) × (run P I n ≡ state w (at_frame k regs slots ∷ fs) ls c)) → (g : Flush) → Known ls g → g.step < c.steps
+    timed_at w c reach g known = (subst (HasHistory P) reach.1 (has_history P I reach.0)).flush_made known.0 g known.1 known.2
 
     after_instr : (i : Instr) → Here i → (w : World) (c d c' d' : Counts) → w.ending ≡ None → (reach : (n : ℕ) × (run P I n ≡ state w (at_frame k regs slots ∷ fs) ls c)) →
         After (carry_out I w (at_frame k regs slots) fs ls c d (record { turn = is_turn i; action = instr_action P I w (length fs) regs i }))
@@ -467,14 +479,14 @@ module _ (P : Program) (plan : Plan) (skip : Site → Bool) (I : Input) (good : 
             positive : (b2 : Bool) → not b2 ≡ false → b2 ≡ true
             positive true z = refl
             positive false z = absurd (let n : ⊥ = cc in n)
-    after_instr (Call to ret callee args) h w c d c' d' going reach = after_call to ret callee args h w c d c' d'
-    after_instr (Binary to op flags width x y) h w c d c' d' going reach = after_carry clone (at_frame k regs slots) (at_frame' k' regs slots') fs fs' ls ls' (here_tied _ h) below ahead holds true _ _ w c d c' d' (λ _. after_plain _ h refl c d c' d' (with_turn w) _ (plain_calculated to _))
-    after_instr (Compare to pred ty x y) h w c d c' d' going reach = after_carry clone (at_frame k regs slots) (at_frame' k' regs slots') fs fs' ls ls' (here_tied _ h) below ahead holds true _ _ w c d c' d' (λ _. after_plain _ h refl c d c' d' (with_turn w) _ (record { is = tt }))
-    after_instr (Select to test ty x y) h w c d c' d' going reach = after_carry clone (at_frame k regs slots) (at_frame' k' regs slots') fs fs' ls ls' (here_tied _ h) below ahead holds true _ _ w c d c' d' (λ _. after_plain _ h refl c d c' d' (with_turn w) _ (record { is = tt }))
-    after_instr (Cast to op from x ty) h w c d c' d' going reach = after_carry clone (at_frame k regs slots) (at_frame' k' regs slots') fs fs' ls ls' (here_tied _ h) below ahead holds true _ _ w c d c' d' (λ _. after_plain _ h refl c d c' d' (with_turn w) _ (record { is = tt }))
-    after_instr (Alloca to ty align) h w c d c' d' going reach = after_carry clone (at_frame k regs slots) (at_frame' k' regs slots') fs fs' ls ls' (here_tied _ h) below ahead holds true _ _ w c d c' d' (λ _. after_plain _ h refl c d c' d' (with_turn w) _ (plain_allocated w to _ _))
-    after_instr (Load to ty addr align) h w c d c' d' going reach = after_carry clone (at_frame k regs slots) (at_frame' k' regs slots') fs fs' ls ls' (here_tied _ h) below ahead holds true _ _ w c d c' d' (λ _. after_plain _ h refl c d c' d' (with_turn w) (instr_action P I w (length fs) regs (Load to ty addr align)) (plain_load P I w (length fs) regs to ty addr align))
-    after_instr (Gep to inbounds ty pointer indices) h w c d c' d' going reach = after_carry clone (at_frame k regs slots) (at_frame' k' regs slots') fs fs' ls ls' (here_tied _ h) below ahead holds true _ _ w c d c' d' (λ _. after_plain _ h refl c d c' d' (with_turn w) _ (record { is = tt }))
+    after_instr (Call to ret callee args) h w c d c' d' going reach = after_call to ret callee args h w c d c' d' (timed_at w c reach)
+    after_instr (Binary to op flags width x y) h w c d c' d' going reach = after_carry clone (at_frame k regs slots) (at_frame' k' regs slots') fs fs' ls ls' (here_tied _ h) below ahead holds true _ _ w c d c' d' (λ _. after_plain _ h refl c d c' d' (timed_at w c reach) (with_turn w) _ (plain_calculated to _))
+    after_instr (Compare to pred ty x y) h w c d c' d' going reach = after_carry clone (at_frame k regs slots) (at_frame' k' regs slots') fs fs' ls ls' (here_tied _ h) below ahead holds true _ _ w c d c' d' (λ _. after_plain _ h refl c d c' d' (timed_at w c reach) (with_turn w) _ (record { is = tt }))
+    after_instr (Select to test ty x y) h w c d c' d' going reach = after_carry clone (at_frame k regs slots) (at_frame' k' regs slots') fs fs' ls ls' (here_tied _ h) below ahead holds true _ _ w c d c' d' (λ _. after_plain _ h refl c d c' d' (timed_at w c reach) (with_turn w) _ (record { is = tt }))
+    after_instr (Cast to op from x ty) h w c d c' d' going reach = after_carry clone (at_frame k regs slots) (at_frame' k' regs slots') fs fs' ls ls' (here_tied _ h) below ahead holds true _ _ w c d c' d' (λ _. after_plain _ h refl c d c' d' (timed_at w c reach) (with_turn w) _ (record { is = tt }))
+    after_instr (Alloca to ty align) h w c d c' d' going reach = after_carry clone (at_frame k regs slots) (at_frame' k' regs slots') fs fs' ls ls' (here_tied _ h) below ahead holds true _ _ w c d c' d' (λ _. after_plain _ h refl c d c' d' (timed_at w c reach) (with_turn w) _ (plain_allocated w to _ _))
+    after_instr (Load to ty addr align) h w c d c' d' going reach = after_carry clone (at_frame k regs slots) (at_frame' k' regs slots') fs fs' ls ls' (here_tied _ h) below ahead holds true _ _ w c d c' d' (λ _. after_plain _ h refl c d c' d' (timed_at w c reach) (with_turn w) (instr_action P I w (length fs) regs (Load to ty addr align)) (plain_load P I w (length fs) regs to ty addr align))
+    after_instr (Gep to inbounds ty pointer indices) h w c d c' d' going reach = after_carry clone (at_frame k regs slots) (at_frame' k' regs slots') fs fs' ls ls' (here_tied _ h) below ahead holds true _ _ w c d c' d' (λ _. after_plain _ h refl c d c' d' (timed_at w c reach) (with_turn w) _ (record { is = tt }))
 
   -- ---- the block's end
 

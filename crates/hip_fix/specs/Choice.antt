@@ -18,27 +18,27 @@ pub record Candidate : Type 0 where
   pub score : Option ℤ
 
 -- a site without a score is below each that has one
-abbrev is_better : Option ℤ → Option ℤ → Bool
+abbrev pub is_better : Option ℤ → Option ℤ → Bool
 is_better None (Some b) = true
 is_better (Some a) (Some b) = int_lt a b
 is_better _ None = false
 
-abbrev better : Candidate → Candidate → Candidate
+abbrev pub better : Candidate → Candidate → Candidate
 better best new = cond (is_better best.score new.score) new best
 
 -- the best of a candidate and of the levels from a number on, of which so many are candidates
-abbrev best_of : Program → Findings → Candidate → ℕ → ℕ → List Site → Candidate
+abbrev pub best_of : Program → Findings → Candidate → ℕ → ℕ → List Site → Candidate
 best_of P found best level zero path = best
 best_of P found best level (suc more) [] = best
 best_of P found best level (suc more) (site ∷ path) = best_of P found (better best (record { level = level; score = score P found site })) (suc level) more path
 
-abbrev best_on : Program → Findings → ℕ → List Site → ℕ
+abbrev pub best_on : Program → Findings → ℕ → List Site → ℕ
 best_on P found closed [] = 0
 best_on P found closed (store ∷ calls) = (best_of P found (record { level = 0; score = score P found store }) 1 closed calls).level
 
 -- The level of the greatest score among the store's, which is 0, and those of the calls that had returned and have a pointer operand;
 -- the innermost one where scores are equal. A missing fence needs no level.
-abbrev level_for : Program → Findings → Report → Kind → ℕ
+abbrev pub level_for : Program → Findings → Report → Kind → ℕ
 level_for P found r MissingFence = 0
 level_for P found r MissingFlush = best_on P found r.closed r.path
 level_for P found r MissingBoth = best_on P found r.closed r.path
@@ -48,27 +48,27 @@ choice P found r = level_for P found r r.kind
 
 -- ---- what a report asks for
 
-abbrev is_site : Option Site → Site → Bool
+abbrev pub is_site : Option Site → Site → Bool
 is_site None s = false
 is_site (Some t) s = same_site s t
 
-abbrev site_at : ℕ → List Site → Option Site
+abbrev pub site_at : ℕ → List Site → Option Site
 site_at level [] = None
 site_at zero (s ∷ path) = Some s
 site_at (suc level) (s ∷ path) = site_at level path
 
 -- whether a report that is repaired at a level asks for a flush, or a fence, behind a site, or for the hoist of a call
-abbrev asks_flush : Kind → ℕ → List Site → Site → Bool
+abbrev pub asks_flush : Kind → ℕ → List Site → Site → Bool
 asks_flush MissingFence level path s = false
 asks_flush MissingFlush level path s = nat_eq level 0 && is_site (site_at 0 path) s
 asks_flush MissingBoth level path s = nat_eq level 0 && is_site (site_at 0 path) s
 
-abbrev asks_fence : Kind → ℕ → Option Site → List Site → Site → Bool
+abbrev pub asks_fence : Kind → ℕ → Option Site → List Site → Site → Bool
 asks_fence MissingFence level flush path s = is_site flush s
 asks_fence MissingFlush level flush path s = false
 asks_fence MissingBoth level flush path s = nat_eq level 0 && is_site (site_at 0 path) s
 
-abbrev asks_hoist : Kind → ℕ → List Site → Site → Bool
+abbrev pub asks_hoist : Kind → ℕ → List Site → Site → Bool
 asks_hoist MissingFence level path s = false
 asks_hoist MissingFlush zero path s = false
 asks_hoist MissingFlush (suc level) path s = is_site (site_at (suc level) path) s

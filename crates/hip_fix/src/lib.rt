@@ -1,6 +1,8 @@
 //! Repairs of programs: flushes and fences that are inserted, and clones that flush what they store.
 #![tactic(auto)]
 
+mod laws;
 mod plan;
 
+pub use laws::{repairs_are_clean, repairs_do_no_harm};
 pub use plan::{CloneOf, Plan};

@@ -10,3 +10,7 @@ pub mod Reports
 pub mod Objects
 pub mod Marks
 pub mod Scores
+pub mod Parts
+pub mod History
+pub mod PartLaws
+pub mod HistoryLaws

@@ -25,7 +25,7 @@ abbrev pub stored_lines : Input → Counts → Site → List Level → ℕ → L
 stored_lines I counts site levels a bytes ls =
     cond (in_region I a (length bytes)) (stored (part_of_store counts site levels (a - I.base) bytes) (a - I.base) (length bytes) ls) ls
 
-abbrev earlier : Option Flush → Flush → Option Flush
+abbrev pub earlier : Option Flush → Flush → Option Flush
 earlier None flush = Some flush
 earlier (Some first) flush = Some first
 

@@ -19,7 +19,7 @@ use Rattle.hip_step.specs.Step.{event, run, has_ended}
 -- ---- loose parts
 
 -- whether a range of n bytes from o has a byte of so many bytes from b on that none of the later parts covers
-abbrev shows : ℕ → ℕ → ℕ → ℕ → List StorePart → Bool
+abbrev pub shows : ℕ → ℕ → ℕ → ℕ → List StorePart → Bool
 shows o n zero b later = false
 shows o n (suc count) b later = (nat_le o b && (nat_lt b (o + n) && not (list_any (λ q. covers q b) later))) || shows o n count (suc b) later
 
@@ -50,13 +50,13 @@ loose_parts o n ls made = flat_map (loose_in o n made) ls
 -- ---- one report
 
 -- the later of two flushes
-abbrev later_flush : Option Flush → Option Flush → Option Flush
+abbrev pub later_flush : Option Flush → Option Flush → Option Flush
 later_flush None b = b
 later_flush (Some a) None = Some a
 later_flush (Some a) (Some b) = cond (nat_lt a.step b.step) (Some b) (Some a)
 
 -- the latest among the first flushes of the parts' lines
-abbrev latest_flush : List LoosePart → Option Flush
+abbrev pub latest_flush : List LoosePart → Option Flush
 latest_flush [] = None
 latest_flush (p ∷ ps) = later_flush p.part.first_flush (latest_flush ps)
 
@@ -70,7 +70,7 @@ abbrev pub all_flushed : List LoosePart → Bool
 all_flushed ps = list_all (λ p. p.flushed) ps
 
 -- the site of the flush that lacks a fence
-abbrev flush_site_of : Bool → List LoosePart → Option Site
+abbrev pub flush_site_of : Bool → List LoosePart → Option Site
 flush_site_of true ps = option_map (λ f. f.site) (latest_flush ps)
 flush_site_of false ps = None
 
@@ -83,7 +83,7 @@ abbrev pub closed_count : List Level → List Level → ℕ
 closed_count standing [] = 0
 closed_count standing (l ∷ ls) = cond (is_open standing l) (closed_count standing ls) (suc (closed_count standing ls))
 
-abbrev report_by : List Level → ℕ → StorePart → List LoosePart → Report
+abbrev pub report_by : List Level → ℕ → StorePart → List LoosePart → Report
 report_by standing check p ps =
     record {
       entry = p.entry;

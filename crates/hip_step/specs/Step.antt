@@ -31,7 +31,7 @@ first_line I a = I.base + 64 * ((a - I.base) / 64)
 abbrev lines_size : Input → ℕ → ℕ → ℕ
 lines_size I a n = 64 * (((a - I.base) + n - 1) / 64 + 1) - 64 * ((a - I.base) / 64)
 
-abbrev is_bottom : List Frame → Bool
+abbrev pub is_bottom : List Frame → Bool
 is_bottom [] = true
 is_bottom (f ∷ fs) = false
 
@@ -140,11 +140,11 @@ on_ending P I s None = on_frames P I s.world s.lines s.counts s.frames
 unfoldable pub step : Program → Input → State → State
 step P I s = on_ending P I s s.world.ending
 
-abbrev event_on_frames : Program → Input → World → List Frame → Event
+abbrev pub event_on_frames : Program → Input → World → List Frame → Event
 event_on_frames P I w [] = events.Quiet
 event_on_frames P I w (f ∷ fs) = event_at I w fs (deed_at P I w f fs)
 
-abbrev event_on_ending : Program → Input → State → Option Ending → Event
+abbrev pub event_on_ending : Program → Input → State → Option Ending → Event
 event_on_ending P I s (Some e) = events.End e
 event_on_ending P I s None = event_on_frames P I s.world s.frames
 

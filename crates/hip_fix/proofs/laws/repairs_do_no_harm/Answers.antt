@@ -1,0 +1,5 @@
+use Rattle.hip_fix.proofs.Harm.{harmless}
+use Rattle.hip_fix.proofs.laws.repairs_do_no_harm.Goals as goal
+
+pub returns : goal.returns
+returns c = harmless

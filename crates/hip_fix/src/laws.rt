@@ -1,0 +1,31 @@
+//! The theorems about repairs, on definitions alone.
+
+ghost use Rattle.hip_ir.specs.declared.program.Program.{Program};
+ghost use Rattle.hip_ir.specs.declared.site.Site.{Site};
+ghost use Rattle.hip_typing.specs.Sound.{IsSound};
+ghost use Rattle.hip_step.specs.Marks.{IsFound};
+ghost use Rattle.hip_step.specs.Validity.{IsValid};
+ghost use Rattle.hip_step.specs.declared.input.Input.{Input};
+ghost use Rattle.hip_step.specs.declared.report.Findings.{Findings};
+ghost use Rattle.hip_fix.specs.Choice.{Contains, plan_for};
+ghost use Rattle.hip_fix.specs.Clean.{IsClean};
+ghost use Rattle.hip_fix.specs.Harmless.{IsHarmless};
+ghost use Rattle.hip_fix.specs.Quiet.{IsQuiet};
+ghost use Rattle.hip_fix.specs.Repaired.{repaired};
+ghost use Rattle.hip_fix.specs.declared.plan.Plan.{Plan};
+ghost use Rattle.std.specs.Prelude.{Bool};
+
+/// A repair does no harm, by whatever plan, and whatever stores the clones do not flush.
+pub fn repairs_do_no_harm()
+    ensures { (P : Program) → (plan : Plan) → (skip : Site → Bool) → IsSound P → IsHarmless P plan skip }
+{}
+
+/// A repair by a plan that has what a run found leaves nothing to report on that run's input, where the stores that the
+/// clones do not flush never lie in the region.
+pub fn repairs_are_clean()
+    ensures {
+        (P : Program) → (plan : Plan) → (skip : Site → Bool) → (I : Input) → (found : Findings) →
+        IsSound P → IsValid P I → IsQuiet P skip → IsFound P I found → Contains plan (plan_for P found) →
+        IsClean (repaired P plan skip) I
+    }
+{}

@@ -119,267 +119,57 @@ impl Structural for Arg {
     }
 }
 
+/// Copies a variant field by field: the fields in braces by `copy`, those in brackets as they are.
+macro_rules! copy_variant {
+    ($instr:expr, $alloc:expr, $($variant:ident { $($field:ident),* } [ $($plain:ident),* ],)*) => {
+        match $instr {
+            $(Instr::$variant { $($field,)* $($plain,)* } => Ok(Instr::$variant {
+                $($field: $field.copy($alloc)?,)*
+                $($plain: *$plain,)*
+            }),)*
+        }
+    };
+}
+
+/// Compares two values of one variant field by field: the fields in braces by `same`, those in brackets by `==`. Behind each
+/// field stands the name of the other value's.
+macro_rules! same_variant {
+    ($a:expr, $b:expr, $($variant:ident { $($x:ident $y:ident),* } [ $($p:ident $q:ident),* ],)*) => {
+        match ($a, $b) {
+            $((Instr::$variant { $($x,)* $($p,)* }, Instr::$variant { $($x: $y,)* $($p: $q,)* }) => {
+                true $(&& $x.same($y))* $(&& *$p == *$q)*
+            })*
+            _ => false,
+        }
+    };
+}
+
 impl Structural for Instr {
     fn copy(&self, alloc: Global) -> Result<Instr, NoMemory> {
-        match self {
-            Instr::Binary {
-                dest,
-                op,
-                flags,
-                width,
-                a,
-                b,
-            } => Ok(Instr::Binary {
-                dest: dest.copy(alloc)?,
-                op: *op,
-                flags: *flags,
-                width: *width,
-                a: a.copy(alloc)?,
-                b: b.copy(alloc)?,
-            }),
-            Instr::Compare {
-                dest,
-                pred,
-                ty,
-                a,
-                b,
-            } => Ok(Instr::Compare {
-                dest: dest.copy(alloc)?,
-                pred: *pred,
-                ty: *ty,
-                a: a.copy(alloc)?,
-                b: b.copy(alloc)?,
-            }),
-            Instr::Select {
-                dest,
-                cond,
-                ty,
-                a,
-                b,
-            } => Ok(Instr::Select {
-                dest: dest.copy(alloc)?,
-                cond: cond.copy(alloc)?,
-                ty: *ty,
-                a: a.copy(alloc)?,
-                b: b.copy(alloc)?,
-            }),
-            Instr::Cast {
-                dest,
-                op,
-                from,
-                a,
-                to,
-            } => Ok(Instr::Cast {
-                dest: dest.copy(alloc)?,
-                op: *op,
-                from: *from,
-                a: a.copy(alloc)?,
-                to: *to,
-            }),
-            Instr::Alloca { dest, ty, align } => Ok(Instr::Alloca {
-                dest: dest.copy(alloc)?,
-                ty: ty.copy(alloc)?,
-                align: *align,
-            }),
-            Instr::Load {
-                dest,
-                ty,
-                addr,
-                align,
-            } => Ok(Instr::Load {
-                dest: dest.copy(alloc)?,
-                ty: *ty,
-                addr: addr.copy(alloc)?,
-                align: *align,
-            }),
-            Instr::Store {
-                ty,
-                value,
-                addr,
-                align,
-            } => Ok(Instr::Store {
-                ty: *ty,
-                value: value.copy(alloc)?,
-                addr: addr.copy(alloc)?,
-                align: *align,
-            }),
-            Instr::Gep {
-                dest,
-                inbounds,
-                ty,
-                base,
-                indices,
-            } => Ok(Instr::Gep {
-                dest: dest.copy(alloc)?,
-                inbounds: *inbounds,
-                ty: ty.copy(alloc)?,
-                base: base.copy(alloc)?,
-                indices: indices.copy(alloc)?,
-            }),
-            Instr::Call {
-                dest,
-                ret,
-                callee,
-                args,
-            } => Ok(Instr::Call {
-                dest: dest.copy(alloc)?,
-                ret: *ret,
-                callee: callee.copy(alloc)?,
-                args: args.copy(alloc)?,
-            }),
-        }
+        copy_variant!(self, alloc,
+            Binary { dest, op, width, a, b } [flags],
+            Compare { dest, pred, ty, a, b } [],
+            Select { dest, cond, ty, a, b } [],
+            Cast { dest, op, from, a, to } [],
+            Alloca { dest, ty } [align],
+            Load { dest, ty, addr } [align],
+            Store { ty, value, addr } [align],
+            Gep { dest, ty, base, indices } [inbounds],
+            Call { dest, ret, callee, args } [],
+        )
     }
 
     fn same(&self, other: &Instr) -> bool {
-        match (self, other) {
-            (
-                Instr::Binary {
-                    dest,
-                    op,
-                    flags,
-                    width,
-                    a,
-                    b,
-                },
-                Instr::Binary {
-                    dest: to,
-                    op: by,
-                    flags: marks,
-                    width: wide,
-                    a: x,
-                    b: y,
-                },
-            ) => {
-                dest.same(to)
-                    && op.same(by)
-                    && *flags == *marks
-                    && width.same(wide)
-                    && a.same(x)
-                    && b.same(y)
-            }
-            (
-                Instr::Compare {
-                    dest,
-                    pred,
-                    ty,
-                    a,
-                    b,
-                },
-                Instr::Compare {
-                    dest: to,
-                    pred: by,
-                    ty: at,
-                    a: x,
-                    b: y,
-                },
-            ) => dest.same(to) && pred.same(by) && ty.same(at) && a.same(x) && b.same(y),
-            (
-                Instr::Select {
-                    dest,
-                    cond,
-                    ty,
-                    a,
-                    b,
-                },
-                Instr::Select {
-                    dest: to,
-                    cond: by,
-                    ty: at,
-                    a: x,
-                    b: y,
-                },
-            ) => dest.same(to) && cond.same(by) && ty.same(at) && a.same(x) && b.same(y),
-            (
-                Instr::Cast {
-                    dest,
-                    op,
-                    from,
-                    a,
-                    to,
-                },
-                Instr::Cast {
-                    dest: place,
-                    op: by,
-                    from: first,
-                    a: x,
-                    to: last,
-                },
-            ) => {
-                dest.same(place) && op.same(by) && from.same(first) && a.same(x) && to.same(last)
-            }
-            (
-                Instr::Alloca { dest, ty, align },
-                Instr::Alloca {
-                    dest: to,
-                    ty: at,
-                    align: to_align,
-                },
-            ) => dest.same(to) && ty.same(at) && *align == *to_align,
-            (
-                Instr::Load {
-                    dest,
-                    ty,
-                    addr,
-                    align,
-                },
-                Instr::Load {
-                    dest: to,
-                    ty: at,
-                    addr: from,
-                    align: to_align,
-                },
-            ) => dest.same(to) && ty.same(at) && addr.same(from) && *align == *to_align,
-            (
-                Instr::Store {
-                    ty,
-                    value,
-                    addr,
-                    align,
-                },
-                Instr::Store {
-                    ty: at,
-                    value: x,
-                    addr: to,
-                    align: to_align,
-                },
-            ) => ty.same(at) && value.same(x) && addr.same(to) && *align == *to_align,
-            (
-                Instr::Gep {
-                    dest,
-                    inbounds,
-                    ty,
-                    base,
-                    indices,
-                },
-                Instr::Gep {
-                    dest: to,
-                    inbounds: bound,
-                    ty: at,
-                    base: from,
-                    indices: by,
-                },
-            ) => {
-                dest.same(to)
-                    && *inbounds == *bound
-                    && ty.same(at)
-                    && base.same(from)
-                    && indices.same(by)
-            }
-            (
-                Instr::Call {
-                    dest,
-                    ret,
-                    callee,
-                    args,
-                },
-                Instr::Call {
-                    dest: to,
-                    ret: gives,
-                    callee: called,
-                    args: with,
-                },
-            ) => dest.same(to) && ret.same(gives) && callee.same(called) && args.same(with),
-            _ => false,
-        }
+        same_variant!(self, other,
+            Binary { dest to, op by, width wide, a x, b y } [flags marks],
+            Compare { dest to, pred by, ty at, a x, b y } [],
+            Select { dest to, cond test, ty at, a x, b y } [],
+            Cast { dest place, op by, from first, a x, to last } [],
+            Alloca { dest to, ty at } [align bytes],
+            Load { dest to, ty at, addr from } [align bytes],
+            Store { ty at, value x, addr to } [align bytes],
+            Gep { dest to, ty at, base from, indices by } [inbounds bound],
+            Call { dest to, ret gives, callee called, args with } [],
+        )
     }
 }

@@ -1,11 +1,14 @@
 //! Which trees some text reads as. The rules are those of the grammar that the types of the tree leave open.
 
-ghost use Rattle.std.specs.Prelude.{◌≡◌, ◌&&◌};
+ghost use Rattle.std.specs.Prelude.{◌≡◌, ◌&&◌, ◌↔◌, ℕ, List, IsTrue};
 ghost use Rattle.std.specs.List.{list_all};
+ghost use Rattle.hip_types.specs.declared.number.Scalar.TheVariants.{Int, Ptr};
+ghost use Rattle.hip_types.specs.declared.number.Width.TheVariants.{W1};
 ghost use Rattle.hip_types.specs.declared.ty.Ty.{out-Ty};
 ghost use Rattle.hip_ir.specs.declared.constant.Const.{out-Const};
 ghost use Rattle.hip_ir.specs.Bodies.{may_wrap, may_be_exact};
-ghost use Rattle.hip_ir.specs.Spelling.{not_empty, spelled_align, spelled_flat, spelled_type_within, of_width, spelled_gep, spelled_pointer_within, spelled_int, spelled_item, spelled_const_within, spelled_scalar_const, spelled_operand, spelled_arg, is_int_type, spelled_index, spelled_flags, spelled_cast, spelled_result, spelled_memory_instr, spelled_instr, spelled_edge, spelled_phi, spelled_case, spelled_end, spelled_block, spelled_global, spelled_extern, spelled_param, spelled_function, spelled_program};
+ghost use Rattle.hip_ir.specs.Reading.{Reads, IsSpelled};
+ghost use Rattle.hip_ir.specs.Spelling.{not_empty, spelled_align, spelled_flat, spelled_type, spelled_type_within, of_width, spelled_gep, spelled_pointer_within, spelled_int, spelled_item, spelled_const_within, spelled_scalar_const, spelled_operand, spelled_arg, is_int_type, spelled_index, spelled_flags, spelled_cast, spelled_result, spelled_memory_instr, spelled_instr, spelled_edge, spelled_phi, spelled_case, spelled_end, spelled_block, spelled_global, spelled_extern, spelled_param, spelled_function, spelled_program};
 
 use crate::block::{Block, Case, Edge, End, Phi};
 use crate::constant::{Const, ConstGep, TypedConst};
@@ -251,6 +254,23 @@ fn spelled_args(args: &[Arg]) -> bool
     args.iter().all(|arg| spelled_arg(arg))
 }
 
+/// Where a load or a store goes, and the alignment that is written there.
+fn spelled_access(addr: &Operand, align: &Option<u64>) -> bool
+    ensures { result ≡ (spelled_operand Ptr addr.now && spelled_align align.now) }
+{
+    spelled_operand(Scalar::Ptr, addr) && spelled_align(align)
+}
+
+/// What `getelementptr` goes over, and by which indices.
+fn spelled_element(ty: &Ty, base: &Operand, indices: &[Arg]) -> bool
+    ensures { result ≡ (spelled_type ty.now && (spelled_operand Ptr base.now && (not_empty indices.now && list_all spelled_index indices.now))) }
+{
+    spelled_type_within(32, ty)
+        && spelled_operand(Scalar::Ptr, base)
+        && not_empty(indices)
+        && spelled_indices(indices)
+}
+
 /// Whether the instruction is one on memory or a call, and meets the rules.
 fn spelled_memory_instr(instr: &Instr) -> bool
     ensures { result ≡ spelled_memory_instr instr.now }
@@ -264,32 +284,20 @@ fn spelled_memory_instr(instr: &Instr) -> bool
             addr,
             align,
             ..
-        } => {
-            is_name(dest.as_slice()) && spelled_operand(Scalar::Ptr, addr) && spelled_align(align)
-        }
+        } => is_name(dest.as_slice()) && spelled_access(addr, align),
         Instr::Store {
             ty,
             value,
             addr,
             align,
-        } => {
-            spelled_operand(*ty, value)
-                && spelled_operand(Scalar::Ptr, addr)
-                && spelled_align(align)
-        }
+        } => spelled_operand(*ty, value) && spelled_access(addr, align),
         Instr::Gep {
             dest,
             ty,
             base,
             indices,
             ..
-        } => {
-            is_name(dest.as_slice())
-                && spelled_type_within(32, ty)
-                && spelled_operand(Scalar::Ptr, base)
-                && not_empty(indices.as_slice())
-                && spelled_indices(indices.as_slice())
-        }
+        } => is_name(dest.as_slice()) && spelled_element(ty, base, indices.as_slice()),
         Instr::Call {
             dest,
             callee,
@@ -298,6 +306,13 @@ fn spelled_memory_instr(instr: &Instr) -> bool
         } => { spelled_result(dest) && is_name(callee.as_slice()) && spelled_args(args.as_slice()) }
         _ => false,
     }
+}
+
+/// Whether the operand may be a test, which is of one bit.
+fn spelled_test(cond: &Operand) -> bool
+    ensures { result ≡ spelled_operand (Int W1) cond.now }
+{
+    spelled_operand(Scalar::Int(Width::W1), cond)
 }
 
 fn spelled_operands(ty: Scalar, a: &Operand, b: &Operand) -> bool
@@ -331,11 +346,7 @@ fn spelled_instr(instr: &Instr) -> bool
             ty,
             a,
             b,
-        } => {
-            is_name(dest.as_slice())
-                && spelled_operand(Scalar::Int(Width::W1), cond)
-                && spelled_operands(*ty, a, b)
-        }
+        } => { is_name(dest.as_slice()) && spelled_test(cond) && spelled_operands(*ty, a, b) }
         Instr::Cast {
             dest,
             op,
@@ -401,9 +412,7 @@ fn spelled_end(end: &End) -> bool
     match end {
         End::Br { label } => is_name(label.as_slice()),
         End::CondBr { cond, yes, no } => {
-            spelled_operand(Scalar::Int(Width::W1), cond)
-                && is_name(yes.as_slice())
-                && is_name(no.as_slice())
+            spelled_test(cond) && is_name(yes.as_slice()) && is_name(no.as_slice())
         }
         End::Switch {
             width,
@@ -479,13 +488,23 @@ fn spelled_functions(functions: &[Function]) -> bool
     functions.iter().all(|function| spelled_function(function))
 }
 
-/// Whether the program is one that some text reads as.
-///
-/// It takes no memory, and time linear in the program. Recursion is bounded by the limits of nesting.
-pub fn spelled(program: &Program) -> bool
+fn meets_rules(program: &Program) -> bool
     ensures { result ≡ spelled_program program.now }
 {
     spelled_globals(program.globals.as_slice())
         && spelled_externs(program.externs.as_slice())
         && spelled_functions(program.functions.as_slice())
+}
+
+/// Whether the program is the one that its canonical text reads as, which is so of every program that some text reads as.
+///
+/// It takes no memory, and time linear in the program. Recursion is bounded by the limits of nesting.
+pub fn spelled(program: &Program) -> bool
+    // The rules on the tree alone decide it.
+    ensures rules { result ≡ spelled_program program.now }
+    ensures read_back { IsTrue result ↔ IsSpelled program.now }
+    // Every program that some text reads as is spelled.
+    ensures only { (text : List ℕ) → Reads text program.now → IsTrue result }
+{
+    meets_rules(program)
 }

@@ -1,8 +1,8 @@
 use crate::{
-    Arg, Block, Const, End, Function, GlobalVar, Instr, Operand, Program, Site, copy, instr_at,
-    same,
+    Arg, Block, Case, Const, End, Flags, Function, GlobalVar, Instr, Operand, Phi, Program, Site,
+    copy, instr_at, same, spelled,
 };
-use hip_types::{Bits, Name, NoMemory, Row, Scalar, Ty, Width};
+use hip_types::{BinaryOp, Bits, CastOp, Link, Name, NoMemory, Row, Scalar, Ty, Width};
 use std::alloc::Global;
 use std::test::Fail;
 
@@ -90,5 +90,171 @@ fn instruction_at_a_site(rt: HostRuntime) -> Result<(), Fail> {
         index: 1,
     };
     assert!(rt; instr_at(&program, past).is_none());
+    Ok(())
+}
+
+/// A program of one function whose body has these instructions, behind a phi or none.
+fn program_of(
+    alloc: Global,
+    label: &str,
+    phis: Row<Phi>,
+    body: Row<Instr>,
+    end: End,
+) -> Result<Program, NoMemory> {
+    let mut blocks = Row::new(alloc);
+    blocks.push(Block {
+        label: name(alloc, label)?,
+        phis,
+        body,
+        end,
+    })?;
+    let mut functions = Row::new(alloc);
+    functions.push(Function {
+        ret: None,
+        name: name(alloc, "f")?,
+        params: Row::new(alloc),
+        blocks,
+    })?;
+    Ok(Program {
+        globals: Row::new(alloc),
+        externs: Row::new(alloc),
+        functions,
+    })
+}
+
+fn is_spelled_instr(alloc: Global, instr: Instr) -> Result<bool, NoMemory> {
+    let mut body = Row::new(alloc);
+    body.push(instr)?;
+    let program = program_of(alloc, "entry", Row::new(alloc), body, End::Ret(None))?;
+    Ok(spelled(&program))
+}
+
+fn is_spelled_end(alloc: Global, end: End) -> Result<bool, NoMemory> {
+    let program = program_of(alloc, "entry", Row::new(alloc), Row::new(alloc), end)?;
+    Ok(spelled(&program))
+}
+
+fn number(width: Width) -> Operand {
+    Operand::Fixed(Const::Int(Bits::new(width, 1)))
+}
+
+/// `%r = add i64 1, 1` with these flags, and the second operand of this width
+fn add(alloc: Global, flags: Flags, second: Width) -> Result<Instr, NoMemory> {
+    Ok(Instr::Binary {
+        dest: name(alloc, "r")?,
+        op: BinaryOp::Add,
+        flags,
+        width: Width::W64,
+        a: number(Width::W64),
+        b: number(second),
+    })
+}
+
+/// `%r = alloca T, align N`, where T is an array of arrays, so many deep
+fn alloca(alloc: Global, depth: u32, align: u64) -> Result<Instr, NoMemory> {
+    let mut ty = Ty::Ptr;
+    for _level in 0..depth {
+        ty = Ty::Array(1, Link::new(alloc, ty)?);
+    }
+    Ok(Instr::Alloca {
+        dest: name(alloc, "r")?,
+        ty,
+        align: Some(align),
+    })
+}
+
+/// `switch i64 1, label %entry [ .. ]` with one case of this width
+fn switch(alloc: Global, width: Width) -> Result<End, NoMemory> {
+    let mut cases = Row::new(alloc);
+    cases.push(Case {
+        value: Bits::new(width, 1),
+        label: name(alloc, "entry")?,
+    })?;
+    Ok(End::Switch {
+        width: Width::W64,
+        value: number(Width::W64),
+        other: name(alloc, "entry")?,
+        cases,
+    })
+}
+
+#[test]
+fn names_are_spelled(rt: HostRuntime) -> Result<(), Fail> {
+    let alloc = rt.alloc();
+    let mut program = one_store(alloc, Some(64))?;
+    assert!(rt; spelled(&program));
+    let mut nameless = global(alloc, None)?;
+    nameless.name = Row::new(alloc);
+    program.globals.push(nameless)?;
+    assert!(rt; !spelled(&program));
+    for label in ["", "1st", "a b"] {
+        let end = End::Ret(None);
+        let program = program_of(alloc, label, Row::new(alloc), Row::new(alloc), end)?;
+        assert!(rt; !spelled(&program));
+    }
+    let to = name(alloc, "%entry")?;
+    assert!(rt; !is_spelled_end(alloc, End::Br { label: to })?);
+    Ok(())
+}
+
+#[test]
+fn instructions_are_spelled(rt: HostRuntime) -> Result<(), Fail> {
+    let alloc = rt.alloc();
+    let wraps = Flags {
+        nuw: true,
+        nsw: true,
+        exact: false,
+    };
+    let exact = Flags {
+        nuw: false,
+        nsw: false,
+        exact: true,
+    };
+    assert!(rt; is_spelled_instr(alloc, add(alloc, wraps, Width::W64)?)?);
+    assert!(rt; !is_spelled_instr(alloc, add(alloc, exact, Width::W64)?)?);
+    assert!(rt; !is_spelled_instr(alloc, add(alloc, wraps, Width::W32)?)?);
+    let cast = Instr::Cast {
+        dest: name(alloc, "r")?,
+        op: CastOp::Ptrtoint,
+        from: Scalar::Int(Width::W64),
+        a: number(Width::W64),
+        to: Scalar::Int(Width::W32),
+    };
+    assert!(rt; !is_spelled_instr(alloc, cast)?);
+    let gep = Instr::Gep {
+        dest: name(alloc, "r")?,
+        inbounds: true,
+        ty: Ty::Ptr,
+        base: Operand::Fixed(Const::Null),
+        indices: Row::new(alloc),
+    };
+    assert!(rt; !is_spelled_instr(alloc, gep)?);
+    Ok(())
+}
+
+#[test]
+fn limits_of_spelling(rt: HostRuntime) -> Result<(), Fail> {
+    let alloc = rt.alloc();
+    assert!(rt; is_spelled_instr(alloc, alloca(alloc, 32, 4096)?)?);
+    assert!(rt; !is_spelled_instr(alloc, alloca(alloc, 33, 4096)?)?);
+    assert!(rt; !is_spelled_instr(alloc, alloca(alloc, 1, 0)?)?);
+    assert!(rt; !is_spelled_instr(alloc, alloca(alloc, 1, 24)?)?);
+    assert!(rt; !is_spelled_instr(alloc, alloca(alloc, 1, 8192)?)?);
+    Ok(())
+}
+
+#[test]
+fn blocks_are_spelled(rt: HostRuntime) -> Result<(), Fail> {
+    let alloc = rt.alloc();
+    assert!(rt; is_spelled_end(alloc, switch(alloc, Width::W64)?)?);
+    assert!(rt; !is_spelled_end(alloc, switch(alloc, Width::W8)?)?);
+    let mut phis = Row::new(alloc);
+    phis.push(Phi {
+        dest: name(alloc, "p")?,
+        ty: Scalar::Ptr,
+        edges: Row::new(alloc),
+    })?;
+    let program = program_of(alloc, "entry", phis, Row::new(alloc), End::Unreachable)?;
+    assert!(rt; !spelled(&program));
     Ok(())
 }

@@ -3,7 +3,7 @@
 ghost use Rattle.std.specs.Prelude.{◌≡◌, ℕ, List, [], ◌∷◌, IfOk, IfErr, IsTrue, ◌↔◌, Option};
 ghost use Rattle.hip_ir.specs.declared.fault.Fault.{Fault};
 ghost use Rattle.hip_ir.specs.declared.program.Program.{Program};
-ghost use Rattle.hip_ir.specs.Reading.{Reads, line_at};
+ghost use Rattle.hip_ir.specs.Reading.{Reads, IsSpelled, line_at};
 ghost use Rattle.hip_ir.specs.TextExact.{whole_text, fault_at};
 ghost use Rattle.hip_ir.specs.Unsupported.{usual};
 ghost use Rattle.hip_parse.specs.Left.{left, Takes};
@@ -92,6 +92,8 @@ fn refusal(fault: Fault, line: u64) -> ParseRefusal
 pub fn parse(alloc: Global, text: &[u8]) -> Result<Program, ParseRefusal>
     // What is answered is what the text reads as.
     ensures read { IfOk result (λ program. Reads text.now program) }
+    // It is also what its canonical text reads as.
+    ensures spelled { IfOk result (λ program. IsSpelled program) }
     // What a text reads as is answered, unless no memory is found.
     ensures only { (program : Program) → Reads text.now program → GivesProgram result program }
     // Which refusal comes, and where.

@@ -1,5 +1,5 @@
 -- Texts of a rule: bytes from whose tokens the rule derives a value, whatever stands before them.
-use Rattle.std.proofs.Common.{◌≡◌, ℕ, Bool, true, false, List, [], ◌∷◌, ◌++◌, Option, Some, None, inl, inr, ◌&&◌, map, map-id, refl, subst, append_assoc}
+use Rattle.std.proofs.Common.{◌≡◌, ℕ, Bool, true, List, [], ◌∷◌, ◌++◌, Some, None, inl, inr, map, map-id, refl, subst, append_assoc}
 use Rattle.std.specs.List.{list_all, flat_map}
 use Rattle.std.proofs.lemmas.Bool.{and_parts}
 use Rattle.hip_tokens.specs.Bytes.{is_blank, is_mark}

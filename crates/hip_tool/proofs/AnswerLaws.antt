@@ -10,12 +10,14 @@ use Rattle.hip_ir.specs.Reading.{Reads}
 use Rattle.hip_ir.specs.TextExact.{one_program}
 use Rattle.hip_tool.specs.Input.{is_base, is_limit, region_size, IsValid}
 use Rattle.hip_tool.specs.Pieces.{spelled}
-use Rattle.hip_tool.specs.OneStore.{is_sound}
+use Rattle.hip_tool.specs.OneStore.{is_one_store}
 use Rattle.hip_tool.specs.Misfit.{Header, Stops, Gives, header, behind_limit, from_base, spelled_limit, spelled_base, valid_limit, valid_base, input_of, DiffersAt, FirstDiffers, MisfitBehind, IsMisfit, IsTraceOf}
 use Rattle.hip_tool.specs.Run.{trace}
-use Rattle.hip_tool.specs.Answer.{IsText, IsProgram, IsTraceFile, Cause, Repairs, RefusesProgram}
+use Rattle.hip_tool.specs.Answer.{IsText, IsProgram, IsTraceFile, Cause, Repairs, RefusesForm, RefusesProgram}
 use Rattle.hip_tool.specs.Reading.{IsRefusedText, RefusesText}
 use Rattle.hip_tool.specs.Laws.{HeadersAreValid, RepairsExclude, RepairsAreOne}
+use Rattle.hip_typing.specs.Sound.{IsSound}
+use Rattle.hip_typing.specs.declared.fault.TypeRefusal.{TypeRefusal}
 use Rattle.hip_parse.specs.declared.error.ParseRefusal.{ParseRefusal}
 use Rattle.hip_parse.specs.declared.error.ParseRefusal.TheVariants as parse
 use Rattle.hip_tool.specs.declared.entry.Entry.{Entry}
@@ -117,6 +119,10 @@ refused_is_unread text (parse.Range line) program h r = h.unread program r
 refused_is_unread text (parse.TooDeep line) program h r = h.unread program r
 refused_is_unread text parse.NoMemory program h r = h
 
+is_taken : {files : List NamedFile} {name : List ℕ} (p q : Program) (why : TypeRefusal) → p ≡ q → RefusesForm p why → IsProgram files name q → ⊥
+is_taken p q why same (inl refused) taken = refused.unsound (subst IsSound (sym same) taken.sound)
+is_taken p q why same (inr later) taken = let k : false ≡ true = sym later.other ∙ ap is_one_store same ∙ taken.taken in cc
+
 pub repairs_exclude : RepairsExclude
 repairs_exclude files p t out notes (statuses.Missing roles.Program) r h = absurd (not_there r.is_program.text (file_of files p) r.is_program.is_text.found h)
 repairs_exclude files p t out notes (statuses.Missing roles.Trace) r h = absurd (not_there r.is_trace.bytes (file_of files t) r.is_trace.found h.2)
@@ -129,7 +135,7 @@ repairs_exclude files p t out notes (statuses.BadProgram (refusals.Form why)) r 
     let same = same_bytes h.text r.is_program.text (file_of files p) h.is_text.found r.is_program.is_text.found in
     let f = h.refused in
     let one = one_program (tokens r.is_program.text) f.0 r.program (subst (λ (x : List ℕ). Reads x f.0) same f.1) r.is_program.reads in
-    absurd (let k : false ≡ true = sym f.2 ∙ ap is_sound one ∙ r.is_program.sound in cc)
+    absurd (is_taken f.0 r.program why one f.2 r.is_program)
 repairs_exclude files p t out notes (statuses.Misfit entry kind) r h =
     let e = same_program files p h.0 r.program h.1 r.is_program in
     let f = same_bytes h.2.bytes r.is_trace.bytes (file_of files t) h.2.found r.is_trace.found in

@@ -1,5 +1,5 @@
 -- What a command answers: a status, a text for the output and a text for the notes.
-use Rattle.std.specs.Prelude.{ℕ, ◌≡◌, ◌≤◌, ◌<◌, true, false, List, [], ◌∷◌, ◌++◌, length, Option, Some, None, IfSome, codes}
+use Rattle.std.specs.Prelude.{ℕ, ◌≡◌, ◌≤◌, ◌<◌, true, false, List, [], ◌∷◌, ◌++◌, length, Option, Some, None, IfSome, codes, ◌⊎◌}
 use Rattle.std.specs.Fmt.{decimal}
 use Rattle.hip_io.specs.Cabinets.{file_of}
 use Rattle.hip_io.specs.declared.cabinet.NamedFile.{NamedFile}
@@ -7,13 +7,15 @@ use Rattle.hip_ir.specs.declared.program.Program.{Program}
 use Rattle.hip_ir.specs.Reading.{Reads}
 use Rattle.hip_ir.specs.Show.{show}
 use Rattle.hip_tool.specs.Reading.{RefusesText}
-use Rattle.hip_tool.specs.OneStore.{is_sound}
+use Rattle.hip_tool.specs.OneStore.{is_one_store}
 use Rattle.hip_tool.specs.Misfit.{IsMisfit, IsTraceOf}
 use Rattle.hip_tool.specs.Run.{reports, plan, repaired}
 use Rattle.hip_tool.specs.declared.input.Input.{Input}
 use Rattle.hip_tool.specs.declared.misfit.MisfitKind.{MisfitKind}
 use Rattle.hip_tool.specs.declared.repair.Plan.{Plan}
 use Rattle.hip_parse.specs.declared.error.ParseRefusal.{ParseRefusal}
+use Rattle.hip_typing.specs.Checks.{IsRefused}
+use Rattle.hip_typing.specs.Sound.{IsSound}
 use Rattle.hip_typing.specs.declared.fault.TypeFault.TheVariants as faults
 use Rattle.hip_typing.specs.declared.fault.Place.TheVariants as places
 use Rattle.hip_typing.specs.declared.fault.TypeRefusal.{TypeRefusal}
@@ -35,25 +37,35 @@ pub record IsText (files : List NamedFile) (name text : List ℕ) : Type 0 where
   pub found : file_of files name ≡ Some text
   pub fits : length text ≤ text_limit
 
--- the file's text reads as the program, which is sound
+-- the file's text reads as the program, which is sound and which `repair` takes
 pub record IsProgram (files : List NamedFile) (name : List ℕ) (program : Program) : Type 0 where
   pub text : List ℕ
   pub is_text : IsText files name text
   pub reads : Reads text program
-  pub sound : is_sound program ≡ true
+  pub sound : IsSound program
+  pub taken : is_one_store program ≡ true
 
 pub record IsTooLong (files : List NamedFile) (name : List ℕ) : Type 0 where
   pub text : List ℕ
   pub found : file_of files name ≡ Some text
   pub long : text_limit < length text
 
--- the refusal of a program that is read and is not sound
-abbrev pub unsound : TypeRefusal
-unsound = record { fault = faults.BadShape; place = places.Whole }
+-- the refusal of a sound program that `repair` does not take yet
+abbrev pub not_yet : TypeRefusal
+not_yet = record { fault = faults.BadShape; place = places.Whole }
+
+pub record IsNotYet (program : Program) (why : TypeRefusal) : Type 0 where
+  pub sound : IsSound program
+  pub other : is_one_store program ≡ false
+  pub refusal : why ≡ not_yet
+
+-- a program that is read is refused for the first rule of soundness that it breaks, or because it is not taken yet
+abbrev pub RefusesForm : Program → TypeRefusal → Type 0
+RefusesForm program why = IsRefused program why ⊎ IsNotYet program why
 
 abbrev pub RefusesProgram : List ℕ → ProgramRefusal → Type 0
 RefusesProgram text (refusals.Text why) = RefusesText text why
-RefusesProgram text (refusals.Form why) = (program : Program) × Reads text program × (is_sound program ≡ false) × (why ≡ unsound)
+RefusesProgram text (refusals.Form why) = (program : Program) × Reads text program × RefusesForm program why
 
 pub record IsBadProgram (files : List NamedFile) (name : List ℕ) (why : ProgramRefusal) : Type 0 where
   pub text : List ℕ

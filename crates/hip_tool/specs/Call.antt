@@ -5,17 +5,19 @@ use Rattle.hip_io.specs.Cabinets.{CabinetState}
 use Rattle.hip_io.specs.Sinks.{SinkState, AppendsAll, AppendsPrefix}
 use Rattle.hip_io.specs.declared.cabinet.NamedFile.{NamedFile}
 use Rattle.hip_ir.specs.declared.program.Program.{Program}
-use Rattle.hip_tool.specs.Answer.{Cause, Repairs, ProgramCause, TraceCause, IsProgram, IsTraceFile, RefusesProgram}
+use Rattle.hip_tool.specs.Answer.{Cause, Repairs, ProgramCause, TraceCause, IsProgram, IsTraceFile, RefusesForm, RefusesProgram}
 use Rattle.hip_ir.specs.Reading.{Reads}
-use Rattle.hip_tool.specs.OneStore.{is_sound}
+use Rattle.hip_tool.specs.OneStore.{is_one_store}
 use Rattle.hip_tool.specs.Run.{reports, plan, repaired}
 use Rattle.hip_tool.specs.declared.command.Found.{Found}
 use Rattle.hip_tool.specs.Lines.{line_of}
 use Rattle.hip_tool.specs.declared.input.Input.{Input}
 use Rattle.hip_tool.specs.declared.status.FileRole.TheVariants as roles
+use Rattle.hip_tool.specs.declared.status.ProgramRefusal.TheVariants as refusals
 use Rattle.hip_tool.specs.declared.status.Status.{Status}
 use Rattle.hip_tool.specs.declared.status.Status.TheVariants.{Done, Usage, Missing, ReadFault, WriteFault, BadProgram, Misfit, NoMemory, TooLarge, Trapped, Cut}
 use Rattle.hip_tool.specs.declared.words.Order.{Order}
+use Rattle.hip_typing.specs.Sound.{IsSound}
 use Rattle.hip_tool.specs.declared.words.Order.TheVariants.{Repair}
 
 -- ---- the counts of the cabinet, by the status
@@ -166,15 +168,31 @@ MayStopTrace (Trapped kind) = ⊥
 MayStopTrace Cut = ⊥
 
 abbrev pub LoadsProgram : List ℕ → CabinetState → CabinetState → Result Program Status → Type 0
-LoadsProgram name old new (Ok program) = IsSteady old new × IfSome old.files (λ fs. IsProgram fs name program) × (is_sound program ≡ true)
+LoadsProgram name old new (Ok program) = IsSteady old new × IfSome old.files (λ fs. IsProgram fs name program) × (is_one_store program ≡ true)
 LoadsProgram name old new (Err status) = CountsBy status old new × IfSome old.files (λ fs. ProgramCause fs name status) × MayStopProgram status
 
 abbrev pub LoadsTrace : Program → List ℕ → CabinetState → CabinetState → Result Input Status → Type 0
 LoadsTrace program name old new (Ok input) = IsSteady old new × IfSome old.files (λ fs. IsTraceFile fs name program input)
 LoadsTrace program name old new (Err status) = CountsBy status old new × IfSome old.files (λ fs. TraceCause fs name program status) × MayStopTrace status
 
+-- what the check of a program that is read answers
+abbrev pub TakesProgram : Program → Result Program Status → Type 0
+TakesProgram program (Ok taken) = (taken ≡ program) × IsSound program × (is_one_store program ≡ true)
+TakesProgram program (Err (BadProgram (refusals.Form why))) = RefusesForm program why
+TakesProgram program (Err (BadProgram (refusals.Text why))) = ⊥
+TakesProgram program (Err NoMemory) = Unit {0}
+TakesProgram program (Err Done) = ⊥
+TakesProgram program (Err Usage) = ⊥
+TakesProgram program (Err (Missing file)) = ⊥
+TakesProgram program (Err ReadFault) = ⊥
+TakesProgram program (Err WriteFault) = ⊥
+TakesProgram program (Err (Misfit entry kind)) = ⊥
+TakesProgram program (Err TooLarge) = ⊥
+TakesProgram program (Err (Trapped kind)) = ⊥
+TakesProgram program (Err Cut) = ⊥
+
 abbrev pub ReadsProgram : List ℕ → Result Program Status → Type 0
-ReadsProgram text (Ok program) = Reads text program × (is_sound program ≡ true)
+ReadsProgram text (Ok program) = Reads text program × IsSound program × (is_one_store program ≡ true)
 ReadsProgram text (Err (BadProgram why)) = RefusesProgram text why
 ReadsProgram text (Err NoMemory) = Unit {0}
 ReadsProgram text (Err Done) = ⊥

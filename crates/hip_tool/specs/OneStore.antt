@@ -1,7 +1,5 @@
 -- The programs that are repaired: one persistent number, and a `main` that stores into it once.
-use Rattle.std.specs.Prelude.{ℕ, Bool, true, false, ◌&&◌, ◌||◌, not, List, [], ◌∷◌, Option, Some, None, is_none, is_some, option_and_then, option_map, if◌then◌else◌, codes}
-use Rattle.std.specs.List.{list_any}
-use Rattle.std.specs.Str.{bytes_eq}
+use Rattle.std.specs.Prelude.{ℕ, Bool, true, false, ◌&&◌, not, List, [], ◌∷◌, Option, Some, None, is_none, is_some, option_and_then, option_map, if◌then◌else◌}
 use Rattle.hip_types.specs.declared.number.Width.{Width}
 use Rattle.hip_types.specs.declared.number.Width.TheVariants.{W1, W8, W16, W32, W64}
 use Rattle.hip_types.specs.declared.number.Scalar.{Scalar}
@@ -152,23 +150,6 @@ without_externs (e ∷ es) global functions = None
 unfoldable pub one_store : Program → Option OneStore
 one_store program = without_externs program.externs (only_global program.globals) program.functions
 
--- the names that stand for a call of the machine, and for no global or function
-abbrev pub extern_names : List (List ℕ)
-extern_names =
-    codes "read_i64" ∷ codes "print_i64" ∷ codes "pm_assert" ∷ codes "llvm.x86.clwb" ∷ codes "llvm.x86.clflushopt" ∷ codes "llvm.x86.sse2.clflush"
-    ∷ codes "llvm.x86.sse.sfence" ∷ codes "llvm.x86.sse2.mfence" ∷ []
-
-abbrev pub is_extern_name : List ℕ → Bool
-is_extern_name name = list_any (λ n. bytes_eq n name) extern_names
-
--- The function is `main`, the global has another name and none of an extern, and the store goes to it.
-abbrev pub are_names : OneStore → Bool
-are_names s = bytes_eq s.function (codes "main") && (not (bytes_eq s.global (codes "main")) && (not (is_extern_name s.global) && bytes_eq s.target s.global))
-
-abbrev pub with_names : Option OneStore → Bool
-with_names None = false
-with_names (Some s) = are_names s
-
--- a sound program that can be repaired
-unfoldable pub is_sound : Program → Bool
-is_sound program = with_names (one_store program)
+-- what `repair` takes so far of the sound programs
+unfoldable pub is_one_store : Program → Bool
+is_one_store program = is_some (one_store program)

@@ -4,16 +4,16 @@ ghost use Rattle.std.specs.Prelude.{◌≡◌, ℕ, List, ◌++◌, true, Some, 
 ghost use Rattle.std.specs.Fmt.{decimal};
 ghost use Rattle.hip_io.specs.Sinks.{Writes};
 ghost use Rattle.hip_ir.specs.Show.{show};
-ghost use Rattle.hip_tool.specs.OneStore.{one_store, is_sound};
+ghost use Rattle.hip_tool.specs.OneStore.{one_store, is_one_store};
 ghost use Rattle.hip_tool.specs.Order.{order};
 ghost use Rattle.hip_tool.specs.Run.{repaired};
 ghost use Rattle.hip_tool.specs.Answer.{count_line, counts_text};
-ghost use Rattle.hip_tool.specs.Call.{ReadsProgram, LoadsProgram, LoadsTrace, IsFoundFor, Finds, PutsLine, PutsTexts, HasAnswered};
+ghost use Rattle.hip_tool.specs.Call.{TakesProgram, ReadsProgram, LoadsProgram, LoadsTrace, IsFoundFor, Finds, PutsLine, PutsTexts, HasAnswered};
 ghost use Rattle.hip_tool.specs.Seen.{seen_one_store};
 
 use crate::input::Input;
 use crate::lines::{put_line, put_number};
-use crate::one_store::{OneStore, is_sound, one_store};
+use crate::one_store::{OneStore, is_one_store, one_store};
 use crate::plan::plan;
 use crate::repair::{Plan, apply};
 use crate::replay::{ReplayRefusal, replay};
@@ -24,7 +24,7 @@ use hip_io::{Cabinet, Fetched, Put, ReadRefusal, Sink, WriteFault, put_after, re
 use hip_ir::Program;
 use hip_parse::{ParseRefusal, parse};
 use hip_types::NoMemory;
-use hip_typing::{Place, TypeFault, TypeRefusal};
+use hip_typing::{Place, TypeFault, TypeRefusal, check};
 use hip_write::write;
 use std::alloc::Global;
 
@@ -39,21 +39,40 @@ pub(crate) struct Found {
     pub(crate) plan: Plan,
 }
 
+/// The program, where it is sound and `repair` takes it.
+fn take_program(alloc: Global, program: Program) -> Result<Program, Status>
+    ensures { TakesProgram program result }
+{
+    let refusal = match check(alloc, program) {
+        Ok(checked) => {
+            let program = checked.into_program();
+            if is_one_store(&program) {
+                return Ok(program);
+            }
+            TypeRefusal {
+                fault: TypeFault::BadShape,
+                place: Place::Whole,
+            }
+        }
+        Err(
+            TypeRefusal {
+                fault: TypeFault::NoMemory,
+                ..
+            },
+        ) => return Err(Status::NoMemory),
+        Err(refusal) => refusal,
+    };
+    Err(Status::BadProgram {
+        refusal: ProgramRefusal::Form(refusal),
+    })
+}
+
 /// The sound program that a text reads as.
 fn read_program(alloc: Global, text: &[u8]) -> Result<Program, Status>
     ensures { ReadsProgram text.now result }
 {
     match parse(alloc, text) {
-        Ok(program) => {
-            if is_sound(&program) {
-                return Ok(program);
-            }
-            let refusal = ProgramRefusal::Form(TypeRefusal {
-                fault: TypeFault::BadShape,
-                place: Place::Whole,
-            });
-            Err(Status::BadProgram { refusal })
-        }
+        Ok(program) => take_program(alloc, program),
         Err(ParseRefusal::NoMemory) => Err(Status::NoMemory),
         Err(refusal) => Err(Status::BadProgram {
             refusal: ProgramRefusal::Text(refusal),
@@ -99,9 +118,9 @@ fn load_trace<C: Cabinet>(
     }
 }
 
-#[tactic(auto, unfolding(crate::specs::OneStore::is_sound))]
+#[tactic(auto, unfolding(crate::specs::OneStore::is_one_store))]
 fn store_of(program: &Program) -> OneStore<'_>
-    requires { is_sound program.now ≡ true }
+    requires { is_one_store program.now ≡ true }
     ensures { one_store program.now ≡ Some (seen_one_store result) }
 {
     match one_store(program) {
@@ -112,7 +131,7 @@ fn store_of(program: &Program) -> OneStore<'_>
 
 #[tactic(auto, unfolding(crate::specs::Run::repaired))]
 fn repair(alloc: Global, program: &Program, plan: &Plan) -> Result<Program, NoMemory>
-    requires { is_sound program.now ≡ true }
+    requires { is_one_store program.now ≡ true }
     ensures { IfOk result (λ p. p ≡ repaired program.now plan.now) }
 {
     apply(alloc, store_of(program), plan)
@@ -120,7 +139,7 @@ fn repair(alloc: Global, program: &Program, plan: &Plan) -> Result<Program, NoMe
 
 /// The reports of the run, the plan for them, and the repaired program.
 fn plan_for(alloc: Global, program: &Program, input: &Input) -> Result<Found, NoMemory>
-    requires { is_sound program.now ≡ true }
+    requires { is_one_store program.now ≡ true }
     ensures { IfOk result (λ f. IsFoundFor program.now input.now f) }
 {
     let reports = reports(alloc, input)?;

@@ -24,6 +24,8 @@ pub use status::{FileRole, ProgramRefusal, Status, TrapKind};
 pub use words::{Order, WordsRefusal, read_words};
 
 #[cfg(test)]
+mod refusals;
+#[cfg(test)]
 mod tests;
 #[cfg(test)]
 mod written;

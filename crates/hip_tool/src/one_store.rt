@@ -2,7 +2,7 @@
 
 ghost use Rattle.std.specs.Prelude.{◌≡◌, List, ℕ, Bool, Option, option_map};
 ghost use Rattle.std.specs.Option.{option_copied};
-ghost use Rattle.hip_tool.specs.OneStore.{number_of, address_of, number_in, address_in, of_width, is_w32, is_w64, is_i32, is_i64, is_i64_type, number_global, number_store, returned, number_return, only_store, block_parts, only_block, returns_i32, store_function, only_function, only_global, without_externs, one_store, is_extern_name, are_names, is_sound};
+ghost use Rattle.hip_tool.specs.OneStore.{number_of, address_of, number_in, address_in, of_width, is_w32, is_w64, is_i32, is_i64, is_i64_type, number_global, number_store, returned, number_return, only_store, block_parts, only_block, returns_i32, store_function, only_function, only_global, without_externs, one_store, is_one_store};
 ghost use Rattle.hip_tool.specs.Seen.{seen_store, seen_global, seen_parts, seen_one_store};
 
 use hip_ir::{
@@ -279,35 +279,10 @@ pub(crate) fn one_store(program: &Program) -> Option<OneStore<'_>>
     }
 }
 
-fn is_extern_name(name: &[u8]) -> bool
-    ensures { result ≡ is_extern_name name.now }
+/// Whether `repair` takes the program, if it is sound.
+#[tactic(auto, unfolding(crate::specs::OneStore::is_one_store))]
+pub(crate) fn is_one_store(program: &Program) -> bool
+    ensures { result ≡ is_one_store program.now }
 {
-    b"read_i64".as_slice() == name
-        || b"print_i64".as_slice() == name
-        || b"pm_assert".as_slice() == name
-        || b"llvm.x86.clwb".as_slice() == name
-        || b"llvm.x86.clflushopt".as_slice() == name
-        || b"llvm.x86.sse2.clflush".as_slice() == name
-        || b"llvm.x86.sse.sfence".as_slice() == name
-        || b"llvm.x86.sse2.mfence".as_slice() == name
-}
-
-fn are_names(store: OneStore<'_>) -> bool
-    ensures { result ≡ are_names (seen_one_store store.entry) }
-{
-    store.function == b"main".as_slice()
-        && store.global != b"main".as_slice()
-        && !is_extern_name(store.global)
-        && store.target == store.global
-}
-
-/// Whether a program is sound and can be repaired.
-#[tactic(auto, unfolding(crate::specs::OneStore::is_sound))]
-pub(crate) fn is_sound(program: &Program) -> bool
-    ensures { result ≡ is_sound program.now }
-{
-    match one_store(program) {
-        Some(store) => are_names(store),
-        None => false,
-    }
+    one_store(program).is_some()
 }

@@ -26,6 +26,16 @@ entry:
 }
 ";
 
+/// A sound program that is not taken yet.
+const TWO_STORES: &str = "@x = global i64 0, section \".pm\"
+define i32 @main() {
+entry:
+  store i64 5, ptr @x
+  store i64 6, ptr @x
+  ret i32 0
+}
+";
+
 const TRACE: &str = "START;1000000000|REGISTER;0x100000000;0x40|STORE;0x100000000;0x5;0x8|STOP;0";
 
 const COUNTS: &str = "reports 1\nflushes 1\nfences 1\nhoists 0\nclones 0\n";
@@ -34,10 +44,10 @@ const USAGE: &str = "hippo: usage\nusage: hippo repair PROGRAM TRACE\n";
 
 /// What a call left.
 #[derive(Drop)]
-struct Left {
-    code: u8,
-    out: MemSink,
-    notes: MemSink,
+pub(crate) struct Left {
+    pub(crate) code: u8,
+    pub(crate) out: MemSink,
+    pub(crate) notes: MemSink,
 }
 
 fn file(alloc: Global, name: &str, text: &str) -> Result<NamedFile, AllocError> {
@@ -81,7 +91,7 @@ fn call<C: Cabinet>(
 }
 
 /// `repair a b` on these files.
-fn repair(alloc: Global, program: &str, trace: &str) -> Result<Left, NoMemory> {
+pub(crate) fn repair(alloc: Global, program: &str, trace: &str) -> Result<Left, NoMemory> {
     let mut cabinet = files(alloc, program, trace)?;
     call(alloc, &["repair", "a", "b"], &mut cabinet, 1000)
 }
@@ -198,8 +208,12 @@ entry:
 }
 ";
     let cases = [
-        ("", "hippo: program: shape at program\n"),
-        (other_name, "hippo: program: shape at program\n"),
+        ("", "hippo: program: no main at program\n"),
+        (
+            other_name,
+            "hippo: program: unknown at function 0 block 0 index 0\n",
+        ),
+        (TWO_STORES, "hippo: program: shape at program\n"),
         (
             "@x = global float 0",
             "hippo: program line 1: unsupported\n",

@@ -1,16 +1,19 @@
 use hip_io::MemSink;
-use hip_ir::same;
+use hip_ir::{same, spelled};
 use hip_parse::parse;
-use hip_types::NoMemory;
+use hip_types::{NoMemory, Row};
 use hip_write::write;
 use std::test::Fail;
 
-/// Whether a text is read, its program written as the canonical text, and that text read as the same program.
+/// Whether a text is read, its program spelled and written as the canonical text, and that text read as the same program.
 fn is_written_as(rt: &HostRuntime, text: &str, canonical: &str) -> Result<bool, NoMemory> {
     let mut sink = MemSink::new(rt.alloc(), 10_000)?;
     let Ok(program) = parse(rt.alloc(), text.as_bytes()) else {
         return Ok(false);
     };
+    if !spelled(&program) {
+        return Ok(false);
+    }
     if write(&program, &mut sink).is_err() || sink.bytes() != canonical.as_bytes() {
         return Ok(false);
     }
@@ -200,5 +203,31 @@ entry:
     for text in texts {
         assert!(rt; is_written_as(&rt, text, text)?);
     }
+    Ok(())
+}
+
+/// Whether the program of a text is still spelled when its last global has a name of no bytes. None where no global is read.
+fn is_spelled_without_name(rt: &HostRuntime, text: &str) -> Result<Option<bool>, NoMemory> {
+    let Ok(mut program) = parse(rt.alloc(), text.as_bytes()) else {
+        return Ok(None);
+    };
+    let Some(mut nameless) = program.globals.pop() else {
+        return Ok(None);
+    };
+    nameless.name = Row::new(rt.alloc());
+    program.globals.push(nameless)?;
+    Ok(Some(spelled(&program)))
+}
+
+#[test]
+fn no_name_is_not_spelled(rt: HostRuntime) -> Result<(), Fail> {
+    let text = "@x = global i64 0, section \".pm\"
+define i32 @main() {
+entry:
+  store i64 5, ptr @x
+  ret i32 0
+}
+";
+    assert!(rt; is_spelled_without_name(&rt, text)? == Some(false));
     Ok(())
 }

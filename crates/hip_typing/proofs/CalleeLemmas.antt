@@ -1,5 +1,5 @@
 -- Tables of callees that grow.
-use Rattle.std.proofs.Common.{ℕ, ◌+◌, ◌≡◌, ◌<◌, List, [], ◌∷◌, ◌++◌, map, take, length, get_or, Option, Some, None, Bool, true, false, refl, sym, ap, subst, ◌∙◌, append_assoc, append-nil}
+use Rattle.std.proofs.Common.{ℕ, ◌+◌, ◌≡◌, ◌<◌, List, [], ◌∷◌, ◌++◌, map, take, length, get_or, Option, Some, Bool, true, false, refl, sym, ap, subst, ◌∙◌, append_assoc}
 use Rattle.std.specs.Prelude.{if◌then◌else◌, option_map}
 use Rattle.std.specs.Str.{bytes_eq}
 use Rattle.std.proofs.lemmas.List.{take_more, map-append}
@@ -7,8 +7,8 @@ use Rattle.hip_ir.specs.declared.program.Extern.{Extern}
 use Rattle.hip_ir.specs.declared.program.Function.{Function}
 use Rattle.hip_ir.specs.declared.program.Program.{Program}
 use Rattle.hip_typing.specs.Externs.{Signature}
-use Rattle.hip_typing.specs.Places.{callee_of, extern_of, function_of, first_of}
-use Rattle.hip_typing.specs.Tables.{Entry, value_of, value_beside, StandsFor, Grown, AddsCallees, FindsCallees, callee_seen, entry_seen, extern_entry, function_entry}
+use Rattle.hip_typing.specs.Places.{extern_of, function_of, first_of}
+use Rattle.hip_typing.specs.Tables.{Entry, value_of, StandsFor, Grown, AddsCallees, FindsCallees, callee_seen, entry_seen, extern_entry, function_entry}
 use Rattle.hip_typing.specs.declared.callees.Callee.{Callee}
 
 module _ {ns ms ks : List (List ℕ)} {vs us ws : List Callee} where

@@ -7,7 +7,7 @@ use Rattle.std.proofs.lemmas.List.{take_more, map-append}
 use Rattle.std.proofs.lemmas.Slice.Eq.{bytes_eq-Decides}
 use Rattle.hip_typing.specs.Names.{is_among, Knows}
 
-or_false : (b : Bool) → (b || false) ≡ b
+pub or_false : (b : Bool) → (b || false) ≡ b
 or_false true = refl
 or_false false = refl
 
@@ -15,7 +15,7 @@ or_assoc : (a b c : Bool) → (a || (b || c)) ≡ ((a || b) || c)
 or_assoc true b c = refl
 or_assoc false b c = refl
 
-among-append : (xs : List (List ℕ)) (x name : List ℕ) → is_among (xs ++ x ∷ []) name ≡ (is_among xs name || bytes_eq name x)
+pub among-append : (xs : List (List ℕ)) (x name : List ℕ) → is_among (xs ++ x ∷ []) name ≡ (is_among xs name || bytes_eq name x)
 among-append [] x name = or_false (bytes_eq name x)
 among-append (y ∷ ys) x name = ap (λ b. bytes_eq name y || b) (among-append ys x name) ∙ or_assoc (bytes_eq name y) (is_among ys name) (bytes_eq name x)
 
@@ -28,7 +28,7 @@ absorbed xs x name false true e f there =
     let found : is_among xs name ≡ true = subst (λ (n : List ℕ). is_among xs n ≡ true) (sym same) there in
     sym found ∙ e
 
-add_known : (known names : List (List ℕ)) (x name : List ℕ) (there : Bool) → is_among known x ≡ there → Knows known names → is_among (if not there then known ++ x ∷ [] else known) name ≡ is_among (names ++ x ∷ []) name
+pub add_known : (known names : List (List ℕ)) (x name : List ℕ) (there : Bool) → is_among known x ≡ there → Knows known names → is_among (if not there then known ++ x ∷ [] else known) name ≡ is_among (names ++ x ∷ []) name
 add_known known names x name false e knows = among-append known x name ∙ ap (λ b. b || bytes_eq name x) (knows name) ∙ sym (among-append names x name)
 add_known known names x name true e knows =
     sym (absorbed known x name _ _ refl refl e) ∙ ap (λ b. b || bytes_eq name x) (knows name) ∙ sym (among-append names x name)

@@ -8,3 +8,12 @@ pub mod AddressLemmas
 pub mod TableLemmas
 pub mod RegisterLemmas
 pub mod CalleeLemmas
+pub mod PairLemmas
+pub mod ArrivalLemmas
+pub mod CarriedLemmas
+pub mod NumberLemmas
+pub mod InnerLemmas
+pub mod EntryLemmas
+pub mod AssignedLemmas
+pub mod UseLists
+pub mod DifferLemmas

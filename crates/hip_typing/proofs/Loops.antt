@@ -1,5 +1,5 @@
 -- Loops that check each item of a list.
-use Rattle.std.proofs.Common.{ℕ, ◌+◌, ◌≡◌, ◌<◌, List, get_or, drop, length, Option, Some, None, Err, refl, sym, ap, ◌∙◌}
+use Rattle.std.proofs.Common.{ℕ, ◌+◌, ◌≡◌, ◌<◌, List, get_or, drop, length, Option, Some, None, Result, Err, refl, sym, ap, subst, ◌∙◌}
 use Rattle.std.proofs.lemmas.List.{at_drop_more}
 use Rattle.hip_typing.specs.Answers.{Answers}
 use Rattle.hip_typing.specs.Check.{Check, or_else, each_from, each}
@@ -28,3 +28,7 @@ each_goes_on check xs i x within is so_far none = sym (none_first _ _ none) ∙ 
 pub each_stops : (T : Type 0) {A : Type 0} (check : ℕ → A → Check) (xs : List A) (i : ℕ) (x : A) (e : Refused) → i < length xs → x ≡ get_or xs i x → (each_from i check (drop i xs)).found ≡ (each check xs).found → Answers {T = T} (Err e) (check i x).found → Answers {T = T} (Err e) (each check xs).found
 each_stops T check xs i x (refused.Found f) within is so_far found = sym so_far ∙ each_next check xs i x within is ∙ some_first _ _ f found
 each_stops T check xs i x refused.NoMemory within is so_far found = tt
+
+-- after two checks with nothing found the third decides
+pub after_two : {T : Type 0} (r : Result T Refused) (a b found : Option Finding) → a ≡ None → b ≡ None → Answers r found → Answers r (or_else a (or_else b found))
+after_two r a b found e f h = subst (λ (o : Option Finding). Answers r o) (sym (none_first a (or_else b found) e ∙ none_first b found f)) h

@@ -6,7 +6,7 @@ use Rattle.hip_typing.specs.Seen.{seen}
 use Rattle.hip_typing.specs.Sound.{all_of}
 use Rattle.hip_typing.specs.declared.named.NamedPlace.{NamedPlace}
 
-numbered_from-push : {A B : Type 0} (n : ℕ) (make : ℕ → A → B) (xs : List A) (x : A) → numbered_from n make (xs ++ x ∷ []) ≡ numbered_from n make xs ++ make (n + length xs) x ∷ []
+pub numbered_from-push : {A B : Type 0} (n : ℕ) (make : ℕ → A → B) (xs : List A) (x : A) → numbered_from n make (xs ++ x ∷ []) ≡ numbered_from n make xs ++ make (n + length xs) x ∷ []
 numbered_from-push n make [] x = let e : n + 0 ≡ n = omega arith in rw e refl
 numbered_from-push n make (y ∷ ys) x =
     let e : n + length (y ∷ ys) ≡ n + 1 + length ys = omega arith in

@@ -9,7 +9,7 @@ use Rattle.hip_types.specs.declared.number.Scalar.{Scalar}
 use Rattle.hip_typing.specs.Registers.{Register, find_register}
 use Rattle.hip_typing.specs.Tables.{Entry, value_of, StandsFor, register_entry, Adds, Finds}
 
-take_one : {A : Type 0} (xs : List A) (i : ℕ) (x : A) → i < length xs → x ≡ get_or xs i x → take (i + 1) xs ≡ take i xs ++ x ∷ []
+pub take_one : {A : Type 0} (xs : List A) (i : ℕ) (x : A) → i < length xs → x ≡ get_or xs i x → take (i + 1) xs ≡ take i xs ++ x ∷ []
 take_one xs i x within is = subst (λ y. take (i + 1) xs ≡ take i xs ++ y ∷ []) (sym is) (take_more xs i x within)
 
 module _ {ns ms ks : List (List ℕ)} {vs us ws : List (Option Scalar)} where

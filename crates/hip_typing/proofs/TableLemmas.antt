@@ -10,7 +10,7 @@ use Rattle.std.proofs.lemmas.Slice.Eq.{bytes_eq-Decides}
 use Rattle.hip_typing.specs.Names.{is_among}
 use Rattle.hip_typing.specs.Tables.{Entry, value_of, value_beside, StandsFor}
 
-bytes_eq-sym : (xs ys : List ℕ) → bytes_eq xs ys ≡ bytes_eq ys xs
+pub bytes_eq-sym : (xs ys : List ℕ) → bytes_eq xs ys ≡ bytes_eq ys xs
 bytes_eq-sym xs ys =
     both_ways _ _ (λ e. (bytes_eq-Decides ys xs).1 (sym ((bytes_eq-Decides xs ys).0 e))) (λ e. (bytes_eq-Decides xs ys).1 (sym ((bytes_eq-Decides ys xs).0 e)))
 
@@ -32,7 +32,7 @@ module _ {V : Type 0} where
   at_place true at len v vs = let e : nat_lt 0 (suc len) ≡ true = grind (arith, nat_tests) in rw e refl
   at_place false at len v vs = let e : nat_lt (1 + at) (suc len) ≡ nat_lt at len = grind (arith, nat_tests) in rw e (shifted (nat_lt at len) at v vs)
 
-  beside-cons : (n : List ℕ) (ns : List (List ℕ)) (v : V) (vs : List V) (name : List ℕ) → value_beside (n ∷ ns) (v ∷ vs) name ≡ (if bytes_eq name n then Some v else value_beside ns vs name)
+  pub beside-cons : (n : List ℕ) (ns : List (List ℕ)) (v : V) (vs : List V) (name : List ℕ) → value_beside (n ∷ ns) (v ∷ vs) name ≡ (if bytes_eq name n then Some v else value_beside ns vs name)
   beside-cons n ns v vs name = at_place (bytes_eq name n) (position_or_len (bytes_eq name) ns) (length ns) v vs
 
   later_if : (b : Bool) (v : V) (o later : Option V) → (if b then Some v else or_later o later) ≡ or_later (if b then Some v else o) later

@@ -48,7 +48,7 @@ each_from-exact n check (x ∷ xs) exact = and_then-exact (check n x) (each_from
 
 -- ---- names
 
-among-sound : (xs : List (List ℕ)) (name : List ℕ) → is_among xs name ≡ true → IsAmong xs name
+pub among-sound : (xs : List (List ℕ)) (name : List ℕ) → is_among xs name ≡ true → IsAmong xs name
 among-sound [] name e = cc
 among-sound (x ∷ xs) name e = first_or_later (bytes_eq name x) refl (λ f. among-sound xs name f) e
   where
@@ -56,7 +56,7 @@ among-sound (x ∷ xs) name e = first_or_later (bytes_eq name x) refl (λ f. amo
     first_or_later true same later f = inl (sym ((bytes_eq-Decides name x).0 same))
     first_or_later false same later f = inr (later f)
 
-among-whole : (xs : List (List ℕ)) (name : List ℕ) → IsAmong xs name → is_among xs name ≡ true
+pub among-whole : (xs : List (List ℕ)) (name : List ℕ) → IsAmong xs name → is_among xs name ≡ true
 among-whole [] name h = absurd h
 among-whole (x ∷ xs) name (inl e) = rw ((bytes_eq-Decides name x).1 (sym e)) refl
 among-whole (x ∷ xs) name (inr h) = later (bytes_eq name x) (among-whole xs name h)
@@ -82,7 +82,7 @@ differ_after-exact earlier (x ∷ xs) =
 
 -- ---- types
 
-both_hold : (a b : Bool) → (a && b) ≡ true → (a ≡ true) × (b ≡ true)
+pub both_hold : (a b : Bool) → (a && b) ≡ true → (a ≡ true) × (b ≡ true)
 both_hold true b e = (refl, e)
 both_hold false b e = cc
 

@@ -5,8 +5,8 @@ use Rattle.hip_types.specs.declared.number.Bits.{Bits}
 use Rattle.hip_ir.specs.declared.constant.Const.{Const, out-Const}
 use Rattle.hip_ir.specs.declared.constant.ConstGep.{ConstGep}
 use Rattle.hip_ir.specs.declared.constant.TypedConst.{TypedConst}
-use Rattle.hip_ir.specs.declared.constant.Const.TheOpen.{Const-F}
-use Rattle.hip_ir.specs.declared.constant.Const.TheFolds.{fold-Const}
+use Rattle.hip_ir.specs.declared.constant.Const.TheOpen.{Const-F, ConstGep-F, TypedConst-F}
+use Rattle.hip_ir.specs.declared.constant.Const.TheFolds.{fold-Const, fold-ConstGep, fold-TypedConst}
 use Rattle.hip_ir.specs.declared.instr.Operand.{Operand}
 use Rattle.hip_ir.specs.declared.instr.Operand.TheVariants.{Reg, Fixed}
 use Rattle.hip_typing.specs.Types.{same_type, same_width, all_pass}
@@ -14,57 +14,72 @@ use Rattle.hip_typing.specs.Types.{same_type, same_width, all_pass}
 abbrev pub same_bits : Bits → Bits → Bool
 same_bits a b = same_width a.width b.width && a.value == b.value
 
-abbrev same_list : {A : Type 0} → (A → A → Bool) → List A → List A → Bool
+abbrev pub same_list : {A : Type 0} → (A → A → Bool) → List A → List A → Bool
 same_list same [] [] = true
 same_list same (x ∷ xs) (y ∷ ys) = same x y && same_list same xs ys
 same_list same _ _ = false
 
-abbrev same_truth : Bool → Bool → Bool
+abbrev pub same_truth : Bool → Bool → Bool
 same_truth true b = b
 same_truth false true = false
 same_truth false false = true
 
-abbrev is_int : Bits → Const-F Const ConstGep TypedConst → Bool
+abbrev pub is_int : Bits → Const-F Const ConstGep TypedConst → Bool
 is_int a (Const-F.Int b) = same_bits a b
 is_int a _ = false
 
-abbrev is_null : Const-F Const ConstGep TypedConst → Bool
+abbrev pub is_null : Const-F Const ConstGep TypedConst → Bool
 is_null Const-F.Null = true
 is_null _ = false
 
-abbrev is_zero : Const-F Const ConstGep TypedConst → Bool
+abbrev pub is_zero : Const-F Const ConstGep TypedConst → Bool
 is_zero Const-F.Zero = true
 is_zero _ = false
 
-abbrev is_address : List ℕ → Const-F Const ConstGep TypedConst → Bool
+abbrev pub is_address : List ℕ → Const-F Const ConstGep TypedConst → Bool
 is_address name (Const-F.Address other) = bytes_eq name other
 is_address name _ = false
 
-abbrev is_gep : (ConstGep → Bool) → Const-F Const ConstGep TypedConst → Bool
+abbrev pub is_gep : (ConstGep → Bool) → Const-F Const ConstGep TypedConst → Bool
 is_gep test (Const-F.Gep gep) = test gep
 is_gep test _ = false
 
-abbrev is_array : List (TypedConst → Bool) → Const-F Const ConstGep TypedConst → Bool
+abbrev pub is_array : List (TypedConst → Bool) → Const-F Const ConstGep TypedConst → Bool
 is_array tests (Const-F.Array items) = all_pass tests items
 is_array tests _ = false
 
-abbrev is_struct : List (TypedConst → Bool) → Const-F Const ConstGep TypedConst → Bool
+abbrev pub is_struct : List (TypedConst → Bool) → Const-F Const ConstGep TypedConst → Bool
 is_struct tests (Const-F.Struct items) = all_pass tests items
 is_struct tests _ = false
 
-abbrev same_step : Const-F (Const → Bool) (ConstGep → Bool) (TypedConst → Bool) → Const → Bool
-same_step (Const-F.Int b) c = is_int b (out-Const c)
-same_step Const-F.Null c = is_null (out-Const c)
-same_step Const-F.Zero c = is_zero (out-Const c)
-same_step (Const-F.Address name) c = is_address name (out-Const c)
-same_step (Const-F.Gep test) c = is_gep test (out-Const c)
-same_step (Const-F.Array tests) c = is_array tests (out-Const c)
-same_step (Const-F.Struct tests) c = is_struct tests (out-Const c)
+-- one level of a constant, with the test of each constant inside in its place
+abbrev pub same_level : Const-F (Const → Bool) (ConstGep → Bool) (TypedConst → Bool) → Const-F Const ConstGep TypedConst → Bool
+same_level (Const-F.Int b) c = is_int b c
+same_level Const-F.Null c = is_null c
+same_level Const-F.Zero c = is_zero c
+same_level (Const-F.Address name) c = is_address name c
+same_level (Const-F.Gep test) c = is_gep test c
+same_level (Const-F.Array tests) c = is_array tests c
+same_level (Const-F.Struct tests) c = is_struct tests c
+
+abbrev pub same_step : Const-F (Const → Bool) (ConstGep → Bool) (TypedConst → Bool) → Const → Bool
+same_step tests c = same_level tests (out-Const c)
+
+abbrev pub same_gep_step : ConstGep-F (Const → Bool) (ConstGep → Bool) (TypedConst → Bool) → ConstGep → Bool
+same_gep_step gep other =
+    same_truth gep.inbounds other.inbounds && (same_type gep.ty other.ty && (gep.base other.base && same_list same_bits gep.indices other.indices))
+
+abbrev pub same_item_step : TypedConst-F (Const → Bool) (ConstGep → Bool) (TypedConst → Bool) → TypedConst → Bool
+same_item_step item other = same_type item.ty other.ty && item.value other.value
 
 abbrev pub same_const : Const → Const → Bool
-same_const = fold-Const (Const → Bool) (ConstGep → Bool) (TypedConst → Bool) same_step
-    (λ gep other. same_truth gep.inbounds other.inbounds && (same_type gep.ty other.ty && (gep.base other.base && same_list same_bits gep.indices other.indices)))
-    (λ item other. same_type item.ty other.ty && item.value other.value)
+same_const = fold-Const (Const → Bool) (ConstGep → Bool) (TypedConst → Bool) same_step same_gep_step same_item_step
+
+abbrev pub same_gep : ConstGep → ConstGep → Bool
+same_gep = fold-ConstGep (Const → Bool) (ConstGep → Bool) (TypedConst → Bool) same_step same_gep_step same_item_step
+
+abbrev pub same_item : TypedConst → TypedConst → Bool
+same_item = fold-TypedConst (Const → Bool) (ConstGep → Bool) (TypedConst → Bool) same_step same_gep_step same_item_step
 
 abbrev pub same_operand : Operand → Operand → Bool
 same_operand (Reg a) (Reg b) = bytes_eq a b

@@ -4,12 +4,14 @@ use Rattle.std.specs.List.{flat_map}
 use Rattle.hip_ir.specs.declared.block.Block.{Block}
 use Rattle.hip_ir.specs.declared.program.Function.{Function}
 use Rattle.hip_typing.specs.Names.{IsAmong}
+use Rattle.hip_typing.specs.declared.assigned.Point.{Point}
+use Rattle.hip_typing.specs.declared.assigned.Point.TheVariants.{Before, AtEnd}
 use Rattle.hip_typing.specs.Registers.{Register, block_registers, phi_registers, body_registers, parameter_registers, end_labels}
 
-abbrev label_at : Function → ℕ → Option (List ℕ)
+abbrev pub label_at : Function → ℕ → Option (List ℕ)
 label_at f b = option_map (λ block. block.label) (slice_get f.blocks b)
 
-abbrev labels_named_at : Function → ℕ → List (List ℕ)
+abbrev pub labels_named_at : Function → ℕ → List (List ℕ)
 labels_named_at f b = unwrap_or (option_map (λ block. end_labels block.end) (slice_get f.blocks b)) []
 
 -- the end of one block names the label of the other
@@ -31,22 +33,18 @@ pub record IsPathTo (f : Function) (path : List ℕ) (last : ℕ) : Type 0 where
   pub earlier : List ℕ
   pub last_is : path ≡ earlier ++ last ∷ []
 
--- where a use stands in a block: before the body's instruction of that number, or at the end
-pub data Point : Type 0 where
-  Before : ℕ → Point
-  AtEnd : Point
-
-abbrev registers_before : Point → Block → List Register
+-- the registers that were assigned in a block before a point of it, where control came in at its start
+abbrev pub registers_before : Point → Block → List Register
 registers_before (Before k) b = phi_registers b.phis ++ body_registers (take k b.body)
 registers_before AtEnd b = block_registers b
 
-abbrev names_of : List Register → List (List ℕ)
+abbrev pub names_of : List Register → List (List ℕ)
 names_of rs = map (λ r. r.name) rs
 
-abbrev whole_block_names : Function → ℕ → List (List ℕ)
+abbrev pub whole_block_names : Function → ℕ → List (List ℕ)
 whole_block_names f b = unwrap_or (option_map (λ block. names_of (block_registers block)) (slice_get f.blocks b)) []
 
-abbrev names_before : Function → Point → ℕ → List (List ℕ)
+abbrev pub names_before : Function → Point → ℕ → List (List ℕ)
 names_before f point b = unwrap_or (option_map (λ block. names_of (registers_before point block)) (slice_get f.blocks b)) []
 
 -- what is assigned on a path, given as the blocks before its last one, before a point in the last

@@ -183,13 +183,23 @@ returned_agrees None None = true
 returned_agrees (Some arg) (Some ty) = same_scalar arg.ty ty
 returned_agrees _ _ = false
 
+abbrev pub returns : Option Scalar → End → Bool
+returns ret (Ret arg) = returned_agrees arg ret
+returns ret _ = true
+
 abbrev pub end_agrees : Scope → End → Bool
-end_agrees s (Ret arg) = returned_agrees arg s.function.ret
-end_agrees s _ = true
+end_agrees s e = returns s.function.ret e
+
+-- a test passes at each item of a list with each later one
+abbrev pub each_pair : {A : Type 0} → (A → A → Bool) → List A → Bool
+each_pair test [] = true
+each_pair test (x ∷ xs) = list_all (test x) xs && each_pair test xs
+
+abbrev pub differ : Case → Case → Bool
+differ c d = not (same_bits c.value d.value)
 
 abbrev pub cases_differ : List Case → Bool
-cases_differ [] = true
-cases_differ (c ∷ cs) = not (list_any (λ d. same_bits c.value d.value) cs) && cases_differ cs
+cases_differ cases = each_pair differ cases
 
 abbrev pub end_cases : End → List Case
 end_cases (Switch width value other cases) = cases
@@ -208,7 +218,7 @@ end_check s e place =
 
 -- ---- phis
 
-abbrev is_predecessor : List ℕ → Block → Bool
+abbrev pub is_predecessor : List ℕ → Block → Bool
 is_predecessor label b = is_among (end_labels b.end) label
 
 -- the labels of the blocks whose end names the label
@@ -216,18 +226,22 @@ abbrev pub predecessors : List Block → List ℕ → List (List ℕ)
 predecessors [] label = []
 predecessors (b ∷ bs) label = if is_predecessor label b then b.label ∷ predecessors bs label else predecessors bs label
 
--- an edge carries what each other edge of its label carries
-abbrev repeats_agree : List Edge → Bool
-repeats_agree [] = true
-repeats_agree (e ∷ es) = list_all (λ d. not (bytes_eq e.label d.label) || same_operand e.value d.value) es && repeats_agree es
+-- two edges of one label carry the same operand
+abbrev pub carry_alike : Edge → Edge → Bool
+carry_alike e d = not (bytes_eq e.label d.label) || same_operand e.value d.value
+
+abbrev pub repeats_agree : List Edge → Bool
+repeats_agree edges = each_pair carry_alike edges
+
+abbrev pub edge_labels : List Edge → List (List ℕ)
+edge_labels edges = map (λ e. e.label) edges
 
 -- each predecessor is named, and nothing else
-abbrev edges_agree : List (List ℕ) → List Edge → Bool
-edges_agree before edges =
-    are_among (map (λ e. e.label) edges) before && (are_among before (map (λ e. e.label) edges) && repeats_agree edges)
+abbrev pub edges_agree : List (List ℕ) → List Edge → Bool
+edges_agree before edges = are_among (edge_labels edges) before && (are_among before (edge_labels edges) && repeats_agree edges)
 
 abbrev pub phi_check : Scope → List ℕ → Phi → Place → Check
 phi_check s label p place =
-    and_then (asks_true (uses_known s (phi_uses p) && are_among (labels s) (map (λ e. e.label) p.edges)) breaks.Unknown place)
+    and_then (asks_true (uses_known s (phi_uses p) && are_among (labels s) (edge_labels p.edges)) breaks.Unknown place)
     (and_then (types_fit (used_types (phi_uses p)) place)
     (and_then (asks_true (uses_agree s (phi_uses p)) breaks.Mismatch place) (asks_true (edges_agree (predecessors s.function.blocks label) p.edges) breaks.BadEdge place)))

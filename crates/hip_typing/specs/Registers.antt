@@ -12,6 +12,7 @@ use Rattle.hip_ir.specs.declared.instr.Instr.TheVariants.{Binary, Compare, Selec
 use Rattle.hip_ir.specs.declared.instr.Operand.{Operand}
 use Rattle.hip_ir.specs.declared.instr.Operand.TheVariants.{Reg, Fixed}
 use Rattle.hip_ir.specs.declared.block.Block.{Block}
+use Rattle.hip_ir.specs.declared.block.Edge.{Edge}
 use Rattle.hip_ir.specs.declared.block.End.{End}
 use Rattle.hip_ir.specs.declared.block.End.TheVariants.{Br, CondBr, Switch, Ret, Unreachable}
 use Rattle.hip_ir.specs.declared.block.Phi.{Phi}
@@ -94,8 +95,11 @@ end_uses (Switch width value other cases) = uses value (Int width) ∷ []
 end_uses (Ret arg) = returned_uses arg
 end_uses Unreachable = []
 
+abbrev pub edge_uses : Scalar → List Edge → List Use
+edge_uses ty edges = map (λ e. uses e.value ty) edges
+
 abbrev pub phi_uses : Phi → List Use
-phi_uses p = map (λ e. uses e.value p.ty) p.edges
+phi_uses p = edge_uses p.ty p.edges
 
 -- the blocks that an end names, by their labels
 abbrev pub end_labels : End → List (List ℕ)
@@ -105,7 +109,7 @@ end_labels (Switch width value other cases) = other ∷ map (λ c. c.label) case
 end_labels (Ret arg) = []
 end_labels Unreachable = []
 
-abbrev operand_registers : Operand → List (List ℕ)
+abbrev pub operand_registers : Operand → List (List ℕ)
 operand_registers (Reg name) = name ∷ []
 operand_registers (Fixed value) = []
 

@@ -6,6 +6,8 @@ use Rattle.hip_types.specs.declared.number.Scalar.{Scalar}
 use Rattle.hip_types.specs.declared.number.Scalar.TheVariants as scalars
 use Rattle.hip_types.specs.declared.number.Width.TheVariants.{W32}
 use Rattle.hip_ir.specs.declared.block.Block.{Block}
+use Rattle.hip_ir.specs.declared.block.Edge.{Edge}
+use Rattle.hip_ir.specs.declared.block.End.{End}
 use Rattle.hip_ir.specs.declared.instr.Instr.{Instr}
 use Rattle.hip_ir.specs.declared.block.Phi.{Phi}
 use Rattle.hip_ir.specs.declared.program.Extern.{Extern}
@@ -17,12 +19,14 @@ use Rattle.hip_ir.specs.declared.site.Site.{Site}
 use Rattle.hip_ir.specs.Reading.{IsSpelled}
 use Rattle.hip_typing.specs.Addresses.{region_size, volatile_start, volatile_end}
 use Rattle.hip_typing.specs.Check.{Check, asks_true, and_then, each}
-use Rattle.hip_typing.specs.Constants.{has_shape, names_in, types_in}
+use Rattle.hip_typing.specs.Constants.{has_shape, joined, names_in, types_in}
 use Rattle.hip_typing.specs.Externs.{Signature, known_signature, call_of}
 use Rattle.hip_typing.specs.declared.fault.Fault.{Fault}
 use Rattle.hip_typing.specs.declared.fault.Fault.TheVariants as breaks
 use Rattle.hip_typing.specs.Names.{Named, all_differ, is_among, numbered}
-use Rattle.hip_typing.specs.Paths.{Point, Before, AtEnd, IsAssigned, IsUnassigned}
+use Rattle.hip_typing.specs.Paths.{IsAssigned, IsUnassigned}
+use Rattle.hip_typing.specs.declared.assigned.Point.{Point}
+use Rattle.hip_typing.specs.declared.assigned.Point.TheVariants.{Before, AtEnd}
 use Rattle.hip_typing.specs.Places.{Scope, scope_of, types_fit, instr_check, end_check, phi_check}
 use Rattle.hip_typing.specs.Registers.{assigned_by, instr_uses, end_uses, used_registers}
 use Rattle.hip_typing.specs.Types.{same_scalar, all_pass}
@@ -96,11 +100,11 @@ sizes_check P =
 
 -- ---- `main` is there, has no parameters and answers an i32
 
-abbrev is_i32 : Option Scalar → Bool
+abbrev pub is_i32 : Option Scalar → Bool
 is_i32 (Some (scalars.Int W32)) = true
 is_i32 _ = false
 
-abbrev no_params : List Param → Bool
+abbrev pub no_params : List Param → Bool
 no_params [] = true
 no_params _ = false
 
@@ -116,7 +120,7 @@ main_check P = asks_true (has_main P.functions) breaks.NoMain places.Whole
 
 -- ---- parameters, labels and registers of a function differ
 
-abbrev site : ℕ → ℕ → ℕ → Site
+abbrev pub site : ℕ → ℕ → ℕ → Site
 site f b i = record { function = f; block = b; index = i }
 
 abbrev pub instr_names : ℕ → ℕ → ℕ → Instr → List Named
@@ -152,13 +156,21 @@ registers_check P = each inner_check P.functions
 
 -- ---- each place of each function
 
+abbrev pub phi_at : Scope → List ℕ → ℕ → ℕ → ℕ → Phi → Check
+phi_at s label f b i p = phi_check s label p (places.Phi (site f b i))
+
+abbrev pub instr_at : Scope → ℕ → ℕ → ℕ → Instr → Check
+instr_at s f b i instr = instr_check s instr (places.Body (site f b i))
+
 abbrev pub block_check : Scope → ℕ → ℕ → Block → Check
 block_check s f b block =
-    and_then (each (λ i p. phi_check s block.label p (places.Phi (site f b i))) block.phis)
-    (and_then (each (λ i instr. instr_check s instr (places.Body (site f b i))) block.body) (end_check s block.end (places.End f b)))
+    and_then (each (phi_at s block.label f b) block.phis) (and_then (each (instr_at s f b) block.body) (end_check s block.end (places.End f b)))
+
+abbrev pub function_check : Program → ℕ → Function → Check
+function_check P f fn = each (block_check (scope_of P fn) f) fn.blocks
 
 abbrev pub places_check : Program → Check
-places_check P = each (λ f fn. each (block_check (scope_of P fn) f) fn.blocks) P.functions
+places_check P = each (function_check P) P.functions
 
 -- ---- each use of a register is assigned on every path
 
@@ -169,27 +181,31 @@ pub record RegisterUse : Type 0 where
   pub point : Point
   pub name : List ℕ
 
-abbrev use_at : Place → ℕ → Point → List ℕ → RegisterUse
+abbrev pub use_at : Place → ℕ → Point → List ℕ → RegisterUse
 use_at place b point name = record { place = place; block = b; point = point; name = name }
 
-abbrev block_numbers_from : ℕ → List Block → List ℕ → List ℕ
+abbrev pub block_numbers_from : ℕ → List Block → List ℕ → List ℕ
 block_numbers_from n [] label = []
 block_numbers_from n (b ∷ bs) label = if bytes_eq b.label label then n ∷ [] else block_numbers_from (n + 1) bs label
 
 -- a phi's operand is used at the end of the predecessor
-abbrev phi_register_uses : List Block → Place → Phi → List RegisterUse
-phi_register_uses blocks place p =
-    flat_map (λ e. flat_map (λ b. map (use_at place b AtEnd) (used_registers (record { operand = e.value; ty = p.ty } ∷ []))) (block_numbers_from 0 blocks e.label)) p.edges
+abbrev pub edge_register_uses : List Block → Place → Scalar → Edge → List RegisterUse
+edge_register_uses blocks place ty e =
+    flat_map (λ b. map (use_at place b AtEnd) (used_registers (record { operand = e.value; ty = ty } ∷ []))) (block_numbers_from 0 blocks e.label)
 
-abbrev joined : List (List RegisterUse) → List RegisterUse
-joined [] = []
-joined (us ∷ rest) = us ++ joined rest
+abbrev pub phi_register_uses : List Block → Place → Phi → List RegisterUse
+phi_register_uses blocks place p = flat_map (edge_register_uses blocks place p.ty) p.edges
 
-abbrev block_register_uses : List Block → ℕ → ℕ → Block → List RegisterUse
+-- an instruction's registers are used before it
+abbrev pub instr_register_uses : ℕ → ℕ → ℕ → Instr → List RegisterUse
+instr_register_uses f b i instr = map (use_at (places.Body (site f b i)) b (Before i)) (used_registers (instr_uses instr))
+
+abbrev pub end_register_uses : ℕ → ℕ → End → List RegisterUse
+end_register_uses f b end = map (use_at (places.End f b) b AtEnd) (used_registers (end_uses end))
+
+abbrev pub block_register_uses : List Block → ℕ → ℕ → Block → List RegisterUse
 block_register_uses blocks f b block =
-    joined (numbered (λ i p. phi_register_uses blocks (places.Phi (site f b i)) p) block.phis)
-    ++ joined (numbered (λ i instr. map (use_at (places.Body (site f b i)) b (Before i)) (used_registers (instr_uses instr))) block.body)
-    ++ map (use_at (places.End f b) b AtEnd) (used_registers (end_uses block.end))
+    joined (numbered (λ i p. phi_register_uses blocks (places.Phi (site f b i)) p) block.phis) ++ joined (numbered (instr_register_uses f b) block.body) ++ end_register_uses f b block.end
 
 -- the uses of registers in a function, in the order of their places
 abbrev pub register_uses : ℕ → Function → List RegisterUse

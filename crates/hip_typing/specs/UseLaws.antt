@@ -1,5 +1,5 @@
 -- Operands that are checked by tables, and by what the tables stand for.
-use Rattle.std.specs.Prelude.{ℕ, ◌≡◌, ◌&&◌, Bool, true, false, List, [], ◌∷◌, ◌++◌, Option, is_some, map}
+use Rattle.std.specs.Prelude.{ℕ, ◌≡◌, ◌&&◌, Bool, true, false, List, [], ◌∷◌, ◌++◌, Option, is_some}
 use Rattle.std.specs.List.{list_all}
 use Rattle.std.proofs.Common.{refl, sym, ap, ◌∙◌}
 use Rattle.hip_types.specs.declared.number.Scalar.{Scalar}
@@ -27,7 +27,7 @@ all-append p [] ys = refl
 all-append p (x ∷ xs) ys = ap (λ b. p x && b) (all-append p xs ys) ∙ sym (and_assoc (p x) (list_all p xs) (list_all p ys))
 
 -- names that a table knows are those that are there
-known_alike : (known names asked : List (List ℕ)) → Knows known names → list_all (is_among known) asked ≡ list_all (is_among names) asked
+pub known_alike : (known names asked : List (List ℕ)) → Knows known names → list_all (is_among known) asked ≡ list_all (is_among names) asked
 known_alike known names [] knows = refl
 known_alike known names (x ∷ xs) knows = ap (λ b. b && list_all (is_among known) xs) (knows x) ∙ ap (λ b. is_among names x && b) (known_alike known names xs knows)
 

@@ -1,10 +1,10 @@
-ghost use Rattle.std.specs.Prelude.{◌≡◌, ◌+◌, ◌<◌, ◌≤◌, ◌^◌, nat_le};
+ghost use Rattle.std.specs.Prelude.{◌≡◌, ◌+◌, ◌<◌, ◌≤◌, ◌^◌, nat_le, length};
 ghost use Rattle.std.specs.Option.{SomeIff};
 ghost use Rattle.hip_types.specs.Layout.{Fits, size_of};
 ghost use Rattle.hip_typing.specs.Addresses as spec;
-ghost use Rattle.hip_typing.specs.Addresses.{AllFit, global_align, global_start};
+ghost use Rattle.hip_typing.specs.Addresses.{AllFit, IsBase, global_align, global_start};
 ghost use Rattle.hip_typing.specs.Answers.{Answers};
-ghost use Rattle.hip_typing.specs.Sound.{sizes_check};
+ghost use Rattle.hip_typing.specs.Sound.{IsSound, sizes_check};
 
 use crate::fault::{Fault, Place};
 use crate::refused::{Refused, ask};
@@ -16,6 +16,9 @@ const LARGEST_REGION: u64 = 67_108_864;
 
 /// Where the first volatile global lies.
 const VOLATILE_START: u64 = 65_536;
+
+/// How many bytes a cache line has.
+const CACHE_LINE: u64 = 64;
 
 /// Where the last volatile global may end.
 const VOLATILE_LIMIT: u64 = VOLATILE_START + 16_777_216;
@@ -81,4 +84,56 @@ pub fn check_sizes(program: &Program) -> Result<(), Refused>
     let fit = end_within(globals, true, 0, LARGEST_REGION)
         && end_within(globals, false, VOLATILE_START, VOLATILE_LIMIT);
     ask(fit, Fault::TooLarge, Place::Whole)
+}
+
+/// How many bytes the persistent globals take, rounded up to whole cache lines.
+pub fn region_size(program: &Program) -> u64
+    requires fit { AllFit program.now.globals }
+    requires small { spec.region_size program.now ≤ 67108864 }
+    ensures { result ≡ spec.region_size program.now }
+{
+    match end_of(program.globals.as_slice(), true, 0) {
+        Some(end) => end.next_multiple_of(CACHE_LINE),
+        None => unreachable!(),
+    }
+}
+
+/// Where the global of that number begins, where those that are persistent as it is, or are not, are laid from a
+/// place on.
+fn start_of(globals: &[GlobalVar], persistent: bool, start: u64, number: usize) -> u64
+    requires fit { AllFit globals.now }
+    requires there { number < length globals.now }
+    requires one { persistent ≡ spec.is_persistent globals.now number }
+    requires end { spec.end_of persistent start globals.now < 2 ^ 64 }
+    ensures { result ≡ spec.start_of persistent start globals.now number }
+{
+    let mut at = start;
+    'each: for index in 0..number {
+        let earlier = &globals[index];
+        if earlier.persistent == persistent {
+            at = match end_after(at, earlier) {
+                Some(end) => end,
+                None => unreachable!(),
+            };
+        }
+    }
+    match at.checked_next_multiple_of(alignment(&globals[number])) {
+        Some(start) => start,
+        None => unreachable!(),
+    }
+}
+
+/// The address of the global of that number, where the region begins at a base.
+pub fn address(program: &Program, base: u64, number: usize) -> u64
+    requires sound { IsSound program.now }
+    requires base { IsBase base }
+    requires there { number < length program.now.globals }
+    ensures { result ≡ spec.address program.now base number }
+{
+    let globals = program.globals.as_slice();
+    if globals[number].persistent {
+        base + start_of(globals, true, 0, number)
+    } else {
+        start_of(globals, false, VOLATILE_START, number)
+    }
 }

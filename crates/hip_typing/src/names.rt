@@ -1,4 +1,5 @@
 ghost use Rattle.std.specs.Prelude.{◌≡◌, [], ◌∷◌, ◌++◌, if◌then◌else◌, not, IfOk, OnErr};
+ghost use Rattle.std.specs.List.{list_all};
 ghost use Rattle.hip_typing.specs.Names.{is_among, number_of};
 
 use hip_types::NoMemory;
@@ -51,5 +52,17 @@ impl<'a> NameSet<'a> {
         ensures { result ≡ number_of self.now name.now }
     {
         self.names.get_index_of(name)
+    }
+
+    /// Whether each of these names is one of the others.
+    pub fn is_within(&self, others: &NameSet<'_>) -> bool
+        ensures { result ≡ list_all (is_among others.now) self.now }
+    {
+        'each: for name in self.names.as_slice() {
+            if !others.contains(name) {
+                return false;
+            }
+        }
+        true
     }
 }

@@ -1,7 +1,7 @@
 ghost use Rattle.std.specs.Prelude.{◌≡◌};
 ghost use Rattle.hip_typing.specs.Places as places;
 ghost use Rattle.hip_typing.specs.Places.{type_of};
-ghost use Rattle.hip_typing.specs.Registers.{arg_uses};
+ghost use Rattle.hip_typing.specs.Registers.{arg_uses, phi_uses};
 ghost use Rattle.hip_typing.specs.UsesSeen as spec;
 ghost use Rattle.hip_typing.specs.UsesSeen.{use_seen, uses_seen, operands_known, operands_agree, operands_fit};
 
@@ -11,7 +11,7 @@ use crate::names::NameSet;
 use crate::registers::RegisterTable;
 use crate::shape::const_has_shape;
 use crate::uses::{OperandUse, Uses};
-use hip_ir::{Arg, Operand};
+use hip_ir::{Arg, Operand, Phi};
 use hip_types::{Scalar, Ty};
 
 // ---- registers and globals that are named, exist
@@ -154,4 +154,42 @@ pub fn uses_agree(registers: &RegisterTable<'_>, uses: &Uses<'_>) -> bool
         && use_agrees(registers, uses.second)
         && use_agrees(registers, uses.third)
         && args_agree(registers, uses.args)
+}
+
+// ---- operands of a phi
+
+/// Whether all registers and globals that a phi takes exist.
+pub fn edges_known(registers: &RegisterTable<'_>, globals: &NameSet<'_>, phi: &Phi) -> bool
+    ensures { result ≡ operands_known registers.now.names registers.now.values globals.now (phi_uses phi.now) }
+{
+    'each: for edge in phi.edges.as_slice() {
+        if !operand_known(registers, globals, &edge.value) {
+            return false;
+        }
+    }
+    true
+}
+
+/// Whether all types fit that are written in a phi's constants.
+pub fn edges_fit(phi: &Phi) -> bool
+    ensures { result ≡ operands_fit (phi_uses phi.now) }
+{
+    'each: for edge in phi.edges.as_slice() {
+        if !operand_fits(&edge.value) {
+            return false;
+        }
+    }
+    true
+}
+
+/// Whether all operands of a phi have its type.
+pub fn edges_have_type(registers: &RegisterTable<'_>, phi: &Phi) -> bool
+    ensures { result ≡ operands_agree registers.now.names registers.now.values (phi_uses phi.now) }
+{
+    'each: for edge in phi.edges.as_slice() {
+        if !operand_agrees(registers, &edge.value, phi.ty) {
+            return false;
+        }
+    }
+    true
 }

@@ -1,4 +1,5 @@
 use Rattle.std.proofs.Common.{sym, ap, ◌∙◌}
+use Rattle.hip_ir.specs.SpellingExact.{read_is_spelled}
 use Rattle.hip_ir.specs.TextExact.{whole_text, fault_at, read_is, refused_is, only_is, never_derived}
 use Rattle.hip_parse.specs.Left.{left}
 use Rattle.hip_parse.proofs.Causes.{cause_of}
@@ -6,6 +7,9 @@ use Rattle.hip_parse.proofs.reading.parse.Goals as goal
 
 pub returns-in-Ok-clause-read : goal.returns-in-Ok-clause-read
 returns-in-Ok-clause-read c = read_is _ _ (left c.whole.new.self) (ap whole_text (sym c.new-parser.ensures) ∙ c.in-Ok.ensures)
+
+pub returns-in-Ok-clause-spelled : goal.returns-in-Ok-clause-spelled
+returns-in-Ok-clause-spelled c = read_is_spelled _ _ (read_is _ _ (left c.whole.new.self) (ap whole_text (sym c.new-parser.ensures) ∙ c.in-Ok.ensures))
 
 pub returns-in-Ok-clause-only : goal.returns-in-Ok-clause-only
 returns-in-Ok-clause-only c = λ program t. only_is _ _ program (left c.whole.new.self) (ap whole_text (sym c.new-parser.ensures) ∙ c.in-Ok.ensures) t

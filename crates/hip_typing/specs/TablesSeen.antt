@@ -1,0 +1,21 @@
+-- What the code's tables of a program and of a function stand for.
+use Rattle.std.specs.Prelude.{map}
+use Rattle.hip_typing.specs.Arrivals.{FindsPredecessors}
+use Rattle.hip_typing.specs.Names.{Knows}
+use Rattle.hip_typing.specs.Places.{Scope, scope_of}
+use Rattle.hip_typing.specs.Registers.{registers_of}
+use Rattle.hip_typing.specs.Tables.{Finds, FindsCallees}
+use Rattle.hip_typing.specs.declared.tables.FunctionTables.{FunctionTables}
+use Rattle.hip_typing.specs.declared.tables.ProgramTables.{ProgramTables}
+
+pub record DescribesProgram (t : ProgramTables) : Type 0 where
+  pub globals : Knows t.globals (map (λ g. g.name) t.program.now.globals)
+  pub callees : FindsCallees t.callees.names t.callees.values t.program.now
+
+pub record DescribesFunction (t : FunctionTables) : Type 0 where
+  pub registers : Finds t.registers.names t.registers.values (registers_of t.function.now)
+  pub labels : Knows t.labels (map (λ b. b.label) t.function.now.blocks)
+  pub before : FindsPredecessors t.before.sets t.function.now.blocks
+
+abbrev pub scope_in : ProgramTables → FunctionTables → Scope
+scope_in p f = scope_of p.program.now f.function.now

@@ -1,0 +1,15 @@
+-- What the code's targets stand for.
+use Rattle.std.specs.Prelude.{ℕ, List, [], ◌∷◌, ◌++◌, map, Option, Some, None}
+use Rattle.std.specs.Borrow.{Bor}
+use Rattle.hip_ir.specs.declared.block.Case.{Case}
+use Rattle.hip_typing.specs.declared.targets.Targets.{Targets}
+
+abbrev pub label_seen : Option (Bor (List ℕ)) → List (List ℕ)
+label_seen None = []
+label_seen (Some label) = label.now ∷ []
+
+abbrev pub case_labels : List Case → List (List ℕ)
+case_labels cases = map (λ c. c.label) cases
+
+abbrev pub targets_seen : Targets → List (List ℕ)
+targets_seen t = label_seen t.first ++ (label_seen t.second ++ case_labels t.cases.now)

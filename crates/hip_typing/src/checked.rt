@@ -1,0 +1,130 @@
+ghost use Rattle.std.specs.Prelude.{◌≡◌, ◌<◌, length};
+ghost use Rattle.hip_typing.specs.Addresses as spec;
+ghost use Rattle.hip_typing.specs.Addresses.{IsBase};
+ghost use Rattle.hip_typing.specs.Checks.{Checks};
+ghost use Rattle.hip_typing.specs.Given.{CallsAgree, OperandsAgree, LabelsExist, PhisAgree, HasMain};
+ghost use Rattle.hip_typing.specs.Names as names;
+ghost use Rattle.hip_typing.specs.Numbering.{function_names, function_number};
+ghost use Rattle.hip_typing.specs.Sound.{IsSound};
+
+use crate::addresses::{address, region_size};
+use crate::assigned_functions::check_assigned;
+use crate::fault::{Place, TypeFault, TypeRefusal};
+use crate::refusal::{refusal_of, refusal_on_paths};
+use crate::rules::check_rules;
+use hip_ir::{Function, Program, spelled};
+use std::alloc::Global;
+use std::marker::Model;
+
+/// A program that is sound.
+#[derive(Debug, Drop)]
+pub struct Checked {
+    program: Program,
+}
+
+impl Model for Checked {
+    ghost use Rattle.hip_ir.specs.declared.program.Program.{Program};
+    ghost use Rattle.hip_ir.specs.contracts.program.Program as told;
+    ghost use Rattle.hip_typing.specs.Sound.{IsSound};
+
+    ghost Value = { Program };
+
+    ghost coded = { told.the_row.coded };
+
+    ghost view = { λ c. c.program };
+
+    ghost invariant = { λ c. IsSound c.program };
+}
+
+impl Checked {
+    /// The program, and what holds since it is sound.
+    pub fn program(&self) -> &Program
+        ensures is { result.now ≡ self.now }
+        ensures sound { IsSound self.now }
+        ensures calls { CallsAgree self.now }
+        ensures operands { OperandsAgree self.now }
+        ensures labels { LabelsExist self.now }
+        ensures phis { PhisAgree self.now }
+        ensures main { HasMain self.now }
+    {
+        &self.program
+    }
+
+    /// The program alone.
+    pub fn into_program(self) -> Program
+        ensures is { result ≡ self }
+        ensures sound { IsSound self }
+    {
+        let Checked { program } = self;
+        program
+    }
+
+    /// How many bytes the region has: those of the persistent globals, rounded up to whole cache lines of 64 bytes.
+    pub fn region_size(&self) -> u64
+        ensures { result ≡ spec.region_size self.now }
+    {
+        region_size(&self.program)
+    }
+
+    /// The address of the global of that number, where the region begins at a base. It takes time linear in the number
+    /// of globals.
+    pub fn address(&self, base: u64, global: usize) -> u64
+        requires base { IsBase base }
+        requires there { global < length self.now.globals }
+        ensures { result ≡ spec.address self.now base global }
+    {
+        address(&self.program, base, global)
+    }
+
+    /// The number of the function of that name, if there is one. It takes time linear in the number of functions.
+    pub fn function_number(&self, name: &[u8]) -> Option<usize>
+        ensures { result ≡ function_number self.now name.now }
+    {
+        number_of(self.program.functions.as_slice(), name)
+    }
+}
+
+/// The first rule that the program breaks, at the first place.
+fn find_fault(alloc: Global, program: &Program) -> Result<(), TypeRefusal>
+    ensures { Checks program.now result (λ _. Unit {0}) }
+{
+    if !spelled(program) {
+        return Err(TypeRefusal {
+            fault: TypeFault::BadShape,
+            place: Place::Whole,
+        });
+    }
+    if let Err(refused) = check_rules(alloc, program) {
+        return Err(refusal_of(refused));
+    }
+    match check_assigned(alloc, program) {
+        Ok(()) => Ok(()),
+        Err(refused) => Err(refusal_on_paths(refused)),
+    }
+}
+
+/// The program, where it is sound; it is dropped on a refusal. The refusal is the first rule that the program breaks, at
+/// the first place, in this order: it is one that some text reads as; names of globals, externs and functions differ;
+/// types and initialisers of globals; externs; sizes; `main`; names inside functions; names, types, cases and edges at
+/// each place; each use of a register is assigned on every path. Want of memory is a refusal at the whole program.
+///
+/// The time is little more than linear in the program, and so is the memory that it takes for a while.
+pub fn check(alloc: Global, program: Program) -> Result<Checked, TypeRefusal>
+    ensures { Checks program result (λ checked. checked ≡ program) }
+{
+    match find_fault(alloc, &program) {
+        Ok(()) => Ok(Checked { program }),
+        Err(refusal) => Err(refusal),
+    }
+}
+
+fn number_of(functions: &[Function], name: &[u8]) -> Option<usize>
+    ensures { result ≡ names.number_of (function_names functions.now) name.now }
+{
+    'each: for number in 0..functions.len() {
+        if functions[number].name.as_slice() == name {
+            return Some(number);
+        }
+    }
+    None
+}

@@ -16,6 +16,8 @@ pub mod CalleesAgain
 pub mod Needed
 pub mod InsertedAgain
 pub mod PlacesAgain
+pub mod AssignedAgain
+pub mod SoundAgain
 pub mod Ahead
 pub mod Inserted
 pub mod Blocks

@@ -91,23 +91,40 @@ module _ (clones : List Clone) (w : Wanted) (clone : Bool) (f b : ℕ) where
       inl (0, i, refl, sym (same_Some _ _ e) ∙ ap (λ n. renamed clones i (clone || w.hoist (site_at n))) here, refl)
   in_body place (i ∷ is) (suc k') i' e =
       ⊎_elim
-          (λ front.
-              let here : place ≡ place + 0 = omega arith in
-              inr (0, i, k', refl, subst (λ n. slice_get (instrs_of (inserted_behind w clone (site_at n) i)) k' ≡ Some i') here front.0,
-                  first_registers place k' i is (take k' (instrs_of (inserted_behind w clone (site_at place) i))) front.1
-                      ∙ ap (λ rs. assigned_by i ++ rs) (inserted_registers w clone (site_at place) i k')))
-          (λ back.
-              ⊎_elim
-                  (λ o.
-                      let shifted : suc place + o.0 ≡ place + suc o.0 = omega arith in
-                      inl (suc o.0, o.1, o.2, o.3 ∙ ap (λ n. renamed clones o.1 (clone || w.hoist (site_at n))) shifted,
-                          first_registers place k' i is _ back.2 ∙ ap (λ rs. assigned_by i ++ rs) (later_registers place back.0 i is ∙ o.4)))
-                  (λ o.
-                      let shifted : suc place + o.0 ≡ place + suc o.0 = omega arith in
-                      inr (suc o.0, o.1, o.2, o.3, subst (λ n. slice_get (instrs_of (inserted_behind w clone (site_at n) o.1)) o.2 ≡ Some i') shifted o.4,
-                          first_registers place k' i is _ back.2 ∙ ap (λ rs. assigned_by i ++ rs) (later_registers place back.0 i is ∙ o.5)))
-                  (in_body (suc place) is back.0 i' back.1))
-          (place_in (instrs_of (inserted_behind w clone (site_at place) i)) (repaired_instrs (suc place) is) k' i' (ap (λ ys. slice_get ys k') (sym (parts place i is)) ∙ e))
+      (λ front.
+      let here : place ≡ place + 0 = omega arith in
+      inr (
+        0,
+        i,
+        k',
+        refl,
+        subst (λ n. slice_get (instrs_of (inserted_behind w clone (site_at n) i)) k' ≡ Some i') here front.0,
+        first_registers place k' i is (take k' (instrs_of (inserted_behind w clone (site_at place) i))) front.1
+            ∙ ap (λ rs. assigned_by i ++ rs) (inserted_registers w clone (site_at place) i k'),
+      ))
+      (λ back.
+      ⊎_elim
+      (λ o.
+      let shifted : suc place + o.0 ≡ place + suc o.0 = omega arith in
+      inl (
+        suc o.0,
+        o.1,
+        o.2,
+        o.3 ∙ ap (λ n. renamed clones o.1 (clone || w.hoist (site_at n))) shifted,
+        first_registers place k' i is _ back.2 ∙ ap (λ rs. assigned_by i ++ rs) (later_registers place back.0 i is ∙ o.4),
+      ))
+      (λ o.
+      let shifted : suc place + o.0 ≡ place + suc o.0 = omega arith in
+      inr (
+        suc o.0,
+        o.1,
+        o.2,
+        o.3,
+        subst (λ n. slice_get (instrs_of (inserted_behind w clone (site_at n) o.1)) o.2 ≡ Some i') shifted o.4,
+        first_registers place k' i is _ back.2 ∙ ap (λ rs. assigned_by i ++ rs) (later_registers place back.0 i is ∙ o.5),
+      ))
+      (in_body (suc place) is back.0 i' back.1))
+      (place_in (instrs_of (inserted_behind w clone (site_at place) i)) (repaired_instrs (suc place) is) k' i' (ap (λ ys. slice_get ys k') (sym (parts place i is)) ∙ e))
 
   -- a repaired body assigns what the original does
   pub same_registers : (place : ℕ) (is : List Instr) → body_registers (repaired_instrs place is) ≡ body_registers is
@@ -116,8 +133,8 @@ module _ (clones : List Clone) (w : Wanted) (clone : Bool) (f b : ℕ) where
       ap (λ ys. assigned_by (renamed clones i (clone || w.hoist (site_at place))) ++ body_registers ys) (parts place i is)
       ∙ ap (λ rs. rs ++ body_registers (instrs_of (inserted_behind w clone (site_at place) i) ++ repaired_instrs (suc place) is)) (renamed_assigns clones i (clone || w.hoist (site_at place)))
       ∙ ap (λ rs. assigned_by i ++ rs)
-          (flat_map-append assigned_by (instrs_of (inserted_behind w clone (site_at place) i)) (repaired_instrs (suc place) is)
-          ∙ ap (λ rs. rs ++ body_registers (repaired_instrs (suc place) is)) (all_inserted_registers w clone (site_at place) i) ∙ same_registers (suc place) is)
+      (flat_map-append assigned_by (instrs_of (inserted_behind w clone (site_at place) i)) (repaired_instrs (suc place) is)
+      ∙ ap (λ rs. rs ++ body_registers (repaired_instrs (suc place) is)) (all_inserted_registers w clone (site_at place) i) ∙ same_registers (suc place) is)
 
 pub same_block_registers : (clones : List Clone) (w : Wanted) (clone : Bool) (f b : ℕ) (block : Block) → block_registers (repaired_block clones w clone f b block) ≡ block_registers block
 same_block_registers clones w clone f b block = ap (λ rs. phi_registers block.phis ++ rs) (same_registers clones w clone f b 0 block.body)

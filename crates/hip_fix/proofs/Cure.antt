@@ -159,7 +159,7 @@ module _ (plan : Plan) (up : List Level) (F : Flush → Type 0) (o n : ℕ) (Who
   none_from g p g' p' k (x ∷ xs) (x' ∷ xs') le e s noted within cured made =
       let same = head_same (content_of x') (content_of x) (map content_of xs') (map content_of xs) e in
       go (nat_eq x'.step made && (nat_le g' k && is_last o n x' xs')) refl same.0 same.1
-          (none_from g p g' p' (suc k) xs xs' le same.1 s.1 (λ j y at lt. noted (suc j) y at (omega arith)) (λ m q i. within m q (later m q i)) cured made)
+      (none_from g p g' p' (suc k) xs xs' le same.1 s.1 (λ j y at lt. noted (suc j) y at (omega arith)) (λ m q i. within m q (later m q i)) cured made)
     where
       later : (m : ℕ) (q : LoosePart) → In q (loose_from o n m g p (suc k) xs) → In q (loose_from o n m g p k (x ∷ xs))
       later m q i = put (nat_eq x.step m && (nat_le g k && is_last o n x xs))
@@ -197,8 +197,8 @@ module _ (plan : Plan) (up : List Level) (F : Flush → Type 0) (o n : ℕ) (Who
   none_of_lines [] [] a k noted within cured made = refl
   none_of_lines (l ∷ ls) (l' ∷ ls') a k noted within cured made =
       ap₂ (λ xs ys. xs ++ ys)
-          (none_from l.durable l.flushed l'.durable l'.flushed 0 l.parts l'.parts a.0.durable a.0.parts k.0.safe (λ j x at lt. noted 0 j l x refl at (omega arith)) (λ m q i. within m q (in_left m q i)) (cured l.flushed l'.durable l'.flushed) made)
-          (none_of_lines ls ls' a.1 k.1 (λ m j y x e at lt. noted (suc m) j y x e at lt) (λ m q i. within m q (in_right m q i)) cured made)
+      (none_from l.durable l.flushed l'.durable l'.flushed 0 l.parts l'.parts a.0.durable a.0.parts k.0.safe (λ j x at lt. noted 0 j l x refl at (omega arith)) (λ m q i. within m q (in_left m q i)) (cured l.flushed l'.durable l'.flushed) made)
+      (none_of_lines ls ls' a.1 k.1 (λ m j y x e at lt. noted (suc m) j y x e at lt) (λ m q i. within m q (in_right m q i)) cured made)
     where
       in_left : (m : ℕ) (q : LoosePart) → In q (loose_in o n m l) → In q (loose_parts o n (l ∷ ls) m)
       in_left m q i = append-left (loose_in o n m l) (loose_parts o n ls m) q i
@@ -224,7 +224,7 @@ module _ (P : Program) (plan : Plan) (found : Findings) (contains : Contains pla
   found_there : (made : ℕ) (p : LoosePart) (ps : List LoosePart) → loose made ≡ p ∷ ps → made < s.counts.steps → In (report p ps) found.reports
   found_there made p ps e lt =
       there (report p ps) (in_flat (λ m. report_of up (suc s.counts.entries) (loose m)) (range_with_len 0 s.counts.steps) made (report p ps) (in_range 0 s.counts.steps made (omega arith) (omega arith))
-          (subst (λ (qs : List LoosePart). In (report p ps) (report_of up (suc s.counts.entries) qs)) (sym e) (inl refl)))
+      (subst (λ (qs : List LoosePart). In (report p ps) (report_of up (suc s.counts.entries) qs)) (sym e) (inl refl)))
 
   -- a loose part x at place k of a line across which so many parts are durable and flushed
   module _ (x : StorePart) (k p g' p' : ℕ) (safe : Safe plan up (Known s.lines) g' p' k x) (noted : k < p → (f : Flush) × (x.first_flush ≡ Some f)) (made : PartOf s.lines x) where
@@ -259,7 +259,7 @@ module _ (P : Program) (plan : Plan) (found : Findings) (contains : Contains pla
           let from = loose_part range.offset range.size x.step s.lines l.2.of.0 (subst (In l.2.of.0) (sym e) l.2.of.1) in
           let at = history.flush_there l.2.of.0.part l.0 from.0 l.2.of.2 in
           safe.fences f1.0 l.0 f1.1 (l.2.of.0.part, from.0, l.2.of.2) (l.2.last here f1.0 is_loose f1.1)
-              (has_fence P plan found contains (report q qs) r_found l.0.site at.0 at.1 (asks l.0 l.1 all))
+          (has_fence P plan found contains (report q qs) r_found l.0.site at.0 at.1 (asks l.0 l.1 all))
         where
           all_in : (ps : List LoosePart) → In here ps → all_flushed ps ≡ true → k < p
           all_in [] i h = absurd i
@@ -331,4 +331,4 @@ module _ (P : Program) (plan : Plan) (found : Findings) (contains : Contains pla
   pub none_loose : (ls' : Lines) → Ahead s.lines ls' → AllKept plan up (Known s.lines) s.lines ls' → (made : ℕ) → loose_parts range.offset range.size ls' made ≡ []
   none_loose ls' ahead kept made =
       none_of_lines plan up (Known s.lines) range.offset range.size (λ m q. In q (loose m)) s.lines ls' ahead kept history.flushed (λ m q i. i)
-          (λ p g' p' x k whole safe noted. cured_part x k p g' p' safe noted (loose_part range.offset range.size x.step s.lines (record { part = x; flushed = nat_lt k p }) whole).0 whole) made
+      (λ p g' p' x k whole safe noted. cured_part x k p g' p' safe noted (loose_part range.offset range.size x.step s.lines (record { part = x; flushed = nat_lt k p }) whole).0 whole) made

@@ -123,8 +123,8 @@ module _ (P : Program) (plan : Plan) (skip : Site → Bool) (I : Input) (good : 
               let not_ended : has_ended (run P I j) ≡ false = ap is_some ending in
               let check : next_check P I (run P I j) ≡ Some range = ap (λ (b : Bool). cond b None (checked_by I (event P I (run P I j)))) not_ended ∙ ap (checked_by I) (sym (c.same t)) ∙ checked_there range e going in
               flat_nothing _ (range_with_len 0 (run Q I n).counts.steps)
-                  (λ made. ap (report_of (levels_of (run Q I n).frames) (suc (run Q I n).counts.entries))
-                      (none_loose P plan found contains (run P I j) (has_history P I j) range (λ r i. report_found j r not_ended (subst (λ (o : Option Range). In r (check_reports (run P I j) o)) (sym check) i)) (run Q I n).lines (lines_ahead f.pair) (c.holds t still) made))
+              (λ made. ap (report_of (levels_of (run Q I n).frames) (suc (run Q I n).counts.entries))
+              (none_loose P plan found contains (run P I j) (has_history P I j) range (λ r i. report_found j r not_ended (subst (λ (o : Option Range). In r (check_reports (run P I j) o)) (sym check) i)) (run Q I n).lines (lines_ahead f.pair) (c.holds t still) made))
 
       go : (o : Option Range) → next_check Q I (run Q I n) ≡ o → check_reports (run Q I n) o ≡ []
       go None e = refl

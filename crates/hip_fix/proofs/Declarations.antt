@@ -47,14 +47,16 @@ missing_at P x a false c g k e h = cc
 pub added_at : (P : Program) (plan : Plan) (w : Wanted) (k : ℕ) (e : Extern) → slice_get (added_externs P plan w) k ≡ Some e → IsMissing P e
 added_at P plan w k e h =
     ⊎_elim (λ first. missing_at P clwb_extern adds_clwb (needs P plan w clwb_name) (is_among (extern_names P) clwb_name) refl k e first)
-        (λ rest. ⊎_elim (λ second. missing_at P sfence_extern adds_sfence (needs P plan w sfence_name) (is_among (extern_names P) sfence_name) refl rest.0 e second)
-            (λ third. missing_at P pmem_flush_extern adds_pmem_flush (needs P plan w pmem_flush_name) (is_among (extern_names P) pmem_flush_name) refl third.0 e third.1)
-            (in_append seconds thirds rest.0 e rest.1))
-        (in_append firsts (seconds ++ thirds) k e h)
+    (λ rest. ⊎_elim (λ second. missing_at P sfence_extern adds_sfence (needs P plan w sfence_name) (is_among (extern_names P) sfence_name) refl rest.0 e second)
+    (λ third. missing_at P pmem_flush_extern adds_pmem_flush (needs P plan w pmem_flush_name) (is_among (extern_names P) pmem_flush_name) refl third.0 e third.1)
+    (in_append seconds thirds rest.0 e rest.1))
+    (in_append firsts (seconds ++ thirds) k e h)
   where
     firsts : List Extern
     firsts = cond (needs P plan w clwb_name && not (is_among (extern_names P) clwb_name)) (clwb_extern ∷ []) []
+
     seconds : List Extern
     seconds = cond (needs P plan w sfence_name && not (is_among (extern_names P) sfence_name)) (sfence_extern ∷ []) []
+
     thirds : List Extern
     thirds = cond (needs P plan w pmem_flush_name && not (is_among (extern_names P) pmem_flush_name)) (pmem_flush_extern ∷ []) []

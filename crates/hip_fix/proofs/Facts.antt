@@ -50,7 +50,7 @@ pub record Keeps (P : Program) (plan : Plan) (skip : Site → Bool) (I : Input) 
       (IsQuiet P skip → skip s ≡ false) →
       Holds up ls ls' →
       Holds up (stored (part_of_store counts s up (a - I.base) bytes) (a - I.base) (length bytes) ls)
-          (fence_if (has_site plan.fence_after s || has_site plan.hoist s) (flush_if (has_site plan.flush_after s || (clone && not (skip s))) I flush' a n (stored (part_of_store counts' s' up' (a - I.base) bytes) (a - I.base) (length bytes) ls')))
+      (fence_if (has_site plan.fence_after s || has_site plan.hoist s) (flush_if (has_site plan.flush_after s || (clone && not (skip s))) I flush' a n (stored (part_of_store counts' s' up' (a - I.base) bytes) (a - I.base) (length bytes) ls')))
   -- a call, a return of a call that is not hoisted, and one of a hoisted call, which a fence follows
   pub call : (up : List Level) (l : Level) (ls ls' : Lines) → Holds up ls ls' → Holds (l ∷ up) ls ls'
   pub return : (up : List Level) (l : Level) (ls ls' : Lines) → ¬ (has_site plan.hoist l.call ≡ true) → Holds (l ∷ up) ls ls' → Holds up ls ls'

@@ -12,9 +12,10 @@ both_true false b e f = e
 each_from_make : {A : Type 0} → (n : ℕ) (check : ℕ → A → Check) (xs : List A) → ((k : ℕ) (x : A) → slice_get xs k ≡ Some x → (check (n + k) x).Holds) → (each_from n check xs).Holds
 each_from_make n check [] h = tt
 each_from_make n check (x ∷ xs) h =
-    let first : n + 0 ≡ n = omega arith in
-    (subst (λ m. (check m x).Holds) first (h 0 x refl),
-    each_from_make (n + 1) check xs (λ k y e. let next : n + suc k ≡ n + 1 + k = omega arith in subst (λ m. (check m y).Holds) next (h (suc k) y e)))
+    let first : n + 0 ≡ n = omega arith in (
+      subst (λ m. (check m x).Holds) first (h 0 x refl),
+      each_from_make (n + 1) check xs (λ k y e. let next : n + suc k ≡ n + 1 + k = omega arith in subst (λ m. (check m y).Holds) next (h (suc k) y e)),
+    )
 
 -- a check of each item holds if it holds at each place
 pub each_make : {A : Type 0} → (check : ℕ → A → Check) (xs : List A) → ((k : ℕ) (x : A) → slice_get xs k ≡ Some x → (check k x).Holds) → (each check xs).Holds

@@ -331,7 +331,7 @@ module _ (plan : Plan) (up : List Level) where
   safe_with : (F : Flush → Type 0) (s : Site) (b c : Bool) (x : StorePart) → Wants s b c → IsNew s x → (l l' : Line StorePart) → Kept plan up F l l' → (g p : ℕ) → l'.durable ≤ g → l'.flushed ≤ p → (b ≡ true → length l.parts < p) → (b ≡ true → c ≡ true → length l.parts < g) → AllSafe plan up F g p 0 (l.parts ++ x ∷ [])
   safe_with F s b c x w i l l' a g p hg hp flushed durable =
       safe_append plan up F g p 0 l.parts x (safe_more plan up F F (λ _ z. z) l'.durable l'.flushed g p 0 l.parts hg hp a.safe)
-          (let e : length l.parts ≡ 0 + length l.parts = omega arith in subst (λ (k : ℕ). Safe plan up F g p k x) e (new_safe F s b c x w i g p (length l.parts) flushed durable))
+      (let e : length l.parts ≡ 0 + length l.parts = omega arith in subst (λ (k : ℕ). Safe plan up F g p k x) e (new_safe F s b c x w i g p (length l.parts) flushed durable))
 
   grown : (x' : StorePart) (l' : Line StorePart) → length (with_part x' l').parts ≡ length l'.parts + 1
   grown x' l' = length-append l'.parts (x' ∷ [])

@@ -73,12 +73,12 @@ module _ (P : Program) (plan : Plan) (skip : Site → Bool) (I : Input) where
           flushes_lines I a n ≡ true → ((j : ℕ) → has_bytes j (a - I.base) n ≡ has_bytes j (a - I.base) (length bytes)) →
           ((v : Level) → In v up → has_site plan.hoist v.call ≡ true → clone ≡ true) → skip s ≡ false → AllKept plan up (Known ls) ls ls' →
           AllKept plan up (Known (stored (part_of_store counts s up (a - I.base) bytes) (a - I.base) (length bytes) ls)) (stored (part_of_store counts s up (a - I.base) bytes) (a - I.base) (length bytes) ls)
-              (fence_if (has_site plan.fence_after s || has_site plan.hoist s) (flush_if (has_site plan.flush_after s || (clone && not (skip s))) I flush' a n (stored (part_of_store counts' s' up' (a - I.base) bytes) (a - I.base) (length bytes) ls')))
+          (fence_if (has_site plan.fence_after s || has_site plan.hoist s) (flush_if (has_site plan.flush_after s || (clone && not (skip s))) I flush' a n (stored (part_of_store counts' s' up' (a - I.base) bytes) (a - I.base) (length bytes) ls')))
       stored_kept up up' counts counts' s s' a bytes clone flush' n ls ls' flushes same under quiet h =
           kept_less plan up (Known ls) (Known (stored (part_of_store counts s up (a - I.base) bytes) (a - I.base) (length bytes) ls)) (λ f k. known_stored (part_of_store counts s up (a - I.base) bytes) (a - I.base) (length bytes) ls f (λ j. refl) k) _ _
           (subst (λ (r : Bool). AllKept plan up (Known ls) (stored (part_of_store counts s up (a - I.base) bytes) (a - I.base) (length bytes) ls)
-              (fence_if (has_site plan.fence_after s || has_site plan.hoist s) (cond (has_site plan.flush_after s || (clone && not (skip s))) (cond r (change_range (λ _ l. flush_line flush' l) (a - I.base) n (stored (part_of_store counts' s' up' (a - I.base) bytes) (a - I.base) (length bytes) ls')) (stored (part_of_store counts' s' up' (a - I.base) bytes) (a - I.base) (length bytes) ls')) (stored (part_of_store counts' s' up' (a - I.base) bytes) (a - I.base) (length bytes) ls')))) (sym flushes)
+          (fence_if (has_site plan.fence_after s || has_site plan.hoist s) (cond (has_site plan.flush_after s || (clone && not (skip s))) (cond r (change_range (λ _ l. flush_line flush' l) (a - I.base) n (stored (part_of_store counts' s' up' (a - I.base) bytes) (a - I.base) (length bytes) ls')) (stored (part_of_store counts' s' up' (a - I.base) bytes) (a - I.base) (length bytes) ls')) (stored (part_of_store counts' s' up' (a - I.base) bytes) (a - I.base) (length bytes) ls')))) (sym flushes)
           (kept_store_from plan up (Known ls) flush' s (part_of_store counts s up (a - I.base) bytes) (part_of_store counts' s' up' (a - I.base) bytes) (λ j. record { fresh = refl; unfenced = refl; levels = refl; site = refl }) (a - I.base) n (length bytes) same
-              (has_site plan.flush_after s || (clone && not (skip s))) (has_site plan.fence_after s || has_site plan.hoist s)
-              (record { flush = or_left (has_site plan.flush_after s) _; fence = or_left (has_site plan.fence_after s) _; hoisted = λ v i e. wanted_flush clone (skip s) (has_site plan.flush_after s) quiet (under v i e) })
-              0 ls ls' h))
+          (has_site plan.flush_after s || (clone && not (skip s))) (has_site plan.fence_after s || has_site plan.hoist s)
+          (record { flush = or_left (has_site plan.flush_after s) _; fence = or_left (has_site plan.fence_after s) _; hoisted = λ v i e. wanted_flush clone (skip s) (has_site plan.flush_after s) quiet (under v i e) })
+          0 ls ls' h))

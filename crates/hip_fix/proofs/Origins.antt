@@ -60,7 +60,7 @@ module _ (P : Program) (plan : Plan) (skip : Site → Bool) where
   pub origin : (f' : ℕ) (fn' : Function) → slice_get (repaired P plan skip).functions f' ≡ Some fn' → Origin P plan skip f' fn'
   origin f' fn' e =
       ⊎_elim (λ below. plain_origin f' fn' below e)
-          (λ high.
-              let place : length P.functions + (f' - length P.functions) ≡ f' = omega arith in
-              subst (λ n. Origin P plan skip n fn') place (clone_origin (f' - length P.functions) fn' (ap (slice_get (repaired P plan skip).functions) place ∙ e)))
-          (lt_or_le f' (length P.functions))
+      (λ high.
+      let place : length P.functions + (f' - length P.functions) ≡ f' = omega arith in
+      subst (λ n. Origin P plan skip n fn') place (clone_origin (f' - length P.functions) fn' (ap (slice_get (repaired P plan skip).functions) place ∙ e)))
+      (lt_or_le f' (length P.functions))

@@ -306,10 +306,10 @@ module _ (P : Program) (plan : Plan) (skip : Site → Bool) (I : Input) (good : 
       after_plain w (Stores a bytes) p = absurd p.is
       after_plain w (Flushes a n) p =
           next_plain w regs slots slots' _ _ same (ahead_flushed I _ _ a n ls ls' ahead)
-              (keeps.flush up ls ls' (record { step = c.steps; site = here_site }) (record { step = c'.steps; site = site_of (at_frame' k' regs slots') }) a n fenced_here (or_left (has_site plan.fence_after here_site) (has_site plan.hoist here_site)) timed holds)
+          (keeps.flush up ls ls' (record { step = c.steps; site = here_site }) (record { step = c'.steps; site = site_of (at_frame' k' regs slots') }) a n fenced_here (or_left (has_site plan.fence_after here_site) (has_site plan.hoist here_site)) timed holds)
       after_plain w (Persists a n) p =
           next_plain w regs slots slots' _ _ same (ahead_fenced _ _ (ahead_flushed I _ _ a n ls ls' ahead))
-              (fenced_too up _ _ fenced_here (keeps.persist up ls ls' (record { step = c.steps; site = here_site }) (record { step = c'.steps; site = site_of (at_frame' k' regs slots') }) a n holds))
+          (fenced_too up _ _ fenced_here (keeps.persist up ls ls' (record { step = c.steps; site = here_site }) (record { step = c'.steps; site = site_of (at_frame' k' regs slots') }) a n holds))
       after_plain w Fences p = next_plain w regs slots slots' _ _ same (ahead_fenced ls ls' ahead) (fenced_too up _ _ fenced_here (keeps.fence up ls ls' holds))
       after_plain w (Asserts a n) p = next_plain w regs slots slots' ls ls' same ahead (fenced_too up ls ls' fenced_here holds)
       after_plain w (Prints z) p = next_plain (with_output z w) regs slots slots' ls ls' same ahead (fenced_too up ls ls' fenced_here holds)
@@ -336,20 +336,20 @@ module _ (P : Program) (plan : Plan) (skip : Site → Bool) (I : Input) (good : 
       -- the lines after the store, where it lies in the region and where it does not
       store_holds : length store_bytes ≡ scalar_size ty → store_address % access_align ty align ≡ 0 → (in_region I store_address (length store_bytes) ≡ true → IsQuiet P skip → skip here_site ≡ false) →
           Holds up (stored_lines I c here_site up store_address store_bytes ls)
-              (fence_if fenced_here (flush_if flush_wanted I later_flush store_address (flush_size ty align) (stored_lines I c' (record { function = f'; block = b; index = k' }) (level_list lvl' (levels_of fs')) store_address store_bytes ls')))
+          (fence_if fenced_here (flush_if flush_wanted I later_flush store_address (flush_size ty align) (stored_lines I c' (record { function = f'; block = b; index = k' }) (level_list lvl' (levels_of fs')) store_address store_bytes ls')))
       store_holds size aligned still = go (in_region I store_address (length store_bytes)) refl
         where
           go : (r : Bool) → in_region I store_address (length store_bytes) ≡ r →
               Holds up (cond r (stored (part_of_store c here_site up (store_address - I.base) store_bytes) (store_address - I.base) (length store_bytes) ls) ls)
-                  (fence_if fenced_here (flush_if flush_wanted I later_flush store_address (flush_size ty align) (cond r (stored (part_of_store c' (record { function = f'; block = b; index = k' }) (level_list lvl' (levels_of fs')) (store_address - I.base) store_bytes) (store_address - I.base) (length store_bytes) ls') ls')))
+              (fence_if fenced_here (flush_if flush_wanted I later_flush store_address (flush_size ty align) (cond r (stored (part_of_store c' (record { function = f'; block = b; index = k' }) (level_list lvl' (levels_of fs')) (store_address - I.base) store_bytes) (store_address - I.base) (length store_bytes) ls') ls')))
           go true e =
               keeps.store up (level_list lvl' (levels_of fs')) c c' here_site (record { function = f'; block = b; index = k' }) store_address store_bytes clone later_flush (flush_size ty align) ls ls' e
-                  (flushes_there I store_address (flush_size ty align) (length store_bytes) (flush_size_there ty align) (omega (arith, size, flush_size_small ty align)) e)
-                  (λ j. reaches store_address I.base j valid_input.base (region_base I store_address (length store_bytes) e) ty align aligned ∙ ap (λ n. has_bytes j (store_address - I.base) n) (sym size))
-                  (λ z. (tw.plain z).1)
-                  (top_clone P plan skip below)
-                  (still e)
-                  holds
+              (flushes_there I store_address (flush_size ty align) (length store_bytes) (flush_size_there ty align) (omega (arith, size, flush_size_small ty align)) e)
+              (λ j. reaches store_address I.base j valid_input.base (region_base I store_address (length store_bytes) e) ty align aligned ∙ ap (λ n. has_bytes j (store_address - I.base) n) (sym size))
+              (λ z. (tw.plain z).1)
+              (top_clone P plan skip below)
+              (still e)
+              holds
           go false e = fenced_too up ls _ fenced_here (flushed_too up ls ls' flush_wanted later_flush store_address (flush_size ty align) holds)
 
       ready_store : are_valid P I w store_address (scalar_size ty) ≡ true → (range : Bool) →
@@ -366,8 +366,8 @@ module _ (P : Program) (plan : Plan) (skip : Site → Bool) (I : Input) (good : 
       unfolding perform
       stored_both size aligned valid still =
           related (moved (Store ty value addr align) h regs slots slots' same) (ready_store valid flush_wanted) below (ahead_stored I c c' here_site (record { function = f'; block = b; index = k' }) up (level_list lvl' (levels_of fs')) store_address store_bytes ls ls' ahead)
-              (subst (λ (ms : Lines). Holds up (stored_lines I c here_site up store_address store_bytes ls) ms) (sym (pending_store flush_wanted _)) (store_holds size aligned still))
-              (ready_size (ready_store valid flush_wanted))
+          (subst (λ (ms : Lines). Holds up (stored_lines I c here_site up store_address store_bytes ls) ms) (sym (pending_store flush_wanted _)) (store_holds size aligned still))
+          (ready_size (ready_store valid flush_wanted))
 
       after_store : length store_bytes ≡ scalar_size ty →
           (nat_eq (store_address % access_align ty align) 0 ≡ true → are_valid P I w store_address (scalar_size ty) ≡ true → in_region I store_address (length store_bytes) ≡ true → IsQuiet P skip → skip here_site ≡ false) →
@@ -377,7 +377,7 @@ module _ (P : Program) (plan : Plan) (skip : Site → Bool) (I : Input) (good : 
         where
           go : (b1 : Bool) → nat_eq (store_address % access_align ty align) 0 ≡ b1 → (b2 : Bool) → are_valid P I w store_address (scalar_size ty) ≡ b2 →
               After (perform I (with_turn w) (at_frame k regs slots) fs ls c d (cond b1 (cond b2 (Stores store_address store_bytes) (Traps traps.Address)) (Traps traps.Misaligned)))
-                  (perform I (with_turn w) (at_frame' k' regs slots') fs' ls' c' d' (cond b1 (cond b2 (Stores store_address store_bytes) (Traps traps.Address)) (Traps traps.Misaligned)))
+              (perform I (with_turn w) (at_frame' k' regs slots') fs' ls' c' d' (cond b1 (cond b2 (Stores store_address store_bytes) (Traps traps.Address)) (Traps traps.Misaligned)))
           go true e1 true e2 = let aligned : store_address % access_align ty align ≡ 0 = grind (arith, nat_tests) in stored_both size aligned e2 (still e1 e2)
           go true e1 false e2 = trapped (Store ty value addr align) h (with_turn w) c d c' d' traps.Address
           go false e1 b2 e2 = trapped (Store ty value addr align) h (with_turn w) c d c' d' traps.Misaligned
@@ -394,8 +394,8 @@ module _ (P : Program) (plan : Plan) (skip : Site → Bool) (I : Input) (good : 
       unfolding perform
       after_enter into into_clone into_hoist g g' rs called =
           related (tied (body_at P g 0) called refl refl refl) (quiet nothing)
-              (on (moved call_instr h regs slots slots' same) (fence_quiet fenced_here) into_clone (λ q. (into_hoist q, or_right (has_site plan.fence_after here_site) (has_site plan.hoist here_site) q)) below)
-              ahead (keeps.call up (record { call = here_site; birth = c.steps }) ls ls' holds) (omega arith)
+          (on (moved call_instr h regs slots slots' same) (fence_quiet fenced_here) into_clone (λ q. (into_hoist q, or_right (has_site plan.fence_after here_site) (has_site plan.hoist here_site) q)) below)
+          ahead (keeps.call up (record { call = here_site; birth = c.steps }) ls ls' holds) (omega arith)
 
       abbrev call_values : List ℕ
       call_values = values_of P.globals I.base regs args
@@ -414,21 +414,21 @@ module _ (P : Program) (plan : Plan) (skip : Site → Bool) (I : Input) (good : 
       -- a call of an external function
       after_extern : (e : ExternCall) → call_of callee ≡ Some e →
           After (carry_out I w (at_frame k regs slots) fs ls c d (record { turn = is_turn call_instr; action = instr_action P I w (length fs) regs call_instr }))
-              (carry_out I w (at_frame' k' regs slots') fs' ls' c' d' (record { turn = is_turn (renamed (clones_of P plan) call_instr to_clone); action = instr_action Q I w (length fs') regs (renamed (clones_of P plan) call_instr to_clone) }))
+          (carry_out I w (at_frame' k' regs slots') fs' ls' c' d' (record { turn = is_turn (renamed (clones_of P plan) call_instr to_clone); action = instr_action Q I w (length fs') regs (renamed (clones_of P plan) call_instr to_clone) }))
       unfolding instr_action
       after_extern e q =
           subst (λ (name : List ℕ). After (carry_out I w (at_frame k regs slots) fs ls c d (record { turn = not (is_flush_or_fence (call_of callee)); action = call_action P I w (length fs) (call_of callee) callee call_values to }))
-              (carry_out I w (at_frame' k' regs slots') fs' ls' c' d' (record { turn = not (is_flush_or_fence (call_of name)); action = call_action Q I w (length fs') (call_of name) name call_values to }))) (sym (same_extern P plan skip good callee e q to_clone))
+          (carry_out I w (at_frame' k' regs slots') fs' ls' c' d' (record { turn = not (is_flush_or_fence (call_of name)); action = call_action Q I w (length fs') (call_of name) name call_values to }))) (sym (same_extern P plan skip good callee e q to_clone))
           (subst (λ (o : Option ExternCall). After (carry_out I w (at_frame k regs slots) fs ls c d (record { turn = not (is_flush_or_fence o); action = call_action P I w (length fs) o callee call_values to }))
-              (carry_out I w (at_frame' k' regs slots') fs' ls' c' d' (record { turn = not (is_flush_or_fence o); action = call_action Q I w (length fs') o callee call_values to }))) (sym q)
+          (carry_out I w (at_frame' k' regs slots') fs' ls' c' d' (record { turn = not (is_flush_or_fence o); action = call_action Q I w (length fs') o callee call_values to }))) (sym q)
           (subst (λ (x : Action). After (carry_out I w (at_frame k regs slots) fs ls c d (record { turn = not (is_flush_or_fence (Some e)); action = extern_action P I w e call_values to }))
-              (carry_out I w (at_frame' k' regs slots') fs' ls' c' d' (record { turn = not (is_flush_or_fence (Some e)); action = x }))) (sym (extern_same P plan skip I w e call_values to))
+          (carry_out I w (at_frame' k' regs slots') fs' ls' c' d' (record { turn = not (is_flush_or_fence (Some e)); action = x }))) (sym (extern_same P plan skip I w e call_values to))
           (after_carry clone (at_frame k regs slots) (at_frame' k' regs slots') fs fs' ls ls' (here_tied call_instr h) below ahead holds (not (is_flush_or_fence (Some e))) _ _ w c d c' d'
-              (λ _. after_plain call_instr h refl c d c' d' timed (cond (not (is_flush_or_fence (Some e))) (with_turn w) w) (extern_action P I w e call_values to) (plain_extern P I w e call_values to)))))
+          (λ _. after_plain call_instr h refl c d c' d' timed (cond (not (is_flush_or_fence (Some e))) (with_turn w) w) (extern_action P I w e call_values to) (plain_extern P I w e call_values to)))))
 
       after_defined : call_of callee ≡ None →
           After (carry_out I w (at_frame k regs slots) fs ls c d (record { turn = is_turn call_instr; action = instr_action P I w (length fs) regs call_instr }))
-              (carry_out I w (at_frame' k' regs slots') fs' ls' c' d' (record { turn = is_turn (renamed (clones_of P plan) call_instr to_clone); action = instr_action Q I w (length fs') regs (renamed (clones_of P plan) call_instr to_clone) }))
+          (carry_out I w (at_frame' k' regs slots') fs' ls' c' d' (record { turn = is_turn (renamed (clones_of P plan) call_instr to_clone); action = instr_action Q I w (length fs') regs (renamed (clones_of P plan) call_instr to_clone) }))
       unfolding instr_action
       after_defined q =
           let at_place = get_drop (body_at P f b) k call_instr is h.0 in
@@ -438,14 +438,14 @@ module _ (P : Program) (plan : Plan) (skip : Site → Bool) (I : Input) (good : 
         where
           by_twin : (g : ℕ) (fn : Function) → function_number P callee ≡ Some g → slice_get P.functions g ≡ Some fn → CallsTwin P plan skip to_clone (cond to_clone (clone_name (clones_of P plan) callee) callee) g fn →
               After (carry_out I w (at_frame k regs slots) fs ls c d (record { turn = is_turn call_instr; action = instr_action P I w (length fs) regs call_instr }))
-                  (carry_out I w (at_frame' k' regs slots') fs' ls' c' d' (record { turn = is_turn (renamed (clones_of P plan) call_instr to_clone); action = instr_action Q I w (length fs') regs (renamed (clones_of P plan) call_instr to_clone) }))
+              (carry_out I w (at_frame' k' regs slots') fs' ls' c' d' (record { turn = is_turn (renamed (clones_of P plan) call_instr to_clone); action = instr_action Q I w (length fs') regs (renamed (clones_of P plan) call_instr to_clone) }))
           by_twin g fn e there twin =
               subst (λ (o : Option ExternCall). After (carry_out I w (at_frame k regs slots) fs ls c d (record { turn = not (is_flush_or_fence o); action = call_action P I w (length fs) o callee call_values to }))
-                  (carry_out I w (at_frame' k' regs slots') fs' ls' c' d' (record { turn = is_turn (renamed (clones_of P plan) call_instr to_clone); action = instr_action Q I w (length fs') regs (renamed (clones_of P plan) call_instr to_clone) }))) (sym q)
+              (carry_out I w (at_frame' k' regs slots') fs' ls' c' d' (record { turn = is_turn (renamed (clones_of P plan) call_instr to_clone); action = instr_action Q I w (length fs') regs (renamed (clones_of P plan) call_instr to_clone) }))) (sym q)
               (subst (λ (o : Option ExternCall). After (carry_out I w (at_frame k regs slots) fs ls c d (record { turn = true; action = entered P (length fs) callee call_values to }))
-                  (carry_out I w (at_frame' k' regs slots') fs' ls' c' d' (record { turn = not (is_flush_or_fence o); action = call_action Q I w (length fs') o (cond to_clone (clone_name (clones_of P plan) callee) callee) call_values to }))) (sym twin.free)
+              (carry_out I w (at_frame' k' regs slots') fs' ls' c' d' (record { turn = not (is_flush_or_fence o); action = call_action Q I w (length fs') o (cond to_clone (clone_name (clones_of P plan) callee) callee) call_values to }))) (sym twin.free)
               (after_carry clone (at_frame k regs slots) (at_frame' k' regs slots') fs fs' ls ls' (here_tied call_instr h) below ahead holds true _ _ w c d c' d'
-                  (λ _. after_bound to_clone (or_left clone (has_site plan.hoist here_site)) (or_right clone (has_site plan.hoist here_site)) (cond to_clone (clone_name (clones_of P plan) callee) callee) g fn e there twin)))
+              (λ _. after_bound to_clone (or_left clone (has_site plan.hoist here_site)) (or_right clone (has_site plan.hoist here_site)) (cond to_clone (clone_name (clones_of P plan) callee) callee) g fn e there twin)))
 
       after_call : After (carry_out I w (at_frame k regs slots) fs ls c d (record { turn = is_turn call_instr; action = instr_action P I w (length fs) regs call_instr }))
           (carry_out I w (at_frame' k' regs slots') fs' ls' c' d' (record { turn = is_turn (renamed (clones_of P plan) call_instr to_clone); action = instr_action Q I w (length fs') regs (renamed (clones_of P plan) call_instr to_clone) }))
@@ -463,11 +463,11 @@ module _ (P : Program) (plan : Plan) (skip : Site → Bool) (I : Input) (good : 
 
     after_instr : (i : Instr) → Here i → (w : World) (c d c' d' : Counts) → w.ending ≡ None → (reach : (n : ℕ) × (run P I n ≡ state w (at_frame k regs slots ∷ fs) ls c)) →
         After (carry_out I w (at_frame k regs slots) fs ls c d (record { turn = is_turn i; action = instr_action P I w (length fs) regs i }))
-            (carry_out I w (at_frame' k' regs slots') fs' ls' c' d' (record { turn = is_turn (renamed (clones_of P plan) i to_clone); action = instr_action Q I w (length fs') regs (renamed (clones_of P plan) i to_clone) }))
+        (carry_out I w (at_frame' k' regs slots') fs' ls' c' d' (record { turn = is_turn (renamed (clones_of P plan) i to_clone); action = instr_action Q I w (length fs') regs (renamed (clones_of P plan) i to_clone) }))
     unfolding instr_action accessed allocated
     after_instr (Store ty value addr align) h w c d c' d' going reach =
         after_carry clone (at_frame k regs slots) (at_frame' k' regs slots') fs fs' ls ls' (here_tied (Store ty value addr align) h) below ahead holds true _ _ w c d c' d'
-            (λ cut. after_store ty value addr align h w c d c' d' (length-bytes_of (scalar_size ty) (value_of P.globals I.base regs value)) (λ aligned valid region still. not_skipped cut aligned valid region still (skip here_site) refl))
+        (λ cut. after_store ty value addr align h w c d c' d' (length-bytes_of (scalar_size ty) (value_of P.globals I.base regs value)) (λ aligned valid region still. not_skipped cut aligned valid region still (skip here_site) refl))
       where
         not_skipped : not (nat_lt w.turns I.limit) ≡ false → nat_eq (value_of P.globals I.base regs addr % access_align ty align) 0 ≡ true → are_valid P I w (value_of P.globals I.base regs addr) (scalar_size ty) ≡ true →
             in_region I (value_of P.globals I.base regs addr) (length (bytes_of (scalar_size ty) (value_of P.globals I.base regs value))) ≡ true → IsQuiet P skip → (x : Bool) → skip here_site ≡ x → x ≡ false

@@ -77,10 +77,12 @@ module _ (clones : List Clone) (w : Wanted) (clone : Bool) (f : ℕ) (named : li
     where
       original : (k : ℕ) (i' : Instr) → IsOriginal clones w clone f b 0 is k i' → spelled_instr i' ≡ true
       original k i' o = subst (λ x. spelled_instr x ≡ true) (sym o.3) (renamed_spelled clones o.1 (clone || w.hoist (site_at clones w clone f b (0 + o.0))) named (all_at spelled_instr is o.0 o.1 e o.2))
+
       flush : (i i' : Instr) → spelled_instr i ≡ true → IsFlushOf i i' → spelled_instr i' ≡ true
       flush i i' s k =
           let store : spelled_instr (Store k.0 k.1 k.2 k.3) ≡ true = subst (λ x. spelled_instr x ≡ true) k.4 s in
           subst (λ x. spelled_instr x ≡ true) (sym k.5) (flush_spelled k.0 k.2 k.3 (store_addr k.0 k.1 k.2 k.3 store))
+
       inserted : (k : ℕ) (i' : Instr) → IsInserted clones w clone f b 0 is k i' → spelled_instr i' ≡ true
       inserted k i' o =
           ⊎_elim (flush o.1 i' (all_at spelled_instr is o.0 o.1 e o.3)) (λ fence. subst (λ x. spelled_instr x ≡ true) (sym fence) refl) (inserted_kind w clone (site_at clones w clone f b (0 + o.0)) o.1 o.2 i' o.4)
@@ -134,7 +136,7 @@ module _ (P : Program) (plan : Plan) (skip : Site → Bool) (spelled : spelled_p
   from_origin : (f' : ℕ) (fn' : Function) → Origin P plan skip f' fn' → spelled_function fn' ≡ true
   from_origin f' fn' o =
       subst (λ x. spelled_function x ≡ true) (sym o.is)
-          (function_spelled (clones_of P plan) (wanted_by plan skip) o.clone o.f clones_named o.name o.fn (named o.clone refl) (all_at spelled_function P.functions o.f o.fn functions_spelled o.at))
+      (function_spelled (clones_of P plan) (wanted_by plan skip) o.clone o.f clones_named o.name o.fn (named o.clone refl) (all_at spelled_function P.functions o.f o.fn functions_spelled o.at))
     where
       named : (b : Bool) → o.clone ≡ b → is_name o.name ≡ true
       named true e = let high = o.high e in fresh_named high.0 o.name high.3
@@ -151,5 +153,5 @@ module _ (P : Program) (plan : Plan) (skip : Site → Bool) (spelled : spelled_p
       let parts = both_hold _ _ spelled in
       let more = both_hold _ _ parts.1 in
       both_true _ _ parts.0
-          (both_true _ _ (two_spelled P.externs (added_externs P plan (wanted_by plan skip)) more.0 added_spelled)
-              (all_make spelled_function (repaired P plan skip).functions (λ f' fn' e. from_origin f' fn' (origin P plan skip f' fn' e))))
+      (both_true _ _ (two_spelled P.externs (added_externs P plan (wanted_by plan skip)) more.0 added_spelled)
+      (all_make spelled_function (repaired P plan skip).functions (λ f' fn' e. from_origin f' fn' (origin P plan skip f' fn' e))))

@@ -27,7 +27,7 @@ marked_clone P clones w (Some f) b = marked_body P clones w true f b
 abbrev pub marked_at : Program → Plan → (Site → Bool) → ℕ → ℕ → List Marked
 marked_at P plan skip f b =
     cond (nat_lt f (length P.functions)) (marked_body P (clones_of P plan) (wanted_by plan skip) false f b)
-        (marked_clone P (clones_of P plan) (wanted_by plan skip) (slice_get (cloned P plan) (f - length P.functions)) b)
+    (marked_clone P (clones_of P plan) (wanted_by plan skip) (slice_get (cloned P plan) (f - length P.functions)) b)
 
 abbrev pub is_inserted : List Marked → Bool
 is_inserted [] = false

@@ -103,7 +103,7 @@ abbrev pub repaired_body : List Clone → Wanted → Bool → ℕ → ℕ → �
 repaired_body clones w clone f b k [] = []
 repaired_body clones w clone f b k (i ∷ is) =
     (renamed clones i (clone || w.hoist (record { function = f; block = b; index = k })), false)
-        ∷ (inserted_behind w clone (record { function = f; block = b; index = k }) i ++ repaired_body clones w clone f b (suc k) is)
+    ∷ (inserted_behind w clone (record { function = f; block = b; index = k }) i ++ repaired_body clones w clone f b (suc k) is)
 
 abbrev pub instrs_of : List Marked → List Instr
 instrs_of ms = map (λ m. m.0) ms

@@ -24,11 +24,9 @@ pub fn repairs_do_no_harm()
 /// A repair by a plan that has what a run found leaves nothing to report on that run's input, where the stores that the
 /// clones do not flush never lie in the region.
 pub fn repairs_are_clean()
-    ensures {
-        (P : Program) → (plan : Plan) → (skip : Site → Bool) → (I : Input) → (found : Findings) →
+    ensures { (P : Program) → (plan : Plan) → (skip : Site → Bool) → (I : Input) → (found : Findings) →
         IsSound P → IsValid P I → IsQuiet P skip → IsFound P I found → Contains plan (plan_for P found) →
-        IsClean (repaired P plan skip) I
-    }
+        IsClean (repaired P plan skip) I }
 {}
 
 /// The repaired program is sound again, by whatever plan. The region's size and all addresses are what they were.

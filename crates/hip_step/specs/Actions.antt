@@ -30,7 +30,7 @@ use Rattle.hip_num.specs.declared.arithmetic.NumTrap.{NumTrap}
 use Rattle.hip_num.specs.declared.arithmetic.NumTrap.TheVariants as num_traps
 use Rattle.hip_typing.specs.Addresses.{volatile_end}
 use Rattle.hip_typing.specs.Externs.{call_of}
-use Rattle.hip_typing.specs.InitialBytes.{volatile_bytes}
+use Rattle.hip_typing.specs.Initial.{volatile_bytes}
 use Rattle.hip_typing.specs.declared.externs.ExternCall.{ExternCall}
 use Rattle.hip_typing.specs.declared.externs.ExternCall.TheVariants as calls
 use Rattle.hip_typing.specs.Numbering.{function_number}
@@ -81,7 +81,7 @@ are_valid P I w a n = is_within volatile_start (volatile_end P) a n || (is_withi
 
 -- the memory in a run
 abbrev pub memory_of : Program → Input → World → Memory
-memory_of P I w = record { base = I.base; volatile = volatile_bytes P.globals I.base; region = I.image; writes = w.writes }
+memory_of P I w = record { base = I.base; volatile = volatile_bytes P I.base; region = I.image; writes = w.writes }
 
 -- An access of n bytes is refused by its alignment first, and then by its bytes.
 unfoldable pub accessed : Program → Input → World → ℕ → ℕ → ℕ → Action → Action
@@ -195,10 +195,10 @@ instr_action P I w below rs (Cast dest op from a to) = Assigns (Some dest) (cast
 instr_action P I w below rs (Alloca dest ty align) = allocated w dest (shape ty).size (shape ty).align
 instr_action P I w below rs (Load dest ty addr align) =
     accessed P I w (value_of P.globals I.base rs addr) (scalar_size ty) (access_align ty align)
-        (Assigns (Some dest) (read_value ty (bytes_at (memory_of P I w) (value_of P.globals I.base rs addr) (scalar_size ty))))
+    (Assigns (Some dest) (read_value ty (bytes_at (memory_of P I w) (value_of P.globals I.base rs addr) (scalar_size ty))))
 instr_action P I w below rs (Store ty value addr align) =
     accessed P I w (value_of P.globals I.base rs addr) (scalar_size ty) (access_align ty align)
-        (Stores (value_of P.globals I.base rs addr) (bytes_of (scalar_size ty) (value_of P.globals I.base rs value)))
+    (Stores (value_of P.globals I.base rs addr) (bytes_of (scalar_size ty) (value_of P.globals I.base rs value)))
 instr_action P I w below rs (Gep dest inbounds ty base indices) =
     Assigns (Some dest) (gep_value ty (value_of P.globals I.base rs base) (index_values P.globals I.base rs indices))
 instr_action P I w below rs (Call dest ret callee args) = call_action P I w below (call_of callee) callee (values_of P.globals I.base rs args) dest

@@ -17,3 +17,8 @@ pub mod EntryLemmas
 pub mod AssignedLemmas
 pub mod UseLists
 pub mod DifferLemmas
+pub mod AddressLists
+pub mod ByteLists
+pub mod ConstantParts
+pub mod InitialLemmas
+pub mod HeldLemmas

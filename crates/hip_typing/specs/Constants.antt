@@ -18,16 +18,16 @@ joined [] = []
 joined (xs ∷ rest) = xs ++ joined rest
 
 -- the types that are written in a constant
-abbrev types_step : Const-F (List Ty) (List Ty) (List Ty) → List Ty
+abbrev pub types_step : Const-F (List Ty) (List Ty) (List Ty) → List Ty
 types_step (Const-F.Gep types) = types
 types_step (Const-F.Array items) = joined items
 types_step (Const-F.Struct items) = joined items
 types_step _ = []
 
-abbrev gep_types_step : ConstGep-F (List Ty) (List Ty) (List Ty) → List Ty
+abbrev pub gep_types_step : ConstGep-F (List Ty) (List Ty) (List Ty) → List Ty
 gep_types_step gep = gep.ty ∷ gep.base
 
-abbrev item_types_step : TypedConst-F (List Ty) (List Ty) (List Ty) → List Ty
+abbrev pub item_types_step : TypedConst-F (List Ty) (List Ty) (List Ty) → List Ty
 item_types_step item = item.ty ∷ item.value
 
 abbrev pub types_in : Const → List Ty

@@ -19,6 +19,10 @@ pub mod GivenLaws
 pub mod Seen
 pub mod Inner
 pub mod AssignedSeen
+pub mod Initial
+pub mod AddressesSeen
+pub mod InitialSeen
+pub mod Held
 pub mod Sound
 pub mod SoundLaws
 pub mod ConstLaws
@@ -31,7 +35,6 @@ pub mod UsesSeen
 pub mod UseLaws
 pub mod InstrSeen
 pub mod Values
-pub mod InitialBytes
 pub mod NumberingLaws
 pub mod EndSeen
 pub mod PhiSeen

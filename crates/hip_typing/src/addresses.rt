@@ -15,7 +15,7 @@ use hip_types::{align, size};
 const LARGEST_REGION: u64 = 67_108_864;
 
 /// Where the first volatile global lies.
-const VOLATILE_START: u64 = 65_536;
+pub const VOLATILE_START: u64 = 65_536;
 
 /// How many bytes a cache line has.
 const CACHE_LINE: u64 = 64;
@@ -24,7 +24,7 @@ const CACHE_LINE: u64 = 64;
 const VOLATILE_LIMIT: u64 = VOLATILE_START + 16_777_216;
 
 /// The greater of the type's alignment and the one that is written.
-fn alignment(global: &GlobalVar) -> u64
+pub fn alignment(global: &GlobalVar) -> u64
     requires { Fits global.now.ty }
     ensures value { result ≡ global_align global.now }
     ensures some { 0 < result }

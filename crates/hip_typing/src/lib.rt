@@ -1,6 +1,7 @@
 //! Which programs are sound, and where their data lies.
 #![tactic(auto)]
 
+mod address_table;
 mod addresses;
 mod assigned;
 mod assigned_functions;
@@ -13,6 +14,8 @@ mod externs;
 mod fault;
 mod globals;
 mod graph;
+mod initial;
+mod initial_bytes;
 mod inner;
 mod inner_table;
 mod instrs;

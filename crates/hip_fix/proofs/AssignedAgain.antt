@@ -20,7 +20,7 @@ use Rattle.hip_ir.specs.declared.site.Site.{Site}
 use Rattle.hip_typing.specs.Constants.{joined}
 use Rattle.hip_typing.specs.Names.{IsAmong, numbered_from}
 use Rattle.hip_typing.specs.Paths.{label_at, labels_named_at, LeadsTo, IsChain, IsPathTo, names_of, whole_block_names, names_before, assigned_on, IsUnassigned, IsAssigned}
-use Rattle.hip_typing.specs.Registers.{Register, assigned_by, body_registers, block_registers, phi_registers, parameter_registers, uses, instr_uses, used_registers, operand_registers, end_labels}
+use Rattle.hip_typing.specs.Registers.{Register, assigned_by, body_registers, block_registers, phi_registers, parameter_registers, uses, instr_uses, used_registers, operand_registers, end_labels, end_uses}
 use Rattle.hip_typing.specs.Sound.{IsSound, RegisterUse, use_at, block_numbers_from, edge_register_uses, phi_register_uses, instr_register_uses, end_register_uses, block_register_uses, register_uses, UseIsAssigned, AllAssigned}
 use Rattle.hip_typing.specs.declared.assigned.Point.{Point}
 use Rattle.hip_typing.specs.declared.assigned.Point.TheVariants.{Before, AtEnd}

@@ -33,7 +33,7 @@ use Rattle.hip_fix.proofs.Bodies.{IsFlushOf, IsOriginal, IsInserted, in_body, in
 use Rattle.hip_fix.proofs.Callable.{both_hold, each_at}
 use Rattle.hip_fix.proofs.CalleesAgain.{callee_again}
 use Rattle.hip_fix.proofs.Clones.{called_there, closed_there, has_at, in_has}
-use Rattle.hip_fix.proofs.Facts.{In}
+use Rattle.hip_step.specs.Parts.{In}
 use Rattle.hip_fix.proofs.InsertedAgain.{fence_check, flush_check}
 use Rattle.hip_fix.proofs.Items.{both_true, each_make}
 use Rattle.hip_fix.proofs.Needed.{inserted_needed, clwb_callee, sfence_callee, pmem_flush_callee}

@@ -1,5 +1,5 @@
 -- Each use of a register in the repaired program is assigned on every path.
-use Rattle.std.proofs.Common.{◌≡◌, ◌⊎◌, inl, inr, ⊎_elim, ℕ, zero, suc, ◌+◌, Bool, true, false, cond, ◌||◌, List, [], ◌∷◌, ◌++◌, map, take, Option, Some, None, slice_get, option_map, unwrap_or, refl, sym, ap, ap₂, ◌∙◌, subst, arith, append-nil, append_assoc}
+use Rattle.std.proofs.Common.{◌≡◌, ⊎_elim, ℕ, zero, suc, ◌+◌, Bool, true, false, cond, ◌||◌, List, [], ◌∷◌, ◌++◌, map, take, Option, Some, None, slice_get, option_map, unwrap_or, refl, sym, ap, ap₂, ◌∙◌, subst, arith, append-nil, append_assoc}
 use Rattle.std.specs.Prelude.{if◌then◌else◌}
 use Rattle.std.specs.List.{flat_map, AllByRecursion}
 use Rattle.std.specs.Str.{bytes_eq}
@@ -19,16 +19,16 @@ use Rattle.hip_ir.specs.declared.program.Program.{Program}
 use Rattle.hip_ir.specs.declared.site.Site.{Site}
 use Rattle.hip_typing.specs.Constants.{joined}
 use Rattle.hip_typing.specs.Names.{IsAmong, numbered_from}
-use Rattle.hip_typing.specs.Paths.{label_at, labels_named_at, LeadsTo, IsChain, IsPathTo, names_of, whole_block_names, names_before, assigned_on, IsUnassigned, IsAssigned}
-use Rattle.hip_typing.specs.Registers.{Register, assigned_by, body_registers, block_registers, phi_registers, parameter_registers, uses, instr_uses, used_registers, operand_registers, end_labels, end_uses}
-use Rattle.hip_typing.specs.Sound.{IsSound, RegisterUse, use_at, block_numbers_from, edge_register_uses, phi_register_uses, instr_register_uses, end_register_uses, block_register_uses, register_uses, UseIsAssigned, AllAssigned}
+use Rattle.hip_typing.specs.Paths.{label_at, labels_named_at, LeadsTo, IsChain, IsPathTo, names_of, whole_block_names, names_before, IsAssigned}
+use Rattle.hip_typing.specs.Registers.{assigned_by, body_registers, block_registers, phi_registers, parameter_registers, uses, instr_uses, used_registers, operand_registers, end_labels, end_uses}
+use Rattle.hip_typing.specs.Sound.{IsSound, use_at, block_numbers_from, edge_register_uses, phi_register_uses, instr_register_uses, end_register_uses, block_register_uses, register_uses, UseIsAssigned, AllAssigned}
 use Rattle.hip_typing.specs.declared.assigned.Point.{Point}
 use Rattle.hip_typing.specs.declared.assigned.Point.TheVariants.{Before, AtEnd}
 use Rattle.hip_typing.specs.declared.fault.Place.{Place}
 use Rattle.hip_typing.specs.declared.fault.Place.TheVariants as places
 use Rattle.hip_step.specs.Operands.{scalar_size}
 use Rattle.hip_fix.specs.declared.plan.Plan.{Plan}
-use Rattle.hip_fix.specs.Repaired.{Clone, Wanted, wanted_by, clones_of, renamed, is_wide, line_flush, range_flush, flush_of, the_fence, repaired, repaired_block, repaired_blocks, repaired_function}
+use Rattle.hip_fix.specs.Repaired.{Clone, Wanted, wanted_by, clones_of, renamed, is_wide, line_flush, range_flush, flush_of, repaired, repaired_block, repaired_blocks, repaired_function}
 use Rattle.hip_fix.proofs.Bodies.{IsOriginal, IsInserted, in_body, inserted_kind, site_at, repaired_instrs, same_block_registers}
 use Rattle.hip_fix.proofs.Origins.{Origin, origin}
 use Rattle.hip_fix.proofs.PlacesAgain.{block_there}
@@ -53,7 +53,7 @@ module _ {A : Type 0} (Q : A → Type 0) where
   joined_make make n (x ∷ xs) h =
       let first : n + 0 ≡ n = omega arith in
       all_append (make n x) (joined (numbered_from (n + 1) make xs)) (subst (λ m. AllByRecursion Q (make m x)) first (h 0 x refl))
-          (joined_make make (n + 1) xs (λ k y e. let next : n + suc k ≡ n + 1 + k = omega arith in subst (λ m. AllByRecursion Q (make m y)) next (h (suc k) y e)))
+      (joined_make make (n + 1) xs (λ k y e. let next : n + suc k ≡ n + 1 + k = omega arith in subst (λ m. AllByRecursion Q (make m y)) next (h (suc k) y e)))
 
   joined_at : {B : Type 0} (make : ℕ → B → List A) (n : ℕ) (xs : List B) (k : ℕ) (x : B) → AllByRecursion Q (joined (numbered_from n make xs)) → slice_get xs k ≡ Some x → AllByRecursion Q (make (n + k) x)
   joined_at make n [] k x h e = cc
@@ -159,20 +159,20 @@ module _ (clones : List Clone) (w : Wanted) (clone : Bool) (f : ℕ) (name : Lis
   at_ends_again p p' names [] h = tt
   at_ends_again p p' names (b ∷ bs) h =
       all_append (UseIsAssigned R) (map (use_at p' b AtEnd) names) (flat_map (λ b. map (use_at p' b AtEnd) names) bs)
-          (uses_again p p' b AtEnd AtEnd (same_at_end b) names (all_first (UseIsAssigned fn) (map (use_at p b AtEnd) names) (flat_map (λ b. map (use_at p b AtEnd) names) bs) h))
-          (at_ends_again p p' names bs (all_second (UseIsAssigned fn) (map (use_at p b AtEnd) names) (flat_map (λ b. map (use_at p b AtEnd) names) bs) h))
+      (uses_again p p' b AtEnd AtEnd (same_at_end b) names (all_first (UseIsAssigned fn) (map (use_at p b AtEnd) names) (flat_map (λ b. map (use_at p b AtEnd) names) bs) h))
+      (at_ends_again p p' names bs (all_second (UseIsAssigned fn) (map (use_at p b AtEnd) names) (flat_map (λ b. map (use_at p b AtEnd) names) bs) h))
 
   edge_again : (p p' : Place) (ty : Scalar) (e : Edge) → AllByRecursion (UseIsAssigned fn) (edge_register_uses fn.blocks p ty e) → AllByRecursion (UseIsAssigned R) (edge_register_uses R.blocks p' ty e)
   edge_again p p' ty e h =
       subst (λ bs. AllByRecursion (UseIsAssigned R) (flat_map (λ b. map (use_at p' b AtEnd) (used_registers (uses e.value ty ∷ []))) bs)) (sym (numbers_kept 0 0 fn.blocks e.label))
-          (at_ends_again p p' (used_registers (uses e.value ty ∷ [])) (block_numbers_from 0 fn.blocks e.label) h)
+      (at_ends_again p p' (used_registers (uses e.value ty ∷ [])) (block_numbers_from 0 fn.blocks e.label) h)
 
   edges_again : (p p' : Place) (ty : Scalar) (es : List Edge) → AllByRecursion (UseIsAssigned fn) (flat_map (edge_register_uses fn.blocks p ty) es) → AllByRecursion (UseIsAssigned R) (flat_map (edge_register_uses R.blocks p' ty) es)
   edges_again p p' ty [] h = tt
   edges_again p p' ty (e ∷ es) h =
       all_append (UseIsAssigned R) (edge_register_uses R.blocks p' ty e) (flat_map (edge_register_uses R.blocks p' ty) es)
-          (edge_again p p' ty e (all_first (UseIsAssigned fn) (edge_register_uses fn.blocks p ty e) (flat_map (edge_register_uses fn.blocks p ty) es) h))
-          (edges_again p p' ty es (all_second (UseIsAssigned fn) (edge_register_uses fn.blocks p ty e) (flat_map (edge_register_uses fn.blocks p ty) es) h))
+      (edge_again p p' ty e (all_first (UseIsAssigned fn) (edge_register_uses fn.blocks p ty e) (flat_map (edge_register_uses fn.blocks p ty) es) h))
+      (edges_again p p' ty es (all_second (UseIsAssigned fn) (edge_register_uses fn.blocks p ty e) (flat_map (edge_register_uses fn.blocks p ty) es) h))
 
   -- ---- blocks
 
@@ -191,9 +191,9 @@ module _ (clones : List Clone) (w : Wanted) (clone : Bool) (f : ℕ) (name : Lis
     original_again : (k : ℕ) (i' : Instr) → IsOriginal clones w clone f b 0 block.body k i' → AllByRecursion (UseIsAssigned R) (instr_register_uses f' b k i')
     original_again k i' o =
         subst (λ us. AllByRecursion (UseIsAssigned R) (map (use_at (places.Body (record { function = f'; block = b; index = k })) b (Before k)) (used_registers us)))
-            (sym (ap instr_uses o.3 ∙ renamed_uses clones o.1 (clone || w.hoist (site_at clones w clone f b (0 + o.0)))))
-            (uses_again (places.Body (record { function = f; block = b; index = o.0 })) (places.Body (record { function = f'; block = b; index = k })) b (Before o.0) (Before k)
-                (before_kept b block k o.0 there o.4) (used_registers (instr_uses o.1)) (uses_of o.0 o.1 o.2))
+        (sym (ap instr_uses o.3 ∙ renamed_uses clones o.1 (clone || w.hoist (site_at clones w clone f b (0 + o.0)))))
+        (uses_again (places.Body (record { function = f; block = b; index = o.0 })) (places.Body (record { function = f'; block = b; index = k })) b (Before o.0) (Before k)
+        (before_kept b block k o.0 there o.4) (used_registers (instr_uses o.1)) (uses_of o.0 o.1 o.2))
 
     flush_again : (k j : ℕ) (ty : Scalar) (value addr : Operand) (align : Option ℕ) → slice_get block.body j ≡ Some (Store ty value addr align) →
         body_registers (take k (repaired_instrs clones w clone f b 0 block.body)) ≡ body_registers (take (suc j) block.body) → AllByRecursion (UseIsAssigned R) (instr_register_uses f' b k (flush_of ty addr align))
@@ -201,35 +201,35 @@ module _ (clones : List Clone) (w : Wanted) (clone : Bool) (f : ℕ) (name : Lis
         let store = uses_of j (Store ty value addr align) e in
         let place = places.Body (record { function = f; block = b; index = j }) in
         let parts : AllByRecursion (UseIsAssigned fn) (map (use_at place b (Before j)) (operand_registers value) ++ map (use_at place b (Before j)) (used_registers (uses addr Ptr ∷ []))) =
-            subst (AllByRecursion (UseIsAssigned fn)) (map-append (use_at place b (Before j)) (operand_registers value) (used_registers (uses addr Ptr ∷ []))) store in
+        subst (AllByRecursion (UseIsAssigned fn)) (map-append (use_at place b (Before j)) (operand_registers value) (used_registers (uses addr Ptr ∷ []))) store in
         subst (λ ns. AllByRecursion (UseIsAssigned R) (map (use_at (places.Body (record { function = f'; block = b; index = k })) b (Before k)) ns)) (sym (flush_uses ty addr align))
-            (uses_again place (places.Body (record { function = f'; block = b; index = k })) b (Before j) (Before k)
-                (before_kept b block k j there (same ∙ one_more block.body j (Store ty value addr align) e ∙ append-nil (body_registers (take j block.body))))
-                (used_registers (uses addr Ptr ∷ [])) (all_second (UseIsAssigned fn) (map (use_at place b (Before j)) (operand_registers value)) _ parts))
+        (uses_again place (places.Body (record { function = f'; block = b; index = k })) b (Before j) (Before k)
+        (before_kept b block k j there (same ∙ one_more block.body j (Store ty value addr align) e ∙ append-nil (body_registers (take j block.body))))
+        (used_registers (uses addr Ptr ∷ [])) (all_second (UseIsAssigned fn) (map (use_at place b (Before j)) (operand_registers value)) _ parts))
 
     inserted_again : (k : ℕ) (i' : Instr) → IsInserted clones w clone f b 0 block.body k i' → AllByRecursion (UseIsAssigned R) (instr_register_uses f' b k i')
     inserted_again k i' o =
         ⊎_elim
-            (λ flush.
-                subst (λ x. AllByRecursion (UseIsAssigned R) (instr_register_uses f' b k x)) (sym flush.5)
-                    (flush_again k o.0 flush.0 flush.1 flush.2 flush.3 (o.3 ∙ ap Some flush.4) o.5))
-            (λ fence. subst (λ x. AllByRecursion (UseIsAssigned R) (instr_register_uses f' b k x)) (sym fence) tt)
-            (inserted_kind w clone (site_at clones w clone f b (0 + o.0)) o.1 o.2 i' o.4)
+        (λ flush.
+        subst (λ x. AllByRecursion (UseIsAssigned R) (instr_register_uses f' b k x)) (sym flush.5)
+        (flush_again k o.0 flush.0 flush.1 flush.2 flush.3 (o.3 ∙ ap Some flush.4) o.5))
+        (λ fence. subst (λ x. AllByRecursion (UseIsAssigned R) (instr_register_uses f' b k x)) (sym fence) tt)
+        (inserted_kind w clone (site_at clones w clone f b (0 + o.0)) o.1 o.2 i' o.4)
 
     body_again : AllByRecursion (UseIsAssigned R) (joined (numbered_from 0 (instr_register_uses f' b) (repaired_instrs clones w clone f b 0 block.body)))
     body_again =
         joined_make (UseIsAssigned R) (instr_register_uses f' b) 0 (repaired_instrs clones w clone f b 0 block.body)
-            (λ k i' e.
-                let here : k ≡ 0 + k = omega arith in
-                subst (λ n. AllByRecursion (UseIsAssigned R) (instr_register_uses f' b n i')) here (⊎_elim (original_again k i') (inserted_again k i') (in_body clones w clone f b 0 block.body k i' e)))
+        (λ k i' e.
+        let here : k ≡ 0 + k = omega arith in
+        subst (λ n. AllByRecursion (UseIsAssigned R) (instr_register_uses f' b n i')) here (⊎_elim (original_again k i') (inserted_again k i') (in_body clones w clone f b 0 block.body k i' e)))
 
   phis_again : (f' b : ℕ) (phis : List Phi) → AllByRecursion (UseIsAssigned fn) (joined (numbered_from 0 (λ i p. phi_register_uses fn.blocks (places.Phi (record { function = f; block = b; index = i })) p) phis)) →
       AllByRecursion (UseIsAssigned R) (joined (numbered_from 0 (λ i p. phi_register_uses R.blocks (places.Phi (record { function = f'; block = b; index = i })) p) phis))
   phis_again f' b phis h =
       joined_make (UseIsAssigned R) (λ i p. phi_register_uses R.blocks (places.Phi (record { function = f'; block = b; index = i })) p) 0 phis
-          (λ k p e.
-              edges_again (places.Phi (record { function = f; block = b; index = 0 + k })) (places.Phi (record { function = f'; block = b; index = 0 + k })) p.ty p.edges
-                  (joined_at (UseIsAssigned fn) (λ i p. phi_register_uses fn.blocks (places.Phi (record { function = f; block = b; index = i })) p) 0 phis k p h e))
+      (λ k p e.
+      edges_again (places.Phi (record { function = f; block = b; index = 0 + k })) (places.Phi (record { function = f'; block = b; index = 0 + k })) p.ty p.edges
+      (joined_at (UseIsAssigned fn) (λ i p. phi_register_uses fn.blocks (places.Phi (record { function = f; block = b; index = i })) p) 0 phis k p h e))
 
   block_again : (f' b : ℕ) (block : Block) → slice_get fn.blocks b ≡ Some block → AllByRecursion (UseIsAssigned fn) (block_register_uses fn.blocks f b block) →
       AllByRecursion (UseIsAssigned R) (block_register_uses R.blocks f' b (repaired_block clones w clone f b block))
@@ -239,21 +239,21 @@ module _ (clones : List Clone) (w : Wanted) (clone : Bool) (f : ℕ) (name : Lis
       let end = end_register_uses f b block.end in
       let first = all_first (UseIsAssigned fn) (phis ++ body) end h in
       all_append (UseIsAssigned R) _ (end_register_uses f' b block.end)
-          (all_append (UseIsAssigned R) _ _ (phis_again f' b block.phis (all_first (UseIsAssigned fn) phis body first)) (body_again f' b block there (all_second (UseIsAssigned fn) phis body first)))
-          (uses_again (places.End f b) (places.End f' b) b AtEnd AtEnd (same_at_end b) (used_registers (end_uses block.end)) (all_second (UseIsAssigned fn) (phis ++ body) end h))
+      (all_append (UseIsAssigned R) _ _ (phis_again f' b block.phis (all_first (UseIsAssigned fn) phis body first)) (body_again f' b block there (all_second (UseIsAssigned fn) phis body first)))
+      (uses_again (places.End f b) (places.End f' b) b AtEnd AtEnd (same_at_end b) (used_registers (end_uses block.end)) (all_second (UseIsAssigned fn) (phis ++ body) end h))
 
   function_again : (f' : ℕ) → AllAssigned fn f → AllAssigned R f'
   function_again f' h =
       All-from_recursion (UseIsAssigned R) (register_uses f' R)
-          (joined_make (UseIsAssigned R) (block_register_uses R.blocks f') 0 R.blocks
-              (λ b block' e.
-                  let at = block_there clones w clone f 0 fn.blocks b block' e in
-                  subst (λ x. AllByRecursion (UseIsAssigned R) (block_register_uses R.blocks f' (0 + b) x)) (sym at.2)
-                      (let here : b ≡ 0 + b = omega arith in
-                      subst (λ n. AllByRecursion (UseIsAssigned R) (block_register_uses R.blocks f' n (repaired_block clones w clone f n at.0))) here
-                          (block_again f' b at.0 at.1
-                              (subst (λ n. AllByRecursion (UseIsAssigned fn) (block_register_uses fn.blocks f n at.0)) (sym here)
-                                  (joined_at (UseIsAssigned fn) (block_register_uses fn.blocks f) 0 fn.blocks b at.0 (recursion_from_All (UseIsAssigned fn) (register_uses f fn) h) at.1))))))
+      (joined_make (UseIsAssigned R) (block_register_uses R.blocks f') 0 R.blocks
+      (λ b block' e.
+      let at = block_there clones w clone f 0 fn.blocks b block' e in
+      subst (λ x. AllByRecursion (UseIsAssigned R) (block_register_uses R.blocks f' (0 + b) x)) (sym at.2)
+      (let here : b ≡ 0 + b = omega arith in
+      subst (λ n. AllByRecursion (UseIsAssigned R) (block_register_uses R.blocks f' n (repaired_block clones w clone f n at.0))) here
+      (block_again f' b at.0 at.1
+      (subst (λ n. AllByRecursion (UseIsAssigned fn) (block_register_uses fn.blocks f n at.0)) (sym here)
+      (joined_at (UseIsAssigned fn) (block_register_uses fn.blocks f) 0 fn.blocks b at.0 (recursion_from_All (UseIsAssigned fn) (register_uses f fn) h) at.1))))))
 
 module _ (P : Program) (plan : Plan) (skip : Site → Bool) (sound : IsSound P) where
   from_origin : (f' : ℕ) (fn' : Function) → Origin P plan skip f' fn' → AllAssigned fn' f'

@@ -1,10 +1,10 @@
 -- Calls of the repaired program find what the calls that they were made of find.
-use Rattle.std.proofs.Common.{◌≡◌, ◌⊎◌, inl, inr, ⊎_elim, ℕ, zero, suc, ◌+◌, Bool, true, false, cond, ◌&&◌, List, [], ◌∷◌, ◌++◌, map, Option, Some, None, is_some, slice_get, option_map, refl, sym, ap, ap₂, ◌∙◌, subst}
+use Rattle.std.proofs.Common.{◌≡◌, ◌⊎◌, inl, inr, ⊎_elim, ℕ, suc, Bool, true, false, cond, List, [], ◌∷◌, ◌++◌, map, Option, Some, None, is_some, slice_get, option_map, refl, sym, ap, ap₂, ◌∙◌}
 use Rattle.std.specs.Prelude.{if◌then◌else◌}
 use Rattle.std.specs.Str.{bytes_eq}
 use Rattle.std.proofs.lemmas.Option.{same_Some}
 use Rattle.std.proofs.lemmas.Slice.Eq.{bytes_eq-Decides}
-use Rattle.hip_types.specs.DistinctLaws.{either, or_first, or_second, any_front, any_back}
+use Rattle.hip_types.specs.DistinctLaws.{either}
 use Rattle.hip_types.specs.declared.number.Scalar.{Scalar}
 use Rattle.hip_types.specs.declared.number.Scalar.TheVariants.{Int, Ptr}
 use Rattle.hip_types.specs.declared.number.Width.{Width}
@@ -19,12 +19,12 @@ use Rattle.hip_typing.specs.Names.{is_among, number_of}
 use Rattle.hip_typing.specs.Numbering.{function_names, function_number}
 use Rattle.hip_typing.specs.NumberingLaws.{number_cases, function_number-there}
 use Rattle.hip_typing.specs.Places.{extern_of, function_of, first_of, callee_of}
-use Rattle.hip_typing.specs.Sound.{IsSound, same_result, is_of, declared, externs_check}
+use Rattle.hip_typing.specs.Sound.{IsSound, same_result, is_of, declared}
 use Rattle.hip_typing.specs.Types.{same_width, same_scalar, all_pass}
 use Rattle.hip_typing.specs.declared.externs.ExternCall.{ExternCall}
 use Rattle.hip_fix.specs.declared.plan.Plan.{Plan}
 use Rattle.hip_fix.specs.Repaired.{wanted_by, clone_name, clones_of, cloned, added_externs, repaired}
-use Rattle.hip_fix.proofs.Callable.{both_hold, each_at, extern_at, function_at, of_table, callee_there, callable_of, flipped}
+use Rattle.hip_fix.proofs.Callable.{both_hold, each_at, function_at, callee_there, callable_of, flipped}
 use Rattle.hip_fix.proofs.Clones.{extern_kept, calls_of_clone}
 use Rattle.hip_step.specs.Parts.{In}
 use Rattle.hip_fix.proofs.HeadsAgain.{externs_again}
@@ -117,13 +117,13 @@ function_at_number : (fs : List Function) (name : List ℕ) (g : ℕ) (fn : Func
 function_at_number [] name g fn e c = cc
 function_at_number (f ∷ fs) name g fn e c =
     ⊎_elim
-        (λ h.
-            let same : f ≡ fn = same_Some f fn (ap (slice_get (f ∷ fs)) (sym h.0) ∙ c) in
-            ap (λ b. if b then Some (signature_of f) else function_of fs name) (flipped f.name name ∙ h.2) ∙ ap (λ x. Some (signature_of x)) same)
-        (λ l.
-            ap (λ b. if b then Some (signature_of f) else function_of fs name) (flipped f.name name ∙ l.1)
-            ∙ function_at_number fs name l.0 fn l.2 (ap (slice_get (f ∷ fs)) (sym l.3) ∙ c))
-        (number_cases f.name (function_names fs) name g e)
+    (λ h.
+    let same : f ≡ fn = same_Some f fn (ap (slice_get (f ∷ fs)) (sym h.0) ∙ c) in
+    ap (λ b. if b then Some (signature_of f) else function_of fs name) (flipped f.name name ∙ h.2) ∙ ap (λ x. Some (signature_of x)) same)
+    (λ l.
+    ap (λ b. if b then Some (signature_of f) else function_of fs name) (flipped f.name name ∙ l.1)
+    ∙ function_at_number fs name l.0 fn l.2 (ap (slice_get (f ∷ fs)) (sym l.3) ∙ c))
+    (number_cases f.name (function_names fs) name g e)
 
 -- ---- calls
 
@@ -148,6 +148,7 @@ module _ (P : Program) (plan : Plan) (skip : Site → Bool) (sound : IsSound P) 
           let number = function_at P.functions callee s g in
           let free = good.free callee number.0 number.1 in
           cc
+
       by_extern : (o : Option Signature) → extern_of P.externs callee ≡ o → callee_of Q callee ≡ callee_of P callee
       by_extern (Some s) g =
           ap (λ o. first_of o (function_of Q.functions callee)) (extern_kept_first P.externs (added_externs P plan (wanted_by plan skip)) callee s g)
@@ -162,6 +163,7 @@ module _ (P : Program) (plan : Plan) (skip : Site → Bool) (sound : IsSound P) 
       external : (c : ExternCall) → call_of callee ≡ Some c → (b : Bool) → callee_of Q (cond b (clone_name (clones_of P plan) callee) callee) ≡ callee_of P callee
       external c e true = ap (callee_of Q) (extern_kept P plan good callee (λ none. cc)) ∙ extern_callee callee c e h
       external c e false = extern_callee callee c e h
+
       defined : (g : ℕ) → function_number P callee ≡ Some g → (b : Bool) → (b ≡ true → (g : ℕ) → function_number P callee ≡ Some g → In g (cloned P plan)) → callee_of Q (cond b (clone_name (clones_of P plan) callee) callee) ≡ callee_of P callee
       defined g e true there =
           let fn = function_number-there P callee g e in

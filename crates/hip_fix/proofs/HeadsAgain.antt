@@ -1,34 +1,26 @@
 -- The rules on names, declarations, `main` and registers hold of the repaired program.
-use Rattle.std.proofs.Common.{◌≡◌, ◌⊎◌, inl, inr, ⊎_elim, ℕ, zero, suc, ◌+◌, Bool, true, false, cond, not, ◌&&◌, List, [], ◌∷◌, ◌++◌, map, Option, Some, None, is_some, is_none, slice_get, refl, sym, ap, ap₂, ◌∙◌, subst, append_assoc}
+use Rattle.std.proofs.Common.{◌≡◌, ⊎_elim, ℕ, suc, Bool, true, false, cond, List, [], ◌∷◌, ◌++◌, map, Option, Some, None, is_some, is_none, slice_get, refl, sym, ap, ap₂, ◌∙◌, subst, append_assoc}
 use Rattle.std.specs.Prelude.{codes, if◌then◌else◌}
-use Rattle.std.specs.List.{flat_map}
 use Rattle.std.specs.Str.{bytes_eq}
 use Rattle.std.proofs.lemmas.List.{map-append}
 use Rattle.std.proofs.lemmas.Slice.Eq.{bytes_eq-Decides}
 use Rattle.hip_types.specs.DistinctLaws.{any_front, any_back, any_found}
-use Rattle.hip_ir.specs.declared.block.Block.{Block}
-use Rattle.hip_ir.specs.declared.block.Phi.{Phi}
-use Rattle.hip_ir.specs.declared.instr.Instr.{Instr}
 use Rattle.hip_ir.specs.declared.program.Extern.{Extern}
 use Rattle.hip_ir.specs.declared.program.Function.{Function}
 use Rattle.hip_ir.specs.declared.program.GlobalVar.{GlobalVar}
-use Rattle.hip_ir.specs.declared.program.Param.{Param}
 use Rattle.hip_ir.specs.declared.program.Program.{Program}
 use Rattle.hip_ir.specs.declared.site.Site.{Site}
-use Rattle.hip_typing.specs.Check.{each}
 use Rattle.hip_typing.specs.Externs.{call_of, known_signature}
-use Rattle.hip_typing.specs.Names.{Named, is_among, all_differ, numbered_from}
+use Rattle.hip_typing.specs.Names.{Named, is_among}
 use Rattle.hip_typing.specs.Numbering as numbers
-use Rattle.hip_typing.specs.Registers.{Register, assigned_by, body_registers}
-use Rattle.hip_typing.specs.Sound.{IsSound, global_names, extern_names, function_names, names_check, is_of, declared, free_function, externs_check, is_main, has_main, main_check, instr_names, all_of, phi_names, body_names, block_names, param_names, blocks_names, inner_names, inner_check, registers_check}
+use Rattle.hip_typing.specs.Sound.{IsSound, global_names, extern_names, function_names, names_check, is_of, declared, free_function, externs_check, is_main, has_main, main_check}
 use Rattle.hip_calls.specs.Fresh.{name_of, names_taken}
 use Rattle.hip_calls.specs.FreshLaws.{fresh_for-distinct, fresh_for-free}
 use Rattle.hip_fix.specs.declared.plan.Plan.{Plan}
-use Rattle.hip_fix.specs.Repaired.{Clone, Wanted, wanted_by, clones_of, cloned, needs, added_externs, repaired, repaired_block, repaired_blocks, repaired_function, repaired_functions}
-use Rattle.hip_fix.proofs.Bodies.{same_registers, repaired_instrs}
+use Rattle.hip_fix.specs.Repaired.{wanted_by, clones_of, cloned, added_externs, repaired, repaired_functions}
 use Rattle.hip_fix.proofs.Callable.{each_at, callable_of}
 use Rattle.hip_fix.proofs.Clones.{fresh, fresh_extern, in_append, names_then}
-use Rattle.hip_fix.proofs.Declarations.{IsAdded, added_at, added_passes, clwb_extern, sfence_extern, pmem_flush_extern}
+use Rattle.hip_fix.proofs.Declarations.{added_at, added_passes, clwb_extern, sfence_extern, pmem_flush_extern}
 use Rattle.hip_fix.proofs.Items.{each_make}
 use Rattle.hip_fix.proofs.NamesAgain.{Differ, Apart, not_true, not_false, differ_append, differ_first, differ_second, differ_apart, apart_append, append_apart, differ_distinct, among_at, names_in, all_differ_holds, holds_all_differ, numbered_names}
 use Rattle.hip_fix.proofs.Origins.{Origin, origin}
@@ -49,9 +41,9 @@ top_names_are : (globals : List GlobalVar) (externs : List Extern) (functions : 
 top_names_are globals externs functions =
     map-append (λ (n : Named). n.name) (global_names globals ++ extern_names externs) (function_names functions)
     ∙ ap₂ (λ xs ys. xs ++ ys)
-        (map-append (λ (n : Named). n.name) (global_names globals) (extern_names externs)
-        ∙ ap₂ (λ xs ys. xs ++ ys) (numbered_names _ (λ g. g.name) (λ _ _. refl) 0 globals) (numbered_names _ (λ e. e.name) (λ _ _. refl) 0 externs))
-        (numbered_names _ (λ f. f.name) (λ _ _. refl) 0 functions)
+    (map-append (λ (n : Named). n.name) (global_names globals) (extern_names externs)
+    ∙ ap₂ (λ xs ys. xs ++ ys) (numbered_names _ (λ g. g.name) (λ _ _. refl) 0 globals) (numbered_names _ (λ e. e.name) (λ _ _. refl) 0 externs))
+    (numbered_names _ (λ f. f.name) (λ _ _. refl) 0 functions)
     ∙ append_assoc (names_of_globals globals) (names_of_externs externs) (numbers.function_names functions)
 
 apart_sym : (xs ys : List (List ℕ)) → Apart xs ys → Apart ys xs
@@ -151,19 +143,19 @@ module _ (P : Program) (plan : Plan) (skip : Site → Bool) (sound : IsSound P) 
       let EN : Apart E N = fresh_apart_from E (λ q h. any_back (bytes_eq q) G (E ++ F) (any_front (bytes_eq q) E F h)) in
       let FN : Apart F N = fresh_apart_from F (λ q h. any_back (bytes_eq q) G (E ++ F) (any_back (bytes_eq q) E F h)) in
       differ_append G ((E ++ A) ++ (F ++ N)) (differ_first G (E ++ F) differ_before)
-          (differ_append (E ++ A) (F ++ N)
-              (differ_append E A (differ_first E F rest) (added_differ _ _ _) (apart_sym A E added_apart))
-              (differ_append F N (differ_second E F rest) (differ_distinct N (fresh_for-distinct (names_taken P) (map (name_of P) (cloned P plan)))) FN)
-              (append_apart E A (F ++ N) (apart_append E F N (differ_apart E F rest) EN) (apart_append A F N (apart_sym F A (free_apart F A functions_free added_taken)) (apart_sym N A (free_apart N A fresh_free added_taken)))))
-          (apart_append G (E ++ A) (F ++ N) (apart_append G E A GE (free_apart G A globals_free added_taken)) (apart_append G F N GF GN))
+      (differ_append (E ++ A) (F ++ N)
+      (differ_append E A (differ_first E F rest) (added_differ _ _ _) (apart_sym A E added_apart))
+      (differ_append F N (differ_second E F rest) (differ_distinct N (fresh_for-distinct (names_taken P) (map (name_of P) (cloned P plan)))) FN)
+      (append_apart E A (F ++ N) (apart_append E F N (differ_apart E F rest) EN) (apart_append A F N (apart_sym F A (free_apart F A functions_free added_taken)) (apart_sym N A (free_apart N A fresh_free added_taken)))))
+      (apart_append G (E ++ A) (F ++ N) (apart_append G E A GE (free_apart G A globals_free added_taken)) (apart_append G F N GF GN))
 
   pub names_again : (names_check (repaired P plan skip)).Holds
   names_again =
       all_differ_holds (top P.globals (P.externs ++ added) (repaired P plan skip).functions)
-          (subst Differ
-              (sym (top_names_are P.globals (P.externs ++ added) (repaired P plan skip).functions
-                  ∙ ap (λ xs. G ++ xs) (ap₂ (λ xs ys. xs ++ ys) (map-append (λ (e : Extern). e.name) P.externs added) (names_then P plan skip))))
-              differ_after_repair)
+      (subst Differ
+      (sym (top_names_are P.globals (P.externs ++ added) (repaired P plan skip).functions
+      ∙ ap (λ xs. G ++ xs) (ap₂ (λ xs ys. xs ++ ys) (map-append (λ (e : Extern). e.name) P.externs added) (names_then P plan skip))))
+      differ_after_repair)
 
   -- ---- declarations
 
@@ -175,12 +167,15 @@ module _ (P : Program) (plan : Plan) (skip : Site → Bool) (sound : IsSound P) 
       named false e = ap (λ n. is_none (call_of n)) (o.plain e).1 ∙ each_at free_function P.functions o.f o.fn sound.externs.1.1 o.at
 
   pub externs_again : (externs_check (repaired P plan skip)).Holds
-  externs_again =
-      (sound.externs.0,
-      (each_make declared (P.externs ++ added)
+  externs_again = (
+    sound.externs.0,
+    (
+      each_make declared (P.externs ++ added)
           (λ k e h. ⊎_elim (λ first. each_at declared P.externs k e sound.externs.1.0 first)
-              (λ more. added_passes (λ x. is_of x (known_signature x.name)) refl refl refl e (added_at P plan (wanted_by plan skip) more.0 e more.1).0) (in_append P.externs added k e h)),
-      each_make free_function (repaired P plan skip).functions (λ f' fn' e. function_free f' fn' (origin P plan skip f' fn' e))))
+          (λ more. added_passes (λ x. is_of x (known_signature x.name)) refl refl refl e (added_at P plan (wanted_by plan skip) more.0 e more.1).0) (in_append P.externs added k e h)),
+      each_make free_function (repaired P plan skip).functions (λ f' fn' e. function_free f' fn' (origin P plan skip f' fn' e)),
+    ),
+  )
 
   -- ---- `main`
 

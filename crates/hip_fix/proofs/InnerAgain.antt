@@ -1,19 +1,17 @@
 -- The names inside each function of the repaired program differ.
-use Rattle.std.proofs.Common.{◌≡◌, ℕ, suc, ◌+◌, Bool, List, [], ◌∷◌, ◌++◌, map, Option, Some, slice_get, refl, sym, ap, ap₂, ◌∙◌, subst}
+use Rattle.std.proofs.Common.{◌≡◌, ℕ, suc, ◌+◌, Bool, List, [], ◌∷◌, ◌++◌, map, refl, sym, ap, ap₂, ◌∙◌, subst}
 use Rattle.std.specs.List.{flat_map}
 use Rattle.std.proofs.lemmas.List.{map-append}
 use Rattle.hip_ir.specs.declared.block.Block.{Block}
-use Rattle.hip_ir.specs.declared.block.Phi.{Phi}
 use Rattle.hip_ir.specs.declared.instr.Instr.{Instr}
 use Rattle.hip_ir.specs.declared.program.Function.{Function}
-use Rattle.hip_ir.specs.declared.program.Param.{Param}
 use Rattle.hip_ir.specs.declared.program.Program.{Program}
 use Rattle.hip_ir.specs.declared.site.Site.{Site}
 use Rattle.hip_typing.specs.Names.{Named, numbered_from}
 use Rattle.hip_typing.specs.Registers.{Register, assigned_by, body_registers}
 use Rattle.hip_typing.specs.Sound.{IsSound, instr_names, all_of, phi_names, body_names, block_names, param_names, blocks_names, inner_names, inner_check, registers_check}
 use Rattle.hip_fix.specs.declared.plan.Plan.{Plan}
-use Rattle.hip_fix.specs.Repaired.{Clone, Wanted, wanted_by, clones_of, repaired, repaired_block, repaired_blocks, repaired_function}
+use Rattle.hip_fix.specs.Repaired.{Clone, Wanted, wanted_by, clones_of, repaired, repaired_blocks, repaired_function}
 use Rattle.hip_fix.proofs.Bodies.{same_registers}
 use Rattle.hip_fix.proofs.Callable.{each_at}
 use Rattle.hip_fix.proofs.Items.{each_make}
@@ -44,9 +42,9 @@ names_of_block b = b.label ∷ (map (λ p. p.dest) b.phis ++ register_names (bod
 names-block : (f b : ℕ) (block : Block) → names_in (block_names f b block) ≡ names_of_block block
 names-block f b block =
     ap (λ xs. block.label ∷ xs)
-        (map-append (λ (n : Named). n.name) (phi_names f b block.phis) (body_names f b block.body)
-        ∙ ap₂ (λ xs ys. xs ++ ys) (numbered_names _ (λ p. p.dest) (λ _ _. refl) 0 block.phis)
-            (names_of_all (instr_names f b) (λ i. register_names (assigned_by i)) (λ n i. map_named _ (λ _. refl) (assigned_by i)) 0 block.body ∙ flat_registers block.body))
+    (map-append (λ (n : Named). n.name) (phi_names f b block.phis) (body_names f b block.body)
+    ∙ ap₂ (λ xs ys. xs ++ ys) (numbered_names _ (λ p. p.dest) (λ _ _. refl) 0 block.phis)
+    (names_of_all (instr_names f b) (λ i. register_names (assigned_by i)) (λ n i. map_named _ (λ _. refl) (assigned_by i)) 0 block.body ∙ flat_registers block.body))
 
 abbrev names_of_function : Function → List (List ℕ)
 names_of_function fn = map (λ p. p.name) fn.params ++ flat_map names_of_block fn.blocks
@@ -66,7 +64,7 @@ module _ (P : Program) (plan : Plan) (skip : Site → Bool) (sound : IsSound P) 
   inner_again f' fn' o =
       let before : Differ (names_of_function o.fn) = subst Differ (names-inner o.f o.fn) (holds_all_differ (inner_names o.f o.fn) (each_at inner_check P.functions o.f o.fn sound.registers o.at)) in
       let same : names_of_function (repaired_function (clones_of P plan) (wanted_by plan skip) o.clone o.f o.name o.fn) ≡ names_of_function o.fn =
-          ap (λ xs. map (λ p. p.name) o.fn.params ++ xs) (same_blocks_names (clones_of P plan) (wanted_by plan skip) o.clone o.f 0 o.fn.blocks) in
+      ap (λ xs. map (λ p. p.name) o.fn.params ++ xs) (same_blocks_names (clones_of P plan) (wanted_by plan skip) o.clone o.f 0 o.fn.blocks) in
       all_differ_holds (inner_names f' fn') (subst Differ (sym (names-inner f' fn' ∙ ap names_of_function o.is ∙ same)) before)
 
   pub registers_again : (registers_check (repaired P plan skip)).Holds

@@ -1,5 +1,5 @@
 -- The inserted instructions meet the rules of their places, since the stores that they stand behind do.
-use Rattle.std.proofs.Common.{◌≡◌, ◌⊎◌, inl, inr, ℕ, Bool, true, false, cond, ◌&&◌, List, [], ◌∷◌, ◌++◌, map, All, Option, Some, None, is_some, refl, sym, ap, ap₂, ◌∙◌, subst}
+use Rattle.std.proofs.Common.{◌≡◌, ◌⊎◌, inl, inr, ℕ, Bool, true, false, cond, ◌&&◌, List, [], ◌∷◌, ◌++◌, All, Option, None, is_some, refl, sym, ap, ◌∙◌, subst}
 use Rattle.std.specs.List.{list_all, AllByRecursion}
 use Rattle.std.proofs.lemmas.List.Elements.{All-nil, All-from_recursion, recursion_from_All}
 use Rattle.hip_types.specs.Layout.{Fits}
@@ -11,17 +11,15 @@ use Rattle.hip_types.specs.declared.number.Width.TheVariants.{W64}
 use Rattle.hip_types.specs.declared.ty.Ty.{Ty}
 use Rattle.hip_types.specs.declared.ty.Ty.TheVariants as types
 use Rattle.hip_ir.specs.Levels.{out-Ty-Int}
-use Rattle.hip_ir.specs.declared.constant.Const.{Const}
 use Rattle.hip_ir.specs.declared.constant.Const.TheFolds.{fold-roll-Const}
 use Rattle.hip_ir.specs.declared.constant.Const.TheVariants as consts
 use Rattle.hip_ir.specs.declared.constant.Const.TheViews.{rolls-Int}
-use Rattle.hip_ir.specs.declared.instr.Instr.{Instr}
-use Rattle.hip_ir.specs.declared.instr.Instr.TheVariants.{Store, Call}
+use Rattle.hip_ir.specs.declared.instr.Instr.TheVariants.{Store}
 use Rattle.hip_ir.specs.declared.instr.Operand.{Operand}
 use Rattle.hip_ir.specs.declared.instr.Operand.TheVariants.{Reg, Fixed}
 use Rattle.hip_step.specs.Operands.{scalar_size}
 use Rattle.hip_typing.specs.Constants.{has_shape, names_in, types_in}
-use Rattle.hip_typing.specs.Externs.{Signature, known_signature}
+use Rattle.hip_typing.specs.Externs.{known_signature}
 use Rattle.hip_typing.specs.Names.{is_among}
 use Rattle.hip_typing.specs.Places.{Scope, global_names, callee_of, uses_known, use_agrees, uses_agree, signature_agrees, instr_check}
 use Rattle.hip_typing.specs.Registers.{Use, uses, find_register, used_registers, used_globals, used_types}
@@ -64,7 +62,7 @@ known_second s (Reg v) addr ty h =
 known_second s (Fixed v) addr ty h =
     let both = both_hold (registered s (uses addr Ptr ∷ [])) (among_globals s (names_in v ++ used_globals (uses addr Ptr ∷ []))) h in
     both_true (registered s (uses addr Ptr ∷ [])) _ both.0
-        (both_hold (among_globals s (names_in v)) (among_globals s (used_globals (uses addr Ptr ∷ []))) (sym (all-append (is_among (global_names s)) (names_in v) (used_globals (uses addr Ptr ∷ []))) ∙ both.1)).1
+    (both_hold (among_globals s (names_in v)) (among_globals s (used_globals (uses addr Ptr ∷ []))) (sym (all-append (is_among (global_names s)) (names_in v) (used_globals (uses addr Ptr ∷ []))) ∙ both.1)).1
 
 types_second : (value addr : Operand) (ty : Scalar) → All Fits (used_types (uses value ty ∷ uses addr Ptr ∷ [])) → All Fits (used_types (uses addr Ptr ∷ []))
 types_second (Reg v) addr ty h = h
@@ -94,19 +92,25 @@ module _ (s : Scope) (place place' : Place) where
   fence_check e = (ap is_some e, (All-nil Fits, ap (λ o. signature_agrees None [] o && true) e))
 
   line_check : (value addr : Operand) (ty : Scalar) (align : Option ℕ) → callee_of s.program clwb_name ≡ known_signature clwb_name → (instr_check s (Store ty value addr align) place').Holds → (instr_check s (line_flush addr) place).Holds
-  line_check value addr ty align e h =
-      (both_true (uses_known s (uses addr Ptr ∷ [])) _ (known_second s value addr ty (both_hold (uses_known s (uses value ty ∷ uses addr Ptr ∷ [])) true h.0).0) (ap is_some e),
-      (types_second value addr ty h.1.0,
+  line_check value addr ty align e h = (
+    both_true (uses_known s (uses addr Ptr ∷ [])) _ (known_second s value addr ty (both_hold (uses_known s (uses value ty ∷ uses addr Ptr ∷ [])) true h.0).0) (ap is_some e),
+    (
+      types_second value addr ty h.1.0,
       both_true (uses_agree s (uses addr Ptr ∷ [])) _ (both_hold (use_agrees s.registers value ty) _ (both_hold (uses_agree s (uses value ty ∷ uses addr Ptr ∷ [])) true h.1.1).0).1
-          (ap (λ o. signature_agrees None (record { ty = Ptr; value = addr } ∷ []) o && true) e)))
+          (ap (λ o. signature_agrees None (record { ty = Ptr; value = addr } ∷ []) o && true) e),
+    ),
+  )
 
   range_check : (value addr : Operand) (ty : Scalar) (align : Option ℕ) (n : ℕ) → callee_of s.program pmem_flush_name ≡ known_signature pmem_flush_name → (instr_check s (Store ty value addr align) place').Holds → (instr_check s (range_flush addr n) place).Holds
-  range_check value addr ty align n e h =
-      (both_true (uses_known s (uses addr Ptr ∷ size_use n ∷ [])) _ (known_sized n s addr ∙ known_second s value addr ty (both_hold (uses_known s (uses value ty ∷ uses addr Ptr ∷ [])) true h.0).0) (ap is_some e),
-      (subst (All Fits) (sym (types_sized n addr)) (types_second value addr ty h.1.0),
+  range_check value addr ty align n e h = (
+    both_true (uses_known s (uses addr Ptr ∷ size_use n ∷ [])) _ (known_sized n s addr ∙ known_second s value addr ty (both_hold (uses_known s (uses value ty ∷ uses addr Ptr ∷ [])) true h.0).0) (ap is_some e),
+    (
+      subst (All Fits) (sym (types_sized n addr)) (types_second value addr ty h.1.0),
       both_true (uses_agree s (uses addr Ptr ∷ size_use n ∷ [])) _
           (agrees_sized n s addr (both_hold (use_agrees s.registers value ty) _ (both_hold (uses_agree s (uses value ty ∷ uses addr Ptr ∷ [])) true h.1.1).0).1)
-          (ap (λ o. signature_agrees None (record { ty = Ptr; value = addr } ∷ record { ty = Int W64; value = Fixed (consts.Int (bits W64 n)) } ∷ []) o && true) e)))
+          (ap (λ o. signature_agrees None (record { ty = Ptr; value = addr } ∷ record { ty = Int W64; value = Fixed (consts.Int (bits W64 n)) } ∷ []) o && true) e),
+    ),
+  )
 
   -- the flush of a store
   pub flush_check : (value addr : Operand) (ty : Scalar) (align : Option ℕ) →

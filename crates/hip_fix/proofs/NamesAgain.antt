@@ -1,12 +1,10 @@
 -- The names of the repaired program differ, and so do the names inside its functions.
-use Rattle.std.proofs.Common.{◌≡◌, ◌⊎◌, inl, inr, ⊎_elim, ℕ, zero, suc, ◌+◌, Bool, true, false, cond, not, ◌&&◌, ◌||◌, List, [], ◌∷◌, ◌++◌, map, Option, Some, None, slice_get, refl, sym, ap, ap₂, ◌∙◌, subst}
-use Rattle.std.specs.List.{flat_map, list_any, AllByRecursion, IsDistinct}
+use Rattle.std.proofs.Common.{◌≡◌, inl, inr, ⊎_elim, ℕ, ◌+◌, Bool, true, false, ◌||◌, List, [], ◌∷◌, ◌++◌, map, Some, slice_get, refl, sym, ap, ap₂, ◌∙◌, subst}
+use Rattle.std.specs.List.{AllByRecursion, IsDistinct}
 use Rattle.std.specs.Str.{bytes_eq}
 use Rattle.std.specs.Cmp.Lexicographic.{nat_list_eq_equiv}
-use Rattle.std.proofs.lemmas.List.{map-append}
 use Rattle.std.proofs.lemmas.Slice.Eq.{bytes_eq-Decides}
 use Rattle.hip_types.specs.DistinctLaws.{either, or_first, or_second, any_front, any_back, any_either, any_found}
-use Rattle.hip_typing.specs.Check.{Check}
 use Rattle.hip_typing.specs.Names.{Named, IsAmong, is_among, differ_after, all_differ, numbered_from}
 use Rattle.hip_fix.proofs.Items.{map_at}
 
@@ -31,9 +29,10 @@ among_itself q x e = (bytes_eq-Decides q x).0 e
 
 pub differ_append : (xs ys : List (List ℕ)) → Differ xs → Differ ys → Apart xs ys → Differ (xs ++ ys)
 differ_append [] ys d e a = e
-differ_append (x ∷ xs) ys d e a =
-    (not_true (is_among (xs ++ ys) x) (λ t. ⊎_elim (λ f. not_false _ d.0 f) (λ b. not_false _ (a x (or_first _ _ (nat_list_eq_equiv.refl x))) b) (any_either (bytes_eq x) xs ys t)),
-    differ_append xs ys d.1 e (λ q h. a q (or_second (bytes_eq q x) _ h)))
+differ_append (x ∷ xs) ys d e a = (
+  not_true (is_among (xs ++ ys) x) (λ t. ⊎_elim (λ f. not_false _ d.0 f) (λ b. not_false _ (a x (or_first _ _ (nat_list_eq_equiv.refl x))) b) (any_either (bytes_eq x) xs ys t)),
+  differ_append xs ys d.1 e (λ q h. a q (or_second (bytes_eq q x) _ h)),
+)
 
 pub differ_first : (xs ys : List (List ℕ)) → Differ (xs ++ ys) → Differ xs
 differ_first [] ys d = tt
@@ -47,7 +46,7 @@ pub differ_apart : (xs ys : List (List ℕ)) → Differ (xs ++ ys) → Apart xs 
 differ_apart [] ys d q h = cc
 differ_apart (x ∷ xs) ys d q h =
     ⊎_elim (λ t. not_true (is_among ys q) (λ b. not_false _ d.0 (any_back (bytes_eq x) xs ys (subst (λ n. is_among ys n ≡ true) (among_itself q x t) b))))
-        (λ r. differ_apart xs ys d.1 q r) (either (bytes_eq q x) (is_among xs q) h)
+    (λ r. differ_apart xs ys d.1 q r) (either (bytes_eq q x) (is_among xs q) h)
 
 pub apart_append : (xs ys zs : List (List ℕ)) → Apart xs ys → Apart xs zs → Apart xs (ys ++ zs)
 apart_append xs ys zs a b q h = not_true (is_among (ys ++ zs) q) (λ t. ⊎_elim (λ f. not_false _ (a q h) f) (λ g. not_false _ (b q h) g) (any_either (bytes_eq q) ys zs t))
@@ -87,20 +86,22 @@ there_is (x ∷ xs) q h = ⊎_elim (λ t. inl (sym ((bytes_eq-Decides q x).0 t))
 
 differ_holds : (earlier : List (List ℕ)) (xs : List Named) → Differ (names_in xs) → Apart (names_in xs) earlier → (differ_after earlier xs).Holds
 differ_holds earlier [] d a = tt
-differ_holds earlier (x ∷ xs) d a =
-    (λ h. not_false _ (a x.name (or_first _ _ (nat_list_eq_equiv.refl x.name))) (is_there earlier x.name h),
-    differ_holds (earlier ++ x.name ∷ []) xs d.1
-        (apart_append (names_in xs) earlier (x.name ∷ []) (λ q h. a q (or_second (bytes_eq q x.name) _ h))
-        (λ q h. not_true _ (λ t. ⊎_elim (λ same. not_false _ d.0 (subst (λ n. is_among (names_in xs) n ≡ true) (among_itself q x.name same) h)) (λ f. cc) (either (bytes_eq q x.name) false t)))))
+differ_holds earlier (x ∷ xs) d a = (
+  λ h. not_false _ (a x.name (or_first _ _ (nat_list_eq_equiv.refl x.name))) (is_there earlier x.name h),
+  differ_holds (earlier ++ x.name ∷ []) xs d.1
+      (apart_append (names_in xs) earlier (x.name ∷ []) (λ q h. a q (or_second (bytes_eq q x.name) _ h))
+      (λ q h. not_true _ (λ t. ⊎_elim (λ same. not_false _ d.0 (subst (λ n. is_among (names_in xs) n ≡ true) (among_itself q x.name same) h)) (λ f. cc) (either (bytes_eq q x.name) false t)))),
+)
 
 holds_differ : (earlier : List (List ℕ)) (xs : List Named) → (differ_after earlier xs).Holds → Differ (names_in xs) × Apart (names_in xs) earlier
 holds_differ earlier [] h = (tt, λ q t. cc)
 holds_differ earlier (x ∷ xs) h =
-    let rest = holds_differ (earlier ++ x.name ∷ []) xs h.1 in
-    ((not_true _ (λ t. not_false _ (rest.1 x.name t) (any_back (bytes_eq x.name) earlier (x.name ∷ []) (or_first _ _ (nat_list_eq_equiv.refl x.name)))), rest.0),
-    λ q t. not_true _ (λ e.
-        ⊎_elim (λ same. h.0 (there_is earlier x.name (subst (λ n. is_among earlier n ≡ true) (among_itself q x.name same) e)))
-            (λ later. not_false _ (rest.1 q later) (any_front (bytes_eq q) earlier (x.name ∷ []) e)) (either (bytes_eq q x.name) (is_among (names_in xs) q) t)))
+    let rest = holds_differ (earlier ++ x.name ∷ []) xs h.1 in (
+      (not_true _ (λ t. not_false _ (rest.1 x.name t) (any_back (bytes_eq x.name) earlier (x.name ∷ []) (or_first _ _ (nat_list_eq_equiv.refl x.name)))), rest.0),
+      λ q t. not_true _ (λ e.
+          ⊎_elim (λ same. h.0 (there_is earlier x.name (subst (λ n. is_among earlier n ≡ true) (among_itself q x.name same) e)))
+          (λ later. not_false _ (rest.1 q later) (any_front (bytes_eq q) earlier (x.name ∷ []) e)) (either (bytes_eq q x.name) (is_among (names_in xs) q) t)),
+    )
 
 pub all_differ_holds : (xs : List Named) → Differ (names_in xs) → (all_differ xs).Holds
 all_differ_holds xs d = differ_holds [] xs d (λ q h. refl)

@@ -1,5 +1,5 @@
 -- Each inserted call is declared.
-use Rattle.std.proofs.Common.{◌≡◌, ◌⊎◌, inl, inr, ⊎_elim, ℕ, zero, suc, ◌+◌, Bool, true, false, cond, not, ◌&&◌, ◌||◌, List, [], ◌∷◌, ◌++◌, map, Option, Some, None, is_some, slice_get, refl, sym, ap, ap₂, ◌∙◌, subst, arith}
+use Rattle.std.proofs.Common.{◌≡◌, ℕ, zero, suc, ◌+◌, Bool, true, false, cond, not, ◌&&◌, List, [], ◌∷◌, ◌++◌, map, Some, slice_get, refl, sym, ap, ap₂, ◌∙◌, subst, arith}
 use Rattle.std.specs.List.{list_any}
 use Rattle.std.specs.Str.{bytes_eq}
 use Rattle.std.specs.Cmp.Lexicographic.{nat_list_eq_equiv}
@@ -8,20 +8,17 @@ use Rattle.std.proofs.lemmas.Option.{same_Some}
 use Rattle.hip_types.specs.DistinctLaws.{or_first, or_second, any_front, any_back, any_at}
 use Rattle.hip_ir.specs.declared.block.Block.{Block}
 use Rattle.hip_ir.specs.declared.instr.Instr.{Instr}
-use Rattle.hip_ir.specs.declared.instr.Instr.TheVariants.{Store, Call}
-use Rattle.hip_ir.specs.declared.instr.Operand.{Operand}
+use Rattle.hip_ir.specs.declared.instr.Instr.TheVariants.{Store}
 use Rattle.hip_ir.specs.declared.program.Extern.{Extern}
 use Rattle.hip_ir.specs.declared.program.Function.{Function}
 use Rattle.hip_ir.specs.declared.program.Program.{Program}
 use Rattle.hip_ir.specs.declared.site.Site.{Site}
-use Rattle.hip_typing.specs.Externs.{Signature, call_of, known_signature}
+use Rattle.hip_typing.specs.Externs.{known_signature}
 use Rattle.hip_typing.specs.Names.{is_among}
 use Rattle.hip_typing.specs.Places.{first_of, function_of, callee_of}
 use Rattle.hip_typing.specs.Sound.{IsSound}
-use Rattle.hip_types.specs.declared.number.Scalar.{Scalar}
 use Rattle.hip_fix.specs.declared.plan.Plan.{Plan}
-use Rattle.hip_fix.specs.Repaired.{Marked, Clone, Wanted, wanted_by, clwb_name, sfence_name, pmem_flush_name, flush_of, the_fence, renamed, inserted_behind, repaired_body, instrs_of, is_call_of, inserts, inserts_in, inserts_from, inserts_cloned, needs, clones_of, cloned, added_externs, repaired}
-use Rattle.hip_fix.proofs.Clones.{in_append}
+use Rattle.hip_fix.specs.Repaired.{Marked, Clone, Wanted, wanted_by, clwb_name, sfence_name, pmem_flush_name, flush_of, the_fence, inserted_behind, repaired_body, instrs_of, is_call_of, inserts, inserts_in, inserts_from, inserts_cloned, needs, clones_of, cloned, added_externs, repaired}
 use Rattle.hip_fix.proofs.Declarations.{clwb_extern, sfence_extern, pmem_flush_extern, extern_names}
 use Rattle.hip_fix.proofs.CalleesAgain.{extern_signature, extern_there}
 use Rattle.hip_fix.proofs.HeadsAgain.{externs_again}
@@ -51,7 +48,7 @@ inserted_calls_name : (name : List ℕ) (w : Wanted) (clone : Bool) (s : Site) (
 inserted_calls_name name w clone s i i' k e c =
     let at = map_at (λ (m : Marked). m.0) (inserted_behind w clone s i) k i' e in
     any_at (calls_name name) (inserted_behind w clone s i) k at.0 at.1
-        (ap (λ b. b && is_call_of name at.0.0) (inserted_marked w clone s i k at.0 at.1) ∙ ap (is_call_of name) (sym at.2) ∙ c)
+    (ap (λ b. b && is_call_of name at.0.0) (inserted_marked w clone s i k at.0 at.1) ∙ ap (is_call_of name) (sym at.2) ∙ c)
 
 -- ---- then the repair needs it
 
@@ -62,12 +59,12 @@ module _ (name : List ℕ) (clones : List Clone) (w : Wanted) (clone : Bool) whe
   in_a_body f b place (x ∷ is) zero k i i' e n c =
       let here : place + 0 ≡ place = omega arith in
       let there : slice_get (instrs_of (inserted_behind w clone (record { function = f; block = b; index = place }) x)) k ≡ Some i' =
-          ap₂ (λ p y. slice_get (instrs_of (inserted_behind w clone (record { function = f; block = b; index = p }) y)) k) (sym here) (same_Some x i e) ∙ n in
+      ap₂ (λ p y. slice_get (instrs_of (inserted_behind w clone (record { function = f; block = b; index = p }) y)) k) (sym here) (same_Some x i e) ∙ n in
       any_front (calls_name name) (inserted_behind w clone (record { function = f; block = b; index = place }) x) (repaired_body clones w clone f b (suc place) is) (inserted_calls_name name w clone (record { function = f; block = b; index = place }) x i' k there c)
   in_a_body f b place (x ∷ is) (suc j) k i i' e n c =
       let shifted : place + suc j ≡ suc place + j = omega arith in
       any_back (calls_name name) (inserted_behind w clone (record { function = f; block = b; index = place }) x) (repaired_body clones w clone f b (suc place) is)
-          (in_a_body f b (suc place) is j k i i' e (subst (λ p. slice_get (instrs_of (inserted_behind w clone (record { function = f; block = b; index = p }) i)) k ≡ Some i') shifted n) c)
+      (in_a_body f b (suc place) is j k i i' e (subst (λ p. slice_get (instrs_of (inserted_behind w clone (record { function = f; block = b; index = p }) i)) k ≡ Some i') shifted n) c)
 
   in_blocks : (f first : ℕ) (blocks : List Block) (b : ℕ) (block : Block) → slice_get blocks b ≡ Some block → inserts name (repaired_body clones w clone f (first + b) 0 block.body) ≡ true → inserts_in name clones w clone f first blocks ≡ true
   in_blocks f first [] b block e h = cc
@@ -96,17 +93,17 @@ module _ (P : Program) (plan : Plan) (skip : Site → Bool) where
   needed_by name f' fn' o true e h =
       let high = o.high e in
       or_second (inserts_from name (clones_of P plan) w 0 P.functions) _
-          (any_at (λ f. inserts_cloned name P (clones_of P plan) w f (slice_get P.functions f)) (cloned P plan) high.0 o.f high.2
-              (ap (inserts_cloned name P (clones_of P plan) w o.f) o.at ∙ h))
+      (any_at (λ f. inserts_cloned name P (clones_of P plan) w f (slice_get P.functions f)) (cloned P plan) high.0 o.f high.2
+      (ap (inserts_cloned name P (clones_of P plan) w o.f) o.at ∙ h))
 
   -- an inserted call is one that the repair needs
   pub inserted_needed : (name : List ℕ) (f' : ℕ) (fn' : Function) (o : Origin P plan skip f' fn') (b : ℕ) (block : Block) (j k : ℕ) (i i' : Instr) → slice_get o.fn.blocks b ≡ Some block → slice_get block.body j ≡ Some i →
       slice_get (instrs_of (inserted_behind w o.clone (record { function = o.f; block = b; index = 0 + j }) i)) k ≡ Some i' → is_call_of name i' ≡ true → needs P plan w name ≡ true
   inserted_needed name f' fn' o b block j k i i' e g n c =
       needed_by name f' fn' o o.clone refl
-          (in_blocks name (clones_of P plan) w o.clone o.f 0 o.fn.blocks b block e
-              (let same : 0 + b ≡ b = omega arith in
-              subst (λ x. inserts name (repaired_body (clones_of P plan) w o.clone o.f x 0 block.body) ≡ true) (sym same) (in_a_body name (clones_of P plan) w o.clone o.f b 0 block.body j k i i' g n c)))
+      (in_blocks name (clones_of P plan) w o.clone o.f 0 o.fn.blocks b block e
+      (let same : 0 + b ≡ b = omega arith in
+      subst (λ x. inserts name (repaired_body (clones_of P plan) w o.clone o.f x 0 block.body) ≡ true) (sym same) (in_a_body name (clones_of P plan) w o.clone o.f b 0 block.body j k i i' g n c)))
 
   -- ---- what is needed is declared
 
@@ -150,9 +147,9 @@ module _ (P : Program) (plan : Plan) (skip : Site → Bool) where
     pub sfence_callee : needs P plan w sfence_name ≡ true → callee_of (repaired P plan skip) sfence_name ≡ known_signature sfence_name
     sfence_callee n =
         found_callee sfence_name
-            (declared_then sfence_name (λ f. back_added firsts (seconds ++ thirds) sfence_name (front_added seconds thirds sfence_name (one_added sfence_extern (needs P plan w sfence_name) (is_among (extern_names P) sfence_name) n f))))
+        (declared_then sfence_name (λ f. back_added firsts (seconds ++ thirds) sfence_name (front_added seconds thirds sfence_name (one_added sfence_extern (needs P plan w sfence_name) (is_among (extern_names P) sfence_name) n f))))
 
     pub pmem_flush_callee : needs P plan w pmem_flush_name ≡ true → callee_of (repaired P plan skip) pmem_flush_name ≡ known_signature pmem_flush_name
     pmem_flush_callee n =
         found_callee pmem_flush_name
-            (declared_then pmem_flush_name (λ f. back_added firsts (seconds ++ thirds) pmem_flush_name (back_added seconds thirds pmem_flush_name (one_added pmem_flush_extern (needs P plan w pmem_flush_name) (is_among (extern_names P) pmem_flush_name) n f))))
+        (declared_then pmem_flush_name (λ f. back_added firsts (seconds ++ thirds) pmem_flush_name (back_added seconds thirds pmem_flush_name (one_added pmem_flush_extern (needs P plan w pmem_flush_name) (is_among (extern_names P) pmem_flush_name) n f))))

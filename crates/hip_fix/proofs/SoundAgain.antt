@@ -1,6 +1,5 @@
 -- The repaired program is sound again.
-use Rattle.std.proofs.Common.{◌≡◌, ℕ, Bool, refl}
-use Rattle.hip_ir.specs.Reading.{IsSpelled}
+use Rattle.std.proofs.Common.{Bool}
 use Rattle.hip_ir.specs.SpellingExact.{spelled_exact}
 use Rattle.hip_ir.specs.declared.program.Program.{Program}
 use Rattle.hip_ir.specs.declared.site.Site.{Site}

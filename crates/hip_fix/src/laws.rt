@@ -33,8 +33,6 @@ pub fn repairs_are_clean()
 pub fn repaired_is_sound()
     ensures sound { (P : Program) → (plan : Plan) → (skip : Site → Bool) → IsSound P → IsSound (repaired P plan skip) }
     ensures same_region { (P : Program) → (plan : Plan) → (skip : Site → Bool) → region_size (repaired P plan skip) ≡ region_size P }
-    ensures same_addresses {
-        (P : Program) → (plan : Plan) → (skip : Site → Bool) → (base : ℕ) → (number : ℕ) →
-        address (repaired P plan skip) base number ≡ address P base number
-    }
+    ensures same_addresses { (P : Program) → (plan : Plan) → (skip : Site → Bool) → (base : ℕ) → (number : ℕ) →
+        address (repaired P plan skip) base number ≡ address P base number }
 {}

@@ -4,5 +4,5 @@
 mod laws;
 mod plan;
 
-pub use laws::{repairs_are_clean, repairs_do_no_harm};
+pub use laws::{repaired_is_sound, repairs_are_clean, repairs_do_no_harm};
 pub use plan::{CloneOf, Plan};

@@ -30,3 +30,7 @@ pub mod Events
 pub mod Asked
 pub mod Cure
 pub mod Cured
+pub mod CloneFlushed
+pub mod Moves
+pub mod SinceCall
+pub mod FencedCalls

@@ -69,15 +69,15 @@ or_right true y e = refl
 or_right false y e = e
 
 -- actions that any instruction but a store and a call of a defined function may have
-abbrev is_plain : Action → Type 0
+abbrev pub is_plain : Action → Type 0
 is_plain (Stores a bytes) = ⊥
 is_plain (Calls g rs dest) = ⊥
 is_plain (Jumps b rs) = ⊥
 is_plain (Returns v) = ⊥
 is_plain _ = Unit {0}
 
-record IsPlain (x : Action) : Type 0 where
-  is : is_plain x
+pub record IsPlain (x : Action) : Type 0 where
+  pub is : is_plain x
 
 plain_cond : (b : Bool) (x y : Action) → IsPlain x → IsPlain y → IsPlain (cond b x y)
 plain_cond true x y p q = p
@@ -96,7 +96,7 @@ plain_accessed : (P : Program) (I : Input) (w : World) (a n align : ℕ) (x : Ac
 unfolding accessed
 plain_accessed P I w a n align x p = plain_cond _ _ _ (plain_cond _ _ _ p (plain_trap traps.Address)) (plain_trap traps.Misaligned)
 
-plain_allocated : (w : World) (dest : List ℕ) (size align : ℕ) → IsPlain (allocated w dest size align)
+pub plain_allocated : (w : World) (dest : List ℕ) (size align : ℕ) → IsPlain (allocated w dest size align)
 unfolding allocated
 plain_allocated w dest size align = plain_cond _ _ _ (plain_allocates dest _ size) (plain_trap traps.Stack)
 
@@ -108,11 +108,11 @@ plain_read : (dest : Option (List ℕ)) (left : List ℤ) → IsPlain (read_next
 plain_read dest [] = plain_trap traps.InputEnd
 plain_read dest (z ∷ rest) = record { is = tt }
 
-plain_calculated : (dest : List ℕ) (r : Result Bits NumTrap) → IsPlain (calculated dest r)
+pub plain_calculated : (dest : List ℕ) (r : Result Bits NumTrap) → IsPlain (calculated dest r)
 plain_calculated dest (Ok b) = record { is = tt }
 plain_calculated dest (Err t) = record { is = tt }
 
-plain_extern : (P : Program) (I : Input) (w : World) (call : ExternCall) (values : List ℕ) (dest : Option (List ℕ)) → IsPlain (extern_action P I w call values dest)
+pub plain_extern : (P : Program) (I : Input) (w : World) (call : ExternCall) (values : List ℕ) (dest : Option (List ℕ)) → IsPlain (extern_action P I w call values dest)
 plain_extern P I w calls.ReadI64 values dest = plain_read dest w.left
 plain_extern P I w calls.PrintI64 values dest = record { is = tt }
 plain_extern P I w calls.PmAssert values dest = plain_cond _ _ _ (plain_asserts _ _) (plain_trap traps.Address)
@@ -128,7 +128,7 @@ plain_extern P I w calls.PmemDrain values dest = record { is = tt }
 plain_assigns : (dest : Option (List ℕ)) (v : ℕ) → IsPlain (Assigns dest v)
 plain_assigns dest v = record { is = tt }
 
-plain_load : (P : Program) (I : Input) (w : World) (below : ℕ) (regs : Registers) (dest : List ℕ) (ty : Scalar) (addr : Operand) (align : Option ℕ) → IsPlain (instr_action P I w below regs (Load dest ty addr align))
+pub plain_load : (P : Program) (I : Input) (w : World) (below : ℕ) (regs : Registers) (dest : List ℕ) (ty : Scalar) (addr : Operand) (align : Option ℕ) → IsPlain (instr_action P I w below regs (Load dest ty addr align))
 unfolding instr_action
 plain_load P I w below regs dest ty addr align = plain_accessed P I w _ _ _ _ (plain_assigns (Some dest) _)
 
@@ -171,7 +171,7 @@ instr_at_place P f b k = go (slice_get P.functions f)
     go None = refl
     go (Some x) = block_go (slice_get x.blocks b)
 
-abbrev is_end : Action → Type 0
+abbrev pub is_end : Action → Type 0
 is_end (Traps kind) = Unit {0}
 is_end (Jumps b rs) = Unit {0}
 is_end (Returns v) = Unit {0}
@@ -181,7 +181,7 @@ end_jump : (P : Program) (I : Input) (f : Frame) (o : Option ℕ) → is_end (ju
 end_jump P I f None = tt
 end_jump P I f (Some b) = tt
 
-end_is : (P : Program) (I : Input) (f : Frame) (o : Option End) → is_end (end_action P I f o)
+pub end_is : (P : Program) (I : Input) (f : Frame) (o : Option End) → is_end (end_action P I f o)
 unfolding end_action jump
 end_is P I f None = tt
 end_is P I f (Some (ends.Br label)) = end_jump P I f _

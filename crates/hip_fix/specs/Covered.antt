@@ -14,7 +14,7 @@ use Rattle.hip_step.specs.State.{Frame, StorePart, State}
 use Rattle.hip_step.specs.Step.{run}
 use Rattle.hip_step.specs.Validity.{IsValid}
 
-abbrev is_fence : Option ExternCall → Type 0
+abbrev pub is_fence : Option ExternCall → Type 0
 is_fence (Some calls.Sfence) = Unit {0}
 is_fence (Some calls.Mfence) = Unit {0}
 is_fence _ = ⊥
@@ -24,7 +24,7 @@ IsFenceCall (Some (Call dest ret callee args)) = is_fence (call_of callee)
 IsFenceCall _ = ⊥
 
 -- the function of that name is numbered from a number up
-abbrev is_numbered_from : ℕ → Option ℕ → Type 0
+abbrev pub is_numbered_from : ℕ → Option ℕ → Type 0
 is_numbered_from functions None = ⊥
 is_numbered_from functions (Some f) = functions ≤ f
 
@@ -50,10 +50,18 @@ pub record IsLastBefore (Q : Program) (I : Input) (j n : ℕ) : Type 0 where
   pub same : length (run Q I j).frames ≡ length (run Q I n).frames
   pub between : (i : ℕ) → j < i → i < n → length (run Q I i).frames ≢ length (run Q I n).frames
 
--- Wherever the run stands at a fence behind a call of a clone, each part of a store that the cache lines got from the call on is
--- durable after the fence.
-abbrev pub IsCovered : Program → Program → Type 0
-IsCovered P Q =
-    (I : Input) → IsValid P I → (j n : ℕ) → IsBehindClone Q (length P.functions) (run Q I n) → IsLastBefore Q I j n →
-    (m : ℕ) (l : Line StorePart) → slice_get (run Q I (suc n)).lines m ≡ Some l →
-    (k : ℕ) (p : StorePart) → slice_get l.parts k ≡ Some p → j ≤ p.step → k < l.durable
+-- the state stands at a call of a clone
+pub record IsAtClone (Q : Program) (functions : ℕ) (s : State) : Type 0 where
+  pub frame : Frame
+  pub others : List Frame
+  pub frames : s.frames ≡ frame ∷ others
+  pub call : IsCallFrom Q functions (slice_get (body_at Q frame.function frame.block) frame.place)
+
+-- Wherever the run stands at a fence behind a call of a clone, there is a last state before with as many frames, which stands at
+-- the call; and each part of a store that the cache lines got from the call on is durable after the fence.
+pub record IsCovered (P Q : Program) : Type 0 where
+  pub call : (I : Input) → IsValid P I → (n : ℕ) → IsBehindClone Q (length P.functions) (run Q I n) → (j : ℕ) × IsLastBefore Q I j n × IsAtClone Q (length P.functions) (run Q I j)
+  pub durable :
+      (I : Input) → IsValid P I → (j n : ℕ) → IsBehindClone Q (length P.functions) (run Q I n) → IsLastBefore Q I j n →
+      (m : ℕ) (l : Line StorePart) → slice_get (run Q I (suc n)).lines m ≡ Some l →
+      (k : ℕ) (p : StorePart) → slice_get l.parts k ≡ Some p → j ≤ p.step → k < l.durable

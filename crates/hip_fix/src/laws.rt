@@ -10,6 +10,7 @@ ghost use Rattle.hip_step.specs.declared.input.Input.{Input};
 ghost use Rattle.hip_step.specs.declared.report.Findings.{Findings};
 ghost use Rattle.hip_fix.specs.Choice.{Contains, plan_for};
 ghost use Rattle.hip_fix.specs.Clean.{IsClean};
+ghost use Rattle.hip_fix.specs.Covered.{IsCovered};
 ghost use Rattle.hip_fix.specs.Harmless.{IsHarmless};
 ghost use Rattle.hip_fix.specs.Quiet.{IsQuiet};
 ghost use Rattle.hip_fix.specs.Repaired.{repaired};
@@ -35,4 +36,10 @@ pub fn repaired_is_sound()
     ensures same_region { (P : Program) → (plan : Plan) → (skip : Site → Bool) → region_size (repaired P plan skip) ≡ region_size P }
     ensures same_addresses { (P : Program) → (plan : Plan) → (skip : Site → Bool) → (base : ℕ) → (number : ℕ) →
         address (repaired P plan skip) base number ≡ address P base number }
+{}
+
+/// Behind a call of a clone a fence makes all durable that was stored under the call, where the stores that the clones do
+/// not flush never lie in the region.
+pub fn hoisted_calls_are_covered()
+    ensures { (P : Program) → (plan : Plan) → (skip : Site → Bool) → IsSound P → IsQuiet P skip → IsCovered P (repaired P plan skip) }
 {}

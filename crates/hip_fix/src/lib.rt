@@ -4,5 +4,7 @@
 mod laws;
 mod plan;
 
-pub use laws::{hoisted_calls_are_covered, repaired_is_sound, repairs_are_clean, repairs_do_no_harm};
+pub use laws::{
+    hoisted_calls_are_covered, repaired_is_sound, repairs_are_clean, repairs_do_no_harm,
+};
 pub use plan::{CloneOf, Plan};

@@ -282,6 +282,7 @@ digit_goes_on d h =
     both_true : (a b : Bool) → a ≡ true → b ≡ true → (a && b) ≡ true
     both_true true b e f = f
     both_true false b e f = e
+
     digit_in : (a b c : Bool) → b ≡ true → (a || b || c) ≡ true
     digit_in true true c e = refl
     digit_in false true c e = refl
@@ -296,6 +297,7 @@ digits_go_on (suc fuel) n = by_size (nat_lt n 10) refl (digits_go_on fuel (n / 1
   where
     one_digit : (d : ℕ) → d < 10 → list_all goes_on_name ((48 + d) ∷ []) ≡ true
     one_digit d h = ap (λ b. b && true) (digit_goes_on d h)
+
     by_size : (b : Bool) → nat_lt n 10 ≡ b → list_all goes_on_name (numeral_in fuel (n / 10)) ≡ true → list_all goes_on_name (if b then (48 + n) ∷ [] else numeral_in fuel (n / 10) ++ (48 + n % 10) ∷ []) ≡ true
     by_size true t rest = one_digit n (grind (arith, nat_tests))
     by_size false t rest = all_go_on (numeral_in fuel (n / 10)) ((48 + n % 10) ∷ []) rest (one_digit (n % 10) (omega arith))

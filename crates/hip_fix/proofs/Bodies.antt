@@ -1,5 +1,5 @@
 -- The instructions of a repaired body: each is one of the original's, or it is inserted, and the same registers are assigned before it.
-use Rattle.std.proofs.Common.{◌≡◌, ◌⊎◌, inl, inr, ⊎_elim, ℕ, zero, suc, ◌+◌, Bool, true, false, cond, not, ◌&&◌, ◌||◌, List, [], ◌∷◌, ◌++◌, map, length, take, Option, Some, None, slice_get, refl, sym, ap, ◌∙◌, subst, arith, take_all}
+use Rattle.std.proofs.Common.{◌≡◌, ◌⊎◌, inl, inr, ⊎_elim, ℕ, zero, suc, ◌+◌, Bool, true, false, cond, ◌||◌, List, [], ◌∷◌, ◌++◌, map, length, take, Option, Some, slice_get, refl, sym, ap, ◌∙◌, subst, arith, take_all}
 use Rattle.std.specs.List.{flat_map}
 use Rattle.std.proofs.lemmas.List.{map-append}
 use Rattle.std.proofs.lemmas.List.Concat.{flat_map-append}
@@ -11,7 +11,7 @@ use Rattle.hip_ir.specs.declared.instr.Instr.TheVariants.{Store, Call}
 use Rattle.hip_ir.specs.declared.instr.Operand.{Operand}
 use Rattle.hip_ir.specs.declared.site.Site.{Site}
 use Rattle.hip_step.specs.Operands.{scalar_size}
-use Rattle.hip_typing.specs.Registers.{Register, assigned_by, body_registers, block_registers, phi_registers}
+use Rattle.hip_typing.specs.Registers.{assigned_by, body_registers, block_registers, phi_registers}
 use Rattle.hip_fix.specs.Repaired.{Marked, Clone, Wanted, is_wide, line_flush, range_flush, flush_of, the_fence, renamed, inserted_behind, repaired_body, instrs_of, repaired_block, repaired_blocks}
 use Rattle.hip_fix.proofs.Items.{place_in}
 

@@ -29,7 +29,7 @@ each_at check xs k x h e = subst (λ y. (check k y).Holds) (get_or_from_slice_ge
 
 -- ---- `main`
 
-abbrev HasNumber : List Function → List ℕ → Type 0
+abbrev pub HasNumber : List Function → List ℕ → Type 0
 HasNumber fs name = (j : ℕ) × (number_of (function_names fs) name ≡ Some j)
 
 same_tests : (b c : Bool) → (b ≡ true → c ≡ true) → (c ≡ true → b ≡ true) → b ≡ c
@@ -37,7 +37,7 @@ same_tests true c f g = sym (f refl)
 same_tests false true f g = g refl
 same_tests false false f g = refl
 
-flipped : (xs ys : List ℕ) → bytes_eq xs ys ≡ bytes_eq ys xs
+pub flipped : (xs ys : List ℕ) → bytes_eq xs ys ≡ bytes_eq ys xs
 flipped xs ys =
     same_tests (bytes_eq xs ys) (bytes_eq ys xs) (λ e. (bytes_eq-Decides ys xs).1 (sym ((bytes_eq-Decides xs ys).0 e))) (λ e. (bytes_eq-Decides xs ys).1 (sym ((bytes_eq-Decides ys xs).0 e)))
 
@@ -64,7 +64,7 @@ main_number_of (f ∷ fs) h = by_first (bytes_eq f.name (codes "main")) refl h (
 
 -- ---- calls
 
-extern_at : (es : List Extern) (name : List ℕ) (s : Signature) → extern_of es name ≡ Some s → (k : ℕ) × (e : Extern) × (slice_get es k ≡ Some e) × (e.name ≡ name)
+pub extern_at : (es : List Extern) (name : List ℕ) (s : Signature) → extern_of es name ≡ Some s → (k : ℕ) × (e : Extern) × (slice_get es k ≡ Some e) × (e.name ≡ name)
 extern_at [] name s h = cc
 extern_at (e ∷ es) name s h = by_first (bytes_eq e.name name) refl h (extern_at es name s)
   where
@@ -73,7 +73,7 @@ extern_at (e ∷ es) name s h = by_first (bytes_eq e.name name) refl h (extern_a
     by_first true t g rest = (0, e, refl, (bytes_eq-Decides e.name name).0 t)
     by_first false t g rest = let later = rest g in (suc later.0, later.1, later.2, later.3)
 
-function_at : (fs : List Function) (name : List ℕ) (s : Signature) → function_of fs name ≡ Some s → HasNumber fs name
+pub function_at : (fs : List Function) (name : List ℕ) (s : Signature) → function_of fs name ≡ Some s → HasNumber fs name
 function_at [] name s h = cc
 function_at (f ∷ fs) name s h = by_first (bytes_eq f.name name) refl h (function_at fs name s)
   where
@@ -83,7 +83,7 @@ function_at (f ∷ fs) name s h = by_first (bytes_eq f.name name) refl h (functi
     by_first false t g rest = number_behind f fs name (rest g)
 
 -- a declared external function is of the table
-of_table : (e : Extern) (name : List ℕ) → e.name ≡ name → is_of e (known_signature e.name) ≡ true → (c : ExternCall) × (call_of name ≡ Some c)
+pub of_table : (e : Extern) (name : List ℕ) → e.name ≡ name → is_of e (known_signature e.name) ≡ true → (c : ExternCall) × (call_of name ≡ Some c)
 of_table e name same h = by_call (call_of e.name) (ap call_of (sym same)) h
   where
     by_call : (o : Option ExternCall) → call_of name ≡ o → is_of e (option_map signature o) ≡ true → (c : ExternCall) × (call_of name ≡ Some c)
@@ -94,7 +94,7 @@ pub both_hold : (a b : Bool) → (a && b) ≡ true → (a ≡ true) × (b ≡ tr
 both_hold true b e = (refl, e)
 both_hold false b e = cc
 
-abbrev IsInstrAt : Program → (f b k : ℕ) → Instr → Type 0
+abbrev pub IsInstrAt : Program → (f b k : ℕ) → Instr → Type 0
 IsInstrAt P f b k i = (fn : Function) × (block : Block) × (slice_get P.functions f ≡ Some fn) × (slice_get fn.blocks b ≡ Some block) × (slice_get block.body k ≡ Some i)
 
 pub instr_place : (P : Program) (f b k : ℕ) (i : Instr) → slice_get (body_at P f b) k ≡ Some i → IsInstrAt P f b k i
@@ -108,10 +108,10 @@ instr_place P f b k i h = in_function (slice_get P.functions f) refl h
     in_function None e c = cc
     in_function (Some fn) e c = in_block fn e (slice_get fn.blocks b) refl c
 
-abbrev IsCalled : Program → List ℕ → Type 0
+abbrev pub IsCalled : Program → List ℕ → Type 0
 IsCalled P callee = ((e : ExternCall) × (call_of callee ≡ Some e)) ⊎ ((g : ℕ) × (function_number P callee ≡ Some g))
 
-callee_there : (P : Program) (callee : List ℕ) → (externs_check P).Holds → is_some (callee_of P callee) ≡ true → IsCalled P callee
+pub callee_there : (P : Program) (callee : List ℕ) → (externs_check P).Holds → is_some (callee_of P callee) ≡ true → IsCalled P callee
 callee_there P callee externs h = in_externs (extern_of P.externs callee) refl h
   where
     in_functions : (o : Option Signature) → function_of P.functions callee ≡ o → is_some o ≡ true → IsCalled P callee

@@ -9,6 +9,15 @@ pub mod Bodies
 pub mod Origins
 pub mod Declarations
 pub mod SpelledAgain
+pub mod NamesAgain
+pub mod HeadsAgain
+pub mod InnerAgain
+pub mod CalleesAgain
+pub mod Needed
+pub mod InsertedAgain
+pub mod PlacesAgain
+pub mod AssignedAgain
+pub mod SoundAgain
 pub mod Ahead
 pub mod Inserted
 pub mod Blocks

@@ -1,15 +1,14 @@
 -- The repaired program is spelled.
-use Rattle.std.proofs.Common.{◌≡◌, ◌⊎◌, inl, inr, ⊎_elim, ℕ, zero, suc, ◌+◌, Bool, true, false, cond, not, ◌&&◌, ◌||◌, List, [], ◌∷◌, ◌++◌, map, length, Option, Some, None, slice_get, refl, sym, ap, ◌∙◌, subst, arith}
+use Rattle.std.proofs.Common.{◌≡◌, ⊎_elim, ℕ, suc, ◌+◌, Bool, true, false, cond, ◌||◌, List, [], ◌∷◌, ◌++◌, map, Option, Some, slice_get, refl, sym, ap, ◌∙◌, subst}
 use Rattle.std.specs.List.{list_all}
 use Rattle.std.specs.Str.{bytes_eq}
 use Rattle.std.proofs.lemmas.List.Folds.{list_all-append}
-use Rattle.std.proofs.lemmas.Option.{same_Some, slice_get-map}
 use Rattle.hip_tokens.specs.Longest.{is_name}
 use Rattle.hip_types.specs.Numbers.{bits}
 use Rattle.hip_types.specs.declared.number.Scalar.{Scalar}
-use Rattle.hip_types.specs.declared.number.Scalar.TheVariants.{Int, Ptr}
+use Rattle.hip_types.specs.declared.number.Scalar.TheVariants.{Ptr}
 use Rattle.hip_types.specs.declared.number.Width.TheVariants.{W64}
-use Rattle.hip_ir.specs.Spelling.{not_empty, spelled_int, spelled_scalar_const, spelled_operand, spelled_arg, spelled_instr, spelled_phi, spelled_end, spelled_block, spelled_extern, spelled_param, spelled_function, spelled_program}
+use Rattle.hip_ir.specs.Spelling.{not_empty, spelled_int, spelled_operand, spelled_instr, spelled_block, spelled_extern, spelled_function, spelled_program}
 use Rattle.hip_ir.specs.declared.block.Block.{Block}
 use Rattle.hip_ir.specs.declared.constant.Const.{out-Const}
 use Rattle.hip_ir.specs.declared.constant.Const.TheVariants as consts
@@ -21,11 +20,11 @@ use Rattle.hip_ir.specs.declared.program.Extern.{Extern}
 use Rattle.hip_ir.specs.declared.program.Function.{Function}
 use Rattle.hip_ir.specs.declared.program.Program.{Program}
 use Rattle.hip_ir.specs.declared.site.Site.{Site}
-use Rattle.hip_calls.specs.Fresh.{name_in, name_of, names_taken, fresh_names}
+use Rattle.hip_calls.specs.Fresh.{name_in, name_of, names_taken}
 use Rattle.hip_calls.specs.FreshLaws.{fresh_for-first, candidate-name}
 use Rattle.hip_step.specs.Operands.{scalar_size}
 use Rattle.hip_fix.specs.declared.plan.Plan.{Plan}
-use Rattle.hip_fix.specs.Repaired.{Clone, Wanted, wanted_by, clone_name, clones_from, clones_of, cloned, renamed, is_wide, line_flush, range_flush, flush_of, the_fence, added_externs, repaired, repaired_block, repaired_blocks, repaired_function, repaired_by}
+use Rattle.hip_fix.specs.Repaired.{Clone, Wanted, wanted_by, clone_name, clones_from, clones_of, cloned, renamed, is_wide, line_flush, range_flush, flush_of, added_externs, repaired, repaired_block, repaired_blocks, repaired_function}
 use Rattle.hip_fix.proofs.Bodies.{IsFlushOf, IsOriginal, IsInserted, in_body, inserted_kind, site_at, repaired_instrs}
 use Rattle.hip_fix.proofs.Callable.{both_hold}
 use Rattle.hip_fix.proofs.Clones.{fresh, cloned_is_there}

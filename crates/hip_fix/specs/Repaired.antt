@@ -148,23 +148,23 @@ clones_of P plan = clones_from P (cloned P plan) (fresh_names P (cloned P plan))
 
 -- ---- declarations
 
-abbrev is_call_of : List ℕ → Instr → Bool
+abbrev pub is_call_of : List ℕ → Instr → Bool
 is_call_of name (Call dest ret callee args) = bytes_eq callee name
 is_call_of name _ = false
 
 -- whether an instruction of a body is inserted, and calls that function
-abbrev inserts : List ℕ → List Marked → Bool
+abbrev pub inserts : List ℕ → List Marked → Bool
 inserts name ms = list_any (λ m. m.1 && is_call_of name m.0) ms
 
-abbrev inserts_in : List ℕ → List Clone → Wanted → Bool → ℕ → ℕ → List Block → Bool
+abbrev pub inserts_in : List ℕ → List Clone → Wanted → Bool → ℕ → ℕ → List Block → Bool
 inserts_in name clones w clone f b [] = false
 inserts_in name clones w clone f b (x ∷ xs) = inserts name (repaired_body clones w clone f b 0 x.body) || inserts_in name clones w clone f (suc b) xs
 
-abbrev inserts_from : List ℕ → List Clone → Wanted → ℕ → List Function → Bool
+abbrev pub inserts_from : List ℕ → List Clone → Wanted → ℕ → List Function → Bool
 inserts_from name clones w f [] = false
 inserts_from name clones w f (x ∷ xs) = inserts_in name clones w false f 0 x.blocks || inserts_from name clones w (suc f) xs
 
-abbrev inserts_cloned : List ℕ → Program → List Clone → Wanted → ℕ → Option Function → Bool
+abbrev pub inserts_cloned : List ℕ → Program → List Clone → Wanted → ℕ → Option Function → Bool
 inserts_cloned name P clones w f None = false
 inserts_cloned name P clones w f (Some x) = inserts_in name clones w true f 0 x.blocks
 

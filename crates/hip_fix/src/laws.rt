@@ -2,6 +2,7 @@
 
 ghost use Rattle.hip_ir.specs.declared.program.Program.{Program};
 ghost use Rattle.hip_ir.specs.declared.site.Site.{Site};
+ghost use Rattle.hip_typing.specs.Addresses.{address, region_size};
 ghost use Rattle.hip_typing.specs.Sound.{IsSound};
 ghost use Rattle.hip_step.specs.Marks.{IsFound};
 ghost use Rattle.hip_step.specs.Validity.{IsValid};
@@ -14,7 +15,7 @@ ghost use Rattle.hip_fix.specs.Harmless.{IsHarmless};
 ghost use Rattle.hip_fix.specs.Quiet.{IsQuiet};
 ghost use Rattle.hip_fix.specs.Repaired.{repaired};
 ghost use Rattle.hip_fix.specs.declared.plan.Plan.{Plan};
-ghost use Rattle.std.specs.Prelude.{Bool};
+ghost use Rattle.std.specs.Prelude.{Bool, ℕ, ◌≡◌};
 
 /// A repair does no harm, by whatever plan, and whatever stores the clones do not flush.
 pub fn repairs_do_no_harm()
@@ -27,6 +28,14 @@ pub fn repairs_are_clean()
     ensures { (P : Program) → (plan : Plan) → (skip : Site → Bool) → (I : Input) → (found : Findings) →
         IsSound P → IsValid P I → IsQuiet P skip → IsFound P I found → Contains plan (plan_for P found) →
         IsClean (repaired P plan skip) I }
+{}
+
+/// The repaired program is sound again, by whatever plan. The region's size and all addresses are what they were.
+pub fn repaired_is_sound()
+    ensures sound { (P : Program) → (plan : Plan) → (skip : Site → Bool) → IsSound P → IsSound (repaired P plan skip) }
+    ensures same_region { (P : Program) → (plan : Plan) → (skip : Site → Bool) → region_size (repaired P plan skip) ≡ region_size P }
+    ensures same_addresses { (P : Program) → (plan : Plan) → (skip : Site → Bool) → (base : ℕ) → (number : ℕ) →
+        address (repaired P plan skip) base number ≡ address P base number }
 {}
 
 /// Behind a call of a clone a fence makes all durable that was stored under the call, where the stores that the clones do

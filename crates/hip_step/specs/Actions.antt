@@ -195,10 +195,10 @@ instr_action P I w below rs (Cast dest op from a to) = Assigns (Some dest) (cast
 instr_action P I w below rs (Alloca dest ty align) = allocated w dest (shape ty).size (shape ty).align
 instr_action P I w below rs (Load dest ty addr align) =
     accessed P I w (value_of P.globals I.base rs addr) (scalar_size ty) (access_align ty align)
-        (Assigns (Some dest) (read_value ty (bytes_at (memory_of P I w) (value_of P.globals I.base rs addr) (scalar_size ty))))
+    (Assigns (Some dest) (read_value ty (bytes_at (memory_of P I w) (value_of P.globals I.base rs addr) (scalar_size ty))))
 instr_action P I w below rs (Store ty value addr align) =
     accessed P I w (value_of P.globals I.base rs addr) (scalar_size ty) (access_align ty align)
-        (Stores (value_of P.globals I.base rs addr) (bytes_of (scalar_size ty) (value_of P.globals I.base rs value)))
+    (Stores (value_of P.globals I.base rs addr) (bytes_of (scalar_size ty) (value_of P.globals I.base rs value)))
 instr_action P I w below rs (Gep dest inbounds ty base indices) =
     Assigns (Some dest) (gep_value ty (value_of P.globals I.base rs base) (index_values P.globals I.base rs indices))
 instr_action P I w below rs (Call dest ret callee args) = call_action P I w below (call_of callee) callee (values_of P.globals I.base rs args) dest

@@ -38,8 +38,8 @@ abbrev pub loose_from : ℕ → ℕ → ℕ → ℕ → ℕ → ℕ → List Sto
 loose_from o n made durable flushed k [] = []
 loose_from o n made durable flushed k (p ∷ later) =
     cond (nat_eq p.step made && (nat_le durable k && is_last o n p later))
-        (record { part = p; flushed = nat_lt k flushed } ∷ loose_from o n made durable flushed (suc k) later)
-        (loose_from o n made durable flushed (suc k) later)
+    (record { part = p; flushed = nat_lt k flushed } ∷ loose_from o n made durable flushed (suc k) later)
+    (loose_from o n made durable flushed (suc k) later)
 
 abbrev pub loose_in : ℕ → ℕ → ℕ → Line StorePart → List LoosePart
 loose_in o n made l = loose_from o n made l.durable l.flushed 0 l.parts

@@ -24,7 +24,7 @@ pub use status::{FileRole, ProgramRefusal, Status, TrapKind};
 pub use words::{Order, WordsRefusal, read_words};
 
 #[cfg(test)]
-mod refusals;
+mod soundness;
 #[cfg(test)]
 mod tests;
 #[cfg(test)]

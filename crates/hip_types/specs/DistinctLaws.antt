@@ -76,7 +76,7 @@ module _ {A : Type 0} {same : A → A → Bool} (laws : IsEquivalence same) wher
   met-second q xs [] e = cc
   met-second q xs (y ∷ ys) e =
       ⊎_elim (λ t. met-first q (cond (list_any (same y) xs) xs (xs ++ y ∷ [])) ys (added (list_any (same y) xs) refl t))
-          (λ f. met-second q (cond (list_any (same y) xs) xs (xs ++ y ∷ [])) ys f) (either (same q y) _ e)
+      (λ f. met-second q (cond (list_any (same y) xs) xs (xs ++ y ∷ [])) ys f) (either (same q y) _ e)
     where
       added : (b : Bool) → list_any (same y) xs ≡ b → same q y ≡ true → list_any (same q) (cond b xs (xs ++ y ∷ [])) ≡ true
       added true e t = list_any_congr laws q y xs t ∙ e

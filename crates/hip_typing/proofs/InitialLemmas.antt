@@ -114,14 +114,14 @@ named_alike P base ns vs stands = fun_ext (λ name.
 
 -- ---- how many bytes they are
 
-length-sized : (size : ℕ) (bytes : List ℕ) → length (sized size bytes) ≡ size
+pub length-sized : (size : ℕ) (bytes : List ℕ) → length (sized size bytes) ≡ size
 length-sized size bytes = omega (arith, length-append (take size bytes) (replicate (size - length bytes) 0), length-take size bytes, length-replicate {A = ℕ} (size - length bytes) 0)
 
-length-aligned : (start align : ℕ) (bytes : List ℕ) → start + length (aligned start align bytes) ≡ next_multiple_of (start + length bytes) align
+pub length-aligned : (start align : ℕ) (bytes : List ℕ) → start + length (aligned start align bytes) ≡ next_multiple_of (start + length bytes) align
 length-aligned start align bytes =
     omega (arith, length-append bytes (replicate (next_multiple_of (start + length bytes) align - (start + length bytes)) 0), length-replicate {A = ℕ} (next_multiple_of (start + length bytes) align - (start + length bytes)) 0)
 
-length_more : (b : Bool) (a : List ℕ → ℕ) (start : ℕ) (so_far : List ℕ) (g : GlobalVar) →
+pub length_more : (b : Bool) (a : List ℕ → ℕ) (start : ℕ) (so_far : List ℕ) (g : GlobalVar) →
     start + length (if b then aligned start (global_align g) so_far ++ constant_bytes a g.init g.ty else so_far) ≡ (if b then global_start (start + length so_far) g + size_of g.ty else start + length so_far)
 length_more true a start so_far g =
     omega (arith, length-append (aligned start (global_align g) so_far) (constant_bytes a g.init g.ty), length-aligned start (global_align g) so_far, length-sized (size_of g.ty) (written a g.init).bytes)

@@ -21,3 +21,4 @@ pub mod AddressLists
 pub mod ByteLists
 pub mod ConstantParts
 pub mod InitialLemmas
+pub mod HeldLemmas

@@ -22,6 +22,7 @@ pub mod AssignedSeen
 pub mod Initial
 pub mod AddressesSeen
 pub mod InitialSeen
+pub mod Held
 pub mod Sound
 pub mod SoundLaws
 pub mod ConstLaws

@@ -26,14 +26,14 @@ number_of-cons x xs name = placed (bytes_eq name x) _ (length xs)
 at_first : (b : Bool) (name x : List ℕ) (xs : List (List ℕ)) → bytes_eq name x ≡ b → number_of (x ∷ xs) name ≡ cond b (Some 0) (option_map suc (number_of xs name))
 at_first b name x xs e = number_of-cons x xs name ∙ ap (λ t. cond t (Some 0) (option_map suc (number_of xs name))) e
 
-abbrev IsHere : (x name : List ℕ) → ℕ → Type 0
+abbrev pub IsHere : (x name : List ℕ) → ℕ → Type 0
 IsHere x name k = (k ≡ 0) × (x ≡ name) × (bytes_eq name x ≡ true)
 
-abbrev IsLater : (x : List ℕ) (xs : List (List ℕ)) (name : List ℕ) → ℕ → Type 0
+abbrev pub IsLater : (x : List ℕ) (xs : List (List ℕ)) (name : List ℕ) → ℕ → Type 0
 IsLater x xs name k = (j : ℕ) × (bytes_eq name x ≡ false) × (number_of xs name ≡ Some j) × (k ≡ suc j)
 
 -- the name that has a number is the first one, or it has a number among the rest
-number_cases : (x : List ℕ) (xs : List (List ℕ)) (name : List ℕ) (k : ℕ) → number_of (x ∷ xs) name ≡ Some k → IsHere x name k ⊎ IsLater x xs name k
+pub number_cases : (x : List ℕ) (xs : List (List ℕ)) (name : List ℕ) (k : ℕ) → number_of (x ∷ xs) name ≡ Some k → IsHere x name k ⊎ IsLater x xs name k
 number_cases x xs name k e = by_first (bytes_eq name x) refl
   where
     behind : (o : Option ℕ) → number_of xs name ≡ o → bytes_eq name x ≡ false → option_map suc o ≡ Some k → IsHere x name k ⊎ IsLater x xs name k

@@ -1,8 +1,9 @@
-ghost use Rattle.std.specs.Prelude.{◌≡◌, ◌<◌, length};
+ghost use Rattle.std.specs.Prelude.{◌≡◌, ◌+◌, ◌<◌, length, IfOk};
 ghost use Rattle.hip_typing.specs.Addresses as spec;
 ghost use Rattle.hip_typing.specs.Addresses.{IsBase};
 ghost use Rattle.hip_typing.specs.Checks.{Checks};
 ghost use Rattle.hip_typing.specs.Given.{CallsAgree, OperandsAgree, LabelsExist, PhisAgree, HasMain};
+ghost use Rattle.hip_typing.specs.Initial as initial;
 ghost use Rattle.hip_typing.specs.Names as names;
 ghost use Rattle.hip_typing.specs.Numbering.{function_names, function_number};
 ghost use Rattle.hip_typing.specs.Sound.{IsSound};
@@ -10,9 +11,11 @@ ghost use Rattle.hip_typing.specs.Sound.{IsSound};
 use crate::addresses::{address, region_size};
 use crate::assigned_functions::check_assigned;
 use crate::fault::{Place, TypeFault, TypeRefusal};
+use crate::initial_bytes::{region_bytes, volatile_bytes};
 use crate::refusal::{refusal_of, refusal_on_paths};
 use crate::rules::check_rules;
 use hip_ir::{Function, Program, spelled};
+use hip_types::{NoMemory, Row};
 use std::alloc::Global;
 use std::marker::Model;
 
@@ -74,6 +77,24 @@ impl Checked {
         ensures { result ≡ spec.address self.now base global }
     {
         address(&self.program, base, global)
+    }
+
+    /// The bytes that the region has before a run, from a base on: those of the initialisers, with zeros between them.
+    pub fn region_bytes(&self, alloc: Global, base: u64) -> Result<Row<u8>, NoMemory>
+        requires { IsBase base }
+        ensures bytes { IfOk result (λ bytes. bytes ≡ initial.region_bytes self.now base) }
+        ensures length { IfOk result (λ bytes. length bytes ≡ spec.region_size self.now) }
+    {
+        region_bytes(alloc, &self.program, base)
+    }
+
+    /// The bytes that the volatile globals have before a run, where the region begins at a base.
+    pub fn volatile_bytes(&self, alloc: Global, base: u64) -> Result<Row<u8>, NoMemory>
+        requires { IsBase base }
+        ensures bytes { IfOk result (λ bytes. bytes ≡ initial.volatile_bytes self.now base) }
+        ensures length { IfOk result (λ bytes. spec.volatile_start + length bytes ≡ spec.volatile_end self.now) }
+    {
+        volatile_bytes(alloc, &self.program, base)
     }
 
     /// The number of the function of that name, if there is one. It takes time linear in the number of functions.

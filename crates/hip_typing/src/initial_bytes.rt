@@ -1,6 +1,7 @@
 ghost use Rattle.std.specs.Prelude.{◌≡◌, ◌<◌, ◌+◌, ◌^◌, ◌++◌, ◌∷◌, [], true, false, length, IfOk, OnOk};
 ghost use Rattle.hip_typing.specs.Addresses.{end_of, global_align, region_size, volatile_start, volatile_end};
 ghost use Rattle.hip_typing.specs.Constants.{types_in};
+ghost use Rattle.hip_typing.specs.Held.{HoldsGlobals};
 ghost use Rattle.hip_typing.specs.Initial as spec;
 ghost use Rattle.hip_typing.specs.Initial.{aligned, constant_bytes};
 ghost use Rattle.hip_typing.specs.InitialSeen.{AllFit, GlobalsFit, named_in};
@@ -62,6 +63,7 @@ pub fn volatile_bytes(alloc: Global, program: &Program, base: u64) -> Result<Row
     requires volatile { volatile_end program.now < 2 ^ 64 }
     ensures bytes { IfOk result (λ bytes. bytes ≡ spec.volatile_bytes program.now base) }
     ensures length { IfOk result (λ bytes. volatile_start + length bytes ≡ volatile_end program.now) }
+    ensures held { IfOk result (λ bytes. HoldsGlobals program.now base false volatile_start bytes) }
 {
     let globals = program.globals.as_slice();
     let addresses = address_table(alloc, globals, base)?;
@@ -76,6 +78,7 @@ pub fn region_bytes(alloc: Global, program: &Program, base: u64) -> Result<Row<u
     requires volatile { volatile_end program.now < 2 ^ 64 }
     ensures bytes { IfOk result (λ bytes. bytes ≡ spec.region_bytes program.now base) }
     ensures length { IfOk result (λ bytes. length bytes ≡ region_size program.now) }
+    ensures held { IfOk result (λ bytes. HoldsGlobals program.now base true 0 bytes) }
 {
     let globals = program.globals.as_slice();
     let addresses = address_table(alloc, globals, base)?;

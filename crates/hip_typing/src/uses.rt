@@ -1,4 +1,6 @@
 ghost use Rattle.std.specs.Prelude.{◌≡◌, [], ◌∷◌};
+ghost use Rattle.hip_types.specs.declared.number.Scalar.TheVariants.{Int, Ptr};
+ghost use Rattle.hip_types.specs.declared.number.Width.TheVariants.{W1};
 ghost use Rattle.hip_typing.specs.Registers.{uses, arg_uses, instr_uses, end_uses};
 ghost use Rattle.hip_typing.specs.UsesSeen.{uses_seen};
 
@@ -61,6 +63,36 @@ impl<'a> Uses<'a> {
         }
     }
 
+    /// What a choice of one of two operands uses.
+    fn choice(cond: &'a Operand, a: &'a Operand, b: &'a Operand, ty: Scalar) -> Uses<'a>
+        ensures { uses_seen result ≡ uses cond.now (Int W1) ∷ uses a.now ty ∷ uses b.now ty ∷ [] }
+    {
+        Uses {
+            first: Some(OperandUse {
+                operand: cond,
+                ty: Scalar::Int(Width::W1),
+            }),
+            second: Some(OperandUse { operand: a, ty }),
+            third: Some(OperandUse { operand: b, ty }),
+            args: &[],
+        }
+    }
+
+    /// What an address with indices uses.
+    fn address(base: &'a Operand, indices: &'a [Arg]) -> Uses<'a>
+        ensures { uses_seen result ≡ uses base.now Ptr ∷ arg_uses indices.now }
+    {
+        Uses {
+            first: Some(OperandUse {
+                operand: base,
+                ty: Scalar::Ptr,
+            }),
+            second: None,
+            third: None,
+            args: indices,
+        }
+    }
+
     /// What an instruction uses.
     pub fn of_instr(instr: &'a Instr) -> Uses<'a>
         ensures { uses_seen result ≡ instr_uses instr.now }
@@ -71,21 +103,7 @@ impl<'a> Uses<'a> {
                 Uses::two(a, ty, b, ty)
             }
             Instr::Compare { ty, a, b, .. } => Uses::two(a, *ty, b, *ty),
-            Instr::Select { cond, ty, a, b, .. } => Uses {
-                first: Some(OperandUse {
-                    operand: cond,
-                    ty: Scalar::Int(Width::W1),
-                }),
-                second: Some(OperandUse {
-                    operand: a,
-                    ty: *ty,
-                }),
-                third: Some(OperandUse {
-                    operand: b,
-                    ty: *ty,
-                }),
-                args: &[],
-            },
+            Instr::Select { cond, ty, a, b, .. } => Uses::choice(cond, a, b, *ty),
             Instr::Cast { from, a, .. } => Uses::one(a, *from),
             Instr::Alloca { .. } => Uses::of_args(&[]),
             Instr::Load { addr, .. } => Uses::one(addr, Scalar::Ptr),
@@ -95,15 +113,7 @@ impl<'a> Uses<'a> {
                 addr,
                 ..
             } => Uses::two(value, *ty, addr, Scalar::Ptr),
-            Instr::Gep { base, indices, .. } => Uses {
-                first: Some(OperandUse {
-                    operand: base,
-                    ty: Scalar::Ptr,
-                }),
-                second: None,
-                third: None,
-                args: indices.as_slice(),
-            },
+            Instr::Gep { base, indices, .. } => Uses::address(base, indices.as_slice()),
             Instr::Call { args, .. } => Uses::of_args(args.as_slice()),
         }
     }

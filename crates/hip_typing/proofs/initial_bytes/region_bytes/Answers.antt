@@ -2,6 +2,7 @@ use Rattle.std.proofs.Common.{◌≡◌, true, length, ap, ◌∙◌}
 use Rattle.hip_typing.specs.Initial.{aligned, region_bytes}
 use Rattle.hip_typing.specs.SoundLaws.{globals-fit}
 use Rattle.hip_typing.proofs.ByteLists.{aligned_whole}
+use Rattle.hip_typing.proofs.HeldLemmas.{region_holds}
 use Rattle.hip_typing.proofs.InitialLemmas.{globals_fit, laid_alike, length-region}
 use Rattle.hip_typing.proofs.initial_bytes.region_bytes.Goals as goal
 
@@ -26,3 +27,6 @@ returns-clause-length c =
     ∙ ap (λ bytes. aligned 0 64 bytes)
     (c.in_ok-bytes.ensures ∙ laid_alike c.args.program.now c.args.base table.names table.values c.as_slice-globals.result.now true 0 c.in_ok-addresses.ensures c.as_slice-globals.ensures) in
     ap length e ∙ length-region c.args.program.now c.args.base
+
+pub returns-clause-held : goal.returns-clause-held
+returns-clause-held c = region_holds c.args.program.now c.args.base c.set_align.new.bytes (returns-clause-bytes c)

@@ -3,6 +3,7 @@ use Rattle.hip_typing.specs.Addresses.{volatile_start}
 use Rattle.hip_typing.specs.Initial.{laid_bytes, volatile_bytes}
 use Rattle.hip_typing.specs.InitialSeen.{named_in}
 use Rattle.hip_typing.specs.SoundLaws.{globals-fit}
+use Rattle.hip_typing.proofs.HeldLemmas.{volatile_holds}
 use Rattle.hip_typing.proofs.InitialLemmas.{globals_fit, laid_alike, volatile_length}
 use Rattle.hip_typing.proofs.initial_bytes.volatile_bytes.Goals as goal
 
@@ -25,3 +26,6 @@ returns-clause-length c =
     let e : laid_bytes (named_in table.names table.values) false volatile_start [] c.as_slice-globals.result.now ≡ volatile_bytes c.args.program.now c.args.base =
     laid_alike c.args.program.now c.args.base table.names table.values c.as_slice-globals.result.now false volatile_start c.in_ok-addresses.ensures c.as_slice-globals.ensures in
     volatile_length c.args.program.now c.args.base c.laid_bytes.result _ e c.laid_bytes.ensures
+
+pub returns-clause-held : goal.returns-clause-held
+returns-clause-held c = volatile_holds c.args.program.now c.args.base c.laid_bytes.result (returns-clause-bytes c)

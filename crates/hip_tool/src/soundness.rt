@@ -490,3 +490,31 @@ fn addresses_of_globals(rt: HostRuntime) -> Result<(), Fail> {
     );
     Ok(())
 }
+
+const INITIALISED: &str = "@a = global { i8, i16 } { i8 1, i16 513 }
+@p = global [2 x i16] [i16 -1, i16 2], section \".pm\"
+@b = global ptr @a
+@q = global ptr getelementptr ({ i8, i32 }, ptr @p, i64 1, i32 1), section \".pm\"
+define i32 @main() {
+entry:
+  ret i32 0
+}
+";
+
+#[test]
+fn initial_bytes(rt: HostRuntime) -> Result<(), Fail> {
+    let checked = checked(&rt, INITIALISED)?;
+    let base = 4_294_967_296;
+    let volatile = checked.volatile_bytes(rt.alloc(), base)?;
+    assert_eq!(rt;
+        volatile.as_slice(),
+        [1, 0, 1, 2, 0, 0, 0, 0, 0, 0, 1, 0, 0, 0, 0, 0].as_slice()
+    );
+    let region = checked.region_bytes(rt.alloc(), base)?;
+    assert_eq!(rt; region.len(), 64);
+    let first = [255, 255, 2, 0, 0, 0, 0, 0, 12, 0, 0, 0, 1, 0, 0, 0];
+    assert!(rt; region.as_slice().starts_with(first.as_slice()));
+    let others = region.as_slice().iter().filter(|byte| **byte != 0).count();
+    assert_eq!(rt; others, 5);
+    Ok(())
+}

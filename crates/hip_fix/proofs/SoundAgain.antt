@@ -1,0 +1,26 @@
+-- The repaired program is sound again.
+use Rattle.std.proofs.Common.{Bool}
+use Rattle.hip_ir.specs.SpellingExact.{spelled_exact}
+use Rattle.hip_ir.specs.declared.program.Program.{Program}
+use Rattle.hip_ir.specs.declared.site.Site.{Site}
+use Rattle.hip_typing.specs.Sound.{IsSound}
+use Rattle.hip_fix.specs.declared.plan.Plan.{Plan}
+use Rattle.hip_fix.specs.Repaired.{repaired}
+use Rattle.hip_fix.proofs.AssignedAgain.{all_assigned_again}
+use Rattle.hip_fix.proofs.HeadsAgain.{names_again, externs_again, main_again}
+use Rattle.hip_fix.proofs.InnerAgain.{registers_again}
+use Rattle.hip_fix.proofs.PlacesAgain.{places_again}
+use Rattle.hip_fix.proofs.SpelledAgain.{spelled_again}
+
+pub sound_again : (P : Program) (plan : Plan) (skip : Site → Bool) → IsSound P → IsSound (repaired P plan skip)
+sound_again P plan skip sound = record {
+  spelled = (spelled_exact (repaired P plan skip)).0 (spelled_again P plan skip ((spelled_exact P).1 sound.spelled));
+  names = names_again P plan skip sound;
+  globals = sound.globals;
+  externs = externs_again P plan skip sound;
+  sizes = sound.sizes;
+  main = main_again P plan skip sound;
+  registers = registers_again P plan skip sound;
+  places = places_again P plan skip sound;
+  assigned = all_assigned_again P plan skip sound;
+}

@@ -1,0 +1,19 @@
+use Rattle.std.proofs.Common.{◌≡◌, ◌+◌, true, arith, sym, ap, ◌∙◌}
+use Rattle.hip_typing.specs.Addresses.{end_of}
+use Rattle.hip_typing.specs.AddressLaws.{spelled-divide, end_of-from}
+use Rattle.hip_typing.specs.SoundLaws.{persistent-end, volatile-end}
+use Rattle.hip_typing.proofs.checked.Checked.region_bytes.Goals as goal
+
+pub region_bytes-requires-clause-globals : goal.region_bytes-requires-clause-globals
+region_bytes-requires-clause-globals c = c.self.invariant.globals
+
+pub region_bytes-requires-clause-persistent : goal.region_bytes-requires-clause-persistent
+region_bytes-requires-clause-persistent c =
+    let P = c.self.inside.program in
+    let none : c.args.base + 0 ≡ c.args.base = omega arith in
+    let moved = end_of-from true c.args.base 0 P.globals c.requires.page (spelled-divide P c.self.invariant.spelled) in
+    let end : end_of true c.args.base P.globals ≡ c.args.base + end_of true 0 P.globals = sym (ap (λ n. end_of true n P.globals) none) ∙ moved in
+    omega (arith, end, persistent-end P c.self.invariant.sizes, c.requires.high)
+
+pub region_bytes-requires-clause-volatile : goal.region_bytes-requires-clause-volatile
+region_bytes-requires-clause-volatile c = omega (arith, volatile-end c.self.inside.program c.self.invariant.sizes)

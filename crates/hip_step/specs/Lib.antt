@@ -14,3 +14,4 @@ pub mod Parts
 pub mod History
 pub mod PartLaws
 pub mod HistoryLaws
+pub mod Ends

@@ -3,8 +3,10 @@
 
 mod event;
 mod input;
+mod laws;
 mod report;
 
 pub use event::{Ending, Event, Object, TrapKind};
 pub use input::{Input, InputFault};
+pub use laws::{parts_carry_their_history, runs_end};
 pub use report::{Findings, Kind, Mark, Marks, Report};

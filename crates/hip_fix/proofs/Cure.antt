@@ -1,31 +1,27 @@
 -- A plan that has what was reported leaves nothing to report.
-use Rattle.std.proofs.Common.{◌≡◌, ◌⊎◌, inl, inr, ℕ, zero, suc, ◌+◌, ◌-◌, ◌<◌, ◌≤◌, Bool, true, false, cond, not, ◌&&◌, ◌||◌, nat_lt, nat_le, nat_eq, List, [], ◌∷◌, ◌++◌, map, length, Option, Some, None, slice_get, option_map, refl, sym, ap, ap₂, ◌∙◌, subst, arith, le-leb, leb-true}
-use Rattle.std.specs.Prelude.{ℤ}
-use Rattle.std.specs.List.{flat_map, list_any, list_all, filter, range_with_len}
+use Rattle.std.proofs.Common.{◌≡◌, ◌⊎◌, inl, inr, ℕ, zero, suc, ◌+◌, ◌<◌, ◌≤◌, Bool, true, false, cond, not, ◌&&◌, ◌||◌, nat_lt, nat_le, nat_eq, List, [], ◌∷◌, ◌++◌, map, length, Option, Some, None, slice_get, refl, sym, ap, ap₂, ◌∙◌, subst, arith, le-leb, leb-true}
+use Rattle.std.specs.List.{list_any, range_with_len}
 use Rattle.std.proofs.lemmas.Bool.Decides.{nat_tests}
-use Rattle.hip_ir.specs.Sites.{instr_of, same_site, has_site, sites_of}
+use Rattle.hip_ir.specs.Sites.{instr_of, has_site}
 use Rattle.hip_ir.specs.declared.instr.Instr.{Instr}
 use Rattle.hip_ir.specs.declared.program.Program.{Program}
 use Rattle.hip_ir.specs.declared.site.Site.{Site}
 use Rattle.hip_lines.specs.Line.{Line}
-use Rattle.hip_step.specs.declared.input.Input.{Input}
 use Rattle.hip_step.specs.declared.report.Findings.{Findings}
-use Rattle.hip_step.specs.declared.report.Kind.{Kind}
-use Rattle.hip_step.specs.declared.report.Kind.TheVariants.{MissingFlush, MissingFence, MissingBoth}
 use Rattle.hip_step.specs.declared.report.Report.{Report}
 use Rattle.hip_step.specs.Crash.{covers}
-use Rattle.hip_step.specs.History.{HasHistory, IsSplit}
+use Rattle.hip_step.specs.History.{HasHistory}
 use Rattle.hip_step.specs.Parts.{In, PartOf}
 use Rattle.hip_step.specs.PartLaws.{in-append, append-left, append-right}
-use Rattle.hip_step.specs.Reports.{LoosePart, Range, shows, is_last, loose_from, loose_in, loose_parts, kind_of, all_flushed, latest_flush, later_flush, is_open, closed_count, report_by, report_of, check_reports, reports, next_check}
+use Rattle.hip_step.specs.Reports.{LoosePart, Range, shows, is_last, loose_from, loose_in, loose_parts, all_flushed, latest_flush, later_flush, is_open, closed_count, report_by, report_of, check_reports}
 use Rattle.hip_step.specs.State.{Level, Flush, StorePart, State, levels_of}
 use Rattle.hip_fix.specs.declared.plan.Plan.{Plan}
 use Rattle.hip_fix.specs.Choice.{Contains, choice, plan_for, best_on, site_at, asks_flush, asks_fence, asks_hoist}
 use Rattle.hip_fix.specs.Harmless.{Content}
-use Rattle.hip_fix.proofs.Asked.{same_site-refl, has_flush, has_fence, has_hoist, IsLevel, best_on_is, IsReturned, returned_at, in_open, in_range, in_flat}
+use Rattle.hip_fix.proofs.Asked.{same_site-refl, has_flush, has_fence, has_hoist, IsLevel, best_on_is, returned_at, in_open, in_range, in_flat}
 use Rattle.hip_fix.proofs.Ahead.{Ahead}
 use Rattle.hip_fix.proofs.Facts.{Lines, Known}
-use Rattle.hip_fix.proofs.Kept.{Safe, AllSafe, Kept, AllKept}
+use Rattle.hip_fix.proofs.Kept.{Safe, AllSafe, AllKept}
 
 -- ---- the latest of the first flushes
 

@@ -1,19 +1,18 @@
 -- A repaired program's run on the input has nothing to report.
-use Rattle.std.proofs.Common.{◌≡◌, ◌⊎◌, inl, inr, ℕ, zero, suc, ◌+◌, ◌<◌, ◌≤◌, Bool, true, false, cond, List, [], ◌∷◌, ◌++◌, Option, Some, None, refl, sym, ap, ap₂, ◌∙◌, subst, arith}
+use Rattle.std.proofs.Common.{◌≡◌, ◌⊎◌, inl, inr, ℕ, zero, suc, ◌+◌, Bool, true, false, cond, List, [], ◌∷◌, ◌++◌, Option, Some, None, refl, sym, ap, ap₂, ◌∙◌, subst, arith}
 use Rattle.std.specs.Prelude.{is_some}
 use Rattle.std.specs.List.{flat_map, range_with_len}
 use Rattle.hip_ir.specs.declared.program.Program.{Program}
 use Rattle.hip_ir.specs.declared.site.Site.{Site}
 use Rattle.hip_typing.specs.Sound.{IsSound}
 use Rattle.hip_step.specs.declared.event.Ending.{Ending}
-use Rattle.hip_step.specs.declared.event.Event.{Event}
 use Rattle.hip_step.specs.declared.input.Input.{Input}
 use Rattle.hip_step.specs.declared.report.Findings.{Findings}
 use Rattle.hip_step.specs.declared.report.Report.{Report}
 use Rattle.hip_step.specs.Marks.{IsFound}
 use Rattle.hip_step.specs.Parts.{In}
 use Rattle.hip_step.specs.PartLaws.{append-left, append-right}
-use Rattle.hip_step.specs.Reports.{Range, checked_by, next_check, loose_parts, report_of, check_reports, reports}
+use Rattle.hip_step.specs.Reports.{Range, checked_by, next_check, report_of, check_reports, reports}
 use Rattle.hip_step.specs.State.{Level, World, State, levels_of}
 use Rattle.hip_step.specs.Step.{event, step, on_ending, run, has_ended}
 use Rattle.hip_step.specs.Validity.{IsValid}

@@ -1,5 +1,5 @@
 -- A step of both programs has the same event, and a step of an inserted instruction checks nothing.
-use Rattle.std.proofs.Common.{◌≡◌, ℕ, zero, suc, Bool, true, false, cond, not, ◌&&◌, ◌||◌, nat_lt, List, [], ◌∷◌, ◌++◌, map, length, drop, Option, Some, None, slice_get, refl, sym, ap, ap₂, ◌∙◌, subst}
+use Rattle.std.proofs.Common.{◌≡◌, ℕ, Bool, true, false, cond, not, ◌||◌, nat_lt, List, [], ◌∷◌, ◌++◌, length, drop, Option, Some, None, slice_get, refl, sym, ap, ◌∙◌, subst}
 use Rattle.std.specs.List.{drop-map}
 use Rattle.hip_types.specs.declared.number.Scalar.{Scalar}
 use Rattle.hip_ir.specs.Sites.{has_site}
@@ -16,23 +16,23 @@ use Rattle.hip_typing.specs.declared.externs.ExternCall.{ExternCall}
 use Rattle.hip_step.specs.declared.event.Event.{Event}
 use Rattle.hip_step.specs.declared.event.Event.TheVariants as events
 use Rattle.hip_step.specs.declared.event.Ending.{Ending}
-use Rattle.hip_step.specs.declared.event.Ending.TheVariants.{Stop, Trap, Cut}
+use Rattle.hip_step.specs.declared.event.Ending.TheVariants.{Cut}
 use Rattle.hip_step.specs.declared.event.TrapKind.TheVariants as traps
 use Rattle.hip_step.specs.declared.input.Input.{Input}
-use Rattle.hip_step.specs.Actions.{Action, Traps, Assigns, Allocates, Stores, Flushes, Persists, Fences, Asserts, Prints, Reads, Calls, Jumps, Returns, Deed, in_region, accessed, allocated, entered, call_action, extern_action, instr_action, end_action, is_turn, is_flush_or_fence, deed_of}
+use Rattle.hip_step.specs.Actions.{Action, Traps, Assigns, Allocates, Stores, Flushes, Persists, Fences, Asserts, Prints, Reads, Calls, Jumps, Returns, Deed, accessed, allocated, entered, call_action, extern_action, instr_action, end_action, is_turn, is_flush_or_fence, deed_of}
 use Rattle.hip_step.specs.Operands.{values_of, bound}
 use Rattle.hip_step.specs.Persistence.{flushes_lines}
 use Rattle.hip_step.specs.Places.{body_at, code_at, end_at}
-use Rattle.hip_step.specs.Reports.{Range, checked_by, next_check}
+use Rattle.hip_step.specs.Reports.{checked_by}
 use Rattle.hip_step.specs.State.{Registers, Slot, Level, Flush, Frame, World, Counts, State, level_list, levels_of, site_of}
-use Rattle.hip_step.specs.Step.{state, is_bottom, is_cut, deed_at, event_of, event_at, event_on_ending, event, has_ended}
+use Rattle.hip_step.specs.Step.{state, is_bottom, is_cut, deed_at, event_of, event_at, event_on_ending, event}
 use Rattle.hip_fix.specs.declared.plan.Plan.{Plan}
 use Rattle.hip_fix.specs.Harmless.{marked_body, marked_at, is_inserted, inserted_on, stands_inserted}
-use Rattle.hip_fix.specs.Repaired.{Marked, the_fence, renamed, clone_name, wanted_by, clones_of, repaired, instrs_of, repaired_body}
+use Rattle.hip_fix.specs.Repaired.{Marked, renamed, clone_name, wanted_by, clones_of, repaired, instrs_of, repaired_body}
 use Rattle.hip_fix.proofs.Blocks.{get_drop, body_twin, end_twin, end_action_twin}
-use Rattle.hip_fix.proofs.Facts.{Lines, fence_if}
+use Rattle.hip_fix.proofs.Facts.{Lines}
 use Rattle.hip_fix.proofs.Lookup.{number_there}
-use Rattle.hip_fix.proofs.Pairs.{Quiet, nothing, fence, Ready, quiet, flush, Tied, tied, Below, bottom, on, below_size, Related, related, pending_lines}
+use Rattle.hip_fix.proofs.Pairs.{Quiet, nothing, fence, Ready, quiet, flush, tied, Below, bottom, on, below_size, Related, related, pending_lines}
 use Rattle.hip_fix.proofs.Sim.{extern_same, same_extern, defined_callee, called_twin}
 use Rattle.hip_fix.proofs.Twins.{IsCallable, Twin, CallsTwin}
 

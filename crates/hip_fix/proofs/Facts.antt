@@ -3,10 +3,10 @@ use Rattle.std.proofs.Common.{◌≡◌, ℕ, ◌-◌, ◌<◌, Bool, true, fals
 use Rattle.hip_ir.specs.Sites.{has_site}
 use Rattle.hip_ir.specs.declared.program.Program.{Program}
 use Rattle.hip_ir.specs.declared.site.Site.{Site}
-use Rattle.hip_lines.specs.Line.{Line, has_bytes, change_range, stored, fresh_lines}
+use Rattle.hip_lines.specs.Line.{Line, has_bytes, stored, fresh_lines}
 use Rattle.hip_step.specs.declared.input.Input.{Input}
 use Rattle.hip_step.specs.Actions.{in_region}
-use Rattle.hip_step.specs.Persistence.{part_of_store, flush_line, flushes_lines, flushed_lines, fenced_lines}
+use Rattle.hip_step.specs.Persistence.{part_of_store, flushes_lines, flushed_lines, fenced_lines}
 use Rattle.hip_step.specs.Parts.{In, PartOf}
 use Rattle.hip_step.specs.State.{Level, Flush, StorePart, Counts}
 use Rattle.hip_fix.specs.declared.plan.Plan.{Plan}

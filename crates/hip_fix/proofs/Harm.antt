@@ -1,12 +1,11 @@
 -- A repair does no harm.
-use Rattle.std.proofs.Common.{◌≡◌, ◌⊎◌, inl, inr, ℕ, ◌+◌, ◌*◌, ◌≤◌, Bool, true, false, List, [], ◌∷◌, length, Option, Some, None, slice_get, refl, sym, ap, ◌∙◌, arith}
+use Rattle.std.proofs.Common.{◌≡◌, ◌⊎◌, inl, inr, ℕ, ◌+◌, ◌*◌, Bool, true, false, List, ◌∷◌, length, Option, Some, slice_get, refl, arith}
 use Rattle.hip_ir.specs.declared.program.Program.{Program}
 use Rattle.hip_ir.specs.declared.site.Site.{Site}
 use Rattle.hip_typing.specs.Sound.{IsSound}
 use Rattle.hip_step.specs.declared.input.Input.{Input}
 use Rattle.hip_step.specs.State.{Level, Frame, State}
 use Rattle.hip_step.specs.Step.{run}
-use Rattle.hip_step.specs.Validity.{IsValid}
 use Rattle.hip_fix.specs.declared.plan.Plan.{Plan}
 use Rattle.hip_fix.specs.Harmless.{SameFrame, SameFrames, Matches, IsHarmless, matched}
 use Rattle.hip_fix.specs.Repaired.{Marked, cloned, repaired}
@@ -14,8 +13,8 @@ use Rattle.hip_fix.proofs.Ahead.{ahead_contents, ahead_images}
 use Rattle.hip_fix.proofs.Facts.{Lines, Keeps}
 use Rattle.hip_fix.proofs.Lookup.{sound_callable}
 use Rattle.hip_fix.proofs.Pairs.{Tied, tied, Below, bottom, on, Related, related}
-use Rattle.hip_fix.proofs.Sim.{Follows, follows}
-use Rattle.hip_fix.proofs.Twins.{IsCallable, Twin}
+use Rattle.hip_fix.proofs.Sim.{follows}
+use Rattle.hip_fix.proofs.Twins.{Twin}
 
 abbrev nothing_held : List Level → Lines → Lines → Type 0
 nothing_held up ls ls' = Unit {0}

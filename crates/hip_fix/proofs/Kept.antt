@@ -1,19 +1,16 @@
 -- What the plan's flushes and fences keep: which of the program's parts of stores are flushed and durable in the repaired program's
 -- run.
-use Rattle.std.proofs.Common.{◌≡◌, ◌⊎◌, inl, inr, ⊎_elim, ℕ, zero, suc, ◌+◌, ◌-◌, ◌<◌, ◌≤◌, Bool, true, false, cond, not, ◌&&◌, ◌||◌, List, [], ◌∷◌, ◌++◌, map, length, Option, Some, None, refl, sym, ap, ◌∙◌, subst, arith, length-append}
+use Rattle.std.proofs.Common.{◌≡◌, ◌⊎◌, inl, inr, ℕ, zero, suc, ◌+◌, ◌-◌, ◌<◌, ◌≤◌, Bool, true, false, cond, List, [], ◌∷◌, ◌++◌, map, length, Option, Some, None, refl, sym, ap, ◌∙◌, subst, arith, length-append}
 use Rattle.std.proofs.lemmas.List.{length-map}
 use Rattle.hip_ir.specs.Sites.{has_site}
-use Rattle.hip_ir.specs.declared.program.Program.{Program}
 use Rattle.hip_ir.specs.declared.site.Site.{Site}
-use Rattle.hip_lines.specs.Line.{Line, with_part, has_bytes, change_from, change_range, stored, fresh_lines}
+use Rattle.hip_lines.specs.Line.{Line, with_part, has_bytes, change_from, change_range, fresh_lines}
 use Rattle.hip_step.specs.declared.input.Input.{Input}
-use Rattle.hip_step.specs.Actions.{in_region}
-use Rattle.hip_step.specs.Parts.{In, PartOf}
-use Rattle.hip_step.specs.Persistence.{part_of_store, earlier, noted_flush, noted_fence, flush_line, fence_line, flushes_lines, flushed_lines, fenced_lines}
-use Rattle.hip_step.specs.State.{Level, Flush, StorePart, Counts}
+use Rattle.hip_step.specs.Parts.{In}
+use Rattle.hip_step.specs.Persistence.{earlier, noted_flush, noted_fence, flush_line, fence_line, flushes_lines, flushed_lines, fenced_lines}
+use Rattle.hip_step.specs.State.{Level, Flush, StorePart}
 use Rattle.hip_fix.specs.declared.plan.Plan.{Plan}
-use Rattle.hip_fix.specs.Quiet.{IsQuiet}
-use Rattle.hip_fix.proofs.Facts.{Lines, Known, fence_if, flush_if, Keeps}
+use Rattle.hip_fix.proofs.Facts.{Lines, fence_if}
 
 -- The part x of the program, at place k, where the repaired program's line has so many durable and so many flushed parts: with the
 -- calls that stand, and the first flushes that are known.

@@ -1,11 +1,10 @@
 -- What the plan keeps, along the two runs.
-use Rattle.std.proofs.Common.{◌≡◌, ◌⊎◌, inl, inr, ℕ, ◌-◌, ◌<◌, Bool, true, false, cond, not, ◌&&◌, ◌||◌, List, [], ◌∷◌, length, Option, Some, None, refl, sym, ap, ◌∙◌, subst}
+use Rattle.std.proofs.Common.{◌≡◌, ◌⊎◌, inl, inr, ℕ, ◌-◌, Bool, true, false, cond, not, ◌&&◌, ◌||◌, List, [], length, Option, Some, None, refl, sym, ap, ◌∙◌, subst}
 use Rattle.hip_ir.specs.Sites.{has_site}
 use Rattle.hip_ir.specs.declared.program.Program.{Program}
 use Rattle.hip_ir.specs.declared.site.Site.{Site}
 use Rattle.hip_lines.specs.Line.{has_bytes, change_range, stored}
 use Rattle.hip_step.specs.declared.input.Input.{Input}
-use Rattle.hip_step.specs.Actions.{in_region}
 use Rattle.hip_step.specs.Parts.{In, PartOf}
 use Rattle.hip_step.specs.PartLaws.{part-fenced, part-flushed, part-stored}
 use Rattle.hip_step.specs.Persistence.{part_of_store, earlier, noted_flush, flush_line, flushes_lines, flushed_lines, fenced_lines}
@@ -13,7 +12,7 @@ use Rattle.hip_step.specs.State.{Level, Flush, StorePart, Counts}
 use Rattle.hip_fix.specs.declared.plan.Plan.{Plan}
 use Rattle.hip_fix.specs.Quiet.{IsQuiet}
 use Rattle.hip_fix.proofs.Facts.{Lines, Known, fence_if, flush_if, Keeps}
-use Rattle.hip_fix.proofs.Kept.{AllKept, Wants, IsNew, kept_less, kept_more_fence, kept_more_flush, kept_fence, kept_flush, kept_persist, kept_store_from, kept_call, kept_return, kept_fenced_return, kept_start}
+use Rattle.hip_fix.proofs.Kept.{AllKept, kept_less, kept_more_fence, kept_more_flush, kept_fence, kept_flush, kept_persist, kept_store_from, kept_call, kept_return, kept_fenced_return, kept_start}
 
 known_fenced : (ls : Lines) (h : Flush) → Known (fenced_lines ls) h → Known ls h
 known_fenced ls h k = let r = part-fenced ls k.0 k.1 in (r.0, r.1, sym (ap (λ (x : StorePart). x.first_flush) r.2) ∙ k.2)

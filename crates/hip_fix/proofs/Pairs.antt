@@ -1,17 +1,17 @@
 -- Pairs of states of a program and of the repaired program that correspond.
-use Rattle.std.proofs.Common.{◌≡◌, ◌⊎◌, inl, inr, ℕ, zero, suc, ◌+◌, ◌-◌, ◌*◌, ◌<◌, ◌≤◌, Bool, true, false, cond, not, ◌&&◌, ◌||◌, List, [], ◌∷◌, ◌++◌, map, length, drop, Option, Some, None, slice_get, refl, sym, ap, ◌∙◌, subst, arith}
+use Rattle.std.proofs.Common.{◌≡◌, inl, inr, ℕ, suc, ◌≤◌, Bool, true, false, List, [], ◌∷◌, ◌++◌, length, drop, Option, Some, None, refl, ap, subst, arith}
 use Rattle.hip_ir.specs.Sites.{has_site}
 use Rattle.hip_ir.specs.declared.instr.Instr.{Instr}
 use Rattle.hip_ir.specs.declared.program.Program.{Program}
 use Rattle.hip_ir.specs.declared.site.Site.{Site}
 use Rattle.hip_step.specs.declared.input.Input.{Input}
-use Rattle.hip_step.specs.Actions.{Action, Flushes, instr_action, is_turn}
-use Rattle.hip_step.specs.Persistence.{flushed_lines, fenced_lines}
+use Rattle.hip_step.specs.Actions.{Flushes, instr_action, is_turn}
+use Rattle.hip_step.specs.Persistence.{flushed_lines}
 use Rattle.hip_step.specs.Places.{body_at}
-use Rattle.hip_step.specs.State.{Registers, Slot, Level, Flush, StorePart, Frame, World, Counts, State, level_list, levels_of, site_of}
+use Rattle.hip_step.specs.State.{Registers, Slot, Level, Flush, Frame, World, Counts, State, level_list, levels_of, site_of}
 use Rattle.hip_fix.specs.declared.plan.Plan.{Plan}
-use Rattle.hip_fix.specs.Harmless.{Extent, extents, SameFrame, SameFrames, marked_body}
-use Rattle.hip_fix.specs.Repaired.{Marked, the_fence, wanted_by, clones_of, cloned, repaired, repaired_body}
+use Rattle.hip_fix.specs.Harmless.{extents, marked_body}
+use Rattle.hip_fix.specs.Repaired.{Marked, the_fence, wanted_by, clones_of, repaired, repaired_body}
 use Rattle.hip_fix.proofs.Ahead.{Ahead}
 use Rattle.hip_step.specs.Parts.{In}
 use Rattle.hip_fix.proofs.Facts.{Lines, fence_if}

@@ -1,7 +1,6 @@
 -- Functions of a program and what stands for them in the repaired program.
-use Rattle.std.proofs.Common.{◌≡◌, ◌⊎◌, ℕ, ◌+◌, ◌<◌, ◌≤◌, Bool, true, false, List, [], ◌∷◌, map, length, Option, Some, None, slice_get}
+use Rattle.std.proofs.Common.{◌≡◌, ◌⊎◌, ℕ, ◌+◌, ◌<◌, Bool, true, false, List, length, Option, Some, None, slice_get}
 use Rattle.std.specs.Prelude.{codes}
-use Rattle.hip_ir.specs.declared.block.Block.{Block}
 use Rattle.hip_ir.specs.declared.instr.Arg.{Arg}
 use Rattle.hip_ir.specs.declared.instr.Instr.TheVariants.{Call}
 use Rattle.hip_ir.specs.declared.program.Function.{Function}
@@ -14,7 +13,7 @@ use Rattle.hip_typing.specs.declared.externs.ExternCall.{ExternCall}
 use Rattle.hip_step.specs.Places.{blocks_of, body_at}
 use Rattle.hip_fix.specs.declared.plan.Plan.{Plan}
 use Rattle.hip_fix.specs.Harmless.{marked_at, marked_body}
-use Rattle.hip_fix.specs.Repaired.{wanted_by, clone_name, clones_of, cloned, repaired, repaired_blocks, repaired_function}
+use Rattle.hip_fix.specs.Repaired.{wanted_by, clones_of, cloned, repaired, repaired_blocks, repaired_function}
 
 -- What the theorems use of soundness: `main` is there, and each call is one of an external or a defined function.
 pub record IsCallable (P : Program) : Type 0 where

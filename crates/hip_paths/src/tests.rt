@@ -63,6 +63,7 @@ fn loops_with_two_entries(rt: HostRuntime) -> Result<(), Fail> {
     let alloc = rt.alloc();
     let nodes = [[1, 2].as_slice(), &[2, 3], &[1, 4], &[4, 5], &[3, 5], &[1]];
     let graph = graph_of(alloc, nodes.as_slice())?;
+    assert_eq!(rt; graph.len(), 6);
     let paths = Paths::new(alloc, graph.as_slice())?;
     assert!(rt; paths.shows(0, 5));
     for passed in 1..5 {
@@ -85,6 +86,7 @@ fn long_chain(rt: HostRuntime) -> Result<(), Fail> {
         graph.push(successors)?;
     }
     graph.push(Row::new(alloc))?;
+    assert!(rt; count < graph.len());
     let paths = Paths::new(alloc, graph.as_slice())?;
     for node in 1..count {
         assert!(rt; paths.shows(node / 2, node));

@@ -12,6 +12,7 @@ pub mod SpelledAgain
 pub mod NamesAgain
 pub mod HeadsAgain
 pub mod InnerAgain
+pub mod AssignedOnce
 pub mod CalleesAgain
 pub mod Needed
 pub mod InsertedAgain

@@ -11,6 +11,7 @@ pub mod Declarations
 pub mod SpelledAgain
 pub mod NamesAgain
 pub mod HeadsAgain
+pub mod OutsideAddresses
 pub mod InnerAgain
 pub mod AssignedOnce
 pub mod CalleesAgain

@@ -33,6 +33,8 @@ pub mod Asked
 pub mod Cure
 pub mod Cured
 pub mod CloneFlushed
+pub mod StackRegisters
+pub mod QuietStores
 pub mod Moves
 pub mod SinceCall
 pub mod FencedCalls

@@ -102,7 +102,7 @@ module _ (P : Program) (sound : IsSound P) where
       go None n = omega arith
       go (Some k) n = let p = volatile_number P.globals name k globals_differ e n in at_number k (is_persistent P.globals k) p p
 
-  constant_low : (base : ℕ) (c : Const) → names_volatile P.globals (out-Const c) ≡ true → const_value P.globals base c ≤ volatile_start + 16777216
+  pub constant_low : (base : ℕ) (c : Const) → names_volatile P.globals (out-Const c) ≡ true → const_value P.globals base c ≤ volatile_start + 16777216
   constant_low base c e = go (out-Const c) refl e
     where
       go : (y : Const-F Const ConstGep TypedConst) → out-Const c ≡ y → names_volatile P.globals y ≡ true → const_value P.globals base c ≤ volatile_start + 16777216

@@ -27,9 +27,9 @@ use Rattle.hip_typing.specs.declared.externs.ExternCall.{ExternCall}
 use Rattle.hip_typing.specs.declared.externs.ExternCall.TheVariants as calls
 use Rattle.hip_step.specs.declared.event.TrapKind.TheVariants as traps
 use Rattle.hip_step.specs.declared.input.Input.{Input}
-use Rattle.hip_step.specs.Actions.{Action, Traps, Assigns, Allocates, Stores, Flushes, Persists, Fences, Asserts, Prints, Reads, Calls, Jumps, Returns, in_region, are_valid, accessed, calculated, allocated, bound_call, numbered_call, entered, flushing, read_next, extern_action, call_action, instr_action, after_phis, jump_to, jump, end_action, deed_of}
+use Rattle.hip_step.specs.Actions.{Action, Traps, Assigns, Allocates, Stores, Flushes, Persists, Fences, Asserts, Prints, Reads, Calls, Jumps, Returns, in_region, are_valid, accessed, calculated, allocated, numbered_call, entered, flushing, read_next, extern_action, call_action, instr_action, after_phis, jump_to, jump, end_action, deed_of}
 use Rattle.hip_step.specs.Operands.{look_up, assigned, bound}
-use Rattle.hip_step.specs.Places.{blocks_in, blocks_of, block_at, body_of, phis_of, body_at, code_at, end_at}
+use Rattle.hip_step.specs.Places.{blocks_in, blocks_of, block_at, body_of, phis_of, label_of, body_at, code_at, end_at}
 use Rattle.hip_step.specs.State.{Registers, Frame, World}
 use Rattle.hip_fix.specs.Direct.{allocates, allocates_in}
 use Rattle.hip_fix.proofs.AssignedOnce.{names_of_instr, Once, only_alloca, no_phi, no_parameter, differ_inside, once}
@@ -141,7 +141,7 @@ module _ (P : Program) (sound : IsSound P) (g : ℕ) where
       go (Some fn) e =
           let low : AreLow fn.blocks (bound fn.params values) = low_bound fn.blocks fn.params values (λ q i. no_parameter fn q (differ_inside P h fn sound e) i) in
           let there : AreLow (blocks_of P h) (bound fn.params values) = subst (λ (x : Option Function). AreLow (blocks_in x) (bound fn.params values)) (sym e) low in
-          subst (λ (x : Option Function). Suits P blocks (bound_call x h values dest)) (sym e) (record { is = (there, a) })
+          rw e (record { is = (there, a) })
 
   suits_entered : (below : ℕ) (callee values : List ℕ) (dest : Option (List ℕ)) → Avoids blocks dest → Suits P blocks (entered P below callee values dest)
   unfolding entered
@@ -177,11 +177,14 @@ module _ (P : Program) (sound : IsSound P) (g : ℕ) where
 
   suits_jump_to : (I : Input) (f : Frame) → f.function ≡ g → AreLow blocks f.registers → (o : Option ℕ) → Suits P blocks (jump_to P I f o)
   suits_jump_to I f here low None = record { is = tt }
-  suits_jump_to I f here low (Some b) = record { is = subst (λ n. AreLow blocks (after_phis P.globals I.base f.registers _ (phis_of (block_at P n b)))) (sym here) (go (block_at P g b) refl) }
+  suits_jump_to I f here low (Some b) = record { is = subst (λ n. AreLow blocks (after_phis P.globals I.base f.registers from (phis_of (block_at P n b)))) (sym here) (go (block_at P g b) refl) }
     where
-      go : {from : List ℕ} (o : Option Block) → block_at P g b ≡ o → AreLow blocks (after_phis P.globals I.base f.registers from (phis_of o))
+      from : List ℕ
+      from = label_of (block_at P f.function f.block)
+
+      go : (o : Option Block) → block_at P g b ≡ o → AreLow blocks (after_phis P.globals I.base f.registers from (phis_of o))
       go None e = low
-      go {from = from} (Some block) e = low_phis blocks P.globals I.base f.registers from block.phis (λ q h. no_phi blocks b block q (once P g sound) e h) low
+      go (Some block) e = low_phis blocks P.globals I.base f.registers from block.phis (λ q h. no_phi blocks b block q (once P g sound) e h) low
 
   suits_end : (I : Input) (f : Frame) → f.function ≡ g → AreLow blocks f.registers → (o : Option End) → Suits P blocks (end_action P I f o)
   unfolding end_action jump

@@ -28,16 +28,16 @@ use Rattle.hip_fix.proofs.Twins.{IsCallable}
 
 -- ---- names of the program
 
-abbrev top : List GlobalVar → List Extern → List Function → List Named
+abbrev pub top : List GlobalVar → List Extern → List Function → List Named
 top globals externs functions = (global_names globals ++ extern_names externs) ++ function_names functions
 
-abbrev names_of_globals : List GlobalVar → List (List ℕ)
+abbrev pub names_of_globals : List GlobalVar → List (List ℕ)
 names_of_globals globals = map (λ g. g.name) globals
 
-abbrev names_of_externs : List Extern → List (List ℕ)
+abbrev pub names_of_externs : List Extern → List (List ℕ)
 names_of_externs externs = map (λ e. e.name) externs
 
-top_names_are : (globals : List GlobalVar) (externs : List Extern) (functions : List Function) → names_in (top globals externs functions) ≡ names_of_globals globals ++ (names_of_externs externs ++ numbers.function_names functions)
+pub top_names_are : (globals : List GlobalVar) (externs : List Extern) (functions : List Function) → names_in (top globals externs functions) ≡ names_of_globals globals ++ (names_of_externs externs ++ numbers.function_names functions)
 top_names_are globals externs functions =
     map-append (λ (n : Named). n.name) (global_names globals ++ extern_names externs) (function_names functions)
     ∙ ap₂ (λ xs ys. xs ++ ys)

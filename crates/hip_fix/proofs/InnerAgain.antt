@@ -24,19 +24,19 @@ names_of_all make names same n (x ∷ xs) =
     map-append (λ (m : Named). m.name) (make n x) (all_of (numbered_from (n + 1) make xs))
     ∙ ap₂ (λ ys zs. ys ++ zs) (same n x) (names_of_all make names same (n + 1) xs)
 
-abbrev register_names : List Register → List (List ℕ)
+abbrev pub register_names : List Register → List (List ℕ)
 register_names rs = map (λ r. r.name) rs
 
 map_named : (make : List ℕ → Named) → ((name : List ℕ) → (make name).name ≡ name) → (rs : List Register) → names_in (map (λ r. make r.name) rs) ≡ register_names rs
 map_named make same [] = refl
 map_named make same (r ∷ rs) = ap₂ (λ x xs. x ∷ xs) (same r.name) (map_named make same rs)
 
-flat_registers : (body : List Instr) → flat_map (λ i. register_names (assigned_by i)) body ≡ register_names (body_registers body)
+pub flat_registers : (body : List Instr) → flat_map (λ i. register_names (assigned_by i)) body ≡ register_names (body_registers body)
 flat_registers [] = refl
 flat_registers (i ∷ is) = ap (λ xs. register_names (assigned_by i) ++ xs) (flat_registers is) ∙ sym (map-append (λ (r : Register). r.name) (assigned_by i) (body_registers is))
 
 -- the names in a block: its label, and what its phis and instructions assign
-abbrev names_of_block : Block → List (List ℕ)
+abbrev pub names_of_block : Block → List (List ℕ)
 names_of_block b = b.label ∷ (map (λ p. p.dest) b.phis ++ register_names (body_registers b.body))
 
 names-block : (f b : ℕ) (block : Block) → names_in (block_names f b block) ≡ names_of_block block
@@ -46,10 +46,10 @@ names-block f b block =
     ∙ ap₂ (λ xs ys. xs ++ ys) (numbered_names _ (λ p. p.dest) (λ _ _. refl) 0 block.phis)
     (names_of_all (instr_names f b) (λ i. register_names (assigned_by i)) (λ n i. map_named _ (λ _. refl) (assigned_by i)) 0 block.body ∙ flat_registers block.body))
 
-abbrev names_of_function : Function → List (List ℕ)
+abbrev pub names_of_function : Function → List (List ℕ)
 names_of_function fn = map (λ p. p.name) fn.params ++ flat_map names_of_block fn.blocks
 
-names-inner : (f : ℕ) (fn : Function) → names_in (inner_names f fn) ≡ names_of_function fn
+pub names-inner : (f : ℕ) (fn : Function) → names_in (inner_names f fn) ≡ names_of_function fn
 names-inner f fn =
     map-append (λ (n : Named). n.name) (param_names f fn.params) (blocks_names f fn.blocks)
     ∙ ap₂ (λ xs ys. xs ++ ys) (numbered_names _ (λ p. p.name) (λ _ _. refl) 0 fn.params) (names_of_all (block_names f) names_of_block (λ n b. names-block f n b) 0 fn.blocks)

@@ -11,7 +11,9 @@ pub mod Declarations
 pub mod SpelledAgain
 pub mod NamesAgain
 pub mod HeadsAgain
+pub mod OutsideAddresses
 pub mod InnerAgain
+pub mod AssignedOnce
 pub mod CalleesAgain
 pub mod Needed
 pub mod InsertedAgain
@@ -31,6 +33,8 @@ pub mod Asked
 pub mod Cure
 pub mod Cured
 pub mod CloneFlushed
+pub mod StackRegisters
+pub mod QuietStores
 pub mod Moves
 pub mod SinceCall
 pub mod FencedCalls

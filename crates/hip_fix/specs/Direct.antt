@@ -17,26 +17,26 @@ use Rattle.hip_ir.specs.declared.program.Program.{Program}
 use Rattle.hip_ir.specs.declared.site.Site.{Site}
 use Rattle.hip_step.specs.Places.{blocks_of}
 
-abbrev allocates : List ℕ → Instr → Bool
+abbrev pub allocates : List ℕ → Instr → Bool
 allocates name (Alloca dest ty align) = bytes_eq dest name
 allocates name _ = false
 
 -- an `alloca` of these blocks assigns the register
-abbrev allocates_in : List Block → List ℕ → Bool
+abbrev pub allocates_in : List Block → List ℕ → Bool
 allocates_in blocks name = list_any (λ b. list_any (allocates name) b.body) blocks
 
-abbrev is_volatile_global : List GlobalVar → List ℕ → Bool
+abbrev pub is_volatile_global : List GlobalVar → List ℕ → Bool
 is_volatile_global globals name = list_any (λ g. bytes_eq g.name name && not g.persistent) globals
 
-abbrev names_volatile : List GlobalVar → Const-F Const ConstGep TypedConst → Bool
+abbrev pub names_volatile : List GlobalVar → Const-F Const ConstGep TypedConst → Bool
 names_volatile globals (Const-F.Address name) = is_volatile_global globals name
 names_volatile globals _ = false
 
-abbrev is_outside : Program → List Block → Operand → Bool
+abbrev pub is_outside : Program → List Block → Operand → Bool
 is_outside P blocks (Reg name) = allocates_in blocks name
 is_outside P blocks (Fixed value) = names_volatile P.globals (out-Const value)
 
-abbrev stores_outside : Program → List Block → Option Instr → Bool
+abbrev pub stores_outside : Program → List Block → Option Instr → Bool
 stores_outside P blocks (Some (Store ty value addr align)) = is_outside P blocks addr
 stores_outside P blocks _ = false
 

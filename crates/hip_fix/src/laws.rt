@@ -11,6 +11,7 @@ ghost use Rattle.hip_step.specs.declared.report.Findings.{Findings};
 ghost use Rattle.hip_fix.specs.Choice.{Contains, plan_for};
 ghost use Rattle.hip_fix.specs.Clean.{IsClean};
 ghost use Rattle.hip_fix.specs.Covered.{AreHoistsFenced, IsCovered};
+ghost use Rattle.hip_fix.specs.Direct.{direct};
 ghost use Rattle.hip_fix.specs.Harmless.{IsHarmless};
 ghost use Rattle.hip_fix.specs.Quiet.{IsQuiet};
 ghost use Rattle.hip_fix.specs.Repaired.{repaired};
@@ -47,4 +48,9 @@ pub fn hoisted_calls_are_covered()
 /// A hoisted call has become a call of a clone with a fence directly behind it.
 pub fn hoisted_calls_are_fenced()
     ensures { (P : Program) → (plan : Plan) → (skip : Site → Bool) → IsSound P → AreHoistsFenced P plan skip }
+{}
+
+/// The stores whose address is a register assigned by `alloca`, or a volatile global itself, never lie in the region.
+pub fn direct_stores_are_quiet()
+    ensures { (P : Program) → IsSound P → IsQuiet P (direct P) }
 {}

@@ -1,0 +1,117 @@
+-- The address of a volatile global lies below every base.
+use Rattle.std.proofs.Common.{◌≡◌, ◌⊎◌, ⊎_elim, ℕ, zero, suc, ◌+◌, ◌*◌, ◌%◌, ◌^◌, ◌≤◌, ◌<◌, Bool, true, false, ◌&&◌, ◌||◌, not, nat_le, List, [], ◌∷◌, ◌++◌, map, Option, Some, None, option_map, refl, sym, ap, ◌∙◌, subst, arith, leb-true}
+use Rattle.std.specs.Prelude.{unwrap_or, if◌then◌else◌}
+use Rattle.std.specs.Int.{next_multiple_of}
+use Rattle.std.specs.List.{list_any}
+use Rattle.std.specs.Str.{bytes_eq}
+use Rattle.std.proofs.lemmas.Slice.Eq.{bytes_eq-Decides}
+use Rattle.hip_types.specs.Layout.{shape}
+use Rattle.hip_types.specs.DistinctLaws.{or_first, or_second, either, any_found, any_at}
+use Rattle.hip_ir.specs.declared.constant.Const.{Const, out-Const, roll-Const, roll-out-Const}
+use Rattle.hip_ir.specs.declared.constant.Const.TheOpen.{Const-F}
+use Rattle.hip_ir.specs.declared.constant.Const.TheFolds.{fold-roll-Const}
+use Rattle.hip_ir.specs.declared.constant.ConstGep.{ConstGep}
+use Rattle.hip_ir.specs.declared.constant.TypedConst.{TypedConst}
+use Rattle.hip_ir.specs.declared.program.GlobalVar.{GlobalVar}
+use Rattle.hip_ir.specs.declared.program.Program.{Program}
+use Rattle.hip_typing.specs.Addresses.{same, global_start, end_of, start_of, is_persistent, address_in, volatile_start, volatile_end, region_size}
+use Rattle.hip_typing.specs.Names.{is_among, number_of}
+use Rattle.hip_typing.specs.Numbering as numbers
+use Rattle.hip_typing.specs.NumberingLaws.{number_cases}
+use Rattle.hip_typing.specs.Sound.{IsSound}
+use Rattle.hip_typing.specs.Values.{global_address, const_value}
+use Rattle.hip_fix.specs.Direct.{is_volatile_global, names_volatile}
+use Rattle.hip_fix.proofs.Callable.{both_hold, flipped}
+use Rattle.hip_fix.proofs.HeadsAgain.{top, names_of_globals, names_of_externs, top_names_are}
+use Rattle.hip_fix.proofs.NamesAgain.{Differ, not_false, differ_first, holds_all_differ}
+
+-- ---- what is laid lies before the end
+
+later_start : (at : ℕ) (g : GlobalVar) → at ≤ global_start at g
+later_start at g = omega arith
+
+later_end : (persistent : Bool) (at : ℕ) (gs : List GlobalVar) → at ≤ end_of persistent at gs
+later_end persistent at [] = omega arith
+later_end persistent at (g ∷ gs) = go (same g.persistent persistent) (λ n. later_end persistent n gs)
+  where
+    go : (t : Bool) → ((n : ℕ) → n ≤ end_of persistent n gs) → at ≤ end_of persistent (if t then global_start at g + (shape g.ty).size else at) gs
+    go true rest = omega (arith, rest (global_start at g + (shape g.ty).size), later_start at g)
+    go false rest = rest at
+
+-- a volatile global begins before the end of them all
+start_before_end : (at : ℕ) (gs : List GlobalVar) (k : ℕ) → is_persistent gs k ≡ false → start_of false at gs k ≤ end_of false at gs
+start_before_end at [] k e = omega arith
+start_before_end at (g ∷ gs) zero e = go (same g.persistent false) (ap (λ b. same b false) e)
+  where
+    go : (t : Bool) → t ≡ true → global_start at g ≤ end_of false (if t then global_start at g + (shape g.ty).size else at) gs
+    go true h = omega (arith, later_end false (global_start at g + (shape g.ty).size) gs)
+    go false h = cc
+start_before_end at (g ∷ gs) (suc k) e = start_before_end (if same g.persistent false then global_start at g + (shape g.ty).size else at) gs k e
+
+-- ---- a volatile global by its name
+
+flag : (b : Bool) → not b ≡ true → b ≡ false
+flag true e = cc
+flag false e = refl
+
+volatile_among : (gs : List GlobalVar) (name : List ℕ) → is_volatile_global gs name ≡ true → is_among (names_of_globals gs) name ≡ true
+volatile_among [] name e = cc
+volatile_among (g ∷ gs) name e =
+    ⊎_elim (λ h. or_first (bytes_eq name g.name) _ (flipped name g.name ∙ (both_hold (bytes_eq g.name name) _ h).0)) (λ h. or_second (bytes_eq name g.name) _ (volatile_among gs name h))
+    (either (bytes_eq g.name name && not g.persistent) (is_volatile_global gs name) e)
+
+-- where the names of globals differ, the number of a volatile one's name is its own
+volatile_number : (gs : List GlobalVar) (name : List ℕ) (k : ℕ) → Differ (names_of_globals gs) → is_volatile_global gs name ≡ true → number_of (names_of_globals gs) name ≡ Some k → is_persistent gs k ≡ false
+volatile_number [] name k d e f = refl
+volatile_number (g ∷ gs) name k d e f = ⊎_elim (λ h. first h.0 h.2) (λ h. later h.0 (volatile_number gs name h.0 d.1) h.1 h.2 h.3) (number_cases g.name (names_of_globals gs) name k f)
+  where
+    cases : (bytes_eq g.name name && not g.persistent) ≡ true ⊎ is_volatile_global gs name ≡ true
+    cases = either (bytes_eq g.name name && not g.persistent) (is_volatile_global gs name) e
+
+    first : k ≡ 0 → bytes_eq name g.name ≡ true → is_persistent (g ∷ gs) k ≡ false
+    first z at =
+        subst (λ n. is_persistent (g ∷ gs) n ≡ false) (sym z)
+        (⊎_elim (λ h. flag g.persistent (both_hold (bytes_eq g.name name) _ h).1)
+        (λ h. absurd (not_false _ d.0 (subst (λ n. is_among (names_of_globals gs) n ≡ true) ((bytes_eq-Decides name g.name).0 at) (volatile_among gs name h)))) cases)
+
+    later : (j : ℕ) → (is_volatile_global gs name ≡ true → number_of (names_of_globals gs) name ≡ Some j → is_persistent gs j ≡ false) → bytes_eq name g.name ≡ false → number_of (names_of_globals gs) name ≡ Some j → k ≡ suc j → is_persistent (g ∷ gs) k ≡ false
+    later j rest other n s =
+        subst (λ m. is_persistent (g ∷ gs) m ≡ false) (sym s)
+        (⊎_elim (λ h. absurd (not_false _ other (flipped name g.name ∙ (both_hold (bytes_eq g.name name) _ h).0))) (λ h. rest h n) cases)
+
+-- ---- addresses in a sound program
+
+module _ (P : Program) (sound : IsSound P) where
+  globals_differ : Differ (names_of_globals P.globals)
+  globals_differ =
+      differ_first (names_of_globals P.globals) (names_of_externs P.externs ++ numbers.function_names P.functions)
+      (subst Differ (top_names_are P.globals P.externs P.functions) (holds_all_differ (top P.globals P.externs P.functions) sound.names))
+
+  volatile_low : volatile_end P ≤ volatile_start + 16777216
+  volatile_low = leb-true (volatile_end P) (volatile_start + 16777216) (both_hold (nat_le (region_size P) 67108864) _ sound.sizes).1
+
+  -- the address of a volatile global
+  named_low : (base : ℕ) (name : List ℕ) → is_volatile_global P.globals name ≡ true → global_address P.globals base name ≤ volatile_start + 16777216
+  named_low base name e = go (number_of (names_of_globals P.globals) name) refl
+    where
+      at_number : (k : ℕ) (t : Bool) → t ≡ false → is_persistent P.globals k ≡ false → (if t then start_of true base P.globals k else start_of false volatile_start P.globals k) ≤ volatile_start + 16777216
+      at_number k true f p = cc
+      at_number k false f p = omega (arith, start_before_end volatile_start P.globals k p, volatile_low)
+
+      go : (o : Option ℕ) → number_of (names_of_globals P.globals) name ≡ o → unwrap_or (option_map (address_in P.globals base) o) 0 ≤ volatile_start + 16777216
+      go None n = omega arith
+      go (Some k) n = let p = volatile_number P.globals name k globals_differ e n in at_number k (is_persistent P.globals k) p p
+
+  pub constant_low : (base : ℕ) (c : Const) → names_volatile P.globals (out-Const c) ≡ true → const_value P.globals base c ≤ volatile_start + 16777216
+  constant_low base c e = go (out-Const c) refl e
+    where
+      go : (y : Const-F Const ConstGep TypedConst) → out-Const c ≡ y → names_volatile P.globals y ≡ true → const_value P.globals base c ≤ volatile_start + 16777216
+      go (Const-F.Address name) q h =
+          let is : const_value P.globals base c ≡ global_address P.globals base name = ap (const_value P.globals base) (sym (roll-out-Const c) ∙ ap roll-Const q) ∙ fold-roll-Const _ _ _ _ _ _ _ in
+          subst (λ n. n ≤ volatile_start + 16777216) (sym is) (named_low base name h)
+      go (Const-F.Int b) q h = cc
+      go Const-F.Null q h = cc
+      go Const-F.Zero q h = cc
+      go (Const-F.Gep gep) q h = cc
+      go (Const-F.Array items) q h = cc
+      go (Const-F.Struct items) q h = cc

@@ -1,0 +1,174 @@
+-- The stores whose address is a register assigned by `alloca`, or a volatile global itself, never lie in the region.
+use Rattle.std.proofs.Common.{◌≡◌, ℕ, zero, suc, ◌+◌, ◌%◌, ◌^◌, ◌≤◌, ◌<◌, Bool, true, false, cond, ◌&&◌, nat_le, nat_eq, List, [], ◌∷◌, length, drop, Option, Some, None, slice_get, refl, sym, ap, ◌∙◌, subst, arith, leb-true}
+use Rattle.hip_ir.specs.Sites.{instr_of}
+use Rattle.hip_ir.specs.declared.instr.Instr.{Instr}
+use Rattle.hip_ir.specs.declared.instr.Instr.TheVariants.{Binary, Compare, Select, Cast, Alloca, Load, Store, Gep, Call}
+use Rattle.hip_ir.specs.declared.instr.Operand.{Operand}
+use Rattle.hip_ir.specs.declared.instr.Operand.TheVariants.{Reg, Fixed}
+use Rattle.hip_ir.specs.declared.program.Program.{Program}
+use Rattle.hip_ir.specs.declared.site.Site.{Site}
+use Rattle.hip_lines.specs.Line.{Line}
+use Rattle.hip_mem.specs.Bytes.{little_endian, bytes_of}
+use Rattle.hip_mem.specs.Memory.{stack_end}
+use Rattle.hip_typing.specs.Sound.{IsSound}
+use Rattle.hip_step.specs.declared.event.Ending.{Ending}
+use Rattle.hip_step.specs.declared.event.Ending.TheVariants.{Cut}
+use Rattle.hip_step.specs.declared.event.Event.{Event}
+use Rattle.hip_step.specs.declared.event.Event.TheVariants as events
+use Rattle.hip_step.specs.declared.event.TrapKind.TheVariants as traps
+use Rattle.hip_step.specs.declared.input.Input.{Input}
+use Rattle.hip_step.specs.Actions.{Action, Traps, Assigns, Allocates, Stores, Flushes, Persists, Fences, Asserts, Prints, Reads, Calls, Jumps, Returns, Deed, in_region, are_valid, accessed, instr_action, deed_of}
+use Rattle.hip_step.specs.Operands.{value_of, scalar_size, access_align}
+use Rattle.hip_step.specs.Places.{blocks_of, body_at, code_at, end_at}
+use Rattle.hip_step.specs.State.{Registers, StorePart, Frame, World, Counts, State, site_of}
+use Rattle.hip_step.specs.Step.{stop, with_turn, leave, perform, is_cut, carry_out, deed_at, on_frames, on_ending, step, start, event_of, event_at, event_on_frames, event_on_ending, event, counted, run}
+use Rattle.hip_step.specs.Validity.{IsValid}
+use Rattle.hip_fix.specs.Direct.{is_outside, stores_outside, direct}
+use Rattle.hip_fix.specs.Quiet.{stores_in_region, IsQuiet}
+use Rattle.hip_fix.proofs.Blocks.{get_drop}
+use Rattle.hip_fix.proofs.Callable.{both_hold}
+use Rattle.hip_fix.proofs.NamesAgain.{not_true, not_false}
+use Rattle.hip_fix.proofs.OutsideAddresses.{constant_low}
+use Rattle.hip_fix.proofs.Sim.{instr_at_place}
+use Rattle.hip_fix.proofs.StackRegisters.{AreLow, Avoids, low_beside, low_allocated, Suits, suits_deed}
+
+-- ---- frames
+
+-- no `alloca` of the frame below assigns the register
+abbrev Answers : Program → Option (List ℕ) → List Frame → Type 0
+Answers P dest [] = Unit {0}
+Answers P dest (g ∷ fs) = Avoids (blocks_of P g.function) dest
+
+record IsLow (P : Program) (f : Frame) (fs : List Frame) : Type 0 where
+  registers : AreLow (blocks_of P f.function) f.registers
+  answers : Answers P f.dest fs
+
+abbrev AllLow : Program → List Frame → Type 0
+AllLow P [] = Unit {0}
+AllLow P (f ∷ fs) = IsLow P f fs × AllLow P fs
+
+module _ (P : Program) (sound : IsSound P) (I : Input) where
+  -- ---- a step
+
+  leave_low : (v : ℕ) (w : World) (f : Frame) (fs : List Frame) (ls : List (Line StorePart)) (after : Counts) → AllLow P (f ∷ fs) → AllLow P (leave v w f fs ls after).frames
+  unfolding leave
+  leave_low v w f [] ls after low = low
+  leave_low v w f (g ∷ fs) ls after low = (record { registers = low_beside (blocks_of P g.function) f.dest v g.registers low.0.answers low.1.0.registers; answers = low.1.0.answers }, low.1.1)
+
+  perform_low : (w : World) (f : Frame) (fs : List Frame) (ls : List (Line StorePart)) (before after : Counts) → AllLow P (f ∷ fs) → (x : Action) → Suits P (blocks_of P f.function) x → AllLow P (perform I w f fs ls before after x).frames
+  unfolding perform
+  perform_low w f fs ls before after low (Traps kind) p = low
+  perform_low w f fs ls before after low (Assigns dest v) p = (record { registers = low_beside (blocks_of P f.function) dest v f.registers p.is low.0.registers; answers = low.0.answers }, low.1)
+  perform_low w f fs ls before after low (Allocates dest a n) p = (record { registers = low_allocated (blocks_of P f.function) dest a f.registers p.is low.0.registers; answers = low.0.answers }, low.1)
+  perform_low w f fs ls before after low (Stores a bytes) p = (record { registers = low.0.registers; answers = low.0.answers }, low.1)
+  perform_low w f fs ls before after low (Flushes a n) p = (record { registers = low.0.registers; answers = low.0.answers }, low.1)
+  perform_low w f fs ls before after low (Persists a n) p = (record { registers = low.0.registers; answers = low.0.answers }, low.1)
+  perform_low w f fs ls before after low Fences p = (record { registers = low.0.registers; answers = low.0.answers }, low.1)
+  perform_low w f fs ls before after low (Asserts a n) p = (record { registers = low.0.registers; answers = low.0.answers }, low.1)
+  perform_low w f fs ls before after low (Prints z) p = (record { registers = low.0.registers; answers = low.0.answers }, low.1)
+  perform_low w f fs ls before after low (Reads dest z rest) p = (record { registers = low_beside (blocks_of P f.function) dest _ f.registers p.is low.0.registers; answers = low.0.answers }, low.1)
+  perform_low w f fs ls before after low (Calls g rs dest) p = (record { registers = p.is.0; answers = p.is.1 }, (record { registers = low.0.registers; answers = low.0.answers }, low.1))
+  perform_low w f fs ls before after low (Jumps b rs) p = (record { registers = p.is; answers = low.0.answers }, low.1)
+  perform_low w f fs ls before after low (Returns v) p = leave_low v w f fs ls after low
+
+  carry_out_low : (w : World) (f : Frame) (fs : List Frame) (ls : List (Line StorePart)) (before after : Counts) → AllLow P (f ∷ fs) → (d : Deed) → Suits P (blocks_of P f.function) d.action → AllLow P (carry_out I w f fs ls before after d).frames
+  unfolding carry_out
+  carry_out_low w f fs ls before after low d p = go (is_cut I w d)
+    where
+      go : (b : Bool) → AllLow P (cond b (stop Cut w (f ∷ fs) ls after) (perform I (cond d.turn (with_turn w) w) f fs ls before after d.action)).frames
+      go true = low
+      go false = perform_low (cond d.turn (with_turn w) w) f fs ls before after low d.action p
+
+  frames_low : (w : World) (ls : List (Line StorePart)) (c : Counts) (fs : List Frame) → AllLow P fs → AllLow P (on_frames P I w ls c fs).frames
+  unfolding on_frames
+  frames_low w ls c [] low = low
+  frames_low w ls c (f ∷ fs) low =
+      carry_out_low w f fs ls c (counted (event_at I w fs (deed_at P I w f fs)) c) low (deed_at P I w f fs) (suits_deed P sound I w (length fs) f (code_at P f) low.0.registers refl)
+
+  step_low : (s : State) → AllLow P s.frames → AllLow P (step P I s).frames
+  unfolding step on_ending
+  step_low s low = go s.world.ending
+    where
+      go : (o : Option Ending) → AllLow P (on_ending P I s o).frames
+      go (Some e) = low
+      go None = frames_low s.world s.lines s.counts s.frames low
+
+  run_low : (n : ℕ) → AllLow P (run P I n).frames
+  unfolding run
+  run_low zero = (record { registers = λ q h. omega arith; answers = tt }, tt)
+  run_low (suc n) = step_low (run P I n) (run_low n)
+
+  -- ---- a store
+
+  module _ (valid : IsValid P I) where
+    -- such an address lies below the base
+    outside_low : (f : Frame) (addr : Operand) → AreLow (blocks_of P f.function) f.registers → is_outside P (blocks_of P f.function) addr ≡ true → value_of P.globals I.base f.registers addr < I.base
+    outside_low f (Reg name) low e = omega (arith, low name e, valid.base.low)
+    outside_low f (Fixed c) low e = omega (arith, constant_low P sound I.base c e, valid.base.low)
+
+    below_region : (a n : ℕ) → a < I.base → in_region I a n ≡ false
+    below_region a n h = not_true _ (λ t. let from = leb-true I.base a (both_hold (nat_le I.base a) _ t).0 in omega (arith, from, h))
+
+    store_quiet : (fs : List Frame) (a : ℕ) (bytes : List ℕ) → a < I.base → ¬ stores_in_region (event_of I fs (Stores a bytes))
+    store_quiet fs a bytes h = go (in_region I a (length bytes)) (below_region a (length bytes) h)
+      where
+        go : (b : Bool) → b ≡ false → ¬ stores_in_region (cond b (events.Store a (little_endian bytes) (length bytes)) events.Quiet)
+        go true e = cc
+        go false e = λ t. t
+
+    quiet_cond : (fs : List Frame) (b : Bool) (x y : Action) → ¬ stores_in_region (event_of I fs x) → ¬ stores_in_region (event_of I fs y) → ¬ stores_in_region (event_of I fs (cond b x y))
+    quiet_cond fs true x y p q = p
+    quiet_cond fs false x y p q = q
+
+    access_quiet : (w : World) (fs : List Frame) (a n align : ℕ) (x : Action) → ¬ stores_in_region (event_of I fs x) → ¬ stores_in_region (event_of I fs (accessed P I w a n align x))
+    unfolding accessed
+    access_quiet w fs a n align x p = quiet_cond fs (nat_eq (a % align) 0) _ (Traps traps.Misaligned) (quiet_cond fs (are_valid P I w a n) x (Traps traps.Address) p (λ t. t)) (λ t. t)
+
+    instr_quiet : (w : World) (f : Frame) (fs : List Frame) (i : Instr) → AreLow (blocks_of P f.function) f.registers → stores_outside P (blocks_of P f.function) (Some i) ≡ true → ¬ stores_in_region (event_of I fs (instr_action P I w (length fs) f.registers i))
+    unfolding instr_action
+    instr_quiet w f fs (Store ty value addr align) low e = access_quiet w fs _ _ _ _ (store_quiet fs _ _ (outside_low f addr low e))
+    instr_quiet w f fs (Binary dest op flags width a b) low e = cc
+    instr_quiet w f fs (Compare dest pred ty a b) low e = cc
+    instr_quiet w f fs (Select dest test ty a b) low e = cc
+    instr_quiet w f fs (Cast dest op from a to) low e = cc
+    instr_quiet w f fs (Alloca dest ty align) low e = cc
+    instr_quiet w f fs (Load dest ty addr align) low e = cc
+    instr_quiet w f fs (Gep dest inbounds ty base indices) low e = cc
+    instr_quiet w f fs (Call dest ret callee args) low e = cc
+
+    get_end : {A : Type 0} (xs : List A) (k : ℕ) → drop k xs ≡ [] → slice_get xs k ≡ None
+    get_end [] zero e = refl
+    get_end [] (suc k) e = refl
+    get_end (x ∷ xs) zero e = cc
+    get_end (x ∷ xs) (suc k) e = get_end xs k e
+
+    code_quiet : (w : World) (f : Frame) (fs : List Frame) (code : List Instr) → code_at P f ≡ code → AreLow (blocks_of P f.function) f.registers → direct P (site_of f) ≡ true →
+        ¬ stores_in_region (event_at I w fs (deed_of P I w (length fs) f (end_at P f) code))
+    code_quiet w f fs [] e low at =
+        let none : instr_of P (site_of f) ≡ None = instr_at_place P f.function f.block f.place ∙ get_end (body_at P f.function f.block) f.place e in
+        absurd (not_false _ (ap (stores_outside P (blocks_of P f.function)) none) at)
+    code_quiet w f fs (i ∷ rest) e low at = go (is_cut I w (deed_of P I w (length fs) f (end_at P f) (i ∷ rest)))
+      where
+        there : instr_of P (site_of f) ≡ Some i
+        there = instr_at_place P f.function f.block f.place ∙ get_drop (body_at P f.function f.block) f.place i rest e
+
+        outside : stores_outside P (blocks_of P f.function) (Some i) ≡ true
+        outside = sym (ap (stores_outside P (blocks_of P f.function)) there) ∙ at
+
+        go : (b : Bool) → ¬ stores_in_region (cond b (events.End Cut) (event_of I fs (instr_action P I w (length fs) f.registers i)))
+        go true = λ t. t
+        go false = instr_quiet w f fs i low outside
+
+    step_quiet : (s : State) (f : Frame) (fs : List Frame) → AllLow P s.frames → s.frames ≡ f ∷ fs → direct P (site_of f) ≡ true → ¬ stores_in_region (event P I s)
+    unfolding event
+    step_quiet s f fs low e at = go s.world.ending
+      where
+        here : AllLow P (f ∷ fs)
+        here = subst (AllLow P) e low
+
+        go : (o : Option Ending) → ¬ stores_in_region (event_on_ending P I s o)
+        go (Some x) = λ t. t
+        go None = subst (λ (gs : List Frame). ¬ stores_in_region (event_on_frames P I s.world gs)) (sym e) (code_quiet s.world f fs (code_at P f) refl here.0.registers at)
+
+pub quiet_stores : (P : Program) → IsSound P → IsQuiet P (direct P)
+quiet_stores P sound I valid n f fs e at = step_quiet P sound I valid (run P I n) f fs (run_low P sound I n) e at

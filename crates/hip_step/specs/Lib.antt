@@ -14,3 +14,6 @@ pub mod Parts
 pub mod History
 pub mod PartLaws
 pub mod HistoryLaws
+pub mod StepLaws
+pub mod Since
+pub mod CrashLaws

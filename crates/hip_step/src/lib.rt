@@ -2,9 +2,12 @@
 #![tactic(auto)]
 
 mod event;
+mod history;
 mod input;
 mod report;
 
 pub use event::{Ending, Event, Object, TrapKind};
+pub use history::images_are_choices;
+pub use history::images_shrink;
 pub use input::{Input, InputFault};
 pub use report::{Findings, Kind, Mark, Marks, Report};

@@ -1,0 +1,27 @@
+//! Laws of runs: what the cache lines tell of the steps before, and which contents a crash may leave.
+
+ghost use Rattle.hip_ir.specs.declared.program.Program.{Program};
+ghost use Rattle.hip_step.specs.Crash.{IsCrashImage, IsCrashPick, crash_image};
+ghost use Rattle.hip_step.specs.Since.{stores, fences};
+ghost use Rattle.hip_step.specs.Step.{event, run};
+ghost use Rattle.hip_step.specs.Validity.{IsValid};
+ghost use Rattle.hip_step.specs.declared.input.Input.{Input};
+ghost use Rattle.std.specs.Prelude.{◌≡◌, ℕ, suc, false, List};
+
+/// Each choice of first parts, a line at a time and no durable part left out, gives a crash image, and each crash image comes
+/// of such a choice.
+pub fn images_are_choices()
+    ensures choice { (P : Program) → (I : Input) → (n : ℕ) → (pick : ℕ → ℕ) → IsValid P I →
+        IsCrashPick (run P I n) pick → IsCrashImage I (run P I n) (crash_image I (run P I n) pick) }
+    ensures image { (P : Program) → (I : Input) → (n : ℕ) → (content : List ℕ) → IsValid P I →
+        IsCrashImage I (run P I n) content →
+        (pick : ℕ → ℕ) × IsCrashPick (run P I n) pick × (crash_image I (run P I n) pick ≡ content) }
+{}
+
+/// Only a store into the region adds crash images, and only a fence takes some away.
+pub fn images_shrink()
+    ensures added { (P : Program) → (I : Input) → (n : ℕ) → (content : List ℕ) → stores (event P I (run P I n)) ≡ false →
+        IsCrashImage I (run P I (suc n)) content → IsCrashImage I (run P I n) content }
+    ensures removed { (P : Program) → (I : Input) → (n : ℕ) → (content : List ℕ) → fences (event P I (run P I n)) ≡ false →
+        IsCrashImage I (run P I n) content → IsCrashImage I (run P I (suc n)) content }
+{}

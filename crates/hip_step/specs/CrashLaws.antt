@@ -4,8 +4,8 @@ use Rattle.std.proofs.lemmas.List.{length-map}
 use Rattle.hip_ir.specs.declared.program.Program.{Program}
 use Rattle.hip_lines.specs.Image.{byte_after, IsLineImage, IsImage}
 use Rattle.hip_lines.specs.ImageLaws.{line_image-with_part, image_of-image, pick_of, pick_of-pick, image-image_of}
-use Rattle.hip_lines.specs.Line.{Line, IsOrdered, AreOrdered, map_line, with_part, has_bytes, stored}
-use Rattle.hip_lines.specs.LineLaws.{slice_get-change_range, ordered-at, ordered-change_from, ordered-flushed_line, ordered-map_line}
+use Rattle.hip_lines.specs.Line.{Line, IsOrdered, AreOrdered, with_part, has_bytes, stored}
+use Rattle.hip_lines.specs.LineLaws.{slice_get-change_range, ordered-at}
 use Rattle.hip_lines.specs.LooseLaws.{get-map}
 use Rattle.hip_typing.specs.Addresses.{region_size, end_of}
 use Rattle.hip_step.specs.declared.event.Event.{Event}
@@ -17,7 +17,7 @@ use Rattle.hip_step.specs.Persistence.{noted_flush, noted_fence, flush_line, fen
 use Rattle.hip_step.specs.Since.{stores, fences}
 use Rattle.hip_step.specs.State.{Flush, StorePart, State}
 use Rattle.hip_step.specs.Step.{event, run}
-use Rattle.hip_step.specs.StepLaws.{Cases, is_plain, met_lines, step-cases, length-lines}
+use Rattle.hip_step.specs.StepLaws.{Cases, met_lines, step-cases, length-lines, ordered-met_lines}
 use Rattle.hip_step.specs.Validity.{IsValid}
 
 -- ---- every image is a choice of first parts, and every choice gives an image
@@ -141,15 +141,12 @@ module _ (I : Input) (ls : List (Line StorePart)) where
           go true x i = line_image-with_part covers byte_of I.image content j (part j) x i
           go false x i = i
 
-ordered_flushed : (I : Input) (flush : Flush) (a n : ℕ) (ls : List (Line StorePart)) → AreOrdered ls → AreOrdered (met_lines I flush a n ls)
-ordered_flushed I flush a n ls o = ordered-change_from (λ _ l. flush_line flush l) (a - I.base) n (λ _ l h. ordered-flushed_line (map_line (noted_flush flush) l) (ordered-map_line (noted_flush flush) l h)) 0 ls o
-
 fewer : (I : Input) (s : State) → AreOrdered s.lines → Cases I s (λ e ls. stores e ≡ false → OnlyOf I s.lines ls)
 fewer I s o = record {
   plain = λ e p q content h. h;
   store = λ f fs t a bytes e q. absurd (let z : ⊥ = cc in z);
   flush = λ f fs t a n e q. fewer_flushed I s.lines _ a n;
-  persist = λ f fs t a n e q content h. fewer_flushed I s.lines _ a n content (fewer_fenced I _ (ordered_flushed I _ a n s.lines o) content h);
+  persist = λ f fs t a n e q content h. fewer_flushed I s.lines _ a n content (fewer_fenced I _ (ordered-met_lines I _ a n s.lines o) content h);
   fence = λ q. fewer_fenced I s.lines o;
 }
 

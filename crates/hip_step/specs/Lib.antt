@@ -17,3 +17,5 @@ pub mod HistoryLaws
 pub mod StepLaws
 pub mod Since
 pub mod CrashLaws
+pub mod DurableLaws
+pub mod SinceLaws

@@ -21,7 +21,7 @@ fences (events.Persist line size) = true
 fences _ = false
 
 -- whether cache line j of a region at a base lies in a range of whole lines
-abbrev has_line : ℕ → ℕ → ℕ → ℕ → Bool
+abbrev pub has_line : ℕ → ℕ → ℕ → ℕ → Bool
 has_line base j line size = nat_le line (base + 64 * j) && nat_lt (base + 64 * j) (line + size)
 
 -- whether a step with this event flushes cache line j of the region at a base

@@ -3,15 +3,15 @@ use Rattle.std.proofs.Common.{◌≡◌, ℕ, zero, suc, ◌+◌, ◌-◌, ◌*�
 use Rattle.std.proofs.lemmas.List.{length-map, length-replicate}
 use Rattle.hip_ir.specs.declared.program.Program.{Program}
 use Rattle.hip_mem.specs.Bytes.{little_endian}
-use Rattle.hip_lines.specs.Line.{Line, change_range, stored, with_part, fresh_lines}
-use Rattle.hip_lines.specs.LineLaws.{length-change_from}
+use Rattle.hip_lines.specs.Line.{Line, AreOrdered, map_line, change_range, stored, fresh_lines}
+use Rattle.hip_lines.specs.LineLaws.{length-change_from, ordered-change_from, ordered-flushed_line, ordered-map_line}
 use Rattle.hip_step.specs.declared.event.Ending.{Ending}
 use Rattle.hip_step.specs.declared.event.Ending.TheVariants.{Cut}
 use Rattle.hip_step.specs.declared.event.Event.{Event}
 use Rattle.hip_step.specs.declared.event.Event.TheVariants as events
 use Rattle.hip_step.specs.declared.input.Input.{Input}
 use Rattle.hip_step.specs.Actions.{Action, Traps, Assigns, Allocates, Stores, Flushes, Persists, Fences, Asserts, Prints, Reads, Calls, Jumps, Returns, Deed, in_region}
-use Rattle.hip_step.specs.Persistence.{part_of_store, stored_lines, flush_line, fence_line, flushes_lines, flushed_lines, fenced_lines}
+use Rattle.hip_step.specs.Persistence.{part_of_store, noted_flush, flush_line, fence_line, flushes_lines, flushed_lines, fenced_lines}
 use Rattle.hip_step.specs.State.{Flush, StorePart, Frame, World, Counts, State, levels_of, site_of}
 use Rattle.hip_step.specs.Step.{first_line, lines_size, event_of, stop, with_turn, leave, perform, is_cut, event_at, carry_out, deed_at, on_frames, on_ending, step, event_on_frames, event_on_ending, event, counted, start, run}
 
@@ -101,6 +101,9 @@ module _ (P : Program) (I : Input) (s : State) (Q : Event → List (Line StorePa
       go (Some e) q = c.plain _ refl
       go None q = on_them s.frames refl q
 
+pub ordered-met_lines : (I : Input) (flush : Flush) (a n : ℕ) (ls : List (Line StorePart)) → AreOrdered ls → AreOrdered (met_lines I flush a n ls)
+ordered-met_lines I flush a n ls o = ordered-change_from (λ _ l. flush_line flush l) (a - I.base) n (λ _ l h. ordered-flushed_line (map_line (noted_flush flush) l) (ordered-map_line (noted_flush flush) l h)) 0 ls o
+
 -- ---- how many lines there are
 
 same_length : (I : Input) (s : State) → Cases I s (λ e ls. length ls ≡ length s.lines)
@@ -117,3 +120,64 @@ pub length-lines : (P : Program) (I : Input) (n : ℕ) → length (run P I n).li
 unfolding run fresh_lines
 length-lines P I zero = length-replicate _ _
 length-lines P I (suc n) = step-cases P I (run P I n) (λ e ls. length ls ≡ length (run P I n).lines) (same_length I (run P I n)) ∙ length-lines P I n
+
+-- ---- how many steps were counted
+
+abbrev has_frame : List Frame → Bool
+has_frame [] = false
+has_frame (f ∷ fs) = true
+
+-- a frame stands, and while the run goes on, n steps were counted
+record IsCounted (s : State) (n : ℕ) : Type 0 where
+  stands : has_frame s.frames ≡ true
+  steps : s.world.ending ≡ None → s.counts.steps ≡ n
+
+leave_counted : (v : ℕ) (w : World) (f : Frame) (fs : List Frame) (ls : List (Line StorePart)) (after : Counts) (n : ℕ) → after.steps ≡ n → IsCounted (leave v w f fs ls after) n
+unfolding leave
+leave_counted v w f [] ls after n q = record { stands = refl; steps = λ g. q }
+leave_counted v w f (g ∷ fs) ls after n q = record { stands = refl; steps = λ g. q }
+
+perform_counted : (I : Input) (w : World) (f : Frame) (fs : List Frame) (ls : List (Line StorePart)) (before after : Counts) (n : ℕ) → after.steps ≡ n → (x : Action) → IsCounted (perform I w f fs ls before after x) n
+unfolding perform
+perform_counted I w f fs ls before after n q (Traps kind) = record { stands = refl; steps = λ g. q }
+perform_counted I w f fs ls before after n q (Assigns to v) = record { stands = refl; steps = λ g. q }
+perform_counted I w f fs ls before after n q (Allocates to a size) = record { stands = refl; steps = λ g. q }
+perform_counted I w f fs ls before after n q (Stores a bytes) = record { stands = refl; steps = λ g. q }
+perform_counted I w f fs ls before after n q (Flushes a size) = record { stands = refl; steps = λ g. q }
+perform_counted I w f fs ls before after n q (Persists a size) = record { stands = refl; steps = λ g. q }
+perform_counted I w f fs ls before after n q Fences = record { stands = refl; steps = λ g. q }
+perform_counted I w f fs ls before after n q (Asserts a size) = record { stands = refl; steps = λ g. q }
+perform_counted I w f fs ls before after n q (Prints z) = record { stands = refl; steps = λ g. q }
+perform_counted I w f fs ls before after n q (Reads to z rest) = record { stands = refl; steps = λ g. q }
+perform_counted I w f fs ls before after n q (Calls g rs to) = record { stands = refl; steps = λ g. q }
+perform_counted I w f fs ls before after n q (Jumps b rs) = record { stands = refl; steps = λ g. q }
+perform_counted I w f fs ls before after n q (Returns v) = leave_counted v w f fs ls after n q
+
+carry_counted : (I : Input) (w : World) (f : Frame) (fs : List Frame) (ls : List (Line StorePart)) (before after : Counts) (n : ℕ) → after.steps ≡ n → (d : Deed) → IsCounted (carry_out I w f fs ls before after d) n
+unfolding carry_out
+carry_counted I w f fs ls before after n q d = go (is_cut I w d)
+  where
+    go : (b : Bool) → IsCounted (cond b (stop Cut w (f ∷ fs) ls after) (perform I (cond d.turn (with_turn w) w) f fs ls before after d.action)) n
+    go true = record { stands = refl; steps = λ g. q }
+    go false = perform_counted I _ f fs ls before after n q d.action
+
+step_counted : (P : Program) (I : Input) (s : State) (n : ℕ) → IsCounted s n → IsCounted (step P I s) (suc n)
+unfolding step on_ending on_frames
+step_counted P I s n c = go s.world.ending refl
+  where
+    on_them : (fs : List Frame) → s.frames ≡ fs → s.world.ending ≡ None → IsCounted (on_frames P I s.world s.lines s.counts fs) (suc n)
+    on_them [] q e = absurd (let h : false ≡ true = sym (ap has_frame q) ∙ c.stands in let z : ⊥ = cc in z)
+    on_them (f ∷ fs) q e = carry_counted I s.world f fs s.lines s.counts _ (suc n) (ap suc (c.steps e)) (deed_at P I s.world f fs)
+
+    go : (o : Option Ending) → s.world.ending ≡ o → IsCounted (on_ending P I s o) (suc n)
+    go (Some e) q = record { stands = c.stands; steps = λ g. absurd (let h : Some e ≡ None = sym q ∙ g in let z : ⊥ = cc in z) }
+    go None q = on_them s.frames refl q
+
+run_counted : (P : Program) (I : Input) (n : ℕ) → IsCounted (run P I n) n
+unfolding run
+run_counted P I zero = record { stands = refl; steps = λ g. refl }
+run_counted P I (suc n) = step_counted P I (run P I n) n (run_counted P I n)
+
+-- while a run goes on, it counts its steps
+pub counted-steps : (P : Program) (I : Input) (n : ℕ) → (run P I n).world.ending ≡ None → (run P I n).counts.steps ≡ n
+counted-steps P I n g = (run_counted P I n).steps g

@@ -2,11 +2,12 @@
 
 ghost use Rattle.hip_ir.specs.declared.program.Program.{Program};
 ghost use Rattle.hip_step.specs.Crash.{IsCrashImage, IsCrashPick, crash_image};
-ghost use Rattle.hip_step.specs.Since.{stores, fences};
+ghost use Rattle.hip_step.specs.Since.{stores, fences, IsDurableAt};
+ghost use Rattle.hip_step.specs.State.{StorePart};
 ghost use Rattle.hip_step.specs.Step.{event, run};
 ghost use Rattle.hip_step.specs.Validity.{IsValid};
 ghost use Rattle.hip_step.specs.declared.input.Input.{Input};
-ghost use Rattle.std.specs.Prelude.{◌≡◌, ℕ, suc, false, List};
+ghost use Rattle.std.specs.Prelude.{◌≡◌, ℕ, suc, ◌+◌, false, List};
 
 /// Each choice of first parts, a line at a time and no durable part left out, gives a crash image, and each crash image comes
 /// of such a choice.
@@ -24,4 +25,10 @@ pub fn images_shrink()
         IsCrashImage I (run P I (suc n)) content → IsCrashImage I (run P I n) content }
     ensures removed { (P : Program) → (I : Input) → (n : ℕ) → (content : List ℕ) → fences (event P I (run P I n)) ≡ false →
         IsCrashImage I (run P I n) content → IsCrashImage I (run P I (suc n)) content }
+{}
+
+/// A part of a store that is durable stays durable, at its place in its line, and as it is.
+pub fn durable_stores_stay_durable()
+    ensures { (P : Program) → (I : Input) → (n d line place : ℕ) → (part : StorePart) →
+        IsDurableAt (run P I n) line place part → IsDurableAt (run P I (n + d)) line place part }
 {}

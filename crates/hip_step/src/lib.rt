@@ -7,7 +7,6 @@ mod input;
 mod report;
 
 pub use event::{Ending, Event, Object, TrapKind};
-pub use history::images_are_choices;
-pub use history::images_shrink;
+pub use history::{durable_stores_stay_durable, images_are_choices, images_shrink};
 pub use input::{Input, InputFault};
 pub use report::{Findings, Kind, Mark, Marks, Report};

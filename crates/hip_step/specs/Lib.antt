@@ -15,3 +15,8 @@ pub mod History
 pub mod PartLaws
 pub mod HistoryLaws
 pub mod Ends
+pub mod StepLaws
+pub mod Since
+pub mod CrashLaws
+pub mod DurableLaws
+pub mod SinceLaws

@@ -25,10 +25,10 @@ state w fs ls counts = record { world = w; frames = fs; lines = ls; counts = cou
 -- ---- events
 
 -- the first cache line of a range in the region, and 64 times how many lines have a byte of it
-abbrev first_line : Input → ℕ → ℕ
+abbrev pub first_line : Input → ℕ → ℕ
 first_line I a = I.base + 64 * ((a - I.base) / 64)
 
-abbrev lines_size : Input → ℕ → ℕ → ℕ
+abbrev pub lines_size : Input → ℕ → ℕ → ℕ
 lines_size I a n = 64 * (((a - I.base) + n - 1) / 64 + 1) - 64 * ((a - I.base) / 64)
 
 abbrev pub is_bottom : List Frame → Bool

@@ -2,11 +2,16 @@
 #![tactic(auto)]
 
 mod event;
+mod history;
 mod input;
 mod laws;
 mod report;
 
 pub use event::{Ending, Event, Object, TrapKind};
+pub use history::{
+    durable_stores_stay_durable, fences_are_told, first_flushes_are_told, images_are_choices,
+    images_shrink,
+};
 pub use input::{Input, InputFault};
 pub use laws::{parts_carry_their_history, runs_end};
 pub use report::{Findings, Kind, Mark, Marks, Report};

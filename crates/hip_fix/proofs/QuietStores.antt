@@ -1,27 +1,24 @@
 -- The stores whose address is a register assigned by `alloca`, or a volatile global itself, never lie in the region.
-use Rattle.std.proofs.Common.{◌≡◌, ℕ, zero, suc, ◌+◌, ◌%◌, ◌^◌, ◌≤◌, ◌<◌, Bool, true, false, cond, ◌&&◌, nat_le, nat_eq, List, [], ◌∷◌, length, drop, Option, Some, None, slice_get, refl, sym, ap, ◌∙◌, subst, arith, leb-true}
+use Rattle.std.proofs.Common.{◌≡◌, ℕ, zero, suc, ◌%◌, ◌<◌, Bool, true, false, cond, nat_le, nat_eq, List, [], ◌∷◌, length, drop, Option, Some, None, slice_get, refl, sym, ap, ◌∙◌, subst, arith, leb-true}
 use Rattle.hip_ir.specs.Sites.{instr_of}
 use Rattle.hip_ir.specs.declared.instr.Instr.{Instr}
 use Rattle.hip_ir.specs.declared.instr.Instr.TheVariants.{Binary, Compare, Select, Cast, Alloca, Load, Store, Gep, Call}
 use Rattle.hip_ir.specs.declared.instr.Operand.{Operand}
 use Rattle.hip_ir.specs.declared.instr.Operand.TheVariants.{Reg, Fixed}
 use Rattle.hip_ir.specs.declared.program.Program.{Program}
-use Rattle.hip_ir.specs.declared.site.Site.{Site}
 use Rattle.hip_lines.specs.Line.{Line}
-use Rattle.hip_mem.specs.Bytes.{little_endian, bytes_of}
-use Rattle.hip_mem.specs.Memory.{stack_end}
+use Rattle.hip_mem.specs.Bytes.{little_endian}
 use Rattle.hip_typing.specs.Sound.{IsSound}
 use Rattle.hip_step.specs.declared.event.Ending.{Ending}
 use Rattle.hip_step.specs.declared.event.Ending.TheVariants.{Cut}
-use Rattle.hip_step.specs.declared.event.Event.{Event}
 use Rattle.hip_step.specs.declared.event.Event.TheVariants as events
 use Rattle.hip_step.specs.declared.event.TrapKind.TheVariants as traps
 use Rattle.hip_step.specs.declared.input.Input.{Input}
 use Rattle.hip_step.specs.Actions.{Action, Traps, Assigns, Allocates, Stores, Flushes, Persists, Fences, Asserts, Prints, Reads, Calls, Jumps, Returns, Deed, in_region, are_valid, accessed, instr_action, deed_of}
-use Rattle.hip_step.specs.Operands.{value_of, scalar_size, access_align}
+use Rattle.hip_step.specs.Operands.{value_of}
 use Rattle.hip_step.specs.Places.{blocks_of, body_at, code_at, end_at}
-use Rattle.hip_step.specs.State.{Registers, StorePart, Frame, World, Counts, State, site_of}
-use Rattle.hip_step.specs.Step.{stop, with_turn, leave, perform, is_cut, carry_out, deed_at, on_frames, on_ending, step, start, event_of, event_at, event_on_frames, event_on_ending, event, counted, run}
+use Rattle.hip_step.specs.State.{StorePart, Frame, World, Counts, State, site_of}
+use Rattle.hip_step.specs.Step.{stop, with_turn, leave, perform, is_cut, carry_out, deed_at, on_frames, on_ending, step, event_of, event_at, event_on_frames, event_on_ending, event, counted, run}
 use Rattle.hip_step.specs.Validity.{IsValid}
 use Rattle.hip_fix.specs.Direct.{is_outside, stores_outside, direct}
 use Rattle.hip_fix.specs.Quiet.{stores_in_region, IsQuiet}

@@ -1,5 +1,5 @@
 -- A register that an `alloca` assigns holds an address of the stack, or nothing yet.
-use Rattle.std.proofs.Common.{◌≡◌, ℕ, zero, suc, ◌+◌, ◌%◌, ◌≤◌, Bool, true, false, cond, nat_le, nat_lt, nat_eq, List, [], ◌∷◌, map, length, Option, Some, None, slice_get, refl, sym, ap, ◌∙◌, subst, arith, leb-true}
+use Rattle.std.proofs.Common.{◌≡◌, ℕ, ◌+◌, ◌%◌, ◌≤◌, Bool, true, false, cond, nat_le, nat_lt, nat_eq, List, [], ◌∷◌, map, Option, Some, None, slice_get, refl, sym, subst, arith, leb-true}
 use Rattle.std.specs.Prelude.{Result, Ok, Err, ℤ}
 use Rattle.std.specs.Cmp.Lexicographic.{nat_list_eq_equiv}
 use Rattle.std.specs.Int.{next_multiple_of}
@@ -27,12 +27,12 @@ use Rattle.hip_typing.specs.declared.externs.ExternCall.{ExternCall}
 use Rattle.hip_typing.specs.declared.externs.ExternCall.TheVariants as calls
 use Rattle.hip_step.specs.declared.event.TrapKind.TheVariants as traps
 use Rattle.hip_step.specs.declared.input.Input.{Input}
-use Rattle.hip_step.specs.Actions.{Action, Traps, Assigns, Allocates, Stores, Flushes, Persists, Fences, Asserts, Prints, Reads, Calls, Jumps, Returns, in_region, are_valid, accessed, calculated, allocated, numbered_call, entered, flushing, read_next, extern_action, call_action, instr_action, after_phis, jump_to, jump, end_action, deed_of}
+use Rattle.hip_step.specs.Actions.{Action, Traps, Assigns, Allocates, Asserts, Reads, Calls, Jumps, in_region, are_valid, accessed, calculated, allocated, numbered_call, entered, flushing, read_next, extern_action, call_action, instr_action, after_phis, jump_to, jump, end_action, deed_of}
 use Rattle.hip_step.specs.Operands.{look_up, assigned, bound}
 use Rattle.hip_step.specs.Places.{blocks_in, blocks_of, block_at, body_of, phis_of, label_of, body_at, code_at, end_at}
 use Rattle.hip_step.specs.State.{Registers, Frame, World}
 use Rattle.hip_fix.specs.Direct.{allocates, allocates_in}
-use Rattle.hip_fix.proofs.AssignedOnce.{names_of_instr, Once, only_alloca, no_phi, no_parameter, differ_inside, once}
+use Rattle.hip_fix.proofs.AssignedOnce.{names_of_instr, only_alloca, no_phi, no_parameter, differ_inside, once}
 use Rattle.hip_fix.proofs.Blocks.{get_drop}
 use Rattle.hip_fix.proofs.NamesAgain.{not_true, not_false}
 

@@ -19,3 +19,4 @@ pub mod Since
 pub mod CrashLaws
 pub mod DurableLaws
 pub mod SinceLaws
+pub mod OrderLaws

@@ -1,5 +1,5 @@
 -- What came in a run since one of its steps: fences, and flushes of a cache line.
-use Rattle.std.specs.Prelude.{◌≡◌, ℕ, ◌+◌, ◌*◌, ◌<◌, Bool, true, false, ◌&&◌, nat_le, nat_lt, List, [], ◌∷◌, Option, Some, None, slice_get}
+use Rattle.std.specs.Prelude.{◌≡◌, ℕ, ◌+◌, ◌*◌, ◌<◌, ◌≤◌, Bool, true, false, ◌&&◌, nat_le, nat_lt, List, [], ◌∷◌, Option, Some, None, slice_get}
 use Rattle.hip_ir.specs.declared.program.Program.{Program}
 use Rattle.hip_ir.specs.declared.site.Site.{Site}
 use Rattle.hip_lines.specs.Line.{Line}
@@ -56,7 +56,30 @@ abbrev pub IsFirstFlush : Program → Input → ℕ → ℕ → ℕ → Option F
 IsFirstFlush P I j from n None = NotFlushedSince P I j from n
 IsFirstFlush P I j from n (Some flush) = IsFirst P I j from n flush
 
--- ---- durable parts
+-- a step between step `from` and step n flushes cache line j
+abbrev pub FlushedSince : Program → Input → ℕ → ℕ → ℕ → Type 0
+FlushedSince P I j from n = (m : ℕ) × (from < m) × (m < n) × (flushes I.base j (event P I (run P I m)) ≡ true)
+
+-- A step after step `from` flushes cache line j, and before step n a fence comes with it or after it. (Intel's manual: a line is
+-- durable where it was flushed and a fence came behind the flush.)
+pub record IsFlushedThenFenced (P : Program) (I : Input) (j from n : ℕ) : Type 0 where
+  pub flush : ℕ
+  pub fence : ℕ
+  pub after : from < flush
+  pub ordered : flush ≤ fence
+  pub before : fence < n
+  pub flushed : flushes I.base j (event P I (run P I flush)) ≡ true
+  pub fenced : fences (event P I (run P I fence)) ≡ true
+
+-- ---- parts at their places
+
+abbrev pub IsPartIn : Option (Line StorePart) → ℕ → StorePart → Type 0
+IsPartIn None k x = ⊥
+IsPartIn (Some l) k x = slice_get l.parts k ≡ Some x
+
+-- the part stands at place k of cache line m
+abbrev pub IsPartAt : State → ℕ → ℕ → StorePart → Type 0
+IsPartAt s m k x = IsPartIn (slice_get s.lines m) k x
 
 abbrev pub IsDurableIn : Option (Line StorePart) → ℕ → StorePart → Type 0
 IsDurableIn None k x = ⊥

@@ -19,7 +19,7 @@ use Rattle.hip_step.specs.StepLaws.{Cases, IsTop, is_plain, flush_here, met_line
 
 -- ---- one step more
 
-below : (m n : ℕ) → m < suc n → (m < n) ⊎ (m ≡ n)
+pub below : (m n : ℕ) → m < suc n → (m < n) ⊎ (m ≡ n)
 below m n h = grind arith
 
 module _ (P : Program) (I : Input) (n : ℕ) where
@@ -132,7 +132,7 @@ abbrev InLine : Option (Line StorePart) → StorePart → Type 0
 InLine None x = ⊥
 InLine (Some l) x = In x l.parts
 
-get_mapped : {A B : Type 0} (f : A → B) (xs : List A) (k : ℕ) → slice_get (map f xs) k ≡ option_map f (slice_get xs k)
+pub get_mapped : {A B : Type 0} (f : A → B) (xs : List A) (k : ℕ) → slice_get (map f xs) k ≡ option_map f (slice_get xs k)
 get_mapped f [] zero = refl
 get_mapped f [] (suc k) = refl
 get_mapped f (x ∷ xs) zero = refl
@@ -187,13 +187,35 @@ there_line base o n j lt h = grind (arith, nat_tests)
 some_bytes : (n : ℕ) (b : Bool) → nat_lt 0 n && b ≡ true → 0 < n
 some_bytes n b h = grind (arith, nat_tests)
 
-line_met : (I : Input) (a n j : ℕ) → flushes_lines I a n ≡ true → has_line I.base j (first_line I a) (lines_size I a n) ≡ has_bytes j (a - I.base) n
+pub line_met : (I : Input) (a n j : ℕ) → flushes_lines I a n ≡ true → has_line I.base j (first_line I a) (lines_size I a n) ≡ has_bytes j (a - I.base) n
 line_met I a n j h =
     let lt = some_bytes n (in_region I a n) h in
     both_ways _ _ (line_there I.base (a - I.base) n j lt) (there_line I.base (a - I.base) n j lt)
 
 line_of_start : (o n j : ℕ) → has_bytes j o n ≡ true → start_in j o / 64 ≡ j
 line_of_start o n j h = grind (arith, nat_tests)
+
+-- ---- events that are neither a fence nor a flush
+
+pub plain_fences : (e : Event) → is_plain e ≡ true → fences e ≡ false
+plain_fences events.Quiet p = refl
+plain_fences (events.Print z) p = refl
+plain_fences (events.Store addr value size) p = refl
+plain_fences (events.Flush line size) p = refl
+plain_fences (events.Persist line size) p = absurd (let z : ⊥ = cc in z)
+plain_fences events.Fence p = absurd (let z : ⊥ = cc in z)
+plain_fences (events.Assert addr size) p = refl
+plain_fences (events.End e) p = refl
+
+pub plain_flushes : (base j : ℕ) (e : Event) → is_plain e ≡ true → flushes base j e ≡ false
+plain_flushes base j events.Quiet p = refl
+plain_flushes base j (events.Print z) p = refl
+plain_flushes base j (events.Store addr value size) p = refl
+plain_flushes base j (events.Flush line size) p = absurd (let z : ⊥ = cc in z)
+plain_flushes base j (events.Persist line size) p = absurd (let z : ⊥ = cc in z)
+plain_flushes base j events.Fence p = refl
+plain_flushes base j (events.Assert addr size) p = refl
+plain_flushes base j (events.End e) p = refl
 
 -- ---- a step
 
@@ -204,32 +226,12 @@ module _ (P : Program) (I : Input) (n : ℕ) where
   here : (f : Frame) (fs : List Frame) → IsTop (run P I n) f fs → IsHere P I n (flush_here (run P I n) f)
   here f fs t = record { step = counted-steps P I n t.going; site = ap top_site t.frames }
 
-  plain_fences : (e : Event) → is_plain e ≡ true → fences e ≡ false
-  plain_fences events.Quiet p = refl
-  plain_fences (events.Print z) p = refl
-  plain_fences (events.Store addr value size) p = refl
-  plain_fences (events.Flush line size) p = refl
-  plain_fences (events.Persist line size) p = absurd (let z : ⊥ = cc in z)
-  plain_fences events.Fence p = absurd (let z : ⊥ = cc in z)
-  plain_fences (events.Assert addr size) p = refl
-  plain_fences (events.End e) p = refl
-
-  plain_flushes : (j : ℕ) (e : Event) → is_plain e ≡ true → flushes I.base j e ≡ false
-  plain_flushes j events.Quiet p = refl
-  plain_flushes j (events.Print z) p = refl
-  plain_flushes j (events.Store addr value size) p = refl
-  plain_flushes j (events.Flush line size) p = absurd (let z : ⊥ = cc in z)
-  plain_flushes j (events.Persist line size) p = absurd (let z : ⊥ = cc in z)
-  plain_flushes j events.Fence p = refl
-  plain_flushes j (events.Assert addr size) p = refl
-  plain_flushes j (events.End e) p = refl
-
   abbrev Next : Event → List (Line StorePart) → Type 0
   Next e ls = event P I (run P I n) ≡ e → AreTold (suc n) ls
 
   told_cases : AreTold n (run P I n).lines → Cases I (run P I n) Next
   told_cases told = record {
-    plain = λ e p q j x i. told_same P I n j (ap fences q ∙ plain_fences e p) (ap (flushes I.base j) q ∙ plain_flushes j e p) x (told j x i);
+    plain = λ e p q j x i. told_same P I n j (ap fences q ∙ plain_fences e p) (ap (flushes I.base j) q ∙ plain_flushes I.base j e p) x (told j x i);
     store = λ f fs t a bytes e q j x i. by_store f fs t a bytes e q j x (of_stored _ (a - I.base) (length bytes) _ j x i);
     flush = λ f fs t a m e q j y i. let r = of_flushed I _ a m _ j y i in subst (IsTold P I (suc n) j) (sym r.2) (by_flush f fs t a m j r.0 q (has_bytes j (a - I.base) m) (line_met I a m j e) (told j r.0 r.1));
     persist = λ f fs t a m e q j z i.

@@ -3,7 +3,7 @@
 ghost use Rattle.hip_ir.specs.declared.program.Program.{Program};
 ghost use Rattle.hip_step.specs.Crash.{IsCrashImage, IsCrashPick, crash_image};
 ghost use Rattle.hip_step.specs.Parts.{PartOf};
-ghost use Rattle.hip_step.specs.Since.{stores, fences, FencedSince, IsFirstFlush, IsDurableAt};
+ghost use Rattle.hip_step.specs.Since.{stores, fences, FencedSince, IsFirstFlush, IsFlushedThenFenced, IsPartAt, IsDurableAt};
 ghost use Rattle.hip_step.specs.State.{Flush, StorePart};
 ghost use Rattle.hip_step.specs.Step.{event, run};
 ghost use Rattle.hip_step.specs.Validity.{IsValid};
@@ -26,6 +26,15 @@ pub fn images_shrink()
         IsCrashImage I (run P I (suc n)) content → IsCrashImage I (run P I n) content }
     ensures removed { (P : Program) → (I : Input) → (n : ℕ) → (content : List ℕ) → fences (event P I (run P I n)) ≡ false →
         IsCrashImage I (run P I n) content → IsCrashImage I (run P I (suc n)) content }
+{}
+
+/// A part of a store is durable exactly where its cache line was flushed after the store, and a fence came with the flush or
+/// behind it.
+pub fn durable_stores_were_flushed_then_fenced()
+    ensures came { (P : Program) → (I : Input) → (n line place : ℕ) → (part : StorePart) →
+        IsDurableAt (run P I n) line place part → IsFlushedThenFenced P I line part.step n }
+    ensures durable { (P : Program) → (I : Input) → (n line place : ℕ) → (part : StorePart) →
+        IsPartAt (run P I n) line place part → IsFlushedThenFenced P I line part.step n → IsDurableAt (run P I n) line place part }
 {}
 
 /// A part of a store that is durable stays durable, at its place in its line, and as it is.

@@ -34,3 +34,4 @@ pub mod CloneFlushed
 pub mod Moves
 pub mod SinceCall
 pub mod FencedCalls
+pub mod worked

@@ -1,9 +1,11 @@
 //! Repairs of programs: flushes and fences that are inserted, and clones that flush what they store.
 #![tactic(auto)]
 
+mod examples;
 mod laws;
 mod plan;
 
+pub use examples::one_store_is_repaired;
 pub use laws::{
     hoisted_calls_are_covered, repaired_is_sound, repairs_are_clean, repairs_do_no_harm,
 };

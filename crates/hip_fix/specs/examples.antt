@@ -1,2 +1,5 @@
 pub mod Words
 pub mod OneStore
+pub mod FenceWithoutFlush
+pub mod FlushWithoutFence
+pub mod OverwrittenStore

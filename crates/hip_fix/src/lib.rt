@@ -5,7 +5,10 @@ mod examples;
 mod laws;
 mod plan;
 
-pub use examples::one_store_is_repaired;
+pub use examples::{
+    fence_without_flush_is_repaired, flush_without_fence_is_repaired, one_store_is_repaired,
+    overwritten_store_is_repaired,
+};
 pub use laws::{
     hoisted_calls_are_covered, repaired_is_sound, repairs_are_clean, repairs_do_no_harm,
 };

@@ -3,3 +3,4 @@ pub mod OneStore
 pub mod FenceWithoutFlush
 pub mod FlushWithoutFence
 pub mod OverwrittenStore
+pub mod StoreInTwoLines

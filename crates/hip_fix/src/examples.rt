@@ -16,6 +16,11 @@ ghost use Rattle.hip_fix.specs.examples.OverwrittenStore.{
   overwritten_store_repaired,
   overwritten_store_report,
 };
+ghost use Rattle.hip_fix.specs.examples.StoreInTwoLines.{
+  store_in_two_lines,
+  store_in_two_lines_repaired,
+  store_in_two_lines_report,
+};
 ghost use Rattle.hip_fix.specs.examples.Words.{IsWorked, zeroed};
 ghost use Rattle.std.specs.Prelude.{[], ◌∷◌};
 
@@ -37,4 +42,9 @@ pub fn flush_without_fence_is_repaired()
 /// A store that a second one overwrites: the second alone is reported, and the flush and the fence go behind it.
 pub fn overwritten_store_is_repaired()
     ensures { IsWorked overwritten_store (zeroed 1) 3 (overwritten_store_report ∷ []) overwritten_store_repaired }
+{}
+
+/// A store that lies in two cache lines: a flush of its eight bytes and a fence go behind it.
+pub fn store_in_two_lines_is_repaired()
+    ensures { IsWorked store_in_two_lines (zeroed 2) 2 (store_in_two_lines_report ∷ []) store_in_two_lines_repaired }
 {}

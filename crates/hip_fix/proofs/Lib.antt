@@ -39,3 +39,4 @@ pub mod Moves
 pub mod SinceCall
 pub mod FencedCalls
 pub mod HoistsFenced
+pub mod worked

@@ -6,3 +6,4 @@ pub mod Quiet
 pub mod Choice
 pub mod Clean
 pub mod Covered
+pub mod examples

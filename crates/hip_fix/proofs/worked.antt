@@ -1,0 +1,6 @@
+pub mod Runs
+pub mod OneStore
+pub mod FenceWithoutFlush
+pub mod FlushWithoutFence
+pub mod OverwrittenStore
+pub mod StoreInTwoLines

@@ -1,0 +1,50 @@
+//! Small programs with the reports of their runs and their repairs, worked out by the definitions.
+
+ghost use Rattle.hip_fix.specs.examples.FenceWithoutFlush.{
+  fence_without_flush,
+  fence_without_flush_repaired,
+  fence_without_flush_report,
+};
+ghost use Rattle.hip_fix.specs.examples.FlushWithoutFence.{
+  flush_without_fence,
+  flush_without_fence_repaired,
+  flush_without_fence_report,
+};
+ghost use Rattle.hip_fix.specs.examples.OneStore.{one_store, one_store_repaired, one_store_report};
+ghost use Rattle.hip_fix.specs.examples.OverwrittenStore.{
+  overwritten_store,
+  overwritten_store_repaired,
+  overwritten_store_report,
+};
+ghost use Rattle.hip_fix.specs.examples.StoreInTwoLines.{
+  store_in_two_lines,
+  store_in_two_lines_repaired,
+  store_in_two_lines_report,
+};
+ghost use Rattle.hip_fix.specs.examples.Words.{IsWorked, zeroed};
+ghost use Rattle.std.specs.Prelude.{[], ◌∷◌};
+
+/// A store that is neither flushed nor fenced: a flush and a fence go behind it, with both declarations.
+pub fn one_store_is_repaired()
+    ensures { IsWorked one_store (zeroed 1) 2 (one_store_report ∷ []) one_store_repaired }
+{}
+
+/// A store with a fence and no flush behind it: the flush goes between them.
+pub fn fence_without_flush_is_repaired()
+    ensures { IsWorked fence_without_flush (zeroed 1) 3 (fence_without_flush_report ∷ []) fence_without_flush_repaired }
+{}
+
+/// A store with a flush and no fence behind it: the fence goes behind the flush.
+pub fn flush_without_fence_is_repaired()
+    ensures { IsWorked flush_without_fence (zeroed 1) 3 (flush_without_fence_report ∷ []) flush_without_fence_repaired }
+{}
+
+/// A store that a second one overwrites: the second alone is reported, and the flush and the fence go behind it.
+pub fn overwritten_store_is_repaired()
+    ensures { IsWorked overwritten_store (zeroed 1) 3 (overwritten_store_report ∷ []) overwritten_store_repaired }
+{}
+
+/// A store that lies in two cache lines: a flush of its eight bytes and a fence go behind it.
+pub fn store_in_two_lines_is_repaired()
+    ensures { IsWorked store_in_two_lines (zeroed 2) 2 (store_in_two_lines_report ∷ []) store_in_two_lines_repaired }
+{}

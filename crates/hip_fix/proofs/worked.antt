@@ -4,3 +4,5 @@ pub mod FenceWithoutFlush
 pub mod FlushWithoutFence
 pub mod OverwrittenStore
 pub mod StoreInTwoLines
+pub mod Marked
+pub mod CopyHoisted

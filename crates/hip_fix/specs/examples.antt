@@ -4,3 +4,4 @@ pub mod FenceWithoutFlush
 pub mod FlushWithoutFence
 pub mod OverwrittenStore
 pub mod StoreInTwoLines
+pub mod CopyHoisted

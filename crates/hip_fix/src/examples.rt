@@ -1,5 +1,10 @@
 //! Small programs with the reports of their runs and their repairs, worked out by the definitions.
 
+ghost use Rattle.hip_fix.specs.examples.CopyHoisted.{
+  copy_hoisted,
+  copy_hoisted_repaired,
+  copy_hoisted_report,
+};
 ghost use Rattle.hip_fix.specs.examples.FenceWithoutFlush.{
   fence_without_flush,
   fence_without_flush_repaired,
@@ -21,7 +26,7 @@ ghost use Rattle.hip_fix.specs.examples.StoreInTwoLines.{
   store_in_two_lines_repaired,
   store_in_two_lines_report,
 };
-ghost use Rattle.hip_fix.specs.examples.Words.{IsWorked, zeroed};
+ghost use Rattle.hip_fix.specs.examples.Words.{IsHoisted, IsWorked, zeroed};
 ghost use Rattle.std.specs.Prelude.{[], ◌∷◌};
 
 /// A store that is neither flushed nor fenced: a flush and a fence go behind it, with both declarations.
@@ -47,4 +52,10 @@ pub fn overwritten_store_is_repaired()
 /// A store that lies in two cache lines: a flush of its eight bytes and a fence go behind it.
 pub fn store_in_two_lines_is_repaired()
     ensures { IsWorked store_in_two_lines (zeroed 2) 2 (store_in_two_lines_report ∷ []) store_in_two_lines_repaired }
+{}
+
+/// A function that is called once for the stack and once for a persistent global: the second call goes to a clone that flushes
+/// what it stores, with a fence behind the call.
+pub fn copy_is_hoisted()
+    ensures { IsHoisted copy_hoisted (zeroed 1) 12 (copy_hoisted_report ∷ []) copy_hoisted_repaired }
 {}

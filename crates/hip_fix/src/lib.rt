@@ -6,8 +6,8 @@ mod laws;
 mod plan;
 
 pub use examples::{
-    fence_without_flush_is_repaired, flush_without_fence_is_repaired, one_store_is_repaired,
-    overwritten_store_is_repaired, store_in_two_lines_is_repaired,
+    copy_is_hoisted, fence_without_flush_is_repaired, flush_without_fence_is_repaired,
+    one_store_is_repaired, overwritten_store_is_repaired, store_in_two_lines_is_repaired,
 };
 pub use laws::{
     direct_stores_are_quiet, hoisted_calls_are_covered, hoisted_calls_are_fenced,

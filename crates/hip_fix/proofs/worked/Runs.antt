@@ -72,7 +72,7 @@ step_done P I s d e n = ap (on_ending P I s) e ∙ framed s.frames n
     framed [] h = refl
     framed (f ∷ fs) h = ap (λ (x : Deed). carry_out I s.world f fs s.lines s.counts (counted (event_at I s.world fs x) s.counts) x) h
 
-event_shown : (P : Program) (I : Input) (s : State) (d : Deed) → s.world.ending ≡ None → next_deed P I s ≡ d → event P I s ≡ shown I s d
+pub event_shown : (P : Program) (I : Input) (s : State) (d : Deed) → s.world.ending ≡ None → next_deed P I s ≡ d → event P I s ≡ shown I s d
 unfolding event
 event_shown P I s d e n = ap (event_on_ending P I s) e ∙ framed s.frames n
   where
@@ -100,7 +100,7 @@ abbrev pub told : Input → State → List Deed → List Report
 told I s [] = []
 told I s (d ∷ ds) = check_reports s (checked_by I (shown I s d)) ++ told I (done I s d) ds
 
-run_next : (P : Program) (I : Input) (n : ℕ) (s : State) (d : Deed) → run P I n ≡ s → s.world.ending ≡ None → next_deed P I s ≡ d → run P I (suc n) ≡ done I s d
+pub run_next : (P : Program) (I : Input) (n : ℕ) (s : State) (d : Deed) → run P I n ≡ s → s.world.ending ≡ None → next_deed P I s ≡ d → run P I (suc n) ≡ done I s d
 unfolding run
 run_next P I n s d r e h = ap (step P I) r ∙ step_done P I s d e h
 

@@ -17,6 +17,7 @@ use Rattle.hip_ir.specs.declared.instr.Operand.TheVariants.{Reg, Fixed}
 use Rattle.hip_ir.specs.declared.program.Extern.{Extern}
 use Rattle.hip_ir.specs.declared.program.Function.{Function}
 use Rattle.hip_ir.specs.declared.program.GlobalVar.{GlobalVar}
+use Rattle.hip_ir.specs.declared.program.Param.{Param}
 use Rattle.hip_ir.specs.declared.program.Program.{Program}
 use Rattle.hip_ir.specs.declared.site.Site.{Site}
 use Rattle.hip_step.specs.declared.input.Input.{Input}
@@ -51,6 +52,13 @@ persistent_i64 name = record { name = name; fixed = false; ty = types.Int W64; i
 abbrev pub store_i64 : Operand → Operand → Instr
 store_i64 value addr = instrs.Store (Int W64) value addr None
 
+-- `%NAME = alloca i64`, and `%NAME = load i64, ptr ADDR`
+abbrev pub alloca_i64 : List ℕ → Instr
+alloca_i64 name = instrs.Alloca name (types.Int W64) None
+
+abbrev pub load_i64 : List ℕ → Operand → Instr
+load_i64 name addr = instrs.Load name (Int W64) addr None
+
 -- `call void @NAME(ARGS)`
 abbrev pub call_void : List ℕ → List Arg → Instr
 call_void name args = instrs.Call None None name args
@@ -79,6 +87,21 @@ main_of body =
       blocks = record { label = codes "entry"; phis = []; body = body; end = ends.Ret (Some (record { ty = Int W32; value = Fixed (consts.Int (bits W32 0)) })) } ∷ [];
     }
 
+-- `ptr %NAME` and `i64 %NAME` as parameters
+abbrev pub ptr_param : List ℕ → Param
+ptr_param name = record { ty = Ptr; name = name }
+
+abbrev pub i64_param : List ℕ → Param
+i64_param name = record { ty = Int W64; name = name }
+
+-- `LABEL: BODY` with `ret void`
+abbrev pub ret_void : List ℕ → List Instr → Block
+ret_void label body = record { label = label; phis = []; body = body; end = ends.Ret None }
+
+-- `define void @NAME(PARAMS) { BLOCKS }`
+abbrev pub define_void : List ℕ → List Param → List Block → Function
+define_void name params blocks = record { ret = None; name = name; params = params; blocks = blocks }
+
 -- the site of an instruction in the first block of a function
 abbrev pub site : ℕ → ℕ → Site
 site function index = record { function = function; block = 0; index = index }
@@ -93,3 +116,9 @@ pub record IsWorked (P : Program) (I : Input) (steps : ℕ) (found : List Report
   pub ended : has_ended (run P I steps) ≡ true
   pub reports : reports P I steps ≡ found
   pub repaired : (skip : Site → Bool) → repaired P (plan_for P (findings P I steps)) skip ≡ Q
+
+-- The same of a program with calls to hoist, where each store in a clone is flushed.
+pub record IsHoisted (P : Program) (I : Input) (steps : ℕ) (found : List Report) (Q : Program) : Type 0 where
+  pub ended : has_ended (run P I steps) ≡ true
+  pub reports : reports P I steps ≡ found
+  pub repaired : repaired P (plan_for P (findings P I steps)) (λ s. false) ≡ Q

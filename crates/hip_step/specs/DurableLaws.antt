@@ -1,10 +1,9 @@
 -- A durable part of a store stays durable, and stays as it is.
-use Rattle.std.proofs.Common.{◌≡◌, ℕ, zero, suc, ◌+◌, ◌-◌, ◌<◌, ◌≤◌, Bool, true, false, cond, List, [], ◌∷◌, ◌++◌, length, map, Option, Some, None, option_map, slice_get, refl, sym, ap, ◌∙◌, subst, arith}
+use Rattle.std.proofs.Common.{◌≡◌, ℕ, zero, suc, ◌+◌, ◌-◌, ◌<◌, Bool, true, false, cond, List, [], ◌∷◌, ◌++◌, length, map, Option, Some, None, option_map, slice_get, refl, sym, ap, ◌∙◌, subst, arith}
 use Rattle.hip_ir.specs.declared.program.Program.{Program}
 use Rattle.hip_lines.specs.Line.{Line, IsOrdered, AreOrdered, with_part, has_bytes, stored, fresh_lines}
 use Rattle.hip_lines.specs.LineLaws.{slice_get-change_range, ordered-at}
 use Rattle.hip_lines.specs.LooseLaws.{get-map, get-of_map}
-use Rattle.hip_step.specs.declared.event.Event.{Event}
 use Rattle.hip_step.specs.declared.input.Input.{Input}
 use Rattle.hip_step.specs.HistoryLaws.{has_history, lines_ordered}
 use Rattle.hip_step.specs.Persistence.{earlier, noted_flush, noted_fence, flush_line, fence_line, fenced_lines}

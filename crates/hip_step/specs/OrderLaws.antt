@@ -1,19 +1,18 @@
 -- A part of a store is durable exactly where its cache line was flushed after it and a fence came behind the flush.
-use Rattle.std.proofs.Common.{◌≡◌, ◌⊎◌, inl, inr, ℕ, zero, suc, ◌+◌, ◌-◌, ◌<◌, ◌≤◌, Bool, true, false, cond, List, [], ◌∷◌, ◌++◌, length, map, Option, Some, None, option_map, slice_get, refl, sym, ap, ◌∙◌, subst, arith}
+use Rattle.std.proofs.Common.{◌≡◌, ◌⊎◌, inl, inr, ℕ, zero, suc, ◌-◌, ◌<◌, ◌≤◌, Bool, true, false, cond, List, [], ◌∷◌, ◌++◌, length, map, Option, Some, None, option_map, slice_get, refl, sym, ap, ◌∙◌, subst, arith}
 use Rattle.hip_ir.specs.declared.program.Program.{Program}
-use Rattle.hip_lines.specs.Line.{Line, IsOrdered, AreOrdered, with_part, has_bytes, stored, fresh_lines}
+use Rattle.hip_lines.specs.Line.{Line, IsOrdered, with_part, has_bytes, fresh_lines}
 use Rattle.hip_lines.specs.LineLaws.{slice_get-change_range, ordered-at}
 use Rattle.hip_lines.specs.LooseLaws.{get-of_map}
 use Rattle.hip_step.specs.declared.event.Event.{Event}
-use Rattle.hip_step.specs.declared.event.Event.TheVariants as events
 use Rattle.hip_step.specs.declared.input.Input.{Input}
 use Rattle.hip_step.specs.HistoryLaws.{lines_ordered}
-use Rattle.hip_step.specs.Persistence.{part_of_store, noted_flush, noted_fence, flush_line, fence_line, fenced_lines}
-use Rattle.hip_step.specs.Since.{fences, flushes, has_line, FlushedSince, IsFlushedThenFenced, IsPartIn, IsPartAt, IsDurableIn, IsDurableAt}
+use Rattle.hip_step.specs.Persistence.{part_of_store, noted_flush, noted_fence, flush_line, fence_line}
+use Rattle.hip_step.specs.Since.{fences, flushes, FlushedSince, IsFlushedThenFenced, IsPartIn, IsPartAt, IsDurableIn, IsDurableAt}
 use Rattle.hip_step.specs.SinceLaws.{below, get_mapped, line_met, plain_fences, plain_flushes}
-use Rattle.hip_step.specs.State.{Flush, StorePart, Frame, State, levels_of, site_of}
-use Rattle.hip_step.specs.Step.{first_line, lines_size, event, run}
-use Rattle.hip_step.specs.StepLaws.{Cases, IsTop, met_lines, step-cases, counted-steps}
+use Rattle.hip_step.specs.State.{Flush, StorePart, levels_of, site_of}
+use Rattle.hip_step.specs.Step.{event, run}
+use Rattle.hip_step.specs.StepLaws.{Cases, step-cases, counted-steps}
 
 -- ---- one step more
 
@@ -146,7 +145,7 @@ module _ (P : Program) (I : Input) (n j : ℕ) where
   line_flush flush q r l h k y e =
       let b = get-of_map (noted_flush flush) l.parts k y e in
       subst (λ (z : StorePart). IsSeen P I (suc n) j z.step k (length (map (noted_flush flush) l.parts)) l.durable) b.2
-          (seen_flush P I n j b.0.step k l.flushed l.durable (length (map (noted_flush flush) l.parts)) (get_below (map (noted_flush flush) l.parts) k y e) q r (h k b.0 b.1))
+      (seen_flush P I n j b.0.step k l.flushed l.durable (length (map (noted_flush flush) l.parts)) (get_below (map (noted_flush flush) l.parts) k y e) q r (h k b.0 b.1))
 
   line_fence : fences Now_there ≡ true → flushes I.base j Now_there ≡ false → (l : Line StorePart) → InSeen n l → InSeen (suc n) (fence_line l)
   line_fence q r l h k y e =
@@ -159,7 +158,7 @@ module _ (P : Program) (I : Input) (n j : ℕ) where
       let b = get-of_map (noted_flush flush) l.parts k c.0 c.1 in
       let count = length (map (noted_flush flush) l.parts) in
       subst (λ (y : StorePart). IsSeen P I (suc n) j y.step k count count) (ap noted_fence b.2 ∙ c.2)
-          (seen_persist P I n j b.0.step k l.flushed l.durable count (get_below (map (noted_flush flush) l.parts) k c.0 c.1) q r (h k b.0 b.1))
+      (seen_persist P I n j b.0.step k l.flushed l.durable count (get_below (map (noted_flush flush) l.parts) k c.0 c.1) q r (h k b.0 b.1))
 
   line_store : (part : StorePart) → part.step ≡ n → fences Now_there ≡ false → flushes I.base j Now_there ≡ false → (l : Line StorePart) → IsOrdered l → InSeen n l → InSeen (suc n) (with_part part l)
   line_store part at q r l o h k x e = go (get_more l.parts part x k e)
@@ -205,16 +204,16 @@ module _ (P : Program) (I : Input) (n : ℕ) where
     plain = λ e p q j. all_same P I n j (ap fences q ∙ plain_fences e p) (ap (flushes I.base j) q ∙ plain_flushes I.base j e p) (slice_get (run P I n).lines j) (seen j);
     store = λ f fs t a bytes e q j.
         subst (AllSeen P I n j (suc n)) (sym (slice_get-change_range _ (a - I.base) (length bytes) (run P I n).lines j))
-            (all_store P I n j (part_of_store (run P I n).counts (site_of f) (levels_of (f ∷ fs)) (a - I.base) bytes j) (counted-steps P I n t.going) (ap fences q) (ap (flushes I.base j) q) (has_bytes j (a - I.base) (length bytes)) (slice_get (run P I n).lines j) (λ l g. ordered-at (run P I n).lines j l (lines_ordered P I n) g) (seen j));
+        (all_store P I n j (part_of_store (run P I n).counts (site_of f) (levels_of (f ∷ fs)) (a - I.base) bytes j) (counted-steps P I n t.going) (ap fences q) (ap (flushes I.base j) q) (has_bytes j (a - I.base) (length bytes)) (slice_get (run P I n).lines j) (λ l g. ordered-at (run P I n).lines j l (lines_ordered P I n) g) (seen j));
     flush = λ f fs t a m e q j.
         subst (AllSeen P I n j (suc n)) (sym (slice_get-change_range _ (a - I.base) m (run P I n).lines j))
-            (all_flush P I n j _ (ap fences q) (has_bytes j (a - I.base) m) (ap (flushes I.base j) q ∙ line_met I a m j e) (slice_get (run P I n).lines j) (seen j));
+        (all_flush P I n j _ (ap fences q) (has_bytes j (a - I.base) m) (ap (flushes I.base j) q ∙ line_met I a m j e) (slice_get (run P I n).lines j) (seen j));
     persist = λ f fs t a m e q j.
         subst (AllSeen P I n j (suc n)) (sym (get_mapped fence_line _ j ∙ ap (option_map fence_line) (slice_get-change_range _ (a - I.base) m (run P I n).lines j)))
-            (all_persist P I n j _ (ap fences q) (has_bytes j (a - I.base) m) (ap (flushes I.base j) q ∙ line_met I a m j e) (slice_get (run P I n).lines j) (seen j));
+        (all_persist P I n j _ (ap fences q) (has_bytes j (a - I.base) m) (ap (flushes I.base j) q ∙ line_met I a m j e) (slice_get (run P I n).lines j) (seen j));
     fence = λ q j.
         subst (AllSeen P I n j (suc n)) (sym (get_mapped fence_line (run P I n).lines j))
-            (all_fence P I n j (ap fences q) (ap (flushes I.base j) q) (slice_get (run P I n).lines j) (seen j));
+        (all_fence P I n j (ap fences q) (ap (flushes I.base j) q) (slice_get (run P I n).lines j) (seen j));
   }
 
   seen_next : AreSeen n (run P I n).lines → AreSeen (suc n) (run P I (suc n)).lines

@@ -112,10 +112,6 @@ get_below [] k x e = absurd (let z : ⊥ = cc in z)
 get_below (y ∷ xs) zero x e = omega arith
 get_below (y ∷ xs) (suc k) x e = omega (arith, get_below xs k x e)
 
-length_mapped : {A B : Type 0} (f : A → B) (xs : List A) → length (map f xs) ≡ length xs
-length_mapped f [] = refl
-length_mapped f (x ∷ xs) = ap suc (length_mapped f xs)
-
 -- an item of a list with one more is the last, or stood there before
 get_more : {A : Type 0} (xs : List A) (y x : A) (k : ℕ) → slice_get (xs ++ y ∷ []) k ≡ Some x → (slice_get xs k ≡ Some x) ⊎ ((k ≡ length xs) × (x ≡ y))
 get_more [] y x zero e = inr (refl, let q : x ≡ y = cc in q)

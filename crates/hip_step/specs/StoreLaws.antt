@@ -1,23 +1,22 @@
 -- The parts of the cache lines are those of the stores that the run made.
-use Rattle.std.proofs.Common.{◌≡◌, ◌⊎◌, inl, inr, ℕ, zero, suc, ◌+◌, ◌-◌, ◌*◌, ◌/◌, ◌<◌, ◌≤◌, min, max, Bool, true, false, cond, ◌&&◌, nat_lt, nat_le, List, [], ◌∷◌, ◌++◌, length, map, take, drop, Option, Some, None, option_map, slice_get, slice_index, refl, sym, ap, ◌∙◌, subst, arith}
+use Rattle.std.proofs.Common.{◌≡◌, ◌⊎◌, inl, inr, ℕ, zero, suc, ◌+◌, ◌-◌, ◌/◌, ◌<◌, ◌≤◌, Bool, true, false, cond, ◌&&◌, nat_lt, nat_le, List, [], ◌∷◌, length, take, drop, Some, slice_get, slice_index, refl, sym, ap, ◌∙◌, subst, arith}
 use Rattle.std.proofs.lemmas.Bool.Decides.{nat_tests}
 use Rattle.std.proofs.lemmas.List.{length-take-le, length-drop}
 use Rattle.hip_ir.specs.declared.program.Program.{Program}
 use Rattle.hip_mem.specs.Bytes.{little_endian}
-use Rattle.hip_lines.specs.Line.{Line, with_part, start_in, end_in, has_bytes, stored}
-use Rattle.hip_lines.specs.LineLaws.{slice_get-change_range, has_bytes-of_byte, byte-of_part}
+use Rattle.hip_lines.specs.Line.{Line, start_in, end_in, has_bytes, stored}
+use Rattle.hip_lines.specs.LineLaws.{byte-of_part}
 use Rattle.hip_step.specs.declared.event.Event.{Event}
 use Rattle.hip_step.specs.declared.event.Event.TheVariants as events
 use Rattle.hip_step.specs.declared.input.Input.{Input}
 use Rattle.hip_step.specs.Actions.{in_region}
-use Rattle.hip_step.specs.Crash.{covers, byte_of}
-use Rattle.hip_step.specs.Parts.{In, PartOf}
-use Rattle.hip_step.specs.Persistence.{part_of_store, noted_flush, noted_fence, flush_line, fence_line, fenced_lines}
+use Rattle.hip_step.specs.Parts.{PartOf}
+use Rattle.hip_step.specs.Persistence.{part_of_store, noted_flush, noted_fence}
 use Rattle.hip_step.specs.Since.{top_site, IsOfStore}
 use Rattle.hip_step.specs.SinceLaws.{InLine, line_of_part, of_fenced, of_flushed, of_stored, line_of_start, no_part}
-use Rattle.hip_step.specs.State.{Flush, StorePart, Counts, Frame, State, levels_of, site_of}
+use Rattle.hip_step.specs.State.{Flush, StorePart, Frame, levels_of, site_of}
 use Rattle.hip_step.specs.Step.{event, run}
-use Rattle.hip_step.specs.StepLaws.{Cases, IsTop, met_lines, step-cases, counted-steps}
+use Rattle.hip_step.specs.StepLaws.{Cases, IsTop, step-cases, counted-steps}
 
 -- ---- the bytes of a part
 

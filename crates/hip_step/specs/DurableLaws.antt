@@ -1,23 +1,17 @@
 -- A durable part of a store stays durable, and stays as it is.
-use Rattle.std.proofs.Common.{◌≡◌, ℕ, zero, suc, ◌+◌, ◌-◌, ◌<◌, ◌≤◌, Bool, true, false, cond, List, [], ◌∷◌, ◌++◌, length, map, Option, Some, None, option_map, slice_get, refl, sym, ap, ◌∙◌, subst, arith}
+use Rattle.std.proofs.Common.{◌≡◌, ℕ, zero, suc, ◌+◌, ◌-◌, ◌<◌, Bool, true, false, cond, List, [], ◌∷◌, ◌++◌, length, Option, Some, None, option_map, slice_get, refl, sym, ap, ◌∙◌, subst, arith}
 use Rattle.hip_ir.specs.declared.program.Program.{Program}
 use Rattle.hip_lines.specs.Line.{Line, IsOrdered, AreOrdered, with_part, has_bytes, stored, fresh_lines}
 use Rattle.hip_lines.specs.LineLaws.{slice_get-change_range, ordered-at}
 use Rattle.hip_lines.specs.LooseLaws.{get-map, get-of_map}
-use Rattle.hip_step.specs.declared.event.Event.{Event}
 use Rattle.hip_step.specs.declared.input.Input.{Input}
 use Rattle.hip_step.specs.HistoryLaws.{has_history, lines_ordered}
 use Rattle.hip_step.specs.Persistence.{earlier, noted_flush, noted_fence, flush_line, fence_line, fenced_lines}
 use Rattle.hip_step.specs.Since.{IsDurableIn, IsDurableAt}
+use Rattle.hip_step.specs.SinceLaws.{get_mapped}
 use Rattle.hip_step.specs.State.{Flush, StorePart, State}
 use Rattle.hip_step.specs.Step.{run}
 use Rattle.hip_step.specs.StepLaws.{Cases, met_lines, step-cases, ordered-met_lines}
-
-get_mapped : {A B : Type 0} (f : A → B) (xs : List A) (k : ℕ) → slice_get (map f xs) k ≡ option_map f (slice_get xs k)
-get_mapped f [] zero = refl
-get_mapped f [] (suc k) = refl
-get_mapped f (x ∷ xs) zero = refl
-get_mapped f (x ∷ xs) (suc k) = get_mapped f xs k
 
 get_front : {A : Type 0} (xs : List A) (y x : A) (k : ℕ) → slice_get (xs ++ y ∷ []) k ≡ Some x → k < length xs → slice_get xs k ≡ Some x
 get_front [] y x k e lt = absurd (omega arith)

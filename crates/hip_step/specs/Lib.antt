@@ -21,3 +21,4 @@ pub mod CrashLaws
 pub mod DurableLaws
 pub mod SinceLaws
 pub mod OrderLaws
+pub mod StoreLaws

@@ -1,19 +1,18 @@
 -- A part of a store is durable exactly where its cache line was flushed after it and a fence came behind the flush.
-use Rattle.std.proofs.Common.{◌≡◌, ◌⊎◌, inl, inr, ℕ, zero, suc, ◌+◌, ◌-◌, ◌<◌, ◌≤◌, Bool, true, false, cond, List, [], ◌∷◌, ◌++◌, length, map, Option, Some, None, option_map, slice_get, refl, sym, ap, ◌∙◌, subst, arith}
+use Rattle.std.proofs.Common.{◌≡◌, ◌⊎◌, inl, inr, ℕ, zero, suc, ◌-◌, ◌<◌, ◌≤◌, Bool, true, false, cond, List, [], ◌∷◌, ◌++◌, length, map, Option, Some, None, option_map, slice_get, refl, sym, ap, ◌∙◌, subst, arith}
 use Rattle.hip_ir.specs.declared.program.Program.{Program}
-use Rattle.hip_lines.specs.Line.{Line, IsOrdered, AreOrdered, with_part, has_bytes, stored, fresh_lines}
+use Rattle.hip_lines.specs.Line.{Line, IsOrdered, with_part, has_bytes, fresh_lines}
 use Rattle.hip_lines.specs.LineLaws.{slice_get-change_range, ordered-at}
 use Rattle.hip_lines.specs.LooseLaws.{get-of_map}
 use Rattle.hip_step.specs.declared.event.Event.{Event}
-use Rattle.hip_step.specs.declared.event.Event.TheVariants as events
 use Rattle.hip_step.specs.declared.input.Input.{Input}
 use Rattle.hip_step.specs.HistoryLaws.{lines_ordered}
-use Rattle.hip_step.specs.Persistence.{part_of_store, noted_flush, noted_fence, flush_line, fence_line, fenced_lines}
-use Rattle.hip_step.specs.Since.{fences, flushes, has_line, FlushedSince, IsFlushedThenFenced, IsPartIn, IsPartAt, IsDurableIn, IsDurableAt}
+use Rattle.hip_step.specs.Persistence.{part_of_store, noted_flush, noted_fence, flush_line, fence_line}
+use Rattle.hip_step.specs.Since.{fences, flushes, FlushedSince, IsFlushedThenFenced, IsPartIn, IsPartAt, IsDurableIn, IsDurableAt}
 use Rattle.hip_step.specs.SinceLaws.{below, get_mapped, line_met, plain_fences, plain_flushes}
-use Rattle.hip_step.specs.State.{Flush, StorePart, Frame, State, levels_of, site_of}
-use Rattle.hip_step.specs.Step.{first_line, lines_size, event, run}
-use Rattle.hip_step.specs.StepLaws.{Cases, IsTop, met_lines, step-cases, counted-steps}
+use Rattle.hip_step.specs.State.{Flush, StorePart, levels_of, site_of}
+use Rattle.hip_step.specs.Step.{event, run}
+use Rattle.hip_step.specs.StepLaws.{Cases, step-cases, counted-steps}
 
 -- ---- one step more
 
@@ -112,10 +111,6 @@ get_below : {A : Type 0} (xs : List A) (k : ℕ) (x : A) → slice_get xs k ≡ 
 get_below [] k x e = absurd (let z : ⊥ = cc in z)
 get_below (y ∷ xs) zero x e = omega arith
 get_below (y ∷ xs) (suc k) x e = omega (arith, get_below xs k x e)
-
-length_mapped : {A B : Type 0} (f : A → B) (xs : List A) → length (map f xs) ≡ length xs
-length_mapped f [] = refl
-length_mapped f (x ∷ xs) = ap suc (length_mapped f xs)
 
 -- an item of a list with one more is the last, or stood there before
 get_more : {A : Type 0} (xs : List A) (y x : A) (k : ℕ) → slice_get (xs ++ y ∷ []) k ≡ Some x → (slice_get xs k ≡ Some x) ⊎ ((k ≡ length xs) × (x ≡ y))

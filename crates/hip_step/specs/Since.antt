@@ -1,12 +1,14 @@
 -- What came in a run since one of its steps: fences, and flushes of a cache line.
-use Rattle.std.specs.Prelude.{◌≡◌, ℕ, ◌+◌, ◌*◌, ◌<◌, ◌≤◌, Bool, true, false, ◌&&◌, nat_le, nat_lt, List, [], ◌∷◌, Option, Some, None, slice_get}
+use Rattle.std.specs.Prelude.{◌≡◌, ℕ, ◌+◌, ◌-◌, ◌*◌, ◌/◌, ◌<◌, ◌≤◌, Bool, true, false, ◌&&◌, nat_le, nat_lt, List, [], ◌∷◌, Option, Some, None, slice_get, slice_index, length}
 use Rattle.hip_ir.specs.declared.program.Program.{Program}
 use Rattle.hip_ir.specs.declared.site.Site.{Site}
 use Rattle.hip_lines.specs.Line.{Line}
+use Rattle.hip_mem.specs.Bytes.{little_endian}
 use Rattle.hip_step.specs.declared.event.Event.{Event}
 use Rattle.hip_step.specs.declared.event.Event.TheVariants as events
 use Rattle.hip_step.specs.declared.input.Input.{Input}
-use Rattle.hip_step.specs.State.{Flush, StorePart, Frame, State, site_of}
+use Rattle.hip_step.specs.Crash.{covers, byte_of}
+use Rattle.hip_step.specs.State.{Flush, StorePart, Frame, State, levels_of, site_of}
 use Rattle.hip_step.specs.Step.{event, run}
 
 -- whether a step with this event stores into the region
@@ -88,3 +90,15 @@ IsDurableIn (Some l) k x = (slice_get l.parts k ≡ Some x) × (k < l.durable)
 -- the part at place k of cache line m is durable
 abbrev pub IsDurableAt : State → ℕ → ℕ → StorePart → Type 0
 IsDurableAt s m k x = IsDurableIn (slice_get s.lines m) k x
+
+-- The part is one of the store of its step: it has the store's bytes that lie in its cache line, and names the site and the calls
+-- at which the run stood then, and the store's entry in the trace.
+pub record IsOfStore (P : Program) (I : Input) (x : StorePart) : Type 0 where
+  pub addr : ℕ
+  pub bytes : List ℕ
+  pub stored : event P I (run P I x.step) ≡ events.Store addr (little_endian bytes) (length bytes)
+  pub site : top_site (run P I x.step).frames ≡ Some x.site
+  pub levels : x.levels ≡ levels_of (run P I x.step).frames
+  pub entry : x.entry ≡ (run P I x.step).counts.entries + 1
+  pub covered : (b : ℕ) → covers x b ≡ true → (addr ≤ I.base + b) × (I.base + b < addr + length bytes) × (b / 64 ≡ x.offset / 64) × (byte_of x b ≡ slice_index bytes (I.base + b - addr))
+  pub whole : (b : ℕ) → addr ≤ I.base + b → I.base + b < addr + length bytes → b / 64 ≡ x.offset / 64 → covers x b ≡ true

@@ -1,5 +1,5 @@
 -- The history that a part of a store carries is what the steps since its store tell.
-use Rattle.std.proofs.Common.{◌≡◌, ◌⊎◌, inl, inr, ℕ, zero, suc, ◌+◌, ◌-◌, ◌*◌, ◌/◌, ◌<◌, ◌≤◌, min, max, Bool, true, false, cond, ◌&&◌, nat_lt, nat_le, List, [], ◌∷◌, ◌++◌, length, map, Option, Some, None, option_map, slice_get, refl, sym, ap, ap₂, ◌∙◌, subst, arith}
+use Rattle.std.proofs.Common.{◌≡◌, ◌⊎◌, inl, inr, ℕ, zero, suc, ◌+◌, ◌-◌, ◌*◌, ◌/◌, ◌<◌, Bool, true, false, cond, ◌&&◌, nat_lt, nat_le, List, [], ◌∷◌, length, map, Option, Some, None, option_map, slice_get, refl, sym, ap, ap₂, ◌∙◌, subst, arith}
 use Rattle.std.proofs.lemmas.Bool.Decides.{nat_tests}
 use Rattle.hip_ir.specs.declared.program.Program.{Program}
 use Rattle.hip_ir.specs.declared.site.Site.{Site}
@@ -13,7 +13,7 @@ use Rattle.hip_step.specs.Parts.{In, PartOf}
 use Rattle.hip_step.specs.PartLaws.{in-map, in-append}
 use Rattle.hip_step.specs.Persistence.{part_of_store, earlier, noted_flush, noted_fence, flush_line, fence_line, flushes_lines, fenced_lines}
 use Rattle.hip_step.specs.Since.{fences, flushes, has_line, FencedSince, NotFlushedSince, top_site, IsFirst, IsFirstFlush}
-use Rattle.hip_step.specs.State.{Flush, StorePart, Frame, State, levels_of, site_of}
+use Rattle.hip_step.specs.State.{Flush, StorePart, Frame, levels_of, site_of}
 use Rattle.hip_step.specs.Step.{first_line, lines_size, event, run}
 use Rattle.hip_step.specs.StepLaws.{Cases, IsTop, is_plain, flush_here, met_lines, step-cases, counted-steps}
 
@@ -128,7 +128,7 @@ module _ (P : Program) (I : Input) (n j : ℕ) where
 
 -- ---- the parts of a line
 
-abbrev InLine : Option (Line StorePart) → StorePart → Type 0
+abbrev pub InLine : Option (Line StorePart) → StorePart → Type 0
 InLine None x = ⊥
 InLine (Some l) x = In x l.parts
 
@@ -138,19 +138,19 @@ get_mapped f [] (suc k) = refl
 get_mapped f (x ∷ xs) zero = refl
 get_mapped f (x ∷ xs) (suc k) = get_mapped f xs k
 
-line_of_part : (ls : List (Line StorePart)) (x : StorePart) → PartOf ls x → (j : ℕ) × InLine (slice_get ls j) x
+pub line_of_part : (ls : List (Line StorePart)) (x : StorePart) → PartOf ls x → (j : ℕ) × InLine (slice_get ls j) x
 line_of_part [] x i = absurd i
 line_of_part (l ∷ ls) x (inl i) = (0, i)
 line_of_part (l ∷ ls) x (inr i) = let r = line_of_part ls x i in (suc r.0, r.1)
 
-of_fenced : (ls : List (Line StorePart)) (j : ℕ) (y : StorePart) → InLine (slice_get (fenced_lines ls) j) y → (x : StorePart) × InLine (slice_get ls j) x × (y ≡ noted_fence x)
+pub of_fenced : (ls : List (Line StorePart)) (j : ℕ) (y : StorePart) → InLine (slice_get (fenced_lines ls) j) y → (x : StorePart) × InLine (slice_get ls j) x × (y ≡ noted_fence x)
 of_fenced ls j y i = go (slice_get ls j) (subst (λ o. InLine o y) (get_mapped fence_line ls j) i)
   where
     go : (o : Option (Line StorePart)) → InLine (option_map fence_line o) y → (x : StorePart) × InLine o x × (y ≡ noted_fence x)
     go None h = absurd h
     go (Some l) h = in-map noted_fence l.parts y h
 
-of_flushed : (I : Input) (flush : Flush) (a n : ℕ) (ls : List (Line StorePart)) (j : ℕ) (y : StorePart) → InLine (slice_get (met_lines I flush a n ls) j) y → (x : StorePart) × InLine (slice_get ls j) x × (y ≡ cond (has_bytes j (a - I.base) n) (noted_flush flush x) x)
+pub of_flushed : (I : Input) (flush : Flush) (a n : ℕ) (ls : List (Line StorePart)) (j : ℕ) (y : StorePart) → InLine (slice_get (met_lines I flush a n ls) j) y → (x : StorePart) × InLine (slice_get ls j) x × (y ≡ cond (has_bytes j (a - I.base) n) (noted_flush flush x) x)
 of_flushed I flush a n ls j y i = go (has_bytes j (a - I.base) n) (slice_get ls j) (subst (λ o. InLine o y) (slice_get-change_range (λ _ l. flush_line flush l) (a - I.base) n ls j) i)
   where
     go : (b : Bool) (o : Option (Line StorePart)) → InLine (option_map (λ l. cond b (flush_line flush l) l) o) y → (x : StorePart) × InLine o x × (y ≡ cond b (noted_flush flush x) x)
@@ -158,7 +158,7 @@ of_flushed I flush a n ls j y i = go (has_bytes j (a - I.base) n) (slice_get ls 
     go true (Some l) h = in-map (noted_flush flush) l.parts y h
     go false (Some l) h = (y, h, refl)
 
-of_stored : (part : ℕ → StorePart) (o n : ℕ) (ls : List (Line StorePart)) (j : ℕ) (y : StorePart) → InLine (slice_get (stored part o n ls) j) y → InLine (slice_get ls j) y ⊎ ((has_bytes j o n ≡ true) × (y ≡ part j))
+pub of_stored : (part : ℕ → StorePart) (o n : ℕ) (ls : List (Line StorePart)) (j : ℕ) (y : StorePart) → InLine (slice_get (stored part o n ls) j) y → InLine (slice_get ls j) y ⊎ ((has_bytes j o n ≡ true) × (y ≡ part j))
 of_stored part o n ls j y i = go (has_bytes j o n) (slice_get ls j) (subst (λ z. InLine z y) (slice_get-change_range (λ k l. with_part (part k) l) o n ls j) i)
   where
     last : {A : Type 0} → A ⊎ In y (part j ∷ []) → A ⊎ ((true ≡ true) × (y ≡ part j))
@@ -192,7 +192,7 @@ line_met I a n j h =
     let lt = some_bytes n (in_region I a n) h in
     both_ways _ _ (line_there I.base (a - I.base) n j lt) (there_line I.base (a - I.base) n j lt)
 
-line_of_start : (o n j : ℕ) → has_bytes j o n ≡ true → start_in j o / 64 ≡ j
+pub line_of_start : (o n j : ℕ) → has_bytes j o n ≡ true → start_in j o / 64 ≡ j
 line_of_start o n j h = grind (arith, nat_tests)
 
 -- ---- events that are neither a fence nor a flush
@@ -267,7 +267,7 @@ module _ (P : Program) (I : Input) (n : ℕ) where
 
 -- ---- a run
 
-no_part : (n j : ℕ) (x : StorePart) → InLine (slice_get (fresh_lines {P = StorePart} n) j) x → ⊥
+pub no_part : (n j : ℕ) (x : StorePart) → InLine (slice_get (fresh_lines {P = StorePart} n) j) x → ⊥
 unfolding fresh_lines
 no_part zero j x i = i
 no_part (suc n) zero x i = i

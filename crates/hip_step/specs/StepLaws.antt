@@ -1,5 +1,5 @@
 -- What one step of a run does to the cache lines, and what event it has then.
-use Rattle.std.proofs.Common.{◌≡◌, ℕ, zero, suc, ◌+◌, ◌-◌, ◌*◌, ◌/◌, ◌%◌, Bool, true, false, cond, List, [], ◌∷◌, length, map, Option, Some, None, refl, sym, ap, ◌∙◌, subst, arith}
+use Rattle.std.proofs.Common.{◌≡◌, ℕ, zero, suc, ◌-◌, ◌/◌, Bool, true, false, cond, List, [], ◌∷◌, length, Option, Some, None, refl, sym, ap, ◌∙◌}
 use Rattle.std.proofs.lemmas.List.{length-map, length-replicate}
 use Rattle.hip_ir.specs.declared.program.Program.{Program}
 use Rattle.hip_mem.specs.Bytes.{little_endian}
@@ -11,9 +11,9 @@ use Rattle.hip_step.specs.declared.event.Event.{Event}
 use Rattle.hip_step.specs.declared.event.Event.TheVariants as events
 use Rattle.hip_step.specs.declared.input.Input.{Input}
 use Rattle.hip_step.specs.Actions.{Action, Traps, Assigns, Allocates, Stores, Flushes, Persists, Fences, Asserts, Prints, Reads, Calls, Jumps, Returns, Deed, in_region}
-use Rattle.hip_step.specs.Persistence.{part_of_store, noted_flush, flush_line, fence_line, flushes_lines, flushed_lines, fenced_lines}
+use Rattle.hip_step.specs.Persistence.{part_of_store, noted_flush, flush_line, flushes_lines, fenced_lines}
 use Rattle.hip_step.specs.State.{Flush, StorePart, Frame, World, Counts, State, levels_of, site_of}
-use Rattle.hip_step.specs.Step.{first_line, lines_size, event_of, stop, with_turn, leave, perform, is_cut, event_at, carry_out, deed_at, on_frames, on_ending, step, event_on_frames, event_on_ending, event, counted, start, run}
+use Rattle.hip_step.specs.Step.{first_line, lines_size, event_of, stop, with_turn, leave, perform, is_cut, event_at, carry_out, deed_at, on_frames, on_ending, step, event_on_frames, event_on_ending, event, run}
 
 -- an event that leaves the lines as they are
 abbrev pub is_plain : Event → Bool

@@ -3,7 +3,7 @@
 ghost use Rattle.hip_ir.specs.declared.program.Program.{Program};
 ghost use Rattle.hip_step.specs.Crash.{IsCrashImage, IsCrashPick, crash_image};
 ghost use Rattle.hip_step.specs.Parts.{PartOf};
-ghost use Rattle.hip_step.specs.Since.{stores, fences, FencedSince, IsFirstFlush, IsFlushedThenFenced, IsPartAt, IsDurableAt};
+ghost use Rattle.hip_step.specs.Since.{stores, fences, FencedSince, IsFirstFlush, IsFlushedThenFenced, IsOfStore, IsPartAt, IsDurableAt};
 ghost use Rattle.hip_step.specs.State.{Flush, StorePart};
 ghost use Rattle.hip_step.specs.Step.{event, run};
 ghost use Rattle.hip_step.specs.Validity.{IsValid};
@@ -41,6 +41,12 @@ pub fn durable_stores_were_flushed_then_fenced()
 pub fn durable_stores_stay_durable()
     ensures { (P : Program) → (I : Input) → (n d line place : ℕ) → (part : StorePart) →
         IsDurableAt (run P I n) line place part → IsDurableAt (run P I (n + d)) line place part }
+{}
+
+/// Each part in a cache line is one of a store that the run made: it has the store's bytes in that line, and tells where the run
+/// stood then.
+pub fn parts_are_of_stores()
+    ensures { (P : Program) → (I : Input) → (n : ℕ) → (part : StorePart) → PartOf (run P I n).lines part → IsOfStore P I part }
 {}
 
 /// A part of a store tells that it was fenced exactly where a fence came after its store.

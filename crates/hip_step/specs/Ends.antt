@@ -1,5 +1,5 @@
 -- Every run ends: each block ends with a turn, and the limit bounds the turns.
-use Rattle.std.proofs.Common.{◌≡◌, ◌⊎◌, inl, inr, ℕ, zero, suc, ◌+◌, ◌-◌, ◌*◌, ◌<◌, ◌≤◌, Bool, true, false, cond, not, ◌&&◌, nat_lt, nat_eq, List, [], ◌∷◌, length, drop, Option, Some, None, slice_get, refl, sym, ap, ◌∙◌, subst, arith, ltb-true}
+use Rattle.std.proofs.Common.{◌≡◌, ℕ, zero, suc, ◌+◌, ◌-◌, ◌*◌, ◌<◌, ◌≤◌, Bool, true, false, cond, not, nat_lt, List, [], ◌∷◌, length, drop, Option, Some, None, slice_get, refl, sym, ap, subst, arith, ltb-true}
 use Rattle.std.specs.Prelude.{is_some, max}
 use Rattle.hip_ir.specs.declared.block.Block.{Block}
 use Rattle.hip_ir.specs.declared.instr.Instr.{Instr}
@@ -14,13 +14,12 @@ use Rattle.hip_step.specs.declared.event.Ending.{Ending}
 use Rattle.hip_step.specs.declared.event.Ending.TheVariants.{Cut}
 use Rattle.hip_step.specs.declared.event.TrapKind.{TrapKind}
 use Rattle.hip_step.specs.declared.event.TrapKind.TheVariants as traps
-use Rattle.hip_step.specs.declared.event.Event.{Event}
 use Rattle.hip_step.specs.declared.input.Input.{Input}
-use Rattle.hip_step.specs.Actions.{Action, Traps, Assigns, Allocates, Stores, Flushes, Persists, Fences, Asserts, Prints, Reads, Calls, Jumps, Returns, Deed, are_valid, flushing, call_action, extern_action, instr_action, is_flush_or_fence, is_turn, deed_of}
+use Rattle.hip_step.specs.Actions.{Action, Traps, Assigns, Allocates, Stores, Flushes, Persists, Fences, Asserts, Prints, Reads, Calls, Jumps, Returns, flushing, call_action, extern_action, instr_action, is_flush_or_fence, is_turn, deed_of}
 use Rattle.hip_step.specs.Operands.{values_of}
-use Rattle.hip_step.specs.Places.{blocks_in, blocks_of, block_at, body_of, body_at, code_at, end_at}
+use Rattle.hip_step.specs.Places.{blocks_in, body_of, body_at, code_at, end_at}
 use Rattle.hip_step.specs.State.{Registers, StorePart, Frame, World, Counts, State}
-use Rattle.hip_step.specs.Step.{state, stop, with_turn, is_cut, leave, perform, carry_out, deed_at, on_frames, on_ending, step, event_at, counted, run, has_ended, start, start_frame, main_number}
+use Rattle.hip_step.specs.Step.{stop, with_turn, leave, perform, carry_out, on_frames, on_ending, step, event_at, counted, run, has_ended, start_frame, main_number}
 
 -- ---- the longest body
 

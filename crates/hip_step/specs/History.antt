@@ -1,14 +1,12 @@
 -- What every run keeps: the history that the parts of stores carry, and the calls that they were made under.
-use Rattle.std.specs.Prelude.{◌≡◌, ℕ, ◌+◌, ◌<◌, Bool, true, false, List, [], ◌∷◌, ◌++◌, Option, Some, None, slice_get}
+use Rattle.std.specs.Prelude.{◌≡◌, ℕ, ◌<◌, true, false, List, ◌++◌, Some, slice_get}
 use Rattle.hip_ir.specs.Sites.{instr_of}
 use Rattle.hip_ir.specs.declared.instr.Instr.{Instr}
 use Rattle.hip_ir.specs.declared.program.Program.{Program}
 use Rattle.hip_lines.specs.Line.{Line}
-use Rattle.hip_step.specs.declared.input.Input.{Input}
 use Rattle.hip_step.specs.Parts.{In, PartOf}
 use Rattle.hip_step.specs.Reports.{is_open}
 use Rattle.hip_step.specs.State.{Level, Flush, StorePart, State, levels_of}
-use Rattle.hip_step.specs.Step.{run}
 
 -- The calls of a store are those that have returned, which are the innermost ones, and then those that stand.
 pub record IsSplit (standing : List Level) (levels : List Level) : Type 0 where

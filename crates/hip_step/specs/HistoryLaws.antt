@@ -1,5 +1,5 @@
 -- Every run keeps its history.
-use Rattle.std.proofs.Common.{◌≡◌, ◌⊎◌, inl, inr, ℕ, zero, suc, ◌+◌, ◌-◌, ◌<◌, ◌≤◌, Bool, true, false, cond, not, ◌&&◌, ◌||◌, nat_lt, nat_eq, List, [], ◌∷◌, ◌++◌, map, length, drop, Option, Some, None, slice_get, option_map, refl, sym, ap, ◌∙◌, subst, arith, append_assoc}
+use Rattle.std.proofs.Common.{◌≡◌, ◌⊎◌, inl, inr, ℕ, zero, suc, ◌+◌, ◌-◌, ◌<◌, ◌≤◌, Bool, true, false, cond, ◌||◌, nat_eq, List, [], ◌∷◌, ◌++◌, map, length, drop, Option, Some, None, slice_get, refl, sym, ap, ◌∙◌, subst, arith, append_assoc}
 use Rattle.std.specs.Prelude.{option_and_then}
 use Rattle.std.proofs.lemmas.Bool.Decides.{nat_tests}
 use Rattle.hip_ir.specs.Sites.{instr_of}
@@ -21,10 +21,10 @@ use Rattle.hip_step.specs.History.{IsSplit, HasHistory}
 use Rattle.hip_step.specs.Parts.{In, PartOf}
 use Rattle.hip_step.specs.PartLaws.{in-append, append-left, append-right, part-fenced, part-flushed_from, part-stored, IsFlushedFrom}
 use Rattle.hip_step.specs.Persistence.{part_of_store, stored_lines, earlier, noted_flush, noted_fence, flush_line, fence_line, flushes_lines, flushed_lines, fenced_lines}
-use Rattle.hip_step.specs.Places.{blocks_in, blocks_of, block_at, body_of, body_at, code_at, end_at}
+use Rattle.hip_step.specs.Places.{blocks_in, body_of, body_at, code_at, end_at}
 use Rattle.hip_step.specs.Reports.{is_open}
 use Rattle.hip_step.specs.State.{Level, Flush, StorePart, Frame, World, Counts, State, level_list, levels_of, site_of}
-use Rattle.hip_step.specs.Step.{state, stop, with_turn, start, is_cut, leave, perform, carry_out, deed_at, on_frames, on_ending, step, event_at, counted, run}
+use Rattle.hip_step.specs.Step.{stop, with_turn, start, is_cut, leave, perform, carry_out, deed_at, on_frames, on_ending, step, event_at, counted, run}
 
 -- an instruction stands at the site
 abbrev Stands : Program → Site → Type 0

@@ -1,9 +1,9 @@
 -- Which parts cache lines have after a store, a flush and a fence.
-use Rattle.std.proofs.Common.{◌≡◌, ◌⊎◌, inl, inr, ℕ, suc, ◌-◌, Bool, true, false, cond, List, [], ◌∷◌, ◌++◌, map, length, refl, sym, ap, subst}
+use Rattle.std.proofs.Common.{◌≡◌, ◌⊎◌, inl, inr, ℕ, suc, ◌-◌, Bool, true, false, cond, List, [], ◌∷◌, ◌++◌, map, refl}
 use Rattle.hip_lines.specs.Line.{Line, with_part, has_bytes, change_from, change_range, stored}
 use Rattle.hip_step.specs.declared.input.Input.{Input}
 use Rattle.hip_step.specs.Parts.{In, PartOf}
-use Rattle.hip_step.specs.Persistence.{noted_flush, noted_fence, flush_line, fence_line, flushes_lines, flushed_lines, fenced_lines}
+use Rattle.hip_step.specs.Persistence.{noted_flush, noted_fence, flush_line, flushes_lines, flushed_lines, fenced_lines}
 use Rattle.hip_step.specs.State.{Flush, StorePart}
 
 pub in-map : {A B : Type 0} (f : A → B) (xs : List A) (y : B) → In y (map f xs) → (x : A) × In x xs × (y ≡ f x)

@@ -4,7 +4,7 @@ use Rattle.std.proofs.lemmas.Bool.Decides.{nat_tests}
 use Rattle.std.proofs.lemmas.List.{length-take-le, length-drop}
 use Rattle.hip_ir.specs.declared.program.Program.{Program}
 use Rattle.hip_mem.specs.Bytes.{little_endian}
-use Rattle.hip_lines.specs.Line.{Line, start_in, end_in, has_bytes, stored}
+use Rattle.hip_lines.specs.Line.{Line, start_in, end_in, has_bytes}
 use Rattle.hip_lines.specs.LineLaws.{byte-of_part}
 use Rattle.hip_step.specs.declared.event.Event.{Event}
 use Rattle.hip_step.specs.declared.event.Event.TheVariants as events

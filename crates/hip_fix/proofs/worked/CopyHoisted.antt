@@ -1,5 +1,5 @@
 -- The run of a program that copies, and its repair by a clone.
-use Rattle.std.proofs.Common.{◌≡◌, true, ℕ, [], ◌∷◌, List, Some, None, codes, refl, ap}
+use Rattle.std.proofs.Common.{◌≡◌, true, [], ◌∷◌, List, Some, None, codes, refl, ap}
 use Rattle.hip_types.specs.LayoutLaws.{shape-Int}
 use Rattle.hip_step.specs.declared.event.Object.TheVariants.{Global, Slot}
 use Rattle.hip_step.specs.declared.report.Mark.{Mark}

@@ -1,5 +1,5 @@
 -- The marks of closed runs, step by step by what is done.
-use Rattle.std.proofs.Common.{◌≡◌, ℕ, zero, suc, Bool, false, cond, ◌&&◌, nat_eq, List, [], ◌∷◌, ◌++◌, Option, Some, None, is_some, refl, ap, ◌∙◌}
+use Rattle.std.proofs.Common.{◌≡◌, ℕ, suc, Bool, cond, ◌&&◌, nat_eq, List, [], ◌∷◌, ◌++◌, Option, Some, None, is_some, refl, ap, ◌∙◌}
 use Rattle.hip_types.specs.Distinct.{met}
 use Rattle.hip_ir.specs.Sites.{same_site}
 use Rattle.hip_ir.specs.declared.instr.Instr.{Instr}
@@ -19,7 +19,7 @@ use Rattle.hip_step.specs.Operands.{value_of}
 use Rattle.hip_step.specs.Places.{code_at}
 use Rattle.hip_step.specs.State.{Frame, State, site_of}
 use Rattle.hip_step.specs.Step.{event, run, start}
-use Rattle.hip_fix.proofs.worked.Runs.{done_opened, next_deed, done, shown, Follows, steps, run_next, event_shown}
+use Rattle.hip_fix.proofs.worked.Runs.{next_deed, done, shown, Follows, steps, run_next, event_shown}
 
 -- ---- what the marks of a step are, where its event is known
 

@@ -1,7 +1,6 @@
 -- The run of a store that is neither flushed nor fenced, and its repair.
-use Rattle.std.proofs.Common.{◌≡◌, true, [], ◌∷◌, refl, ap, ◌∙◌, List}
+use Rattle.std.proofs.Common.{◌≡◌, true, [], ◌∷◌, refl, ap, List}
 use Rattle.hip_types.specs.LayoutLaws.{shape-Int}
-use Rattle.hip_types.specs.declared.number.Width.TheVariants.{W64}
 use Rattle.hip_step.specs.Actions.{Deed, Stores, Returns}
 use Rattle.hip_step.specs.Reports.{reports}
 use Rattle.hip_step.specs.Step.{start, run, has_ended}

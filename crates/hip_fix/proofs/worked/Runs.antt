@@ -1,5 +1,5 @@
 -- Runs of closed programs, step by step by what they do.
-use Rattle.std.proofs.Common.{◌≡◌, ℕ, zero, suc, ◌+◌, ◌%◌, ◌^◌, map, unwrap_or, Bool, true, false, cond, List, [], ◌∷◌, ◌++◌, length, Option, Some, None, is_some, refl, sym, ap, ◌∙◌, subst, append_assoc}
+use Rattle.std.proofs.Common.{◌≡◌, ℕ, suc, ◌+◌, ◌%◌, ◌^◌, map, unwrap_or, false, cond, List, [], ◌∷◌, ◌++◌, Option, None, is_some, refl, sym, ap, ◌∙◌, append_assoc}
 use Rattle.std.proofs.lemmas.List.{append-nil}
 use Rattle.hip_ir.specs.declared.constant.Const.TheFolds.{fold-roll-Const, fold_out-ConstGep}
 use Rattle.hip_ir.specs.declared.constant.Const.TheVariants as consts
@@ -17,10 +17,10 @@ use Rattle.hip_step.specs.declared.event.Event.{Event}
 use Rattle.hip_step.specs.declared.event.Event.TheVariants as events
 use Rattle.hip_step.specs.declared.input.Input.{Input}
 use Rattle.hip_step.specs.declared.report.Report.{Report}
-use Rattle.hip_step.specs.Actions.{Action, Fences, Deed}
+use Rattle.hip_step.specs.Actions.{Fences, Deed}
 use Rattle.hip_step.specs.Reports.{reports, check_reports, checked_by, next_check}
 use Rattle.hip_step.specs.State.{Frame, StorePart, World, Counts, State}
-use Rattle.hip_step.specs.Step.{state, leave, perform, step, on_ending, on_frames, carry_out, counted, event, event_at, event_on_frames, event_on_ending, deed_at, run, start, has_ended}
+use Rattle.hip_step.specs.Step.{state, leave, perform, step, on_ending, on_frames, carry_out, counted, event, event_at, event_on_frames, event_on_ending, deed_at, run, start}
 
 -- what the states of a closed run compute by, where it is known what is done
 unfoldable pub done_opened : Unit {0}

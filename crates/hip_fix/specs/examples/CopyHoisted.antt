@@ -1,5 +1,5 @@
 -- A function that copies a number, once to the stack and once to a persistent global.
-use Rattle.std.specs.Prelude.{List, [], ◌∷◌, Option, None, codes}
+use Rattle.std.specs.Prelude.{List, [], ◌∷◌, None, codes}
 use Rattle.hip_ir.specs.declared.instr.Instr.{Instr}
 use Rattle.hip_ir.specs.declared.program.Function.{Function}
 use Rattle.hip_ir.specs.declared.program.Program.{Program}

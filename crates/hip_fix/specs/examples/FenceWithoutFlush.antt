@@ -1,5 +1,5 @@
 -- A store with a fence and no flush behind it.
-use Rattle.std.specs.Prelude.{List, [], ◌∷◌, Option, None, codes}
+use Rattle.std.specs.Prelude.{[], ◌∷◌, None, codes}
 use Rattle.hip_ir.specs.declared.program.Program.{Program}
 use Rattle.hip_step.specs.declared.report.Kind.TheVariants.{MissingFlush}
 use Rattle.hip_step.specs.declared.report.Report.{Report}

@@ -1,5 +1,5 @@
 -- A store with a flush and no fence behind it.
-use Rattle.std.specs.Prelude.{List, [], ◌∷◌, Option, Some, codes}
+use Rattle.std.specs.Prelude.{[], ◌∷◌, Some, codes}
 use Rattle.hip_ir.specs.declared.program.Program.{Program}
 use Rattle.hip_step.specs.declared.report.Kind.TheVariants.{MissingFence}
 use Rattle.hip_step.specs.declared.report.Report.{Report}

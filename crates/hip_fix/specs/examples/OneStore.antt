@@ -1,5 +1,5 @@
 -- A store that is neither flushed nor fenced.
-use Rattle.std.specs.Prelude.{List, [], ◌∷◌, Option, None, codes}
+use Rattle.std.specs.Prelude.{[], ◌∷◌, None, codes}
 use Rattle.hip_ir.specs.declared.program.Program.{Program}
 use Rattle.hip_step.specs.declared.report.Kind.TheVariants.{MissingBoth}
 use Rattle.hip_step.specs.declared.report.Report.{Report}

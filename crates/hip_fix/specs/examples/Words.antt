@@ -1,9 +1,7 @@
 -- Words that the worked examples are written in.
-use Rattle.std.specs.Prelude.{◌≡◌, ℕ, ◌*◌, Bool, true, false, List, [], ◌∷◌, Option, Some, None, replicate, codes}
+use Rattle.std.specs.Prelude.{◌≡◌, ℕ, ◌*◌, Bool, true, false, List, [], ◌∷◌, Some, None, replicate, codes}
 use Rattle.hip_types.specs.Numbers.{bits}
-use Rattle.hip_types.specs.declared.number.Scalar.{Scalar}
 use Rattle.hip_types.specs.declared.number.Scalar.TheVariants.{Int, Ptr}
-use Rattle.hip_types.specs.declared.number.Width.{Width}
 use Rattle.hip_types.specs.declared.number.Width.TheVariants.{W32, W64}
 use Rattle.hip_types.specs.declared.ty.Ty.TheVariants as types
 use Rattle.hip_ir.specs.declared.block.Block.{Block}

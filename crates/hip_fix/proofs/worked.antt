@@ -6,3 +6,5 @@ pub mod OverwrittenStore
 pub mod StoreInTwoLines
 pub mod Marked
 pub mod CopyHoisted
+pub mod AssertInsideCallee
+pub mod MutualRecursion

@@ -5,3 +5,5 @@ pub mod FlushWithoutFence
 pub mod OverwrittenStore
 pub mod StoreInTwoLines
 pub mod CopyHoisted
+pub mod AssertInsideCallee
+pub mod MutualRecursion

@@ -1,5 +1,10 @@
 //! Small programs with the reports of their runs and their repairs, worked out by the definitions.
 
+ghost use Rattle.hip_fix.specs.examples.AssertInsideCallee.{
+  assert_inside_callee,
+  assert_inside_callee_repaired,
+  assert_inside_callee_reports,
+};
 ghost use Rattle.hip_fix.specs.examples.CopyHoisted.{
   copy_hoisted,
   copy_hoisted_repaired,
@@ -14,6 +19,11 @@ ghost use Rattle.hip_fix.specs.examples.FlushWithoutFence.{
   flush_without_fence,
   flush_without_fence_repaired,
   flush_without_fence_report,
+};
+ghost use Rattle.hip_fix.specs.examples.MutualRecursion.{
+  mutual_recursion,
+  mutual_recursion_repaired,
+  mutual_recursion_report,
 };
 ghost use Rattle.hip_fix.specs.examples.OneStore.{one_store, one_store_repaired, one_store_report};
 ghost use Rattle.hip_fix.specs.examples.OverwrittenStore.{
@@ -58,4 +68,16 @@ pub fn store_in_two_lines_is_repaired()
 /// what it stores, with a fence behind the call.
 pub fn copy_is_hoisted()
     ensures { IsHoisted copy_hoisted (zeroed 1) 12 (copy_hoisted_report ∷ []) copy_hoisted_repaired }
+{}
+
+/// A function that asserts what it stored: the store is reported at the assert and at the end, and a flush and a fence go
+/// behind the store, before the assert.
+pub fn assert_inside_callee_is_repaired()
+    ensures { IsHoisted assert_inside_callee (zeroed 1) 6 assert_inside_callee_reports assert_inside_callee_repaired }
+{}
+
+/// Two functions that call one another, first for the stack and then for a persistent global: the second call from `main` goes to
+/// a clone of the one, and the clones call one another.
+pub fn mutual_recursion_is_hoisted()
+    ensures { IsHoisted mutual_recursion (zeroed 1) 38 (mutual_recursion_report ∷ []) mutual_recursion_repaired }
 {}

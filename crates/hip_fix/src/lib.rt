@@ -6,8 +6,9 @@ mod laws;
 mod plan;
 
 pub use examples::{
-    copy_is_hoisted, fence_without_flush_is_repaired, flush_without_fence_is_repaired,
-    one_store_is_repaired, overwritten_store_is_repaired, store_in_two_lines_is_repaired,
+    assert_inside_callee_is_repaired, copy_is_hoisted, fence_without_flush_is_repaired,
+    flush_without_fence_is_repaired, mutual_recursion_is_hoisted, one_store_is_repaired,
+    overwritten_store_is_repaired, store_in_two_lines_is_repaired,
 };
 pub use laws::{
     direct_stores_are_quiet, hoisted_calls_are_covered, hoisted_calls_are_fenced,

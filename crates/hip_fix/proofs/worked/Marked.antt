@@ -1,5 +1,5 @@
 -- The marks of closed runs, step by step by what is done.
-use Rattle.std.proofs.Common.{◌≡◌, ℕ, zero, suc, Bool, false, cond, ◌&&◌, nat_eq, List, [], ◌∷◌, ◌++◌, Option, Some, None, is_some, refl, sym, ap, ◌∙◌}
+use Rattle.std.proofs.Common.{◌≡◌, ℕ, suc, Bool, cond, ◌&&◌, nat_eq, List, [], ◌∷◌, ◌++◌, Option, Some, None, is_some, refl, sym, ap, ◌∙◌}
 use Rattle.hip_types.specs.declared.number.Bits.{Bits}
 use Rattle.hip_mem.specs.Bytes.{bytes_of}
 use Rattle.hip_typing.specs.Initial.{written, written_bytes}
@@ -24,7 +24,7 @@ use Rattle.hip_step.specs.Operands.{value_of}
 use Rattle.hip_step.specs.Places.{code_at}
 use Rattle.hip_step.specs.State.{Frame, State, site_of}
 use Rattle.hip_step.specs.Step.{event, run, start}
-use Rattle.hip_fix.proofs.worked.Runs.{done_opened, next_deed, done, shown, Follows, steps, run_next, event_shown}
+use Rattle.hip_fix.proofs.worked.Runs.{next_deed, done, shown, Follows, steps, run_next, event_shown}
 
 -- ---- the bytes of an integer that a global begins with
 

@@ -1,5 +1,5 @@
 -- The run of two functions that call one another, and its repair by two clones.
-use Rattle.std.proofs.Common.{◌≡◌, true, ℕ, [], ◌∷◌, List, Some, None, codes, refl, ap, ◌∙◌, false}
+use Rattle.std.proofs.Common.{◌≡◌, true, [], ◌∷◌, List, Some, None, codes, refl, ap, ◌∙◌, false}
 use Rattle.hip_types.specs.LayoutLaws.{shape-Int}
 use Rattle.hip_step.specs.declared.event.Object.TheVariants.{Global, Slot}
 use Rattle.hip_step.specs.declared.report.Mark.{Mark}

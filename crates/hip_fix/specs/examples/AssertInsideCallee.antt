@@ -1,5 +1,5 @@
 -- A function that stores to a persistent global, and asserts in itself that the store is durable.
-use Rattle.std.specs.Prelude.{ℕ, Bool, false, List, [], ◌∷◌, Option, None, codes}
+use Rattle.std.specs.Prelude.{false, List, [], ◌∷◌, None, codes}
 use Rattle.hip_types.specs.Numbers.{bits}
 use Rattle.hip_types.specs.declared.number.Scalar.TheVariants.{Int, Ptr}
 use Rattle.hip_types.specs.declared.number.Width.TheVariants.{W64}

@@ -1,10 +1,9 @@
 -- Two functions that call one another, once for the stack and once for a persistent global.
-use Rattle.std.specs.Prelude.{ℕ, Bool, false, List, [], ◌∷◌, ◌++◌, Option, None, codes}
+use Rattle.std.specs.Prelude.{ℕ, false, List, [], ◌∷◌, ◌++◌, None, codes}
 use Rattle.hip_types.specs.declared.number.BinaryOp.TheVariants.{Sub}
 use Rattle.hip_types.specs.declared.number.Pred.TheVariants.{Eq}
 use Rattle.hip_types.specs.declared.number.Scalar.TheVariants.{Int}
 use Rattle.hip_types.specs.declared.number.Width.TheVariants.{W64}
-use Rattle.hip_ir.specs.declared.block.Block.{Block}
 use Rattle.hip_ir.specs.declared.block.End.TheVariants as ends
 use Rattle.hip_ir.specs.declared.instr.Instr.{Instr}
 use Rattle.hip_ir.specs.declared.instr.Instr.TheVariants as instrs
@@ -13,7 +12,7 @@ use Rattle.hip_ir.specs.declared.program.Program.{Program}
 use Rattle.hip_ir.specs.declared.site.Site.{Site}
 use Rattle.hip_step.specs.declared.report.Kind.TheVariants.{MissingBoth}
 use Rattle.hip_step.specs.declared.report.Report.{Report}
-use Rattle.hip_fix.specs.examples.Words.{at, reg, number, ptr_arg, i64_arg, ptr_param, i64_param, persistent_i64, alloca_i64, store_i64, call_void, clwb, declare_clwb, sfence, declare_sfence, ret_void, define_void, main_of, site}
+use Rattle.hip_fix.specs.examples.Words.{at, reg, number, ptr_arg, i64_arg, ptr_param, i64_param, persistent_i64, alloca_i64, store_i64, call_void, clwb, declare_clwb, sfence, declare_sfence, ret_void, define_void, main_of}
 
 -- %m = sub i64 %n, 1
 abbrev pub subtract : Instr

@@ -21,7 +21,7 @@ use Rattle.hip_typing.specs.Constants.{joined}
 use Rattle.hip_typing.specs.Names.{IsAmong, numbered_from}
 use Rattle.hip_typing.specs.Paths.{label_at, labels_named_at, LeadsTo, IsChain, IsPathTo, names_of, whole_block_names, names_before, IsAssigned}
 use Rattle.hip_typing.specs.Registers.{assigned_by, body_registers, block_registers, phi_registers, parameter_registers, uses, instr_uses, used_registers, operand_registers, end_labels, end_uses}
-use Rattle.hip_typing.specs.Sound.{IsSound, use_at, block_numbers_from, edge_register_uses, phi_register_uses, instr_register_uses, end_register_uses, block_register_uses, register_uses, UseIsAssigned, AllAssigned}
+use Rattle.hip_typing.specs.Rules.{Passes, use_at, block_numbers_from, edge_register_uses, phi_register_uses, instr_register_uses, end_register_uses, block_register_uses, register_uses, UseIsAssigned, AllAssigned}
 use Rattle.hip_typing.specs.declared.assigned.Point.{Point}
 use Rattle.hip_typing.specs.declared.assigned.Point.TheVariants.{Before, AtEnd}
 use Rattle.hip_typing.specs.declared.fault.Place.{Place}
@@ -255,7 +255,7 @@ module _ (clones : List Clone) (w : Wanted) (clone : Bool) (f : ℕ) (name : Lis
       (subst (λ n. AllByRecursion (UseIsAssigned fn) (block_register_uses fn.blocks f n at.0)) (sym here)
       (joined_at (UseIsAssigned fn) (block_register_uses fn.blocks f) 0 fn.blocks b at.0 (recursion_from_All (UseIsAssigned fn) (register_uses f fn) h) at.1))))))
 
-module _ (P : Program) (plan : Plan) (skip : Site → Bool) (sound : IsSound P) where
+module _ (P : Program) (plan : Plan) (skip : Site → Bool) (sound : Passes P) where
   from_origin : (f' : ℕ) (fn' : Function) → Origin P plan skip f' fn' → AllAssigned fn' f'
   from_origin f' fn' o =
       subst (λ x. AllAssigned x f') (sym o.is) (function_again (clones_of P plan) (wanted_by plan skip) o.clone o.f o.name o.fn f' (sound.assigned o.f o.fn o.at))

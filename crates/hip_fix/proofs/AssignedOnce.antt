@@ -11,7 +11,7 @@ use Rattle.hip_ir.specs.declared.program.Function.{Function}
 use Rattle.hip_ir.specs.declared.program.Program.{Program}
 use Rattle.hip_typing.specs.Names.{is_among}
 use Rattle.hip_typing.specs.Registers.{assigned_by, body_registers}
-use Rattle.hip_typing.specs.Sound.{IsSound, inner_names, inner_check}
+use Rattle.hip_typing.specs.Rules.{Passes, inner_names, inner_check}
 use Rattle.hip_step.specs.Places.{blocks_in, blocks_of}
 use Rattle.hip_fix.specs.Direct.{allocates, allocates_in}
 use Rattle.hip_fix.proofs.Callable.{each_at, flipped}
@@ -136,10 +136,10 @@ no_parameter fn q d h = not_true _ (λ all. not_false _ (differ_apart (map (λ p
 
 -- ---- the functions of a sound program
 
-pub differ_inside : (P : Program) (g : ℕ) (fn : Function) → IsSound P → slice_get P.functions g ≡ Some fn → Differ (names_of_function fn)
+pub differ_inside : (P : Program) (g : ℕ) (fn : Function) → Passes P → slice_get P.functions g ≡ Some fn → Differ (names_of_function fn)
 differ_inside P g fn sound e = subst Differ (names-inner g fn) (holds_all_differ (inner_names g fn) (each_at inner_check P.functions g fn sound.registers e))
 
-pub once : (P : Program) (g : ℕ) → IsSound P → Once (blocks_of P g)
+pub once : (P : Program) (g : ℕ) → Passes P → Once (blocks_of P g)
 once P g sound = go (slice_get P.functions g) refl
   where
     go : (o : Option Function) → slice_get P.functions g ≡ o → Once (blocks_in o)

@@ -17,7 +17,7 @@ use Rattle.hip_typing.specs.Names.{number_of}
 use Rattle.hip_typing.specs.Numbering.{function_names, function_number}
 use Rattle.hip_typing.specs.NumberingLaws.{number_of-cons, number_of-known, function_number-there}
 use Rattle.hip_typing.specs.Places.{extern_of, function_of, first_of, callee_of, scope_of, instr_check}
-use Rattle.hip_typing.specs.Sound.{IsSound, is_main, has_main, is_of, declared, free_function, externs_check, block_check, places_check}
+use Rattle.hip_typing.specs.Rules.{Passes, is_main, has_main, is_of, declared, free_function, externs_check, block_check, places_check}
 use Rattle.hip_typing.specs.declared.externs.ExternCall.{ExternCall}
 use Rattle.hip_typing.specs.declared.fault.Place.TheVariants as places
 use Rattle.hip_step.specs.Places.{blocks_in, body_of, body_at}
@@ -131,7 +131,7 @@ instr_checked P h f b k i fn block e g c =
     each_at (λ k instr. instr_check (scope_of P fn) instr (places.Body (record { function = f; block = b; index = k }))) block.body k i
     (each_at (block_check (scope_of P fn) f) fn.blocks b block (each_at (λ f fn. each (block_check (scope_of P fn) f) fn.blocks) P.functions f fn h e) g).1.0 c
 
-pub callable_of : (P : Program) → IsSound P → IsCallable P
+pub callable_of : (P : Program) → Passes P → IsCallable P
 callable_of P sound =
     let main = main_number_of P.functions sound.main in
     record {

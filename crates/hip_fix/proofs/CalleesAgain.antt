@@ -19,7 +19,7 @@ use Rattle.hip_typing.specs.Names.{is_among, number_of}
 use Rattle.hip_typing.specs.Numbering.{function_names, function_number}
 use Rattle.hip_typing.specs.NumberingLaws.{number_cases, function_number-there}
 use Rattle.hip_typing.specs.Places.{extern_of, function_of, first_of, callee_of}
-use Rattle.hip_typing.specs.Sound.{IsSound, same_result, is_of, declared}
+use Rattle.hip_typing.specs.Rules.{Passes, same_result, is_of, declared}
 use Rattle.hip_typing.specs.Types.{same_width, same_scalar, all_pass}
 use Rattle.hip_typing.specs.declared.externs.ExternCall.{ExternCall}
 use Rattle.hip_fix.specs.declared.plan.Plan.{Plan}
@@ -127,7 +127,7 @@ function_at_number (f ∷ fs) name g fn e c =
 
 -- ---- calls
 
-module _ (P : Program) (plan : Plan) (skip : Site → Bool) (sound : IsSound P) where
+module _ (P : Program) (plan : Plan) (skip : Site → Bool) (sound : Passes P) where
   good : IsCallable P
   good = callable_of P sound
 

@@ -4,7 +4,7 @@ use Rattle.std.specs.Prelude.{is_some}
 use Rattle.std.specs.List.{flat_map, range_with_len}
 use Rattle.hip_ir.specs.declared.program.Program.{Program}
 use Rattle.hip_ir.specs.declared.site.Site.{Site}
-use Rattle.hip_typing.specs.Sound.{IsSound}
+use Rattle.hip_typing.specs.Rules.{Passes}
 use Rattle.hip_step.specs.declared.event.Ending.{Ending}
 use Rattle.hip_step.specs.declared.input.Input.{Input}
 use Rattle.hip_step.specs.declared.report.Findings.{Findings}
@@ -134,5 +134,5 @@ module _ (P : Program) (plan : Plan) (skip : Site → Bool) (I : Input) (good : 
   clean_run zero = refl
   clean_run (suc n) = ap₂ (λ xs ys. xs ++ ys) (clean_run n) (step_clean n)
 
-pub clean : (P : Program) (plan : Plan) (skip : Site → Bool) (I : Input) (found : Findings) → IsSound P → IsValid P I → IsQuiet P skip → IsFound P I found → Contains plan (plan_for P found) → IsClean (repaired P plan skip) I
+pub clean : (P : Program) (plan : Plan) (skip : Site → Bool) (I : Input) (found : Findings) → Passes P → IsValid P I → IsQuiet P skip → IsFound P I found → Contains plan (plan_for P found) → IsClean (repaired P plan skip) I
 clean P plan skip I found sound valid still is_found contains = clean_run P plan skip I (sound_callable P sound) valid still found is_found contains

@@ -7,7 +7,7 @@ use Rattle.hip_ir.specs.declared.program.Program.{Program}
 use Rattle.hip_ir.specs.declared.site.Site.{Site}
 use Rattle.hip_lines.specs.Line.{Line}
 use Rattle.hip_typing.specs.Externs.{call_of}
-use Rattle.hip_typing.specs.Sound.{IsSound}
+use Rattle.hip_typing.specs.Rules.{Passes}
 use Rattle.hip_typing.specs.declared.externs.ExternCall.{ExternCall}
 use Rattle.hip_typing.specs.declared.externs.ExternCall.TheVariants as calls
 use Rattle.hip_step.specs.declared.input.Input.{Input}
@@ -211,7 +211,7 @@ module _ (P : Program) (plan : Plan) (skip : Site → Bool) (good : IsCallable P
           let top = full r.0 in
           (r.0, r.1, record { frame = top.0; others = top.1; frames = top.2; call = (since_call Q I full N calls_clones r.0 n r.1 behind.going top.0 top.1 top.2 behind).call })
 
-pub covered : (P : Program) (plan : Plan) (skip : Site → Bool) → IsSound P → IsQuiet P skip → IsCovered P (repaired P plan skip)
+pub covered : (P : Program) (plan : Plan) (skip : Site → Bool) → Passes P → IsQuiet P skip → IsCovered P (repaired P plan skip)
 covered P plan skip sound still = record {
   call = λ I valid. call_found P plan skip (sound_callable P sound) I still valid;
   durable = λ I valid. covered_run P plan skip (sound_callable P sound) I still valid;

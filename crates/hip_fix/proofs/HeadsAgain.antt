@@ -13,7 +13,7 @@ use Rattle.hip_ir.specs.declared.site.Site.{Site}
 use Rattle.hip_typing.specs.Externs.{call_of, known_signature}
 use Rattle.hip_typing.specs.Names.{Named, is_among}
 use Rattle.hip_typing.specs.Numbering as numbers
-use Rattle.hip_typing.specs.Sound.{IsSound, global_names, extern_names, function_names, names_check, is_of, declared, free_function, externs_check, is_main, has_main, main_check}
+use Rattle.hip_typing.specs.Rules.{Passes, global_names, extern_names, function_names, names_check, is_of, declared, free_function, externs_check, is_main, has_main, main_check}
 use Rattle.hip_calls.specs.Fresh.{name_of, names_taken}
 use Rattle.hip_calls.specs.FreshLaws.{fresh_for-distinct, fresh_for-free}
 use Rattle.hip_fix.specs.declared.plan.Plan.{Plan}
@@ -69,7 +69,7 @@ added_differ false true false = (refl, tt)
 added_differ false false true = (refl, tt)
 added_differ false false false = tt
 
-module _ (P : Program) (plan : Plan) (skip : Site → Bool) (sound : IsSound P) where
+module _ (P : Program) (plan : Plan) (skip : Site → Bool) (sound : Passes P) where
   good : IsCallable P
   good = callable_of P sound
 

@@ -10,7 +10,7 @@ use Rattle.hip_ir.specs.declared.instr.Instr.TheVariants.{Call}
 use Rattle.hip_ir.specs.declared.program.Program.{Program}
 use Rattle.hip_ir.specs.declared.site.Site.{Site}
 use Rattle.hip_typing.specs.Numbering.{function_number}
-use Rattle.hip_typing.specs.Sound.{IsSound}
+use Rattle.hip_typing.specs.Rules.{Passes}
 use Rattle.hip_step.specs.Places.{body_at}
 use Rattle.hip_fix.specs.declared.plan.Plan.{Plan}
 use Rattle.hip_fix.specs.Covered.{is_numbered_from, IsFenceCall, IsCallFrom, repaired_place, IsFenced, AreHoistsFenced}
@@ -80,7 +80,7 @@ module _ (P : Program) (plan : Plan) (skip : Site → Bool) (good : IsCallable P
         fence = subst IsFenceCall (sym (get_drop (body_at Q f' s.block) (suc k) the_fence more (drop_next (body_at Q f' s.block) k the_call (the_fence ∷ more) code))) tt;
       }
 
-pub hoists_fenced : (P : Program) (plan : Plan) (skip : Site → Bool) → IsSound P → AreHoistsFenced P plan skip
+pub hoists_fenced : (P : Program) (plan : Plan) (skip : Site → Bool) → Passes P → AreHoistsFenced P plan skip
 hoists_fenced P plan skip sound s dest ret callee args g hoisted i number =
     let good = sound_callable P sound in
     let here = sym (instr_at_place P s.function s.block s.index) ∙ i in

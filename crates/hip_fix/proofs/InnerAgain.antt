@@ -9,7 +9,7 @@ use Rattle.hip_ir.specs.declared.program.Program.{Program}
 use Rattle.hip_ir.specs.declared.site.Site.{Site}
 use Rattle.hip_typing.specs.Names.{Named, numbered_from}
 use Rattle.hip_typing.specs.Registers.{Register, assigned_by, body_registers}
-use Rattle.hip_typing.specs.Sound.{IsSound, instr_names, all_of, phi_names, body_names, block_names, param_names, blocks_names, inner_names, inner_check, registers_check}
+use Rattle.hip_typing.specs.Rules.{Passes, instr_names, all_of, phi_names, body_names, block_names, param_names, blocks_names, inner_names, inner_check, registers_check}
 use Rattle.hip_fix.specs.declared.plan.Plan.{Plan}
 use Rattle.hip_fix.specs.Repaired.{Clone, Wanted, wanted_by, clones_of, repaired, repaired_blocks, repaired_function}
 use Rattle.hip_fix.proofs.Bodies.{same_registers}
@@ -59,7 +59,7 @@ same_blocks_names clones w clone f b [] = refl
 same_blocks_names clones w clone f b (x ∷ xs) =
     ap₂ (λ rs ys. (x.label ∷ (map (λ p. p.dest) x.phis ++ register_names rs)) ++ ys) (same_registers clones w clone f b 0 x.body) (same_blocks_names clones w clone f (suc b) xs)
 
-module _ (P : Program) (plan : Plan) (skip : Site → Bool) (sound : IsSound P) where
+module _ (P : Program) (plan : Plan) (skip : Site → Bool) (sound : Passes P) where
   inner_again : (f' : ℕ) (fn' : Function) → Origin P plan skip f' fn' → (inner_check f' fn').Holds
   inner_again f' fn' o =
       let before : Differ (names_of_function o.fn) = subst Differ (names-inner o.f o.fn) (holds_all_differ (inner_names o.f o.fn) (each_at inner_check P.functions o.f o.fn sound.registers o.at)) in

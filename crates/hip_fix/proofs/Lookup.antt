@@ -12,7 +12,7 @@ use Rattle.hip_types.specs.declared.number.Scalar.{Scalar}
 use Rattle.hip_typing.specs.Externs.{call_of}
 use Rattle.hip_typing.specs.Numbering.{function_number}
 use Rattle.hip_typing.specs.NumberingLaws.{function_number-there, function_number-within}
-use Rattle.hip_typing.specs.Sound.{IsSound}
+use Rattle.hip_typing.specs.Rules.{Passes}
 use Rattle.hip_typing.specs.declared.externs.ExternCall.{ExternCall}
 use Rattle.hip_step.specs.Places.{body_at}
 use Rattle.hip_step.specs.Step.{main_number}
@@ -25,7 +25,7 @@ use Rattle.hip_fix.proofs.Functions.{twin_of_plain, plain_code, plain_number, ma
 use Rattle.hip_fix.proofs.Twins.{IsCallable, Twin, CallsTwin}
 
 -- a sound program is callable
-pub sound_callable : (P : Program) → IsSound P → IsCallable P
+pub sound_callable : (P : Program) → Passes P → IsCallable P
 sound_callable P sound = callable_of P sound
 
 -- a function that has a number is there

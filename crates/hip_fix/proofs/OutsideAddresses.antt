@@ -16,7 +16,7 @@ use Rattle.hip_typing.specs.Addresses.{same, global_start, end_of, start_of, is_
 use Rattle.hip_typing.specs.Names.{is_among, number_of}
 use Rattle.hip_typing.specs.Numbering as numbers
 use Rattle.hip_typing.specs.NumberingLaws.{number_cases}
-use Rattle.hip_typing.specs.Sound.{IsSound}
+use Rattle.hip_typing.specs.Rules.{Passes}
 use Rattle.hip_typing.specs.Values.{global_address, const_value}
 use Rattle.hip_fix.specs.Direct.{is_volatile_global, names_volatile}
 use Rattle.hip_fix.proofs.Callable.{both_hold, flipped}
@@ -79,7 +79,7 @@ volatile_number (g ∷ gs) name k d e f = ⊎_elim (λ h. first h.0 h.2) (λ h. 
 
 -- ---- addresses in a sound program
 
-module _ (P : Program) (sound : IsSound P) where
+module _ (P : Program) (sound : Passes P) where
   globals_differ : Differ (names_of_globals P.globals)
   globals_differ =
       differ_first (names_of_globals P.globals) (names_of_externs P.externs ++ numbers.function_names P.functions)

@@ -21,7 +21,7 @@ use Rattle.hip_typing.specs.Names.{is_among}
 use Rattle.hip_typing.specs.Numbering.{function_number}
 use Rattle.hip_typing.specs.Places.{Scope, scope_of, callee_of, labels, are_among, uses_known, uses_agree, use_agrees, signature_agrees, register_agrees, instr_agrees, callee_known, instr_check, end_agrees, is_entry, end_check, predecessors, phi_check}
 use Rattle.hip_typing.specs.Registers.{Use, registers_of, parameter_registers, find_register, instr_uses, arg_uses, end_uses, end_labels, phi_uses, used_registers, used_globals}
-use Rattle.hip_typing.specs.Sound.{IsSound, block_check, places_check}
+use Rattle.hip_typing.specs.Rules.{Passes, block_check, places_check}
 use Rattle.hip_typing.specs.declared.fault.Place.{Place}
 use Rattle.hip_typing.specs.declared.fault.Place.TheVariants as places
 use Rattle.hip_step.specs.Places.{body_of, blocks_in}
@@ -61,7 +61,7 @@ module _ (clones : List Clone) (w : Wanted) (clone : Bool) (f : ℕ) where
   same_entry first [] ls = refl
   same_entry first (x ∷ xs) ls = refl
 
-module _ (P : Program) (plan : Plan) (skip : Site → Bool) (sound : IsSound P) where
+module _ (P : Program) (plan : Plan) (skip : Site → Bool) (sound : Passes P) where
   abbrev Q : Program
   Q = repaired P plan skip
 

@@ -8,7 +8,7 @@ use Rattle.hip_ir.specs.declared.instr.Operand.TheVariants.{Reg, Fixed}
 use Rattle.hip_ir.specs.declared.program.Program.{Program}
 use Rattle.hip_lines.specs.Line.{Line}
 use Rattle.hip_mem.specs.Bytes.{little_endian}
-use Rattle.hip_typing.specs.Sound.{IsSound}
+use Rattle.hip_typing.specs.Rules.{Passes}
 use Rattle.hip_step.specs.declared.event.Ending.{Ending}
 use Rattle.hip_step.specs.declared.event.Ending.TheVariants.{Cut}
 use Rattle.hip_step.specs.declared.event.Event.TheVariants as events
@@ -44,7 +44,7 @@ abbrev AllLow : Program → List Frame → Type 0
 AllLow P [] = Unit {0}
 AllLow P (f ∷ fs) = IsLow P f fs × AllLow P fs
 
-module _ (P : Program) (sound : IsSound P) (I : Input) where
+module _ (P : Program) (sound : Passes P) (I : Input) where
   -- ---- a step
 
   leave_low : (v : ℕ) (w : World) (f : Frame) (fs : List Frame) (ls : List (Line StorePart)) (after : Counts) → AllLow P (f ∷ fs) → AllLow P (leave v w f fs ls after).frames
@@ -167,5 +167,5 @@ module _ (P : Program) (sound : IsSound P) (I : Input) where
         go (Some x) = λ t. t
         go None = subst (λ (gs : List Frame). ¬ stores_in_region (event_on_frames P I s.world gs)) (sym e) (code_quiet s.world f fs (code_at P f) refl here.0.registers at)
 
-pub quiet_stores : (P : Program) → IsSound P → IsQuiet P (direct P)
+pub quiet_stores : (P : Program) → Passes P → IsQuiet P (direct P)
 quiet_stores P sound I valid n f fs e at = step_quiet P sound I valid (run P I n) f fs (run_low P sound I n) e at

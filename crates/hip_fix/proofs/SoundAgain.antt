@@ -1,9 +1,9 @@
--- The repaired program is sound again.
+-- The repaired program passes the checks of soundness again.
 use Rattle.std.proofs.Common.{Bool}
 use Rattle.hip_ir.specs.SpellingExact.{spelled_exact}
 use Rattle.hip_ir.specs.declared.program.Program.{Program}
 use Rattle.hip_ir.specs.declared.site.Site.{Site}
-use Rattle.hip_typing.specs.Sound.{IsSound}
+use Rattle.hip_typing.specs.Rules.{Passes}
 use Rattle.hip_fix.specs.declared.plan.Plan.{Plan}
 use Rattle.hip_fix.specs.Repaired.{repaired}
 use Rattle.hip_fix.proofs.AssignedAgain.{all_assigned_again}
@@ -12,8 +12,8 @@ use Rattle.hip_fix.proofs.InnerAgain.{registers_again}
 use Rattle.hip_fix.proofs.PlacesAgain.{places_again}
 use Rattle.hip_fix.proofs.SpelledAgain.{spelled_again}
 
-pub sound_again : (P : Program) (plan : Plan) (skip : Site → Bool) → IsSound P → IsSound (repaired P plan skip)
-sound_again P plan skip sound = record {
+pub passes_again : (P : Program) (plan : Plan) (skip : Site → Bool) → Passes P → Passes (repaired P plan skip)
+passes_again P plan skip sound = record {
   spelled = (spelled_exact (repaired P plan skip)).0 (spelled_again P plan skip ((spelled_exact P).1 sound.spelled));
   names = names_again P plan skip sound;
   globals = sound.globals;

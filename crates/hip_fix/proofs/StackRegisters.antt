@@ -22,7 +22,7 @@ use Rattle.hip_num.specs.declared.arithmetic.NumTrap.{NumTrap}
 use Rattle.hip_typing.specs.Externs.{call_of}
 use Rattle.hip_typing.specs.Names.{is_among}
 use Rattle.hip_typing.specs.Numbering.{function_number}
-use Rattle.hip_typing.specs.Sound.{IsSound}
+use Rattle.hip_typing.specs.Rules.{Passes}
 use Rattle.hip_typing.specs.declared.externs.ExternCall.{ExternCall}
 use Rattle.hip_typing.specs.declared.externs.ExternCall.TheVariants as calls
 use Rattle.hip_step.specs.declared.event.TrapKind.TheVariants as traps
@@ -87,7 +87,7 @@ suits P blocks _ = Unit {0}
 pub record Suits (P : Program) (blocks : List Block) (x : Action) : Type 0 where
   pub is : suits P blocks x
 
-module _ (P : Program) (sound : IsSound P) (g : ℕ) where
+module _ (P : Program) (sound : Passes P) (g : ℕ) where
   abbrev blocks : List Block
   blocks = blocks_of P g
 
@@ -196,7 +196,7 @@ module _ (P : Program) (sound : IsSound P) (g : ℕ) where
   suits_end I f here low (Some ends.Unreachable) = record { is = tt }
 
 -- what a frame does next
-pub suits_deed : (P : Program) (sound : IsSound P) (I : Input) (w : World) (below : ℕ) (f : Frame) (code : List Instr) → AreLow (blocks_of P f.function) f.registers → code_at P f ≡ code → Suits P (blocks_of P f.function) (deed_of P I w below f (end_at P f) code).action
+pub suits_deed : (P : Program) (sound : Passes P) (I : Input) (w : World) (below : ℕ) (f : Frame) (code : List Instr) → AreLow (blocks_of P f.function) f.registers → code_at P f ≡ code → Suits P (blocks_of P f.function) (deed_of P I w below f (end_at P f) code).action
 suits_deed P sound I w below f [] low e = suits_end P sound f.function I f refl low (end_at P f)
 suits_deed P sound I w below f (i ∷ rest) low e = go (block_at P f.function f.block) refl (get_drop (body_at P f.function f.block) f.place i rest e)
   where

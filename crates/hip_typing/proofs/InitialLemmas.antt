@@ -1,5 +1,5 @@
 -- The bytes of globals: step by step, by the addresses of a table, and how many they are.
-use Rattle.std.proofs.Common.{ℕ, suc, ◌+◌, ◌-◌, ◌<◌, ◌≡◌, Bool, true, false, List, [], ◌∷◌, ◌++◌, map, take, drop, length, get_or, replicate, Option, Some, Result, Ok, Err, IfOk, refl, sym, ap, subst, ◌∙◌, arith, length-append, length-take}
+use Rattle.std.proofs.Common.{ℕ, suc, ◌+◌, ◌-◌, ◌<◌, ◌≡◌, Bool, true, false, List, [], ◌∷◌, ◌++◌, map, take, drop, length, get_or, All, replicate, Option, Some, Result, Ok, Err, IfOk, refl, sym, ap, subst, ◌∙◌, arith, length-append, length-take}
 use mathlib.Core.Bool.{beq}
 use Rattle.std.specs.Prelude.{if◌then◌else◌, unwrap_or}
 use Rattle.std.specs.Int.{next_multiple_of}
@@ -12,17 +12,17 @@ use Rattle.hip_ir.specs.declared.program.GlobalVar.{GlobalVar}
 use Rattle.hip_ir.specs.declared.program.Program.{Program}
 use Rattle.hip_typing.specs.Addresses.{end_of, start_of, is_persistent, global_align, global_start, same, address, region_size, volatile_start, volatile_end}
 use Rattle.hip_typing.specs.AddressesSeen.{laid_entries}
-use Rattle.hip_typing.specs.CheckLaws.{each-holds}
 use Rattle.hip_typing.specs.Constants.{types_in}
 use Rattle.hip_typing.specs.Initial.{addresses, address_named, aligned, sized, written, constant_bytes, laid_bytes, volatile_bytes, region_bytes}
 use Rattle.hip_typing.specs.InitialSeen.{AllFit, GlobalsFit, named_in}
 use Rattle.hip_typing.specs.Names.{numbered_from}
-use Rattle.hip_typing.specs.Sound.{globals_check, global_check}
+use Rattle.hip_typing.specs.Sound.{TypesFitIn}
 use Rattle.hip_typing.specs.Tables.{StandsFor, value_of, value_beside}
-use Rattle.hip_typing.proofs.TableLemmas.{beside-cons, bytes_eq-sym}
+use Rattle.hip_typing.specs.NameLaws.{bytes_eq-sym}
+use Rattle.hip_typing.proofs.TableLemmas.{beside-cons}
 
-pub globals_fit : (P : Program) → (globals_check P).Holds → GlobalsFit P.globals
-globals_fit P h = record { fit = λ k d low. record { fit = (each-holds (global_check (map (λ g. g.name) P.globals)) P.globals k d h low).0 } }
+pub globals_fit : (gs : List GlobalVar) → All TypesFitIn gs → GlobalsFit gs
+globals_fit gs h = record { fit = λ k d low. record { fit = h k d low } }
 
 pub global_fits : (gs : List GlobalVar) (i : ℕ) (g : GlobalVar) → GlobalsFit gs → i < length gs → g ≡ get_or gs i g → AllFit (g.ty ∷ types_in g.init)
 global_fits gs i g all low is = subst (λ (x : GlobalVar). AllFit (x.ty ∷ types_in x.init)) (sym is) (all.fit i g low)

@@ -3,7 +3,7 @@ use Rattle.std.proofs.Common.{ℕ, ◌+◌, ◌≡◌, ◌<◌, List, [], ◌∷
 use Rattle.std.proofs.lemmas.List.{take_more, map-append, length-take-le}
 use Rattle.hip_typing.specs.Names.{Named, numbered, numbered_from}
 use Rattle.hip_typing.specs.Seen.{seen}
-use Rattle.hip_typing.specs.Sound.{all_of}
+use Rattle.hip_typing.specs.Rules.{all_of}
 use Rattle.hip_typing.specs.declared.named.NamedPlace.{NamedPlace}
 
 pub numbered_from-push : {A B : Type 0} (n : ℕ) (make : ℕ → A → B) (xs : List A) (x : A) → numbered_from n make (xs ++ x ∷ []) ≡ numbered_from n make xs ++ make (n + length xs) x ∷ []

@@ -2,9 +2,10 @@
 use Rattle.std.specs.Prelude.{ℕ, ◌≡◌, ◌++◌, ◌∷◌, nat_le, ◌==◌, ◌&&◌, if◌then◌else◌, Bool, true, List, map, All, Option, Some, None, Result, Ok, Err, slice_get}
 use Rattle.hip_ir.specs.declared.program.Function.{Function}
 use Rattle.hip_ir.specs.declared.program.Program.{Program}
-use Rattle.hip_typing.specs.Inner.{AllDiffer, inner_entries, graph_of}
+use Rattle.hip_typing.specs.Inner.{inner_entries, graph_of}
+use Rattle.hip_typing.specs.Names.{AllDiffer}
 use Rattle.hip_typing.specs.Paths.{IsUnassigned}
-use Rattle.hip_typing.specs.Sound.{RegisterUse, UseIsAssigned, AllAssigned, IsFirstUnassigned}
+use Rattle.hip_typing.specs.Rules.{RegisterUse, UseIsAssigned, AllAssigned, IsFirstUnassigned}
 use Rattle.hip_typing.specs.Tables.{StandsFor}
 use Rattle.hip_typing.specs.declared.assigned.NotAssigned.{NotAssigned}
 use Rattle.hip_typing.specs.declared.assigned.NotAssigned.TheVariants as unassigned

@@ -8,7 +8,9 @@ use Rattle.hip_typing.specs.Answers.{Answers}
 use Rattle.hip_typing.specs.AssignedSeen.{AnswersAssigned}
 use Rattle.hip_typing.specs.declared.assigned.NotAssigned.{NotAssigned}
 use Rattle.hip_typing.specs.declared.assigned.NotAssigned.TheVariants as unassigned
-use Rattle.hip_typing.specs.Sound.{registers_check, IsSound, IsFirstFault, IsFirstUnassigned, RegisterUse, UseIsAssigned, AllAssigned, rules_check}
+use Rattle.hip_typing.specs.Rules.{Passes, registers_check, IsFirstFault, IsFirstUnassigned, RegisterUse, UseIsAssigned, AllAssigned, rules_check}
+use Rattle.hip_typing.specs.Sound.{IsSound}
+use Rattle.hip_typing.specs.SoundExact.{passes-sound, sound-passes}
 use Rattle.hip_typing.specs.SoundLaws.{rules-exact}
 use Rattle.hip_typing.specs.declared.fault.Fault.{Fault}
 use Rattle.hip_typing.specs.declared.fault.Fault.TheVariants as breaks
@@ -59,14 +61,14 @@ Checks P (Err refusal) is = Refuses P refusal
 
 -- ---- a program with a first fault is not sound
 
-every_rule : (P : Program) → IsSound P → (rules_check P).Holds
+every_rule : (P : Program) → Passes P → (rules_check P).Holds
 every_rule P s = (s.names, (s.globals, (s.externs, (s.sizes, (s.main, (s.registers, s.places))))))
 
-pub sound-finds_nothing : (P : Program) → IsSound P → (rules_check P).found ≡ None
-sound-finds_nothing P s = (rules-exact P).whole (every_rule P s)
+finds_nothing : (P : Program) → Passes P → (rules_check P).found ≡ None
+finds_nothing P s = (rules-exact P).whole (every_rule P s)
 
-breaks_no_rule : (P : Program) (f : Finding) → IsSpelled P × ((rules_check P).found ≡ Some f) → ¬ IsSound P
-breaks_no_rule P f broken s = let none = sound-finds_nothing P s in let found = broken.1 in cc
+breaks_no_rule : (P : Program) (f : Finding) → IsSpelled P × ((rules_check P).found ≡ Some f) → ¬ Passes P
+breaks_no_rule P f broken s = let none = finds_nothing P s in let found = broken.1 in cc
 
 all-at : {A : Type 0} (P : A → Type 0) (before after : List A) (x : A) → All P (before ++ x ∷ after) → P x
 all-at {A = A} P before after x all =
@@ -79,13 +81,13 @@ all-at {A = A} P before after x all =
     at_end [] = refl
     at_end (y ∷ ys) = at_end ys
 
-unassigned_is_not : (P : Program) (place : Place) (path : List ℕ) → IsFirstUnassigned P place path → ¬ IsSound P
+unassigned_is_not : (P : Program) (place : Place) (path : List ℕ) → IsFirstUnassigned P place path → ¬ Passes P
 unassigned_is_not P place path u s =
     let all : AllAssigned u.fn u.function = s.assigned u.function u.fn u.here in
     let here : All (UseIsAssigned u.fn) (u.before ++ u.it ∷ u.after) = subst (λ (us : List RegisterUse). All (UseIsAssigned u.fn) us) u.uses all in
     all-at (UseIsAssigned u.fn) u.before u.after u.it here path u.unassigned
 
-by_fault : (P : Program) (fault : TypeFault) (place : Place) → IsFirstFault P (record { fault = fault; place = place }) → ¬ IsSound P
+by_fault : (P : Program) (fault : TypeFault) (place : Place) → IsFirstFault P (record { fault = fault; place = place }) → ¬ Passes P
 by_fault P faults.BadShape place f s = f.0 s.spelled
 by_fault P faults.Duplicate place f s = breaks_no_rule P _ f s
 by_fault P faults.Unknown place f s = breaks_no_rule P _ f s
@@ -99,10 +101,10 @@ by_fault P faults.TooLarge place f s = breaks_no_rule P _ f s
 by_fault P faults.NoMemory place f s = f
 
 pub first_fault-unsound : (P : Program) (refusal : TypeRefusal) → IsFirstFault P refusal → ¬ IsSound P
-first_fault-unsound P refusal f = by_fault P refusal.fault refusal.place f
+first_fault-unsound P refusal f s = by_fault P refusal.fault refusal.place f (sound-passes P s)
 
 refused_for : (P : Program) (fault : TypeFault) (place : Place) → IsFirstFault P (record { fault = fault; place = place }) → IsRefused P (record { fault = fault; place = place })
-refused_for P fault place f = record { unsound = by_fault P fault place f; first = f }
+refused_for P fault place f = record { unsound = λ s. by_fault P fault place f (sound-passes P s); first = f }
 
 -- ---- the answers of the stages
 
@@ -140,7 +142,7 @@ refuses-on_paths P unassigned.NoMemory s none u = refl
 pub sound-is : (P : Program) → IsSpelled P → (rules_check P).found ≡ None → ((f : ℕ) (fn : Function) → slice_get P.functions f ≡ Some fn → AllAssigned fn f) → IsSound P
 sound-is P spelled none assigned =
     let h = (rules-exact P).sound none in
-    record {
+    passes-sound P (record {
       spelled = spelled;
       names = h.0;
       globals = h.1.0;
@@ -150,4 +152,4 @@ sound-is P spelled none assigned =
       registers = h.1.1.1.1.1.0;
       places = h.1.1.1.1.1.1;
       assigned = assigned;
-    }
+    })

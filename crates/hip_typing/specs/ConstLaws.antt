@@ -22,12 +22,12 @@ both_hold : (a b : Bool) → (a && b) ≡ true → (a ≡ true) × (b ≡ true)
 both_hold true b e = (refl, e)
 both_hold false b e = cc
 
-same_bits-equal : (a b : Bits) → same_bits a b ≡ true → a ≡ b
+pub same_bits-equal : (a b : Bits) → same_bits a b ≡ true → a ≡ b
 same_bits-equal a b e =
     let both = both_hold (same_width a.width b.width) _ e in
     numbers.same_bits a b (same_width-equal a.width b.width both.0) (eqb-true a.value b.value both.1)
 
-same_bits-refl : (a : Bits) → same_bits a a ≡ true
+pub same_bits-refl : (a : Bits) → same_bits a a ≡ true
 same_bits-refl a = both_true (same_width-refl a.width) (eq-eqb a.value a.value refl)
 
 all_bits-equal : (xs ys : List Bits) → same_list same_bits xs ys ≡ true → xs ≡ ys
@@ -225,7 +225,7 @@ same_operand-equal (Reg a) (Fixed b) h = cc
 same_operand-equal (Fixed a) (Reg b) h = cc
 same_operand-equal (Fixed a) (Fixed b) h = ap (λ x. Fixed x) (same_const-equal a b h)
 
-same_operand-refl : (a : Operand) → same_operand a a ≡ true
+pub same_operand-refl : (a : Operand) → same_operand a a ≡ true
 same_operand-refl (Reg a) = (bytes_eq-Decides a a).1 refl
 same_operand-refl (Fixed a) = same_const-refl a
 

@@ -1,28 +1,19 @@
 -- What holds in a sound program, fact by fact, for what runs or changes it.
-use Rattle.std.specs.Prelude.{ℕ, ◌≡◌, ◌⊎◌, List, [], map, All, Option, Some, slice_get, codes, IsTrue}
+use Rattle.std.specs.Prelude.{ℕ, ◌≡◌, ◌⊎◌, List, map, All, Option, Some, slice_get}
 use Rattle.hip_types.specs.declared.number.Scalar.{Scalar}
-use Rattle.hip_types.specs.declared.number.Scalar.TheVariants.{Int}
-use Rattle.hip_types.specs.declared.number.Width.TheVariants.{W32}
 use Rattle.hip_ir.specs.declared.block.Block.{Block}
 use Rattle.hip_ir.specs.declared.block.Phi.{Phi}
 use Rattle.hip_ir.specs.declared.instr.Arg.{Arg}
 use Rattle.hip_ir.specs.declared.instr.Instr.{Instr}
 use Rattle.hip_ir.specs.declared.instr.Instr.TheVariants.{Call}
-use Rattle.hip_ir.specs.declared.instr.Operand.{Operand}
-use Rattle.hip_ir.specs.declared.instr.Operand.TheVariants.{Reg, Fixed}
 use Rattle.hip_ir.specs.declared.program.Function.{Function}
 use Rattle.hip_ir.specs.declared.program.Program.{Program}
-use Rattle.hip_typing.specs.Constants.{has_shape}
 use Rattle.hip_typing.specs.Externs.{Signature, known_signature}
 use Rattle.hip_typing.specs.Names.{IsAmong}
 use Rattle.hip_typing.specs.Numbering.{function_number}
-use Rattle.hip_typing.specs.Places.{edge_labels, type_of}
-use Rattle.hip_typing.specs.Registers.{Register, Use, find_register, registers_of, instr_uses, end_uses, end_labels, phi_uses}
-
--- the function and the block of these numbers
-pub record IsBlockAt (P : Program) (f b : ℕ) (fn : Function) (block : Block) : Type 0 where
-  pub function : slice_get P.functions f ≡ Some fn
-  pub block_is : slice_get fn.blocks b ≡ Some block
+use Rattle.hip_typing.specs.Places.{edge_labels}
+use Rattle.hip_typing.specs.Registers.{instr_uses, end_uses, end_labels, phi_uses}
+use Rattle.hip_typing.specs.Sound.{IsBlockAt, IsTyped}
 
 -- ---- calls
 
@@ -50,14 +41,6 @@ CallsAgree P =
 
 -- ---- operands
 
--- a register is there and has the type, a constant has its shape
-abbrev pub operand_is_typed : List Register → Operand → Scalar → Type 0
-operand_is_typed registers (Reg name) ty = find_register registers name ≡ Some (Some ty)
-operand_is_typed registers (Fixed value) ty = IsTrue (has_shape value (type_of ty))
-
-abbrev pub IsTyped : Function → Use → Type 0
-IsTyped fn u = operand_is_typed (registers_of fn) u.operand u.ty
-
 -- each operand of a block has the type that its place states
 pub record IsTypedBlock (fn : Function) (block : Block) : Type 0 where
   pub phis : (i : ℕ) (p : Phi) → slice_get block.phis i ≡ Some p → All (IsTyped fn) (phi_uses p)
@@ -84,14 +67,3 @@ abbrev pub PhisAgree : Program → Type 0
 PhisAgree P =
     (f b c i : ℕ) (fn : Function) (block prior : Block) (p : Phi) → IsBlockAt P f b fn block → IsBlockAt P f c fn prior →
     IsAmong (end_labels prior.end) block.label → slice_get block.phis i ≡ Some p → IsAmong (edge_labels p.edges) prior.label
-
--- ---- `main`
-
--- a function `main` without parameters answers an i32
-pub record HasMain (P : Program) : Type 0 where
-  pub number : ℕ
-  pub function : Function
-  pub named : function_number P (codes "main") ≡ Some number
-  pub here : slice_get P.functions number ≡ Some function
-  pub params : function.params ≡ []
-  pub result : function.ret ≡ Some (Int W32)

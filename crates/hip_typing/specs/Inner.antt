@@ -7,7 +7,7 @@ use Rattle.hip_ir.specs.declared.instr.Instr.{Instr}
 use Rattle.hip_ir.specs.declared.program.Function.{Function}
 use Rattle.hip_ir.specs.declared.program.Param.{Param}
 use Rattle.hip_typing.specs.Constants.{joined}
-use Rattle.hip_typing.specs.Names.{IsAmong, numbered}
+use Rattle.hip_typing.specs.Names.{numbered}
 use Rattle.hip_typing.specs.Registers.{assigned_by, end_labels}
 use Rattle.hip_typing.specs.Tables.{Entry, StandsFor, value_of, value_beside}
 use Rattle.hip_typing.specs.declared.inner_table.Inner.{Inner}
@@ -62,8 +62,3 @@ label_numbers names values labels = flat_map (λ label. block_number (value_besi
 -- a table grows by these entries
 pub record Gains {V : Type 0} (names : List (List ℕ)) (values : List V) (more_names : List (List ℕ)) (more_values : List V) (entries : List (Entry V)) : Type 0 where
   pub gains : (before : List (Entry V)) → StandsFor names values before → StandsFor more_names more_values (before ++ entries)
-
--- each name differs from those after it
-abbrev pub AllDiffer : List (List ℕ) → Type 0
-AllDiffer [] = Unit {0}
-AllDiffer (n ∷ ns) = (¬ IsAmong ns n) × AllDiffer ns

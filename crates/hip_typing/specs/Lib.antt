@@ -24,6 +24,13 @@ pub mod AddressesSeen
 pub mod InitialSeen
 pub mod Held
 pub mod Sound
+pub mod Rules
+pub mod Decided
+pub mod EqualLaws
+pub mod NameLaws
+pub mod PlaceExact
+pub mod AssignedExact
+pub mod SoundExact
 pub mod SoundLaws
 pub mod ConstLaws
 pub mod TypeLaws

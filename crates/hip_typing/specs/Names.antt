@@ -19,6 +19,11 @@ IsAmong (x ∷ xs) name = (x ≡ name) ⊎ IsAmong xs name
 abbrev pub is_among : List (List ℕ) → List ℕ → Bool
 is_among names name = list_any (bytes_eq name) names
 
+-- each name differs from those after it
+abbrev pub AllDiffer : List (List ℕ) → Type 0
+AllDiffer [] = Unit {0}
+AllDiffer (n ∷ ns) = (¬ IsAmong ns n) × AllDiffer ns
+
 -- the first list has the same names as the second, perhaps in another order or more often
 abbrev pub Knows : List (List ℕ) → List (List ℕ) → Type 0
 Knows known names = (name : List ℕ) → is_among known name ≡ is_among names name

@@ -1,272 +1,255 @@
--- Sound programs, and the first rule that another program breaks.
-use Rattle.std.specs.Prelude.{ℕ, ◌+◌, ◌≡◌, ◌<◌, ◌&&◌, nat_le, Bool, true, false, List, [], ◌∷◌, ◌++◌, map, All, Option, Some, None, is_none, slice_get, codes, if◌then◌else◌}
-use Rattle.std.specs.List.{flat_map, list_all}
-use Rattle.std.specs.Str.{bytes_eq}
+-- Sound programs: the rules, one a field. Names, types, edges and paths are LLVM's ("Well-Formedness", and of instructions
+-- "phi", "switch", "call", "getelementptr" and the conversions; its rule of dominance is said by paths). The external
+-- functions and the limits are this project's own.
+use Rattle.std.specs.Prelude.{ℕ, ◌+◌, ◌≡◌, ◌≢◌, ◌≤◌, List, [], ◌∷◌, ◌++◌, map, All, Option, Some, None, slice_get, codes, option_map, IsTrue}
+use Rattle.std.specs.List.{flat_map, AllPairs}
 use Rattle.hip_types.specs.declared.number.Scalar.{Scalar}
-use Rattle.hip_types.specs.declared.number.Scalar.TheVariants as scalars
+use Rattle.hip_types.specs.declared.number.Scalar.TheVariants.{Int}
 use Rattle.hip_types.specs.declared.number.Width.TheVariants.{W32}
+use Rattle.hip_types.specs.declared.ty.Ty.{Ty}
+use Rattle.hip_types.specs.Layout.{Fits}
 use Rattle.hip_ir.specs.declared.block.Block.{Block}
 use Rattle.hip_ir.specs.declared.block.Edge.{Edge}
 use Rattle.hip_ir.specs.declared.block.End.{End}
-use Rattle.hip_ir.specs.declared.instr.Instr.{Instr}
+use Rattle.hip_ir.specs.declared.block.End.TheVariants.{Switch, Ret}
 use Rattle.hip_ir.specs.declared.block.Phi.{Phi}
+use Rattle.hip_ir.specs.declared.instr.Arg.{Arg}
+use Rattle.hip_ir.specs.declared.instr.Instr.{Instr}
+use Rattle.hip_ir.specs.declared.instr.Instr.TheVariants.{Cast, Gep, Call}
+use Rattle.hip_ir.specs.declared.instr.Operand.{Operand}
+use Rattle.hip_ir.specs.declared.instr.Operand.TheVariants.{Reg, Fixed}
 use Rattle.hip_ir.specs.declared.program.Extern.{Extern}
 use Rattle.hip_ir.specs.declared.program.Function.{Function}
 use Rattle.hip_ir.specs.declared.program.GlobalVar.{GlobalVar}
-use Rattle.hip_ir.specs.declared.program.Param.{Param}
 use Rattle.hip_ir.specs.declared.program.Program.{Program}
-use Rattle.hip_ir.specs.declared.site.Site.{Site}
 use Rattle.hip_ir.specs.Reading.{IsSpelled}
 use Rattle.hip_typing.specs.Addresses.{region_size, volatile_start, volatile_end}
-use Rattle.hip_typing.specs.Check.{Check, asks_true, and_then, each}
-use Rattle.hip_typing.specs.Constants.{has_shape, joined, names_in, types_in}
-use Rattle.hip_typing.specs.Externs.{Signature, known_signature, call_of}
-use Rattle.hip_typing.specs.declared.fault.Fault.{Fault}
-use Rattle.hip_typing.specs.declared.fault.Fault.TheVariants as breaks
-use Rattle.hip_typing.specs.Names.{Named, all_differ, is_among, numbered}
-use Rattle.hip_typing.specs.Paths.{IsAssigned, IsUnassigned}
-use Rattle.hip_typing.specs.declared.assigned.Point.{Point}
+use Rattle.hip_typing.specs.Constants.{has_shape, names_in, types_in}
+use Rattle.hip_typing.specs.Externs.{known_signature, call_of}
+use Rattle.hip_typing.specs.Names.{IsAmong, number_of, AllDiffer}
+use Rattle.hip_typing.specs.Numbering.{function_number}
+use Rattle.hip_typing.specs.Paths.{IsAssigned, label_at, names_of}
+use Rattle.hip_typing.specs.Places.{callee_of, cast_agrees, gep_agrees, type_of, written_types, edge_labels}
+use Rattle.hip_typing.specs.Registers.{Register, Use, find_register, registers_of, parameter_registers, block_registers, instr_uses, end_uses, end_labels, phi_uses, operand_registers, used_registers, used_globals, used_types}
 use Rattle.hip_typing.specs.declared.assigned.Point.TheVariants.{Before, AtEnd}
-use Rattle.hip_typing.specs.Places.{Scope, scope_of, types_fit, instr_check, end_check, phi_check}
-use Rattle.hip_typing.specs.Registers.{assigned_by, instr_uses, end_uses, used_registers}
-use Rattle.hip_typing.specs.Types.{same_scalar, all_pass}
-use Rattle.hip_typing.specs.declared.fault.Place.{Place}
-use Rattle.hip_typing.specs.declared.fault.Place.TheVariants as places
-use Rattle.hip_typing.specs.declared.fault.TypeFault.{TypeFault}
-use Rattle.hip_typing.specs.declared.fault.TypeFault.TheVariants as faults
-use Rattle.hip_typing.specs.declared.fault.TypeRefusal.{TypeRefusal}
 
--- ---- names of globals, externs and functions differ, the three lists taken in this order
+-- ---- names
 
-abbrev named : List ℕ → Place → Named
-named name place = record { name = name; place = place }
+abbrev pub global_names : Program → List (List ℕ)
+global_names P = map (λ g. g.name) P.globals
 
-abbrev pub global_names : List GlobalVar → List Named
-global_names globals = numbered (λ n g. named g.name (places.Global n)) globals
+-- the names that a call may have
+abbrev pub callee_names : Program → List (List ℕ)
+callee_names P = map (λ e. e.name) P.externs ++ map (λ f. f.name) P.functions
 
-abbrev pub extern_names : List Extern → List Named
-extern_names externs = numbered (λ n e. named e.name (places.Extern n)) externs
+abbrev pub top_names : Program → List (List ℕ)
+top_names P = global_names P ++ callee_names P
 
-abbrev pub function_names : List Function → List Named
-function_names functions = numbered (λ n f. named f.name (places.Head n)) functions
+abbrev pub label_names : Function → List (List ℕ)
+label_names fn = map (λ b. b.label) fn.blocks
 
-abbrev top_names : Program → List Named
-top_names P = global_names P.globals ++ extern_names P.externs ++ function_names P.functions
+-- the number of the block of that label
+abbrev pub label_number : Function → List ℕ → Option ℕ
+label_number fn label = number_of (label_names fn) label
 
-abbrev pub names_check : Program → Check
-names_check P = all_differ (top_names P)
+abbrev pub register_names : Function → List (List ℕ)
+register_names fn = names_of (registers_of fn)
 
--- ---- globals: their types fit, their initialisers have their types' shape and name globals
+-- the label of a block, and the registers that its phis and its instructions assign
+abbrev pub names_in_block : Block → List (List ℕ)
+names_in_block b = b.label ∷ names_of (block_registers b)
 
-abbrev pub global_check : List (List ℕ) → ℕ → GlobalVar → Check
-global_check known n g =
-    and_then (types_fit (g.ty ∷ types_in g.init) (places.Global n))
-    (and_then (asks_true (has_shape g.init g.ty) breaks.BadGlobal (places.Global n)) (asks_true (list_all (is_among known) (names_in g.init)) breaks.Unknown (places.Global n)))
+-- the parameters, and the names in each block
+abbrev pub names_in_function : Function → List (List ℕ)
+names_in_function fn = names_of (parameter_registers fn) ++ flat_map names_in_block fn.blocks
 
-abbrev pub globals_check : Program → Check
-globals_check P = each (global_check (map (λ g. g.name) P.globals)) P.globals
+-- ---- globals
 
--- ---- externs are of the table, and nothing else has a name of the table
+abbrev pub HasItsShape : GlobalVar → Type 0
+HasItsShape g = IsTrue (has_shape g.init g.ty)
 
-abbrev pub is_free : List ℕ → Bool
-is_free name = is_none (call_of name)
+abbrev pub TypesFitIn : GlobalVar → Type 0
+TypesFitIn g = All Fits (g.ty ∷ types_in g.init)
 
-abbrev pub same_result : Option Scalar → Option Scalar → Bool
-same_result None None = true
-same_result (Some a) (Some b) = same_scalar a b
-same_result _ _ = false
+abbrev pub NamesGlobals : Program → GlobalVar → Type 0
+NamesGlobals P g = All (IsAmong (global_names P)) (names_in g.init)
 
-abbrev pub is_of : Extern → Option Signature → Bool
-is_of e None = false
-is_of e (Some s) = same_result e.ret s.ret && all_pass (map same_scalar s.params) e.params
+-- ---- external functions
 
-abbrev pub free_global : ℕ → GlobalVar → Check
-free_global n g = asks_true (is_free g.name) breaks.BadExtern (places.Global n)
+-- the declaration is the one that the table has for its name
+abbrev pub IsOfTable : Extern → Type 0
+IsOfTable e = known_signature e.name ≡ Some (record { ret = e.ret; params = e.params })
 
-abbrev pub declared : ℕ → Extern → Check
-declared n e = asks_true (is_of e (known_signature e.name)) breaks.BadExtern (places.Extern n)
+-- no external function has the name
+abbrev pub IsFree : List ℕ → Type 0
+IsFree name = call_of name ≡ None
 
-abbrev pub free_function : ℕ → Function → Check
-free_function n f = asks_true (is_free f.name) breaks.BadExtern (places.Head n)
+-- external functions are declared exactly as the table has them, and nothing else has a name of the table
+pub record KeepsToTable (P : Program) : Type 0 where
+  pub globals : All (λ g. IsFree g.name) P.globals
+  pub externs : All IsOfTable P.externs
+  pub functions : All (λ f. IsFree f.name) P.functions
 
-abbrev pub externs_check : Program → Check
-externs_check P = and_then (each free_global P.globals) (and_then (each declared P.externs) (each free_function P.functions))
+-- ---- sizes
 
--- ---- the region and the volatile globals are not too large
+pub record KeepsToSizes (P : Program) : Type 0 where
+  pub region : region_size P ≤ 67108864
+  pub volatile : volatile_end P ≤ volatile_start + 16777216
 
-abbrev pub sizes_check : Program → Check
-sizes_check P =
-    asks_true (nat_le (region_size P) 67108864 && nat_le (volatile_end P) (volatile_start + 16777216)) breaks.TooLarge places.Whole
+-- ---- `main`
 
--- ---- `main` is there, has no parameters and answers an i32
+-- a function `main` without parameters answers an i32
+pub record HasMain (P : Program) : Type 0 where
+  pub number : ℕ
+  pub function : Function
+  pub named : function_number P (codes "main") ≡ Some number
+  pub here : slice_get P.functions number ≡ Some function
+  pub params : function.params ≡ []
+  pub result : function.ret ≡ Some (Int W32)
 
-abbrev pub is_i32 : Option Scalar → Bool
-is_i32 (Some (scalars.Int W32)) = true
-is_i32 _ = false
+-- ---- places
 
-abbrev pub no_params : List Param → Bool
-no_params [] = true
-no_params _ = false
+-- what stands at a place of a block
+pub data Item : Type 0 where
+  PhiItem : Phi → Item
+  InstrItem : Instr → Item
+  EndItem : End → Item
 
-abbrev pub is_main : Function → Bool
-is_main f = no_params f.params && is_i32 f.ret
+-- the operands, each with the type that its place states
+abbrev pub uses_of : Item → List Use
+uses_of (PhiItem p) = phi_uses p
+uses_of (InstrItem i) = instr_uses i
+uses_of (EndItem e) = end_uses e
 
-abbrev pub has_main : List Function → Bool
-has_main [] = false
-has_main (f ∷ fs) = if bytes_eq f.name (codes "main") then is_main f else has_main fs
+abbrev pub labels_of : Item → List (List ℕ)
+labels_of (PhiItem p) = edge_labels p.edges
+labels_of (InstrItem i) = []
+labels_of (EndItem e) = end_labels e
 
-abbrev pub main_check : Program → Check
-main_check P = asks_true (has_main P.functions) breaks.NoMain places.Whole
+abbrev pub callees_of : Item → List (List ℕ)
+callees_of (InstrItem (Call dest ret callee args)) = callee ∷ []
+callees_of _ = []
 
--- ---- parameters, labels and registers of a function differ
+abbrev own_types : Item → List Ty
+own_types (InstrItem i) = written_types i
+own_types _ = []
 
-abbrev pub site : ℕ → ℕ → ℕ → Site
-site f b i = record { function = f; block = b; index = i }
+-- the types that are written there, in constants too
+abbrev pub types_of : Item → List Ty
+types_of x = own_types x ++ used_types (uses_of x)
 
-abbrev pub instr_names : ℕ → ℕ → ℕ → Instr → List Named
-instr_names f b i instr = map (λ r. named r.name (places.Body (site f b i))) (assigned_by instr)
+-- the function and the block of these numbers
+pub record IsBlockAt (P : Program) (f b : ℕ) (fn : Function) (block : Block) : Type 0 where
+  pub function : slice_get P.functions f ≡ Some fn
+  pub block_is : slice_get fn.blocks b ≡ Some block
 
-abbrev pub all_of : List (List Named) → List Named
-all_of [] = []
-all_of (ns ∷ rest) = ns ++ all_of rest
+-- a fact of each phi, each instruction and the end of a block
+pub record EachItem (block : Block) (fact : Item → Type 0) : Type 0 where
+  pub phis : All (λ p. fact (PhiItem p)) block.phis
+  pub body : All (λ i. fact (InstrItem i)) block.body
+  pub last : fact (EndItem block.end)
 
-abbrev pub phi_names : ℕ → ℕ → List Phi → List Named
-phi_names f b phis = numbered (λ i p. named p.dest (places.Phi (site f b i))) phis
+-- a fact of each place of each function
+abbrev pub Everywhere : Program → (Function → Block → Item → Type 0) → Type 0
+Everywhere P fact = (f b : ℕ) (fn : Function) (block : Block) → IsBlockAt P f b fn block → EachItem block (fact fn block)
 
-abbrev pub body_names : ℕ → ℕ → List Instr → List Named
-body_names f b body = all_of (numbered (instr_names f b) body)
+-- registers, globals, callees and labels that are named there exist
+pub record NamesExist (P : Program) (fn : Function) (x : Item) : Type 0 where
+  pub registers : All (IsAmong (register_names fn)) (used_registers (uses_of x))
+  pub globals : All (IsAmong (global_names P)) (used_globals (uses_of x))
+  pub callees : All (IsAmong (callee_names P)) (callees_of x)
+  pub labels : All (IsAmong (label_names fn)) (labels_of x)
 
-abbrev pub block_names : ℕ → ℕ → Block → List Named
-block_names f b block = named block.label (places.Head f) ∷ (phi_names f b block.phis ++ body_names f b block.body)
+abbrev pub TypesFit : Item → Type 0
+TypesFit x = All Fits (types_of x)
 
-abbrev pub param_names : ℕ → List Param → List Named
-param_names f params = numbered (λ n p. named p.name (places.Head f)) params
+-- a register has the type that its place states, a constant that type's shape
+abbrev pub operand_is_typed : List Register → Operand → Scalar → Type 0
+operand_is_typed registers (Reg name) ty = find_register registers name ≡ Some (Some ty)
+operand_is_typed registers (Fixed value) ty = IsTrue (has_shape value (type_of ty))
 
-abbrev pub blocks_names : ℕ → List Block → List Named
-blocks_names f blocks = all_of (numbered (block_names f) blocks)
+abbrev pub IsTyped : Function → Use → Type 0
+IsTyped fn u = operand_is_typed (registers_of fn) u.operand u.ty
 
-abbrev pub inner_names : ℕ → Function → List Named
-inner_names f fn = param_names f fn.params ++ blocks_names f fn.blocks
+-- A call agrees with what it names in its result, and in the number and the types of its arguments. One without a result
+-- has no register.
+pub record CallAgrees (P : Program) (dest : Option (List ℕ)) (ret : Option Scalar) (callee : List ℕ) (args : List Arg) : Type 0 where
+  pub signature : callee_of P callee ≡ Some (record { ret = ret; params = map (λ a. a.ty) args })
+  pub register : ret ≡ None → dest ≡ None
 
-abbrev pub inner_check : ℕ → Function → Check
-inner_check f fn = all_differ (inner_names f fn)
+-- conversions, paths of elements and calls agree, and what is returned has the type of the function's result
+abbrev pub own_types_agree : Program → Function → Item → Type 0
+own_types_agree P fn (InstrItem (Cast dest op from a to)) = IsTrue (cast_agrees op from to)
+own_types_agree P fn (InstrItem (Gep dest inbounds ty base indices)) = IsTrue (gep_agrees indices ty)
+own_types_agree P fn (InstrItem (Call dest ret callee args)) = CallAgrees P dest ret callee args
+own_types_agree P fn (EndItem (Ret arg)) = option_map (λ a. a.ty) arg ≡ fn.ret
+own_types_agree P fn _ = Unit {0}
 
-abbrev pub registers_check : Program → Check
-registers_check P = each inner_check P.functions
+pub record TypesAgree (P : Program) (fn : Function) (x : Item) : Type 0 where
+  pub operands : All (IsTyped fn) (uses_of x)
+  pub own : own_types_agree P fn x
 
--- ---- each place of each function
+-- the values of a switch's cases differ
+abbrev pub cases_differ : Item → Type 0
+cases_differ (EndItem (Switch width value other cases)) = AllPairs (λ c d. c.value ≢ d.value) cases
+cases_differ _ = Unit {0}
 
-abbrev pub phi_at : Scope → List ℕ → ℕ → ℕ → ℕ → Phi → Check
-phi_at s label f b i p = phi_check s label p (places.Phi (site f b i))
+-- a block of the first label, whose end names the second
+pub record Precedes (fn : Function) (from to : List ℕ) : Type 0 where
+  pub number : ℕ
+  pub block : Block
+  pub here : slice_get fn.blocks number ≡ Some block
+  pub label : block.label ≡ from
+  pub named : IsAmong (end_labels block.end) to
 
-abbrev pub instr_at : Scope → ℕ → ℕ → ℕ → Instr → Check
-instr_at s f b i instr = instr_check s instr (places.Body (site f b i))
+-- A phi names each predecessor of its block and no other label, and edges of one label carry one operand.
+pub record EdgesAgree (fn : Function) (block : Block) (edges : List Edge) : Type 0 where
+  pub named : (label : List ℕ) → Precedes fn label block.label → IsAmong (edge_labels edges) label
+  pub others : All (λ label. Precedes fn label block.label) (edge_labels edges)
+  pub repeats : AllPairs (λ e d. e.label ≡ d.label → e.value ≡ d.value) edges
 
-abbrev pub block_check : Scope → ℕ → ℕ → Block → Check
-block_check s f b block =
-    and_then (each (phi_at s block.label f b) block.phis) (and_then (each (instr_at s f b) block.body) (end_check s block.end (places.End f b)))
+-- the edges of a phi agree, and no end names the entry block
+abbrev pub edges_agree : Function → Block → Item → Type 0
+edges_agree fn block (PhiItem p) = EdgesAgree fn block p.edges
+edges_agree fn block (InstrItem i) = Unit {0}
+edges_agree fn block (EndItem e) = All (λ label. label_at fn 0 ≢ Some label) (end_labels e)
 
-abbrev pub function_check : Program → ℕ → Function → Check
-function_check P f fn = each (block_check (scope_of P fn) f) fn.blocks
+-- ---- paths
 
-abbrev pub places_check : Program → Check
-places_check P = each (function_check P) P.functions
+-- the operand of a phi is used at the end of the predecessor
+abbrev pub EdgeIsAssigned : Function → Edge → Type 0
+EdgeIsAssigned fn e = (c : ℕ) → label_number fn e.label ≡ Some c → All (IsAssigned fn c AtEnd) (operand_registers e.value)
 
--- ---- each use of a register is assigned on every path
+-- each register that is used in a block has been assigned on every path to the use
+pub record UsesAreAssigned (fn : Function) (b : ℕ) (block : Block) : Type 0 where
+  pub phis : All (λ p. All (EdgeIsAssigned fn) p.edges) block.phis
+  pub body : (i : ℕ) (instr : Instr) → slice_get block.body i ≡ Some instr → All (IsAssigned fn b (Before i)) (used_registers (instr_uses instr))
+  pub last : All (IsAssigned fn b AtEnd) (used_registers (end_uses block.end))
 
--- a use of a register: where its fault is placed, and where it stands in the function
-pub record RegisterUse : Type 0 where
-  pub place : Place
-  pub block : ℕ
-  pub point : Point
-  pub name : List ℕ
-
-abbrev pub use_at : Place → ℕ → Point → List ℕ → RegisterUse
-use_at place b point name = record { place = place; block = b; point = point; name = name }
-
-abbrev pub block_numbers_from : ℕ → List Block → List ℕ → List ℕ
-block_numbers_from n [] label = []
-block_numbers_from n (b ∷ bs) label = if bytes_eq b.label label then n ∷ [] else block_numbers_from (n + 1) bs label
-
--- a phi's operand is used at the end of the predecessor
-abbrev pub edge_register_uses : List Block → Place → Scalar → Edge → List RegisterUse
-edge_register_uses blocks place ty e =
-    flat_map (λ b. map (use_at place b AtEnd) (used_registers (record { operand = e.value; ty = ty } ∷ []))) (block_numbers_from 0 blocks e.label)
-
-abbrev pub phi_register_uses : List Block → Place → Phi → List RegisterUse
-phi_register_uses blocks place p = flat_map (edge_register_uses blocks place p.ty) p.edges
-
--- an instruction's registers are used before it
-abbrev pub instr_register_uses : ℕ → ℕ → ℕ → Instr → List RegisterUse
-instr_register_uses f b i instr = map (use_at (places.Body (site f b i)) b (Before i)) (used_registers (instr_uses instr))
-
-abbrev pub end_register_uses : ℕ → ℕ → End → List RegisterUse
-end_register_uses f b end = map (use_at (places.End f b) b AtEnd) (used_registers (end_uses end))
-
-abbrev pub block_register_uses : List Block → ℕ → ℕ → Block → List RegisterUse
-block_register_uses blocks f b block =
-    joined (numbered (λ i p. phi_register_uses blocks (places.Phi (site f b i)) p) block.phis) ++ joined (numbered (instr_register_uses f b) block.body) ++ end_register_uses f b block.end
-
--- the uses of registers in a function, in the order of their places
-abbrev pub register_uses : ℕ → Function → List RegisterUse
-register_uses f fn = joined (numbered (block_register_uses fn.blocks f) fn.blocks)
-
-abbrev pub UseIsAssigned : Function → RegisterUse → Type 0
-UseIsAssigned fn u = IsAssigned fn u.block u.point u.name
-
-abbrev pub AllAssigned : Function → ℕ → Type 0
-AllAssigned fn f = All (UseIsAssigned fn) (register_uses f fn)
+abbrev pub RegistersAssigned : Program → Type 0
+RegistersAssigned P = (f b : ℕ) (fn : Function) (block : Block) → IsBlockAt P f b fn block → UsesAreAssigned fn b block
 
 -- ---- soundness
 
 pub record IsSound (P : Program) : Type 0 where
+  -- it is what its canonical text reads as
   pub spelled : IsSpelled P
-  pub names : (names_check P).Holds
-  pub globals : (globals_check P).Holds
-  pub externs : (externs_check P).Holds
-  pub sizes : (sizes_check P).Holds
-  pub main : (main_check P).Holds
-  pub registers : (registers_check P).Holds
-  pub places : (places_check P).Holds
-  pub assigned : (f : ℕ) (fn : Function) → slice_get P.functions f ≡ Some fn → AllAssigned fn f
-
--- the rules between spelling and paths, one after another
-abbrev pub rules_check : Program → Check
-rules_check P =
-    and_then (names_check P)
-    (and_then (globals_check P) (and_then (externs_check P) (and_then (sizes_check P) (and_then (main_check P) (and_then (registers_check P) (places_check P))))))
-
--- The path shows that the use is not assigned; every use before it is.
-pub record IsFirstUnassigned (P : Program) (place : Place) (path : List ℕ) : Type 0 where
-  pub function : ℕ
-  pub fn : Function
-  pub here : slice_get P.functions function ≡ Some fn
-  pub earlier : (g : ℕ) (gn : Function) → g < function → slice_get P.functions g ≡ Some gn → AllAssigned gn g
-  pub before : List RegisterUse
-  pub it : RegisterUse
-  pub after : List RegisterUse
-  pub uses : register_uses function fn ≡ before ++ it ∷ after
-  pub assigned : All (UseIsAssigned fn) before
-  pub at : it.place ≡ place
-  pub unassigned : IsUnassigned fn it.block it.point it.name path
-
--- The program is spelled, and the first of the rules that it breaks has this fault at this place.
-abbrev BreaksFirst : Program → Fault → Place → Type 0
-BreaksFirst P fault place = IsSpelled P × ((rules_check P).found ≡ Some (record { fault = fault; place = place }))
-
--- The first rule that fails, at the first place, in the order of the rules above.
-abbrev is_first : Program → Place → TypeFault → Type 0
-is_first P place faults.BadShape = (¬ IsSpelled P) × (place ≡ places.Whole)
-is_first P place faults.Duplicate = BreaksFirst P breaks.Duplicate place
-is_first P place faults.Unknown = BreaksFirst P breaks.Unknown place
-is_first P place faults.Mismatch = BreaksFirst P breaks.Mismatch place
-is_first P place faults.NoMain = BreaksFirst P breaks.NoMain place
-is_first P place (faults.Unassigned path) = IsSpelled P × ((rules_check P).found ≡ None) × IsFirstUnassigned P place path
-is_first P place faults.BadExtern = BreaksFirst P breaks.BadExtern place
-is_first P place faults.BadGlobal = BreaksFirst P breaks.BadGlobal place
-is_first P place faults.BadEdge = BreaksFirst P breaks.BadEdge place
-is_first P place faults.TooLarge = BreaksFirst P breaks.TooLarge place
-is_first P place faults.NoMemory = ⊥
-
-abbrev pub IsFirstFault : Program → TypeRefusal → Type 0
-IsFirstFault P refusal = is_first P refusal.place refusal.fault
+  -- names of globals, external functions and functions differ
+  pub names_differ : AllDiffer (top_names P)
+  -- types of globals fit, and those in their initialisers
+  pub global_types_fit : All TypesFitIn P.globals
+  -- initialisers have the shape of their globals' types
+  pub initialisers_have_shape : All HasItsShape P.globals
+  -- and name globals
+  pub initialisers_name_globals : All (NamesGlobals P) P.globals
+  pub externs : KeepsToTable P
+  pub sizes : KeepsToSizes P
+  pub main : HasMain P
+  -- parameters, labels and registers of a function differ
+  pub inner_names_differ : All (λ fn. AllDiffer (names_in_function fn)) P.functions
+  pub names_exist : Everywhere P (λ fn block. NamesExist P fn)
+  pub types_fit : Everywhere P (λ fn block. TypesFit)
+  pub types_agree : Everywhere P (λ fn block. TypesAgree P fn)
+  pub cases_differ : Everywhere P (λ fn block. cases_differ)
+  pub edges_agree : Everywhere P edges_agree
+  pub assigned : RegistersAssigned P

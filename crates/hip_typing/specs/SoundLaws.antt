@@ -1,5 +1,5 @@
 -- The rules of a program are exact: the first fault is none exactly where all of them hold.
-use Rattle.std.specs.Prelude.{ℕ, ◌≤◌, nat_le, true, false, List, ◌∷◌, get_or}
+use Rattle.std.specs.Prelude.{ℕ, ◌≤◌, true, List, ◌∷◌, get_or, All}
 use Rattle.hip_ir.specs.declared.block.Block.{Block}
 use Rattle.hip_ir.specs.declared.block.End.{End}
 use Rattle.hip_ir.specs.declared.block.Phi.{Phi}
@@ -8,11 +8,11 @@ use Rattle.hip_ir.specs.declared.program.GlobalVar.{GlobalVar}
 use Rattle.hip_ir.specs.declared.program.Program.{Program}
 use Rattle.hip_typing.specs.Check.{IsExact}
 use Rattle.std.proofs.Common.{arith}
-use Rattle.std.proofs.lemmas.Bool.{leb-true}
-use Rattle.hip_typing.specs.Addresses.{AllFit, end_of, region_size, volatile_start, volatile_end}
-use Rattle.hip_typing.specs.CheckLaws.{both_hold, each-holds, asks_true-exact, and_then-exact, each_from-exact, differ_after-exact, types_fit-exact}
+use Rattle.hip_typing.specs.Addresses.{AllFit, end_of}
+use Rattle.hip_typing.specs.Sound.{TypesFitIn, KeepsToSizes}
+use Rattle.hip_typing.specs.CheckLaws.{asks_true-exact, and_then-exact, each_from-exact, differ_after-exact, types_fit-exact}
 use Rattle.hip_typing.specs.Places.{Scope, scope_of, instr_check, end_check, phi_check}
-use Rattle.hip_typing.specs.Sound.{global_check, globals_check, externs_check, sizes_check, registers_check, places_check, block_check, rules_check}
+use Rattle.hip_typing.specs.Rules.{global_check, globals_check, externs_check, registers_check, places_check, block_check, rules_check}
 use Rattle.hip_typing.specs.Constants.{types_in}
 use Rattle.hip_typing.specs.declared.fault.Fault.TheVariants as breaks
 use Rattle.hip_typing.specs.declared.fault.Place.{Place}
@@ -58,18 +58,10 @@ rules-exact P =
     (and_then-exact _ _ (globals-exact P)
     (and_then-exact _ _ (externs-exact P) (and_then-exact _ _ (asks_true-exact _ _ _) (and_then-exact _ _ (asks_true-exact _ _ _) (and_then-exact _ _ (registers-exact P) (places-exact P))))))
 
--- the types of sound globals fit
-pub globals-fit : (P : Program) → (globals_check P).Holds → AllFit P.globals
-globals-fit P h = λ k d within. (each-holds _ P.globals k d h within).0 0 (get_or P.globals k d).ty (omega arith)
+-- the types of globals fit, where those in their initialisers do too
+pub globals-fit : (globals : List GlobalVar) → All TypesFitIn globals → AllFit globals
+globals-fit globals h = λ k d within. h k d within 0 (get_or globals k d).ty (omega arith)
 
--- where the globals of a sound program end
-pub persistent-end : (P : Program) → (sizes_check P).Holds → end_of true 0 P.globals ≤ 67108864
-persistent-end P h =
-    let small = leb-true (region_size P) 67108864 (both_hold _ _ h).0 in
-    omega (arith, small)
-
-pub volatile-end : (P : Program) → (sizes_check P).Holds → end_of false volatile_start P.globals ≤ 16842752
-volatile-end P h = leb-true (volatile_end P) 16842752 (both_hold (nat_le (region_size P) 67108864) _ h).1
-
-pub region-small : (P : Program) → (sizes_check P).Holds → region_size P ≤ 67108864
-region-small P h = leb-true (region_size P) 67108864 (both_hold (nat_le (region_size P) 67108864) (nat_le (volatile_end P) 16842752) h).0
+-- where the persistent globals of a sound program end
+pub persistent-end : (P : Program) → KeepsToSizes P → end_of true 0 P.globals ≤ 67108864
+persistent-end P k = let small = k.region in omega (arith, small)

@@ -1,8 +1,8 @@
 -- What the constants of a program stand for in a run: numbers, and the addresses of globals.
-use Rattle.std.specs.Prelude.{ℕ, ◌+◌, ◌%◌, ◌^◌, List, map, Option, Some, None, option_map, unwrap_or}
+use Rattle.std.specs.Prelude.{ℕ, ◌+◌, ◌%◌, ◌^◌, List, map, option_map, unwrap_or}
 use Rattle.hip_types.specs.Layout.{gep_of}
 use Rattle.hip_ir.specs.declared.constant.Const.{Const}
-use Rattle.hip_ir.specs.declared.constant.Const.TheOpen.{Const-F, ConstGep-F, TypedConst-F}
+use Rattle.hip_ir.specs.declared.constant.Const.TheOpen.{Const-F, ConstGep-F}
 use Rattle.hip_ir.specs.declared.constant.Const.TheFolds.{fold-Const}
 use Rattle.hip_ir.specs.declared.program.GlobalVar.{GlobalVar}
 use Rattle.hip_typing.specs.Addresses.{address_in}

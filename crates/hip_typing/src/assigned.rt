@@ -2,7 +2,7 @@ ghost use Rattle.std.specs.Prelude.{◌≡◌, ◌<◌, [], ◌∷◌, length, m
 ghost use Rattle.hip_typing.specs.AssignedSeen as spec;
 ghost use Rattle.hip_typing.specs.AssignedSeen.{Describes, AnswersUses};
 ghost use Rattle.hip_typing.specs.Registers.{arg_uses, operand_registers, used_registers};
-ghost use Rattle.hip_typing.specs.Sound.{use_at};
+ghost use Rattle.hip_typing.specs.Rules.{use_at};
 ghost use Rattle.hip_typing.specs.UsesSeen.{use_seen, uses_seen};
 
 use crate::fault::Place;

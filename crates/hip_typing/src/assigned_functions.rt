@@ -2,9 +2,9 @@ ghost use Rattle.std.specs.Prelude.{◌≡◌, ◌<◌, length, map, slice_get};
 ghost use Rattle.std.specs.List.{flat_map};
 ghost use Rattle.hip_typing.specs.AssignedSeen.{Describes, AnswersUses, AnswersAssigned};
 ghost use Rattle.hip_typing.specs.Constants.{joined};
-ghost use Rattle.hip_typing.specs.Inner.{AllDiffer, inner_entries};
-ghost use Rattle.hip_typing.specs.Names.{numbered};
-ghost use Rattle.hip_typing.specs.Sound.{site, edge_register_uses, phi_register_uses, instr_register_uses, end_register_uses, block_register_uses, register_uses, registers_check};
+ghost use Rattle.hip_typing.specs.Inner.{inner_entries};
+ghost use Rattle.hip_typing.specs.Names.{AllDiffer, numbered};
+ghost use Rattle.hip_typing.specs.Rules.{site, edge_register_uses, phi_register_uses, instr_register_uses, end_register_uses, block_register_uses, register_uses, registers_check};
 ghost use Rattle.hip_typing.specs.declared.fault.Place.TheVariants as places;
 
 use crate::assigned::{Body, NotAssigned, Point, check_operand, check_uses};

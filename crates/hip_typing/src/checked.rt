@@ -2,11 +2,11 @@ ghost use Rattle.std.specs.Prelude.{◌≡◌, ◌+◌, ◌<◌, length, IfOk};
 ghost use Rattle.hip_typing.specs.Addresses as spec;
 ghost use Rattle.hip_typing.specs.Addresses.{IsBase};
 ghost use Rattle.hip_typing.specs.Checks.{Checks};
-ghost use Rattle.hip_typing.specs.Given.{CallsAgree, OperandsAgree, LabelsExist, PhisAgree, HasMain};
+ghost use Rattle.hip_typing.specs.Given.{CallsAgree, OperandsAgree, LabelsExist, PhisAgree};
 ghost use Rattle.hip_typing.specs.Initial as initial;
 ghost use Rattle.hip_typing.specs.Names as names;
 ghost use Rattle.hip_typing.specs.Numbering.{function_names, function_number};
-ghost use Rattle.hip_typing.specs.Sound.{IsSound};
+ghost use Rattle.hip_typing.specs.Sound.{RegistersAssigned, HasMain, IsSound};
 
 use crate::addresses::{address, region_size};
 use crate::assigned_functions::check_assigned;
@@ -46,6 +46,7 @@ impl Checked {
         ensures sound { IsSound self.now }
         ensures calls { CallsAgree self.now }
         ensures operands { OperandsAgree self.now }
+        ensures assigned { RegistersAssigned self.now }
         ensures labels { LabelsExist self.now }
         ensures phis { PhisAgree self.now }
         ensures main { HasMain self.now }

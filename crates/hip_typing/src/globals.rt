@@ -2,7 +2,7 @@ ghost use Rattle.std.specs.Prelude.{◌≡◌, IfOk, map};
 ghost use Rattle.hip_typing.specs.Answers.{Answers};
 ghost use Rattle.hip_typing.specs.Check.{each};
 ghost use Rattle.hip_typing.specs.Names.{Knows};
-ghost use Rattle.hip_typing.specs.Sound.{global_check, globals_check};
+ghost use Rattle.hip_typing.specs.Rules.{global_check, globals_check};
 
 use crate::constants::{names_known, type_fits, types_fit};
 use crate::fault::{Fault, Place};

@@ -1,11 +1,11 @@
-ghost use Rattle.std.specs.Prelude.{◌≡◌, ◌<◌, ◌+◌, ◌^◌, ◌++◌, ◌∷◌, [], true, false, length, IfOk, OnOk};
+ghost use Rattle.std.specs.Prelude.{◌≡◌, ◌<◌, ◌+◌, ◌^◌, ◌++◌, ◌∷◌, [], true, false, length, All, IfOk, OnOk};
 ghost use Rattle.hip_typing.specs.Addresses.{end_of, global_align, region_size, volatile_start, volatile_end};
 ghost use Rattle.hip_typing.specs.Constants.{types_in};
 ghost use Rattle.hip_typing.specs.Held.{HoldsGlobals};
 ghost use Rattle.hip_typing.specs.Initial as spec;
 ghost use Rattle.hip_typing.specs.Initial.{aligned, constant_bytes};
 ghost use Rattle.hip_typing.specs.InitialSeen.{AllFit, GlobalsFit, named_in};
-ghost use Rattle.hip_typing.specs.Sound.{globals_check};
+ghost use Rattle.hip_typing.specs.Sound.{TypesFitIn};
 
 use crate::address_table::{AddressTable, address_table};
 use crate::addresses::{VOLATILE_START, alignment};
@@ -58,7 +58,7 @@ fn laid_bytes(
 /// What the volatile globals hold before a run, from the first one's place on, where the region begins at a base. The
 /// time is that of the bytes and of the program's constants.
 pub fn volatile_bytes(alloc: Global, program: &Program, base: u64) -> Result<Row<u8>, NoMemory>
-    requires globals { (globals_check program.now).Holds }
+    requires globals { All TypesFitIn program.now.globals }
     requires persistent { end_of true base program.now.globals < 2 ^ 64 }
     requires volatile { volatile_end program.now < 2 ^ 64 }
     ensures bytes { IfOk result (λ bytes. bytes ≡ spec.volatile_bytes program.now base) }
@@ -73,7 +73,7 @@ pub fn volatile_bytes(alloc: Global, program: &Program, base: u64) -> Result<Row
 /// What the region holds before a run, where it begins at a base: the persistent globals, and zeros between and behind
 /// them. The time is that of the bytes and of the program's constants.
 pub fn region_bytes(alloc: Global, program: &Program, base: u64) -> Result<Row<u8>, NoMemory>
-    requires globals { (globals_check program.now).Holds }
+    requires globals { All TypesFitIn program.now.globals }
     requires persistent { end_of true base program.now.globals < 2 ^ 64 }
     requires volatile { volatile_end program.now < 2 ^ 64 }
     ensures bytes { IfOk result (λ bytes. bytes ≡ spec.region_bytes program.now base) }

@@ -1,7 +1,7 @@
 ghost use Rattle.std.specs.Prelude.{◌≡◌, ◌++◌, OnOk};
 ghost use Rattle.hip_typing.specs.Answers.{Answers};
 ghost use Rattle.hip_typing.specs.Names.{all_differ};
-ghost use Rattle.hip_typing.specs.Sound.{global_names, extern_names, function_names, names_check};
+ghost use Rattle.hip_typing.specs.Rules.{global_names, extern_names, function_names, names_check};
 ghost use Rattle.hip_typing.specs.Seen.{seen};
 
 use crate::fault::{Fault, Finding, Place};

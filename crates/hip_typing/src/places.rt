@@ -5,7 +5,7 @@ ghost use Rattle.hip_typing.specs.InstrSeen.{instr_found};
 ghost use Rattle.hip_typing.specs.Names.{Knows};
 ghost use Rattle.hip_typing.specs.PhiSeen.{phi_found};
 ghost use Rattle.hip_typing.specs.Places as spec;
-ghost use Rattle.hip_typing.specs.Sound.{phi_at, instr_at, block_check, function_check, places_check};
+ghost use Rattle.hip_typing.specs.Rules.{phi_at, instr_at, block_check, function_check, places_check};
 ghost use Rattle.hip_typing.specs.TablesSeen.{DescribesProgram, DescribesFunction, scope_in};
 
 use crate::callees::{CalleeTable, callees_of};

@@ -1,5 +1,5 @@
 ghost use Rattle.hip_typing.specs.Answers.{Answers};
-ghost use Rattle.hip_typing.specs.Sound.{rules_check};
+ghost use Rattle.hip_typing.specs.Rules.{rules_check};
 
 use crate::addresses::check_sizes;
 use crate::externs::check_externs;

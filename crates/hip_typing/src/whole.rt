@@ -1,6 +1,6 @@
 ghost use Rattle.std.specs.Prelude.{◌≡◌};
 ghost use Rattle.hip_typing.specs.Answers.{Answers};
-ghost use Rattle.hip_typing.specs.Sound.{is_main, has_main, main_check};
+ghost use Rattle.hip_typing.specs.Rules.{is_main, has_main, main_check};
 
 use crate::fault::{Fault, Place};
 use crate::refused::{Refused, ask};

@@ -1,5 +1,6 @@
+use Rattle.hip_typing.specs.SoundExact.{sound-passes}
 use Rattle.hip_fix.proofs.QuietStores.{quiet_stores}
 use Rattle.hip_fix.proofs.laws.direct_stores_are_quiet.Goals as goal
 
 pub returns : goal.returns
-returns c = quiet_stores
+returns c = λ P sound. quiet_stores P (sound-passes P sound)

@@ -8,7 +8,7 @@ use Rattle.hip_typing.proofs.AddressLemmas.{is_persistent-at, start_of-le}
 use Rattle.hip_typing.proofs.addresses.address.Goals as goal
 
 pub start_of-requires-clause-fit : goal.start_of-requires-clause-fit
-start_of-requires-clause-fit c = rw c.as_slice-globals.ensures (globals-fit c.args.program.now c.requires.sound.globals)
+start_of-requires-clause-fit c = rw c.as_slice-globals.ensures (globals-fit c.args.program.now.globals c.requires.sound.global_types_fit)
 
 pub start_of-requires-clause-one : goal.start_of-requires-clause-one
 start_of-requires-clause-one c =
@@ -28,7 +28,7 @@ overflow_add-result c =
     omega (arith, before, end, c.start_of.ensures, c.requires.base.high)
 
 pub start_of-requires-else-globals-number-clause-fit : goal.start_of-requires-else-globals-number-clause-fit
-start_of-requires-else-globals-number-clause-fit c = rw c.as_slice-globals.ensures (globals-fit c.args.program.now c.requires.sound.globals)
+start_of-requires-else-globals-number-clause-fit c = rw c.as_slice-globals.ensures (globals-fit c.args.program.now.globals c.requires.sound.global_types_fit)
 
 pub start_of-requires-else-globals-number-clause-one : goal.start_of-requires-else-globals-number-clause-one
 start_of-requires-else-globals-number-clause-one c =

@@ -1,4 +1,4 @@
-use Rattle.hip_typing.specs.Sound.{instr_register_uses}
+use Rattle.hip_typing.specs.Rules.{instr_register_uses}
 use Rattle.hip_typing.proofs.UseLists.{parts_on, parts_end}
 use Rattle.hip_typing.proofs.assigned_functions.check_instrs.Goals as goal
 

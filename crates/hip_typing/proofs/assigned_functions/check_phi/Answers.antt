@@ -1,4 +1,4 @@
-use Rattle.hip_typing.specs.Sound.{edge_register_uses}
+use Rattle.hip_typing.specs.Rules.{edge_register_uses}
 use Rattle.hip_typing.proofs.UseLists.{flat_on, flat_end}
 use Rattle.hip_typing.proofs.assigned_functions.check_phi.Goals as goal
 

@@ -1,4 +1,4 @@
-use Rattle.std.proofs.Common.{Err, sym, subst}
+use Rattle.std.proofs.Common.{sym, subst}
 use Rattle.hip_typing.specs.Checks.{Refuses, refuses-unspelled, refuses-stopped, refuses-on_paths, registers-hold, is_spelled, sound-is}
 use Rattle.hip_typing.proofs.checked.find_fault.Goals as goal
 

@@ -7,10 +7,10 @@ use Rattle.hip_typing.proofs.InitialLemmas.{globals_fit, laid_alike, length-regi
 use Rattle.hip_typing.proofs.initial_bytes.region_bytes.Goals as goal
 
 pub address_table-requires-clause-fit : goal.address_table-requires-clause-fit
-address_table-requires-clause-fit c = rw c.as_slice-globals.ensures (globals-fit c.args.program.now c.requires.globals)
+address_table-requires-clause-fit c = rw c.as_slice-globals.ensures (globals-fit c.args.program.now.globals c.requires.globals)
 
 pub laid_bytes-requires : goal.laid_bytes-requires
-laid_bytes-requires c = rw c.as_slice-globals.ensures (globals_fit c.args.program.now c.requires.globals)
+laid_bytes-requires c = rw c.as_slice-globals.ensures (globals_fit c.args.program.now.globals c.requires.globals)
 
 pub returns-clause-bytes : goal.returns-clause-bytes
 returns-clause-bytes c =

@@ -1,6 +1,6 @@
 use Rattle.std.proofs.Common.{◌≡◌, ◌++◌, take}
 use Rattle.hip_typing.specs.Seen.{seen}
-use Rattle.hip_typing.specs.Sound.{blocks_names}
+use Rattle.hip_typing.specs.Rules.{blocks_names}
 use Rattle.hip_typing.proofs.inner.push_blocks.Given as goal
 
 abbrev pub invariant-each_block : goal.invariant-each_block

@@ -1,6 +1,6 @@
 use Rattle.std.proofs.Common.{◌≡◌, ◌++◌, take}
 use Rattle.hip_typing.specs.Seen.{seen}
-use Rattle.hip_typing.specs.Sound.{body_names}
+use Rattle.hip_typing.specs.Rules.{body_names}
 use Rattle.hip_typing.proofs.inner.push_body.Given as goal
 
 abbrev pub invariant-body : goal.invariant-body

@@ -1,6 +1,6 @@
 use Rattle.std.proofs.Common.{◌≡◌, ◌++◌, take}
 use Rattle.hip_typing.specs.Seen.{seen}
-use Rattle.hip_typing.specs.Sound.{param_names}
+use Rattle.hip_typing.specs.Rules.{param_names}
 use Rattle.hip_typing.proofs.inner.push_params.Given as goal
 
 abbrev pub invariant-params : goal.invariant-params

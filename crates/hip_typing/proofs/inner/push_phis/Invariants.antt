@@ -1,6 +1,6 @@
 use Rattle.std.proofs.Common.{◌≡◌, ◌++◌, take}
 use Rattle.hip_typing.specs.Seen.{seen}
-use Rattle.hip_typing.specs.Sound.{phi_names}
+use Rattle.hip_typing.specs.Rules.{phi_names}
 use Rattle.hip_typing.proofs.inner.push_phis.Given as goal
 
 abbrev pub invariant-phis : goal.invariant-phis

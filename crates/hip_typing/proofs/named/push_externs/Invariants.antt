@@ -1,6 +1,6 @@
 use Rattle.std.proofs.Common.{◌≡◌, ◌++◌, take}
 use Rattle.hip_typing.specs.Seen.{seen}
-use Rattle.hip_typing.specs.Sound.{extern_names}
+use Rattle.hip_typing.specs.Rules.{extern_names}
 use Rattle.hip_typing.proofs.named.push_externs.Given as goal
 
 abbrev pub invariant-externs : goal.invariant-externs

@@ -1,6 +1,6 @@
 use Rattle.std.proofs.Common.{◌≡◌, ◌++◌, take}
 use Rattle.hip_typing.specs.Seen.{seen}
-use Rattle.hip_typing.specs.Sound.{function_names}
+use Rattle.hip_typing.specs.Rules.{function_names}
 use Rattle.hip_typing.proofs.named.push_functions.Given as goal
 
 abbrev pub invariant-functions : goal.invariant-functions

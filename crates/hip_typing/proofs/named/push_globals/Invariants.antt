@@ -1,6 +1,6 @@
 use Rattle.std.proofs.Common.{◌≡◌, ◌++◌, take}
 use Rattle.hip_typing.specs.Seen.{seen}
-use Rattle.hip_typing.specs.Sound.{global_names}
+use Rattle.hip_typing.specs.Rules.{global_names}
 use Rattle.hip_typing.proofs.named.push_globals.Given as goal
 
 abbrev pub invariant-globals : goal.invariant-globals

@@ -4,7 +4,7 @@ use Rattle.hip_ir.specs.declared.program.Function.{Function}
 use Rattle.hip_typing.specs.Answers.{Answers}
 use Rattle.hip_typing.specs.Check.{each}
 use Rattle.hip_typing.specs.Places.{scope_of}
-use Rattle.hip_typing.specs.Sound.{block_check}
+use Rattle.hip_typing.specs.Rules.{block_check}
 use Rattle.hip_typing.proofs.places.check_function.Goals as goal
 
 pub returns : goal.returns

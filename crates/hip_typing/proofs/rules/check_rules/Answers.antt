@@ -1,5 +1,8 @@
+use Rattle.hip_typing.specs.SoundExact.{globals-sound}
 use Rattle.hip_typing.specs.SoundLaws.{globals-exact, globals-fit}
 use Rattle.hip_typing.proofs.rules.check_rules.Goals as goal
 
 pub check_sizes-requires : goal.check_sizes-requires
-check_sizes-requires c = globals-fit c.args.program.now ((globals-exact c.args.program.now).sound c.in_ok-check_globals.ensures)
+check_sizes-requires c =
+    let P = c.args.program.now in
+    globals-fit P.globals (globals-sound P ((globals-exact P).sound c.in_ok-check_globals.ensures)).fit

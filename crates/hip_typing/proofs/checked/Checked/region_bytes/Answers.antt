@@ -1,11 +1,11 @@
 use Rattle.std.proofs.Common.{◌≡◌, ◌+◌, true, arith, sym, ap, ◌∙◌}
 use Rattle.hip_typing.specs.Addresses.{end_of}
 use Rattle.hip_typing.specs.AddressLaws.{spelled-divide, end_of-from}
-use Rattle.hip_typing.specs.SoundLaws.{persistent-end, volatile-end}
+use Rattle.hip_typing.specs.SoundLaws.{persistent-end}
 use Rattle.hip_typing.proofs.checked.Checked.region_bytes.Goals as goal
 
 pub region_bytes-requires-clause-globals : goal.region_bytes-requires-clause-globals
-region_bytes-requires-clause-globals c = c.self.invariant.globals
+region_bytes-requires-clause-globals c = c.self.invariant.global_types_fit
 
 pub region_bytes-requires-clause-persistent : goal.region_bytes-requires-clause-persistent
 region_bytes-requires-clause-persistent c =
@@ -16,4 +16,4 @@ region_bytes-requires-clause-persistent c =
     omega (arith, end, persistent-end P c.self.invariant.sizes, c.requires.high)
 
 pub region_bytes-requires-clause-volatile : goal.region_bytes-requires-clause-volatile
-region_bytes-requires-clause-volatile c = omega (arith, volatile-end c.self.inside.program c.self.invariant.sizes)
+region_bytes-requires-clause-volatile c = let volatile = c.self.invariant.sizes.volatile in omega (arith, volatile)

@@ -1,0 +1,145 @@
+-- Names that differ: what the checks ask and what soundness says.
+use Rattle.std.specs.Prelude.{ℕ, ◌+◌, ◌≡◌, ◌⊎◌, List, [], ◌∷◌, ◌++◌, map, Some}
+use Rattle.std.specs.List.{flat_map}
+use Rattle.std.specs.Bool.{Decides}
+use Rattle.std.specs.Cmp.{both_ways}
+use Rattle.std.specs.Str.{bytes_eq}
+use Rattle.std.proofs.Common.{append_assoc, refl, sym, ap, subst, ◌∙◌, inl, inr, ⊎_elim}
+use Rattle.std.proofs.lemmas.List.{map-append}
+use Rattle.std.proofs.lemmas.Slice.Eq.{bytes_eq-Decides}
+use Rattle.hip_ir.specs.declared.block.Block.{Block}
+use Rattle.hip_ir.specs.declared.block.Phi.{Phi}
+use Rattle.hip_ir.specs.declared.instr.Instr.{Instr}
+use Rattle.hip_ir.specs.declared.program.Function.{Function}
+use Rattle.hip_ir.specs.declared.program.Param.{Param}
+use Rattle.hip_ir.specs.declared.program.Program.{Program}
+use Rattle.hip_typing.specs.CheckLaws.{among-sound, among-whole}
+use Rattle.hip_typing.specs.Names.{AllDiffer, Named, IsAmong, is_among, differ_after, numbered_from}
+use Rattle.hip_typing.specs.Paths.{names_of}
+use Rattle.hip_typing.specs.Registers.{Register, assigned_by, phi_registers, body_registers, parameter_registers}
+use Rattle.hip_typing.specs.Rules as rules
+use Rattle.hip_typing.specs.Rules.{names_check, registers_check, inner_check, inner_names, instr_names, phi_names, body_names, block_names, param_names, blocks_names, all_of}
+use Rattle.hip_typing.specs.declared.fault.Place.{Place}
+use Rattle.hip_typing.specs.declared.fault.Place.TheVariants as places
+use Rattle.hip_typing.specs.Sound.{top_names, names_in_block, names_in_function}
+
+pub bytes_eq-sym : (xs ys : List ℕ) → bytes_eq xs ys ≡ bytes_eq ys xs
+bytes_eq-sym xs ys =
+    both_ways _ _ (λ e. (bytes_eq-Decides ys xs).1 (sym ((bytes_eq-Decides xs ys).0 e))) (λ e. (bytes_eq-Decides xs ys).1 (sym ((bytes_eq-Decides ys xs).0 e)))
+
+pub among-decides : (xs : List (List ℕ)) (name : List ℕ) → Decides (is_among xs name) (IsAmong xs name)
+among-decides xs name = (among-sound xs name, among-whole xs name)
+
+pub among-left : (xs ys : List (List ℕ)) (name : List ℕ) → IsAmong xs name → IsAmong (xs ++ ys) name
+among-left [] ys name h = absurd h
+among-left (x ∷ xs) ys name (inl e) = inl e
+among-left (x ∷ xs) ys name (inr h) = inr (among-left xs ys name h)
+
+pub among-right : (xs ys : List (List ℕ)) (name : List ℕ) → IsAmong ys name → IsAmong (xs ++ ys) name
+among-right [] ys name h = h
+among-right (x ∷ xs) ys name h = inr (among-right xs ys name h)
+
+pub among-either : (xs ys : List (List ℕ)) (name : List ℕ) → IsAmong (xs ++ ys) name → IsAmong xs name ⊎ IsAmong ys name
+among-either [] ys name h = inr h
+among-either (x ∷ xs) ys name (inl e) = inl (inl e)
+among-either (x ∷ xs) ys name (inr h) = ⊎_elim (λ l. inl (inr l)) (λ r. inr r) (among-either xs ys name h)
+
+abbrev place_names : List Named → List (List ℕ)
+place_names ns = map (λ n. n.name) ns
+
+-- the names differ, and none of them is one of some earlier names
+record Apart (earlier names : List (List ℕ)) : Type 0 where
+  pub differ : AllDiffer names
+  pub apart : (name : List ℕ) → IsAmong earlier name → ¬ IsAmong names name
+
+apart_after : (earlier : List (List ℕ)) (xs : List Named) → (differ_after earlier xs).Holds → Apart earlier (place_names xs)
+apart_after earlier [] h = record { differ = tt; apart = λ name among none. none }
+apart_after earlier (x ∷ xs) h =
+    let rest : Apart (earlier ++ x.name ∷ []) (place_names xs) = apart_after (earlier ++ x.name ∷ []) xs h.1 in
+    record {
+      differ = (rest.apart x.name (among-right earlier (x.name ∷ []) x.name (inl refl)), rest.differ);
+      apart = λ name among there. ⊎_elim (λ e. h.0 (subst (λ (n : List ℕ). IsAmong earlier n) (sym e) among)) (λ later. rest.apart name (among-left earlier (x.name ∷ []) name among) later) there;
+    }
+
+after_apart : (earlier : List (List ℕ)) (xs : List Named) → Apart earlier (place_names xs) → (differ_after earlier xs).Holds
+after_apart earlier [] a = tt
+after_apart earlier (x ∷ xs) a = (
+  (λ h. a.apart x.name h (inl refl)),
+  after_apart (earlier ++ x.name ∷ []) xs
+      (record {
+        differ = a.differ.1;
+        apart = λ name among there. ⊎_elim (λ h. a.apart name h (inr there)) (λ one. ⊎_elim (λ e. a.differ.0 (subst (λ (n : List ℕ). IsAmong (place_names xs) n) (sym e) there)) (λ none. none) one) (among-either earlier (x.name ∷ []) name among);
+      }),
+)
+
+differ-sound : (xs : List Named) (names : List (List ℕ)) → place_names xs ≡ names → (differ_after [] xs).Holds → AllDiffer names
+differ-sound xs names is h = subst AllDiffer is (apart_after [] xs h).differ
+
+differ-whole : (xs : List Named) (names : List (List ℕ)) → place_names xs ≡ names → AllDiffer names → (differ_after [] xs).Holds
+differ-whole xs names is h = after_apart [] xs (record { differ = subst AllDiffer (sym is) h; apart = λ name none. absurd none })
+
+-- ---- the names of the whole program
+
+named_alike : {A : Type 0} (n : ℕ) (name : A → List ℕ) (place : ℕ → Place) (xs : List A) → place_names (numbered_from n (λ k x. record { name = name x; place = place k }) xs) ≡ map name xs
+named_alike n name place [] = refl
+named_alike n name place (x ∷ xs) = ap (λ ns. name x ∷ ns) (named_alike (n + 1) name place xs)
+
+top_alike : (P : Program) → place_names (rules.top_names P) ≡ top_names P
+top_alike P =
+    map-append (λ n. n.name) (rules.global_names P.globals ++ rules.extern_names P.externs) (rules.function_names P.functions)
+    ∙ ap (λ ns. ns ++ place_names (rules.function_names P.functions)) (map-append (λ n. n.name) (rules.global_names P.globals) (rules.extern_names P.externs))
+    ∙ append_assoc (place_names (rules.global_names P.globals)) (place_names (rules.extern_names P.externs)) (place_names (rules.function_names P.functions))
+    ∙ ap (λ ns. ns ++ (place_names (rules.extern_names P.externs) ++ place_names (rules.function_names P.functions))) (named_alike 0 (λ g. g.name) places.Global P.globals)
+    ∙ ap (λ ns. map (λ g. g.name) P.globals ++ (ns ++ place_names (rules.function_names P.functions))) (named_alike 0 (λ e. e.name) places.Extern P.externs)
+    ∙ ap (λ ns. map (λ g. g.name) P.globals ++ (map (λ e. e.name) P.externs ++ ns)) (named_alike 0 (λ f. f.name) places.Head P.functions)
+
+pub names-sound : (P : Program) → (names_check P).Holds → AllDiffer (top_names P)
+names-sound P h = differ-sound (rules.top_names P) (top_names P) (top_alike P) h
+
+pub names-whole : (P : Program) → AllDiffer (top_names P) → (names_check P).Holds
+names-whole P h = differ-whole (rules.top_names P) (top_names P) (top_alike P) h
+
+-- ---- the names in a function
+
+registers_alike : (rs : List Register) (place : Place) → place_names (map (λ r. record { name = r.name; place = place }) rs) ≡ names_of rs
+registers_alike [] place = refl
+registers_alike (r ∷ rs) place = ap (λ ns. r.name ∷ ns) (registers_alike rs place)
+
+params_alike : (n f : ℕ) (params : List Param) → place_names (numbered_from n (λ k p. record { name = p.name; place = places.Head f }) params) ≡ names_of (map (λ p. record { name = p.name; ty = Some p.ty }) params)
+params_alike n f [] = refl
+params_alike n f (p ∷ ps) = ap (λ ns. p.name ∷ ns) (params_alike (n + 1) f ps)
+
+phis_alike : (n f b : ℕ) (phis : List Phi) → place_names (numbered_from n (λ i p. record { name = p.dest; place = places.Phi (record { function = f; block = b; index = i }) }) phis) ≡ names_of (phi_registers phis)
+phis_alike n f b [] = refl
+phis_alike n f b (p ∷ ps) = ap (λ ns. p.dest ∷ ns) (phis_alike (n + 1) f b ps)
+
+body_alike : (n f b : ℕ) (body : List Instr) → place_names (all_of (numbered_from n (instr_names f b) body)) ≡ names_of (body_registers body)
+body_alike n f b [] = refl
+body_alike n f b (i ∷ is) =
+    map-append (λ m. m.name) (instr_names f b n i) (all_of (numbered_from (n + 1) (instr_names f b) is))
+    ∙ ap (λ ns. ns ++ place_names (all_of (numbered_from (n + 1) (instr_names f b) is))) (registers_alike (assigned_by i) (places.Body (rules.site f b n)))
+    ∙ ap (λ ns. names_of (assigned_by i) ++ ns) (body_alike (n + 1) f b is) ∙ sym (map-append (λ r. r.name) (assigned_by i) (body_registers is))
+
+block_alike : (f b : ℕ) (block : Block) → place_names (block_names f b block) ≡ names_in_block block
+block_alike f b block =
+    ap (λ ns. block.label ∷ ns)
+    (map-append (λ m. m.name) (phi_names f b block.phis) (body_names f b block.body)
+    ∙ ap (λ ns. ns ++ place_names (body_names f b block.body)) (phis_alike 0 f b block.phis)
+    ∙ ap (λ ns. names_of (phi_registers block.phis) ++ ns) (body_alike 0 f b block.body) ∙ sym (map-append (λ r. r.name) (phi_registers block.phis) (body_registers block.body)))
+
+blocks_alike : (n f : ℕ) (blocks : List Block) → place_names (all_of (numbered_from n (block_names f) blocks)) ≡ flat_map names_in_block blocks
+blocks_alike n f [] = refl
+blocks_alike n f (b ∷ bs) =
+    map-append (λ m. m.name) (block_names f n b) (all_of (numbered_from (n + 1) (block_names f) bs))
+    ∙ ap (λ ns. ns ++ place_names (all_of (numbered_from (n + 1) (block_names f) bs))) (block_alike f n b) ∙ ap (λ ns. names_in_block b ++ ns) (blocks_alike (n + 1) f bs)
+
+pub inner_names-are : (f : ℕ) (fn : Function) → place_names (inner_names f fn) ≡ names_in_function fn
+inner_names-are f fn =
+    map-append (λ m. m.name) (param_names f fn.params) (blocks_names f fn.blocks)
+    ∙ ap (λ ns. ns ++ place_names (blocks_names f fn.blocks)) (params_alike 0 f fn.params) ∙ ap (λ ns. names_of (parameter_registers fn) ++ ns) (blocks_alike 0 f fn.blocks)
+
+pub inner-sound : (f : ℕ) (fn : Function) → (inner_check f fn).Holds → AllDiffer (names_in_function fn)
+inner-sound f fn h = differ-sound (inner_names f fn) (names_in_function fn) (inner_names-are f fn) h
+
+pub inner-whole : (f : ℕ) (fn : Function) → AllDiffer (names_in_function fn) → (inner_check f fn).Holds
+inner-whole f fn h = differ-whole (inner_names f fn) (names_in_function fn) (inner_names-are f fn) h

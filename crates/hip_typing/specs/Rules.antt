@@ -1,0 +1,273 @@
+-- The rules as checks, in their order, and the first rule that a program breaks.
+use Rattle.std.specs.Prelude.{ℕ, ◌+◌, ◌≡◌, ◌<◌, ◌&&◌, nat_le, Bool, true, false, List, [], ◌∷◌, ◌++◌, map, All, Option, Some, None, is_none, slice_get, codes, if◌then◌else◌}
+use Rattle.std.specs.List.{flat_map, list_all}
+use Rattle.std.specs.Str.{bytes_eq}
+use Rattle.hip_types.specs.declared.number.Scalar.{Scalar}
+use Rattle.hip_types.specs.declared.number.Scalar.TheVariants as scalars
+use Rattle.hip_types.specs.declared.number.Width.TheVariants.{W32}
+use Rattle.hip_ir.specs.declared.block.Block.{Block}
+use Rattle.hip_ir.specs.declared.block.Edge.{Edge}
+use Rattle.hip_ir.specs.declared.block.End.{End}
+use Rattle.hip_ir.specs.declared.instr.Instr.{Instr}
+use Rattle.hip_ir.specs.declared.block.Phi.{Phi}
+use Rattle.hip_ir.specs.declared.program.Extern.{Extern}
+use Rattle.hip_ir.specs.declared.program.Function.{Function}
+use Rattle.hip_ir.specs.declared.program.GlobalVar.{GlobalVar}
+use Rattle.hip_ir.specs.declared.program.Param.{Param}
+use Rattle.hip_ir.specs.declared.program.Program.{Program}
+use Rattle.hip_ir.specs.declared.site.Site.{Site}
+use Rattle.hip_ir.specs.Reading.{IsSpelled}
+use Rattle.hip_typing.specs.Addresses.{region_size, volatile_start, volatile_end}
+use Rattle.hip_typing.specs.Check.{Check, asks_true, and_then, each}
+use Rattle.hip_typing.specs.Constants.{has_shape, joined, names_in, types_in}
+use Rattle.hip_typing.specs.Externs.{Signature, known_signature, call_of}
+use Rattle.hip_typing.specs.declared.fault.Fault.{Fault}
+use Rattle.hip_typing.specs.declared.fault.Fault.TheVariants as breaks
+use Rattle.hip_typing.specs.Names.{Named, all_differ, is_among, numbered}
+use Rattle.hip_typing.specs.Paths.{IsAssigned, IsUnassigned}
+use Rattle.hip_typing.specs.declared.assigned.Point.{Point}
+use Rattle.hip_typing.specs.declared.assigned.Point.TheVariants.{Before, AtEnd}
+use Rattle.hip_typing.specs.Places.{Scope, scope_of, types_fit, instr_check, end_check, phi_check}
+use Rattle.hip_typing.specs.Registers.{assigned_by, instr_uses, end_uses, used_registers}
+use Rattle.hip_typing.specs.Types.{same_scalar, all_pass}
+use Rattle.hip_typing.specs.declared.fault.Place.{Place}
+use Rattle.hip_typing.specs.declared.fault.Place.TheVariants as places
+use Rattle.hip_typing.specs.declared.fault.TypeFault.{TypeFault}
+use Rattle.hip_typing.specs.declared.fault.TypeFault.TheVariants as faults
+use Rattle.hip_typing.specs.declared.fault.TypeRefusal.{TypeRefusal}
+
+-- ---- names of globals, externs and functions differ, the three lists taken in this order
+
+abbrev named : List ℕ → Place → Named
+named name place = record { name = name; place = place }
+
+abbrev pub global_names : List GlobalVar → List Named
+global_names globals = numbered (λ n g. named g.name (places.Global n)) globals
+
+abbrev pub extern_names : List Extern → List Named
+extern_names externs = numbered (λ n e. named e.name (places.Extern n)) externs
+
+abbrev pub function_names : List Function → List Named
+function_names functions = numbered (λ n f. named f.name (places.Head n)) functions
+
+abbrev pub top_names : Program → List Named
+top_names P = global_names P.globals ++ extern_names P.externs ++ function_names P.functions
+
+abbrev pub names_check : Program → Check
+names_check P = all_differ (top_names P)
+
+-- ---- globals: their types fit, their initialisers have their types' shape and name globals
+
+abbrev pub global_check : List (List ℕ) → ℕ → GlobalVar → Check
+global_check known n g =
+    and_then (types_fit (g.ty ∷ types_in g.init) (places.Global n))
+    (and_then (asks_true (has_shape g.init g.ty) breaks.BadGlobal (places.Global n)) (asks_true (list_all (is_among known) (names_in g.init)) breaks.Unknown (places.Global n)))
+
+abbrev pub globals_check : Program → Check
+globals_check P = each (global_check (map (λ g. g.name) P.globals)) P.globals
+
+-- ---- externs are of the table, and nothing else has a name of the table
+
+abbrev pub is_free : List ℕ → Bool
+is_free name = is_none (call_of name)
+
+abbrev pub same_result : Option Scalar → Option Scalar → Bool
+same_result None None = true
+same_result (Some a) (Some b) = same_scalar a b
+same_result _ _ = false
+
+abbrev pub is_of : Extern → Option Signature → Bool
+is_of e None = false
+is_of e (Some s) = same_result e.ret s.ret && all_pass (map same_scalar s.params) e.params
+
+abbrev pub free_global : ℕ → GlobalVar → Check
+free_global n g = asks_true (is_free g.name) breaks.BadExtern (places.Global n)
+
+abbrev pub declared : ℕ → Extern → Check
+declared n e = asks_true (is_of e (known_signature e.name)) breaks.BadExtern (places.Extern n)
+
+abbrev pub free_function : ℕ → Function → Check
+free_function n f = asks_true (is_free f.name) breaks.BadExtern (places.Head n)
+
+abbrev pub externs_check : Program → Check
+externs_check P = and_then (each free_global P.globals) (and_then (each declared P.externs) (each free_function P.functions))
+
+-- ---- the region and the volatile globals are not too large
+
+abbrev pub sizes_check : Program → Check
+sizes_check P =
+    asks_true (nat_le (region_size P) 67108864 && nat_le (volatile_end P) (volatile_start + 16777216)) breaks.TooLarge places.Whole
+
+-- ---- `main` is there, has no parameters and answers an i32
+
+abbrev pub is_i32 : Option Scalar → Bool
+is_i32 (Some (scalars.Int W32)) = true
+is_i32 _ = false
+
+abbrev pub no_params : List Param → Bool
+no_params [] = true
+no_params _ = false
+
+abbrev pub is_main : Function → Bool
+is_main f = no_params f.params && is_i32 f.ret
+
+abbrev pub has_main : List Function → Bool
+has_main [] = false
+has_main (f ∷ fs) = if bytes_eq f.name (codes "main") then is_main f else has_main fs
+
+abbrev pub main_check : Program → Check
+main_check P = asks_true (has_main P.functions) breaks.NoMain places.Whole
+
+-- ---- parameters, labels and registers of a function differ
+
+abbrev pub site : ℕ → ℕ → ℕ → Site
+site f b i = record { function = f; block = b; index = i }
+
+abbrev pub instr_names : ℕ → ℕ → ℕ → Instr → List Named
+instr_names f b i instr = map (λ r. named r.name (places.Body (site f b i))) (assigned_by instr)
+
+abbrev pub all_of : List (List Named) → List Named
+all_of [] = []
+all_of (ns ∷ rest) = ns ++ all_of rest
+
+abbrev pub phi_names : ℕ → ℕ → List Phi → List Named
+phi_names f b phis = numbered (λ i p. named p.dest (places.Phi (site f b i))) phis
+
+abbrev pub body_names : ℕ → ℕ → List Instr → List Named
+body_names f b body = all_of (numbered (instr_names f b) body)
+
+abbrev pub block_names : ℕ → ℕ → Block → List Named
+block_names f b block = named block.label (places.Head f) ∷ (phi_names f b block.phis ++ body_names f b block.body)
+
+abbrev pub param_names : ℕ → List Param → List Named
+param_names f params = numbered (λ n p. named p.name (places.Head f)) params
+
+abbrev pub blocks_names : ℕ → List Block → List Named
+blocks_names f blocks = all_of (numbered (block_names f) blocks)
+
+abbrev pub inner_names : ℕ → Function → List Named
+inner_names f fn = param_names f fn.params ++ blocks_names f fn.blocks
+
+abbrev pub inner_check : ℕ → Function → Check
+inner_check f fn = all_differ (inner_names f fn)
+
+abbrev pub registers_check : Program → Check
+registers_check P = each inner_check P.functions
+
+-- ---- each place of each function
+
+abbrev pub phi_at : Scope → List ℕ → ℕ → ℕ → ℕ → Phi → Check
+phi_at s label f b i p = phi_check s label p (places.Phi (site f b i))
+
+abbrev pub instr_at : Scope → ℕ → ℕ → ℕ → Instr → Check
+instr_at s f b i instr = instr_check s instr (places.Body (site f b i))
+
+abbrev pub block_check : Scope → ℕ → ℕ → Block → Check
+block_check s f b block =
+    and_then (each (phi_at s block.label f b) block.phis) (and_then (each (instr_at s f b) block.body) (end_check s block.end (places.End f b)))
+
+abbrev pub function_check : Program → ℕ → Function → Check
+function_check P f fn = each (block_check (scope_of P fn) f) fn.blocks
+
+abbrev pub places_check : Program → Check
+places_check P = each (function_check P) P.functions
+
+-- ---- each use of a register is assigned on every path
+
+-- a use of a register: where its fault is placed, and where it stands in the function
+pub record RegisterUse : Type 0 where
+  pub place : Place
+  pub block : ℕ
+  pub point : Point
+  pub name : List ℕ
+
+abbrev pub use_at : Place → ℕ → Point → List ℕ → RegisterUse
+use_at place b point name = record { place = place; block = b; point = point; name = name }
+
+abbrev pub block_numbers_from : ℕ → List Block → List ℕ → List ℕ
+block_numbers_from n [] label = []
+block_numbers_from n (b ∷ bs) label = if bytes_eq b.label label then n ∷ [] else block_numbers_from (n + 1) bs label
+
+-- a phi's operand is used at the end of the predecessor
+abbrev pub edge_register_uses : List Block → Place → Scalar → Edge → List RegisterUse
+edge_register_uses blocks place ty e =
+    flat_map (λ b. map (use_at place b AtEnd) (used_registers (record { operand = e.value; ty = ty } ∷ []))) (block_numbers_from 0 blocks e.label)
+
+abbrev pub phi_register_uses : List Block → Place → Phi → List RegisterUse
+phi_register_uses blocks place p = flat_map (edge_register_uses blocks place p.ty) p.edges
+
+-- an instruction's registers are used before it
+abbrev pub instr_register_uses : ℕ → ℕ → ℕ → Instr → List RegisterUse
+instr_register_uses f b i instr = map (use_at (places.Body (site f b i)) b (Before i)) (used_registers (instr_uses instr))
+
+abbrev pub end_register_uses : ℕ → ℕ → End → List RegisterUse
+end_register_uses f b end = map (use_at (places.End f b) b AtEnd) (used_registers (end_uses end))
+
+abbrev pub block_register_uses : List Block → ℕ → ℕ → Block → List RegisterUse
+block_register_uses blocks f b block =
+    joined (numbered (λ i p. phi_register_uses blocks (places.Phi (site f b i)) p) block.phis) ++ joined (numbered (instr_register_uses f b) block.body) ++ end_register_uses f b block.end
+
+-- the uses of registers in a function, in the order of their places
+abbrev pub register_uses : ℕ → Function → List RegisterUse
+register_uses f fn = joined (numbered (block_register_uses fn.blocks f) fn.blocks)
+
+abbrev pub UseIsAssigned : Function → RegisterUse → Type 0
+UseIsAssigned fn u = IsAssigned fn u.block u.point u.name
+
+abbrev pub AllAssigned : Function → ℕ → Type 0
+AllAssigned fn f = All (UseIsAssigned fn) (register_uses f fn)
+
+-- ---- what passes the checks
+
+-- a program that is spelled, that passes each check, and in which each use is assigned on every path
+pub record Passes (P : Program) : Type 0 where
+  pub spelled : IsSpelled P
+  pub names : (names_check P).Holds
+  pub globals : (globals_check P).Holds
+  pub externs : (externs_check P).Holds
+  pub sizes : (sizes_check P).Holds
+  pub main : (main_check P).Holds
+  pub registers : (registers_check P).Holds
+  pub places : (places_check P).Holds
+  pub assigned : (f : ℕ) (fn : Function) → slice_get P.functions f ≡ Some fn → AllAssigned fn f
+
+-- the rules between spelling and paths, one after another
+abbrev pub rules_check : Program → Check
+rules_check P =
+    and_then (names_check P)
+    (and_then (globals_check P) (and_then (externs_check P) (and_then (sizes_check P) (and_then (main_check P) (and_then (registers_check P) (places_check P))))))
+
+-- The path shows that the use is not assigned; every use before it is.
+pub record IsFirstUnassigned (P : Program) (place : Place) (path : List ℕ) : Type 0 where
+  pub function : ℕ
+  pub fn : Function
+  pub here : slice_get P.functions function ≡ Some fn
+  pub earlier : (g : ℕ) (gn : Function) → g < function → slice_get P.functions g ≡ Some gn → AllAssigned gn g
+  pub before : List RegisterUse
+  pub it : RegisterUse
+  pub after : List RegisterUse
+  pub uses : register_uses function fn ≡ before ++ it ∷ after
+  pub assigned : All (UseIsAssigned fn) before
+  pub at : it.place ≡ place
+  pub unassigned : IsUnassigned fn it.block it.point it.name path
+
+-- The program is spelled, and the first of the rules that it breaks has this fault at this place.
+abbrev BreaksFirst : Program → Fault → Place → Type 0
+BreaksFirst P fault place = IsSpelled P × ((rules_check P).found ≡ Some (record { fault = fault; place = place }))
+
+-- The first rule that fails, at the first place, in the order of the rules above.
+abbrev is_first : Program → Place → TypeFault → Type 0
+is_first P place faults.BadShape = (¬ IsSpelled P) × (place ≡ places.Whole)
+is_first P place faults.Duplicate = BreaksFirst P breaks.Duplicate place
+is_first P place faults.Unknown = BreaksFirst P breaks.Unknown place
+is_first P place faults.Mismatch = BreaksFirst P breaks.Mismatch place
+is_first P place faults.NoMain = BreaksFirst P breaks.NoMain place
+is_first P place (faults.Unassigned path) = IsSpelled P × ((rules_check P).found ≡ None) × IsFirstUnassigned P place path
+is_first P place faults.BadExtern = BreaksFirst P breaks.BadExtern place
+is_first P place faults.BadGlobal = BreaksFirst P breaks.BadGlobal place
+is_first P place faults.BadEdge = BreaksFirst P breaks.BadEdge place
+is_first P place faults.TooLarge = BreaksFirst P breaks.TooLarge place
+is_first P place faults.NoMemory = ⊥
+
+abbrev pub IsFirstFault : Program → TypeRefusal → Type 0
+IsFirstFault P refusal = is_first P refusal.place refusal.fault

@@ -24,7 +24,7 @@ use hip_io::{Cabinet, Fetched, Put, ReadRefusal, Sink, WriteFault, put_after, re
 use hip_ir::Program;
 use hip_parse::{ParseRefusal, parse};
 use hip_types::NoMemory;
-use hip_typing::{Place, TypeFault, TypeRefusal, check};
+use hip_typing::{Checked, Place, TypeFault, TypeRefusal, check};
 use hip_write::write;
 use std::alloc::Global;
 
@@ -40,14 +40,13 @@ pub(crate) struct Found {
 }
 
 /// The program, where it is sound and `repair` takes it.
-fn take_program(alloc: Global, program: Program) -> Result<Program, Status>
+fn take_program(alloc: Global, program: Program) -> Result<Checked, Status>
     ensures { TakesProgram program result }
 {
     let refusal = match check(alloc, program) {
         Ok(checked) => {
-            let program = checked.into_program();
-            if is_one_store(&program) {
-                return Ok(program);
+            if is_one_store(checked.program()) {
+                return Ok(checked);
             }
             TypeRefusal {
                 fault: TypeFault::BadShape,
@@ -68,7 +67,7 @@ fn take_program(alloc: Global, program: Program) -> Result<Program, Status>
 }
 
 /// The sound program that a text reads as.
-fn read_program(alloc: Global, text: &[u8]) -> Result<Program, Status>
+fn read_program(alloc: Global, text: &[u8]) -> Result<Checked, Status>
     ensures { ReadsProgram text.now result }
 {
     match parse(alloc, text) {
@@ -81,7 +80,7 @@ fn read_program(alloc: Global, text: &[u8]) -> Result<Program, Status>
 }
 
 /// The program in a file.
-fn load_program<C: Cabinet>(alloc: Global, cabinet: &mut C, name: &str) -> Result<Program, Status>
+fn load_program<C: Cabinet>(alloc: Global, cabinet: &mut C, name: &str) -> Result<Checked, Status>
     ensures { LoadsProgram name.now (C.state cabinet.old) (C.state cabinet.new) result }
 {
     match read_all(alloc, cabinet, name, TEXT_LIMIT) {
@@ -160,15 +159,16 @@ fn find_repair<C: Cabinet>(
 ) -> Result<Found, Status>
     ensures { Finds (Some (Order.Repair program_name.now trace_name.now)) (C.state cabinet.old) (C.state cabinet.new) result }
 {
-    let program = match load_program(alloc, cabinet, program_name) {
-        Ok(program) => program,
+    let checked = match load_program(alloc, cabinet, program_name) {
+        Ok(checked) => checked,
         Err(status) => return Err(status),
     };
-    let input = match load_trace(alloc, &program, cabinet, trace_name) {
+    let program = checked.program();
+    let input = match load_trace(alloc, program, cabinet, trace_name) {
         Ok(input) => input,
         Err(status) => return Err(status),
     };
-    match plan_for(alloc, &program, &input) {
+    match plan_for(alloc, program, &input) {
         Ok(found) => Ok(found),
         Err(NoMemory) => Err(Status::NoMemory),
     }

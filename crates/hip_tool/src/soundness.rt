@@ -462,7 +462,6 @@ fn sound_program(rt: HostRuntime) -> Result<(), Fail> {
         return Err(Fail::new("not read"));
     };
     assert!(rt; same(checked.program(), &program));
-    assert!(rt; same(&checked.into_program(), &program));
     Ok(())
 }
 

@@ -1,8 +1,9 @@
-ghost use Rattle.std.specs.Prelude.{◌≡◌, ◌+◌, ◌<◌, length, IfOk};
+ghost use Rattle.std.specs.Prelude.{◌≡◌, ◌+◌, ◌<◌, true, false, length, IfOk};
 ghost use Rattle.hip_typing.specs.Addresses as spec;
 ghost use Rattle.hip_typing.specs.Addresses.{IsBase};
 ghost use Rattle.hip_typing.specs.Checks.{Checks};
 ghost use Rattle.hip_typing.specs.Given.{CallsAgree, OperandsAgree, LabelsExist, PhisAgree};
+ghost use Rattle.hip_typing.specs.Held.{HoldsGlobals};
 ghost use Rattle.hip_typing.specs.Initial as initial;
 ghost use Rattle.hip_typing.specs.Names as names;
 ghost use Rattle.hip_typing.specs.Numbering.{function_names, function_number};
@@ -54,15 +55,6 @@ impl Checked {
         &self.program
     }
 
-    /// The program alone.
-    pub fn into_program(self) -> Program
-        ensures is { result ≡ self }
-        ensures sound { IsSound self }
-    {
-        let Checked { program } = self;
-        program
-    }
-
     /// How many bytes the region has: those of the persistent globals, rounded up to whole cache lines of 64 bytes.
     pub fn region_size(&self) -> u64
         ensures { result ≡ spec.region_size self.now }
@@ -80,11 +72,12 @@ impl Checked {
         address(&self.program, base, global)
     }
 
-    /// The bytes that the region has before a run, from a base on: those of the initialisers, with zeros between them.
+    /// The bytes that the region has before a run, from a base on: those of the initialisers, each where its global lies, with zeros between them.
     pub fn region_bytes(&self, alloc: Global, base: u64) -> Result<Row<u8>, NoMemory>
         requires { IsBase base }
         ensures bytes { IfOk result (λ bytes. bytes ≡ initial.region_bytes self.now base) }
         ensures length { IfOk result (λ bytes. length bytes ≡ spec.region_size self.now) }
+        ensures held { IfOk result (λ bytes. HoldsGlobals self.now base true 0 bytes) }
     {
         region_bytes(alloc, &self.program, base)
     }
@@ -94,6 +87,7 @@ impl Checked {
         requires { IsBase base }
         ensures bytes { IfOk result (λ bytes. bytes ≡ initial.volatile_bytes self.now base) }
         ensures length { IfOk result (λ bytes. spec.volatile_start + length bytes ≡ spec.volatile_end self.now) }
+        ensures held { IfOk result (λ bytes. HoldsGlobals self.now base false spec.volatile_start bytes) }
     {
         volatile_bytes(alloc, &self.program, base)
     }

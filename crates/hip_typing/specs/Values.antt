@@ -5,9 +5,7 @@ use Rattle.hip_types.specs.declared.ty.Ty.{Ty}
 use Rattle.hip_types.specs.Layout.{size_of, align_of, gep_of}
 use Rattle.hip_ir.specs.declared.constant.Const.{Const}
 use Rattle.hip_ir.specs.declared.constant.Const.TheOpen.{Const-F, ConstGep-F, TypedConst-F}
-use Rattle.hip_ir.specs.declared.constant.ConstGep.{ConstGep}
-use Rattle.hip_ir.specs.declared.constant.TypedConst.{TypedConst}
-use Rattle.hip_ir.specs.declared.constant.Const.TheFolds.{fold-Const, fold-ConstGep, fold-TypedConst}
+use Rattle.hip_ir.specs.declared.constant.Const.TheFolds.{fold-Const}
 use Rattle.hip_ir.specs.declared.program.GlobalVar.{GlobalVar}
 use Rattle.hip_mem.specs.Bytes.{bytes_of}
 use Rattle.hip_typing.specs.Addresses.{address_in}
@@ -25,8 +23,8 @@ global_address globals base name = unwrap_or (option_map (address_in globals bas
 abbrev pub element_address : ℕ → Ty → List ℕ → ℕ
 element_address base ty path = (base + unwrap_or (gep_of ty path) 0) % 2 ^ 64
 
--- An integer is its value, a name is its global's address, a `getelementptr` is the element's address, and `null` and
--- `zeroinitializer` are 0. (LLVM, "Constants".)
+-- The value, where names have these addresses: an integer is its value, a name is its global's address, a `getelementptr` is
+-- the element's address, and `null` and `zeroinitializer` are 0. (LLVM, "Constants".)
 abbrev value_step : {A B : Type 0} → (List ℕ → ℕ) → Const-F A ℕ B → ℕ
 value_step address_of (Const-F.Int b) = b.value
 value_step address_of (Const-F.Address name) = address_of name
@@ -70,20 +68,17 @@ bytes_step value _ = bytes_of 8 value
 abbrev pub written_step : (List ℕ → ℕ) → Const-F Written ℕ Piece → Written
 written_step address_of c = record { value = value_step address_of c; bytes = bytes_step (value_step address_of c) c }
 
+-- the element that the indices lead to from the base, each index sign-extended to 64 bits
 abbrev pub gep_step : ConstGep-F Written ℕ Piece → ℕ
 gep_step gep = element_address gep.base.value gep.ty (map index_of gep.indices)
 
+-- an item has as many bytes as its type's size
 abbrev pub item_step : TypedConst-F Written ℕ Piece → Piece
 item_step item = record { align = align_of item.ty; bytes = sized (size_of item.ty) item.value.bytes }
 
+-- what a constant is, where names have these addresses
 abbrev pub written : (List ℕ → ℕ) → Const → Written
 written address_of = fold-Const Written ℕ Piece (written_step address_of) gep_step item_step
-
-abbrev pub gep_address : (List ℕ → ℕ) → ConstGep → ℕ
-gep_address address_of = fold-ConstGep Written ℕ Piece (written_step address_of) gep_step item_step
-
-abbrev pub item_piece : (List ℕ → ℕ) → TypedConst → Piece
-item_piece address_of = fold-TypedConst Written ℕ Piece (written_step address_of) gep_step item_step
 
 -- the value of a constant under an integer type or `ptr`, where the region begins at a base
 abbrev pub const_value : List GlobalVar → ℕ → Const → ℕ

@@ -1,7 +1,8 @@
 use Rattle.std.proofs.Common.{◌≡◌, ◌++◌, [], map, take}
 use Rattle.hip_typing.specs.AddressesSeen.{address_beside}
 use Rattle.hip_typing.specs.Constants.{joined}
-use Rattle.hip_typing.specs.Values.{placed, item_piece}
+use Rattle.hip_typing.specs.InitialSeen.{item_piece}
+use Rattle.hip_typing.specs.Values.{placed}
 use Rattle.hip_typing.proofs.initial.+bytes.Given as goal
 
 abbrev pub invariant-push_fields-fields : goal.invariant-push_fields-fields

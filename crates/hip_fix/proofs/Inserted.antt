@@ -14,7 +14,7 @@ use Rattle.hip_ir.specs.declared.program.GlobalVar.{GlobalVar}
 use Rattle.hip_ir.specs.declared.program.Program.{Program}
 use Rattle.hip_lines.specs.Line.{has_bytes}
 use Rattle.hip_typing.specs.Addresses.{IsBase}
-use Rattle.hip_typing.specs.Values.{const_value}
+use Rattle.hip_typing.specs.Values.{Written, const_value}
 use Rattle.hip_step.specs.declared.input.Input.{Input}
 use Rattle.hip_step.specs.Actions.{Action, Flushes, Fences, in_region, are_valid, flushing, instr_action, is_turn}
 use Rattle.hip_step.specs.Operands.{value_of, scalar_size, access_align}
@@ -59,7 +59,7 @@ flush_size_small ty align = go (is_wide ty align)
 -- ---- the constant of a wide store's flush
 
 size_value : (globals : List GlobalVar) (base n : ℕ) → n ≤ 8 → const_value globals base (consts.Int (bits W64 n)) ≡ n
-size_value globals base n h = ap (const_value globals base) (sym (rolls-Int (bits W64 n))) ∙ fold-roll-Const _ _ _ _ _ _ _ ∙ mod-eq_of_lt (let k : n < 2 ^ 64 = omega arith in k)
+size_value globals base n h = ap (const_value globals base) (sym (rolls-Int (bits W64 n))) ∙ ap (λ (x : Written). x.value) (fold-roll-Const _ _ _ _ _ _ _) ∙ mod-eq_of_lt (let k : n < 2 ^ 64 = omega arith in k)
 
 -- ---- actions
 

@@ -17,7 +17,7 @@ use Rattle.hip_typing.specs.Names.{is_among, number_of}
 use Rattle.hip_typing.specs.Numbering as numbers
 use Rattle.hip_typing.specs.NumberingLaws.{number_cases}
 use Rattle.hip_typing.specs.Rules.{Passes}
-use Rattle.hip_typing.specs.Values.{global_address, const_value}
+use Rattle.hip_typing.specs.Values.{Written, global_address, const_value}
 use Rattle.hip_fix.specs.Direct.{is_volatile_global, names_volatile}
 use Rattle.hip_fix.proofs.Callable.{both_hold, flipped}
 use Rattle.hip_fix.proofs.HeadsAgain.{top, names_of_globals, names_of_externs, top_names_are}
@@ -105,7 +105,7 @@ module _ (P : Program) (sound : Passes P) where
     where
       go : (y : Const-F Const ConstGep TypedConst) → out-Const c ≡ y → names_volatile P.globals y ≡ true → const_value P.globals base c ≤ volatile_start + 16777216
       go (Const-F.Address name) q h =
-          let is : const_value P.globals base c ≡ global_address P.globals base name = ap (const_value P.globals base) (sym (roll-out-Const c) ∙ ap roll-Const q) ∙ fold-roll-Const _ _ _ _ _ _ _ in
+          let is : const_value P.globals base c ≡ global_address P.globals base name = ap (const_value P.globals base) (sym (roll-out-Const c) ∙ ap roll-Const q) ∙ ap (λ (x : Written). x.value) (fold-roll-Const _ _ _ _ _ _ _) in
           subst (λ n. n ≤ volatile_start + 16777216) (sym is) (named_low base name h)
       go (Const-F.Int b) q h = cc
       go Const-F.Null q h = cc

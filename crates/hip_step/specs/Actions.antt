@@ -1,15 +1,14 @@
 -- What the instruction at a frame's place does: its action.
-use Rattle.std.specs.Prelude.{ℕ, ◌+◌, ◌%◌, ◌^◌, Bool, true, false, cond, not, ◌&&◌, ◌||◌, nat_le, nat_lt, nat_eq, List, [], ◌∷◌, map, length, Option, Some, None, unwrap_or, slice_get, Result, Ok, Err, ℤ}
+use Rattle.std.specs.Prelude.{ℕ, ◌+◌, ◌%◌, Bool, true, false, cond, not, ◌&&◌, ◌||◌, nat_le, nat_lt, nat_eq, List, [], ◌∷◌, map, length, Option, Some, None, unwrap_or, slice_get, Result, Ok, Err, ℤ}
 use Rattle.std.specs.Int.{next_multiple_of}
 use Rattle.std.specs.Str.{bytes_eq}
-use Rattle.hip_types.specs.Layout.{shape, gep_of}
+use Rattle.hip_types.specs.Layout.{shape}
 use Rattle.hip_types.specs.Numbers.{bits, modulus, signed, wrapped}
 use Rattle.hip_types.specs.declared.number.Bits.{Bits}
 use Rattle.hip_types.specs.declared.number.CastOp.{CastOp}
 use Rattle.hip_types.specs.declared.number.CastOp.TheVariants as casts
 use Rattle.hip_types.specs.declared.number.Scalar.{Scalar}
 use Rattle.hip_types.specs.declared.number.Width.TheVariants.{W64}
-use Rattle.hip_types.specs.declared.ty.Ty.{Ty}
 use Rattle.hip_ir.specs.declared.block.Case.{Case}
 use Rattle.hip_ir.specs.declared.block.Edge.{Edge}
 use Rattle.hip_ir.specs.declared.block.End.{End}
@@ -34,6 +33,7 @@ use Rattle.hip_typing.specs.Initial.{volatile_bytes}
 use Rattle.hip_typing.specs.declared.externs.ExternCall.{ExternCall}
 use Rattle.hip_typing.specs.declared.externs.ExternCall.TheVariants as calls
 use Rattle.hip_typing.specs.Numbering.{function_number}
+use Rattle.hip_typing.specs.Values.{element_address}
 use Rattle.hip_step.specs.declared.event.TrapKind.{TrapKind}
 use Rattle.hip_step.specs.declared.event.TrapKind.TheVariants as traps
 use Rattle.hip_step.specs.declared.input.Input.{Input}
@@ -118,10 +118,6 @@ index_value s v = wrapped W64 (signed (width_of s) v)
 abbrev index_values : List GlobalVar → ℕ → Registers → List Arg → List ℕ
 index_values globals base registers args = map (λ a. index_value a.ty (value_of globals base registers a.value)) args
 
--- the address behind a base by the offset of a path into a type, modulo 2^64
-abbrev gep_value : Ty → ℕ → List ℕ → ℕ
-gep_value ty base path = (base + unwrap_or (gep_of ty path) 0) % 2 ^ 64
-
 -- the value that bytes in memory give under a scalar type: an i1 is the lowest bit
 abbrev read_value : Scalar → List ℕ → ℕ
 read_value s bytes = little_endian bytes % modulus (width_of s)
@@ -200,7 +196,7 @@ instr_action P I w below rs (Store ty value addr align) =
     accessed P I w (value_of P.globals I.base rs addr) (scalar_size ty) (access_align ty align)
     (Stores (value_of P.globals I.base rs addr) (bytes_of (scalar_size ty) (value_of P.globals I.base rs value)))
 instr_action P I w below rs (Gep dest inbounds ty base indices) =
-    Assigns (Some dest) (gep_value ty (value_of P.globals I.base rs base) (index_values P.globals I.base rs indices))
+    Assigns (Some dest) (element_address (value_of P.globals I.base rs base) ty (index_values P.globals I.base rs indices))
 instr_action P I w below rs (Call dest ret callee args) = call_action P I w below (call_of callee) callee (values_of P.globals I.base rs args) dest
 
 -- ---- ends of blocks

@@ -10,7 +10,8 @@ use Rattle.hip_types.specs.Layout.{size_of}
 use Rattle.hip_ir.specs.declared.program.GlobalVar.{GlobalVar}
 use Rattle.hip_ir.specs.declared.program.Program.{Program}
 use Rattle.hip_typing.specs.Addresses.{start_of, global_align, global_start, same, volatile_start}
-use Rattle.hip_typing.specs.Initial.{aligned, constant_bytes, laid_bytes, region_bytes, volatile_bytes, address_named}
+use Rattle.hip_typing.specs.Initial.{laid_bytes, region_bytes, volatile_bytes}
+use Rattle.hip_typing.specs.Values.{global_address, aligned, constant_bytes}
 use Rattle.hip_typing.specs.Held.{HoldsAt, HoldsGlobals}
 use Rattle.hip_typing.proofs.InitialLemmas.{length-aligned, length_more}
 
@@ -75,13 +76,13 @@ holds_more : (whole more bytes : List ℕ) (place : ℕ) → HoldsAt whole place
 holds_more whole more bytes place h = holds_more_by whole more bytes place (elim (cases_lt (length whole) place) [ inl past ↦ inr past | inr within ↦ inl within ]) h
 
 volatile_held : (P : Program) (base : ℕ) → HoldsGlobals P base false volatile_start (volatile_bytes P base)
-volatile_held P base = record { holds = λ n g here kind. held (address_named P base) false volatile_start volatile_start [] P.globals n g (let none : List ℕ = [] in let e : volatile_start + length none ≡ volatile_start = refl in e) here kind }
+volatile_held P base = record { holds = λ n g here kind. held (global_address P.globals base) false volatile_start volatile_start [] P.globals n g (let none : List ℕ = [] in let e : volatile_start + length none ≡ volatile_start = refl in e) here kind }
 
 region_held : (P : Program) (base : ℕ) → HoldsGlobals P base true 0 (region_bytes P base)
 region_held P base = record {
   holds = λ n g here kind.
-      holds_more (laid_bytes (address_named P base) true 0 [] P.globals) _ (constant_bytes (address_named P base) g.init g.ty) (start_of true 0 P.globals n - 0)
-      (held (address_named P base) true 0 0 [] P.globals n g (let none : List ℕ = [] in let e : 0 + length none ≡ 0 = refl in e) here kind);
+      holds_more (laid_bytes (global_address P.globals base) true 0 [] P.globals) _ (constant_bytes (global_address P.globals base) g.init g.ty) (start_of true 0 P.globals n - 0)
+      (held (global_address P.globals base) true 0 0 [] P.globals n g (let none : List ℕ = [] in let e : 0 + length none ≡ 0 = refl in e) here kind);
 }
 
 pub volatile_holds : (P : Program) (base : ℕ) (r : Result (List ℕ) NoMemory) → IfOk r (λ bytes. bytes ≡ volatile_bytes P base) → IfOk r (λ bytes. HoldsGlobals P base false volatile_start bytes)

@@ -1,7 +1,7 @@
 -- The bytes of globals: step by step, by the addresses of a table, and how many they are.
-use Rattle.std.proofs.Common.{ℕ, suc, ◌+◌, ◌-◌, ◌<◌, ◌≡◌, Bool, true, false, List, [], ◌∷◌, ◌++◌, map, take, drop, length, get_or, All, replicate, Option, Some, Result, Ok, Err, IfOk, refl, sym, ap, subst, ◌∙◌, arith, length-append, length-take}
+use Rattle.std.proofs.Common.{ℕ, suc, ◌+◌, ◌-◌, ◌<◌, ◌≡◌, Bool, true, false, List, [], ◌∷◌, ◌++◌, map, take, drop, length, get_or, All, replicate, Option, Some, None, Result, Ok, Err, IfOk, refl, sym, ap, subst, ◌∙◌, arith, length-append, length-take}
 use mathlib.Core.Bool.{beq}
-use Rattle.std.specs.Prelude.{if◌then◌else◌, unwrap_or}
+use Rattle.std.specs.Prelude.{cond, if◌then◌else◌, option_map, unwrap_or}
 use Rattle.std.specs.Int.{next_multiple_of}
 use Rattle.std.specs.Str.{bytes_eq}
 use Rattle.std.proofs.Math.Path.{fun_ext}
@@ -10,16 +10,18 @@ use Rattle.hip_types.specs.declared.memory.NoMemory.{NoMemory}
 use Rattle.hip_types.specs.Layout.{size_of}
 use Rattle.hip_ir.specs.declared.program.GlobalVar.{GlobalVar}
 use Rattle.hip_ir.specs.declared.program.Program.{Program}
-use Rattle.hip_typing.specs.Addresses.{end_of, start_of, is_persistent, global_align, global_start, same, address, region_size, volatile_start, volatile_end}
-use Rattle.hip_typing.specs.AddressesSeen.{laid_entries}
+use Rattle.hip_typing.specs.Addresses.{end_of, start_of, is_persistent, global_align, global_start, same, region_size, volatile_start, volatile_end}
+use Rattle.hip_typing.specs.AddressesSeen.{address_beside, laid_entries}
 use Rattle.hip_typing.specs.Constants.{types_in}
-use Rattle.hip_typing.specs.Initial.{addresses, address_named, aligned, sized, written, constant_bytes, laid_bytes, volatile_bytes, region_bytes}
-use Rattle.hip_typing.specs.InitialSeen.{AllFit, GlobalsFit, named_in}
-use Rattle.hip_typing.specs.Names.{numbered_from}
+use Rattle.hip_typing.specs.Initial.{laid_bytes, volatile_bytes, region_bytes}
+use Rattle.hip_typing.specs.InitialSeen.{AllFit, GlobalsFit}
+use Rattle.hip_typing.specs.Names.{number_of}
+use Rattle.hip_typing.specs.NumberingLaws.{number_of-cons}
 use Rattle.hip_typing.specs.Sound.{TypesFitIn}
-use Rattle.hip_typing.specs.Tables.{StandsFor, value_of, value_beside}
+use Rattle.hip_typing.specs.Tables.{StandsFor, value_of}
+use Rattle.hip_typing.specs.Values.{global_address, aligned, sized, written, constant_bytes}
+use Rattle.hip_typing.specs.declared.table.NameTable.{NameTable}
 use Rattle.hip_typing.specs.NameLaws.{bytes_eq-sym}
-use Rattle.hip_typing.proofs.TableLemmas.{beside-cons}
 
 pub globals_fit : (gs : List GlobalVar) → All TypesFitIn gs → GlobalsFit gs
 globals_fit gs h = record { fit = λ k d low. record { fit = h k d low } }
@@ -75,42 +77,37 @@ volatile_next p v g gs k kind = rw kind refl
 abbrev global_names : List GlobalVar → List (List ℕ)
 global_names gs = map (λ g. g.name) gs
 
-abbrev numbers_from : (ℕ → ℕ) → ℕ → List GlobalVar → List ℕ
-numbers_from f m gs = numbered_from m (λ n g. f n) gs
+-- what a number stands for, where 0 is the first and the others are those of the rest
+first_or_later : (b : Bool) (all rest : ℕ → ℕ) (first : ℕ) (o : Option ℕ) → first ≡ all 0 → ((k : ℕ) → all (suc k) ≡ rest k) → (if b then Some first else option_map rest o) ≡ option_map all (cond b (Some 0) (option_map suc o))
+first_or_later true all rest first o e h = ap Some e
+first_or_later false all rest first None e h = refl
+first_or_later false all rest first (Some k) e h = ap Some (sym (h k))
 
--- the first entry of a list beside the first of another
-first_beside : (name n : List ℕ) (x y : ℕ) (rest later : Option ℕ) → x ≡ y → rest ≡ later → (if bytes_eq name n then Some x else rest) ≡ (if bytes_eq n name then Some y else later)
-first_beside name n x y rest later e r =
-    ap (λ t. if t then Some x else rest) (bytes_eq-sym name n) ∙ ap (λ z. if bytes_eq n name then Some z else rest) e ∙ ap (λ o. if bytes_eq n name then Some y else o) r
+-- the entry of a name is the address of the global of its number
+laid_at : (p v : ℕ) (gs : List GlobalVar) (name : List ℕ) → value_of (laid_entries p v gs) name ≡ option_map (place p v gs) (number_of (global_names gs) name)
+laid_at p v [] name = refl
+laid_at p v (g ∷ gs) name = by_kind g.persistent refl (λ p' v'. laid_at p' v' gs name) ∙ ap (option_map (place p v (g ∷ gs))) (sym (number_of-cons g.name (global_names gs) name))
+  where
+    by_kind : (b : Bool) → g.persistent ≡ b → ((p' v' : ℕ) → value_of (laid_entries p' v' gs) name ≡ option_map (place p' v' gs) (number_of (global_names gs) name))
+        → value_of (laid_entries p v (g ∷ gs)) name ≡ option_map (place p v (g ∷ gs)) (cond (bytes_eq name g.name) (Some 0) (option_map suc (number_of (global_names gs) name)))
+    by_kind true kind rest =
+        let next = global_start p g + size_of g.ty in
+        let first : global_start p g ≡ place p v (g ∷ gs) 0 = rw kind refl in
+        let found : value_of (laid_entries p v (g ∷ gs)) name ≡ (if bytes_eq g.name name then Some (global_start p g) else value_of (laid_entries next v gs) name) = rw kind refl in
+        found ∙ ap (λ t. if t then Some (global_start p g) else value_of (laid_entries next v gs) name) (bytes_eq-sym g.name name)
+        ∙ ap (λ o. if bytes_eq name g.name then Some (global_start p g) else o) (rest next v)
+        ∙ first_or_later (bytes_eq name g.name) (place p v (g ∷ gs)) (place next v gs) (global_start p g) (number_of (global_names gs) name) first (λ k. persistent_next p v g gs k kind)
+    by_kind false kind rest =
+        let next = global_start v g + size_of g.ty in
+        let first : global_start v g ≡ place p v (g ∷ gs) 0 = rw kind refl in
+        let found : value_of (laid_entries p v (g ∷ gs)) name ≡ (if bytes_eq g.name name then Some (global_start v g) else value_of (laid_entries p next gs) name) = rw kind refl in
+        found ∙ ap (λ t. if t then Some (global_start v g) else value_of (laid_entries p next gs) name) (bytes_eq-sym g.name name)
+        ∙ ap (λ o. if bytes_eq name g.name then Some (global_start v g) else o) (rest p next)
+        ∙ first_or_later (bytes_eq name g.name) (place p v (g ∷ gs)) (place p next gs) (global_start v g) (number_of (global_names gs) name) first (λ k. volatile_next p v g gs k kind)
 
-beside_by_kind : (b : Bool) (f : ℕ → ℕ) (m p v : ℕ) (g : GlobalVar) (gs : List GlobalVar) (name : List ℕ) → g.persistent ≡ b → ((k : ℕ) → f (m + k) ≡ place p v (g ∷ gs) k)
-    → ((p' v' : ℕ) → ((k : ℕ) → f (m + 1 + k) ≡ place p' v' gs k) → value_beside (global_names gs) (numbers_from f (m + 1) gs) name ≡ value_of (laid_entries p' v' gs) name)
-    → (if bytes_eq name g.name then Some (f m) else value_beside (global_names gs) (numbers_from f (m + 1) gs) name) ≡ value_of (laid_entries p v (g ∷ gs)) name
-beside_by_kind true f m p v g gs name kind places rest =
-    let zero_more : m + 0 ≡ m = omega arith in
-    let next = global_start p g + size_of g.ty in
-    let at : f m ≡ global_start p g = ap f (sym zero_more) ∙ (rw kind at (places 0)) in
-    let later = rest next v (λ k. let e : m + 1 + k ≡ m + suc k = omega arith in rw e (places (suc k) ∙ persistent_next p v g gs k kind)) in
-    rw kind (first_beside name g.name (f m) (global_start p g) _ _ at later)
-beside_by_kind false f m p v g gs name kind places rest =
-    let zero_more : m + 0 ≡ m = omega arith in
-    let next = global_start v g + size_of g.ty in
-    let at : f m ≡ global_start v g = ap f (sym zero_more) ∙ (rw kind at (places 0)) in
-    let later = rest p next (λ k. let e : m + 1 + k ≡ m + suc k = omega arith in rw e (places (suc k) ∙ volatile_next p v g gs k kind)) in
-    rw kind (first_beside name g.name (f m) (global_start v g) _ _ at later)
-
-beside_laid : (f : ℕ → ℕ) (m p v : ℕ) (gs : List GlobalVar) (name : List ℕ) → ((k : ℕ) → f (m + k) ≡ place p v gs k) → value_beside (global_names gs) (numbers_from f m gs) name ≡ value_of (laid_entries p v gs) name
-beside_laid f m p v [] name places = refl
-beside_laid f m p v (g ∷ gs) name places =
-    beside-cons g.name (global_names gs) (f m) (numbers_from f (m + 1) gs) name
-    ∙ beside_by_kind g.persistent f m p v g gs name refl places (λ p' v' h. beside_laid f (m + 1) p' v' gs name h)
-
--- the table names the program's addresses
-pub named_alike : (P : Program) (base : ℕ) (ns : List (List ℕ)) (vs : List ℕ) → StandsFor ns vs (laid_entries base volatile_start P.globals) → named_in ns vs ≡ address_named P base
-named_alike P base ns vs stands = fun_ext (λ name.
-    let here : value_beside (global_names P.globals) (addresses P base) name ≡ value_of (laid_entries base volatile_start P.globals) name =
-    beside_laid (address P base) 0 base volatile_start P.globals name (λ k. let e : 0 + k ≡ k = omega arith in ap (address P base) e) in
-    ap (λ o. unwrap_or o 0) (stands.finds name ∙ sym here))
+-- the table has the program's addresses
+addresses_alike : (globals : List GlobalVar) (base : ℕ) (table : NameTable ℕ) → StandsFor table.names table.values (laid_entries base volatile_start globals) → address_beside table ≡ global_address globals base
+addresses_alike globals base table stands = fun_ext (λ name. ap (λ o. unwrap_or o 0) (stands.finds name ∙ laid_at base volatile_start globals name))
 
 -- ---- how many bytes they are
 
@@ -137,23 +134,22 @@ pub length-volatile : (P : Program) (base : ℕ) → volatile_start + length (vo
 length-volatile P base =
     let none : List ℕ = [] in
     let e : volatile_start + length none ≡ volatile_start = refl in
-    length-laid (address_named P base) false volatile_start [] P.globals ∙ ap (λ n. end_of false n P.globals) e
+    length-laid (global_address P.globals base) false volatile_start [] P.globals ∙ ap (λ n. end_of false n P.globals) e
 
 pub length-region : (P : Program) (base : ℕ) → length (region_bytes P base) ≡ region_size P
 length-region P base =
-    let laid : List ℕ = laid_bytes (address_named P base) true 0 [] P.globals in
+    let laid : List ℕ = laid_bytes (global_address P.globals base) true 0 [] P.globals in
     let none : List ℕ = [] in
     let e : 0 + length none ≡ 0 = refl in
-    let end : 0 + length laid ≡ end_of true 0 P.globals = length-laid (address_named P base) true 0 [] P.globals ∙ ap (λ n. end_of true n P.globals) e in
+    let end : 0 + length laid ≡ end_of true 0 P.globals = length-laid (global_address P.globals base) true 0 [] P.globals ∙ ap (λ n. end_of true n P.globals) e in
     let zero_more : 0 + length (region_bytes P base) ≡ length (region_bytes P base) = omega arith in
     sym zero_more ∙ length-aligned 0 64 laid ∙ ap (λ n. next_multiple_of n 64) end
 
 -- by the table and by the program
-pub laid_alike : (P : Program) (base : ℕ) (ns : List (List ℕ)) (vs : List ℕ) (gs : List GlobalVar) (persistent : Bool) (start : ℕ) → StandsFor ns vs (laid_entries base volatile_start gs) → gs ≡ P.globals →
-    laid_bytes (named_in ns vs) persistent start [] gs ≡ laid_bytes (address_named P base) persistent start [] P.globals
-laid_alike P base ns vs gs persistent start stands e =
-    let there : StandsFor ns vs (laid_entries base volatile_start P.globals) = subst (λ (globals : List GlobalVar). StandsFor ns vs (laid_entries base volatile_start globals)) e stands in
-    ap (λ globals. laid_bytes (named_in ns vs) persistent start [] globals) e ∙ ap (λ a. laid_bytes a persistent start [] P.globals) (named_alike P base ns vs there)
+pub laid_alike : (P : Program) (base : ℕ) (table : NameTable ℕ) (gs : List GlobalVar) (persistent : Bool) (start : ℕ) → StandsFor table.names table.values (laid_entries base volatile_start gs) → gs ≡ P.globals →
+    laid_bytes (address_beside table) persistent start [] gs ≡ laid_bytes (global_address P.globals base) persistent start [] P.globals
+laid_alike P base table gs persistent start stands e =
+    ap (λ a. laid_bytes a persistent start [] gs) (addresses_alike gs base table stands) ∙ ap (λ globals. laid_bytes (global_address globals base) persistent start [] globals) e
 
 pub volatile_length : (P : Program) (base : ℕ) (r : Result (List ℕ) NoMemory) (laid : List ℕ) → laid ≡ volatile_bytes P base → IfOk r (λ bytes. bytes ≡ laid) → IfOk r (λ bytes. volatile_start + length bytes ≡ volatile_end P)
 volatile_length P base (Ok bytes) laid e h = ap (λ bs. volatile_start + length bs) (h ∙ e) ∙ length-volatile P base

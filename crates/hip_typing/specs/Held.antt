@@ -3,7 +3,7 @@ use Rattle.std.specs.Prelude.{ℕ, ◌-◌, ◌≡◌, Bool, true, List, take, d
 use Rattle.hip_ir.specs.declared.program.GlobalVar.{GlobalVar}
 use Rattle.hip_ir.specs.declared.program.Program.{Program}
 use Rattle.hip_typing.specs.Addresses.{same, start_of}
-use Rattle.hip_typing.specs.Initial.{address_named, constant_bytes}
+use Rattle.hip_typing.specs.Values.{global_address, constant_bytes}
 
 -- these bytes stand at a place among others
 pub record HoldsAt (whole : List ℕ) (place : ℕ) (bytes : List ℕ) : Type 0 where
@@ -13,4 +13,4 @@ pub record HoldsAt (whole : List ℕ) (place : ℕ) (bytes : List ℕ) : Type 0 
 -- the first byte.
 pub record HoldsGlobals (P : Program) (base : ℕ) (persistent : Bool) (start : ℕ) (bytes : List ℕ) : Type 0 where
   pub holds : (number : ℕ) (g : GlobalVar) → slice_get P.globals number ≡ Some g → same g.persistent persistent ≡ true
-      → HoldsAt bytes (start_of persistent start P.globals number - start) (constant_bytes (address_named P base) g.init g.ty)
+      → HoldsAt bytes (start_of persistent start P.globals number - start) (constant_bytes (global_address P.globals base) g.init g.ty)

@@ -1,10 +1,10 @@
-ghost use Rattle.std.specs.Prelude.{[], ◌∷◌, ◌≡◌, ◌<◌, ◌+◌, ◌^◌, true, false, IfOk, OnOk, unwrap_or};
+ghost use Rattle.std.specs.Prelude.{[], ◌∷◌, ◌≡◌, ◌<◌, ◌+◌, ◌^◌, true, false, IfOk, OnOk};
 ghost use Rattle.hip_types.specs.Layout.{Fits, size_of};
 ghost use Rattle.hip_typing.specs.Addresses as spec;
 ghost use Rattle.hip_typing.specs.Addresses.{AllFit, global_start, volatile_start};
-ghost use Rattle.hip_typing.specs.AddressesSeen.{address_entry, laid_entries};
+ghost use Rattle.hip_typing.specs.AddressesSeen.{address_entry, address_beside, laid_entries};
 ghost use Rattle.hip_typing.specs.Inner.{Gains};
-ghost use Rattle.hip_typing.specs.Tables.{StandsFor, value_beside};
+ghost use Rattle.hip_typing.specs.Tables.{StandsFor};
 
 use crate::addresses::{VOLATILE_START, alignment};
 use crate::table::{NameTable, new_table};
@@ -17,7 +17,7 @@ pub type AddressTable<'a> = NameTable<'a, u64>;
 
 /// The address of the first global of that name, 0 if there is none.
 pub fn address_of(table: &AddressTable<'_>, name: &Name) -> u64
-    ensures { result ≡ unwrap_or (value_beside table.now.names table.now.values name.now) 0 }
+    ensures { result ≡ address_beside table.now name.now }
 {
     match table.get(name.as_slice()) {
         Some(address) => address,

@@ -1,10 +1,10 @@
-ghost use Rattle.std.specs.Prelude.{◌≡◌, ◌<◌, ◌≤◌, ◌++◌, ◌+◌, [], length, replicate, take, drop, map, All, IfOk, OnOk, unwrap_or};
-ghost use Rattle.hip_types.specs.Layout.{Fits};
+ghost use Rattle.std.specs.Prelude.{◌≡◌, ◌<◌, ◌≤◌, ◌++◌, ◌+◌, [], length, replicate, take, drop, map, IfOk, OnOk, unwrap_or};
+ghost use Rattle.hip_types.specs.Layout.{Fits, gep_of};
 ghost use Rattle.hip_mem.specs.Bytes.{bytes_of};
+ghost use Rattle.hip_typing.specs.AddressesSeen.{address_beside};
 ghost use Rattle.hip_typing.specs.Constants.{index_of, joined, types_in, gep_types, item_types};
-ghost use Rattle.hip_typing.specs.Initial.{aligned, sized, placed, written, gep_address, item_piece, constant_bytes, path_offset};
-ghost use Rattle.hip_typing.specs.InitialSeen.{AllFit, named_in};
-ghost use Rattle.hip_typing.specs.Tables.{value_beside};
+ghost use Rattle.hip_typing.specs.InitialSeen.{AllFit, gep_address, item_piece};
+ghost use Rattle.hip_typing.specs.Values.{aligned, sized, placed, written};
 
 use crate::address_table::{AddressTable, address_of};
 use crate::shape::index;
@@ -68,7 +68,7 @@ pub fn set_align(
 /// The offset of a path, 0 where there is none.
 fn offset_of(alloc: Global, ty: &Ty, indices: &[Bits]) -> Result<u64, NoMemory>
     requires { Fits ty.now }
-    ensures { IfOk result (λ offset. offset ≡ path_offset ty.now indices.now) }
+    ensures { IfOk result (λ offset. offset ≡ unwrap_or (gep_of ty.now (map index_of indices.now)) 0) }
 {
     if indices.is_empty() {
         return Ok(0);
@@ -83,16 +83,16 @@ fn offset_of(alloc: Global, ty: &Ty, indices: &[Bits]) -> Result<u64, NoMemory>
     }
 }
 
-/// The address that a constant names, 0 for one that names none.
-#[cycle(pointer)]
-fn pointer_of(alloc: Global, addresses: &AddressTable<'_>, value: &Const) -> Result<u64, NoMemory>
+/// The value of a constant: an integer's number, the address that a pointer has, 0 for any other.
+#[cycle(value)]
+fn value_of(alloc: Global, addresses: &AddressTable<'_>, value: &Const) -> Result<u64, NoMemory>
     requires { AllFit (types_in value.now) }
-    ensures { IfOk result (λ pointer. pointer ≡ (written (named_in addresses.now.names addresses.now.values) value.now).pointer) }
+    ensures { IfOk result (λ number. number ≡ (written (address_beside addresses.now) value.now).value) }
 {
     match value {
+        Const::Int(bits) => Ok(bits.value),
         Const::Address(name) => Ok(address_of(addresses, name)),
-        Const::Gep(gep) => gep_pointer(alloc, addresses, gep.get()),
-        Const::Int(_) => Ok(0),
+        Const::Gep(gep) => element_of(alloc, addresses, gep.get()),
         Const::Null => Ok(0),
         Const::Zero => Ok(0),
         Const::Array(_) => Ok(0),
@@ -101,12 +101,12 @@ fn pointer_of(alloc: Global, addresses: &AddressTable<'_>, value: &Const) -> Res
 }
 
 /// The address of an element.
-#[cycle(pointer)]
-fn gep_pointer(alloc: Global, addresses: &AddressTable<'_>, gep: &ConstGep) -> Result<u64, NoMemory>
+#[cycle(value)]
+fn element_of(alloc: Global, addresses: &AddressTable<'_>, gep: &ConstGep) -> Result<u64, NoMemory>
     requires { AllFit (gep_types gep.now) }
-    ensures { IfOk result (λ pointer. pointer ≡ gep_address (named_in addresses.now.names addresses.now.values) gep.now) }
+    ensures { IfOk result (λ address. address ≡ gep_address (address_beside addresses.now) gep.now) }
 {
-    let base = pointer_of(alloc, addresses, &gep.base)?;
+    let base = value_of(alloc, addresses, &gep.base)?;
     let offset = offset_of(alloc, &gep.ty, gep.indices.as_slice())?;
     Ok(base.wrapping_add(offset))
 }
@@ -120,19 +120,15 @@ pub fn push_constant(
     value: &Const,
 ) -> Result<(), NoMemory>
     requires { AllFit (types_in value.now) }
-    ensures { OnOk result (bytes.new ≡ bytes.old ++ (written (named_in addresses.now.names addresses.now.values) value.now).bytes) }
+    ensures { OnOk result (bytes.new ≡ bytes.old ++ (written (address_beside addresses.now) value.now).bytes) }
 {
     match value {
-        Const::Int(bits) => push_number(bytes, 8, bits.value),
-        Const::Null => Ok(()),
-        Const::Zero => Ok(()),
-        Const::Address(name) => push_number(bytes, 8, address_of(addresses, name)),
-        Const::Gep(gep) => {
-            let pointer = gep_pointer(alloc, addresses, gep.get())?;
-            push_number(bytes, 8, pointer)
-        }
         Const::Array(items) => push_items(alloc, bytes, addresses, items.as_slice()),
         Const::Struct(items) => push_fields(alloc, bytes, addresses, items.as_slice()),
+        _ => {
+            let number = value_of(alloc, addresses, value)?;
+            push_number(bytes, 8, number)
+        }
     }
 }
 
@@ -145,7 +141,7 @@ fn push_item(
     item: &TypedConst,
 ) -> Result<(), NoMemory>
     requires { AllFit (item_types item.now) }
-    ensures { OnOk result (bytes.new ≡ bytes.old ++ (item_piece (named_in addresses.now.names addresses.now.values) item.now).bytes) }
+    ensures { OnOk result (bytes.new ≡ bytes.old ++ (item_piece (address_beside addresses.now) item.now).bytes) }
 {
     let start = bytes.len();
     push_constant(alloc, bytes, addresses, &item.value)?;
@@ -161,7 +157,7 @@ fn push_items(
     items: &[TypedConst],
 ) -> Result<(), NoMemory>
     requires { AllFit (joined (map item_types items.now)) }
-    ensures { OnOk result (bytes.new ≡ bytes.old ++ joined (map (λ p. p.bytes) (map (item_piece (named_in addresses.now.names addresses.now.values)) items.now))) }
+    ensures { OnOk result (bytes.new ≡ bytes.old ++ joined (map (λ p. p.bytes) (map (item_piece (address_beside addresses.now)) items.now))) }
 {
     'items: for item in items {
         push_item(alloc, bytes, addresses, item)?;
@@ -178,7 +174,7 @@ fn push_fields(
     items: &[TypedConst],
 ) -> Result<(), NoMemory>
     requires { AllFit (joined (map item_types items.now)) }
-    ensures { OnOk result (bytes.new ≡ bytes.old ++ placed [] (map (item_piece (named_in addresses.now.names addresses.now.values)) items.now)) }
+    ensures { OnOk result (bytes.new ≡ bytes.old ++ placed [] (map (item_piece (address_beside addresses.now)) items.now)) }
 {
     let start = bytes.len();
     'fields: for item in items {

@@ -1,11 +1,12 @@
 ghost use Rattle.std.specs.Prelude.{◌≡◌, ◌<◌, ◌+◌, ◌^◌, ◌++◌, ◌∷◌, [], true, false, length, All, IfOk, OnOk};
 ghost use Rattle.hip_typing.specs.Addresses.{end_of, global_align, region_size, volatile_start, volatile_end};
+ghost use Rattle.hip_typing.specs.AddressesSeen.{address_beside};
 ghost use Rattle.hip_typing.specs.Constants.{types_in};
 ghost use Rattle.hip_typing.specs.Held.{HoldsGlobals};
 ghost use Rattle.hip_typing.specs.Initial as spec;
-ghost use Rattle.hip_typing.specs.Initial.{aligned, constant_bytes};
-ghost use Rattle.hip_typing.specs.InitialSeen.{AllFit, GlobalsFit, named_in};
+ghost use Rattle.hip_typing.specs.InitialSeen.{AllFit, GlobalsFit};
 ghost use Rattle.hip_typing.specs.Sound.{TypesFitIn};
+ghost use Rattle.hip_typing.specs.Values.{aligned, constant_bytes};
 
 use crate::address_table::{AddressTable, address_table};
 use crate::addresses::{VOLATILE_START, alignment};
@@ -26,7 +27,7 @@ fn add_global(
     global: &GlobalVar,
 ) -> Result<(), NoMemory>
     requires { AllFit (global.now.ty ∷ types_in global.now.init) }
-    ensures { OnOk result (bytes.new ≡ aligned start (global_align global.now) bytes.old ++ constant_bytes (named_in addresses.now.names addresses.now.values) global.now.init global.now.ty) }
+    ensures { OnOk result (bytes.new ≡ aligned start (global_align global.now) bytes.old ++ constant_bytes (address_beside addresses.now) global.now.init global.now.ty) }
 {
     set_align(alloc, bytes, 0, start, alignment(global))?;
     let len = bytes.len();
@@ -43,7 +44,7 @@ fn laid_bytes(
     start: u64,
 ) -> Result<Row<u8>, NoMemory>
     requires { GlobalsFit globals.now }
-    ensures { IfOk result (λ bytes. bytes ≡ spec.laid_bytes (named_in addresses.now.names addresses.now.values) persistent start [] globals.now) }
+    ensures { IfOk result (λ bytes. bytes ≡ spec.laid_bytes (address_beside addresses.now) persistent start [] globals.now) }
 {
     let mut bytes = Row::new(alloc);
     'globals: for index in 0..globals.len() {

@@ -8,7 +8,8 @@ use Rattle.hip_types.specs.declared.number.Width.TheVariants.{W64}
 use Rattle.hip_types.specs.declared.ty.Ty.TheVariants as types
 use Rattle.hip_ir.specs.declared.constant.Const.TheVariants as consts
 use Rattle.hip_typing.specs.Addresses.{volatile_end}
-use Rattle.hip_typing.specs.Initial.{Written, address_named, aligned, constant_bytes, sized, volatile_bytes, written}
+use Rattle.hip_typing.specs.Initial.{volatile_bytes}
+use Rattle.hip_typing.specs.Values.{aligned, constant_bytes, global_address, sized, written}
 use Rattle.hip_step.specs.declared.event.Object.TheVariants.{Global}
 use Rattle.hip_step.specs.declared.report.Mark.{Mark}
 use Rattle.hip_step.specs.Actions.{Deed, Assigns, Asserts, Calls, Returns, Stores}
@@ -37,12 +38,12 @@ end_is : volatile_end assert_inside_callee ≡ 65544
 end_is = ap (λ (x : Shape). next_multiple_of 65536 x.align + x.size) (shape-Int W64)
 
 abbrev named : List ℕ → ℕ
-named = address_named assert_inside_callee 4294967296
+named = global_address assert_inside_callee.globals 4294967296
 
 nine_bytes : constant_bytes named (consts.Int (bits W64 9)) (types.Int W64) ≡ 9 ∷ 0 ∷ 0 ∷ 0 ∷ 0 ∷ 0 ∷ 0 ∷ 0 ∷ []
 nine_bytes =
     ap (λ (x : Shape). sized x.size (written named (consts.Int (bits W64 9))).bytes) (shape-Int W64)
-    ∙ ap (λ (x : Written). sized 8 x.bytes) (written_int named (bits W64 9))
+    ∙ ap (sized 8) (written_int named (bits W64 9))
 
 volatile_is : volatile_bytes assert_inside_callee 4294967296 ≡ 9 ∷ 0 ∷ 0 ∷ 0 ∷ 0 ∷ 0 ∷ 0 ∷ 0 ∷ []
 volatile_is =

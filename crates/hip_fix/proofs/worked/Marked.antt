@@ -2,7 +2,7 @@
 use Rattle.std.proofs.Common.{◌≡◌, ℕ, suc, Bool, cond, ◌&&◌, nat_eq, List, [], ◌∷◌, ◌++◌, Option, Some, None, is_some, refl, sym, ap, ◌∙◌}
 use Rattle.hip_types.specs.declared.number.Bits.{Bits}
 use Rattle.hip_mem.specs.Bytes.{bytes_of}
-use Rattle.hip_typing.specs.Initial.{written, written_bytes}
+use Rattle.hip_typing.specs.Values.{Written, written}
 use Rattle.hip_ir.specs.declared.constant.Const.TheFolds.{fold-roll-Const}
 use Rattle.hip_ir.specs.declared.constant.Const.TheVariants as consts
 use Rattle.hip_types.specs.Distinct.{met}
@@ -28,8 +28,8 @@ use Rattle.hip_fix.proofs.worked.Runs.{next_deed, done, shown, Follows, steps, r
 
 -- ---- the bytes of an integer that a global begins with
 
-pub written_int : (address_of : List ℕ → ℕ) (b : Bits) → written address_of (consts.Int b) ≡ written_bytes (bytes_of 8 b.value)
-written_int address_of b = ap (written address_of) (sym (consts.rolls-Int b)) ∙ fold-roll-Const _ _ _ _ _ _ _
+pub written_int : (address_of : List ℕ → ℕ) (b : Bits) → (written address_of (consts.Int b)).bytes ≡ bytes_of 8 b.value
+written_int address_of b = ap (λ c. (written address_of c).bytes) (sym (consts.rolls-Int b)) ∙ ap (λ (x : Written). x.bytes) (fold-roll-Const _ _ _ _ _ _ _)
 
 -- ---- what the marks of a step are, where its event is known
 

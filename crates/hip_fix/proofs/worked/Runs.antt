@@ -1,5 +1,5 @@
 -- Runs of closed programs, step by step by what they do.
-use Rattle.std.proofs.Common.{◌≡◌, ℕ, suc, ◌+◌, ◌%◌, ◌^◌, map, unwrap_or, false, cond, List, [], ◌∷◌, ◌++◌, Option, None, is_some, refl, sym, ap, ◌∙◌, append_assoc}
+use Rattle.std.proofs.Common.{◌≡◌, ℕ, suc, map, false, cond, List, [], ◌∷◌, ◌++◌, Option, None, is_some, refl, sym, ap, ◌∙◌, append_assoc}
 use Rattle.std.proofs.lemmas.List.{append-nil}
 use Rattle.hip_ir.specs.declared.constant.Const.TheFolds.{fold-roll-Const, fold_out-ConstGep}
 use Rattle.hip_ir.specs.declared.constant.Const.TheVariants as consts
@@ -7,9 +7,8 @@ use Rattle.hip_ir.specs.declared.constant.ConstGep.{ConstGep}
 use Rattle.hip_ir.specs.declared.program.GlobalVar.{GlobalVar}
 use Rattle.hip_ir.specs.declared.program.Program.{Program}
 use Rattle.hip_types.specs.declared.number.Bits.{Bits}
-use Rattle.hip_types.specs.Layout.{gep_of}
 use Rattle.hip_typing.specs.Constants.{index_of}
-use Rattle.hip_typing.specs.Values.{const_value, global_address}
+use Rattle.hip_typing.specs.Values.{Written, const_value, element_address, global_address}
 use Rattle.hip_mem.specs.Bytes.{zeros}
 use Rattle.hip_lines.specs.Line.{Line, fresh_lines}
 use Rattle.hip_step.specs.declared.event.Ending.{Ending}
@@ -30,14 +29,14 @@ done_opened = tt
 -- ---- constants
 
 pub int_value : (globals : List GlobalVar) (base : ℕ) (b : Bits) → const_value globals base (consts.Int b) ≡ b.value
-int_value globals base b = ap (const_value globals base) (sym (consts.rolls-Int b)) ∙ fold-roll-Const _ _ _ _ _ _ _
+int_value globals base b = ap (const_value globals base) (sym (consts.rolls-Int b)) ∙ ap (λ (x : Written). x.value) (fold-roll-Const _ _ _ _ _ _ _)
 
 pub address_value : (globals : List GlobalVar) (base : ℕ) (name : List ℕ) → const_value globals base (consts.Address name) ≡ global_address globals base name
-address_value globals base name = ap (const_value globals base) (sym (consts.rolls-Address name)) ∙ fold-roll-Const _ _ _ _ _ _ _
+address_value globals base name = ap (const_value globals base) (sym (consts.rolls-Address name)) ∙ ap (λ (x : Written). x.value) (fold-roll-Const _ _ _ _ _ _ _)
 
 pub element_value : (globals : List GlobalVar) (base : ℕ) (gep : ConstGep) →
-    const_value globals base (consts.Gep gep) ≡ (const_value globals base gep.base + unwrap_or (gep_of gep.ty (map index_of gep.indices)) 0) % 2 ^ 64
-element_value globals base gep = ap (const_value globals base) (sym (consts.rolls-Gep gep)) ∙ fold-roll-Const _ _ _ _ _ _ _ ∙ fold_out-ConstGep _ _ _ _ _ _ gep
+    const_value globals base (consts.Gep gep) ≡ element_address (const_value globals base gep.base) gep.ty (map index_of gep.indices)
+element_value globals base gep = ap (const_value globals base) (sym (consts.rolls-Gep gep)) ∙ ap (λ (x : Written). x.value) (fold-roll-Const _ _ _ _ _ _ _) ∙ fold_out-ConstGep _ _ _ _ _ _ gep
 
 -- ---- a step by what is done
 

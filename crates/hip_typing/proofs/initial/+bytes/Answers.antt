@@ -1,8 +1,9 @@
 use Rattle.std.proofs.Common.{rules, sym, ◌∙◌}
 use Rattle.hip_types.specs.Layout.{size_of}
+use Rattle.hip_typing.specs.AddressesSeen.{address_beside}
 use Rattle.hip_typing.specs.Constants.{item_types}
-use Rattle.hip_typing.specs.Initial.{written, item_piece}
-use Rattle.hip_typing.specs.InitialSeen.{AllFit, named_in}
+use Rattle.hip_typing.specs.InitialSeen.{AllFit, item_piece}
+use Rattle.hip_typing.specs.Values.{written}
 use Rattle.hip_typing.proofs.ByteLists.{item_fits, fields_more, items_more, sized_after}
 use Rattle.hip_ir.specs.declared.constant.Const as constants
 use Rattle.hip_typing.proofs.ConstantParts.{item_type_fits, item_value_fits, item_bytes, item_align}
@@ -16,7 +17,7 @@ push_item-size-requires t c = item_type_fits c.args.item.now c.requires
 
 pub push_item-returns : goal.push_item-returns
 push_item-returns t c =
-    let a = named_in c.args.addresses.now.names c.args.addresses.now.values in
+    let a = address_beside c.args.addresses.now in
     let item = c.args.item.now in
     rw (item_bytes a item, ← sized_after c.args.bytes.now (written a item.value).bytes c.push_constant.new.bytes c.len-start.result c.size.result (size_of item.ty) c.in_ok-push_constant.ensures c.len-start.ensures c.size.ensures) c.set_size.ensures
 
@@ -27,7 +28,7 @@ push_items-push_item-requires t c =
 
 pub push_items-items-preserved : goal.push_items-items-preserved
 push_items-items-preserved t c =
-    items_more (item_piece (named_in c.args.addresses.now.names c.args.addresses.now.values)) c.args.bytes.now c.args.items.now c.items.item-index c.item-item.result c.items.bytes c.push_item.new.bytes c.items-test.true c.item-item.is c.items.invariant c.in_ok-push_item.ensures
+    items_more (item_piece (address_beside c.args.addresses.now)) c.args.bytes.now c.args.items.now c.items.item-index c.item-item.result c.items.bytes c.push_item.new.bytes c.items-test.true c.item-item.is c.items.invariant c.in_ok-push_item.ensures
 
 pub push_fields-align-requires : goal.push_fields-align-requires
 push_fields-align-requires t c =
@@ -41,6 +42,6 @@ push_fields-push_item-requires t c =
 
 pub push_fields-fields-preserved : goal.push_fields-fields-preserved
 push_fields-fields-preserved t c =
-    let a = named_in c.args.addresses.now.names c.args.addresses.now.values in
+    let a = address_beside c.args.addresses.now in
     fields_more (item_piece a) c.args.bytes.now c.args.items.now c.fields.item-index c.item-item.result c.fields.bytes c.set_align.new.bytes c.push_item.new.bytes c.len-start.result c.align.result
     c.fields-test.true c.item-item.is c.len-start.ensures (c.align.ensures ∙ sym (item_align a c.item-item.result)) c.fields.invariant c.in_ok-set_align.ensures c.in_ok-push_item.ensures

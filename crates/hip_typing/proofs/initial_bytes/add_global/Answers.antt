@@ -1,9 +1,9 @@
 use Rattle.std.proofs.Common.{◌≡◌, ap, ◌∙◌}
 use Rattle.hip_types.specs.Layout.{size_of}
 use Rattle.hip_typing.specs.Addresses.{global_align}
+use Rattle.hip_typing.specs.AddressesSeen.{address_beside}
 use Rattle.hip_typing.specs.Constants.{types_in}
-use Rattle.hip_typing.specs.Initial.{aligned, written}
-use Rattle.hip_typing.specs.InitialSeen.{named_in}
+use Rattle.hip_typing.specs.Values.{aligned, written}
 use Rattle.hip_typing.proofs.ByteLists.{others_fit, sized_after, aligned_whole}
 use Rattle.hip_typing.proofs.initial_bytes.add_global.Goals as goal
 
@@ -12,7 +12,7 @@ push_constant-requires c = others_fit c.args.global.now.ty (types_in c.args.glob
 
 pub returns : goal.returns
 returns c =
-    let a = named_in c.args.addresses.now.names c.args.addresses.now.values in
+    let a = address_beside c.args.addresses.now in
     let g = c.args.global.now in
     let first : c.set_align.new.bytes ≡ aligned c.args.start (global_align g) c.args.bytes.now =
     c.in_ok-set_align.ensures ∙ aligned_whole c.args.start c.alignment.result c.args.bytes.now ∙ ap (λ n. aligned c.args.start n c.args.bytes.now) c.alignment.ensures.value in

@@ -1,6 +1,7 @@
 use Rattle.std.proofs.Common.{◌≡◌, true, length, ap, ◌∙◌}
-use Rattle.hip_typing.specs.Initial.{aligned, region_bytes}
+use Rattle.hip_typing.specs.Initial.{region_bytes}
 use Rattle.hip_typing.specs.SoundLaws.{globals-fit}
+use Rattle.hip_typing.specs.Values.{aligned}
 use Rattle.hip_typing.proofs.ByteLists.{aligned_whole}
 use Rattle.hip_typing.proofs.HeldLemmas.{region_holds}
 use Rattle.hip_typing.proofs.InitialLemmas.{globals_fit, laid_alike, length-region}
@@ -17,7 +18,7 @@ returns-clause-bytes c =
     let table = c.in_ok-addresses.addresses in
     c.in_ok-set_align.ensures ∙ aligned_whole 0 64 c.in_ok-bytes.bytes
     ∙ ap (λ bytes. aligned 0 64 bytes)
-    (c.in_ok-bytes.ensures ∙ laid_alike c.args.program.now c.args.base table.names table.values c.as_slice-globals.result.now true 0 c.in_ok-addresses.ensures c.as_slice-globals.ensures)
+    (c.in_ok-bytes.ensures ∙ laid_alike c.args.program.now c.args.base table c.as_slice-globals.result.now true 0 c.in_ok-addresses.ensures c.as_slice-globals.ensures)
 
 pub returns-clause-length : goal.returns-clause-length
 returns-clause-length c =
@@ -25,7 +26,7 @@ returns-clause-length c =
     let e : c.set_align.new.bytes ≡ region_bytes c.args.program.now c.args.base =
     c.in_ok-set_align.ensures ∙ aligned_whole 0 64 c.in_ok-bytes.bytes
     ∙ ap (λ bytes. aligned 0 64 bytes)
-    (c.in_ok-bytes.ensures ∙ laid_alike c.args.program.now c.args.base table.names table.values c.as_slice-globals.result.now true 0 c.in_ok-addresses.ensures c.as_slice-globals.ensures) in
+    (c.in_ok-bytes.ensures ∙ laid_alike c.args.program.now c.args.base table c.as_slice-globals.result.now true 0 c.in_ok-addresses.ensures c.as_slice-globals.ensures) in
     ap length e ∙ length-region c.args.program.now c.args.base
 
 pub returns-clause-held : goal.returns-clause-held

@@ -1,7 +1,7 @@
 use Rattle.std.proofs.Common.{◌≡◌, [], false}
 use Rattle.hip_typing.specs.Addresses.{volatile_start}
+use Rattle.hip_typing.specs.AddressesSeen.{address_beside}
 use Rattle.hip_typing.specs.Initial.{laid_bytes, volatile_bytes}
-use Rattle.hip_typing.specs.InitialSeen.{named_in}
 use Rattle.hip_typing.specs.SoundLaws.{globals-fit}
 use Rattle.hip_typing.proofs.HeldLemmas.{volatile_holds}
 use Rattle.hip_typing.proofs.InitialLemmas.{globals_fit, laid_alike, volatile_length}
@@ -16,15 +16,15 @@ laid_bytes-requires c = rw c.as_slice-globals.ensures (globals_fit c.args.progra
 pub returns-clause-bytes : goal.returns-clause-bytes
 returns-clause-bytes c =
     let table = c.in_ok-addresses.addresses in
-    let e : laid_bytes (named_in table.names table.values) false volatile_start [] c.as_slice-globals.result.now ≡ volatile_bytes c.args.program.now c.args.base =
-    laid_alike c.args.program.now c.args.base table.names table.values c.as_slice-globals.result.now false volatile_start c.in_ok-addresses.ensures c.as_slice-globals.ensures in
+    let e : laid_bytes (address_beside table) false volatile_start [] c.as_slice-globals.result.now ≡ volatile_bytes c.args.program.now c.args.base =
+    laid_alike c.args.program.now c.args.base table c.as_slice-globals.result.now false volatile_start c.in_ok-addresses.ensures c.as_slice-globals.ensures in
     rw (← e) c.laid_bytes.ensures
 
 pub returns-clause-length : goal.returns-clause-length
 returns-clause-length c =
     let table = c.in_ok-addresses.addresses in
-    let e : laid_bytes (named_in table.names table.values) false volatile_start [] c.as_slice-globals.result.now ≡ volatile_bytes c.args.program.now c.args.base =
-    laid_alike c.args.program.now c.args.base table.names table.values c.as_slice-globals.result.now false volatile_start c.in_ok-addresses.ensures c.as_slice-globals.ensures in
+    let e : laid_bytes (address_beside table) false volatile_start [] c.as_slice-globals.result.now ≡ volatile_bytes c.args.program.now c.args.base =
+    laid_alike c.args.program.now c.args.base table c.as_slice-globals.result.now false volatile_start c.in_ok-addresses.ensures c.as_slice-globals.ensures in
     volatile_length c.args.program.now c.args.base c.laid_bytes.result _ e c.laid_bytes.ensures
 
 pub returns-clause-held : goal.returns-clause-held

@@ -1,6 +1,5 @@
 -- The files give one answer.
-use Rattle.std.proofs.Common.{◌≡◌, ◌≢◌, ℕ, zero, suc, ◌≤◌, ◌<◌, Bool, true, false, cond, ◌&&◌, eqb, List, [], ◌∷◌, length, map, slice_get, Option, Some, None, ◌⊎◌, inl, inr, refl, sym, ap, subst, ◌∙◌, arith}
-use Rattle.std.specs.Prelude.{replicate}
+use Rattle.std.proofs.Common.{◌≡◌, ℕ, zero, suc, Bool, true, false, cond, ◌&&◌, eqb, List, [], ◌∷◌, length, map, slice_get, Option, Some, None, inl, inr, refl, sym, ap, subst, ◌∙◌, arith}
 use Rattle.std.proofs.lemmas.List.{length-replicate}
 use Rattle.hip_io.specs.Cabinets.{file_of}
 use Rattle.hip_io.specs.declared.cabinet.NamedFile.{NamedFile}
@@ -11,10 +10,10 @@ use Rattle.hip_ir.specs.TextExact.{one_program}
 use Rattle.hip_tool.specs.Input.{is_base, is_limit, region_size, IsValid}
 use Rattle.hip_tool.specs.Pieces.{spelled}
 use Rattle.hip_tool.specs.OneStore.{is_one_store}
-use Rattle.hip_tool.specs.Misfit.{Header, Stops, Gives, header, behind_limit, from_base, spelled_limit, spelled_base, valid_limit, valid_base, input_of, DiffersAt, FirstDiffers, MisfitBehind, IsMisfit, IsTraceOf}
+use Rattle.hip_tool.specs.Misfit.{Header, Gives, header, behind_limit, from_base, spelled_limit, spelled_base, input_of, DiffersAt, MisfitBehind, IsMisfit, IsTraceOf}
 use Rattle.hip_tool.specs.Run.{trace}
-use Rattle.hip_tool.specs.Answer.{IsText, IsProgram, IsTraceFile, Cause, Repairs, RefusesForm, RefusesProgram}
-use Rattle.hip_tool.specs.Reading.{IsRefusedText, RefusesText}
+use Rattle.hip_tool.specs.Answer.{IsProgram, RefusesForm}
+use Rattle.hip_tool.specs.Reading.{RefusesText}
 use Rattle.hip_tool.specs.Laws.{HeadersAreValid, RepairsExclude, RepairsAreOne}
 use Rattle.hip_typing.specs.Sound.{IsSound}
 use Rattle.hip_typing.specs.declared.fault.TypeRefusal.{TypeRefusal}
@@ -26,7 +25,6 @@ use Rattle.hip_tool.specs.declared.input.Input.{Input}
 use Rattle.hip_tool.specs.declared.misfit.MisfitKind.{MisfitKind}
 use Rattle.hip_tool.specs.declared.status.FileRole.TheVariants as roles
 use Rattle.hip_tool.specs.declared.status.ProgramRefusal.TheVariants as refusals
-use Rattle.hip_tool.specs.declared.status.Status.{Status}
 use Rattle.hip_tool.specs.declared.status.Status.TheVariants as statuses
 
 -- ---- the header's input

@@ -1,17 +1,15 @@
 -- The next entry of a file, byte by byte.
-use Rattle.std.proofs.Common.{◌≡◌, ℕ, suc, ◌+◌, ◌<◌, ◌≤◌, Bool, true, false, cond, ltb, List, [], ◌∷◌, ◌++◌, length, map, slice_get, Option, Some, None, IfSome, Result, Ok, Err, refl, sym, ap, subst, ◌∙◌, arith, append_assoc, length-append}
+use Rattle.std.proofs.Common.{◌≡◌, ℕ, ◌<◌, true, false, List, [], ◌∷◌, ◌++◌, length, map, slice_get, Option, Some, None, IfSome, Result, refl, sym, ap, subst, ◌∙◌, arith, append_assoc, length-append}
 use Rattle.std.proofs.lemmas.List.{append-nil}
-use Rattle.std.proofs.lemmas.Bool.{lt-ltb, le-ltb}
+use Rattle.std.proofs.lemmas.Bool.{lt-ltb}
 use Rattle.std.specs.Prelude.{option_map}
-use Rattle.std.specs.List.{slice_split, onto_first}
-use Rattle.hip_io.specs.Cabinets.{CabinetState, StaysOpen}
-use Rattle.hip_tool.specs.Numbers.{is_nonempty}
+use Rattle.std.specs.List.{onto_first}
+use Rattle.hip_io.specs.Cabinets.{CabinetState}
 use Rattle.hip_tool.specs.Entries.{entry_of}
-use Rattle.hip_tool.specs.Pieces.{is_separator, parts, counted, counts_last, pieces, spelled}
-use Rattle.hip_tool.specs.ReadsEntries.{entries_left, parts_left, onto_part, IsReading, HasNext, HasNone, HasMalformed, ReadsNext, SpellsNext, HasByte, HasEnd}
+use Rattle.hip_tool.specs.Pieces.{is_separator, parts, counted, spelled}
+use Rattle.hip_tool.specs.ReadsEntries.{entries_left, onto_part, IsReading, HasNone, HasMalformed, ReadsNext, SpellsNext, HasByte, HasEnd}
 use Rattle.hip_tool.specs.declared.entry.Entry.{Entry}
 use Rattle.hip_tool.specs.declared.reader.TraceRefusal.{TraceRefusal}
-use Rattle.hip_tool.specs.declared.reader.TraceRefusal.TheVariants.{Malformed, ReadFault}
 use Rattle.hip_tool.proofs.Fields.{some_field}
 
 -- what the parts of a whole file spell

@@ -1,23 +1,23 @@
 -- A trace, compared with the run of its program.
-use Rattle.std.proofs.Common.{◌≡◌, ◌≢◌, ℕ, zero, suc, ◌+◌, ◌<◌, ◌≤◌, Bool, true, false, cond, eqb, List, [], ◌∷◌, ◌++◌, length, map, take, drop, slice_get, get_or, Option, Some, None, IfSome, Result, Ok, Err, refl, sym, ap, subst, ◌∙◌, arith, append_assoc}
+use Rattle.std.proofs.Common.{◌≡◌, ℕ, zero, suc, ◌+◌, ◌<◌, true, eqb, List, [], ◌∷◌, ◌++◌, length, map, take, slice_get, Option, Some, None, IfSome, Result, Ok, Err, refl, sym, ap, subst, ◌∙◌, arith, append_assoc}
 use Rattle.std.specs.Prelude.{option_map}
 use Rattle.std.proofs.lemmas.Bool.Decides.{nat_tests}
 use Rattle.std.proofs.lemmas.List.{append-nil}
 use Rattle.hip_io.specs.Counts.{Rose}
-use Rattle.hip_io.specs.Cabinets.{CabinetState, StaysOpen}
+use Rattle.hip_io.specs.Cabinets.{CabinetState}
 use Rattle.hip_ir.specs.declared.program.Program.{Program}
 use Rattle.hip_tool.specs.Input.{region_size, is_base, is_limit}
 use Rattle.hip_tool.specs.Pieces.{spelled}
-use Rattle.hip_tool.specs.Misfit.{Header, Stops, Gives, header, valid_limit, valid_base, input_of, kind_of, HeaderStops, StopsAt, DiffersAt, FirstDiffers, MisfitBehind, IsMisfit, IsTraceOf}
+use Rattle.hip_tool.specs.Misfit.{Gives, header, valid_limit, valid_base, input_of, HeaderStops, DiffersAt, FirstDiffers, MisfitBehind, IsMisfit, IsTraceOf}
 use Rattle.hip_tool.specs.Run.{trace, steps_of}
 use Rattle.hip_tool.specs.OneStore.{one_store}
-use Rattle.hip_tool.specs.ReadsEntries.{entries_left, IsReading, HasNext, HasNone, HasFailed}
+use Rattle.hip_tool.specs.ReadsEntries.{entries_left, IsReading, HasNext, HasFailed}
 use Rattle.hip_tool.specs.Replays.{IsUnspelled, Found, WantsEntry, WantsLimit, WantsBase, WantsSteps, HasReplayed, Replays}
 use Rattle.hip_tool.specs.declared.entry.Entry.{Entry}
 use Rattle.hip_tool.specs.declared.entry.Entry.TheVariants.{Start, Register}
 use Rattle.hip_tool.specs.declared.input.Input.{Input}
 use Rattle.hip_tool.specs.declared.misfit.MisfitKind.{MisfitKind}
-use Rattle.hip_tool.specs.declared.misfit.MisfitKind.TheVariants.{Malformed, Differs, Early, Extra}
+use Rattle.hip_tool.specs.declared.misfit.MisfitKind.TheVariants.{Differs}
 use Rattle.hip_tool.specs.declared.replay.ReplayRefusal.{ReplayRefusal}
 use Rattle.hip_tool.specs.declared.replay.ReplayRefusal.TheVariants as refusals
 

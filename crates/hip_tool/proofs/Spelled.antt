@@ -1,13 +1,12 @@
 -- The tests of spelled numbers, and the facts that they decide.
-use Rattle.std.proofs.Common.{ℕ, ℤ, pos, negsuc, ◌≡◌, ◌<◌, ◌^◌, ◌&&◌, Bool, true, false, List, [], ◌∷◌, length, Option, Some, None, nat_lt, drop, refl, sym, ap, ◌∙◌, arith, FitsSigned}
+use Rattle.std.proofs.Common.{ℕ, ◌≡◌, ◌^◌, ◌&&◌, Bool, true, false, List, [], ◌∷◌, Option, Some, None, nat_lt, drop, refl, ap, arith}
 use Rattle.std.specs.Prelude.{if◌then◌else◌, SomeIff, nat_eq, codes}
 use Rattle.std.specs.Char.{digit_value}
-use Rattle.std.specs.Int.{w64}
 use Rattle.std.specs.List.{list_all, starts_with}
 use Rattle.std.specs.Str.Parse.{AllDigits, IsNumeral, digits_value}
 use Rattle.std.specs.Cmp.Derive.{both_true}
 use Rattle.std.proofs.lemmas.Bool.{ltb-true, lt-ltb}
-use Rattle.hip_num.specs.Texts.{IsNumber, IsHexadecimal, IsSignedNumber, signed_digits, signed_value}
+use Rattle.hip_num.specs.Texts.{IsNumber, IsHexadecimal}
 use Rattle.hip_tool.specs.Numbers.{is_nonempty, are_digits, is_number, is_hexadecimal}
 
 both_hold : (a b : Bool) → (a && b) ≡ true → (a ≡ true) × (b ≡ true)

@@ -1,12 +1,11 @@
 -- A command that stops at its program or at its trace.
-use Rattle.std.proofs.Common.{◌≡◌, ℕ, List, Option, Some, None, IfSome, refl, sym, subst, ◌∙◌, ap, arith, ◌≤◌}
+use Rattle.std.proofs.Common.{ℕ, List, Option, Some, None, IfSome, refl, sym, subst, ◌∙◌, arith}
 use Rattle.hip_io.specs.Counts.{Rose}
 use Rattle.hip_io.specs.Cabinets.{CabinetState}
 use Rattle.hip_io.specs.declared.cabinet.NamedFile.{NamedFile}
 use Rattle.hip_ir.specs.declared.program.Program.{Program}
 use Rattle.hip_tool.specs.Answer.{IsProgram, ProgramCause, TraceCause, Cause}
-use Rattle.hip_tool.specs.Call.{IsSteady, HasMissed, HasFaulted, CountsBy, ForOrder, CauseBy, IsRefused, MayStopProgram, MayStopTrace}
-use Rattle.hip_tool.specs.declared.misfit.MisfitKind.{MisfitKind}
+use Rattle.hip_tool.specs.Call.{IsSteady, CountsBy, CauseBy, IsRefused, MayStopProgram, MayStopTrace}
 use Rattle.hip_tool.specs.declared.status.FileRole.{FileRole}
 use Rattle.hip_tool.specs.declared.status.FileRole.TheVariants as roles
 use Rattle.hip_tool.specs.declared.status.Status.{Status}

@@ -1,5 +1,5 @@
 -- What a command answers: a status, a text for the output and a text for the notes.
-use Rattle.std.specs.Prelude.{ℕ, ◌≡◌, ◌≤◌, ◌<◌, true, false, List, [], ◌∷◌, ◌++◌, length, Option, Some, None, IfSome, codes, ◌⊎◌}
+use Rattle.std.specs.Prelude.{ℕ, ◌≡◌, ◌≤◌, ◌<◌, true, false, List, ◌++◌, length, Some, None, codes, ◌⊎◌}
 use Rattle.std.specs.Fmt.{decimal}
 use Rattle.hip_io.specs.Cabinets.{file_of}
 use Rattle.hip_io.specs.declared.cabinet.NamedFile.{NamedFile}
@@ -13,13 +13,11 @@ use Rattle.hip_tool.specs.Run.{reports, plan, repaired}
 use Rattle.hip_tool.specs.declared.input.Input.{Input}
 use Rattle.hip_tool.specs.declared.misfit.MisfitKind.{MisfitKind}
 use Rattle.hip_tool.specs.declared.repair.Plan.{Plan}
-use Rattle.hip_parse.specs.declared.error.ParseRefusal.{ParseRefusal}
 use Rattle.hip_typing.specs.Checks.{IsRefused}
 use Rattle.hip_typing.specs.Sound.{IsSound}
 use Rattle.hip_typing.specs.declared.fault.TypeFault.TheVariants as faults
 use Rattle.hip_typing.specs.declared.fault.Place.TheVariants as places
 use Rattle.hip_typing.specs.declared.fault.TypeRefusal.{TypeRefusal}
-use Rattle.hip_tool.specs.declared.status.FileRole.{FileRole}
 use Rattle.hip_tool.specs.declared.status.FileRole.TheVariants as roles
 use Rattle.hip_tool.specs.declared.status.ProgramRefusal.{ProgramRefusal}
 use Rattle.hip_tool.specs.declared.status.ProgramRefusal.TheVariants as refusals

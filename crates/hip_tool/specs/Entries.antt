@@ -1,11 +1,11 @@
 -- The entries of a trace, and the texts that spell them.
-use Rattle.std.specs.Prelude.{ℕ, ◌*◌, ◌^◌, Bool, true, false, ◌&&◌, ◌||◌, List, [], ◌∷◌, length, Option, Some, None, nat_lt, ◌==◌, if◌then◌else◌, codes, option_and_then}
+use Rattle.std.specs.Prelude.{ℕ, ◌*◌, ◌^◌, Bool, ◌&&◌, ◌||◌, List, [], ◌∷◌, length, Option, Some, None, nat_lt, ◌==◌, if◌then◌else◌, codes, option_and_then}
 use Rattle.std.specs.Option.{option_map}
 use Rattle.std.specs.List.{slice_split}
 use Rattle.std.specs.Str.{bytes_eq}
 use Rattle.hip_tool.specs.Numbers.{decimal_of, hex_of, signed_32_of}
 use Rattle.hip_tool.specs.declared.entry.Entry.{Entry}
-use Rattle.hip_tool.specs.declared.entry.Entry.TheVariants.{Start, Register, Store, Stop, Cut}
+use Rattle.hip_tool.specs.declared.entry.Entry.TheVariants.{Start, Register, Store, Stop}
 
 -- the fields of an entry's text: the parts between semicolons
 abbrev pub fields : List ℕ → List (List ℕ)

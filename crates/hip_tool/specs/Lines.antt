@@ -1,7 +1,6 @@
 -- The line that a status writes to the notes.
 use Rattle.std.specs.Prelude.{ℕ, List, [], ◌∷◌, ◌++◌, codes}
 use Rattle.std.specs.Fmt.{decimal}
-use Rattle.hip_ir.specs.declared.site.Site.{Site}
 use Rattle.hip_tool.specs.declared.misfit.MisfitKind.{MisfitKind}
 use Rattle.hip_tool.specs.declared.misfit.MisfitKind.TheVariants as kinds
 use Rattle.hip_parse.specs.declared.error.ParseRefusal.{ParseRefusal}
@@ -10,7 +9,6 @@ use Rattle.hip_typing.specs.declared.fault.TypeFault.{TypeFault}
 use Rattle.hip_typing.specs.declared.fault.TypeFault.TheVariants as fault
 use Rattle.hip_typing.specs.declared.fault.Place.{Place}
 use Rattle.hip_typing.specs.declared.fault.Place.TheVariants as place
-use Rattle.hip_typing.specs.declared.fault.TypeRefusal.{TypeRefusal}
 use Rattle.hip_tool.specs.declared.status.FileRole.{FileRole}
 use Rattle.hip_tool.specs.declared.status.FileRole.TheVariants as role
 use Rattle.hip_tool.specs.declared.status.ProgramRefusal.{ProgramRefusal}

@@ -1,11 +1,11 @@
 -- Where a trace is not the trace of a run of the program: at the first piece that differs.
-use Rattle.std.specs.Prelude.{ℕ, ◌+◌, ◌*◌, ◌%◌, ◌≡◌, ◌≢◌, ◌≤◌, Bool, true, false, List, [], ◌∷◌, map, take, slice_get, replicate, Option, Some, None, if◌then◌else◌}
+use Rattle.std.specs.Prelude.{ℕ, ◌+◌, ◌≡◌, ◌≢◌, Bool, true, List, [], ◌∷◌, map, take, slice_get, replicate, Option, Some, None, if◌then◌else◌}
 use Rattle.hip_ir.specs.declared.program.Program.{Program}
 use Rattle.hip_tool.specs.Pieces.{spelled}
 use Rattle.hip_tool.specs.Input.{region_size, is_base, is_limit}
 use Rattle.hip_tool.specs.Run.{trace}
 use Rattle.hip_tool.specs.declared.entry.Entry.{Entry}
-use Rattle.hip_tool.specs.declared.entry.Entry.TheVariants.{Start, Register, Store, Stop, Cut}
+use Rattle.hip_tool.specs.declared.entry.Entry.TheVariants.{Start, Register}
 use Rattle.hip_tool.specs.declared.input.Input.{Input}
 use Rattle.hip_tool.specs.declared.misfit.MisfitKind.{MisfitKind}
 use Rattle.hip_tool.specs.declared.misfit.MisfitKind.TheVariants.{Malformed, Differs, Early, Extra}

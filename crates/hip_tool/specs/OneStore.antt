@@ -1,7 +1,7 @@
 -- The programs that are repaired: one persistent number, and a `main` that stores into it once.
 use Rattle.std.specs.Prelude.{ℕ, Bool, true, false, ◌&&◌, not, List, [], ◌∷◌, Option, Some, None, is_none, is_some, option_and_then, option_map, if◌then◌else◌}
 use Rattle.hip_types.specs.declared.number.Width.{Width}
-use Rattle.hip_types.specs.declared.number.Width.TheVariants.{W1, W8, W16, W32, W64}
+use Rattle.hip_types.specs.declared.number.Width.TheVariants.{W32, W64}
 use Rattle.hip_types.specs.declared.number.Scalar.{Scalar}
 use Rattle.hip_types.specs.declared.number.Scalar.TheVariants as scalar
 use Rattle.hip_types.specs.declared.number.Bits.{Bits}

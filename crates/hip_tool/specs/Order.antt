@@ -1,5 +1,5 @@
 -- The order that the words give.
-use Rattle.std.specs.Prelude.{◌≡◌, ℕ, Bool, true, false, ◌&&◌, not, List, [], ◌∷◌, Option, Some, None, Result, Ok, Err, IsSome, IsNone, if◌then◌else◌, ◌==◌, codes}
+use Rattle.std.specs.Prelude.{◌≡◌, ℕ, Bool, true, ◌&&◌, not, List, [], ◌∷◌, Option, Some, None, Result, Ok, Err, IsSome, if◌then◌else◌, ◌==◌, codes}
 use Rattle.std.specs.Str.{bytes_eq}
 use Rattle.hip_tool.specs.declared.words.Order.{Order}
 use Rattle.hip_tool.specs.declared.words.Order.TheVariants.{Repair}

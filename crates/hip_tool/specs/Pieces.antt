@@ -1,5 +1,5 @@
 -- The pieces of a trace's bytes, of which each spells an entry or is malformed.
-use Rattle.std.specs.Prelude.{ℕ, Bool, true, false, ◌||◌, List, [], ◌∷◌, ◌++◌, length, map, Option, nat_lt, ◌==◌, if◌then◌else◌}
+use Rattle.std.specs.Prelude.{ℕ, Bool, true, false, ◌||◌, List, [], ◌∷◌, length, map, Option, nat_lt, ◌==◌, if◌then◌else◌}
 use Rattle.std.specs.List.{slice_split}
 use Rattle.hip_tool.specs.Numbers.{is_nonempty}
 use Rattle.hip_tool.specs.Entries.{entry_of}

@@ -1,8 +1,8 @@
 -- What reading the next entry of a trace does to a cabinet.
-use Rattle.std.specs.Prelude.{ℕ, ◌≡◌, ◌≤◌, true, List, [], ◌∷◌, ◌++◌, map, slice_get, Option, Some, None, IfSome, option_map, Result, Ok, Err}
+use Rattle.std.specs.Prelude.{ℕ, ◌≡◌, ◌≤◌, true, List, [], ◌∷◌, ◌++◌, slice_get, Option, Some, None, IfSome, option_map, Result, Ok, Err}
 use Rattle.hip_io.specs.Counts.{Rose}
 use Rattle.hip_io.specs.Cabinets.{CabinetState, StaysOpen}
-use Rattle.hip_tool.specs.Pieces.{parts, counted, spelled}
+use Rattle.hip_tool.specs.Pieces.{parts, spelled}
 use Rattle.hip_tool.specs.declared.entry.Entry.{Entry}
 use Rattle.hip_tool.specs.declared.reader.TraceRefusal.{TraceRefusal}
 use Rattle.hip_tool.specs.declared.reader.TraceRefusal.TheVariants.{Malformed, ReadFault}

@@ -1,6 +1,5 @@
 -- What replaying a trace does to a cabinet, and what it answers.
-use Rattle.std.specs.Prelude.{ℕ, ◌+◌, ◌≡◌, ◌≤◌, true, List, [], ◌∷◌, ◌++◌, map, slice_get, Option, Some, None, IfSome, option_map, Result, Ok, Err}
-use Rattle.hip_io.specs.Counts.{Rose}
+use Rattle.std.specs.Prelude.{ℕ, ◌+◌, ◌≡◌, true, List, ◌∷◌, map, slice_get, Option, Some, None, IfSome, Result, Ok, Err}
 use Rattle.hip_io.specs.Cabinets.{CabinetState}
 use Rattle.hip_ir.specs.declared.program.Program.{Program}
 use Rattle.hip_tool.specs.Input.{region_size, is_base, is_limit}
@@ -10,7 +9,7 @@ use Rattle.hip_tool.specs.declared.entry.Entry.{Entry}
 use Rattle.hip_tool.specs.declared.entry.Entry.TheVariants.{Start, Register}
 use Rattle.hip_tool.specs.declared.input.Input.{Input}
 use Rattle.hip_tool.specs.declared.misfit.MisfitKind.{MisfitKind}
-use Rattle.hip_tool.specs.declared.misfit.MisfitKind.TheVariants.{Malformed, Differs, Early, Extra}
+use Rattle.hip_tool.specs.declared.misfit.MisfitKind.TheVariants.{Malformed, Early}
 use Rattle.hip_tool.specs.declared.replay.ReplayRefusal.{ReplayRefusal}
 use Rattle.hip_tool.specs.declared.replay.ReplayRefusal.TheVariants as refusals
 

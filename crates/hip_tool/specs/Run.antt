@@ -1,21 +1,17 @@
 -- The run of a program that stores once: its trace, its report, and what is repaired. The store is the first step
 -- and the return of `main` the second. Each is a turn, and the run is cut where the turns have reached the limit.
-use Rattle.std.specs.Prelude.{ℕ, ◌+◌, Bool, true, false, List, [], ◌∷◌, ◌++◌, map, take, Option, Some, None, nat_lt, ◌==◌, if◌then◌else◌, codes}
-use Rattle.hip_types.specs.declared.number.Bits.{Bits}
+use Rattle.std.specs.Prelude.{ℕ, true, false, List, [], ◌∷◌, take, Option, Some, None, nat_lt, ◌==◌, if◌then◌else◌, codes}
 use Rattle.hip_types.specs.declared.number.Scalar.TheVariants.{Ptr}
 use Rattle.hip_types.specs.declared.number.Scalar.TheVariants.{Int}
 use Rattle.hip_types.specs.declared.number.Width.TheVariants.{W32, W64}
 use Rattle.hip_types.specs.declared.ty.Ty.TheVariants as types
 use Rattle.hip_ir.specs.declared.constant.Const.TheVariants as consts
-use Rattle.hip_ir.specs.declared.instr.Operand.{Operand}
 use Rattle.hip_ir.specs.declared.instr.Operand.TheVariants.{Fixed}
-use Rattle.hip_ir.specs.declared.instr.Arg.{Arg}
 use Rattle.hip_ir.specs.declared.instr.Instr.{Instr}
 use Rattle.hip_ir.specs.declared.instr.Instr.TheVariants as instrs
 use Rattle.hip_ir.specs.declared.block.End.{End}
 use Rattle.hip_ir.specs.declared.block.End.TheVariants.{Ret}
 use Rattle.hip_ir.specs.declared.program.GlobalVar.{GlobalVar}
-use Rattle.hip_ir.specs.declared.block.Block.{Block}
 use Rattle.hip_ir.specs.declared.program.Extern.{Extern}
 use Rattle.hip_ir.specs.declared.program.Function.{Function}
 use Rattle.hip_ir.specs.declared.program.Program.{Program}

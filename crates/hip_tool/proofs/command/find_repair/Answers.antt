@@ -8,4 +8,4 @@ returns-in-Err g c =
 pub returns-in-Err-load_trace : goal.returns-in-Err-load_trace
 returns-in-Err-load_trace g c =
     trace_stops c.args.program_name.now c.args.trace_name.now c.in-Ok.checked c.in-Err-load_trace.status (g.C.Cabinet.state c.args.cabinet.now) (g.C.Cabinet.state c.load_program.new.cabinet) (g.C.Cabinet.state c.load_trace.new.cabinet)
-    c.in-Ok.ensures.0 c.in-Ok.ensures.1 c.in-Err-load_trace.ensures.0 c.in-Err-load_trace.ensures.1 c.in-Err-load_trace.ensures.2
+    c.in-Ok.ensures.0 c.in-Ok.ensures.1 c.in-Err-load_trace.ensures.0 (rw c.program-program.ensures.is at c.in-Err-load_trace.ensures.1) c.in-Err-load_trace.ensures.2

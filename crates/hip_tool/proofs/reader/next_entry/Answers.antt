@@ -1,8 +1,6 @@
-use Rattle.std.proofs.Common.{◌≡◌, ◌+◌, ◌++◌, ◌∷◌, [], List, ℕ, take, length, refl, sym, ◌∙◌, arith, length-set}
+use Rattle.std.proofs.Common.{take, refl, sym, ◌∙◌, arith, length-set}
 use Rattle.std.proofs.lemmas.List.{length-take-le, take_more_set}
-use Rattle.std.specs.Prelude.{slice_set}
-use Rattle.hip_tool.specs.ReadsEntries.{HasByte}
-use Rattle.hip_tool.proofs.ReaderLaws.{begins, separator_came, too_much_came, byte_came, Follows}
+use Rattle.hip_tool.proofs.ReaderLaws.{begins, separator_came, too_much_came, byte_came}
 use Rattle.hip_tool.proofs.reader.next_entry.Goals as goal
 
 pub byte-init : goal.byte-init

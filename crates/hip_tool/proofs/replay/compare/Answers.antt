@@ -1,7 +1,6 @@
-use Rattle.std.proofs.Common.{◌≡◌, ◌+◌, ◌++◌, take, length, map, Some, refl, arith}
+use Rattle.std.proofs.Common.{refl, arith}
 use Rattle.std.proofs.lemmas.Result.{err_from_is_err_and}
 use Rattle.std.proofs.lemmas.List.{take_all}
-use Rattle.hip_tool.specs.Replays.{WantsEntry, WantsSteps}
 use Rattle.hip_tool.proofs.ReplayLaws.{entry_missing, entry_differs, entry_taken, run_ends}
 use Rattle.hip_tool.proofs.replay.compare.Goals as goal
 

@@ -1,8 +1,9 @@
 -- Reachable callees and fresh names are what they are said to be.
-use Rattle.std.proofs.Common.{◌≡◌, Bool, true, false, ◌&&◌, ◌++◌, take, map, Some, option_map, refl, sym, ap, ◌∙◌, subst}
+use Rattle.std.proofs.Common.{◌≡◌, true, ◌++◌, take, map, Some, option_map, refl, sym, ap, ◌∙◌, subst}
 use Rattle.std.proofs.lemmas.Bool.Decides.{Decides-eqb}
 use Rattle.std.proofs.lemmas.List.{length-map}
 use Rattle.std.proofs.lemmas.Option.{slice_get-map, same_Some}
+use Rattle.std.proofs.lemmas.Bool.{and_parts}
 use Rattle.hip_types.specs.DistinctLaws.{any_found, any_at}
 use Rattle.hip_ir.specs.Sites.{same_site}
 use Rattle.hip_ir.specs.declared.site.Site.{Site}
@@ -11,14 +12,10 @@ use Rattle.hip_calls.specs.FreshLaws.{IsFirstFree, length-fresh_for, fresh_for-d
 use Rattle.hip_calls.specs.Laws.{CalleesAreReached, FreshNamesAreFresh}
 use Rattle.hip_calls.specs.ReachLaws.{callees-within, callees-distinct, callees-first, callees-closed, callees-least}
 
-both_hold : (a b : Bool) → (a && b) ≡ true → (a ≡ true) × (b ≡ true)
-both_hold true b e = (refl, e)
-both_hold false b e = cc
-
 same_sites : (s t : Site) → same_site s t ≡ true → s ≡ t
 same_sites s t e =
-    let first = both_hold _ _ e in
-    let second = both_hold _ _ first.1 in
+    let first = and_parts _ _ e in
+    let second = and_parts _ _ first.1 in
     let f : s.function ≡ t.function = (Decides-eqb s.function t.function).0 first.0 in
     let b : s.block ≡ t.block = (Decides-eqb s.block t.block).0 second.0 in
     let i : s.index ≡ t.index = (Decides-eqb s.index t.index).0 second.1 in

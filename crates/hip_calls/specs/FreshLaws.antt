@@ -5,6 +5,7 @@ use Rattle.std.specs.Fmt.{decimal}
 use Rattle.std.specs.List.{AllByRecursion, IsDistinct, list_any, list_all}
 use Rattle.std.specs.Str.{bytes_eq}
 use Rattle.std.proofs.Common.{refl, sym, ap, ◌∙◌, subst, ⊎_elim, arith, length-append, eq-or-lt_of_le}
+use Rattle.std.proofs.lemmas.Bool.{and_from}
 use Rattle.std.proofs.lemmas.Bool.Decides.{nat_tests}
 use Rattle.std.proofs.lemmas.Fmt.{decimal_digit, decimal_step_wide}
 use Rattle.std.proofs.lemmas.List.Folds.{list_any-append, list_all-append}
@@ -277,12 +278,8 @@ digit_goes_on : (d : ℕ) → d < 10 → goes_on_name (48 + d) ≡ true
 digit_goes_on d h =
     let low : nat_le 48 (48 + d) ≡ true = grind (arith, nat_tests) in
     let high : nat_le (48 + d) 57 ≡ true = grind (arith, nat_tests) in
-    digit_in _ _ _ (both_true _ _ low high)
+    digit_in _ _ _ (and_from _ _ low high)
   where
-    both_true : (a b : Bool) → a ≡ true → b ≡ true → (a && b) ≡ true
-    both_true true b e f = f
-    both_true false b e f = e
-
     digit_in : (a b c : Bool) → b ≡ true → (a || b || c) ≡ true
     digit_in true true c e = refl
     digit_in false true c e = refl

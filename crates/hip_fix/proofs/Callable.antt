@@ -1,17 +1,16 @@
 -- What a sound program's calls name.
-use Rattle.std.proofs.Common.{◌≡◌, ◌⊎◌, ℕ, suc, Bool, true, false, cond, ◌&&◌, List, [], ◌∷◌, map, Option, Some, None, is_some, is_none, slice_get, option_map, refl, sym, ap, ◌∙◌, subst, inl, inr}
+use Rattle.std.proofs.Common.{◌≡◌, ◌⊎◌, ℕ, suc, Bool, true, false, cond, List, [], ◌∷◌, map, Option, Some, None, is_some, is_none, slice_get, option_map, refl, sym, ap, ◌∙◌, subst, inl, inr}
 use Rattle.std.specs.Prelude.{codes, if◌then◌else◌}
 use Rattle.std.specs.Str.{bytes_eq}
-use Rattle.std.proofs.lemmas.Option.{slice_get_within, get_or_from_slice_get}
 use Rattle.std.proofs.lemmas.Slice.Eq.{bytes_eq-Decides}
+use Rattle.std.proofs.lemmas.Bool.{and_parts}
 use Rattle.hip_ir.specs.declared.block.Block.{Block}
 use Rattle.hip_ir.specs.declared.instr.Instr.{Instr}
 use Rattle.hip_ir.specs.declared.instr.Instr.TheVariants.{Call}
 use Rattle.hip_ir.specs.declared.program.Extern.{Extern}
 use Rattle.hip_ir.specs.declared.program.Function.{Function}
 use Rattle.hip_ir.specs.declared.program.Program.{Program}
-use Rattle.hip_typing.specs.Check.{Check, each}
-use Rattle.hip_typing.specs.CheckLaws.{each-holds}
+use Rattle.hip_typing.specs.Check.{each}
 use Rattle.hip_typing.specs.Externs.{Signature, signature, call_of, known_signature}
 use Rattle.hip_typing.specs.Names.{number_of}
 use Rattle.hip_typing.specs.Numbering.{function_names, function_number}
@@ -20,26 +19,14 @@ use Rattle.hip_typing.specs.Places.{extern_of, function_of, first_of, callee_of,
 use Rattle.hip_typing.specs.Rules.{Passes, is_main, has_main, is_of, declared, free_function, externs_check, block_check, places_check}
 use Rattle.hip_typing.specs.declared.externs.ExternCall.{ExternCall}
 use Rattle.hip_typing.specs.declared.fault.Place.TheVariants as places
+use Rattle.hip_typing.specs.Decided.{holds-at}
 use Rattle.hip_step.specs.Places.{blocks_in, body_of, body_at}
 use Rattle.hip_fix.proofs.Twins.{IsCallable}
-
--- what a check of each item holds of the one at a place
-pub each_at : {A : Type 0} → (check : ℕ → A → Check) (xs : List A) (k : ℕ) (x : A) → (each check xs).Holds → slice_get xs k ≡ Some x → (check k x).Holds
-each_at check xs k x h e = subst (λ y. (check k y).Holds) (get_or_from_slice_get xs k x x e) (each-holds check xs k x h (slice_get_within xs k x e))
 
 -- ---- `main`
 
 abbrev pub HasNumber : List Function → List ℕ → Type 0
 HasNumber fs name = (j : ℕ) × (number_of (function_names fs) name ≡ Some j)
-
-same_tests : (b c : Bool) → (b ≡ true → c ≡ true) → (c ≡ true → b ≡ true) → b ≡ c
-same_tests true c f g = sym (f refl)
-same_tests false true f g = g refl
-same_tests false false f g = refl
-
-pub flipped : (xs ys : List ℕ) → bytes_eq xs ys ≡ bytes_eq ys xs
-flipped xs ys =
-    same_tests (bytes_eq xs ys) (bytes_eq ys xs) (λ e. (bytes_eq-Decides ys xs).1 (sym ((bytes_eq-Decides xs ys).0 e))) (λ e. (bytes_eq-Decides xs ys).1 (sym ((bytes_eq-Decides ys xs).0 e)))
 
 number_behind : (f : Function) (fs : List Function) (name : List ℕ) → HasNumber fs name → HasNumber (f ∷ fs) name
 number_behind f fs name h = by_first (bytes_eq name f.name) refl
@@ -90,10 +77,6 @@ of_table e name same h = by_call (call_of e.name) (ap call_of (sym same)) h
     by_call None f g = cc
     by_call (Some c) f g = (c, f)
 
-pub both_hold : (a b : Bool) → (a && b) ≡ true → (a ≡ true) × (b ≡ true)
-both_hold true b e = (refl, e)
-both_hold false b e = cc
-
 abbrev pub IsInstrAt : Program → (f b k : ℕ) → Instr → Type 0
 IsInstrAt P f b k i = (fn : Function) × (block : Block) × (slice_get P.functions f ≡ Some fn) × (slice_get fn.blocks b ≡ Some block) × (slice_get block.body k ≡ Some i)
 
@@ -122,14 +105,14 @@ callee_there P callee externs h = in_externs (extern_of P.externs callee) refl h
     in_externs None e g = in_functions (function_of P.functions callee) refl g
     in_externs (Some s) e g =
         let there = extern_at P.externs callee s e in
-        inl (of_table there.1 callee there.3 (each_at declared P.externs there.0 there.1 externs.1.0 there.2))
+        inl (of_table there.1 callee there.3 (holds-at declared P.externs there.0 there.1 externs.1.0 there.2))
 
 -- what holds of an instruction by the rules of places
 pub instr_checked : (P : Program) → (places_check P).Holds → (f b k : ℕ) (i : Instr) (fn : Function) (block : Block) → slice_get P.functions f ≡ Some fn → slice_get fn.blocks b ≡ Some block → slice_get block.body k ≡ Some i →
     (instr_check (scope_of P fn) i (places.Body (record { function = f; block = b; index = k }))).Holds
 instr_checked P h f b k i fn block e g c =
-    each_at (λ k instr. instr_check (scope_of P fn) instr (places.Body (record { function = f; block = b; index = k }))) block.body k i
-    (each_at (block_check (scope_of P fn) f) fn.blocks b block (each_at (λ f fn. each (block_check (scope_of P fn) f) fn.blocks) P.functions f fn h e) g).1.0 c
+    holds-at (λ k instr. instr_check (scope_of P fn) instr (places.Body (record { function = f; block = b; index = k }))) block.body k i
+    (holds-at (block_check (scope_of P fn) f) fn.blocks b block (holds-at (λ f fn. each (block_check (scope_of P fn) f) fn.blocks) P.functions f fn h e) g).1.0 c
 
 pub callable_of : (P : Program) → Passes P → IsCallable P
 callable_of P sound =
@@ -139,10 +122,10 @@ callable_of P sound =
       main = main.1;
       calls = λ f b k dest ret callee args c.
           let at = instr_place P f b k (Call dest ret callee args) c in
-          callee_there P callee sound.externs (both_hold _ _ (instr_checked P sound.places f b k (Call dest ret callee args) at.0 at.1 at.2 at.3 at.4).0).1;
+          callee_there P callee sound.externs (and_parts _ _ (instr_checked P sound.places f b k (Call dest ret callee args) at.0 at.1 at.2 at.3 at.4).0).1;
       free = λ callee g e.
           let there = function_number-there P callee g e in
-          none_of (call_of callee) (subst (λ name. is_none (call_of name) ≡ true) there.2 (each_at free_function P.functions g there.0 sound.externs.1.1 there.1));
+          none_of (call_of callee) (subst (λ name. is_none (call_of name) ≡ true) there.2 (holds-at free_function P.functions g there.0 sound.externs.1.1 there.1));
     }
   where
     none_of : (o : Option ExternCall) → is_none o ≡ true → o ≡ None

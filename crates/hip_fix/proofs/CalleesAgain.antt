@@ -4,6 +4,7 @@ use Rattle.std.specs.Prelude.{if◌then◌else◌}
 use Rattle.std.specs.Str.{bytes_eq}
 use Rattle.std.proofs.lemmas.Option.{same_Some}
 use Rattle.std.proofs.lemmas.Slice.Eq.{bytes_eq-Decides}
+use Rattle.std.proofs.lemmas.Bool.{and_parts}
 use Rattle.hip_types.specs.DistinctLaws.{either}
 use Rattle.hip_types.specs.declared.number.Scalar.{Scalar}
 use Rattle.hip_types.specs.declared.number.Scalar.TheVariants.{Int, Ptr}
@@ -22,9 +23,11 @@ use Rattle.hip_typing.specs.Places.{extern_of, function_of, first_of, callee_of}
 use Rattle.hip_typing.specs.Rules.{Passes, same_result, is_of, declared}
 use Rattle.hip_typing.specs.Types.{same_width, same_scalar, all_pass}
 use Rattle.hip_typing.specs.declared.externs.ExternCall.{ExternCall}
+use Rattle.hip_typing.specs.Decided.{holds-at}
+use Rattle.hip_typing.specs.NameLaws.{bytes_eq-sym}
 use Rattle.hip_fix.specs.declared.plan.Plan.{Plan}
 use Rattle.hip_fix.specs.Repaired.{wanted_by, clone_name, clones_of, cloned, added_externs, repaired}
-use Rattle.hip_fix.proofs.Callable.{both_hold, each_at, function_at, callee_there, callable_of, flipped}
+use Rattle.hip_fix.proofs.Callable.{function_at, callee_there, callable_of}
 use Rattle.hip_fix.proofs.Clones.{extern_kept, calls_of_clone}
 use Rattle.hip_step.specs.Parts.{In}
 use Rattle.hip_fix.proofs.HeadsAgain.{externs_again}
@@ -48,7 +51,7 @@ same_scalars s t e = cc
 
 same_params : (ss ts : List Scalar) → all_pass (map same_scalar ss) ts ≡ true → ss ≡ ts
 same_params [] [] e = refl
-same_params (s ∷ ss) (t ∷ ts) e = let both = both_hold _ _ e in ap₂ (λ x xs. x ∷ xs) (same_scalars s t both.0) (same_params ss ts both.1)
+same_params (s ∷ ss) (t ∷ ts) e = let both = and_parts _ _ e in ap₂ (λ x xs. x ∷ xs) (same_scalars s t both.0) (same_params ss ts both.1)
 same_params [] (t ∷ ts) e = cc
 same_params (s ∷ ss) [] e = cc
 
@@ -64,7 +67,7 @@ declared_signature e = record { ret = e.ret; params = e.params }
 is_of_known : (e : Extern) (o : Option Signature) → is_of e o ≡ true → o ≡ Some (declared_signature e)
 is_of_known e None h = cc
 is_of_known e (Some s) h =
-    let both = both_hold _ _ h in
+    let both = and_parts _ _ h in
     let ret : e.ret ≡ s.ret = same_results e.ret s.ret both.0 in
     let params : s.params ≡ e.params = same_params s.params e.params both.1 in
     ap₂ (λ r ps. Some (record { ret = r; params = ps })) (sym ret) params
@@ -84,7 +87,7 @@ signature_at (e ∷ es) name s h = by_first (bytes_eq e.name name) refl h (signa
 pub extern_signature : (es : List Extern) (name : List ℕ) (s : Signature) → (each declared es).Holds → extern_of es name ≡ Some s → known_signature name ≡ Some s
 extern_signature es name s h e =
     let at = signature_at es name s e in
-    ap known_signature (sym at.3) ∙ is_of_known at.1 (known_signature at.1.name) (each_at declared es at.0 at.1 h at.2) ∙ ap Some (sym at.4)
+    ap known_signature (sym at.3) ∙ is_of_known at.1 (known_signature at.1.name) (holds-at declared es at.0 at.1 h at.2) ∙ ap Some (sym at.4)
 
 no_extern : (es : List Extern) (name : List ℕ) → (each declared es).Holds → call_of name ≡ None → extern_of es name ≡ None
 no_extern es name h free = by_found (extern_of es name) refl
@@ -95,7 +98,7 @@ no_extern es name h free = by_found (extern_of es name) refl
 
 pub extern_there : (es : List Extern) (name : List ℕ) → is_among (map (λ e. e.name) es) name ≡ true → (s : Signature) × (extern_of es name ≡ Some s)
 extern_there [] name h = cc
-extern_there (e ∷ es) name h = by_first (bytes_eq e.name name) (⊎_elim (λ t. inl (flipped e.name name ∙ t)) (λ r. inr (extern_there es name r)) (either (bytes_eq name e.name) _ h))
+extern_there (e ∷ es) name h = by_first (bytes_eq e.name name) (⊎_elim (λ t. inl (bytes_eq-sym e.name name ∙ t)) (λ r. inr (extern_there es name r)) (either (bytes_eq name e.name) _ h))
   where
     by_first : (b : Bool) → (b ≡ true) ⊎ ((s : Signature) × (extern_of es name ≡ Some s)) → (s : Signature) × ((if b then Some (declared_signature e) else extern_of es name) ≡ Some s)
     by_first true h = (declared_signature e, refl)
@@ -119,9 +122,9 @@ function_at_number (f ∷ fs) name g fn e c =
     ⊎_elim
     (λ h.
     let same : f ≡ fn = same_Some f fn (ap (slice_get (f ∷ fs)) (sym h.0) ∙ c) in
-    ap (λ b. if b then Some (signature_of f) else function_of fs name) (flipped f.name name ∙ h.2) ∙ ap (λ x. Some (signature_of x)) same)
+    ap (λ b. if b then Some (signature_of f) else function_of fs name) (bytes_eq-sym f.name name ∙ h.2) ∙ ap (λ x. Some (signature_of x)) same)
     (λ l.
-    ap (λ b. if b then Some (signature_of f) else function_of fs name) (flipped f.name name ∙ l.1)
+    ap (λ b. if b then Some (signature_of f) else function_of fs name) (bytes_eq-sym f.name name ∙ l.1)
     ∙ function_at_number fs name l.0 fn l.2 (ap (slice_get (f ∷ fs)) (sym l.3) ∙ c))
     (number_cases f.name (function_names fs) name g e)
 

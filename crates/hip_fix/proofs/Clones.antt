@@ -10,6 +10,7 @@ use Rattle.std.proofs.lemmas.List.{length-map, map-append}
 use Rattle.std.proofs.lemmas.Map.Keys.{apart_from_distinct}
 use Rattle.std.proofs.lemmas.Option.{slice_get_within, get_or_from_slice_get, same_Some}
 use Rattle.std.proofs.lemmas.Slice.Eq.{bytes_eq-Decides}
+use Rattle.std.proofs.lemmas.Bool.{and_parts}
 use Rattle.hip_types.specs.DistinctLaws.{or_second, either, any_back, any_at, any_found}
 use Rattle.hip_types.specs.declared.number.Scalar.{Scalar}
 use Rattle.hip_ir.specs.Sites.{instr_of, same_site, has_site}
@@ -36,7 +37,7 @@ use Rattle.hip_fix.specs.declared.plan.Plan.{Plan}
 use Rattle.hip_fix.specs.Harmless.{marked_body}
 use Rattle.hip_fix.specs.Repaired.{Marked, clwb_name, sfence_name, pmem_flush_name, is_wide, line_flush, range_flush, flush_of, the_fence, renamed, inserted_behind, repaired_body, instrs_of, Clone, Wanted, clone_name, clones_from, clones_of, clone_in, repaired_functions, clone_functions, cloned, repaired_blocks, repaired, repaired_function, wanted_by}
 use Rattle.hip_fix.proofs.Blocks.{body_twin}
-use Rattle.hip_fix.proofs.Callable.{both_hold, instr_place}
+use Rattle.hip_fix.proofs.Callable.{instr_place}
 use Rattle.hip_step.specs.Parts.{In}
 use Rattle.hip_fix.proofs.Functions.{length-repaired_functions, names-repaired_functions, get_back}
 use Rattle.hip_fix.proofs.Twins.{IsCallable, Twin, CallsTwin}
@@ -59,8 +60,8 @@ has_at g k xs e = any_at (nat_eq g) xs k g e (nat_eq_equiv.refl g)
 
 same_sites : (s t : Site) → same_site s t ≡ true → s ≡ t
 same_sites s t e =
-    let first = both_hold _ _ e in
-    let second = both_hold _ _ first.1 in
+    let first = and_parts _ _ e in
+    let second = and_parts _ _ first.1 in
     let f : s.function ≡ t.function = (Decides-eqb s.function t.function).0 first.0 in
     let b : s.block ≡ t.block = (Decides-eqb s.block t.block).0 second.0 in
     let i : s.index ≡ t.index = (Decides-eqb s.index t.index).0 second.1 in

@@ -1,35 +1,36 @@
 -- The rules on names, declarations, `main` and registers hold of the repaired program.
-use Rattle.std.proofs.Common.{◌≡◌, ⊎_elim, ℕ, suc, Bool, true, false, cond, List, [], ◌∷◌, ◌++◌, map, Option, Some, None, is_some, is_none, slice_get, refl, sym, ap, ap₂, ◌∙◌, subst, append_assoc}
+use Rattle.std.proofs.Common.{◌≡◌, ⊎_elim, ℕ, suc, Bool, true, false, cond, List, [], ◌∷◌, ◌++◌, map, Option, Some, None, is_some, is_none, slice_get, refl, sym, ap, ap₂, ◌∙◌, subst}
 use Rattle.std.specs.Prelude.{codes, if◌then◌else◌}
+use Rattle.std.specs.List.{IsDistinct}
 use Rattle.std.specs.Str.{bytes_eq}
 use Rattle.std.proofs.lemmas.List.{map-append}
 use Rattle.std.proofs.lemmas.Slice.Eq.{bytes_eq-Decides}
-use Rattle.hip_types.specs.DistinctLaws.{any_front, any_back, any_found}
+use Rattle.std.proofs.lemmas.Bool.{both_ways}
+use Rattle.hip_types.specs.DistinctLaws.{any_found}
 use Rattle.hip_ir.specs.declared.program.Extern.{Extern}
 use Rattle.hip_ir.specs.declared.program.Function.{Function}
 use Rattle.hip_ir.specs.declared.program.GlobalVar.{GlobalVar}
 use Rattle.hip_ir.specs.declared.program.Program.{Program}
 use Rattle.hip_ir.specs.declared.site.Site.{Site}
 use Rattle.hip_typing.specs.Externs.{call_of, known_signature}
-use Rattle.hip_typing.specs.Names.{Named, is_among}
+use Rattle.hip_typing.specs.CheckLaws.{among-whole}
+use Rattle.hip_typing.specs.NameLaws.{among-left, among-right, names-sound, names-whole}
+use Rattle.hip_typing.specs.Names.{AllDiffer, IsAmong, is_among}
 use Rattle.hip_typing.specs.Numbering as numbers
-use Rattle.hip_typing.specs.Rules.{Passes, global_names, extern_names, function_names, names_check, is_of, declared, free_function, externs_check, is_main, has_main, main_check}
+use Rattle.hip_typing.specs.Rules.{Passes, names_check, is_of, declared, free_function, externs_check, is_main, has_main, main_check}
+use Rattle.hip_typing.specs.Decided.{holds-at, holds-made}
 use Rattle.hip_calls.specs.Fresh.{name_of, names_taken}
 use Rattle.hip_calls.specs.FreshLaws.{fresh_for-distinct, fresh_for-free}
 use Rattle.hip_fix.specs.declared.plan.Plan.{Plan}
 use Rattle.hip_fix.specs.Repaired.{wanted_by, clones_of, cloned, added_externs, repaired, repaired_functions}
-use Rattle.hip_fix.proofs.Callable.{each_at, callable_of}
+use Rattle.hip_fix.proofs.Callable.{callable_of}
 use Rattle.hip_fix.proofs.Clones.{fresh, fresh_extern, in_append, names_then}
 use Rattle.hip_fix.proofs.Declarations.{added_at, added_passes, clwb_extern, sfence_extern, pmem_flush_extern}
-use Rattle.hip_fix.proofs.Items.{each_make}
-use Rattle.hip_fix.proofs.NamesAgain.{Differ, Apart, not_true, not_false, differ_append, differ_first, differ_second, differ_apart, apart_append, append_apart, differ_distinct, among_at, names_in, all_differ_holds, holds_all_differ, numbered_names}
+use Rattle.hip_fix.proofs.NamesAgain.{Apart, differ_append, differ_first, differ_second, differ_apart, apart_append, append_apart, differ_distinct, among_at}
 use Rattle.hip_fix.proofs.Origins.{Origin, origin}
 use Rattle.hip_fix.proofs.Twins.{IsCallable}
 
 -- ---- names of the program
-
-abbrev pub top : List GlobalVar → List Extern → List Function → List Named
-top globals externs functions = (global_names globals ++ extern_names externs) ++ function_names functions
 
 abbrev pub names_of_globals : List GlobalVar → List (List ℕ)
 names_of_globals globals = map (λ g. g.name) globals
@@ -37,37 +38,29 @@ names_of_globals globals = map (λ g. g.name) globals
 abbrev pub names_of_externs : List Extern → List (List ℕ)
 names_of_externs externs = map (λ e. e.name) externs
 
-pub top_names_are : (globals : List GlobalVar) (externs : List Extern) (functions : List Function) → names_in (top globals externs functions) ≡ names_of_globals globals ++ (names_of_externs externs ++ numbers.function_names functions)
-top_names_are globals externs functions =
-    map-append (λ (n : Named). n.name) (global_names globals ++ extern_names externs) (function_names functions)
-    ∙ ap₂ (λ xs ys. xs ++ ys)
-    (map-append (λ (n : Named). n.name) (global_names globals) (extern_names externs)
-    ∙ ap₂ (λ xs ys. xs ++ ys) (numbered_names _ (λ g. g.name) (λ _ _. refl) 0 globals) (numbered_names _ (λ e. e.name) (λ _ _. refl) 0 externs))
-    (numbered_names _ (λ f. f.name) (λ _ _. refl) 0 functions)
-    ∙ append_assoc (names_of_globals globals) (names_of_externs externs) (numbers.function_names functions)
-
 apart_sym : (xs ys : List (List ℕ)) → Apart xs ys → Apart ys xs
-apart_sym xs ys a q h = not_true _ (λ t. not_false _ (a q t) h)
+apart_sym xs ys a q h t = a q t h
 
 -- names that the table of external functions has, and names that it has not
 abbrev AreFree : List (List ℕ) → Type 0
-AreFree xs = (q : List ℕ) → is_among xs q ≡ true → call_of q ≡ None
+AreFree xs = (q : List ℕ) → IsAmong xs q → call_of q ≡ None
 
 abbrev AreTaken : List (List ℕ) → Type 0
-AreTaken xs = (q : List ℕ) → is_among xs q ≡ true → is_some (call_of q) ≡ true
+AreTaken xs = (q : List ℕ) → IsAmong xs q → is_some (call_of q) ≡ true
 
 free_apart : (xs ys : List (List ℕ)) → AreFree xs → AreTaken ys → Apart xs ys
-free_apart xs ys free taken q h = not_true _ (λ t. let a = free q h in let b = taken q t in let c : is_some (call_of q) ≡ false = ap is_some a in cc)
+free_apart xs ys free taken q h t = let a = free q h in let b = taken q t in let c : is_some (call_of q) ≡ false = ap is_some a in cc
 
-added_differ : (a b c : Bool) → Differ (names_of_externs (cond a (clwb_extern ∷ []) [] ++ (cond b (sfence_extern ∷ []) [] ++ cond c (pmem_flush_extern ∷ []) [])))
-added_differ true true true = (refl, (refl, (refl, tt)))
-added_differ true true false = (refl, (refl, tt))
-added_differ true false true = (refl, (refl, tt))
-added_differ true false false = (refl, tt)
-added_differ false true true = (refl, (refl, tt))
-added_differ false true false = (refl, tt)
-added_differ false false true = (refl, tt)
-added_differ false false false = tt
+added_distinct : (a b c : Bool) → IsDistinct bytes_eq (names_of_externs (cond a (clwb_extern ∷ []) [] ++ (cond b (sfence_extern ∷ []) [] ++ cond c (pmem_flush_extern ∷ []) [])))
+unfolding IsDistinct
+added_distinct true true true = ((refl, (refl, tt)), ((refl, tt), (tt, tt)))
+added_distinct true true false = ((refl, tt), (tt, tt))
+added_distinct true false true = ((refl, tt), (tt, tt))
+added_distinct true false false = (tt, tt)
+added_distinct false true true = ((refl, tt), (tt, tt))
+added_distinct false true false = (tt, tt)
+added_distinct false false true = (tt, tt)
+added_distinct false false false = tt
 
 module _ (P : Program) (plan : Plan) (skip : Site → Bool) (sound : Passes P) where
   good : IsCallable P
@@ -101,21 +94,21 @@ module _ (P : Program) (plan : Plan) (skip : Site → Bool) (sound : Passes P) w
   globals_free : AreFree G
   globals_free q h =
       let at = among_at (λ (g : GlobalVar). g.name) P.globals q h in
-      ap call_of at.3 ∙ none_of at.1.name (each_at _ P.globals at.0 at.1 sound.externs.0 at.2)
+      ap call_of at.3 ∙ none_of at.1.name (holds-at _ P.globals at.0 at.1 sound.externs.0 at.2)
 
   functions_free : AreFree F
   functions_free q h =
       let at = among_at (λ (f : Function). f.name) P.functions q h in
-      ap call_of at.3 ∙ none_of at.1.name (each_at free_function P.functions at.0 at.1 sound.externs.1.1 at.2)
+      ap call_of at.3 ∙ none_of at.1.name (holds-at free_function P.functions at.0 at.1 sound.externs.1.1 at.2)
 
-  fresh_at : (q : List ℕ) → is_among N q ≡ true → (k : ℕ) × (slice_get N k ≡ Some q)
-  fresh_at q h = let found = any_found (bytes_eq q) N h in (found.0, found.2 ∙ ap Some (sym ((bytes_eq-Decides q found.1).0 found.3)))
+  fresh_at : (q : List ℕ) → IsAmong N q → (k : ℕ) × (slice_get N k ≡ Some q)
+  fresh_at q h = let found = any_found (bytes_eq q) N (among-whole N q h) in (found.0, found.2 ∙ ap Some (sym ((bytes_eq-Decides q found.1).0 found.3)))
 
   fresh_free : AreFree N
   fresh_free q h = let at = fresh_at q h in fresh_extern P plan skip at.0 q at.1
 
   fresh_not_taken : Apart N (names_taken P)
-  fresh_not_taken q h = let at = fresh_at q h in fresh_for-free (names_taken P) (map (name_of P) (cloned P plan)) at.0 q at.1
+  fresh_not_taken q h t = let at = fresh_at q h in both_ways _ (fresh_for-free (names_taken P) (map (name_of P) (cloned P plan)) at.0 q at.1) (among-whole (names_taken P) q t)
 
   added_taken : AreTaken A
   added_taken q h =
@@ -123,39 +116,36 @@ module _ (P : Program) (plan : Plan) (skip : Site → Bool) (sound : Passes P) w
       ap (λ n. is_some (call_of n)) at.3 ∙ added_passes (λ e. is_some (call_of e.name)) refl refl refl at.1 (added_at P plan (wanted_by plan skip) at.0 at.1 at.2).0
 
   added_apart : Apart A E
-  added_apart q h =
+  added_apart q h t =
       let at = among_at (λ (e : Extern). e.name) added q h in
-      ap (is_among E) at.3 ∙ (added_at P plan (wanted_by plan skip) at.0 at.1 at.2).1
+      both_ways (is_among E q) (ap (is_among E) at.3 ∙ (added_at P plan (wanted_by plan skip) at.0 at.1 at.2).1) (among-whole E q t)
 
-  differ_before : Differ (G ++ (E ++ F))
-  differ_before = subst Differ (top_names_are P.globals P.externs P.functions) (holds_all_differ (top P.globals P.externs P.functions) sound.names)
+  differ_before : AllDiffer (G ++ (E ++ F))
+  differ_before = names-sound P sound.names
 
-  fresh_apart_from : (xs : List (List ℕ)) → ((q : List ℕ) → is_among xs q ≡ true → is_among (names_taken P) q ≡ true) → Apart xs N
-  fresh_apart_from xs there q h = not_true _ (λ t. not_false _ (fresh_not_taken q t) (there q h))
+  fresh_apart_from : (xs : List (List ℕ)) → ((q : List ℕ) → IsAmong xs q → IsAmong (names_taken P) q) → Apart xs N
+  fresh_apart_from xs there q h t = fresh_not_taken q t (there q h)
 
-  differ_after_repair : Differ (G ++ ((E ++ A) ++ (F ++ N)))
+  differ_after_repair : AllDiffer (G ++ ((E ++ A) ++ (F ++ N)))
   differ_after_repair =
       let rest = differ_second G (E ++ F) differ_before in
       let fromG = differ_apart G (E ++ F) differ_before in
-      let GE : Apart G E = λ q h. not_true _ (λ t. not_false _ (fromG q h) (any_front (bytes_eq q) E F t)) in
-      let GF : Apart G F = λ q h. not_true _ (λ t. not_false _ (fromG q h) (any_back (bytes_eq q) E F t)) in
-      let GN : Apart G N = fresh_apart_from G (λ q h. any_front (bytes_eq q) G (E ++ F) h) in
-      let EN : Apart E N = fresh_apart_from E (λ q h. any_back (bytes_eq q) G (E ++ F) (any_front (bytes_eq q) E F h)) in
-      let FN : Apart F N = fresh_apart_from F (λ q h. any_back (bytes_eq q) G (E ++ F) (any_back (bytes_eq q) E F h)) in
+      let GE : Apart G E = λ q h t. fromG q h (among-left E F q t) in
+      let GF : Apart G F = λ q h t. fromG q h (among-right E F q t) in
+      let GN : Apart G N = fresh_apart_from G (λ q h. among-left G (E ++ F) q h) in
+      let EN : Apart E N = fresh_apart_from E (λ q h. among-right G (E ++ F) q (among-left E F q h)) in
+      let FN : Apart F N = fresh_apart_from F (λ q h. among-right G (E ++ F) q (among-right E F q h)) in
       differ_append G ((E ++ A) ++ (F ++ N)) (differ_first G (E ++ F) differ_before)
       (differ_append (E ++ A) (F ++ N)
-      (differ_append E A (differ_first E F rest) (added_differ _ _ _) (apart_sym A E added_apart))
+      (differ_append E A (differ_first E F rest) (differ_distinct _ (added_distinct _ _ _)) (apart_sym A E added_apart))
       (differ_append F N (differ_second E F rest) (differ_distinct N (fresh_for-distinct (names_taken P) (map (name_of P) (cloned P plan)))) FN)
       (append_apart E A (F ++ N) (apart_append E F N (differ_apart E F rest) EN) (apart_append A F N (apart_sym F A (free_apart F A functions_free added_taken)) (apart_sym N A (free_apart N A fresh_free added_taken)))))
       (apart_append G (E ++ A) (F ++ N) (apart_append G E A GE (free_apart G A globals_free added_taken)) (apart_append G F N GF GN))
 
   pub names_again : (names_check (repaired P plan skip)).Holds
   names_again =
-      all_differ_holds (top P.globals (P.externs ++ added) (repaired P plan skip).functions)
-      (subst Differ
-      (sym (top_names_are P.globals (P.externs ++ added) (repaired P plan skip).functions
-      ∙ ap (λ xs. G ++ xs) (ap₂ (λ xs ys. xs ++ ys) (map-append (λ (e : Extern). e.name) P.externs added) (names_then P plan skip))))
-      differ_after_repair)
+      names-whole (repaired P plan skip)
+      (subst AllDiffer (sym (ap (λ xs. G ++ xs) (ap₂ (λ xs ys. xs ++ ys) (map-append (λ (e : Extern). e.name) P.externs added) (names_then P plan skip)))) differ_after_repair)
 
   -- ---- declarations
 
@@ -164,16 +154,16 @@ module _ (P : Program) (plan : Plan) (skip : Site → Bool) (sound : Passes P) w
     where
       named : (b : Bool) → o.clone ≡ b → is_none (call_of o.name) ≡ true
       named true e = let high = o.high e in ap is_none (fresh_extern P plan skip high.0 o.name high.3)
-      named false e = ap (λ n. is_none (call_of n)) (o.plain e).1 ∙ each_at free_function P.functions o.f o.fn sound.externs.1.1 o.at
+      named false e = ap (λ n. is_none (call_of n)) (o.plain e).1 ∙ holds-at free_function P.functions o.f o.fn sound.externs.1.1 o.at
 
   pub externs_again : (externs_check (repaired P plan skip)).Holds
   externs_again = (
     sound.externs.0,
     (
-      each_make declared (P.externs ++ added)
-          (λ k e h. ⊎_elim (λ first. each_at declared P.externs k e sound.externs.1.0 first)
+      holds-made declared (P.externs ++ added)
+          (λ k e h. ⊎_elim (λ first. holds-at declared P.externs k e sound.externs.1.0 first)
           (λ more. added_passes (λ x. is_of x (known_signature x.name)) refl refl refl e (added_at P plan (wanted_by plan skip) more.0 e more.1).0) (in_append P.externs added k e h)),
-      each_make free_function (repaired P plan skip).functions (λ f' fn' e. function_free f' fn' (origin P plan skip f' fn' e)),
+      holds-made free_function (repaired P plan skip).functions (λ f' fn' e. function_free f' fn' (origin P plan skip f' fn' e)),
     ),
   )
 

@@ -1,7 +1,9 @@
 -- The inserted instructions meet the rules of their places, since the stores that they stand behind do.
 use Rattle.std.proofs.Common.{◌≡◌, ◌⊎◌, inl, inr, ℕ, Bool, true, false, cond, ◌&&◌, List, [], ◌∷◌, ◌++◌, All, Option, None, is_some, refl, sym, ap, ◌∙◌, subst}
-use Rattle.std.specs.List.{list_all, AllByRecursion}
-use Rattle.std.proofs.lemmas.List.Elements.{All-nil, All-from_recursion, recursion_from_All}
+use Rattle.std.specs.List.{list_all}
+use Rattle.std.proofs.lemmas.List.Elements.{All-nil}
+use Rattle.std.proofs.lemmas.Bool.{and_from, and_parts}
+use Rattle.std.proofs.lemmas.List.Folds.{list_all-append}
 use Rattle.hip_types.specs.Layout.{Fits}
 use Rattle.hip_types.specs.Numbers.{bits}
 use Rattle.hip_types.specs.declared.number.Bits.{Bits}
@@ -23,11 +25,9 @@ use Rattle.hip_typing.specs.Externs.{known_signature}
 use Rattle.hip_typing.specs.Names.{is_among}
 use Rattle.hip_typing.specs.Places.{Scope, global_names, callee_of, uses_known, use_agrees, uses_agree, signature_agrees, instr_check}
 use Rattle.hip_typing.specs.Registers.{Use, uses, find_register, used_registers, used_globals, used_types}
-use Rattle.hip_typing.specs.UseLaws.{all-append}
+use Rattle.hip_typing.specs.AssignedExact.{all-back}
 use Rattle.hip_typing.specs.declared.fault.Place.{Place}
 use Rattle.hip_fix.specs.Repaired.{clwb_name, sfence_name, pmem_flush_name, is_wide, line_flush, range_flush, flush_of, the_fence, is_call_of}
-use Rattle.hip_fix.proofs.Callable.{both_hold}
-use Rattle.hip_fix.proofs.Items.{both_true}
 
 -- ---- the constant of a range's size
 
@@ -42,13 +42,6 @@ const_shape n = ap (λ c. has_shape c (types.Int W64)) (sym (rolls-Int (bits W64
 
 -- ---- uses without the first
 
-all_second : {A : Type 0} (P : A → Type 0) (xs ys : List A) → All P (xs ++ ys) → All P ys
-all_second {A} P xs ys h = All-from_recursion P ys (go xs (recursion_from_All P (xs ++ ys) h))
-  where
-    go : (xs : List A) → AllByRecursion P (xs ++ ys) → AllByRecursion P ys
-    go [] h = h
-    go (x ∷ xs) h = go xs h.1
-
 abbrev registered : Scope → List Use → Bool
 registered s us = list_all (λ n. is_some (find_register s.registers n)) (used_registers us)
 
@@ -57,16 +50,16 @@ among_globals s names = list_all (is_among (global_names s)) names
 
 known_second : (s : Scope) (value addr : Operand) (ty : Scalar) → uses_known s (uses value ty ∷ uses addr Ptr ∷ []) ≡ true → uses_known s (uses addr Ptr ∷ []) ≡ true
 known_second s (Reg v) addr ty h =
-    let both = both_hold (is_some (find_register s.registers v) && registered s (uses addr Ptr ∷ [])) (among_globals s (used_globals (uses addr Ptr ∷ []))) h in
-    both_true (registered s (uses addr Ptr ∷ [])) _ (both_hold (is_some (find_register s.registers v)) _ both.0).1 both.1
+    let both = and_parts (is_some (find_register s.registers v) && registered s (uses addr Ptr ∷ [])) (among_globals s (used_globals (uses addr Ptr ∷ []))) h in
+    and_from (registered s (uses addr Ptr ∷ [])) _ (and_parts (is_some (find_register s.registers v)) _ both.0).1 both.1
 known_second s (Fixed v) addr ty h =
-    let both = both_hold (registered s (uses addr Ptr ∷ [])) (among_globals s (names_in v ++ used_globals (uses addr Ptr ∷ []))) h in
-    both_true (registered s (uses addr Ptr ∷ [])) _ both.0
-    (both_hold (among_globals s (names_in v)) (among_globals s (used_globals (uses addr Ptr ∷ []))) (sym (all-append (is_among (global_names s)) (names_in v) (used_globals (uses addr Ptr ∷ []))) ∙ both.1)).1
+    let both = and_parts (registered s (uses addr Ptr ∷ [])) (among_globals s (names_in v ++ used_globals (uses addr Ptr ∷ []))) h in
+    and_from (registered s (uses addr Ptr ∷ [])) _ both.0
+    (and_parts (among_globals s (names_in v)) (among_globals s (used_globals (uses addr Ptr ∷ []))) (sym (list_all-append (is_among (global_names s)) (names_in v) (used_globals (uses addr Ptr ∷ []))) ∙ both.1)).1
 
 types_second : (value addr : Operand) (ty : Scalar) → All Fits (used_types (uses value ty ∷ uses addr Ptr ∷ [])) → All Fits (used_types (uses addr Ptr ∷ []))
 types_second (Reg v) addr ty h = h
-types_second (Fixed v) addr ty h = all_second Fits (types_in v) (used_types (uses addr Ptr ∷ [])) h
+types_second (Fixed v) addr ty h = all-back Fits (types_in v) (used_types (uses addr Ptr ∷ [])) h
 
 -- ---- with the size behind them
 
@@ -83,7 +76,7 @@ module _ (n : ℕ) where
   types_sized (Fixed v) = ap (λ ts. types_in v ++ (ts ++ [])) (const_types (bits W64 n))
 
   agrees_sized : (s : Scope) (addr : Operand) → uses_agree s (uses addr Ptr ∷ []) ≡ true → uses_agree s (uses addr Ptr ∷ size_use ∷ []) ≡ true
-  agrees_sized s addr h = both_true _ _ (both_hold _ _ h).0 (both_true _ _ (const_shape n) refl)
+  agrees_sized s addr h = and_from _ _ (and_parts _ _ h).0 (and_from _ _ (const_shape n) refl)
 
 -- ---- the rules of an inserted instruction
 
@@ -93,21 +86,21 @@ module _ (s : Scope) (place place' : Place) where
 
   line_check : (value addr : Operand) (ty : Scalar) (align : Option ℕ) → callee_of s.program clwb_name ≡ known_signature clwb_name → (instr_check s (Store ty value addr align) place').Holds → (instr_check s (line_flush addr) place).Holds
   line_check value addr ty align e h = (
-    both_true (uses_known s (uses addr Ptr ∷ [])) _ (known_second s value addr ty (both_hold (uses_known s (uses value ty ∷ uses addr Ptr ∷ [])) true h.0).0) (ap is_some e),
+    and_from (uses_known s (uses addr Ptr ∷ [])) _ (known_second s value addr ty (and_parts (uses_known s (uses value ty ∷ uses addr Ptr ∷ [])) true h.0).0) (ap is_some e),
     (
       types_second value addr ty h.1.0,
-      both_true (uses_agree s (uses addr Ptr ∷ [])) _ (both_hold (use_agrees s.registers value ty) _ (both_hold (uses_agree s (uses value ty ∷ uses addr Ptr ∷ [])) true h.1.1).0).1
+      and_from (uses_agree s (uses addr Ptr ∷ [])) _ (and_parts (use_agrees s.registers value ty) _ (and_parts (uses_agree s (uses value ty ∷ uses addr Ptr ∷ [])) true h.1.1).0).1
           (ap (λ o. signature_agrees None (record { ty = Ptr; value = addr } ∷ []) o && true) e),
     ),
   )
 
   range_check : (value addr : Operand) (ty : Scalar) (align : Option ℕ) (n : ℕ) → callee_of s.program pmem_flush_name ≡ known_signature pmem_flush_name → (instr_check s (Store ty value addr align) place').Holds → (instr_check s (range_flush addr n) place).Holds
   range_check value addr ty align n e h = (
-    both_true (uses_known s (uses addr Ptr ∷ size_use n ∷ [])) _ (known_sized n s addr ∙ known_second s value addr ty (both_hold (uses_known s (uses value ty ∷ uses addr Ptr ∷ [])) true h.0).0) (ap is_some e),
+    and_from (uses_known s (uses addr Ptr ∷ size_use n ∷ [])) _ (known_sized n s addr ∙ known_second s value addr ty (and_parts (uses_known s (uses value ty ∷ uses addr Ptr ∷ [])) true h.0).0) (ap is_some e),
     (
       subst (All Fits) (sym (types_sized n addr)) (types_second value addr ty h.1.0),
-      both_true (uses_agree s (uses addr Ptr ∷ size_use n ∷ [])) _
-          (agrees_sized n s addr (both_hold (use_agrees s.registers value ty) _ (both_hold (uses_agree s (uses value ty ∷ uses addr Ptr ∷ [])) true h.1.1).0).1)
+      and_from (uses_agree s (uses addr Ptr ∷ size_use n ∷ [])) _
+          (agrees_sized n s addr (and_parts (use_agrees s.registers value ty) _ (and_parts (uses_agree s (uses value ty ∷ uses addr Ptr ∷ [])) true h.1.1).0).1)
           (ap (λ o. signature_agrees None (record { ty = Ptr; value = addr } ∷ record { ty = Int W64; value = Fixed (consts.Int (bits W64 n)) } ∷ []) o && true) e),
     ),
   )

@@ -1,35 +1,16 @@
 -- The items of lists by their places, and what is asked of each.
-use Rattle.std.proofs.Common.{◌≡◌, ◌⊎◌, inl, inr, ⊎_elim, ℕ, zero, suc, ◌+◌, Bool, true, false, ◌&&◌, List, [], ◌∷◌, ◌++◌, map, take, Some, slice_get, refl, sym, ap, subst, arith}
+use Rattle.std.proofs.Common.{◌≡◌, ◌⊎◌, inl, inr, ⊎_elim, ℕ, zero, suc, Bool, true, List, [], ◌∷◌, ◌++◌, map, take, Some, slice_get, refl, sym, ap}
 use Rattle.std.specs.List.{list_all}
+use Rattle.std.proofs.lemmas.List.Sums.{AllPass-from_list_all, list_all-from_AllPass}
 use Rattle.std.proofs.lemmas.Option.{same_Some}
-use Rattle.hip_typing.specs.Check.{Check, each, each_from}
-use Rattle.hip_fix.proofs.Callable.{both_hold}
+use Rattle.hip_typing.specs.Decided.{all-at, all-made}
 
-pub both_true : (a b : Bool) → a ≡ true → b ≡ true → (a && b) ≡ true
-both_true true b e f = f
-both_true false b e f = e
-
-each_from_make : {A : Type 0} → (n : ℕ) (check : ℕ → A → Check) (xs : List A) → ((k : ℕ) (x : A) → slice_get xs k ≡ Some x → (check (n + k) x).Holds) → (each_from n check xs).Holds
-each_from_make n check [] h = tt
-each_from_make n check (x ∷ xs) h =
-    let first : n + 0 ≡ n = omega arith in (
-      subst (λ m. (check m x).Holds) first (h 0 x refl),
-      each_from_make (n + 1) check xs (λ k y e. let next : n + suc k ≡ n + 1 + k = omega arith in subst (λ m. (check m y).Holds) next (h (suc k) y e)),
-    )
-
--- a check of each item holds if it holds at each place
-pub each_make : {A : Type 0} → (check : ℕ → A → Check) (xs : List A) → ((k : ℕ) (x : A) → slice_get xs k ≡ Some x → (check k x).Holds) → (each check xs).Holds
-each_make check xs h = each_from_make 0 check xs (λ k x e. let same : k ≡ 0 + k = omega arith in subst (λ m. (check m x).Holds) same (h k x e))
-
--- a test passes at all items if it passes at each place
+-- a test passes at all items if it passes at each place, and then only
 pub all_make : {A : Type 0} (test : A → Bool) (xs : List A) → ((k : ℕ) (x : A) → slice_get xs k ≡ Some x → test x ≡ true) → list_all test xs ≡ true
-all_make test [] h = refl
-all_make test (x ∷ xs) h = both_true (test x) (list_all test xs) (h 0 x refl) (all_make test xs (λ k y e. h (suc k) y e))
+all_make test xs h = list_all-from_AllPass test xs (all-made (λ x. test x ≡ true) xs h)
 
 pub all_at : {A : Type 0} (test : A → Bool) (xs : List A) (k : ℕ) (x : A) → list_all test xs ≡ true → slice_get xs k ≡ Some x → test x ≡ true
-all_at test [] k x h e = cc
-all_at test (y ∷ xs) zero x h e = subst (λ z. test z ≡ true) (same_Some y x e) (both_hold _ _ h).0
-all_at test (y ∷ xs) (suc k) x h e = all_at test xs k x (both_hold (test y) _ h).1 e
+all_at test xs k x h e = all-at (λ x. test x ≡ true) xs k x (AllPass-from_list_all test xs h) e
 
 abbrev IsFront : {A : Type 0} → List A → List A → ℕ → A → Type 0
 IsFront xs ys k v = (slice_get xs k ≡ Some v) × (take k (xs ++ ys) ≡ take k xs)

@@ -1,8 +1,9 @@
 -- The address of a volatile global lies below every base.
-use Rattle.std.proofs.Common.{◌≡◌, ◌⊎◌, ⊎_elim, ℕ, zero, suc, ◌+◌, ◌≤◌, Bool, true, false, ◌&&◌, not, nat_le, List, [], ◌∷◌, ◌++◌, Option, Some, None, option_map, refl, sym, ap, ◌∙◌, subst, arith, leb-true}
+use Rattle.std.proofs.Common.{◌≡◌, ◌⊎◌, ⊎_elim, ℕ, zero, suc, ◌+◌, ◌≤◌, Bool, true, false, ◌&&◌, not, nat_le, List, [], ◌∷◌, Option, Some, None, option_map, refl, sym, ap, ◌∙◌, subst, arith, leb-true}
 use Rattle.std.specs.Prelude.{unwrap_or, if◌then◌else◌}
 use Rattle.std.specs.Str.{bytes_eq}
 use Rattle.std.proofs.lemmas.Slice.Eq.{bytes_eq-Decides}
+use Rattle.std.proofs.lemmas.Bool.{not-true, and_parts, both_ways}
 use Rattle.hip_types.specs.Layout.{shape}
 use Rattle.hip_types.specs.DistinctLaws.{or_first, or_second, either}
 use Rattle.hip_ir.specs.declared.constant.Const.{Const, out-Const, roll-Const, roll-out-Const}
@@ -13,15 +14,16 @@ use Rattle.hip_ir.specs.declared.constant.TypedConst.{TypedConst}
 use Rattle.hip_ir.specs.declared.program.GlobalVar.{GlobalVar}
 use Rattle.hip_ir.specs.declared.program.Program.{Program}
 use Rattle.hip_typing.specs.Addresses.{same, global_start, end_of, start_of, is_persistent, address_in, volatile_start, volatile_end, region_size}
-use Rattle.hip_typing.specs.Names.{is_among, number_of}
-use Rattle.hip_typing.specs.Numbering as numbers
+use Rattle.hip_typing.specs.CheckLaws.{among-sound}
+use Rattle.hip_typing.specs.Names.{AllDiffer, is_among, number_of}
 use Rattle.hip_typing.specs.NumberingLaws.{number_cases}
 use Rattle.hip_typing.specs.Rules.{Passes}
+use Rattle.hip_typing.specs.Sound.{callee_names}
 use Rattle.hip_typing.specs.Values.{Written, global_address, const_value}
+use Rattle.hip_typing.specs.NameLaws.{bytes_eq-sym, names-sound}
 use Rattle.hip_fix.specs.Direct.{is_volatile_global, names_volatile}
-use Rattle.hip_fix.proofs.Callable.{both_hold, flipped}
-use Rattle.hip_fix.proofs.HeadsAgain.{top, names_of_globals, names_of_externs, top_names_are}
-use Rattle.hip_fix.proofs.NamesAgain.{Differ, not_false, differ_first, holds_all_differ}
+use Rattle.hip_fix.proofs.HeadsAgain.{names_of_globals}
+use Rattle.hip_fix.proofs.NamesAgain.{differ_first}
 
 -- ---- what is laid lies before the end
 
@@ -48,18 +50,14 @@ start_before_end at (g ∷ gs) (suc k) e = start_before_end (if same g.persisten
 
 -- ---- a volatile global by its name
 
-flag : (b : Bool) → not b ≡ true → b ≡ false
-flag true e = cc
-flag false e = refl
-
 volatile_among : (gs : List GlobalVar) (name : List ℕ) → is_volatile_global gs name ≡ true → is_among (names_of_globals gs) name ≡ true
 volatile_among [] name e = cc
 volatile_among (g ∷ gs) name e =
-    ⊎_elim (λ h. or_first (bytes_eq name g.name) _ (flipped name g.name ∙ (both_hold (bytes_eq g.name name) _ h).0)) (λ h. or_second (bytes_eq name g.name) _ (volatile_among gs name h))
+    ⊎_elim (λ h. or_first (bytes_eq name g.name) _ (bytes_eq-sym name g.name ∙ (and_parts (bytes_eq g.name name) _ h).0)) (λ h. or_second (bytes_eq name g.name) _ (volatile_among gs name h))
     (either (bytes_eq g.name name && not g.persistent) (is_volatile_global gs name) e)
 
 -- where the names of globals differ, the number of a volatile one's name is its own
-volatile_number : (gs : List GlobalVar) (name : List ℕ) (k : ℕ) → Differ (names_of_globals gs) → is_volatile_global gs name ≡ true → number_of (names_of_globals gs) name ≡ Some k → is_persistent gs k ≡ false
+volatile_number : (gs : List GlobalVar) (name : List ℕ) (k : ℕ) → AllDiffer (names_of_globals gs) → is_volatile_global gs name ≡ true → number_of (names_of_globals gs) name ≡ Some k → is_persistent gs k ≡ false
 volatile_number [] name k d e f = refl
 volatile_number (g ∷ gs) name k d e f = ⊎_elim (λ h. first h.0 h.2) (λ h. later h.0 (volatile_number gs name h.0 d.1) h.1 h.2 h.3) (number_cases g.name (names_of_globals gs) name k f)
   where
@@ -69,24 +67,23 @@ volatile_number (g ∷ gs) name k d e f = ⊎_elim (λ h. first h.0 h.2) (λ h. 
     first : k ≡ 0 → bytes_eq name g.name ≡ true → is_persistent (g ∷ gs) k ≡ false
     first z at =
         subst (λ n. is_persistent (g ∷ gs) n ≡ false) (sym z)
-        (⊎_elim (λ h. flag g.persistent (both_hold (bytes_eq g.name name) _ h).1)
-        (λ h. absurd (not_false _ d.0 (subst (λ n. is_among (names_of_globals gs) n ≡ true) ((bytes_eq-Decides name g.name).0 at) (volatile_among gs name h)))) cases)
+        (⊎_elim (λ h. not-true g.persistent (and_parts (bytes_eq g.name name) _ h).1)
+        (λ h. absurd (d.0 (among-sound (names_of_globals gs) g.name (subst (λ n. is_among (names_of_globals gs) n ≡ true) ((bytes_eq-Decides name g.name).0 at) (volatile_among gs name h))))) cases)
 
     later : (j : ℕ) → (is_volatile_global gs name ≡ true → number_of (names_of_globals gs) name ≡ Some j → is_persistent gs j ≡ false) → bytes_eq name g.name ≡ false → number_of (names_of_globals gs) name ≡ Some j → k ≡ suc j → is_persistent (g ∷ gs) k ≡ false
     later j rest other n s =
         subst (λ m. is_persistent (g ∷ gs) m ≡ false) (sym s)
-        (⊎_elim (λ h. absurd (not_false _ other (flipped name g.name ∙ (both_hold (bytes_eq g.name name) _ h).0))) (λ h. rest h n) cases)
+        (⊎_elim (λ h. absurd (both_ways _ other (bytes_eq-sym name g.name ∙ (and_parts (bytes_eq g.name name) _ h).0))) (λ h. rest h n) cases)
 
 -- ---- addresses in a sound program
 
 module _ (P : Program) (sound : Passes P) where
-  globals_differ : Differ (names_of_globals P.globals)
+  globals_differ : AllDiffer (names_of_globals P.globals)
   globals_differ =
-      differ_first (names_of_globals P.globals) (names_of_externs P.externs ++ numbers.function_names P.functions)
-      (subst Differ (top_names_are P.globals P.externs P.functions) (holds_all_differ (top P.globals P.externs P.functions) sound.names))
+      differ_first (names_of_globals P.globals) (callee_names P) (names-sound P sound.names)
 
   volatile_low : volatile_end P ≤ volatile_start + 16777216
-  volatile_low = leb-true (volatile_end P) (volatile_start + 16777216) (both_hold (nat_le (region_size P) 67108864) _ sound.sizes).1
+  volatile_low = leb-true (volatile_end P) (volatile_start + 16777216) (and_parts (nat_le (region_size P) 67108864) _ sound.sizes).1
 
   -- the address of a volatile global
   named_low : (base : ℕ) (name : List ℕ) → is_volatile_global P.globals name ≡ true → global_address P.globals base name ≤ volatile_start + 16777216

@@ -3,6 +3,7 @@ use Rattle.std.proofs.Common.{◌≡◌, ◌⊎◌, ⊎_elim, ℕ, zero, suc, �
 use Rattle.std.specs.Prelude.{option_and_then, if◌then◌else◌}
 use Rattle.std.specs.List.{list_all, list_any}
 use Rattle.std.proofs.lemmas.Option.{same_Some}
+use Rattle.std.proofs.lemmas.Bool.{and_from, and_parts}
 use Rattle.hip_types.specs.DistinctLaws.{either}
 use Rattle.hip_types.specs.declared.number.Scalar.{Scalar}
 use Rattle.hip_ir.specs.Sites.{has_site}
@@ -24,16 +25,15 @@ use Rattle.hip_typing.specs.Registers.{Use, registers_of, parameter_registers, f
 use Rattle.hip_typing.specs.Rules.{Passes, block_check, places_check}
 use Rattle.hip_typing.specs.declared.fault.Place.{Place}
 use Rattle.hip_typing.specs.declared.fault.Place.TheVariants as places
+use Rattle.hip_typing.specs.Decided.{holds-at, holds-made}
 use Rattle.hip_step.specs.Places.{body_of, blocks_in}
 use Rattle.hip_fix.specs.declared.plan.Plan.{Plan}
 use Rattle.hip_fix.specs.Repaired.{Clone, Wanted, wanted_by, clwb_name, sfence_name, pmem_flush_name, clones_of, cloned, renamed, is_call_of, needs, repaired, repaired_block, repaired_blocks, repaired_function}
 use Rattle.hip_fix.proofs.Bodies.{IsOriginal, IsInserted, in_body, inserted_kind, site_at, repaired_instrs, same_blocks_registers}
-use Rattle.hip_fix.proofs.Callable.{both_hold, each_at}
 use Rattle.hip_fix.proofs.CalleesAgain.{callee_again}
 use Rattle.hip_fix.proofs.Clones.{called_there, closed_there, has_at, in_has}
 use Rattle.hip_step.specs.Parts.{In}
 use Rattle.hip_fix.proofs.InsertedAgain.{fence_check, flush_check}
-use Rattle.hip_fix.proofs.Items.{both_true, each_make}
 use Rattle.hip_fix.proofs.Needed.{inserted_needed, clwb_callee, sfence_callee, pmem_flush_callee}
 use Rattle.hip_fix.proofs.Origins.{Origin, origin}
 
@@ -98,15 +98,15 @@ module _ (P : Program) (plan : Plan) (skip : Site → Bool) (sound : Passes P) w
         let edges = map (λ e. e.label) p.edges in
         let before = predecessors o.fn.blocks label in
         let same = same_predecessors clones w o.clone o.f 0 o.fn.blocks label in
-        let named = both_hold (are_among edges before) _ h.1.1.1 in
-        let more = both_hold (are_among before edges) _ named.1 in (
+        let named = and_parts (are_among edges before) _ h.1.1.1 in
+        let more = and_parts (are_among before edges) _ named.1 in (
           ap₂ (λ a b. a && b) (known_again (phi_uses p)) (labels_again (map (λ e. e.label) p.edges)) ∙ h.0,
           (
             h.1.0,
             (
               agree_again (phi_uses p) ∙ h.1.1.0,
-              both_true (are_among edges (predecessors R.blocks label)) _ (ap (λ ls. are_among edges ls) same ∙ named.0)
-                  (both_true (are_among (predecessors R.blocks label) edges) _ (ap (λ ls. are_among ls edges) same ∙ more.0) more.1),
+              and_from (are_among edges (predecessors R.blocks label)) _ (ap (λ ls. are_among edges ls) same ∙ named.0)
+                  (and_from (are_among (predecessors R.blocks label) edges) _ (ap (λ ls. are_among ls edges) same ∙ more.0) more.1),
             ),
           ),
         )
@@ -154,7 +154,7 @@ module _ (P : Program) (plan : Plan) (skip : Site → Bool) (sound : Passes P) w
         (instr_check s' (renamed clones i (o.clone || has_site plan.hoist (record { function = o.f; block = b; index = j }))) place').Holds
     renamed_again b j block (Call dest ret callee args) place place' e c h =
         call_kept dest ret callee _ args place place'
-        (callee_again P plan skip sound callee (o.clone || has_site plan.hoist (record { function = o.f; block = b; index = j })) (call_cloned b j block dest ret callee args e c) (both_hold (uses_known s (arg_uses args)) _ h.0).1) h
+        (callee_again P plan skip sound callee (o.clone || has_site plan.hoist (record { function = o.f; block = b; index = j })) (call_cloned b j block dest ret callee args e c) (and_parts (uses_known s (arg_uses args)) _ h.0).1) h
     renamed_again b j block i place place' e c h = instr_kept i place place' refl refl h
 
     -- an inserted instruction
@@ -190,13 +190,13 @@ module _ (P : Program) (plan : Plan) (skip : Site → Bool) (sound : Passes P) w
 
     block_again : (b b' : ℕ) (block : Block) → slice_get o.fn.blocks b ≡ Some block → (block_check s o.f b block).Holds → (block_check s' f' b' (repaired_block clones w o.clone o.f b block)).Holds
     block_again b b' block there h = (
-      each_make (λ i p. phi_check s' block.label p (places.Phi (record { function = f'; block = b'; index = i }))) block.phis
+      holds-made (λ i p. phi_check s' block.label p (places.Phi (record { function = f'; block = b'; index = i }))) block.phis
           (λ i p e. phi_again block.label p (places.Phi (record { function = o.f; block = b; index = i })) (places.Phi (record { function = f'; block = b'; index = i }))
-          (each_at (λ i p. phi_check s block.label p (places.Phi (record { function = o.f; block = b; index = i }))) block.phis i p h.0 e)),
+          (holds-at (λ i p. phi_check s block.label p (places.Phi (record { function = o.f; block = b; index = i }))) block.phis i p h.0 e)),
       (
-        each_make (λ i instr. instr_check s' instr (places.Body (record { function = f'; block = b'; index = i }))) (repaired_instrs clones w o.clone o.f b 0 block.body)
+        holds-made (λ i instr. instr_check s' instr (places.Body (record { function = f'; block = b'; index = i }))) (repaired_instrs clones w o.clone o.f b 0 block.body)
             (λ k i' e. body_again b block there (λ j. places.Body (record { function = o.f; block = b; index = j })) (places.Body (record { function = f'; block = b'; index = k }))
-            (λ j i c. each_at (λ i instr. instr_check s instr (places.Body (record { function = o.f; block = b; index = i }))) block.body j i h.1.0 c) k i' e),
+            (λ j i c. holds-at (λ i instr. instr_check s instr (places.Body (record { function = o.f; block = b; index = i }))) block.body j i h.1.0 c) k i' e),
         end_again block.end (places.End o.f b) (places.End f' b') h.1.1,
       ),
     )
@@ -204,12 +204,12 @@ module _ (P : Program) (plan : Plan) (skip : Site → Bool) (sound : Passes P) w
     blocks_again : (each (block_check (scope_of Q fn') f') fn'.blocks).Holds
     blocks_again =
         subst (λ fn. (each (block_check (scope_of Q fn) f') fn.blocks).Holds) (sym o.is)
-        (each_make (block_check s' f') R.blocks
+        (holds-made (block_check s' f') R.blocks
         (λ b block' e.
         let at = block_there clones w o.clone o.f 0 o.fn.blocks b block' e in
         let here : 0 + b ≡ b = omega arith in
-        let before = each_at (block_check s o.f) o.fn.blocks b at.0 (each_at (λ f fn. each (block_check (scope_of P fn) f) fn.blocks) P.functions o.f o.fn sound.places o.at) at.1 in
+        let before = holds-at (block_check s o.f) o.fn.blocks b at.0 (holds-at (λ f fn. each (block_check (scope_of P fn) f) fn.blocks) P.functions o.f o.fn sound.places o.at) at.1 in
         subst (λ x. (block_check s' f' b x).Holds) (sym (at.2 ∙ ap (λ n. repaired_block clones w o.clone o.f n at.0) here)) (block_again b b at.0 at.1 before)))
 
   pub places_again : (places_check (repaired P plan skip)).Holds
-  places_again = each_make (λ f fn. each (block_check (scope_of Q fn) f) fn.blocks) Q.functions (λ f' fn' e. blocks_again f' fn' (origin P plan skip f' fn' e))
+  places_again = holds-made (λ f fn. each (block_check (scope_of Q fn) f) fn.blocks) Q.functions (λ f' fn' e. blocks_again f' fn' (origin P plan skip f' fn' e))

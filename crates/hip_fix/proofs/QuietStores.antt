@@ -1,5 +1,6 @@
 -- The stores whose address is a register assigned by `alloca`, or a volatile global itself, never lie in the region.
 use Rattle.std.proofs.Common.{◌≡◌, ℕ, zero, suc, ◌%◌, ◌<◌, Bool, true, false, cond, nat_le, nat_eq, List, [], ◌∷◌, length, drop, Option, Some, None, slice_get, refl, sym, ap, ◌∙◌, subst, arith, leb-true}
+use Rattle.std.proofs.lemmas.Bool.{and_parts, both_ways, false_from_ne_true}
 use Rattle.hip_ir.specs.Sites.{instr_of}
 use Rattle.hip_ir.specs.declared.instr.Instr.{Instr}
 use Rattle.hip_ir.specs.declared.instr.Instr.TheVariants.{Binary, Compare, Select, Cast, Alloca, Load, Store, Gep, Call}
@@ -23,8 +24,6 @@ use Rattle.hip_step.specs.Validity.{IsValid}
 use Rattle.hip_fix.specs.Direct.{is_outside, stores_outside, direct}
 use Rattle.hip_fix.specs.Quiet.{stores_in_region, IsQuiet}
 use Rattle.hip_fix.proofs.Blocks.{get_drop}
-use Rattle.hip_fix.proofs.Callable.{both_hold}
-use Rattle.hip_fix.proofs.NamesAgain.{not_true, not_false}
 use Rattle.hip_fix.proofs.OutsideAddresses.{constant_low}
 use Rattle.hip_fix.proofs.Sim.{instr_at_place}
 use Rattle.hip_fix.proofs.StackRegisters.{AreLow, Avoids, low_beside, low_allocated, Suits, suits_deed}
@@ -104,7 +103,7 @@ module _ (P : Program) (sound : Passes P) (I : Input) where
     outside_low f (Fixed c) low e = omega (arith, constant_low P sound I.base c e, valid.base.low)
 
     below_region : (a n : ℕ) → a < I.base → in_region I a n ≡ false
-    below_region a n h = not_true _ (λ t. let from = leb-true I.base a (both_hold (nat_le I.base a) _ t).0 in omega (arith, from, h))
+    below_region a n h = false_from_ne_true _ (λ t. let from = leb-true I.base a (and_parts (nat_le I.base a) _ t).0 in omega (arith, from, h))
 
     store_quiet : (fs : List Frame) (a : ℕ) (bytes : List ℕ) → a < I.base → ¬ stores_in_region (event_of I fs (Stores a bytes))
     store_quiet fs a bytes h = go (in_region I a (length bytes)) (below_region a (length bytes) h)
@@ -143,7 +142,7 @@ module _ (P : Program) (sound : Passes P) (I : Input) where
         ¬ stores_in_region (event_at I w fs (deed_of P I w (length fs) f (end_at P f) code))
     code_quiet w f fs [] e low at =
         let none : instr_of P (site_of f) ≡ None = instr_at_place P f.function f.block f.place ∙ get_end (body_at P f.function f.block) f.place e in
-        absurd (not_false _ (ap (stores_outside P (blocks_of P f.function)) none) at)
+        absurd (both_ways _ (ap (stores_outside P (blocks_of P f.function)) none) at)
     code_quiet w f fs (i ∷ rest) e low at = go (is_cut I w (deed_of P I w (length fs) f (end_at P f) (i ∷ rest)))
       where
         there : instr_of P (site_of f) ≡ Some i

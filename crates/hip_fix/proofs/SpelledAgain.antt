@@ -3,6 +3,7 @@ use Rattle.std.proofs.Common.{◌≡◌, ⊎_elim, ℕ, suc, ◌+◌, Bool, true
 use Rattle.std.specs.List.{list_all}
 use Rattle.std.specs.Str.{bytes_eq}
 use Rattle.std.proofs.lemmas.List.Folds.{list_all-append}
+use Rattle.std.proofs.lemmas.Bool.{and_from, and_parts}
 use Rattle.hip_tokens.specs.Longest.{is_name}
 use Rattle.hip_types.specs.Numbers.{bits}
 use Rattle.hip_types.specs.declared.number.Scalar.{Scalar}
@@ -26,10 +27,9 @@ use Rattle.hip_step.specs.Operands.{scalar_size}
 use Rattle.hip_fix.specs.declared.plan.Plan.{Plan}
 use Rattle.hip_fix.specs.Repaired.{Clone, Wanted, wanted_by, clone_name, clones_from, clones_of, cloned, renamed, is_wide, line_flush, range_flush, flush_of, added_externs, repaired, repaired_block, repaired_blocks, repaired_function}
 use Rattle.hip_fix.proofs.Bodies.{IsFlushOf, IsOriginal, IsInserted, in_body, inserted_kind, site_at, repaired_instrs}
-use Rattle.hip_fix.proofs.Callable.{both_hold}
 use Rattle.hip_fix.proofs.Clones.{fresh, cloned_is_there}
 use Rattle.hip_fix.proofs.Declarations.{added_passes, added_at}
-use Rattle.hip_fix.proofs.Items.{both_true, all_make, all_at, map_at}
+use Rattle.hip_fix.proofs.Items.{all_make, all_at, map_at}
 use Rattle.hip_fix.proofs.Origins.{Origin, origin}
 
 -- ---- inserted instructions
@@ -41,17 +41,17 @@ flush_spelled : (ty : Scalar) (addr : Operand) (align : Option ℕ) → spelled_
 flush_spelled ty addr align e = by_width (is_wide ty align)
   where
     by_width : (b : Bool) → spelled_instr (cond b (range_flush addr (scalar_size ty)) (line_flush addr)) ≡ true
-    by_width true = both_true _ _ e (both_true _ _ (size_spelled (scalar_size ty)) refl)
-    by_width false = both_true _ _ e refl
+    by_width true = and_from _ _ e (and_from _ _ (size_spelled (scalar_size ty)) refl)
+    by_width false = and_from _ _ e refl
 
 store_addr : (ty : Scalar) (value addr : Operand) (align : Option ℕ) → spelled_instr (Store ty value addr align) ≡ true → spelled_operand Ptr addr ≡ true
-store_addr ty value addr align e = (both_hold (spelled_operand Ptr addr) _ (both_hold (spelled_operand ty value) _ e).1).0
+store_addr ty value addr align e = (and_parts (spelled_operand Ptr addr) _ (and_parts (spelled_operand ty value) _ e).1).0
 
 -- ---- calls
 
 clone_named : (clones : List Clone) (callee : List ℕ) → list_all (λ c. is_name c.name) clones ≡ true → is_name callee ≡ true → is_name (clone_name clones callee) ≡ true
 clone_named [] callee named e = e
-clone_named (c ∷ cs) callee named e = by_first (bytes_eq c.original callee) (both_hold _ _ named).0 (clone_named cs callee (both_hold (is_name c.name) _ named).1 e)
+clone_named (c ∷ cs) callee named e = by_first (bytes_eq c.original callee) (and_parts _ _ named).0 (clone_named cs callee (and_parts (is_name c.name) _ named).1 e)
   where
     by_first : (b : Bool) → is_name c.name ≡ true → is_name (clone_name cs callee) ≡ true → is_name (cond b c.name (clone_name cs callee)) ≡ true
     by_first true f g = f
@@ -59,13 +59,13 @@ clone_named (c ∷ cs) callee named e = by_first (bytes_eq c.original callee) (b
 
 renamed_spelled : (clones : List Clone) (i : Instr) (b : Bool) → list_all (λ c. is_name c.name) clones ≡ true → spelled_instr i ≡ true → spelled_instr (renamed clones i b) ≡ true
 renamed_spelled clones (Call dest ret callee args) b named e =
-    let parts = both_hold _ _ e in
-    let more = both_hold _ _ parts.1 in
-    both_true _ _ parts.0 (both_true _ _ (chosen b) more.1)
+    let parts = and_parts _ _ e in
+    let more = and_parts _ _ parts.1 in
+    and_from _ _ parts.0 (and_from _ _ (chosen b) more.1)
   where
     chosen : (b : Bool) → is_name (cond b (clone_name clones callee) callee) ≡ true
-    chosen true = clone_named clones callee named (both_hold _ _ (both_hold _ _ e).1).0
-    chosen false = (both_hold _ _ (both_hold _ _ e).1).0
+    chosen true = clone_named clones callee named (and_parts _ _ (and_parts _ _ e).1).0
+    chosen false = (and_parts _ _ (and_parts _ _ e).1).0
 renamed_spelled clones i b named e = e
 
 -- ---- bodies and blocks
@@ -88,14 +88,14 @@ module _ (clones : List Clone) (w : Wanted) (clone : Bool) (f : ℕ) (named : li
 
   block_spelled : (b : ℕ) (block : Block) → spelled_block block ≡ true → spelled_block (repaired_block clones w clone f b block) ≡ true
   block_spelled b block e =
-      let label = both_hold _ _ e in
-      let phis = both_hold _ _ label.1 in
-      let body = both_hold _ _ phis.1 in
-      both_true _ _ label.0 (both_true _ _ phis.0 (both_true _ _ (body_spelled b block.body body.0) body.1))
+      let label = and_parts _ _ e in
+      let phis = and_parts _ _ label.1 in
+      let body = and_parts _ _ phis.1 in
+      and_from _ _ label.0 (and_from _ _ phis.0 (and_from _ _ (body_spelled b block.body body.0) body.1))
 
   blocks_spelled : (b : ℕ) (blocks : List Block) → list_all spelled_block blocks ≡ true → list_all spelled_block (repaired_blocks clones w clone f b blocks) ≡ true
   blocks_spelled b [] e = refl
-  blocks_spelled b (x ∷ xs) e = let parts = both_hold _ _ e in both_true _ _ (block_spelled b x parts.0) (blocks_spelled (suc b) xs parts.1)
+  blocks_spelled b (x ∷ xs) e = let parts = and_parts _ _ e in and_from _ _ (block_spelled b x parts.0) (blocks_spelled (suc b) xs parts.1)
 
   still_some : (b : ℕ) (blocks : List Block) → not_empty blocks ≡ true → not_empty (repaired_blocks clones w clone f b blocks) ≡ true
   still_some b [] e = e
@@ -103,18 +103,18 @@ module _ (clones : List Clone) (w : Wanted) (clone : Bool) (f : ℕ) (named : li
 
   function_spelled : (name : List ℕ) (fn : Function) → is_name name ≡ true → spelled_function fn ≡ true → spelled_function (repaired_function clones w clone f name fn) ≡ true
   function_spelled name fn n e =
-      let params = both_hold _ _ (both_hold (is_name fn.name) _ e).1 in
-      let blocks = both_hold _ _ params.1 in
-      both_true _ _ n (both_true _ _ params.0 (both_true _ _ (still_some 0 fn.blocks blocks.0) (blocks_spelled 0 fn.blocks blocks.1)))
+      let params = and_parts _ _ (and_parts (is_name fn.name) _ e).1 in
+      let blocks = and_parts _ _ params.1 in
+      and_from _ _ n (and_from _ _ params.0 (and_from _ _ (still_some 0 fn.blocks blocks.0) (blocks_spelled 0 fn.blocks blocks.1)))
 
 -- ---- the program
 
 module _ (P : Program) (plan : Plan) (skip : Site → Bool) (spelled : spelled_program P ≡ true) where
   functions_spelled : list_all spelled_function P.functions ≡ true
-  functions_spelled = (both_hold (list_all spelled_extern P.externs) _ (both_hold _ _ spelled).1).1
+  functions_spelled = (and_parts (list_all spelled_extern P.externs) _ (and_parts _ _ spelled).1).1
 
   original_named : (f : ℕ) (fn : Function) → slice_get P.functions f ≡ Some fn → is_name fn.name ≡ true
-  original_named f fn e = (both_hold _ _ (all_at spelled_function P.functions f fn functions_spelled e)).0
+  original_named f fn e = (and_parts _ _ (all_at spelled_function P.functions f fn functions_spelled e)).0
 
   pub fresh_named : (k : ℕ) (name : List ℕ) → slice_get (fresh P plan skip) k ≡ Some name → is_name name ≡ true
   fresh_named k name e =
@@ -127,7 +127,7 @@ module _ (P : Program) (plan : Plan) (skip : Site → Bool) (spelled : spelled_p
   names_from : (fs : List ℕ) (names : List (List ℕ)) → list_all is_name names ≡ true → list_all (λ (c : Clone). is_name c.name) (clones_from P fs names) ≡ true
   names_from [] names e = refl
   names_from (f ∷ fs) [] e = refl
-  names_from (f ∷ fs) (name ∷ names) e = let parts = both_hold (is_name name) _ e in both_true _ _ parts.0 (names_from fs names parts.1)
+  names_from (f ∷ fs) (name ∷ names) e = let parts = and_parts (is_name name) _ e in and_from _ _ parts.0 (names_from fs names parts.1)
 
   clones_named : list_all (λ (c : Clone). is_name c.name) (clones_of P plan) ≡ true
   clones_named = names_from (cloned P plan) (fresh P plan skip) (all_make is_name (fresh P plan skip) fresh_named)
@@ -142,15 +142,15 @@ module _ (P : Program) (plan : Plan) (skip : Site → Bool) (spelled : spelled_p
       named false e = subst (λ n. is_name n ≡ true) (sym (o.plain e).1) (original_named o.f o.fn o.at)
 
   two_spelled : (xs ys : List Extern) → list_all spelled_extern xs ≡ true → list_all spelled_extern ys ≡ true → list_all spelled_extern (xs ++ ys) ≡ true
-  two_spelled xs ys e f = list_all-append spelled_extern xs ys ∙ both_true _ _ e f
+  two_spelled xs ys e f = list_all-append spelled_extern xs ys ∙ and_from _ _ e f
 
   added_spelled : list_all spelled_extern (added_externs P plan (wanted_by plan skip)) ≡ true
   added_spelled = all_make spelled_extern (added_externs P plan (wanted_by plan skip)) (λ k e h. added_passes spelled_extern refl refl refl e (added_at P plan (wanted_by plan skip) k e h).0)
 
   pub spelled_again : spelled_program (repaired P plan skip) ≡ true
   spelled_again =
-      let parts = both_hold _ _ spelled in
-      let more = both_hold _ _ parts.1 in
-      both_true _ _ parts.0
-      (both_true _ _ (two_spelled P.externs (added_externs P plan (wanted_by plan skip)) more.0 added_spelled)
+      let parts = and_parts _ _ spelled in
+      let more = and_parts _ _ parts.1 in
+      and_from _ _ parts.0
+      (and_from _ _ (two_spelled P.externs (added_externs P plan (wanted_by plan skip)) more.0 added_spelled)
       (all_make spelled_function (repaired P plan skip).functions (λ f' fn' e. from_origin f' fn' (origin P plan skip f' fn' e))))

@@ -5,6 +5,7 @@ use Rattle.std.specs.Cmp.Lexicographic.{nat_list_eq_equiv}
 use Rattle.std.specs.Int.{next_multiple_of}
 use Rattle.std.specs.Str.{bytes_eq}
 use Rattle.std.proofs.lemmas.Slice.Eq.{bytes_eq-Decides}
+use Rattle.std.proofs.lemmas.Bool.{both_ways, false_from_ne_true}
 use Rattle.hip_types.specs.DistinctLaws.{or_first, or_second}
 use Rattle.hip_types.specs.declared.number.Bits.{Bits}
 use Rattle.hip_ir.specs.declared.block.Block.{Block}
@@ -34,7 +35,6 @@ use Rattle.hip_step.specs.State.{Registers, Frame, World}
 use Rattle.hip_fix.specs.Direct.{allocates, allocates_in}
 use Rattle.hip_fix.proofs.AssignedOnce.{names_of_instr, only_alloca, no_phi, no_parameter, differ_inside, once}
 use Rattle.hip_fix.proofs.Blocks.{get_drop}
-use Rattle.hip_fix.proofs.NamesAgain.{not_true, not_false}
 
 -- ---- registers
 
@@ -57,7 +57,7 @@ module _ (blocks : List Block) where
 
   pub low_beside : (dest : Option (List ℕ)) (v : ℕ) (rs : Registers) → Avoids blocks dest → AreLow blocks rs → AreLow blocks (assigned dest v rs)
   low_beside None v rs a all = all
-  low_beside (Some name) v rs a all = low_assigned name v rs (λ t. absurd (not_false _ a t)) all
+  low_beside (Some name) v rs a all = low_assigned name v rs (λ t. absurd (both_ways _ a t)) all
 
   pub low_allocated : (name : List ℕ) (v : ℕ) (rs : Registers) → v ≤ stack_end → AreLow blocks rs → AreLow blocks (assigned (Some name) v rs)
   low_allocated name v rs low all = low_assigned name v rs (λ t. low) all
@@ -65,13 +65,13 @@ module _ (blocks : List Block) where
   low_phis : (globals : List GlobalVar) (base : ℕ) (rs : Registers) (from : List ℕ) (ps : List Phi) → ((q : List ℕ) → is_among (map (λ p. p.dest) ps) q ≡ true → allocates_in blocks q ≡ false) → AreLow blocks rs → AreLow blocks (after_phis globals base rs from ps)
   low_phis globals base rs from [] none all = all
   low_phis globals base rs from (p ∷ ps) none all =
-      low_assigned p.dest _ _ (λ t. absurd (not_false _ (none p.dest (or_first _ _ (nat_list_eq_equiv.refl p.dest))) t)) (low_phis globals base rs from ps (λ q h. none q (or_second (bytes_eq q p.dest) _ h)) all)
+      low_assigned p.dest _ _ (λ t. absurd (both_ways _ (none p.dest (or_first _ _ (nat_list_eq_equiv.refl p.dest))) t)) (low_phis globals base rs from ps (λ q h. none q (or_second (bytes_eq q p.dest) _ h)) all)
 
   low_bound : (ps : List Param) (vs : List ℕ) → ((q : List ℕ) → is_among (map (λ p. p.name) ps) q ≡ true → allocates_in blocks q ≡ false) → AreLow blocks (bound ps vs)
   low_bound [] vs none q h = omega arith
   low_bound (p ∷ ps) [] none q h = omega arith
   low_bound (p ∷ ps) (v ∷ vs) none q h =
-      low_assigned p.name v (bound ps vs) (λ t. absurd (not_false _ (none p.name (or_first _ _ (nat_list_eq_equiv.refl p.name))) t)) (low_bound ps vs (λ r i. none r (or_second (bytes_eq r p.name) _ i))) q h
+      low_assigned p.name v (bound ps vs) (λ t. absurd (both_ways _ (none p.name (or_first _ _ (nat_list_eq_equiv.refl p.name))) t)) (low_bound ps vs (λ r i. none r (or_second (bytes_eq r p.name) _ i))) q h
 
 -- ---- actions
 
@@ -155,7 +155,7 @@ module _ (P : Program) (sound : Passes P) (g : ℕ) where
 
   module _ (i : Instr) (only : (q : List ℕ) → is_among (names_of_instr i) q ≡ true → allocates_in blocks q ≡ true → allocates q i ≡ true) where
     other : (q : List ℕ) → is_among (names_of_instr i) q ≡ true → allocates q i ≡ false → allocates_in blocks q ≡ false
-    other q h e = not_true _ (λ t. not_false _ e (only q h t))
+    other q h e = false_from_ne_true _ (λ t. both_ways _ e (only q h t))
 
   own : (q : List ℕ) → is_among (q ∷ []) q ≡ true
   own q = or_first _ _ (nat_list_eq_equiv.refl q)

@@ -1,5 +1,5 @@
 -- What the pointers of a run pointed into. (This project's own.)
-use Rattle.std.specs.Prelude.{◌≡◌, ℕ, zero, suc, Bool, true, false, cond, ◌&&◌, nat_eq, is_some, List, [], ◌∷◌, ◌++◌, Option, Some, None}
+use Rattle.std.specs.Prelude.{◌≡◌, ℕ, zero, suc, Bool, true, false, cond, ◌&&◌, nat_eq, is_some, List, [], ◌∷◌, ◌++◌, Option, Some, None, option_to_list}
 use Rattle.std.specs.List.{flat_map}
 use Rattle.hip_types.specs.Distinct.{met}
 use Rattle.hip_types.specs.declared.number.Scalar.{Scalar}
@@ -48,7 +48,7 @@ same_object (objects.Global a) (objects.Global b) = nat_eq a b
 same_object (objects.Slot a) (objects.Slot b) = same_site a b
 same_object _ _ = false
 
-abbrev same_mark : Mark → Mark → Bool
+abbrev pub same_mark : Mark → Mark → Bool
 same_mark a b = same_site a.site b.site && (nat_eq a.operand b.operand && same_object a.object b.object)
 
 -- ---- the marks of a step
@@ -65,25 +65,21 @@ abbrev code_marks : Program → Input → List Frame → Frame → List Instr �
 code_marks P I fs f [] = []
 code_marks P I fs f (i ∷ rest) = operand_marks P I fs f 0 (pointer_operands P i)
 
-abbrev frame_marks : Program → Input → List Frame → List Mark
+abbrev pub frame_marks : Program → Input → List Frame → List Mark
 frame_marks P I [] = []
 frame_marks P I (f ∷ fs) = code_marks P I (f ∷ fs) f (code_at P f)
 
 -- where a step's event ends the run, its instruction was not taken
-abbrev unless_ended : {A : Type 0} → Event → List A → List A
+abbrev pub unless_ended : {A : Type 0} → Event → List A → List A
 unless_ended (events.End e) xs = []
 unless_ended _ xs = xs
 
 abbrev step_marks : Program → Input → State → List Mark
 step_marks P I s = cond (has_ended s) [] (unless_ended (event P I s) (frame_marks P I s.frames))
 
-abbrev to_list : Option ℕ → List ℕ
-to_list None = []
-to_list (Some n) = n ∷ []
-
 -- the persistent global that a store's address lies in; a store's event is of the region, where no other global lies
-abbrev event_hits : Program → Input → Event → List ℕ
-event_hits P I (events.Store a value size) = to_list (global_at P I.base a)
+abbrev pub event_hits : Program → Input → Event → List ℕ
+event_hits P I (events.Store a value size) = option_to_list (global_at P I.base a)
 event_hits P I _ = []
 
 -- ---- the marks and the findings of a run

@@ -1,7 +1,7 @@
 -- Uses of registers on paths, by the tables of a function.
 use Rattle.std.proofs.Common.{ℕ, zero, suc, ◌+◌, ◌<◌, ◌≤◌, ◌≡◌, ◌⊎◌, ◌&&◌, nat_eq, Bool, true, false, List, [], ◌∷◌, ◌++◌, map, length, get_or, Option, Some, None, refl, sym, ap, subst, ◌∙◌, inl, inr, ⊎_elim, arith, append-nil}
 use Rattle.std.specs.Prelude.{slice_get, option_map, unwrap_or, if◌then◌else◌}
-use Rattle.std.proofs.lemmas.Bool.{eqb-true, eq-eqb}
+use Rattle.std.proofs.lemmas.Bool.{eqb-true, eq-eqb, and_parts}
 use Rattle.std.specs.List.{Contains, flat_map}
 use Rattle.std.specs.Str.{bytes_eq}
 use Rattle.std.proofs.lemmas.Slice.Eq.{bytes_eq-Decides}
@@ -245,16 +245,12 @@ here_by_test : (b : Bool) (d : ℕ) → (if b then None else Some d) ≡ None �
 here_by_test true d e = refl
 here_by_test false d e = cc
 
-both_hold : (a b : Bool) → (a && b) ≡ true → (a ≡ true) × (b ≡ true)
-both_hold true b e = (refl, e)
-both_hold false b e = cc
-
 nothing_to_pass : (fn : Function) (last : ℕ) (point : Point) (name : List ℕ) (w : Option Inner) → value_of (inner_entries fn) name ≡ w → to_pass (length fn.blocks) last point w ≡ None → (earlier : List ℕ) → IsAmong (assigned_on fn earlier last point) name
 nothing_to_pass fn last point name None v e earlier = cc
 nothing_to_pass fn last point name (Some (Label n)) v e earlier = cc
 nothing_to_pass fn last point name (Some Parameter) v e earlier = among_parameters fn earlier last point name (parameter_at fn name v)
 nothing_to_pass fn last point name (Some (Assigned d after)) v e earlier =
-    let both = both_hold (nat_eq d last) (is_there point after) (here_by_test (nat_eq d last && is_there point after) d e) in
+    let both = and_parts (nat_eq d last) (is_there point after) (here_by_test (nat_eq d last && is_there point after) d e) in
     let same : d ≡ last = eqb-true d last both.0 in
     among_last fn earlier last point name (subst (λ (b : ℕ). IsAmong (names_before fn point b) name) same (assigned_at fn name d after point v both.1))
 

@@ -7,6 +7,7 @@ use Rattle.std.specs.Cmp.Derive.{both_true}
 use Rattle.std.specs.Str.{bytes_eq}
 use Rattle.std.proofs.lemmas.List.{map-append}
 use Rattle.std.proofs.lemmas.Slice.Eq.{bytes_eq-Decides}
+use Rattle.std.proofs.lemmas.Bool.{and_parts}
 use Rattle.hip_ir.specs.declared.block.Edge.{Edge}
 use Rattle.hip_ir.specs.declared.instr.Operand.{Operand}
 use Rattle.hip_typing.specs.Carried.{Carries, carries_again, edge_entry, carried_seen}
@@ -17,7 +18,7 @@ use Rattle.hip_typing.specs.Names.{is_among, Knows}
 use Rattle.hip_typing.specs.Places.{are_among, carry_alike, edge_labels, edges_agree, repeats_agree}
 use Rattle.hip_typing.specs.Tables.{Entry, StandsFor, value_of, value_beside}
 use Rattle.hip_typing.proofs.KnownLemmas.{all_known}
-use Rattle.hip_typing.proofs.PairLemmas.{both_hold, fails_in_front, pair_step, take_item}
+use Rattle.hip_typing.proofs.PairLemmas.{fails_in_front, pair_step, take_item}
 use Rattle.hip_typing.proofs.TableLemmas.{beside-cons}
 
 abbrev again : Option Operand → Operand → Bool
@@ -44,7 +45,7 @@ alike y z x label same other = by_test (bytes_eq z.label x.label) refl
 all_alike : (y : Edge) (zs : List Edge) (x : Edge) → bytes_eq y.label x.label ≡ true → same_operand y.value x.value ≡ true → list_all (carry_alike y) zs ≡ true → list_all (λ z. carry_alike z x) zs ≡ true
 all_alike y [] x label same others = refl
 all_alike y (z ∷ zs) x label same others =
-    let both = both_hold (carry_alike y z) (list_all (carry_alike y) zs) others in
+    let both = and_parts (carry_alike y z) (list_all (carry_alike y) zs) others in
     ap (λ b. b && list_all (λ w. carry_alike w x) zs) (alike y z x label same both.0) ∙ all_alike y zs x label same both.1
 
 -- of edges that agree the first of a label decides
@@ -53,7 +54,7 @@ first_decides [] x agree = refl
 first_decides (y ∷ ys) x agree = by_test (first_decides ys x both.1) (bytes_eq y.label x.label) refl
   where
     both : (list_all (carry_alike y) ys ≡ true) × (repeats_agree ys ≡ true)
-    both = both_hold (list_all (carry_alike y) ys) (repeats_agree ys) agree
+    both = and_parts (list_all (carry_alike y) ys) (repeats_agree ys) agree
 
     all : Bool
     all = list_all (λ z. carry_alike z x) ys

@@ -3,15 +3,12 @@ use Rattle.std.proofs.Common.{ℕ, ◌+◌, ◌≡◌, ◌<◌, ◌&&◌, ◌||�
 use Rattle.std.specs.List.{list_all, list_any}
 use Rattle.std.proofs.lemmas.List.{take_more, take-append-drop}
 use Rattle.std.proofs.lemmas.List.Folds.{list_all-append, list_any-append}
+use Rattle.std.proofs.lemmas.Bool.{and_parts}
 use Rattle.hip_types.specs.declared.number.Bits.{Bits}
 use Rattle.hip_types.specs.Widths.{bits_of}
 use Rattle.hip_ir.specs.declared.block.Case.{Case}
 use Rattle.hip_typing.specs.Equal.{same_bits}
 use Rattle.hip_typing.specs.Places.{each_pair, differ, cases_differ}
-
-pub both_hold : (a b : Bool) → (a && b) ≡ true → (a ≡ true) × (b ≡ true)
-both_hold true b e = (refl, e)
-both_hold false b e = cc
 
 shuffled : (a b c d : Bool) → ((a && (b && true)) && (c && d)) ≡ ((a && c) && (b && d))
 shuffled true true c d = refl
@@ -30,8 +27,8 @@ each_pair-push test (y ∷ ys) x =
 each_pair-front : {A : Type 0} (test : A → A → Bool) (xs ys : List A) → each_pair test (xs ++ ys) ≡ true → each_pair test xs ≡ true
 each_pair-front test [] ys e = refl
 each_pair-front test (x ∷ xs) ys e =
-    let both = both_hold (list_all (test x) (xs ++ ys)) (each_pair test (xs ++ ys)) e in
-    let here = both_hold (list_all (test x) xs) (list_all (test x) ys) (sym (list_all-append (test x) xs ys) ∙ both.0) in
+    let both = and_parts (list_all (test x) (xs ++ ys)) (each_pair test (xs ++ ys)) e in
+    let here = and_parts (list_all (test x) xs) (list_all (test x) ys) (sym (list_all-append (test x) xs ys) ∙ both.0) in
     ap (λ b. b && each_pair test xs) here.0 ∙ each_pair-front test xs ys both.1
 
 -- where it fails in a front it fails in the list

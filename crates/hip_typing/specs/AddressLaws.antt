@@ -4,7 +4,7 @@ use Rattle.std.specs.Int.{next_multiple_of}
 use Rattle.std.specs.List.{list_all}
 use Rattle.std.proofs.Common.{refl, ap, ◌∙◌, inl, inr, arith}
 use Rattle.std.proofs.Math.Nat.{add-mul-mod_self_right, mod-add-div'}
-use Rattle.std.proofs.lemmas.Bool.{eqb-true}
+use Rattle.std.proofs.lemmas.Bool.{eqb-true, and_parts}
 use Rattle.hip_tokens.specs.Longest.{is_name}
 use Rattle.hip_types.specs.Layout.{align_of, size_of}
 use Rattle.hip_types.specs.LayoutLaws.{IsAlignment, align_of-alignment, times_multiple}
@@ -15,17 +15,13 @@ use Rattle.hip_ir.specs.Spelling.{spelled_align, spelled_type, spelled_const, sp
 use Rattle.hip_ir.specs.SpellingExact.{spelled_exact}
 use Rattle.hip_typing.specs.Addresses.{same, global_align, global_start, start_of, end_of}
 
-both_hold : (a b : Bool) → (a && b) ≡ true → (a ≡ true) × (b ≡ true)
-both_hold true b e = (refl, e)
-both_hold false b e = cc
-
 -- ---- alignments divide a page
 
 divides_page : (a : ℕ) → IsAlignment a → 4096 % a ≡ 0
 divides_page a h = grind (arith, h.is)
 
 written_divides : (n : ℕ) → (not (n == 0) && (4096 % n == 0)) ≡ true → 4096 % n ≡ 0
-written_divides n e = eqb-true (4096 % n) 0 (both_hold (not (n == 0)) (4096 % n == 0) e).1
+written_divides n e = eqb-true (4096 % n) 0 (and_parts (not (n == 0)) (4096 % n == 0) e).1
 
 one_of : (m n : ℕ) → (max m n ≡ m) ⊎ (max m n ≡ n)
 one_of m n = grind arith
@@ -49,12 +45,12 @@ AllDivide (g ∷ gs) = (4096 % global_align g ≡ 0) × AllDivide gs
 all_divide : (gs : List GlobalVar) → list_all spelled_global gs ≡ true → AllDivide gs
 all_divide [] e = tt
 all_divide (g ∷ gs) e =
-    let both = both_hold (spelled_global g) (list_all spelled_global gs) e in
-    let align = (both_hold (spelled_const g.ty g.init) (spelled_align g.align) (both_hold (spelled_type g.ty) _ (both_hold (is_name g.name) _ both.0).1).1).1 in
+    let both = and_parts (spelled_global g) (list_all spelled_global gs) e in
+    let align = (and_parts (spelled_const g.ty g.init) (spelled_align g.align) (and_parts (spelled_type g.ty) _ (and_parts (is_name g.name) _ both.0).1).1).1 in
     (align_divides g g.align refl align, all_divide gs both.1)
 
 pub spelled-divide : (P : Program) → IsSpelled P → AllDivide P.globals
-spelled-divide P s = all_divide P.globals (both_hold (list_all spelled_global P.globals) _ ((spelled_exact P).1 s)).0
+spelled-divide P s = all_divide P.globals (and_parts (list_all spelled_global P.globals) _ ((spelled_exact P).1 s)).0
 
 -- ---- from a base
 

@@ -3,7 +3,7 @@ use Rattle.std.specs.Prelude.{ℕ, zero, suc, ◌+◌, ◌≡◌, Bool, true, fa
 use Rattle.std.specs.List.{flat_map}
 use Rattle.std.specs.Str.{bytes_eq}
 use Rattle.std.proofs.Common.{refl, sym, ap, subst, ◌∙◌, arith, append-nil}
-use Rattle.std.proofs.lemmas.List.Elements.{All-nil, All-cons, All-head, All-tail, All-append}
+use Rattle.std.proofs.lemmas.List.Elements.{All-nil, All-cons, All-head, All-tail, All-append, All-map}
 use Rattle.hip_ir.specs.declared.block.Block.{Block}
 use Rattle.hip_ir.specs.declared.block.Edge.{Edge}
 use Rattle.hip_ir.specs.declared.block.Phi.{Phi}
@@ -27,17 +27,13 @@ all-front : {X : Type 0} (Q : X → Type 0) (xs ys : List X) → All Q (xs ++ ys
 all-front Q [] ys h = All-nil Q
 all-front Q (x ∷ xs) ys h = All-cons Q x xs (All-head Q x (xs ++ ys) h) (all-front Q xs ys (All-tail Q x (xs ++ ys) h))
 
-all-back : {X : Type 0} (Q : X → Type 0) (xs ys : List X) → All Q (xs ++ ys) → All Q ys
+pub all-back : {X : Type 0} (Q : X → Type 0) (xs ys : List X) → All Q (xs ++ ys) → All Q ys
 all-back Q [] ys h = h
 all-back Q (x ∷ xs) ys h = all-back Q xs ys (All-tail Q x (xs ++ ys) h)
 
 all-mapped : {X Y : Type 0} (Q : Y → Type 0) (f : X → Y) (xs : List X) → All Q (map f xs) → All (λ x. Q (f x)) xs
 all-mapped Q f [] h = All-nil (λ y. Q (f y))
 all-mapped Q f (x ∷ xs) h = All-cons (λ y. Q (f y)) x xs (All-head Q (f x) (map f xs) h) (all-mapped Q f xs (All-tail Q (f x) (map f xs) h))
-
-mapped-all : {X Y : Type 0} (Q : Y → Type 0) (f : X → Y) (xs : List X) → All (λ x. Q (f x)) xs → All Q (map f xs)
-mapped-all Q f [] h = All-nil Q
-mapped-all Q f (x ∷ xs) h = All-cons Q (f x) (map f xs) (All-head (λ y. Q (f y)) x xs h) (mapped-all Q f xs (All-tail (λ y. Q (f y)) x xs h))
 
 all-flat : {X Y : Type 0} (Q : Y → Type 0) (g : X → List Y) (xs : List X) → All Q (flat_map g xs) → All (λ x. All Q (g x)) xs
 all-flat Q g [] h = All-nil (λ y. All Q (g y))
@@ -119,7 +115,7 @@ edges-whole fn place p e h =
     (λ c at.
     let number : c ≡ 0 + c = omega arith in
     subst (λ m. All (UseIsAssigned fn) (map (use_at place m AtEnd) (used_registers (record { operand = e.value; ty = p.ty } ∷ [])))) number
-    (mapped-all (UseIsAssigned fn) (use_at place c AtEnd) (used_registers (record { operand = e.value; ty = p.ty } ∷ [])) (subst (λ names. All (IsAssigned fn c AtEnd) names) (sym (append-nil (operand_registers e.value))) (h c at)))))
+    (All-map (UseIsAssigned fn) (use_at place c AtEnd) (used_registers (record { operand = e.value; ty = p.ty } ∷ [])) (subst (λ names. All (IsAssigned fn c AtEnd) names) (sym (append-nil (operand_registers e.value))) (h c at)))))
 
 -- ---- uses of a block
 
@@ -155,8 +151,8 @@ block-whole fn f b block u =
     (joined-all Q 0 (instr_register_uses f b) block.body
     (λ i instr e.
     let number : i ≡ 0 + i = omega arith in
-    subst (λ m. All Q (instr_register_uses f b m instr)) number (mapped-all Q (use_at (places.Body (site f b i)) b (Before i)) (used_registers (instr_uses instr)) (u.body i instr e)))))
-    (mapped-all Q (use_at (places.End f b) b AtEnd) (used_registers (end_uses block.end)) u.last)
+    subst (λ m. All Q (instr_register_uses f b m instr)) number (All-map Q (use_at (places.Body (site f b i)) b (Before i)) (used_registers (instr_uses instr)) (u.body i instr e)))))
+    (All-map Q (use_at (places.End f b) b AtEnd) (used_registers (end_uses block.end)) u.last)
 
 -- ---- uses of a function
 

@@ -1,10 +1,10 @@
 -- Each rule is exact: its check finds nothing exactly where what it asks holds.
-use Rattle.std.specs.Prelude.{ℕ, zero, suc, ◌+◌, ◌<◌, ◌≡◌, ◌&&◌, ◌||◌, not, Bool, true, false, List, [], ◌∷◌, ◌++◌, length, get_or, All, Option, Some, None}
+use Rattle.std.specs.Prelude.{ℕ, zero, suc, ◌+◌, ◌<◌, ◌≡◌, ◌||◌, not, Bool, true, false, List, [], ◌∷◌, ◌++◌, length, get_or, All, Option, Some, None}
 use Rattle.std.specs.List.{list_all}
 use Rattle.std.specs.Str.{bytes_eq}
 use Rattle.std.proofs.Common.{refl, sym, subst, inl, inr, arith}
 use Rattle.std.proofs.lemmas.List.Sums.{AllPass-from_list_all, list_all-from_AllPass}
-use Rattle.std.proofs.lemmas.Bool.{leb-true, le-leb}
+use Rattle.std.proofs.lemmas.Bool.{leb-true, le-leb, and_parts}
 use Rattle.std.specs.Cmp.Derive.{both_true}
 use Rattle.std.proofs.lemmas.Slice.Eq.{bytes_eq-Decides}
 use Rattle.hip_types.specs.Layout.{Fits}
@@ -82,13 +82,9 @@ differ_after-exact earlier (x ∷ xs) =
 
 -- ---- types
 
-pub both_hold : (a b : Bool) → (a && b) ≡ true → (a ≡ true) × (b ≡ true)
-both_hold true b e = (refl, e)
-both_hold false b e = cc
-
 fits-sound : (t : Ty) → fits_test t ≡ true → Fits t
 fits-sound t e =
-    let both = both_hold _ _ e in
+    let both = and_parts _ _ e in
     record { small = leb-true _ _ both.0; shallow = leb-true _ _ both.1 }
 
 fits-whole : (t : Ty) → Fits t → fits_test t ≡ true

@@ -1,7 +1,7 @@
 -- The test of constants passes exactly where they are equal.
 use Rattle.std.specs.Prelude.{ℕ, ◌≡◌, ◌&&◌, Bool, true, false, List, [], ◌∷◌, map}
 use Rattle.std.proofs.Common.{refl, sym, ap, subst, ◌∙◌}
-use Rattle.std.proofs.lemmas.Bool.{eqb-true, eq-eqb}
+use Rattle.std.proofs.lemmas.Bool.{eqb-true, eq-eqb, and_parts}
 use Rattle.std.proofs.lemmas.Slice.Eq.{bytes_eq-Decides}
 use Rattle.std.specs.Cmp.{both_ways}
 use Rattle.std.specs.Cmp.Derive.{both_true}
@@ -18,13 +18,9 @@ use Rattle.hip_typing.specs.Equal.{same_bits, same_list, same_truth, is_int, is_
 use Rattle.hip_typing.specs.Types.{same_width, same_type, all_pass}
 use Rattle.hip_typing.specs.TypeLaws.{same_width-equal, same_width-refl, same_type-equal, same_type-refl}
 
-both_hold : (a b : Bool) → (a && b) ≡ true → (a ≡ true) × (b ≡ true)
-both_hold true b e = (refl, e)
-both_hold false b e = cc
-
 pub same_bits-equal : (a b : Bits) → same_bits a b ≡ true → a ≡ b
 same_bits-equal a b e =
-    let both = both_hold (same_width a.width b.width) _ e in
+    let both = and_parts (same_width a.width b.width) _ e in
     numbers.same_bits a b (same_width-equal a.width b.width both.0) (eqb-true a.value b.value both.1)
 
 pub same_bits-refl : (a : Bits) → same_bits a a ≡ true
@@ -35,7 +31,7 @@ all_bits-equal [] [] e = refl
 all_bits-equal [] (b ∷ ys) e = cc
 all_bits-equal (a ∷ xs) [] e = cc
 all_bits-equal (a ∷ xs) (b ∷ ys) e =
-    let both = both_hold (same_bits a b) _ e in
+    let both = and_parts (same_bits a b) _ e in
     ap (λ x. x ∷ xs) (same_bits-equal a b both.0) ∙ ap (λ ys. b ∷ ys) (all_bits-equal xs ys both.1)
 
 all_bits-refl : (xs : List Bits) → same_list same_bits xs xs ≡ true
@@ -88,7 +84,7 @@ all_equal [] [] h = refl
 all_equal [] (i ∷ is) h = cc
 all_equal (e ∷ es) [] h = cc
 all_equal (e ∷ es) (i ∷ is) h =
-    let both = both_hold (same_item e.0 i) _ h in
+    let both = and_parts (same_item e.0 i) _ h in
     let first : e.0 ≡ i = e.1 i both.0 in
     ap (λ x. x ∷ map (λ z. z.0) es) first ∙ ap (λ xs. i ∷ xs) (all_equal es is both.1)
 
@@ -131,9 +127,9 @@ level_equal (Const-F.Struct es) o h = struct_equal es o h
 
 gep_is : (a b : ConstGep) → IsEqual a.base → (same_truth a.inbounds b.inbounds && (same_type a.ty b.ty && (same_const a.base b.base && same_list same_bits a.indices b.indices))) ≡ true → a ≡ b
 gep_is a b base h =
-    let first = both_hold (same_truth a.inbounds b.inbounds) _ h in
-    let second = both_hold (same_type a.ty b.ty) _ first.1 in
-    let third = both_hold (same_const a.base b.base) _ second.1 in
+    let first = and_parts (same_truth a.inbounds b.inbounds) _ h in
+    let second = and_parts (same_type a.ty b.ty) _ first.1 in
+    let third = and_parts (same_const a.base b.base) _ second.1 in
     let inbounds = same_truth-equal a.inbounds b.inbounds first.0 in
     let ty = same_type-equal a.ty b.ty second.0 in
     let inner = base b.base third.0 in
@@ -142,7 +138,7 @@ gep_is a b base h =
 
 item_is : (a b : TypedConst) → IsEqual a.value → (same_type a.ty b.ty && same_const a.value b.value) ≡ true → a ≡ b
 item_is a b value h =
-    let both = both_hold (same_type a.ty b.ty) _ h in
+    let both = and_parts (same_type a.ty b.ty) _ h in
     let ty = same_type-equal a.ty b.ty both.0 in
     let inner = value b.value both.1 in
     λ i. record { ty = ty i; value = inner i }

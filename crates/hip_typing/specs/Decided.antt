@@ -4,15 +4,15 @@ use Rattle.std.specs.List.{list_all, list_any, AllPairs}
 use Rattle.std.specs.Bool.{Decides}
 use Rattle.std.specs.Cmp.Derive.{both_true}
 use Rattle.std.proofs.Common.{refl, subst, arith}
-use Rattle.std.proofs.lemmas.Bool.{leb-true, le-leb}
+use Rattle.std.proofs.lemmas.Bool.{leb-true, le-leb, and_parts}
 use Rattle.std.proofs.lemmas.List.Sums.{AllPass-from_list_all, list_all-from_AllPass}
 use Rattle.std.proofs.lemmas.List.Elements.{All-cons, All-head, All-tail, All-nil}
+use Rattle.std.proofs.lemmas.List.Kept.{AllPairs-cons}
 use Rattle.hip_typing.specs.Check.{Check, each_from, each}
-use Rattle.hip_typing.specs.CheckLaws.{both_hold}
 use Rattle.hip_typing.specs.Places.{each_pair}
 
 pub both-decides : {P Q : Type 0} (a b : Bool) → Decides a P → Decides b Q → Decides (a && b) (P × Q)
-both-decides a b p q = (λ e. let h = both_hold a b e in (p.0 h.0, q.0 h.1), λ h. both_true (p.1 h.0) (q.1 h.1))
+both-decides a b p q = (λ e. let h = and_parts a b e in (p.0 h.0, q.0 h.1), λ h. both_true (p.1 h.0) (q.1 h.1))
 
 pub all-decides : {X : Type 0} (test : X → Bool) (P : X → Type 0) (xs : List X) → ((x : X) → Decides (test x) (P x)) → Decides (list_all test xs) (All P xs)
 all-decides test P xs d = (
@@ -62,12 +62,6 @@ none-decides test P xs d = (
 pairs_nil : {X : Type 0} (R : X → X → Type 0) → AllPairs R []
 pairs_nil R i j d before within = absurd (omega arith)
 
-pairs_cons : {X : Type 0} (R : X → X → Type 0) (x : X) (xs : List X) → All (R x) xs → AllPairs R xs → AllPairs R (x ∷ xs)
-pairs_cons R x xs first rest zero zero d before within = absurd (omega arith)
-pairs_cons R x xs first rest zero (suc j) d before within = first j d (omega arith)
-pairs_cons R x xs first rest (suc i) zero d before within = absurd (omega arith)
-pairs_cons R x xs first rest (suc i) (suc j) d before within = rest i j d (omega arith) (omega arith)
-
 pairs_first : {X : Type 0} (R : X → X → Type 0) (x : X) (xs : List X) → AllPairs R (x ∷ xs) → All (R x) xs
 pairs_first R x xs h j d within = h 0 (suc j) d (omega arith) (omega arith)
 
@@ -77,8 +71,8 @@ pairs_rest R x xs h i j d before within = h (suc i) (suc j) d (omega arith) (ome
 pairs_sound : {X : Type 0} (test : X → X → Bool) (R : X → X → Type 0) (xs : List X) → ((x y : X) → Decides (test x y) (R x y)) → each_pair test xs ≡ true → AllPairs R xs
 pairs_sound test R [] d e = pairs_nil R
 pairs_sound test R (x ∷ xs) d e =
-    let both = both_hold (list_all (test x) xs) (each_pair test xs) e in
-    pairs_cons R x xs ((all-decides (test x) (R x) xs (d x)).0 both.0) (pairs_sound test R xs d both.1)
+    let both = and_parts (list_all (test x) xs) (each_pair test xs) e in
+    AllPairs-cons R x xs ((all-decides (test x) (R x) xs (d x)).0 both.0) (pairs_sound test R xs d both.1)
 
 pairs_whole : {X : Type 0} (test : X → X → Bool) (R : X → X → Type 0) (xs : List X) → ((x y : X) → Decides (test x y) (R x y)) → AllPairs R xs → each_pair test xs ≡ true
 pairs_whole test R [] d h = refl

@@ -3,11 +3,11 @@ use Rattle.std.specs.Prelude.{◌≡◌, true, List, [], ◌∷◌, map, Option,
 use Rattle.std.specs.Bool.{Decides}
 use Rattle.std.specs.Cmp.Derive.{both_true}
 use Rattle.std.proofs.Common.{refl, ap, subst, ◌∙◌}
+use Rattle.std.proofs.lemmas.Bool.{and_parts}
 use Rattle.hip_types.specs.declared.number.Bits.{Bits}
 use Rattle.hip_types.specs.declared.number.Scalar.{Scalar}
 use Rattle.hip_types.specs.declared.number.Scalar.TheVariants as scalars
 use Rattle.hip_ir.specs.declared.instr.Operand.{Operand}
-use Rattle.hip_typing.specs.CheckLaws.{both_hold}
 use Rattle.hip_typing.specs.ConstLaws.{same_operand-equal, same_operand-refl, same_bits-equal, same_bits-refl}
 use Rattle.hip_typing.specs.Equal.{same_bits, same_operand}
 use Rattle.hip_typing.specs.Places.{same_result}
@@ -45,7 +45,7 @@ same_scalars-equal [] [] e = refl
 same_scalars-equal [] (y ∷ ys) e = cc
 same_scalars-equal (x ∷ xs) [] e = cc
 same_scalars-equal (x ∷ xs) (y ∷ ys) e =
-    let both = both_hold (same_scalar x y) (all_pass (map same_scalar xs) ys) e in
+    let both = and_parts (same_scalar x y) (all_pass (map same_scalar xs) ys) e in
     ap (λ z. z ∷ xs) (same_scalar-equal x y both.0) ∙ ap (λ zs. y ∷ zs) (same_scalars-equal xs ys both.1)
 
 same_scalars-refl : (xs : List Scalar) → all_pass (map same_scalar xs) xs ≡ true

@@ -2,6 +2,7 @@
 use Rattle.std.specs.Prelude.{ℕ, ◌≡◌, ◌&&◌, Bool, List, ◌++◌, Option, Some, None, is_some, option_map}
 use Rattle.std.specs.List.{list_all}
 use Rattle.std.proofs.Common.{refl, sym, ap, ◌∙◌}
+use Rattle.std.proofs.lemmas.List.Folds.{list_all-append}
 use Rattle.hip_types.specs.declared.number.Scalar.{Scalar}
 use Rattle.hip_ir.specs.declared.instr.Instr.{Instr}
 use Rattle.hip_ir.specs.declared.instr.Instr.TheVariants.{Binary, Compare, Select, Cast, Alloca, Load, Store, Gep, Call}
@@ -11,7 +12,7 @@ use Rattle.hip_typing.specs.Names.{Knows}
 use Rattle.hip_typing.specs.Places.{Scope, global_names, uses_known, uses_agree, callee_known, instr_agrees, written_types, signature_agrees, register_agrees, fits_test, instr_check}
 use Rattle.hip_typing.specs.Registers.{instr_uses, used_types}
 use Rattle.hip_typing.specs.Tables.{Finds, FindsCallees, value_beside, callee_seen}
-use Rattle.hip_typing.specs.UseLaws.{uses_known-by_tables, uses_agree-by_tables, uses_fit-is, all-append}
+use Rattle.hip_typing.specs.UseLaws.{uses_known-by_tables, uses_agree-by_tables, uses_fit-is}
 use Rattle.hip_typing.specs.UsesSeen.{operands_known, operands_agree, operands_fit, instr_agrees_in, callee_known_in, written_fits}
 use Rattle.hip_typing.specs.declared.callees.Callee.{Callee}
 use Rattle.hip_typing.specs.declared.fault.Fault.TheVariants as breaks
@@ -61,7 +62,7 @@ module _ (s : Scope) (names : List (List ℕ)) (values : List (Option Scalar)) (
       ∙ ap (λ b. uses_known s (instr_uses i) && b) (callee_alike i)
 
   fit : (i : Instr) → (written_fits i && operands_fit (instr_uses i)) ≡ list_all fits_test (written_types i ++ used_types (instr_uses i))
-  fit i = ap (λ b. written_fits i && b) (uses_fit-is (instr_uses i)) ∙ sym (all-append fits_test (written_types i) (used_types (instr_uses i)))
+  fit i = ap (λ b. written_fits i && b) (uses_fit-is (instr_uses i)) ∙ sym (list_all-append fits_test (written_types i) (used_types (instr_uses i)))
 
   agree : (i : Instr) → (operands_agree names values (instr_uses i) && instr_agrees_in callee_names callees i) ≡ (uses_agree s (instr_uses i) && instr_agrees s i)
   agree i =

@@ -12,6 +12,7 @@ pub mod Names
 pub mod Paths
 pub mod Places
 pub mod Registers
+pub mod RegistersSeen
 pub mod Numbering
 pub mod Checks
 pub mod Given

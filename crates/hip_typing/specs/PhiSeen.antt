@@ -6,6 +6,7 @@ use Rattle.std.specs.Cmp.Derive.{both_true}
 use Rattle.std.specs.Str.{bytes_eq}
 use Rattle.std.proofs.Common.{refl, sym, ap, subst, ◌∙◌}
 use Rattle.std.proofs.lemmas.Slice.Eq.{bytes_eq-Decides}
+use Rattle.std.proofs.lemmas.Bool.{and_parts}
 use Rattle.hip_types.specs.declared.number.Scalar.{Scalar}
 use Rattle.hip_ir.specs.declared.block.Edge.{Edge}
 use Rattle.hip_ir.specs.declared.block.Phi.{Phi}
@@ -40,14 +41,10 @@ one_is : (p : List ℕ → Bool) (x name : List ℕ) (b : Bool) → bytes_eq nam
 one_is p x name true e here later = subst (λ (n : List ℕ). p n ≡ true) (sym ((bytes_eq-Decides name x).0 e)) here
 one_is p x name false e here later = later refl
 
-both_hold : (a b : Bool) → (a && b) ≡ true → (a ≡ true) × (b ≡ true)
-both_hold true b e = (refl, e)
-both_hold false b e = cc
-
 at_name : (p : List ℕ → Bool) (xs : List (List ℕ)) → list_all p xs ≡ true → (name : List ℕ) → is_among xs name ≡ true → p name ≡ true
 at_name p [] all name there = cc
 at_name p (x ∷ xs) all name there =
-    let both = both_hold (p x) (list_all p xs) all in
+    let both = and_parts (p x) (list_all p xs) all in
     one_is p x name (bytes_eq name x) refl both.0 (λ off. at_name p xs both.1 name (first_or_later (bytes_eq name x) (is_among xs name) there off))
 
 at_each : (p : List ℕ → Bool) (xs : List (List ℕ)) → ((name : List ℕ) → is_among xs name ≡ true → p name ≡ true) → list_all p xs ≡ true

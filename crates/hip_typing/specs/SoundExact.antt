@@ -3,6 +3,7 @@ use Rattle.std.specs.Prelude.{ℕ, suc, ◌+◌, ◌≡◌, ◌≤◌, ◌&&◌,
 use Rattle.std.specs.Bool.{Decides}
 use Rattle.std.specs.Str.{bytes_eq}
 use Rattle.std.proofs.Common.{refl, sym, ap, subst, ◌∙◌}
+use Rattle.std.proofs.lemmas.Bool.{and_parts}
 use Rattle.hip_types.specs.declared.number.Scalar.{Scalar}
 use Rattle.hip_types.specs.declared.number.Scalar.TheVariants as scalars
 use Rattle.hip_types.specs.declared.number.Width.TheVariants.{W1, W8, W16, W32, W64}
@@ -13,7 +14,6 @@ use Rattle.hip_ir.specs.declared.program.GlobalVar.{GlobalVar}
 use Rattle.hip_ir.specs.declared.program.Param.{Param}
 use Rattle.hip_ir.specs.declared.program.Program.{Program}
 use Rattle.hip_typing.specs.Addresses.{region_size, volatile_start, volatile_end}
-use Rattle.hip_typing.specs.CheckLaws.{both_hold}
 use Rattle.hip_typing.specs.Constants.{names_in}
 use Rattle.hip_typing.specs.Externs.{Signature, known_signature, call_of}
 use Rattle.hip_typing.specs.Names.{AllDiffer, IsAmong, is_among, number_of}
@@ -154,7 +154,7 @@ answers_i32 (Some (scalars.Int W64)) e = cc
 main-sound : (P : Program) → (main_check P).Holds → HasMain P
 main-sound P h =
     let found = main_found P.functions h in
-    let both = both_hold (no_params found.1.params) (is_i32 found.1.ret) found.4 in
+    let both = and_parts (no_params found.1.params) (is_i32 found.1.ret) found.4 in
     record { number = found.0; function = found.1; named = found.2; here = found.3; params = without_params found.1.params both.0; result = answers_i32 found.1.ret both.1 }
 
 -- ---- places

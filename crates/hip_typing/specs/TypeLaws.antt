@@ -1,7 +1,7 @@
 -- The test of types passes exactly where they are equal.
-use Rattle.std.specs.Prelude.{◌≡◌, ◌&&◌, Bool, true, false, List, [], ◌∷◌, map}
+use Rattle.std.specs.Prelude.{◌≡◌, Bool, true, List, [], ◌∷◌, map}
 use Rattle.std.proofs.Common.{refl, sym, ap, subst, ◌∙◌}
-use Rattle.std.proofs.lemmas.Bool.{eqb-true, eq-eqb}
+use Rattle.std.proofs.lemmas.Bool.{eqb-true, eq-eqb, and_parts}
 use Rattle.std.specs.Cmp.{both_ways}
 use Rattle.std.specs.Cmp.Derive.{both_true}
 use Rattle.hip_types.specs.declared.number.Width.{Width}
@@ -27,10 +27,6 @@ same_width-refl W16 = refl
 same_width-refl W32 = refl
 same_width-refl W64 = refl
 
-both_hold : (a b : Bool) → (a && b) ≡ true → (a ≡ true) × (b ≡ true)
-both_hold true b e = (refl, e)
-both_hold false b e = cc
-
 abbrev IsEqual : Ty → Type 0
 IsEqual a = (b : Ty) → same_type a b ≡ true → a ≡ b
 
@@ -48,7 +44,7 @@ all_equal [] [] h = refl
 all_equal [] (t ∷ ts) h = cc
 all_equal (e ∷ es) [] h = cc
 all_equal (e ∷ es) (t ∷ ts) h =
-    let both = both_hold _ _ h in
+    let both = and_parts _ _ h in
     let first : e.0 ≡ t = e.1 t both.0 in
     ap (λ x. x ∷ map (λ z. z.0) es) first ∙ ap (λ xs. t ∷ xs) (all_equal es ts both.1)
 
@@ -64,7 +60,7 @@ level_equal Ty-F.Ptr (Ty-F.Struct ts) h = cc
 level_equal (Ty-F.Array n e) (Ty-F.Int w) h = cc
 level_equal (Ty-F.Array n e) Ty-F.Ptr h = cc
 level_equal (Ty-F.Array n e) (Ty-F.Array m t) h =
-    let both = both_hold _ _ h in
+    let both = and_parts _ _ h in
     ap (λ k. Ty-F.Array k e.0) (eqb-true n m both.0) ∙ ap (λ x. Ty-F.Array m x) (e.1 t both.1)
 level_equal (Ty-F.Array n e) (Ty-F.Struct ts) h = cc
 level_equal (Ty-F.Struct es) (Ty-F.Int w) h = cc

@@ -1,7 +1,8 @@
 -- Operands that are checked by tables, and by what the tables stand for.
-use Rattle.std.specs.Prelude.{ℕ, ◌≡◌, ◌&&◌, Bool, true, false, List, [], ◌∷◌, ◌++◌, Option, is_some}
+use Rattle.std.specs.Prelude.{ℕ, ◌≡◌, ◌&&◌, Bool, true, false, List, [], ◌∷◌, Option, is_some}
 use Rattle.std.specs.List.{list_all}
 use Rattle.std.proofs.Common.{refl, sym, ap, ◌∙◌}
+use Rattle.std.proofs.lemmas.List.Folds.{list_all-append}
 use Rattle.hip_types.specs.declared.number.Scalar.{Scalar}
 use Rattle.hip_ir.specs.declared.instr.Operand.{Operand}
 use Rattle.hip_ir.specs.declared.instr.Operand.TheVariants.{Reg, Fixed}
@@ -21,10 +22,6 @@ and_swap true true c = refl
 and_swap true false c = refl
 and_swap false true c = refl
 and_swap false false c = refl
-
-pub all-append : {A : Type 0} (p : A → Bool) (xs ys : List A) → list_all p (xs ++ ys) ≡ (list_all p xs && list_all p ys)
-all-append p [] ys = refl
-all-append p (x ∷ xs) ys = ap (λ b. p x && b) (all-append p xs ys) ∙ sym (and_assoc (p x) (list_all p xs) (list_all p ys))
 
 -- names that a table knows are those that are there
 pub known_alike : (known names asked : List (List ℕ)) → Knows known names → list_all (is_among known) asked ≡ list_all (is_among names) asked
@@ -46,7 +43,7 @@ module _ (s : Scope) (names : List (List ℕ)) (values : List (Option Scalar)) (
   one_more (Fixed value) ty us =
       ap (λ b. b && (registered (used_registers us) && global (used_globals us))) (known_alike globals (global_names s) (names_in value) knows)
       ∙ and_swap (global (names_in value)) (registered (used_registers us)) (global (used_globals us))
-      ∙ ap (λ b. registered (used_registers us) && b) (sym (all-append (is_among (global_names s)) (names_in value) (used_globals us)))
+      ∙ ap (λ b. registered (used_registers us) && b) (sym (list_all-append (is_among (global_names s)) (names_in value) (used_globals us)))
 
   -- registers and globals that are used exist
   pub uses_known-by_tables : (us : List Use) → operands_known names values globals us ≡ uses_known s us
@@ -66,7 +63,7 @@ module _ (s : Scope) (names : List (List ℕ)) (values : List (Option Scalar)) (
 
 fits_alike : (o : Operand) (ty : Scalar) (us : List Use) → (operand_fits o && list_all fits_test (used_types us)) ≡ list_all fits_test (used_types (record { operand = o; ty = ty } ∷ us))
 fits_alike (Reg name) ty us = refl
-fits_alike (Fixed value) ty us = sym (all-append fits_test (types_in value) (used_types us))
+fits_alike (Fixed value) ty us = sym (list_all-append fits_test (types_in value) (used_types us))
 
 -- the types in the constants fit
 pub uses_fit-is : (us : List Use) → operands_fit us ≡ list_all fits_test (used_types us)

@@ -7,6 +7,7 @@ ghost use Rattle.hip_typing.specs.Rules.{instr_names, phi_names, body_names, blo
 use crate::fault::Place;
 use crate::named::{NamedPlace, check_all_differ};
 use crate::refused::Refused;
+use crate::registers::assigned_by;
 use hip_ir::{Block, Function, Instr, Param, Phi, Program, Site};
 use hip_types::{NoMemory, Row};
 use std::alloc::Global;
@@ -58,25 +59,13 @@ fn push_instr<'a>(
 ) -> Result<(), NoMemory>
     ensures { OnOk result (seen names.new ≡ seen names.old ++ instr_names site.function site.block site.index instr.now) }
 {
-    let dest = match instr {
-        Instr::Binary { dest, .. } => dest,
-        Instr::Compare { dest, .. } => dest,
-        Instr::Select { dest, .. } => dest,
-        Instr::Cast { dest, .. } => dest,
-        Instr::Alloca { dest, .. } => dest,
-        Instr::Load { dest, .. } => dest,
-        Instr::Gep { dest, .. } => dest,
-        Instr::Call {
-            dest: Some(dest),
-            ..
-        } => dest,
-        Instr::Call { dest: None, .. } => return Ok(()),
-        Instr::Store { .. } => return Ok(()),
-    };
-    names.push(NamedPlace {
-        name: dest.as_slice(),
-        place: Place::Body(site),
-    })
+    match assigned_by(instr) {
+        Some(register) => names.push(NamedPlace {
+            name: register.name.as_slice(),
+            place: Place::Body(site),
+        }),
+        None => Ok(()),
+    }
 }
 
 /// Adds the registers that a body assigns.

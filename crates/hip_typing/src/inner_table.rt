@@ -3,6 +3,7 @@ ghost use Rattle.hip_typing.specs.Inner as spec;
 ghost use Rattle.hip_typing.specs.Inner.{Gains, param_entry, phi_entry, instr_entries, body_entries, block_entries, blocks_entries, inner_entries};
 ghost use Rattle.hip_typing.specs.Tables.{StandsFor};
 
+use crate::registers::assigned_by;
 use crate::table::{NameTable, new_table};
 use hip_ir::{Block, Function, Instr, Param, Phi};
 use hip_types::{Name, NoMemory};
@@ -58,20 +59,9 @@ fn add_assigned<'a>(
         block,
         after: index + 1,
     };
-    match instr {
-        Instr::Binary { dest, .. } => add_name(table, dest, inner),
-        Instr::Compare { dest, .. } => add_name(table, dest, inner),
-        Instr::Select { dest, .. } => add_name(table, dest, inner),
-        Instr::Cast { dest, .. } => add_name(table, dest, inner),
-        Instr::Alloca { dest, .. } => add_name(table, dest, inner),
-        Instr::Load { dest, .. } => add_name(table, dest, inner),
-        Instr::Gep { dest, .. } => add_name(table, dest, inner),
-        Instr::Call {
-            dest: Some(dest),
-            ..
-        } => add_name(table, dest, inner),
-        Instr::Call { dest: None, .. } => Ok(()),
-        Instr::Store { .. } => Ok(()),
+    match assigned_by(instr) {
+        Some(register) => add_name(table, register.name, inner),
+        None => Ok(()),
     }
 }
 

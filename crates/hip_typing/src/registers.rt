@@ -1,6 +1,7 @@
 ghost use Rattle.std.specs.Prelude.{[], ◌∷◌, ◌≡◌, map, IfOk, OnOk};
 ghost use Rattle.std.specs.List.{flat_map};
-ghost use Rattle.hip_typing.specs.Registers.{Register, assigned_by, phi_registers, body_registers, block_registers, registers_of};
+ghost use Rattle.hip_typing.specs.Registers.{assigned_by, phi_registers, body_registers, block_registers, registers_of};
+ghost use Rattle.hip_typing.specs.RegistersSeen.{register_seen};
 ghost use Rattle.hip_typing.specs.Tables.{Adds, Finds};
 
 use crate::table::{NameTable, new_table};
@@ -8,7 +9,14 @@ use hip_ir::{Block, Function, Instr, Param, Phi};
 use hip_types::{Name, NoMemory, Scalar, Width};
 use std::alloc::Global;
 
-/// The types of a function's registers; the register of a void call has none.
+/// A register with its type; the register of a void call has none.
+#[derive(Clone, Copy, Debug)]
+pub struct Register<'a> {
+    pub name: &'a Name,
+    pub ty: Option<Scalar>,
+}
+
+/// The types of a function's registers.
 pub type RegisterTable<'a> = NameTable<'a, Option<Scalar>>;
 
 fn add_register<'a>(
@@ -40,24 +48,35 @@ fn add_phis<'a>(table: &mut RegisterTable<'a>, phis: &'a [Phi]) -> Result<(), No
     Ok(())
 }
 
-fn add_assigned<'a>(table: &mut RegisterTable<'a>, instr: &'a Instr) -> Result<(), NoMemory>
-    ensures { OnOk result (Adds table.old.names table.old.values table.new.names table.new.values (assigned_by instr.now)) }
+/// The register that an instruction assigns, if it assigns one.
+pub fn assigned_by(instr: &Instr) -> Option<Register<'_>>
+    ensures { register_seen result ≡ assigned_by instr.now }
 {
-    match instr {
-        Instr::Binary { dest, width, .. } => add_register(table, dest, Some(Scalar::Int(*width))),
-        Instr::Compare { dest, .. } => add_register(table, dest, Some(Scalar::Int(Width::W1))),
-        Instr::Select { dest, ty, .. } => add_register(table, dest, Some(*ty)),
-        Instr::Cast { dest, to, .. } => add_register(table, dest, Some(*to)),
-        Instr::Alloca { dest, .. } => add_register(table, dest, Some(Scalar::Ptr)),
-        Instr::Load { dest, ty, .. } => add_register(table, dest, Some(*ty)),
-        Instr::Gep { dest, .. } => add_register(table, dest, Some(Scalar::Ptr)),
+    let (name, ty) = match instr {
+        Instr::Binary { dest, width, .. } => (dest, Some(Scalar::Int(*width))),
+        Instr::Compare { dest, .. } => (dest, Some(Scalar::Int(Width::W1))),
+        Instr::Select { dest, ty, .. } => (dest, Some(*ty)),
+        Instr::Cast { dest, to, .. } => (dest, Some(*to)),
+        Instr::Alloca { dest, .. } => (dest, Some(Scalar::Ptr)),
+        Instr::Load { dest, ty, .. } => (dest, Some(*ty)),
+        Instr::Gep { dest, .. } => (dest, Some(Scalar::Ptr)),
         Instr::Call {
             dest: Some(dest),
             ret,
             ..
-        } => add_register(table, dest, *ret),
-        Instr::Call { dest: None, .. } => Ok(()),
-        Instr::Store { .. } => Ok(()),
+        } => (dest, *ret),
+        Instr::Call { dest: None, .. } => return None,
+        Instr::Store { .. } => return None,
+    };
+    Some(Register { name, ty })
+}
+
+fn add_assigned<'a>(table: &mut RegisterTable<'a>, instr: &'a Instr) -> Result<(), NoMemory>
+    ensures { OnOk result (Adds table.old.names table.old.values table.new.names table.new.values (assigned_by instr.now)) }
+{
+    match assigned_by(instr) {
+        Some(register) => add_register(table, register.name, register.ty),
+        None => Ok(()),
     }
 }
 

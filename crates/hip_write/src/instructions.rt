@@ -4,6 +4,7 @@ ghost use Rattle.std.specs.Prelude.{◌++◌, codes, map};
 ghost use Rattle.std.specs.Fmt.{decimal};
 ghost use Rattle.hip_io.specs.Sinks.{Writes};
 ghost use Rattle.hip_ir.specs.Show.{operand_text, arg_text, align_text, result_text, instr_text, commas, after_commas};
+ghost use Rattle.hip_write.specs.Parts.{computed_text, memory_text};
 
 use crate::constants::{put_const, put_inbounds};
 use crate::text::{put_assigned, put_name, put_natural, put_register};
@@ -259,8 +260,9 @@ fn put_call<S: Sink>(
     put_after(put, out, b")")
 }
 
-pub fn put_instr<S: Sink>(before: Put, out: &mut S, instr: &Instr) -> Put
-    ensures { Writes before result (S.state out.old) (S.state out.new) (instr_text instr.now) }
+/// Puts an instruction that computes a value from its operands alone, and nothing of any other.
+fn put_computed<S: Sink>(before: Put, out: &mut S, instr: &Instr) -> Put
+    ensures { Writes before result (S.state out.old) (S.state out.new) (computed_text instr.now) }
 {
     match instr {
         Instr::Binary {
@@ -292,6 +294,15 @@ pub fn put_instr<S: Sink>(before: Put, out: &mut S, instr: &Instr) -> Put
             a,
             to,
         } => put_cast(before, out, dest, *op, *from, a, *to),
+        _ => put_after(before, out, b""),
+    }
+}
+
+/// Puts an instruction on memory or on addresses, and nothing of any other.
+fn put_memory_instr<S: Sink>(before: Put, out: &mut S, instr: &Instr) -> Put
+    ensures { Writes before result (S.state out.old) (S.state out.new) (memory_text instr.now) }
+{
+    match instr {
         Instr::Alloca { dest, ty, align } => put_alloca(before, out, dest, ty, *align),
         Instr::Load {
             dest,
@@ -312,11 +323,24 @@ pub fn put_instr<S: Sink>(before: Put, out: &mut S, instr: &Instr) -> Put
             base,
             indices,
         } => put_gep(before, out, dest, *inbounds, ty, base, indices),
+        _ => put_after(before, out, b""),
+    }
+}
+
+pub fn put_instr<S: Sink>(before: Put, out: &mut S, instr: &Instr) -> Put
+    ensures { Writes before result (S.state out.old) (S.state out.new) (instr_text instr.now) }
+{
+    match instr {
+        Instr::Alloca { .. } => put_memory_instr(before, out, instr),
+        Instr::Load { .. } => put_memory_instr(before, out, instr),
+        Instr::Store { .. } => put_memory_instr(before, out, instr),
+        Instr::Gep { .. } => put_memory_instr(before, out, instr),
         Instr::Call {
             dest,
             ret,
             callee,
             args,
         } => put_call(before, out, dest, *ret, callee, args),
+        _ => put_computed(before, out, instr),
     }
 }

@@ -1,28 +1,19 @@
 -- The marks of closed runs, step by step by what is done.
-use Rattle.std.proofs.Common.{◌≡◌, ℕ, suc, Bool, cond, ◌&&◌, nat_eq, List, [], ◌∷◌, ◌++◌, Option, Some, None, is_some, refl, sym, ap, ◌∙◌}
+use Rattle.std.proofs.Common.{◌≡◌, ℕ, suc, cond, nat_eq, List, [], ◌∷◌, Option, None, is_some, refl, sym, ap, ◌∙◌}
 use Rattle.hip_types.specs.declared.number.Bits.{Bits}
 use Rattle.hip_mem.specs.Bytes.{bytes_of}
 use Rattle.hip_typing.specs.Values.{Written, written}
 use Rattle.hip_ir.specs.declared.constant.Const.TheFolds.{fold-roll-Const}
 use Rattle.hip_ir.specs.declared.constant.Const.TheVariants as consts
 use Rattle.hip_types.specs.Distinct.{met}
-use Rattle.hip_ir.specs.Sites.{same_site}
-use Rattle.hip_ir.specs.declared.instr.Instr.{Instr}
-use Rattle.hip_ir.specs.declared.instr.Operand.{Operand}
 use Rattle.hip_ir.specs.declared.program.Program.{Program}
-use Rattle.hip_ir.specs.declared.site.Site.{Site}
 use Rattle.hip_step.specs.declared.event.Ending.{Ending}
 use Rattle.hip_step.specs.declared.event.Event.{Event}
-use Rattle.hip_step.specs.declared.event.Event.TheVariants as events
-use Rattle.hip_step.specs.declared.event.Object.{Object}
 use Rattle.hip_step.specs.declared.input.Input.{Input}
 use Rattle.hip_step.specs.declared.report.Mark.{Mark}
 use Rattle.hip_step.specs.Actions.{Deed}
-use Rattle.hip_step.specs.Marks.{pointer_operands, same_object, pointed, hit}
-use Rattle.hip_step.specs.Objects.{global_at, object_at}
-use Rattle.hip_step.specs.Operands.{value_of}
-use Rattle.hip_step.specs.Places.{code_at}
-use Rattle.hip_step.specs.State.{Frame, State, site_of}
+use Rattle.hip_step.specs.Marks.{same_mark, frame_marks, unless_ended, event_hits, pointed, hit}
+use Rattle.hip_step.specs.State.{State}
 use Rattle.hip_step.specs.Step.{event, run, start}
 use Rattle.hip_fix.proofs.worked.Runs.{next_deed, done, shown, Follows, steps, run_next, event_shown}
 
@@ -32,37 +23,6 @@ pub written_int : (address_of : List ℕ → ℕ) (b : Bits) → (written addres
 written_int address_of b = ap (λ c. (written address_of c).bytes) (sym (consts.rolls-Int b)) ∙ ap (λ (x : Written). x.bytes) (fold-roll-Const _ _ _ _ _ _ _)
 
 -- ---- what the marks of a step are, where its event is known
-
-abbrev pub same_mark : Mark → Mark → Bool
-same_mark a b = same_site a.site b.site && (nat_eq a.operand b.operand && same_object a.object b.object)
-
-abbrev mark_of : Site → ℕ → Option Object → List Mark
-mark_of site k None = []
-mark_of site k (Some object) = record { site = site; operand = k; object = object } ∷ []
-
-abbrev operand_marks : Program → Input → List Frame → Frame → ℕ → List Operand → List Mark
-operand_marks P I fs f k [] = []
-operand_marks P I fs f k (o ∷ os) = mark_of (site_of f) k (object_at P I.base fs (value_of P.globals I.base f.registers o)) ++ operand_marks P I fs f (suc k) os
-
-abbrev code_marks : Program → Input → List Frame → Frame → List Instr → List Mark
-code_marks P I fs f [] = []
-code_marks P I fs f (i ∷ rest) = operand_marks P I fs f 0 (pointer_operands P i)
-
-abbrev frame_marks : Program → Input → List Frame → List Mark
-frame_marks P I [] = []
-frame_marks P I (f ∷ fs) = code_marks P I (f ∷ fs) f (code_at P f)
-
-abbrev unless_ended : {A : Type 0} → Event → List A → List A
-unless_ended (events.End e) xs = []
-unless_ended _ xs = xs
-
-abbrev to_list : Option ℕ → List ℕ
-to_list None = []
-to_list (Some n) = n ∷ []
-
-abbrev event_hits : Program → Input → Event → List ℕ
-event_hits P I (events.Store a value size) = to_list (global_at P I.base a)
-event_hits P I _ = []
 
 -- what a step marks, and which global it stores into
 pub record Seen : Type 0 where

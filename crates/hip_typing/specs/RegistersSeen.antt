@@ -1,0 +1,8 @@
+-- What the code's registers stand for.
+use Rattle.std.specs.Prelude.{List, [], ◌∷◌, Option, Some, None}
+use Rattle.hip_typing.specs.Registers.{Register}
+use Rattle.hip_typing.specs.declared.registers.Register as code
+
+abbrev pub register_seen : Option code.Register → List Register
+register_seen None = []
+register_seen (Some r) = record { name = r.name.now; ty = r.ty } ∷ []

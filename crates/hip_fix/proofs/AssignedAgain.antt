@@ -18,7 +18,8 @@ use Rattle.hip_ir.specs.declared.program.Function.{Function}
 use Rattle.hip_ir.specs.declared.program.Program.{Program}
 use Rattle.hip_ir.specs.declared.site.Site.{Site}
 use Rattle.hip_typing.specs.Constants.{joined}
-use Rattle.hip_typing.specs.Names.{IsAmong, numbered_from}
+use Rattle.hip_names.specs.Names.{IsAmong}
+use Rattle.hip_typing.specs.Names.{numbered_from}
 use Rattle.hip_typing.specs.Paths.{label_at, labels_named_at, LeadsTo, IsChain, IsPathTo, names_of, whole_block_names, names_before, IsAssigned}
 use Rattle.hip_typing.specs.Registers.{assigned_by, body_registers, block_registers, phi_registers, parameter_registers, uses, instr_uses, used_registers, operand_registers, end_labels, end_uses}
 use Rattle.hip_typing.specs.Rules.{Passes, use_at, block_numbers_from, edge_register_uses, phi_register_uses, instr_register_uses, end_register_uses, block_register_uses, register_uses, UseIsAssigned, AllAssigned}

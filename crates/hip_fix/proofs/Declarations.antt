@@ -5,7 +5,7 @@ use Rattle.hip_types.specs.declared.number.Scalar.TheVariants.{Int, Ptr}
 use Rattle.hip_types.specs.declared.number.Width.TheVariants.{W64}
 use Rattle.hip_ir.specs.declared.program.Extern.{Extern}
 use Rattle.hip_ir.specs.declared.program.Program.{Program}
-use Rattle.hip_typing.specs.Names.{is_among}
+use Rattle.hip_names.specs.Names.{is_among}
 use Rattle.hip_fix.specs.declared.plan.Plan.{Plan}
 use Rattle.hip_fix.specs.Repaired.{Wanted, clwb_name, sfence_name, pmem_flush_name, needs, added_externs}
 use Rattle.hip_fix.proofs.Clones.{in_append}

@@ -5,9 +5,9 @@ use Rattle.std.proofs.lemmas.List.{map-append}
 use Rattle.hip_ir.specs.declared.program.Function.{Function}
 use Rattle.hip_ir.specs.declared.program.Program.{Program}
 use Rattle.hip_ir.specs.declared.site.Site.{Site}
-use Rattle.hip_typing.specs.Names.{number_of}
+use Rattle.hip_names.specs.Names.{number_of}
 use Rattle.hip_typing.specs.Numbering.{function_names, function_number}
-use Rattle.hip_typing.specs.NumberingLaws.{number_of-front}
+use Rattle.hip_names.specs.NumberLaws.{number_of-front}
 use Rattle.hip_calls.specs.Fresh.{fresh_names}
 use Rattle.hip_step.specs.Places.{blocks_in}
 use Rattle.hip_step.specs.Step.{main_number}

@@ -13,9 +13,10 @@ use Rattle.hip_ir.specs.declared.program.GlobalVar.{GlobalVar}
 use Rattle.hip_ir.specs.declared.program.Program.{Program}
 use Rattle.hip_ir.specs.declared.site.Site.{Site}
 use Rattle.hip_typing.specs.Externs.{call_of, known_signature}
-use Rattle.hip_typing.specs.CheckLaws.{among-whole}
-use Rattle.hip_typing.specs.NameLaws.{among-left, among-right, names-sound, names-whole}
-use Rattle.hip_typing.specs.Names.{AllDiffer, IsAmong, is_among}
+use Rattle.hip_names.specs.NameLaws.{among-whole}
+use Rattle.hip_names.specs.NameLaws.{among-left, among-right}
+use Rattle.hip_typing.specs.NameLaws.{names-sound, names-whole}
+use Rattle.hip_names.specs.Names.{AllDiffer, IsAmong, is_among}
 use Rattle.hip_typing.specs.Numbering as numbers
 use Rattle.hip_typing.specs.Rules.{Passes, names_check, is_of, declared, free_function, externs_check, is_main, has_main, main_check}
 use Rattle.hip_typing.specs.Decided.{holds-at, holds-made}

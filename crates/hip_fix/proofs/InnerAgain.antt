@@ -7,7 +7,7 @@ use Rattle.hip_ir.specs.declared.program.Program.{Program}
 use Rattle.hip_ir.specs.declared.site.Site.{Site}
 use Rattle.hip_typing.specs.Decided.{holds-at, holds-made}
 use Rattle.hip_typing.specs.NameLaws.{inner-sound, inner-whole}
-use Rattle.hip_typing.specs.Names.{AllDiffer}
+use Rattle.hip_names.specs.Names.{AllDiffer}
 use Rattle.hip_typing.specs.Paths.{names_of}
 use Rattle.hip_typing.specs.Registers.{phi_registers, parameter_registers}
 use Rattle.hip_typing.specs.Rules.{Passes, inner_check, registers_check}

@@ -22,7 +22,7 @@ use Rattle.hip_ir.specs.declared.instr.Operand.TheVariants.{Reg, Fixed}
 use Rattle.hip_step.specs.Operands.{scalar_size}
 use Rattle.hip_typing.specs.Constants.{has_shape, names_in, types_in}
 use Rattle.hip_typing.specs.Externs.{known_signature}
-use Rattle.hip_typing.specs.Names.{is_among}
+use Rattle.hip_names.specs.Names.{is_among}
 use Rattle.hip_typing.specs.Places.{Scope, global_names, callee_of, uses_known, use_agrees, uses_agree, signature_agrees, instr_check}
 use Rattle.hip_typing.specs.Registers.{Use, uses, find_register, used_registers, used_globals, used_types}
 use Rattle.hip_typing.specs.AssignedExact.{all-back}

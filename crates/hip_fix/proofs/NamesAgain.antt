@@ -4,8 +4,8 @@ use Rattle.std.specs.List.{AllByRecursion, IsDistinct}
 use Rattle.std.specs.Str.{bytes_eq}
 use Rattle.std.proofs.lemmas.Bool.{both_ways}
 use Rattle.std.proofs.lemmas.Slice.Eq.{bytes_eq-Decides}
-use Rattle.hip_typing.specs.NameLaws.{among-left, among-right, among-either}
-use Rattle.hip_typing.specs.Names.{AllDiffer, IsAmong}
+use Rattle.hip_names.specs.NameLaws.{among-left, among-right, among-either}
+use Rattle.hip_names.specs.Names.{AllDiffer, IsAmong}
 
 -- no name of the first list is one of the second
 abbrev pub Apart : List (List ℕ) → List (List ℕ) → Type 0

@@ -21,7 +21,7 @@ use Rattle.hip_ir.specs.declared.program.Program.{Program}
 use Rattle.hip_mem.specs.Memory.{stack_end}
 use Rattle.hip_num.specs.declared.arithmetic.NumTrap.{NumTrap}
 use Rattle.hip_typing.specs.Externs.{call_of}
-use Rattle.hip_typing.specs.Names.{is_among}
+use Rattle.hip_names.specs.Names.{is_among}
 use Rattle.hip_typing.specs.Numbering.{function_number}
 use Rattle.hip_typing.specs.Rules.{Passes}
 use Rattle.hip_typing.specs.declared.externs.ExternCall.{ExternCall}

@@ -7,7 +7,7 @@ use Rattle.hip_ir.specs.declared.program.GlobalVar.{GlobalVar}
 use Rattle.hip_typing.specs.Addresses.{end_of, global_start}
 use Rattle.hip_typing.specs.AddressesSeen.{laid_entries, address_entry}
 use Rattle.hip_typing.specs.Inner.{Gains}
-use Rattle.hip_typing.specs.Tables.{Entry, StandsFor}
+use Rattle.hip_names.specs.Tables.{Entry, StandsFor}
 use Rattle.hip_typing.proofs.AddressLemmas.{end_of-ge, end_of-next}
 
 -- the table has the first globals, and the others are laid from these ends on

@@ -9,11 +9,11 @@ use Rattle.std.proofs.lemmas.Slice.Eq.{bytes_eq-Decides}
 use Rattle.indexmap.specs.IndexMap.{IndexMap, UpdatesBy}
 use Rattle.hip_ir.specs.declared.block.Block.{Block}
 use Rattle.hip_typing.specs.Arrivals.{found_at, names_at, Arrives, FindsPredecessors}
-use Rattle.hip_typing.specs.Names.{is_among}
+use Rattle.hip_names.specs.Names.{is_among}
 use Rattle.hip_typing.specs.Places.{is_predecessor, predecessors}
 use Rattle.hip_typing.specs.Registers.{end_labels}
 use Rattle.hip_typing.proofs.KnownLemmas.{or_false, among-append, add_known}
-use Rattle.hip_typing.specs.NameLaws.{bytes_eq-sym}
+use Rattle.hip_names.specs.NameLaws.{bytes_eq-sym}
 
 abbrev same_name : Bor (List ℕ) → Bor (List ℕ) → Bool
 same_name x y = bytes_eq x.now y.now

@@ -16,12 +16,12 @@ use Rattle.hip_paths.specs.Graphs as graphs
 use Rattle.hip_paths.specs.Graphs.{IsPathFrom, IsPathAround, IsPassedBefore}
 use Rattle.hip_typing.specs.AssignedSeen.{is_there, to_pass}
 use Rattle.hip_typing.specs.Inner.{block_entries, inner_entries, block_number, successor_numbers, graph_of}
-use Rattle.hip_typing.specs.Names.{AllDiffer, IsAmong}
+use Rattle.hip_names.specs.Names.{AllDiffer, IsAmong}
 use Rattle.hip_typing.specs.Paths.{LeadsTo, IsChain, IsUnassigned, IsAssigned, names_of, registers_before, whole_block_names, names_before, assigned_on}
 use Rattle.hip_typing.specs.Registers.{parameter_registers, end_labels, uses, operand_registers, used_registers}
 use Rattle.hip_typing.specs.Rules.{use_at, block_numbers_from, edge_register_uses}
 use Rattle.hip_typing.specs.declared.fault.Place.{Place}
-use Rattle.hip_typing.specs.Tables.{value_of}
+use Rattle.hip_names.specs.Tables.{value_of}
 use Rattle.hip_typing.specs.declared.assigned.Point.{Point}
 use Rattle.hip_typing.specs.declared.assigned.Point.TheVariants.{AtEnd}
 use Rattle.hip_typing.specs.declared.inner_table.Inner.{Inner}

@@ -14,10 +14,11 @@ use Rattle.hip_typing.specs.AssignedSeen.{Describes, IsFirstOf, AnswersUses, Ans
 use Rattle.hip_typing.specs.CheckLaws.{each-holds}
 use Rattle.hip_typing.specs.Constants.{joined}
 use Rattle.hip_typing.specs.Inner.{entry, param_entry, phi_entry, instr_entries, body_entries, block_entries, blocks_entries, inner_entries, block_number, label_numbers, successor_numbers}
-use Rattle.hip_typing.specs.Names.{AllDiffer, Named, IsAmong, differ_after, numbered_from}
+use Rattle.hip_names.specs.Names.{AllDiffer, IsAmong}
+use Rattle.hip_typing.specs.Names.{Named, differ_after, numbered_from}
 use Rattle.hip_typing.specs.Registers.{Register, assigned_by, end_labels}
 use Rattle.hip_typing.specs.Rules.{all_of, instr_names, phi_names, body_names, block_names, blocks_names, param_names, inner_names, inner_check, registers_check, AllAssigned, IsFirstUnassigned, register_uses}
-use Rattle.hip_typing.specs.Tables.{Entry, StandsFor, value_of}
+use Rattle.hip_names.specs.Tables.{Entry, StandsFor, value_of}
 use Rattle.hip_typing.specs.declared.assigned.NotAssigned.{NotAssigned}
 use Rattle.hip_typing.specs.declared.assigned.NotAssigned.TheVariants as unassigned
 use Rattle.hip_typing.specs.declared.fault.Place.{Place}

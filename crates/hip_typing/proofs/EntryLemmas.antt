@@ -13,10 +13,11 @@ use Rattle.hip_ir.specs.declared.program.Param.{Param}
 use Rattle.hip_typing.specs.AssignedSeen.{is_there}
 use Rattle.hip_typing.specs.Constants.{joined}
 use Rattle.hip_typing.specs.Inner.{entry, param_entry, phi_entry, instr_entries, body_entries, block_entries, blocks_entries, inner_entries}
-use Rattle.hip_typing.specs.Names.{AllDiffer, IsAmong, numbered_from}
+use Rattle.hip_names.specs.Names.{AllDiffer, IsAmong}
+use Rattle.hip_typing.specs.Names.{numbered_from}
 use Rattle.hip_typing.specs.Paths.{registers_before, names_of}
 use Rattle.hip_typing.specs.Registers.{Register, assigned_by, phi_registers, body_registers, parameter_registers}
-use Rattle.hip_typing.specs.Tables.{Entry, value_of}
+use Rattle.hip_names.specs.Tables.{Entry, value_of}
 use Rattle.hip_typing.specs.declared.assigned.Point.{Point}
 use Rattle.hip_typing.specs.declared.assigned.Point.TheVariants.{Before, AtEnd}
 use Rattle.hip_typing.specs.declared.inner_table.Inner.{Inner}

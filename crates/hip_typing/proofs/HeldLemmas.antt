@@ -9,7 +9,8 @@ use Rattle.hip_types.specs.declared.memory.NoMemory.{NoMemory}
 use Rattle.hip_types.specs.Layout.{size_of}
 use Rattle.hip_ir.specs.declared.program.GlobalVar.{GlobalVar}
 use Rattle.hip_ir.specs.declared.program.Program.{Program}
-use Rattle.hip_typing.specs.Addresses.{start_of, global_align, global_start, same, volatile_start}
+use Rattle.hip_mem.specs.Memory.{volatile_start}
+use Rattle.hip_typing.specs.Addresses.{start_of, global_align, global_start, same}
 use Rattle.hip_typing.specs.Initial.{laid_bytes, region_bytes, volatile_bytes}
 use Rattle.hip_typing.specs.Values.{global_address, aligned, constant_bytes}
 use Rattle.hip_typing.specs.Held.{HoldsAt, HoldsGlobals}

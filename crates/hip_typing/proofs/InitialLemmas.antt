@@ -10,18 +10,19 @@ use Rattle.hip_types.specs.declared.memory.NoMemory.{NoMemory}
 use Rattle.hip_types.specs.Layout.{size_of}
 use Rattle.hip_ir.specs.declared.program.GlobalVar.{GlobalVar}
 use Rattle.hip_ir.specs.declared.program.Program.{Program}
-use Rattle.hip_typing.specs.Addresses.{end_of, start_of, is_persistent, global_align, global_start, same, region_size, volatile_start, volatile_end}
+use Rattle.hip_mem.specs.Memory.{volatile_start}
+use Rattle.hip_typing.specs.Addresses.{end_of, start_of, is_persistent, global_align, global_start, same, region_size, volatile_end}
 use Rattle.hip_typing.specs.AddressesSeen.{address_beside, laid_entries}
 use Rattle.hip_typing.specs.Constants.{types_in}
 use Rattle.hip_typing.specs.Initial.{laid_bytes, volatile_bytes, region_bytes}
 use Rattle.hip_typing.specs.InitialSeen.{AllFit, GlobalsFit}
-use Rattle.hip_typing.specs.Names.{number_of}
-use Rattle.hip_typing.specs.NumberingLaws.{number_of-cons}
+use Rattle.hip_names.specs.Names.{number_of}
+use Rattle.hip_names.specs.NumberLaws.{number_of-cons}
 use Rattle.hip_typing.specs.Sound.{TypesFitIn}
-use Rattle.hip_typing.specs.Tables.{StandsFor, value_of}
+use Rattle.hip_names.specs.Tables.{StandsFor, value_of}
 use Rattle.hip_typing.specs.Values.{global_address, aligned, sized, written, constant_bytes}
-use Rattle.hip_typing.specs.declared.table.NameTable.{NameTable}
-use Rattle.hip_typing.specs.NameLaws.{bytes_eq-sym}
+use Rattle.hip_names.specs.declared.table.NameTable.{NameTable}
+use Rattle.hip_names.specs.NameLaws.{bytes_eq-sym}
 
 pub globals_fit : (gs : List GlobalVar) → All TypesFitIn gs → GlobalsFit gs
 globals_fit gs h = record { fit = λ k d low. record { fit = h k d low } }

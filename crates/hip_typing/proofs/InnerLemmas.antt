@@ -4,7 +4,7 @@ use Rattle.std.proofs.lemmas.List.{map-append, length-take-le}
 use Rattle.hip_typing.specs.Constants.{joined}
 use Rattle.hip_typing.specs.Inner.{Gains}
 use Rattle.hip_typing.specs.Names.{numbered}
-use Rattle.hip_typing.specs.Tables.{Entry, StandsFor}
+use Rattle.hip_names.specs.Tables.{Entry, StandsFor}
 use Rattle.hip_typing.proofs.NameLists.{numbered_from-push}
 use Rattle.hip_typing.proofs.RegisterLemmas.{take_one}
 

@@ -5,7 +5,7 @@ use Rattle.std.specs.List.{list_all}
 use Rattle.std.specs.Str.{bytes_eq}
 use Rattle.std.proofs.lemmas.List.{take_more, map-append}
 use Rattle.std.proofs.lemmas.Slice.Eq.{bytes_eq-Decides}
-use Rattle.hip_typing.specs.Names.{is_among, Knows}
+use Rattle.hip_names.specs.Names.{is_among, Knows}
 
 pub or_false : (b : Bool) → (b || false) ≡ b
 or_false true = refl

@@ -1,11 +1,9 @@
-pub mod NameLemmas
 pub mod NameLists
 pub mod ShapeLemmas
 pub mod KnownLemmas
 pub mod Loops
 pub mod GlobalLemmas
 pub mod AddressLemmas
-pub mod TableLemmas
 pub mod RegisterLemmas
 pub mod CalleeLemmas
 pub mod PairLemmas

@@ -5,14 +5,12 @@ use Rattle.std.specs.Int.{next_multiple_of}
 use Rattle.hip_types.specs.Layout.{Fits, shape}
 use Rattle.hip_ir.specs.declared.program.GlobalVar.{GlobalVar}
 use Rattle.hip_ir.specs.declared.program.Program.{Program}
+use Rattle.hip_mem.specs.Memory.{volatile_start}
 
 abbrev pub same : Bool → Bool → Bool
 same true b = b
 same false true = false
 same false false = true
-
-abbrev pub volatile_start : ℕ
-volatile_start = 65536
 
 -- A base is a multiple of 4,096 from 2^32 to 2^46.
 pub record IsBase (base : ℕ) : Type 0 where

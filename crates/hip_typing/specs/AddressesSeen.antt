@@ -3,8 +3,8 @@ use Rattle.std.specs.Prelude.{ℕ, ◌+◌, List, [], ◌∷◌, unwrap_or, if�
 use Rattle.hip_types.specs.Layout.{size_of}
 use Rattle.hip_ir.specs.declared.program.GlobalVar.{GlobalVar}
 use Rattle.hip_typing.specs.Addresses.{global_start}
-use Rattle.hip_typing.specs.Tables.{Entry, value_beside}
-use Rattle.hip_typing.specs.declared.table.NameTable.{NameTable}
+use Rattle.hip_names.specs.Tables.{Entry, value_beside}
+use Rattle.hip_names.specs.declared.table.NameTable.{NameTable}
 
 abbrev pub address_entry : List ℕ → ℕ → Entry ℕ
 address_entry name value = record { name = name; value = value }

@@ -4,7 +4,7 @@ use Rattle.std.specs.Borrow.{Bor}
 use Rattle.std.specs.Str.{bytes_eq}
 use Rattle.indexmap.specs.IndexMap.{IndexMap, get_by}
 use Rattle.hip_ir.specs.declared.block.Block.{Block}
-use Rattle.hip_typing.specs.Names.{is_among, Knows}
+use Rattle.hip_names.specs.Names.{is_among, Knows}
 use Rattle.hip_typing.specs.Places.{predecessors}
 
 -- the set of names at a name

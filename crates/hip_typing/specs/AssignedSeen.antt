@@ -3,10 +3,10 @@ use Rattle.std.specs.Prelude.{ℕ, ◌≡◌, ◌++◌, ◌∷◌, nat_le, ◌==
 use Rattle.hip_ir.specs.declared.program.Function.{Function}
 use Rattle.hip_ir.specs.declared.program.Program.{Program}
 use Rattle.hip_typing.specs.Inner.{inner_entries, graph_of}
-use Rattle.hip_typing.specs.Names.{AllDiffer}
+use Rattle.hip_names.specs.Names.{AllDiffer}
 use Rattle.hip_typing.specs.Paths.{IsUnassigned}
 use Rattle.hip_typing.specs.Rules.{RegisterUse, UseIsAssigned, AllAssigned, IsFirstUnassigned}
-use Rattle.hip_typing.specs.Tables.{StandsFor}
+use Rattle.hip_names.specs.Tables.{StandsFor}
 use Rattle.hip_typing.specs.declared.assigned.NotAssigned.{NotAssigned}
 use Rattle.hip_typing.specs.declared.assigned.NotAssigned.TheVariants as unassigned
 use Rattle.hip_typing.specs.declared.assigned.Point.{Point}

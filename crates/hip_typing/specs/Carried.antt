@@ -5,8 +5,8 @@ use Rattle.hip_ir.specs.declared.block.Edge.{Edge}
 use Rattle.hip_ir.specs.declared.instr.Operand.{Operand}
 use Rattle.hip_typing.specs.Equal.{same_operand}
 use Rattle.hip_typing.specs.Places.{repeats_agree}
-use Rattle.hip_typing.specs.Tables.{Entry, StandsFor}
-use Rattle.hip_typing.specs.declared.table.NameTable.{NameTable}
+use Rattle.hip_names.specs.Tables.{Entry, StandsFor}
+use Rattle.hip_names.specs.declared.table.NameTable.{NameTable}
 
 -- an operand is the one that was carried already, where there is one
 abbrev pub carries_again : Option (Bor Operand) → Operand → Bool

@@ -9,8 +9,10 @@ use Rattle.std.specs.Cmp.Derive.{both_true}
 use Rattle.std.proofs.lemmas.Slice.Eq.{bytes_eq-Decides}
 use Rattle.hip_types.specs.Layout.{Fits}
 use Rattle.hip_types.specs.declared.ty.Ty.{Ty}
+use Rattle.hip_names.specs.NameLaws.{among-sound, among-whole}
 use Rattle.hip_typing.specs.Check.{Check, IsExact, or_else, nothing_asked, asks, asks_true, and_then, each_from, each}
-use Rattle.hip_typing.specs.Names.{Named, IsAmong, is_among, differ_after}
+use Rattle.hip_names.specs.Names.{IsAmong, is_among}
+use Rattle.hip_typing.specs.Names.{Named, differ_after}
 use Rattle.hip_typing.specs.declared.fault.Fault.{Fault}
 use Rattle.hip_typing.specs.declared.fault.Fault.TheVariants as breaks
 use Rattle.hip_typing.specs.declared.fault.Finding.{Finding}
@@ -47,23 +49,6 @@ each_from-exact n check [] exact = nothing-exact
 each_from-exact n check (x ∷ xs) exact = and_then-exact (check n x) (each_from (n + 1) check xs) (exact n x) (each_from-exact (n + 1) check xs exact)
 
 -- ---- names
-
-pub among-sound : (xs : List (List ℕ)) (name : List ℕ) → is_among xs name ≡ true → IsAmong xs name
-among-sound [] name e = cc
-among-sound (x ∷ xs) name e = first_or_later (bytes_eq name x) refl (λ f. among-sound xs name f) e
-  where
-    first_or_later : (b : Bool) → bytes_eq name x ≡ b → (is_among xs name ≡ true → IsAmong xs name) → (b || is_among xs name) ≡ true → IsAmong (x ∷ xs) name
-    first_or_later true same later f = inl (sym ((bytes_eq-Decides name x).0 same))
-    first_or_later false same later f = inr (later f)
-
-pub among-whole : (xs : List (List ℕ)) (name : List ℕ) → IsAmong xs name → is_among xs name ≡ true
-among-whole [] name h = absurd h
-among-whole (x ∷ xs) name (inl e) = rw ((bytes_eq-Decides name x).1 (sym e)) refl
-among-whole (x ∷ xs) name (inr h) = later (bytes_eq name x) (among-whole xs name h)
-  where
-    later : (b : Bool) → is_among xs name ≡ true → (b || is_among xs name) ≡ true
-    later true e = refl
-    later false e = e
 
 not_among : (xs : List (List ℕ)) (name : List ℕ) → not (is_among xs name) ≡ true → ¬ IsAmong xs name
 not_among xs name e h = let there = among-whole xs name h in let off : not true ≡ true = rw there at e in cc

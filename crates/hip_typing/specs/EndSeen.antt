@@ -7,7 +7,7 @@ use Rattle.hip_ir.specs.declared.block.End.{End}
 use Rattle.hip_ir.specs.declared.program.Function.{Function}
 use Rattle.hip_typing.specs.Answers.{asked}
 use Rattle.hip_typing.specs.Check.{or_else}
-use Rattle.hip_typing.specs.Names.{Knows}
+use Rattle.hip_names.specs.Names.{Knows}
 use Rattle.hip_typing.specs.Places.{Scope, global_names, labels, are_among, uses_known, uses_agree, returns, end_agrees, cases_differ, end_cases, is_entry, fits_test, end_check}
 use Rattle.hip_typing.specs.Registers.{end_uses, end_labels, used_types}
 use Rattle.hip_typing.specs.Tables.{Finds}

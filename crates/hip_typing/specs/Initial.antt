@@ -3,7 +3,8 @@
 use Rattle.std.specs.Prelude.{ℕ, Bool, true, false, List, [], ◌∷◌, ◌++◌, if◌then◌else◌}
 use Rattle.hip_ir.specs.declared.program.GlobalVar.{GlobalVar}
 use Rattle.hip_ir.specs.declared.program.Program.{Program}
-use Rattle.hip_typing.specs.Addresses.{global_align, same, volatile_start}
+use Rattle.hip_mem.specs.Memory.{volatile_start}
+use Rattle.hip_typing.specs.Addresses.{global_align, same}
 use Rattle.hip_typing.specs.Values.{global_address, aligned, constant_bytes}
 
 -- those that are persistent, or those that are not, behind the bytes so far, the first of which lies at a place

@@ -9,7 +9,7 @@ use Rattle.hip_ir.specs.declared.program.Param.{Param}
 use Rattle.hip_typing.specs.Constants.{joined}
 use Rattle.hip_typing.specs.Names.{numbered}
 use Rattle.hip_typing.specs.Registers.{assigned_by, end_labels}
-use Rattle.hip_typing.specs.Tables.{Entry, StandsFor, value_of, value_beside}
+use Rattle.hip_names.specs.Tables.{Entry, StandsFor, value_of, value_beside}
 use Rattle.hip_typing.specs.declared.inner_table.Inner.{Inner}
 use Rattle.hip_typing.specs.declared.inner_table.Inner.TheVariants.{Parameter, Label, Assigned}
 

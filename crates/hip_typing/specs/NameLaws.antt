@@ -13,8 +13,10 @@ use Rattle.hip_ir.specs.declared.instr.Instr.{Instr}
 use Rattle.hip_ir.specs.declared.program.Function.{Function}
 use Rattle.hip_ir.specs.declared.program.Param.{Param}
 use Rattle.hip_ir.specs.declared.program.Program.{Program}
-use Rattle.hip_typing.specs.CheckLaws.{among-sound, among-whole}
-use Rattle.hip_typing.specs.Names.{AllDiffer, Named, IsAmong, is_among, differ_after, numbered_from}
+use Rattle.hip_names.specs.NameLaws.{among-sound, among-whole}
+use Rattle.hip_names.specs.Names.{AllDiffer, IsAmong, is_among}
+use Rattle.hip_names.specs.NameLaws.{among-left, among-right, among-either}
+use Rattle.hip_typing.specs.Names.{Named, differ_after, numbered_from}
 use Rattle.hip_typing.specs.Paths.{names_of}
 use Rattle.hip_typing.specs.Registers.{Register, assigned_by, phi_registers, body_registers, parameter_registers}
 use Rattle.hip_typing.specs.Rules as rules
@@ -22,27 +24,6 @@ use Rattle.hip_typing.specs.Rules.{names_check, registers_check, inner_check, in
 use Rattle.hip_typing.specs.declared.fault.Place.{Place}
 use Rattle.hip_typing.specs.declared.fault.Place.TheVariants as places
 use Rattle.hip_typing.specs.Sound.{top_names, names_in_block, names_in_function}
-
-pub bytes_eq-sym : (xs ys : List ℕ) → bytes_eq xs ys ≡ bytes_eq ys xs
-bytes_eq-sym xs ys =
-    both_ways _ _ (λ e. (bytes_eq-Decides ys xs).1 (sym ((bytes_eq-Decides xs ys).0 e))) (λ e. (bytes_eq-Decides xs ys).1 (sym ((bytes_eq-Decides ys xs).0 e)))
-
-pub among-decides : (xs : List (List ℕ)) (name : List ℕ) → Decides (is_among xs name) (IsAmong xs name)
-among-decides xs name = (among-sound xs name, among-whole xs name)
-
-pub among-left : (xs ys : List (List ℕ)) (name : List ℕ) → IsAmong xs name → IsAmong (xs ++ ys) name
-among-left [] ys name h = absurd h
-among-left (x ∷ xs) ys name (inl e) = inl e
-among-left (x ∷ xs) ys name (inr h) = inr (among-left xs ys name h)
-
-pub among-right : (xs ys : List (List ℕ)) (name : List ℕ) → IsAmong ys name → IsAmong (xs ++ ys) name
-among-right [] ys name h = h
-among-right (x ∷ xs) ys name h = inr (among-right xs ys name h)
-
-pub among-either : (xs ys : List (List ℕ)) (name : List ℕ) → IsAmong (xs ++ ys) name → IsAmong xs name ⊎ IsAmong ys name
-among-either [] ys name h = inr h
-among-either (x ∷ xs) ys name (inl e) = inl (inl e)
-among-either (x ∷ xs) ys name (inr h) = ⊎_elim (λ l. inl (inr l)) (λ r. inr r) (among-either xs ys name h)
 
 abbrev place_names : List Named → List (List ℕ)
 place_names ns = map (λ n. n.name) ns

@@ -2,7 +2,7 @@
 use Rattle.std.specs.Prelude.{ℕ, List, map, Option}
 use Rattle.hip_ir.specs.declared.program.Function.{Function}
 use Rattle.hip_ir.specs.declared.program.Program.{Program}
-use Rattle.hip_typing.specs.Names.{number_of}
+use Rattle.hip_names.specs.Names.{number_of}
 
 abbrev pub function_names : List Function → List (List ℕ)
 function_names functions = map (λ f. f.name) functions

@@ -12,7 +12,7 @@ use Rattle.hip_ir.specs.declared.block.Edge.{Edge}
 use Rattle.hip_ir.specs.declared.block.Phi.{Phi}
 use Rattle.hip_typing.specs.Answers.{asked}
 use Rattle.hip_typing.specs.Check.{or_else}
-use Rattle.hip_typing.specs.Names.{is_among, Knows}
+use Rattle.hip_names.specs.Names.{is_among, Knows}
 use Rattle.hip_typing.specs.Places.{Scope, global_names, labels, are_among, edge_labels, edges_agree, repeats_agree, predecessors, uses_known, uses_agree, fits_test, phi_check}
 use Rattle.hip_typing.specs.Registers.{phi_uses, used_types}
 use Rattle.hip_typing.specs.Tables.{Finds}

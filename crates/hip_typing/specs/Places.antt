@@ -34,7 +34,7 @@ use Rattle.hip_typing.specs.Constants.{goes_in, has_shape, index_of}
 use Rattle.hip_typing.specs.Equal.{same_bits, same_operand}
 use Rattle.hip_typing.specs.Externs.{Signature}
 use Rattle.hip_typing.specs.declared.fault.Fault.TheVariants as breaks
-use Rattle.hip_typing.specs.Names.{is_among}
+use Rattle.hip_names.specs.Names.{is_among}
 use Rattle.hip_typing.specs.Registers.{Register, Use, find_register, registers_of, instr_uses, end_uses, phi_uses, end_labels, used_registers, used_globals, used_types}
 use Rattle.hip_typing.specs.Types.{same_scalar, all_pass}
 use Rattle.hip_typing.specs.declared.fault.Place.{Place}

@@ -23,10 +23,11 @@ use Rattle.hip_ir.specs.declared.program.Function.{Function}
 use Rattle.hip_ir.specs.declared.program.GlobalVar.{GlobalVar}
 use Rattle.hip_ir.specs.declared.program.Program.{Program}
 use Rattle.hip_ir.specs.Reading.{IsSpelled}
-use Rattle.hip_typing.specs.Addresses.{region_size, volatile_start, volatile_end}
+use Rattle.hip_mem.specs.Memory.{volatile_start}
+use Rattle.hip_typing.specs.Addresses.{region_size, volatile_end}
 use Rattle.hip_typing.specs.Constants.{has_shape, names_in, types_in}
 use Rattle.hip_typing.specs.Externs.{known_signature, call_of}
-use Rattle.hip_typing.specs.Names.{IsAmong, number_of, AllDiffer}
+use Rattle.hip_names.specs.Names.{IsAmong, number_of, AllDiffer}
 use Rattle.hip_typing.specs.Numbering.{function_number}
 use Rattle.hip_typing.specs.Paths.{IsAssigned, label_at, names_of}
 use Rattle.hip_typing.specs.Places.{callee_of, cast_agrees, gep_agrees, type_of, written_types, edge_labels}

@@ -13,19 +13,21 @@ use Rattle.hip_ir.specs.declared.program.Function.{Function}
 use Rattle.hip_ir.specs.declared.program.GlobalVar.{GlobalVar}
 use Rattle.hip_ir.specs.declared.program.Param.{Param}
 use Rattle.hip_ir.specs.declared.program.Program.{Program}
-use Rattle.hip_typing.specs.Addresses.{region_size, volatile_start, volatile_end}
+use Rattle.hip_mem.specs.Memory.{volatile_start}
+use Rattle.hip_typing.specs.Addresses.{region_size, volatile_end}
 use Rattle.hip_typing.specs.Constants.{names_in}
 use Rattle.hip_typing.specs.Externs.{Signature, known_signature, call_of}
-use Rattle.hip_typing.specs.Names.{AllDiffer, IsAmong, is_among, number_of}
+use Rattle.hip_names.specs.Names.{AllDiffer, IsAmong, is_among, number_of}
 use Rattle.hip_typing.specs.Numbering.{function_names}
-use Rattle.hip_typing.specs.NumberingLaws.{number_of-cons}
+use Rattle.hip_names.specs.NumberLaws.{number_of-cons}
 use Rattle.hip_typing.specs.Places.{scope_of}
 use Rattle.hip_typing.specs.Rules as rules
 use Rattle.hip_typing.specs.Rules.{names_check, globals_check, global_check, externs_check, sizes_check, main_check, registers_check, places_check, function_check, block_check, phi_at, instr_at, site, is_of, is_main, is_i32, no_params, has_main, AllAssigned}
 use Rattle.hip_typing.specs.declared.fault.Place.TheVariants as places
 use Rattle.hip_typing.specs.AssignedExact.{assigned-sound, assigned-whole}
 use Rattle.hip_typing.specs.Decided.{both-decides, all-decides, le-decides, each-sound, each-whole, holds-at, holds-made}
-use Rattle.hip_typing.specs.NameLaws.{bytes_eq-sym, among-decides, names-sound, names-whole, inner-sound, inner-whole}
+use Rattle.hip_names.specs.NameLaws.{bytes_eq-sym, among-decides}
+use Rattle.hip_typing.specs.NameLaws.{names-sound, names-whole, inner-sound, inner-whole}
 use Rattle.hip_typing.specs.PlaceExact.{ItemIsSound, phi-sound, phi-whole, instr-sound, instr-whole, end-sound, end-whole}
 use Rattle.hip_typing.specs.EqualLaws.{same_scalars-decides, same_result-decides}
 use Rattle.hip_typing.specs.Sound.{names_in_function, TypesFitIn, HasItsShape, NamesGlobals, IsOfTable, IsFree, KeepsToTable, KeepsToSizes, HasMain, IsBlockAt, Item, PhiItem, InstrItem, EndItem, EachItem, IsSound}

@@ -1,36 +1,16 @@
--- Tables of values by names, in which the first value of a name counts.
-use Rattle.std.specs.Prelude.{ℕ, ◌≡◌, List, [], ◌∷◌, ◌++◌, map, length, Option, Some, None, if◌then◌else◌, option_map, option_and_then, slice_get}
-use Rattle.std.specs.Str.{bytes_eq}
+-- What the tables of registers and of callees stand for.
+use Rattle.std.specs.Prelude.{ℕ, ◌≡◌, List, ◌++◌, map, Option, option_map}
 use Rattle.hip_types.specs.declared.number.Scalar.{Scalar}
 use Rattle.hip_ir.specs.declared.program.Extern.{Extern}
 use Rattle.hip_ir.specs.declared.program.Function.{Function}
 use Rattle.hip_ir.specs.declared.program.Program.{Program}
+use Rattle.hip_names.specs.Tables.{Entry, value_beside, StandsFor}
 use Rattle.hip_typing.specs.Externs.{Signature}
-use Rattle.hip_typing.specs.Names.{number_of}
 use Rattle.hip_typing.specs.Places.{callee_of}
 use Rattle.hip_typing.specs.Registers.{Register, find_register}
 use Rattle.hip_typing.specs.declared.callees.Callee.{Callee}
 use Rattle.hip_typing.specs.declared.callees.Params.{Params}
 use Rattle.hip_typing.specs.declared.callees.Params.TheVariants.{Scalars, Named}
-
--- a value under a name
-pub record Entry (V : Type 0) : Type 0 where
-  pub name : List ℕ
-  pub value : V
-
--- the value of the first entry of that name
-abbrev pub value_of : {V : Type 0} → List (Entry V) → List ℕ → Option V
-value_of [] name = None
-value_of (e ∷ es) name = if bytes_eq e.name name then Some e.value else value_of es name
-
--- the value beside the first name that is this one
-abbrev pub value_beside : {V : Type 0} → List (List ℕ) → List V → List ℕ → Option V
-value_beside names values name = option_and_then (slice_get values) (number_of names name)
-
--- names and values stand for a list of entries
-pub record StandsFor {V : Type 0} (names : List (List ℕ)) (values : List V) (entries : List (Entry V)) : Type 0 where
-  pub as_long : length names ≡ length values
-  pub finds : (name : List ℕ) → value_beside names values name ≡ value_of entries name
 
 -- ---- registers
 

@@ -1,7 +1,7 @@
 -- What the code's tables of a program and of a function stand for.
 use Rattle.std.specs.Prelude.{map}
 use Rattle.hip_typing.specs.Arrivals.{FindsPredecessors}
-use Rattle.hip_typing.specs.Names.{Knows}
+use Rattle.hip_names.specs.Names.{Knows}
 use Rattle.hip_typing.specs.Places.{Scope, scope_of}
 use Rattle.hip_typing.specs.Registers.{registers_of}
 use Rattle.hip_typing.specs.Tables.{Finds, FindsCallees}

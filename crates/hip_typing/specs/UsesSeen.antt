@@ -7,10 +7,11 @@ use Rattle.hip_ir.specs.declared.instr.Instr.TheVariants.{Cast, Gep, Call}
 use Rattle.hip_ir.specs.declared.instr.Operand.{Operand}
 use Rattle.hip_ir.specs.declared.instr.Operand.TheVariants.{Reg, Fixed}
 use Rattle.hip_typing.specs.Constants.{has_shape, names_in, types_in}
-use Rattle.hip_typing.specs.Names.{is_among}
+use Rattle.hip_names.specs.Names.{is_among}
 use Rattle.hip_typing.specs.Places.{fits_test, has_type, type_of, cast_agrees, gep_agrees, signature_agrees, register_agrees, written_types}
 use Rattle.hip_typing.specs.Registers.{Use, uses, arg_uses}
-use Rattle.hip_typing.specs.Tables.{value_beside, callee_seen}
+use Rattle.hip_names.specs.Tables.{value_beside}
+use Rattle.hip_typing.specs.Tables.{callee_seen}
 use Rattle.hip_typing.specs.declared.callees.Callee.{Callee}
 use Rattle.hip_typing.specs.declared.uses.OperandUse.{OperandUse}
 use Rattle.hip_typing.specs.declared.uses.Uses.{Uses}

@@ -10,7 +10,7 @@ use Rattle.hip_ir.specs.declared.program.GlobalVar.{GlobalVar}
 use Rattle.hip_mem.specs.Bytes.{bytes_of}
 use Rattle.hip_typing.specs.Addresses.{address_in}
 use Rattle.hip_typing.specs.Constants.{index_of, joined}
-use Rattle.hip_typing.specs.Names.{number_of}
+use Rattle.hip_names.specs.Names.{number_of}
 
 -- ---- values
 

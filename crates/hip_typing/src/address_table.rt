@@ -1,14 +1,15 @@
 ghost use Rattle.std.specs.Prelude.{[], ◌∷◌, ◌≡◌, ◌<◌, ◌+◌, ◌^◌, true, false, IfOk, OnOk};
 ghost use Rattle.hip_types.specs.Layout.{Fits, size_of};
 ghost use Rattle.hip_typing.specs.Addresses as spec;
-ghost use Rattle.hip_typing.specs.Addresses.{AllFit, global_start, volatile_start};
+ghost use Rattle.hip_mem.specs.Memory.{volatile_start};
+ghost use Rattle.hip_typing.specs.Addresses.{AllFit, global_start};
 ghost use Rattle.hip_typing.specs.AddressesSeen.{address_entry, address_beside, laid_entries};
 ghost use Rattle.hip_typing.specs.Inner.{Gains};
-ghost use Rattle.hip_typing.specs.Tables.{StandsFor};
+ghost use Rattle.hip_names.specs.Tables.{StandsFor};
 
 use crate::addresses::{VOLATILE_START, alignment};
-use crate::table::{NameTable, new_table};
 use hip_ir::GlobalVar;
+use hip_names::NameTable;
 use hip_types::{Name, NoMemory, size};
 use std::alloc::Global;
 
@@ -51,7 +52,7 @@ pub fn address_table(
     requires volatile { spec.end_of false volatile_start globals.now < 2 ^ 64 }
     ensures { IfOk result (λ table. StandsFor table.names table.values (laid_entries base volatile_start globals.now)) }
 {
-    let mut table = new_table(alloc);
+    let mut table = NameTable::new(alloc);
     let mut persistent = base;
     let mut volatile = VOLATILE_START;
     'globals: for index in 0..globals.len() {

@@ -1,8 +1,8 @@
 ghost use Rattle.std.specs.Prelude.{[], ◌∷◌, map, IfOk, OnOk};
 ghost use Rattle.hip_typing.specs.Tables.{AddsCallees, FindsCallees, extern_entry, function_entry};
 
-use crate::table::{NameTable, new_table};
 use hip_ir::{Extern, Function, Param, Program};
+use hip_names::NameTable;
 use hip_types::{NoMemory, Scalar};
 use std::alloc::Global;
 
@@ -67,7 +67,7 @@ fn add_functions<'a>(table: &mut CalleeTable<'a>, functions: &'a [Function]) -> 
 pub fn callees_of(alloc: Global, program: &Program) -> Result<CalleeTable<'_>, NoMemory>
     ensures { IfOk result (λ table. FindsCallees table.names table.values program.now) }
 {
-    let mut table = new_table(alloc);
+    let mut table = NameTable::new(alloc);
     add_externs(&mut table, program.externs.as_slice())?;
     add_functions(&mut table, program.functions.as_slice())?;
     Ok(table)

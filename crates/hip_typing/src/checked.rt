@@ -1,11 +1,12 @@
 ghost use Rattle.std.specs.Prelude.{◌≡◌, ◌+◌, ◌<◌, true, false, length, IfOk};
+ghost use Rattle.hip_mem.specs.Memory.{volatile_start};
 ghost use Rattle.hip_typing.specs.Addresses as spec;
 ghost use Rattle.hip_typing.specs.Addresses.{IsBase};
 ghost use Rattle.hip_typing.specs.Checks.{Checks};
 ghost use Rattle.hip_typing.specs.Given.{CallsAgree, OperandsAgree, LabelsExist, PhisAgree};
 ghost use Rattle.hip_typing.specs.Held.{HoldsGlobals};
 ghost use Rattle.hip_typing.specs.Initial as initial;
-ghost use Rattle.hip_typing.specs.Names as names;
+ghost use Rattle.hip_names.specs.Names as names;
 ghost use Rattle.hip_typing.specs.Numbering.{function_names, function_number};
 ghost use Rattle.hip_typing.specs.Sound.{RegistersAssigned, HasMain, IsSound};
 
@@ -86,8 +87,8 @@ impl Checked {
     pub fn volatile_bytes(&self, alloc: Global, base: u64) -> Result<Row<u8>, NoMemory>
         requires { IsBase base }
         ensures bytes { IfOk result (λ bytes. bytes ≡ initial.volatile_bytes self.now base) }
-        ensures length { IfOk result (λ bytes. spec.volatile_start + length bytes ≡ spec.volatile_end self.now) }
-        ensures held { IfOk result (λ bytes. HoldsGlobals self.now base false spec.volatile_start bytes) }
+        ensures length { IfOk result (λ bytes. volatile_start + length bytes ≡ spec.volatile_end self.now) }
+        ensures held { IfOk result (λ bytes. HoldsGlobals self.now base false volatile_start bytes) }
     {
         volatile_bytes(alloc, &self.program, base)
     }

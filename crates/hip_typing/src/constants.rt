@@ -1,11 +1,11 @@
 ghost use Rattle.std.specs.Prelude.{◌≡◌, ◌↔◌, IsTrue, map};
 ghost use Rattle.std.specs.List.{list_all};
 ghost use Rattle.hip_typing.specs.Constants.{joined, types_in, gep_types, item_types, names_in, gep_names, item_names};
-ghost use Rattle.hip_typing.specs.Names.{is_among};
+ghost use Rattle.hip_names.specs.Names.{is_among};
 ghost use Rattle.hip_typing.specs.Places.{fits_test};
 
-use crate::names::NameSet;
 use hip_ir::{Const, ConstGep, TypedConst};
+use hip_names::NameSet;
 use hip_types::{Ty, fits};
 
 pub fn type_fits(ty: &Ty) -> bool

@@ -4,9 +4,8 @@ ghost use Rattle.hip_typing.specs.Equal as equal;
 ghost use Rattle.hip_typing.specs.Places as places;
 ghost use Rattle.hip_typing.specs.Places.{are_among, edge_labels};
 
-use crate::names::NameSet;
-use crate::table::{NameTable, new_table};
 use hip_ir::{Edge, Operand};
+use hip_names::{NameSet, NameTable};
 use hip_types::{NoMemory, Structural};
 use std::alloc::Global;
 
@@ -33,7 +32,7 @@ fn carries(first: Option<&Operand>, operand: &Operand) -> bool
 fn operands_by_label(alloc: Global, edges: &[Edge]) -> Result<Option<OperandTable<'_>>, NoMemory>
     ensures { IfOk result (λ found. CarriesWhere edges.now found) }
 {
-    let mut table = new_table(alloc);
+    let mut table = NameTable::new(alloc);
     'each: for edge in edges {
         if !carries(table.get(edge.label.as_slice()), &edge.value) {
             return Ok(None);

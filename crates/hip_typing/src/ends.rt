@@ -5,13 +5,13 @@ ghost use Rattle.hip_typing.specs.Places as places;
 
 use crate::externs::is_same_scalar;
 use crate::fault::{Fault, Place};
-use crate::names::NameSet;
 use crate::operands::{uses_agree, uses_fit, uses_known};
 use crate::refused::{Refused, ask};
 use crate::registers::RegisterTable;
 use crate::targets::{Targets, targets_known, targets_name_entry};
 use crate::uses::Uses;
 use hip_ir::{Arg, Case, End, Function};
+use hip_names::NameSet;
 use hip_types::{NoMemory, Scalar};
 use indexmap::IndexSet;
 use std::alloc::Global;

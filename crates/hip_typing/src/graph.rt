@@ -2,7 +2,7 @@ ghost use Rattle.std.specs.Prelude.{[], ◌≡◌, ◌++◌, map, IfOk, OnOk, Ma
 ghost use Rattle.std.specs.List.{flat_map};
 ghost use Rattle.hip_typing.specs.Inner.{block_number, label_numbers};
 ghost use Rattle.hip_typing.specs.Registers.{end_labels};
-ghost use Rattle.hip_typing.specs.Tables.{value_beside};
+ghost use Rattle.hip_names.specs.Tables.{value_beside};
 ghost use Rattle.hip_typing.specs.declared.inner_table.Inner.TheVariants as inner;
 
 use crate::inner_table::{Inner, InnerTable};

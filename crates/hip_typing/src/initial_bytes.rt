@@ -1,5 +1,6 @@
 ghost use Rattle.std.specs.Prelude.{◌≡◌, ◌<◌, ◌+◌, ◌^◌, ◌++◌, ◌∷◌, [], true, false, length, All, IfOk, OnOk};
-ghost use Rattle.hip_typing.specs.Addresses.{end_of, global_align, region_size, volatile_start, volatile_end};
+ghost use Rattle.hip_mem.specs.Memory.{volatile_start};
+ghost use Rattle.hip_typing.specs.Addresses.{end_of, global_align, region_size, volatile_end};
 ghost use Rattle.hip_typing.specs.AddressesSeen.{address_beside};
 ghost use Rattle.hip_typing.specs.Constants.{types_in};
 ghost use Rattle.hip_typing.specs.Held.{HoldsGlobals};

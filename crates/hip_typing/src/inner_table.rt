@@ -1,11 +1,11 @@
 ghost use Rattle.std.specs.Prelude.{◌+◌, ◌<◌, ◌^◌, [], ◌∷◌, map, IfOk, OnOk};
 ghost use Rattle.hip_typing.specs.Inner as spec;
 ghost use Rattle.hip_typing.specs.Inner.{Gains, param_entry, phi_entry, instr_entries, body_entries, block_entries, blocks_entries, inner_entries};
-ghost use Rattle.hip_typing.specs.Tables.{StandsFor};
+ghost use Rattle.hip_names.specs.Tables.{StandsFor};
 
 use crate::registers::assigned_by;
-use crate::table::{NameTable, new_table};
 use hip_ir::{Block, Function, Instr, Param, Phi};
+use hip_names::NameTable;
 use hip_types::{Name, NoMemory};
 use std::alloc::Global;
 
@@ -100,7 +100,7 @@ fn add_blocks<'a>(table: &mut InnerTable<'a>, blocks: &'a [Block]) -> Result<(),
 pub fn inner_table(alloc: Global, function: &Function) -> Result<InnerTable<'_>, NoMemory>
     ensures { IfOk result (λ table. StandsFor table.names table.values (inner_entries function.now)) }
 {
-    let mut table = new_table(alloc);
+    let mut table = NameTable::new(alloc);
     add_params(&mut table, function.params.as_slice())?;
     add_blocks(&mut table, function.blocks.as_slice())?;
     Ok(table)

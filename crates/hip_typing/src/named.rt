@@ -5,9 +5,9 @@ ghost use Rattle.hip_typing.specs.Rules.{global_names, extern_names, function_na
 ghost use Rattle.hip_typing.specs.Seen.{seen};
 
 use crate::fault::{Fault, Finding, Place};
-use crate::names::NameSet;
 use crate::refused::Refused;
 use hip_ir::{Extern, Function, GlobalVar, Program};
+use hip_names::NameSet;
 use hip_types::{NoMemory, Row};
 use std::alloc::Global;
 

@@ -7,11 +7,11 @@ ghost use Rattle.hip_typing.specs.UsesSeen.{use_seen, uses_seen, operands_known,
 
 use crate::constants::{names_known, types_fit};
 use crate::externs::is_same_scalar;
-use crate::names::NameSet;
 use crate::registers::RegisterTable;
 use crate::shape::const_has_shape;
 use crate::uses::{OperandUse, Uses};
 use hip_ir::{Arg, Operand, Phi};
+use hip_names::NameSet;
 use hip_types::{Scalar, Ty};
 
 // ---- registers and globals that are named, exist

@@ -2,7 +2,7 @@ ghost use Rattle.std.specs.Prelude.{◌≡◌, [], IfOk};
 ghost use Rattle.hip_typing.specs.Answers.{Answers};
 ghost use Rattle.hip_typing.specs.Check.{each};
 ghost use Rattle.hip_typing.specs.InstrSeen.{instr_found};
-ghost use Rattle.hip_typing.specs.Names.{Knows};
+ghost use Rattle.hip_names.specs.Names.{Knows};
 ghost use Rattle.hip_typing.specs.PhiSeen.{phi_found};
 ghost use Rattle.hip_typing.specs.Places as spec;
 ghost use Rattle.hip_typing.specs.Rules.{phi_at, instr_at, block_check, function_check, places_check};
@@ -14,13 +14,13 @@ use crate::ends::check_end;
 use crate::fault::{Fault, Place};
 use crate::globals::names_of_globals;
 use crate::instrs::{callee_known, instr_agrees, written_fits};
-use crate::names::NameSet;
 use crate::operands::{edges_fit, edges_have_type, edges_known, uses_agree, uses_fit, uses_known};
 use crate::refused::{Refused, ask};
 use crate::registers::{RegisterTable, registers_of};
 use crate::tables::{FunctionTables, ProgramTables, tables_of_function, tables_of_program};
 use crate::uses::Uses;
 use hip_ir::{Block, Function, Instr, Phi, Program, Site};
+use hip_names::NameSet;
 use std::alloc::Global;
 
 /// Checks an instruction: names exist, types that are written there fit, and types agree.

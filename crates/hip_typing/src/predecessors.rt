@@ -4,9 +4,9 @@ ghost use Rattle.hip_typing.specs.Arrivals.{names_at, found_at, Arrives, FindsPr
 ghost use Rattle.hip_typing.specs.Registers.{end_labels};
 ghost use Rattle.hip_typing.specs.TargetsSeen.{label_seen, case_labels, targets_seen};
 
-use crate::names::NameSet;
 use crate::targets::Targets;
 use hip_ir::{Block, Case};
+use hip_names::NameSet;
 use hip_types::{Name, NoMemory};
 use indexmap::IndexMap;
 use std::alloc::Global;

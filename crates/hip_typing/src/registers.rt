@@ -4,8 +4,8 @@ ghost use Rattle.hip_typing.specs.Registers.{assigned_by, phi_registers, body_re
 ghost use Rattle.hip_typing.specs.RegistersSeen.{register_seen};
 ghost use Rattle.hip_typing.specs.Tables.{Adds, Finds};
 
-use crate::table::{NameTable, new_table};
 use hip_ir::{Block, Function, Instr, Param, Phi};
+use hip_names::NameTable;
 use hip_types::{Name, NoMemory, Scalar, Width};
 use std::alloc::Global;
 
@@ -110,7 +110,7 @@ fn add_blocks<'a>(table: &mut RegisterTable<'a>, blocks: &'a [Block]) -> Result<
 pub fn registers_of(alloc: Global, function: &Function) -> Result<RegisterTable<'_>, NoMemory>
     ensures { IfOk result (λ table. Finds table.names table.values (registers_of function.now)) }
 {
-    let mut table = new_table(alloc);
+    let mut table = NameTable::new(alloc);
     add_params(&mut table, function.params.as_slice())?;
     add_blocks(&mut table, function.blocks.as_slice())?;
     Ok(table)

@@ -1,13 +1,13 @@
 ghost use Rattle.std.specs.Prelude.{◌≡◌, IfOk, map};
-ghost use Rattle.hip_typing.specs.Names.{Knows};
+ghost use Rattle.hip_names.specs.Names.{Knows};
 ghost use Rattle.hip_typing.specs.TablesSeen.{DescribesProgram, DescribesFunction};
 
 use crate::callees::{CalleeTable, callees_of};
 use crate::globals::names_of_globals;
-use crate::names::NameSet;
 use crate::predecessors::{Predecessors, predecessors_of};
 use crate::registers::{RegisterTable, registers_of};
 use hip_ir::{Block, Function, Program};
+use hip_names::NameSet;
 use hip_types::NoMemory;
 use std::alloc::Global;
 

@@ -5,8 +5,8 @@ ghost use Rattle.hip_typing.specs.Places.{are_among};
 ghost use Rattle.hip_typing.specs.Registers.{end_labels};
 ghost use Rattle.hip_typing.specs.TargetsSeen.{label_seen, case_labels, targets_seen};
 
-use crate::names::NameSet;
 use hip_ir::{Block, Case, End};
+use hip_names::NameSet;
 use hip_types::Name;
 
 /// The labels that the end of a block names: up to two, and then those of cases.

@@ -1,4 +1,4 @@
-use Rattle.hip_typing.specs.Addresses.{volatile_start}
+use Rattle.hip_mem.specs.Memory.{volatile_start}
 use Rattle.hip_typing.proofs.AddressLists.{IsLaid}
 use Rattle.hip_typing.proofs.address_table.address_table.Given as goal
 

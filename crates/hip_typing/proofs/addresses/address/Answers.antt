@@ -1,7 +1,8 @@
 use Rattle.std.proofs.Common.{◌≡◌, ◌+◌, ◌<◌, ◌≤◌, true, false, length, ap, arith, sym, subst, ◌∙◌, List}
 use Rattle.std.specs.Prelude.{if◌then◌else◌}
 use Rattle.hip_ir.specs.declared.program.GlobalVar.{GlobalVar}
-use Rattle.hip_typing.specs.Addresses.{start_of, end_of, is_persistent, volatile_start}
+use Rattle.hip_mem.specs.Memory.{volatile_start}
+use Rattle.hip_typing.specs.Addresses.{start_of, end_of, is_persistent}
 use Rattle.hip_typing.specs.AddressLaws.{spelled-divide, start_of-from}
 use Rattle.hip_typing.specs.SoundLaws.{globals-fit, persistent-end}
 use Rattle.hip_typing.proofs.AddressLemmas.{is_persistent-at, start_of-le}

@@ -1,6 +1,6 @@
 use Rattle.std.proofs.Common.{◌≡◌, drop, ◌+◌}
 use Rattle.std.specs.Prelude.{option_map}
-use Rattle.hip_typing.specs.Names.{number_of}
+use Rattle.hip_names.specs.Names.{number_of}
 use Rattle.hip_typing.specs.Numbering.{function_names}
 use Rattle.hip_typing.proofs.checked.number_of.Given as goal
 

@@ -1,5 +1,5 @@
 use Rattle.std.proofs.Common.{take, map}
-use Rattle.hip_typing.specs.Names.{Knows}
+use Rattle.hip_names.specs.Names.{Knows}
 use Rattle.hip_typing.proofs.globals.names_of_globals.Given as goal
 
 abbrev pub invariant-globals : goal.invariant-globals

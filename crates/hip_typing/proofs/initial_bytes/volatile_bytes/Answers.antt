@@ -1,5 +1,5 @@
 use Rattle.std.proofs.Common.{◌≡◌, [], false}
-use Rattle.hip_typing.specs.Addresses.{volatile_start}
+use Rattle.hip_mem.specs.Memory.{volatile_start}
 use Rattle.hip_typing.specs.AddressesSeen.{address_beside}
 use Rattle.hip_typing.specs.Initial.{laid_bytes, volatile_bytes}
 use Rattle.hip_typing.specs.SoundLaws.{globals-fit}

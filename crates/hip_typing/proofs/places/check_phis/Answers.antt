@@ -1,6 +1,6 @@
 use Rattle.std.proofs.Common.{ap, subst, ◌∙◌, Option, Err, Ok}
 use Rattle.hip_typing.specs.Answers.{Answers}
-use Rattle.hip_typing.specs.Names.{is_among}
+use Rattle.hip_names.specs.Names.{is_among}
 use Rattle.hip_typing.specs.PhiSeen.{phi_found-is}
 use Rattle.hip_typing.specs.Rules.{phi_at}
 use Rattle.hip_typing.specs.TablesSeen.{scope_in}

@@ -1,5 +1,5 @@
 use Rattle.std.proofs.Common.{take, map}
-use Rattle.hip_typing.specs.Names.{Knows}
+use Rattle.hip_names.specs.Names.{Knows}
 use Rattle.hip_typing.proofs.tables.labels_of.Given as goal
 
 abbrev pub invariant-each : goal.invariant-each

@@ -1,5 +1,5 @@
 ghost use Rattle.std.specs.Prelude.{◌≡◌, List, [], ◌∷◌, ◌++◌, IfOk};
-ghost use Rattle.hip_typing.specs.Tables.{Entry, StandsFor, value_beside};
+ghost use Rattle.hip_names.specs.Tables.{Entry, StandsFor, value_beside};
 
 use crate::names::NameSet;
 use hip_types::{NoMemory, Row};
@@ -12,13 +12,15 @@ pub struct NameTable<'a, V> {
     pub values: Row<V>,
 }
 
-/// A table without names.
-pub fn new_table<'a, V>(alloc: Global) -> NameTable<'a, V>
-    ensures { StandsFor result.names result.values [] }
-{
-    NameTable {
-        names: NameSet::new(alloc),
-        values: Row::new(alloc),
+impl<'a, V> NameTable<'a, V> {
+    /// A table without names. It takes no memory.
+    pub fn new(alloc: Global) -> NameTable<'a, V>
+        ensures { StandsFor result.names result.values [] }
+    {
+        NameTable {
+            names: NameSet::new(alloc),
+            values: Row::new(alloc),
+        }
     }
 }
 

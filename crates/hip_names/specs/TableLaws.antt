@@ -6,9 +6,9 @@ use Rattle.std.specs.Str.{bytes_eq}
 use Rattle.std.proofs.lemmas.Bool.Decides.{nat_tests}
 use Rattle.std.proofs.lemmas.List.{length-append}
 use Rattle.std.proofs.lemmas.Slice.Eq.{bytes_eq-Decides}
-use Rattle.hip_typing.specs.Names.{is_among}
-use Rattle.hip_typing.specs.NameLaws.{bytes_eq-sym}
-use Rattle.hip_typing.specs.Tables.{Entry, value_of, value_beside, StandsFor}
+use Rattle.hip_names.specs.Names.{is_among}
+use Rattle.hip_names.specs.NameLaws.{bytes_eq-sym}
+use Rattle.hip_names.specs.Tables.{Entry, value_of, value_beside, StandsFor}
 
 module _ {V : Type 0} where
   abbrev or_later : Option V → Option V → Option V

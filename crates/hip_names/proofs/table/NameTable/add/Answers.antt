@@ -1,7 +1,7 @@
 use Rattle.std.proofs.Common.{◌≡◌, not, Bool, true, false, refl, sym, ◌∙◌}
-use Rattle.hip_typing.specs.Names.{is_among}
-use Rattle.hip_typing.proofs.TableLemmas.{entry_added, entry_kept}
-use Rattle.hip_typing.proofs.table.NameTable.add.Goals as goal
+use Rattle.hip_names.specs.Names.{is_among}
+use Rattle.hip_names.specs.TableLaws.{entry_added, entry_kept}
+use Rattle.hip_names.proofs.table.NameTable.add.Goals as goal
 
 is_there : (b : Bool) → not b ≡ false → b ≡ true
 is_there true e = refl

@@ -1,6 +1,6 @@
 ghost use Rattle.std.specs.Prelude.{◌≡◌, [], ◌∷◌, ◌++◌, if◌then◌else◌, not, IfOk, OnErr};
 ghost use Rattle.std.specs.List.{list_all};
-ghost use Rattle.hip_typing.specs.Names.{is_among, number_of};
+ghost use Rattle.hip_names.specs.Names.{is_among, number_of};
 
 use hip_types::NoMemory;
 use indexmap::IndexSet;

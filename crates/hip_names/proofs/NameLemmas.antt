@@ -4,7 +4,7 @@ use Rattle.std.specs.Prelude.{position}
 use Rattle.std.specs.List.{list_any, position_or_len}
 use Rattle.std.specs.Str.{bytes_eq}
 use Rattle.std.proofs.lemmas.List.{length-map}
-use Rattle.hip_typing.specs.Names.{is_among, number_of}
+use Rattle.hip_names.specs.Names.{is_among, number_of}
 
 abbrev pub pointed : List (Bor (List ℕ)) → List (List ℕ)
 pointed names = map (λ name. name.now) names

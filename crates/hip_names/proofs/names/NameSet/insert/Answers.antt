@@ -1,7 +1,7 @@
 use Rattle.std.proofs.Common.{not, ap}
-use Rattle.hip_typing.proofs.NameLemmas.{among-pointed}
-use Rattle.hip_typing.proofs.names.NameSet.insert.Goals as goal
-use Rattle.hip_typing.proofs.names.NameSet.insert.Goals.{in-Ok, in-Err}
+use Rattle.hip_names.proofs.NameLemmas.{among-pointed}
+use Rattle.hip_names.proofs.names.NameSet.insert.Goals as goal
+use Rattle.hip_names.proofs.names.NameSet.insert.Goals.{in-Ok, in-Err}
 
 pub returns-clause-new : goal.returns-clause-new
 returns-clause-new c = elim c.match-insert.branch [

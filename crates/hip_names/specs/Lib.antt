@@ -1,0 +1,5 @@
+pub mod Names
+pub mod Tables
+pub mod NumberLaws
+pub mod NameLaws
+pub mod TableLaws

@@ -1,0 +1,25 @@
+-- Lists of names: which names are among them, and at which place.
+use Rattle.std.specs.Prelude.{ℕ, ◌≡◌, ◌⊎◌, Bool, List, [], ◌∷◌, Option, position}
+use Rattle.std.specs.List.{list_any}
+use Rattle.std.specs.Str.{bytes_eq}
+
+-- one of the names is this one
+abbrev pub IsAmong : List (List ℕ) → List ℕ → Type 0
+IsAmong [] name = ⊥
+IsAmong (x ∷ xs) name = (x ≡ name) ⊎ IsAmong xs name
+
+abbrev pub is_among : List (List ℕ) → List ℕ → Bool
+is_among names name = list_any (bytes_eq name) names
+
+-- each name differs from those after it
+abbrev pub AllDiffer : List (List ℕ) → Type 0
+AllDiffer [] = Unit {0}
+AllDiffer (n ∷ ns) = (¬ IsAmong ns n) × AllDiffer ns
+
+-- the first list has the same names as the second, perhaps in another order or more often
+abbrev pub Knows : List (List ℕ) → List (List ℕ) → Type 0
+Knows known names = (name : List ℕ) → is_among known name ≡ is_among names name
+
+-- the number of the first name that is this one
+abbrev pub number_of : List (List ℕ) → List ℕ → Option ℕ
+number_of names name = position (bytes_eq name) names

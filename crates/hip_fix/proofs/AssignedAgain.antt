@@ -1,10 +1,10 @@
 -- Each use of a register in the repaired program is assigned on every path.
 use Rattle.std.proofs.Common.{◌≡◌, ⊎_elim, ℕ, zero, suc, ◌+◌, Bool, true, false, cond, ◌||◌, List, [], ◌∷◌, ◌++◌, map, take, Option, Some, None, slice_get, option_map, unwrap_or, refl, sym, ap, ap₂, ◌∙◌, subst, arith, append-nil, append_assoc}
-use Rattle.std.specs.Prelude.{if◌then◌else◌}
-use Rattle.std.specs.List.{flat_map, AllByRecursion}
+use Rattle.std.specs.Prelude.{All, if◌then◌else◌}
+use Rattle.std.specs.List.{flat_map}
 use Rattle.std.specs.Str.{bytes_eq}
 use Rattle.std.proofs.lemmas.List.{map-append}
-use Rattle.std.proofs.lemmas.List.Elements.{All-from_recursion, recursion_from_All}
+use Rattle.std.proofs.lemmas.List.Elements.{All-append, All-cons, All-head, All-nil, All-tail}
 use Rattle.std.proofs.lemmas.Option.{same_Some}
 use Rattle.hip_types.specs.declared.number.Scalar.{Scalar}
 use Rattle.hip_types.specs.declared.number.Scalar.TheVariants.{Ptr}
@@ -17,12 +17,13 @@ use Rattle.hip_ir.specs.declared.instr.Operand.{Operand}
 use Rattle.hip_ir.specs.declared.program.Function.{Function}
 use Rattle.hip_ir.specs.declared.program.Program.{Program}
 use Rattle.hip_ir.specs.declared.site.Site.{Site}
+use Rattle.hip_typing.specs.AssignedExact.{all-front, all-back, all-joined, joined-all}
 use Rattle.hip_typing.specs.Constants.{joined}
 use Rattle.hip_names.specs.Names.{IsAmong}
 use Rattle.hip_typing.specs.Names.{numbered_from}
 use Rattle.hip_typing.specs.Paths.{label_at, labels_named_at, LeadsTo, IsChain, IsPathTo, names_of, whole_block_names, names_before, IsAssigned}
 use Rattle.hip_typing.specs.Registers.{assigned_by, body_registers, block_registers, phi_registers, parameter_registers, uses, instr_uses, used_registers, operand_registers, end_labels, end_uses}
-use Rattle.hip_typing.specs.Rules.{Passes, use_at, block_numbers_from, edge_register_uses, phi_register_uses, instr_register_uses, end_register_uses, block_register_uses, register_uses, UseIsAssigned, AllAssigned}
+use Rattle.hip_typing.specs.Rules.{Passes, use_at, block_numbers_from, edge_register_uses, phi_register_uses, instr_register_uses, end_register_uses, block_register_uses, UseIsAssigned, AllAssigned}
 use Rattle.hip_typing.specs.declared.assigned.Point.{Point}
 use Rattle.hip_typing.specs.declared.assigned.Point.TheVariants.{Before, AtEnd}
 use Rattle.hip_typing.specs.declared.fault.Place.{Place}
@@ -33,37 +34,6 @@ use Rattle.hip_fix.specs.Repaired.{Clone, Wanted, wanted_by, clones_of, renamed,
 use Rattle.hip_fix.proofs.Bodies.{IsOriginal, IsInserted, in_body, inserted_kind, site_at, repaired_instrs, same_block_registers}
 use Rattle.hip_fix.proofs.Origins.{Origin, origin}
 use Rattle.hip_fix.proofs.PlacesAgain.{block_there}
-
--- ---- what holds of all items
-
-module _ {A : Type 0} (Q : A → Type 0) where
-  all_append : (xs ys : List A) → AllByRecursion Q xs → AllByRecursion Q ys → AllByRecursion Q (xs ++ ys)
-  all_append [] ys h k = k
-  all_append (x ∷ xs) ys h k = (h.0, all_append xs ys h.1 k)
-
-  all_first : (xs ys : List A) → AllByRecursion Q (xs ++ ys) → AllByRecursion Q xs
-  all_first [] ys h = tt
-  all_first (x ∷ xs) ys h = (h.0, all_first xs ys h.1)
-
-  all_second : (xs ys : List A) → AllByRecursion Q (xs ++ ys) → AllByRecursion Q ys
-  all_second [] ys h = h
-  all_second (x ∷ xs) ys h = all_second xs ys h.1
-
-  joined_make : {B : Type 0} (make : ℕ → B → List A) (n : ℕ) (xs : List B) → ((k : ℕ) (x : B) → slice_get xs k ≡ Some x → AllByRecursion Q (make (n + k) x)) → AllByRecursion Q (joined (numbered_from n make xs))
-  joined_make make n [] h = tt
-  joined_make make n (x ∷ xs) h =
-      let first : n + 0 ≡ n = omega arith in
-      all_append (make n x) (joined (numbered_from (n + 1) make xs)) (subst (λ m. AllByRecursion Q (make m x)) first (h 0 x refl))
-      (joined_make make (n + 1) xs (λ k y e. let next : n + suc k ≡ n + 1 + k = omega arith in subst (λ m. AllByRecursion Q (make m y)) next (h (suc k) y e)))
-
-  joined_at : {B : Type 0} (make : ℕ → B → List A) (n : ℕ) (xs : List B) (k : ℕ) (x : B) → AllByRecursion Q (joined (numbered_from n make xs)) → slice_get xs k ≡ Some x → AllByRecursion Q (make (n + k) x)
-  joined_at make n [] k x h e = cc
-  joined_at make n (y ∷ xs) zero x h e =
-      let first : n ≡ n + 0 = omega arith in
-      subst (λ m. AllByRecursion Q (make m x)) first (subst (λ z. AllByRecursion Q (make n z)) (same_Some y x e) (all_first (make n y) (joined (numbered_from (n + 1) make xs)) h))
-  joined_at make n (y ∷ xs) (suc k) x h e =
-      let next : n + 1 + k ≡ n + suc k = omega arith in
-      subst (λ m. AllByRecursion Q (make m x)) next (joined_at make (n + 1) xs k x (all_second (make n y) (joined (numbered_from (n + 1) make xs)) h) e)
 
 -- ---- instructions
 
@@ -148,32 +118,35 @@ module _ (clones : List Clone) (w : Wanted) (clone : Bool) (f : ℕ) (name : Lis
 
   -- ---- uses
 
-  uses_again : (p p' : Place) (b : ℕ) (point point' : Point) → names_before R point' b ≡ names_before fn point b → (names : List (List ℕ)) → AllByRecursion (UseIsAssigned fn) (map (use_at p b point) names) → AllByRecursion (UseIsAssigned R) (map (use_at p' b point') names)
-  uses_again p p' b point point' same [] h = tt
-  uses_again p p' b point point' same (n ∷ names) h = (assigned_again b point point' n same h.0, uses_again p p' b point point' same names h.1)
+  uses_again : (p p' : Place) (b : ℕ) (point point' : Point) → names_before R point' b ≡ names_before fn point b → (names : List (List ℕ)) → All (UseIsAssigned fn) (map (use_at p b point) names) → All (UseIsAssigned R) (map (use_at p' b point') names)
+  uses_again p p' b point point' same [] h = All-nil (UseIsAssigned R)
+  uses_again p p' b point point' same (n ∷ names) h =
+      All-cons (UseIsAssigned R) (use_at p' b point' n) (map (use_at p' b point') names)
+      (assigned_again b point point' n same (All-head (UseIsAssigned fn) (use_at p b point n) (map (use_at p b point) names) h))
+      (uses_again p p' b point point' same names (All-tail (UseIsAssigned fn) (use_at p b point n) (map (use_at p b point) names) h))
 
   numbers_kept : (n : ℕ) (first : ℕ) (blocks : List Block) (label : List ℕ) → block_numbers_from n (repaired_blocks clones w clone f first blocks) label ≡ block_numbers_from n blocks label
   numbers_kept n first [] label = refl
   numbers_kept n first (x ∷ xs) label = ap (λ ns. if bytes_eq x.label label then n ∷ [] else ns) (numbers_kept (n + 1) (suc first) xs label)
 
-  at_ends_again : (p p' : Place) (names : List (List ℕ)) (bs : List ℕ) → AllByRecursion (UseIsAssigned fn) (flat_map (λ b. map (use_at p b AtEnd) names) bs) → AllByRecursion (UseIsAssigned R) (flat_map (λ b. map (use_at p' b AtEnd) names) bs)
-  at_ends_again p p' names [] h = tt
+  at_ends_again : (p p' : Place) (names : List (List ℕ)) (bs : List ℕ) → All (UseIsAssigned fn) (flat_map (λ b. map (use_at p b AtEnd) names) bs) → All (UseIsAssigned R) (flat_map (λ b. map (use_at p' b AtEnd) names) bs)
+  at_ends_again p p' names [] h = All-nil (UseIsAssigned R)
   at_ends_again p p' names (b ∷ bs) h =
-      all_append (UseIsAssigned R) (map (use_at p' b AtEnd) names) (flat_map (λ b. map (use_at p' b AtEnd) names) bs)
-      (uses_again p p' b AtEnd AtEnd (same_at_end b) names (all_first (UseIsAssigned fn) (map (use_at p b AtEnd) names) (flat_map (λ b. map (use_at p b AtEnd) names) bs) h))
-      (at_ends_again p p' names bs (all_second (UseIsAssigned fn) (map (use_at p b AtEnd) names) (flat_map (λ b. map (use_at p b AtEnd) names) bs) h))
+      All-append (UseIsAssigned R) (map (use_at p' b AtEnd) names) (flat_map (λ b. map (use_at p' b AtEnd) names) bs)
+      (uses_again p p' b AtEnd AtEnd (same_at_end b) names (all-front (UseIsAssigned fn) (map (use_at p b AtEnd) names) (flat_map (λ b. map (use_at p b AtEnd) names) bs) h))
+      (at_ends_again p p' names bs (all-back (UseIsAssigned fn) (map (use_at p b AtEnd) names) (flat_map (λ b. map (use_at p b AtEnd) names) bs) h))
 
-  edge_again : (p p' : Place) (ty : Scalar) (e : Edge) → AllByRecursion (UseIsAssigned fn) (edge_register_uses fn.blocks p ty e) → AllByRecursion (UseIsAssigned R) (edge_register_uses R.blocks p' ty e)
+  edge_again : (p p' : Place) (ty : Scalar) (e : Edge) → All (UseIsAssigned fn) (edge_register_uses fn.blocks p ty e) → All (UseIsAssigned R) (edge_register_uses R.blocks p' ty e)
   edge_again p p' ty e h =
-      subst (λ bs. AllByRecursion (UseIsAssigned R) (flat_map (λ b. map (use_at p' b AtEnd) (used_registers (uses e.value ty ∷ []))) bs)) (sym (numbers_kept 0 0 fn.blocks e.label))
+      subst (λ bs. All (UseIsAssigned R) (flat_map (λ b. map (use_at p' b AtEnd) (used_registers (uses e.value ty ∷ []))) bs)) (sym (numbers_kept 0 0 fn.blocks e.label))
       (at_ends_again p p' (used_registers (uses e.value ty ∷ [])) (block_numbers_from 0 fn.blocks e.label) h)
 
-  edges_again : (p p' : Place) (ty : Scalar) (es : List Edge) → AllByRecursion (UseIsAssigned fn) (flat_map (edge_register_uses fn.blocks p ty) es) → AllByRecursion (UseIsAssigned R) (flat_map (edge_register_uses R.blocks p' ty) es)
-  edges_again p p' ty [] h = tt
+  edges_again : (p p' : Place) (ty : Scalar) (es : List Edge) → All (UseIsAssigned fn) (flat_map (edge_register_uses fn.blocks p ty) es) → All (UseIsAssigned R) (flat_map (edge_register_uses R.blocks p' ty) es)
+  edges_again p p' ty [] h = All-nil (UseIsAssigned R)
   edges_again p p' ty (e ∷ es) h =
-      all_append (UseIsAssigned R) (edge_register_uses R.blocks p' ty e) (flat_map (edge_register_uses R.blocks p' ty) es)
-      (edge_again p p' ty e (all_first (UseIsAssigned fn) (edge_register_uses fn.blocks p ty e) (flat_map (edge_register_uses fn.blocks p ty) es) h))
-      (edges_again p p' ty es (all_second (UseIsAssigned fn) (edge_register_uses fn.blocks p ty e) (flat_map (edge_register_uses fn.blocks p ty) es) h))
+      All-append (UseIsAssigned R) (edge_register_uses R.blocks p' ty e) (flat_map (edge_register_uses R.blocks p' ty) es)
+      (edge_again p p' ty e (all-front (UseIsAssigned fn) (edge_register_uses fn.blocks p ty e) (flat_map (edge_register_uses fn.blocks p ty) es) h))
+      (edges_again p p' ty es (all-back (UseIsAssigned fn) (edge_register_uses fn.blocks p ty e) (flat_map (edge_register_uses fn.blocks p ty) es) h))
 
   -- ---- blocks
 
@@ -185,76 +158,75 @@ module _ (clones : List Clone) (w : Wanted) (clone : Bool) (f : ℕ) (name : Lis
       ∙ ap (λ rs. names_of (phi_registers block.phis ++ rs)) same
       ∙ sym (ap (λ o. unwrap_or (option_map (λ (x : Block). names_of (phi_registers x.phis ++ body_registers (take j x.body))) o) []) e)
 
-  module _ (f' b : ℕ) (block : Block) (there : slice_get fn.blocks b ≡ Some block) (body : AllByRecursion (UseIsAssigned fn) (joined (numbered_from 0 (instr_register_uses f b) block.body))) where
-    uses_of : (j : ℕ) (i : Instr) → slice_get block.body j ≡ Some i → AllByRecursion (UseIsAssigned fn) (instr_register_uses f b j i)
-    uses_of j i e = let here : 0 + j ≡ j = omega arith in subst (λ n. AllByRecursion (UseIsAssigned fn) (instr_register_uses f b n i)) here (joined_at (UseIsAssigned fn) (instr_register_uses f b) 0 block.body j i body e)
+  module _ (f' b : ℕ) (block : Block) (there : slice_get fn.blocks b ≡ Some block) (body : All (UseIsAssigned fn) (joined (numbered_from 0 (instr_register_uses f b) block.body))) where
+    uses_of : (j : ℕ) (i : Instr) → slice_get block.body j ≡ Some i → All (UseIsAssigned fn) (instr_register_uses f b j i)
+    uses_of j i e = let here : 0 + j ≡ j = omega arith in subst (λ n. All (UseIsAssigned fn) (instr_register_uses f b n i)) here (all-joined (UseIsAssigned fn) 0 (instr_register_uses f b) block.body body j i e)
 
-    original_again : (k : ℕ) (i' : Instr) → IsOriginal clones w clone f b 0 block.body k i' → AllByRecursion (UseIsAssigned R) (instr_register_uses f' b k i')
+    original_again : (k : ℕ) (i' : Instr) → IsOriginal clones w clone f b 0 block.body k i' → All (UseIsAssigned R) (instr_register_uses f' b k i')
     original_again k i' o =
-        subst (λ us. AllByRecursion (UseIsAssigned R) (map (use_at (places.Body (record { function = f'; block = b; index = k })) b (Before k)) (used_registers us)))
+        subst (λ us. All (UseIsAssigned R) (map (use_at (places.Body (record { function = f'; block = b; index = k })) b (Before k)) (used_registers us)))
         (sym (ap instr_uses o.3 ∙ renamed_uses clones o.1 (clone || w.hoist (site_at clones w clone f b (0 + o.0)))))
         (uses_again (places.Body (record { function = f; block = b; index = o.0 })) (places.Body (record { function = f'; block = b; index = k })) b (Before o.0) (Before k)
         (before_kept b block k o.0 there o.4) (used_registers (instr_uses o.1)) (uses_of o.0 o.1 o.2))
 
     flush_again : (k j : ℕ) (ty : Scalar) (value addr : Operand) (align : Option ℕ) → slice_get block.body j ≡ Some (Store ty value addr align) →
-        body_registers (take k (repaired_instrs clones w clone f b 0 block.body)) ≡ body_registers (take (suc j) block.body) → AllByRecursion (UseIsAssigned R) (instr_register_uses f' b k (flush_of ty addr align))
+        body_registers (take k (repaired_instrs clones w clone f b 0 block.body)) ≡ body_registers (take (suc j) block.body) → All (UseIsAssigned R) (instr_register_uses f' b k (flush_of ty addr align))
     flush_again k j ty value addr align e same =
         let store = uses_of j (Store ty value addr align) e in
         let place = places.Body (record { function = f; block = b; index = j }) in
-        let parts : AllByRecursion (UseIsAssigned fn) (map (use_at place b (Before j)) (operand_registers value) ++ map (use_at place b (Before j)) (used_registers (uses addr Ptr ∷ []))) =
-        subst (AllByRecursion (UseIsAssigned fn)) (map-append (use_at place b (Before j)) (operand_registers value) (used_registers (uses addr Ptr ∷ []))) store in
-        subst (λ ns. AllByRecursion (UseIsAssigned R) (map (use_at (places.Body (record { function = f'; block = b; index = k })) b (Before k)) ns)) (sym (flush_uses ty addr align))
+        let parts : All (UseIsAssigned fn) (map (use_at place b (Before j)) (operand_registers value) ++ map (use_at place b (Before j)) (used_registers (uses addr Ptr ∷ []))) =
+        subst (All (UseIsAssigned fn)) (map-append (use_at place b (Before j)) (operand_registers value) (used_registers (uses addr Ptr ∷ []))) store in
+        subst (λ ns. All (UseIsAssigned R) (map (use_at (places.Body (record { function = f'; block = b; index = k })) b (Before k)) ns)) (sym (flush_uses ty addr align))
         (uses_again place (places.Body (record { function = f'; block = b; index = k })) b (Before j) (Before k)
         (before_kept b block k j there (same ∙ one_more block.body j (Store ty value addr align) e ∙ append-nil (body_registers (take j block.body))))
-        (used_registers (uses addr Ptr ∷ [])) (all_second (UseIsAssigned fn) (map (use_at place b (Before j)) (operand_registers value)) _ parts))
+        (used_registers (uses addr Ptr ∷ [])) (all-back (UseIsAssigned fn) (map (use_at place b (Before j)) (operand_registers value)) _ parts))
 
-    inserted_again : (k : ℕ) (i' : Instr) → IsInserted clones w clone f b 0 block.body k i' → AllByRecursion (UseIsAssigned R) (instr_register_uses f' b k i')
+    inserted_again : (k : ℕ) (i' : Instr) → IsInserted clones w clone f b 0 block.body k i' → All (UseIsAssigned R) (instr_register_uses f' b k i')
     inserted_again k i' o =
         ⊎_elim
         (λ flush.
-        subst (λ x. AllByRecursion (UseIsAssigned R) (instr_register_uses f' b k x)) (sym flush.5)
+        subst (λ x. All (UseIsAssigned R) (instr_register_uses f' b k x)) (sym flush.5)
         (flush_again k o.0 flush.0 flush.1 flush.2 flush.3 (o.3 ∙ ap Some flush.4) o.5))
-        (λ fence. subst (λ x. AllByRecursion (UseIsAssigned R) (instr_register_uses f' b k x)) (sym fence) tt)
+        (λ fence. subst (λ x. All (UseIsAssigned R) (instr_register_uses f' b k x)) (sym fence) (All-nil (UseIsAssigned R)))
         (inserted_kind w clone (site_at clones w clone f b (0 + o.0)) o.1 o.2 i' o.4)
 
-    body_again : AllByRecursion (UseIsAssigned R) (joined (numbered_from 0 (instr_register_uses f' b) (repaired_instrs clones w clone f b 0 block.body)))
+    body_again : All (UseIsAssigned R) (joined (numbered_from 0 (instr_register_uses f' b) (repaired_instrs clones w clone f b 0 block.body)))
     body_again =
-        joined_make (UseIsAssigned R) (instr_register_uses f' b) 0 (repaired_instrs clones w clone f b 0 block.body)
+        joined-all (UseIsAssigned R) 0 (instr_register_uses f' b) (repaired_instrs clones w clone f b 0 block.body)
         (λ k i' e.
         let here : k ≡ 0 + k = omega arith in
-        subst (λ n. AllByRecursion (UseIsAssigned R) (instr_register_uses f' b n i')) here (⊎_elim (original_again k i') (inserted_again k i') (in_body clones w clone f b 0 block.body k i' e)))
+        subst (λ n. All (UseIsAssigned R) (instr_register_uses f' b n i')) here (⊎_elim (original_again k i') (inserted_again k i') (in_body clones w clone f b 0 block.body k i' e)))
 
-  phis_again : (f' b : ℕ) (phis : List Phi) → AllByRecursion (UseIsAssigned fn) (joined (numbered_from 0 (λ i p. phi_register_uses fn.blocks (places.Phi (record { function = f; block = b; index = i })) p) phis)) →
-      AllByRecursion (UseIsAssigned R) (joined (numbered_from 0 (λ i p. phi_register_uses R.blocks (places.Phi (record { function = f'; block = b; index = i })) p) phis))
+  phis_again : (f' b : ℕ) (phis : List Phi) → All (UseIsAssigned fn) (joined (numbered_from 0 (λ i p. phi_register_uses fn.blocks (places.Phi (record { function = f; block = b; index = i })) p) phis)) →
+      All (UseIsAssigned R) (joined (numbered_from 0 (λ i p. phi_register_uses R.blocks (places.Phi (record { function = f'; block = b; index = i })) p) phis))
   phis_again f' b phis h =
-      joined_make (UseIsAssigned R) (λ i p. phi_register_uses R.blocks (places.Phi (record { function = f'; block = b; index = i })) p) 0 phis
+      joined-all (UseIsAssigned R) 0 (λ i p. phi_register_uses R.blocks (places.Phi (record { function = f'; block = b; index = i })) p) phis
       (λ k p e.
       edges_again (places.Phi (record { function = f; block = b; index = 0 + k })) (places.Phi (record { function = f'; block = b; index = 0 + k })) p.ty p.edges
-      (joined_at (UseIsAssigned fn) (λ i p. phi_register_uses fn.blocks (places.Phi (record { function = f; block = b; index = i })) p) 0 phis k p h e))
+      (all-joined (UseIsAssigned fn) 0 (λ i p. phi_register_uses fn.blocks (places.Phi (record { function = f; block = b; index = i })) p) phis h k p e))
 
-  block_again : (f' b : ℕ) (block : Block) → slice_get fn.blocks b ≡ Some block → AllByRecursion (UseIsAssigned fn) (block_register_uses fn.blocks f b block) →
-      AllByRecursion (UseIsAssigned R) (block_register_uses R.blocks f' b (repaired_block clones w clone f b block))
+  block_again : (f' b : ℕ) (block : Block) → slice_get fn.blocks b ≡ Some block → All (UseIsAssigned fn) (block_register_uses fn.blocks f b block) →
+      All (UseIsAssigned R) (block_register_uses R.blocks f' b (repaired_block clones w clone f b block))
   block_again f' b block there h =
       let phis = joined (numbered_from 0 (λ i p. phi_register_uses fn.blocks (places.Phi (record { function = f; block = b; index = i })) p) block.phis) in
       let body = joined (numbered_from 0 (instr_register_uses f b) block.body) in
       let end = end_register_uses f b block.end in
-      let first = all_first (UseIsAssigned fn) (phis ++ body) end h in
-      all_append (UseIsAssigned R) _ (end_register_uses f' b block.end)
-      (all_append (UseIsAssigned R) _ _ (phis_again f' b block.phis (all_first (UseIsAssigned fn) phis body first)) (body_again f' b block there (all_second (UseIsAssigned fn) phis body first)))
-      (uses_again (places.End f b) (places.End f' b) b AtEnd AtEnd (same_at_end b) (used_registers (end_uses block.end)) (all_second (UseIsAssigned fn) (phis ++ body) end h))
+      let first = all-front (UseIsAssigned fn) (phis ++ body) end h in
+      All-append (UseIsAssigned R) _ (end_register_uses f' b block.end)
+      (All-append (UseIsAssigned R) _ _ (phis_again f' b block.phis (all-front (UseIsAssigned fn) phis body first)) (body_again f' b block there (all-back (UseIsAssigned fn) phis body first)))
+      (uses_again (places.End f b) (places.End f' b) b AtEnd AtEnd (same_at_end b) (used_registers (end_uses block.end)) (all-back (UseIsAssigned fn) (phis ++ body) end h))
 
   function_again : (f' : ℕ) → AllAssigned fn f → AllAssigned R f'
   function_again f' h =
-      All-from_recursion (UseIsAssigned R) (register_uses f' R)
-      (joined_make (UseIsAssigned R) (block_register_uses R.blocks f') 0 R.blocks
+      joined-all (UseIsAssigned R) 0 (block_register_uses R.blocks f') R.blocks
       (λ b block' e.
       let at = block_there clones w clone f 0 fn.blocks b block' e in
-      subst (λ x. AllByRecursion (UseIsAssigned R) (block_register_uses R.blocks f' (0 + b) x)) (sym at.2)
+      subst (λ x. All (UseIsAssigned R) (block_register_uses R.blocks f' (0 + b) x)) (sym at.2)
       (let here : b ≡ 0 + b = omega arith in
-      subst (λ n. AllByRecursion (UseIsAssigned R) (block_register_uses R.blocks f' n (repaired_block clones w clone f n at.0))) here
+      subst (λ n. All (UseIsAssigned R) (block_register_uses R.blocks f' n (repaired_block clones w clone f n at.0))) here
       (block_again f' b at.0 at.1
-      (subst (λ n. AllByRecursion (UseIsAssigned fn) (block_register_uses fn.blocks f n at.0)) (sym here)
-      (joined_at (UseIsAssigned fn) (block_register_uses fn.blocks f) 0 fn.blocks b at.0 (recursion_from_All (UseIsAssigned fn) (register_uses f fn) h) at.1))))))
+      (subst (λ n. All (UseIsAssigned fn) (block_register_uses fn.blocks f n at.0)) (sym here)
+      (all-joined (UseIsAssigned fn) 0 (block_register_uses fn.blocks f) fn.blocks h b at.0 at.1)))))
 
 module _ (P : Program) (plan : Plan) (skip : Site → Bool) (sound : Passes P) where
   from_origin : (f' : ℕ) (fn' : Function) → Origin P plan skip f' fn' → AllAssigned fn' f'

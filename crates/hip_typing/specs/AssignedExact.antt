@@ -24,7 +24,7 @@ use Rattle.hip_typing.specs.Sound.{EdgeIsAssigned, UsesAreAssigned}
 
 -- ---- what holds of all items of lists that are put together
 
-all-front : {X : Type 0} (Q : X → Type 0) (xs ys : List X) → All Q (xs ++ ys) → All Q xs
+pub all-front : {X : Type 0} (Q : X → Type 0) (xs ys : List X) → All Q (xs ++ ys) → All Q xs
 all-front Q [] ys h = All-nil Q
 all-front Q (x ∷ xs) ys h = All-cons Q x xs (All-head Q x (xs ++ ys) h) (all-front Q xs ys (All-tail Q x (xs ++ ys) h))
 
@@ -44,7 +44,7 @@ flat-all : {X Y : Type 0} (Q : Y → Type 0) (g : X → List Y) (xs : List X) �
 flat-all Q g [] h = All-nil Q
 flat-all Q g (x ∷ xs) h = All-append Q (g x) (flat_map g xs) (All-head (λ y. All Q (g y)) x xs h) (flat-all Q g xs (All-tail (λ y. All Q (g y)) x xs h))
 
-all-joined : {X Y : Type 0} (Q : Y → Type 0) (n : ℕ) (make : ℕ → X → List Y) (xs : List X) → All Q (joined (numbered_from n make xs)) → (k : ℕ) (x : X) → slice_get xs k ≡ Some x → All Q (make (n + k) x)
+pub all-joined : {X Y : Type 0} (Q : Y → Type 0) (n : ℕ) (make : ℕ → X → List Y) (xs : List X) → All Q (joined (numbered_from n make xs)) → (k : ℕ) (x : X) → slice_get xs k ≡ Some x → All Q (make (n + k) x)
 all-joined Q n make [] h k x e = cc
 all-joined Q n make (y ∷ ys) h zero x e =
     let same : y ≡ x = cc in
@@ -54,7 +54,7 @@ all-joined Q n make (y ∷ ys) h (suc k) x e =
     let next : n + 1 + k ≡ n + suc k = omega arith in
     subst (λ m. All Q (make m x)) next (all-joined Q (n + 1) make ys (all-back Q (make n y) (joined (numbered_from (n + 1) make ys)) h) k x e)
 
-joined-all : {X Y : Type 0} (Q : Y → Type 0) (n : ℕ) (make : ℕ → X → List Y) (xs : List X) → ((k : ℕ) (x : X) → slice_get xs k ≡ Some x → All Q (make (n + k) x)) → All Q (joined (numbered_from n make xs))
+pub joined-all : {X Y : Type 0} (Q : Y → Type 0) (n : ℕ) (make : ℕ → X → List Y) (xs : List X) → ((k : ℕ) (x : X) → slice_get xs k ≡ Some x → All Q (make (n + k) x)) → All Q (joined (numbered_from n make xs))
 joined-all Q n make [] h = All-nil Q
 joined-all Q n make (y ∷ ys) h =
     let first : n + 0 ≡ n = omega arith in

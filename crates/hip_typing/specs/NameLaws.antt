@@ -1,20 +1,15 @@
 -- Names that differ: what the checks ask and what soundness says.
-use Rattle.std.specs.Prelude.{ℕ, ◌+◌, ◌≡◌, ◌⊎◌, List, [], ◌∷◌, ◌++◌, map, Some}
+use Rattle.std.specs.Prelude.{ℕ, ◌+◌, ◌≡◌, List, [], ◌∷◌, ◌++◌, map, Some}
 use Rattle.std.specs.List.{flat_map}
-use Rattle.std.specs.Bool.{Decides}
-use Rattle.std.specs.Cmp.{both_ways}
-use Rattle.std.specs.Str.{bytes_eq}
 use Rattle.std.proofs.Common.{append_assoc, refl, sym, ap, subst, ◌∙◌, inl, inr, ⊎_elim}
 use Rattle.std.proofs.lemmas.List.{map-append}
-use Rattle.std.proofs.lemmas.Slice.Eq.{bytes_eq-Decides}
 use Rattle.hip_ir.specs.declared.block.Block.{Block}
 use Rattle.hip_ir.specs.declared.block.Phi.{Phi}
 use Rattle.hip_ir.specs.declared.instr.Instr.{Instr}
 use Rattle.hip_ir.specs.declared.program.Function.{Function}
 use Rattle.hip_ir.specs.declared.program.Param.{Param}
 use Rattle.hip_ir.specs.declared.program.Program.{Program}
-use Rattle.hip_names.specs.NameLaws.{among-sound, among-whole}
-use Rattle.hip_names.specs.Names.{AllDiffer, IsAmong, is_among}
+use Rattle.hip_names.specs.Names.{AllDiffer, IsAmong}
 use Rattle.hip_names.specs.NameLaws.{among-left, among-right, among-either}
 use Rattle.hip_typing.specs.Names.{Named, differ_after, numbered_from}
 use Rattle.hip_typing.specs.Paths.{names_of}

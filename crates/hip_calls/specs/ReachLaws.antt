@@ -19,7 +19,7 @@ use Rattle.hip_ir.specs.declared.program.Program.{Program}
 use Rattle.hip_ir.specs.declared.site.Site.{Site}
 use Rattle.hip_types.specs.declared.number.Scalar.{Scalar}
 use Rattle.hip_typing.specs.Numbering.{function_number}
-use Rattle.hip_typing.specs.NumberingLaws.{function_number-there, function_number-within}
+use Rattle.hip_typing.specs.Laws.NumberingLaws.{function_number-there, function_number-within}
 use Rattle.hip_calls.specs.Fresh.{name_in, name_of}
 use Rattle.hip_calls.specs.Reach.{called_by, called_in, called_from, called_at, extended, reached, callees}
 

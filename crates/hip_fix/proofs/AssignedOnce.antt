@@ -20,9 +20,9 @@ use Rattle.hip_typing.specs.Paths.{names_of}
 use Rattle.hip_typing.specs.Registers.{Register, assigned_by, body_registers, phi_registers, block_registers, parameter_registers}
 use Rattle.hip_typing.specs.Rules.{Passes, inner_check}
 use Rattle.hip_typing.specs.Sound.{names_in_block, names_in_function}
-use Rattle.hip_typing.specs.Decided.{holds-at}
+use Rattle.hip_typing.specs.Laws.Decided.{holds-at}
 use Rattle.hip_names.specs.NameLaws.{bytes_eq-sym}
-use Rattle.hip_typing.specs.NameLaws.{inner-sound}
+use Rattle.hip_typing.specs.Laws.NameLaws.{inner-sound}
 use Rattle.hip_step.specs.Places.{blocks_in, blocks_of}
 use Rattle.hip_fix.specs.Direct.{allocates, allocates_in}
 use Rattle.hip_fix.proofs.NamesAgain.{differ_first, differ_second, differ_apart}

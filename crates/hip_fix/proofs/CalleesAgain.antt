@@ -19,12 +19,12 @@ use Rattle.hip_typing.specs.Externs.{Signature, signature, call_of, known_signat
 use Rattle.hip_names.specs.Names.{is_among, number_of}
 use Rattle.hip_typing.specs.Numbering.{function_names, function_number}
 use Rattle.hip_names.specs.NumberLaws.{number_cases}
-use Rattle.hip_typing.specs.NumberingLaws.{function_number-there}
+use Rattle.hip_typing.specs.Laws.NumberingLaws.{function_number-there}
 use Rattle.hip_typing.specs.Places.{extern_of, function_of, first_of, callee_of}
 use Rattle.hip_typing.specs.Rules.{Passes, same_result, is_of, declared}
 use Rattle.hip_typing.specs.Types.{same_width, same_scalar, all_pass}
 use Rattle.hip_typing.specs.declared.externs.ExternCall.{ExternCall}
-use Rattle.hip_typing.specs.Decided.{holds-at}
+use Rattle.hip_typing.specs.Laws.Decided.{holds-at}
 use Rattle.hip_names.specs.NameLaws.{bytes_eq-sym}
 use Rattle.hip_fix.specs.declared.plan.Plan.{Plan}
 use Rattle.hip_fix.specs.Repaired.{wanted_by, clone_name, clones_of, cloned, added_externs, repaired}

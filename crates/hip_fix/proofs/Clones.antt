@@ -25,7 +25,7 @@ use Rattle.hip_typing.specs.Externs.{call_of}
 use Rattle.hip_names.specs.Names.{number_of}
 use Rattle.hip_typing.specs.Numbering.{function_names, function_number}
 use Rattle.hip_names.specs.NumberLaws.{number_of-first, number_of-behind, number_of-known, number_of-there}
-use Rattle.hip_typing.specs.NumberingLaws.{function_number-there}
+use Rattle.hip_typing.specs.Laws.NumberingLaws.{function_number-there}
 use Rattle.hip_calls.specs.Fresh.{fresh_names, names_taken, name_in, name_of}
 use Rattle.hip_calls.specs.FreshLaws.{length-fresh_for, fresh_for-free, fresh_for-distinct, fresh_for-extern}
 use Rattle.hip_calls.specs.Reach.{called_at, callees}

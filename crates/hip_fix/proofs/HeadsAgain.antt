@@ -15,11 +15,11 @@ use Rattle.hip_ir.specs.declared.site.Site.{Site}
 use Rattle.hip_typing.specs.Externs.{call_of, known_signature}
 use Rattle.hip_names.specs.NameLaws.{among-whole}
 use Rattle.hip_names.specs.NameLaws.{among-left, among-right}
-use Rattle.hip_typing.specs.NameLaws.{names-sound, names-whole}
+use Rattle.hip_typing.specs.Laws.NameLaws.{names-sound, names-whole}
 use Rattle.hip_names.specs.Names.{AllDiffer, IsAmong, is_among}
 use Rattle.hip_typing.specs.Numbering as numbers
 use Rattle.hip_typing.specs.Rules.{Passes, names_check, is_of, declared, free_function, externs_check, is_main, has_main, main_check}
-use Rattle.hip_typing.specs.Decided.{holds-at, holds-made}
+use Rattle.hip_typing.specs.Laws.Decided.{holds-at, holds-made}
 use Rattle.hip_calls.specs.Fresh.{name_of, names_taken}
 use Rattle.hip_calls.specs.FreshLaws.{fresh_for-distinct, fresh_for-free}
 use Rattle.hip_fix.specs.declared.plan.Plan.{Plan}

@@ -5,8 +5,8 @@ use Rattle.hip_ir.specs.declared.block.Block.{Block}
 use Rattle.hip_ir.specs.declared.program.Function.{Function}
 use Rattle.hip_ir.specs.declared.program.Program.{Program}
 use Rattle.hip_ir.specs.declared.site.Site.{Site}
-use Rattle.hip_typing.specs.Decided.{holds-at, holds-made}
-use Rattle.hip_typing.specs.NameLaws.{inner-sound, inner-whole}
+use Rattle.hip_typing.specs.Laws.Decided.{holds-at, holds-made}
+use Rattle.hip_typing.specs.Laws.NameLaws.{inner-sound, inner-whole}
 use Rattle.hip_names.specs.Names.{AllDiffer}
 use Rattle.hip_typing.specs.Paths.{names_of}
 use Rattle.hip_typing.specs.Registers.{phi_registers, parameter_registers}

@@ -25,7 +25,7 @@ use Rattle.hip_typing.specs.Externs.{known_signature}
 use Rattle.hip_names.specs.Names.{is_among}
 use Rattle.hip_typing.specs.Places.{Scope, global_names, callee_of, uses_known, use_agrees, uses_agree, signature_agrees, instr_check}
 use Rattle.hip_typing.specs.Registers.{Use, uses, find_register, used_registers, used_globals, used_types}
-use Rattle.hip_typing.specs.AssignedExact.{all-back}
+use Rattle.hip_typing.specs.Laws.AssignedExact.{all-back}
 use Rattle.hip_typing.specs.declared.fault.Place.{Place}
 use Rattle.hip_fix.specs.Repaired.{clwb_name, sfence_name, pmem_flush_name, is_wide, line_flush, range_flush, flush_of, the_fence, is_call_of}
 

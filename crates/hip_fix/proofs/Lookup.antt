@@ -11,7 +11,7 @@ use Rattle.hip_ir.specs.declared.site.Site.{Site}
 use Rattle.hip_types.specs.declared.number.Scalar.{Scalar}
 use Rattle.hip_typing.specs.Externs.{call_of}
 use Rattle.hip_typing.specs.Numbering.{function_number}
-use Rattle.hip_typing.specs.NumberingLaws.{function_number-there, function_number-within}
+use Rattle.hip_typing.specs.Laws.NumberingLaws.{function_number-there, function_number-within}
 use Rattle.hip_typing.specs.Rules.{Passes}
 use Rattle.hip_typing.specs.declared.externs.ExternCall.{ExternCall}
 use Rattle.hip_step.specs.Places.{body_at}

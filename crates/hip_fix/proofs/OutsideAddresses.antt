@@ -22,7 +22,7 @@ use Rattle.hip_typing.specs.Rules.{Passes}
 use Rattle.hip_typing.specs.Sound.{callee_names}
 use Rattle.hip_typing.specs.Values.{Written, global_address, const_value}
 use Rattle.hip_names.specs.NameLaws.{bytes_eq-sym}
-use Rattle.hip_typing.specs.NameLaws.{names-sound}
+use Rattle.hip_typing.specs.Laws.NameLaws.{names-sound}
 use Rattle.hip_fix.specs.Direct.{is_volatile_global, names_volatile}
 use Rattle.hip_fix.proofs.HeadsAgain.{names_of_globals}
 use Rattle.hip_fix.proofs.NamesAgain.{differ_first}

@@ -25,7 +25,7 @@ use Rattle.hip_typing.specs.Registers.{Use, registers_of, parameter_registers, f
 use Rattle.hip_typing.specs.Rules.{Passes, block_check, places_check}
 use Rattle.hip_typing.specs.declared.fault.Place.{Place}
 use Rattle.hip_typing.specs.declared.fault.Place.TheVariants as places
-use Rattle.hip_typing.specs.Decided.{holds-at, holds-made}
+use Rattle.hip_typing.specs.Laws.Decided.{holds-at, holds-made}
 use Rattle.hip_step.specs.Places.{body_of, blocks_in}
 use Rattle.hip_fix.specs.declared.plan.Plan.{Plan}
 use Rattle.hip_fix.specs.Repaired.{Clone, Wanted, wanted_by, clwb_name, sfence_name, pmem_flush_name, clones_of, cloned, renamed, is_call_of, needs, repaired, repaired_block, repaired_blocks, repaired_function}

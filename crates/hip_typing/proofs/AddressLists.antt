@@ -5,8 +5,8 @@ use Rattle.std.proofs.Math.ListN.{drop_of_length-le}
 use Rattle.hip_types.specs.Layout.{size_of}
 use Rattle.hip_ir.specs.declared.program.GlobalVar.{GlobalVar}
 use Rattle.hip_typing.specs.Addresses.{end_of, global_start}
-use Rattle.hip_typing.specs.AddressesSeen.{laid_entries, address_entry}
-use Rattle.hip_typing.specs.Inner.{Gains}
+use Rattle.hip_typing.specs.Seen.AddressesSeen.{laid_entries, address_entry}
+use Rattle.hip_typing.specs.Seen.Inner.{Gains}
 use Rattle.hip_names.specs.Tables.{Entry, StandsFor}
 use Rattle.hip_typing.proofs.AddressLemmas.{end_of-ge, end_of-next}
 

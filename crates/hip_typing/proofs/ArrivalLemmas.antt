@@ -8,7 +8,7 @@ use Rattle.std.proofs.lemmas.List.Folds.{list_any-append}
 use Rattle.std.proofs.lemmas.Slice.Eq.{bytes_eq-Decides}
 use Rattle.indexmap.specs.IndexMap.{IndexMap, UpdatesBy}
 use Rattle.hip_ir.specs.declared.block.Block.{Block}
-use Rattle.hip_typing.specs.Arrivals.{found_at, names_at, Arrives, FindsPredecessors}
+use Rattle.hip_typing.specs.Seen.Arrivals.{found_at, names_at, Arrives, FindsPredecessors}
 use Rattle.hip_names.specs.Names.{is_among}
 use Rattle.hip_typing.specs.Places.{is_predecessor, predecessors}
 use Rattle.hip_typing.specs.Registers.{end_labels}

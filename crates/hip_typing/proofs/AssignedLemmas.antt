@@ -14,8 +14,8 @@ use Rattle.hip_ir.specs.declared.block.Edge.{Edge}
 use Rattle.hip_ir.specs.declared.program.Function.{Function}
 use Rattle.hip_paths.specs.Graphs as graphs
 use Rattle.hip_paths.specs.Graphs.{IsPathFrom, IsPathAround, IsPassedBefore}
-use Rattle.hip_typing.specs.AssignedSeen.{is_there, to_pass}
-use Rattle.hip_typing.specs.Inner.{block_entries, inner_entries, block_number, successor_numbers, graph_of}
+use Rattle.hip_typing.specs.Seen.AssignedSeen.{is_there, to_pass}
+use Rattle.hip_typing.specs.Seen.Inner.{block_entries, inner_entries, block_number, successor_numbers, graph_of}
 use Rattle.hip_names.specs.Names.{AllDiffer, IsAmong}
 use Rattle.hip_typing.specs.Paths.{LeadsTo, IsChain, IsUnassigned, IsAssigned, names_of, registers_before, whole_block_names, names_before, assigned_on}
 use Rattle.hip_typing.specs.Registers.{parameter_registers, end_labels, uses, operand_registers, used_registers}

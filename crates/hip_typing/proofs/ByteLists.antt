@@ -8,7 +8,7 @@ use Rattle.hip_mem.specs.Bytes.{bytes_of}
 use Rattle.hip_types.specs.Layout.{Fits}
 use Rattle.hip_types.specs.declared.ty.Ty.{Ty}
 use Rattle.hip_typing.specs.Constants.{joined}
-use Rattle.hip_typing.specs.InitialSeen.{AllFit}
+use Rattle.hip_typing.specs.Seen.InitialSeen.{AllFit}
 use Rattle.hip_typing.specs.Values.{Piece, aligned, sized, placed}
 use Rattle.hip_typing.proofs.InnerLemmas.{joined-push}
 use Rattle.hip_typing.proofs.RegisterLemmas.{take_one}

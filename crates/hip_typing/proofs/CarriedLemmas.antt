@@ -10,8 +10,8 @@ use Rattle.std.proofs.lemmas.Slice.Eq.{bytes_eq-Decides}
 use Rattle.std.proofs.lemmas.Bool.{and_parts}
 use Rattle.hip_ir.specs.declared.block.Edge.{Edge}
 use Rattle.hip_ir.specs.declared.instr.Operand.{Operand}
-use Rattle.hip_typing.specs.Carried.{Carries, carries_again, edge_entry, carried_seen}
-use Rattle.hip_typing.specs.ConstLaws.{same_operand-equal}
+use Rattle.hip_typing.specs.Seen.Carried.{Carries, carries_again, edge_entry, carried_seen}
+use Rattle.hip_typing.specs.Laws.ConstLaws.{same_operand-equal}
 use Rattle.hip_typing.specs.Equal.{same_operand}
 use Rattle.hip_names.specs.NameLaws.{bytes_eq-sym}
 use Rattle.hip_names.specs.Names.{is_among, Knows}

@@ -6,7 +6,7 @@ use Rattle.hip_ir.specs.declared.constant.ConstGep.{ConstGep}
 use Rattle.hip_ir.specs.declared.constant.TypedConst.{TypedConst}
 use Rattle.hip_ir.specs.declared.constant.Const.TheFolds.{fold_out-ConstGep, fold_out-TypedConst}
 use Rattle.hip_typing.specs.Constants.{types_step, gep_types_step, item_types_step, types_in, gep_types, item_types}
-use Rattle.hip_typing.specs.InitialSeen.{AllFit, item_piece}
+use Rattle.hip_typing.specs.Seen.InitialSeen.{AllFit, item_piece}
 use Rattle.hip_typing.specs.Values.{Written, Piece, written_step, gep_step, item_step, written, sized}
 use Rattle.hip_typing.proofs.ByteLists.{first_fits, others_fit}
 

@@ -1,7 +1,7 @@
 -- Globals checked against one list of names or another.
 use Rattle.std.proofs.Common.{ℕ, ◌+◌, ◌≡◌, List, [], ◌∷◌, refl, ap, ◌∙◌}
 use Rattle.hip_ir.specs.declared.program.GlobalVar.{GlobalVar}
-use Rattle.hip_typing.specs.Answers.{asked}
+use Rattle.hip_typing.specs.Seen.Answers.{asked}
 use Rattle.hip_typing.specs.Check.{or_else, each_from, each}
 use Rattle.hip_typing.specs.Constants.{has_shape, names_in, types_in}
 use Rattle.hip_names.specs.Names.{Knows}

@@ -12,10 +12,10 @@ use Rattle.hip_ir.specs.declared.program.GlobalVar.{GlobalVar}
 use Rattle.hip_ir.specs.declared.program.Program.{Program}
 use Rattle.hip_mem.specs.Memory.{volatile_start}
 use Rattle.hip_typing.specs.Addresses.{end_of, start_of, is_persistent, global_align, global_start, same, region_size, volatile_end}
-use Rattle.hip_typing.specs.AddressesSeen.{address_beside, laid_entries}
+use Rattle.hip_typing.specs.Seen.AddressesSeen.{address_beside, laid_entries}
 use Rattle.hip_typing.specs.Constants.{types_in}
 use Rattle.hip_typing.specs.Initial.{laid_bytes, volatile_bytes, region_bytes}
-use Rattle.hip_typing.specs.InitialSeen.{AllFit, GlobalsFit}
+use Rattle.hip_typing.specs.Seen.InitialSeen.{AllFit, GlobalsFit}
 use Rattle.hip_names.specs.Names.{number_of}
 use Rattle.hip_names.specs.NumberLaws.{number_of-cons}
 use Rattle.hip_typing.specs.Sound.{TypesFitIn}

@@ -2,7 +2,7 @@
 use Rattle.std.proofs.Common.{ℕ, ◌+◌, ◌≡◌, ◌<◌, List, [], ◌∷◌, ◌++◌, take, length, get_or, refl, sym, ap, subst, ◌∙◌, append_assoc, append-nil, zero-add, arith}
 use Rattle.std.proofs.lemmas.List.{take_more, map-append, length-take-le}
 use Rattle.hip_typing.specs.Names.{Named, numbered, numbered_from}
-use Rattle.hip_typing.specs.Seen.{seen}
+use Rattle.hip_typing.specs.Seen.NamesSeen.{seen}
 use Rattle.hip_typing.specs.Rules.{all_of}
 use Rattle.hip_typing.specs.declared.named.NamedPlace.{NamedPlace}
 

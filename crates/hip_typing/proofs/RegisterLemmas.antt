@@ -8,7 +8,7 @@ use Rattle.std.proofs.lemmas.Grind.{flat_map-append}
 use Rattle.hip_types.specs.declared.number.Scalar.{Scalar}
 use Rattle.hip_typing.specs.Registers.{Register, find_register}
 use Rattle.hip_names.specs.Tables.{Entry, value_of, StandsFor}
-use Rattle.hip_typing.specs.Tables.{register_entry, Adds, Finds}
+use Rattle.hip_typing.specs.Seen.Tables.{register_entry, Adds, Finds}
 
 pub take_one : {A : Type 0} (xs : List A) (i : ℕ) (x : A) → i < length xs → x ≡ get_or xs i x → take (i + 1) xs ≡ take i xs ++ x ∷ []
 take_one xs i x within is = subst (λ y. take (i + 1) xs ≡ take i xs ++ y ∷ []) (sym is) (take_more xs i x within)

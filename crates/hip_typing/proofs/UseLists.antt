@@ -13,10 +13,10 @@ use Rattle.hip_ir.specs.declared.program.Function.{Function}
 use Rattle.hip_typing.specs.Constants.{joined}
 use Rattle.hip_typing.specs.Names.{numbered_from}
 use Rattle.hip_typing.specs.Registers.{Use, uses, arg_uses, operand_registers, used_registers}
-use Rattle.hip_typing.specs.AssignedSeen.{AnswersUses, IsFirstOf}
+use Rattle.hip_typing.specs.Seen.AssignedSeen.{AnswersUses, IsFirstOf}
 use Rattle.hip_typing.specs.Paths.{IsUnassigned}
 use Rattle.hip_typing.specs.Rules.{RegisterUse, UseIsAssigned, use_at, site, phi_register_uses}
-use Rattle.hip_typing.specs.UsesSeen.{use_seen, uses_seen}
+use Rattle.hip_typing.specs.Seen.UsesSeen.{use_seen, uses_seen}
 use Rattle.hip_typing.specs.declared.uses.Uses.{Uses}
 use Rattle.hip_typing.specs.declared.assigned.NotAssigned.{NotAssigned}
 use Rattle.hip_typing.specs.declared.assigned.NotAssigned.TheVariants as unassigned

@@ -4,14 +4,14 @@ use Rattle.std.proofs.Common.{refl, subst, arith, length-append}
 use Rattle.hip_ir.specs.declared.program.Function.{Function}
 use Rattle.hip_ir.specs.declared.program.Program.{Program}
 use Rattle.hip_ir.specs.Reading.{IsSpelled}
-use Rattle.hip_typing.specs.Answers.{Answers}
-use Rattle.hip_typing.specs.AssignedSeen.{AnswersAssigned}
+use Rattle.hip_typing.specs.Seen.Answers.{Answers}
+use Rattle.hip_typing.specs.Seen.AssignedSeen.{AnswersAssigned}
 use Rattle.hip_typing.specs.declared.assigned.NotAssigned.{NotAssigned}
 use Rattle.hip_typing.specs.declared.assigned.NotAssigned.TheVariants as unassigned
 use Rattle.hip_typing.specs.Rules.{Passes, registers_check, IsFirstFault, IsFirstUnassigned, RegisterUse, UseIsAssigned, AllAssigned, rules_check}
 use Rattle.hip_typing.specs.Sound.{IsSound}
-use Rattle.hip_typing.specs.SoundExact.{passes-sound, sound-passes}
-use Rattle.hip_typing.specs.SoundLaws.{rules-exact}
+use Rattle.hip_typing.specs.Laws.SoundExact.{passes-sound, sound-passes}
+use Rattle.hip_typing.specs.Laws.SoundLaws.{rules-exact}
 use Rattle.hip_typing.specs.declared.fault.Fault.{Fault}
 use Rattle.hip_typing.specs.declared.fault.Fault.TheVariants as breaks
 use Rattle.hip_typing.specs.declared.fault.Finding.{Finding}

@@ -1,7 +1,17 @@
--- What the code's lists stand for.
-use Rattle.std.specs.Prelude.{List, map}
-use Rattle.hip_typing.specs.Names.{Named}
-use Rattle.hip_typing.specs.declared.named.NamedPlace.{NamedPlace}
-
-abbrev pub seen : List NamedPlace → List Named
-seen names = map (λ n. record { name = n.name.now; place = n.place }) names
+-- What the values of the code stand for.
+pub mod AddressesSeen
+pub mod Answers
+pub mod Arrivals
+pub mod AssignedSeen
+pub mod Carried
+pub mod EndSeen
+pub mod InitialSeen
+pub mod Inner
+pub mod InstrSeen
+pub mod NamesSeen
+pub mod PhiSeen
+pub mod RegistersSeen
+pub mod Tables
+pub mod TablesSeen
+pub mod TargetsSeen
+pub mod UsesSeen

@@ -3,8 +3,8 @@ ghost use Rattle.hip_types.specs.Layout.{Fits, size_of};
 ghost use Rattle.hip_typing.specs.Addresses as spec;
 ghost use Rattle.hip_mem.specs.Memory.{volatile_start};
 ghost use Rattle.hip_typing.specs.Addresses.{AllFit, global_start};
-ghost use Rattle.hip_typing.specs.AddressesSeen.{address_entry, address_beside, laid_entries};
-ghost use Rattle.hip_typing.specs.Inner.{Gains};
+ghost use Rattle.hip_typing.specs.Seen.AddressesSeen.{address_entry, address_beside, laid_entries};
+ghost use Rattle.hip_typing.specs.Seen.Inner.{Gains};
 ghost use Rattle.hip_names.specs.Tables.{StandsFor};
 
 use crate::addresses::{VOLATILE_START, alignment};

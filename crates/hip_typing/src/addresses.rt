@@ -3,7 +3,7 @@ ghost use Rattle.std.specs.Option.{SomeIff};
 ghost use Rattle.hip_types.specs.Layout.{Fits, size_of};
 ghost use Rattle.hip_typing.specs.Addresses as spec;
 ghost use Rattle.hip_typing.specs.Addresses.{AllFit, IsBase, global_align, global_start};
-ghost use Rattle.hip_typing.specs.Answers.{Answers};
+ghost use Rattle.hip_typing.specs.Seen.Answers.{Answers};
 ghost use Rattle.hip_typing.specs.Rules.{sizes_check};
 ghost use Rattle.hip_typing.specs.Sound.{IsSound};
 

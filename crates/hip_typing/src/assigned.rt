@@ -1,9 +1,9 @@
 ghost use Rattle.std.specs.Prelude.{◌≡◌, ◌<◌, [], ◌∷◌, length, map};
-ghost use Rattle.hip_typing.specs.AssignedSeen as spec;
-ghost use Rattle.hip_typing.specs.AssignedSeen.{Describes, AnswersUses};
+ghost use Rattle.hip_typing.specs.Seen.AssignedSeen as spec;
+ghost use Rattle.hip_typing.specs.Seen.AssignedSeen.{Describes, AnswersUses};
 ghost use Rattle.hip_typing.specs.Registers.{arg_uses, operand_registers, used_registers};
 ghost use Rattle.hip_typing.specs.Rules.{use_at};
-ghost use Rattle.hip_typing.specs.UsesSeen.{use_seen, uses_seen};
+ghost use Rattle.hip_typing.specs.Seen.UsesSeen.{use_seen, uses_seen};
 
 use crate::fault::Place;
 use crate::inner_table::{Inner, InnerTable};

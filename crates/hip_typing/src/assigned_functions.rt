@@ -1,8 +1,8 @@
 ghost use Rattle.std.specs.Prelude.{◌≡◌, ◌<◌, length, map, slice_get};
 ghost use Rattle.std.specs.List.{flat_map};
-ghost use Rattle.hip_typing.specs.AssignedSeen.{Describes, AnswersUses, AnswersAssigned};
+ghost use Rattle.hip_typing.specs.Seen.AssignedSeen.{Describes, AnswersUses, AnswersAssigned};
 ghost use Rattle.hip_typing.specs.Constants.{joined};
-ghost use Rattle.hip_typing.specs.Inner.{inner_entries};
+ghost use Rattle.hip_typing.specs.Seen.Inner.{inner_entries};
 ghost use Rattle.hip_names.specs.Names.{AllDiffer};
 ghost use Rattle.hip_typing.specs.Names.{numbered};
 ghost use Rattle.hip_typing.specs.Rules.{site, edge_register_uses, phi_register_uses, instr_register_uses, end_register_uses, block_register_uses, register_uses, registers_check};

@@ -1,5 +1,5 @@
 ghost use Rattle.std.specs.Prelude.{[], ◌∷◌, map, IfOk, OnOk};
-ghost use Rattle.hip_typing.specs.Tables.{AddsCallees, FindsCallees, extern_entry, function_entry};
+ghost use Rattle.hip_typing.specs.Seen.Tables.{AddsCallees, FindsCallees, extern_entry, function_entry};
 
 use hip_ir::{Extern, Function, Param, Program};
 use hip_names::NameTable;

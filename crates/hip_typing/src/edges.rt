@@ -1,5 +1,5 @@
 ghost use Rattle.std.specs.Prelude.{◌≡◌, IfOk};
-ghost use Rattle.hip_typing.specs.Carried.{CarriesWhere, carries_again};
+ghost use Rattle.hip_typing.specs.Seen.Carried.{CarriesWhere, carries_again};
 ghost use Rattle.hip_typing.specs.Equal as equal;
 ghost use Rattle.hip_typing.specs.Places as places;
 ghost use Rattle.hip_typing.specs.Places.{are_among, edge_labels};

@@ -1,6 +1,6 @@
 ghost use Rattle.std.specs.Prelude.{◌≡◌, IfOk};
-ghost use Rattle.hip_typing.specs.Answers.{Answers};
-ghost use Rattle.hip_typing.specs.EndSeen.{end_found};
+ghost use Rattle.hip_typing.specs.Seen.Answers.{Answers};
+ghost use Rattle.hip_typing.specs.Seen.EndSeen.{end_found};
 ghost use Rattle.hip_typing.specs.Places as places;
 
 use crate::externs::is_same_scalar;

@@ -1,5 +1,5 @@
 ghost use Rattle.std.specs.Prelude.{◌≡◌, IfOk, map};
-ghost use Rattle.hip_typing.specs.Answers.{Answers};
+ghost use Rattle.hip_typing.specs.Seen.Answers.{Answers};
 ghost use Rattle.hip_typing.specs.Check.{each};
 ghost use Rattle.hip_names.specs.Names.{Knows};
 ghost use Rattle.hip_typing.specs.Rules.{global_check, globals_check};

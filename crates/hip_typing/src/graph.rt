@@ -1,6 +1,6 @@
 ghost use Rattle.std.specs.Prelude.{[], ◌≡◌, ◌++◌, map, IfOk, OnOk, MatchOption};
 ghost use Rattle.std.specs.List.{flat_map};
-ghost use Rattle.hip_typing.specs.Inner.{block_number, label_numbers};
+ghost use Rattle.hip_typing.specs.Seen.Inner.{block_number, label_numbers};
 ghost use Rattle.hip_typing.specs.Registers.{end_labels};
 ghost use Rattle.hip_names.specs.Tables.{value_beside};
 ghost use Rattle.hip_typing.specs.declared.inner_table.Inner.TheVariants as inner;

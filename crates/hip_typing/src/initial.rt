@@ -1,9 +1,9 @@
 ghost use Rattle.std.specs.Prelude.{◌≡◌, ◌<◌, ◌≤◌, ◌++◌, ◌+◌, [], length, replicate, take, drop, map, IfOk, OnOk, unwrap_or};
 ghost use Rattle.hip_types.specs.Layout.{Fits, gep_of};
 ghost use Rattle.hip_mem.specs.Bytes.{bytes_of};
-ghost use Rattle.hip_typing.specs.AddressesSeen.{address_beside};
+ghost use Rattle.hip_typing.specs.Seen.AddressesSeen.{address_beside};
 ghost use Rattle.hip_typing.specs.Constants.{index_of, joined, types_in, gep_types, item_types};
-ghost use Rattle.hip_typing.specs.InitialSeen.{AllFit, gep_address, item_piece};
+ghost use Rattle.hip_typing.specs.Seen.InitialSeen.{AllFit, gep_address, item_piece};
 ghost use Rattle.hip_typing.specs.Values.{aligned, sized, placed, written};
 
 use crate::address_table::{AddressTable, address_of};

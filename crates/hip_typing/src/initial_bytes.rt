@@ -1,11 +1,11 @@
 ghost use Rattle.std.specs.Prelude.{◌≡◌, ◌<◌, ◌+◌, ◌^◌, ◌++◌, ◌∷◌, [], true, false, length, All, IfOk, OnOk};
 ghost use Rattle.hip_mem.specs.Memory.{volatile_start};
 ghost use Rattle.hip_typing.specs.Addresses.{end_of, global_align, region_size, volatile_end};
-ghost use Rattle.hip_typing.specs.AddressesSeen.{address_beside};
+ghost use Rattle.hip_typing.specs.Seen.AddressesSeen.{address_beside};
 ghost use Rattle.hip_typing.specs.Constants.{types_in};
 ghost use Rattle.hip_typing.specs.Held.{HoldsGlobals};
 ghost use Rattle.hip_typing.specs.Initial as spec;
-ghost use Rattle.hip_typing.specs.InitialSeen.{AllFit, GlobalsFit};
+ghost use Rattle.hip_typing.specs.Seen.InitialSeen.{AllFit, GlobalsFit};
 ghost use Rattle.hip_typing.specs.Sound.{TypesFitIn};
 ghost use Rattle.hip_typing.specs.Values.{aligned, constant_bytes};
 

@@ -1,7 +1,7 @@
 ghost use Rattle.std.specs.Prelude.{◌≡◌, ◌++◌, OnOk, IfOk, map, option_map};
-ghost use Rattle.hip_typing.specs.Answers.{Answers};
+ghost use Rattle.hip_typing.specs.Seen.Answers.{Answers};
 ghost use Rattle.hip_typing.specs.Check.{each};
-ghost use Rattle.hip_typing.specs.Seen.{seen};
+ghost use Rattle.hip_typing.specs.Seen.NamesSeen.{seen};
 ghost use Rattle.hip_typing.specs.Rules.{instr_names, phi_names, body_names, block_names, blocks_names, param_names, inner_names, inner_check, registers_check};
 
 use crate::fault::Place;

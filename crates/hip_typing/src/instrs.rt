@@ -3,10 +3,10 @@ ghost use Rattle.std.specs.Option.{option_copied};
 ghost use Rattle.hip_types.specs.declared.ty.Ty.{out-Ty};
 ghost use Rattle.hip_ir.specs.declared.constant.Const.{out-Const};
 ghost use Rattle.hip_typing.specs.Places as spec;
-ghost use Rattle.hip_typing.specs.Tables.{callee_seen, params_seen};
+ghost use Rattle.hip_typing.specs.Seen.Tables.{callee_seen, params_seen};
 ghost use Rattle.hip_typing.specs.Types.{all_pass, same_scalar};
-ghost use Rattle.hip_typing.specs.UsesSeen as seen;
-ghost use Rattle.hip_typing.specs.UsesSeen.{instr_agrees_in, callee_known_in};
+ghost use Rattle.hip_typing.specs.Seen.UsesSeen as seen;
+ghost use Rattle.hip_typing.specs.Seen.UsesSeen.{instr_agrees_in, callee_known_in};
 
 use crate::callees::{Callee, CalleeTable, Params};
 use crate::constants::type_fits;

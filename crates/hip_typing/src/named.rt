@@ -1,8 +1,8 @@
 ghost use Rattle.std.specs.Prelude.{◌≡◌, ◌++◌, OnOk};
-ghost use Rattle.hip_typing.specs.Answers.{Answers};
+ghost use Rattle.hip_typing.specs.Seen.Answers.{Answers};
 ghost use Rattle.hip_typing.specs.Names.{all_differ};
 ghost use Rattle.hip_typing.specs.Rules.{global_names, extern_names, function_names, names_check};
-ghost use Rattle.hip_typing.specs.Seen.{seen};
+ghost use Rattle.hip_typing.specs.Seen.NamesSeen.{seen};
 
 use crate::fault::{Fault, Finding, Place};
 use crate::refused::Refused;

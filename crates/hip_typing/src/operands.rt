@@ -2,8 +2,8 @@ ghost use Rattle.std.specs.Prelude.{◌≡◌};
 ghost use Rattle.hip_typing.specs.Places as places;
 ghost use Rattle.hip_typing.specs.Places.{type_of};
 ghost use Rattle.hip_typing.specs.Registers.{arg_uses, phi_uses};
-ghost use Rattle.hip_typing.specs.UsesSeen as spec;
-ghost use Rattle.hip_typing.specs.UsesSeen.{use_seen, uses_seen, operands_known, operands_agree, operands_fit};
+ghost use Rattle.hip_typing.specs.Seen.UsesSeen as spec;
+ghost use Rattle.hip_typing.specs.Seen.UsesSeen.{use_seen, uses_seen, operands_known, operands_agree, operands_fit};
 
 use crate::constants::{names_known, types_fit};
 use crate::externs::is_same_scalar;

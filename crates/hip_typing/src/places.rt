@@ -1,12 +1,12 @@
 ghost use Rattle.std.specs.Prelude.{◌≡◌, [], IfOk};
-ghost use Rattle.hip_typing.specs.Answers.{Answers};
+ghost use Rattle.hip_typing.specs.Seen.Answers.{Answers};
 ghost use Rattle.hip_typing.specs.Check.{each};
-ghost use Rattle.hip_typing.specs.InstrSeen.{instr_found};
+ghost use Rattle.hip_typing.specs.Seen.InstrSeen.{instr_found};
 ghost use Rattle.hip_names.specs.Names.{Knows};
-ghost use Rattle.hip_typing.specs.PhiSeen.{phi_found};
+ghost use Rattle.hip_typing.specs.Seen.PhiSeen.{phi_found};
 ghost use Rattle.hip_typing.specs.Places as spec;
 ghost use Rattle.hip_typing.specs.Rules.{phi_at, instr_at, block_check, function_check, places_check};
-ghost use Rattle.hip_typing.specs.TablesSeen.{DescribesProgram, DescribesFunction, scope_in};
+ghost use Rattle.hip_typing.specs.Seen.TablesSeen.{DescribesProgram, DescribesFunction, scope_in};
 
 use crate::callees::{CalleeTable, callees_of};
 use crate::edges::{edge_labels_known, edges_agree};

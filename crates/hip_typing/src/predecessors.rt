@@ -1,8 +1,8 @@
 ghost use Rattle.std.specs.Prelude.{◌≡◌, [], ◌∷◌, None, OnOk, IfOk};
 ghost use Rattle.std.specs.Option.{option_copied};
-ghost use Rattle.hip_typing.specs.Arrivals.{names_at, found_at, Arrives, FindsPredecessors};
+ghost use Rattle.hip_typing.specs.Seen.Arrivals.{names_at, found_at, Arrives, FindsPredecessors};
 ghost use Rattle.hip_typing.specs.Registers.{end_labels};
-ghost use Rattle.hip_typing.specs.TargetsSeen.{label_seen, case_labels, targets_seen};
+ghost use Rattle.hip_typing.specs.Seen.TargetsSeen.{label_seen, case_labels, targets_seen};
 
 use crate::targets::Targets;
 use hip_ir::{Block, Case};

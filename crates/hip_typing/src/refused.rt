@@ -1,4 +1,4 @@
-ghost use Rattle.hip_typing.specs.Answers.{Answers, asked};
+ghost use Rattle.hip_typing.specs.Seen.Answers.{Answers, asked};
 
 use crate::fault::{Fault, Finding, Place};
 use hip_types::NoMemory;

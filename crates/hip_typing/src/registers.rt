@@ -1,8 +1,8 @@
 ghost use Rattle.std.specs.Prelude.{[], ◌∷◌, ◌≡◌, map, IfOk, OnOk};
 ghost use Rattle.std.specs.List.{flat_map};
 ghost use Rattle.hip_typing.specs.Registers.{assigned_by, phi_registers, body_registers, block_registers, registers_of};
-ghost use Rattle.hip_typing.specs.RegistersSeen.{register_seen};
-ghost use Rattle.hip_typing.specs.Tables.{Adds, Finds};
+ghost use Rattle.hip_typing.specs.Seen.RegistersSeen.{register_seen};
+ghost use Rattle.hip_typing.specs.Seen.Tables.{Adds, Finds};
 
 use hip_ir::{Block, Function, Instr, Param, Phi};
 use hip_names::NameTable;

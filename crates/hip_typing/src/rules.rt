@@ -1,4 +1,4 @@
-ghost use Rattle.hip_typing.specs.Answers.{Answers};
+ghost use Rattle.hip_typing.specs.Seen.Answers.{Answers};
 ghost use Rattle.hip_typing.specs.Rules.{rules_check};
 
 use crate::addresses::check_sizes;

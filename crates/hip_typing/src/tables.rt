@@ -1,6 +1,6 @@
 ghost use Rattle.std.specs.Prelude.{◌≡◌, IfOk, map};
 ghost use Rattle.hip_names.specs.Names.{Knows};
-ghost use Rattle.hip_typing.specs.TablesSeen.{DescribesProgram, DescribesFunction};
+ghost use Rattle.hip_typing.specs.Seen.TablesSeen.{DescribesProgram, DescribesFunction};
 
 use crate::callees::{CalleeTable, callees_of};
 use crate::globals::names_of_globals;

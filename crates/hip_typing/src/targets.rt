@@ -3,7 +3,7 @@ ghost use Rattle.std.specs.List.{list_any};
 ghost use Rattle.hip_typing.specs.Places as places;
 ghost use Rattle.hip_typing.specs.Places.{are_among};
 ghost use Rattle.hip_typing.specs.Registers.{end_labels};
-ghost use Rattle.hip_typing.specs.TargetsSeen.{label_seen, case_labels, targets_seen};
+ghost use Rattle.hip_typing.specs.Seen.TargetsSeen.{label_seen, case_labels, targets_seen};
 
 use hip_ir::{Block, Case, End};
 use hip_names::NameSet;

@@ -1,4 +1,4 @@
-use Rattle.hip_typing.specs.SoundExact.{sound-passes}
+use Rattle.hip_typing.specs.Laws.SoundExact.{sound-passes}
 use Rattle.hip_fix.proofs.QuietStores.{quiet_stores}
 use Rattle.hip_fix.proofs.laws.direct_stores_are_quiet.Goals as goal
 

@@ -1,4 +1,4 @@
-use Rattle.hip_typing.specs.SoundExact.{sound-passes}
+use Rattle.hip_typing.specs.Laws.SoundExact.{sound-passes}
 use Rattle.hip_fix.proofs.FencedCalls.{covered}
 use Rattle.hip_fix.proofs.laws.hoisted_calls_are_covered.Goals as goal
 

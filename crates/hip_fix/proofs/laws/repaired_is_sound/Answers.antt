@@ -1,5 +1,5 @@
 use Rattle.std.proofs.Common.{refl}
-use Rattle.hip_typing.specs.SoundExact.{sound-passes, passes-sound}
+use Rattle.hip_typing.specs.Laws.SoundExact.{sound-passes, passes-sound}
 use Rattle.hip_fix.specs.Repaired.{repaired}
 use Rattle.hip_fix.proofs.SoundAgain.{passes_again}
 use Rattle.hip_fix.proofs.laws.repaired_is_sound.Goals as goal

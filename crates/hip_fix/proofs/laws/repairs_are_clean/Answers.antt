@@ -1,4 +1,4 @@
-use Rattle.hip_typing.specs.SoundExact.{sound-passes}
+use Rattle.hip_typing.specs.Laws.SoundExact.{sound-passes}
 use Rattle.hip_fix.proofs.Cured.{clean}
 use Rattle.hip_fix.proofs.laws.repairs_are_clean.Goals as goal
 

@@ -3,8 +3,8 @@ use Rattle.std.specs.Prelude.{if◌then◌else◌}
 use Rattle.hip_ir.specs.declared.program.GlobalVar.{GlobalVar}
 use Rattle.hip_mem.specs.Memory.{volatile_start}
 use Rattle.hip_typing.specs.Addresses.{start_of, end_of, is_persistent}
-use Rattle.hip_typing.specs.AddressLaws.{spelled-divide, start_of-from}
-use Rattle.hip_typing.specs.SoundLaws.{globals-fit, persistent-end}
+use Rattle.hip_typing.specs.Laws.AddressLaws.{spelled-divide, start_of-from}
+use Rattle.hip_typing.specs.Laws.SoundLaws.{globals-fit, persistent-end}
 use Rattle.hip_typing.proofs.AddressLemmas.{is_persistent-at, start_of-le}
 use Rattle.hip_typing.proofs.addresses.address.Goals as goal
 

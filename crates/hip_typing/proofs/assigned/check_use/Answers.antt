@@ -1,7 +1,7 @@
 use Rattle.std.proofs.Common.{◌≡◌, length, Some, None}
 use Rattle.hip_paths.specs.Graphs.{IsPathAround, IsPassedBefore}
-use Rattle.hip_typing.specs.AssignedSeen.{to_pass}
-use Rattle.hip_typing.specs.Inner.{inner_entries, graph_of}
+use Rattle.hip_typing.specs.Seen.AssignedSeen.{to_pass}
+use Rattle.hip_typing.specs.Seen.Inner.{inner_entries, graph_of}
 use Rattle.hip_names.specs.Tables.{value_of}
 use Rattle.hip_typing.proofs.AssignedLemmas.{assigned_here, assigned_when_passed, unassigned_around}
 use Rattle.hip_typing.proofs.UseLists.{all_of_one, first_of_one}

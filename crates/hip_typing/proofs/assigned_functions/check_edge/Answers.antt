@@ -1,5 +1,5 @@
 use Rattle.std.proofs.Common.{◌≡◌, [], Some, sym, ap, ◌∙◌}
-use Rattle.hip_typing.specs.Inner.{inner_entries, block_number}
+use Rattle.hip_typing.specs.Seen.Inner.{inner_entries, block_number}
 use Rattle.hip_names.specs.Tables.{value_of}
 use Rattle.hip_typing.specs.declared.inner_table.Inner.TheVariants.{Label}
 use Rattle.hip_typing.proofs.AssignedLemmas.{edge_used, edge_unused, label_within}

@@ -1,4 +1,4 @@
-use Rattle.hip_typing.specs.Tables.{extern_entry}
+use Rattle.hip_typing.specs.Seen.Tables.{extern_entry}
 use Rattle.hip_typing.proofs.CalleeLemmas.{callees_one}
 use Rattle.hip_typing.proofs.callees.add_externs.Goals as goal
 

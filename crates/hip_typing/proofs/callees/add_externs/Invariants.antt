@@ -1,5 +1,5 @@
 use Rattle.std.proofs.Common.{take, map}
-use Rattle.hip_typing.specs.Tables.{AddsCallees, extern_entry}
+use Rattle.hip_typing.specs.Seen.Tables.{AddsCallees, extern_entry}
 use Rattle.hip_typing.proofs.callees.add_externs.Given as goal
 
 abbrev pub invariant-each : goal.invariant-each

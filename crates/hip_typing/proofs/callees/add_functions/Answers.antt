@@ -1,4 +1,4 @@
-use Rattle.hip_typing.specs.Tables.{function_entry}
+use Rattle.hip_typing.specs.Seen.Tables.{function_entry}
 use Rattle.hip_typing.proofs.CalleeLemmas.{callees_one}
 use Rattle.hip_typing.proofs.callees.add_functions.Goals as goal
 

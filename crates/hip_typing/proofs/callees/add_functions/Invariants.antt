@@ -1,5 +1,5 @@
 use Rattle.std.proofs.Common.{take, map}
-use Rattle.hip_typing.specs.Tables.{AddsCallees, function_entry}
+use Rattle.hip_typing.specs.Seen.Tables.{AddsCallees, function_entry}
 use Rattle.hip_typing.proofs.callees.add_functions.Given as goal
 
 abbrev pub invariant-each : goal.invariant-each

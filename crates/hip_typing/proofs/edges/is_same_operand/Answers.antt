@@ -1,4 +1,4 @@
-use Rattle.hip_typing.specs.ConstLaws.{same_operand-is}
+use Rattle.hip_typing.specs.Laws.ConstLaws.{same_operand-is}
 use Rattle.hip_typing.proofs.edges.is_same_operand.Goals as goal
 
 pub returns : goal.returns

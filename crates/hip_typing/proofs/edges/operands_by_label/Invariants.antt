@@ -1,5 +1,5 @@
 use Rattle.std.proofs.Common.{take}
-use Rattle.hip_typing.specs.Carried.{Carries}
+use Rattle.hip_typing.specs.Seen.Carried.{Carries}
 use Rattle.hip_typing.proofs.edges.operands_by_label.Given as goal
 
 abbrev pub invariant-each : goal.invariant-each

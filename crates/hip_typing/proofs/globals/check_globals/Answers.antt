@@ -1,5 +1,5 @@
 use Rattle.std.proofs.Common.{map, subst, Option}
-use Rattle.hip_typing.specs.Answers.{Answers}
+use Rattle.hip_typing.specs.Seen.Answers.{Answers}
 use Rattle.hip_typing.specs.declared.fault.Finding.{Finding}
 use Rattle.hip_typing.proofs.GlobalLemmas.{globals_known}
 use Rattle.hip_typing.proofs.globals.check_globals.Goals as goal

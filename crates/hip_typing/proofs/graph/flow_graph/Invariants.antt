@@ -1,5 +1,5 @@
 use Rattle.std.proofs.Common.{◌≡◌, map, take}
-use Rattle.hip_typing.specs.Inner.{label_numbers}
+use Rattle.hip_typing.specs.Seen.Inner.{label_numbers}
 use Rattle.hip_typing.specs.Registers.{end_labels}
 use Rattle.hip_typing.proofs.graph.flow_graph.Given as goal
 

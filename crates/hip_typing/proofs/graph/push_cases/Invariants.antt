@@ -1,5 +1,5 @@
 use Rattle.std.proofs.Common.{◌≡◌, ◌++◌, map, take}
-use Rattle.hip_typing.specs.Inner.{label_numbers}
+use Rattle.hip_typing.specs.Seen.Inner.{label_numbers}
 use Rattle.hip_typing.proofs.graph.push_cases.Given as goal
 
 abbrev pub invariant-cases : goal.invariant-cases

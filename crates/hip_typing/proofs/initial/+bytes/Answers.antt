@@ -1,8 +1,8 @@
 use Rattle.std.proofs.Common.{rules, sym, ◌∙◌}
 use Rattle.hip_types.specs.Layout.{size_of}
-use Rattle.hip_typing.specs.AddressesSeen.{address_beside}
+use Rattle.hip_typing.specs.Seen.AddressesSeen.{address_beside}
 use Rattle.hip_typing.specs.Constants.{item_types}
-use Rattle.hip_typing.specs.InitialSeen.{AllFit, item_piece}
+use Rattle.hip_typing.specs.Seen.InitialSeen.{AllFit, item_piece}
 use Rattle.hip_typing.specs.Values.{written}
 use Rattle.hip_typing.proofs.ByteLists.{item_fits, fields_more, items_more, sized_after}
 use Rattle.hip_ir.specs.declared.constant.Const as constants

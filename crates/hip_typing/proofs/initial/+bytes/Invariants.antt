@@ -1,7 +1,7 @@
 use Rattle.std.proofs.Common.{◌≡◌, ◌++◌, [], map, take}
-use Rattle.hip_typing.specs.AddressesSeen.{address_beside}
+use Rattle.hip_typing.specs.Seen.AddressesSeen.{address_beside}
 use Rattle.hip_typing.specs.Constants.{joined}
-use Rattle.hip_typing.specs.InitialSeen.{item_piece}
+use Rattle.hip_typing.specs.Seen.InitialSeen.{item_piece}
 use Rattle.hip_typing.specs.Values.{placed}
 use Rattle.hip_typing.proofs.initial.+bytes.Given as goal
 

@@ -1,7 +1,7 @@
 use Rattle.std.proofs.Common.{◌≡◌, ap, ◌∙◌}
 use Rattle.hip_types.specs.Layout.{size_of}
 use Rattle.hip_typing.specs.Addresses.{global_align}
-use Rattle.hip_typing.specs.AddressesSeen.{address_beside}
+use Rattle.hip_typing.specs.Seen.AddressesSeen.{address_beside}
 use Rattle.hip_typing.specs.Constants.{types_in}
 use Rattle.hip_typing.specs.Values.{aligned, written}
 use Rattle.hip_typing.proofs.ByteLists.{others_fit, sized_after, aligned_whole}

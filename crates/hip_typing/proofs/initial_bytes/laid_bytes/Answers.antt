@@ -1,5 +1,5 @@
 use Rattle.std.proofs.Common.{◌∙◌}
-use Rattle.hip_typing.specs.AddressesSeen.{address_beside}
+use Rattle.hip_typing.specs.Seen.AddressesSeen.{address_beside}
 use Rattle.hip_typing.proofs.InitialLemmas.{global_fits, laid_counted, laid_skipped}
 use Rattle.hip_typing.proofs.initial_bytes.laid_bytes.Goals as goal
 use Rattle.hip_typing.proofs.initial_bytes.laid_bytes.Goals.{then-global-persistent+in_ok-add_global, else-global-persistent}

@@ -1,5 +1,5 @@
 use Rattle.std.proofs.Common.{◌≡◌, [], drop}
-use Rattle.hip_typing.specs.AddressesSeen.{address_beside}
+use Rattle.hip_typing.specs.Seen.AddressesSeen.{address_beside}
 use Rattle.hip_typing.specs.Initial.{laid_bytes}
 use Rattle.hip_typing.proofs.initial_bytes.laid_bytes.Given as goal
 

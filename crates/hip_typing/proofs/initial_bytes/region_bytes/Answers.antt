@@ -1,6 +1,6 @@
 use Rattle.std.proofs.Common.{◌≡◌, true, length, ap, ◌∙◌}
 use Rattle.hip_typing.specs.Initial.{region_bytes}
-use Rattle.hip_typing.specs.SoundLaws.{globals-fit}
+use Rattle.hip_typing.specs.Laws.SoundLaws.{globals-fit}
 use Rattle.hip_typing.specs.Values.{aligned}
 use Rattle.hip_typing.proofs.ByteLists.{aligned_whole}
 use Rattle.hip_typing.proofs.HeldLemmas.{region_holds}

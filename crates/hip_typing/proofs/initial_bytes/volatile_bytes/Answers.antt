@@ -1,8 +1,8 @@
 use Rattle.std.proofs.Common.{◌≡◌, [], false}
 use Rattle.hip_mem.specs.Memory.{volatile_start}
-use Rattle.hip_typing.specs.AddressesSeen.{address_beside}
+use Rattle.hip_typing.specs.Seen.AddressesSeen.{address_beside}
 use Rattle.hip_typing.specs.Initial.{laid_bytes, volatile_bytes}
-use Rattle.hip_typing.specs.SoundLaws.{globals-fit}
+use Rattle.hip_typing.specs.Laws.SoundLaws.{globals-fit}
 use Rattle.hip_typing.proofs.HeldLemmas.{volatile_holds}
 use Rattle.hip_typing.proofs.InitialLemmas.{globals_fit, laid_alike, volatile_length}
 use Rattle.hip_typing.proofs.initial_bytes.volatile_bytes.Goals as goal

@@ -1,4 +1,4 @@
-use Rattle.hip_typing.specs.Seen.{seen}
+use Rattle.hip_typing.specs.Seen.NamesSeen.{seen}
 use Rattle.hip_typing.specs.Rules.{block_names}
 use Rattle.hip_typing.proofs.NameLists.{more_names}
 use Rattle.hip_typing.proofs.inner.push_blocks.Goals as goal

@@ -1,4 +1,4 @@
-use Rattle.hip_typing.specs.Inner.{block_entries}
+use Rattle.hip_typing.specs.Seen.Inner.{block_entries}
 use Rattle.hip_typing.proofs.InnerLemmas.{gains_some}
 use Rattle.hip_typing.proofs.inner_table.add_blocks.Goals as goal
 

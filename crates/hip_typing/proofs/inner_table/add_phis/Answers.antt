@@ -1,4 +1,4 @@
-use Rattle.hip_typing.specs.Inner.{phi_entry}
+use Rattle.hip_typing.specs.Seen.Inner.{phi_entry}
 use Rattle.hip_typing.proofs.InnerLemmas.{gains_one}
 use Rattle.hip_typing.proofs.inner_table.add_phis.Goals as goal
 

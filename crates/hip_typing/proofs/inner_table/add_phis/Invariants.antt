@@ -1,5 +1,5 @@
 use Rattle.std.proofs.Common.{take, map}
-use Rattle.hip_typing.specs.Inner.{Gains, phi_entry}
+use Rattle.hip_typing.specs.Seen.Inner.{Gains, phi_entry}
 use Rattle.hip_typing.proofs.inner_table.add_phis.Given as goal
 
 abbrev pub invariant-phis : goal.invariant-phis

@@ -1,6 +1,6 @@
 use Rattle.std.proofs.Common.{◌≡◌, drop}
 use Rattle.hip_typing.specs.Names.{differ_after, all_differ}
-use Rattle.hip_typing.specs.Seen.{seen}
+use Rattle.hip_typing.specs.Seen.NamesSeen.{seen}
 use Rattle.hip_typing.proofs.named.check_all_differ.Given as goal
 
 abbrev pub invariant-names : goal.invariant-names

@@ -1,5 +1,5 @@
 use Rattle.std.proofs.Common.{◌≡◌, ◌++◌, take}
-use Rattle.hip_typing.specs.Seen.{seen}
+use Rattle.hip_typing.specs.Seen.NamesSeen.{seen}
 use Rattle.hip_typing.specs.Rules.{function_names}
 use Rattle.hip_typing.proofs.named.push_functions.Given as goal
 

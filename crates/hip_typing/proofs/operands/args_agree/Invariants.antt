@@ -1,6 +1,6 @@
 use Rattle.std.proofs.Common.{◌≡◌, drop}
 use Rattle.hip_typing.specs.Registers.{arg_uses}
-use Rattle.hip_typing.specs.UsesSeen.{operands_agree}
+use Rattle.hip_typing.specs.Seen.UsesSeen.{operands_agree}
 use Rattle.hip_typing.proofs.operands.args_agree.Given as goal
 
 abbrev pub invariant-each : goal.invariant-each

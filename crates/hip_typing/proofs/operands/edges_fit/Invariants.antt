@@ -1,6 +1,6 @@
 use Rattle.std.proofs.Common.{◌≡◌, drop}
 use Rattle.hip_typing.specs.Registers.{edge_uses, phi_uses}
-use Rattle.hip_typing.specs.UsesSeen.{operands_fit}
+use Rattle.hip_typing.specs.Seen.UsesSeen.{operands_fit}
 use Rattle.hip_typing.proofs.operands.edges_fit.Given as goal
 
 abbrev pub invariant-each : goal.invariant-each

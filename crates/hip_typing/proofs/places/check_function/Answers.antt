@@ -1,7 +1,7 @@
 use Rattle.std.proofs.Common.{List, subst}
 use Rattle.hip_ir.specs.declared.block.Block.{Block}
 use Rattle.hip_ir.specs.declared.program.Function.{Function}
-use Rattle.hip_typing.specs.Answers.{Answers}
+use Rattle.hip_typing.specs.Seen.Answers.{Answers}
 use Rattle.hip_typing.specs.Check.{each}
 use Rattle.hip_typing.specs.Places.{scope_of}
 use Rattle.hip_typing.specs.Rules.{block_check}

@@ -1,5 +1,5 @@
 use Rattle.std.proofs.Common.{take}
-use Rattle.hip_typing.specs.Arrivals.{FindsPredecessors}
+use Rattle.hip_typing.specs.Seen.Arrivals.{FindsPredecessors}
 use Rattle.hip_typing.proofs.predecessors.predecessors_of.Given as goal
 
 abbrev pub invariant-each : goal.invariant-each

@@ -1,7 +1,7 @@
 use Rattle.std.proofs.Common.{take}
 use Rattle.std.specs.List.{flat_map}
 use Rattle.hip_typing.specs.Registers.{block_registers}
-use Rattle.hip_typing.specs.Tables.{Adds}
+use Rattle.hip_typing.specs.Seen.Tables.{Adds}
 use Rattle.hip_typing.proofs.registers.add_blocks.Given as goal
 
 abbrev pub invariant-each : goal.invariant-each

@@ -1,6 +1,6 @@
 use Rattle.std.proofs.Common.{take}
 use Rattle.hip_typing.specs.Registers.{body_registers}
-use Rattle.hip_typing.specs.Tables.{Adds}
+use Rattle.hip_typing.specs.Seen.Tables.{Adds}
 use Rattle.hip_typing.proofs.registers.add_body.Given as goal
 
 abbrev pub invariant-body : goal.invariant-body

@@ -1,5 +1,5 @@
 use Rattle.std.proofs.Common.{take, map, Some}
-use Rattle.hip_typing.specs.Tables.{Adds}
+use Rattle.hip_typing.specs.Seen.Tables.{Adds}
 use Rattle.hip_typing.proofs.registers.add_params.Given as goal
 
 abbrev pub invariant-params : goal.invariant-params

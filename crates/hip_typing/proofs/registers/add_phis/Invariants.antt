@@ -1,6 +1,6 @@
 use Rattle.std.proofs.Common.{take}
 use Rattle.hip_typing.specs.Registers.{phi_registers}
-use Rattle.hip_typing.specs.Tables.{Adds}
+use Rattle.hip_typing.specs.Seen.Tables.{Adds}
 use Rattle.hip_typing.proofs.registers.add_phis.Given as goal
 
 abbrev pub invariant-phis : goal.invariant-phis

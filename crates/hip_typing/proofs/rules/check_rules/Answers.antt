@@ -1,5 +1,5 @@
-use Rattle.hip_typing.specs.SoundExact.{globals-sound}
-use Rattle.hip_typing.specs.SoundLaws.{globals-exact, globals-fit}
+use Rattle.hip_typing.specs.Laws.SoundExact.{globals-sound}
+use Rattle.hip_typing.specs.Laws.SoundLaws.{globals-exact, globals-fit}
 use Rattle.hip_typing.proofs.rules.check_rules.Goals as goal
 
 pub check_sizes-requires : goal.check_sizes-requires

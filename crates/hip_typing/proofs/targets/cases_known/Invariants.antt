@@ -1,6 +1,6 @@
 use Rattle.std.proofs.Common.{◌≡◌, drop}
 use Rattle.hip_typing.specs.Places.{are_among}
-use Rattle.hip_typing.specs.TargetsSeen.{case_labels}
+use Rattle.hip_typing.specs.Seen.TargetsSeen.{case_labels}
 use Rattle.hip_typing.proofs.targets.cases_known.Given as goal
 
 abbrev pub invariant-each : goal.invariant-each

@@ -1,5 +1,5 @@
 use Rattle.std.proofs.Common.{subst}
-use Rattle.hip_typing.specs.GivenLaws.{sound-calls, sound-operands, sound-labels, sound-phis}
+use Rattle.hip_typing.specs.Laws.GivenLaws.{sound-calls, sound-operands, sound-labels, sound-phis}
 use Rattle.hip_typing.specs.Sound.{IsSound}
 use Rattle.hip_typing.proofs.checked.Checked.program.Goals as goal
 

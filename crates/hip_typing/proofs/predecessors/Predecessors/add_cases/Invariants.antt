@@ -1,6 +1,6 @@
 use Rattle.std.proofs.Common.{take}
-use Rattle.hip_typing.specs.Arrivals.{Arrives}
-use Rattle.hip_typing.specs.TargetsSeen.{case_labels}
+use Rattle.hip_typing.specs.Seen.Arrivals.{Arrives}
+use Rattle.hip_typing.specs.Seen.TargetsSeen.{case_labels}
 use Rattle.hip_typing.proofs.predecessors.Predecessors.add_cases.Given as goal
 
 abbrev pub invariant-each : goal.invariant-each

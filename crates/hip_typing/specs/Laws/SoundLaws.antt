@@ -10,7 +10,7 @@ use Rattle.hip_typing.specs.Check.{IsExact}
 use Rattle.std.proofs.Common.{arith}
 use Rattle.hip_typing.specs.Addresses.{AllFit, end_of}
 use Rattle.hip_typing.specs.Sound.{TypesFitIn, KeepsToSizes}
-use Rattle.hip_typing.specs.CheckLaws.{asks_true-exact, and_then-exact, each_from-exact, differ_after-exact, types_fit-exact}
+use Rattle.hip_typing.specs.Laws.CheckLaws.{asks_true-exact, and_then-exact, each_from-exact, differ_after-exact, types_fit-exact}
 use Rattle.hip_typing.specs.Places.{Scope, scope_of, instr_check, end_check, phi_check}
 use Rattle.hip_typing.specs.Rules.{global_check, globals_check, externs_check, registers_check, places_check, block_check, rules_check}
 use Rattle.hip_typing.specs.Constants.{types_in}

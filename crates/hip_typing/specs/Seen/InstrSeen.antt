@@ -6,15 +6,15 @@ use Rattle.std.proofs.lemmas.List.Folds.{list_all-append}
 use Rattle.hip_types.specs.declared.number.Scalar.{Scalar}
 use Rattle.hip_ir.specs.declared.instr.Instr.{Instr}
 use Rattle.hip_ir.specs.declared.instr.Instr.TheVariants.{Binary, Compare, Select, Cast, Alloca, Load, Store, Gep, Call}
-use Rattle.hip_typing.specs.Answers.{asked}
+use Rattle.hip_typing.specs.Seen.Answers.{asked}
 use Rattle.hip_typing.specs.Check.{or_else}
 use Rattle.hip_names.specs.Names.{Knows}
 use Rattle.hip_typing.specs.Places.{Scope, global_names, uses_known, uses_agree, callee_known, instr_agrees, written_types, signature_agrees, register_agrees, fits_test, instr_check}
 use Rattle.hip_typing.specs.Registers.{instr_uses, used_types}
 use Rattle.hip_names.specs.Tables.{value_beside}
-use Rattle.hip_typing.specs.Tables.{Finds, FindsCallees, callee_seen}
-use Rattle.hip_typing.specs.UseLaws.{uses_known-by_tables, uses_agree-by_tables, uses_fit-is}
-use Rattle.hip_typing.specs.UsesSeen.{operands_known, operands_agree, operands_fit, instr_agrees_in, callee_known_in, written_fits}
+use Rattle.hip_typing.specs.Seen.Tables.{Finds, FindsCallees, callee_seen}
+use Rattle.hip_typing.specs.Laws.UseLaws.{uses_known-by_tables, uses_agree-by_tables, uses_fit-is}
+use Rattle.hip_typing.specs.Seen.UsesSeen.{operands_known, operands_agree, operands_fit, instr_agrees_in, callee_known_in, written_fits}
 use Rattle.hip_typing.specs.declared.callees.Callee.{Callee}
 use Rattle.hip_typing.specs.declared.fault.Fault.TheVariants as breaks
 use Rattle.hip_typing.specs.declared.fault.Finding.{Finding}

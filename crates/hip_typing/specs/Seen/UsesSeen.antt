@@ -11,7 +11,7 @@ use Rattle.hip_names.specs.Names.{is_among}
 use Rattle.hip_typing.specs.Places.{fits_test, has_type, type_of, cast_agrees, gep_agrees, signature_agrees, register_agrees, written_types}
 use Rattle.hip_typing.specs.Registers.{Use, uses, arg_uses}
 use Rattle.hip_names.specs.Tables.{value_beside}
-use Rattle.hip_typing.specs.Tables.{callee_seen}
+use Rattle.hip_typing.specs.Seen.Tables.{callee_seen}
 use Rattle.hip_typing.specs.declared.callees.Callee.{Callee}
 use Rattle.hip_typing.specs.declared.uses.OperandUse.{OperandUse}
 use Rattle.hip_typing.specs.declared.uses.Uses.{Uses}

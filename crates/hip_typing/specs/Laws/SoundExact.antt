@@ -24,12 +24,12 @@ use Rattle.hip_typing.specs.Places.{scope_of}
 use Rattle.hip_typing.specs.Rules as rules
 use Rattle.hip_typing.specs.Rules.{names_check, globals_check, global_check, externs_check, sizes_check, main_check, registers_check, places_check, function_check, block_check, phi_at, instr_at, site, is_of, is_main, is_i32, no_params, has_main, AllAssigned}
 use Rattle.hip_typing.specs.declared.fault.Place.TheVariants as places
-use Rattle.hip_typing.specs.AssignedExact.{assigned-sound, assigned-whole}
-use Rattle.hip_typing.specs.Decided.{both-decides, all-decides, le-decides, each-sound, each-whole, holds-at, holds-made}
+use Rattle.hip_typing.specs.Laws.AssignedExact.{assigned-sound, assigned-whole}
+use Rattle.hip_typing.specs.Laws.Decided.{both-decides, all-decides, le-decides, each-sound, each-whole, holds-at, holds-made}
 use Rattle.hip_names.specs.NameLaws.{bytes_eq-sym, among-decides}
-use Rattle.hip_typing.specs.NameLaws.{names-sound, names-whole, inner-sound, inner-whole}
-use Rattle.hip_typing.specs.PlaceExact.{ItemIsSound, phi-sound, phi-whole, instr-sound, instr-whole, end-sound, end-whole}
-use Rattle.hip_typing.specs.EqualLaws.{same_scalars-decides, same_result-decides}
+use Rattle.hip_typing.specs.Laws.NameLaws.{names-sound, names-whole, inner-sound, inner-whole}
+use Rattle.hip_typing.specs.Laws.PlaceExact.{ItemIsSound, phi-sound, phi-whole, instr-sound, instr-whole, end-sound, end-whole}
+use Rattle.hip_typing.specs.Laws.EqualLaws.{same_scalars-decides, same_result-decides}
 use Rattle.hip_typing.specs.Sound.{names_in_function, TypesFitIn, HasItsShape, NamesGlobals, IsOfTable, IsFree, KeepsToTable, KeepsToSizes, HasMain, IsBlockAt, Item, PhiItem, InstrItem, EndItem, EachItem, IsSound}
 
 -- ---- globals

@@ -18,7 +18,7 @@ use Rattle.hip_typing.specs.Rules.{UseIsAssigned, AllAssigned, use_at, site, blo
 use Rattle.hip_typing.specs.declared.assigned.Point.TheVariants.{Before, AtEnd}
 use Rattle.hip_typing.specs.declared.fault.Place.{Place}
 use Rattle.hip_typing.specs.declared.fault.Place.TheVariants as places
-use Rattle.hip_typing.specs.Decided.{all-at, all-made}
+use Rattle.hip_typing.specs.Laws.Decided.{all-at, all-made}
 use Rattle.hip_names.specs.NameLaws.{bytes_eq-sym}
 use Rattle.hip_typing.specs.Sound.{EdgeIsAssigned, UsesAreAssigned}
 

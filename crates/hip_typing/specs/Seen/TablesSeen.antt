@@ -1,10 +1,10 @@
 -- What the code's tables of a program and of a function stand for.
 use Rattle.std.specs.Prelude.{map}
-use Rattle.hip_typing.specs.Arrivals.{FindsPredecessors}
+use Rattle.hip_typing.specs.Seen.Arrivals.{FindsPredecessors}
 use Rattle.hip_names.specs.Names.{Knows}
 use Rattle.hip_typing.specs.Places.{Scope, scope_of}
 use Rattle.hip_typing.specs.Registers.{registers_of}
-use Rattle.hip_typing.specs.Tables.{Finds, FindsCallees}
+use Rattle.hip_typing.specs.Seen.Tables.{Finds, FindsCallees}
 use Rattle.hip_typing.specs.declared.tables.FunctionTables.{FunctionTables}
 use Rattle.hip_typing.specs.declared.tables.ProgramTables.{ProgramTables}
 

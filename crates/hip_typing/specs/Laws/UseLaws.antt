@@ -10,8 +10,8 @@ use Rattle.hip_typing.specs.Constants.{names_in, types_in}
 use Rattle.hip_names.specs.Names.{is_among, Knows}
 use Rattle.hip_typing.specs.Places.{Scope, global_names, uses_known, uses_agree, use_agrees, fits_test, has_type}
 use Rattle.hip_typing.specs.Registers.{Use, find_register, used_registers, used_globals, used_types}
-use Rattle.hip_typing.specs.Tables.{Finds}
-use Rattle.hip_typing.specs.UsesSeen.{operand_known, operands_known, operand_agrees, operands_agree, operand_fits, operands_fit}
+use Rattle.hip_typing.specs.Seen.Tables.{Finds}
+use Rattle.hip_typing.specs.Seen.UsesSeen.{operand_known, operands_known, operand_agrees, operands_agree, operand_fits, operands_fit}
 
 and_assoc : (a b c : Bool) → ((a && b) && c) ≡ (a && (b && c))
 and_assoc true b c = refl

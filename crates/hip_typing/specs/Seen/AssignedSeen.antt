@@ -2,7 +2,7 @@
 use Rattle.std.specs.Prelude.{ℕ, ◌≡◌, ◌++◌, ◌∷◌, nat_le, ◌==◌, ◌&&◌, if◌then◌else◌, Bool, true, List, map, All, Option, Some, None, Result, Ok, Err, slice_get}
 use Rattle.hip_ir.specs.declared.program.Function.{Function}
 use Rattle.hip_ir.specs.declared.program.Program.{Program}
-use Rattle.hip_typing.specs.Inner.{inner_entries, graph_of}
+use Rattle.hip_typing.specs.Seen.Inner.{inner_entries, graph_of}
 use Rattle.hip_names.specs.Names.{AllDiffer}
 use Rattle.hip_typing.specs.Paths.{IsUnassigned}
 use Rattle.hip_typing.specs.Rules.{RegisterUse, UseIsAssigned, AllAssigned, IsFirstUnassigned}

@@ -10,14 +10,14 @@ use Rattle.std.proofs.lemmas.Bool.{and_parts}
 use Rattle.hip_types.specs.declared.number.Scalar.{Scalar}
 use Rattle.hip_ir.specs.declared.block.Edge.{Edge}
 use Rattle.hip_ir.specs.declared.block.Phi.{Phi}
-use Rattle.hip_typing.specs.Answers.{asked}
+use Rattle.hip_typing.specs.Seen.Answers.{asked}
 use Rattle.hip_typing.specs.Check.{or_else}
 use Rattle.hip_names.specs.Names.{is_among, Knows}
 use Rattle.hip_typing.specs.Places.{Scope, global_names, labels, are_among, edge_labels, edges_agree, repeats_agree, predecessors, uses_known, uses_agree, fits_test, phi_check}
 use Rattle.hip_typing.specs.Registers.{phi_uses, used_types}
-use Rattle.hip_typing.specs.Tables.{Finds}
-use Rattle.hip_typing.specs.UseLaws.{uses_known-by_tables, uses_agree-by_tables, uses_fit-is, known_alike}
-use Rattle.hip_typing.specs.UsesSeen.{operands_known, operands_agree, operands_fit}
+use Rattle.hip_typing.specs.Seen.Tables.{Finds}
+use Rattle.hip_typing.specs.Laws.UseLaws.{uses_known-by_tables, uses_agree-by_tables, uses_fit-is, known_alike}
+use Rattle.hip_typing.specs.Seen.UsesSeen.{operands_known, operands_agree, operands_fit}
 use Rattle.hip_typing.specs.declared.fault.Fault.TheVariants as breaks
 use Rattle.hip_typing.specs.declared.fault.Finding.{Finding}
 use Rattle.hip_typing.specs.declared.fault.Place.{Place}

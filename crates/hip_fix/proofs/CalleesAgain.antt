@@ -4,12 +4,7 @@ use Rattle.std.specs.Prelude.{if◌then◌else◌}
 use Rattle.std.specs.Str.{bytes_eq}
 use Rattle.std.proofs.lemmas.Option.{same_Some}
 use Rattle.std.proofs.lemmas.Slice.Eq.{bytes_eq-Decides}
-use Rattle.std.proofs.lemmas.Bool.{and_parts}
 use Rattle.hip_types.specs.DistinctLaws.{either}
-use Rattle.hip_types.specs.declared.number.Scalar.{Scalar}
-use Rattle.hip_types.specs.declared.number.Scalar.TheVariants.{Int, Ptr}
-use Rattle.hip_types.specs.declared.number.Width.{Width}
-use Rattle.hip_types.specs.declared.number.Width.TheVariants.{W1, W8, W16, W32, W64}
 use Rattle.hip_ir.specs.declared.program.Extern.{Extern}
 use Rattle.hip_ir.specs.declared.program.Function.{Function}
 use Rattle.hip_ir.specs.declared.program.Program.{Program}
@@ -21,8 +16,8 @@ use Rattle.hip_typing.specs.Numbering.{function_names, function_number}
 use Rattle.hip_names.specs.NumberLaws.{number_cases}
 use Rattle.hip_typing.specs.Laws.NumberingLaws.{function_number-there}
 use Rattle.hip_typing.specs.Places.{extern_of, function_of, first_of, callee_of}
-use Rattle.hip_typing.specs.Rules.{Passes, same_result, is_of, declared}
-use Rattle.hip_typing.specs.Types.{same_width, same_scalar, all_pass}
+use Rattle.hip_typing.specs.Laws.SoundExact.{table-decides}
+use Rattle.hip_typing.specs.Rules.{Passes, is_of, declared}
 use Rattle.hip_typing.specs.declared.externs.ExternCall.{ExternCall}
 use Rattle.hip_typing.specs.Laws.Decided.{holds-at}
 use Rattle.hip_names.specs.NameLaws.{bytes_eq-sym}
@@ -37,41 +32,11 @@ use Rattle.hip_fix.proofs.Twins.{IsCallable, CallsTwin}
 
 -- ---- signatures that are tested to be the same, are
 
-same_widths : (v w : Width) → same_width v w ≡ true → v ≡ w
-same_widths W1 W1 e = refl
-same_widths W8 W8 e = refl
-same_widths W16 W16 e = refl
-same_widths W32 W32 e = refl
-same_widths W64 W64 e = refl
-same_widths v w e = cc
-
-same_scalars : (s t : Scalar) → same_scalar s t ≡ true → s ≡ t
-same_scalars (Int v) (Int w) e = ap Int (same_widths v w e)
-same_scalars Ptr Ptr e = refl
-same_scalars s t e = cc
-
-same_params : (ss ts : List Scalar) → all_pass (map same_scalar ss) ts ≡ true → ss ≡ ts
-same_params [] [] e = refl
-same_params (s ∷ ss) (t ∷ ts) e = let both = and_parts _ _ e in ap₂ (λ x xs. x ∷ xs) (same_scalars s t both.0) (same_params ss ts both.1)
-same_params [] (t ∷ ts) e = cc
-same_params (s ∷ ss) [] e = cc
-
-same_results : (a b : Option Scalar) → same_result a b ≡ true → a ≡ b
-same_results None None e = refl
-same_results (Some a) (Some b) e = ap Some (same_scalars a b e)
-same_results None (Some b) e = cc
-same_results (Some a) None e = cc
-
 abbrev declared_signature : Extern → Signature
 declared_signature e = record { ret = e.ret; params = e.params }
 
 is_of_known : (e : Extern) (o : Option Signature) → is_of e o ≡ true → o ≡ Some (declared_signature e)
-is_of_known e None h = cc
-is_of_known e (Some s) h =
-    let both = and_parts _ _ h in
-    let ret : e.ret ≡ s.ret = same_results e.ret s.ret both.0 in
-    let params : s.params ≡ e.params = same_params s.params e.params both.1 in
-    ap₂ (λ r ps. Some (record { ret = r; params = ps })) (sym ret) params
+is_of_known e o h = (table-decides e o).0 h
 
 -- ---- look-ups
 

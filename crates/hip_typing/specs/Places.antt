@@ -36,7 +36,7 @@ use Rattle.hip_typing.specs.Externs.{Signature}
 use Rattle.hip_typing.specs.declared.fault.Fault.TheVariants as breaks
 use Rattle.hip_names.specs.Names.{is_among}
 use Rattle.hip_typing.specs.Registers.{Register, Use, find_register, registers_of, instr_uses, end_uses, phi_uses, end_labels, used_registers, used_globals, used_types}
-use Rattle.hip_typing.specs.Types.{same_scalar, all_pass}
+use Rattle.hip_typing.specs.Types.{same_scalar, same_result, all_pass}
 use Rattle.hip_typing.specs.declared.fault.Place.{Place}
 
 -- ---- what can be called
@@ -142,11 +142,6 @@ args_enter (index ∷ indices) t = goes_in (args_enter indices) (entered_by inde
 abbrev pub gep_agrees : List Arg → Ty → Bool
 gep_agrees [] t = false
 gep_agrees (first ∷ indices) t = args_enter indices t
-
-abbrev pub same_result : Option Scalar → Option Scalar → Bool
-same_result None None = true
-same_result (Some a) (Some b) = same_scalar a b
-same_result _ _ = false
 
 abbrev pub signature_agrees : Option Scalar → List Arg → Option Signature → Bool
 signature_agrees ret args None = false

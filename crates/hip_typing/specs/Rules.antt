@@ -31,7 +31,7 @@ use Rattle.hip_typing.specs.declared.assigned.Point.{Point}
 use Rattle.hip_typing.specs.declared.assigned.Point.TheVariants.{Before, AtEnd}
 use Rattle.hip_typing.specs.Places.{Scope, scope_of, types_fit, instr_check, end_check, phi_check}
 use Rattle.hip_typing.specs.Registers.{assigned_by, instr_uses, end_uses, used_registers}
-use Rattle.hip_typing.specs.Types.{same_scalar, all_pass}
+use Rattle.hip_typing.specs.Types.{same_scalar, same_result, all_pass}
 use Rattle.hip_typing.specs.declared.fault.Place.{Place}
 use Rattle.hip_typing.specs.declared.fault.Place.TheVariants as places
 use Rattle.hip_typing.specs.declared.fault.TypeFault.{TypeFault}
@@ -72,11 +72,6 @@ globals_check P = each (global_check (map (λ g. g.name) P.globals)) P.globals
 
 abbrev pub is_free : List ℕ → Bool
 is_free name = is_none (call_of name)
-
-abbrev pub same_result : Option Scalar → Option Scalar → Bool
-same_result None None = true
-same_result (Some a) (Some b) = same_scalar a b
-same_result _ _ = false
 
 abbrev pub is_of : Extern → Option Signature → Bool
 is_of e None = false

@@ -1,5 +1,5 @@
 -- Whether two types are one, as a test.
-use Rattle.std.specs.Prelude.{ℕ, ◌==◌, ◌&&◌, Bool, true, false, List, [], ◌∷◌}
+use Rattle.std.specs.Prelude.{ℕ, ◌==◌, ◌&&◌, Bool, true, false, List, [], ◌∷◌, Option, Some, None}
 use Rattle.hip_types.specs.declared.number.Width.{Width}
 use Rattle.hip_types.specs.declared.number.Scalar.{Scalar}
 use Rattle.hip_types.specs.declared.number.Scalar.TheVariants as scalars
@@ -15,6 +15,12 @@ abbrev pub same_scalar : Scalar → Scalar → Bool
 same_scalar (scalars.Int v) (scalars.Int w) = same_width v w
 same_scalar scalars.Ptr scalars.Ptr = true
 same_scalar _ _ = false
+
+-- the results of two functions, which may have none
+abbrev pub same_result : Option Scalar → Option Scalar → Bool
+same_result None None = true
+same_result (Some a) (Some b) = same_scalar a b
+same_result _ _ = false
 
 -- each test passes at the type beside it, and there are as many of both
 abbrev pub all_pass : {A : Type 0} → List (A → Bool) → List A → Bool

@@ -2,8 +2,8 @@ ghost use Rattle.std.specs.Prelude.{◌≡◌, Some, map};
 ghost use Rattle.hip_typing.specs.Seen.Answers.{Answers};
 ghost use Rattle.hip_typing.specs.Check.{each};
 ghost use Rattle.hip_typing.specs.Externs.{call_of, signature, known_signature};
-ghost use Rattle.hip_typing.specs.Rules.{is_of, same_result, free_global, declared, free_function, externs_check};
-ghost use Rattle.hip_typing.specs.Types.{all_pass, same_scalar};
+ghost use Rattle.hip_typing.specs.Rules.{is_of, free_global, declared, free_function, externs_check};
+ghost use Rattle.hip_typing.specs.Types.{all_pass, same_result, same_scalar};
 
 use crate::fault::{Fault, Place};
 use crate::refused::{Refused, ask};

@@ -10,8 +10,7 @@ use Rattle.hip_types.specs.declared.number.Scalar.TheVariants as scalars
 use Rattle.hip_ir.specs.declared.instr.Operand.{Operand}
 use Rattle.hip_typing.specs.Laws.ConstLaws.{same_operand-equal, same_operand-refl, same_bits-equal, same_bits-refl}
 use Rattle.hip_typing.specs.Equal.{same_bits, same_operand}
-use Rattle.hip_typing.specs.Places.{same_result}
-use Rattle.hip_typing.specs.Types.{same_scalar, all_pass}
+use Rattle.hip_typing.specs.Types.{same_scalar, same_result, all_pass}
 use Rattle.hip_typing.specs.Laws.TypeLaws.{same_width-equal, same_width-refl}
 
 same_scalar-equal : (a b : Scalar) → same_scalar a b ≡ true → a ≡ b

@@ -59,7 +59,7 @@ none-decides : {A : Type 0} (o : Option A) → Decides (is_none o) (o ≡ None)
 none-decides None = (λ e. refl, λ h. refl)
 none-decides (Some x) = (λ e. cc, λ h. cc)
 
-table-decides : (e : Extern) (o : Option Signature) → Decides (is_of e o) (o ≡ Some (record { ret = e.ret; params = e.params }))
+pub table-decides : (e : Extern) (o : Option Signature) → Decides (is_of e o) (o ≡ Some (record { ret = e.ret; params = e.params }))
 table-decides e None = (λ t. cc, λ h. cc)
 table-decides e (Some s) =
     let d = both-decides _ _ (same_result-decides e.ret s.ret) (same_scalars-decides s.params e.params) in (

@@ -1,4 +1,4 @@
-ghost use Rattle.std.specs.Prelude.{◌≡◌, List, [], ◌∷◌, ◌++◌, IfOk};
+ghost use Rattle.std.specs.Prelude.{◌≡◌, List, [], ◌∷◌, ◌++◌, IfOk, OnErr};
 ghost use Rattle.hip_names.specs.Tables.{Entry, StandsFor, value_beside};
 
 use crate::names::NameSet;
@@ -35,13 +35,23 @@ impl<'a, V: Copy> NameTable<'a, V> {
         }
     }
 
-    /// Adds a value, unless its name has one.
+    /// Adds a value, unless its name has one. Where memory is short the table stays as it is.
     pub fn add(&mut self, name: &'a [u8], value: V) -> Result<(), NoMemory>
-        ensures { IfOk result (λ _. (entries : List (Entry V)) → StandsFor self.old.names self.old.values entries → StandsFor self.new.names self.new.values (entries ++ record { name = name.now; value = value } ∷ [])) }
+        ensures ok { IfOk result (λ _. (entries : List (Entry V)) → StandsFor self.old.names self.old.values entries → StandsFor self.new.names self.new.values (entries ++ record { name = name.now; value = value } ∷ [])) }
+        ensures err { OnErr result ((self.new.names ≡ self.old.names) × (self.new.values ≡ self.old.values)) }
     {
-        if self.names.insert(name)? {
-            self.values.push(value)?;
+        let len = self.values.len();
+        self.values.push(value)?;
+        match self.names.insert(name) {
+            Ok(true) => Ok(()),
+            Ok(false) => {
+                self.values.truncate(len);
+                Ok(())
+            }
+            Err(NoMemory) => {
+                self.values.truncate(len);
+                Err(NoMemory)
+            }
         }
-        Ok(())
     }
 }

@@ -9,5 +9,5 @@ returns-then-not-carries c =
 
 pub each-preserved : goal.each-preserved
 each-preserved c =
-    edge_more c.args.edges.now c.each.edge-index c.edge-item.result c.each-test.true c.edge-item.is c.each.invariant c.in_ok-add.ensures c.as_slice-in-each.ensures refl
+    edge_more c.args.edges.now c.each.edge-index c.edge-item.result c.each-test.true c.edge-item.is c.each.invariant c.in_ok-add.ensures.ok c.as_slice-in-each.ensures refl
     (rw (← c.as_slice.ensures, ← c.get.ensures) (sym c.carries.ensures ∙ c.if-not-carries.false))

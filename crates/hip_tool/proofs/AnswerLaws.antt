@@ -1,6 +1,7 @@
 -- The files give one answer.
 use Rattle.std.proofs.Common.{◌≡◌, ℕ, zero, suc, Bool, true, false, cond, ◌&&◌, eqb, List, [], ◌∷◌, length, map, slice_get, Option, Some, None, inl, inr, refl, sym, ap, subst, ◌∙◌, arith}
 use Rattle.std.proofs.lemmas.List.{length-replicate}
+use Rattle.std.proofs.lemmas.Bool.{and_parts}
 use Rattle.hip_io.specs.Cabinets.{file_of}
 use Rattle.hip_io.specs.declared.cabinet.NamedFile.{NamedFile}
 use Rattle.hip_tokens.specs.Tokens.{tokens}
@@ -33,10 +34,6 @@ kept : (b : Bool) (n m : ℕ) → cond b (Some n) None ≡ Some m → (b ≡ tru
 kept true n m e = (refl, cc)
 kept false n m e = absurd cc
 
-both_are : (a b : Bool) → (a && b) ≡ true → (a ≡ true) × (b ≡ true)
-both_are true b e = (refl, e)
-both_are false b e = absurd cc
-
 limit_is : (e : Option Entry) (limit : ℕ) → spelled_limit e ≡ Some limit → is_limit limit ≡ true
 limit_is None limit h = absurd cc
 limit_is (Some (Start n)) limit h = let k = kept (is_limit n) n limit h in subst (λ (m : ℕ). is_limit m ≡ true) k.1 k.0
@@ -50,7 +47,7 @@ base_is program None base h = absurd cc
 base_is program (Some (Start n)) base h = absurd cc
 base_is program (Some (Register b size)) base h =
     let k = kept (is_base b && eqb size (region_size program)) b base h in
-    subst (λ (m : ℕ). is_base m ≡ true) k.1 (both_are (is_base b) (eqb size (region_size program)) k.0).0
+    subst (λ (m : ℕ). is_base m ≡ true) k.1 (and_parts (is_base b) (eqb size (region_size program)) k.0).0
 base_is program (Some (Store addr value size)) base h = absurd cc
 base_is program (Some (Stop code)) base h = absurd cc
 base_is program (Some Cut) base h = absurd cc

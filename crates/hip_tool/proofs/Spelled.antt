@@ -1,21 +1,17 @@
 -- The tests of spelled numbers, and the facts that they decide.
-use Rattle.std.proofs.Common.{ℕ, ◌≡◌, ◌^◌, ◌&&◌, Bool, true, false, List, [], ◌∷◌, Option, Some, None, nat_lt, drop, refl, ap, arith}
+use Rattle.std.proofs.Common.{ℕ, ◌≡◌, ◌^◌, Bool, true, false, List, [], ◌∷◌, Option, Some, None, nat_lt, drop, refl, ap, arith}
 use Rattle.std.specs.Prelude.{if◌then◌else◌, SomeIff, nat_eq, codes}
 use Rattle.std.specs.Char.{digit_value}
 use Rattle.std.specs.List.{list_all, starts_with}
 use Rattle.std.specs.Str.Parse.{AllDigits, IsNumeral, digits_value}
 use Rattle.std.specs.Cmp.Derive.{both_true}
-use Rattle.std.proofs.lemmas.Bool.{ltb-true, lt-ltb}
+use Rattle.std.proofs.lemmas.Bool.{ltb-true, lt-ltb, and_parts}
 use Rattle.hip_num.specs.Texts.{IsNumber, IsHexadecimal}
 use Rattle.hip_tool.specs.Numbers.{is_nonempty, are_digits, is_number, is_hexadecimal}
 
-both_hold : (a b : Bool) → (a && b) ≡ true → (a ≡ true) × (b ≡ true)
-both_hold true b e = (refl, e)
-both_hold false b e = cc
-
 all_digits-sound : (base : ℕ) (text : List ℕ) → list_all (λ c. nat_lt (digit_value c) base) text ≡ true → AllDigits base text
 all_digits-sound base [] e = tt
-all_digits-sound base (c ∷ cs) e = let both = both_hold (nat_lt (digit_value c) base) (list_all (λ b. nat_lt (digit_value b) base) cs) e in (ltb-true _ _ both.0, all_digits-sound base cs both.1)
+all_digits-sound base (c ∷ cs) e = let both = and_parts (nat_lt (digit_value c) base) (list_all (λ b. nat_lt (digit_value b) base) cs) e in (ltb-true _ _ both.0, all_digits-sound base cs both.1)
 
 all_digits-whole : (base : ℕ) (text : List ℕ) → AllDigits base text → list_all (λ c. nat_lt (digit_value c) base) text ≡ true
 all_digits-whole base [] h = refl
@@ -23,14 +19,14 @@ all_digits-whole base (c ∷ cs) h = both_true (lt-ltb _ _ h.0) (all_digits-whol
 
 digits-sound : (base : ℕ) (text : List ℕ) → are_digits base text ≡ true → IsNumeral base text
 digits-sound base [] e = cc
-digits-sound base (c ∷ cs) e = (omega arith, all_digits-sound base (c ∷ cs) (both_hold (is_nonempty (c ∷ cs)) (list_all (λ b. nat_lt (digit_value b) base) (c ∷ cs)) e).1)
+digits-sound base (c ∷ cs) e = (omega arith, all_digits-sound base (c ∷ cs) (and_parts (is_nonempty (c ∷ cs)) (list_all (λ b. nat_lt (digit_value b) base) (c ∷ cs)) e).1)
 
 digits-whole : (base : ℕ) (text : List ℕ) → IsNumeral base text → are_digits base text ≡ true
 digits-whole base [] h = absurd (let z : ⊥ = omega (arith, h.0) in z)
 digits-whole base (c ∷ cs) h = all_digits-whole base (c ∷ cs) h.1
 
 number-sound : (base : ℕ) (text : List ℕ) → is_number base text ≡ true → IsNumber base text
-number-sound base text e = let both = both_hold (are_digits base text) (nat_lt (digits_value base text) (2 ^ 64)) e in (digits-sound base text both.0, ltb-true _ _ both.1)
+number-sound base text e = let both = and_parts (are_digits base text) (nat_lt (digits_value base text) (2 ^ 64)) e in (digits-sound base text both.0, ltb-true _ _ both.1)
 
 number-whole : (base : ℕ) (text : List ℕ) → IsNumber base text → is_number base text ≡ true
 number-whole base text h = both_true (digits-whole base text h.0) (lt-ltb _ _ h.1)
@@ -46,7 +42,7 @@ pub decimal-is : (r : Option ℕ) (text : List ℕ) → SomeIff r (IsNumber 10 t
 decimal-is r text h = chosen r _ _ _ (number-sound 10 text) (number-whole 10 text) h
 
 hexadecimal-sound : (text : List ℕ) → is_hexadecimal text ≡ true → IsHexadecimal text
-hexadecimal-sound text e = let both = both_hold (starts_with nat_eq text (codes "0x")) (is_number 16 (drop 2 text)) e in (both.0, number-sound 16 (drop 2 text) both.1)
+hexadecimal-sound text e = let both = and_parts (starts_with nat_eq text (codes "0x")) (is_number 16 (drop 2 text)) e in (both.0, number-sound 16 (drop 2 text) both.1)
 
 hexadecimal-whole : (text : List ℕ) → IsHexadecimal text → is_hexadecimal text ≡ true
 hexadecimal-whole text h = both_true h.0 (number-whole 16 (drop 2 text) h.1)

@@ -9,14 +9,14 @@ use Rattle.hip_ir.specs.declared.instr.Instr.{Instr}
 use Rattle.hip_ir.specs.declared.program.Function.{Function}
 use Rattle.hip_ir.specs.declared.program.Program.{Program}
 use Rattle.hip_ir.specs.declared.site.Site.{Site}
-use Rattle.hip_step.specs.declared.report.Findings.{Findings}
-use Rattle.hip_step.specs.declared.report.Report.{Report}
-use Rattle.hip_step.specs.History.{IsSplit}
-use Rattle.hip_step.specs.Parts.{In}
-use Rattle.hip_step.specs.PartLaws.{append-left, append-right}
-use Rattle.hip_step.specs.Reports.{is_open, closed_count}
-use Rattle.hip_step.specs.Scores.{score}
-use Rattle.hip_step.specs.State.{Level}
+use Rattle.hip_runs.specs.declared.report.Findings.{Findings}
+use Rattle.hip_runs.specs.declared.report.Report.{Report}
+use Rattle.hip_runs.specs.History.{IsSplit}
+use Rattle.hip_runs.specs.Parts.{In}
+use Rattle.hip_runs.specs.PartLaws.{append-left, append-right}
+use Rattle.hip_runs.specs.Reports.{is_open, closed_count}
+use Rattle.hip_runs.specs.Scores.{score}
+use Rattle.hip_runs.specs.State.{Level}
 use Rattle.hip_fix.specs.declared.plan.Plan.{Plan}
 use Rattle.hip_fix.specs.Choice.{Candidate, is_better, best_of, best_on, choice, site_at, asks_flush, asks_fence, asks_hoist, wants_flush, wants_fence, wants_hoist, plan_for, Contains}
 

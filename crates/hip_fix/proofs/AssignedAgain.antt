@@ -28,7 +28,7 @@ use Rattle.hip_typing.specs.declared.assigned.Point.{Point}
 use Rattle.hip_typing.specs.declared.assigned.Point.TheVariants.{Before, AtEnd}
 use Rattle.hip_typing.specs.declared.fault.Place.{Place}
 use Rattle.hip_typing.specs.declared.fault.Place.TheVariants as places
-use Rattle.hip_step.specs.Operands.{scalar_size}
+use Rattle.hip_runs.specs.Operands.{scalar_size}
 use Rattle.hip_fix.specs.declared.plan.Plan.{Plan}
 use Rattle.hip_fix.specs.Repaired.{Clone, Wanted, wanted_by, clones_of, renamed, is_wide, line_flush, range_flush, flush_of, repaired, repaired_block, repaired_blocks, repaired_function}
 use Rattle.hip_fix.proofs.Bodies.{IsOriginal, IsInserted, in_body, inserted_kind, site_at, repaired_instrs, same_block_registers}

@@ -23,7 +23,7 @@ use Rattle.hip_typing.specs.Sound.{names_in_block, names_in_function}
 use Rattle.hip_typing.specs.Laws.Decided.{holds-at}
 use Rattle.hip_names.specs.NameLaws.{bytes_eq-sym}
 use Rattle.hip_typing.specs.Laws.NameLaws.{inner-sound}
-use Rattle.hip_step.specs.Places.{blocks_in, blocks_of}
+use Rattle.hip_runs.specs.Places.{blocks_in, blocks_of}
 use Rattle.hip_fix.specs.Direct.{allocates, allocates_in}
 use Rattle.hip_fix.proofs.NamesAgain.{differ_first, differ_second, differ_apart}
 

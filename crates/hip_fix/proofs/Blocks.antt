@@ -6,10 +6,10 @@ use Rattle.hip_ir.specs.declared.block.End.TheVariants as ends
 use Rattle.hip_names.specs.Names.{number_of}
 use Rattle.hip_ir.specs.declared.program.Program.{Program}
 use Rattle.hip_ir.specs.declared.site.Site.{Site}
-use Rattle.hip_step.specs.declared.input.Input.{Input}
-use Rattle.hip_step.specs.Actions.{Jumps, after_phis, jump, jump_to, end_action}
-use Rattle.hip_step.specs.Places.{blocks_of, block_at, body_of, end_of, phis_of, label_of, body_at, block_number}
-use Rattle.hip_step.specs.State.{Registers, Slot, Level, Frame}
+use Rattle.hip_runs.specs.declared.input.Input.{Input}
+use Rattle.hip_runs.specs.Actions.{Jumps, after_phis, jump, jump_to, end_action}
+use Rattle.hip_runs.specs.Places.{blocks_of, block_at, body_of, end_of, phis_of, label_of, body_at, block_number}
+use Rattle.hip_runs.specs.State.{Registers, Slot, Level, Frame}
 use Rattle.hip_fix.specs.declared.plan.Plan.{Plan}
 use Rattle.hip_fix.specs.Harmless.{marked_body}
 use Rattle.hip_fix.specs.Repaired.{Clone, Wanted, wanted_by, clones_of, repaired, instrs_of, repaired_body, repaired_block, repaired_blocks}

@@ -10,7 +10,7 @@ use Rattle.hip_ir.specs.declared.instr.Instr.{Instr}
 use Rattle.hip_ir.specs.declared.instr.Instr.TheVariants.{Store, Call}
 use Rattle.hip_ir.specs.declared.instr.Operand.{Operand}
 use Rattle.hip_ir.specs.declared.site.Site.{Site}
-use Rattle.hip_step.specs.Operands.{scalar_size}
+use Rattle.hip_runs.specs.Operands.{scalar_size}
 use Rattle.hip_typing.specs.Registers.{assigned_by, body_registers, block_registers, phi_registers}
 use Rattle.hip_fix.specs.Repaired.{Marked, Clone, Wanted, is_wide, line_flush, range_flush, flush_of, the_fence, renamed, inserted_behind, repaired_body, instrs_of, repaired_block, repaired_blocks}
 use Rattle.hip_fix.proofs.Items.{place_in}

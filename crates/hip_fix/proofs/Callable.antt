@@ -21,7 +21,7 @@ use Rattle.hip_typing.specs.Rules.{Passes, is_main, has_main, is_of, declared, f
 use Rattle.hip_typing.specs.declared.externs.ExternCall.{ExternCall}
 use Rattle.hip_typing.specs.declared.fault.Place.TheVariants as places
 use Rattle.hip_typing.specs.Laws.Decided.{holds-at}
-use Rattle.hip_step.specs.Places.{blocks_in, body_of, body_at}
+use Rattle.hip_runs.specs.Places.{blocks_in, body_of, body_at}
 use Rattle.hip_fix.proofs.Twins.{IsCallable}
 
 -- ---- `main`

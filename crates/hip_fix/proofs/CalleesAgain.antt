@@ -25,7 +25,7 @@ use Rattle.hip_fix.specs.declared.plan.Plan.{Plan}
 use Rattle.hip_fix.specs.Repaired.{wanted_by, clone_name, clones_of, cloned, added_externs, repaired}
 use Rattle.hip_fix.proofs.Callable.{function_at, callee_there, callable_of}
 use Rattle.hip_fix.proofs.Clones.{extern_kept, calls_of_clone}
-use Rattle.hip_step.specs.Parts.{In}
+use Rattle.hip_runs.specs.Parts.{In}
 use Rattle.hip_fix.proofs.HeadsAgain.{externs_again}
 use Rattle.hip_fix.proofs.Lookup.{calls_plain}
 use Rattle.hip_fix.proofs.Twins.{IsCallable, CallsTwin}

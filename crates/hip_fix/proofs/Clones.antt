@@ -30,8 +30,8 @@ use Rattle.hip_calls.specs.Fresh.{fresh_names, names_taken, name_in, name_of}
 use Rattle.hip_calls.specs.FreshLaws.{length-fresh_for, fresh_for-free, fresh_for-distinct, fresh_for-extern}
 use Rattle.hip_calls.specs.Reach.{called_at, callees}
 use Rattle.hip_calls.specs.ReachLaws.{Has, IsNamed, called-has, callees-first, callees-closed, callees-named}
-use Rattle.hip_step.specs.Operands.{scalar_size}
-use Rattle.hip_step.specs.Places.{blocks_in, body_at}
+use Rattle.hip_runs.specs.Operands.{scalar_size}
+use Rattle.hip_runs.specs.Places.{blocks_in, body_at}
 use Rattle.hip_typing.specs.declared.externs.ExternCall.{ExternCall}
 use Rattle.hip_typing.specs.declared.externs.ExternCall.TheVariants as calls
 use Rattle.hip_fix.specs.declared.plan.Plan.{Plan}
@@ -39,7 +39,7 @@ use Rattle.hip_fix.specs.Harmless.{marked_body}
 use Rattle.hip_fix.specs.Repaired.{Marked, clwb_name, sfence_name, pmem_flush_name, is_wide, line_flush, range_flush, flush_of, the_fence, renamed, inserted_behind, repaired_body, instrs_of, Clone, Wanted, clone_name, clones_from, clones_of, clone_in, repaired_functions, clone_functions, cloned, repaired_blocks, repaired, repaired_function, wanted_by}
 use Rattle.hip_fix.proofs.Blocks.{body_twin}
 use Rattle.hip_fix.proofs.Callable.{instr_place}
-use Rattle.hip_step.specs.Parts.{In}
+use Rattle.hip_runs.specs.Parts.{In}
 use Rattle.hip_fix.proofs.Functions.{length-repaired_functions, names-repaired_functions, get_back}
 use Rattle.hip_fix.proofs.Twins.{IsCallable, Twin, CallsTwin}
 

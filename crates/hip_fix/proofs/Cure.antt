@@ -7,14 +7,14 @@ use Rattle.hip_ir.specs.declared.instr.Instr.{Instr}
 use Rattle.hip_ir.specs.declared.program.Program.{Program}
 use Rattle.hip_ir.specs.declared.site.Site.{Site}
 use Rattle.hip_lines.specs.Line.{Line}
-use Rattle.hip_step.specs.declared.report.Findings.{Findings}
-use Rattle.hip_step.specs.declared.report.Report.{Report}
-use Rattle.hip_step.specs.Crash.{covers}
-use Rattle.hip_step.specs.History.{HasHistory}
-use Rattle.hip_step.specs.Parts.{In, PartOf}
-use Rattle.hip_step.specs.PartLaws.{in-append, append-left, append-right}
-use Rattle.hip_step.specs.Reports.{LoosePart, Range, shows, is_last, loose_from, loose_in, loose_parts, all_flushed, latest_flush, later_flush, is_open, closed_count, report_by, report_of, check_reports}
-use Rattle.hip_step.specs.State.{Level, Flush, StorePart, State, levels_of}
+use Rattle.hip_runs.specs.declared.report.Findings.{Findings}
+use Rattle.hip_runs.specs.declared.report.Report.{Report}
+use Rattle.hip_runs.specs.Crash.{covers}
+use Rattle.hip_runs.specs.History.{HasHistory}
+use Rattle.hip_runs.specs.Parts.{In, PartOf}
+use Rattle.hip_runs.specs.PartLaws.{in-append, append-left, append-right}
+use Rattle.hip_runs.specs.Reports.{LoosePart, Range, shows, is_last, loose_from, loose_in, loose_parts, all_flushed, latest_flush, later_flush, is_open, closed_count, report_by, report_of, check_reports}
+use Rattle.hip_runs.specs.State.{Level, Flush, StorePart, State, levels_of}
 use Rattle.hip_fix.specs.declared.plan.Plan.{Plan}
 use Rattle.hip_fix.specs.Choice.{Contains, choice, plan_for, best_on, site_at, asks_flush, asks_fence, asks_hoist}
 use Rattle.hip_fix.specs.Harmless.{Content}

@@ -5,17 +5,17 @@ use Rattle.std.specs.List.{flat_map, range_with_len}
 use Rattle.hip_ir.specs.declared.program.Program.{Program}
 use Rattle.hip_ir.specs.declared.site.Site.{Site}
 use Rattle.hip_typing.specs.Rules.{Passes}
-use Rattle.hip_step.specs.declared.event.Ending.{Ending}
-use Rattle.hip_step.specs.declared.input.Input.{Input}
-use Rattle.hip_step.specs.declared.report.Findings.{Findings}
-use Rattle.hip_step.specs.declared.report.Report.{Report}
-use Rattle.hip_step.specs.Marks.{IsFound}
-use Rattle.hip_step.specs.Parts.{In}
-use Rattle.hip_step.specs.PartLaws.{append-left, append-right}
-use Rattle.hip_step.specs.Reports.{Range, checked_by, next_check, report_of, check_reports, reports}
-use Rattle.hip_step.specs.State.{Level, World, State, levels_of}
-use Rattle.hip_step.specs.Step.{event, step, on_ending, run, has_ended}
-use Rattle.hip_step.specs.Validity.{IsValid}
+use Rattle.hip_runs.specs.declared.event.Ending.{Ending}
+use Rattle.hip_runs.specs.declared.input.Input.{Input}
+use Rattle.hip_runs.specs.declared.report.Findings.{Findings}
+use Rattle.hip_runs.specs.declared.report.Report.{Report}
+use Rattle.hip_runs.specs.Marks.{IsFound}
+use Rattle.hip_runs.specs.Parts.{In}
+use Rattle.hip_runs.specs.PartLaws.{append-left, append-right}
+use Rattle.hip_runs.specs.Reports.{Range, checked_by, next_check, report_of, check_reports, reports}
+use Rattle.hip_runs.specs.State.{Level, World, State, levels_of}
+use Rattle.hip_runs.specs.Step.{event, step, on_ending, run, has_ended}
+use Rattle.hip_runs.specs.Validity.{IsValid}
 use Rattle.hip_fix.specs.declared.plan.Plan.{Plan}
 use Rattle.hip_fix.specs.Choice.{Contains, plan_for}
 use Rattle.hip_fix.specs.Clean.{IsClean}
@@ -26,7 +26,7 @@ use Rattle.hip_fix.proofs.Ahead.{Ahead}
 use Rattle.hip_fix.proofs.Cure.{none_loose}
 use Rattle.hip_fix.proofs.Events.{Checks, checks}
 use Rattle.hip_fix.proofs.Facts.{Lines}
-use Rattle.hip_step.specs.HistoryLaws.{has_history}
+use Rattle.hip_runs.specs.HistoryLaws.{has_history}
 use Rattle.hip_fix.proofs.KeptAlong.{Held, held}
 use Rattle.hip_fix.proofs.Lookup.{sound_callable}
 use Rattle.hip_fix.proofs.Pairs.{Related, related}

@@ -13,19 +13,19 @@ use Rattle.hip_ir.specs.declared.site.Site.{Site}
 use Rattle.hip_typing.specs.Externs.{call_of}
 use Rattle.hip_typing.specs.Numbering.{function_number}
 use Rattle.hip_typing.specs.declared.externs.ExternCall.{ExternCall}
-use Rattle.hip_step.specs.declared.event.Event.{Event}
-use Rattle.hip_step.specs.declared.event.Event.TheVariants as events
-use Rattle.hip_step.specs.declared.event.Ending.{Ending}
-use Rattle.hip_step.specs.declared.event.Ending.TheVariants.{Cut}
-use Rattle.hip_step.specs.declared.event.TrapKind.TheVariants as traps
-use Rattle.hip_step.specs.declared.input.Input.{Input}
-use Rattle.hip_step.specs.Actions.{Action, Traps, Assigns, Allocates, Stores, Flushes, Persists, Fences, Asserts, Prints, Reads, Calls, Jumps, Returns, Deed, accessed, allocated, entered, call_action, extern_action, instr_action, end_action, is_turn, is_flush_or_fence, deed_of}
-use Rattle.hip_step.specs.Operands.{values_of, bound}
-use Rattle.hip_step.specs.Persistence.{flushes_lines}
-use Rattle.hip_step.specs.Places.{body_at, code_at, end_at}
-use Rattle.hip_step.specs.Reports.{checked_by}
-use Rattle.hip_step.specs.State.{Registers, Slot, Level, Flush, Frame, World, Counts, State, level_list, levels_of, site_of}
-use Rattle.hip_step.specs.Step.{state, is_bottom, is_cut, deed_at, event_of, event_at, event_on_ending, event}
+use Rattle.hip_runs.specs.declared.event.Event.{Event}
+use Rattle.hip_runs.specs.declared.event.Event.TheVariants as events
+use Rattle.hip_runs.specs.declared.event.Ending.{Ending}
+use Rattle.hip_runs.specs.declared.event.Ending.TheVariants.{Cut}
+use Rattle.hip_runs.specs.declared.event.TrapKind.TheVariants as traps
+use Rattle.hip_runs.specs.declared.input.Input.{Input}
+use Rattle.hip_runs.specs.Actions.{Action, Traps, Assigns, Allocates, Stores, Flushes, Persists, Fences, Asserts, Prints, Reads, Calls, Jumps, Returns, Deed, accessed, allocated, entered, call_action, extern_action, instr_action, end_action, is_turn, is_flush_or_fence, deed_of}
+use Rattle.hip_runs.specs.Operands.{values_of, bound}
+use Rattle.hip_runs.specs.Persistence.{flushes_lines}
+use Rattle.hip_runs.specs.Places.{body_at, code_at, end_at}
+use Rattle.hip_runs.specs.Reports.{checked_by}
+use Rattle.hip_runs.specs.State.{Registers, Slot, Level, Flush, Frame, World, Counts, State, level_list, levels_of, site_of}
+use Rattle.hip_runs.specs.Step.{state, is_bottom, is_cut, deed_at, event_of, event_at, event_on_ending, event}
 use Rattle.hip_fix.specs.declared.plan.Plan.{Plan}
 use Rattle.hip_fix.specs.Harmless.{marked_body, marked_at, is_inserted, inserted_on, stands_inserted}
 use Rattle.hip_fix.specs.Repaired.{Marked, renamed, clone_name, wanted_by, clones_of, repaired, instrs_of, repaired_body}

@@ -4,11 +4,11 @@ use Rattle.hip_ir.specs.Sites.{has_site}
 use Rattle.hip_ir.specs.declared.program.Program.{Program}
 use Rattle.hip_ir.specs.declared.site.Site.{Site}
 use Rattle.hip_lines.specs.Line.{Line, has_bytes, stored, fresh_lines}
-use Rattle.hip_step.specs.declared.input.Input.{Input}
-use Rattle.hip_step.specs.Actions.{in_region}
-use Rattle.hip_step.specs.Persistence.{part_of_store, flushes_lines, flushed_lines, fenced_lines}
-use Rattle.hip_step.specs.Parts.{In, PartOf}
-use Rattle.hip_step.specs.State.{Level, Flush, StorePart, Counts}
+use Rattle.hip_runs.specs.declared.input.Input.{Input}
+use Rattle.hip_runs.specs.Actions.{in_region}
+use Rattle.hip_runs.specs.Persistence.{part_of_store, flushes_lines, flushed_lines, fenced_lines}
+use Rattle.hip_runs.specs.Parts.{In, PartOf}
+use Rattle.hip_runs.specs.State.{Level, Flush, StorePart, Counts}
 use Rattle.hip_fix.specs.declared.plan.Plan.{Plan}
 use Rattle.hip_fix.specs.Quiet.{IsQuiet}
 

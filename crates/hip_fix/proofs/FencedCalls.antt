@@ -10,16 +10,16 @@ use Rattle.hip_typing.specs.Externs.{call_of}
 use Rattle.hip_typing.specs.Rules.{Passes}
 use Rattle.hip_typing.specs.declared.externs.ExternCall.{ExternCall}
 use Rattle.hip_typing.specs.declared.externs.ExternCall.TheVariants as calls
-use Rattle.hip_step.specs.declared.input.Input.{Input}
-use Rattle.hip_step.specs.Actions.{Flushes, Fences, instr_action, call_action, is_turn, is_flush_or_fence, deed_of}
-use Rattle.hip_step.specs.Operands.{values_of}
-use Rattle.hip_step.specs.Parts.{In, PartOf}
-use Rattle.hip_step.specs.PartLaws.{part-fenced}
-use Rattle.hip_step.specs.Persistence.{fence_line, fenced_lines}
-use Rattle.hip_step.specs.Places.{body_at, end_at, code_at}
-use Rattle.hip_step.specs.State.{Registers, Level, Flush, StorePart, Frame, World, Counts, State, site_of}
-use Rattle.hip_step.specs.Step.{perform, carry_out, event_at, counted, on_frames, on_ending, step, run}
-use Rattle.hip_step.specs.Validity.{IsValid}
+use Rattle.hip_runs.specs.declared.input.Input.{Input}
+use Rattle.hip_runs.specs.Actions.{Flushes, Fences, instr_action, call_action, is_turn, is_flush_or_fence, deed_of}
+use Rattle.hip_runs.specs.Operands.{values_of}
+use Rattle.hip_runs.specs.Parts.{In, PartOf}
+use Rattle.hip_runs.specs.PartLaws.{part-fenced}
+use Rattle.hip_runs.specs.Persistence.{fence_line, fenced_lines}
+use Rattle.hip_runs.specs.Places.{body_at, end_at, code_at}
+use Rattle.hip_runs.specs.State.{Registers, Level, Flush, StorePart, Frame, World, Counts, State, site_of}
+use Rattle.hip_runs.specs.Step.{perform, carry_out, event_at, counted, on_frames, on_ending, step, run}
+use Rattle.hip_runs.specs.Validity.{IsValid}
 use Rattle.hip_fix.specs.declared.plan.Plan.{Plan}
 use Rattle.hip_fix.specs.Covered.{is_fence, IsFenceCall, IsBehindClone, IsLastBefore, IsAtClone, IsCovered}
 use Rattle.hip_fix.specs.Harmless.{marked_body, matched}

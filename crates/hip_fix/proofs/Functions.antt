@@ -9,8 +9,8 @@ use Rattle.hip_names.specs.Names.{number_of}
 use Rattle.hip_typing.specs.Numbering.{function_names, function_number}
 use Rattle.hip_names.specs.NumberLaws.{number_of-front}
 use Rattle.hip_calls.specs.Fresh.{fresh_names}
-use Rattle.hip_step.specs.Places.{blocks_in}
-use Rattle.hip_step.specs.Step.{main_number}
+use Rattle.hip_runs.specs.Places.{blocks_in}
+use Rattle.hip_runs.specs.Step.{main_number}
 use Rattle.hip_fix.specs.declared.plan.Plan.{Plan}
 use Rattle.hip_fix.specs.Repaired.{Clone, Wanted, wanted_by, clones_of, cloned, repaired, repaired_blocks, repaired_function, repaired_functions, clone_functions}
 use Rattle.hip_fix.proofs.Twins.{Twin}

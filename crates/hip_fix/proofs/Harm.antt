@@ -3,9 +3,9 @@ use Rattle.std.proofs.Common.{◌≡◌, ◌⊎◌, inl, inr, ℕ, ◌+◌, ◌*
 use Rattle.hip_ir.specs.declared.program.Program.{Program}
 use Rattle.hip_ir.specs.declared.site.Site.{Site}
 use Rattle.hip_typing.specs.Rules.{Passes}
-use Rattle.hip_step.specs.declared.input.Input.{Input}
-use Rattle.hip_step.specs.State.{Level, Frame, State}
-use Rattle.hip_step.specs.Step.{run}
+use Rattle.hip_runs.specs.declared.input.Input.{Input}
+use Rattle.hip_runs.specs.State.{Level, Frame, State}
+use Rattle.hip_runs.specs.Step.{run}
 use Rattle.hip_fix.specs.declared.plan.Plan.{Plan}
 use Rattle.hip_fix.specs.Harmless.{SameFrame, SameFrames, Matches, IsHarmless, matched}
 use Rattle.hip_fix.specs.Repaired.{Marked, cloned, repaired}

@@ -11,7 +11,7 @@ use Rattle.hip_ir.specs.declared.program.Program.{Program}
 use Rattle.hip_ir.specs.declared.site.Site.{Site}
 use Rattle.hip_typing.specs.Numbering.{function_number}
 use Rattle.hip_typing.specs.Rules.{Passes}
-use Rattle.hip_step.specs.Places.{body_at}
+use Rattle.hip_runs.specs.Places.{body_at}
 use Rattle.hip_fix.specs.declared.plan.Plan.{Plan}
 use Rattle.hip_fix.specs.Covered.{is_numbered_from, IsFenceCall, IsCallFrom, repaired_place, IsFenced, AreHoistsFenced}
 use Rattle.hip_fix.specs.Harmless.{marked_body}

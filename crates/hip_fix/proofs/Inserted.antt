@@ -15,11 +15,11 @@ use Rattle.hip_ir.specs.declared.program.Program.{Program}
 use Rattle.hip_lines.specs.Line.{has_bytes}
 use Rattle.hip_typing.specs.Addresses.{IsBase}
 use Rattle.hip_typing.specs.Values.{Written, const_value}
-use Rattle.hip_step.specs.declared.input.Input.{Input}
-use Rattle.hip_step.specs.Actions.{Action, Flushes, Fences, in_region, are_valid, flushing, instr_action, is_turn}
-use Rattle.hip_step.specs.Operands.{value_of, scalar_size, access_align}
-use Rattle.hip_step.specs.Persistence.{flushes_lines}
-use Rattle.hip_step.specs.State.{Registers, World}
+use Rattle.hip_runs.specs.declared.input.Input.{Input}
+use Rattle.hip_runs.specs.Actions.{Action, Flushes, Fences, in_region, are_valid, flushing, instr_action, is_turn}
+use Rattle.hip_runs.specs.Operands.{value_of, scalar_size, access_align}
+use Rattle.hip_runs.specs.Persistence.{flushes_lines}
+use Rattle.hip_runs.specs.State.{Registers, World}
 use Rattle.hip_fix.specs.Repaired.{flush_of, line_flush, range_flush, the_fence, is_wide}
 
 -- how many bytes the inserted flush of a store is given

@@ -19,7 +19,7 @@ use Rattle.hip_ir.specs.declared.constant.Const.TheViews.{rolls-Int}
 use Rattle.hip_ir.specs.declared.instr.Instr.TheVariants.{Store}
 use Rattle.hip_ir.specs.declared.instr.Operand.{Operand}
 use Rattle.hip_ir.specs.declared.instr.Operand.TheVariants.{Reg, Fixed}
-use Rattle.hip_step.specs.Operands.{scalar_size}
+use Rattle.hip_runs.specs.Operands.{scalar_size}
 use Rattle.hip_typing.specs.Constants.{has_shape, names_in, types_in}
 use Rattle.hip_typing.specs.Externs.{known_signature}
 use Rattle.hip_names.specs.Names.{is_among}

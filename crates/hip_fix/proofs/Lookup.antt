@@ -14,13 +14,13 @@ use Rattle.hip_typing.specs.Numbering.{function_number}
 use Rattle.hip_typing.specs.Laws.NumberingLaws.{function_number-there, function_number-within}
 use Rattle.hip_typing.specs.Rules.{Passes}
 use Rattle.hip_typing.specs.declared.externs.ExternCall.{ExternCall}
-use Rattle.hip_step.specs.Places.{body_at}
-use Rattle.hip_step.specs.Step.{main_number}
+use Rattle.hip_runs.specs.Places.{body_at}
+use Rattle.hip_runs.specs.Step.{main_number}
 use Rattle.hip_fix.specs.declared.plan.Plan.{Plan}
 use Rattle.hip_fix.specs.Repaired.{wanted_by, clone_name, clones_of, cloned, repaired, repaired_function}
 use Rattle.hip_fix.proofs.Callable.{callable_of}
 use Rattle.hip_fix.proofs.Clones.{called_there, closed_there, extern_kept, calls_of_clone, calls_in_clone}
-use Rattle.hip_step.specs.Parts.{In}
+use Rattle.hip_runs.specs.Parts.{In}
 use Rattle.hip_fix.proofs.Functions.{twin_of_plain, plain_code, plain_number, main_of, repaired_main_of}
 use Rattle.hip_fix.proofs.Twins.{IsCallable, Twin, CallsTwin}
 

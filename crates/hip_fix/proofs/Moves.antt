@@ -12,18 +12,18 @@ use Rattle.hip_lines.specs.Line.{stored}
 use Rattle.hip_typing.specs.Externs.{call_of}
 use Rattle.hip_typing.specs.Numbering.{function_number}
 use Rattle.hip_typing.specs.declared.externs.ExternCall.{ExternCall}
-use Rattle.hip_step.specs.declared.event.Ending.{Ending}
-use Rattle.hip_step.specs.declared.event.Ending.TheVariants.{Stop, Cut}
-use Rattle.hip_step.specs.declared.event.Event.{Event}
-use Rattle.hip_step.specs.declared.event.TrapKind.TheVariants as traps
-use Rattle.hip_step.specs.declared.input.Input.{Input}
-use Rattle.hip_step.specs.Actions.{Action, Traps, Assigns, Allocates, Stores, Flushes, Persists, Fences, Asserts, Prints, Reads, Calls, Jumps, Returns, Deed, in_region, are_valid, accessed, entered, numbered_call, call_action, instr_action, deed_of}
-use Rattle.hip_step.specs.Parts.{PartOf}
-use Rattle.hip_step.specs.PartLaws.{IsFlushedFrom, part-fenced, part-flushed, part-stored}
-use Rattle.hip_step.specs.Persistence.{part_of_store, stored_lines, flushed_lines, fenced_lines}
-use Rattle.hip_step.specs.Places.{body_at, code_at, end_at}
-use Rattle.hip_step.specs.State.{Flush, StorePart, Frame, World, Counts, State, levels_of, site_of}
-use Rattle.hip_step.specs.Step.{stop, with_turn, with_register, next, leave, perform, is_cut, carry_out, deed_at, on_frames, on_ending, step, event_at, counted}
+use Rattle.hip_runs.specs.declared.event.Ending.{Ending}
+use Rattle.hip_runs.specs.declared.event.Ending.TheVariants.{Stop, Cut}
+use Rattle.hip_runs.specs.declared.event.Event.{Event}
+use Rattle.hip_runs.specs.declared.event.TrapKind.TheVariants as traps
+use Rattle.hip_runs.specs.declared.input.Input.{Input}
+use Rattle.hip_runs.specs.Actions.{Action, Traps, Assigns, Allocates, Stores, Flushes, Persists, Fences, Asserts, Prints, Reads, Calls, Jumps, Returns, Deed, in_region, are_valid, accessed, entered, numbered_call, call_action, instr_action, deed_of}
+use Rattle.hip_runs.specs.Parts.{PartOf}
+use Rattle.hip_runs.specs.PartLaws.{IsFlushedFrom, part-fenced, part-flushed, part-stored}
+use Rattle.hip_runs.specs.Persistence.{part_of_store, stored_lines, flushed_lines, fenced_lines}
+use Rattle.hip_runs.specs.Places.{body_at, code_at, end_at}
+use Rattle.hip_runs.specs.State.{Flush, StorePart, Frame, World, Counts, State, levels_of, site_of}
+use Rattle.hip_runs.specs.Step.{stop, with_turn, with_register, next, leave, perform, is_cut, carry_out, deed_at, on_frames, on_ending, step, event_at, counted}
 use Rattle.hip_fix.proofs.Blocks.{get_drop}
 use Rattle.hip_fix.proofs.Facts.{Lines}
 use Rattle.hip_fix.proofs.Sim.{IsPlain, plain_calculated, plain_allocated, plain_extern, plain_load, is_end, end_is}

@@ -26,13 +26,13 @@ use Rattle.hip_typing.specs.Rules.{Passes, block_check, places_check}
 use Rattle.hip_typing.specs.declared.fault.Place.{Place}
 use Rattle.hip_typing.specs.declared.fault.Place.TheVariants as places
 use Rattle.hip_typing.specs.Laws.Decided.{holds-at, holds-made}
-use Rattle.hip_step.specs.Places.{body_of, blocks_in}
+use Rattle.hip_runs.specs.Places.{body_of, blocks_in}
 use Rattle.hip_fix.specs.declared.plan.Plan.{Plan}
 use Rattle.hip_fix.specs.Repaired.{Clone, Wanted, wanted_by, clwb_name, sfence_name, pmem_flush_name, clones_of, cloned, renamed, is_call_of, needs, repaired, repaired_block, repaired_blocks, repaired_function}
 use Rattle.hip_fix.proofs.Bodies.{IsOriginal, IsInserted, in_body, inserted_kind, site_at, repaired_instrs, same_blocks_registers}
 use Rattle.hip_fix.proofs.CalleesAgain.{callee_again}
 use Rattle.hip_fix.proofs.Clones.{called_there, closed_there, has_at, in_has}
-use Rattle.hip_step.specs.Parts.{In}
+use Rattle.hip_runs.specs.Parts.{In}
 use Rattle.hip_fix.proofs.InsertedAgain.{fence_check, flush_check}
 use Rattle.hip_fix.proofs.Needed.{inserted_needed, clwb_callee, sfence_callee, pmem_flush_callee}
 use Rattle.hip_fix.proofs.Origins.{Origin, origin}

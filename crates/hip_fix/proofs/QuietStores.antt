@@ -10,17 +10,17 @@ use Rattle.hip_ir.specs.declared.program.Program.{Program}
 use Rattle.hip_lines.specs.Line.{Line}
 use Rattle.hip_mem.specs.Bytes.{little_endian}
 use Rattle.hip_typing.specs.Rules.{Passes}
-use Rattle.hip_step.specs.declared.event.Ending.{Ending}
-use Rattle.hip_step.specs.declared.event.Ending.TheVariants.{Cut}
-use Rattle.hip_step.specs.declared.event.Event.TheVariants as events
-use Rattle.hip_step.specs.declared.event.TrapKind.TheVariants as traps
-use Rattle.hip_step.specs.declared.input.Input.{Input}
-use Rattle.hip_step.specs.Actions.{Action, Traps, Assigns, Allocates, Stores, Flushes, Persists, Fences, Asserts, Prints, Reads, Calls, Jumps, Returns, Deed, in_region, are_valid, accessed, instr_action, deed_of}
-use Rattle.hip_step.specs.Operands.{value_of}
-use Rattle.hip_step.specs.Places.{blocks_of, body_at, code_at, end_at}
-use Rattle.hip_step.specs.State.{StorePart, Frame, World, Counts, State, site_of}
-use Rattle.hip_step.specs.Step.{stop, with_turn, leave, perform, is_cut, carry_out, deed_at, on_frames, on_ending, step, event_of, event_at, event_on_frames, event_on_ending, event, counted, run}
-use Rattle.hip_step.specs.Validity.{IsValid}
+use Rattle.hip_runs.specs.declared.event.Ending.{Ending}
+use Rattle.hip_runs.specs.declared.event.Ending.TheVariants.{Cut}
+use Rattle.hip_runs.specs.declared.event.Event.TheVariants as events
+use Rattle.hip_runs.specs.declared.event.TrapKind.TheVariants as traps
+use Rattle.hip_runs.specs.declared.input.Input.{Input}
+use Rattle.hip_runs.specs.Actions.{Action, Traps, Assigns, Allocates, Stores, Flushes, Persists, Fences, Asserts, Prints, Reads, Calls, Jumps, Returns, Deed, in_region, are_valid, accessed, instr_action, deed_of}
+use Rattle.hip_runs.specs.Operands.{value_of}
+use Rattle.hip_runs.specs.Places.{blocks_of, body_at, code_at, end_at}
+use Rattle.hip_runs.specs.State.{StorePart, Frame, World, Counts, State, site_of}
+use Rattle.hip_runs.specs.Step.{stop, with_turn, leave, perform, is_cut, carry_out, deed_at, on_frames, on_ending, step, event_of, event_at, event_on_frames, event_on_ending, event, counted, run}
+use Rattle.hip_runs.specs.Validity.{IsValid}
 use Rattle.hip_fix.specs.Direct.{is_outside, stores_outside, direct}
 use Rattle.hip_fix.specs.Quiet.{stores_in_region, IsQuiet}
 use Rattle.hip_fix.proofs.Blocks.{get_drop}

@@ -27,28 +27,28 @@ use Rattle.hip_typing.specs.Externs.{call_of}
 use Rattle.hip_typing.specs.Numbering.{function_number}
 use Rattle.hip_typing.specs.declared.externs.ExternCall.{ExternCall}
 use Rattle.hip_typing.specs.declared.externs.ExternCall.TheVariants as calls
-use Rattle.hip_step.specs.declared.event.Ending.{Ending}
-use Rattle.hip_step.specs.declared.event.Ending.TheVariants.{Stop, Trap, Cut}
-use Rattle.hip_step.specs.declared.event.Event.TheVariants as events
-use Rattle.hip_step.specs.declared.event.TrapKind.{TrapKind}
-use Rattle.hip_step.specs.declared.event.TrapKind.TheVariants as traps
-use Rattle.hip_step.specs.declared.input.Input.{Input}
-use Rattle.hip_step.specs.Actions.{Action, Traps, Assigns, Allocates, Stores, Flushes, Persists, Fences, Asserts, Prints, Reads, Calls, Jumps, Returns, in_region, are_valid, accessed, allocated, entered, flushing, call_action, extern_action, instr_action, end_action, is_turn, is_flush_or_fence, deed_of, read_next, calculated, jump, jump_to}
-use Rattle.hip_step.specs.Operands.{value_of, values_of, assigned, bound, scalar_size, access_align}
-use Rattle.hip_step.specs.Persistence.{part_of_store, stored_lines}
-use Rattle.hip_step.specs.Places.{blocks_in, body_of, body_at, code_at, end_at}
-use Rattle.hip_step.specs.State.{Registers, Slot, Level, Flush, Frame, World, Counts, State, level_list, levels_of, site_of}
-use Rattle.hip_step.specs.Validity.{IsValid}
-use Rattle.hip_step.specs.Step.{state, stop, with_turn, with_register, with_block, with_bytes, with_output, with_left, next, leave, perform, carry_out, on_frames, on_ending, step, event_at, event, counted, run, start, start_world, start_frame, header_entries, main_number}
+use Rattle.hip_runs.specs.declared.event.Ending.{Ending}
+use Rattle.hip_runs.specs.declared.event.Ending.TheVariants.{Stop, Trap, Cut}
+use Rattle.hip_runs.specs.declared.event.Event.TheVariants as events
+use Rattle.hip_runs.specs.declared.event.TrapKind.{TrapKind}
+use Rattle.hip_runs.specs.declared.event.TrapKind.TheVariants as traps
+use Rattle.hip_runs.specs.declared.input.Input.{Input}
+use Rattle.hip_runs.specs.Actions.{Action, Traps, Assigns, Allocates, Stores, Flushes, Persists, Fences, Asserts, Prints, Reads, Calls, Jumps, Returns, in_region, are_valid, accessed, allocated, entered, flushing, call_action, extern_action, instr_action, end_action, is_turn, is_flush_or_fence, deed_of, read_next, calculated, jump, jump_to}
+use Rattle.hip_runs.specs.Operands.{value_of, values_of, assigned, bound, scalar_size, access_align}
+use Rattle.hip_runs.specs.Persistence.{part_of_store, stored_lines}
+use Rattle.hip_runs.specs.Places.{blocks_in, body_of, body_at, code_at, end_at}
+use Rattle.hip_runs.specs.State.{Registers, Slot, Level, Flush, Frame, World, Counts, State, level_list, levels_of, site_of}
+use Rattle.hip_runs.specs.Validity.{IsValid}
+use Rattle.hip_runs.specs.Step.{state, stop, with_turn, with_register, with_block, with_bytes, with_output, with_left, next, leave, perform, carry_out, on_frames, on_ending, step, event_at, event, counted, run, start, start_world, start_frame, header_entries, main_number}
 use Rattle.hip_fix.specs.declared.plan.Plan.{Plan}
 use Rattle.hip_fix.specs.Harmless.{extents, marked_body, marked_at, is_inserted, inserted_on, stands_inserted, matched}
 use Rattle.hip_fix.specs.Quiet.{IsQuiet, stores_in_region}
 use Rattle.hip_fix.specs.Repaired.{Marked, flush_of, the_fence, renamed, clone_name, wanted_by, inserted_behind, clones_of, cloned, repaired, instrs_of, repaired_body}
 use Rattle.hip_fix.proofs.Ahead.{Ahead, ahead_stored, ahead_flushed, ahead_more_flushed, ahead_fenced, ahead_more_fenced, ahead_start}
 use Rattle.hip_fix.proofs.Blocks.{get_drop, drop_next, body_twin, end_twin, end_action_twin}
-use Rattle.hip_step.specs.Parts.{In}
-use Rattle.hip_step.specs.History.{HasHistory}
-use Rattle.hip_step.specs.HistoryLaws.{has_history}
+use Rattle.hip_runs.specs.Parts.{In}
+use Rattle.hip_runs.specs.History.{HasHistory}
+use Rattle.hip_runs.specs.HistoryLaws.{has_history}
 use Rattle.hip_fix.proofs.Facts.{Lines, Known, fence_if, flush_if, Keeps}
 use Rattle.hip_fix.proofs.Inserted.{flush_size, flush_size_there, flush_size_small, flushes_there, region_base, reaches, flush_action, flush_no_turn}
 use Rattle.hip_fix.proofs.Lookup.{number_there, plain_twin, same_main, main_there, calls_plain, calls_clone, extern_name, hoisted_cloned, cloned_closed}

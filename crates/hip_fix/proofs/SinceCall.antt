@@ -4,13 +4,13 @@ use Rattle.std.proofs.lemmas.Bool.Decides.{nat_tests}
 use Rattle.hip_ir.specs.declared.instr.Instr.{Instr}
 use Rattle.hip_ir.specs.declared.instr.Instr.TheVariants.{Binary, Compare, Select, Cast, Alloca, Load, Store, Gep, Call}
 use Rattle.hip_ir.specs.declared.program.Program.{Program}
-use Rattle.hip_step.specs.declared.event.Ending.{Ending}
-use Rattle.hip_step.specs.declared.input.Input.{Input}
-use Rattle.hip_step.specs.HistoryLaws.{has_history}
-use Rattle.hip_step.specs.Parts.{PartOf}
-use Rattle.hip_step.specs.Places.{body_at}
-use Rattle.hip_step.specs.State.{StorePart, Frame, State}
-use Rattle.hip_step.specs.Step.{with_register, next, on_ending, step, run}
+use Rattle.hip_runs.specs.declared.event.Ending.{Ending}
+use Rattle.hip_runs.specs.declared.input.Input.{Input}
+use Rattle.hip_runs.specs.HistoryLaws.{has_history}
+use Rattle.hip_runs.specs.Parts.{PartOf}
+use Rattle.hip_runs.specs.Places.{body_at}
+use Rattle.hip_runs.specs.State.{StorePart, Frame, State}
+use Rattle.hip_runs.specs.Step.{with_register, next, on_ending, step, run}
 use Rattle.hip_fix.specs.Covered.{is_numbered_from, IsCallFrom, IsBehindClone, IsLastBefore}
 use Rattle.hip_fix.proofs.Facts.{Lines}
 use Rattle.hip_fix.proofs.Moves.{instr_here, IsCall, IsCallOf, Moves, ends, goes_on, jumps, enters, returns, IsOld, IsNew, Out, step_out}

@@ -26,12 +26,12 @@ use Rattle.hip_typing.specs.Numbering.{function_number}
 use Rattle.hip_typing.specs.Rules.{Passes}
 use Rattle.hip_typing.specs.declared.externs.ExternCall.{ExternCall}
 use Rattle.hip_typing.specs.declared.externs.ExternCall.TheVariants as calls
-use Rattle.hip_step.specs.declared.event.TrapKind.TheVariants as traps
-use Rattle.hip_step.specs.declared.input.Input.{Input}
-use Rattle.hip_step.specs.Actions.{Action, Traps, Assigns, Allocates, Asserts, Reads, Calls, Jumps, in_region, are_valid, accessed, calculated, allocated, numbered_call, entered, flushing, read_next, extern_action, call_action, instr_action, after_phis, jump_to, jump, end_action, deed_of}
-use Rattle.hip_step.specs.Operands.{look_up, assigned, bound}
-use Rattle.hip_step.specs.Places.{blocks_in, blocks_of, block_at, body_of, phis_of, label_of, body_at, code_at, end_at}
-use Rattle.hip_step.specs.State.{Registers, Frame, World}
+use Rattle.hip_runs.specs.declared.event.TrapKind.TheVariants as traps
+use Rattle.hip_runs.specs.declared.input.Input.{Input}
+use Rattle.hip_runs.specs.Actions.{Action, Traps, Assigns, Allocates, Asserts, Reads, Calls, Jumps, in_region, are_valid, accessed, calculated, allocated, numbered_call, entered, flushing, read_next, extern_action, call_action, instr_action, after_phis, jump_to, jump, end_action, deed_of}
+use Rattle.hip_runs.specs.Operands.{look_up, assigned, bound}
+use Rattle.hip_runs.specs.Places.{blocks_in, blocks_of, block_at, body_of, phis_of, label_of, body_at, code_at, end_at}
+use Rattle.hip_runs.specs.State.{Registers, Frame, World}
 use Rattle.hip_fix.specs.Direct.{allocates, allocates_in}
 use Rattle.hip_fix.proofs.AssignedOnce.{names_of_instr, only_alloca, no_phi, no_parameter, differ_inside, once}
 use Rattle.hip_fix.proofs.Blocks.{get_drop}

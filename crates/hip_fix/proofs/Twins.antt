@@ -10,7 +10,7 @@ use Rattle.hip_types.specs.declared.number.Scalar.{Scalar}
 use Rattle.hip_typing.specs.Externs.{call_of}
 use Rattle.hip_typing.specs.Numbering.{function_number}
 use Rattle.hip_typing.specs.declared.externs.ExternCall.{ExternCall}
-use Rattle.hip_step.specs.Places.{blocks_of, body_at}
+use Rattle.hip_runs.specs.Places.{blocks_of, body_at}
 use Rattle.hip_fix.specs.declared.plan.Plan.{Plan}
 use Rattle.hip_fix.specs.Harmless.{marked_at, marked_body}
 use Rattle.hip_fix.specs.Repaired.{wanted_by, clones_of, cloned, repaired, repaired_blocks, repaired_function}

@@ -5,11 +5,11 @@ use Rattle.std.specs.List.{list_any, filter}
 use Rattle.hip_ir.specs.Sites.{same_site, has_site, sites_of}
 use Rattle.hip_ir.specs.declared.program.Program.{Program}
 use Rattle.hip_ir.specs.declared.site.Site.{Site}
-use Rattle.hip_step.specs.declared.report.Findings.{Findings}
-use Rattle.hip_step.specs.declared.report.Kind.{Kind}
-use Rattle.hip_step.specs.declared.report.Kind.TheVariants.{MissingFlush, MissingFence, MissingBoth}
-use Rattle.hip_step.specs.declared.report.Report.{Report}
-use Rattle.hip_step.specs.Scores.{score}
+use Rattle.hip_runs.specs.declared.report.Findings.{Findings}
+use Rattle.hip_runs.specs.declared.report.Kind.{Kind}
+use Rattle.hip_runs.specs.declared.report.Kind.TheVariants.{MissingFlush, MissingFence, MissingBoth}
+use Rattle.hip_runs.specs.declared.report.Report.{Report}
+use Rattle.hip_runs.specs.Scores.{score}
 use Rattle.hip_fix.specs.declared.plan.Plan.{Plan}
 
 -- a level, and its score

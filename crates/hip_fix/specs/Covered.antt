@@ -12,11 +12,11 @@ use Rattle.hip_typing.specs.Externs.{call_of}
 use Rattle.hip_typing.specs.Numbering.{function_number}
 use Rattle.hip_typing.specs.declared.externs.ExternCall.{ExternCall}
 use Rattle.hip_typing.specs.declared.externs.ExternCall.TheVariants as calls
-use Rattle.hip_step.specs.declared.input.Input.{Input}
-use Rattle.hip_step.specs.Places.{body_at}
-use Rattle.hip_step.specs.State.{Frame, StorePart, State}
-use Rattle.hip_step.specs.Step.{run}
-use Rattle.hip_step.specs.Validity.{IsValid}
+use Rattle.hip_runs.specs.declared.input.Input.{Input}
+use Rattle.hip_runs.specs.Places.{body_at}
+use Rattle.hip_runs.specs.State.{Frame, StorePart, State}
+use Rattle.hip_runs.specs.Step.{run}
+use Rattle.hip_runs.specs.Validity.{IsValid}
 use Rattle.hip_fix.specs.declared.plan.Plan.{Plan}
 use Rattle.hip_fix.specs.Repaired.{wanted_by, clones_of, cloned, repaired, repaired_body}
 

@@ -15,7 +15,7 @@ use Rattle.hip_ir.specs.declared.instr.Operand.TheVariants.{Reg, Fixed}
 use Rattle.hip_ir.specs.declared.program.GlobalVar.{GlobalVar}
 use Rattle.hip_ir.specs.declared.program.Program.{Program}
 use Rattle.hip_ir.specs.declared.site.Site.{Site}
-use Rattle.hip_step.specs.Places.{blocks_of}
+use Rattle.hip_runs.specs.Places.{blocks_of}
 
 abbrev pub allocates : List ℕ → Instr → Bool
 allocates name (Alloca dest ty align) = bytes_eq dest name

@@ -3,13 +3,13 @@ use Rattle.std.specs.Prelude.{◌≡◌, ◌⊎◌, ℕ, zero, suc, ◌+◌, ◌
 use Rattle.hip_ir.specs.declared.program.Program.{Program}
 use Rattle.hip_ir.specs.declared.site.Site.{Site}
 use Rattle.hip_lines.specs.Line.{Line}
-use Rattle.hip_step.specs.declared.event.Ending.{Ending}
-use Rattle.hip_step.specs.declared.input.Input.{Input}
-use Rattle.hip_step.specs.Crash.{IsCrashImage}
-use Rattle.hip_step.specs.Places.{body_at}
-use Rattle.hip_step.specs.State.{Slot, Frame, StorePart, State}
-use Rattle.hip_step.specs.Step.{run}
-use Rattle.hip_step.specs.Validity.{IsValid}
+use Rattle.hip_runs.specs.declared.event.Ending.{Ending}
+use Rattle.hip_runs.specs.declared.input.Input.{Input}
+use Rattle.hip_runs.specs.Crash.{IsCrashImage}
+use Rattle.hip_runs.specs.Places.{body_at}
+use Rattle.hip_runs.specs.State.{Slot, Frame, StorePart, State}
+use Rattle.hip_runs.specs.Step.{run}
+use Rattle.hip_runs.specs.Validity.{IsValid}
 use Rattle.hip_fix.specs.declared.plan.Plan.{Plan}
 use Rattle.hip_fix.specs.Repaired.{Marked, Clone, Wanted, wanted_by, clones_of, cloned, repaired, repaired_body}
 

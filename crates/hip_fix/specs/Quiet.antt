@@ -2,12 +2,12 @@
 use Rattle.std.specs.Prelude.{◌≡◌, ℕ, Bool, true, List, ◌∷◌}
 use Rattle.hip_ir.specs.declared.program.Program.{Program}
 use Rattle.hip_ir.specs.declared.site.Site.{Site}
-use Rattle.hip_step.specs.declared.event.Event.{Event}
-use Rattle.hip_step.specs.declared.event.Event.TheVariants as events
-use Rattle.hip_step.specs.declared.input.Input.{Input}
-use Rattle.hip_step.specs.State.{Frame, site_of}
-use Rattle.hip_step.specs.Step.{event, run}
-use Rattle.hip_step.specs.Validity.{IsValid}
+use Rattle.hip_runs.specs.declared.event.Event.{Event}
+use Rattle.hip_runs.specs.declared.event.Event.TheVariants as events
+use Rattle.hip_runs.specs.declared.input.Input.{Input}
+use Rattle.hip_runs.specs.State.{Frame, site_of}
+use Rattle.hip_runs.specs.Step.{event, run}
+use Rattle.hip_runs.specs.Validity.{IsValid}
 
 abbrev pub stores_in_region : Event → Type 0
 stores_in_region (events.Store addr value size) = Unit {0}

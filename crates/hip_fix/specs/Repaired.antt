@@ -20,7 +20,7 @@ use Rattle.hip_ir.specs.declared.program.Program.{Program}
 use Rattle.hip_ir.specs.declared.site.Site.{Site}
 use Rattle.hip_calls.specs.Fresh.{fresh_names, name_of}
 use Rattle.hip_calls.specs.Reach.{callees}
-use Rattle.hip_step.specs.Operands.{scalar_size, access_align}
+use Rattle.hip_runs.specs.Operands.{scalar_size, access_align}
 use Rattle.hip_names.specs.Names.{is_among}
 use Rattle.hip_fix.specs.declared.plan.Plan.{Plan}
 

@@ -10,13 +10,13 @@ use Rattle.hip_ir.specs.declared.constant.Const.TheVariants as consts
 use Rattle.hip_typing.specs.Addresses.{volatile_end}
 use Rattle.hip_typing.specs.Initial.{volatile_bytes}
 use Rattle.hip_typing.specs.Values.{aligned, constant_bytes, global_address, sized, written}
-use Rattle.hip_step.specs.declared.event.Object.TheVariants.{Global}
-use Rattle.hip_step.specs.declared.report.Mark.{Mark}
-use Rattle.hip_step.specs.Actions.{Deed, Assigns, Asserts, Calls, Returns, Stores}
-use Rattle.hip_step.specs.Marks.{pointed, hit}
-use Rattle.hip_step.specs.Reports.{reports}
-use Rattle.hip_step.specs.Step.{start, run, has_ended}
-use Rattle.hip_step.proofs.Opened.{run_opened}
+use Rattle.hip_runs.specs.declared.event.Object.TheVariants.{Global}
+use Rattle.hip_runs.specs.declared.report.Mark.{Mark}
+use Rattle.hip_runs.specs.Actions.{Deed, Assigns, Asserts, Calls, Returns, Stores}
+use Rattle.hip_runs.specs.Marks.{pointed, hit}
+use Rattle.hip_runs.specs.Reports.{reports}
+use Rattle.hip_runs.specs.Step.{start, run, has_ended}
+use Rattle.hip_runs.proofs.Opened.{run_opened}
 use Rattle.hip_fix.specs.examples.Words.{site, zeroed, IsHoisted}
 use Rattle.hip_fix.specs.examples.AssertInsideCallee.{assert_inside_callee, assert_inside_callee_reports, assert_inside_callee_repaired}
 use Rattle.hip_fix.proofs.worked.Runs.{Follows, done_opened, int_value, address_value, run_is, reports_are}

@@ -1,13 +1,13 @@
 -- The run of a program that copies, and its repair by a clone.
 use Rattle.std.proofs.Common.{◌≡◌, true, [], ◌∷◌, List, Some, None, codes, refl, ap}
 use Rattle.hip_types.specs.LayoutLaws.{shape-Int}
-use Rattle.hip_step.specs.declared.event.Object.TheVariants.{Global, Slot}
-use Rattle.hip_step.specs.declared.report.Mark.{Mark}
-use Rattle.hip_step.specs.Actions.{Deed, Allocates, Assigns, Calls, Returns, Stores}
-use Rattle.hip_step.specs.Marks.{pointed, hit}
-use Rattle.hip_step.specs.Reports.{reports}
-use Rattle.hip_step.specs.Step.{start, run, has_ended}
-use Rattle.hip_step.proofs.Opened.{run_opened}
+use Rattle.hip_runs.specs.declared.event.Object.TheVariants.{Global, Slot}
+use Rattle.hip_runs.specs.declared.report.Mark.{Mark}
+use Rattle.hip_runs.specs.Actions.{Deed, Allocates, Assigns, Calls, Returns, Stores}
+use Rattle.hip_runs.specs.Marks.{pointed, hit}
+use Rattle.hip_runs.specs.Reports.{reports}
+use Rattle.hip_runs.specs.Step.{start, run, has_ended}
+use Rattle.hip_runs.proofs.Opened.{run_opened}
 use Rattle.hip_fix.specs.examples.Words.{site, zeroed, IsHoisted}
 use Rattle.hip_fix.specs.examples.CopyHoisted.{copy_hoisted, copy_hoisted_report, copy_hoisted_repaired}
 use Rattle.hip_fix.proofs.worked.Runs.{Follows, done_opened, int_value, address_value, run_is, reports_are}

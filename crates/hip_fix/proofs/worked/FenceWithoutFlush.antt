@@ -1,10 +1,10 @@
 -- The run of a store with a fence and no flush behind it, and its repair.
 use Rattle.std.proofs.Common.{◌≡◌, true, false, [], ◌∷◌, List, refl, ap}
 use Rattle.hip_types.specs.LayoutLaws.{shape-Int}
-use Rattle.hip_step.specs.Actions.{Deed, Fences, Returns, Stores}
-use Rattle.hip_step.specs.Reports.{reports}
-use Rattle.hip_step.specs.Step.{start, run, has_ended}
-use Rattle.hip_step.proofs.Opened.{run_opened}
+use Rattle.hip_runs.specs.Actions.{Deed, Fences, Returns, Stores}
+use Rattle.hip_runs.specs.Reports.{reports}
+use Rattle.hip_runs.specs.Step.{start, run, has_ended}
+use Rattle.hip_runs.proofs.Opened.{run_opened}
 use Rattle.hip_fix.specs.examples.Words.{zeroed, IsWorked}
 use Rattle.hip_fix.specs.examples.FenceWithoutFlush.{fence_without_flush, fence_without_flush_report, fence_without_flush_repaired}
 use Rattle.hip_fix.proofs.worked.Runs.{Follows, done_opened, int_value, address_value, run_is, reports_are}

@@ -7,14 +7,14 @@ use Rattle.hip_ir.specs.declared.constant.Const.TheFolds.{fold-roll-Const}
 use Rattle.hip_ir.specs.declared.constant.Const.TheVariants as consts
 use Rattle.hip_types.specs.Distinct.{met}
 use Rattle.hip_ir.specs.declared.program.Program.{Program}
-use Rattle.hip_step.specs.declared.event.Ending.{Ending}
-use Rattle.hip_step.specs.declared.event.Event.{Event}
-use Rattle.hip_step.specs.declared.input.Input.{Input}
-use Rattle.hip_step.specs.declared.report.Mark.{Mark}
-use Rattle.hip_step.specs.Actions.{Deed}
-use Rattle.hip_step.specs.Marks.{same_mark, frame_marks, unless_ended, event_hits, pointed, hit}
-use Rattle.hip_step.specs.State.{State}
-use Rattle.hip_step.specs.Step.{event, run, start}
+use Rattle.hip_runs.specs.declared.event.Ending.{Ending}
+use Rattle.hip_runs.specs.declared.event.Event.{Event}
+use Rattle.hip_runs.specs.declared.input.Input.{Input}
+use Rattle.hip_runs.specs.declared.report.Mark.{Mark}
+use Rattle.hip_runs.specs.Actions.{Deed}
+use Rattle.hip_runs.specs.Marks.{same_mark, frame_marks, unless_ended, event_hits, pointed, hit}
+use Rattle.hip_runs.specs.State.{State}
+use Rattle.hip_runs.specs.Step.{event, run, start}
 use Rattle.hip_fix.proofs.worked.Runs.{next_deed, done, shown, Follows, steps, run_next, event_shown}
 
 -- ---- the bytes of an integer that a global begins with

@@ -11,15 +11,15 @@ use Rattle.hip_typing.specs.Constants.{index_of}
 use Rattle.hip_typing.specs.Values.{Written, const_value, element_address, global_address}
 use Rattle.hip_mem.specs.Bytes.{zeros}
 use Rattle.hip_lines.specs.Line.{Line, fresh_lines}
-use Rattle.hip_step.specs.declared.event.Ending.{Ending}
-use Rattle.hip_step.specs.declared.event.Event.{Event}
-use Rattle.hip_step.specs.declared.event.Event.TheVariants as events
-use Rattle.hip_step.specs.declared.input.Input.{Input}
-use Rattle.hip_step.specs.declared.report.Report.{Report}
-use Rattle.hip_step.specs.Actions.{Fences, Deed}
-use Rattle.hip_step.specs.Reports.{reports, check_reports, checked_by, next_check}
-use Rattle.hip_step.specs.State.{Frame, StorePart, World, Counts, State}
-use Rattle.hip_step.specs.Step.{state, leave, perform, step, on_ending, on_frames, carry_out, counted, event, event_at, event_on_frames, event_on_ending, deed_at, run, start}
+use Rattle.hip_runs.specs.declared.event.Ending.{Ending}
+use Rattle.hip_runs.specs.declared.event.Event.{Event}
+use Rattle.hip_runs.specs.declared.event.Event.TheVariants as events
+use Rattle.hip_runs.specs.declared.input.Input.{Input}
+use Rattle.hip_runs.specs.declared.report.Report.{Report}
+use Rattle.hip_runs.specs.Actions.{Fences, Deed}
+use Rattle.hip_runs.specs.Reports.{reports, check_reports, checked_by, next_check}
+use Rattle.hip_runs.specs.State.{Frame, StorePart, World, Counts, State}
+use Rattle.hip_runs.specs.Step.{state, leave, perform, step, on_ending, on_frames, carry_out, counted, event, event_at, event_on_frames, event_on_ending, deed_at, run, start}
 
 -- what the states of a closed run compute by, where it is known what is done
 unfoldable pub done_opened : Unit {0}

@@ -7,11 +7,11 @@ use Rattle.hip_types.specs.Layout.{Shape, Part, size_of, enter, enter_level, fur
 use Rattle.hip_types.specs.declared.number.Width.TheVariants.{W8, W64}
 use Rattle.hip_types.specs.declared.ty.Ty.TheVariants as types
 use Rattle.hip_typing.specs.Values.{const_value}
-use Rattle.hip_step.specs.Operands.{value_of}
-use Rattle.hip_step.specs.Actions.{Deed, Returns, Stores}
-use Rattle.hip_step.specs.Reports.{reports}
-use Rattle.hip_step.specs.Step.{start, run, has_ended}
-use Rattle.hip_step.proofs.Opened.{run_opened}
+use Rattle.hip_runs.specs.Operands.{value_of}
+use Rattle.hip_runs.specs.Actions.{Deed, Returns, Stores}
+use Rattle.hip_runs.specs.Reports.{reports}
+use Rattle.hip_runs.specs.Step.{start, run, has_ended}
+use Rattle.hip_runs.proofs.Opened.{run_opened}
 use Rattle.hip_fix.specs.examples.Words.{zeroed, IsWorked}
 use Rattle.hip_fix.specs.examples.StoreInTwoLines.{sixteen_words, byte_sixty, store_in_two_lines, store_in_two_lines_report, store_in_two_lines_repaired}
 use Rattle.hip_fix.proofs.worked.Runs.{Follows, done_opened, element_value, int_value, address_value, run_is, reports_are}

@@ -3,8 +3,8 @@ use Rattle.std.specs.Prelude.{List, [], ◌∷◌, None, codes}
 use Rattle.hip_ir.specs.declared.instr.Instr.{Instr}
 use Rattle.hip_ir.specs.declared.program.Function.{Function}
 use Rattle.hip_ir.specs.declared.program.Program.{Program}
-use Rattle.hip_step.specs.declared.report.Kind.TheVariants.{MissingBoth}
-use Rattle.hip_step.specs.declared.report.Report.{Report}
+use Rattle.hip_runs.specs.declared.report.Kind.TheVariants.{MissingBoth}
+use Rattle.hip_runs.specs.declared.report.Report.{Report}
 use Rattle.hip_fix.specs.examples.Words.{at, reg, number, ptr_arg, ptr_param, persistent_i64, alloca_i64, load_i64, store_i64, call_void, clwb, declare_clwb, sfence, declare_sfence, ret_void, define_void, main_of, site}
 
 -- define void @copy(ptr %dst, ptr %src) {

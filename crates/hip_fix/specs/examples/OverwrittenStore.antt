@@ -1,8 +1,8 @@
 -- A store that a second store to the same place overwrites.
 use Rattle.std.specs.Prelude.{[], ◌∷◌, None, codes}
 use Rattle.hip_ir.specs.declared.program.Program.{Program}
-use Rattle.hip_step.specs.declared.report.Kind.TheVariants.{MissingBoth}
-use Rattle.hip_step.specs.declared.report.Report.{Report}
+use Rattle.hip_runs.specs.declared.report.Kind.TheVariants.{MissingBoth}
+use Rattle.hip_runs.specs.declared.report.Report.{Report}
 use Rattle.hip_fix.specs.examples.Words.{at, number, persistent_i64, store_i64, clwb, declare_clwb, sfence, declare_sfence, main_of, site}
 
 -- @x = global i64 0, section ".pm"

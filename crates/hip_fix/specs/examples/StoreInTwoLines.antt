@@ -12,8 +12,8 @@ use Rattle.hip_ir.specs.declared.instr.Operand.TheVariants.{Fixed}
 use Rattle.hip_ir.specs.declared.program.Extern.{Extern}
 use Rattle.hip_ir.specs.declared.program.GlobalVar.{GlobalVar}
 use Rattle.hip_ir.specs.declared.program.Program.{Program}
-use Rattle.hip_step.specs.declared.report.Kind.TheVariants.{MissingBoth}
-use Rattle.hip_step.specs.declared.report.Report.{Report}
+use Rattle.hip_runs.specs.declared.report.Kind.TheVariants.{MissingBoth}
+use Rattle.hip_runs.specs.declared.report.Report.{Report}
 use Rattle.hip_fix.specs.examples.Words.{number, call_void, ptr_arg, i64_arg, sfence, declare_sfence, main_of, site}
 
 -- @a = global [16 x i64] zeroinitializer, section ".pm"

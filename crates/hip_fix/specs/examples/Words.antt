@@ -18,11 +18,11 @@ use Rattle.hip_ir.specs.declared.program.GlobalVar.{GlobalVar}
 use Rattle.hip_ir.specs.declared.program.Param.{Param}
 use Rattle.hip_ir.specs.declared.program.Program.{Program}
 use Rattle.hip_ir.specs.declared.site.Site.{Site}
-use Rattle.hip_step.specs.declared.input.Input.{Input}
-use Rattle.hip_step.specs.declared.report.Report.{Report}
-use Rattle.hip_step.specs.Marks.{findings}
-use Rattle.hip_step.specs.Reports.{reports}
-use Rattle.hip_step.specs.Step.{run, has_ended}
+use Rattle.hip_runs.specs.declared.input.Input.{Input}
+use Rattle.hip_runs.specs.declared.report.Report.{Report}
+use Rattle.hip_runs.specs.Marks.{findings}
+use Rattle.hip_runs.specs.Reports.{reports}
+use Rattle.hip_runs.specs.Step.{run, has_ended}
 use Rattle.hip_fix.specs.Choice.{plan_for}
 use Rattle.hip_fix.specs.Repaired.{repaired}
 

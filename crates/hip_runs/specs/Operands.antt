@@ -1,0 +1,54 @@
+-- The values of registers and operands. A value is the number of an integer below 2^N, or an address below 2^64.
+use Rattle.std.specs.Prelude.{ℕ, cond, List, [], ◌∷◌, map, Option, Some, None, min}
+use Rattle.std.specs.Str.{bytes_eq}
+use Rattle.hip_ir.specs.declared.instr.Arg.{Arg}
+use Rattle.hip_ir.specs.declared.instr.Operand.{Operand}
+use Rattle.hip_ir.specs.declared.instr.Operand.TheVariants.{Reg, Fixed}
+use Rattle.hip_ir.specs.declared.program.GlobalVar.{GlobalVar}
+use Rattle.hip_ir.specs.declared.program.Param.{Param}
+use Rattle.hip_types.specs.Widths.{bytes_of}
+use Rattle.hip_types.specs.declared.number.Scalar.{Scalar}
+use Rattle.hip_types.specs.declared.number.Scalar.TheVariants.{Int, Ptr}
+use Rattle.hip_types.specs.declared.number.Width.{Width}
+use Rattle.hip_types.specs.declared.number.Width.TheVariants.{W64}
+use Rattle.hip_typing.specs.Values.{const_value}
+use Rattle.hip_runs.specs.State.{Registers}
+
+-- the value of a register; 0 where it has none
+abbrev pub look_up : Registers → List ℕ → ℕ
+look_up [] name = 0
+look_up (r ∷ rs) name = cond (bytes_eq r.0 name) r.1 (look_up rs name)
+
+-- a register takes a value; the result of a call may go nowhere
+abbrev pub assigned : Option (List ℕ) → ℕ → Registers → Registers
+assigned None value registers = registers
+assigned (Some name) value registers = (name, value) ∷ registers
+
+-- the value of an operand, where the region begins at a base
+abbrev pub value_of : List GlobalVar → ℕ → Registers → Operand → ℕ
+value_of globals base registers (Reg name) = look_up registers name
+value_of globals base registers (Fixed constant) = const_value globals base constant
+
+abbrev pub values_of : List GlobalVar → ℕ → Registers → List Arg → List ℕ
+values_of globals base registers args = map (λ a. value_of globals base registers a.value) args
+
+-- the registers of a new frame: each parameter with its argument
+abbrev pub bound : List Param → List ℕ → Registers
+bound [] values = []
+bound (p ∷ ps) [] = []
+bound (p ∷ ps) (v ∷ vs) = (p.name, v) ∷ bound ps vs
+
+-- how many bytes a scalar takes in memory
+abbrev pub scalar_size : Scalar → ℕ
+scalar_size (Int w) = bytes_of w
+scalar_size Ptr = 8
+
+-- pointers are numbers of 64 bits
+abbrev pub width_of : Scalar → Width
+width_of (Int w) = w
+width_of Ptr = W64
+
+-- The alignment of an access: the less of its type's, which is its size, and the one that is written. (LLVM, "load".)
+abbrev pub access_align : Scalar → Option ℕ → ℕ
+access_align s None = scalar_size s
+access_align s (Some n) = min (scalar_size s) n

@@ -1,0 +1,51 @@
+-- What stands at a place of a program.
+use Rattle.std.specs.Prelude.{ℕ, List, [], map, drop, Option, Some, None, slice_get}
+use Rattle.hip_ir.specs.declared.block.Block.{Block}
+use Rattle.hip_ir.specs.declared.block.End.{End}
+use Rattle.hip_ir.specs.declared.block.Phi.{Phi}
+use Rattle.hip_ir.specs.declared.instr.Instr.{Instr}
+use Rattle.hip_ir.specs.declared.program.Function.{Function}
+use Rattle.hip_ir.specs.declared.program.Program.{Program}
+use Rattle.hip_names.specs.Names.{number_of}
+use Rattle.hip_runs.specs.State.{Frame}
+
+abbrev pub blocks_in : Option Function → List Block
+blocks_in None = []
+blocks_in (Some f) = f.blocks
+
+-- the blocks of the function of that number
+abbrev pub blocks_of : Program → ℕ → List Block
+blocks_of P f = blocks_in (slice_get P.functions f)
+
+abbrev pub block_at : Program → ℕ → ℕ → Option Block
+block_at P f b = slice_get (blocks_of P f) b
+
+abbrev pub body_of : Option Block → List Instr
+body_of None = []
+body_of (Some b) = b.body
+
+abbrev pub end_of : Option Block → Option End
+end_of None = None
+end_of (Some b) = Some b.end
+
+abbrev pub phis_of : Option Block → List Phi
+phis_of None = []
+phis_of (Some b) = b.phis
+
+abbrev pub label_of : Option Block → List ℕ
+label_of None = []
+label_of (Some b) = b.label
+
+abbrev pub body_at : Program → ℕ → ℕ → List Instr
+body_at P f b = body_of (block_at P f b)
+
+-- the number of the block with that label
+abbrev pub block_number : List Block → List ℕ → Option ℕ
+block_number blocks label = number_of (map (λ b. b.label) blocks) label
+
+-- the instructions from a frame's place on; none where it stands at the block's end
+abbrev pub code_at : Program → Frame → List Instr
+code_at P f = drop f.place (body_at P f.function f.block)
+
+abbrev pub end_at : Program → Frame → Option End
+end_at P f = end_of (block_at P f.function f.block)

@@ -1,0 +1,20 @@
+//! The laws of runs, on definitions alone.
+
+ghost use Rattle.std.specs.Prelude.{ℕ};
+ghost use Rattle.hip_ir.specs.declared.program.Program.{Program};
+ghost use Rattle.hip_runs.specs.Ends.{Ends};
+ghost use Rattle.hip_runs.specs.History.{HasHistory};
+ghost use Rattle.hip_runs.specs.Step.{run};
+ghost use Rattle.hip_runs.specs.declared.input.Input.{Input};
+
+/// Every run ends, for a basic block ends with a turn, and an input allows so many turns.
+pub fn runs_end()
+    ensures { (P : Program) → (I : Input) → Ends P I }
+{}
+
+/// What each part of a store in the lines of a run carries: it was made by an earlier step, and first flushed by an earlier
+/// one; the parts of one store share their history of fences; and its calls are those that returned, and then those that
+/// stand.
+pub fn parts_carry_their_history()
+    ensures { (P : Program) → (I : Input) → (n : ℕ) → HasHistory P (run P I n) }
+{}

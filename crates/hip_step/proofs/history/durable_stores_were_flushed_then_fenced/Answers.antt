@@ -1,5 +1,0 @@
-use Rattle.hip_step.specs.OrderLaws.{durable_told, told_durable}
-use Rattle.hip_step.proofs.history.durable_stores_were_flushed_then_fenced.Goals as goal
-
-pub returns : goal.returns
-returns c = record { came = durable_told; durable = told_durable }

@@ -1,5 +1,0 @@
-use Rattle.hip_step.specs.CrashLaws.{choice-image, image-choice}
-use Rattle.hip_step.proofs.history.images_are_choices.Goals as goal
-
-pub returns : goal.returns
-returns c = record { choice = choice-image; image = image-choice }

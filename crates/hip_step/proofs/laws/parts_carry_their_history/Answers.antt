@@ -1,6 +1,0 @@
-use Rattle.hip_step.proofs.laws.parts_carry_their_history.Goals as goal
-use Rattle.hip_step.specs.HistoryLaws.{has_history}
-
--- src/laws.rt:18:1
-pub returns : goal.returns
-returns c = λ P I n. has_history P I n

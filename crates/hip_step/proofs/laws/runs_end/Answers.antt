@@ -1,6 +1,0 @@
-use Rattle.hip_step.proofs.laws.runs_end.Goals as goal
-use Rattle.hip_step.specs.Ends.{runs_end}
-
--- src/laws.rt:11:1
-pub returns : goal.returns
-returns c = λ P I. runs_end P I

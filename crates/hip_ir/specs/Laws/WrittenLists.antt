@@ -5,7 +5,7 @@ use Rattle.std.proofs.lemmas.Bool.{and_parts}
 use Rattle.hip_tokens.specs.Written.{ends_word}
 use Rattle.hip_rules.specs.Rule.{one, many}
 use Rattle.hip_rules.specs.Part.{Part, the, one_more_by, separated, none_up_to, some_up_to, listed}
-use Rattle.hip_rules.specs.Texts.{IsTextOf, Leaves, anything, then_text, last_text, nothing_text, mark_then, blank_text, left_text, right_text, many_texts}
+use Rattle.hip_rules.specs.Laws.Texts.{IsTextOf, Leaves, anything, then_text, last_text, nothing_text, mark_then, blank_text, left_text, right_text, many_texts}
 use Rattle.hip_ir.specs.declared.fault.Fault.{Fault}
 use Rattle.hip_ir.specs.Words.{comma, is_mark}
 use Rattle.hip_ir.specs.Show.{commas, after_commas}

@@ -11,7 +11,7 @@ use Rattle.hip_types.specs.declared.ty.Ty.TheOpen.{Ty-F}
 use Rattle.hip_tokens.specs.Written.{ends_word}
 use Rattle.hip_rules.specs.Rule.{Rule, one, both}
 use Rattle.hip_rules.specs.Part.{Part}
-use Rattle.hip_rules.specs.Texts.{IsTextOf, anything, then_text, last_text, nothing_text, anywhere_text, word_text, word_then, local_text, global_text, mark_text, mark_then, blank_text, left_text, right_text, none_text, some_text}
+use Rattle.hip_rules.specs.Laws.Texts.{IsTextOf, anything, then_text, last_text, nothing_text, anywhere_text, word_text, word_then, local_text, global_text, mark_text, mark_then, blank_text, left_text, right_text, none_text, some_text}
 use Rattle.hip_ir.specs.declared.constant.Const.{Const, out-Const, roll-Const, roll-out-Const}
 use Rattle.hip_ir.specs.declared.constant.Const.TheFolds.{fold_out-Const, fold_out-ConstGep, fold_out-TypedConst, fold-ConstGep, fold-TypedConst, map-Const}
 use Rattle.hip_ir.specs.declared.constant.Const.TheOpen.{Const-F}
@@ -27,9 +27,9 @@ use Rattle.hip_ir.specs.Numbers.{an_int_const}
 use Rattle.hip_ir.specs.Grammar.{maybe_word, literal_index, gep_inside, gep_const, pointer_by, pointer_within, typed_const, const_list, array_const, struct_const, const_by, const_within, scalar_const, register, fixed_operand, operand, arg, index}
 use Rattle.hip_ir.specs.Show.{type_text, after_commas, bracketed, braced, inbounds_text, index_text, const_step, gep_step, typed_step, const_text, operand_text, arg_text}
 use Rattle.hip_ir.specs.Spelling.{not_empty, spelled_type, spelled_gep, spelled_pointer_level, spelled_pointer_within, spelled_int, spelled_array, spelled_struct, spelled_const_by, spelled_item, spelled_const_within, spelled_scalar_const, spelled_operand, spelled_arg, spelled_index, is_int_type}
-use Rattle.hip_ir.specs.WrittenNumbers.{literal_is, int_const_is, own_width}
-use Rattle.hip_ir.specs.WrittenLists.{separated_are, none_listed, some_listed, listed_are}
-use Rattle.hip_ir.specs.WrittenTypes.{int_is, scalar_is, type_is}
+use Rattle.hip_ir.specs.Laws.WrittenNumbers.{literal_is, int_const_is, own_width}
+use Rattle.hip_ir.specs.Laws.WrittenLists.{separated_are, none_listed, some_listed, listed_are}
+use Rattle.hip_ir.specs.Laws.WrittenTypes.{int_is, scalar_is, type_is}
 
 -- ---- texts by levels
 

@@ -4,8 +4,8 @@ use Rattle.std.proofs.lemmas.List.{append-nil}
 use Rattle.hip_tokens.specs.Tokens.{Tok, At}
 use Rattle.hip_rules.specs.Rule.{Rule, both, many, ◌or◌}
 use Rattle.hip_rules.specs.Reader.{Reader, Outcome, on_ok, next, leading_at, leaders_at, by_head}
-use Rattle.hip_rules.specs.Exact.{IsExact, Exactly, IsAbsent, never, never_next, joined, both_where, both_empty, both_whole, both_within, both_later, both_closed, or_left, or_right, or_empty, or_absent, both_absent, then_exact, or_exact, many_exact}
-use Rattle.hip_rules.specs.Same.{IsSame, factored, many_unrolls, unrolled, same_exactly, same_exact, same_refl, same_sym, same_trans, or_same, or_assoc, both_assoc, both_same, same_absent}
+use Rattle.hip_rules.specs.Laws.Exact.{IsExact, Exactly, IsAbsent, never, never_next, joined, both_where, both_empty, both_whole, both_within, both_later, both_closed, or_left, or_right, or_empty, or_absent, both_absent, then_exact, or_exact, many_exact}
+use Rattle.hip_rules.specs.Laws.Same.{IsSame, factored, many_unrolls, unrolled, same_exactly, same_exact, same_refl, same_sym, same_trans, or_same, or_assoc, both_assoc, both_same, same_absent}
 
 module _ (F X P B : Type 0) (h : Rule F X) (rh : Reader F X) (f : X → Rule F P) (rf : X → Reader F P) (T : List P → Rule F B) (R : List P → X → Rule F B) (rR : List P → X → Reader F B) (O : List P → Rule F B) (rO : List P → Reader F B)
     (kh kf c d : Tok → Bool)

@@ -17,21 +17,23 @@ use Rattle.hip_tokens.specs.Longest.{is_name}
 use Rattle.hip_tokens.specs.Tokens.{Word}
 use Rattle.hip_tokens.specs.Written.{ends_word}
 use Rattle.hip_rules.specs.Rule.{Yes, one, many}
-use Rattle.hip_rules.specs.Texts.{IsTextOf, Leaves, anything, then_text, last_text, nothing_text, anywhere_text, word_text, word_then, local_text, global_text, mark_text, mark_then, blank_text, blank_behind, left_text, right_text, none_text, some_text, no_more_text, more_text}
+use Rattle.hip_rules.specs.Laws.Texts.{IsTextOf, Leaves, anything, then_text, last_text, nothing_text, anywhere_text, word_text, word_then, local_text, global_text, mark_text, mark_then, blank_text, blank_behind, left_text, right_text, none_text, some_text, no_more_text, more_text}
 use Rattle.hip_ir.specs.declared.instr.Arg.{Arg}
+use Rattle.hip_ir.specs.declared.instr.Flag.{Flag}
+use Rattle.hip_ir.specs.declared.instr.Flag.TheVariants.{Nuw, Nsw, Exact}
 use Rattle.hip_ir.specs.declared.instr.Flags.{Flags}
 use Rattle.hip_ir.specs.declared.instr.Instr.{Instr}
 use Rattle.hip_ir.specs.declared.instr.Instr.TheVariants as instrs
 use Rattle.hip_ir.specs.declared.instr.Operand.{Operand}
-use Rattle.hip_ir.specs.Words.{a_word_of, binary_word, pred_word, int_cast_word, scalar_text, width_text}
+use Rattle.hip_ir.specs.Words.{a_word_of, scalar_text, width_text, ret_text, binary_text, binary_word, pred_text, pred_word, cast_text, int_cast_word, flag_text, may_wrap, may_be_exact, flags_after, flag_word}
 use Rattle.hip_ir.specs.Grammar.{arg, index}
-use Rattle.hip_ir.specs.Bodies.{align, maybe_align, assigned, may_wrap, may_be_exact, wrap_word, exact_word, flag_word, flags, binary, compare, select, int_cast, ptrtoint, inttoptr, alloca, load, gep, plain_call, call, store, memory_instr, cast_instr, value_instr, effect_instr, assigning_instr, instr}
-use Rattle.hip_ir.specs.Show.{after_commas, type_text, ret_text, inbounds_text, operand_text, arg_text, align_text, binary_text, pred_text, cast_text, flags_text, assigned_text, instr_text, parenthesized}
+use Rattle.hip_ir.specs.Bodies.{align, maybe_align, assigned, flags, binary, compare, select, int_cast, ptrtoint, inttoptr, alloca, load, gep, plain_call, call, store, memory_instr, cast_instr, value_instr, effect_instr, assigning_instr, instr}
+use Rattle.hip_ir.specs.Show.{after_commas, type_text, inbounds_text, operand_text, arg_text, align_text, flag_if, flags_text, assigned_text, instr_text, parenthesized}
 use Rattle.hip_ir.specs.Spelling.{not_empty, spelled_align, spelled_type, spelled_operand, spelled_arg, spelled_index, spelled_flags, spelled_cast, spelled_instr}
-use Rattle.hip_ir.specs.WrittenNumbers.{alignment_text}
-use Rattle.hip_ir.specs.WrittenLists.{separated_are, listed_are}
-use Rattle.hip_ir.specs.WrittenTypes.{int_is, scalar_is, same_scalar_is, ret_is, type_is}
-use Rattle.hip_ir.specs.WrittenConsts.{inbounds_then, operand_is, arg_is, index_is}
+use Rattle.hip_ir.specs.Laws.WrittenNumbers.{alignment_text}
+use Rattle.hip_ir.specs.Laws.WrittenLists.{separated_are, listed_are}
+use Rattle.hip_ir.specs.Laws.WrittenTypes.{int_is, scalar_is, same_scalar_is, ret_is, type_is}
+use Rattle.hip_ir.specs.Laws.WrittenConsts.{inbounds_then, operand_is, arg_is, index_is}
 
 -- ---- alignments
 
@@ -47,31 +49,31 @@ align_leaves (Some n) rest e = refl
 -- ---- words
 
 binary_is : (op : BinaryOp) → IsTextOf ends_word (one (a_word_of binary_word)) (binary_text op) op
-binary_is ops.Add = word_text _ (codes "add") refl refl
-binary_is ops.Sub = word_text _ (codes "sub") refl refl
-binary_is ops.Mul = word_text _ (codes "mul") refl refl
-binary_is ops.Udiv = word_text _ (codes "udiv") refl refl
-binary_is ops.Sdiv = word_text _ (codes "sdiv") refl refl
-binary_is ops.Urem = word_text _ (codes "urem") refl refl
-binary_is ops.Srem = word_text _ (codes "srem") refl refl
-binary_is ops.And = word_text _ (codes "and") refl refl
-binary_is ops.Or = word_text _ (codes "or") refl refl
-binary_is ops.Xor = word_text _ (codes "xor") refl refl
-binary_is ops.Shl = word_text _ (codes "shl") refl refl
-binary_is ops.Lshr = word_text _ (codes "lshr") refl refl
-binary_is ops.Ashr = word_text _ (codes "ashr") refl refl
+binary_is ops.Add = word_text _ _ refl refl
+binary_is ops.Sub = word_text _ _ refl refl
+binary_is ops.Mul = word_text _ _ refl refl
+binary_is ops.Udiv = word_text _ _ refl refl
+binary_is ops.Sdiv = word_text _ _ refl refl
+binary_is ops.Urem = word_text _ _ refl refl
+binary_is ops.Srem = word_text _ _ refl refl
+binary_is ops.And = word_text _ _ refl refl
+binary_is ops.Or = word_text _ _ refl refl
+binary_is ops.Xor = word_text _ _ refl refl
+binary_is ops.Shl = word_text _ _ refl refl
+binary_is ops.Lshr = word_text _ _ refl refl
+binary_is ops.Ashr = word_text _ _ refl refl
 
 pred_is : (p : Pred) → IsTextOf ends_word (one (a_word_of pred_word)) (pred_text p) p
-pred_is preds.Eq = word_text _ (codes "eq") refl refl
-pred_is preds.Ne = word_text _ (codes "ne") refl refl
-pred_is preds.Ugt = word_text _ (codes "ugt") refl refl
-pred_is preds.Uge = word_text _ (codes "uge") refl refl
-pred_is preds.Ult = word_text _ (codes "ult") refl refl
-pred_is preds.Ule = word_text _ (codes "ule") refl refl
-pred_is preds.Sgt = word_text _ (codes "sgt") refl refl
-pred_is preds.Sge = word_text _ (codes "sge") refl refl
-pred_is preds.Slt = word_text _ (codes "slt") refl refl
-pred_is preds.Sle = word_text _ (codes "sle") refl refl
+pred_is preds.Eq = word_text _ _ refl refl
+pred_is preds.Ne = word_text _ _ refl refl
+pred_is preds.Ugt = word_text _ _ refl refl
+pred_is preds.Uge = word_text _ _ refl refl
+pred_is preds.Ult = word_text _ _ refl refl
+pred_is preds.Ule = word_text _ _ refl refl
+pred_is preds.Sgt = word_text _ _ refl refl
+pred_is preds.Sge = word_text _ _ refl refl
+pred_is preds.Slt = word_text _ _ refl refl
+pred_is preds.Sle = word_text _ _ refl refl
 
 -- `%x = `
 pub assigned_is : (dest : List ℕ) → is_name dest ≡ true → IsTextOf anything assigned.rule (assigned_text dest) dest
@@ -80,11 +82,11 @@ assigned_is dest e = then_text _ (local_text _ dest e refl) (blank_text 32 refl 
 
 -- ---- flags
 
-wraps_is : (op : BinaryOp) (word : List ℕ) → may_wrap op ≡ true → flag_word op word ≡ wrap_word word
-wraps_is op word e = rw e refl
+wraps_are : (op : BinaryOp) → may_wrap op ≡ true → flags_after op ≡ Nuw ∷ Nsw ∷ []
+wraps_are op e = rw e refl
 
-exact_is : (op : BinaryOp) (word : List ℕ) → may_wrap op ≡ false → may_be_exact op ≡ true → flag_word op word ≡ exact_word word
-exact_is op word e f = rw (e, f) refl
+exacts_are : (op : BinaryOp) → may_wrap op ≡ false → may_be_exact op ≡ true → flags_after op ≡ Exact ∷ []
+exacts_are op e f = rw (e, f) refl
 
 -- no operation has both kinds of flags
 wraps_alone : (op : BinaryOp) → may_be_exact op ≡ true → may_wrap op ≡ false
@@ -106,26 +108,18 @@ or_false : (b : Bool) → (b || false) ≡ true → b ≡ true
 or_false true e = refl
 or_false false e = absurd cc
 
-one_flag : (op : BinaryOp) (word : List ℕ) (f : Flags) → is_name word ≡ true → a_word_of (flag_word op) (Word word) ≡ Yes f → IsTextOf anything (one (a_word_of (flag_word op))) (word ++ 32 ∷ []) f
-one_flag op word f n e = blank_behind 32 refl (λ rest h. refl) (word_text _ word n e)
+one_flag : (op : BinaryOp) (flag : Flag) → is_name (flag_text flag) ≡ true → a_word_of (flag_word op) (Word (flag_text flag)) ≡ Yes flag
+    → IsTextOf anything (one (a_word_of (flag_word op))) (flag_text flag ++ codes " ") flag
+one_flag op flag n e = blank_behind 32 refl (λ rest h. refl) (word_text _ (flag_text flag) n e)
 
-abbrev nuw_flag : Flags
-nuw_flag = record { nuw = true; nsw = false; exact = false }
+nuw_is : (op : BinaryOp) → may_wrap op ≡ true → IsTextOf anything (one (a_word_of (flag_word op))) (flag_if Nuw true) Nuw
+nuw_is op e = one_flag op Nuw refl (rw (wraps_are op e) refl)
 
-abbrev nsw_flag : Flags
-nsw_flag = record { nuw = false; nsw = true; exact = false }
+nsw_is : (op : BinaryOp) → may_wrap op ≡ true → IsTextOf anything (one (a_word_of (flag_word op))) (flag_if Nsw true) Nsw
+nsw_is op e = one_flag op Nsw refl (rw (wraps_are op e) refl)
 
-abbrev exact_flag : Flags
-exact_flag = record { nuw = false; nsw = false; exact = true }
-
-nuw_is : (op : BinaryOp) → may_wrap op ≡ true → IsTextOf anything (one (a_word_of (flag_word op))) (codes "nuw ") nuw_flag
-nuw_is op e = one_flag op (codes "nuw") nuw_flag refl (rw (wraps_is op (codes "nuw") e) refl)
-
-nsw_is : (op : BinaryOp) → may_wrap op ≡ true → IsTextOf anything (one (a_word_of (flag_word op))) (codes "nsw ") nsw_flag
-nsw_is op e = one_flag op (codes "nsw") nsw_flag refl (rw (wraps_is op (codes "nsw") e) refl)
-
-exact_flag_is : (op : BinaryOp) → may_be_exact op ≡ true → IsTextOf anything (one (a_word_of (flag_word op))) (codes "exact ") exact_flag
-exact_flag_is op e = one_flag op (codes "exact") exact_flag refl (rw (exact_is op (codes "exact") (wraps_alone op e) e) refl)
+exact_flag_is : (op : BinaryOp) → may_be_exact op ≡ true → IsTextOf anything (one (a_word_of (flag_word op))) (flag_if Exact true) Exact
+exact_flag_is op e = one_flag op Exact refl (rw (exacts_are op (wraps_alone op e) e) refl)
 
 no_flag_is : (op : BinaryOp) → IsTextOf anything (many (one (a_word_of (flag_word op)))) [] []
 no_flag_is op = no_more_text _ anything
@@ -184,22 +178,22 @@ unfolding int_cast
 int_cast_is dest op word w v a n e f = word_then _ _ word n e (then_text _ (int_is w) (blank_text 32 refl (then_text _ (operand_is (scalars.Int w) a f)
     (blank_text 32 refl (word_then _ _ (codes "to") refl refl (last_text _ (int_is v) (nothing_text anything)))) (λ rest h. refl))) (λ rest h. refl))
 
-ptrtoint_is : (dest : List ℕ) (v : Width) (a : Operand) → spelled_operand scalars.Ptr a ≡ true → IsTextOf ends_word (ptrtoint dest).rule (cast_form (codes "ptrtoint") scalars.Ptr a (scalars.Int v)) (instrs.Cast dest casts.Ptrtoint scalars.Ptr a (scalars.Int v))
+ptrtoint_is : (dest : List ℕ) (v : Width) (a : Operand) → spelled_operand scalars.Ptr a ≡ true → IsTextOf ends_word (ptrtoint dest).rule (cast_form (cast_text casts.Ptrtoint) scalars.Ptr a (scalars.Int v)) (instrs.Cast dest casts.Ptrtoint scalars.Ptr a (scalars.Int v))
 unfolding ptrtoint
-ptrtoint_is dest v a f = word_then _ _ (codes "ptrtoint") refl refl (word_then _ _ (codes "ptr") refl refl (then_text _ (operand_is scalars.Ptr a f)
+ptrtoint_is dest v a f = word_then _ _ (cast_text casts.Ptrtoint) refl refl (word_then _ _ (codes "ptr") refl refl (then_text _ (operand_is scalars.Ptr a f)
     (blank_text 32 refl (word_then _ _ (codes "to") refl refl (last_text _ (int_is v) (nothing_text anything)))) (λ rest h. refl)))
 
-inttoptr_is : (dest : List ℕ) (w : Width) (a : Operand) → spelled_operand (scalars.Int w) a ≡ true → IsTextOf ends_word (inttoptr dest).rule (cast_form (codes "inttoptr") (scalars.Int w) a scalars.Ptr) (instrs.Cast dest casts.Inttoptr (scalars.Int w) a scalars.Ptr)
+inttoptr_is : (dest : List ℕ) (w : Width) (a : Operand) → spelled_operand (scalars.Int w) a ≡ true → IsTextOf ends_word (inttoptr dest).rule (cast_form (cast_text casts.Inttoptr) (scalars.Int w) a scalars.Ptr) (instrs.Cast dest casts.Inttoptr (scalars.Int w) a scalars.Ptr)
 unfolding inttoptr
-inttoptr_is dest w a f = word_then _ _ (codes "inttoptr") refl refl (then_text _ (int_is w) (blank_text 32 refl (then_text _ (operand_is (scalars.Int w) a f)
+inttoptr_is dest w a f = word_then _ _ (cast_text casts.Inttoptr) refl refl (then_text _ (int_is w) (blank_text 32 refl (then_text _ (operand_is (scalars.Int w) a f)
     (blank_text 32 refl (word_then _ _ (codes "to") refl refl (last_text _ (word_text _ (codes "ptr") refl refl) (nothing_text anything)))) (λ rest h. refl))) (λ rest h. refl))
 
 cast_is : (dest : List ℕ) (op : CastOp) (from : Scalar) (a : Operand) (to : Scalar) → spelled_cast op from to ≡ true → spelled_operand from a ≡ true
     → IsTextOf ends_word (cast_instr dest).rule (cast_form (cast_text op) from a to) (instrs.Cast dest op from a to)
 unfolding cast_instr
-cast_is dest casts.Zext (scalars.Int w) a (scalars.Int v) e f = left_text _ (int_cast_is dest casts.Zext (codes "zext") w v a refl refl f)
-cast_is dest casts.Sext (scalars.Int w) a (scalars.Int v) e f = left_text _ (int_cast_is dest casts.Sext (codes "sext") w v a refl refl f)
-cast_is dest casts.Trunc (scalars.Int w) a (scalars.Int v) e f = left_text _ (int_cast_is dest casts.Trunc (codes "trunc") w v a refl refl f)
+cast_is dest casts.Zext (scalars.Int w) a (scalars.Int v) e f = left_text _ (int_cast_is dest casts.Zext (cast_text casts.Zext) w v a refl refl f)
+cast_is dest casts.Sext (scalars.Int w) a (scalars.Int v) e f = left_text _ (int_cast_is dest casts.Sext (cast_text casts.Sext) w v a refl refl f)
+cast_is dest casts.Trunc (scalars.Int w) a (scalars.Int v) e f = left_text _ (int_cast_is dest casts.Trunc (cast_text casts.Trunc) w v a refl refl f)
 cast_is dest casts.Ptrtoint scalars.Ptr a (scalars.Int v) e f = right_text _ (left_text _ (ptrtoint_is dest v a f))
 cast_is dest casts.Inttoptr (scalars.Int w) a scalars.Ptr e f = right_text _ (right_text _ (left_text _ (inttoptr_is dest w a f)))
 cast_is dest casts.Zext scalars.Ptr a to e f = absurd cc

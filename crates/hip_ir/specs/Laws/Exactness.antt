@@ -9,15 +9,15 @@ use Rattle.hip_types.specs.declared.ty.Ty.TheOpen.{Ty-F}
 use Rattle.hip_tokens.specs.Tokens.{Tok, Word, Label, Local, Global, Num, Str, Mark, Odd}
 use Rattle.hip_rules.specs.Part.{Part, token, optional}
 use Rattle.hip_rules.specs.Rule.{No}
-use Rattle.hip_rules.specs.Exact.{never, joined}
-use Rattle.hip_rules.specs.Parts.{Exact, IsRead, Apart, begins, token_begins, link, part_link, token_read, token_exact, gives_exact, next_exact, then_read, maps_exact, maps_read, either_read, optional_same, separated_read, listed_read, passing_read, begins_by}
+use Rattle.hip_rules.specs.Laws.Exact.{never, joined}
+use Rattle.hip_rules.specs.Laws.Parts.{Exact, IsRead, Apart, begins, token_begins, link, part_link, token_read, token_exact, gives_exact, next_exact, then_read, maps_exact, maps_read, either_read, optional_same, separated_read, listed_read, passing_read, begins_by}
 use Rattle.hip_ir.specs.declared.constant.Const.{Const}
 use Rattle.hip_ir.specs.declared.constant.TypedConst.{TypedConst}
 use Rattle.hip_ir.specs.declared.fault.Fault.{Fault}
 use Rattle.hip_ir.specs.Words.{is_word, is_mark, is_local, comma, a_local, too_deep, a_word_of, is_word_of, is_there, width_word, scalar_word, type_word}
 use Rattle.hip_ir.specs.Numbers.{a_literal, an_int_const}
 use Rattle.hip_ir.specs.Grammar.{word, maybe_word, array_type, struct_type, type_by, type_within, type, literal_index, a_pointer, gep_inside, gep_const, pointer_by, pointer_within, zero_const, typed_const, const_list, array_const, struct_const, const_by, const_within, scalar_const, register, fixed_operand, operand, arg, index}
-use Rattle.hip_ir.specs.Apart.{mark_apart, word_apart, local_apart, not_local, not_word_of}
+use Rattle.hip_ir.specs.Laws.Apart.{mark_apart, word_apart, local_apart, not_local, not_word_of}
 
 -- [ word ]
 pub maybe_word_exact : (w : List ℕ) → Exact (maybe_word w) (is_word w)

@@ -1,8 +1,9 @@
 -- What the grammar derives of types, constants and operands meets the rules.
-use Rattle.std.proofs.Common.{◌≡◌, ℕ, zero, suc, Bool, true, false, not, ◌&&◌, List, Option, Some, None, option_map, refl, subst, codes}
+use Rattle.std.proofs.Common.{◌≡◌, ℕ, zero, suc, Bool, true, false, not, ◌&&◌, List, Option, Some, None, option_map, [], ◌∷◌, refl, subst, codes}
 use Rattle.std.specs.Prelude.{nat_lt, ◌==◌, if◌then◌else◌}
 use Rattle.std.specs.Str.{bytes_eq}
 use Rattle.std.specs.List.{list_all}
+use Rattle.std.proofs.lemmas.Bool.{and_parts}
 use Rattle.std.specs.Cmp.Derive.{both_true}
 use Rattle.hip_types.specs.Numbers.{bits}
 use Rattle.hip_types.specs.Widths.{bits_of}
@@ -18,17 +19,17 @@ use Rattle.hip_tokens.specs.Longest.{is_name}
 use Rattle.hip_tokens.specs.Formed.{is_formed}
 use Rattle.hip_rules.specs.Rule.{Verdict, Yes, Because, No}
 use Rattle.hip_rules.specs.Part.{Part, token}
-use Rattle.hip_rules.specs.Yields.{Yields, token_yields, gives_yields, then_yields, after_token, either_yields, optional_yields, separated_yields, listed_yields}
+use Rattle.hip_rules.specs.Laws.Yields.{Yields, token_yields, gives_yields, then_yields, after_token, either_yields, optional_yields, separated_yields, listed_yields}
 use Rattle.hip_ir.specs.declared.constant.Const.{Const, out-Const}
 use Rattle.hip_ir.specs.declared.constant.Const.TheVariants as consts
 use Rattle.hip_ir.specs.declared.constant.ConstGep.{ConstGep}
 use Rattle.hip_ir.specs.declared.constant.TypedConst.{TypedConst}
 use Rattle.hip_ir.specs.declared.fault.Fault.{Fault}
 use Rattle.hip_ir.specs.declared.fault.Fault.TheVariants.{TooDeep}
-use Rattle.hip_ir.specs.Words.{is_word, is_mark, comma, a_local, a_global, a_label, too_deep, a_word_of, or_no, scalar_word, type_of, type_word}
+use Rattle.hip_ir.specs.Words.{is_word, is_mark, comma, a_local, a_global, a_label, too_deep, a_word_of, or_no, written_as, scalar_word, type_of, type_word}
 use Rattle.hip_ir.specs.Numbers.{magnitude, is_negative, or_range, below, bits_in_range, value_of, truth_word, a_literal, as_const, an_int_const, a_count, is_alignment, an_alignment}
 use Rattle.hip_ir.specs.Grammar.{array_type, struct_type, type_by, type_within, literal_index, a_pointer, gep_inside, gep_const, pointer_by, pointer_within, zero_const, typed_const, const_list, array_const, struct_const, const_by, const_within, maybe_word, scalar_const, register, fixed_operand, operand, arg, index}
-use Rattle.hip_ir.specs.Levels.{out-Ty-Int, out-Ty-Ptr, out-Ty-Array, out-Ty-Struct, out-Const-Int, out-Const-Null, out-Const-Zero, out-Const-Address, out-Const-Gep, out-Const-Array, out-Const-Struct}
+use Rattle.hip_ir.specs.Laws.Levels.{out-Ty-Int, out-Ty-Ptr, out-Ty-Array, out-Ty-Struct, out-Const-Int, out-Const-Null, out-Const-Zero, out-Const-Address, out-Const-Gep, out-Const-Array, out-Const-Struct}
 use Rattle.hip_ir.specs.Spelling.{not_empty, spelled_type_within, of_width, spelled_pointer_level, spelled_pointer_within, spelled_int, spelled_array, spelled_struct, spelled_const_by, spelled_item, spelled_const_within, spelled_scalar_const, spelled_operand, spelled_arg, spelled_index}
 
 -- ---- single tokens
@@ -60,6 +61,13 @@ entry_is Q false x o a q h e = h e
 
 pub no_entry : {A : Type 0} (Q : A → Type 0) (a : A) → or_no None ≡ Yes a → Q a
 no_entry Q a e = absurd cc
+
+-- a value of a table passes each test that all of them pass
+pub table_is : {A : Type 0} (test : A → Bool) (text : A → List ℕ) (xs : List A) (t : List ℕ) (a : A) → list_all test xs ≡ true → or_no (written_as text xs t) ≡ Yes a → test a ≡ true
+table_is test text [] t a h e = absurd cc
+table_is test text (x ∷ xs) t a h e =
+    let p = and_parts (test x) (list_all test xs) h in
+    entry_is (λ z. test z ≡ true) (bytes_eq t (text x)) x (written_as text xs t) a p.0 (λ k. table_is test text xs t a p.1 k) e
 
 below_is : (limit m n : ℕ) (b : Bool) → nat_lt m limit ≡ b → or_range (if b then Some m else None) ≡ Yes n → nat_lt n limit ≡ true
 below_is limit m n true h e = subst (λ z. nat_lt z limit ≡ true) (yes_is m n e) h

@@ -4,10 +4,10 @@ use Rattle.hip_tokens.specs.Tokens.{Tok, At}
 use Rattle.hip_rules.specs.Rule.{Rule, Verdict, No, done, one, both, ◌or◌, perhaps, many, AllDerive}
 use Rattle.hip_rules.specs.Reader.{Outcome, next, on_ok}
 use Rattle.hip_rules.specs.Part.{Part, gives, token, ◌>>=◌, either, repeated, optional, phased, the, passing, one_more_by, separated, none_up_to, some_up_to, listed, skipped}
-use Rattle.hip_rules.specs.Exact.{IsExact, Exactly, Accepts, IsAbsent, never, joined, next_widens, next_not_left, next_not_right, mapped, both_empty, both_whole, both_within, both_later, both_closed, one_exact, done_exact, both_exact, then_exact, or_exact, or_takes_some, exact_widens, many_exact, perhaps_exact, both_absent, or_absent, token_absent}
-use Rattle.hip_rules.specs.Same.{IsSame}
-use Rattle.hip_rules.specs.Phases.{phases_exact}
-use Rattle.hip_rules.specs.Loops.{TakesSome}
+use Rattle.hip_rules.specs.Laws.Exact.{IsExact, Exactly, Accepts, IsAbsent, never, joined, next_widens, next_not_left, next_not_right, mapped, both_empty, both_whole, both_within, both_later, both_closed, one_exact, done_exact, both_exact, then_exact, or_exact, or_takes_some, exact_widens, many_exact, perhaps_exact, both_absent, or_absent, token_absent}
+use Rattle.hip_rules.specs.Laws.Same.{IsSame}
+use Rattle.hip_rules.specs.Laws.Phases.{phases_exact}
+use Rattle.hip_rules.specs.Laws.Loops.{TakesSome}
 
 -- the reading is exact for the rule, where the text goes on after a whole by a token that `follow` passes only if the rule itself could go on
 abbrev pub Exact : {F A : Type 0} → Part F A → (Tok → Bool) → Type 0

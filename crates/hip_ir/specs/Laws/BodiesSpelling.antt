@@ -1,7 +1,6 @@
 -- What the grammar derives of instructions and blocks meets the rules.
 use Rattle.std.proofs.Common.{◌≡◌, ℕ, Bool, true, false, not, ◌&&◌, ◌||◌, List, [], ◌∷◌, Option, Some, None, refl, codes}
 use Rattle.std.specs.Prelude.{if◌then◌else◌}
-use Rattle.std.specs.Str.{bytes_eq}
 use Rattle.std.specs.List.{list_all}
 use Rattle.std.specs.Cmp.Derive.{both_true}
 use Rattle.std.proofs.lemmas.Bool.{and_parts}
@@ -15,15 +14,17 @@ use Rattle.hip_types.specs.declared.number.Width.TheVariants.{W1}
 use Rattle.hip_tokens.specs.Longest.{is_name}
 use Rattle.hip_rules.specs.Rule.{Yes}
 use Rattle.hip_rules.specs.Reader.{folded}
-use Rattle.hip_rules.specs.Yields.{Yields, Any, token_yields, gives_yields, then_yields, after_token, either_yields, repeated_yields, optional_yields, separated_yields, listed_yields, phased_yields}
+use Rattle.hip_rules.specs.Laws.Yields.{Yields, Any, token_yields, gives_yields, then_yields, after_token, either_yields, repeated_yields, optional_yields, separated_yields, listed_yields, phased_yields}
 use Rattle.hip_ir.specs.declared.block.Phi.{Phi}
+use Rattle.hip_ir.specs.declared.instr.Flag.{Flag}
+use Rattle.hip_ir.specs.declared.instr.Flag.TheVariants.{Nuw, Nsw, Exact}
 use Rattle.hip_ir.specs.declared.instr.Flags.{Flags}
-use Rattle.hip_ir.specs.Words.{is_word, is_mark, is_local, comma, a_local, a_global, a_label, a_word_of, or_no, int_cast_word}
+use Rattle.hip_ir.specs.Words.{is_word, is_mark, is_local, comma, a_local, a_global, a_label, a_word_of, or_no, cast_text, int_casts, int_cast_word, flag_text, may_wrap, may_be_exact, flags_after, flag_word}
 use Rattle.hip_ir.specs.Numbers.{a_literal, an_alignment}
 use Rattle.hip_ir.specs.Grammar.{index, arg}
-use Rattle.hip_ir.specs.Bodies.{align, maybe_align, assigned, edge, phi, no_flags, with_flag, may_wrap, may_be_exact, wrap_word, exact_word, flag_word, flags, binary, compare, select, int_cast, ptrtoint, inttoptr, alloca, load, gep, plain_call, call, store, memory_instr, cast_instr, value_instr, effect_instr, assigning_instr, instr, begins_instr, target, jump, branch, br, case, switch, ret_void, ret_arg, ret_end, unreachable, end, closing, instrs_and_end, after_name, after_phis, block}
+use Rattle.hip_ir.specs.Bodies.{align, maybe_align, assigned, edge, phi, no_flags, with_flag, flags, binary, compare, select, int_cast, ptrtoint, inttoptr, alloca, load, gep, plain_call, call, store, memory_instr, cast_instr, value_instr, effect_instr, assigning_instr, instr, begins_instr, target, jump, branch, br, case, switch, ret_void, ret_arg, ret_end, unreachable, end, closing, instrs_and_end, after_name, after_phis, block}
 use Rattle.hip_ir.specs.Spelling.{not_empty, spelled_align, spelled_arg, spelled_index, spelled_flags, spelled_cast, spelled_result, spelled_instr, spelled_edge, spelled_phi, spelled_case, spelled_end, spelled_block}
-use Rattle.hip_ir.specs.SpellingLaws.{local_is, global_is, label_is, word_is, entry_is, no_entry, alignment_is, literal_is, type_yields, maybe_word_yields, operand_yields, arg_yields, index_yields}
+use Rattle.hip_ir.specs.Laws.SpellingLaws.{local_is, global_is, label_is, word_is, table_is, alignment_is, literal_is, type_yields, maybe_word_yields, operand_yields, arg_yields, index_yields}
 
 align_yields : Yields align (λ n. spelled_align (Some n) ≡ true)
 unfolding align
@@ -52,35 +53,28 @@ phi_yields dest d = after_token _ _ _ (λ _. after_token _ _ _ (λ s. then_yield
 abbrev suits : Bool → Bool → Flags → Bool
 suits wraps exact f = (wraps || not (f.nuw || f.nsw)) && (exact || not f.exact)
 
-flag_by : (wraps exact : Bool) (t : List ℕ) (f : Flags) → or_no (if wraps then wrap_word t else (if exact then exact_word t else None)) ≡ Yes f → suits wraps exact f ≡ true
-flag_by true true t f e = entry_is (λ z. suits true true z ≡ true) (bytes_eq t (codes "nuw")) _ _ f refl (λ k. entry_is (λ z. suits true true z ≡ true) (bytes_eq t (codes "nsw")) _ _ f refl (λ j. no_entry (λ z. suits true true z ≡ true) f j) k) e
-flag_by true false t f e = entry_is (λ z. suits true false z ≡ true) (bytes_eq t (codes "nuw")) _ _ f refl (λ k. entry_is (λ z. suits true false z ≡ true) (bytes_eq t (codes "nsw")) _ _ f refl (λ j. no_entry (λ z. suits true false z ≡ true) f j) k) e
-flag_by false true t f e = entry_is (λ z. suits false true z ≡ true) (bytes_eq t (codes "exact")) _ _ f refl (λ k. no_entry (λ z. suits false true z ≡ true) f k) e
-flag_by false false t f e = absurd cc
+-- a flag that may stand after an operation of this kind
+abbrev may_stand : Bool → Bool → Flag → Bool
+may_stand wraps exact Nuw = wraps
+may_stand wraps exact Nsw = wraps
+may_stand wraps exact Exact = exact
 
-no_more : (m a b c d : Bool) → (m || not (a || b)) ≡ true → (m || not (c || d)) ≡ true → (m || not ((a || c) || (b || d))) ≡ true
-no_more true a b c d h k = refl
-no_more false true b c d h k = absurd cc
-no_more false false true c d h k = absurd cc
-no_more false false false true d h k = absurd cc
-no_more false false false false true h k = absurd cc
-no_more false false false false false h k = refl
+flags_stand : (wraps exact : Bool) → list_all (may_stand wraps exact) (if wraps then Nuw ∷ Nsw ∷ [] else (if exact then Exact ∷ [] else [])) ≡ true
+flags_stand true exact = refl
+flags_stand false true = refl
+flags_stand false false = refl
 
-not_more : (m a b : Bool) → (m || not a) ≡ true → (m || not b) ≡ true → (m || not (a || b)) ≡ true
-not_more true a b h k = refl
-not_more false true b h k = absurd cc
-not_more false false true h k = absurd cc
-not_more false false false h k = refl
+with_flag_suits : (wraps exact : Bool) (f : Flags) (g : Flag) → suits wraps exact f ≡ true → may_stand wraps exact g ≡ true → suits wraps exact (with_flag f g) ≡ true
+with_flag_suits true exact f Nuw h k = h
+with_flag_suits true exact f Nsw h k = h
+with_flag_suits wraps true f Exact h k = both_true (and_parts (wraps || not (f.nuw || f.nsw)) true h).0 refl
+with_flag_suits false exact f Nuw h k = absurd cc
+with_flag_suits false exact f Nsw h k = absurd cc
+with_flag_suits wraps false f Exact h k = absurd cc
 
-with_flag_suits : (wraps exact : Bool) (f g : Flags) → suits wraps exact f ≡ true → suits wraps exact g ≡ true → suits wraps exact (with_flag f g) ≡ true
-with_flag_suits wraps exact f g h k =
-    let a = and_parts (wraps || not (f.nuw || f.nsw)) (exact || not f.exact) h in
-    let b = and_parts (wraps || not (g.nuw || g.nsw)) (exact || not g.exact) k in
-    both_true (no_more wraps f.nuw f.nsw g.nuw g.nsw a.0 b.0) (not_more exact f.exact g.exact a.1 b.1)
-
-all_suit : (wraps exact : Bool) (f : Flags) (fs : List Flags) → suits wraps exact f ≡ true → list_all (suits wraps exact) fs ≡ true → suits wraps exact (folded with_flag f fs) ≡ true
+all_suit : (wraps exact : Bool) (f : Flags) (gs : List Flag) → suits wraps exact f ≡ true → list_all (may_stand wraps exact) gs ≡ true → suits wraps exact (folded with_flag f gs) ≡ true
 all_suit wraps exact f [] h k = h
-all_suit wraps exact f (g ∷ gs) h k = let b = and_parts (suits wraps exact g) (list_all (suits wraps exact) gs) k in all_suit wraps exact (with_flag f g) gs (with_flag_suits wraps exact f g h b.0) b.1
+all_suit wraps exact f (g ∷ gs) h k = let b = and_parts (may_stand wraps exact g) (list_all (may_stand wraps exact) gs) k in all_suit wraps exact (with_flag f g) gs (with_flag_suits wraps exact f g h b.0) b.1
 
 none_suits : (wraps exact : Bool) → suits wraps exact no_flags ≡ true
 none_suits true true = refl
@@ -90,7 +84,8 @@ none_suits false false = refl
 
 flags_yields : (op : BinaryOp) → Yields (flags op) (λ f. spelled_flags op f ≡ true)
 unfolding flags
-flags_yields op = then_yields _ _ _ _ (repeated_yields _ _ (spelled_flags op) (token_yields (a_word_of (flag_word op)) _ (word_is (flag_word op) (λ f. spelled_flags op f ≡ true) (λ t f e. flag_by (may_wrap op) (may_be_exact op) t f e))))
+flags_yields op = then_yields _ _ _ _ (repeated_yields _ _ (may_stand (may_wrap op) (may_be_exact op)) (token_yields (a_word_of (flag_word op)) _ (word_is (flag_word op) (λ g. may_stand (may_wrap op) (may_be_exact op) g ≡ true)
+    (λ t g e. table_is (may_stand (may_wrap op) (may_be_exact op)) flag_text (flags_after op) t g (flags_stand (may_wrap op) (may_be_exact op)) e))))
     (λ found h. gives_yields _ _ (all_suit (may_wrap op) (may_be_exact op) no_flags found (none_suits (may_wrap op) (may_be_exact op)) h))
 
 binary_yields : (dest : List ℕ) → is_name dest ≡ true → Yields (binary dest) (λ i. spelled_instr i ≡ true)
@@ -109,9 +104,7 @@ select_yields dest d = after_token _ _ _ (λ _. after_token _ _ _ (λ _. then_yi
     then_yields _ _ _ _ (operand_yields s) (λ b y. gives_yields _ _ (both_true d (both_true c (both_true x y))))))))))))
 
 int_cast_by : (v w : Width) (t : List ℕ) (op : CastOp) → or_no (int_cast_word t) ≡ Yes op → spelled_cast op (scalars.Int v) (scalars.Int w) ≡ true
-int_cast_by v w t op e = entry_is (λ z. spelled_cast z (scalars.Int v) (scalars.Int w) ≡ true) (bytes_eq t (codes "zext")) casts.Zext _ op refl (λ k.
-    entry_is (λ z. spelled_cast z (scalars.Int v) (scalars.Int w) ≡ true) (bytes_eq t (codes "sext")) casts.Sext _ op refl (λ j.
-    entry_is (λ z. spelled_cast z (scalars.Int v) (scalars.Int w) ≡ true) (bytes_eq t (codes "trunc")) casts.Trunc _ op refl (λ i. no_entry (λ z. spelled_cast z (scalars.Int v) (scalars.Int w) ≡ true) op i) j) k) e
+int_cast_by v w t op e = table_is (λ z. spelled_cast z (scalars.Int v) (scalars.Int w)) cast_text int_casts t op refl e
 
 int_cast_yields : (dest : List ℕ) → is_name dest ≡ true → Yields (int_cast dest) (λ i. spelled_instr i ≡ true)
 unfolding int_cast

@@ -1,12 +1,18 @@
 -- Tests that no token passes both.
-use Rattle.std.proofs.Common.{◌≡◌, ℕ, true, false, Bool, cond, List, Option, Some, None, refl, ap}
+use Rattle.std.proofs.Common.{◌≡◌, ℕ, true, false, Bool, cond, not, List, [], ◌∷◌, Option, Some, None, refl, ap}
+use Rattle.std.specs.List.{list_all}
+use Rattle.std.proofs.lemmas.Bool.{and_parts}
 use Rattle.std.specs.Str.{bytes_eq}
 use Rattle.std.proofs.lemmas.Bool.{eqb-true}
 use Rattle.std.proofs.lemmas.Slice.Eq.{bytes_eq-Decides}
 use Rattle.hip_tokens.specs.Tokens.{Tok, Word, Label, Local, Global, Num, Str, Mark, Odd}
 use Rattle.hip_rules.specs.Rule.{No}
-use Rattle.hip_rules.specs.Parts.{Apart}
-use Rattle.hip_ir.specs.Words.{is_word, is_mark, is_local, is_global, is_label, a_local, a_global, a_label, a_word_of, is_word_of, is_there, or_no}
+use Rattle.hip_rules.specs.Laws.Parts.{Apart}
+use Rattle.hip_ir.specs.Words.{is_word, is_mark, is_local, is_global, is_label, a_local, a_global, a_label, a_word_of, is_word_of, is_there, or_no, written_as}
+
+not-true : (b : Bool) → not b ≡ true → b ≡ false
+not-true true e = absurd cc
+not-true false e = refl
 
 mark_is : (b : ℕ) (t : Tok) → is_mark b t ≡ true → t ≡ Mark b
 mark_is b (Mark c) e = ap (λ (n : ℕ). Mark n) (eqb-true c b e)
@@ -99,6 +105,14 @@ no_entry_apart B f (Num t) e = refl
 no_entry_apart B f (Str t) e = refl
 no_entry_apart B f (Mark b) e = refl
 no_entry_apart B f (Odd b) e = refl
+
+-- a table of values, none of which is written as a word of the first
+pub table_apart : {A B : Type 0} (f : List ℕ → Option A) (text : B → List ℕ) (xs : List B)
+    → list_all (λ x. not (is_there (f (text x)))) xs ≡ true → Apart (is_word_of f) (is_word_of (written_as text xs))
+table_apart {A} {B} f text [] h = no_entry_apart B f
+table_apart f text (x ∷ xs) h =
+    let p = and_parts (not (is_there (f (text x)))) (list_all (λ y. not (is_there (f (text y)))) xs) h in
+    entry_apart f (text x) x (written_as text xs) (not-true (is_there (f (text x))) p.0) (table_apart f text xs p.1)
 
 -- ---- where a token is not
 

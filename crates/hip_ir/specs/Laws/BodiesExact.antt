@@ -1,5 +1,5 @@
 -- The reading of instructions and blocks is exact for its rule.
-use Rattle.std.proofs.Common.{◌≡◌, ℕ, true, false, Bool, cond, List, [], ◌∷◌, Option, Some, None, refl, codes}
+use Rattle.std.proofs.Common.{◌≡◌, ℕ, true, false, Bool, not, List, [], ◌∷◌, Option, Some, None, refl, codes}
 use Rattle.hip_types.specs.declared.number.BinaryOp.{BinaryOp}
 use Rattle.hip_types.specs.declared.number.CastOp.{CastOp}
 use Rattle.hip_types.specs.declared.number.Scalar.{Scalar}
@@ -9,20 +9,23 @@ use Rattle.hip_types.specs.declared.number.Width.TheVariants.{W1}
 use Rattle.hip_tokens.specs.Tokens.{Tok, Word}
 use Rattle.hip_rules.specs.Rule.{both, ◌or◌}
 use Rattle.hip_rules.specs.Part.{token, ◌>>=◌, repeated, separated, listed}
-use Rattle.hip_rules.specs.Exact.{never, joined}
-use Rattle.hip_rules.specs.Same.{IsSame, head_or_other}
-use Rattle.hip_rules.specs.Parts.{Exact, IsRead, Apart, apart_sym, apart_joined, joined_apart, begins, token_begins, link, part_link, token_read, token_exact, closed_exact, gives_exact, next_exact, next_read, then_read, maps_exact, maps_read, either_read, optional_then_read, repeated_then_read, optional_same, repeated_same, separated_read, listed_read, passing_read, phased_exact}
+use Rattle.hip_rules.specs.Laws.Exact.{never, joined}
+use Rattle.hip_rules.specs.Laws.Same.{IsSame, head_or_other}
+use Rattle.hip_rules.specs.Laws.Parts.{Exact, IsRead, Apart, apart_sym, apart_joined, joined_apart, begins, token_begins, link, part_link, token_read, token_exact, closed_exact, gives_exact, next_exact, next_read, then_read, maps_exact, maps_read, either_read, optional_then_read, repeated_then_read, optional_same, repeated_same, separated_read, listed_read, passing_read, phased_exact}
 use Rattle.hip_ir.specs.declared.block.Block.{Block}
 use Rattle.hip_ir.specs.declared.block.Phi.{Phi}
 use Rattle.hip_ir.specs.declared.fault.Fault.{Fault}
-use Rattle.hip_ir.specs.declared.instr.Flags.{Flags}
+use Rattle.hip_ir.specs.declared.instr.Flag.{Flag}
+use Rattle.hip_ir.specs.declared.instr.Flag.TheVariants as flag
 use Rattle.hip_ir.specs.declared.instr.Instr.{Instr}
-use Rattle.hip_ir.specs.Words.{is_word, is_mark, is_local, is_label, comma, a_local, a_label, a_word_of, is_word_of, width_word, width_text, scalar_word, binary_word, int_cast_word}
+use Rattle.std.specs.Prelude.{if◌then◌else◌}
+use Rattle.std.specs.List.{list_all}
+use Rattle.hip_ir.specs.Words.{is_word, is_mark, is_local, is_label, comma, a_local, a_label, a_word_of, is_word_of, width_word, width_text, scalar_word, binary_word, cast_text, int_casts, int_cast_word, is_there, flag_text, may_wrap, may_be_exact, flags_after, flag_word}
 use Rattle.hip_ir.specs.Numbers.{an_alignment}
 use Rattle.hip_ir.specs.Grammar.{word, maybe_word, type, is_width, arg, index}
-use Rattle.hip_ir.specs.Bodies.{align, maybe_align, assigned, edge, phi, may_wrap, may_be_exact, wrap_word, exact_word, flag_word, flags, binary, compare, select, int_cast, ptrtoint, inttoptr, alloca, load, gep, plain_call, call, store, memory_instr, cast_instr, value_instr, effect_instr, assigning_instr, instr, begins_effect, begins_instr, target, jump, branch, br, case, switch, ret_void, ret_arg, ret_end, unreachable, end, closing, instrs_and_end, after_first, after_name, from_effect, after_phis, block}
-use Rattle.hip_ir.specs.Apart.{mark_apart, word_apart, local_apart, entry_apart, no_entry_apart, not_local, not_label, not_word_of}
-use Rattle.hip_ir.specs.Exactness.{maybe_word_exact, type_read, begins_type, operand_read, arg_read, index_read}
+use Rattle.hip_ir.specs.Bodies.{align, maybe_align, assigned, edge, phi, flags, binary, compare, select, int_cast, ptrtoint, inttoptr, alloca, load, gep, plain_call, call, store, memory_instr, cast_instr, value_instr, effect_instr, assigning_instr, instr, begins_effect, begins_instr, target, jump, branch, br, case, switch, ret_void, ret_arg, ret_end, unreachable, end, closing, instrs_and_end, after_first, after_name, from_effect, after_phis, block}
+use Rattle.hip_ir.specs.Laws.Apart.{mark_apart, word_apart, local_apart, table_apart, not_local, not_label, not_word_of}
+use Rattle.hip_ir.specs.Laws.Exactness.{maybe_word_exact, type_read, begins_type, operand_read, arg_read, index_read}
 
 align_read : IsRead align comma never
 unfolding align
@@ -51,15 +54,17 @@ phi_read dest = begins _ _ _ (λ _. link _ _ _ (λ s. maps_exact (separated comm
 from_word : {A : Type 0} (f : List ℕ → Option A) (w : List ℕ) (d : Tok → Bool) → is_word_of f (Word w) ≡ false → Apart (is_word_of f) d → Apart (is_word_of f) (joined (is_word w) d)
 from_word f w d h p = apart_joined (is_word_of f) (is_word w) d (apart_sym (is_word w) (is_word_of f) (word_apart w (is_word_of f) h)) p
 
-cond_apart : {A : Type 0} (b : Bool) (c : Tok → Bool) (f g : List ℕ → Option A) → Apart c (is_word_of f) → Apart c (is_word_of g) → Apart c (is_word_of (λ t. cond b (f t) (g t)))
-cond_apart true c f g p q = p
-cond_apart false c f g p q = q
+no_width : (op : BinaryOp) → list_all (λ f. not (is_there (width_word (flag_text f)))) (flags_after op) ≡ true
+no_width op = by_kind (may_wrap op) (may_be_exact op)
+  where
+    by_kind : (wraps exact : Bool)
+        → list_all (λ f. not (is_there (width_word (flag_text f)))) (if wraps then flag.Nuw ∷ flag.Nsw ∷ [] else (if exact then flag.Exact ∷ [] else [])) ≡ true
+    by_kind true exact = refl
+    by_kind false true = refl
+    by_kind false false = refl
 
 flag_apart : (op : BinaryOp) → Apart (is_word_of (flag_word op)) (is_word_of width_word)
-flag_apart op = apart_sym (is_word_of width_word) (is_word_of (flag_word op))
-    (cond_apart (may_wrap op) (is_word_of width_word) wrap_word _
-    (entry_apart width_word (codes "nuw") _ _ refl (entry_apart width_word (codes "nsw") _ _ refl (no_entry_apart Flags width_word)))
-    (cond_apart (may_be_exact op) (is_word_of width_word) exact_word _ (entry_apart width_word (codes "exact") _ _ refl (no_entry_apart Flags width_word)) (no_entry_apart Flags width_word)))
+flag_apart op = apart_sym (is_word_of width_word) (is_word_of (flag_word op)) (table_apart width_word flag_text (flags_after op) (no_width op))
 
 flags_exact : (op : BinaryOp) → Exact (flags op) (is_word_of (flag_word op))
 unfolding flags
@@ -152,7 +157,7 @@ abbrev pub begins_value : Tok → Bool
 begins_value = joined (is_word_of binary_word) (joined (is_word (codes "icmp")) (joined (is_word (codes "select")) begins_cast))
 
 binary_no_cast : Apart (is_word_of binary_word) (is_word_of int_cast_word)
-binary_no_cast = entry_apart binary_word (codes "zext") _ _ refl (entry_apart binary_word (codes "sext") _ _ refl (entry_apart binary_word (codes "trunc") _ _ refl (no_entry_apart CastOp binary_word)))
+binary_no_cast = table_apart binary_word cast_text int_casts refl
 
 binary_apart : Apart (is_word_of binary_word) (joined (is_word (codes "icmp")) (joined (is_word (codes "select")) begins_cast))
 binary_apart = from_word binary_word _ _ refl (from_word binary_word _ _ refl (apart_joined (is_word_of binary_word) (is_word_of int_cast_word) _ binary_no_cast

@@ -17,7 +17,7 @@ use Rattle.hip_tokens.specs.Tokens.{Tok, Word, Num, cut}
 use Rattle.hip_tokens.specs.Longest.{is_name, are_digits}
 use Rattle.hip_tokens.specs.Written.{ends_word, at_line, word_cut, digits_cut, minus_cut}
 use Rattle.hip_rules.specs.Rule.{Yes, one}
-use Rattle.hip_rules.specs.Texts.{IsTextOf, token_text, digits_text}
+use Rattle.hip_rules.specs.Laws.Texts.{IsTextOf, token_text, digits_text}
 use Rattle.hip_ir.specs.declared.constant.Const.TheVariants as consts
 use Rattle.hip_ir.specs.Words.{is_word}
 use Rattle.hip_ir.specs.Numbers.{digits_from, is_negative, magnitude, a_literal, an_int_const, a_count, is_alignment, an_alignment}

@@ -15,59 +15,59 @@ use Rattle.hip_types.specs.declared.ty.Ty.TheVariants.{rolls-Int, rolls-Ptr, rol
 use Rattle.hip_tokens.specs.Written.{ends_word}
 use Rattle.hip_rules.specs.Rule.{Rule, one}
 use Rattle.hip_rules.specs.Part.{Part, the}
-use Rattle.hip_rules.specs.Texts.{IsTextOf, anything, then_text, last_text, nothing_text, anywhere_text, word_text, word_then, mark_text, mark_then, blank_text, left_text, right_text}
+use Rattle.hip_rules.specs.Laws.Texts.{IsTextOf, anything, then_text, last_text, nothing_text, anywhere_text, word_text, word_then, mark_text, mark_then, blank_text, left_text, right_text}
 use Rattle.hip_ir.specs.declared.fault.Fault.{Fault}
-use Rattle.hip_ir.specs.Words.{a_word_of, width_word, scalar_word, ret_word, type_word, type_of, width_text, scalar_text}
+use Rattle.hip_ir.specs.Words.{a_word_of, width_word, scalar_word, ret_word, type_word, type_of, width_text, scalar_text, ret_text}
 use Rattle.hip_ir.specs.Grammar.{is_width, is_scalar, array_type, struct_type, type_by, type_within}
-use Rattle.hip_ir.specs.Show.{type_text, type_step, ret_text, braced}
+use Rattle.hip_ir.specs.Show.{type_text, type_step, braced}
 use Rattle.hip_ir.specs.Spelling.{spelled_flat, spelled_level, spelled_type_within}
-use Rattle.hip_ir.specs.WrittenNumbers.{count_text}
-use Rattle.hip_ir.specs.WrittenLists.{none_listed, some_listed}
+use Rattle.hip_ir.specs.Laws.WrittenNumbers.{count_text}
+use Rattle.hip_ir.specs.Laws.WrittenLists.{none_listed, some_listed}
 
 -- ---- scalars
 
 pub int_is : (w : Width) → IsTextOf ends_word (one (a_word_of width_word)) (width_text w) w
-int_is W1 = word_text _ (codes "i1") refl refl
-int_is W8 = word_text _ (codes "i8") refl refl
-int_is W16 = word_text _ (codes "i16") refl refl
-int_is W32 = word_text _ (codes "i32") refl refl
-int_is W64 = word_text _ (codes "i64") refl refl
+int_is W1 = word_text _ _ refl refl
+int_is W8 = word_text _ _ refl refl
+int_is W16 = word_text _ _ refl refl
+int_is W32 = word_text _ _ refl refl
+int_is W64 = word_text _ _ refl refl
 
 pub width_is : (w : Width) → IsTextOf ends_word (one (the {F = Fault} (is_width w))) (width_text w) tt
-width_is W1 = word_text _ (codes "i1") refl refl
-width_is W8 = word_text _ (codes "i8") refl refl
-width_is W16 = word_text _ (codes "i16") refl refl
-width_is W32 = word_text _ (codes "i32") refl refl
-width_is W64 = word_text _ (codes "i64") refl refl
+width_is W1 = word_text _ _ refl refl
+width_is W8 = word_text _ _ refl refl
+width_is W16 = word_text _ _ refl refl
+width_is W32 = word_text _ _ refl refl
+width_is W64 = word_text _ _ refl refl
 
 pub scalar_is : (s : Scalar) → IsTextOf ends_word (one (a_word_of scalar_word)) (scalar_text s) s
-scalar_is (scalars.Int W1) = word_text _ (codes "i1") refl refl
-scalar_is (scalars.Int W8) = word_text _ (codes "i8") refl refl
-scalar_is (scalars.Int W16) = word_text _ (codes "i16") refl refl
-scalar_is (scalars.Int W32) = word_text _ (codes "i32") refl refl
-scalar_is (scalars.Int W64) = word_text _ (codes "i64") refl refl
-scalar_is scalars.Ptr = word_text _ (codes "ptr") refl refl
+scalar_is (scalars.Int W1) = word_text _ _ refl refl
+scalar_is (scalars.Int W8) = word_text _ _ refl refl
+scalar_is (scalars.Int W16) = word_text _ _ refl refl
+scalar_is (scalars.Int W32) = word_text _ _ refl refl
+scalar_is (scalars.Int W64) = word_text _ _ refl refl
+scalar_is scalars.Ptr = word_text _ _ refl refl
 
 pub same_scalar_is : (s : Scalar) → IsTextOf ends_word (one (the {F = Fault} (is_scalar s))) (scalar_text s) tt
 same_scalar_is (scalars.Int w) = width_is w
-same_scalar_is scalars.Ptr = word_text _ (codes "ptr") refl refl
+same_scalar_is scalars.Ptr = word_text _ _ refl refl
 
 pub ret_is : (r : Option Scalar) → IsTextOf ends_word (one (a_word_of ret_word)) (ret_text r) r
-ret_is None = word_text _ (codes "void") refl refl
-ret_is (Some (scalars.Int W1)) = word_text _ (codes "i1") refl refl
-ret_is (Some (scalars.Int W8)) = word_text _ (codes "i8") refl refl
-ret_is (Some (scalars.Int W16)) = word_text _ (codes "i16") refl refl
-ret_is (Some (scalars.Int W32)) = word_text _ (codes "i32") refl refl
-ret_is (Some (scalars.Int W64)) = word_text _ (codes "i64") refl refl
-ret_is (Some scalars.Ptr) = word_text _ (codes "ptr") refl refl
+ret_is None = word_text _ _ refl refl
+ret_is (Some (scalars.Int W1)) = word_text _ _ refl refl
+ret_is (Some (scalars.Int W8)) = word_text _ _ refl refl
+ret_is (Some (scalars.Int W16)) = word_text _ _ refl refl
+ret_is (Some (scalars.Int W32)) = word_text _ _ refl refl
+ret_is (Some (scalars.Int W64)) = word_text _ _ refl refl
+ret_is (Some scalars.Ptr) = word_text _ _ refl refl
 
 scalar_type_is : (s : Scalar) → IsTextOf ends_word (one (a_word_of type_word)) (scalar_text s) (type_of s)
-scalar_type_is (scalars.Int W1) = word_text _ (codes "i1") refl refl
-scalar_type_is (scalars.Int W8) = word_text _ (codes "i8") refl refl
-scalar_type_is (scalars.Int W16) = word_text _ (codes "i16") refl refl
-scalar_type_is (scalars.Int W32) = word_text _ (codes "i32") refl refl
-scalar_type_is (scalars.Int W64) = word_text _ (codes "i64") refl refl
-scalar_type_is scalars.Ptr = word_text _ (codes "ptr") refl refl
+scalar_type_is (scalars.Int W1) = word_text _ _ refl refl
+scalar_type_is (scalars.Int W8) = word_text _ _ refl refl
+scalar_type_is (scalars.Int W16) = word_text _ _ refl refl
+scalar_type_is (scalars.Int W32) = word_text _ _ refl refl
+scalar_type_is (scalars.Int W64) = word_text _ _ refl refl
+scalar_type_is scalars.Ptr = word_text _ _ refl refl
 
 -- ---- types
 

@@ -9,7 +9,7 @@ use Rattle.hip_tokens.specs.Written.{ends_word}
 use Rattle.hip_rules.specs.Rule.{Rule, one, both, many}
 use Rattle.hip_rules.specs.Reader.{folded}
 use Rattle.hip_rules.specs.Part.{skipped}
-use Rattle.hip_rules.specs.Texts.{IsTextOf, Leaves, anything, then_text, last_text, nothing_text, token_text, word_then, local_text, global_text, mark_text, mark_then, blank_text, blank_behind, left_text, right_text, none_text, some_text, no_more_text, mapped_texts, many_texts, joined_texts}
+use Rattle.hip_rules.specs.Laws.Texts.{IsTextOf, Leaves, anything, then_text, last_text, nothing_text, token_text, word_then, local_text, global_text, mark_text, mark_then, blank_text, blank_behind, left_text, right_text, none_text, some_text, no_more_text, mapped_texts, many_texts, joined_texts}
 use Rattle.hip_ir.specs.declared.block.Block.{Block}
 use Rattle.hip_ir.specs.declared.fault.Fault.{Fault}
 use Rattle.hip_ir.specs.declared.program.Extern.{Extern}
@@ -24,12 +24,12 @@ use Rattle.hip_ir.specs.Text.{Item, GlobalItem, ExternItem, FunctionItem, links,
 use Rattle.hip_ir.specs.Show.{align_text, block_text, section_text, fixed_text, global_text as global_item_text, extern_text, param_text, function_text, show}
 use Rattle.hip_ir.specs.Spelling.{not_empty, spelled_align, spelled_type, spelled_const, spelled_block, spelled_global, spelled_extern, spelled_param, spelled_function, spelled_program}
 use Rattle.hip_ir.specs.Reading.{IsSpelled}
-use Rattle.hip_ir.specs.WrittenNumbers.{alignment_text}
-use Rattle.hip_ir.specs.WrittenLists.{listed_are}
-use Rattle.hip_ir.specs.WrittenTypes.{scalar_is, ret_is, type_is}
-use Rattle.hip_ir.specs.WrittenConsts.{const_is, all_pass}
-use Rattle.hip_ir.specs.WrittenInstrs.{align_is}
-use Rattle.hip_ir.specs.WrittenBlocks.{block_is}
+use Rattle.hip_ir.specs.Laws.WrittenNumbers.{alignment_text}
+use Rattle.hip_ir.specs.Laws.WrittenLists.{listed_are}
+use Rattle.hip_ir.specs.Laws.WrittenTypes.{scalar_is, ret_is, type_is}
+use Rattle.hip_ir.specs.Laws.WrittenConsts.{const_is, all_pass}
+use Rattle.hip_ir.specs.Laws.WrittenInstrs.{align_is}
+use Rattle.hip_ir.specs.Laws.WrittenBlocks.{block_is}
 
 -- ---- globals
 

@@ -3,8 +3,8 @@ use Rattle.std.proofs.Common.{◌≡◌, ℕ, true, false, Bool, ◌||◌, List,
 use Rattle.hip_tokens.specs.Tokens.{Tok, Word, At}
 use Rattle.hip_rules.specs.Part.{token, repeated, optional}
 use Rattle.hip_rules.specs.Reader.{Outcome, on_ok, next}
-use Rattle.hip_rules.specs.Exact.{never, joined, Exactly, Accepts, Rejects}
-use Rattle.hip_rules.specs.Parts.{Exact, IsRead, Apart, apart_sym, apart_joined, joined_apart, begins, token_begins, link, part_link, token_read, gives_exact, next_exact, then_read, maps_exact, either_read, optional_exact, optional_same, repeated_same, skipped_same, repeated_exact, listed_read, widens}
+use Rattle.hip_rules.specs.Laws.Exact.{never, joined, Exactly, Accepts, Rejects}
+use Rattle.hip_rules.specs.Laws.Parts.{Exact, IsRead, Apart, apart_sym, apart_joined, joined_apart, begins, token_begins, link, part_link, token_read, gives_exact, next_exact, then_read, maps_exact, either_read, optional_exact, optional_same, repeated_same, skipped_same, repeated_exact, listed_read, widens}
 use Rattle.hip_ir.specs.declared.fault.Fault.{Fault}
 use Rattle.hip_ir.specs.declared.program.Program.{Program}
 use Rattle.hip_ir.specs.Words.{is_word, is_mark, is_global, is_label, comma, a_global, a_word_of, is_word_of, scalar_word, ret_word, link_word, unnamed_word, linkage_word, fixed_word}
@@ -13,9 +13,9 @@ use Rattle.hip_ir.specs.Bodies.{maybe_align, block}
 use Rattle.hip_ir.specs.Text.{linkages, links, source_filename, target_item, section, only_align, placement, place, global, maybe_unnamed, extern_item, param, blocks, function, item, begins_item, text}
 use Rattle.hip_ir.specs.Reading.{IsRefusedAt}
 use Rattle.hip_ir.specs.Unsupported.{usual}
-use Rattle.hip_ir.specs.Apart.{mark_apart, word_apart, global_apart, label_apart, words_apart, entry_apart, no_entry_apart, not_global, not_word_of}
-use Rattle.hip_ir.specs.Exactness.{type_read, const_exact}
-use Rattle.hip_ir.specs.BodiesExact.{maybe_align_exact, block_read}
+use Rattle.hip_ir.specs.Laws.Apart.{mark_apart, word_apart, global_apart, label_apart, words_apart, entry_apart, no_entry_apart, not_global, not_word_of}
+use Rattle.hip_ir.specs.Laws.Exactness.{type_read, const_exact}
+use Rattle.hip_ir.specs.Laws.BodiesExact.{maybe_align_exact, block_read}
 
 -- what may follow a whole item and belong to it: `, align`, or `unnamed_addr`
 abbrev pub goes_on_item : Tok → Bool

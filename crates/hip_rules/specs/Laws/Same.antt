@@ -3,7 +3,7 @@ use Rattle.std.proofs.Common.{Bool, List, [], ◌∷◌, Ok, Err, inl, inr, refl
 use Rattle.hip_tokens.specs.Tokens.{Tok, At}
 use Rattle.hip_rules.specs.Rule.{Rule, both, many, AllDerive, ◌or◌}
 use Rattle.hip_rules.specs.Reader.{Reader, Outcome}
-use Rattle.hip_rules.specs.Exact.{IsExact, Exactly, IsAbsent}
+use Rattle.hip_rules.specs.Laws.Exact.{IsExact, Exactly, IsAbsent}
 
 pub record IsSame {F A : Type 0} (l m : Rule F A) : Type 0 where
   pub derives : (ts : List At) (a : A) (rest : List At) → l.Derives ts a rest → m.Derives ts a rest

@@ -7,7 +7,7 @@ use Rattle.std.proofs.lemmas.List.Folds.{list_all-append}
 use Rattle.hip_tokens.specs.Formed.{tokens_formed}
 use Rattle.hip_tokens.specs.Tokens.{tokens}
 use Rattle.hip_rules.specs.Reader.{folded}
-use Rattle.hip_rules.specs.Yields.{Yields, Any, token_yields, gives_yields, then_yields, after_token, either_yields, repeated_yields, optional_yields, listed_yields, skipped_yields}
+use Rattle.hip_rules.specs.Laws.Yields.{Yields, Any, token_yields, gives_yields, then_yields, after_token, either_yields, repeated_yields, optional_yields, listed_yields, skipped_yields}
 use Rattle.hip_ir.specs.declared.program.Program.{Program}
 use Rattle.hip_ir.specs.Words.{is_mark, is_label, comma, a_global, a_local}
 use Rattle.hip_ir.specs.Numbers.{an_alignment}
@@ -16,8 +16,8 @@ use Rattle.hip_ir.specs.Bodies.{block}
 use Rattle.hip_ir.specs.Text.{Item, GlobalItem, ExternItem, FunctionItem, DroppedItem, source_filename, target_item, section, only_align, placement, placed, place, global, extern_item, param, blocks, function, item, begins_item, no_items, with_item, text}
 use Rattle.hip_ir.specs.Reading.{Reads}
 use Rattle.hip_ir.specs.Spelling.{not_empty, spelled_align, spelled_global, spelled_extern, spelled_param, spelled_function, spelled_block, spelled_program}
-use Rattle.hip_ir.specs.SpellingLaws.{local_is, global_is, alignment_is, type_yields, const_yields}
-use Rattle.hip_ir.specs.BodiesSpelling.{maybe_align_yields, block_yields}
+use Rattle.hip_ir.specs.Laws.SpellingLaws.{local_is, global_is, alignment_is, type_yields, const_yields}
+use Rattle.hip_ir.specs.Laws.BodiesSpelling.{maybe_align_yields, block_yields}
 
 abbrev spelled_as_item : Item → Bool
 spelled_as_item (GlobalItem g) = spelled_global g

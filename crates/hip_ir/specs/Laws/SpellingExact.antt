@@ -4,8 +4,8 @@ use Rattle.hip_ir.specs.declared.program.Program.{Program}
 use Rattle.hip_ir.specs.Reading.{Reads, IsSpelled}
 use Rattle.hip_ir.specs.Show.{show}
 use Rattle.hip_ir.specs.Spelling.{spelled_program}
-use Rattle.hip_ir.specs.TextSpelling.{reads_spelled}
-use Rattle.hip_ir.specs.WrittenText.{spelled_is_read}
+use Rattle.hip_ir.specs.Laws.TextSpelling.{reads_spelled}
+use Rattle.hip_ir.specs.Laws.WrittenText.{spelled_is_read}
 
 -- a program meets the rules exactly where it is what its canonical text reads as
 pub spelled_exact : (program : Program) → (spelled_program program ≡ true) ↔ IsSpelled program

@@ -9,7 +9,7 @@ use Rattle.hip_types.specs.declared.number.Width.TheVariants.{W1}
 use Rattle.hip_tokens.specs.Longest.{is_name}
 use Rattle.hip_tokens.specs.Written.{ends_word}
 use Rattle.hip_rules.specs.Rule.{Rule, both}
-use Rattle.hip_rules.specs.Texts.{IsTextOf, anything, then_text, last_text, nothing_text, anywhere_text, word_text, word_then, local_text, label_then, mark_text, mark_then, blank_text, blank_behind, left_text, right_text, many_texts}
+use Rattle.hip_rules.specs.Laws.Texts.{IsTextOf, anything, then_text, last_text, nothing_text, anywhere_text, word_text, word_then, local_text, label_then, mark_text, mark_then, blank_text, blank_behind, left_text, right_text, many_texts}
 use Rattle.hip_ir.specs.declared.block.Block.{Block}
 use Rattle.hip_ir.specs.declared.block.Case.{Case}
 use Rattle.hip_ir.specs.declared.block.Edge.{Edge}
@@ -23,11 +23,11 @@ use Rattle.hip_ir.specs.Words.{width_text, scalar_text}
 use Rattle.hip_ir.specs.Bodies.{assigned, edge, phi, instr, target, jump, branch, br, case, switch, ret_void, ret_arg, ret_end, unreachable, end, closing, instrs_and_end, block}
 use Rattle.hip_ir.specs.Show.{commas, operand_text, assigned_text, literal_text, instr_text, edge_text, phi_text, case_text, end_text, line_of, block_text}
 use Rattle.hip_ir.specs.Spelling.{not_empty, of_width, spelled_operand, spelled_instr, spelled_edge, spelled_phi, spelled_case, spelled_end, spelled_block}
-use Rattle.hip_ir.specs.WrittenNumbers.{literal_is, own_width, same_width}
-use Rattle.hip_ir.specs.WrittenLists.{separated_are}
-use Rattle.hip_ir.specs.WrittenTypes.{int_is, width_is, scalar_is}
-use Rattle.hip_ir.specs.WrittenConsts.{operand_is, arg_is}
-use Rattle.hip_ir.specs.WrittenInstrs.{assigned_is, instr_is}
+use Rattle.hip_ir.specs.Laws.WrittenNumbers.{literal_is, own_width, same_width}
+use Rattle.hip_ir.specs.Laws.WrittenLists.{separated_are}
+use Rattle.hip_ir.specs.Laws.WrittenTypes.{int_is, width_is, scalar_is}
+use Rattle.hip_ir.specs.Laws.WrittenConsts.{operand_is, arg_is}
+use Rattle.hip_ir.specs.Laws.WrittenInstrs.{assigned_is, instr_is}
 
 -- ---- phis
 

@@ -6,6 +6,7 @@ pub mod ImageLaws
 pub mod LineOrder
 pub mod LooseBytes
 pub mod Members
+pub mod NextLaws
 pub mod ReportLaws
 pub mod SiteLaws
 pub mod TagLaws

@@ -1,12 +1,14 @@
 //! Laws of the order of a run: of the parts in a cache line, of flushes and fences, and of calls and the frames that they make.
 
 ghost use Rattle.hip_ir.specs.declared.program.Program.{Program};
+ghost use Rattle.hip_runs.specs.After.{lines_after};
 ghost use Rattle.hip_runs.specs.Frames.{Moves};
 ghost use Rattle.hip_runs.specs.Order.{HasCalls, HasOrder, is_before, last_fence};
 ghost use Rattle.hip_runs.specs.Parts.{PartOf};
+ghost use Rattle.hip_runs.specs.Since.{top_site};
 ghost use Rattle.hip_runs.specs.Sites.{HasSites};
-ghost use Rattle.hip_runs.specs.State.{StorePart};
-ghost use Rattle.hip_runs.specs.Step.{run};
+ghost use Rattle.hip_runs.specs.State.{StorePart, levels_of};
+ghost use Rattle.hip_runs.specs.Step.{event, run};
 ghost use Rattle.hip_runs.specs.declared.input.Input.{Input};
 ghost use Rattle.std.specs.Prelude.{◌≡◌, ℕ, suc};
 
@@ -38,4 +40,11 @@ pub fn parts_share_the_outermost_calls()
 /// not durable; and the calls that stand, and those of each part, are calls of functions of the program.
 pub fn states_name_what_stands_there()
     ensures { (P : Program) → (I : Input) → (n : ℕ) → HasSites P (run P I n) }
+{}
+
+/// The cache lines after a step follow from the step's event, the site and the calls of the top frame, and the counts.
+pub fn events_tell_the_next_lines()
+    ensures { (P : Program) → (I : Input) → (n : ℕ) →
+        (run P I (suc n)).lines ≡ lines_after I (event P I (run P I n)) (run P I n).counts
+        (top_site (run P I n).frames) (levels_of (run P I n).frames) (run P I n).lines }
 {}

@@ -17,11 +17,12 @@ use Rattle.hip_runs.specs.declared.event.Ending.TheVariants.{Stop, Cut}
 use Rattle.hip_types.specs.Numbers.{bits, signed}
 use Rattle.hip_types.specs.declared.number.Width.TheVariants.{W32}
 use Rattle.std.specs.Int.{next_multiple_of}
-use Rattle.hip_mem.specs.Bytes.{little_endian}
+use Rattle.hip_mem.specs.Bytes.{little_endian, bytes_of}
+use Rattle.hip_mem.specs.BytesLaws.{bytes_of-below, bytes_of-little_endian}
 use Rattle.hip_mem.specs.Memory.{stack_end}
 use Rattle.hip_num.specs.Arithmetic.{binary_of}
 use Rattle.hip_runs.specs.HistoryLaws.{get_drop, instr_at_place}
-use Rattle.hip_runs.specs.Operands.{value_of, values_of}
+use Rattle.hip_runs.specs.Operands.{scalar_size, value_of, values_of}
 use Rattle.hip_runs.specs.declared.event.Event.{Event}
 use Rattle.hip_runs.specs.declared.input.Input.{Input}
 use Rattle.hip_runs.specs.Actions.{Action, Traps, Assigns, Allocates, Stores, Flushes, Persists, Fences, Asserts, Prints, Reads, Calls, Jumps, Returns, Deed, are_valid, arg_value, in_region, accessed, calculated, allocated, bound_call, numbered_call, entered, flushing, read_next, call_action, instr_action, jump_to, jump, end_action, deed_of}
@@ -39,7 +40,7 @@ use Rattle.hip_runs.specs.declared.event.Event.TheVariants as events
 -- ---- actions of instructions
 
 abbrev fits : Program → Action → Option Instr → Type 0
-fits P (Stores a bytes) o = is_store o ≡ true
+fits P (Stores a bytes) o = (is_store o ≡ true) × (bytes_of (length bytes) (little_endian bytes) ≡ bytes)
 fits P (Flushes a n) o = is_flush_call o ≡ true
 fits P (Persists a n) o = is_persist_call o ≡ true
 fits P (Calls g rs to) o = called_number P o ≡ Some g
@@ -48,6 +49,10 @@ fits P _ o = Unit {0}
 -- what an action may be, from the instruction that it is of
 pub record Fits (P : Program) (x : Action) (o : Option Instr) : Type 0 where
   pub is : fits P x o
+
+-- the bytes of a value are those of the value that they stand for
+written : (n v : ℕ) → bytes_of (length (bytes_of n v)) (little_endian (bytes_of n v)) ≡ bytes_of n v
+written n v = bytes_of-little_endian (bytes_of n v) (λ i. bytes_of-below n v i)
 
 fits_cond : {P : Program} (b : Bool) (x y : Action) (o : Option Instr) → Fits P x o → Fits P y o → Fits P (cond b x y) o
 fits_cond true x y o p q = p
@@ -90,7 +95,7 @@ module _ (P : Program) (I : Input) (w : World) (below : ℕ) (rs : Registers) wh
   fits_instr (Cast dest op from a to) = record { is = tt {0} }
   fits_instr (Alloca dest ty align) = fits_allocated dest _ _ _
   fits_instr (Load dest ty addr align) = fits_accessed _ _ _ _ _ (record { is = tt {0} })
-  fits_instr (Store ty value addr align) = fits_accessed _ _ _ _ _ (record { is = refl })
+  fits_instr (Store ty value addr align) = fits_accessed _ _ _ _ _ (record { is = (refl, written (scalar_size ty) (value_of P.globals I.base rs value)) })
   fits_instr (Gep dest inbounds ty base indices) = record { is = tt {0} }
   fits_instr (Call dest ret callee args) = go (call_of callee) refl
     where
@@ -145,7 +150,7 @@ event_told : (P : Program) (I : Input) (fs : List Frame) (x : Action) (o : Optio
 event_told P I fs (Traps kind) o h = record { is = tt {0} }
 event_told P I fs (Assigns to v) o h = record { is = tt {0} }
 event_told P I fs (Allocates to a n) o h = record { is = tt {0} }
-event_told P I fs (Stores a bytes) o h = told_cond (in_region I a (length bytes)) (events.Store a (little_endian bytes) (length bytes)) events.Quiet o (record { is = h.is }) (record { is = tt {0} })
+event_told P I fs (Stores a bytes) o h = told_cond (in_region I a (length bytes)) (events.Store a (little_endian bytes) (length bytes)) events.Quiet o (record { is = h.is.0 }) (record { is = tt {0} })
 event_told P I fs (Flushes a n) o h = told_cond (flushes_lines I a n) (events.Flush (first_line I a) (lines_size I a n)) events.Quiet o (record { is = h.is }) (record { is = tt {0} })
 event_told P I fs (Persists a n) o h = told_cond (flushes_lines I a n) (events.Persist (first_line I a) (lines_size I a n)) events.Fence o (record { is = h.is }) (record { is = tt {0} })
 event_told P I fs Fences o h = record { is = tt {0} }

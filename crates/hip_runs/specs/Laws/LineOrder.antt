@@ -145,7 +145,7 @@ all_store n counts site levels o bytes ls at ordered h m l e = go (has_bytes m o
 well_cases : (P : Program) (I : Input) (n : ℕ) → AreWell n (run P I n).lines → Cases I (run P I n) (λ e ls. AreWell (suc n) ls)
 well_cases P I n h = record {
   plain = λ e p. all_later n _ h;
-  store = λ f fs t a bytes e. all_store n (run P I n).counts (site_of f) (levels_of (f ∷ fs)) (a - I.base) bytes _ (counted-steps P I n t.going) (λ m l q. ordered-at (run P I n).lines m l (lines_ordered P I n) q) h;
+  store = λ f fs t a bytes e w. all_store n (run P I n).counts (site_of f) (levels_of (f ∷ fs)) (a - I.base) bytes _ (counted-steps P I n t.going) (λ m l q. ordered-at (run P I n).lines m l (lines_ordered P I n) q) h;
   flush = λ f fs t a m e. all_later n _ (all_flush n I _ a m _ h);
   persist = λ f fs t a m e. all_later n _ (all_fence n _ (all_flush n I _ a m _ h));
   fence = all_later n _ (all_fence n _ h);

@@ -1,6 +1,8 @@
+//! Files and sinks in memory.
+
 ghost use Rattle.std.specs.Prelude.{◌≤◌};
 
-use crate::{
+use hip_io::{
     Cabinet, FailAt, FailingCabinet, Fetched, MemCabinet, MemSink, NamedFile, Put, ReadRefusal,
     Sink, read_all,
 };

@@ -1,4 +1,6 @@
-use crate::{Lines, LooseByte};
+//! Cache lines: bytes that are not durable.
+
+use hip_lines::{Lines, LooseByte};
 use std::process::Abort;
 use std::test::Fail;
 

@@ -1,4 +1,6 @@
-use crate::{NameSet, NameTable};
+//! Names: sets that number them, and tables of values.
+
+use hip_names::{NameSet, NameTable};
 use std::test::Fail;
 
 #[test]

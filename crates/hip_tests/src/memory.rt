@@ -1,4 +1,6 @@
-use crate::{MemTrap, PushRefusal, Ram, StoreRefusal};
+//! Memory: loads, stores, and blocks of the stack.
+
+use hip_mem::{MemTrap, PushRefusal, Ram, StoreRefusal};
 use std::test::Fail;
 
 const BASE: u64 = 4_294_967_296;

@@ -1,6 +1,6 @@
 -- What a table stands for that numbers names, where a name may stand there more than once: each name has the number of its first
 -- place. And its law: a table with an entry for each name in order stands for them.
-use Rattle.std.specs.Prelude.{ℕ, zero, suc, ◌+◌, ◌<◌, ◌≡◌, Bool, true, false, cond, List, [], ◌∷◌, ◌++◌, length, take, Option, Some, None, option_map, if◌then◌else◌}
+use Rattle.std.specs.Prelude.{ℕ, zero, suc, ◌+◌, ◌<◌, ◌≤◌, ◌≡◌, Bool, true, false, cond, List, [], ◌∷◌, ◌++◌, length, take, Option, Some, None, option_map, if◌then◌else◌}
 use Rattle.std.specs.Str.{bytes_eq}
 use Rattle.std.proofs.Common.{get_or, refl, sym, ap, ◌∙◌, arith}
 use Rattle.hip_names.specs.NameLaws.{bytes_eq-sym}
@@ -47,5 +47,13 @@ from_zero : (o : Option ℕ) → option_map (λ k. 0 + k) o ≡ o
 from_zero None = refl
 from_zero (Some k) = let e : 0 + k ≡ k = omega arith in ap Some e
 
-pub numbers_found : (known : List (List ℕ)) (numbers : List ℕ) (names : List (List ℕ)) → StandsFor known numbers (entries_from 0 names) → Numbers known numbers names
-numbers_found known numbers names stands = record { finds = λ name. stands.finds name ∙ found_from 0 names name ∙ from_zero _ }
+whole : (names : List (List ℕ)) (k : ℕ) → length names ≤ k → take k names ≡ names
+whole [] zero h = refl
+whole [] (suc k) h = refl
+whole (x ∷ names) zero h = absurd (omega arith)
+whole (x ∷ names) (suc k) h = ap (λ rest. x ∷ rest) (whole names k (omega arith))
+
+pub numbers_found : (known : List (List ℕ)) (numbers : List ℕ) (names : List (List ℕ)) (k : ℕ) → length names ≤ k →
+    StandsFor known numbers (entries_from 0 (take k names)) → Numbers known numbers names
+numbers_found known numbers names k h stands =
+    record { finds = λ name. stands.finds name ∙ ap (λ ns. value_of (entries_from 0 ns) name) (whole names k h) ∙ found_from 0 names name ∙ from_zero _ }

@@ -1,9 +1,9 @@
-ghost use Rattle.std.specs.Prelude.{◌≡◌, ◌++◌, IfOk, OnOk, map};
+ghost use Rattle.std.specs.Prelude.{◌≡◌, [], ◌++◌, map, IfOk, OnOk};
 ghost use Rattle.std.specs.Str.{bytes_eq};
 ghost use Rattle.hip_types.specs.Distinct.{met};
 ghost use Rattle.hip_names.specs.Names.{is_among};
 ghost use Rattle.hip_calls.specs.Fresh as spec;
-ghost use Rattle.hip_calls.specs.Fresh.{name_of, names_taken};
+ghost use Rattle.hip_calls.specs.Fresh.{name_of, names_taken, numeral};
 
 use hip_ir::{Extern, Function, GlobalVar, Program};
 use hip_names::NameSet;
@@ -50,21 +50,36 @@ fn taken_names(alloc: Global, program: &Program) -> Result<NameSet<'_>, NoMemory
     Ok(names)
 }
 
+/// Adds a number in decimal.
+fn add_number(text: &mut Name, number: usize) -> Result<(), NoMemory>
+    ensures { OnOk result (text.new ≡ text.old ++ numeral number) }
+{
+    let mut digits = [0; 40];
+    let len = natural_into(&mut digits, number as u128);
+    text.extend_from_slice(&digits[..len])
+}
+
 /// The candidate of a number: `f.pm`, `f.pm1`, `f.pm2` and so on.
 fn candidate(alloc: Global, name: &[u8], number: usize) -> Result<Name, NoMemory>
     ensures { IfOk result (λ text. text ≡ spec.candidate name.now number) }
 {
     let mut text = Row::from_slice(alloc, name)?;
     text.extend_from_slice(b".pm")?;
-    if number > 0 {
-        let mut digits = [0; 40];
-        let len = natural_into(&mut digits, number as u128);
-        text.extend_from_slice(&digits[..len])?;
+    if number == 0 {
+        return Ok(text);
     }
+    add_number(&mut text, number)?;
     Ok(text)
 }
 
-/// The first candidate that is among no names of the program and no earlier fresh names.
+/// Whether the program or an earlier copy has the name.
+fn is_taken(taken: &NameSet<'_>, earlier: &IndexSet<Name>, name: &Name) -> bool
+    ensures { result ≡ is_among (earlier.now.keys ++ taken.now) name.now }
+{
+    earlier.contains(name) || taken.contains(name.as_slice())
+}
+
+/// The first candidate that neither the program nor an earlier copy has.
 fn fresh_name(
     alloc: Global,
     taken: &NameSet<'_>,
@@ -76,7 +91,7 @@ fn fresh_name(
     let limit = taken.len() + earlier.len();
     'numbers: for number in 0..limit {
         let text = candidate(alloc, name, number)?;
-        if !earlier.contains(&text) && !taken.contains(text.as_slice()) {
+        if !is_taken(taken, earlier, &text) {
             return Ok(text);
         }
     }

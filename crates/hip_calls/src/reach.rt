@@ -1,9 +1,9 @@
-ghost use Rattle.std.specs.Prelude.{◌≡◌, nat_eq, IfOk, OnOk};
+ghost use Rattle.std.specs.Prelude.{◌≡◌, length, nat_eq, slice_get, IfOk, OnOk};
 ghost use Rattle.std.specs.List.{flat_map};
 ghost use Rattle.hip_types.specs.Distinct.{met};
 ghost use Rattle.hip_ir.specs.Sites.{instr_of};
 ghost use Rattle.hip_calls.specs.Reach as spec;
-ghost use Rattle.hip_calls.specs.Reach.{called_at, called_by, called_from};
+ghost use Rattle.hip_calls.specs.Reach.{called_at, called_by, called_from, reached};
 
 use crate::function_table::FunctionTable;
 use hip_ir::{Block, Instr, Program, Site, instr_at};
@@ -49,7 +49,7 @@ fn add_called_in_blocks(
 ) -> Result<(), NoMemory>
     ensures { OnOk result (seen.new.keys ≡ met nat_eq seen.old.keys (flat_map (λ b. flat_map (called_by functions.now) b.body) blocks.now)) }
 {
-    'blocks: for block in blocks {
+    'each: for block in blocks {
         add_called_in_body(seen, functions, block.body.as_slice())?;
     }
     Ok(())
@@ -98,6 +98,29 @@ fn first_callees(
     Ok(seen)
 }
 
+/// The number at a place of the list.
+fn number_at(seen: &IndexSet<usize>, place: usize) -> Option<usize>
+    ensures { result ≡ slice_get seen.now.keys place }
+{
+    seen.get_index(place).copied()
+}
+
+/// Adds what calls reach from the functions that are there.
+fn add_reached(
+    seen: &mut IndexSet<usize>,
+    functions: &FunctionTable<'_>,
+) -> Result<(), NoMemory>
+    ensures { OnOk result (seen.new.keys ≡ reached functions.now (length functions.now.functions) 0 seen.old.keys) }
+{
+    'places: for place in 0..functions.program().functions.len() {
+        match number_at(seen, place) {
+            Some(number) => add_called_from(seen, functions, number)?,
+            None => return Ok(()),
+        }
+    }
+    Ok(())
+}
+
 /// The numbers of the defined functions that calls reach from the calls at these sites, their callees included, each once,
 /// in the order of first meeting by breadth. A site that is no call of a defined function adds none.
 ///
@@ -107,11 +130,6 @@ pub fn callees(alloc: Global, program: &Program, calls: &[Site]) -> Result<Row<u
 {
     let functions = FunctionTable::new(alloc, program)?;
     let mut seen = first_callees(alloc, &functions, calls)?;
-    'places: for place in 0..program.functions.len() {
-        match seen.as_slice().get(place).copied() {
-            Some(number) => add_called_from(&mut seen, &functions, number)?,
-            None => break,
-        }
-    }
+    add_reached(&mut seen, &functions)?;
     Row::from_slice(alloc, seen.as_slice())
 }

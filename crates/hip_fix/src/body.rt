@@ -1,7 +1,6 @@
-ghost use Rattle.std.specs.Prelude.{◌≡◌, [], ◌∷◌, ◌||◌, ◌&&◌, IfOk, OnOk, true, false, cond, not};
-ghost use Rattle.hip_fix.specs.Repaired as spec;
-ghost use Rattle.hip_fix.specs.Repaired.{flush_of, fence_behind, flush_behind, inserted_behind, renamed, repaired_body, the_fence, instrs_of};
-ghost use Rattle.hip_fix.specs.Walk.{grown, noted, wanted_in};
+ghost use Rattle.std.specs.Prelude.{◌≡◌, [], ◌∷◌, true, false, IfOk, OnOk};
+ghost use Rattle.hip_fix.specs.Repaired.{flush_behind, flush_of, renamed, the_fence};
+ghost use Rattle.hip_fix.specs.Walk.{grown, repaired_at, wanted_in};
 
 use crate::clones::CloneTable;
 use crate::inserted::{fence, is_wide, line_flush, range_flush};

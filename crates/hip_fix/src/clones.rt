@@ -1,4 +1,4 @@
-ghost use Rattle.std.specs.Prelude.{◌≡◌, ◌+◌, IfOk, length, map};
+ghost use Rattle.std.specs.Prelude.{◌≡◌, IfOk, map, unwrap_or, slice_get};
 ghost use Rattle.hip_calls.specs.Fresh.{name_of};
 ghost use Rattle.hip_calls.specs.Numbered.{Numbers};
 ghost use Rattle.hip_fix.specs.Repaired.{clone_name, clones_from};

@@ -23,16 +23,16 @@ use Rattle.hip_runs.specs.Step.{stop, with_turn, leave, perform, carry_out, on_f
 
 -- ---- the longest body
 
-abbrev longest_block : List Block → ℕ
+abbrev pub longest_block : List Block → ℕ
 longest_block [] = 0
 longest_block (b ∷ bs) = max (length b.body) (longest_block bs)
 
-abbrev longest_in : List Function → ℕ
+abbrev pub longest_in : List Function → ℕ
 longest_in [] = 0
 longest_in (f ∷ fs) = max (longest_block f.blocks) (longest_in fs)
 
 -- the length of the longest body of a program's blocks
-abbrev longest : Program → ℕ
+abbrev pub longest : Program → ℕ
 longest P = longest_in P.functions
 
 block_short : (bs : List Block) (b : ℕ) → length (body_of (slice_get bs b)) ≤ longest_block bs
@@ -50,10 +50,10 @@ drop_short zero xs = omega arith
 drop_short (suc k) [] = omega arith
 drop_short (suc k) (x ∷ xs) = omega (arith, drop_short k xs)
 
-code_short : (P : Program) (f : Frame) → length (code_at P f) ≤ longest P
+pub code_short : (P : Program) (f : Frame) → length (code_at P f) ≤ longest P
 code_short P f = omega (arith, drop_short f.place (body_at P f.function f.block), body_short P.functions f.function f.block)
 
-drop_next : {A : Type 0} (xs : List A) (k : ℕ) (x : A) (ys : List A) → drop k xs ≡ x ∷ ys → drop (suc k) xs ≡ ys
+pub drop_next : {A : Type 0} (xs : List A) (k : ℕ) (x : A) (ys : List A) → drop k xs ≡ x ∷ ys → drop (suc k) xs ≡ ys
 drop_next [] zero x ys e = cc
 drop_next [] (suc k) x ys e = cc
 drop_next (y ∷ xs) zero x ys e = cc
@@ -62,7 +62,7 @@ drop_next (y ∷ xs) (suc k) x ys e = drop_next xs k x ys e
 -- ---- what a step does
 
 -- The run has ended, or a turn more was taken, which the limit allowed, or the top frame has one instruction less to do.
-data Goes (P : Program) (I : Input) (turns left : ℕ) (s : State) : Type 0 where
+pub data Goes (P : Program) (I : Input) (turns left : ℕ) (s : State) : Type 0 where
   ended : has_ended s ≡ true → Goes P I turns left s
   turned : (f : Frame) (fs : List Frame) → s.frames ≡ f ∷ fs → s.world.turns ≡ suc turns → turns < I.limit → Goes P I turns left s
   moved : (f : Frame) (fs : List Frame) → s.frames ≡ f ∷ fs → s.world.turns ≡ turns → suc (length (code_at P f)) ≡ left → Goes P I turns left s
@@ -180,10 +180,10 @@ step_goes P I s f fs going frames =
 -- ---- the end
 
 -- how many steps are left at most: for each turn that the limit still allows one body, and what the top frame has to do
-abbrev steps_left : Program → Input → ℕ → ℕ → ℕ
+abbrev pub steps_left : Program → Input → ℕ → ℕ → ℕ
 steps_left P I turns left = (I.limit - turns) * suc (longest P) + left
 
-more_turns : (limit turns b : ℕ) → turns < limit → (limit - suc turns) * suc b + b < (limit - turns) * suc b
+pub more_turns : (limit turns b : ℕ) → turns < limit → (limit - suc turns) * suc b + b < (limit - turns) * suc b
 more_turns limit turns b h =
     let e : limit - turns ≡ suc (limit - suc turns) = omega arith in
     rw e (omega arith)
@@ -208,7 +208,7 @@ module _ (P : Program) (I : Input) where
       rest g gs frames (subst (λ (n : ℕ). steps_left P I n (length (code_at P g)) < m) (sym t)
       (less_moved ((I.limit - turns) * suc (longest P)) left (length (code_at P g)) m lt l))
 
-  next_goes : (n : ℕ) (f : Frame) (fs : List Frame) → (run P I n).world.ending ≡ None → (run P I n).frames ≡ f ∷ fs → Goes P I (run P I n).world.turns (length (code_at P f)) (run P I (suc n))
+  pub next_goes : (n : ℕ) (f : Frame) (fs : List Frame) → (run P I n).world.ending ≡ None → (run P I n).frames ≡ f ∷ fs → Goes P I (run P I n).world.turns (length (code_at P f)) (run P I (suc n))
   unfolding run
   next_goes n f fs going frames = step_goes P I (run P I n) f fs going frames
 

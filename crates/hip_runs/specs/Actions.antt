@@ -67,7 +67,7 @@ pub data Action : Type 0 where
 
 -- ---- addresses that are valid
 
-abbrev is_within : ℕ → ℕ → ℕ → ℕ → Bool
+abbrev pub is_within : ℕ → ℕ → ℕ → ℕ → Bool
 is_within from to a n = nat_le from a && nat_le (a + n) to
 
 -- whether n bytes from address a on lie in the region
@@ -89,7 +89,7 @@ accessed P I w a n align go = cond (nat_eq (a % align) 0) (cond (are_valid P I w
 
 -- ---- values
 
-abbrev trap_of : NumTrap → TrapKind
+abbrev pub trap_of : NumTrap → TrapKind
 trap_of num_traps.DivZero = traps.DivZero
 trap_of num_traps.DivOverflow = traps.DivOverflow
 trap_of num_traps.ShiftRange = traps.ShiftRange
@@ -99,12 +99,12 @@ calculated dest (Ok b) = Assigns (Some dest) b.value
 calculated dest (Err trap) = Traps (trap_of trap)
 
 -- 1 for what holds
-abbrev truth : Bool → ℕ
+abbrev pub truth : Bool → ℕ
 truth true = 1
 truth false = 0
 
 -- `zext` and `inttoptr` put zeros in front, `trunc` and `ptrtoint` take the number modulo 2^N, `sext` puts the sign in front.
-abbrev cast_value : CastOp → Scalar → Scalar → ℕ → ℕ
+abbrev pub cast_value : CastOp → Scalar → Scalar → ℕ → ℕ
 cast_value casts.Sext from to v = (widened (bits (width_of from) v) (width_of to) true).value
 cast_value casts.Zext from to v = v % modulus (width_of to)
 cast_value casts.Trunc from to v = v % modulus (width_of to)
@@ -112,14 +112,14 @@ cast_value casts.Ptrtoint from to v = v % modulus (width_of to)
 cast_value casts.Inttoptr from to v = v % modulus (width_of to)
 
 -- an index of an integer type, sign-extended to 64 bits
-abbrev index_value : Scalar → ℕ → ℕ
-index_value s v = wrapped W64 (signed (width_of s) v)
+abbrev pub index_value : Scalar → ℕ → ℕ
+index_value s v = wrapped W64 (signed (width_of s) (bits (width_of s) v).value)
 
-abbrev index_values : List GlobalVar → ℕ → Registers → List Arg → List ℕ
+abbrev pub index_values : List GlobalVar → ℕ → Registers → List Arg → List ℕ
 index_values globals base registers args = map (λ a. index_value a.ty (value_of globals base registers a.value)) args
 
 -- the value that bytes in memory give under a scalar type: an i1 is the lowest bit
-abbrev read_value : Scalar → List ℕ → ℕ
+abbrev pub read_value : Scalar → List ℕ → ℕ
 read_value s bytes = little_endian bytes % modulus (width_of s)
 
 -- ---- the stack
@@ -131,7 +131,7 @@ allocated w dest size align =
 
 -- ---- calls
 
-abbrev bound_call : Option Function → ℕ → List ℕ → Option (List ℕ) → Action
+abbrev pub bound_call : Option Function → ℕ → List ℕ → Option (List ℕ) → Action
 bound_call None g values dest = Traps traps.Unreachable
 bound_call (Some f) g values dest = Calls g (bound f.params values) dest
 
@@ -144,7 +144,7 @@ numbered_call P (Some g) values dest = bound_call (slice_get P.functions g) g va
 unfoldable pub entered : Program → ℕ → List ℕ → List ℕ → Option (List ℕ) → Action
 entered P below callee values dest = cond (nat_lt below 16383) (numbered_call P (function_number P callee) values dest) (Traps traps.Depth)
 
-abbrev arg_value : List ℕ → ℕ → ℕ
+abbrev pub arg_value : List ℕ → ℕ → ℕ
 arg_value values k = unwrap_or (slice_get values k) 0
 
 -- the flush of a range: none of a range without bytes, and a trap where some byte is not valid
@@ -184,7 +184,7 @@ unfoldable pub instr_action : Program → Input → World → ℕ → Registers 
 instr_action P I w below rs (Binary dest op flags width a b) =
     calculated dest (binary_of op (bits width (value_of P.globals I.base rs a)) (bits width (value_of P.globals I.base rs b)))
 instr_action P I w below rs (Compare dest pred ty a b) =
-    Assigns (Some dest) (truth (holds pred (width_of ty) (value_of P.globals I.base rs a) (value_of P.globals I.base rs b)))
+    Assigns (Some dest) (truth (holds pred (width_of ty) (bits (width_of ty) (value_of P.globals I.base rs a)).value (bits (width_of ty) (value_of P.globals I.base rs b)).value))
 instr_action P I w below rs (Select dest test ty a b) =
     Assigns (Some dest) (cond (nat_eq (value_of P.globals I.base rs test) 1) (value_of P.globals I.base rs a) (value_of P.globals I.base rs b))
 instr_action P I w below rs (Cast dest op from a to) = Assigns (Some dest) (cast_value op from to (value_of P.globals I.base rs a))
@@ -202,7 +202,7 @@ instr_action P I w below rs (Call dest ret callee args) = call_action P I w belo
 -- ---- ends of blocks
 
 -- the operand that a phi has for control that comes from the block with a label
-abbrev edge_value : List GlobalVar → ℕ → Registers → List Edge → List ℕ → ℕ
+abbrev pub edge_value : List GlobalVar → ℕ → Registers → List Edge → List ℕ → ℕ
 edge_value globals base rs [] from = 0
 edge_value globals base rs (e ∷ es) from = cond (bytes_eq e.label from) (value_of globals base rs e.value) (edge_value globals base rs es from)
 
@@ -221,11 +221,11 @@ unfoldable pub jump : Program → Input → Frame → List ℕ → Action
 jump P I f label = jump_to P I f (block_number (blocks_of P f.function) label)
 
 -- the label of the case with the value, else the other one
-abbrev case_label : ℕ → List Case → List ℕ → List ℕ
+abbrev pub case_label : ℕ → List Case → List ℕ → List ℕ
 case_label v [] other = other
 case_label v (c ∷ cs) other = cond (nat_eq c.value.value v) c.label (case_label v cs other)
 
-abbrev returned : List GlobalVar → ℕ → Registers → Option Arg → ℕ
+abbrev pub returned : List GlobalVar → ℕ → Registers → Option Arg → ℕ
 returned globals base rs None = 0
 returned globals base rs (Some arg) = value_of globals base rs arg.value
 

@@ -10,11 +10,12 @@ use Rattle.hip_runs.specs.declared.event.Ending.{Ending}
 use Rattle.hip_runs.specs.declared.event.Ending.TheVariants.{Cut}
 use Rattle.hip_runs.specs.declared.input.Input.{Input}
 use Rattle.hip_runs.specs.Actions.{Action, Traps, Assigns, Allocates, Stores, Flushes, Persists, Fences, Asserts, Prints, Reads, Calls, Jumps, Returns, Deed}
-use Rattle.hip_runs.specs.Ends.{longest, code_short, steps_left, more_turns, Goes, ended, turned, moved, next_goes}
+use Rattle.hip_runs.specs.Ends.{longest, steps_left}
+use Rattle.hip_runs.specs.Laws.EndLaws.{code_short, more_turns, Goes, ended, turned, moved, next_goes}
 use Rattle.hip_runs.specs.Places.{code_at}
 use Rattle.hip_runs.specs.State.{StorePart, Frame, World, Counts, State}
 use Rattle.hip_runs.specs.Step.{stop, with_turn, leave, perform, is_cut, carry_out, deed_at, on_frames, on_ending, step, event_at, has_entry, counted, image_lines, header_entries, start_frame, main_number, run}
-use Rattle.hip_runs.specs.StepLaws.{standing-frame, counted-steps}
+use Rattle.hip_runs.specs.Laws.StepLaws.{standing-frame, counted-steps}
 use Rattle.hip_runs.specs.Validity.{IsValid}
 use Rattle.hip_invariants.specs.Bounds.{IsBounded, CountsFit}
 use Rattle.hip_invariants.specs.Laws.Places.{first_frame}

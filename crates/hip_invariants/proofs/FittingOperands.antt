@@ -28,7 +28,7 @@ use Rattle.hip_runs.specs.Operands.{value_of, width_of}
 use Rattle.hip_runs.specs.Places.{block_at, body_of, end_of, body_at, code_at, end_at}
 use Rattle.hip_runs.specs.State.{Registers, Frame}
 use Rattle.hip_runs.specs.Step.{numbered_main, main_number, run}
-use Rattle.hip_runs.specs.StepLaws.{IsTop}
+use Rattle.hip_runs.specs.Laws.StepLaws.{IsTop}
 use Rattle.hip_runs.specs.Validity.{IsValid}
 use Rattle.hip_invariants.specs.FrameFacts.{frames_hold}
 use Rattle.hip_invariants.specs.Laws.InstrFacts.{fact_holds}

@@ -42,7 +42,7 @@ use Rattle.hip_runs.specs.Actions.{index_value, index_values, edge_value, return
 use Rattle.hip_runs.specs.Operands.{value_of, values_of, bound}
 use Rattle.hip_runs.specs.State.{Registers, Frame, World}
 use Rattle.hip_runs.specs.Step.{run}
-use Rattle.hip_runs.specs.StepLaws.{IsTop}
+use Rattle.hip_runs.specs.Laws.StepLaws.{IsTop}
 use Rattle.hip_runs.specs.Validity.{IsValid}
 use Rattle.hip_invariants.specs.Laws.InstrFacts.{instr_fact, fact_holds}
 use Rattle.hip_invariants.specs.Laws.RegisterFacts.{each_told, ValuesHold, each_value, assigned_fact, fact_of_value, values_in_frames}

@@ -31,7 +31,7 @@ use Rattle.hip_runs.specs.Persistence.{flushes_lines}
 use Rattle.hip_runs.specs.Places.{blocks_in, block_at, body_of, end_of, label_of, body_at, code_at, end_at}
 use Rattle.hip_runs.specs.State.{Frame, State}
 use Rattle.hip_runs.specs.Step.{first_line, lines_size, event_of, is_cut, event_at, deed_at, event_on_frames, event_on_ending, event, numbered_main, main_number, run}
-use Rattle.hip_runs.specs.StepLaws.{IsTop, has_frame, standing-frame}
+use Rattle.hip_runs.specs.Laws.StepLaws.{IsTop, has_frame, standing-frame}
 use Rattle.hip_invariants.specs.FrameFacts.{frames_hold}
 use Rattle.hip_invariants.specs.Laws.Frames.{IsInvariant, invariant_holds}
 use Rattle.hip_invariants.specs.Laws.Places.{get_drop}

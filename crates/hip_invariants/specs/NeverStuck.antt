@@ -19,7 +19,7 @@ use Rattle.hip_runs.specs.declared.input.Input.{Input}
 use Rattle.hip_runs.specs.Places.{block_at, label_of, code_at, end_at}
 use Rattle.hip_runs.specs.State.{Frame}
 use Rattle.hip_runs.specs.Step.{event, main_number, run}
-use Rattle.hip_runs.specs.StepLaws.{IsTop}
+use Rattle.hip_runs.specs.Laws.StepLaws.{IsTop}
 use Rattle.hip_runs.specs.Validity.{IsValid}
 use Rattle.hip_invariants.specs.FrameFacts.{frames_hold}
 use Rattle.hip_invariants.specs.Reached.{assigned_names, StandsAtUnreachable, top_is_reached, caller_is_reached}

@@ -21,7 +21,7 @@ use Rattle.hip_runs.specs.Operands.{value_of, width_of}
 use Rattle.hip_runs.specs.Places.{block_at, code_at, end_at}
 use Rattle.hip_runs.specs.State.{Registers, Frame}
 use Rattle.hip_runs.specs.Step.{run}
-use Rattle.hip_runs.specs.StepLaws.{IsTop}
+use Rattle.hip_runs.specs.Laws.StepLaws.{IsTop}
 use Rattle.hip_invariants.specs.FrameFacts.{each_register}
 
 abbrev pub type_in : Option Function → List ℕ → Option (Option Scalar)

@@ -6,7 +6,7 @@ ghost use Rattle.hip_typing.specs.Sound.{IsSound};
 ghost use Rattle.hip_runs.specs.Ends.{longest};
 ghost use Rattle.hip_runs.specs.State.{Frame};
 ghost use Rattle.hip_runs.specs.Step.{run};
-ghost use Rattle.hip_runs.specs.StepLaws.{IsTop};
+ghost use Rattle.hip_runs.specs.Laws.StepLaws.{IsTop};
 ghost use Rattle.hip_runs.specs.Validity.{IsValid};
 ghost use Rattle.hip_runs.specs.declared.input.Input.{Input};
 ghost use Rattle.hip_invariants.specs.Bounds.{CountsFit, IsBounded};

@@ -12,13 +12,6 @@ pub mod Marks
 pub mod Scores
 pub mod Parts
 pub mod History
-pub mod PartLaws
-pub mod HistoryLaws
-pub mod Ends
-pub mod StepLaws
 pub mod Since
-pub mod CrashLaws
-pub mod DurableLaws
-pub mod SinceLaws
-pub mod OrderLaws
-pub mod StoreLaws
+pub mod Ends
+pub mod Laws

@@ -28,7 +28,7 @@ use Rattle.hip_runs.specs.Step.{event, run, has_ended}
 
 -- ---- pointer operands
 
-abbrev pointer_arg : Arg → List Operand
+abbrev pub pointer_arg : Arg → List Operand
 pointer_arg a = pointed_by a.ty a.value
   where
     pointed_by : Scalar → Operand → List Operand
@@ -53,15 +53,15 @@ same_mark a b = same_site a.site b.site && (nat_eq a.operand b.operand && same_o
 
 -- ---- the marks of a step
 
-abbrev mark_of : Site → ℕ → Option Object → List Mark
+abbrev pub mark_of : Site → ℕ → Option Object → List Mark
 mark_of site k None = []
 mark_of site k (Some object) = record { site = site; operand = k; object = object } ∷ []
 
-abbrev operand_marks : Program → Input → List Frame → Frame → ℕ → List Operand → List Mark
+abbrev pub operand_marks : Program → Input → List Frame → Frame → ℕ → List Operand → List Mark
 operand_marks P I fs f k [] = []
 operand_marks P I fs f k (o ∷ os) = mark_of (site_of f) k (object_at P I.base fs (value_of P.globals I.base f.registers o)) ++ operand_marks P I fs f (suc k) os
 
-abbrev code_marks : Program → Input → List Frame → Frame → List Instr → List Mark
+abbrev pub code_marks : Program → Input → List Frame → Frame → List Instr → List Mark
 code_marks P I fs f [] = []
 code_marks P I fs f (i ∷ rest) = operand_marks P I fs f 0 (pointer_operands P i)
 
@@ -74,7 +74,7 @@ abbrev pub unless_ended : {A : Type 0} → Event → List A → List A
 unless_ended (events.End e) xs = []
 unless_ended _ xs = xs
 
-abbrev step_marks : Program → Input → State → List Mark
+abbrev pub step_marks : Program → Input → State → List Mark
 step_marks P I s = cond (has_ended s) [] (unless_ended (event P I s) (frame_marks P I s.frames))
 
 -- the persistent global that a store's address lies in; a store's event is of the region, where no other global lies

@@ -15,12 +15,12 @@ use Rattle.hip_runs.specs.declared.report.Marks.{Marks}
 use Rattle.hip_runs.specs.Marks.{pointer_operands}
 
 -- a persistent global that was stored into is marked; blocks on the stack and other globals are not
-abbrev is_marked : List ℕ → Object → Bool
+abbrev pub is_marked : List ℕ → Object → Bool
 is_marked hit (objects.Global g) = list_any (nat_eq g) hit
 is_marked hit (objects.Slot s) = false
 
 -- the number of marked objects less the number of the others, of the objects that an operand pointed into
-abbrev worth_in : List ℕ → Site → ℕ → List Mark → ℤ → ℤ
+abbrev pub worth_in : List ℕ → Site → ℕ → List Mark → ℤ → ℤ
 worth_in hit site operand [] sum = sum
 worth_in hit site operand (m ∷ ms) sum =
     worth_in hit site operand ms (cond (same_site m.site site && nat_eq m.operand operand) (sum +ℤ worth_of (is_marked hit m.object)) sum)
@@ -33,15 +33,15 @@ worth_in hit site operand (m ∷ ms) sum =
 abbrev pub worth : Marks → Site → ℕ → ℤ
 worth marks site operand = worth_in marks.hit site operand marks.pointed (pos 0)
 
-abbrev greater : ℤ → Option ℤ → Option ℤ
+abbrev pub greater : ℤ → Option ℤ → Option ℤ
 greater a None = Some a
 greater a (Some b) = Some (cond (int_lt a b) b a)
 
-abbrev greatest_worth : Marks → Site → ℕ → List Operand → Option ℤ
+abbrev pub greatest_worth : Marks → Site → ℕ → List Operand → Option ℤ
 greatest_worth marks site k [] = None
 greatest_worth marks site k (o ∷ os) = greater (worth marks site k) (greatest_worth marks site (suc k) os)
 
-abbrev operands_at : Program → Option Instr → List Operand
+abbrev pub operands_at : Program → Option Instr → List Operand
 operands_at P None = []
 operands_at P (Some i) = pointer_operands P i
 

@@ -162,7 +162,7 @@ numbered_main (Some f) = f
 abbrev pub main_number : Program → ℕ
 main_number P = numbered_main (function_number P (codes "main"))
 
-abbrev some_byte : List ℕ → Bool
+abbrev pub some_byte : List ℕ → Bool
 some_byte [] = false
 some_byte (zero ∷ bs) = some_byte bs
 some_byte (suc b ∷ bs) = true

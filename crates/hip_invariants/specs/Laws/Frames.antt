@@ -11,7 +11,7 @@ use Rattle.hip_runs.specs.declared.input.Input.{Input}
 use Rattle.hip_runs.specs.Actions.{Action, Traps, Assigns, Allocates, Stores, Flushes, Persists, Fences, Asserts, Prints, Reads, Calls, Jumps, Returns, Deed}
 use Rattle.hip_runs.specs.State.{Registers, Level, StorePart, Frame, World, Counts, State}
 use Rattle.hip_runs.specs.Step.{stop, with_turn, next, with_register, with_slot, leave, perform, is_cut, carry_out, deed_at, on_frames, on_ending, step, event_at, counted, start_frame, main_number, run}
-use Rattle.hip_runs.specs.StepLaws.{IsTop}
+use Rattle.hip_runs.specs.Laws.StepLaws.{IsTop}
 use Rattle.hip_invariants.specs.FrameFacts.{frames_hold}
 
 -- the frame that a call makes, and a frame that goes to another block

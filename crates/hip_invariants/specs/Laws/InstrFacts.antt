@@ -27,7 +27,7 @@ use Rattle.hip_runs.specs.Actions.{Action, Traps, Assigns, Allocates, Stores, Fl
 use Rattle.hip_runs.specs.Operands.{value_of, values_of, bound, scalar_size, width_of}
 use Rattle.hip_runs.specs.State.{Registers, Frame, World}
 use Rattle.hip_runs.specs.Step.{run}
-use Rattle.hip_runs.specs.StepLaws.{IsTop}
+use Rattle.hip_runs.specs.Laws.StepLaws.{IsTop}
 use Rattle.hip_invariants.specs.Laws.InstrActions.{leaves_registers, instr_cases, of_instr_action}
 use Rattle.hip_invariants.specs.Laws.RegisterFacts.{ValuesHold, assigned_fact, WaitsFor, GivesFacts, values_in_frames, actions_keep_facts}
 

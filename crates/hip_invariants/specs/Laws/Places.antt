@@ -19,7 +19,7 @@ use Rattle.hip_runs.specs.Operands.{look_up, assigned}
 use Rattle.hip_runs.specs.Places.{blocks_in, block_at, body_of, end_of, phis_of, label_of, body_at, code_at, end_at}
 use Rattle.hip_runs.specs.State.{Registers, Frame}
 use Rattle.hip_runs.specs.Step.{main_number, run}
-use Rattle.hip_runs.specs.StepLaws.{IsTop, has_frame}
+use Rattle.hip_runs.specs.Laws.StepLaws.{IsTop, has_frame}
 
 pub get_drop : {A : Type 0} (xs : List A) (k : ℕ) (x : A) (ys : List A) → drop k xs ≡ x ∷ ys → slice_get xs k ≡ Some x
 get_drop [] zero x ys e = cc

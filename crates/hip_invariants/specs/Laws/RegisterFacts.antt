@@ -20,7 +20,7 @@ use Rattle.hip_runs.specs.Operands.{look_up, assigned}
 use Rattle.hip_runs.specs.Places.{blocks_in, block_at, body_of, end_of, phis_of, label_of, body_at, code_at, end_at}
 use Rattle.hip_runs.specs.State.{Registers, Frame}
 use Rattle.hip_runs.specs.Step.{main_number, run}
-use Rattle.hip_runs.specs.StepLaws.{IsTop}
+use Rattle.hip_runs.specs.Laws.StepLaws.{IsTop}
 use Rattle.hip_invariants.specs.FrameFacts.{below_hold, frames_hold, each_register}
 use Rattle.hip_invariants.specs.Laws.Frames.{keeps, IsInvariant, invariant_holds}
 use Rattle.hip_invariants.specs.Laws.Places.{get_drop, block_there}

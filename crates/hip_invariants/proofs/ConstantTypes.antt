@@ -1,8 +1,7 @@
 -- The value of a constant fits the scalar type that it has the shape of; addresses of globals are below 2^64.
-use Rattle.std.proofs.Common.{◌≡◌, ℕ, zero, suc, ◌+◌, ◌≤◌, ◌<◌, ◌^◌, Bool, true, false, List, [], ◌∷◌, map, Option, Some, None, option_map, refl, sym, ap, ◌∙◌, arith}
+use Rattle.std.proofs.Common.{◌≡◌, ℕ, ◌+◌, ◌≤◌, ◌<◌, ◌^◌, Bool, true, false, List, map, Option, Some, None, option_map, refl, sym, ap, ◌∙◌, arith}
 use Rattle.std.specs.Prelude.{unwrap_or, if◌then◌else◌}
 use Rattle.std.proofs.Math.Nat.{mod-lt}
-use Rattle.hip_types.specs.Layout.{shape}
 use Rattle.hip_types.specs.LayoutLaws.{next-le}
 use Rattle.hip_types.specs.Numbers.{modulus, modulus_pos}
 use Rattle.hip_types.specs.declared.number.Scalar.{Scalar}
@@ -16,11 +15,10 @@ use Rattle.hip_ir.specs.declared.constant.Const.TheOpen.{Const-F}
 use Rattle.hip_ir.specs.declared.constant.Const.TheFolds.{fold-ConstGep, fold-roll-Const, fold_out-ConstGep}
 use Rattle.hip_ir.specs.declared.constant.ConstGep.{ConstGep}
 use Rattle.hip_ir.specs.declared.constant.TypedConst.{TypedConst}
-use Rattle.hip_ir.specs.declared.program.GlobalVar.{GlobalVar}
 use Rattle.hip_ir.specs.declared.program.Program.{Program}
 use Rattle.hip_mem.specs.Memory.{volatile_start}
 use Rattle.hip_names.specs.Names.{number_of}
-use Rattle.hip_typing.specs.Addresses.{IsBase, same, global_align, global_start, end_of, start_of, is_persistent, address_in}
+use Rattle.hip_typing.specs.Addresses.{IsBase, end_of, start_of, is_persistent, address_in}
 use Rattle.hip_typing.specs.Constants.{has_shape}
 use Rattle.hip_typing.specs.Laws.AddressLaws.{spelled-divide, end_of-from}
 use Rattle.hip_typing.specs.Laws.TypeLaws.{same_width-equal}

@@ -5,7 +5,6 @@ use Rattle.std.proofs.Math.Nat.{mod-eq_of_lt}
 use Rattle.std.proofs.lemmas.List.Elements.{All-weaker}
 use Rattle.std.proofs.lemmas.Option.{same_Some}
 use Rattle.hip_types.specs.Numbers.{bits, modulus, signed, wrapped}
-use Rattle.hip_types.specs.declared.number.Pred.{Pred}
 use Rattle.hip_types.specs.declared.number.Scalar.{Scalar}
 use Rattle.hip_types.specs.declared.number.Scalar.TheVariants.{Int}
 use Rattle.hip_types.specs.declared.number.Width.{Width}
@@ -13,7 +12,6 @@ use Rattle.hip_types.specs.declared.number.Width.TheVariants.{W32, W64}
 use Rattle.hip_ir.specs.declared.block.Block.{Block}
 use Rattle.hip_ir.specs.declared.block.End.{End}
 use Rattle.hip_ir.specs.declared.block.End.TheVariants as ends
-use Rattle.hip_ir.specs.declared.block.Phi.{Phi}
 use Rattle.hip_ir.specs.declared.instr.Arg.{Arg}
 use Rattle.hip_ir.specs.declared.instr.Instr.{Instr}
 use Rattle.hip_ir.specs.declared.program.Function.{Function}
@@ -23,10 +21,10 @@ use Rattle.hip_typing.specs.Laws.GivenLaws.{sound-operands}
 use Rattle.hip_typing.specs.Registers.{Use, instr_uses, end_uses, phi_uses}
 use Rattle.hip_typing.specs.Sound.{IsSound, IsTyped, EndItem, own_types_agree}
 use Rattle.hip_runs.specs.declared.input.Input.{Input}
-use Rattle.hip_runs.specs.Actions.{index_value, returned}
-use Rattle.hip_runs.specs.Operands.{value_of, width_of}
-use Rattle.hip_runs.specs.Places.{block_at, body_of, end_of, body_at, code_at, end_at}
-use Rattle.hip_runs.specs.State.{Registers, Frame}
+use Rattle.hip_runs.specs.Actions.{returned}
+use Rattle.hip_runs.specs.Operands.{width_of}
+use Rattle.hip_runs.specs.Places.{block_at, body_of, end_of, body_at, end_at}
+use Rattle.hip_runs.specs.State.{Frame}
 use Rattle.hip_runs.specs.Step.{numbered_main, main_number, run}
 use Rattle.hip_runs.specs.Laws.StepLaws.{IsTop}
 use Rattle.hip_runs.specs.Validity.{IsValid}

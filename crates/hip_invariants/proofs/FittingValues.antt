@@ -3,7 +3,7 @@ use Rattle.std.proofs.Common.{◌≡◌, ◌⊎◌, inl, inr, ℕ, suc, ◌<◌,
 use Rattle.std.specs.Prelude.{Result, Ok, Err, All}
 use Rattle.std.proofs.Math.Nat.{mod-lt}
 use Rattle.std.proofs.lemmas.List.Elements.{All-head, All-tail}
-use Rattle.std.proofs.lemmas.Option.{same_Some, slice_get-map}
+use Rattle.std.proofs.lemmas.Option.{same_Some}
 use Rattle.hip_types.specs.Numbers.{bits, modulus, modulus_pos, wrapped, wrapped-lt}
 use Rattle.hip_types.specs.declared.number.Bits.{Bits}
 use Rattle.hip_types.specs.declared.number.CastOp.{CastOp}
@@ -27,27 +27,25 @@ use Rattle.hip_ir.specs.declared.program.Program.{Program}
 use Rattle.hip_num.specs.Arithmetic.{modulo}
 use Rattle.hip_num.specs.declared.arithmetic.NumTrap.{NumTrap}
 use Rattle.hip_names.specs.Names.{AllDiffer}
-use Rattle.hip_names.specs.NumberLaws.{number_of-there}
-use Rattle.hip_typing.specs.Externs.{signature, call_of}
+use Rattle.hip_typing.specs.Externs.{signature}
 use Rattle.hip_typing.specs.Given.{CallsFunction, CallsExtern}
 use Rattle.hip_typing.specs.Laws.Decided.{all-at}
 use Rattle.hip_typing.specs.Laws.GivenLaws.{sound-operands, sound-calls}
-use Rattle.hip_typing.specs.Numbering.{function_names}
 use Rattle.hip_typing.specs.Registers.{Register, Use, find_register, registers_of, assigned_by, instr_uses, end_uses, arg_uses, edge_uses}
-use Rattle.hip_typing.specs.Sound.{IsSound, IsBlockAt, IsTyped, IsFree, EndItem, own_types_agree, names_in_function, operand_is_typed}
+use Rattle.hip_typing.specs.Sound.{IsSound, IsBlockAt, IsTyped, EndItem, own_types_agree, names_in_function, operand_is_typed}
 use Rattle.hip_typing.specs.declared.externs.ExternCall.TheVariants as calls
 use Rattle.hip_runs.specs.declared.input.Input.{Input}
 use Rattle.hip_runs.specs.Actions.{truth, cast_value, edge_value, returned}
 use Rattle.hip_runs.specs.Operands.{look_up, value_of, values_of, bound, width_of}
 use Rattle.hip_runs.specs.Parts.{In}
-use Rattle.hip_runs.specs.State.{Registers, Frame, World}
+use Rattle.hip_runs.specs.State.{Registers, World}
 use Rattle.hip_runs.specs.Step.{run}
 use Rattle.hip_runs.specs.Validity.{IsValid}
 use Rattle.hip_invariants.specs.Laws.InstrFacts.{CallFact, instr_fact, KeepsFact, fact_holds}
-use Rattle.hip_invariants.specs.Laws.RegisterFacts.{each_told, ValuesHold, each_value, assigned_fact, WaitsFor, fact_of_value, values_in_frames}
+use Rattle.hip_invariants.specs.Laws.RegisterFacts.{each_told, ValuesHold, each_value, assigned_fact, WaitsFor, fact_of_value}
 use Rattle.hip_invariants.proofs.ConstantTypes.{constant_fits}
 use Rattle.hip_invariants.proofs.RegisterTypes.{assigned_type, phi_type, parameter_type}
-use Rattle.hip_invariants.specs.Types.{type_in, register_type, fits_type, FitsType, result_in, FitsResult, RegistersFit}
+use Rattle.hip_invariants.specs.Types.{type_in, fits_type, FitsType, result_in, FitsResult, RegistersFit}
 use Rattle.hip_invariants.proofs.Callees.{function_free}
 
 none_fits : (t : Option (Option Scalar)) → fits_type t 0

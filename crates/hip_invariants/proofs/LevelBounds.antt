@@ -10,13 +10,11 @@ use Rattle.hip_types.specs.Numbers.{wrapped}
 use Rattle.hip_types.specs.declared.number.Scalar.{Scalar}
 use Rattle.hip_types.specs.declared.number.Width.TheVariants.{W64}
 use Rattle.hip_types.specs.declared.ty.Ty.{Ty}
-use Rattle.hip_ir.specs.declared.block.Block.{Block}
 use Rattle.hip_ir.specs.declared.block.Edge.{Edge}
 use Rattle.hip_ir.specs.declared.block.End.TheVariants as ends
-use Rattle.hip_ir.specs.declared.block.Phi.{Phi}
 use Rattle.hip_ir.specs.declared.constant.Const.{Const, out-Const, roll-Const, roll-out-Const}
-use Rattle.hip_ir.specs.declared.constant.Const.TheOpen.{Const-F, ConstGep-F, TypedConst-F}
-use Rattle.hip_ir.specs.declared.constant.Const.TheFolds.{fold-Const, fold-ConstGep, map-Const, ind-Const, fold-roll-Const, fold-roll-ConstGep}
+use Rattle.hip_ir.specs.declared.constant.Const.TheOpen.{Const-F}
+use Rattle.hip_ir.specs.declared.constant.Const.TheFolds.{fold-ConstGep, map-Const, ind-Const, fold-roll-Const, fold-roll-ConstGep}
 use Rattle.hip_ir.specs.declared.constant.ConstGep.{ConstGep, roll-ConstGep}
 use Rattle.hip_ir.specs.declared.constant.TypedConst.{TypedConst}
 use Rattle.hip_ir.specs.declared.instr.Arg.{Arg}
@@ -24,7 +22,6 @@ use Rattle.hip_ir.specs.declared.instr.Instr.{Instr}
 use Rattle.hip_ir.specs.declared.instr.Instr.TheVariants.{Binary, Compare, Select, Cast, Alloca, Load, Store, Gep, Call}
 use Rattle.hip_ir.specs.declared.instr.Operand.{Operand}
 use Rattle.hip_ir.specs.declared.instr.Operand.TheVariants.{Reg, Fixed}
-use Rattle.hip_ir.specs.declared.program.Function.{Function}
 use Rattle.hip_ir.specs.declared.program.GlobalVar.{GlobalVar}
 use Rattle.hip_ir.specs.declared.program.Param.{Param}
 use Rattle.hip_ir.specs.declared.program.Program.{Program}
@@ -32,11 +29,8 @@ use Rattle.hip_mem.specs.Memory.{volatile_start, stack_end}
 use Rattle.hip_names.specs.Names.{number_of}
 use Rattle.hip_typing.specs.Addresses.{start_of, is_persistent, address_in}
 use Rattle.hip_typing.specs.Constants.{index_of}
-use Rattle.hip_typing.specs.Externs.{call_of}
-use Rattle.hip_typing.specs.Numbering.{function_number}
-use Rattle.hip_typing.specs.Sound.{IsSound, IsBlockAt}
+use Rattle.hip_typing.specs.Sound.{IsSound}
 use Rattle.hip_typing.specs.Values.{Written, Piece, global_address, written_step, gep_step, item_step, const_value}
-use Rattle.hip_typing.specs.declared.externs.ExternCall.TheVariants as calls
 use Rattle.hip_runs.specs.declared.input.Input.{Input}
 use Rattle.hip_runs.specs.Actions.{index_value, index_values, edge_value, returned}
 use Rattle.hip_runs.specs.Operands.{value_of, values_of, bound}
@@ -47,7 +41,7 @@ use Rattle.hip_runs.specs.Validity.{IsValid}
 use Rattle.hip_invariants.specs.Laws.InstrFacts.{instr_fact, fact_holds}
 use Rattle.hip_invariants.specs.Laws.RegisterFacts.{each_told, ValuesHold, each_value, assigned_fact, fact_of_value, values_in_frames}
 use Rattle.hip_invariants.proofs.GlobalAddresses.{start_before_end}
-use Rattle.hip_invariants.specs.PointerLevels.{PointerLevel, within_level, is_at_most, behind_offset, number_level, global_level, level_step, gep_level_step, item_level_step, const_level, Levels, literal, fixed_index, both, fixed_path, gep_level, operand_level, goes_into, args_are_at_most, CallIsClosed, instr_is_closed, IsClosed, IsWithinLevel, RegistersAreWithin}
+use Rattle.hip_invariants.specs.PointerLevels.{within_level, is_at_most, behind_offset, number_level, global_level, level_step, gep_level_step, item_level_step, const_level, Levels, literal, fixed_index, both, fixed_path, gep_level, operand_level, goes_into, args_are_at_most, instr_is_closed, IsClosed, IsWithinLevel, RegistersAreWithin}
 
 within_higher : (a b : Option ℕ) (v : ℕ) → is_at_most a b → within_level a v → within_level b v
 within_higher a None v h m = tt

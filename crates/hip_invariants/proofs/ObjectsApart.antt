@@ -1,6 +1,5 @@
 -- At most one object contains an address, and it is the one that an address points into.
-use Rattle.std.proofs.Common.{◌≡◌, ◌⊎◌, ⊎_elim, inl, inr, ℕ, zero, suc, ◌+◌, ◌≤◌, ◌<◌, Bool, true, false, cond, ◌&&◌, nat_le, nat_lt, List, [], ◌∷◌, ◌++◌, Option, Some, None, slice_get, option_map, refl, sym, ap, ◌∙◌, subst, arith, leb-true, ltb-true}
-use Rattle.std.specs.List.{flat_map}
+use Rattle.std.proofs.Common.{◌≡◌, ⊎_elim, ℕ, zero, suc, ◌+◌, ◌≤◌, ◌<◌, Bool, true, false, cond, nat_le, nat_lt, List, [], ◌∷◌, ◌++◌, Some, None, slice_get, option_map, refl, sym, ap, ◌∙◌, subst, arith, leb-true, ltb-true}
 use Rattle.std.specs.Prelude.{if◌then◌else◌}
 use Rattle.std.proofs.lemmas.Bool.{and_parts, cases_order}
 use Rattle.std.proofs.lemmas.Option.{same_Some}
@@ -8,12 +7,11 @@ use Rattle.hip_types.specs.Layout.{shape}
 use Rattle.hip_ir.specs.declared.program.GlobalVar.{GlobalVar}
 use Rattle.hip_ir.specs.declared.program.Program.{Program}
 use Rattle.hip_mem.specs.Memory.{volatile_start, stack_start, stack_end}
-use Rattle.hip_typing.specs.Addresses.{IsBase, end_of, start_of, is_persistent, address_in, address}
+use Rattle.hip_typing.specs.Addresses.{IsBase, start_of, is_persistent, address}
 use Rattle.hip_typing.specs.Sound.{IsSound}
-use Rattle.hip_runs.specs.declared.event.Object.{Object}
 use Rattle.hip_runs.specs.declared.event.Object.TheVariants as objects
 use Rattle.hip_runs.specs.declared.input.Input.{Input}
-use Rattle.hip_runs.specs.Objects.{contains, global_from, slot_in, or_else, slot_at, object_at}
+use Rattle.hip_runs.specs.Objects.{contains, global_from, slot_in, or_else, slot_at}
 use Rattle.hip_runs.specs.State.{Slot, Frame}
 use Rattle.hip_runs.specs.Step.{run}
 use Rattle.hip_runs.specs.Validity.{IsValid}
@@ -80,7 +78,7 @@ module _ (P : Program) (s : IsSound P) (base : ℕ) (is_base : IsBase base) wher
   global_search a (x ∷ gs) n zero m g e q c only =
       let same : n ≡ m = omega (arith, e) in
       let found : contains (address P base n) (shape x.ty).size a ≡ true =
-          subst (λ i. contains (address P base i) (shape x.ty).size a ≡ true) (sym same) (subst (λ (y : GlobalVar). contains (address P base m) (shape y.ty).size a ≡ true) (sym (same_Some x g q)) c) in
+      subst (λ i. contains (address P base i) (shape x.ty).size a ≡ true) (sym same) (subst (λ (y : GlobalVar). contains (address P base m) (shape y.ty).size a ≡ true) (sym (same_Some x g q)) c) in
       ap (λ b. cond b (Some n) (global_from P.globals base a (suc n) gs)) found ∙ ap Some same
   global_search a (x ∷ gs) n (suc k) m g e q c only =
       go (contains (address P base n) (shape x.ty).size a) refl (global_search a gs (suc n) k m g (omega (arith, e)) q c (λ j l h r there d. only (suc j) l h (omega (arith, r)) there d))

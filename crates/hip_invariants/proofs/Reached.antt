@@ -3,7 +3,7 @@
 use Rattle.std.proofs.Common.{◌≡◌, ◌≢◌, ◌⊎◌, ⊎_elim, inl, inr, ℕ, suc, Bool, true, false, cond, nat_eq, List, [], ◌∷◌, ◌++◌, map, take, drop, Option, Some, None, slice_get, option_map, refl, sym, ap, ◌∙◌, subst}
 use Rattle.std.specs.Prelude.{unwrap_or}
 use Rattle.std.specs.List.{flat_map}
-use Rattle.std.proofs.lemmas.Option.{same_Some, slice_get-map}
+use Rattle.std.proofs.lemmas.Option.{same_Some}
 use Rattle.hip_types.specs.declared.number.Scalar.{Scalar}
 use Rattle.hip_ir.specs.declared.block.Block.{Block}
 use Rattle.hip_ir.specs.declared.block.Case.{Case}
@@ -17,15 +17,13 @@ use Rattle.hip_ir.specs.declared.program.Function.{Function}
 use Rattle.hip_ir.specs.declared.program.Param.{Param}
 use Rattle.hip_ir.specs.declared.program.Program.{Program}
 use Rattle.hip_names.specs.Names.{IsAmong}
-use Rattle.hip_names.specs.NumberLaws.{number_of-there}
-use Rattle.hip_typing.specs.Externs.{signature, call_of}
+use Rattle.hip_typing.specs.Externs.{signature}
 use Rattle.hip_typing.specs.Given.{CallsFunction, CallsExtern, HasBlock}
 use Rattle.hip_typing.specs.Laws.Decided.{all-at}
 use Rattle.hip_typing.specs.Laws.GivenLaws.{sound-calls, sound-labels}
-use Rattle.hip_typing.specs.Numbering.{function_names}
-use Rattle.hip_typing.specs.Paths.{label_at, labels_named_at, IsPathTo, names_of, assigned_on}
+use Rattle.hip_typing.specs.Paths.{label_at, labels_named_at, names_of}
 use Rattle.hip_typing.specs.Registers.{assigned_by, phi_registers, parameter_registers, end_labels}
-use Rattle.hip_typing.specs.Sound.{IsSound, IsBlockAt, IsFree, TypesAgree, InstrItem, label_number}
+use Rattle.hip_typing.specs.Sound.{IsSound, IsBlockAt, TypesAgree, InstrItem, label_number}
 use Rattle.hip_typing.specs.declared.assigned.Point.TheVariants.{Before}
 use Rattle.hip_typing.specs.declared.externs.ExternCall.{ExternCall}
 use Rattle.hip_typing.specs.declared.externs.ExternCall.TheVariants as calls

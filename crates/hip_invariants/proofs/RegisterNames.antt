@@ -1,18 +1,10 @@
 -- The names of registers of two lists.
-use Rattle.std.proofs.Common.{◌≡◌, ◌⊎◌, ⊎_elim, inl, inr, ℕ, zero, suc, List, [], ◌∷◌, ◌++◌, take, drop, Some, slice_get, option_map, refl, sym, ap, subst}
-use Rattle.std.specs.Prelude.{unwrap_or}
-use Rattle.std.specs.List.{flat_map}
+use Rattle.std.proofs.Common.{◌≡◌, ◌⊎◌, ℕ, List, ◌++◌, sym, subst}
 use Rattle.std.proofs.lemmas.List.{map-append}
-use Rattle.std.proofs.lemmas.Option.{same_Some}
-use Rattle.hip_ir.specs.declared.block.Block.{Block}
-use Rattle.hip_ir.specs.declared.instr.Instr.{Instr}
-use Rattle.hip_ir.specs.declared.program.Function.{Function}
 use Rattle.hip_names.specs.NameLaws.{among-left, among-right, among-either}
 use Rattle.hip_names.specs.Names.{IsAmong}
-use Rattle.hip_typing.specs.Paths.{LeadsTo, IsChain, IsPathTo, registers_before, names_of, whole_block_names, names_before, assigned_on}
-use Rattle.hip_typing.specs.Registers.{Register, assigned_by, phi_registers, body_registers, block_registers, parameter_registers}
-use Rattle.hip_typing.specs.declared.assigned.Point.{Point}
-use Rattle.hip_typing.specs.declared.assigned.Point.TheVariants.{Before, AtEnd}
+use Rattle.hip_typing.specs.Paths.{names_of}
+use Rattle.hip_typing.specs.Registers.{Register}
 
 pub names_append : (xs ys : List Register) → names_of (xs ++ ys) ≡ names_of xs ++ names_of ys
 names_append xs ys = map-append (λ (r : Register). r.name) xs ys

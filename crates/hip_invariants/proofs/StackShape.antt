@@ -8,13 +8,13 @@ use Rattle.hip_ir.specs.declared.instr.Instr.{Instr}
 use Rattle.hip_ir.specs.declared.instr.Instr.TheVariants.{Binary, Compare, Select, Cast, Alloca, Load, Store, Gep, Call}
 use Rattle.hip_ir.specs.declared.program.Program.{Program}
 use Rattle.hip_lines.specs.Line.{Line}
-use Rattle.hip_mem.specs.Memory.{stack_start, stack_end}
+use Rattle.hip_mem.specs.Memory.{stack_end}
 use Rattle.hip_runs.specs.declared.event.Ending.{Ending}
 use Rattle.hip_runs.specs.declared.event.Ending.TheVariants.{Cut}
 use Rattle.hip_runs.specs.declared.input.Input.{Input}
 use Rattle.hip_runs.specs.Actions.{Action, Traps, Assigns, Allocates, Stores, Flushes, Persists, Fences, Asserts, Prints, Reads, Calls, Jumps, Returns, Deed, jump_to, jump, end_action, deed_of}
 use Rattle.hip_runs.specs.Places.{code_at, end_at}
-use Rattle.hip_runs.specs.State.{Registers, Slot, Level, StorePart, Frame, World, Counts, State, levels_of}
+use Rattle.hip_runs.specs.State.{Registers, Slot, StorePart, Frame, World, Counts, State, levels_of}
 use Rattle.hip_runs.specs.Step.{stop, with_turn, next, with_register, with_slot, leave, perform, is_cut, carry_out, deed_at, on_frames, on_ending, step, event_at, counted, run}
 use Rattle.hip_invariants.specs.Laws.InstrActions.{leaves_registers, instr_cases, of_instr_action}
 use Rattle.hip_invariants.specs.StackShape.{lie_between, lie_in_order, have_calls, HasShape, StackIsShaped}

@@ -1,5 +1,5 @@
 -- The objects of a run lie apart: at most one contains an address.
-use Rattle.std.specs.Prelude.{◌≡◌, ℕ, Bool, true, List, Some, slice_get}
+use Rattle.std.specs.Prelude.{◌≡◌, ℕ, true, List, Some, slice_get}
 use Rattle.std.specs.List.{flat_map}
 use Rattle.hip_types.specs.Layout.{shape}
 use Rattle.hip_ir.specs.declared.program.GlobalVar.{GlobalVar}

@@ -33,8 +33,8 @@ use Rattle.hip_runs.specs.Actions.{index_value}
 use Rattle.hip_runs.specs.State.{Frame}
 use Rattle.hip_invariants.specs.FrameFacts.{each_register}
 
--- A number of steps of less than 64 MiB behind the stack's end; none where nothing is known of the pointer, which is the
--- greatest level. (This project's own, as all of this file.)
+-- A number of steps of less than 64 MiB behind the stack's end; none where nothing is known of the pointer, which is
+-- the greatest level. (This project's own, as all of this file.)
 abbrev pub PointerLevel : Type 0
 PointerLevel = Option ℕ
 
@@ -78,7 +78,8 @@ gep_level_step gep = behind_offset gep.base (unwrap_or (gep_of gep.ty (map index
 abbrev pub item_level_step : TypedConst-F PointerLevel PointerLevel PointerLevel → PointerLevel
 item_level_step item = item.value
 
--- The level of a constant: 0 for `null` and `zeroinitializer`, a global's own, that behind its offset for a `getelementptr`.
+-- The level of a constant: 0 for `null` and `zeroinitializer`, a global's own, that behind its offset for a
+-- `getelementptr`.
 abbrev pub const_level : List GlobalVar → Const → PointerLevel
 const_level globals =
     fold-Const PointerLevel PointerLevel PointerLevel (level_step (global_level globals)) gep_level_step item_level_step

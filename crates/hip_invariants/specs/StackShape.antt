@@ -1,7 +1,7 @@
 -- The shape of the stack: its blocks and marks lie in order.
 use Rattle.std.specs.Prelude.{◌≡◌, ℕ, ◌+◌, ◌≤◌, List, [], ◌∷◌, length, Some, None}
 use Rattle.hip_mem.specs.Memory.{stack_start, stack_end}
-use Rattle.hip_runs.specs.State.{Slot, Level, Frame, State, levels_of}
+use Rattle.hip_runs.specs.State.{Slot, Level, Frame, State}
 
 -- Blocks, the newest first, lie in order between two addresses.
 abbrev pub lie_between : ℕ → ℕ → List Slot → Type 0
@@ -19,8 +19,8 @@ have_calls [] = Unit {0}
 have_calls (f ∷ []) = (f.level ≡ None)
 have_calls (f ∷ (g ∷ fs)) = ((l : Level) × (f.level ≡ Some l)) × have_calls (g ∷ fs)
 
--- The frames under a stack mark: all lies in order below it, and it is at most the stack's end; at most 16,384 frames stand;
--- and each but the bottom one has its call. (This project's own limits.)
+-- The frames under a stack mark: all lies in order below it, and it is at most the stack's end; at most 16,384 frames
+-- stand; and each but the bottom one has its call. (This project's own limits.)
 pub record HasShape (mark : ℕ) (fs : List Frame) : Type 0 where
   pub in_order : lie_in_order mark fs
   pub within : mark ≤ stack_end

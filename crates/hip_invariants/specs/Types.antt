@@ -24,6 +24,7 @@ use Rattle.hip_runs.specs.Step.{run}
 use Rattle.hip_runs.specs.Laws.StepLaws.{IsTop}
 use Rattle.hip_invariants.specs.FrameFacts.{each_register}
 
+-- the type of a register of a function
 abbrev pub type_in : Option Function → List ℕ → Option (Option Scalar)
 type_in None name = None
 type_in (Some fn) name = find_register (registers_of fn) name
@@ -41,6 +42,7 @@ fits_type _ v = Unit {0}
 pub record FitsType (P : Program) (g : ℕ) (name : List ℕ) (v : ℕ) : Type 0 where
   pub is : fits_type (register_type P g name) v
 
+-- the type of a function's result
 abbrev pub result_in : Option Function → Option (Option Scalar)
 result_in None = None
 result_in (Some fn) = Some fn.ret
@@ -69,7 +71,8 @@ abbrev pub CodeFits : Program → Input → ℕ → Type 0
 CodeFits P I n = (f : Frame) (arg : Option Arg) → IsTop (run P I n) f [] → end_at P f ≡ Some (ends.Ret arg) →
     returned P.globals I.base f.registers arg < modulus W32
 
--- Values that fit are the same where they are cut to their widths: in comparisons, in indices and in the code of a stop.
+-- Values that fit are the same where they are cut to their widths: in comparisons, in indices and in the code of a
+-- stop.
 pub record AreUncut : Type 0 where
   pub compared : (pred : Pred) (w : Width) (a b : ℕ) → a < modulus w → b < modulus w →
       holds pred w (bits w a).value (bits w b).value ≡ holds pred w a b

@@ -16,7 +16,8 @@ use Rattle.hip_invariants.specs.FrameFacts.{frames_hold}
 
 -- the frame that a call makes, and a frame that goes to another block
 abbrev pub called_frame : ℕ → Registers → Option (List ℕ) → ℕ → Option Level → Frame
-called_frame g registers dest mark level = record { function = g; block = 0; place = 0; registers = registers; mark = mark; slots = []; dest = dest; level = level }
+called_frame g registers dest mark level =
+    record { function = g; block = 0; place = 0; registers = registers; mark = mark; slots = []; dest = dest; level = level }
 
 abbrev pub frame_in_block : ℕ → Registers → Frame → Frame
 frame_in_block b registers f = record f { block = b; place = 0; registers = registers }
@@ -35,7 +36,8 @@ module _ (Top : Frame → Type 0) (Below : ℕ → Option (List ℕ) → Frame �
   keeps f (Asserts a n) = Top (next f)
   keeps f (Prints z) = Top (next f)
   keeps f (Reads dest z rest) = Top (with_register dest (wrapped W64 z) (next f))
-  keeps f (Calls g registers dest) = ((mark : ℕ) (level : Option Level) → Top (called_frame g registers dest mark level)) × Below g dest (next f)
+  keeps f (Calls g registers dest) =
+      ((mark : ℕ) (level : Option Level) → Top (called_frame g registers dest mark level)) × Below g dest (next f)
   keeps f (Jumps b registers) = Top (frame_in_block b registers f)
   keeps f (Returns v) = (g : Frame) → Below f.function f.dest g → Top (with_register f.dest v g)
 
@@ -43,10 +45,11 @@ module _ (Top : Frame → Type 0) (Below : ℕ → Option (List ℕ) → Frame �
     pub is : keeps f x
 
   module _ (P : Program) (I : Input) where
-    -- each action of the run keeps them
+    -- They hold of the first frame, and each action of the run keeps them.
     pub record IsInvariant : Type 0 where
       pub first : Top (start_frame (main_number P))
-      pub each : (n : ℕ) (f : Frame) (fs : List Frame) → IsTop (run P I n) f fs → frames_hold Top Below (main_number P) (f ∷ fs) → Keeps f (deed_at P I (run P I n).world f fs).action
+      pub each : (n : ℕ) (f : Frame) (fs : List Frame) → IsTop (run P I n) f fs →
+          frames_hold Top Below (main_number P) (f ∷ fs) → Keeps f (deed_at P I (run P I n).world f fs).action
 
     leave_kept : (v : ℕ) (w : World) (f : Frame) (fs : List Frame) (ls : List (Line StorePart)) (after : Counts) → frames_hold Top Below (main_number P) (f ∷ fs) → ((g : Frame) → Below f.function f.dest g → Top (with_register f.dest v g)) → frames_hold Top Below (main_number P) (leave v w f fs ls after).frames
     unfolding leave

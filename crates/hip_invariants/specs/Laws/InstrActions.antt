@@ -8,6 +8,7 @@ use Rattle.hip_types.specs.declared.number.Bits.{Bits}
 use Rattle.hip_ir.specs.declared.instr.Arg.{Arg}
 use Rattle.hip_ir.specs.declared.instr.Instr.{Instr}
 use Rattle.hip_ir.specs.declared.instr.Instr.TheVariants.{Binary, Compare, Select, Cast, Alloca, Load, Store, Gep, Call}
+use Rattle.hip_ir.specs.declared.instr.Operand.{Operand}
 use Rattle.hip_ir.specs.declared.program.Function.{Function}
 use Rattle.hip_ir.specs.declared.program.Program.{Program}
 use Rattle.hip_mem.specs.Bytes.{bytes_of}
@@ -39,25 +40,41 @@ leaves_registers (Prints z) = Unit {0}
 leaves_registers _ = ⊥
 
 module _ (P : Program) (I : Input) (w : World) (below : ℕ) (rs : Registers) (Claim : Action → Type 0) where
-  abbrev value : Arg → ℕ
-  value a = value_of P.globals I.base rs a.value
+  abbrev value : Operand → ℕ
+  value o = value_of P.globals I.base rs o
 
+  -- What a call may do: it reads the next number, does what another external function does, or enters a function.
   pub record CallCases (dest : Option (List ℕ)) (callee : List ℕ) (args : List Arg) : Type 0 where
-    pub read : call_of callee ≡ Some calls.ReadI64 → (z : ℤ) (rest : List ℤ) → w.left ≡ z ∷ rest → Claim (Reads dest z rest)
-    pub extern : (x : ExternCall) → call_of callee ≡ Some x → x ≢ calls.ReadI64 → (y : Action) → leaves_registers y → Claim y
-    pub enter : (h : ℕ) (fn : Function) → call_of callee ≡ None → function_number P callee ≡ Some h → slice_get P.functions h ≡ Some fn → below < 16383 → Claim (Calls h (bound fn.params (values_of P.globals I.base rs args)) dest)
+    pub read : call_of callee ≡ Some calls.ReadI64 → (z : ℤ) (rest : List ℤ) → w.left ≡ z ∷ rest →
+        Claim (Reads dest z rest)
+    pub extern : (x : ExternCall) → call_of callee ≡ Some x → x ≢ calls.ReadI64 →
+        (y : Action) → leaves_registers y → Claim y
+    pub enter : (h : ℕ) (fn : Function) → call_of callee ≡ None → function_number P callee ≡ Some h →
+        slice_get P.functions h ≡ Some fn → below < 16383 →
+        Claim (Calls h (bound fn.params (values_of P.globals I.base rs args)) dest)
     -- a callee that is not there
-    pub missing : call_of callee ≡ None → ((h : ℕ) (fn : Function) → function_number P callee ≡ Some h → ¬ (slice_get P.functions h ≡ Some fn)) → Claim (Traps traps.Unreachable)
+    pub missing : call_of callee ≡ None →
+        ((h : ℕ) (fn : Function) → function_number P callee ≡ Some h → ¬ (slice_get P.functions h ≡ Some fn)) →
+        Claim (Traps traps.Unreachable)
 
+  -- What an instruction may do, but for traps: the claim has to be shown of these actions.
   abbrev pub instr_cases : Instr → Type 0
-  instr_cases (Binary dest op flags width a b) = (r : Bits) → binary_of op (bits width (value_of P.globals I.base rs a)) (bits width (value_of P.globals I.base rs b)) ≡ Ok r → Claim (Assigns (Some dest) r.value)
-  instr_cases (Compare dest pred ty a b) = Claim (Assigns (Some dest) (truth (holds pred (width_of ty) (bits (width_of ty) (value_of P.globals I.base rs a)).value (bits (width_of ty) (value_of P.globals I.base rs b)).value)))
-  instr_cases (Select dest test ty a b) = Claim (Assigns (Some dest) (cond (nat_eq (value_of P.globals I.base rs test) 1) (value_of P.globals I.base rs a) (value_of P.globals I.base rs b)))
-  instr_cases (Cast dest op from a to) = Claim (Assigns (Some dest) (cast_value op from to (value_of P.globals I.base rs a)))
-  instr_cases (Alloca dest ty align) = (a : ℕ) → a ≡ next_multiple_of w.mark (shape ty).align → a + (shape ty).size ≤ stack_end → Claim (Allocates dest a (shape ty).size)
-  instr_cases (Load dest ty addr align) = Claim (Assigns (Some dest) (read_value ty (bytes_at (memory_of P I w) (value_of P.globals I.base rs addr) (scalar_size ty))))
-  instr_cases (Store ty v addr align) = Claim (Stores (value_of P.globals I.base rs addr) (bytes_of (scalar_size ty) (value_of P.globals I.base rs v)))
-  instr_cases (Gep dest inbounds ty base indices) = Claim (Assigns (Some dest) (element_address (value_of P.globals I.base rs base) ty (index_values P.globals I.base rs indices)))
+  instr_cases (Binary dest op flags width a b) =
+      (r : Bits) → binary_of op (bits width (value a)) (bits width (value b)) ≡ Ok r → Claim (Assigns (Some dest) r.value)
+  instr_cases (Compare dest pred ty a b) =
+      let width = width_of ty in
+      Claim (Assigns (Some dest) (truth (holds pred width (bits width (value a)).value (bits width (value b)).value)))
+  instr_cases (Select dest test ty a b) =
+      Claim (Assigns (Some dest) (cond (nat_eq (value test) 1) (value a) (value b)))
+  instr_cases (Cast dest op from a to) = Claim (Assigns (Some dest) (cast_value op from to (value a)))
+  instr_cases (Alloca dest ty align) =
+      (a : ℕ) → a ≡ next_multiple_of w.mark (shape ty).align → a + (shape ty).size ≤ stack_end →
+      Claim (Allocates dest a (shape ty).size)
+  instr_cases (Load dest ty addr align) =
+      Claim (Assigns (Some dest) (read_value ty (bytes_at (memory_of P I w) (value addr) (scalar_size ty))))
+  instr_cases (Store ty v addr align) = Claim (Stores (value addr) (bytes_of (scalar_size ty) (value v)))
+  instr_cases (Gep dest inbounds ty base indices) =
+      Claim (Assigns (Some dest) (element_address (value base) ty (index_values P.globals I.base rs indices)))
   instr_cases (Call dest ret callee args) = CallCases dest callee args
 
   -- traps but that of what is not there

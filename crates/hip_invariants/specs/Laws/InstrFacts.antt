@@ -12,6 +12,7 @@ use Rattle.hip_ir.specs.declared.block.Phi.{Phi}
 use Rattle.hip_ir.specs.declared.instr.Arg.{Arg}
 use Rattle.hip_ir.specs.declared.instr.Instr.{Instr}
 use Rattle.hip_ir.specs.declared.instr.Instr.TheVariants.{Binary, Compare, Select, Cast, Alloca, Load, Store, Gep, Call}
+use Rattle.hip_ir.specs.declared.instr.Operand.{Operand}
 use Rattle.hip_ir.specs.declared.program.Function.{Function}
 use Rattle.hip_ir.specs.declared.program.Program.{Program}
 use Rattle.hip_mem.specs.Memory.{stack_end, bytes_at}
@@ -32,22 +33,35 @@ use Rattle.hip_invariants.specs.Laws.InstrActions.{leaves_registers, instr_cases
 use Rattle.hip_invariants.specs.Laws.RegisterFacts.{ValuesHold, assigned_fact, WaitsFor, GivesFacts, values_in_frames, actions_keep_facts}
 
 module _ (Fact : ℕ → List ℕ → ℕ → Type 0) (Returned : ℕ → ℕ → Type 0) (P : Program) (I : Input) where
-  -- a call: the next input number goes into a register, or a function's parameters take values and its result is waited for
+  abbrev value : Registers → Operand → ℕ
+  value rs o = value_of P.globals I.base rs o
+
+  -- What has to be shown of a call: the next input number goes into a register, or a function's parameters take values and
+  -- its result is waited for.
   pub record CallFact (g : ℕ) (rs : Registers) (dest : Option (List ℕ)) (callee : List ℕ) (args : List Arg) : Type 0 where
     pub read : call_of callee ≡ Some calls.ReadI64 → (z : ℤ) → assigned_fact Fact Returned g dest (wrapped W64 z)
-    pub enter : (h : ℕ) (fn : Function) → call_of callee ≡ None → function_number P callee ≡ Some h → slice_get P.functions h ≡ Some fn →
-        ValuesHold Fact Returned h (bound fn.params (values_of P.globals I.base rs args)) × WaitsFor Fact Returned g dest h
+    pub enter : (h : ℕ) (fn : Function) → call_of callee ≡ None → function_number P callee ≡ Some h →
+        slice_get P.functions h ≡ Some fn →
+        ValuesHold Fact Returned h (bound fn.params (values_of P.globals I.base rs args)) ×
+        WaitsFor Fact Returned g dest h
 
-  -- what has to be shown of an instruction of a function, in a world, with the registers of its frame
+  -- What has to be shown of an instruction of a function, in a world, with the registers of its frame.
   abbrev pub instr_fact : ℕ → World → Registers → Instr → Type 0
-  instr_fact g w rs (Binary dest op flags width a b) = (r : Bits) → binary_of op (bits width (value_of P.globals I.base rs a)) (bits width (value_of P.globals I.base rs b)) ≡ Ok r → Fact g dest r.value
-  instr_fact g w rs (Compare dest pred ty a b) = Fact g dest (truth (holds pred (width_of ty) (bits (width_of ty) (value_of P.globals I.base rs a)).value (bits (width_of ty) (value_of P.globals I.base rs b)).value))
-  instr_fact g w rs (Select dest test ty a b) = Fact g dest (cond (nat_eq (value_of P.globals I.base rs test) 1) (value_of P.globals I.base rs a) (value_of P.globals I.base rs b))
-  instr_fact g w rs (Cast dest op from a to) = Fact g dest (cast_value op from to (value_of P.globals I.base rs a))
-  instr_fact g w rs (Alloca dest ty align) = (a : ℕ) → a ≡ next_multiple_of w.mark (shape ty).align → a + (shape ty).size ≤ stack_end → Fact g dest a
-  instr_fact g w rs (Load dest ty addr align) = Fact g dest (read_value ty (bytes_at (memory_of P I w) (value_of P.globals I.base rs addr) (scalar_size ty)))
-  instr_fact g w rs (Store ty value addr align) = Unit {0}
-  instr_fact g w rs (Gep dest inbounds ty base indices) = Fact g dest (element_address (value_of P.globals I.base rs base) ty (index_values P.globals I.base rs indices))
+  instr_fact g w rs (Binary dest op flags width a b) =
+      (r : Bits) → binary_of op (bits width (value rs a)) (bits width (value rs b)) ≡ Ok r → Fact g dest r.value
+  instr_fact g w rs (Compare dest pred ty a b) =
+      let width = width_of ty in
+      Fact g dest (truth (holds pred width (bits width (value rs a)).value (bits width (value rs b)).value))
+  instr_fact g w rs (Select dest test ty a b) =
+      Fact g dest (cond (nat_eq (value rs test) 1) (value rs a) (value rs b))
+  instr_fact g w rs (Cast dest op from a to) = Fact g dest (cast_value op from to (value rs a))
+  instr_fact g w rs (Alloca dest ty align) =
+      (a : ℕ) → a ≡ next_multiple_of w.mark (shape ty).align → a + (shape ty).size ≤ stack_end → Fact g dest a
+  instr_fact g w rs (Load dest ty addr align) =
+      Fact g dest (read_value ty (bytes_at (memory_of P I w) (value rs addr) (scalar_size ty)))
+  instr_fact g w rs (Store ty v addr align) = Unit {0}
+  instr_fact g w rs (Gep dest inbounds ty base indices) =
+      Fact g dest (element_address (value rs base) ty (index_values P.globals I.base rs indices))
   instr_fact g w rs (Call dest ret callee args) = CallFact g rs dest callee args
 
   pub record InstrFact (g : ℕ) (w : World) (rs : Registers) (i : Instr) : Type 0 where
@@ -91,14 +105,20 @@ module _ (Fact : ℕ → List ℕ → ℕ → Type 0) (Returned : ℕ → ℕ �
     pub instr_gives : (w : World) (below : ℕ) (rs : Registers) (i : Instr) → InstrFact g w rs i → GivesOn (instr_action P I w below rs i)
     instr_gives w below rs i p = of_instr_action P I w below rs GivesOn (λ kind n. record { is = tt }) i (gives_by_case w below rs i p.is)
 
-  -- Each way in which a register gets a value, or a value is returned.
+  -- The fact is kept in each way in which a register gets a value, by an instruction or a phi, and of each value returned.
   pub record KeepsFact : Type 0 where
-    pub instr : (n : ℕ) (f : Frame) (fs : List Frame) (fn : Function) (block : Block) (i : Instr) → IsTop (run P I n) f fs → ValuesHold Fact Returned f.function f.registers →
-        IsBlockAt P f.function f.block fn block → slice_get block.body f.place ≡ Some i → InstrFact f.function (run P I n).world f.registers i
-    pub phi : (f : Frame) (c k : ℕ) (fn : Function) (block : Block) (p : Phi) (from : List ℕ) → ValuesHold Fact Returned f.function f.registers →
-        IsBlockAt P f.function c fn block → slice_get block.phis k ≡ Some p → Fact f.function p.dest (edge_value P.globals I.base f.registers p.edges from)
-    pub result : (f : Frame) (fn : Function) (block : Block) (arg : Option Arg) → ValuesHold Fact Returned f.function f.registers →
-        IsBlockAt P f.function f.block fn block → block.end ≡ ends.Ret arg → Returned f.function (returned P.globals I.base f.registers arg)
+    pub instr : (n : ℕ) (f : Frame) (fs : List Frame) (fn : Function) (block : Block) (i : Instr) →
+        IsTop (run P I n) f fs → ValuesHold Fact Returned f.function f.registers →
+        IsBlockAt P f.function f.block fn block → slice_get block.body f.place ≡ Some i →
+        InstrFact f.function (run P I n).world f.registers i
+    pub phi : (f : Frame) (c k : ℕ) (fn : Function) (block : Block) (p : Phi) (from : List ℕ) →
+        ValuesHold Fact Returned f.function f.registers →
+        IsBlockAt P f.function c fn block → slice_get block.phis k ≡ Some p →
+        Fact f.function p.dest (edge_value P.globals I.base f.registers p.edges from)
+    pub result : (f : Frame) (fn : Function) (block : Block) (arg : Option Arg) →
+        ValuesHold Fact Returned f.function f.registers →
+        IsBlockAt P f.function f.block fn block → block.end ≡ ends.Ret arg →
+        Returned f.function (returned P.globals I.base f.registers arg)
 
   -- A fact that each way keeps holds of each register of each frame at each step.
   pub fact_holds : KeepsFact → (n : ℕ) → values_in_frames Fact Returned (run P I n).frames

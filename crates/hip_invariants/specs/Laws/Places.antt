@@ -1,25 +1,12 @@
 -- What stands at a frame's place, in its block and its function.
-use Rattle.std.proofs.Common.{◌≡◌, ℕ, zero, suc, Bool, true, false, cond, List, [], ◌∷◌, length, drop, Option, Some, None, slice_get, refl, subst}
-use Rattle.std.specs.Str.{bytes_eq}
-use Rattle.std.proofs.lemmas.Slice.Eq.{bytes_eq-Decides}
-use Rattle.hip_types.specs.Numbers.{wrapped}
-use Rattle.hip_types.specs.declared.number.Width.TheVariants.{W64}
+use Rattle.std.proofs.Common.{◌≡◌, ℕ, zero, suc, true, List, [], ◌∷◌, drop, Option, Some, None, slice_get, refl}
 use Rattle.hip_ir.specs.declared.block.Block.{Block}
-use Rattle.hip_ir.specs.declared.block.End.{End}
-use Rattle.hip_ir.specs.declared.block.End.TheVariants as ends
-use Rattle.hip_ir.specs.declared.block.Phi.{Phi}
-use Rattle.hip_ir.specs.declared.instr.Arg.{Arg}
-use Rattle.hip_ir.specs.declared.instr.Instr.{Instr}
 use Rattle.hip_ir.specs.declared.program.Function.{Function}
 use Rattle.hip_ir.specs.declared.program.Program.{Program}
 use Rattle.hip_typing.specs.Sound.{IsBlockAt}
-use Rattle.hip_runs.specs.declared.input.Input.{Input}
-use Rattle.hip_runs.specs.Actions.{Action, Traps, Assigns, Allocates, Stores, Flushes, Persists, Fences, Asserts, Prints, Reads, Calls, Jumps, Returns, instr_action, edge_value, after_phis, jump_to, jump, returned, end_action, deed_of}
-use Rattle.hip_runs.specs.Operands.{look_up, assigned}
-use Rattle.hip_runs.specs.Places.{blocks_in, block_at, body_of, end_of, phis_of, label_of, body_at, code_at, end_at}
-use Rattle.hip_runs.specs.State.{Registers, Frame}
-use Rattle.hip_runs.specs.Step.{main_number, run}
-use Rattle.hip_runs.specs.Laws.StepLaws.{IsTop, has_frame}
+use Rattle.hip_runs.specs.Places.{blocks_in, block_at}
+use Rattle.hip_runs.specs.State.{Frame}
+use Rattle.hip_runs.specs.Laws.StepLaws.{has_frame}
 
 pub get_drop : {A : Type 0} (xs : List A) (k : ℕ) (x : A) (ys : List A) → drop k xs ≡ x ∷ ys → slice_get xs k ≡ Some x
 get_drop [] zero x ys e = cc

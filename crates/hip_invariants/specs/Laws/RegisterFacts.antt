@@ -1,6 +1,6 @@
--- A fact of (function, register, value) that each way keeps in which a register gets a value, holds of each register of each
--- frame of a run.
-use Rattle.std.proofs.Common.{◌≡◌, ℕ, zero, suc, Bool, true, false, cond, List, [], ◌∷◌, length, drop, Option, Some, None, slice_get, refl, subst}
+-- A fact of (function, register, value) that each way keeps in which a register gets a value, holds of each register of
+-- each frame of a run.
+use Rattle.std.proofs.Common.{◌≡◌, ℕ, suc, Bool, true, false, cond, List, [], ◌∷◌, length, Option, Some, None, slice_get, refl, subst}
 use Rattle.std.specs.Str.{bytes_eq}
 use Rattle.std.proofs.lemmas.Slice.Eq.{bytes_eq-Decides}
 use Rattle.hip_types.specs.Numbers.{wrapped}
@@ -17,7 +17,7 @@ use Rattle.hip_typing.specs.Sound.{IsBlockAt}
 use Rattle.hip_runs.specs.declared.input.Input.{Input}
 use Rattle.hip_runs.specs.Actions.{Action, Traps, Assigns, Allocates, Stores, Flushes, Persists, Fences, Asserts, Prints, Reads, Calls, Jumps, Returns, instr_action, edge_value, after_phis, jump_to, jump, returned, end_action, deed_of}
 use Rattle.hip_runs.specs.Operands.{look_up, assigned}
-use Rattle.hip_runs.specs.Places.{blocks_in, block_at, body_of, end_of, phis_of, label_of, body_at, code_at, end_at}
+use Rattle.hip_runs.specs.Places.{block_at, body_of, end_of, phis_of, label_of, body_at, code_at, end_at}
 use Rattle.hip_runs.specs.State.{Registers, Frame}
 use Rattle.hip_runs.specs.Step.{main_number, run}
 use Rattle.hip_runs.specs.Laws.StepLaws.{IsTop}
@@ -32,25 +32,29 @@ module _ (Fact : ℕ → List ℕ → ℕ → Type 0) (Returned : ℕ → ℕ �
   each_value g [] = Unit {0}
   each_value g (r ∷ rs) = Fact g r.0 r.1 × each_value g rs
 
+  -- Each value of a frame of a function has the fact.
   pub record ValuesHold (g : ℕ) (rs : Registers) : Type 0 where
     pub all : each_value g rs
 
+  -- the register that takes a value, if one does, has the fact
   abbrev pub assigned_fact : ℕ → Option (List ℕ) → ℕ → Type 0
   assigned_fact g None v = Unit {0}
   assigned_fact g (Some name) v = Fact g name v
 
-  -- a function waits for the result of another
+  -- A function waits for the result of another: whatever comes, the register that it goes into has the fact.
   pub record WaitsFor (g : ℕ) (dest : Option (List ℕ)) (h : ℕ) : Type 0 where
     pub for_result : (v : ℕ) → Returned h v → assigned_fact g dest v
 
+  -- a frame behind a call of a function, whose result goes into a register
   pub record IsBehindCall (h : ℕ) (dest : Option (List ℕ)) (g : Frame) : Type 0 where
     pub hold : ValuesHold g.function g.registers
     pub waits : WaitsFor g.function dest h
 
+  -- the frame on top
   abbrev pub on_top : Frame → Type 0
   on_top f = ValuesHold f.function f.registers
 
-  -- what an action of a function gives to registers
+  -- What has to be shown of an action of a function: what it gives to registers, or returns, has the fact.
   abbrev pub gives_facts : ℕ → Action → Type 0
   gives_facts g (Assigns dest v) = assigned_fact g dest v
   gives_facts g (Allocates dest a n) = Fact g dest a
@@ -103,14 +107,19 @@ module _ (Fact : ℕ → List ℕ → ℕ → Type 0) (Returned : ℕ → ℕ �
   each_told none (f ∷ fs) h = (λ name. fact_of_value f.function f.registers name h.0 (none f.function name), each_told none fs h.1)
 
   module _ (P : Program) (I : Input) where
-    -- Each way in which a register gets a value, or a value is returned: by an instruction, by a phi, and by the end of a block.
+    -- Each way in which a register gets a value, or a value is returned: by an instruction, by a phi, and by the end of a
+    -- block.
     pub record ActionsKeep : Type 0 where
-      pub instr : (n : ℕ) (f : Frame) (fs : List Frame) (fn : Function) (block : Block) (i : Instr) → IsTop (run P I n) f fs → ValuesHold f.function f.registers →
-          IsBlockAt P f.function f.block fn block → slice_get block.body f.place ≡ Some i → GivesFacts f.function (instr_action P I (run P I n).world (length fs) f.registers i)
-      pub phi : (f : Frame) (c k : ℕ) (fn : Function) (block : Block) (p : Phi) (from : List ℕ) → ValuesHold f.function f.registers →
-          IsBlockAt P f.function c fn block → slice_get block.phis k ≡ Some p → Fact f.function p.dest (edge_value P.globals I.base f.registers p.edges from)
+      pub instr : (n : ℕ) (f : Frame) (fs : List Frame) (fn : Function) (block : Block) (i : Instr) →
+          IsTop (run P I n) f fs → ValuesHold f.function f.registers →
+          IsBlockAt P f.function f.block fn block → slice_get block.body f.place ≡ Some i →
+          GivesFacts f.function (instr_action P I (run P I n).world (length fs) f.registers i)
+      pub phi : (f : Frame) (c k : ℕ) (fn : Function) (block : Block) (p : Phi) (from : List ℕ) →
+          ValuesHold f.function f.registers → IsBlockAt P f.function c fn block → slice_get block.phis k ≡ Some p →
+          Fact f.function p.dest (edge_value P.globals I.base f.registers p.edges from)
       pub result : (f : Frame) (fn : Function) (block : Block) (arg : Option Arg) → ValuesHold f.function f.registers →
-          IsBlockAt P f.function f.block fn block → block.end ≡ ends.Ret arg → Returned f.function (returned P.globals I.base f.registers arg)
+          IsBlockAt P f.function f.block fn block → block.end ≡ ends.Ret arg →
+          Returned f.function (returned P.globals I.base f.registers arg)
 
     module _ (kept : ActionsKeep) where
       phis_hold : (f : Frame) (c : ℕ) (fn : Function) (block : Block) (from : List ℕ) → ValuesHold f.function f.registers → IsBlockAt P f.function c fn block →

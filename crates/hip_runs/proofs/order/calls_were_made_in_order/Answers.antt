@@ -1,4 +1,4 @@
-use Rattle.hip_runs.proofs.order.parts_share_the_outermost_calls.Goals as goal
+use Rattle.hip_runs.proofs.order.calls_were_made_in_order.Goals as goal
 use Rattle.hip_runs.specs.Laws.CallLaws.{has_calls}
 
 pub returns : goal.returns

@@ -9,8 +9,8 @@ use Rattle.hip_ir.specs.declared.program.Program.{Program}
 use Rattle.hip_ir.specs.declared.site.Site.{Site}
 use Rattle.hip_num.specs.declared.arithmetic.NumTrap.{NumTrap}
 use Rattle.hip_types.specs.declared.number.Bits.{Bits}
-use Rattle.hip_typing.specs.Externs.{call_of}
-use Rattle.hip_typing.specs.declared.externs.ExternCall.{ExternCall}
+use Rattle.hip_externs.specs.Externs.{call_of}
+use Rattle.hip_externs.specs.declared.call.ExternCall.{ExternCall}
 use Rattle.hip_typing.specs.Numbering.{function_number}
 use Rattle.hip_runs.specs.declared.event.Ending.{Ending}
 use Rattle.hip_runs.specs.declared.event.Ending.TheVariants.{Stop, Cut}
@@ -33,7 +33,7 @@ use Rattle.hip_runs.specs.Sites.{is_store, only_flushes, persists, is_flush_call
 use Rattle.hip_runs.specs.State.{Registers, Frame, World, State, site_of}
 use Rattle.hip_runs.specs.Step.{first_line, lines_size, event_of, is_bottom, is_cut, event_at, deed_at, event_on_frames, event_on_ending, event}
 use Rattle.hip_ir.specs.declared.block.End.TheVariants as ends
-use Rattle.hip_typing.specs.declared.externs.ExternCall.TheVariants as calls
+use Rattle.hip_externs.specs.declared.call.ExternCall.TheVariants as calls
 use Rattle.hip_runs.specs.declared.event.TrapKind.TheVariants as traps
 use Rattle.hip_runs.specs.declared.event.Event.TheVariants as events
 

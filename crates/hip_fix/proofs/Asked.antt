@@ -10,7 +10,7 @@ use Rattle.hip_runs.specs.declared.report.Findings.{Findings}
 use Rattle.hip_runs.specs.declared.report.Report.{Report}
 use Rattle.hip_runs.specs.History.{IsParted}
 use Rattle.hip_runs.specs.Parts.{In}
-use Rattle.hip_runs.specs.PartLaws.{append-left, append-right}
+use Rattle.hip_runs.specs.Laws.PartLaws.{append-left, append-right}
 use Rattle.hip_runs.specs.Reports.{is_open, closed_count}
 use Rattle.hip_runs.specs.Scores.{score}
 use Rattle.hip_runs.specs.State.{Level}

@@ -48,7 +48,7 @@ use Rattle.hip_fix.proofs.Ahead.{Ahead, ahead_stored, ahead_flushed, ahead_more_
 use Rattle.hip_fix.proofs.Blocks.{get_drop, drop_next, body_twin, end_twin, end_action_twin}
 use Rattle.hip_runs.specs.Parts.{In}
 use Rattle.hip_runs.specs.History.{HasHistory}
-use Rattle.hip_runs.specs.HistoryLaws.{has_history}
+use Rattle.hip_runs.specs.Laws.HistoryLaws.{has_history}
 use Rattle.hip_fix.proofs.Facts.{Lines, Known, fence_if, flush_if, Keeps}
 use Rattle.hip_fix.proofs.Inserted.{flush_size, flush_size_there, flush_size_small, flushes_there, region_base, reaches, flush_action, flush_no_turn}
 use Rattle.hip_fix.proofs.Lookup.{number_there, plain_twin, same_main, main_there, calls_plain, calls_clone, extern_name, hoisted_cloned, cloned_closed}

@@ -126,7 +126,7 @@ length-lines P I (suc n) = step-cases P I (run P I n) (λ e ls. length ls ≡ le
 
 -- ---- how many steps were counted
 
-abbrev has_frame : List Frame → Bool
+abbrev pub has_frame : List Frame → Bool
 has_frame [] = false
 has_frame (f ∷ fs) = true
 
@@ -184,3 +184,7 @@ run_counted P I (suc n) = step_counted P I (run P I n) n (run_counted P I n)
 -- while a run goes on, it counts its steps
 pub counted-steps : (P : Program) (I : Input) (n : ℕ) → (run P I n).world.ending ≡ None → (run P I n).counts.steps ≡ n
 counted-steps P I n g = (run_counted P I n).steps g
+
+-- a frame stands in each state of a run
+pub standing-frame : (P : Program) (I : Input) (n : ℕ) → has_frame (run P I n).frames ≡ true
+standing-frame P I n = (run_counted P I n).stands

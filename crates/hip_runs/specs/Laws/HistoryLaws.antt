@@ -18,7 +18,7 @@ use Rattle.hip_runs.specs.declared.input.Input.{Input}
 use Rattle.hip_runs.specs.Actions.{Action, Traps, Assigns, Allocates, Stores, Flushes, Persists, Fences, Asserts, Prints, Reads, Calls, Jumps, Returns, Deed, in_region, jump, jump_to, end_action, deed_of}
 use Rattle.hip_runs.specs.History.{AreDescending, IsParted, HasHistory}
 use Rattle.hip_runs.specs.Parts.{In, PartOf}
-use Rattle.hip_runs.specs.PartLaws.{in-append, append-left, part-fenced, part-flushed_from, part-stored, IsFlushedFrom}
+use Rattle.hip_runs.specs.Laws.PartLaws.{in-append, append-left, part-fenced, part-flushed_from, part-stored, IsFlushedFrom}
 use Rattle.hip_runs.specs.Persistence.{part_of_store, stored_lines, earlier, noted_flush, noted_fence, flush_line, fence_line, flushes_lines, flushed_lines, fenced_lines}
 use Rattle.hip_runs.specs.Places.{blocks_in, body_of, body_at, code_at, end_at}
 use Rattle.hip_runs.specs.Reports.{is_open}

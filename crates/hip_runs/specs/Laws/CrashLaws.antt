@@ -10,12 +10,12 @@ use Rattle.hip_lines.specs.LooseLaws.{get-map}
 use Rattle.hip_globals.specs.Addresses.{end_of}
 use Rattle.hip_runs.specs.declared.input.Input.{Input}
 use Rattle.hip_runs.specs.Crash.{covers, byte_of, IsCrashImage, IsCrashPick, crash_image}
-use Rattle.hip_runs.specs.HistoryLaws.{lines_ordered}
+use Rattle.hip_runs.specs.Laws.HistoryLaws.{lines_ordered}
 use Rattle.hip_runs.specs.Persistence.{noted_flush, noted_fence, flush_line, fence_line, fenced_lines}
 use Rattle.hip_runs.specs.Since.{stores, fences}
 use Rattle.hip_runs.specs.State.{Flush, StorePart, State}
 use Rattle.hip_runs.specs.Step.{event, run}
-use Rattle.hip_runs.specs.StepLaws.{Cases, met_lines, step-cases, length-lines, ordered-met_lines}
+use Rattle.hip_runs.specs.Laws.StepLaws.{Cases, met_lines, step-cases, length-lines, ordered-met_lines}
 use Rattle.hip_runs.specs.Validity.{IsValid}
 
 -- ---- every image is a choice of first parts, and every choice gives an image

@@ -5,13 +5,13 @@ use Rattle.hip_lines.specs.Line.{Line, IsOrdered, AreOrdered, with_part, has_byt
 use Rattle.hip_lines.specs.LineLaws.{slice_get-change_range, ordered-at}
 use Rattle.hip_lines.specs.LooseLaws.{get-map, get-of_map}
 use Rattle.hip_runs.specs.declared.input.Input.{Input}
-use Rattle.hip_runs.specs.HistoryLaws.{has_history, lines_ordered}
+use Rattle.hip_runs.specs.Laws.HistoryLaws.{has_history, lines_ordered}
 use Rattle.hip_runs.specs.Persistence.{earlier, noted_flush, noted_fence, flush_line, fence_line, fenced_lines}
 use Rattle.hip_runs.specs.Since.{IsDurableIn, IsDurableAt}
-use Rattle.hip_runs.specs.SinceLaws.{get_mapped}
+use Rattle.hip_runs.specs.Laws.SinceLaws.{get_mapped}
 use Rattle.hip_runs.specs.State.{Flush, StorePart, State}
 use Rattle.hip_runs.specs.Step.{run}
-use Rattle.hip_runs.specs.StepLaws.{Cases, met_lines, step-cases, ordered-met_lines}
+use Rattle.hip_runs.specs.Laws.StepLaws.{Cases, met_lines, step-cases, ordered-met_lines}
 
 get_front : {A : Type 0} (xs : List A) (y x : A) (k : ℕ) → slice_get (xs ++ y ∷ []) k ≡ Some x → k < length xs → slice_get xs k ≡ Some x
 get_front [] y x k e lt = absurd (omega arith)

@@ -3,6 +3,7 @@ pub mod Twins
 pub mod Functions
 pub mod Callable
 pub mod Clones
+pub mod CloneNumbers
 pub mod Lookup
 pub mod Items
 pub mod Bodies

@@ -6,7 +6,7 @@ use Rattle.hip_ir.specs.declared.instr.Arg.{Arg}
 use Rattle.hip_ir.specs.declared.program.Function.{Function}
 use Rattle.hip_ir.specs.declared.program.Program.{Program}
 use Rattle.hip_names.specs.NumberLaws.{number_of-there}
-use Rattle.hip_typing.specs.Externs.{call_of}
+use Rattle.hip_externs.specs.Externs.{call_of}
 use Rattle.hip_typing.specs.Given.{CallsFunction}
 use Rattle.hip_typing.specs.Laws.Decided.{all-at}
 use Rattle.hip_typing.specs.Numbering.{function_names}

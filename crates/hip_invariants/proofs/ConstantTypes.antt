@@ -9,7 +9,7 @@ use Rattle.hip_types.specs.declared.number.Scalar.TheVariants.{Int, Ptr}
 use Rattle.hip_types.specs.declared.number.Width.{Width}
 use Rattle.hip_types.specs.declared.ty.Ty.{Ty}
 use Rattle.hip_types.specs.declared.ty.Ty.TheVariants as types
-use Rattle.hip_ir.specs.Levels.{out-Ty-Int, out-Ty-Ptr}
+use Rattle.hip_ir.specs.Laws.Levels.{out-Ty-Int, out-Ty-Ptr}
 use Rattle.hip_ir.specs.declared.constant.Const.{Const, out-Const, roll-Const, roll-out-Const}
 use Rattle.hip_ir.specs.declared.constant.Const.TheOpen.{Const-F}
 use Rattle.hip_ir.specs.declared.constant.Const.TheFolds.{fold-ConstGep, fold-roll-Const, fold_out-ConstGep}
@@ -18,14 +18,14 @@ use Rattle.hip_ir.specs.declared.constant.TypedConst.{TypedConst}
 use Rattle.hip_ir.specs.declared.program.Program.{Program}
 use Rattle.hip_mem.specs.Memory.{volatile_start}
 use Rattle.hip_names.specs.Names.{number_of}
-use Rattle.hip_typing.specs.Addresses.{IsBase, end_of, start_of, is_persistent, address_in}
+use Rattle.hip_globals.specs.Addresses.{IsBase, end_of, start_of, is_persistent, address_in}
 use Rattle.hip_typing.specs.Constants.{has_shape}
-use Rattle.hip_typing.specs.Laws.AddressLaws.{spelled-divide, end_of-from}
+use Rattle.hip_globals.specs.Laws.AddressLaws.{spelled-divide, end_of-from}
 use Rattle.hip_typing.specs.Laws.TypeLaws.{same_width-equal}
 use Rattle.hip_typing.specs.Places.{type_of}
 use Rattle.hip_typing.specs.Types.{same_width}
 use Rattle.hip_typing.specs.Sound.{IsSound}
-use Rattle.hip_typing.specs.Values.{Written, Piece, global_address, written_step, gep_step, item_step, const_value}
+use Rattle.hip_globals.specs.Values.{Written, Piece, global_address, written_step, gep_step, item_step, const_value}
 use Rattle.hip_runs.specs.Operands.{width_of}
 use Rattle.hip_invariants.proofs.GlobalAddresses.{start_before_end}
 

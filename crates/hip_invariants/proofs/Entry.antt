@@ -6,7 +6,7 @@ use Rattle.std.proofs.lemmas.Bool.{and_parts}
 use Rattle.std.proofs.lemmas.List.Elements.{All-head, All-tail}
 use Rattle.std.proofs.lemmas.Option.{same_Some, slice_get-map}
 use Rattle.hip_ir.specs.Spelling.{not_empty, spelled_global, spelled_phi, spelled_block, spelled_function}
-use Rattle.hip_ir.specs.SpellingExact.{spelled_exact}
+use Rattle.hip_ir.specs.Laws.SpellingExact.{spelled_exact}
 use Rattle.hip_ir.specs.declared.block.Block.{Block}
 use Rattle.hip_ir.specs.declared.block.Edge.{Edge}
 use Rattle.hip_ir.specs.declared.block.Phi.{Phi}

@@ -27,13 +27,13 @@ use Rattle.hip_ir.specs.declared.program.Program.{Program}
 use Rattle.hip_num.specs.Arithmetic.{modulo}
 use Rattle.hip_num.specs.declared.arithmetic.NumTrap.{NumTrap}
 use Rattle.hip_names.specs.Names.{AllDiffer}
-use Rattle.hip_typing.specs.Externs.{signature}
+use Rattle.hip_externs.specs.Externs.{signature}
 use Rattle.hip_typing.specs.Given.{CallsFunction, CallsExtern}
 use Rattle.hip_typing.specs.Laws.Decided.{all-at}
 use Rattle.hip_typing.specs.Laws.GivenLaws.{sound-operands, sound-calls}
 use Rattle.hip_typing.specs.Registers.{Register, Use, find_register, registers_of, assigned_by, instr_uses, end_uses, arg_uses, edge_uses}
 use Rattle.hip_typing.specs.Sound.{IsSound, IsBlockAt, IsTyped, EndItem, own_types_agree, names_in_function, operand_is_typed}
-use Rattle.hip_typing.specs.declared.externs.ExternCall.TheVariants as calls
+use Rattle.hip_externs.specs.declared.call.ExternCall.TheVariants as calls
 use Rattle.hip_runs.specs.declared.input.Input.{Input}
 use Rattle.hip_runs.specs.Actions.{truth, cast_value, edge_value, returned}
 use Rattle.hip_runs.specs.Operands.{look_up, value_of, values_of, bound, width_of}

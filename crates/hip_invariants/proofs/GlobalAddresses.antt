@@ -5,7 +5,7 @@ use Rattle.std.proofs.lemmas.Option.{same_Some}
 use Rattle.hip_types.specs.Layout.{shape}
 use Rattle.hip_types.specs.LayoutLaws.{next-le}
 use Rattle.hip_ir.specs.declared.program.GlobalVar.{GlobalVar}
-use Rattle.hip_typing.specs.Addresses.{same, global_align, global_start, end_of, start_of, is_persistent}
+use Rattle.hip_globals.specs.Addresses.{same, global_align, global_start, end_of, start_of, is_persistent}
 
 abbrev behind : ℕ → GlobalVar → ℕ
 behind at g = global_start at g + (shape g.ty).size

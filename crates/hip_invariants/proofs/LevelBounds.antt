@@ -27,10 +27,10 @@ use Rattle.hip_ir.specs.declared.program.Param.{Param}
 use Rattle.hip_ir.specs.declared.program.Program.{Program}
 use Rattle.hip_mem.specs.Memory.{volatile_start, stack_end}
 use Rattle.hip_names.specs.Names.{number_of}
-use Rattle.hip_typing.specs.Addresses.{start_of, is_persistent, address_in}
-use Rattle.hip_typing.specs.Constants.{index_of}
+use Rattle.hip_globals.specs.Addresses.{start_of, is_persistent, address_in}
+use Rattle.hip_globals.specs.Constants.{index_of}
 use Rattle.hip_typing.specs.Sound.{IsSound}
-use Rattle.hip_typing.specs.Values.{Written, Piece, global_address, written_step, gep_step, item_step, const_value}
+use Rattle.hip_globals.specs.Values.{Written, Piece, global_address, written_step, gep_step, item_step, const_value}
 use Rattle.hip_runs.specs.declared.input.Input.{Input}
 use Rattle.hip_runs.specs.Actions.{index_value, index_values, edge_value, returned}
 use Rattle.hip_runs.specs.Operands.{value_of, values_of, bound}

@@ -7,7 +7,7 @@ use Rattle.hip_types.specs.Layout.{shape}
 use Rattle.hip_ir.specs.declared.program.GlobalVar.{GlobalVar}
 use Rattle.hip_ir.specs.declared.program.Program.{Program}
 use Rattle.hip_mem.specs.Memory.{volatile_start, stack_start, stack_end}
-use Rattle.hip_typing.specs.Addresses.{IsBase, start_of, is_persistent, address}
+use Rattle.hip_globals.specs.Addresses.{IsBase, start_of, is_persistent, address}
 use Rattle.hip_typing.specs.Sound.{IsSound}
 use Rattle.hip_runs.specs.declared.event.Object.TheVariants as objects
 use Rattle.hip_runs.specs.declared.input.Input.{Input}

@@ -17,7 +17,7 @@ use Rattle.hip_ir.specs.declared.program.Function.{Function}
 use Rattle.hip_ir.specs.declared.program.Param.{Param}
 use Rattle.hip_ir.specs.declared.program.Program.{Program}
 use Rattle.hip_names.specs.Names.{IsAmong}
-use Rattle.hip_typing.specs.Externs.{signature}
+use Rattle.hip_externs.specs.Externs.{signature}
 use Rattle.hip_typing.specs.Given.{CallsFunction, CallsExtern, HasBlock}
 use Rattle.hip_typing.specs.Laws.Decided.{all-at}
 use Rattle.hip_typing.specs.Laws.GivenLaws.{sound-calls, sound-labels}
@@ -25,8 +25,8 @@ use Rattle.hip_typing.specs.Paths.{label_at, labels_named_at, names_of}
 use Rattle.hip_typing.specs.Registers.{assigned_by, phi_registers, parameter_registers, end_labels}
 use Rattle.hip_typing.specs.Sound.{IsSound, IsBlockAt, TypesAgree, InstrItem, label_number}
 use Rattle.hip_typing.specs.declared.assigned.Point.TheVariants.{Before}
-use Rattle.hip_typing.specs.declared.externs.ExternCall.{ExternCall}
-use Rattle.hip_typing.specs.declared.externs.ExternCall.TheVariants as calls
+use Rattle.hip_externs.specs.declared.call.ExternCall.{ExternCall}
+use Rattle.hip_externs.specs.declared.call.ExternCall.TheVariants as calls
 use Rattle.hip_runs.specs.declared.event.TrapKind.TheVariants as traps
 use Rattle.hip_runs.specs.declared.input.Input.{Input}
 use Rattle.hip_runs.specs.Actions.{Action, Traps, Assigns, Allocates, Stores, Flushes, Persists, Fences, Asserts, Prints, Reads, Calls, Jumps, Returns, instr_action, after_phis, jump_to, jump, case_label, end_action, deed_of}

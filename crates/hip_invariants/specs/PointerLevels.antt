@@ -23,12 +23,12 @@ use Rattle.hip_ir.specs.declared.program.Param.{Param}
 use Rattle.hip_ir.specs.declared.program.Program.{Program}
 use Rattle.hip_mem.specs.Memory.{stack_end}
 use Rattle.hip_names.specs.Names.{number_of}
-use Rattle.hip_typing.specs.Addresses.{is_persistent}
-use Rattle.hip_typing.specs.Constants.{index_of}
-use Rattle.hip_typing.specs.Externs.{call_of}
+use Rattle.hip_globals.specs.Addresses.{is_persistent}
+use Rattle.hip_globals.specs.Constants.{index_of}
+use Rattle.hip_externs.specs.Externs.{call_of}
 use Rattle.hip_typing.specs.Numbering.{function_number}
 use Rattle.hip_typing.specs.Sound.{IsBlockAt}
-use Rattle.hip_typing.specs.declared.externs.ExternCall.TheVariants as calls
+use Rattle.hip_externs.specs.declared.call.ExternCall.TheVariants as calls
 use Rattle.hip_runs.specs.Actions.{index_value}
 use Rattle.hip_runs.specs.State.{Frame}
 use Rattle.hip_invariants.specs.FrameFacts.{each_register}

@@ -13,5 +13,13 @@ pub mod Scores
 pub mod Parts
 pub mod History
 pub mod Since
+pub mod Shown
+pub mod Sites
+pub mod Frames
+pub mod Order
+pub mod Tags
+pub mod WellFormed
+pub mod Entry
+pub mod After
 pub mod Ends
 pub mod Laws

@@ -18,11 +18,11 @@ use Rattle.hip_ir.specs.declared.program.Program.{Program}
 use Rattle.hip_mem.specs.Memory.{stack_end, bytes_at}
 use Rattle.hip_num.specs.Arithmetic.{binary_of}
 use Rattle.hip_num.specs.Comparisons.{holds}
-use Rattle.hip_typing.specs.Externs.{call_of}
+use Rattle.hip_externs.specs.Externs.{call_of}
 use Rattle.hip_typing.specs.Numbering.{function_number}
 use Rattle.hip_typing.specs.Sound.{IsBlockAt}
-use Rattle.hip_typing.specs.Values.{element_address}
-use Rattle.hip_typing.specs.declared.externs.ExternCall.TheVariants as calls
+use Rattle.hip_globals.specs.Values.{element_address}
+use Rattle.hip_externs.specs.declared.call.ExternCall.TheVariants as calls
 use Rattle.hip_runs.specs.declared.input.Input.{Input}
 use Rattle.hip_runs.specs.Actions.{Action, Traps, Assigns, Allocates, Stores, Flushes, Persists, Fences, Asserts, Prints, Reads, Calls, Jumps, Returns, memory_of, truth, cast_value, index_values, read_value, instr_action, edge_value, returned}
 use Rattle.hip_runs.specs.Operands.{value_of, values_of, bound, scalar_size, width_of}

@@ -7,13 +7,11 @@ use Rattle.hip_ir.specs.declared.instr.Instr.TheVariants.{Binary, Compare, Selec
 use Rattle.hip_ir.specs.declared.program.Function.{Function}
 use Rattle.hip_ir.specs.declared.program.Program.{Program}
 use Rattle.hip_lines.specs.Line.{Line}
-use Rattle.hip_typing.specs.Externs.{call_of}
-use Rattle.hip_typing.specs.declared.externs.ExternCall.{ExternCall}
-use Rattle.hip_typing.specs.declared.externs.ExternCall.TheVariants as calls
+use Rattle.hip_externs.specs.Externs.{call_of}
+use Rattle.hip_externs.specs.declared.call.ExternCall.{ExternCall}
 use Rattle.hip_runs.specs.declared.event.Ending.{Ending}
 use Rattle.hip_runs.specs.declared.event.Ending.TheVariants.{Cut}
 use Rattle.hip_runs.specs.declared.event.TrapKind.{TrapKind}
-use Rattle.hip_runs.specs.declared.event.TrapKind.TheVariants as traps
 use Rattle.hip_runs.specs.declared.input.Input.{Input}
 use Rattle.hip_runs.specs.Actions.{Action, Traps, Assigns, Allocates, Stores, Flushes, Persists, Fences, Asserts, Prints, Reads, Calls, Jumps, Returns, flushing, call_action, extern_action, instr_action, is_flush_or_fence, is_turn, deed_of}
 use Rattle.hip_runs.specs.Ends.{longest_block, longest_in, longest, steps_left, Ends}
@@ -21,6 +19,8 @@ use Rattle.hip_runs.specs.Operands.{values_of}
 use Rattle.hip_runs.specs.Places.{blocks_in, body_of, body_at, code_at, end_at}
 use Rattle.hip_runs.specs.State.{Registers, StorePart, Frame, World, Counts, State}
 use Rattle.hip_runs.specs.Step.{stop, with_turn, leave, perform, carry_out, on_frames, on_ending, step, event_at, counted, run, has_ended, start_frame, main_number}
+use Rattle.hip_externs.specs.declared.call.ExternCall.TheVariants as calls
+use Rattle.hip_runs.specs.declared.event.TrapKind.TheVariants as traps
 
 -- ---- the longest body
 

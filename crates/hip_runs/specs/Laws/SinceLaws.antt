@@ -6,7 +6,6 @@ use Rattle.hip_ir.specs.declared.site.Site.{Site}
 use Rattle.hip_lines.specs.Line.{Line, with_part, start_in, has_bytes, stored, fresh_lines}
 use Rattle.hip_lines.specs.LineLaws.{slice_get-change_range}
 use Rattle.hip_runs.specs.declared.event.Event.{Event}
-use Rattle.hip_runs.specs.declared.event.Event.TheVariants as events
 use Rattle.hip_runs.specs.declared.input.Input.{Input}
 use Rattle.hip_runs.specs.Actions.{in_region}
 use Rattle.hip_runs.specs.Parts.{In, PartOf}
@@ -16,6 +15,7 @@ use Rattle.hip_runs.specs.Since.{fences, flushes, has_line, FencedSince, NotFlus
 use Rattle.hip_runs.specs.State.{Flush, StorePart, Frame, levels_of, site_of}
 use Rattle.hip_runs.specs.Step.{first_line, lines_size, event, run}
 use Rattle.hip_runs.specs.Laws.StepLaws.{Cases, IsTop, is_plain, flush_here, met_lines, step-cases, counted-steps}
+use Rattle.hip_runs.specs.declared.event.Event.TheVariants as events
 
 -- ---- one step more
 
@@ -232,7 +232,7 @@ module _ (P : Program) (I : Input) (n : ℕ) where
   told_cases : AreTold n (run P I n).lines → Cases I (run P I n) Next
   told_cases told = record {
     plain = λ e p q j x i. told_same P I n j (ap fences q ∙ plain_fences e p) (ap (flushes I.base j) q ∙ plain_flushes I.base j e p) x (told j x i);
-    store = λ f fs t a bytes e q j x i. by_store f fs t a bytes e q j x (of_stored _ (a - I.base) (length bytes) _ j x i);
+    store = λ f fs t a bytes e w q j x i. by_store f fs t a bytes e q j x (of_stored _ (a - I.base) (length bytes) _ j x i);
     flush = λ f fs t a m e q j y i. let r = of_flushed I _ a m _ j y i in subst (IsTold P I (suc n) j) (sym r.2) (by_flush f fs t a m j r.0 q (has_bytes j (a - I.base) m) (line_met I a m j e) (told j r.0 r.1));
     persist = λ f fs t a m e q j z i.
         let s = of_fenced _ j z i in

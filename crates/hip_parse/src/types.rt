@@ -9,6 +9,7 @@ ghost use Rattle.hip_parse.specs.Left.{left, Gives, Takes};
 
 use crate::error::ReadError;
 use crate::parser::Parser;
+use crate::words::TypeWords;
 use hip_ir::Fault;
 use hip_types::{Link, Row, Ty};
 use std::alloc::Global;
@@ -22,7 +23,7 @@ impl<'a> Parser<'a> {
         if self.at_mark(b'[') || self.at_mark(b'{') {
             Err(Some(Fault::TooDeep))
         } else {
-            self.scalar_type()
+            self.keyword(TypeWords)
         }
     }
 
@@ -40,7 +41,7 @@ impl<'a> Parser<'a> {
         } else if self.at_mark(b'{') {
             self.structure(alloc, depth - 1)
         } else {
-            let ty = self.scalar_type()?;
+            let ty = self.keyword(TypeWords)?;
             Ok(ty)
         }
     }

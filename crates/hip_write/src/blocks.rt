@@ -9,7 +9,8 @@ ghost use Rattle.hip_write.specs.Parts.{phi_line, instr_line};
 use crate::constants::put_index;
 use crate::instructions::{put_arg, put_instr, put_operand};
 use crate::text::{put_assigned, put_name};
-use crate::types::{put_scalar, put_width};
+
+use crate::words::put_keyword;
 use hip_io::{Put, Sink, put_after};
 use hip_ir::{Arg, Block, Case, Edge, End, Instr, Operand, Phi};
 use hip_types::{Name, Row, Width};
@@ -42,7 +43,7 @@ fn put_phi<S: Sink>(before: Put, out: &mut S, phi: &Phi) -> Put
 {
     let put = put_assigned(before, out, &phi.dest);
     let put = put_after(put, out, b"phi ");
-    let put = put_scalar(put, out, phi.ty);
+    let put = put_keyword(put, out, phi.ty);
     let put = put_after(put, out, b" ");
     put_edges(put, out, &phi.edges)
 }
@@ -101,7 +102,7 @@ fn put_switch<S: Sink>(
     ensures { Writes before result (S.state out.old) (S.state out.new) (end_text (End.Switch width value.now other.now cases.now)) }
 {
     let put = put_after(before, out, b"switch ");
-    let put = put_width(put, out, width);
+    let put = put_keyword(put, out, width);
     let put = put_after(put, out, b" ");
     let put = put_operand(put, out, value);
     let put = put_after(put, out, b", label %");

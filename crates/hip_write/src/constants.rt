@@ -7,7 +7,8 @@ ghost use Rattle.hip_ir.specs.Show.{truth_text, literal_text, index_text, inboun
 ghost use Rattle.hip_write.specs.Parts.{gep_text, item_text};
 
 use crate::text::{put_address, put_natural};
-use crate::types::{put_type, put_width};
+use crate::types::put_type;
+use crate::words::put_keyword;
 use hip_io::{Put, Sink, put_after};
 use hip_ir::{Const, ConstGep, TypedConst};
 use hip_types::{Bits, Row, Width};
@@ -57,7 +58,7 @@ fn put_literal<S: Sink>(before: Put, out: &mut S, bits: Bits) -> Put
 pub fn put_index<S: Sink>(before: Put, out: &mut S, bits: &Bits) -> Put
     ensures { Writes before result (S.state out.old) (S.state out.new) (index_text bits.now) }
 {
-    let put = put_width(before, out, bits.width);
+    let put = put_keyword(before, out, bits.width);
     let put = put_after(put, out, b" ");
     put_literal(put, out, *bits)
 }

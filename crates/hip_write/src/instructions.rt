@@ -8,8 +8,8 @@ ghost use Rattle.hip_write.specs.Parts.{computed_text, memory_text};
 
 use crate::constants::{put_const, put_inbounds};
 use crate::text::{put_assigned, put_name, put_natural, put_register};
-use crate::types::{put_ret, put_scalar, put_type, put_width};
-use crate::words::{put_binary_word, put_cast_word, put_flags, put_pred_word};
+use crate::types::{put_ret, put_type};
+use crate::words::{put_flags, put_keyword};
 use hip_io::{Put, Sink, put_after};
 use hip_ir::{Arg, Flags, Instr, Operand};
 use hip_types::{BinaryOp, CastOp, Name, Pred, Row, Scalar, Ty, Width};
@@ -26,7 +26,7 @@ pub fn put_operand<S: Sink>(before: Put, out: &mut S, operand: &Operand) -> Put
 pub fn put_arg<S: Sink>(before: Put, out: &mut S, arg: &Arg) -> Put
     ensures { Writes before result (S.state out.old) (S.state out.new) (arg_text arg.now) }
 {
-    let put = put_scalar(before, out, arg.ty);
+    let put = put_keyword(before, out, arg.ty);
     let put = put_after(put, out, b" ");
     put_operand(put, out, &arg.value)
 }
@@ -101,10 +101,10 @@ fn put_binary<S: Sink>(
     ensures { Writes before result (S.state out.old) (S.state out.new) (instr_text (Instr.Binary dest.now op flags width a.now b.now)) }
 {
     let put = put_assigned(before, out, dest);
-    let put = put_binary_word(put, out, op);
+    let put = put_keyword(put, out, op);
     let put = put_after(put, out, b" ");
     let put = put_flags(put, out, flags);
-    let put = put_width(put, out, width);
+    let put = put_keyword(put, out, width);
     let put = put_after(put, out, b" ");
     put_operands(put, out, a, b)
 }
@@ -122,9 +122,9 @@ fn put_compare<S: Sink>(
 {
     let put = put_assigned(before, out, dest);
     let put = put_after(put, out, b"icmp ");
-    let put = put_pred_word(put, out, pred);
+    let put = put_keyword(put, out, pred);
     let put = put_after(put, out, b" ");
-    let put = put_scalar(put, out, ty);
+    let put = put_keyword(put, out, ty);
     let put = put_after(put, out, b" ");
     put_operands(put, out, a, b)
 }
@@ -144,11 +144,11 @@ fn put_select<S: Sink>(
     let put = put_after(put, out, b"select i1 ");
     let put = put_operand(put, out, cond);
     let put = put_after(put, out, b", ");
-    let put = put_scalar(put, out, ty);
+    let put = put_keyword(put, out, ty);
     let put = put_after(put, out, b" ");
     let put = put_operand(put, out, a);
     let put = put_after(put, out, b", ");
-    let put = put_scalar(put, out, ty);
+    let put = put_keyword(put, out, ty);
     let put = put_after(put, out, b" ");
     put_operand(put, out, b)
 }
@@ -165,13 +165,13 @@ fn put_cast<S: Sink>(
     ensures { Writes before result (S.state out.old) (S.state out.new) (instr_text (Instr.Cast dest.now op from a.now to)) }
 {
     let put = put_assigned(before, out, dest);
-    let put = put_cast_word(put, out, op);
+    let put = put_keyword(put, out, op);
     let put = put_after(put, out, b" ");
-    let put = put_scalar(put, out, from);
+    let put = put_keyword(put, out, from);
     let put = put_after(put, out, b" ");
     let put = put_operand(put, out, a);
     let put = put_after(put, out, b" to ");
-    put_scalar(put, out, to)
+    put_keyword(put, out, to)
 }
 
 fn put_alloca<S: Sink>(before: Put, out: &mut S, dest: &Name, ty: &Ty, align: Option<u64>) -> Put
@@ -195,7 +195,7 @@ fn put_load<S: Sink>(
 {
     let put = put_assigned(before, out, dest);
     let put = put_after(put, out, b"load ");
-    let put = put_scalar(put, out, ty);
+    let put = put_keyword(put, out, ty);
     let put = put_after(put, out, b", ptr ");
     let put = put_operand(put, out, addr);
     put_align(put, out, align)
@@ -212,7 +212,7 @@ fn put_store<S: Sink>(
     ensures { Writes before result (S.state out.old) (S.state out.new) (instr_text (Instr.Store ty value.now addr.now align)) }
 {
     let put = put_after(before, out, b"store ");
-    let put = put_scalar(put, out, ty);
+    let put = put_keyword(put, out, ty);
     let put = put_after(put, out, b" ");
     let put = put_operand(put, out, value);
     let put = put_after(put, out, b", ptr ");

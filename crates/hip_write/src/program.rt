@@ -10,7 +10,8 @@ use crate::blocks::put_blocks;
 use crate::constants::put_const;
 use crate::instructions::put_align;
 use crate::text::put_name;
-use crate::types::{put_ret, put_scalar, put_type};
+use crate::types::{put_ret, put_type};
+use crate::words::put_keyword;
 use hip_io::{Put, Sink, WriteFault, put_after};
 use hip_ir::{Extern, Function, GlobalVar, Param, Program};
 use hip_types::{Row, Scalar};
@@ -69,7 +70,7 @@ fn put_scalars<S: Sink>(before: Put, out: &mut S, scalars: &[Scalar]) -> Put
     let mut separator = b"".as_slice();
     'each_scalar: for at in 0..scalars.len() {
         put = put_after(put, out, separator);
-        put = put_scalar(put, out, scalars[at]);
+        put = put_keyword(put, out, scalars[at]);
         separator = b", ".as_slice();
     }
     put
@@ -113,7 +114,7 @@ fn put_externs<S: Sink>(before: Put, out: &mut S, externs: &Row<Extern>) -> Put
 fn put_param<S: Sink>(before: Put, out: &mut S, param: &Param) -> Put
     ensures { Writes before result (S.state out.old) (S.state out.new) (param_text param.now) }
 {
-    let put = put_scalar(before, out, param.ty);
+    let put = put_keyword(before, out, param.ty);
     let put = put_after(put, out, b" %");
     put_name(put, out, &param.name)
 }

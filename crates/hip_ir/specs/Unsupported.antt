@@ -2,7 +2,7 @@
 use Rattle.std.specs.Prelude.{ℕ, Bool, false, List, [], ◌∷◌, ◌||◌, ◌&&◌, ◌==◌, codes, if◌then◌else◌}
 use Rattle.std.specs.List.{list_all}
 use Rattle.std.specs.Str.{bytes_eq}
-use Rattle.hip_tokens.specs.Bytes.{is_digit}
+use Rattle.hip_tokens.specs.Bytes.{byte, is_digit}
 use Rattle.hip_tokens.specs.Tokens.{Tok, Word, Odd, At}
 use Rattle.hip_ir.specs.declared.fault.Fault.{Fault}
 use Rattle.hip_ir.specs.declared.fault.Fault.TheVariants as faults
@@ -11,7 +11,7 @@ use Rattle.hip_ir.specs.declared.fault.Fault.TheVariants as faults
 abbrev pub is_int_name : List ℕ → Bool
 is_int_name [] = false
 is_int_name (a ∷ []) = false
-is_int_name (a ∷ b ∷ bs) = (a == 105) && list_all is_digit (b ∷ bs)
+is_int_name (a ∷ b ∷ bs) = (a == byte "i") && list_all is_digit (b ∷ bs)
 
 abbrev pub one_of : List (List ℕ) → List ℕ → Bool
 one_of [] t = false
@@ -64,7 +64,8 @@ is_unsupported_word t =
 
 -- `! # < * % @`
 abbrev pub is_unsupported_byte : ℕ → Bool
-is_unsupported_byte b = (b == 33) || (b == 35) || (b == 60) || (b == 42) || (b == 37) || (b == 64)
+is_unsupported_byte b =
+    (b == byte "!") || (b == byte "#") || (b == byte "<") || (b == byte "*") || (b == byte "%") || (b == byte "@")
 
 abbrev pub is_unsupported : Tok → Bool
 is_unsupported (Word t) = is_unsupported_word t

@@ -2,6 +2,7 @@
 
 ghost use Rattle.std.specs.Prelude.{◌≡◌, ℕ, List, [], ◌∷◌, ◌++◌, codes};
 ghost use Rattle.hip_types.specs.declared.number.Scalar.TheVariants.{Ptr};
+ghost use Rattle.hip_tokens.specs.Bytes.{byte};
 ghost use Rattle.hip_rules.specs.Part.{token, either, one_more_by, separated, listed};
 ghost use Rattle.hip_rules.specs.Reader.{many_at, with_front};
 ghost use Rattle.hip_ir.specs.Words.{is_mark, comma, too_deep};
@@ -107,7 +108,7 @@ impl<'a> Parser<'a> {
     /// A `getelementptr` where none may open any more.
     #[tactic(auto, unfolding(crate::specs::Left::left, hip_ir::specs::Grammar::gep_const))]
     fn shallow_gep(&mut self) -> Result<Const, Option<Fault>>
-        ensures { Gives (λ x. x) result ((gep_const (λ inbounds. token (too_deep 40))).read (left self.old)) (left self.new) }
+        ensures { Gives (λ x. x) result ((gep_const (λ inbounds. token (too_deep (byte "(")))).read (left self.old)) (left self.new) }
     {
         self.word(b"getelementptr")?;
         let _inbounds = self.maybe_word(b"inbounds")?;
@@ -183,7 +184,7 @@ impl<'a> Parser<'a> {
     /// An aggregate constant where no level is left.
     #[tactic(auto, unfolding(crate::specs::Left::left, hip_ir::specs::Grammar::array_const))]
     fn shallow_array(&mut self) -> Result<Const, Option<Fault>>
-        ensures { Gives (λ x. x) result ((either (is_mark 91) (array_const (token (too_deep 91))) (token zero_const)).read (left self.old)) (left self.new) }
+        ensures { Gives (λ x. x) result ((either (is_mark (byte "[")) (array_const (token (too_deep (byte "[")))) (token zero_const)).read (left self.old)) (left self.new) }
     {
         if self.at_mark(b'[') {
             Err(Some(Fault::TooDeep))
@@ -194,7 +195,7 @@ impl<'a> Parser<'a> {
 
     #[tactic(auto, unfolding(crate::specs::Left::left, hip_ir::specs::Grammar::struct_const))]
     fn shallow_struct(&mut self) -> Result<Const, Option<Fault>>
-        ensures { Gives (λ x. x) result ((either (is_mark 123) (struct_const (token (too_deep 123))) (token zero_const)).read (left self.old)) (left self.new) }
+        ensures { Gives (λ x. x) result ((either (is_mark (byte "{")) (struct_const (token (too_deep (byte "{")))) (token zero_const)).read (left self.old)) (left self.new) }
     {
         if self.at_mark(b'{') {
             Err(Some(Fault::TooDeep))
@@ -253,7 +254,7 @@ impl<'a> Parser<'a> {
     #[cycle(constants)]
     #[tactic(auto, unfolding(hip_ir::specs::Grammar::array_const))]
     fn array_value(&mut self, alloc: Global, depth: u32) -> Result<Const, ReadError>
-        ensures { Takes (λ x. x) result ((either (is_mark 91) (array_const (const_list 91 93 (const_within depth))) (token zero_const)).read (left self.old)) (left self.new) }
+        ensures { Takes (λ x. x) result ((either (is_mark (byte "[")) (array_const (const_list (byte "[") (byte "]") (const_within depth))) (token zero_const)).read (left self.old)) (left self.new) }
     {
         if self.at_mark(b'[') {
             let elements = self.elements(alloc, depth)?;
@@ -267,7 +268,7 @@ impl<'a> Parser<'a> {
     #[cycle(constants)]
     #[tactic(auto, unfolding(hip_ir::specs::Grammar::struct_const))]
     fn struct_value(&mut self, alloc: Global, depth: u32) -> Result<Const, ReadError>
-        ensures { Takes (λ x. x) result ((either (is_mark 123) (struct_const (const_list 123 125 (const_within depth))) (token zero_const)).read (left self.old)) (left self.new) }
+        ensures { Takes (λ x. x) result ((either (is_mark (byte "{")) (struct_const (const_list (byte "{") (byte "}") (const_within depth))) (token zero_const)).read (left self.old)) (left self.new) }
     {
         if self.at_mark(b'{') {
             let fields = self.field_values(alloc, depth)?;
@@ -281,7 +282,7 @@ impl<'a> Parser<'a> {
     #[cycle(constants)]
     #[tactic(auto, unfolding(hip_ir::specs::Grammar::const_list, hip_rules::specs::Part::listed, hip_rules::specs::Part::none_up_to, hip_rules::specs::Part::some_up_to))]
     fn elements(&mut self, alloc: Global, depth: u32) -> Result<Row<TypedConst>, ReadError>
-        ensures { Takes (λ x. x) result ((const_list 91 93 (const_within depth)).read (left self.old)) (left self.new) }
+        ensures { Takes (λ x. x) result ((const_list (byte "[") (byte "]") (const_within depth)).read (left self.old)) (left self.new) }
     {
         self.mark(b'[')?;
         if self.at_mark(b']') {
@@ -296,7 +297,7 @@ impl<'a> Parser<'a> {
     #[cycle(constants)]
     #[tactic(auto, unfolding(hip_ir::specs::Grammar::const_list, hip_rules::specs::Part::listed, hip_rules::specs::Part::none_up_to, hip_rules::specs::Part::some_up_to))]
     fn field_values(&mut self, alloc: Global, depth: u32) -> Result<Row<TypedConst>, ReadError>
-        ensures { Takes (λ x. x) result ((const_list 123 125 (const_within depth)).read (left self.old)) (left self.new) }
+        ensures { Takes (λ x. x) result ((const_list (byte "{") (byte "}") (const_within depth)).read (left self.old)) (left self.new) }
     {
         self.mark(b'{')?;
         if self.at_mark(b'}') {

@@ -1,6 +1,7 @@
 //! Types, which nest.
 
 ghost use Rattle.std.specs.Prelude.{◌≡◌, ℕ, List, [], ◌∷◌, ◌++◌};
+ghost use Rattle.hip_tokens.specs.Bytes.{byte};
 ghost use Rattle.hip_rules.specs.Part.{one_more_by, separated, listed};
 ghost use Rattle.hip_rules.specs.Reader.{many_at, with_front};
 ghost use Rattle.hip_ir.specs.Words.{is_mark, comma};
@@ -72,7 +73,7 @@ impl<'a> Parser<'a> {
     #[cycle(types)]
     #[tactic(auto, unfolding(hip_rules::specs::Part::listed, hip_rules::specs::Part::none_up_to, hip_rules::specs::Part::some_up_to))]
     fn fields(&mut self, alloc: Global, depth: u32) -> Result<Row<Ty>, ReadError>
-        ensures { Takes (λ x. x) result ((listed comma (is_mark 125) (type_within depth)).read (left self.old)) (left self.new) }
+        ensures { Takes (λ x. x) result ((listed comma (is_mark (byte "}")) (type_within depth)).read (left self.old)) (left self.new) }
     {
         if self.at_mark(b'}') {
             self.mark(b'}')?;

@@ -322,7 +322,9 @@ unreachable = do
   gives ends.Unreachable
 
 unfoldable pub end : Part Fault End
-end = either (is_word (codes "br")) br (either (is_word (codes "switch")) switch (either (is_word (codes "ret")) ret_end unreachable))
+end =
+    either (is_word (codes "br")) br (either (is_word (codes "switch")) switch
+    (either (is_word (codes "ret")) ret_end unreachable))
 
 -- ---- blocks
 

@@ -71,7 +71,8 @@ struct_type field = do
 
 -- type = scalar | "[" NUM "x" type "]" | "{" [ type { "," type } ] "}"
 unfoldable pub type_by : Part Fault Ty → Part Fault Ty → Part Fault Ty
-type_by array struct = either (is_mark (byte "[")) array (either (is_mark (byte "{")) struct (token (a_word_of type_word)))
+type_by array struct =
+    either (is_mark (byte "[")) array (either (is_mark (byte "{")) struct (token (a_word_of type_word)))
 
 -- nested at most so deep: where no level is left, an opening bracket or brace is too deep
 unfoldable pub type_within : ℕ → Part Fault Ty
@@ -91,7 +92,10 @@ literal_index = do
 
 -- "null" | "zeroinitializer" | GLOBAL
 abbrev pub a_pointer : Tok → Verdict Fault Const
-a_pointer (Word t) = if bytes_eq t (codes "null") then Yes consts.Null else (if bytes_eq t (codes "zeroinitializer") then Yes consts.Zero else No)
+a_pointer (Word t) =
+    if bytes_eq t (codes "null") then Yes consts.Null
+    else (if bytes_eq t (codes "zeroinitializer") then Yes consts.Zero
+    else No)
 a_pointer (Global t) = Yes (consts.Address t)
 a_pointer _ = No
 
@@ -164,7 +168,11 @@ const_by elements fields (Ty-F.Struct fs) = either (is_mark (byte "{")) (struct_
 -- bracketed and braced constants nested at most so deep
 unfoldable pub const_within : ℕ → Ty → Part Fault Const
 const_within zero ty = const_by (token (too_deep (byte "["))) (token (too_deep (byte "{"))) (out-Ty ty)
-const_within (suc n) ty = const_by (const_list (byte "[") (byte "]") (const_within n)) (const_list (byte "{") (byte "}") (const_within n)) (out-Ty ty)
+const_within (suc n) ty =
+    const_by
+    (const_list (byte "[") (byte "]") (const_within n))
+    (const_list (byte "{") (byte "}") (const_within n))
+    (out-Ty ty)
 
 abbrev pub const : Ty → Part Fault Const
 const = const_within 32

@@ -50,7 +50,10 @@ bits_in_range w None = Because Range
 
 -- `true` and `false`, which are of one bit
 abbrev pub truth_word : Width → List ℕ → Option Bits
-truth_word W1 t = if bytes_eq t (codes "true") then Some (bits W1 1) else (if bytes_eq t (codes "false") then Some (bits W1 0) else None)
+truth_word W1 t =
+    if bytes_eq t (codes "true") then Some (bits W1 1)
+    else (if bytes_eq t (codes "false") then Some (bits W1 0)
+    else None)
 truth_word W8 t = None
 truth_word W16 t = None
 truth_word W32 t = None

@@ -89,7 +89,14 @@ global = do
   ty ← type
   init ← const ty
   where_it_lies ← place
-  gives (GlobalItem (record { name = name; fixed = fixed; ty = ty; init = init; persistent = where_it_lies.0; align = where_it_lies.1 }))
+  gives (GlobalItem (record {
+    name = name;
+    fixed = fixed;
+    ty = ty;
+    init = init;
+    persistent = where_it_lies.0;
+    align = where_it_lies.1;
+  }))
 
 -- ---- externs and functions
 
@@ -148,7 +155,9 @@ item =
     target_item)))
 
 abbrev pub begins_item : Tok → Bool
-begins_item t = is_global t || (is_word (codes "declare") t || (is_word (codes "define") t || (is_word (codes "source_filename") t || is_word (codes "target") t)))
+begins_item t =
+    is_global t || (is_word (codes "declare") t || (is_word (codes "define") t || (is_word (codes "source_filename") t
+    || is_word (codes "target") t)))
 
 abbrev pub no_items : Program
 no_items = record { globals = []; externs = []; functions = [] }

@@ -36,11 +36,15 @@ word_piece b bs =
 -- behind `%` and `@` a name stands, or nothing
 unfoldable pub local_piece : List ℕ → Piece
 local_piece bs =
-    if name_here bs then piece (Local (take (prefix_len goes_on_name bs) bs)) (prefix_len goes_on_name bs) else piece (Odd (byte "%")) 0
+    if name_here bs
+    then piece (Local (take (prefix_len goes_on_name bs) bs)) (prefix_len goes_on_name bs)
+    else piece (Odd (byte "%")) 0
 
 unfoldable pub global_piece : List ℕ → Piece
 global_piece bs =
-    if name_here bs then piece (Global (take (prefix_len goes_on_name bs) bs)) (prefix_len goes_on_name bs) else piece (Odd (byte "@")) 0
+    if name_here bs
+    then piece (Global (take (prefix_len goes_on_name bs) bs)) (prefix_len goes_on_name bs)
+    else piece (Odd (byte "@")) 0
 
 unfoldable pub number_piece : ℕ → List ℕ → Piece
 number_piece b bs = piece (Num (b ∷ take (prefix_len is_digit bs) bs)) (prefix_len is_digit bs)

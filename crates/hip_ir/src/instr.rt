@@ -156,15 +156,15 @@ macro_rules! same_variant {
 impl Structural for Instr {
     fn copy(&self, alloc: Global) -> Result<Instr, NoMemory> {
         copy_variant!(self, alloc,
-            Binary { dest, op, width, a, b } [flags],
-            Compare { dest, pred, ty, a, b } [],
-            Select { dest, cond, ty, a, b } [],
-            Cast { dest, op, from, a, to } [],
+            Binary { dest, a, b } [op, flags, width],
+            Compare { dest, a, b } [pred, ty],
+            Select { dest, cond, a, b } [ty],
+            Cast { dest, a } [op, from, to],
             Alloca { dest, ty } [align],
-            Load { dest, ty, addr } [align],
-            Store { ty, value, addr } [align],
+            Load { dest, addr } [ty, align],
+            Store { value, addr } [ty, align],
             Gep { dest, ty, base, indices } [inbounds],
-            Call { dest, ret, callee, args } [],
+            Call { dest, callee, args } [ret],
         )
     }
 

@@ -12,8 +12,8 @@ ghost use Rattle.hip_parse.specs.Left.{left, Gives, Takes};
 use crate::error::ReadError;
 use crate::parser::Parser;
 use crate::parts::{Production, Repeated};
-use crate::words::{Widths, Scalars};
-use hip_ir::{Block, Keyword, Case, Edge, End, Fault, Instr, Phi};
+use crate::words::{Scalars, Widths};
+use hip_ir::{Block, Case, Edge, End, Fault, Instr, Keyword, Phi};
 use hip_types::{Name, Row, Scalar, Width};
 use std::alloc::Global;
 
@@ -41,6 +41,7 @@ impl Repeated for CaseOf {
     type Item = Case;
 
     ghost begins = { λ s. is_width s.0 };
+
     ghost reading = { λ s. (case s.0).read };
 
     fn is_next<'a>(self, parser: &Parser<'a>) -> bool {
@@ -62,6 +63,7 @@ impl Repeated for Instructions {
     type Item = Instr;
 
     ghost begins = { λ _. begins_instr };
+
     ghost reading = { λ _. instr.read };
 
     fn is_next<'a>(self, parser: &Parser<'a>) -> bool {

@@ -14,7 +14,7 @@ ghost use Rattle.hip_parse.specs.Left.{left, Gives, Takes};
 use crate::error::ReadError;
 use crate::parser::Parser;
 use crate::parts::Production;
-use crate::words::{Widths, Scalars};
+use crate::words::{Scalars, Widths};
 use hip_ir::{Arg, Const, ConstGep, Fault, Operand, TypedConst};
 use hip_tokens::Token;
 use hip_types::{Bits, Link, Row, Scalar, Ty};
@@ -403,5 +403,4 @@ impl<'a> Parser<'a> {
         let value = self.operand(alloc, ty)?;
         Ok(Arg { ty, value })
     }
-
 }

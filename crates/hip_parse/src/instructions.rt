@@ -9,7 +9,7 @@ ghost use Rattle.hip_parse.specs.Left.{left, Gives, Takes};
 use crate::constants::{Argument, Index};
 use crate::error::ReadError;
 use crate::parser::Parser;
-use crate::words::{Widths, Scalars, Results, BinaryOps, Preds, IntCasts, FlagsAfter};
+use crate::words::{BinaryOps, FlagsAfter, IntCasts, Preds, Results, Scalars, Widths};
 use hip_ir::{Fault, Flag, Flags, Instr, Keyword};
 use hip_types::{BinaryOp, CastOp, Name, Row, Scalar, Width};
 use std::alloc::Global;

@@ -14,7 +14,7 @@ ghost use Rattle.hip_parse.specs.Left.{left, Gives, Takes};
 use crate::error::ReadError;
 use crate::parser::Parser;
 use crate::parts::{Production, Repeated};
-use crate::words::{Scalars, Results, Links, Unnamed, Linkages, TargetWords, Fixed};
+use crate::words::{Fixed, Linkages, Links, Results, Scalars, TargetWords, Unnamed};
 use hip_ir::{Block, Extern, Fault, Function, GlobalVar, Param, Program};
 use hip_types::{NoMemory, Row, Scalar};
 use std::alloc::Global;
@@ -82,6 +82,7 @@ impl Repeated for Blocks {
     type Item = Block;
 
     ghost begins = { λ _. is_label };
+
     ghost reading = { λ _. block.read };
 
     fn is_next<'a>(self, parser: &Parser<'a>) -> bool {

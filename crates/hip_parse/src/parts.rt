@@ -32,6 +32,7 @@ pub(crate) trait Repeated: Copy {
     type Item: Drop;
 
     ghost begins: { Self → Tok → Bool };
+
     ghost reading: { Self → Reader Fault Self.Item };
 
     /// Whether the next token begins one.
@@ -55,6 +56,7 @@ impl<P: Production> Repeated for Another<P> {
     type Item = P::Value;
 
     ghost begins = { λ _. comma };
+
     ghost reading = { λ s. (one_more_by comma (P.part s.of)).read };
 
     fn is_next<'a>(self, parser: &Parser<'a>) -> bool {

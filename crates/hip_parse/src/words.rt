@@ -8,8 +8,8 @@ ghost use Rattle.hip_parse.specs.Left.{left, Gives};
 
 use crate::parser::Parser;
 use hip_ir::{
-    Fault, Flag, binary_word, flag_word, int_cast_word, pred_word, ret_word, scalar_word, type_word,
-    width_word,
+    Fault, Flag, binary_word, flag_word, int_cast_word, pred_word, ret_word, scalar_word,
+    type_word, width_word,
 };
 use hip_tokens::Token;
 use hip_types::{BinaryOp, CastOp, Pred, Scalar, Ty, Width};
@@ -193,8 +193,8 @@ impl Words for Unnamed {
     ghost meaning = { λ _. unnamed_word };
 
     fn meaning(self, word: &[u8]) -> Option<()> {
-        let is_unnamed =
-            word == b"unnamed_addr".as_slice() || word == b"local_unnamed_addr".as_slice();
+        let is_unnamed = word == b"unnamed_addr".as_slice()
+            || word == b"local_unnamed_addr".as_slice();
         if is_unnamed { Some(()) } else { None }
     }
 }

@@ -27,13 +27,13 @@ use Rattle.hip_num.specs.Casts.{widened}
 use Rattle.hip_num.specs.Comparisons.{holds}
 use Rattle.hip_num.specs.declared.arithmetic.NumTrap.{NumTrap}
 use Rattle.hip_num.specs.declared.arithmetic.NumTrap.TheVariants as num_traps
-use Rattle.hip_typing.specs.Addresses.{volatile_end}
-use Rattle.hip_typing.specs.Externs.{call_of}
-use Rattle.hip_typing.specs.Initial.{volatile_bytes}
-use Rattle.hip_typing.specs.declared.externs.ExternCall.{ExternCall}
-use Rattle.hip_typing.specs.declared.externs.ExternCall.TheVariants as calls
+use Rattle.hip_globals.specs.Addresses.{volatile_end}
+use Rattle.hip_externs.specs.Externs.{call_of}
+use Rattle.hip_globals.specs.Initial.{volatile_bytes}
+use Rattle.hip_externs.specs.declared.call.ExternCall.{ExternCall}
+use Rattle.hip_externs.specs.declared.call.ExternCall.TheVariants as calls
 use Rattle.hip_typing.specs.Numbering.{function_number}
-use Rattle.hip_typing.specs.Values.{element_address}
+use Rattle.hip_globals.specs.Values.{element_address}
 use Rattle.hip_runs.specs.declared.event.TrapKind.{TrapKind}
 use Rattle.hip_runs.specs.declared.event.TrapKind.TheVariants as traps
 use Rattle.hip_runs.specs.declared.input.Input.{Input}
@@ -131,7 +131,7 @@ allocated w dest size align =
 
 -- ---- calls
 
-abbrev bound_call : Option Function → ℕ → List ℕ → Option (List ℕ) → Action
+abbrev pub bound_call : Option Function → ℕ → List ℕ → Option (List ℕ) → Action
 bound_call None g values dest = Traps traps.Unreachable
 bound_call (Some f) g values dest = Calls g (bound f.params values) dest
 
@@ -144,7 +144,7 @@ numbered_call P (Some g) values dest = bound_call (slice_get P.functions g) g va
 unfoldable pub entered : Program → ℕ → List ℕ → List ℕ → Option (List ℕ) → Action
 entered P below callee values dest = cond (nat_lt below 16383) (numbered_call P (function_number P callee) values dest) (Traps traps.Depth)
 
-abbrev arg_value : List ℕ → ℕ → ℕ
+abbrev pub arg_value : List ℕ → ℕ → ℕ
 arg_value values k = unwrap_or (slice_get values k) 0
 
 -- the flush of a range: none of a range without bytes, and a trap where some byte is not valid

@@ -1,4 +1,6 @@
 pub mod Suits
+pub mod SiteSets
+pub mod Walk
 pub mod Repaired
 pub mod Direct
 pub mod Harmless

@@ -9,7 +9,7 @@ abbrev pub Key : Type 0
 Key = ℕ × ℕ × ℕ
 
 abbrev pub same_key : Key → Key → Bool
-same_key a b = nat_eq a.0 b.0 && (nat_eq a.1 b.1 && nat_eq a.2 b.2)
+same_key a b = nat_eq a.0 b.0 && nat_eq a.1 b.1 && nat_eq a.2 b.2
 
 -- the keys are those of the sites
 pub record HasSites (keys : List Key) (sites : List Site) : Type 0 where

@@ -1,16 +1,21 @@
 -- The repaired program as one walk makes it: what is put behind one another, and which functions the inserted calls name.
-use Rattle.std.specs.Prelude.{ℕ, suc, Bool, true, false, ◌||◌, List, [], ◌∷◌, ◌++◌, Option, Some, None, slice_get}
+use Rattle.std.specs.Prelude.{ℕ, suc, Bool, true, false, cond, not, ◌&&◌, ◌||◌, List, [], ◌∷◌, ◌++◌, map, Option, Some, None, slice_get}
 use Rattle.std.specs.List.{flat_map}
+use Rattle.hip_types.specs.declared.number.Scalar.{Scalar}
+use Rattle.hip_types.specs.declared.number.Scalar.TheVariants.{Int, Ptr}
+use Rattle.hip_types.specs.declared.number.Width.TheVariants.{W64}
 use Rattle.hip_ir.specs.Sites.{has_site}
 use Rattle.hip_ir.specs.declared.block.Block.{Block}
 use Rattle.hip_ir.specs.declared.instr.Instr.{Instr}
+use Rattle.hip_ir.specs.declared.program.Extern.{Extern}
 use Rattle.hip_ir.specs.declared.program.Function.{Function}
 use Rattle.hip_ir.specs.declared.program.Program.{Program}
 use Rattle.hip_ir.specs.declared.site.Site.{Site}
-use Rattle.hip_fix.specs.Repaired.{Marked, Clone, Wanted, clwb_name, sfence_name, pmem_flush_name, renamed, inserted_behind, repaired_body, instrs_of, inserts}
+use Rattle.hip_names.specs.Names.{is_among}
+use Rattle.hip_fix.specs.Repaired.{Marked, Clone, Wanted, clwb_name, sfence_name, pmem_flush_name, renamed, inserted_behind, repaired_body, repaired_functions, clone_functions, instrs_of, inserts}
 use Rattle.hip_fix.specs.declared.body.Body.{Body}
 use Rattle.hip_fix.specs.declared.body.Needed.{Needed}
-use Rattle.hip_fix.specs.declared.body.Repair.{Repair}
+use Rattle.hip_fix.specs.declared.repair.Repair.{Repair}
 
 -- where a repair inserts, as sets of sites
 abbrev pub wanted_in : Repair → Wanted
@@ -49,3 +54,26 @@ marked_clone clones w f (Some x) = marked_blocks clones w true f 0 x.blocks
 -- those of the clones of functions
 abbrev pub marked_clones : Program → List Clone → Wanted → List ℕ → List Marked
 marked_clones P clones w fs = flat_map (λ f. marked_clone clones w f (slice_get P.functions f)) fs
+
+-- ---- declarations
+
+-- the declaration of a function without a result, if it is wanted and absent
+abbrev pub declared_if : Bool → List Extern → List ℕ → List Scalar → List Extern
+declared_if wanted externs name params = cond (wanted && not (is_among (map (λ e. e.name) externs) name)) (record { ret = None; name = name; params = params } ∷ []) []
+
+-- the declarations that inserted calls need and that are absent
+abbrev pub added : List Extern → Needed → List Extern
+added externs n =
+    declared_if n.clwb externs clwb_name (Ptr ∷ [])
+    ++ (declared_if n.sfence externs sfence_name [] ++ declared_if n.pmem_flush externs pmem_flush_name (Ptr ∷ Int W64 ∷ []))
+
+-- ---- the program
+
+-- the program with clones of the functions of these numbers behind all functions, under these names
+abbrev pub walked : Program → List Clone → Wanted → List ℕ → List (List ℕ) → Program
+walked P clones w fs names =
+    record {
+      globals = P.globals;
+      externs = P.externs ++ added P.externs (noted (noted none_needed (marked_functions clones w 0 P.functions)) (marked_clones P clones w fs));
+      functions = repaired_functions clones w 0 P.functions ++ clone_functions P clones w fs names;
+    }

@@ -1,8 +1,7 @@
-ghost use Rattle.std.specs.Prelude.{◌≡◌, IfOk, ◌∷◌};
+ghost use Rattle.std.specs.Prelude.{◌≡◌, [], ◌∷◌, IfOk};
 ghost use Rattle.hip_runs.specs.Operands.{access_align, scalar_size};
 ghost use Rattle.hip_fix.specs.Repaired as spec;
 ghost use Rattle.hip_fix.specs.Repaired.{is_wide};
-ghost use Rattle.hip_ir.specs.declared.instr.Instr.TheVariants.{Call};
 
 use hip_ir::{Arg, Const, Instr, Operand};
 use hip_types::{Bits, NoMemory, Row, Scalar, Structural, Width};
@@ -35,7 +34,7 @@ pub fn is_wide(ty: Scalar, align: Option<u64>) -> bool
 
 /// A call without a result.
 fn call(alloc: Global, callee: &[u8], args: Row<Arg>) -> Result<Instr, NoMemory>
-    ensures { IfOk result (λ i. i ≡ Call None None callee.now args) }
+    ensures { IfOk result (λ i. i ≡ Instr.Call None None callee.now args) }
 {
     Ok(Instr::Call {
         dest: None,

@@ -1,0 +1,105 @@
+ghost use Rattle.std.specs.Prelude.{◌≡◌, length, IfOk, OnOk};
+ghost use Rattle.hip_ir.specs.Sites.{has_site};
+ghost use Rattle.hip_runs.specs.Marks.{IsFound};
+ghost use Rattle.hip_runs.specs.Validity.{IsValid};
+ghost use Rattle.hip_runs.specs.declared.input.Input.{Input};
+ghost use Rattle.hip_runs.specs.declared.report.Findings.{Findings};
+ghost use Rattle.hip_fix.specs.Choice.{Contains, plan_for};
+ghost use Rattle.hip_fix.specs.Clean.{IsClean};
+ghost use Rattle.hip_fix.specs.CloneNumbers.{clone_numbers, numbered_from};
+ghost use Rattle.hip_fix.specs.Covered.{AreHoistsFenced, IsCovered};
+ghost use Rattle.hip_fix.specs.Direct.{direct};
+ghost use Rattle.hip_fix.specs.Harmless.{IsHarmless};
+ghost use Rattle.hip_fix.specs.Quiet.{IsQuiet};
+ghost use Rattle.hip_fix.specs.Repaired as spec;
+
+use crate::direct::direct_stores;
+use crate::plan::{CloneOf, Plan};
+use crate::program::repaired_program;
+use hip_calls::{callees, fresh_names};
+use hip_ir::{Function, Site};
+use hip_types::{NoMemory, Row};
+use hip_typing::Checked;
+use std::alloc::Global;
+
+/// What a repair made of a program.
+#[derive(Debug, Drop)]
+pub struct Repaired {
+    /// The repaired program.
+    pub checked: Checked,
+    /// The clones in it, in the order in which calls reach their originals.
+    pub clones: Row<CloneOf>,
+}
+
+/// The clones of the functions of these numbers, which stand behind all functions.
+fn numbered(
+    alloc: Global,
+    functions: &[Function],
+    originals: &[usize],
+) -> Result<Row<CloneOf>, NoMemory>
+    ensures { IfOk result (λ clones. clones ≡ numbered_from (length functions.now) originals.now) }
+{
+    let mut clones = Row::new(alloc);
+    'each: for place in 0..originals.len() {
+        clones.push(CloneOf {
+            original: originals[place],
+            copy: functions.len() + place,
+        })?;
+    }
+    Ok(clones)
+}
+
+/// The program repaired by a plan, where the stores of `skip` get no flush by cloning. It does no harm; and where no store of `skip`
+/// ever lies in the region, it is clean and its hoisted calls are covered. The program, the plan and `skip` stay as they are.
+///
+/// Time and memory are linear in the program, the plan, `skip` and the clones together.
+pub fn apply_skipping(
+    alloc: Global,
+    checked: &Checked,
+    plan: &Plan,
+    skip: &[Site],
+) -> Result<Repaired, NoMemory>
+    ensures program { IfOk result (λ r. r.checked ≡ spec.repaired checked.now plan.now (has_site skip.now)) }
+    ensures clones { IfOk result (λ r. r.clones ≡ clone_numbers checked.now plan.now) }
+    ensures harmless { OnOk result (IsHarmless checked.now plan.now (has_site skip.now)) }
+    ensures clean { IfOk result (λ r. (I : Input) → (found : Findings) →
+        IsQuiet checked.now (has_site skip.now) → IsValid checked.now I → IsFound checked.now I found →
+        Contains plan.now (plan_for checked.now found) → IsClean r.checked I) }
+    ensures covered { IfOk result (λ r. IsQuiet checked.now (has_site skip.now) → IsCovered checked.now r.checked) }
+    ensures fenced { OnOk result (AreHoistsFenced checked.now plan.now (has_site skip.now)) }
+{
+    let program = checked.program();
+    let originals = callees(alloc, program, plan.hoist.as_slice())?;
+    let names = fresh_names(alloc, program, originals.as_slice())?;
+    let clones = numbered(alloc, program.functions.as_slice(), originals.as_slice())?;
+    let repaired = repaired_program(
+        alloc,
+        program,
+        plan,
+        skip,
+        originals.as_slice(),
+        names.as_slice(),
+    )?;
+    Ok(Repaired {
+        checked: Checked::of_sound(repaired),
+        clones,
+    })
+}
+
+/// The program repaired by a plan, where no flush is put by cloning after stores whose address is a register assigned by `alloca`, or
+/// a volatile global itself: those are never in the region. It does no harm, it is clean, and its hoisted calls are covered.
+///
+/// Time and memory are linear in the program, the plan and the clones together.
+pub fn apply(alloc: Global, checked: &Checked, plan: &Plan) -> Result<Repaired, NoMemory>
+    ensures program { IfOk result (λ r. r.checked ≡ spec.repaired checked.now plan.now (direct checked.now)) }
+    ensures clones { IfOk result (λ r. r.clones ≡ clone_numbers checked.now plan.now) }
+    ensures harmless { OnOk result (IsHarmless checked.now plan.now (direct checked.now)) }
+    ensures clean { IfOk result (λ r. (I : Input) → (found : Findings) →
+        IsValid checked.now I → IsFound checked.now I found →
+        Contains plan.now (plan_for checked.now found) → IsClean r.checked I) }
+    ensures covered { IfOk result (λ r. IsCovered checked.now r.checked) }
+    ensures fenced { OnOk result (AreHoistsFenced checked.now plan.now (direct checked.now)) }
+{
+    let skip = direct_stores(alloc, checked.program())?;
+    apply_skipping(alloc, checked, plan, skip.as_slice())
+}

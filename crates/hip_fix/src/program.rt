@@ -1,0 +1,76 @@
+ghost use Rattle.std.specs.Prelude.{◌≡◌, length, IfOk};
+ghost use Rattle.hip_calls.specs.Fresh.{fresh_names};
+ghost use Rattle.hip_ir.specs.Sites.{has_site};
+ghost use Rattle.hip_fix.specs.Repaired.{cloned, clones_from, repaired, wanted_by};
+ghost use Rattle.hip_fix.specs.Walk.{none_needed, walked, wanted_in};
+
+use crate::body::Needed;
+use crate::clones::CloneTable;
+use crate::declarations::declarations;
+use crate::plan::Plan;
+use crate::repair::Repair;
+use crate::sites::SiteSet;
+use hip_ir::{Program, Site};
+use hip_types::{Name, NoMemory, Row, Structural};
+use std::alloc::Global;
+
+/// What a plan asks for, in a program whose functions of these numbers have clones of these names.
+fn repair_of<'a>(
+    alloc: Global,
+    program: &'a Program,
+    plan: &'a Plan,
+    skip: &'a [Site],
+    originals: &'a [usize],
+    names: &'a [Name],
+) -> Result<Repair<'a>, NoMemory>
+    ensures wanted { IfOk result (λ r. wanted_in r ≡ wanted_by plan.now (has_site skip.now)) }
+    ensures clones { IfOk result (λ r. r.clones ≡ clones_from program.now originals.now names.now) }
+{
+    Ok(Repair {
+        flush_after: SiteSet::new(alloc, plan.flush_after.as_slice())?,
+        fence_after: SiteSet::new(alloc, plan.fence_after.as_slice())?,
+        hoist: SiteSet::new(alloc, plan.hoist.as_slice())?,
+        skip: SiteSet::new(alloc, skip)?,
+        clones: CloneTable::new(alloc, program, originals, names)?,
+    })
+}
+
+/// The program that one walk makes, with clones of the functions of these numbers behind all functions.
+fn walk(
+    alloc: Global,
+    repair: &Repair<'_>,
+    program: &Program,
+    originals: &[usize],
+    names: &[Name],
+) -> Result<Program, NoMemory>
+    requires { length names.now ≡ length originals.now }
+    ensures { IfOk result (λ p. p ≡ walked program.now repair.now.clones (wanted_in repair.now) originals.now names.now) }
+{
+    let mut needed = Needed::none();
+    let mut functions = Row::new(alloc);
+    let old = program.functions.as_slice();
+    repair.add_functions(alloc, &mut functions, &mut needed, old)?;
+    repair.add_clones(alloc, &mut functions, &mut needed, program, originals, names)?;
+    Ok(Program {
+        globals: program.globals.copy(alloc)?,
+        externs: declarations(alloc, &program.externs, needed)?,
+        functions,
+    })
+}
+
+/// The repaired program. The functions of these numbers have clones of these names.
+pub fn repaired_program(
+    alloc: Global,
+    program: &Program,
+    plan: &Plan,
+    skip: &[Site],
+    originals: &[usize],
+    names: &[Name],
+) -> Result<Program, NoMemory>
+    requires originals { originals.now ≡ cloned program.now plan.now }
+    requires names { names.now ≡ fresh_names program.now originals.now }
+    ensures { IfOk result (λ p. p ≡ repaired program.now plan.now (has_site skip.now)) }
+{
+    let repair = repair_of(alloc, program, plan, skip, originals, names)?;
+    walk(alloc, &repair, program, originals, names)
+}

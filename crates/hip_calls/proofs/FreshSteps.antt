@@ -37,11 +37,6 @@ fresh_for-alike xs ys (name ∷ names) alike =
     ap (λ x. x ∷ fresh_for (fresh_name xs name ∷ xs) names) first
     ∙ ap (λ rest. fresh_name ys name ∷ rest) (fresh_for-alike (fresh_name xs name ∷ xs) (fresh_name ys name ∷ ys) names (λ q. ap (λ x. bytes_eq q x || is_among xs q) first ∙ ap (λ b. bytes_eq q (fresh_name ys name) || b) (alike q)))
 
--- a set of names has the names that are put into it
-pub met-alike : (names : List (List ℕ)) → Alike (met bytes_eq [] names) names
-met-alike names q =
-    both_ways _ _ (λ e. ⊎_elim (λ none. cc) (λ there. there) (met-only nat_list_eq_equiv q [] names e)) (λ e. met-second nat_list_eq_equiv q [] names e)
-
 pub behind-alike : (front xs ys : List (List ℕ)) → Alike xs ys → Alike (front ++ xs) (front ++ ys)
 behind-alike front xs ys alike q = list_any-append (bytes_eq q) front xs ∙ ap (λ b. list_any (bytes_eq q) front || b) (alike q) ∙ sym (list_any-append (bytes_eq q) front ys)
 

@@ -1,4 +1,5 @@
 pub mod Numbered
+pub mod MetLaws
 pub mod Reach
 pub mod ReachLaws
 pub mod Fresh

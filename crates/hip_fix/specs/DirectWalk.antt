@@ -1,0 +1,64 @@
+-- The stores whose bytes are never in the region, as one walk finds them: with the volatile globals and, for each function, the
+-- registers that `alloca` assigns as sets of names.
+use Rattle.std.specs.Prelude.{ℕ, suc, Bool, false, cond, List, [], ◌∷◌, ◌++◌}
+use Rattle.std.specs.List.{flat_map}
+use Rattle.std.specs.Str.{bytes_eq}
+use Rattle.hip_types.specs.Distinct.{met}
+use Rattle.hip_ir.specs.declared.block.Block.{Block}
+use Rattle.hip_ir.specs.declared.constant.Const.{Const, out-Const}
+use Rattle.hip_ir.specs.declared.constant.Const.TheOpen.{Const-F}
+use Rattle.hip_ir.specs.declared.constant.ConstGep.{ConstGep}
+use Rattle.hip_ir.specs.declared.constant.TypedConst.{TypedConst}
+use Rattle.hip_ir.specs.declared.instr.Instr.{Instr}
+use Rattle.hip_ir.specs.declared.instr.Instr.TheVariants.{Alloca, Store}
+use Rattle.hip_ir.specs.declared.instr.Operand.{Operand}
+use Rattle.hip_ir.specs.declared.instr.Operand.TheVariants.{Reg, Fixed}
+use Rattle.hip_ir.specs.declared.program.Function.{Function}
+use Rattle.hip_ir.specs.declared.program.GlobalVar.{GlobalVar}
+use Rattle.hip_ir.specs.declared.site.Site.{Site}
+use Rattle.hip_names.specs.Names.{is_among}
+
+abbrev pub volatile_names : List GlobalVar → List (List ℕ)
+volatile_names [] = []
+volatile_names (g ∷ gs) = cond g.persistent (volatile_names gs) (g.name ∷ volatile_names gs)
+
+-- the register that an `alloca` assigns
+abbrev pub allocated : Instr → List (List ℕ)
+allocated (Alloca dest ty align) = dest ∷ []
+allocated _ = []
+
+abbrev pub body_allocas : List Instr → List (List ℕ)
+body_allocas is = flat_map allocated is
+
+abbrev pub alloca_names : List Block → List (List ℕ)
+alloca_names blocks = flat_map (λ b. body_allocas b.body) blocks
+
+abbrev pub names_one_of : List (List ℕ) → Const-F Const ConstGep TypedConst → Bool
+names_one_of volatile (Const-F.Address name) = is_among volatile name
+names_one_of volatile _ = false
+
+-- an address is one of these registers, or one of these globals itself
+abbrev pub lies_by : List (List ℕ) → List (List ℕ) → Operand → Bool
+lies_by volatile registers (Reg name) = is_among registers name
+lies_by volatile registers (Fixed value) = names_one_of volatile (out-Const value)
+
+abbrev pub stores_by : List (List ℕ) → List (List ℕ) → Instr → Bool
+stores_by volatile registers (Store ty value addr align) = lies_by volatile registers addr
+stores_by volatile registers _ = false
+
+-- the sites of such stores of a body from place k on, of blocks from number b on, of a function, and of functions from number f on
+abbrev pub outside_in_body : List (List ℕ) → List (List ℕ) → ℕ → ℕ → ℕ → List Instr → List Site
+outside_in_body volatile registers f b k [] = []
+outside_in_body volatile registers f b k (i ∷ is) =
+    cond (stores_by volatile registers i) (record { function = f; block = b; index = k } ∷ []) [] ++ outside_in_body volatile registers f b (suc k) is
+
+abbrev pub outside_in_blocks : List (List ℕ) → List (List ℕ) → ℕ → ℕ → List Block → List Site
+outside_in_blocks volatile registers f b [] = []
+outside_in_blocks volatile registers f b (x ∷ xs) = outside_in_body volatile registers f b 0 x.body ++ outside_in_blocks volatile registers f (suc b) xs
+
+abbrev pub outside_in_function : List (List ℕ) → ℕ → Function → List Site
+outside_in_function volatile f x = outside_in_blocks volatile (met bytes_eq [] (alloca_names x.blocks)) f 0 x.blocks
+
+abbrev pub outside_in_functions : List (List ℕ) → ℕ → List Function → List Site
+outside_in_functions volatile f [] = []
+outside_in_functions volatile f (x ∷ xs) = outside_in_function volatile f x ++ outside_in_functions volatile (suc f) xs

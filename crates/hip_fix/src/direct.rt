@@ -1,0 +1,136 @@
+ghost use Rattle.std.specs.Prelude.{◌≡◌, [], ◌++◌, IfOk, OnOk};
+ghost use Rattle.std.specs.List.{filter};
+ghost use Rattle.std.specs.Str.{bytes_eq};
+ghost use Rattle.hip_types.specs.Distinct.{met};
+ghost use Rattle.hip_ir.specs.Sites.{sites_of};
+ghost use Rattle.hip_fix.specs.Direct.{direct};
+ghost use Rattle.hip_fix.specs.DirectWalk as spec;
+ghost use Rattle.hip_fix.specs.DirectWalk.{alloca_names, body_allocas, outside_in_blocks, outside_in_body, outside_in_function, outside_in_functions, stores_by, volatile_names};
+
+use hip_ir::{Block, Const, Function, GlobalVar, Instr, Operand, Program, Site};
+use hip_names::NameSet;
+use hip_types::{NoMemory, Row};
+use std::alloc::Global;
+
+/// The names of the volatile globals.
+fn volatile_names(alloc: Global, globals: &[GlobalVar]) -> Result<NameSet<'_>, NoMemory>
+    ensures { IfOk result (λ names. names ≡ met bytes_eq [] (volatile_names globals.now)) }
+{
+    let mut names = NameSet::new(alloc);
+    'each: for global in globals {
+        if !global.persistent {
+            let _is_new = names.insert(global.name.as_slice())?;
+        }
+    }
+    Ok(names)
+}
+
+/// Adds the register that an `alloca` assigns.
+fn add_alloca<'a>(names: &mut NameSet<'a>, instr: &'a Instr) -> Result<(), NoMemory>
+    ensures { OnOk result (names.new ≡ met bytes_eq names.old (spec.allocated instr.now)) }
+{
+    if let Instr::Alloca { dest, .. } = instr {
+        let _is_new = names.insert(dest.as_slice())?;
+    }
+    Ok(())
+}
+
+/// Adds the registers that the `alloca` of a body assign.
+fn add_body_allocas<'a>(names: &mut NameSet<'a>, body: &'a [Instr]) -> Result<(), NoMemory>
+    ensures { OnOk result (names.new ≡ met bytes_eq names.old (body_allocas body.now)) }
+{
+    'each: for instr in body {
+        add_alloca(names, instr)?;
+    }
+    Ok(())
+}
+
+/// The registers that the `alloca` of blocks assign.
+fn alloca_names(alloc: Global, blocks: &[Block]) -> Result<NameSet<'_>, NoMemory>
+    ensures { IfOk result (λ names. names ≡ met bytes_eq [] (alloca_names blocks.now)) }
+{
+    let mut names = NameSet::new(alloc);
+    'each: for block in blocks {
+        add_body_allocas(&mut names, block.body.as_slice())?;
+    }
+    Ok(names)
+}
+
+/// Whether an instruction is a store whose address is one of these registers, or one of these globals itself.
+fn stores_by(volatile: &NameSet<'_>, allocated: &NameSet<'_>, instr: &Instr) -> bool
+    ensures { result ≡ stores_by volatile.now allocated.now instr.now }
+{
+    match instr {
+        Instr::Store { addr, .. } => match addr {
+            Operand::Reg(name) => allocated.contains(name.as_slice()),
+            Operand::Fixed(Const::Address(name)) => volatile.contains(name.as_slice()),
+            Operand::Fixed(_) => false,
+        },
+        _ => false,
+    }
+}
+
+/// Adds the sites of such stores of a body.
+fn add_body(
+    sites: &mut Row<Site>,
+    volatile: &NameSet<'_>,
+    allocated: &NameSet<'_>,
+    function: usize,
+    block: usize,
+    body: &[Instr],
+) -> Result<(), NoMemory>
+    ensures { OnOk result (sites.new ≡ sites.old ++ outside_in_body volatile.now allocated.now function block 0 body.now) }
+{
+    'each: for index in 0..body.len() {
+        if stores_by(volatile, allocated, &body[index]) {
+            sites.push(Site {
+                function,
+                block,
+                index,
+            })?;
+        }
+    }
+    Ok(())
+}
+
+/// Adds the sites of such stores of blocks.
+fn add_blocks(
+    sites: &mut Row<Site>,
+    volatile: &NameSet<'_>,
+    allocated: &NameSet<'_>,
+    function: usize,
+    blocks: &[Block],
+) -> Result<(), NoMemory>
+    ensures { OnOk result (sites.new ≡ sites.old ++ outside_in_blocks volatile.now allocated.now function 0 blocks.now) }
+{
+    'each: for block in 0..blocks.len() {
+        add_body(sites, volatile, allocated, function, block, blocks[block].body.as_slice())?;
+    }
+    Ok(())
+}
+
+/// Adds the sites of the stores of a function whose address is a register that an `alloca` assigns, or one of these globals itself.
+fn add_function(
+    alloc: Global,
+    sites: &mut Row<Site>,
+    volatile: &NameSet<'_>,
+    number: usize,
+    function: &Function,
+) -> Result<(), NoMemory>
+    ensures { OnOk result (sites.new ≡ sites.old ++ outside_in_function volatile.now number function.now) }
+{
+    let allocated = alloca_names(alloc, function.blocks.as_slice())?;
+    add_blocks(sites, volatile, &allocated, number, function.blocks.as_slice())
+}
+
+/// The sites of the stores whose address is a register that an `alloca` assigns, or a volatile global itself, in the program's order.
+pub fn direct_stores(alloc: Global, program: &Program) -> Result<Row<Site>, NoMemory>
+    ensures { IfOk result (λ sites. sites ≡ filter (direct program.now) (sites_of program.now)) }
+{
+    let volatile = volatile_names(alloc, program.globals.as_slice())?;
+    let mut sites = Row::new(alloc);
+    'each: for number in 0..program.functions.len() {
+        add_function(alloc, &mut sites, &volatile, number, &program.functions.as_slice()[number])?;
+    }
+    Ok(sites)
+}

@@ -33,13 +33,15 @@ global_start at g = next_multiple_of at (global_align g)
 -- where those of these globals that are persistent, or that are not, end if they are laid from `at` on
 abbrev pub end_of : Bool → ℕ → List GlobalVar → ℕ
 end_of persistent at [] = at
-end_of persistent at (g ∷ gs) = end_of persistent (if same g.persistent persistent then global_start at g + (shape g.ty).size else at) gs
+end_of persistent at (g ∷ gs) =
+    end_of persistent (if same g.persistent persistent then global_start at g + (shape g.ty).size else at) gs
 
 -- where the one of that number begins
 abbrev pub start_of : Bool → ℕ → List GlobalVar → ℕ → ℕ
 start_of persistent at [] number = at
 start_of persistent at (g ∷ gs) zero = global_start at g
-start_of persistent at (g ∷ gs) (suc number) = start_of persistent (if same g.persistent persistent then global_start at g + (shape g.ty).size else at) gs number
+start_of persistent at (g ∷ gs) (suc number) =
+    start_of persistent (if same g.persistent persistent then global_start at g + (shape g.ty).size else at) gs number
 
 abbrev pub is_persistent : List GlobalVar → ℕ → Bool
 is_persistent [] number = false
@@ -49,7 +51,8 @@ is_persistent (g ∷ gs) (suc number) = is_persistent gs number
 -- the address of the global of that number
 abbrev pub address_in : List GlobalVar → ℕ → ℕ → ℕ
 address_in globals base number =
-    if is_persistent globals number then start_of true base globals number else start_of false volatile_start globals number
+    if is_persistent globals number then start_of true base globals number
+    else start_of false volatile_start globals number
 
 abbrev pub address : Program → ℕ → ℕ → ℕ
 address P base number = address_in P.globals base number

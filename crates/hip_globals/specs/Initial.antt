@@ -1,5 +1,5 @@
--- The bytes that the globals hold before a program runs: those of their initialisers, each where its global lies, with zeros
--- in between.
+-- The bytes that the globals hold before a program runs: those of their initialisers, each where its global lies, with
+-- zeros in between.
 use Rattle.std.specs.Prelude.{ℕ, Bool, true, false, List, [], ◌∷◌, ◌++◌, if◌then◌else◌}
 use Rattle.hip_ir.specs.declared.program.GlobalVar.{GlobalVar}
 use Rattle.hip_ir.specs.declared.program.Program.{Program}
@@ -11,7 +11,9 @@ use Rattle.hip_globals.specs.Values.{global_address, aligned, constant_bytes}
 abbrev pub laid_bytes : (List ℕ → ℕ) → Bool → ℕ → List ℕ → List GlobalVar → List ℕ
 laid_bytes address_of persistent start so_far [] = so_far
 laid_bytes address_of persistent start so_far (g ∷ gs) =
-    laid_bytes address_of persistent start (if same g.persistent persistent then aligned start (global_align g) so_far ++ constant_bytes address_of g.init g.ty else so_far) gs
+    laid_bytes address_of persistent start
+    (if same g.persistent persistent
+    then aligned start (global_align g) so_far ++ constant_bytes address_of g.init g.ty else so_far) gs
 
 -- the bytes of the volatile globals, from the first one's place to the end of the last one
 abbrev pub volatile_bytes : Program → ℕ → List ℕ

@@ -36,7 +36,8 @@ pub fn alignment(global: &GlobalVar) -> u64
 /// Where a global ends that is laid from a place on; none from 2^64 on.
 fn end_after(at: u64, global: &GlobalVar) -> Option<u64>
     requires { Fits global.now.ty }
-    ensures { SomeIff result (global_start at global.now + size_of global.now.ty < 2 ^ 64) (global_start at global.now + size_of global.now.ty) }
+    ensures { SomeIff result (global_start at global.now + size_of global.now.ty < 2 ^ 64)
+        (global_start at global.now + size_of global.now.ty) }
 {
     match at.checked_next_multiple_of(alignment(global)) {
         Some(start) => start.checked_add(size(&global.ty)),
@@ -47,7 +48,8 @@ fn end_after(at: u64, global: &GlobalVar) -> Option<u64>
 /// Where those of the globals end that are persistent, or that are not; none from 2^64 on.
 fn end_of(globals: &[GlobalVar], persistent: bool, start: u64) -> Option<u64>
     requires { AllFit globals.now }
-    ensures { SomeIff result (spec.end_of persistent start globals.now < 2 ^ 64) (spec.end_of persistent start globals.now) }
+    ensures { SomeIff result (spec.end_of persistent start globals.now < 2 ^ 64)
+        (spec.end_of persistent start globals.now) }
 {
     let mut at = start;
     'globals: for global in globals {

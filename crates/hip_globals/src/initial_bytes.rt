@@ -9,9 +9,9 @@ ghost use Rattle.hip_globals.specs.InitialSeen.{AllFit, GlobalsFit};
 ghost use Rattle.hip_globals.specs.Addresses.{TypesFitIn};
 ghost use Rattle.hip_globals.specs.Values.{aligned, constant_bytes};
 
-use crate::table::{AddressTable, address_table};
 use crate::addresses::{VOLATILE_START, alignment};
 use crate::initial::{push_constant, set_align, set_size};
+use crate::table::{AddressTable, address_table};
 use hip_ir::{GlobalVar, Program};
 use hip_types::{NoMemory, Row, size};
 use std::alloc::Global;
@@ -28,7 +28,9 @@ fn add_global(
     global: &GlobalVar,
 ) -> Result<(), NoMemory>
     requires { AllFit (global.now.ty ∷ types_in global.now.init) }
-    ensures { OnOk result (bytes.new ≡ aligned start (global_align global.now) bytes.old ++ constant_bytes (address_beside addresses.now) global.now.init global.now.ty) }
+    ensures { OnOk result
+        (bytes.new ≡ aligned start (global_align global.now) bytes.old
+        ++ constant_bytes (address_beside addresses.now) global.now.init global.now.ty) }
 {
     set_align(alloc, bytes, 0, start, alignment(global))?;
     let len = bytes.len();
@@ -45,7 +47,8 @@ fn laid_bytes(
     start: u64,
 ) -> Result<Row<u8>, NoMemory>
     requires { GlobalsFit globals.now }
-    ensures { IfOk result (λ bytes. bytes ≡ spec.laid_bytes (address_beside addresses.now) persistent start [] globals.now) }
+    ensures { IfOk result
+        (λ bytes. bytes ≡ spec.laid_bytes (address_beside addresses.now) persistent start [] globals.now) }
 {
     let mut bytes = Row::new(alloc);
     'globals: for index in 0..globals.len() {

@@ -31,7 +31,9 @@ fn lay<'a>(table: &mut AddressTable<'a>, at: u64, global: &'a GlobalVar) -> Resu
     requires fits { Fits global.now.ty }
     requires end { global_start at global.now + size_of global.now.ty < 2 ^ 64 }
     ensures end { IfOk result (λ end. end ≡ global_start at global.now + size_of global.now.ty) }
-    ensures table { OnOk result (Gains table.old.names table.old.values table.new.names table.new.values (address_entry global.now.name (global_start at global.now) ∷ [])) }
+    ensures table { OnOk result
+        (Gains table.old.names table.old.values table.new.names table.new.values
+        (address_entry global.now.name (global_start at global.now) ∷ [])) }
 {
     let start = match at.checked_next_multiple_of(alignment(global)) {
         Some(start) => start,

@@ -114,6 +114,17 @@ impl Ram {
         self.are_valid(addr, 1)
     }
 
+    /// Whether the `len` bytes from the address on are all valid; of no bytes it is true at any address. A range does not wrap:
+    /// what would lie past the last address is not valid.
+    pub fn valid_range(&self, addr: u64, len: u64) -> bool
+        ensures { result ≡ are_valid self.now addr len }
+    {
+        if len == 0 {
+            return true;
+        }
+        self.are_valid(addr, len)
+    }
+
     /// The end of the stack's valid bytes.
     pub fn mark(&self) -> u64
         ensures value { result ≡ mark_of self.now }

@@ -14,4 +14,12 @@ pub mod Parts
 pub mod History
 pub mod Since
 pub mod Ends
+pub mod Shown
+pub mod Sites
+pub mod Frames
+pub mod Order
+pub mod Tags
+pub mod WellFormed
+pub mod Entry
+pub mod After
 pub mod Laws

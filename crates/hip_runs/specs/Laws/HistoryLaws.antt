@@ -565,6 +565,6 @@ module _ (P : Program) where
   pub calls_descend : (I : Input) (n : ℕ) → AreDescending (levels_of (run P I n).frames) (run P I n).counts.steps
   calls_descend I n = (run_kept I n).stack
 
-  -- the calls of a store are those that have returned, and then the outermost ones of those that stand
+  -- those of a part's calls that stand are the outermost of those that stand
   pub calls_parted : (I : Input) (n : ℕ) (x : StorePart) → PartOf (run P I n).lines x → IsParted (levels_of (run P I n).frames) x.levels
   calls_parted I n = (run_kept I n).split

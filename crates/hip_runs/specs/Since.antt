@@ -3,7 +3,7 @@ use Rattle.std.specs.Prelude.{◌≡◌, ℕ, ◌+◌, ◌-◌, ◌*◌, ◌/◌
 use Rattle.hip_ir.specs.declared.program.Program.{Program}
 use Rattle.hip_ir.specs.declared.site.Site.{Site}
 use Rattle.hip_lines.specs.Line.{Line}
-use Rattle.hip_mem.specs.Bytes.{little_endian}
+use Rattle.hip_mem.specs.Bytes.{little_endian, bytes_of}
 use Rattle.hip_runs.specs.declared.event.Event.{Event}
 use Rattle.hip_runs.specs.declared.input.Input.{Input}
 use Rattle.hip_runs.specs.Crash.{covers, byte_of}
@@ -91,12 +91,13 @@ IsDurableIn (Some l) k x = (slice_get l.parts k ≡ Some x) × (k < l.durable)
 abbrev pub IsDurableAt : State → ℕ → ℕ → StorePart → Type 0
 IsDurableAt s m k x = IsDurableIn (slice_get s.lines m) k x
 
--- The part is one of the store of its step: it has the store's bytes that lie in its cache line, and names the site and the calls
--- at which the run stood then, and the store's entry in the trace.
+-- The part is one of the store of its step: it has the store's bytes that lie in its cache line, which are those of the stored
+-- value, and names the site and the calls at which the run stood then, and the store's entry in the trace.
 pub record IsOfStore (P : Program) (I : Input) (x : StorePart) : Type 0 where
   pub addr : ℕ
   pub bytes : List ℕ
   pub stored : event P I (run P I x.step) ≡ events.Store addr (little_endian bytes) (length bytes)
+  pub written : bytes_of (length bytes) (little_endian bytes) ≡ bytes
   pub site : top_site (run P I x.step).frames ≡ Some x.site
   pub levels : x.levels ≡ levels_of (run P I x.step).frames
   pub entry : x.entry ≡ (run P I x.step).counts.entries + 1

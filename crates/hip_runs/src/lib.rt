@@ -19,7 +19,7 @@ pub use history::{
     durable_stores_stay_durable, durable_stores_were_flushed_then_fenced, fences_are_told,
     first_flushes_are_told, images_are_choices, images_shrink, parts_are_of_stores,
 };
-pub use images::{bytes_follow_the_durable, entries_find_one_state, images_are_decided_by_lines};
+pub use images::{bytes_follow_the_durable, entries_find_one_state, images_are_decided_by_lines, images_make_valid_inputs};
 pub use input::{Input, InputFault};
 pub use laws::{parts_carry_their_history, runs_end};
 pub use loose::{

@@ -10,7 +10,6 @@ pub mod Bodies
 pub mod Origins
 pub mod Declarations
 pub mod SpelledAgain
-pub mod NamesAgain
 pub mod HeadsAgain
 pub mod OutsideAddresses
 pub mod InnerAgain

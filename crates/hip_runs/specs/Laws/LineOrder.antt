@@ -1,5 +1,5 @@
--- What every run keeps of each of its lines: its parts lie in it, their steps ascend, those that are not flushed have no first flush,
--- and those that are fenced are the ones before the last fence.
+-- What every run keeps of each of its lines: its parts lie in it, their steps ascend, those that are not flushed have
+-- no first flush, and those that are fenced are the ones before the last fence.
 use Rattle.std.proofs.Common.{◌≡◌, ◌⊎◌, inl, inr, ℕ, zero, suc, ◌+◌, ◌-◌, ◌/◌, ◌<◌, ◌≤◌, Bool, true, false, cond, List, [], ◌∷◌, ◌++◌, length, map, take, drop, Option, Some, None, option_map, slice_get, refl, sym, ap, ◌∙◌, subst, arith, length-append, length-drop}
 use Rattle.std.proofs.lemmas.List.{length-map, length-take-le}
 use Rattle.hip_ir.specs.declared.program.Program.{Program}

@@ -14,7 +14,7 @@ use Rattle.std.proofs.lemmas.Option.{same_Some}
 use Rattle.std.proofs.lemmas.Slice.Eq.{bytes_eq-Decides}
 use Rattle.hip_tokens.specs.Bytes.{begins_name, goes_on_name}
 use Rattle.hip_tokens.specs.Longest.{is_name}
-use Rattle.hip_typing.specs.Externs.{ExternRow, extern_table, call_in, call_of}
+use Rattle.hip_externs.specs.Externs.{ExternRow, extern_table, call_in, call_of}
 use Rattle.hip_names.specs.Names.{is_among}
 use Rattle.hip_calls.specs.Fresh.{numeral_in, numeral, candidate, fresh_from, fresh_name, fresh_for}
 

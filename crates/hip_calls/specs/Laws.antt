@@ -5,7 +5,7 @@ use Rattle.std.specs.Str.{bytes_eq}
 use Rattle.hip_ir.specs.Sites.{instr_of, has_site}
 use Rattle.hip_ir.specs.declared.program.Program.{Program}
 use Rattle.hip_ir.specs.declared.site.Site.{Site}
-use Rattle.hip_typing.specs.Externs.{call_of}
+use Rattle.hip_externs.specs.Externs.{call_of}
 use Rattle.hip_names.specs.Names.{is_among}
 use Rattle.hip_calls.specs.Fresh.{names_taken, name_of, fresh_names}
 use Rattle.hip_calls.specs.FreshLaws.{IsFirstFree}

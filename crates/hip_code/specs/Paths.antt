@@ -7,7 +7,7 @@ use Rattle.hip_ir.specs.declared.constant.Const.{Const}
 use Rattle.hip_ir.specs.declared.instr.Arg.{Arg}
 use Rattle.hip_ir.specs.declared.instr.Operand.TheVariants.{Fixed}
 use Rattle.hip_ir.specs.declared.program.GlobalVar.{GlobalVar}
-use Rattle.hip_typing.specs.Values.{const_value}
+use Rattle.hip_globals.specs.Values.{const_value}
 use Rattle.hip_runs.specs.Actions.{index_value}
 use Rattle.hip_runs.specs.Operands.{width_of}
 use Rattle.hip_code.specs.Resolved.{IsOperand}

@@ -18,7 +18,7 @@ use Rattle.hip_ir.specs.declared.program.Function.{Function}
 use Rattle.hip_ir.specs.declared.program.Program.{Program}
 use Rattle.hip_ir.specs.declared.site.Site.{Site}
 use Rattle.hip_typing.specs.Laws.AssignedExact.{all-front, all-back, all-joined, joined-all}
-use Rattle.hip_typing.specs.Constants.{joined}
+use Rattle.hip_globals.specs.Constants.{joined}
 use Rattle.hip_names.specs.Names.{IsAmong}
 use Rattle.hip_typing.specs.Names.{numbered_from}
 use Rattle.hip_typing.specs.Paths.{label_at, labels_named_at, LeadsTo, IsChain, IsPathTo, names_of, whole_block_names, names_before, IsAssigned}

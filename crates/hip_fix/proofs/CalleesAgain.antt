@@ -10,7 +10,7 @@ use Rattle.hip_ir.specs.declared.program.Function.{Function}
 use Rattle.hip_ir.specs.declared.program.Program.{Program}
 use Rattle.hip_ir.specs.declared.site.Site.{Site}
 use Rattle.hip_typing.specs.Check.{each}
-use Rattle.hip_typing.specs.Externs.{Signature, signature, call_of, known_signature}
+use Rattle.hip_externs.specs.Externs.{Signature, signature, call_of, known_signature}
 use Rattle.hip_names.specs.Names.{is_among, number_of}
 use Rattle.hip_typing.specs.Numbering.{function_names, function_number}
 use Rattle.hip_names.specs.NumberLaws.{number_cases}
@@ -18,7 +18,7 @@ use Rattle.hip_typing.specs.Laws.NumberingLaws.{function_number-there}
 use Rattle.hip_typing.specs.Places.{extern_of, function_of, first_of, callee_of}
 use Rattle.hip_typing.specs.Laws.SoundExact.{table-decides}
 use Rattle.hip_typing.specs.Rules.{Passes, is_of, declared}
-use Rattle.hip_typing.specs.declared.externs.ExternCall.{ExternCall}
+use Rattle.hip_externs.specs.declared.call.ExternCall.{ExternCall}
 use Rattle.hip_typing.specs.Laws.Decided.{holds-at}
 use Rattle.hip_names.specs.NameLaws.{bytes_eq-sym}
 use Rattle.hip_fix.specs.declared.plan.Plan.{Plan}

@@ -21,7 +21,7 @@ use Rattle.hip_ir.specs.declared.instr.Operand.{Operand}
 use Rattle.hip_ir.specs.declared.program.Function.{Function}
 use Rattle.hip_ir.specs.declared.program.Program.{Program}
 use Rattle.hip_ir.specs.declared.site.Site.{Site}
-use Rattle.hip_typing.specs.Externs.{call_of}
+use Rattle.hip_externs.specs.Externs.{call_of}
 use Rattle.hip_names.specs.Names.{number_of}
 use Rattle.hip_typing.specs.Numbering.{function_names, function_number}
 use Rattle.hip_names.specs.NumberLaws.{number_of-first, number_of-behind, number_of-known, number_of-there}
@@ -32,8 +32,8 @@ use Rattle.hip_calls.specs.Reach.{called_at, callees}
 use Rattle.hip_calls.specs.ReachLaws.{Has, IsNamed, called-has, callees-first, callees-closed, callees-named}
 use Rattle.hip_runs.specs.Operands.{scalar_size}
 use Rattle.hip_runs.specs.Places.{blocks_in, body_at}
-use Rattle.hip_typing.specs.declared.externs.ExternCall.{ExternCall}
-use Rattle.hip_typing.specs.declared.externs.ExternCall.TheVariants as calls
+use Rattle.hip_externs.specs.declared.call.ExternCall.{ExternCall}
+use Rattle.hip_externs.specs.declared.call.ExternCall.TheVariants as calls
 use Rattle.hip_fix.specs.declared.plan.Plan.{Plan}
 use Rattle.hip_fix.specs.Harmless.{marked_body}
 use Rattle.hip_fix.specs.Repaired.{Marked, clwb_name, sfence_name, pmem_flush_name, is_wide, line_flush, range_flush, flush_of, the_fence, renamed, inserted_behind, repaired_body, instrs_of, Clone, Wanted, clone_name, clones_from, clones_of, clone_in, repaired_functions, clone_functions, cloned, repaired_blocks, repaired, repaired_function, wanted_by}

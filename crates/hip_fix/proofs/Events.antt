@@ -10,9 +10,9 @@ use Rattle.hip_ir.specs.declared.instr.Instr.TheVariants.{Binary, Compare, Selec
 use Rattle.hip_ir.specs.declared.program.Function.{Function}
 use Rattle.hip_ir.specs.declared.program.Program.{Program}
 use Rattle.hip_ir.specs.declared.site.Site.{Site}
-use Rattle.hip_typing.specs.Externs.{call_of}
+use Rattle.hip_externs.specs.Externs.{call_of}
 use Rattle.hip_typing.specs.Numbering.{function_number}
-use Rattle.hip_typing.specs.declared.externs.ExternCall.{ExternCall}
+use Rattle.hip_externs.specs.declared.call.ExternCall.{ExternCall}
 use Rattle.hip_runs.specs.declared.event.Event.{Event}
 use Rattle.hip_runs.specs.declared.event.Event.TheVariants as events
 use Rattle.hip_runs.specs.declared.event.Ending.{Ending}

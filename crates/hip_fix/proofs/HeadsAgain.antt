@@ -12,7 +12,7 @@ use Rattle.hip_ir.specs.declared.program.Function.{Function}
 use Rattle.hip_ir.specs.declared.program.GlobalVar.{GlobalVar}
 use Rattle.hip_ir.specs.declared.program.Program.{Program}
 use Rattle.hip_ir.specs.declared.site.Site.{Site}
-use Rattle.hip_typing.specs.Externs.{call_of, known_signature}
+use Rattle.hip_externs.specs.Externs.{call_of, known_signature}
 use Rattle.hip_names.specs.NameLaws.{among-whole}
 use Rattle.hip_names.specs.NameLaws.{among-left, among-right}
 use Rattle.hip_typing.specs.Laws.NameLaws.{names-sound, names-whole}

@@ -13,8 +13,8 @@ use Rattle.hip_ir.specs.declared.instr.Operand.{Operand}
 use Rattle.hip_ir.specs.declared.program.GlobalVar.{GlobalVar}
 use Rattle.hip_ir.specs.declared.program.Program.{Program}
 use Rattle.hip_lines.specs.Line.{has_bytes}
-use Rattle.hip_typing.specs.Addresses.{IsBase}
-use Rattle.hip_typing.specs.Values.{Written, const_value}
+use Rattle.hip_globals.specs.Addresses.{IsBase}
+use Rattle.hip_globals.specs.Values.{Written, const_value}
 use Rattle.hip_runs.specs.declared.input.Input.{Input}
 use Rattle.hip_runs.specs.Actions.{Action, Flushes, Fences, in_region, are_valid, flushing, instr_action, is_turn}
 use Rattle.hip_runs.specs.Operands.{value_of, scalar_size, access_align}

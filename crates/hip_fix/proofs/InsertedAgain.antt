@@ -20,8 +20,9 @@ use Rattle.hip_ir.specs.declared.instr.Instr.TheVariants.{Store}
 use Rattle.hip_ir.specs.declared.instr.Operand.{Operand}
 use Rattle.hip_ir.specs.declared.instr.Operand.TheVariants.{Reg, Fixed}
 use Rattle.hip_runs.specs.Operands.{scalar_size}
-use Rattle.hip_typing.specs.Constants.{has_shape, names_in, types_in}
-use Rattle.hip_typing.specs.Externs.{known_signature}
+use Rattle.hip_typing.specs.Constants.{has_shape, names_in}
+use Rattle.hip_globals.specs.Constants.{types_in}
+use Rattle.hip_externs.specs.Externs.{known_signature}
 use Rattle.hip_names.specs.Names.{is_among}
 use Rattle.hip_typing.specs.Places.{Scope, global_names, callee_of, uses_known, use_agrees, uses_agree, signature_agrees, instr_check}
 use Rattle.hip_typing.specs.Registers.{Use, uses, find_register, used_registers, used_globals, used_types}

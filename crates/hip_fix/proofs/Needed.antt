@@ -13,7 +13,7 @@ use Rattle.hip_ir.specs.declared.program.Extern.{Extern}
 use Rattle.hip_ir.specs.declared.program.Function.{Function}
 use Rattle.hip_ir.specs.declared.program.Program.{Program}
 use Rattle.hip_ir.specs.declared.site.Site.{Site}
-use Rattle.hip_typing.specs.Externs.{known_signature}
+use Rattle.hip_externs.specs.Externs.{known_signature}
 use Rattle.hip_names.specs.Names.{is_among}
 use Rattle.hip_typing.specs.Places.{first_of, function_of, callee_of}
 use Rattle.hip_typing.specs.Rules.{Passes}

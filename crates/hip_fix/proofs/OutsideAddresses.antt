@@ -14,13 +14,13 @@ use Rattle.hip_ir.specs.declared.constant.TypedConst.{TypedConst}
 use Rattle.hip_ir.specs.declared.program.GlobalVar.{GlobalVar}
 use Rattle.hip_ir.specs.declared.program.Program.{Program}
 use Rattle.hip_mem.specs.Memory.{volatile_start}
-use Rattle.hip_typing.specs.Addresses.{same, global_start, end_of, start_of, is_persistent, address_in, volatile_end, region_size}
+use Rattle.hip_globals.specs.Addresses.{same, global_start, end_of, start_of, is_persistent, address_in, volatile_end, region_size}
 use Rattle.hip_names.specs.NameLaws.{among-sound}
 use Rattle.hip_names.specs.Names.{AllDiffer, is_among, number_of}
 use Rattle.hip_names.specs.NumberLaws.{number_cases}
 use Rattle.hip_typing.specs.Rules.{Passes}
 use Rattle.hip_typing.specs.Sound.{callee_names}
-use Rattle.hip_typing.specs.Values.{Written, global_address, const_value}
+use Rattle.hip_globals.specs.Values.{Written, global_address, const_value}
 use Rattle.hip_names.specs.NameLaws.{bytes_eq-sym}
 use Rattle.hip_typing.specs.Laws.NameLaws.{names-sound}
 use Rattle.hip_fix.specs.Direct.{is_volatile_global, names_volatile}

@@ -8,10 +8,10 @@ use Rattle.hip_ir.specs.declared.instr.Instr.TheVariants.{Call}
 use Rattle.hip_ir.specs.declared.program.Program.{Program}
 use Rattle.hip_ir.specs.declared.site.Site.{Site}
 use Rattle.hip_lines.specs.Line.{Line}
-use Rattle.hip_typing.specs.Externs.{call_of}
+use Rattle.hip_externs.specs.Externs.{call_of}
 use Rattle.hip_typing.specs.Numbering.{function_number}
-use Rattle.hip_typing.specs.declared.externs.ExternCall.{ExternCall}
-use Rattle.hip_typing.specs.declared.externs.ExternCall.TheVariants as calls
+use Rattle.hip_externs.specs.declared.call.ExternCall.{ExternCall}
+use Rattle.hip_externs.specs.declared.call.ExternCall.TheVariants as calls
 use Rattle.hip_runs.specs.declared.input.Input.{Input}
 use Rattle.hip_runs.specs.Places.{body_at}
 use Rattle.hip_runs.specs.State.{Frame, StorePart, State}

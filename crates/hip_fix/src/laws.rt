@@ -2,7 +2,7 @@
 
 ghost use Rattle.hip_ir.specs.declared.program.Program.{Program};
 ghost use Rattle.hip_ir.specs.declared.site.Site.{Site};
-ghost use Rattle.hip_typing.specs.Addresses.{address, region_size};
+ghost use Rattle.hip_globals.specs.Addresses.{address, region_size};
 ghost use Rattle.hip_typing.specs.Sound.{IsSound};
 ghost use Rattle.hip_runs.specs.Marks.{IsFound};
 ghost use Rattle.hip_runs.specs.Validity.{IsValid};

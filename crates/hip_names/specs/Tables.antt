@@ -1,5 +1,5 @@
 -- Tables of values by names, in which the first value of a name counts.
-use Rattle.std.specs.Prelude.{ℕ, ◌≡◌, List, [], ◌∷◌, length, Option, Some, None, if◌then◌else◌, option_and_then, slice_get}
+use Rattle.std.specs.Prelude.{ℕ, ◌≡◌, List, [], ◌∷◌, ◌++◌, length, Option, Some, None, if◌then◌else◌, option_and_then, slice_get}
 use Rattle.std.specs.Str.{bytes_eq}
 use Rattle.hip_names.specs.Names.{number_of}
 
@@ -21,3 +21,7 @@ value_beside names values name = option_and_then (slice_get values) (number_of n
 pub record StandsFor {V : Type 0} (names : List (List ℕ)) (values : List V) (entries : List (Entry V)) : Type 0 where
   pub as_long : length names ≡ length values
   pub finds : (name : List ℕ) → value_beside names values name ≡ value_of entries name
+
+-- a table grows by these entries
+pub record Gains {V : Type 0} (names : List (List ℕ)) (values : List V) (more_names : List (List ℕ)) (more_values : List V) (entries : List (Entry V)) : Type 0 where
+  pub gains : (before : List (Entry V)) → StandsFor names values before → StandsFor more_names more_values (before ++ entries)

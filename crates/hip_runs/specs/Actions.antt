@@ -27,13 +27,13 @@ use Rattle.hip_num.specs.Casts.{widened}
 use Rattle.hip_num.specs.Comparisons.{holds}
 use Rattle.hip_num.specs.declared.arithmetic.NumTrap.{NumTrap}
 use Rattle.hip_num.specs.declared.arithmetic.NumTrap.TheVariants as num_traps
-use Rattle.hip_typing.specs.Addresses.{volatile_end}
-use Rattle.hip_typing.specs.Externs.{call_of}
-use Rattle.hip_typing.specs.Initial.{volatile_bytes}
-use Rattle.hip_typing.specs.declared.externs.ExternCall.{ExternCall}
-use Rattle.hip_typing.specs.declared.externs.ExternCall.TheVariants as calls
+use Rattle.hip_globals.specs.Addresses.{volatile_end}
+use Rattle.hip_externs.specs.Externs.{call_of}
+use Rattle.hip_globals.specs.Initial.{volatile_bytes}
+use Rattle.hip_externs.specs.declared.call.ExternCall.{ExternCall}
+use Rattle.hip_externs.specs.declared.call.ExternCall.TheVariants as calls
 use Rattle.hip_typing.specs.Numbering.{function_number}
-use Rattle.hip_typing.specs.Values.{element_address}
+use Rattle.hip_globals.specs.Values.{element_address}
 use Rattle.hip_runs.specs.declared.event.TrapKind.{TrapKind}
 use Rattle.hip_runs.specs.declared.event.TrapKind.TheVariants as traps
 use Rattle.hip_runs.specs.declared.input.Input.{Input}

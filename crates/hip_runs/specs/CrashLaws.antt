@@ -7,7 +7,7 @@ use Rattle.hip_lines.specs.ImageLaws.{line_image-with_part, image_of-image, pick
 use Rattle.hip_lines.specs.Line.{Line, IsOrdered, AreOrdered, with_part, has_bytes, stored}
 use Rattle.hip_lines.specs.LineLaws.{slice_get-change_range, ordered-at}
 use Rattle.hip_lines.specs.LooseLaws.{get-map}
-use Rattle.hip_typing.specs.Addresses.{end_of}
+use Rattle.hip_globals.specs.Addresses.{end_of}
 use Rattle.hip_runs.specs.declared.input.Input.{Input}
 use Rattle.hip_runs.specs.Crash.{covers, byte_of, IsCrashImage, IsCrashPick, crash_image}
 use Rattle.hip_runs.specs.HistoryLaws.{lines_ordered}

@@ -11,7 +11,7 @@ use Rattle.hip_types.specs.declared.number.Scalar.{Scalar}
 use Rattle.hip_types.specs.declared.number.Scalar.TheVariants.{Int, Ptr}
 use Rattle.hip_types.specs.declared.number.Width.{Width}
 use Rattle.hip_types.specs.declared.number.Width.TheVariants.{W64}
-use Rattle.hip_typing.specs.Values.{const_value}
+use Rattle.hip_globals.specs.Values.{const_value}
 use Rattle.hip_runs.specs.State.{Registers}
 
 -- the value of a register; 0 where it has none

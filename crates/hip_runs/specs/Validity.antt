@@ -2,7 +2,7 @@
 use Rattle.std.specs.Prelude.{◌≡◌, ◌≤◌, ◌<◌, ◌^◌, All, length, FitsSigned}
 use Rattle.std.specs.Int.{w64}
 use Rattle.hip_ir.specs.declared.program.Program.{Program}
-use Rattle.hip_typing.specs.Addresses.{IsBase, region_size}
+use Rattle.hip_globals.specs.Addresses.{IsBase, region_size}
 use Rattle.hip_runs.specs.declared.input.Input.{Input}
 
 -- The base is a multiple of 4,096 from 2^32 to 2^46, the initial bytes are as many as the program's region has, at most

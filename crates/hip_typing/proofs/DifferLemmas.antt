@@ -12,7 +12,7 @@ use Rattle.hip_ir.specs.declared.program.Param.{Param}
 use Rattle.hip_ir.specs.declared.program.Program.{Program}
 use Rattle.hip_typing.specs.Seen.AssignedSeen.{Describes, IsFirstOf, AnswersUses, AnswersAssigned}
 use Rattle.hip_typing.specs.Laws.CheckLaws.{each-holds}
-use Rattle.hip_typing.specs.Constants.{joined}
+use Rattle.hip_globals.specs.Constants.{joined}
 use Rattle.hip_typing.specs.Seen.Inner.{entry, param_entry, phi_entry, instr_entries, body_entries, block_entries, blocks_entries, inner_entries, block_number, label_numbers, successor_numbers}
 use Rattle.hip_names.specs.Names.{AllDiffer, IsAmong}
 use Rattle.hip_typing.specs.Names.{Named, differ_after, numbered_from}

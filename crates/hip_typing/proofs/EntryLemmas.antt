@@ -11,7 +11,7 @@ use Rattle.hip_ir.specs.declared.instr.Instr.{Instr}
 use Rattle.hip_ir.specs.declared.program.Function.{Function}
 use Rattle.hip_ir.specs.declared.program.Param.{Param}
 use Rattle.hip_typing.specs.Seen.AssignedSeen.{is_there}
-use Rattle.hip_typing.specs.Constants.{joined}
+use Rattle.hip_globals.specs.Constants.{joined}
 use Rattle.hip_typing.specs.Seen.Inner.{entry, param_entry, phi_entry, instr_entries, body_entries, block_entries, blocks_entries, inner_entries}
 use Rattle.hip_names.specs.Names.{AllDiffer, IsAmong}
 use Rattle.hip_typing.specs.Names.{numbered_from}

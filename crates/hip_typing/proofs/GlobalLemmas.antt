@@ -3,7 +3,8 @@ use Rattle.std.proofs.Common.{ℕ, ◌+◌, ◌≡◌, List, [], ◌∷◌, refl
 use Rattle.hip_ir.specs.declared.program.GlobalVar.{GlobalVar}
 use Rattle.hip_typing.specs.Seen.Answers.{asked}
 use Rattle.hip_typing.specs.Check.{or_else, each_from, each}
-use Rattle.hip_typing.specs.Constants.{has_shape, names_in, types_in}
+use Rattle.hip_typing.specs.Constants.{has_shape, names_in}
+use Rattle.hip_globals.specs.Constants.{types_in}
 use Rattle.hip_names.specs.Names.{Knows}
 use Rattle.hip_typing.specs.Places.{types_fit}
 use Rattle.hip_typing.specs.Rules.{global_check}

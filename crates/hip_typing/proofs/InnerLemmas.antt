@@ -1,8 +1,8 @@
 -- Tables of a function's names that grow.
 use Rattle.std.proofs.Common.{ℕ, ◌+◌, ◌≡◌, ◌<◌, List, [], ◌∷◌, ◌++◌, map, take, length, get_or, sym, ap, subst, ◌∙◌, append_assoc, append-nil, zero-add, arith}
 use Rattle.std.proofs.lemmas.List.{map-append, length-take-le}
-use Rattle.hip_typing.specs.Constants.{joined}
-use Rattle.hip_typing.specs.Seen.Inner.{Gains}
+use Rattle.hip_globals.specs.Constants.{joined}
+use Rattle.hip_names.specs.Tables.{Gains}
 use Rattle.hip_typing.specs.Names.{numbered}
 use Rattle.hip_names.specs.Tables.{Entry, StandsFor}
 use Rattle.hip_typing.proofs.NameLists.{numbered_from-push}

@@ -3,7 +3,6 @@ pub mod ShapeLemmas
 pub mod KnownLemmas
 pub mod Loops
 pub mod GlobalLemmas
-pub mod AddressLemmas
 pub mod RegisterLemmas
 pub mod CalleeLemmas
 pub mod PairLemmas
@@ -15,8 +14,3 @@ pub mod EntryLemmas
 pub mod AssignedLemmas
 pub mod UseLists
 pub mod DifferLemmas
-pub mod AddressLists
-pub mod ByteLists
-pub mod ConstantParts
-pub mod InitialLemmas
-pub mod HeldLemmas

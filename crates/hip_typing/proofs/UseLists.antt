@@ -10,7 +10,7 @@ use Rattle.hip_ir.specs.declared.block.Phi.{Phi}
 use Rattle.hip_ir.specs.declared.instr.Arg.{Arg}
 use Rattle.hip_ir.specs.declared.instr.Operand.{Operand}
 use Rattle.hip_ir.specs.declared.program.Function.{Function}
-use Rattle.hip_typing.specs.Constants.{joined}
+use Rattle.hip_globals.specs.Constants.{joined}
 use Rattle.hip_typing.specs.Names.{numbered_from}
 use Rattle.hip_typing.specs.Registers.{Use, uses, arg_uses, operand_registers, used_registers}
 use Rattle.hip_typing.specs.Seen.AssignedSeen.{AnswersUses, IsFirstOf}

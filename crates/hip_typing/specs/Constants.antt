@@ -1,43 +1,16 @@
--- Constants: the types and the names in them, and whether a constant has the shape of a type.
-use Rattle.std.specs.Prelude.{ℕ, ◌==◌, ◌&&◌, Bool, true, false, List, [], ◌∷◌, ◌++◌, length, Option, Some, None, slice_get}
+-- Constants: the names in them, and whether a constant has the shape of a type.
+use Rattle.std.specs.Prelude.{ℕ, ◌==◌, ◌&&◌, Bool, true, false, List, [], ◌∷◌, length, Option, Some, None, slice_get}
 use Rattle.hip_types.specs.declared.number.Bits.{Bits}
 use Rattle.hip_types.specs.declared.ty.Ty.{Ty, out-Ty}
 use Rattle.hip_types.specs.declared.ty.Ty.TheOpen.{Ty-F}
 use Rattle.hip_types.specs.declared.ty.Ty.TheVariants.{Ptr}
-use Rattle.hip_types.specs.declared.number.Width.TheVariants.{W64}
-use Rattle.hip_types.specs.Numbers.{signed, wrapped}
 use Rattle.hip_ir.specs.declared.constant.Const.{Const}
 use Rattle.hip_ir.specs.declared.constant.Const.TheOpen.{Const-F, ConstGep-F, TypedConst-F}
 use Rattle.hip_ir.specs.declared.constant.ConstGep.{ConstGep}
 use Rattle.hip_ir.specs.declared.constant.TypedConst.{TypedConst}
 use Rattle.hip_ir.specs.declared.constant.Const.TheFolds.{fold-Const, fold-ConstGep, fold-TypedConst}
+use Rattle.hip_globals.specs.Constants.{index_of, joined}
 use Rattle.hip_typing.specs.Types.{same_type, same_width, all_pass}
-
-abbrev pub joined : {A : Type 0} → List (List A) → List A
-joined [] = []
-joined (xs ∷ rest) = xs ++ joined rest
-
--- the types that are written in a constant
-abbrev pub types_step : Const-F (List Ty) (List Ty) (List Ty) → List Ty
-types_step (Const-F.Gep types) = types
-types_step (Const-F.Array items) = joined items
-types_step (Const-F.Struct items) = joined items
-types_step _ = []
-
-abbrev pub gep_types_step : ConstGep-F (List Ty) (List Ty) (List Ty) → List Ty
-gep_types_step gep = gep.ty ∷ gep.base
-
-abbrev pub item_types_step : TypedConst-F (List Ty) (List Ty) (List Ty) → List Ty
-item_types_step item = item.ty ∷ item.value
-
-abbrev pub types_in : Const → List Ty
-types_in = fold-Const (List Ty) (List Ty) (List Ty) types_step gep_types_step item_types_step
-
-abbrev pub gep_types : ConstGep → List Ty
-gep_types = fold-ConstGep (List Ty) (List Ty) (List Ty) types_step gep_types_step item_types_step
-
-abbrev pub item_types : TypedConst → List Ty
-item_types = fold-TypedConst (List Ty) (List Ty) (List Ty) types_step gep_types_step item_types_step
 
 -- the names of globals in it
 abbrev names_step : Const-F (List (List ℕ)) (List (List ℕ)) (List (List ℕ)) → List (List ℕ)
@@ -61,10 +34,6 @@ gep_names = fold-ConstGep (List (List ℕ)) (List (List ℕ)) (List (List ℕ)) 
 
 abbrev pub item_names : TypedConst → List (List ℕ)
 item_names = fold-TypedConst (List (List ℕ)) (List (List ℕ)) (List (List ℕ)) names_step gep_names_step item_names_step
-
--- an index, sign-extended to 64 bits
-abbrev pub index_of : Bits → ℕ
-index_of b = wrapped W64 (signed b.width b.value)
 
 -- the type that an index enters: an array's element, or the field that it numbers
 abbrev pub entered : ℕ → Ty-F Ty → Option Ty

@@ -8,7 +8,7 @@ use Rattle.hip_ir.specs.declared.instr.Instr.{Instr}
 use Rattle.hip_ir.specs.declared.instr.Instr.TheVariants.{Call}
 use Rattle.hip_ir.specs.declared.program.Function.{Function}
 use Rattle.hip_ir.specs.declared.program.Program.{Program}
-use Rattle.hip_typing.specs.Externs.{Signature, known_signature}
+use Rattle.hip_externs.specs.Externs.{Signature, known_signature}
 use Rattle.hip_names.specs.Names.{IsAmong}
 use Rattle.hip_typing.specs.Numbering.{function_number}
 use Rattle.hip_typing.specs.Places.{edge_labels}

@@ -1,5 +1,4 @@
 -- Laws of the definitions.
-pub mod AddressLaws
 pub mod AssignedExact
 pub mod CheckLaws
 pub mod ConstLaws

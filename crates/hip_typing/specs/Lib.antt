@@ -1,8 +1,6 @@
-pub mod Addresses
 pub mod Check
 pub mod Constants
 pub mod Equal
-pub mod Externs
 pub mod Names
 pub mod Paths
 pub mod Places
@@ -10,11 +8,8 @@ pub mod Registers
 pub mod Numbering
 pub mod Checks
 pub mod Given
-pub mod Initial
-pub mod Held
 pub mod Sound
 pub mod Rules
 pub mod Types
-pub mod Values
 pub mod Laws
 pub mod Seen

@@ -30,9 +30,10 @@ use Rattle.hip_ir.specs.declared.program.Extern.{Extern}
 use Rattle.hip_ir.specs.declared.program.Function.{Function}
 use Rattle.hip_ir.specs.declared.program.Program.{Program}
 use Rattle.hip_typing.specs.Check.{Check, asks, asks_true, and_then}
-use Rattle.hip_typing.specs.Constants.{goes_in, has_shape, index_of}
+use Rattle.hip_typing.specs.Constants.{goes_in, has_shape}
+use Rattle.hip_globals.specs.Constants.{index_of}
 use Rattle.hip_typing.specs.Equal.{same_bits, same_operand}
-use Rattle.hip_typing.specs.Externs.{Signature}
+use Rattle.hip_externs.specs.Externs.{Signature}
 use Rattle.hip_typing.specs.declared.fault.Fault.TheVariants as breaks
 use Rattle.hip_names.specs.Names.{is_among}
 use Rattle.hip_typing.specs.Registers.{Register, Use, find_register, registers_of, instr_uses, end_uses, phi_uses, end_labels, used_registers, used_globals, used_types}

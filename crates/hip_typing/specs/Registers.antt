@@ -17,7 +17,8 @@ use Rattle.hip_ir.specs.declared.block.End.{End}
 use Rattle.hip_ir.specs.declared.block.End.TheVariants.{Br, CondBr, Switch, Ret, Unreachable}
 use Rattle.hip_ir.specs.declared.block.Phi.{Phi}
 use Rattle.hip_ir.specs.declared.program.Function.{Function}
-use Rattle.hip_typing.specs.Constants.{names_in, types_in}
+use Rattle.hip_typing.specs.Constants.{names_in}
+use Rattle.hip_globals.specs.Constants.{types_in}
 
 -- A register with its type; the register of a void call has none.
 pub record Register : Type 0 where

@@ -18,10 +18,11 @@ use Rattle.hip_ir.specs.declared.program.Program.{Program}
 use Rattle.hip_ir.specs.declared.site.Site.{Site}
 use Rattle.hip_ir.specs.Reading.{IsSpelled}
 use Rattle.hip_mem.specs.Memory.{volatile_start}
-use Rattle.hip_typing.specs.Addresses.{region_size, volatile_end}
+use Rattle.hip_globals.specs.Addresses.{region_size, volatile_end}
 use Rattle.hip_typing.specs.Check.{Check, asks_true, and_then, each}
-use Rattle.hip_typing.specs.Constants.{has_shape, joined, names_in, types_in}
-use Rattle.hip_typing.specs.Externs.{Signature, known_signature, call_of}
+use Rattle.hip_typing.specs.Constants.{has_shape, names_in}
+use Rattle.hip_globals.specs.Constants.{joined, types_in}
+use Rattle.hip_externs.specs.Externs.{Signature, known_signature, call_of}
 use Rattle.hip_typing.specs.declared.fault.Fault.{Fault}
 use Rattle.hip_typing.specs.declared.fault.Fault.TheVariants as breaks
 use Rattle.hip_names.specs.Names.{is_among}

@@ -1,11 +1,9 @@
 -- What the values of the code stand for.
-pub mod AddressesSeen
 pub mod Answers
 pub mod Arrivals
 pub mod AssignedSeen
 pub mod Carried
 pub mod EndSeen
-pub mod InitialSeen
 pub mod Inner
 pub mod InstrSeen
 pub mod NamesSeen

@@ -24,9 +24,10 @@ use Rattle.hip_ir.specs.declared.program.GlobalVar.{GlobalVar}
 use Rattle.hip_ir.specs.declared.program.Program.{Program}
 use Rattle.hip_ir.specs.Reading.{IsSpelled}
 use Rattle.hip_mem.specs.Memory.{volatile_start}
-use Rattle.hip_typing.specs.Addresses.{region_size, volatile_end}
-use Rattle.hip_typing.specs.Constants.{has_shape, names_in, types_in}
-use Rattle.hip_typing.specs.Externs.{known_signature, call_of}
+use Rattle.hip_globals.specs.Addresses.{region_size, volatile_end}
+use Rattle.hip_globals.specs.Addresses.{TypesFitIn}
+use Rattle.hip_typing.specs.Constants.{has_shape, names_in}
+use Rattle.hip_externs.specs.Externs.{known_signature, call_of}
 use Rattle.hip_names.specs.Names.{IsAmong, number_of, AllDiffer}
 use Rattle.hip_typing.specs.Numbering.{function_number}
 use Rattle.hip_typing.specs.Paths.{IsAssigned, label_at, names_of}
@@ -68,9 +69,6 @@ names_in_function fn = names_of (parameter_registers fn) ++ flat_map names_in_bl
 
 abbrev pub HasItsShape : GlobalVar → Type 0
 HasItsShape g = IsTrue (has_shape g.init g.ty)
-
-abbrev pub TypesFitIn : GlobalVar → Type 0
-TypesFitIn g = All Fits (g.ty ∷ types_in g.init)
 
 abbrev pub NamesGlobals : Program → GlobalVar → Type 0
 NamesGlobals P g = All (IsAmong (global_names P)) (names_in g.init)

@@ -1,7 +1,7 @@
 ghost use Rattle.std.specs.Prelude.{◌≡◌, ◌<◌, length, map, slice_get};
 ghost use Rattle.std.specs.List.{flat_map};
 ghost use Rattle.hip_typing.specs.Seen.AssignedSeen.{Describes, AnswersUses, AnswersAssigned};
-ghost use Rattle.hip_typing.specs.Constants.{joined};
+ghost use Rattle.hip_globals.specs.Constants.{joined};
 ghost use Rattle.hip_typing.specs.Seen.Inner.{inner_entries};
 ghost use Rattle.hip_names.specs.Names.{AllDiffer};
 ghost use Rattle.hip_typing.specs.Names.{numbered};

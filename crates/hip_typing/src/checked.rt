@@ -1,21 +1,20 @@
 ghost use Rattle.std.specs.Prelude.{◌≡◌, ◌+◌, ◌<◌, true, false, length, IfOk};
 ghost use Rattle.hip_mem.specs.Memory.{volatile_start};
-ghost use Rattle.hip_typing.specs.Addresses as spec;
-ghost use Rattle.hip_typing.specs.Addresses.{IsBase};
+ghost use Rattle.hip_globals.specs.Addresses as spec;
+ghost use Rattle.hip_globals.specs.Addresses.{IsBase};
 ghost use Rattle.hip_typing.specs.Checks.{Checks};
 ghost use Rattle.hip_typing.specs.Given.{CallsAgree, OperandsAgree, LabelsExist, PhisAgree};
-ghost use Rattle.hip_typing.specs.Held.{HoldsGlobals};
-ghost use Rattle.hip_typing.specs.Initial as initial;
+ghost use Rattle.hip_globals.specs.Held.{HoldsGlobals};
+ghost use Rattle.hip_globals.specs.Initial as initial;
 ghost use Rattle.hip_names.specs.Names as names;
 ghost use Rattle.hip_typing.specs.Numbering.{function_names, function_number};
 ghost use Rattle.hip_typing.specs.Sound.{RegistersAssigned, HasMain, IsSound};
 
-use crate::addresses::{address, region_size};
 use crate::assigned_functions::check_assigned;
 use crate::fault::{Place, TypeFault, TypeRefusal};
-use crate::initial_bytes::{region_bytes, volatile_bytes};
 use crate::refusal::{refusal_of, refusal_on_paths};
 use crate::rules::check_rules;
+use hip_globals::{address, region_bytes, region_size, volatile_bytes};
 use hip_ir::{Function, Program, spelled};
 use hip_types::{NoMemory, Row};
 use std::alloc::Global;

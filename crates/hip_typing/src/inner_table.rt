@@ -1,6 +1,7 @@
 ghost use Rattle.std.specs.Prelude.{◌+◌, ◌<◌, ◌^◌, [], ◌∷◌, map, IfOk, OnOk};
 ghost use Rattle.hip_typing.specs.Seen.Inner as spec;
-ghost use Rattle.hip_typing.specs.Seen.Inner.{Gains, param_entry, phi_entry, instr_entries, body_entries, block_entries, blocks_entries, inner_entries};
+ghost use Rattle.hip_names.specs.Tables.{Gains};
+ghost use Rattle.hip_typing.specs.Seen.Inner.{param_entry, phi_entry, instr_entries, body_entries, block_entries, blocks_entries, inner_entries};
 ghost use Rattle.hip_names.specs.Tables.{StandsFor};
 
 use crate::registers::assigned_by;

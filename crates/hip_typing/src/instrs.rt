@@ -11,7 +11,7 @@ ghost use Rattle.hip_typing.specs.Seen.UsesSeen.{instr_agrees_in, callee_known_i
 use crate::callees::{Callee, CalleeTable, Params};
 use crate::constants::type_fits;
 use crate::externs::{is_same_result, is_same_scalar};
-use crate::shape::index;
+use hip_globals::index;
 use hip_ir::{Arg, Const, Instr, Operand, Param};
 use hip_types::{CastOp, Name, Row, Scalar, Ty};
 

@@ -1,8 +1,6 @@
 //! Which programs are sound, and where their data lies.
 #![tactic(auto)]
 
-mod address_table;
-mod addresses;
 mod assigned;
 mod assigned_functions;
 mod callees;
@@ -14,8 +12,6 @@ mod externs;
 mod fault;
 mod globals;
 mod graph;
-mod initial;
-mod initial_bytes;
 mod inner;
 mod inner_table;
 mod instrs;
@@ -28,6 +24,7 @@ mod refused;
 mod registers;
 mod rules;
 mod shape;
+mod sizes;
 mod tables;
 mod targets;
 mod uses;

@@ -1,13 +1,13 @@
 ghost use Rattle.hip_typing.specs.Seen.Answers.{Answers};
 ghost use Rattle.hip_typing.specs.Rules.{rules_check};
 
-use crate::addresses::check_sizes;
 use crate::externs::check_externs;
 use crate::globals::check_globals;
 use crate::inner::check_registers;
 use crate::named::check_names;
 use crate::places::check_places;
 use crate::refused::Refused;
+use crate::sizes::check_sizes;
 use crate::whole::check_main;
 use hip_ir::Program;
 use std::alloc::Global;

@@ -1,9 +1,10 @@
 ghost use Rattle.std.specs.Prelude.{◌≡◌, map};
 ghost use Rattle.hip_types.specs.declared.ty.Ty.{out-Ty};
-ghost use Rattle.hip_typing.specs.Constants.{index_of, entered, enters, path_exists, has_shape, gep_is_sound, item_has_shape, all_have};
+ghost use Rattle.hip_typing.specs.Constants.{entered, enters, path_exists, has_shape, gep_is_sound, item_has_shape, all_have};
 ghost use Rattle.hip_typing.specs.Types.{all_pass, same_type};
 ghost use Rattle.std.specs.Option.{option_copied};
 
+use hip_globals::index;
 use hip_ir::{Const, ConstGep, TypedConst};
 use hip_types::{Bits, Ty, Width, same_ty};
 
@@ -12,18 +13,6 @@ pub fn is_same_type(a: &Ty, b: &Ty) -> bool
     ensures { result ≡ same_type a.now b.now }
 {
     same_ty(a, b)
-}
-
-/// An index, sign-extended to 64 bits.
-pub fn index(bits: Bits) -> u64
-    ensures { result ≡ index_of bits }
-{
-    let sign = 1 << (bits.width.bits() - 1);
-    if bits.value < sign {
-        bits.value
-    } else {
-        bits.value.wrapping_sub(sign).wrapping_sub(sign)
-    }
 }
 
 /// The type that an index enters.

@@ -5,7 +5,7 @@ use Rattle.hip_types.specs.declared.number.Scalar.{Scalar}
 use Rattle.hip_ir.specs.declared.instr.Arg.{Arg}
 use Rattle.hip_ir.specs.declared.instr.Instr.TheVariants as instrs
 use Rattle.hip_ir.specs.declared.program.Program.{Program}
-use Rattle.hip_typing.specs.Externs.{call_of}
+use Rattle.hip_externs.specs.Externs.{call_of}
 use Rattle.hip_runs.specs.declared.event.TrapKind.TheVariants as traps
 use Rattle.hip_runs.specs.declared.input.Input.{Input}
 use Rattle.hip_runs.specs.Actions.{Calls, Traps, bound_call, call_action, entered, instr_action, is_flush_or_fence, numbered_call}

@@ -15,7 +15,7 @@ use Rattle.hip_ir.specs.declared.program.GlobalVar.{GlobalVar}
 use Rattle.hip_ir.specs.declared.program.Program.{Program}
 use Rattle.hip_names.specs.Names.{number_of}
 use Rattle.hip_typing.specs.Registers.{arg_uses}
-use Rattle.hip_typing.specs.Values.{const_value, element_address}
+use Rattle.hip_globals.specs.Values.{const_value, element_address}
 use Rattle.hip_runs.specs.declared.input.Input.{Input}
 use Rattle.hip_runs.specs.Actions.{index_value, index_values, instr_action}
 use Rattle.hip_runs.specs.Operands.{value_of, width_of}

@@ -15,10 +15,10 @@ use Rattle.hip_ir.specs.declared.program.Program.{Program}
 use Rattle.hip_mem.specs.Bytes.{bytes_of, little_endian}
 use Rattle.hip_mem.specs.Memory.{bytes_at}
 use Rattle.hip_names.specs.Names.{number_of}
-use Rattle.hip_typing.specs.Externs.{call_of}
+use Rattle.hip_externs.specs.Externs.{call_of}
 use Rattle.hip_typing.specs.Registers.{arg_uses}
-use Rattle.hip_typing.specs.declared.externs.ExternCall.{ExternCall}
-use Rattle.hip_typing.specs.declared.externs.ExternCall.TheVariants as calls
+use Rattle.hip_externs.specs.declared.call.ExternCall.{ExternCall}
+use Rattle.hip_externs.specs.declared.call.ExternCall.TheVariants as calls
 use Rattle.hip_runs.specs.declared.event.TrapKind.TheVariants as traps
 use Rattle.hip_runs.specs.declared.input.Input.{Input}
 use Rattle.hip_runs.specs.Actions.{Action, Traps, Assigns, Stores, Flushes, Persists, Asserts, Prints, accessed, allocated, call_action, extern_action, flushing, in_region, instr_action, is_flush_or_fence, memory_of, read_next}

@@ -7,9 +7,9 @@ use Rattle.hip_types.specs.Numbers.{bits}
 use Rattle.hip_types.specs.declared.number.Width.TheVariants.{W64}
 use Rattle.hip_types.specs.declared.ty.Ty.TheVariants as types
 use Rattle.hip_ir.specs.declared.constant.Const.TheVariants as consts
-use Rattle.hip_typing.specs.Addresses.{volatile_end}
-use Rattle.hip_typing.specs.Initial.{volatile_bytes}
-use Rattle.hip_typing.specs.Values.{aligned, constant_bytes, global_address, sized, written}
+use Rattle.hip_globals.specs.Addresses.{volatile_end}
+use Rattle.hip_globals.specs.Initial.{volatile_bytes}
+use Rattle.hip_globals.specs.Values.{aligned, constant_bytes, global_address, sized, written}
 use Rattle.hip_runs.specs.declared.event.Object.TheVariants.{Global}
 use Rattle.hip_runs.specs.declared.report.Mark.{Mark}
 use Rattle.hip_runs.specs.Actions.{Deed, Assigns, Asserts, Calls, Returns, Stores}

@@ -2,7 +2,7 @@
 use Rattle.std.proofs.Common.{◌≡◌, ℕ, suc, cond, nat_eq, List, [], ◌∷◌, Option, None, is_some, refl, sym, ap, ◌∙◌}
 use Rattle.hip_types.specs.declared.number.Bits.{Bits}
 use Rattle.hip_mem.specs.Bytes.{bytes_of}
-use Rattle.hip_typing.specs.Values.{Written, written}
+use Rattle.hip_globals.specs.Values.{Written, written}
 use Rattle.hip_ir.specs.declared.constant.Const.TheFolds.{fold-roll-Const}
 use Rattle.hip_ir.specs.declared.constant.Const.TheVariants as consts
 use Rattle.hip_types.specs.Distinct.{met}

@@ -7,8 +7,8 @@ use Rattle.hip_ir.specs.declared.constant.ConstGep.{ConstGep}
 use Rattle.hip_ir.specs.declared.program.GlobalVar.{GlobalVar}
 use Rattle.hip_ir.specs.declared.program.Program.{Program}
 use Rattle.hip_types.specs.declared.number.Bits.{Bits}
-use Rattle.hip_typing.specs.Constants.{index_of}
-use Rattle.hip_typing.specs.Values.{Written, const_value, element_address, global_address}
+use Rattle.hip_globals.specs.Constants.{index_of}
+use Rattle.hip_globals.specs.Values.{Written, const_value, element_address, global_address}
 use Rattle.hip_mem.specs.Bytes.{zeros}
 use Rattle.hip_lines.specs.Line.{Line, fresh_lines}
 use Rattle.hip_runs.specs.declared.event.Ending.{Ending}

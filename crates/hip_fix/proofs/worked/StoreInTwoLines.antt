@@ -6,7 +6,7 @@ use Rattle.hip_types.specs.LayoutLaws.{shape-Int, shape-Array}
 use Rattle.hip_types.specs.Layout.{Shape, Part, size_of, enter, enter_level, further, part_at, gep_of}
 use Rattle.hip_types.specs.declared.number.Width.TheVariants.{W8, W64}
 use Rattle.hip_types.specs.declared.ty.Ty.TheVariants as types
-use Rattle.hip_typing.specs.Values.{const_value}
+use Rattle.hip_globals.specs.Values.{const_value}
 use Rattle.hip_runs.specs.Operands.{value_of}
 use Rattle.hip_runs.specs.Actions.{Deed, Returns, Stores}
 use Rattle.hip_runs.specs.Reports.{reports}

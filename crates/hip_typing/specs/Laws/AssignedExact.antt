@@ -8,7 +8,7 @@ use Rattle.hip_ir.specs.declared.block.Block.{Block}
 use Rattle.hip_ir.specs.declared.block.Edge.{Edge}
 use Rattle.hip_ir.specs.declared.block.Phi.{Phi}
 use Rattle.hip_ir.specs.declared.program.Function.{Function}
-use Rattle.hip_typing.specs.Constants.{joined}
+use Rattle.hip_globals.specs.Constants.{joined}
 use Rattle.hip_names.specs.Names.{number_of}
 use Rattle.hip_typing.specs.Names.{numbered_from}
 use Rattle.hip_names.specs.NumberLaws.{number_of-cons}

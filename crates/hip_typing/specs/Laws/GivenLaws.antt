@@ -12,7 +12,7 @@ use Rattle.hip_ir.specs.declared.program.Extern.{Extern}
 use Rattle.hip_ir.specs.declared.program.Function.{Function}
 use Rattle.hip_ir.specs.declared.program.Program.{Program}
 use Rattle.hip_typing.specs.Laws.Decided.{all-at}
-use Rattle.hip_typing.specs.Externs.{Signature, known_signature}
+use Rattle.hip_externs.specs.Externs.{Signature, known_signature}
 use Rattle.hip_typing.specs.Given.{CallsFunction, CallsExtern, CallsAgree, OperandsAgree, HasBlock, LabelsExist, PhisAgree}
 use Rattle.hip_names.specs.NameLaws.{bytes_eq-sym}
 use Rattle.hip_names.specs.Names.{IsAmong, number_of}

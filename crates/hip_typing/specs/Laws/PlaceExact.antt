@@ -22,7 +22,7 @@ use Rattle.hip_ir.specs.declared.program.Extern.{Extern}
 use Rattle.hip_ir.specs.declared.program.Function.{Function}
 use Rattle.hip_ir.specs.declared.program.Program.{Program}
 use Rattle.hip_typing.specs.Equal.{same_bits, same_operand}
-use Rattle.hip_typing.specs.Externs.{Signature}
+use Rattle.hip_externs.specs.Externs.{Signature}
 use Rattle.hip_names.specs.Names.{IsAmong, is_among}
 use Rattle.hip_typing.specs.Paths.{label_at, names_of}
 use Rattle.hip_typing.specs.Places.{scope_of, are_among, extern_of, function_of, first_of, callee_of, signature_agrees, register_agrees, uses_known, use_agrees, uses_agree, has_type, instr_agrees, callee_known, instr_check, returned_agrees, returns, differ, cases_differ, end_cases, is_entry, end_check, is_predecessor, predecessors, carry_alike, edge_labels, edges_agree, phi_check}

@@ -14,9 +14,9 @@ use Rattle.hip_ir.specs.declared.program.GlobalVar.{GlobalVar}
 use Rattle.hip_ir.specs.declared.program.Param.{Param}
 use Rattle.hip_ir.specs.declared.program.Program.{Program}
 use Rattle.hip_mem.specs.Memory.{volatile_start}
-use Rattle.hip_typing.specs.Addresses.{region_size, volatile_end}
+use Rattle.hip_globals.specs.Addresses.{region_size, volatile_end}
 use Rattle.hip_typing.specs.Constants.{names_in}
-use Rattle.hip_typing.specs.Externs.{Signature, known_signature, call_of}
+use Rattle.hip_externs.specs.Externs.{Signature, known_signature, call_of}
 use Rattle.hip_names.specs.Names.{AllDiffer, IsAmong, is_among, number_of}
 use Rattle.hip_typing.specs.Numbering.{function_names}
 use Rattle.hip_names.specs.NumberLaws.{number_of-cons}
@@ -30,7 +30,8 @@ use Rattle.hip_names.specs.NameLaws.{bytes_eq-sym, among-decides}
 use Rattle.hip_typing.specs.Laws.NameLaws.{names-sound, names-whole, inner-sound, inner-whole}
 use Rattle.hip_typing.specs.Laws.PlaceExact.{ItemIsSound, phi-sound, phi-whole, instr-sound, instr-whole, end-sound, end-whole}
 use Rattle.hip_typing.specs.Laws.EqualLaws.{same_scalars-decides, same_result-decides}
-use Rattle.hip_typing.specs.Sound.{names_in_function, TypesFitIn, HasItsShape, NamesGlobals, IsOfTable, IsFree, KeepsToTable, KeepsToSizes, HasMain, IsBlockAt, Item, PhiItem, InstrItem, EndItem, EachItem, IsSound}
+use Rattle.hip_typing.specs.Sound.{names_in_function, HasItsShape, NamesGlobals, IsOfTable, IsFree, KeepsToTable, KeepsToSizes, HasMain, IsBlockAt, Item, PhiItem, InstrItem, EndItem, EachItem, IsSound}
+use Rattle.hip_globals.specs.Addresses.{TypesFitIn}
 
 -- ---- globals
 

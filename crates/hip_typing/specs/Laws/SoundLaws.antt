@@ -8,12 +8,13 @@ use Rattle.hip_ir.specs.declared.program.GlobalVar.{GlobalVar}
 use Rattle.hip_ir.specs.declared.program.Program.{Program}
 use Rattle.hip_typing.specs.Check.{IsExact}
 use Rattle.std.proofs.Common.{arith}
-use Rattle.hip_typing.specs.Addresses.{AllFit, end_of}
-use Rattle.hip_typing.specs.Sound.{TypesFitIn, KeepsToSizes}
+use Rattle.hip_globals.specs.Addresses.{AllFit, end_of}
+use Rattle.hip_globals.specs.Addresses.{TypesFitIn}
+use Rattle.hip_typing.specs.Sound.{KeepsToSizes}
 use Rattle.hip_typing.specs.Laws.CheckLaws.{asks_true-exact, and_then-exact, each_from-exact, differ_after-exact, types_fit-exact}
 use Rattle.hip_typing.specs.Places.{Scope, scope_of, instr_check, end_check, phi_check}
 use Rattle.hip_typing.specs.Rules.{global_check, globals_check, externs_check, registers_check, places_check, block_check, rules_check}
-use Rattle.hip_typing.specs.Constants.{types_in}
+use Rattle.hip_globals.specs.Constants.{types_in}
 use Rattle.hip_typing.specs.declared.fault.Fault.TheVariants as breaks
 use Rattle.hip_typing.specs.declared.fault.Place.{Place}
 use Rattle.hip_typing.specs.declared.fault.Place.TheVariants as places
@@ -57,10 +58,6 @@ rules-exact P =
     and_then-exact _ _ (differ_after-exact _ _)
     (and_then-exact _ _ (globals-exact P)
     (and_then-exact _ _ (externs-exact P) (and_then-exact _ _ (asks_true-exact _ _ _) (and_then-exact _ _ (asks_true-exact _ _ _) (and_then-exact _ _ (registers-exact P) (places-exact P))))))
-
--- the types of globals fit, where those in their initialisers do too
-pub globals-fit : (globals : List GlobalVar) → All TypesFitIn globals → AllFit globals
-globals-fit globals h = λ k d within. h k d within 0 (get_or globals k d).ty (omega arith)
 
 -- where the persistent globals of a sound program end
 pub persistent-end : (P : Program) → KeepsToSizes P → end_of true 0 P.globals ≤ 67108864

@@ -6,7 +6,8 @@ use Rattle.std.proofs.lemmas.List.Folds.{list_all-append}
 use Rattle.hip_types.specs.declared.number.Scalar.{Scalar}
 use Rattle.hip_ir.specs.declared.instr.Operand.{Operand}
 use Rattle.hip_ir.specs.declared.instr.Operand.TheVariants.{Reg, Fixed}
-use Rattle.hip_typing.specs.Constants.{names_in, types_in}
+use Rattle.hip_typing.specs.Constants.{names_in}
+use Rattle.hip_globals.specs.Constants.{types_in}
 use Rattle.hip_names.specs.Names.{is_among, Knows}
 use Rattle.hip_typing.specs.Places.{Scope, global_names, uses_known, uses_agree, use_agrees, fits_test, has_type}
 use Rattle.hip_typing.specs.Registers.{Use, find_register, used_registers, used_globals, used_types}

@@ -6,10 +6,10 @@ use Rattle.hip_ir.specs.declared.block.Phi.{Phi}
 use Rattle.hip_ir.specs.declared.instr.Instr.{Instr}
 use Rattle.hip_ir.specs.declared.program.Function.{Function}
 use Rattle.hip_ir.specs.declared.program.Param.{Param}
-use Rattle.hip_typing.specs.Constants.{joined}
+use Rattle.hip_globals.specs.Constants.{joined}
 use Rattle.hip_typing.specs.Names.{numbered}
 use Rattle.hip_typing.specs.Registers.{assigned_by, end_labels}
-use Rattle.hip_names.specs.Tables.{Entry, StandsFor, value_of, value_beside}
+use Rattle.hip_names.specs.Tables.{Entry, value_of, value_beside}
 use Rattle.hip_typing.specs.declared.inner_table.Inner.{Inner}
 use Rattle.hip_typing.specs.declared.inner_table.Inner.TheVariants.{Parameter, Label, Assigned}
 
@@ -56,9 +56,3 @@ graph_of f = map (λ block. successor_numbers (inner_entries f) (end_labels bloc
 -- the same by a table
 abbrev pub label_numbers : List (List ℕ) → List Inner → List (List ℕ) → List ℕ
 label_numbers names values labels = flat_map (λ label. block_number (value_beside names values label)) labels
-
--- ---- tables
-
--- a table grows by these entries
-pub record Gains {V : Type 0} (names : List (List ℕ)) (values : List V) (more_names : List (List ℕ)) (more_values : List V) (entries : List (Entry V)) : Type 0 where
-  pub gains : (before : List (Entry V)) → StandsFor names values before → StandsFor more_names more_values (before ++ entries)

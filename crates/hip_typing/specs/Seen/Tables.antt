@@ -5,7 +5,7 @@ use Rattle.hip_ir.specs.declared.program.Extern.{Extern}
 use Rattle.hip_ir.specs.declared.program.Function.{Function}
 use Rattle.hip_ir.specs.declared.program.Program.{Program}
 use Rattle.hip_names.specs.Tables.{Entry, value_beside, StandsFor}
-use Rattle.hip_typing.specs.Externs.{Signature}
+use Rattle.hip_externs.specs.Externs.{Signature}
 use Rattle.hip_typing.specs.Places.{callee_of}
 use Rattle.hip_typing.specs.Registers.{Register, find_register}
 use Rattle.hip_typing.specs.declared.callees.Callee.{Callee}

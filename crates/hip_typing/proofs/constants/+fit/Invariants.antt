@@ -1,6 +1,6 @@
 use Rattle.std.proofs.Common.{◌≡◌, drop, map}
 use Rattle.std.specs.List.{list_all}
-use Rattle.hip_typing.specs.Constants.{joined, item_types}
+use Rattle.hip_globals.specs.Constants.{joined, item_types}
 use Rattle.hip_typing.specs.Places.{fits_test}
 use Rattle.hip_typing.proofs.constants.+fit.Given as goal
 

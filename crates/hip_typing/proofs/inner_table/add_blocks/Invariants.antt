@@ -1,5 +1,6 @@
 use Rattle.std.proofs.Common.{take}
-use Rattle.hip_typing.specs.Seen.Inner.{Gains, blocks_entries}
+use Rattle.hip_names.specs.Tables.{Gains}
+use Rattle.hip_typing.specs.Seen.Inner.{blocks_entries}
 use Rattle.hip_typing.proofs.inner_table.add_blocks.Given as goal
 
 abbrev pub invariant-each_block : goal.invariant-each_block

@@ -1,5 +1,6 @@
 use Rattle.std.proofs.Common.{take, map}
-use Rattle.hip_typing.specs.Seen.Inner.{Gains, param_entry}
+use Rattle.hip_names.specs.Tables.{Gains}
+use Rattle.hip_typing.specs.Seen.Inner.{param_entry}
 use Rattle.hip_typing.proofs.inner_table.add_params.Given as goal
 
 abbrev pub invariant-params : goal.invariant-params

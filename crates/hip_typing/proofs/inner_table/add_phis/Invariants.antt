@@ -1,5 +1,6 @@
 use Rattle.std.proofs.Common.{take, map}
-use Rattle.hip_typing.specs.Seen.Inner.{Gains, phi_entry}
+use Rattle.hip_names.specs.Tables.{Gains}
+use Rattle.hip_typing.specs.Seen.Inner.{phi_entry}
 use Rattle.hip_typing.proofs.inner_table.add_phis.Given as goal
 
 abbrev pub invariant-phis : goal.invariant-phis

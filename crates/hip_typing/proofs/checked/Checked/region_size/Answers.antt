@@ -1,4 +1,4 @@
-use Rattle.hip_typing.specs.Laws.SoundLaws.{globals-fit}
+use Rattle.hip_globals.specs.Laws.AddressLaws.{globals-fit}
 use Rattle.hip_typing.proofs.checked.Checked.region_size.Goals as goal
 
 pub region_size-requires-clause-fit : goal.region_size-requires-clause-fit

@@ -1,6 +1,6 @@
 use Rattle.std.proofs.Common.{◌≡◌, ◌+◌, true, arith, sym, ap, ◌∙◌}
-use Rattle.hip_typing.specs.Addresses.{end_of}
-use Rattle.hip_typing.specs.Laws.AddressLaws.{spelled-divide, end_of-from}
+use Rattle.hip_globals.specs.Addresses.{end_of}
+use Rattle.hip_globals.specs.Laws.AddressLaws.{spelled-divide, end_of-from}
 use Rattle.hip_typing.specs.Laws.SoundLaws.{persistent-end}
 use Rattle.hip_typing.proofs.checked.Checked.volatile_bytes.Goals as goal
 

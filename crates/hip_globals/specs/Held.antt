@@ -1,0 +1,16 @@
+-- Where the bytes of a global stand among those of all.
+use Rattle.std.specs.Prelude.{ℕ, ◌-◌, ◌≡◌, Bool, true, List, take, drop, length, Some, slice_get}
+use Rattle.hip_ir.specs.declared.program.GlobalVar.{GlobalVar}
+use Rattle.hip_ir.specs.declared.program.Program.{Program}
+use Rattle.hip_globals.specs.Addresses.{same, start_of}
+use Rattle.hip_globals.specs.Values.{global_address, constant_bytes}
+
+-- these bytes stand at a place among others
+pub record HoldsAt (whole : List ℕ) (place : ℕ) (bytes : List ℕ) : Type 0 where
+  pub is : take (length bytes) (drop place whole) ≡ bytes
+
+-- Each global that is persistent, or that is not, has the bytes of its initialiser where it lies, counted from the place of
+-- the first byte.
+pub record HoldsGlobals (P : Program) (base : ℕ) (persistent : Bool) (start : ℕ) (bytes : List ℕ) : Type 0 where
+  pub holds : (number : ℕ) (g : GlobalVar) → slice_get P.globals number ≡ Some g → same g.persistent persistent ≡ true
+      → HoldsAt bytes (start_of persistent start P.globals number - start) (constant_bytes (global_address P.globals base) g.init g.ty)

@@ -1,0 +1,25 @@
+-- What the functions that lay the bytes of globals go by: an element and an item of a constant, and types that fit.
+use Rattle.std.specs.Prelude.{ℕ, ◌<◌, List, ◌∷◌, All, length, get_or}
+use Rattle.hip_types.specs.declared.ty.Ty.{Ty}
+use Rattle.hip_types.specs.Layout.{Fits}
+use Rattle.hip_ir.specs.declared.constant.ConstGep.{ConstGep}
+use Rattle.hip_ir.specs.declared.constant.TypedConst.{TypedConst}
+use Rattle.hip_ir.specs.declared.constant.Const.TheFolds.{fold-ConstGep, fold-TypedConst}
+use Rattle.hip_ir.specs.declared.program.GlobalVar.{GlobalVar}
+use Rattle.hip_globals.specs.Constants.{types_in}
+use Rattle.hip_globals.specs.Values.{Written, Piece, written_step, gep_step, item_step}
+
+-- the address of an element, where names have these addresses
+abbrev pub gep_address : (List ℕ → ℕ) → ConstGep → ℕ
+gep_address address_of = fold-ConstGep Written ℕ Piece (written_step address_of) gep_step item_step
+
+-- an item's bytes, with its alignment
+abbrev pub item_piece : (List ℕ → ℕ) → TypedConst → Piece
+item_piece address_of = fold-TypedConst Written ℕ Piece (written_step address_of) gep_step item_step
+
+pub record AllFit (types : List Ty) : Type 0 where
+  pub fit : All Fits types
+
+-- the types of globals and those in their initialisers fit
+pub record GlobalsFit (globals : List GlobalVar) : Type 0 where
+  pub fit : (k : ℕ) (d : GlobalVar) → k < length globals → AllFit ((get_or globals k d).ty ∷ types_in (get_or globals k d).init)

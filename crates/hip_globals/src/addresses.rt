@@ -1,0 +1,137 @@
+ghost use Rattle.std.specs.Prelude.{◌≡◌, ◌+◌, ◌%◌, ◌<◌, ◌≤◌, ◌^◌, nat_le, true, length};
+ghost use Rattle.std.specs.Option.{SomeIff};
+ghost use Rattle.hip_types.specs.Layout.{Fits, size_of};
+ghost use Rattle.hip_globals.specs.Addresses as spec;
+ghost use Rattle.hip_globals.specs.Addresses.{AllFit, global_align, global_start};
+ghost use Rattle.hip_ir.specs.Reading.{IsSpelled};
+
+use hip_ir::{GlobalVar, Program};
+use hip_types::{align, size};
+
+/// How many bytes the persistent globals may take, from the first one's start to the last one's end.
+const LARGEST_REGION: u64 = 67_108_864;
+
+/// Where the first volatile global lies.
+pub const VOLATILE_START: u64 = 65_536;
+
+/// How many bytes a cache line has.
+const CACHE_LINE: u64 = 64;
+
+/// Where the last volatile global may end.
+const VOLATILE_LIMIT: u64 = VOLATILE_START + 16_777_216;
+
+/// The greater of the type's alignment and the one that is written.
+pub fn alignment(global: &GlobalVar) -> u64
+    requires { Fits global.now.ty }
+    ensures value { result ≡ global_align global.now }
+    ensures some { 0 < result }
+{
+    let natural = align(&global.ty);
+    match global.align {
+        Some(written) => written.max(natural),
+        None => natural,
+    }
+}
+
+/// Where a global ends that is laid from a place on; none from 2^64 on.
+fn end_after(at: u64, global: &GlobalVar) -> Option<u64>
+    requires { Fits global.now.ty }
+    ensures { SomeIff result (global_start at global.now + size_of global.now.ty < 2 ^ 64) (global_start at global.now + size_of global.now.ty) }
+{
+    match at.checked_next_multiple_of(alignment(global)) {
+        Some(start) => start.checked_add(size(&global.ty)),
+        None => None,
+    }
+}
+
+/// Where those of the globals end that are persistent, or that are not; none from 2^64 on.
+fn end_of(globals: &[GlobalVar], persistent: bool, start: u64) -> Option<u64>
+    requires { AllFit globals.now }
+    ensures { SomeIff result (spec.end_of persistent start globals.now < 2 ^ 64) (spec.end_of persistent start globals.now) }
+{
+    let mut at = start;
+    'globals: for global in globals {
+        if global.persistent == persistent {
+            at = match end_after(at, global) {
+                Some(end) => end,
+                None => return None,
+            };
+        }
+    }
+    Some(at)
+}
+
+/// Whether the globals that are persistent, or that are not, end at most at a limit.
+fn end_within(globals: &[GlobalVar], persistent: bool, start: u64, limit: u64) -> bool
+    requires { AllFit globals.now }
+    ensures { result ≡ nat_le (spec.end_of persistent start globals.now) limit }
+{
+    match end_of(globals, persistent, start) {
+        Some(end) => end <= limit,
+        None => false,
+    }
+}
+
+/// Whether the region has at most 67,108,864 bytes, and the volatile globals at most 16,777,216.
+pub fn are_within_limits(globals: &[GlobalVar]) -> bool
+    requires { AllFit globals.now }
+    ensures { result ≡ spec.are_within_limits globals.now }
+{
+    end_within(globals, true, 0, LARGEST_REGION)
+        && end_within(globals, false, VOLATILE_START, VOLATILE_LIMIT)
+}
+
+/// How many bytes the persistent globals take, rounded up to whole cache lines.
+pub fn region_size(program: &Program) -> u64
+    requires fit { AllFit program.now.globals }
+    requires small { spec.region_size program.now ≤ 67108864 }
+    ensures { result ≡ spec.region_size program.now }
+{
+    match end_of(program.globals.as_slice(), true, 0) {
+        Some(end) => end.next_multiple_of(CACHE_LINE),
+        None => unreachable!(),
+    }
+}
+
+/// Where the global of that number begins, where those that are persistent as it is, or are not, are laid from a
+/// place on.
+fn start_of(globals: &[GlobalVar], persistent: bool, start: u64, number: usize) -> u64
+    requires fit { AllFit globals.now }
+    requires there { number < length globals.now }
+    requires one { persistent ≡ spec.is_persistent globals.now number }
+    requires end { spec.end_of persistent start globals.now < 2 ^ 64 }
+    ensures { result ≡ spec.start_of persistent start globals.now number }
+{
+    let mut at = start;
+    'each: for index in 0..number {
+        let earlier = &globals[index];
+        if earlier.persistent == persistent {
+            at = match end_after(at, earlier) {
+                Some(end) => end,
+                None => unreachable!(),
+            };
+        }
+    }
+    match at.checked_next_multiple_of(alignment(&globals[number])) {
+        Some(start) => start,
+        None => unreachable!(),
+    }
+}
+
+/// The address of the global of that number, where the region begins at a base.
+pub fn address(program: &Program, base: u64, number: usize) -> u64
+    requires spelled { IsSpelled program.now }
+    requires fit { AllFit program.now.globals }
+    requires base { base % 4096 ≡ 0 }
+    requires persistent { spec.end_of true base program.now.globals < 2 ^ 64 }
+    requires volatile { spec.volatile_end program.now < 2 ^ 64 }
+    requires there { number < length program.now.globals }
+    ensures { result ≡ spec.address program.now base number }
+{
+    let globals = program.globals.as_slice();
+    if globals[number].persistent {
+        base + start_of(globals, true, 0, number)
+    } else {
+        start_of(globals, false, VOLATILE_START, number)
+    }
+}

@@ -1,0 +1,185 @@
+ghost use Rattle.std.specs.Prelude.{◌≡◌, ◌<◌, ◌≤◌, ◌++◌, ◌+◌, [], length, replicate, take, drop, map, IfOk, OnOk, unwrap_or};
+ghost use Rattle.hip_types.specs.Layout.{Fits, gep_of};
+ghost use Rattle.hip_mem.specs.Bytes.{bytes_of};
+ghost use Rattle.hip_globals.specs.AddressesSeen.{address_beside};
+ghost use Rattle.hip_globals.specs.Constants.{index_of, joined, types_in, gep_types, item_types};
+ghost use Rattle.hip_globals.specs.InitialSeen.{AllFit, gep_address, item_piece};
+ghost use Rattle.hip_globals.specs.Values.{aligned, sized, placed, written};
+
+use crate::table::{AddressTable, address_of};
+use crate::indices::index;
+use hip_ir::{Const, ConstGep, TypedConst};
+use hip_types::{Bits, NoMemory, Row, Ty, align, gep_offset, size};
+use std::alloc::Global;
+
+/// Adds the low bytes of a number, the lowest first.
+fn push_number(bytes: &mut Row<u8>, count: u64, number: u64) -> Result<(), NoMemory>
+    ensures { OnOk result (bytes.new ≡ bytes.old ++ bytes_of count number) }
+{
+    let mut rest = number;
+    'each: for _byte in 0..count {
+        bytes.push((rest % 256) as u8)?;
+        rest /= 256;
+    }
+    Ok(())
+}
+
+/// Adds so many bytes of 0.
+fn push_zeros(alloc: Global, bytes: &mut Row<u8>, count: usize) -> Result<(), NoMemory>
+    ensures { OnOk result (bytes.new ≡ bytes.old ++ replicate count 0) }
+{
+    bytes.append(Row::from_vec(vec![in alloc; 0; count]?))
+}
+
+/// Cuts what stands behind a place to a size, or fills it up with zeros.
+pub fn set_size(alloc: Global, bytes: &mut Row<u8>, start: usize, size: u64) -> Result<(), NoMemory>
+    requires { start ≤ length bytes.old }
+    ensures { OnOk result (bytes.new ≡ take start bytes.old ++ sized size (drop start bytes.old)) }
+{
+    let len = bytes.len() - start;
+    let size = size as usize;
+    if size <= len {
+        bytes.truncate(start + size);
+        return Ok(());
+    }
+    push_zeros(alloc, bytes, size - len)
+}
+
+/// Fills up with zeros to where a multiple of an alignment lies, if what stands behind a place begins at an address.
+pub fn set_align(
+    alloc: Global,
+    bytes: &mut Row<u8>,
+    start: usize,
+    address: u64,
+    align: u64,
+) -> Result<(), NoMemory>
+    requires { start ≤ length bytes.old }
+    ensures { OnOk result (bytes.new ≡ take start bytes.old ++ aligned address align (drop start bytes.old)) }
+{
+    let Some(at) = address.checked_add((bytes.len() - start) as u64) else {
+        return Err(NoMemory);
+    };
+    match at.checked_next_multiple_of(align) {
+        Some(next) => push_zeros(alloc, bytes, (next - at) as usize),
+        None => Err(NoMemory),
+    }
+}
+
+/// The offset of a path, 0 where there is none.
+fn offset_of(alloc: Global, ty: &Ty, indices: &[Bits]) -> Result<u64, NoMemory>
+    requires { Fits ty.now }
+    ensures { IfOk result (λ offset. offset ≡ unwrap_or (gep_of ty.now (map index_of indices.now)) 0) }
+{
+    if indices.is_empty() {
+        return Ok(0);
+    }
+    let mut numbers = Row::new(alloc);
+    'each: for bits in indices {
+        numbers.push(index(*bits))?;
+    }
+    match gep_offset(ty, numbers.as_slice()) {
+        Some(offset) => Ok(offset),
+        None => Ok(0),
+    }
+}
+
+/// The value of a constant: an integer's number, the address that a pointer has, 0 for any other.
+#[cycle(value)]
+fn value_of(alloc: Global, addresses: &AddressTable<'_>, value: &Const) -> Result<u64, NoMemory>
+    requires { AllFit (types_in value.now) }
+    ensures { IfOk result (λ number. number ≡ (written (address_beside addresses.now) value.now).value) }
+{
+    match value {
+        Const::Int(bits) => Ok(bits.value),
+        Const::Address(name) => Ok(address_of(addresses, name)),
+        Const::Gep(gep) => element_of(alloc, addresses, gep.get()),
+        Const::Null => Ok(0),
+        Const::Zero => Ok(0),
+        Const::Array(_) => Ok(0),
+        Const::Struct(_) => Ok(0),
+    }
+}
+
+/// The address of an element.
+#[cycle(value)]
+fn element_of(alloc: Global, addresses: &AddressTable<'_>, gep: &ConstGep) -> Result<u64, NoMemory>
+    requires { AllFit (gep_types gep.now) }
+    ensures { IfOk result (λ address. address ≡ gep_address (address_beside addresses.now) gep.now) }
+{
+    let base = value_of(alloc, addresses, &gep.base)?;
+    let offset = offset_of(alloc, &gep.ty, gep.indices.as_slice())?;
+    Ok(base.wrapping_add(offset))
+}
+
+/// Adds the bytes that a constant writes.
+#[cycle(bytes)]
+pub fn push_constant(
+    alloc: Global,
+    bytes: &mut Row<u8>,
+    addresses: &AddressTable<'_>,
+    value: &Const,
+) -> Result<(), NoMemory>
+    requires { AllFit (types_in value.now) }
+    ensures { OnOk result (bytes.new ≡ bytes.old ++ (written (address_beside addresses.now) value.now).bytes) }
+{
+    match value {
+        Const::Array(items) => push_items(alloc, bytes, addresses, items.as_slice()),
+        Const::Struct(items) => push_fields(alloc, bytes, addresses, items.as_slice()),
+        _ => {
+            let number = value_of(alloc, addresses, value)?;
+            push_number(bytes, 8, number)
+        }
+    }
+}
+
+/// Adds a member of an aggregate: as many bytes as its type has.
+#[cycle(bytes)]
+fn push_item(
+    alloc: Global,
+    bytes: &mut Row<u8>,
+    addresses: &AddressTable<'_>,
+    item: &TypedConst,
+) -> Result<(), NoMemory>
+    requires { AllFit (item_types item.now) }
+    ensures { OnOk result (bytes.new ≡ bytes.old ++ (item_piece (address_beside addresses.now) item.now).bytes) }
+{
+    let start = bytes.len();
+    push_constant(alloc, bytes, addresses, &item.value)?;
+    set_size(alloc, bytes, start, size(&item.ty))
+}
+
+/// Adds the items of an array.
+#[cycle(bytes)]
+fn push_items(
+    alloc: Global,
+    bytes: &mut Row<u8>,
+    addresses: &AddressTable<'_>,
+    items: &[TypedConst],
+) -> Result<(), NoMemory>
+    requires { AllFit (joined (map item_types items.now)) }
+    ensures { OnOk result (bytes.new ≡ bytes.old ++ joined (map (λ p. p.bytes) (map (item_piece (address_beside addresses.now)) items.now))) }
+{
+    'items: for item in items {
+        push_item(alloc, bytes, addresses, item)?;
+    }
+    Ok(())
+}
+
+/// Adds the fields of a struct, each at a multiple of its alignment.
+#[cycle(bytes)]
+fn push_fields(
+    alloc: Global,
+    bytes: &mut Row<u8>,
+    addresses: &AddressTable<'_>,
+    items: &[TypedConst],
+) -> Result<(), NoMemory>
+    requires { AllFit (joined (map item_types items.now)) }
+    ensures { OnOk result (bytes.new ≡ bytes.old ++ placed [] (map (item_piece (address_beside addresses.now)) items.now)) }
+{
+    let start = bytes.len();
+    'fields: for item in items {
+        set_align(alloc, bytes, start, 0, align(&item.ty))?;
+        push_item(alloc, bytes, addresses, item)?;
+    }
+    Ok(())
+}

@@ -1,6 +1,0 @@
-use Rattle.hip_mem.specs.Memory.{volatile_start}
-use Rattle.hip_typing.proofs.AddressLists.{IsLaid}
-use Rattle.hip_typing.proofs.address_table.address_table.Given as goal
-
-abbrev pub invariant-globals : goal.invariant-globals
-invariant-globals l = IsLaid l.table.names l.table.values l.base volatile_start l.persistent l.volatile l.globals l.index

@@ -1,6 +1,0 @@
-use Rattle.std.proofs.Common.{◌≡◌, map, take}
-use Rattle.hip_typing.specs.Constants.{index_of}
-use Rattle.hip_typing.proofs.initial.offset_of.Given as goal
-
-abbrev pub invariant-each : goal.invariant-each
-invariant-each l = l.numbers ≡ map index_of (take l.bits-index l.indices)

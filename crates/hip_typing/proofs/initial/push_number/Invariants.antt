@@ -1,6 +1,0 @@
-use Rattle.std.proofs.Common.{◌≡◌, ◌-◌, ◌++◌}
-use Rattle.hip_mem.specs.Bytes.{bytes_of}
-use Rattle.hip_typing.proofs.initial.push_number.Given as goal
-
-abbrev pub invariant-each : goal.invariant-each
-invariant-each l = l.bytes ++ bytes_of (l.count - l._byte) l.rest ≡ l.initial.bytes ++ bytes_of l.count l.number

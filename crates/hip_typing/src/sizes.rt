@@ -1,0 +1,18 @@
+ghost use Rattle.std.specs.Prelude.{◌≡◌};
+ghost use Rattle.hip_globals.specs.Addresses.{AllFit};
+ghost use Rattle.hip_typing.specs.Seen.Answers.{Answers};
+ghost use Rattle.hip_typing.specs.Rules.{sizes_check};
+
+use crate::fault::{Fault, Place};
+use crate::refused::{Refused, ask};
+use hip_globals::are_within_limits;
+use hip_ir::Program;
+
+/// The region and the volatile globals are not too large.
+pub fn check_sizes(program: &Program) -> Result<(), Refused>
+    requires { AllFit program.now.globals }
+    ensures { Answers result (sizes_check program.now).found }
+{
+    let fit = are_within_limits(program.globals.as_slice());
+    ask(fit, Fault::TooLarge, Place::Whole)
+}

@@ -9,4 +9,5 @@ pub mod Translated
 pub mod Paths
 pub mod Calls
 pub mod Edges
+pub mod Whole
 pub mod Laws

@@ -28,19 +28,19 @@ pub record IsScaled (globals : List GlobalVar) (region : ℕ) (names : List (Lis
 -- The indices lead into a type, one after another: a constant one enters a part, another one an element of an array.
 abbrev pub is_path : List GlobalVar → ℕ → List (List ℕ) → List ℕ → Ty → List Arg → ℕ → List Term → Type 0
 is_path globals region names constants t [] offset terms = (offset ≡ 0) × (terms ≡ [])
-is_path globals region names constants t (a ∷ as) offset terms =
+is_path globals region names constants t (a ∷ rest_args) offset terms =
     ((index : ℕ) × (p : Part) × (rest : ℕ) × IsFixed globals region a index × (enter t index ≡ Some p) × (offset ≡ p.offset + rest)
-        × is_path globals region names constants p.ty as rest terms)
+    × is_path globals region names constants p.ty rest_args rest terms)
     ⊎ ((n : ℕ) × (e : Ty) × (term : Term) × (rest : List Term) × IsScaled globals region names constants a (size_of e) term
-        × (out-Ty t ≡ Ty-F.Array n e) × (terms ≡ term ∷ rest) × is_path globals region names constants e as offset rest)
+    × (out-Ty t ≡ Ty-F.Array n e) × (terms ≡ term ∷ rest) × is_path globals region names constants e rest_args offset rest)
 
 -- the first index steps over whole values of the type
 abbrev pub is_gep : List GlobalVar → ℕ → List (List ℕ) → List ℕ → Ty → List Arg → ℕ → List Term → Type 0
 is_gep globals region names constants t [] offset terms = (offset ≡ 0) × (terms ≡ [])
-is_gep globals region names constants t (a ∷ as) offset terms =
-    ((index : ℕ) × (rest : ℕ) × IsFixed globals region a index × (offset ≡ index * size_of t + rest) × is_path globals region names constants t as rest terms)
+is_gep globals region names constants t (a ∷ rest_args) offset terms =
+    ((index : ℕ) × (rest : ℕ) × IsFixed globals region a index × (offset ≡ index * size_of t + rest) × is_path globals region names constants t rest_args rest terms)
     ⊎ ((term : Term) × (rest : List Term) × IsScaled globals region names constants a (size_of t) term × (terms ≡ term ∷ rest)
-        × is_path globals region names constants t as offset rest)
+    × is_path globals region names constants t rest_args offset rest)
 
 -- the indices of a `getelementptr` of a type add this to its base
 pub record IsGep (globals : List GlobalVar) (region : ℕ) (names : List (List ℕ)) (constants : List ℕ) (t : Ty) (args : List Arg) (offset : ℕ) (terms : List Term) : Type 0 where

@@ -1,21 +1,21 @@
 use hip_types::Width;
 
 /// Where an op takes a value from: a register's slot in its frame, or a place in the table of constants.
-#[derive(Clone, Copy, Debug)]
+#[derive(Clone, Copy)]
 pub enum Operand {
     Register(u32),
     Constant(u32),
 }
 
 /// Some entries of a table that follow one another: the place of the first one, and how many there are.
-#[derive(Clone, Copy, Debug)]
+#[derive(Clone, Copy)]
 pub struct Span {
     pub from: u32,
     pub count: u32,
 }
 
 /// Sums, differences and products.
-#[derive(Clone, Copy, Debug)]
+#[derive(Clone, Copy)]
 pub enum SumOp {
     Add,
     Sub,
@@ -23,14 +23,14 @@ pub enum SumOp {
 }
 
 /// Operations bit by bit.
-#[derive(Clone, Copy, Debug)]
+#[derive(Clone, Copy)]
 pub enum BitOp {
     And,
     Or,
     Xor,
 }
 
-#[derive(Clone, Copy, Debug)]
+#[derive(Clone, Copy)]
 pub enum ShiftOp {
     Shl,
     Lshr,
@@ -38,7 +38,7 @@ pub enum ShiftOp {
 }
 
 /// An operation on two integers other than a division.
-#[derive(Clone, Copy, Debug)]
+#[derive(Clone, Copy)]
 pub enum IntegerOp {
     Sum(SumOp),
     Bit(BitOp),
@@ -46,14 +46,14 @@ pub enum IntegerOp {
 }
 
 /// A division: of integers with a sign or without one, for the rest or for the quotient.
-#[derive(Clone, Copy, Debug)]
+#[derive(Clone, Copy)]
 pub struct DivisionOp {
     pub signed: bool,
     pub rest: bool,
 }
 
 /// What is asked of two integers: whether they are equal, or the first one is less, without a sign or with one.
-#[derive(Clone, Copy, Debug)]
+#[derive(Clone, Copy)]
 pub enum Comparison {
     Equal,
     Less,
@@ -62,7 +62,7 @@ pub enum Comparison {
 
 /// An address that is worked out from a base, modulo 2^64. Scales and offsets are in bytes, and an index is sign-extended
 /// to 64 bits from its width.
-#[derive(Clone, Copy, Debug)]
+#[derive(Clone, Copy)]
 pub enum Gep {
     /// The base and an offset.
     Fixed {
@@ -86,7 +86,7 @@ pub enum Gep {
 }
 
 /// An index times a scale.
-#[derive(Clone, Copy, Debug)]
+#[derive(Clone, Copy)]
 pub struct Term {
     pub index: Operand,
     pub width: Width,
@@ -94,7 +94,7 @@ pub struct Term {
 }
 
 /// An op that gives a value.
-#[derive(Clone, Copy, Debug)]
+#[derive(Clone, Copy)]
 pub enum Value {
     Integer {
         op: IntegerOp,
@@ -106,7 +106,7 @@ pub enum Value {
     Rest(Rest),
 }
 
-#[derive(Clone, Copy, Debug)]
+#[derive(Clone, Copy)]
 pub enum Rest {
     /// 1 where the comparison holds or, if it is negated, where it does not.
     Compare {
@@ -126,7 +126,7 @@ pub enum Rest {
     Other(Other),
 }
 
-#[derive(Clone, Copy, Debug)]
+#[derive(Clone, Copy)]
 pub enum Other {
     Select {
         test: Operand,
@@ -142,7 +142,7 @@ pub enum Other {
 }
 
 /// An op on memory, on cache lines or on the outside. Sizes and alignments are in bytes; `dest` is the slot of a result.
-#[derive(Clone, Copy, Debug)]
+#[derive(Clone, Copy)]
 pub enum Memory {
     Load {
         dest: u32,
@@ -159,19 +159,15 @@ pub enum Memory {
     Effect(Effect),
 }
 
-#[derive(Clone, Copy, Debug)]
+#[derive(Clone, Copy)]
 pub enum Effect {
     /// A new block on the stack.
-    Alloca {
-        dest: u32,
-        size: u32,
-        align: u32,
-    },
+    Alloca { dest: u32, size: u32, align: u32 },
     Persistence(Persistence),
     Outside(Outside),
 }
 
-#[derive(Clone, Copy, Debug)]
+#[derive(Clone, Copy)]
 pub enum Persistence {
     /// The flush of the line of an address.
     Flush(Operand),
@@ -184,13 +180,10 @@ pub enum Persistence {
     },
 }
 
-#[derive(Clone, Copy, Debug)]
+#[derive(Clone, Copy)]
 pub enum Outside {
     /// The check of a range of the region.
-    Assert {
-        addr: Operand,
-        size: Operand,
-    },
+    Assert { addr: Operand, size: Operand },
     Print(Operand),
     /// The next input number.
     Read(Option<u32>),
@@ -198,14 +191,14 @@ pub enum Outside {
 
 /// What an edge moves into a slot, a phi's operand for the block that control comes from; or what a call moves into the slot
 /// of a parameter.
-#[derive(Clone, Copy, Debug)]
+#[derive(Clone, Copy)]
 pub struct Move {
     pub dest: u32,
     pub value: Operand,
 }
 
 /// An edge to a block of the same function: the place of its first op, its number, and the moves.
-#[derive(Clone, Copy, Debug)]
+#[derive(Clone, Copy)]
 pub struct Edge {
     pub target: u32,
     pub block: u32,
@@ -213,14 +206,14 @@ pub struct Edge {
 }
 
 /// A value of a switch, and the number of the edge that it takes.
-#[derive(Clone, Copy, Debug)]
+#[derive(Clone, Copy)]
 pub struct Case {
     pub value: u64,
     pub edge: u32,
 }
 
 /// An op after which control goes elsewhere.
-#[derive(Clone, Copy, Debug)]
+#[derive(Clone, Copy)]
 pub enum Control {
     Go(Go),
     Call(Call),
@@ -228,7 +221,7 @@ pub enum Control {
 }
 
 /// A branch along edges, which are named by their numbers.
-#[derive(Clone, Copy, Debug)]
+#[derive(Clone, Copy)]
 pub enum Go {
     Cond {
         test: Operand,
@@ -245,7 +238,7 @@ pub enum Go {
 
 /// A call of the function of that number, which begins at a place and has so many registers; `frame` is the number of
 /// registers of the caller, and the arguments are moves into the slots of the callee.
-#[derive(Clone, Copy, Debug)]
+#[derive(Clone, Copy)]
 pub struct Call {
     pub target: u32,
     pub function: u32,
@@ -256,7 +249,7 @@ pub struct Call {
 }
 
 /// A return with a value or without one, or a place that control never reaches.
-#[derive(Clone, Copy, Debug)]
+#[derive(Clone, Copy)]
 pub enum Exit {
     Value(Operand),
     Nothing,
@@ -264,13 +257,10 @@ pub enum Exit {
 }
 
 /// What stands at a place of the code.
-#[derive(Clone, Copy, Debug)]
+#[derive(Clone, Copy)]
 pub enum Op {
     /// A value that goes into a slot.
-    Value {
-        dest: u32,
-        value: Value,
-    },
+    Value { dest: u32, value: Value },
     Memory(Memory),
     Control(Control),
 }

@@ -41,7 +41,7 @@ module _ (P : Program) (I : Input) (f : ℕ) (tables : Tables) where
           turn = ap (λ o. not (is_flush_or_fence o)) (sym defined);
           acts = ap₂ (λ xs to. cond (nat_lt below 16383) (Calls call.function xs to) (Traps traps.Depth)) moves r.name_is
               ∙ sym (ap (λ o. call_action P I w below o callee vs dest) defined
-                  ∙ ap (λ o. cond (nat_lt below 16383) (numbered_call P o vs dest) (Traps traps.Depth)) c.numbered
-                  ∙ ap (λ o. cond (nat_lt below 16383) (bound_call o call.function vs dest) (Traps traps.Depth)) c.here);
+              ∙ ap (λ o. cond (nat_lt below 16383) (numbered_call P o vs dest) (Traps traps.Depth)) c.numbered
+              ∙ ap (λ o. cond (nat_lt below 16383) (bound_call o call.function vs dest) (Traps traps.Depth)) c.here);
         };
   }

@@ -62,11 +62,11 @@ module _ (P : Program) (I : Input) (f b : ℕ) (tables : Tables) where
       let n = numbers_at tables slots base in
       let phis_here : phis_of (block_at P f e.edge.block) ≡ e.begins.block.phis = ap phis_of e.begins.here in
       let moves = phis_move P.globals I.base names n g.registers h (label_of (block_at P f b)) (entries_of e.edge.moves tables.moves) (phis_of (block_at P f e.edge.block)) e.moves
-          (λ j k p x s t l. known.phis e.edge.block j k e.begins.block p x e.begins.here (subst (λ ps. slice_get ps j ≡ Some p) phis_here s) t l) in
+      (λ j k p x s t l. known.phis e.edge.block j k e.begins.block p x e.begins.here (subst (λ ps. slice_get ps j ≡ Some p) phis_here s) t l) in
       ap (edge_action names n g.registers) e.here
       ∙ ap (Jumps e.edge.block) moves
       ∙ sym (ap (jump_to P I g) (ap (λ x. block_number (blocks_of P x) label) at_f ∙ e.numbered)
-          ∙ ap₂ (λ x y. Jumps e.edge.block (after_phis P.globals I.base g.registers (label_of (block_at P x y)) (phis_of (block_at P x e.edge.block)))) at_f at_b)
+      ∙ ap₂ (λ x y. Jumps e.edge.block (after_phis P.globals I.base g.registers (label_of (block_at P x y)) (phis_of (block_at P x e.edge.block)))) at_f at_b)
 
   -- a branch that takes the edge to a label
   branches : (w : World) (below : ℕ) (g : Frame) (slots : List ℕ) (base : ℕ) (go : Go) (label : List ℕ) → g.function ≡ f → g.block ≡ b → HoldsFrame names slots base g.registers → KnowsPhis P f b g.registers →
@@ -85,21 +85,21 @@ module _ (P : Program) (I : Input) (f b : ℕ) (tables : Tables) where
     acts = λ w below g slots base at_f at_b h k known. branches w below g slots base (goes.Br number) label at_f at_b h known (edge_within slots base g.registers number label h e) e;
   }
 
-  chosen : (x : Bool) (yes no : ℕ) (first second : List ℕ) → IsEdge P I f b tables yes first → IsEdge P I f b tables no second → IsEdge P I f b tables (cond x yes no) (cond x first second)
-  chosen true yes no first second p q = p
-  chosen false yes no first second p q = q
+  chosen : (x : Bool) (one other : ℕ) (first second : List ℕ) → IsEdge P I f b tables one first → IsEdge P I f b tables other second → IsEdge P I f b tables (cond x one other) (cond x first second)
+  chosen true one other first second p q = p
+  chosen false one other first second p q = q
 
-  pub resolves_cond : (t : Operand) (x : named.Operand) (yes no : ℕ) (first second : List ℕ) → stands_for t x → IsEdge P I f b tables yes first → IsEdge P I f b tables no second →
-      EndResolves P I f b tables (ops.Control (controls.Go (goes.Cond t yes no))) (ends.CondBr x first second)
+  pub resolves_cond : (t : Operand) (x : named.Operand) (one other : ℕ) (first second : List ℕ) → stands_for t x → IsEdge P I f b tables one first → IsEdge P I f b tables other second →
+      EndResolves P I f b tables (ops.Control (controls.Go (goes.Cond t one other))) (ends.CondBr x first second)
   unfolding end_action
-  resolves_cond t x yes no first second o p q = record {
+  resolves_cond t x one other first second o p q = record {
     acts = λ w below g slots base at_f at_b h k known.
         let n = numbers_at tables slots base in
         let test = operand_same P.globals I.base names n g.registers t x o h k.all.0 in
         let v = value_of P.globals I.base g.registers x in
-        branches w below g slots base (goes.Cond t yes no) (cond (nat_eq v 1) first second) at_f at_b h known
-        (test.within, edge_within slots base g.registers yes first h p, edge_within slots base g.registers no second h q)
-        (subst (λ u. IsEdge P I f b tables (cond (nat_eq u 1) yes no) (cond (nat_eq v 1) first second)) (sym test.same) (chosen (nat_eq v 1) yes no first second p q));
+        branches w below g slots base (goes.Cond t one other) (cond (nat_eq v 1) first second) at_f at_b h known
+        (test.within, edge_within slots base g.registers one first h p, edge_within slots base g.registers other second h q)
+        (subst (λ u. IsEdge P I f b tables (cond (nat_eq u 1) one other) (cond (nat_eq v 1) first second)) (sym test.same) (chosen (nat_eq v 1) one other first second p q));
   }
 
   case_taken : (v : ℕ) (cs : List Case) (ds : List named_case.Case) (other : ℕ) (label : List ℕ) → are_cases P I f b tables cs ds → IsEdge P I f b tables other label → IsEdge P I f b tables (case_edge v cs other) (case_label v ds label)
@@ -113,11 +113,11 @@ module _ (P : Program) (I : Input) (f b : ℕ) (tables : Tables) where
   cases_within : (slots : List ℕ) (base : ℕ) (rs : Registers) (cs : List Case) (ds : List named_case.Case) → HoldsFrame names slots base rs → are_cases P I f b tables cs ds → CasesWithin (numbers_at tables slots base) cs
   cases_within slots base rs [] ds h a = record { at = λ k c e. absurd (let z : ⊥ = cc in z) }
   cases_within slots base rs (c ∷ cs) [] h a = absurd a
-  cases_within slots base rs (c ∷ cs) (d ∷ ds) h a = record { at = at }
+  cases_within slots base rs (c ∷ cs) (d ∷ ds) h a = let later = cases_within slots base rs cs ds h a.2 in record { at = λ k x e. at later k x e }
     where
-      at : (k : ℕ) (x : Case) → slice_get (c ∷ cs) k ≡ Some x → EdgeWithin (numbers_at tables slots base) x.edge
-      at zero x e = let same : c ≡ x = cc in subst (λ (y : Case). EdgeWithin (numbers_at tables slots base) y.edge) same (edge_within slots base rs c.edge d.label h a.1)
-      at (suc k) x e = (cases_within slots base rs cs ds h a.2).at k x e
+      at : CasesWithin (numbers_at tables slots base) cs → (k : ℕ) (x : Case) → slice_get (c ∷ cs) k ≡ Some x → EdgeWithin (numbers_at tables slots base) x.edge
+      at later zero x e = let same : c ≡ x = cc in subst (λ (y : Case). EdgeWithin (numbers_at tables slots base) y.edge) same (edge_within slots base rs c.edge d.label h a.1)
+      at later (suc k) x e = later.at k x e
 
   pub resolves_switch : (width : Width) (t : Operand) (x : named.Operand) (cases : Span) (ds : List named_case.Case) (other : ℕ) (label : List ℕ) →
       stands_for t x → HasSpan cases tables.cases → are_cases P I f b tables (entries_of cases tables.cases) ds → IsEdge P I f b tables other label →

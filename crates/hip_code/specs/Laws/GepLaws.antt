@@ -63,29 +63,29 @@ module _ (globals : List GlobalVar) (region : ℕ) (names : List (List ℕ)) (n 
   fixed : (a : Arg) (index : ℕ) → IsFixed globals region a index → index_value a.ty (value_of globals region rs a.value) ≡ index
   fixed a index x = ap (λ o. index_value a.ty (value_of globals region rs o)) x.is ∙ x.index_is
 
-  path_comes : (as : List Arg) (t : Ty) (offset : ℕ) (terms : List Term) → is_path globals region names n.tables.constants t as offset terms → are_known rs (arg_uses as) → Comes n t (indices_of as) offset terms
+  path_comes : (rest_args : List Arg) (t : Ty) (offset : ℕ) (terms : List Term) → is_path globals region names n.tables.constants t rest_args offset terms → are_known rs (arg_uses rest_args) → Comes n t (indices_of rest_args) offset terms
   path_comes [] t offset terms p k = record {
     part = record { offset = 0; ty = t };
     there = refl;
     offset_is = (let e = ap (sum_of n) p.1 in omega (arith, p.0, e));
     within = subst (TermsWithin n) (sym p.1) (record { at = λ j x e. absurd (let z : ⊥ = cc in z) });
   }
-  path_comes (a ∷ as) t offset terms (inl p) k =
-      let c = path_comes as p.1.ty p.2 terms p.6 k.1 in
+  path_comes (a ∷ rest_args) t offset terms (inl p) k =
+      let c = path_comes rest_args p.1.ty p.2 terms p.6 k.1 in
       let first : enter t (index_value a.ty (value_of globals region rs a.value)) ≡ Some p.1 = ap (enter t) (fixed a p.0 p.3) ∙ p.4 in
       record {
         part = record { offset = p.1.offset + c.part.offset; ty = c.part.ty };
-        there = ap (option_and_then (λ q. further q.offset (part_at (indices_of as) q.ty))) first ∙ ap (further p.1.offset) c.there;
+        there = ap (option_and_then (λ q. further q.offset (part_at (indices_of rest_args) q.ty))) first ∙ ap (further p.1.offset) c.there;
         offset_is = (let e = p.5 in let d = c.offset_is in omega (arith, e, d));
         within = c.within;
       }
-  path_comes (a ∷ as) t offset terms (inr p) k =
-      let c = path_comes as p.1 offset p.3 p.7 k.1 in
+  path_comes (a ∷ rest_args) t offset terms (inr p) k =
+      let c = path_comes rest_args p.1 offset p.3 p.7 k.1 in
       let i = index_value a.ty (value_of globals region rs a.value) in
       let first : enter t i ≡ Some (record { offset = i * size_of p.1; ty = p.1 }) = ap (enter_level i) p.5 in
       record {
         part = record { offset = i * size_of p.1 + c.part.offset; ty = c.part.ty };
-        there = ap (option_and_then (λ q. further q.offset (part_at (indices_of as) q.ty))) first ∙ ap (further (i * size_of p.1)) c.there;
+        there = ap (option_and_then (λ q. further q.offset (part_at (indices_of rest_args) q.ty))) first ∙ ap (further (i * size_of p.1)) c.there;
         offset_is = (let e = ap (sum_of n) p.6 in let d = c.offset_is in let s = scaled a (size_of p.1) p.2 p.4 (k.0, tt) in omega (arith, e, d, s));
         within = subst (TermsWithin n) (sym p.6) (terms_more n p.2 p.3 (operand_within globals region names n rs p.2.index a.value p.4.index h) c.within);
       }
@@ -98,25 +98,25 @@ module _ (globals : List GlobalVar) (region : ℕ) (names : List (List ℕ)) (n 
   pub gep_far : (args : List Arg) (t : Ty) (offset : ℕ) (terms : List Term) → IsGep globals region names n.tables.constants t args offset terms → are_known rs (arg_uses args) → Far t args offset terms
   gep_far args t offset terms g k = go args g.is k
     where
-      go : (as : List Arg) → is_gep globals region names n.tables.constants t as offset terms → are_known rs (arg_uses as) → Far t as offset terms
+      go : (rest_args : List Arg) → is_gep globals region names n.tables.constants t rest_args offset terms → are_known rs (arg_uses rest_args) → Far t rest_args offset terms
       go [] p k = record {
         far = ap₂ (λ o s. (o + s) % 2 ^ 64) (sym p.0) (ap (sum_of n) (sym p.1));
         within = subst (TermsWithin n) (sym p.1) (record { at = λ j x e. absurd (let z : ⊥ = cc in z) });
       }
-      go (a ∷ as) (inl p) k =
-          let c = path_comes as t p.1 terms p.4 k.1 in
+      go (a ∷ rest_args) (inl p) k =
+          let c = path_comes rest_args t p.1 terms p.4 k.1 in
           let i = index_value a.ty (value_of globals region rs a.value) in
           let sum : i * size_of t + c.part.offset ≡ offset + sum_of n terms =
-              (let e = p.3 in let d = c.offset_is in let s : i * size_of t ≡ p.0 * size_of t = ap (λ j. j * size_of t) (fixed a p.0 p.2) in omega (arith, e, d, s)) in
+          (let e = p.3 in let d = c.offset_is in let s : i * size_of t ≡ p.0 * size_of t = ap (λ j. j * size_of t) (fixed a p.0 p.2) in omega (arith, e, d, s)) in
           record {
             far = ap (λ o. unwrap_or (option_map (λ q. (i * size_of t + q.offset) % 2 ^ 64) o) 0) c.there ∙ ap (λ m. m % 2 ^ 64) sum;
             within = c.within;
           }
-      go (a ∷ as) (inr p) k =
-          let c = path_comes as t offset p.1 p.4 k.1 in
+      go (a ∷ rest_args) (inr p) k =
+          let c = path_comes rest_args t offset p.1 p.4 k.1 in
           let i = index_value a.ty (value_of globals region rs a.value) in
           let sum : i * size_of t + c.part.offset ≡ offset + sum_of n terms =
-              (let e = ap (sum_of n) p.3 in let d = c.offset_is in let s = scaled a (size_of t) p.0 p.2 (k.0, tt) in omega (arith, e, d, s)) in
+          (let e = ap (sum_of n) p.3 in let d = c.offset_is in let s = scaled a (size_of t) p.0 p.2 (k.0, tt) in omega (arith, e, d, s)) in
           record {
             far = ap (λ o. unwrap_or (option_map (λ q. (i * size_of t + q.offset) % 2 ^ 64) o) 0) c.there ∙ ap (λ m. m % 2 ^ 64) sum;
             within = subst (TermsWithin n) (sym p.3) (terms_more n p.0 p.1 (operand_within globals region names n rs p.0.index a.value p.2.index h) c.within);
@@ -147,7 +147,7 @@ module _ (P : Program) (I : Input) (f : ℕ) (tables : Tables) where
         gives P I w below f n rs name dest (values.Gep (geps.Fixed base offset)) (Ok (element_address (value_of P.globals I.base rs x) ty (index_values P.globals I.base rs args))) d h
         start.within
         (ap Ok (ap (λ u. (u + offset) % 2 ^ 64) start.same ∙ ap (λ u. (value_of P.globals I.base rs x + u) % 2 ^ 64) (sym (add-zero offset)) ∙ cut_far (value_of P.globals I.base rs x) offset whole 0 e
-            ∙ ap (λ u. (value_of P.globals I.base rs x + u) % 2 ^ 64) (sym far.far)));
+        ∙ ap (λ u. (value_of P.globals I.base rs x + u) % 2 ^ 64) (sym far.far)));
   }
 
   -- with one index that is no constant
@@ -163,9 +163,9 @@ module _ (P : Program) (I : Input) (f : ℕ) (tables : Tables) where
         gives P I w below f n rs name dest (values.Gep (geps.Scaled base term.index term.width term.scale offset)) (Ok (element_address (value_of P.globals I.base rs x) ty (index_values P.globals I.base rs args))) d h
         (start.within, far.within.at 0 term refl)
         (ap Ok (ap (λ u. (u + (offset + term_value n term)) % 2 ^ 64) start.same
-            ∙ ap (λ u. (value_of P.globals I.base rs x + (offset + u)) % 2 ^ 64) (sym (add-zero (term_value n term)))
-            ∙ cut_far (value_of P.globals I.base rs x) offset whole (sum_of n (term ∷ [])) e
-            ∙ ap (λ u. (value_of P.globals I.base rs x + u) % 2 ^ 64) (sym far.far)));
+        ∙ ap (λ u. (value_of P.globals I.base rs x + (offset + u)) % 2 ^ 64) (sym (add-zero (term_value n term)))
+        ∙ cut_far (value_of P.globals I.base rs x) offset whole (sum_of n (term ∷ [])) e
+        ∙ ap (λ u. (value_of P.globals I.base rs x + u) % 2 ^ 64) (sym far.far)));
   }
 
   -- with any indices
@@ -182,6 +182,6 @@ module _ (P : Program) (I : Input) (f : ℕ) (tables : Tables) where
         gives P I w below f n rs name dest (values.Gep (geps.Terms base offset span)) (Ok (element_address (value_of P.globals I.base rs x) ty (index_values P.globals I.base rs args))) d h
         (start.within, room, far.within)
         (ap Ok (ap (λ u. (u + (offset + sum_of n (entries_of span tables.terms))) % 2 ^ 64) start.same
-            ∙ cut_far (value_of P.globals I.base rs x) offset whole (sum_of n (entries_of span tables.terms)) e
-            ∙ ap (λ u. (value_of P.globals I.base rs x + u) % 2 ^ 64) (sym far.far)));
+        ∙ cut_far (value_of P.globals I.base rs x) offset whole (sum_of n (entries_of span tables.terms)) e
+        ∙ ap (λ u. (value_of P.globals I.base rs x + u) % 2 ^ 64) (sym far.far)));
   }

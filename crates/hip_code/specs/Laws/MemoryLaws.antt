@@ -64,7 +64,7 @@ module _ (P : Program) (I : Input) (f : ℕ) (tables : Tables) where
         let n = numbers_at tables slots base in
         let addr = operand_same P.globals I.base names n rs a x p h k.all.0 in
         let load : List ℕ → ℕ → ℕ → Action =
-            λ to at size. accessed P I w at size (access_align ty align) (Assigns (Some to) (little_endian (bytes_at (memory_of P I w) at size) % modulus (width_of ty))) in
+        λ to at size. accessed P I w at size (access_align ty align) (Assigns (Some to) (little_endian (bytes_at (memory_of P I w) at size) % modulus (width_of ty))) in
         record {
           within = (omega (arith, h.room, slot_within names name dest d), addr.within, some);
           placed = name_placed names name dest d;

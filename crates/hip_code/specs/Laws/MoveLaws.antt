@@ -94,11 +94,11 @@ from_edge globals region rs from (d ∷ es) x e = go (bytes_eq d.label from) e (
 -- the operand of an edge is one for control from its label
 known_edge : (rs : Registers) (from : List ℕ) (es : List Edge) (x : named.Operand) → ((k : ℕ) (e : Edge) → slice_get es k ≡ Some e → e.label ≡ from → IsKnown rs e.value) → edge_from es from ≡ Some x → IsKnown rs x
 known_edge rs from [] x all e = absurd (let z : ⊥ = cc in z)
-known_edge rs from (d ∷ es) x all e = go (bytes_eq d.label from) refl e
+known_edge rs from (d ∷ es) x all e = go (bytes_eq d.label from) refl e (λ q. known_edge rs from es x (λ k c s l. all (suc k) c s l) q)
   where
-    go : (b : Bool) → bytes_eq d.label from ≡ b → cond b (Some d.value) (edge_from es from) ≡ Some x → IsKnown rs x
-    go true t q = let same : d.value ≡ x = cc in subst (IsKnown rs) same (all 0 d refl ((bytes_eq-Decides d.label from).0 t))
-    go false t q = known_edge rs from es x (λ k c s l. all (suc k) c s l) q
+    go : (b : Bool) → bytes_eq d.label from ≡ b → cond b (Some d.value) (edge_from es from) ≡ Some x → (edge_from es from ≡ Some x → IsKnown rs x) → IsKnown rs x
+    go true t q later = let same : d.value ≡ x = cc in subst (IsKnown rs) same (all 0 d refl ((bytes_eq-Decides d.label from).0 t))
+    go false t q later = later q
 
 module _ (globals : List GlobalVar) (region : ℕ) (names : List (List ℕ)) (n : Numbers) (rs : Registers) (h : HoldsFrame names n.slots n.base rs) (from : List ℕ) where
   -- what the moves of an edge need is there

@@ -49,9 +49,11 @@ gave_calculated dest (Err trap) = refl
 at_least : (a b : ℕ) → not (nat_lt a b) ≡ nat_le b a
 at_least a b = grind (arith, nat_tests)
 
-not_not : (b : Bool) → not (not b) ≡ b
-not_not true = refl
-not_not false = refl
+signed_at_least : (x y : ℤ) → not (int_lt x y) ≡ int_le y x
+signed_at_least (pos a) (pos b) = at_least a b
+signed_at_least (pos a) (negsuc b) = refl
+signed_at_least (negsuc a) (pos b) = refl
+signed_at_least (negsuc a) (negsuc b) = at_least b a
 
 compare_gives : (p : Pred) (n : Numbers) (w : Width) (a b : Operand) → rest_result n (compare_op p w a b) ≡ Ok (truth (holds p w (bits w (operand_value n a)).value (bits w (operand_value n b)).value))
 compare_gives preds.Eq n w a b = refl
@@ -61,9 +63,9 @@ compare_gives preds.Uge n w a b = ap (λ t. Ok (truth t)) (at_least (bits w (ope
 compare_gives preds.Ult n w a b = refl
 compare_gives preds.Ule n w a b = ap (λ t. Ok (truth t)) (at_least (bits w (operand_value n b)).value (bits w (operand_value n a)).value)
 compare_gives preds.Sgt n w a b = refl
-compare_gives preds.Sge n w a b = refl
+compare_gives preds.Sge n w a b = ap (λ t. Ok (truth t)) (signed_at_least (signed w (bits w (operand_value n a)).value) (signed w (bits w (operand_value n b)).value))
 compare_gives preds.Slt n w a b = refl
-compare_gives preds.Sle n w a b = refl
+compare_gives preds.Sle n w a b = ap (λ t. Ok (truth t)) (signed_at_least (signed w (bits w (operand_value n b)).value) (signed w (bits w (operand_value n a)).value))
 
 compare_within : (p : Pred) (n : Numbers) (w : Width) (a b : Operand) → is_within n a → is_within n b → RestWithin n (compare_op p w a b)
 compare_within preds.Eq n w a b h k = (h, k)
@@ -171,7 +173,7 @@ module _ (P : Program) (I : Input) (f : ℕ) (tables : Tables) where
         (Ok (cond (nat_eq (value_of P.globals I.base rs z) 1) (value_of P.globals I.base rs x) (value_of P.globals I.base rs y))) d h
         (test.within, left.within, right.within)
         (ap (λ u. Ok (cond (nat_eq u 1) (operand_value n a) (operand_value n b))) test.same
-            ∙ ap₂ (λ u v. Ok (cond (nat_eq (value_of P.globals I.base rs z) 1) u v)) left.same right.same);
+        ∙ ap₂ (λ u v. Ok (cond (nat_eq (value_of P.globals I.base rs z) 1) u v)) left.same right.same);
   }
 
   pub resolves_cast : (name : List ℕ) (dest : ℕ) (op : CastOp) (from to : Scalar) (a : Operand) (x : named.Operand) →

@@ -16,9 +16,10 @@ use Rattle.hip_runs.specs.PartLaws.{in-append, append-left, append-right}
 use Rattle.hip_runs.specs.Reports.{LoosePart, Range, shows, is_last, loose_from, loose_in, loose_parts, all_flushed, latest_flush, later_flush, is_open, closed_count, report_by, report_of, check_reports}
 use Rattle.hip_runs.specs.State.{Level, Flush, StorePart, State, levels_of}
 use Rattle.hip_fix.specs.declared.plan.Plan.{Plan}
-use Rattle.hip_fix.specs.Choice.{Contains, choice, plan_for, best_on, site_at, asks_flush, asks_fence, asks_hoist}
+use Rattle.hip_fix.specs.Choice.{Contains, choice, plan_for, best_on, asks_flush, asks_fence, asks_hoist}
 use Rattle.hip_fix.specs.Harmless.{Content}
-use Rattle.hip_fix.proofs.Asked.{same_site-refl, has_flush, has_fence, has_hoist, IsLevel, best_on_is, returned_at, in_open, in_range, in_flat}
+use Rattle.hip_runs.specs.Laws.FoundLaws.{site_same}
+use Rattle.hip_fix.proofs.Asked.{has_flush, has_fence, has_hoist, IsLevel, best_on_is, returned_at, in_open, in_range, in_flat}
 use Rattle.hip_fix.proofs.Ahead.{Ahead}
 use Rattle.hip_fix.proofs.Facts.{Lines, Known}
 use Rattle.hip_fix.proofs.Kept.{Safe, AllSafe, AllKept}
@@ -263,7 +264,7 @@ module _ (P : Program) (plan : Plan) (found : Findings) (contains : Contains pla
           all_in (y ∷ ps) (inr i) h = all_in ps i (and_true y.flushed (all_flushed ps) h).1
 
           asks : (f : Flush) → latest_flush (q ∷ qs) ≡ Some f → all_flushed (q ∷ qs) ≡ true → asks_fence (report q qs).kind (choice P found (report q qs)) (report q qs).flush_site (report q qs).path f.site ≡ true
-          asks f is all = rw (all, is) (same_site-refl f.site)
+          asks f is all = rw (all, is) (site_same f.site)
 
       -- the store itself is repaired
       level_0 : all_flushed (q ∷ qs) ≡ false → best_on P found (closed_count up q.part.levels) (q.part.site ∷ map (λ l. l.call) q.part.levels) ≡ 0 → k < g'
@@ -276,14 +277,14 @@ module _ (P : Program) (plan : Plan) (found : Findings) (contains : Contains pla
           flush_asked = has_flush P plan found contains (report q qs) r_found q.part.site at.0 at.1 (asks q.part.fenced refl)
             where
               asks : (t : Bool) → q.part.fenced ≡ t → asks_flush (report q qs).kind (choice P found (report q qs)) (report q qs).path q.part.site ≡ true
-              asks true t = rw (some, t, level) (same_site-refl q.part.site)
-              asks false t = rw (some, t, level) (same_site-refl q.part.site)
+              asks true t = rw (some, t, level) (site_same q.part.site)
+              asks false t = rw (some, t, level) (site_same q.part.site)
 
           x_flush : has_site plan.flush_after x.site ≡ true
           x_flush = subst (λ (t : Site). has_site plan.flush_after t ≡ true) same_site_as flush_asked
 
           fence_asked : q.part.fenced ≡ false → has_site plan.fence_after q.part.site ≡ true
-          fence_asked t = has_fence P plan found contains (report q qs) r_found q.part.site at.0 at.1 (rw (some, t, level) (same_site-refl q.part.site))
+          fence_asked t = has_fence P plan found contains (report q qs) r_found q.part.site at.0 at.1 (rw (some, t, level) (site_same q.part.site))
 
           go : (t : Bool) → q.part.fenced ≡ t → k < g'
           go true t = safe.fenced x_flush (sym same_fenced ∙ t)
@@ -297,9 +298,9 @@ module _ (P : Program) (plan : Plan) (found : Findings) (contains : Contains pla
           let level_is : best_on P found (closed_count up q.part.levels) (q.part.site ∷ map (λ l. l.call) q.part.levels) ≡ suc level.0 = omega (arith, level.3) in
           durable v.call v.closed (safe.closed v.call (subst (In v.call) same_levels v.of) (has_hoist P plan found contains (report q qs) r_found v.call.call at.0 at.1 (asks q.part.fenced refl level.0 v.call level_is v.at)))
         where
-          asks : (t : Bool) → q.part.fenced ≡ t → (n : ℕ) (v : Level) → best_on P found (closed_count up q.part.levels) (q.part.site ∷ map (λ l. l.call) q.part.levels) ≡ suc n → site_at n (map (λ l. l.call) q.part.levels) ≡ Some v.call → asks_hoist (report q qs).kind (choice P found (report q qs)) (report q qs).path v.call ≡ true
-          asks true t n v is at = rw (some, t, is, at) (same_site-refl v.call)
-          asks false t n v is at = rw (some, t, is, at) (same_site-refl v.call)
+          asks : (t : Bool) → q.part.fenced ≡ t → (n : ℕ) (v : Level) → best_on P found (closed_count up q.part.levels) (q.part.site ∷ map (λ l. l.call) q.part.levels) ≡ suc n → slice_get (map (λ l. l.call) q.part.levels) n ≡ Some v.call → asks_hoist (report q qs).kind (choice P found (report q qs)) (report q qs).path v.call ≡ true
+          asks true t n v is at = rw (some, t, is, at) (site_same v.call)
+          asks false t n v is at = rw (some, t, is, at) (site_same v.call)
 
           durable : (v : Level) → is_open up v ≡ false → (k < g') ⊎ In v up → k < g'
           durable v closed (inl lt) = lt

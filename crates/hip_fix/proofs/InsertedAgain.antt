@@ -12,7 +12,7 @@ use Rattle.hip_types.specs.declared.number.Scalar.TheVariants.{Int, Ptr}
 use Rattle.hip_types.specs.declared.number.Width.TheVariants.{W64}
 use Rattle.hip_types.specs.declared.ty.Ty.{Ty}
 use Rattle.hip_types.specs.declared.ty.Ty.TheVariants as types
-use Rattle.hip_ir.specs.Levels.{out-Ty-Int}
+use Rattle.hip_ir.specs.Laws.Levels.{out-Ty-Int}
 use Rattle.hip_ir.specs.declared.constant.Const.TheFolds.{fold-roll-Const}
 use Rattle.hip_ir.specs.declared.constant.Const.TheVariants as consts
 use Rattle.hip_ir.specs.declared.constant.Const.TheViews.{rolls-Int}

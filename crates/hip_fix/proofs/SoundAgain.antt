@@ -1,6 +1,6 @@
 -- The repaired program passes the checks of soundness again.
 use Rattle.std.proofs.Common.{Bool}
-use Rattle.hip_ir.specs.SpellingExact.{spelled_exact}
+use Rattle.hip_ir.specs.Laws.SpellingExact.{spelled_exact}
 use Rattle.hip_ir.specs.declared.program.Program.{Program}
 use Rattle.hip_ir.specs.declared.site.Site.{Site}
 use Rattle.hip_typing.specs.Rules.{Passes}

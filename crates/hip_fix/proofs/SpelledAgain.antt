@@ -13,7 +13,7 @@ use Rattle.hip_ir.specs.Spelling.{not_empty, spelled_int, spelled_operand, spell
 use Rattle.hip_ir.specs.declared.block.Block.{Block}
 use Rattle.hip_ir.specs.declared.constant.Const.{out-Const}
 use Rattle.hip_ir.specs.declared.constant.Const.TheVariants as consts
-use Rattle.hip_ir.specs.Levels.{out-Const-Int}
+use Rattle.hip_ir.specs.Laws.Levels.{out-Const-Int}
 use Rattle.hip_ir.specs.declared.instr.Instr.{Instr}
 use Rattle.hip_ir.specs.declared.instr.Instr.TheVariants.{Store, Call}
 use Rattle.hip_ir.specs.declared.instr.Operand.{Operand}

@@ -1,6 +1,6 @@
 -- The plan for what a run found: at which level each report is repaired, and the sites of the repairs. (The three sorts of repair
 -- are the Hippocrates paper's; the choice of the level is this project's own.)
-use Rattle.std.specs.Prelude.{◌≡◌, ℕ, zero, suc, Bool, true, false, cond, ◌&&◌, nat_eq, List, [], ◌∷◌, Option, Some, None, ℤ, int_lt}
+use Rattle.std.specs.Prelude.{◌≡◌, ℕ, zero, suc, Bool, true, false, cond, ◌&&◌, nat_eq, List, [], ◌∷◌, Option, Some, None, slice_get, ℤ, int_lt}
 use Rattle.std.specs.List.{list_any, filter}
 use Rattle.hip_ir.specs.Sites.{same_site, has_site, sites_of}
 use Rattle.hip_ir.specs.declared.program.Program.{Program}
@@ -52,28 +52,23 @@ abbrev pub is_site : Option Site → Site → Bool
 is_site None s = false
 is_site (Some t) s = same_site s t
 
-abbrev pub site_at : ℕ → List Site → Option Site
-site_at level [] = None
-site_at zero (s ∷ path) = Some s
-site_at (suc level) (s ∷ path) = site_at level path
-
 -- whether a report that is repaired at a level asks for a flush, or a fence, behind a site, or for the hoist of a call
 abbrev pub asks_flush : Kind → ℕ → List Site → Site → Bool
 asks_flush MissingFence level path s = false
-asks_flush MissingFlush level path s = nat_eq level 0 && is_site (site_at 0 path) s
-asks_flush MissingBoth level path s = nat_eq level 0 && is_site (site_at 0 path) s
+asks_flush MissingFlush level path s = nat_eq level 0 && is_site (slice_get path 0) s
+asks_flush MissingBoth level path s = nat_eq level 0 && is_site (slice_get path 0) s
 
 abbrev pub asks_fence : Kind → ℕ → Option Site → List Site → Site → Bool
 asks_fence MissingFence level flush path s = is_site flush s
 asks_fence MissingFlush level flush path s = false
-asks_fence MissingBoth level flush path s = nat_eq level 0 && is_site (site_at 0 path) s
+asks_fence MissingBoth level flush path s = nat_eq level 0 && is_site (slice_get path 0) s
 
 abbrev pub asks_hoist : Kind → ℕ → List Site → Site → Bool
 asks_hoist MissingFence level path s = false
 asks_hoist MissingFlush zero path s = false
-asks_hoist MissingFlush (suc level) path s = is_site (site_at (suc level) path) s
+asks_hoist MissingFlush (suc level) path s = is_site (slice_get path (suc level)) s
 asks_hoist MissingBoth zero path s = false
-asks_hoist MissingBoth (suc level) path s = is_site (site_at (suc level) path) s
+asks_hoist MissingBoth (suc level) path s = is_site (slice_get path (suc level)) s
 
 abbrev pub wants_flush : Program → Findings → Site → Bool
 wants_flush P found s = list_any (λ r. asks_flush r.kind (choice P found r) r.path s) found.reports

@@ -4,6 +4,8 @@ pub mod Direct
 pub mod Harmless
 pub mod Quiet
 pub mod Choice
+pub mod Planned
 pub mod Clean
 pub mod Covered
+pub mod Laws
 pub mod examples

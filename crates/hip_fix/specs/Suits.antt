@@ -1,39 +1,20 @@
 -- Which plans suit a program.
-use Rattle.std.specs.Prelude.{◌≡◌, Bool, true, false, ◌&&◌, ◌||◌, nat_lt, nat_eq, is_some, List, [], ◌∷◌, Option, Some}
+use Rattle.std.specs.Prelude.{◌≡◌, ◌⊎◌, Bool, true, false, ◌&&◌, ◌||◌, nat_lt, nat_eq, List, [], ◌∷◌}
 use Rattle.hip_ir.specs.Sites.{instr_of, has_site}
-use Rattle.hip_ir.specs.declared.instr.Instr.{Instr}
-use Rattle.hip_ir.specs.declared.instr.Instr.TheVariants.{Store, Call}
 use Rattle.hip_ir.specs.declared.program.Program.{Program}
 use Rattle.hip_ir.specs.declared.site.Site.{Site}
-use Rattle.hip_externs.specs.Externs.{call_of}
-use Rattle.hip_typing.specs.Numbering.{function_number}
-use Rattle.hip_externs.specs.declared.call.ExternCall.{ExternCall}
-use Rattle.hip_externs.specs.declared.call.ExternCall.TheVariants as calls
+use Rattle.hip_runs.specs.Sites.{is_store, is_flush_call, is_defined_call}
 use Rattle.hip_fix.specs.declared.plan.Plan.{Plan}
-
-abbrev is_store : Option Instr → Bool
-is_store (Some (Store ty value addr align)) = true
-is_store _ = false
-
-abbrev flushes : Option ExternCall → Bool
-flushes (Some calls.Clwb) = true
-flushes (Some calls.Clflushopt) = true
-flushes (Some calls.Clflush) = true
-flushes (Some calls.PmemFlush) = true
-flushes _ = false
-
--- a call of a function that flushes, and takes no fence
-abbrev is_flush_call : Option Instr → Bool
-is_flush_call (Some (Call dest ret callee args)) = flushes (call_of callee)
-is_flush_call _ = false
-
-abbrev is_defined_call : Program → Option Instr → Bool
-is_defined_call P (Some (Call dest ret callee args)) = is_some (function_number P callee)
-is_defined_call P _ = false
 
 -- sites are ordered by function, block and index
 abbrev pub site_before : Site → Site → Bool
 site_before a b = nat_lt a.function b.function || (nat_eq a.function b.function && (nat_lt a.block b.block || (nat_eq a.block b.block && nat_lt a.index b.index)))
+
+-- the order of sites is strict, and of two sites that differ one is before the other
+pub record IsStrictOrder : Type 0 where
+  pub apart : (a : Site) → site_before a a ≡ false
+  pub trans : (a b c : Site) → site_before a b ≡ true → site_before b c ≡ true → site_before a c ≡ true
+  pub total : (a b : Site) → (site_before a b ≡ true) ⊎ ((a ≡ b) ⊎ (site_before b a ≡ true))
 
 abbrev pub is_ascending : List Site → Bool
 is_ascending [] = true
@@ -49,3 +30,7 @@ pub record IsSuiting (P : Program) (plan : Plan) : Type 0 where
   pub flushes_ascend : is_ascending plan.flush_after ≡ true
   pub fences_ascend : is_ascending plan.fence_after ≡ true
   pub hoists_ascend : is_ascending plan.hoist ≡ true
+
+-- the plan that repairs nothing
+abbrev pub no_repairs : Plan
+no_repairs = record { flush_after = []; fence_after = []; hoist = [] }

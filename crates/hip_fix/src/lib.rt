@@ -4,6 +4,7 @@
 mod examples;
 mod laws;
 mod plan;
+mod plans;
 
 pub use examples::{
     assert_inside_callee_is_repaired, copy_is_hoisted, fence_without_flush_is_repaired,
@@ -15,3 +16,7 @@ pub use laws::{
     repaired_is_sound, repairs_are_clean, repairs_do_no_harm,
 };
 pub use plan::{CloneOf, Plan};
+pub use plans::{
+    inputs_stay_valid, nothing_is_changed_without_reports, plans_have_what_is_asked, plans_suit, plans_unite,
+    sites_are_ordered,
+};

@@ -14,6 +14,3 @@ pub use mem_cabinet::MemCabinet;
 pub use mem_sink::MemSink;
 pub use read::{ReadRefusal, read_all};
 pub use sink::{Put, Sink, WriteFault, put_after};
-
-#[cfg(test)]
-mod tests;

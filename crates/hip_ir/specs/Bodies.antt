@@ -1,8 +1,6 @@
 -- The grammar of programs: instructions and blocks.
-use Rattle.std.specs.Prelude.{ℕ, Bool, true, false, ◌||◌, List, [], ◌∷◌, Option, Some, None, codes, if◌then◌else◌}
-use Rattle.std.specs.Str.{bytes_eq}
+use Rattle.std.specs.Prelude.{ℕ, Bool, true, false, ◌||◌, List, [], ◌∷◌, Option, Some, None, codes}
 use Rattle.hip_types.specs.declared.number.BinaryOp.{BinaryOp}
-use Rattle.hip_types.specs.declared.number.BinaryOp.TheVariants as ops
 use Rattle.hip_types.specs.declared.number.CastOp.TheVariants as casts
 use Rattle.hip_types.specs.declared.number.Scalar.{Scalar}
 use Rattle.hip_types.specs.declared.number.Scalar.TheVariants as scalars
@@ -18,10 +16,12 @@ use Rattle.hip_ir.specs.declared.block.End.{End}
 use Rattle.hip_ir.specs.declared.block.End.TheVariants as ends
 use Rattle.hip_ir.specs.declared.block.Phi.{Phi}
 use Rattle.hip_ir.specs.declared.fault.Fault.{Fault}
+use Rattle.hip_ir.specs.declared.instr.Flag.{Flag}
+use Rattle.hip_ir.specs.declared.instr.Flag.TheVariants.{Nuw, Nsw, Exact}
 use Rattle.hip_ir.specs.declared.instr.Flags.{Flags}
 use Rattle.hip_ir.specs.declared.instr.Instr.{Instr}
 use Rattle.hip_ir.specs.declared.instr.Instr.TheVariants as instrs
-use Rattle.hip_ir.specs.Words.{is_word, is_mark, is_local, comma, a_local, a_global, a_label, a_word_of, is_word_of, ret_word, binary_word, pred_word, int_cast_word}
+use Rattle.hip_ir.specs.Words.{is_word, is_mark, is_local, comma, a_local, a_global, a_label, a_word_of, is_word_of, ret_word, binary_word, pred_word, cast_text, int_cast_word, flag_word}
 use Rattle.hip_ir.specs.Numbers.{a_literal, an_alignment}
 use Rattle.hip_ir.specs.Grammar.{word, mark, maybe_word, int, scalar, type, is_width, is_scalar, operand, arg, index}
 
@@ -71,37 +71,10 @@ phi dest = do
 abbrev pub no_flags : Flags
 no_flags = record { nuw = false; nsw = false; exact = false }
 
-abbrev pub with_flag : Flags → Flags → Flags
-with_flag f g = record { nuw = f.nuw || g.nuw; nsw = f.nsw || g.nsw; exact = f.exact || g.exact }
-
--- add, sub, mul and shl
-abbrev pub may_wrap : BinaryOp → Bool
-may_wrap ops.Add = true
-may_wrap ops.Sub = true
-may_wrap ops.Mul = true
-may_wrap ops.Shl = true
-may_wrap _ = false
-
--- udiv, sdiv, lshr and ashr
-abbrev pub may_be_exact : BinaryOp → Bool
-may_be_exact ops.Udiv = true
-may_be_exact ops.Sdiv = true
-may_be_exact ops.Lshr = true
-may_be_exact ops.Ashr = true
-may_be_exact _ = false
-
-abbrev pub wrap_word : List ℕ → Option Flags
-wrap_word t =
-    if bytes_eq t (codes "nuw") then Some (record { nuw = true; nsw = false; exact = false })
-    else (if bytes_eq t (codes "nsw") then Some (record { nuw = false; nsw = true; exact = false })
-    else None)
-
-abbrev pub exact_word : List ℕ → Option Flags
-exact_word t = if bytes_eq t (codes "exact") then Some (record { nuw = false; nsw = false; exact = true }) else None
-
--- `nuw` or `nsw` after one, `exact` after the other
-abbrev pub flag_word : BinaryOp → List ℕ → Option Flags
-flag_word op t = if may_wrap op then wrap_word t else (if may_be_exact op then exact_word t else None)
+abbrev pub with_flag : Flags → Flag → Flags
+with_flag f Nuw = record f { nuw = true }
+with_flag f Nsw = record f { nsw = true }
+with_flag f Exact = record f { exact = true }
 
 unfoldable pub flags : BinaryOp → Part Fault Flags
 flags op = do
@@ -157,7 +130,7 @@ int_cast dest = do
 -- "ptrtoint" "ptr" operand "to" int
 unfoldable pub ptrtoint : List ℕ → Part Fault Instr
 ptrtoint dest = do
-  _ ← word (codes "ptrtoint")
+  _ ← word (cast_text casts.Ptrtoint)
   _ ← word (codes "ptr")
   a ← operand scalars.Ptr
   _ ← word (codes "to")
@@ -167,7 +140,7 @@ ptrtoint dest = do
 -- "inttoptr" int operand "to" "ptr"
 unfoldable pub inttoptr : List ℕ → Part Fault Instr
 inttoptr dest = do
-  _ ← word (codes "inttoptr")
+  _ ← word (cast_text casts.Inttoptr)
   w ← int
   a ← operand (scalars.Int w)
   _ ← word (codes "to")
@@ -244,8 +217,8 @@ memory_instr dest =
 unfoldable pub cast_instr : List ℕ → Part Fault Instr
 cast_instr dest =
     either (is_word_of int_cast_word) (int_cast dest)
-    (either (is_word (codes "ptrtoint")) (ptrtoint dest)
-    (either (is_word (codes "inttoptr")) (inttoptr dest)
+    (either (is_word (cast_text casts.Ptrtoint)) (ptrtoint dest)
+    (either (is_word (cast_text casts.Inttoptr)) (inttoptr dest)
     (memory_instr dest)))
 
 -- an instruction behind LOCAL "="

@@ -2,14 +2,7 @@
 use Rattle.std.specs.Prelude.{ℕ, ◌-◌, ◌^◌, Bool, true, false, ◌==◌, List, [], ◌∷◌, ◌++◌, map, Option, Some, None, codes, nat_lt, if◌then◌else◌}
 use Rattle.std.specs.Fmt.{decimal}
 use Rattle.std.specs.List.{flat_map}
-use Rattle.hip_types.specs.declared.number.BinaryOp.{BinaryOp}
-use Rattle.hip_types.specs.declared.number.BinaryOp.TheVariants as ops
 use Rattle.hip_types.specs.declared.number.Bits.{Bits}
-use Rattle.hip_types.specs.declared.number.CastOp.{CastOp}
-use Rattle.hip_types.specs.declared.number.CastOp.TheVariants as casts
-use Rattle.hip_types.specs.declared.number.Pred.{Pred}
-use Rattle.hip_types.specs.declared.number.Pred.TheVariants as preds
-use Rattle.hip_types.specs.declared.number.Scalar.{Scalar}
 use Rattle.hip_types.specs.declared.number.Width.{Width}
 use Rattle.hip_types.specs.declared.number.Width.TheVariants.{W1, W8, W16, W32, W64}
 use Rattle.hip_types.specs.declared.ty.Ty.{Ty}
@@ -25,6 +18,8 @@ use Rattle.hip_ir.specs.declared.constant.Const.{Const}
 use Rattle.hip_ir.specs.declared.constant.Const.TheFolds.{fold-Const}
 use Rattle.hip_ir.specs.declared.constant.Const.TheOpen.{Const-F, ConstGep-F, TypedConst-F}
 use Rattle.hip_ir.specs.declared.instr.Arg.{Arg}
+use Rattle.hip_ir.specs.declared.instr.Flag.{Flag}
+use Rattle.hip_ir.specs.declared.instr.Flag.TheVariants.{Nuw, Nsw, Exact}
 use Rattle.hip_ir.specs.declared.instr.Flags.{Flags}
 use Rattle.hip_ir.specs.declared.instr.Instr.{Instr}
 use Rattle.hip_ir.specs.declared.instr.Instr.TheVariants as instrs
@@ -35,7 +30,7 @@ use Rattle.hip_ir.specs.declared.program.Function.{Function}
 use Rattle.hip_ir.specs.declared.program.GlobalVar.{GlobalVar}
 use Rattle.hip_ir.specs.declared.program.Param.{Param}
 use Rattle.hip_ir.specs.declared.program.Program.{Program}
-use Rattle.hip_ir.specs.Words.{width_text, scalar_text}
+use Rattle.hip_ir.specs.Words.{width_text, scalar_text, ret_text, binary_text, pred_text, cast_text, flag_text}
 
 -- ---- lists
 
@@ -71,10 +66,6 @@ type_step (Ty-F.Struct fs) = braced fs
 
 abbrev pub type_text : Ty → List ℕ
 type_text = fold-Ty (List ℕ) type_step
-
-abbrev pub ret_text : Option Scalar → List ℕ
-ret_text None = codes "void"
-ret_text (Some s) = scalar_text s
 
 -- ---- constants
 
@@ -138,48 +129,14 @@ align_text (Some n) = codes ", align " ++ decimal n
 
 -- ---- instructions
 
-abbrev pub binary_text : BinaryOp → List ℕ
-binary_text ops.Add = codes "add"
-binary_text ops.Sub = codes "sub"
-binary_text ops.Mul = codes "mul"
-binary_text ops.Udiv = codes "udiv"
-binary_text ops.Sdiv = codes "sdiv"
-binary_text ops.Urem = codes "urem"
-binary_text ops.Srem = codes "srem"
-binary_text ops.And = codes "and"
-binary_text ops.Or = codes "or"
-binary_text ops.Xor = codes "xor"
-binary_text ops.Shl = codes "shl"
-binary_text ops.Lshr = codes "lshr"
-binary_text ops.Ashr = codes "ashr"
-
-abbrev pub pred_text : Pred → List ℕ
-pred_text preds.Eq = codes "eq"
-pred_text preds.Ne = codes "ne"
-pred_text preds.Ugt = codes "ugt"
-pred_text preds.Uge = codes "uge"
-pred_text preds.Ult = codes "ult"
-pred_text preds.Ule = codes "ule"
-pred_text preds.Sgt = codes "sgt"
-pred_text preds.Sge = codes "sge"
-pred_text preds.Slt = codes "slt"
-pred_text preds.Sle = codes "sle"
-
-abbrev pub cast_text : CastOp → List ℕ
-cast_text casts.Zext = codes "zext"
-cast_text casts.Sext = codes "sext"
-cast_text casts.Trunc = codes "trunc"
-cast_text casts.Ptrtoint = codes "ptrtoint"
-cast_text casts.Inttoptr = codes "inttoptr"
-
--- a word and a space, or nothing
-abbrev pub flag_text : List ℕ → Bool → List ℕ
-flag_text word true = word
-flag_text word false = []
+-- a flag and a space where it is set
+abbrev pub flag_if : Flag → Bool → List ℕ
+flag_if flag true = flag_text flag ++ codes " "
+flag_if flag false = []
 
 -- `nuw ` before `nsw `, and `exact `
 abbrev pub flags_text : Flags → List ℕ
-flags_text flags = flag_text (codes "nuw ") flags.nuw ++ (flag_text (codes "nsw ") flags.nsw ++ flag_text (codes "exact ") flags.exact)
+flags_text flags = flag_if Nuw flags.nuw ++ (flag_if Nsw flags.nsw ++ flag_if Exact flags.exact)
 
 -- `%x = `
 abbrev pub assigned_text : List ℕ → List ℕ

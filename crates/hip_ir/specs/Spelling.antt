@@ -35,7 +35,7 @@ use Rattle.hip_ir.specs.declared.program.GlobalVar.{GlobalVar}
 use Rattle.hip_ir.specs.declared.program.Param.{Param}
 use Rattle.hip_ir.specs.declared.program.Program.{Program}
 use Rattle.hip_ir.specs.Numbers.{is_alignment}
-use Rattle.hip_ir.specs.Bodies.{may_wrap, may_be_exact}
+use Rattle.hip_ir.specs.Words.{may_wrap, may_be_exact}
 
 -- at least one
 abbrev pub not_empty : {A : Type 0} → List A → Bool

@@ -1,5 +1,5 @@
 -- The tokens that the grammar names.
-use Rattle.std.specs.Prelude.{ℕ, Bool, true, false, List, Option, Some, None, ◌==◌, if◌then◌else◌, codes, option_map}
+use Rattle.std.specs.Prelude.{ℕ, Bool, true, false, List, [], ◌∷◌, Option, Some, None, ◌==◌, if◌then◌else◌, codes, option_map}
 use Rattle.std.specs.Str.{bytes_eq}
 use Rattle.hip_types.specs.declared.number.Width.{Width}
 use Rattle.hip_types.specs.declared.number.Width.TheVariants.{W1, W8, W16, W32, W64}
@@ -16,6 +16,8 @@ use Rattle.hip_types.specs.declared.ty.Ty.TheVariants as types
 use Rattle.hip_tokens.specs.Tokens.{Tok, Word, Label, Local, Global, Str, Mark}
 use Rattle.hip_rules.specs.Rule.{Verdict, Yes, Because, No}
 use Rattle.hip_ir.specs.declared.fault.Fault.{Fault}
+use Rattle.hip_ir.specs.declared.instr.Flag.{Flag}
+use Rattle.hip_ir.specs.declared.instr.Flag.TheVariants.{Nuw, Nsw, Exact}
 use Rattle.hip_ir.specs.declared.fault.Fault.TheVariants.{Unsupported, TooDeep}
 
 abbrev pub is_word : List ℕ → Tok → Bool
@@ -84,21 +86,35 @@ abbrev pub is_word_of : {A : Type 0} → (List ℕ → Option A) → Tok → Boo
 is_word_of f (Word t) = is_there (f t)
 is_word_of f _ = false
 
+-- the first of these values that is written as the word
+abbrev pub written_as : {A : Type 0} → (A → List ℕ) → List A → List ℕ → Option A
+written_as text [] t = None
+written_as text (x ∷ xs) t = if bytes_eq t (text x) then Some x else written_as text xs t
+
 -- ---- types
 
+abbrev pub width_text : Width → List ℕ
+width_text W1 = codes "i1"
+width_text W8 = codes "i8"
+width_text W16 = codes "i16"
+width_text W32 = codes "i32"
+width_text W64 = codes "i64"
+
 abbrev pub width_word : List ℕ → Option Width
-width_word t =
-    if bytes_eq t (codes "i1") then Some W1
-    else (if bytes_eq t (codes "i8") then Some W8
-    else (if bytes_eq t (codes "i16") then Some W16
-    else (if bytes_eq t (codes "i32") then Some W32
-    else (if bytes_eq t (codes "i64") then Some W64
-    else None))))
+width_word = written_as width_text (W1 ∷ W8 ∷ W16 ∷ W32 ∷ W64 ∷ [])
+
+abbrev pub scalar_text : Scalar → List ℕ
+scalar_text (scalars.Int w) = width_text w
+scalar_text scalars.Ptr = codes "ptr"
 
 abbrev pub scalar_word : List ℕ → Option Scalar
 scalar_word t = if bytes_eq t (codes "ptr") then Some scalars.Ptr else option_map (λ w. scalars.Int w) (width_word t)
 
 -- `void` is no result
+abbrev pub ret_text : Option Scalar → List ℕ
+ret_text None = codes "void"
+ret_text (Some s) = scalar_text s
+
 abbrev pub ret_word : List ℕ → Option (Option Scalar)
 ret_word t = if bytes_eq t (codes "void") then Some None else option_map (λ s. Some s) (scalar_word t)
 
@@ -109,58 +125,94 @@ type_of scalars.Ptr = types.Ptr
 abbrev pub type_word : List ℕ → Option Ty
 type_word t = option_map type_of (scalar_word t)
 
--- how a width and a scalar are written
-abbrev pub width_text : Width → List ℕ
-width_text W1 = codes "i1"
-width_text W8 = codes "i8"
-width_text W16 = codes "i16"
-width_text W32 = codes "i32"
-width_text W64 = codes "i64"
+-- ---- operations on integers
 
-abbrev pub scalar_text : Scalar → List ℕ
-scalar_text (scalars.Int w) = width_text w
-scalar_text scalars.Ptr = codes "ptr"
+abbrev pub binary_text : BinaryOp → List ℕ
+binary_text ops.Add = codes "add"
+binary_text ops.Sub = codes "sub"
+binary_text ops.Mul = codes "mul"
+binary_text ops.Udiv = codes "udiv"
+binary_text ops.Sdiv = codes "sdiv"
+binary_text ops.Urem = codes "urem"
+binary_text ops.Srem = codes "srem"
+binary_text ops.And = codes "and"
+binary_text ops.Or = codes "or"
+binary_text ops.Xor = codes "xor"
+binary_text ops.Shl = codes "shl"
+binary_text ops.Lshr = codes "lshr"
+binary_text ops.Ashr = codes "ashr"
 
--- ---- instructions
+abbrev pub binary_ops : List BinaryOp
+binary_ops =
+    ops.Add ∷ ops.Sub ∷ ops.Mul ∷ ops.Udiv ∷ ops.Sdiv ∷ ops.Urem ∷ ops.Srem
+    ∷ ops.And ∷ ops.Or ∷ ops.Xor ∷ ops.Shl ∷ ops.Lshr ∷ ops.Ashr ∷ []
 
 abbrev pub binary_word : List ℕ → Option BinaryOp
-binary_word t =
-    if bytes_eq t (codes "add") then Some ops.Add
-    else (if bytes_eq t (codes "sub") then Some ops.Sub
-    else (if bytes_eq t (codes "mul") then Some ops.Mul
-    else (if bytes_eq t (codes "udiv") then Some ops.Udiv
-    else (if bytes_eq t (codes "sdiv") then Some ops.Sdiv
-    else (if bytes_eq t (codes "urem") then Some ops.Urem
-    else (if bytes_eq t (codes "srem") then Some ops.Srem
-    else (if bytes_eq t (codes "and") then Some ops.And
-    else (if bytes_eq t (codes "or") then Some ops.Or
-    else (if bytes_eq t (codes "xor") then Some ops.Xor
-    else (if bytes_eq t (codes "shl") then Some ops.Shl
-    else (if bytes_eq t (codes "lshr") then Some ops.Lshr
-    else (if bytes_eq t (codes "ashr") then Some ops.Ashr
-    else None))))))))))))
+binary_word = written_as binary_text binary_ops
+
+abbrev pub pred_text : Pred → List ℕ
+pred_text preds.Eq = codes "eq"
+pred_text preds.Ne = codes "ne"
+pred_text preds.Ugt = codes "ugt"
+pred_text preds.Uge = codes "uge"
+pred_text preds.Ult = codes "ult"
+pred_text preds.Ule = codes "ule"
+pred_text preds.Sgt = codes "sgt"
+pred_text preds.Sge = codes "sge"
+pred_text preds.Slt = codes "slt"
+pred_text preds.Sle = codes "sle"
+
+abbrev pub preds_in_order : List Pred
+preds_in_order =
+    preds.Eq ∷ preds.Ne ∷ preds.Ugt ∷ preds.Uge ∷ preds.Ult ∷ preds.Ule
+    ∷ preds.Sgt ∷ preds.Sge ∷ preds.Slt ∷ preds.Sle ∷ []
 
 abbrev pub pred_word : List ℕ → Option Pred
-pred_word t =
-    if bytes_eq t (codes "eq") then Some preds.Eq
-    else (if bytes_eq t (codes "ne") then Some preds.Ne
-    else (if bytes_eq t (codes "ugt") then Some preds.Ugt
-    else (if bytes_eq t (codes "uge") then Some preds.Uge
-    else (if bytes_eq t (codes "ult") then Some preds.Ult
-    else (if bytes_eq t (codes "ule") then Some preds.Ule
-    else (if bytes_eq t (codes "sgt") then Some preds.Sgt
-    else (if bytes_eq t (codes "sge") then Some preds.Sge
-    else (if bytes_eq t (codes "slt") then Some preds.Slt
-    else (if bytes_eq t (codes "sle") then Some preds.Sle
-    else None)))))))))
+pred_word = written_as pred_text preds_in_order
 
--- casts from an integer type to an integer type
+abbrev pub cast_text : CastOp → List ℕ
+cast_text casts.Zext = codes "zext"
+cast_text casts.Sext = codes "sext"
+cast_text casts.Trunc = codes "trunc"
+cast_text casts.Ptrtoint = codes "ptrtoint"
+cast_text casts.Inttoptr = codes "inttoptr"
+
+-- those from an integer type to an integer type
+abbrev pub int_casts : List CastOp
+int_casts = casts.Zext ∷ casts.Sext ∷ casts.Trunc ∷ []
+
 abbrev pub int_cast_word : List ℕ → Option CastOp
-int_cast_word t =
-    if bytes_eq t (codes "zext") then Some casts.Zext
-    else (if bytes_eq t (codes "sext") then Some casts.Sext
-    else (if bytes_eq t (codes "trunc") then Some casts.Trunc
-    else None))
+int_cast_word = written_as cast_text int_casts
+
+-- ---- flags of operations on integers
+
+abbrev pub flag_text : Flag → List ℕ
+flag_text Nuw = codes "nuw"
+flag_text Nsw = codes "nsw"
+flag_text Exact = codes "exact"
+
+-- add, sub, mul and shl
+abbrev pub may_wrap : BinaryOp → Bool
+may_wrap ops.Add = true
+may_wrap ops.Sub = true
+may_wrap ops.Mul = true
+may_wrap ops.Shl = true
+may_wrap _ = false
+
+-- udiv, sdiv, lshr and ashr
+abbrev pub may_be_exact : BinaryOp → Bool
+may_be_exact ops.Udiv = true
+may_be_exact ops.Sdiv = true
+may_be_exact ops.Lshr = true
+may_be_exact ops.Ashr = true
+may_be_exact _ = false
+
+-- `nuw` or `nsw` after one, `exact` after the other
+abbrev pub flags_after : BinaryOp → List Flag
+flags_after op = if may_wrap op then Nuw ∷ Nsw ∷ [] else (if may_be_exact op then Exact ∷ [] else [])
+
+abbrev pub flag_word : BinaryOp → List ℕ → Option Flag
+flag_word op = written_as flag_text (flags_after op)
 
 -- ---- words that are read and not kept
 

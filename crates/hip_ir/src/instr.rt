@@ -16,7 +16,16 @@ pub struct Arg {
     pub value: Operand,
 }
 
-/// The flags of an operation on integers, which change no value.
+/// A flag of an operation on integers: the result does not wrap as a number without sign, or as one with a sign; nothing is
+/// lost by a division or a shift to the right. It changes no value.
+#[derive(Clone, Copy, Debug, PartialEq, Eq)]
+pub enum Flag {
+    Nuw,
+    Nsw,
+    Exact,
+}
+
+/// Which flags an operation on integers has.
 #[derive(Clone, Copy, Debug, PartialEq, Eq)]
 pub struct Flags {
     pub nuw: bool,

@@ -6,7 +6,6 @@ ghost use Rattle.hip_types.specs.declared.number.Scalar.TheVariants.{Int, Ptr};
 ghost use Rattle.hip_types.specs.declared.number.Width.TheVariants.{W1};
 ghost use Rattle.hip_types.specs.declared.ty.Ty.{out-Ty};
 ghost use Rattle.hip_ir.specs.declared.constant.Const.{out-Const};
-ghost use Rattle.hip_ir.specs.Bodies.{may_wrap, may_be_exact};
 ghost use Rattle.hip_ir.specs.Reading.{Reads, IsSpelled};
 ghost use Rattle.hip_ir.specs.Spelling.{not_empty, spelled_align, spelled_flat, spelled_type, spelled_type_within, of_width, spelled_gep, spelled_pointer_within, spelled_int, spelled_item, spelled_const_within, spelled_scalar_const, spelled_operand, spelled_arg, is_int_type, spelled_index, spelled_flags, spelled_cast, spelled_result, spelled_memory_instr, spelled_instr, spelled_edge, spelled_phi, spelled_case, spelled_end, spelled_block, spelled_global, spelled_extern, spelled_param, spelled_function, spelled_program};
 
@@ -14,6 +13,7 @@ use crate::block::{Block, Case, Edge, End, Phi};
 use crate::constant::{Const, ConstGep, TypedConst};
 use crate::instr::{Arg, Flags, Instr, Operand};
 use crate::program::{Extern, Function, GlobalVar, Param, Program};
+use crate::words::{may_be_exact, may_wrap};
 use hip_tokens::is_name;
 use hip_types::{BinaryOp, Bits, CastOp, Name, Scalar, Ty, Width};
 
@@ -196,26 +196,6 @@ fn spelled_index(arg: &Arg) -> bool
 }
 
 // ---- instructions
-
-/// Whether `nuw` and `nsw` may stand after the operation.
-fn may_wrap(op: BinaryOp) -> bool
-    ensures { result ≡ may_wrap op }
-{
-    match op {
-        BinaryOp::Add | BinaryOp::Sub | BinaryOp::Mul | BinaryOp::Shl => true,
-        _ => false,
-    }
-}
-
-/// Whether `exact` may stand after the operation.
-fn may_be_exact(op: BinaryOp) -> bool
-    ensures { result ≡ may_be_exact op }
-{
-    match op {
-        BinaryOp::Udiv | BinaryOp::Sdiv | BinaryOp::Lshr | BinaryOp::Ashr => true,
-        _ => false,
-    }
-}
 
 fn spelled_flags(op: BinaryOp, flags: Flags) -> bool
     ensures { result ≡ spelled_flags op flags }

@@ -10,6 +10,3 @@ mod queue;
 pub use lines::Lines;
 pub use loose::NotDurable;
 pub use part::{LooseByte, Part};
-
-#[cfg(test)]
-mod tests;

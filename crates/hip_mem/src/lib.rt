@@ -8,6 +8,3 @@ mod refusal;
 
 pub use ram::Ram;
 pub use refusal::{MemTrap, PushRefusal, StoreRefusal};
-
-#[cfg(test)]
-mod tests;

@@ -6,6 +6,3 @@ mod table;
 
 pub use names::NameSet;
 pub use table::NameTable;
-
-#[cfg(test)]
-mod tests;

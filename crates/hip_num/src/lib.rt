@@ -14,6 +14,3 @@ pub use cast::{narrow, widen};
 pub use comparison::compare;
 pub use read::{read_decimal, read_hex, read_signed};
 pub use write::{decimal_into, hex_into, natural_into};
-
-#[cfg(test)]
-mod tests;

@@ -2,7 +2,7 @@
 use Rattle.std.proofs.Common.{◌≡◌, ◌≤◌, ℕ, ◌<◌, Bool, true, List, [], length, Option, Some, None, Ok, Err, refl}
 use Rattle.hip_tokens.specs.Tokens.{Tok, At}
 use Rattle.hip_rules.specs.Reader.{Outcome, Reader, next, many_at, with_front, taken_up, leaders_at, with_leaders}
-use Rattle.hip_rules.specs.Loops.{TakesSome, fails, fails_up, leader_head_fails, leader_part_fails}
+use Rattle.hip_rules.specs.Laws.Loops.{TakesSome, fails, fails_up, leader_head_fails, leader_part_fails}
 use Rattle.hip_ir.specs.declared.fault.Fault.{Fault}
 use Rattle.hip_parse.specs.declared.error.ReadError.{ReadError}
 use Rattle.hip_parse.specs.declared.error.ReadError.TheVariants as errors

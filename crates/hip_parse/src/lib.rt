@@ -16,6 +16,3 @@ mod words;
 
 pub use error::ParseRefusal;
 pub use reading::parse;
-
-#[cfg(test)]
-mod tests;

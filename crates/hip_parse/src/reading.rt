@@ -4,7 +4,7 @@ ghost use Rattle.std.specs.Prelude.{◌≡◌, ℕ, List, [], ◌∷◌, IfOk, I
 ghost use Rattle.hip_ir.specs.declared.fault.Fault.{Fault};
 ghost use Rattle.hip_ir.specs.declared.program.Program.{Program};
 ghost use Rattle.hip_ir.specs.Reading.{Reads, IsSpelled, line_at};
-ghost use Rattle.hip_ir.specs.TextExact.{whole_text, fault_at};
+ghost use Rattle.hip_ir.specs.Laws.TextExact.{whole_text, fault_at};
 ghost use Rattle.hip_ir.specs.Unsupported.{usual};
 ghost use Rattle.hip_parse.specs.Left.{left, Takes};
 ghost use Rattle.hip_parse.specs.Meaning.{IsCause, GivesProgram, refusal_of};
@@ -61,7 +61,7 @@ impl<'a> Parser<'a> {
         }
     }
 
-    #[tactic(auto, unfolding(hip_ir::specs::TextExact::whole_text))]
+    #[tactic(auto, unfolding(hip_ir::specs::Laws::TextExact::whole_text))]
     fn whole(&mut self, alloc: Global) -> Result<Program, ReadError>
         ensures { Takes (λ x. x) result (whole_text (left self.old)) (left self.new) }
     {

@@ -9,6 +9,3 @@ mod tree;
 mod walk;
 
 pub use flow::Paths;
-
-#[cfg(test)]
-mod tests;

@@ -1,10 +1,4 @@
 pub mod Rule
 pub mod Reader
 pub mod Part
-pub mod Exact
-pub mod Same
-pub mod Phases
-pub mod Loops
-pub mod Parts
-pub mod Texts
-pub mod Yields
+pub mod Laws

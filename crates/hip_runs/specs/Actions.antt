@@ -131,7 +131,7 @@ allocated w dest size align =
 
 -- ---- calls
 
-abbrev bound_call : Option Function → ℕ → List ℕ → Option (List ℕ) → Action
+abbrev pub bound_call : Option Function → ℕ → List ℕ → Option (List ℕ) → Action
 bound_call None g values dest = Traps traps.Unreachable
 bound_call (Some f) g values dest = Calls g (bound f.params values) dest
 
@@ -144,7 +144,7 @@ numbered_call P (Some g) values dest = bound_call (slice_get P.functions g) g va
 unfoldable pub entered : Program → ℕ → List ℕ → List ℕ → Option (List ℕ) → Action
 entered P below callee values dest = cond (nat_lt below 16383) (numbered_call P (function_number P callee) values dest) (Traps traps.Depth)
 
-abbrev arg_value : List ℕ → ℕ → ℕ
+abbrev pub arg_value : List ℕ → ℕ → ℕ
 arg_value values k = unwrap_or (slice_get values k) 0
 
 -- the flush of a range: none of a range without bytes, and a trap where some byte is not valid

@@ -1,6 +1,8 @@
 -- The crash images of a state.
-use Rattle.std.specs.Prelude.{ℕ, ◌+◌, ◌-◌, Bool, ◌&&◌, nat_le, nat_lt, List, length, slice_index}
-use Rattle.hip_lines.specs.Image.{IsImage, IsPick, image_of}
+use Rattle.std.specs.Prelude.{ℕ, suc, ◌+◌, ◌-◌, ◌*◌, Bool, true, ◌&&◌, nat_le, nat_lt, nat_eq, List, [], ◌∷◌, length, take, slice_index}
+use Rattle.std.specs.List.{list_all, list_any, range_with_len}
+use Rattle.hip_lines.specs.Image.{byte_after, IsImage, IsPick, image_of}
+use Rattle.hip_lines.specs.Line.{Line}
 use Rattle.hip_runs.specs.declared.input.Input.{Input}
 use Rattle.hip_runs.specs.State.{StorePart, State}
 
@@ -22,3 +24,22 @@ IsCrashPick s pick = IsPick covers byte_of s.lines pick
 
 abbrev pub crash_image : Input → State → (ℕ → ℕ) → List ℕ
 crash_image I s pick = image_of covers byte_of s.lines pick I.image
+
+-- ---- whether a content is a crash image, line by line
+
+-- whether in line j the content is the first one changed by the line's first q parts
+abbrev pub is_line_after : List ℕ → List ℕ → ℕ → Line StorePart → ℕ → Bool
+is_line_after first content j l q =
+    list_all (λ b. nat_eq (slice_index content b) (byte_after covers byte_of (take q l.parts) b (slice_index first b))) (range_with_len (64 * j) 64)
+
+-- whether it is so for some number of parts, all durable ones among them
+abbrev pub is_line_image : List ℕ → List ℕ → ℕ → Line StorePart → Bool
+is_line_image first content j l = list_any (is_line_after first content j l) (range_with_len l.durable (suc (length l.parts) - l.durable))
+
+-- whether it is so in each of these lines, the first of which has this number
+abbrev pub are_line_images : List ℕ → List ℕ → ℕ → List (Line StorePart) → Bool
+are_line_images first content j [] = true
+are_line_images first content j (l ∷ ls) = is_line_image first content j l && are_line_images first content (suc j) ls
+
+abbrev pub is_crash_image : Input → State → List ℕ → Bool
+is_crash_image I s content = nat_eq (length content) (length I.image) && are_line_images I.image content 0 s.lines

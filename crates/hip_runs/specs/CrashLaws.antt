@@ -142,7 +142,7 @@ module _ (I : Input) (ls : List (Line StorePart)) where
 fewer : (I : Input) (s : State) → AreOrdered s.lines → Cases I s (λ e ls. stores e ≡ false → OnlyOf I s.lines ls)
 fewer I s o = record {
   plain = λ e p q content h. h;
-  store = λ f fs t a bytes e q. absurd (let z : ⊥ = cc in z);
+  store = λ f fs t a bytes e w q. absurd (let z : ⊥ = cc in z);
   flush = λ f fs t a n e q. fewer_flushed I s.lines _ a n;
   persist = λ f fs t a n e q content h. fewer_flushed I s.lines _ a n content (fewer_fenced I _ (ordered-met_lines I _ a n s.lines o) content h);
   fence = λ q. fewer_fenced I s.lines o;
@@ -156,7 +156,7 @@ only_stores_add P I n content q h = step-cases P I (run P I n) _ (fewer I (run P
 kept : (I : Input) (s : State) → Cases I s (λ e ls. fences e ≡ false → AllOf I s.lines ls)
 kept I s = record {
   plain = λ e p q content h. h;
-  store = λ f fs t a bytes e q. all_stored I s.lines _ (a - I.base) (length bytes);
+  store = λ f fs t a bytes e w q. all_stored I s.lines _ (a - I.base) (length bytes);
   flush = λ f fs t a n e q. all_flushed I s.lines _ a n;
   persist = λ f fs t a n e q. absurd (let z : ⊥ = cc in z);
   fence = λ q. absurd (let z : ⊥ = cc in z);

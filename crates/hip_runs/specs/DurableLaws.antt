@@ -55,7 +55,7 @@ store_kept part o n ls a h m k x d = go (has_bytes m o n) (slice_get ls m) (λ l
 fenced_cases : (I : Input) (s : State) → AreOrdered s.lines → AreFenced s.lines → Cases I s (λ e ls. AreFenced ls)
 fenced_cases I s a h = record {
   plain = λ e p. h;
-  store = λ f fs t addr bytes e. store_kept _ (addr - I.base) (length bytes) s.lines a h;
+  store = λ f fs t addr bytes e w. store_kept _ (addr - I.base) (length bytes) s.lines a h;
   flush = λ f fs t addr n e. flush_kept I _ addr n s.lines h;
   persist = λ f fs t addr n e. fence_met _;
   fence = fence_met s.lines;
@@ -116,7 +116,7 @@ module _ (m k : ℕ) (x : StorePart) where
   stays_cases : (I : Input) (s : State) → AreOrdered s.lines → IsSettled x → Cases I s (λ e ls. Stays s.lines ls)
   stays_cases I s a h = record {
     plain = λ e p d. d;
-    store = λ f fs t addr bytes e. stays_stored _ (addr - I.base) (length bytes) s.lines;
+    store = λ f fs t addr bytes e w. stays_stored _ (addr - I.base) (length bytes) s.lines;
     flush = λ f fs t addr n e. stays_flushed I _ addr n s.lines h;
     persist = λ f fs t addr n e d. stays_fenced _ (ordered-met_lines I _ addr n s.lines a) h (stays_flushed I _ addr n s.lines h d);
     fence = stays_fenced s.lines a h;

@@ -1,5 +1,5 @@
 -- What every run keeps: the history that the parts of stores carry, and the calls that they were made under.
-use Rattle.std.specs.Prelude.{◌≡◌, ℕ, ◌<◌, true, false, List, ◌++◌, Some, slice_get}
+use Rattle.std.specs.Prelude.{◌≡◌, ℕ, ◌<◌, true, false, List, [], ◌∷◌, ◌++◌, Some, slice_get}
 use Rattle.hip_ir.specs.Sites.{instr_of}
 use Rattle.hip_ir.specs.declared.instr.Instr.{Instr}
 use Rattle.hip_ir.specs.declared.program.Program.{Program}
@@ -7,6 +7,20 @@ use Rattle.hip_lines.specs.Line.{Line}
 use Rattle.hip_runs.specs.Parts.{In, PartOf}
 use Rattle.hip_runs.specs.Reports.{is_open}
 use Rattle.hip_runs.specs.State.{Level, Flush, StorePart, State, levels_of}
+
+-- the calls were made one after another, each before the one above it, and all before step n
+abbrev pub AreDescending : List Level → ℕ → Type 0
+AreDescending [] n = Unit {0}
+AreDescending (l ∷ ls) n = (l.birth < n) × AreDescending ls l.birth
+
+-- The calls of a store are those that have returned, and then the outermost ones of those that stand.
+pub record IsParted (standing levels : List Level) : Type 0 where
+  pub closed : List Level
+  pub open_ones : List Level
+  pub above : List Level
+  pub are : levels ≡ closed ++ open_ones
+  pub outermost : standing ≡ above ++ open_ones
+  pub returned : (v : Level) → In v closed → is_open standing v ≡ false
 
 -- The calls of a store are those that have returned, which are the innermost ones, and then those that stand.
 pub record IsSplit (standing : List Level) (levels : List Level) : Type 0 where

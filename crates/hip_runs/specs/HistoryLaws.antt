@@ -17,7 +17,7 @@ use Rattle.hip_runs.specs.declared.event.Ending.TheVariants.{Cut}
 use Rattle.hip_runs.specs.declared.event.Event.{Event}
 use Rattle.hip_runs.specs.declared.input.Input.{Input}
 use Rattle.hip_runs.specs.Actions.{Action, Traps, Assigns, Allocates, Stores, Flushes, Persists, Fences, Asserts, Prints, Reads, Calls, Jumps, Returns, Deed, in_region, jump, jump_to, end_action, deed_of}
-use Rattle.hip_runs.specs.History.{IsSplit, HasHistory}
+use Rattle.hip_runs.specs.History.{AreDescending, IsParted, IsSplit, HasHistory}
 use Rattle.hip_runs.specs.Parts.{In, PartOf}
 use Rattle.hip_runs.specs.PartLaws.{in-append, append-left, append-right, part-fenced, part-flushed_from, part-stored, IsFlushedFrom}
 use Rattle.hip_runs.specs.Persistence.{part_of_store, stored_lines, earlier, noted_flush, noted_fence, flush_line, fence_line, flushes_lines, flushed_lines, fenced_lines}
@@ -29,20 +29,6 @@ use Rattle.hip_runs.specs.Step.{stop, with_turn, start, is_cut, leave, perform, 
 -- an instruction stands at the site
 abbrev Stands : Program → Site → Type 0
 Stands P s = (i : Instr) × (instr_of P s ≡ Some i)
-
--- the calls were made one after another, each before the one above it, and all before step n
-abbrev AreDescending : List Level → ℕ → Type 0
-AreDescending [] n = Unit {0}
-AreDescending (l ∷ ls) n = (l.birth < n) × AreDescending ls l.birth
-
--- The calls of a store are those that have returned, and then the outermost ones of those that stand.
-record IsParted (up levels : List Level) : Type 0 where
-  closed : List Level
-  open_ones : List Level
-  above : List Level
-  are : levels ≡ closed ++ open_ones
-  outermost : up ≡ above ++ open_ones
-  returned : (v : Level) → In v closed → is_open up v ≡ false
 
 -- What a run keeps, of the calls that stand, its lines, and how many steps were taken.
 record IsKept (P : Program) (up : List Level) (ls : List (Line StorePart)) (n : ℕ) : Type 0 where
@@ -67,7 +53,7 @@ descending_later [] n h = tt
 descending_later (l ∷ ls) n h = (omega (arith, h.0), h.1)
 
 -- all calls that stand were made before step n
-born_before : (up : List Level) (n : ℕ) → AreDescending up n → (v : Level) → In v up → v.birth < n
+pub born_before : (up : List Level) (n : ℕ) → AreDescending up n → (v : Level) → In v up → v.birth < n
 born_before [] n h v i = absurd i
 born_before (l ∷ ls) n h v (inl e) = subst (λ (x : Level). x.birth < n) (sym e) h.0
 born_before (l ∷ ls) n h v (inr i) = omega (arith, h.0, born_before ls l.birth h.1 v i)
@@ -476,13 +462,13 @@ module _ (P : Program) where
       go true = later (levels_of (f ∷ fs)) ls c.steps k
       go false = h _
 
-  get_drop : {A : Type 0} (xs : List A) (k : ℕ) (x : A) (ys : List A) → drop k xs ≡ x ∷ ys → slice_get xs k ≡ Some x
+  pub get_drop : {A : Type 0} (xs : List A) (k : ℕ) (x : A) (ys : List A) → drop k xs ≡ x ∷ ys → slice_get xs k ≡ Some x
   get_drop [] zero x ys e = cc
   get_drop [] (suc k) x ys e = cc
   get_drop (y ∷ xs) zero x ys e = cc
   get_drop (y ∷ xs) (suc k) x ys e = get_drop xs k x ys e
 
-  instr_at_place : (f b k : ℕ) → instr_of P (record { function = f; block = b; index = k }) ≡ slice_get (body_at P f b) k
+  pub instr_at_place : (f b k : ℕ) → instr_of P (record { function = f; block = b; index = k }) ≡ slice_get (body_at P f b) k
   instr_at_place f b k = go (slice_get P.functions f)
     where
       block_go : (o : Option Block) → option_and_then (λ x. slice_get x.body k) o ≡ slice_get (body_of o) k
@@ -515,7 +501,7 @@ module _ (P : Program) where
   part_of_fresh (suc n) x (inl i) = i
   part_of_fresh (suc n) x (inr i) = part_of_fresh n x i
 
-  line_of_fresh : (n m : ℕ) (l : Line StorePart) → slice_get (fresh_lines {P = StorePart} n) m ≡ Some l → l.parts ≡ []
+  pub line_of_fresh : (n m : ℕ) (l : Line StorePart) → slice_get (fresh_lines {P = StorePart} n) m ≡ Some l → l.parts ≡ []
   unfolding fresh_lines
   line_of_fresh zero m l e = absurd (let z : ⊥ = cc in z)
   line_of_fresh (suc n) zero l e = let q : l ≡ record { parts = []; flushed = 0; durable = 0 } = cc in ap (λ (y : Line StorePart). y.parts) q
@@ -574,3 +560,11 @@ module _ (P : Program) where
   -- in each line at most as many parts are durable as are flushed, and at most as many are flushed as it has
   pub lines_ordered : (I : Input) (n : ℕ) → AreOrdered (run P I n).lines
   lines_ordered I n = (run_kept I n).ordered
+
+  -- the calls that stand were made one after another
+  pub calls_descend : (I : Input) (n : ℕ) → AreDescending (levels_of (run P I n).frames) (run P I n).counts.steps
+  calls_descend I n = (run_kept I n).stack
+
+  -- those of a part's calls that stand are the outermost of those that stand
+  pub calls_parted : (I : Input) (n : ℕ) (x : StorePart) → PartOf (run P I n).lines x → IsParted (levels_of (run P I n).frames) x.levels
+  calls_parted I n = (run_kept I n).split

@@ -22,3 +22,12 @@ pub mod DurableLaws
 pub mod SinceLaws
 pub mod OrderLaws
 pub mod StoreLaws
+pub mod Shown
+pub mod Sites
+pub mod Frames
+pub mod Order
+pub mod Tags
+pub mod WellFormed
+pub mod Entry
+pub mod After
+pub mod Laws

@@ -74,7 +74,7 @@ abbrev pub unless_ended : {A : Type 0} → Event → List A → List A
 unless_ended (events.End e) xs = []
 unless_ended _ xs = xs
 
-abbrev step_marks : Program → Input → State → List Mark
+abbrev pub step_marks : Program → Input → State → List Mark
 step_marks P I s = cond (has_ended s) [] (unless_ended (event P I s) (frame_marks P I s.frames))
 
 -- the persistent global that a store's address lies in; a store's event is of the region, where no other global lies

@@ -198,7 +198,7 @@ module _ (P : Program) (I : Input) (n : ℕ) where
   seen_cases : AreSeen n (run P I n).lines → Cases I (run P I n) Next
   seen_cases seen = record {
     plain = λ e p q j. all_same P I n j (ap fences q ∙ plain_fences e p) (ap (flushes I.base j) q ∙ plain_flushes I.base j e p) (slice_get (run P I n).lines j) (seen j);
-    store = λ f fs t a bytes e q j.
+    store = λ f fs t a bytes e w q j.
         subst (AllSeen P I n j (suc n)) (sym (slice_get-change_range _ (a - I.base) (length bytes) (run P I n).lines j))
         (all_store P I n j (part_of_store (run P I n).counts (site_of f) (levels_of (f ∷ fs)) (a - I.base) bytes j) (counted-steps P I n t.going) (ap fences q) (ap (flushes I.base j) q) (has_bytes j (a - I.base) (length bytes)) (slice_get (run P I n).lines j) (λ l g. ordered-at (run P I n).lines j l (lines_ordered P I n) g) (seen j));
     flush = λ f fs t a m e q j.

@@ -232,7 +232,7 @@ module _ (P : Program) (I : Input) (n : ℕ) where
   told_cases : AreTold n (run P I n).lines → Cases I (run P I n) Next
   told_cases told = record {
     plain = λ e p q j x i. told_same P I n j (ap fences q ∙ plain_fences e p) (ap (flushes I.base j) q ∙ plain_flushes I.base j e p) x (told j x i);
-    store = λ f fs t a bytes e q j x i. by_store f fs t a bytes e q j x (of_stored _ (a - I.base) (length bytes) _ j x i);
+    store = λ f fs t a bytes e w q j x i. by_store f fs t a bytes e q j x (of_stored _ (a - I.base) (length bytes) _ j x i);
     flush = λ f fs t a m e q j y i. let r = of_flushed I _ a m _ j y i in subst (IsTold P I (suc n) j) (sym r.2) (by_flush f fs t a m j r.0 q (has_bytes j (a - I.base) m) (line_met I a m j e) (told j r.0 r.1));
     persist = λ f fs t a m e q j z i.
         let s = of_fenced _ j z i in

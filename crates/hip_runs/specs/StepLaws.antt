@@ -1,19 +1,21 @@
 -- What one step of a run does to the cache lines, and what event it has then.
 use Rattle.std.proofs.Common.{◌≡◌, ℕ, zero, suc, ◌-◌, ◌/◌, Bool, true, false, cond, List, [], ◌∷◌, length, Option, Some, None, refl, sym, ap, ◌∙◌}
 use Rattle.std.proofs.lemmas.List.{length-map, length-replicate}
+use Rattle.hip_ir.specs.Sites.{instr_of}
 use Rattle.hip_ir.specs.declared.program.Program.{Program}
-use Rattle.hip_mem.specs.Bytes.{little_endian}
+use Rattle.hip_mem.specs.Bytes.{little_endian, bytes_of}
 use Rattle.hip_lines.specs.Line.{Line, AreOrdered, map_line, change_range, stored, fresh_lines}
 use Rattle.hip_lines.specs.LineLaws.{length-change_from, ordered-change_from, ordered-flushed_line, ordered-map_line}
 use Rattle.hip_runs.specs.declared.event.Ending.{Ending}
 use Rattle.hip_runs.specs.declared.event.Ending.TheVariants.{Cut}
 use Rattle.hip_runs.specs.declared.event.Event.{Event}
-use Rattle.hip_runs.specs.declared.event.Event.TheVariants as events
 use Rattle.hip_runs.specs.declared.input.Input.{Input}
 use Rattle.hip_runs.specs.Actions.{Action, Traps, Assigns, Allocates, Stores, Flushes, Persists, Fences, Asserts, Prints, Reads, Calls, Jumps, Returns, Deed, in_region}
 use Rattle.hip_runs.specs.Persistence.{part_of_store, noted_flush, flush_line, flushes_lines, fenced_lines}
 use Rattle.hip_runs.specs.State.{Flush, StorePart, Frame, World, Counts, State, levels_of, site_of}
 use Rattle.hip_runs.specs.Step.{first_line, lines_size, event_of, stop, with_turn, leave, perform, is_cut, event_at, carry_out, deed_at, on_frames, on_ending, step, event_on_frames, event_on_ending, event, run}
+use Rattle.hip_runs.specs.Laws.Fits.{Fits, deed_fits}
+use Rattle.hip_runs.specs.declared.event.Event.TheVariants as events
 
 -- an event that leaves the lines as they are
 abbrev pub is_plain : Event → Bool
@@ -39,6 +41,7 @@ met_lines I flush a n ls = change_range (λ _ l. flush_line flush l) (a - I.base
 pub record Cases (I : Input) (s : State) (Q : Event → List (Line StorePart) → Type 0) : Type 0 where
   pub plain : (e : Event) → is_plain e ≡ true → Q e s.lines
   pub store : (f : Frame) (fs : List Frame) → IsTop s f fs → (a : ℕ) (bytes : List ℕ) → in_region I a (length bytes) ≡ true →
+      bytes_of (length bytes) (little_endian bytes) ≡ bytes →
       Q (events.Store a (little_endian bytes) (length bytes)) (stored (part_of_store s.counts (site_of f) (levels_of (f ∷ fs)) (a - I.base) bytes) (a - I.base) (length bytes) s.lines)
   pub flush : (f : Frame) (fs : List Frame) → IsTop s f fs → (a n : ℕ) → flushes_lines I a n ≡ true →
       Q (events.Flush (first_line I a) (lines_size I a n)) (met_lines I (flush_here s f) a n s.lines)
@@ -52,41 +55,41 @@ module _ (P : Program) (I : Input) (s : State) (Q : Event → List (Line StorePa
   leave_case v w f [] after = c.plain _ refl
   leave_case v w f (g ∷ fs) after = c.plain _ refl
 
-  perform_case : (w : World) (f : Frame) (fs : List Frame) → IsTop s f fs → (after : Counts) (x : Action) → Q (event_of I fs x) (perform I w f fs s.lines s.counts after x).lines
+  perform_case : (w : World) (f : Frame) (fs : List Frame) → IsTop s f fs → (after : Counts) (x : Action) → Fits P x (instr_of P (site_of f)) → Q (event_of I fs x) (perform I w f fs s.lines s.counts after x).lines
   unfolding perform
-  perform_case w f fs t after (Traps kind) = c.plain _ refl
-  perform_case w f fs t after (Assigns to v) = c.plain _ refl
-  perform_case w f fs t after (Allocates to a n) = c.plain _ refl
-  perform_case w f fs t after (Stores a bytes) = go (in_region I a (length bytes)) refl
+  perform_case w f fs t after (Traps kind) h = c.plain _ refl
+  perform_case w f fs t after (Assigns to v) h = c.plain _ refl
+  perform_case w f fs t after (Allocates to a n) h = c.plain _ refl
+  perform_case w f fs t after (Stores a bytes) h = go (in_region I a (length bytes)) refl
     where
       go : (b : Bool) → in_region I a (length bytes) ≡ b → Q (cond b (events.Store a (little_endian bytes) (length bytes)) events.Quiet) (cond b (stored (part_of_store s.counts (site_of f) (levels_of (f ∷ fs)) (a - I.base) bytes) (a - I.base) (length bytes) s.lines) s.lines)
-      go true e = c.store f fs t a bytes e
+      go true e = c.store f fs t a bytes e h.is.1
       go false e = c.plain _ refl
-  perform_case w f fs t after (Flushes a n) = go (flushes_lines I a n) refl
+  perform_case w f fs t after (Flushes a n) h = go (flushes_lines I a n) refl
     where
       go : (b : Bool) → flushes_lines I a n ≡ b → Q (cond b (events.Flush (first_line I a) (lines_size I a n)) events.Quiet) (cond b (met_lines I (flush_here s f) a n s.lines) s.lines)
       go true e = c.flush f fs t a n e
       go false e = c.plain _ refl
-  perform_case w f fs t after (Persists a n) = go (flushes_lines I a n) refl
+  perform_case w f fs t after (Persists a n) h = go (flushes_lines I a n) refl
     where
       go : (b : Bool) → flushes_lines I a n ≡ b → Q (cond b (events.Persist (first_line I a) (lines_size I a n)) events.Fence) (fenced_lines (cond b (met_lines I (flush_here s f) a n s.lines) s.lines))
       go true e = c.persist f fs t a n e
       go false e = c.fence
-  perform_case w f fs t after Fences = c.fence
-  perform_case w f fs t after (Asserts a n) = c.plain _ refl
-  perform_case w f fs t after (Prints z) = c.plain _ refl
-  perform_case w f fs t after (Reads to z rest) = c.plain _ refl
-  perform_case w f fs t after (Calls g rs to) = c.plain _ refl
-  perform_case w f fs t after (Jumps b rs) = c.plain _ refl
-  perform_case w f fs t after (Returns v) = leave_case v w f fs after
+  perform_case w f fs t after Fences h = c.fence
+  perform_case w f fs t after (Asserts a n) h = c.plain _ refl
+  perform_case w f fs t after (Prints z) h = c.plain _ refl
+  perform_case w f fs t after (Reads to z rest) h = c.plain _ refl
+  perform_case w f fs t after (Calls g rs to) h = c.plain _ refl
+  perform_case w f fs t after (Jumps b rs) h = c.plain _ refl
+  perform_case w f fs t after (Returns v) h = leave_case v w f fs after
 
-  carry_case : (f : Frame) (fs : List Frame) → IsTop s f fs → (after : Counts) (d : Deed) → Q (event_at I s.world fs d) (carry_out I s.world f fs s.lines s.counts after d).lines
+  carry_case : (f : Frame) (fs : List Frame) → IsTop s f fs → (after : Counts) (d : Deed) → Fits P d.action (instr_of P (site_of f)) → Q (event_at I s.world fs d) (carry_out I s.world f fs s.lines s.counts after d).lines
   unfolding carry_out
-  carry_case f fs t after d = go (is_cut I s.world d)
+  carry_case f fs t after d h = go (is_cut I s.world d)
     where
       go : (b : Bool) → Q (cond b (events.End Cut) (event_of I fs d.action)) (cond b (stop Cut s.world (f ∷ fs) s.lines after) (perform I (cond d.turn (with_turn s.world) s.world) f fs s.lines s.counts after d.action)).lines
       go true = c.plain _ refl
-      go false = perform_case _ f fs t after d.action
+      go false = perform_case _ f fs t after d.action h
 
   -- so it holds of the step
   pub step-cases : Q (event P I s) (step P I s).lines
@@ -95,7 +98,7 @@ module _ (P : Program) (I : Input) (s : State) (Q : Event → List (Line StorePa
     where
       on_them : (fs : List Frame) → s.frames ≡ fs → s.world.ending ≡ None → Q (event_on_frames P I s.world fs) (on_frames P I s.world s.lines s.counts fs).lines
       on_them [] q e = c.plain _ refl
-      on_them (f ∷ fs) q e = carry_case f fs (record { going = e; frames = q }) _ (deed_at P I s.world f fs)
+      on_them (f ∷ fs) q e = carry_case f fs (record { going = e; frames = q }) _ (deed_at P I s.world f fs) (deed_fits P I s.world f fs)
 
       go : (o : Option Ending) → s.world.ending ≡ o → Q (event_on_ending P I s o) (on_ending P I s o).lines
       go (Some e) q = c.plain _ refl
@@ -109,7 +112,7 @@ ordered-met_lines I flush a n ls o = ordered-change_from (λ _ l. flush_line flu
 same_length : (I : Input) (s : State) → Cases I s (λ e ls. length ls ≡ length s.lines)
 same_length I s = record {
   plain = λ e p. refl;
-  store = λ f fs t a bytes e. length-change_from _ (a - I.base) (length bytes) 0 s.lines;
+  store = λ f fs t a bytes e w. length-change_from _ (a - I.base) (length bytes) 0 s.lines;
   flush = λ f fs t a n e. length-change_from _ (a - I.base) n 0 s.lines;
   persist = λ f fs t a n e. length-map _ _ ∙ length-change_from _ (a - I.base) n 0 s.lines;
   fence = length-map s.lines _;

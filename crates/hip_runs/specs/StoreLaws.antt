@@ -132,7 +132,7 @@ module _ (P : Program) (I : Input) where
     of_cases : AreOf (run P I n).lines → Cases I (run P I n) Next
     of_cases old = record {
       plain = λ e p q. old;
-      store = λ f fs t a bytes e q j x i. by_store f fs t a bytes (in_there I a (length bytes) e) q j x (of_stored _ (a - I.base) (length bytes) _ j x i);
+      store = λ f fs t a bytes e w q j x i. by_store f fs t a bytes (in_there I a (length bytes) e) q j x (of_stored _ (a - I.base) (length bytes) _ j x i);
       flush = λ f fs t a m e q j y i. let r = of_flushed I _ a m _ j y i in subst (IsOfStore P I) (sym r.2) (of_flushes _ (has_bytes j (a - I.base) m) r.0 (old j r.0 r.1));
       persist = λ f fs t a m e q j z i.
           let s = of_fenced _ j z i in

@@ -8,6 +8,3 @@ mod lines;
 pub use bytes::is_name;
 pub use lexer::{Lexer, Token, tokens_are_longest};
 pub use lines::last_line;
-
-#[cfg(test)]
-mod tests;

@@ -7,7 +7,7 @@ use Rattle.hip_io.specs.declared.cabinet.NamedFile.{NamedFile}
 use Rattle.hip_tokens.specs.Tokens.{tokens}
 use Rattle.hip_ir.specs.declared.program.Program.{Program}
 use Rattle.hip_ir.specs.Reading.{Reads}
-use Rattle.hip_ir.specs.TextExact.{one_program}
+use Rattle.hip_ir.specs.Laws.TextExact.{one_program}
 use Rattle.hip_tool.specs.Input.{is_base, is_limit, region_size, IsValid}
 use Rattle.hip_tool.specs.Pieces.{spelled}
 use Rattle.hip_tool.specs.OneStore.{is_one_store}

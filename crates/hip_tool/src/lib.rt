@@ -22,10 +22,3 @@ pub use laws::{headers_are_valid, repairs_are_one, repairs_exclude_refusals};
 pub use misfit::MisfitKind;
 pub use status::{FileRole, ProgramRefusal, Status, TrapKind};
 pub use words::{Order, WordsRefusal, read_words};
-
-#[cfg(test)]
-mod soundness;
-#[cfg(test)]
-mod tests;
-#[cfg(test)]
-mod written;

@@ -18,6 +18,3 @@ pub use row::{Name, Row};
 pub use structural::Structural;
 pub use text::Text;
 pub use ty::{Ty, copy_ty, same_ty};
-
-#[cfg(test)]
-mod tests;

@@ -12,7 +12,7 @@ use Rattle.hip_ir.specs.declared.program.GlobalVar.{GlobalVar}
 use Rattle.hip_ir.specs.declared.program.Program.{Program}
 use Rattle.hip_ir.specs.Reading.{IsSpelled}
 use Rattle.hip_ir.specs.Spelling.{spelled_align, spelled_type, spelled_const, spelled_global}
-use Rattle.hip_ir.specs.SpellingExact.{spelled_exact}
+use Rattle.hip_ir.specs.Laws.SpellingExact.{spelled_exact}
 use Rattle.hip_globals.specs.Addresses.{AllFit, TypesFitIn, same, global_align, global_start, start_of, end_of}
 
 -- ---- alignments divide a page

@@ -1,6 +1,6 @@
 use Rattle.std.proofs.Common.{◌∙◌}
-use Rattle.hip_ir.specs.SpellingExact.{spelled_exact}
-use Rattle.hip_ir.specs.TextSpelling.{reads_spelled}
+use Rattle.hip_ir.specs.Laws.SpellingExact.{spelled_exact}
+use Rattle.hip_ir.specs.Laws.TextSpelling.{reads_spelled}
 use Rattle.hip_ir.proofs.spelling.spelled.Goals as goal
 
 pub returns-clause-read_back : goal.returns-clause-read_back

@@ -1,6 +1,6 @@
 use Rattle.std.proofs.Common.{sym, ◌∙◌, List, ℕ, codes, arith}
 use Rattle.std.proofs.lemmas.Result.{err_from_is_err_and}
-use Rattle.hip_rules.specs.Loops.{leaders_start, leader_goes_on, leader_ends_at, leaders_end}
+use Rattle.hip_rules.specs.Laws.Loops.{leaders_start, leader_goes_on, leader_ends_at, leaders_end}
 use Rattle.hip_ir.specs.declared.block.Phi.{Phi}
 use Rattle.hip_ir.specs.declared.fault.Fault.{Fault}
 use Rattle.hip_ir.specs.Words.{is_local, is_word}

@@ -1,0 +1,4 @@
+-- Laws of the definitions.
+pub mod PlanLaws
+pub mod SiteOrder
+pub mod Unchanged

@@ -1,0 +1,50 @@
+//! Laws of the order of a run: of the parts in a cache line, of flushes and fences, and of calls and the frames that they make.
+
+ghost use Rattle.hip_ir.specs.declared.program.Program.{Program};
+ghost use Rattle.hip_runs.specs.After.{lines_after};
+ghost use Rattle.hip_runs.specs.Frames.{Moves};
+ghost use Rattle.hip_runs.specs.Order.{HasCalls, HasOrder, is_before, last_fence};
+ghost use Rattle.hip_runs.specs.Parts.{PartOf};
+ghost use Rattle.hip_runs.specs.Since.{top_site};
+ghost use Rattle.hip_runs.specs.Sites.{HasSites};
+ghost use Rattle.hip_runs.specs.State.{StorePart, levels_of};
+ghost use Rattle.hip_runs.specs.Step.{event, run};
+ghost use Rattle.hip_runs.specs.declared.input.Input.{Input};
+ghost use Rattle.std.specs.Prelude.{◌≡◌, ℕ, suc};
+
+/// In each line of a run the parts lie in the order of their stores' steps, each covers bytes of its line alone, and it is
+/// flushed exactly where it has a first flush.
+pub fn lines_keep_their_order()
+    ensures { (P : Program) → (I : Input) → (n : ℕ) → HasOrder (run P I n) }
+{}
+
+/// A part was met by a fence exactly where its store came before the last fence.
+pub fn the_last_fence_tells()
+    ensures { (P : Program) → (I : Input) → (n : ℕ) → (part : StorePart) → PartOf (run P I n).lines part →
+        part.fenced ≡ is_before part.step (last_fence P I n) }
+{}
+
+/// A step leaves the frames below the top one, or below the one that it returns to, as they were: the top frame stays, a frame
+/// comes upon it, made by the call at which it stood, or it goes. A run that has ended stays as it is.
+pub fn a_step_moves_the_top()
+    ensures { (P : Program) → (I : Input) → (n : ℕ) → Moves P (run P I n) (run P I (suc n)) }
+{}
+
+/// The calls of a part were made one after another before its store, and those of them that stand are the outermost of those
+/// that stand.
+pub fn parts_share_the_outermost_calls()
+    ensures { (P : Program) → (I : Input) → (n : ℕ) → HasCalls (run P I n) }
+{}
+
+/// A part names a store as its site, and as that of its first flush a call that flushes, which takes no fence where the part is
+/// not durable; and the calls that stand, and those of each part, are calls of functions of the program.
+pub fn states_name_what_stands_there()
+    ensures { (P : Program) → (I : Input) → (n : ℕ) → HasSites P (run P I n) }
+{}
+
+/// The cache lines after a step follow from the step's event, the site and the calls of the top frame, and the counts.
+pub fn events_tell_the_next_lines()
+    ensures { (P : Program) → (I : Input) → (n : ℕ) →
+        (run P I (suc n)).lines ≡ lines_after I (event P I (run P I n)) (run P I n).counts
+        (top_site (run P I n).frames) (levels_of (run P I n).frames) (run P I n).lines }
+{}

@@ -1,0 +1,127 @@
+//! What a sound program gives: its functions, its addresses and its initial bytes.
+
+ghost use Rattle.std.specs.Prelude.{◌≡◌, length};
+
+use hip_ir::same;
+use hip_parse::parse;
+use hip_typing::{Checked, check};
+use std::alloc::Global;
+use std::process::Abort;
+use std::test::Fail;
+
+/// Where the region begins.
+const BASE: u64 = 0x1_0000_0000;
+
+/// A sound program: volatile and persistent globals in turn, and a block that no path reaches.
+const SOUND: &str = "@v = global i8 7
+@x = global i8 0, section \".pm\"
+@w = global i64 9
+@y = global i64 0, section \".pm\"
+@z = global i32 0, section \".pm\", align 256
+declare i64 @read_i64()
+define i32 @f(i1 %n) {
+entry:
+  br i1 %n, label %a, label %b
+unreached:
+  %q = add i32 %s, 1
+  br label %b
+a:
+  br label %b
+b:
+  %p = phi i32 [ 1, %a ], [ 0, %entry ], [ %q, %unreached ]
+  %s = add i32 %p, 1
+  ret i32 %s
+}
+define i32 @main() {
+entry:
+  %r = call i32 @f(i1 true)
+  ret i32 %r
+}
+";
+
+/// The program of a text that is sound.
+fn checked(alloc: Global, text: &str) -> Result<Checked, Fail> {
+    let Ok(program) = parse(alloc, text.as_bytes()) else {
+        return Err(Fail::new("not read"));
+    };
+    match check(alloc, program) {
+        Ok(checked) => Ok(checked),
+        Err(_refusal) => Err(Fail::new("refused")),
+    }
+}
+
+#[test]
+fn sound_program(rt: HostRuntime) -> Result<(), Fail> {
+    let checked = checked(rt.alloc(), SOUND)?;
+    assert_eq!(rt; checked.function_number(b"f"), Some(0));
+    assert_eq!(rt; checked.function_number(b"main"), Some(1));
+    assert_eq!(rt; checked.function_number(b"read_i64"), None);
+    assert_eq!(rt; checked.function_number(b"v"), None);
+    assert_eq!(rt; checked.region_size(), 320);
+    let Ok(program) = parse(rt.alloc(), SOUND.as_bytes()) else {
+        return Err(Fail::new("not read"));
+    };
+    assert!(rt; same(checked.program(), &program));
+    Ok(())
+}
+
+/// Asserts where the first globals lie.
+fn assert_addresses(rt: &impl Abort, checked: &Checked, addresses: &[u64]) {
+    for (number, address) in addresses.iter().enumerate() {
+        assert!(rt; number < checked.program().globals.len());
+        assert_eq!(rt; checked.address(BASE, number), *address, "global {number}");
+    }
+}
+
+#[test]
+fn addresses_of_globals(rt: HostRuntime) -> Result<(), Fail> {
+    let checked = checked(rt.alloc(), SOUND)?;
+    let addresses = [0x1_0000, BASE, 0x1_0008, BASE + 8, BASE + 256];
+    assert_addresses(&rt, &checked, addresses.as_slice());
+    Ok(())
+}
+
+/// Two volatile globals with numbers and an address in them.
+const VOLATILE: &str = "@a = global { i8, i16 } { i8 1, i16 513 }
+@b = global ptr @a
+define i32 @main() {
+entry:
+  ret i32 0
+}
+";
+
+/// The same with two persistent globals between them.
+const PERSISTENT: &str = "@a = global { i8, i16 } { i8 1, i16 513 }
+@p = global [2 x i16] [i16 -1, i16 2], section \".pm\"
+@b = global ptr @a
+@q = global ptr getelementptr ({ i8, i32 }, ptr @p, i64 1, i32 1), section \".pm\"
+define i32 @main() {
+entry:
+  ret i32 0
+}
+";
+
+const VOLATILE_BYTES: [u8; 16] = [1, 0, 1, 2, 0, 0, 0, 0, 0, 0, 1, 0, 0, 0, 0, 0];
+
+#[test]
+fn initial_bytes(rt: HostRuntime) -> Result<(), Fail> {
+    let checked = checked(rt.alloc(), VOLATILE)?;
+    let volatile = checked.volatile_bytes(rt.alloc(), BASE)?;
+    assert_eq!(rt; volatile.as_slice(), VOLATILE_BYTES.as_slice());
+    assert_addresses(&rt, &checked, [65_536, 65_544].as_slice());
+    Ok(())
+}
+
+#[test]
+fn initial_bytes_of_a_region(rt: HostRuntime) -> Result<(), Fail> {
+    let checked = checked(rt.alloc(), PERSISTENT)?;
+    let volatile = checked.volatile_bytes(rt.alloc(), BASE)?;
+    assert_eq!(rt; volatile.as_slice(), VOLATILE_BYTES.as_slice());
+    let region = checked.region_bytes(rt.alloc(), BASE)?;
+    assert_eq!(rt; region.len(), 64);
+    let first = [255, 255, 2, 0, 0, 0, 0, 0, 12, 0, 0, 0, 1, 0, 0, 0];
+    assert!(rt; region.as_slice().starts_with(first.as_slice()));
+    let others = region.as_slice().iter().filter(|byte| **byte != 0).count();
+    assert_eq!(rt; others, 5);
+    Ok(())
+}

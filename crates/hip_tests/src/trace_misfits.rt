@@ -1,0 +1,91 @@
+//! The first entry of a trace that is none of the run.
+
+use crate::commands::{assert_outcome, repair};
+use crate::programs::ONE_STORE;
+use std::alloc::Global;
+use std::process::Abort;
+use std::test::Fail;
+
+/// A trace that is none of the run of the program of one store, with the misfit.
+struct Misfit {
+    trace: &'static str,
+    misfit: &'static str,
+}
+
+/// Asserts what `repair` of the program of one store answers to each trace.
+fn assert_misfits(rt: &impl Abort, alloc: Global, cases: &[Misfit]) -> Result<(), Fail> {
+    for case in cases {
+        let outcome = repair(alloc, ONE_STORE, case.trace)?;
+        let notes = format!(in alloc; "hippo: trace entry {}\n", case.misfit)?;
+        assert_outcome(rt, &outcome, 6, "", notes.as_str(), case.trace);
+    }
+    Ok(())
+}
+
+const SHORT_TRACES: &[Misfit] = &[
+    Misfit {
+        trace: "",
+        misfit: "1: early",
+    },
+    Misfit {
+        trace: "START;5",
+        misfit: "2: early",
+    },
+    Misfit {
+        trace: "START;1000000000|REGISTER;0x100000000;0x40|STORE;0x100000000;0x5;0x8",
+        misfit: "4: early",
+    },
+];
+
+#[test]
+fn empty_and_short_traces(rt: HostRuntime) -> Result<(), Fail> {
+    assert_misfits(&rt, rt.alloc(), SHORT_TRACES)
+}
+
+const OTHER_RUNS: &[Misfit] = &[
+    Misfit {
+        trace: "START;1000000000|REGISTER;0x100000000;0x40|STORE;0x100000000;0x6;0x8|FENCE|STOP;0",
+        misfit: "3: differs",
+    },
+    Misfit {
+        trace: "START;1000000000|REGISTER;0x100000000;0x40|STORE;0x100000000;0x6;0x8|STOP;1",
+        misfit: "3: differs",
+    },
+    Misfit {
+        trace: "START;1000000000|REGISTER;0x100000000;0x40|STORE;0x100000000;0x5;0x8|STOP;0|STOP;0",
+        misfit: "5: extra",
+    },
+    Misfit {
+        trace: "START;1000000000|REGISTER;0x100000000;0x40|STORE;0x100000000;0x5;0x8|STOP;0||",
+        misfit: "5: malformed",
+    },
+    Misfit {
+        trace: "START;1000000000|REGISTER;0x100000000;0x40|STORE;5|STOP;0",
+        misfit: "3: malformed",
+    },
+    Misfit {
+        trace: "START;1|REGISTER;0x100000000;0x40|STORE;0x100000000;0x5;0x8|STOP;0",
+        misfit: "4: differs",
+    },
+];
+
+#[test]
+fn misfit_kinds(rt: HostRuntime) -> Result<(), Fail> {
+    assert_misfits(&rt, rt.alloc(), OTHER_RUNS)
+}
+
+const BAD_HEADERS: &[Misfit] = &[
+    Misfit {
+        trace: "START;1000000000|REGISTER;0x100000001;0x40|STORE;0x100000000;0x5;0x8|STOP;0",
+        misfit: "2: differs",
+    },
+    Misfit {
+        trace: "START;1099511627777",
+        misfit: "1: differs",
+    },
+];
+
+#[test]
+fn header_rules(rt: HostRuntime) -> Result<(), Fail> {
+    assert_misfits(&rt, rt.alloc(), BAD_HEADERS)
+}

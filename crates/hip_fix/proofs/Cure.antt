@@ -12,7 +12,7 @@ use Rattle.hip_runs.specs.declared.report.Report.{Report}
 use Rattle.hip_runs.specs.Crash.{covers}
 use Rattle.hip_runs.specs.History.{HasHistory}
 use Rattle.hip_runs.specs.Parts.{In, PartOf}
-use Rattle.hip_runs.specs.PartLaws.{in-append, append-left, append-right}
+use Rattle.hip_runs.specs.Laws.PartLaws.{in-append, append-left, append-right}
 use Rattle.hip_runs.specs.Reports.{LoosePart, Range, shows, is_last, loose_from, loose_in, loose_parts, all_flushed, latest_flush, later_flush, is_open, closed_count, report_by, report_of, check_reports}
 use Rattle.hip_runs.specs.State.{Level, Flush, StorePart, State, levels_of}
 use Rattle.hip_fix.specs.declared.plan.Plan.{Plan}

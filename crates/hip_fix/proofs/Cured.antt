@@ -11,7 +11,7 @@ use Rattle.hip_runs.specs.declared.report.Findings.{Findings}
 use Rattle.hip_runs.specs.declared.report.Report.{Report}
 use Rattle.hip_runs.specs.Marks.{IsFound}
 use Rattle.hip_runs.specs.Parts.{In}
-use Rattle.hip_runs.specs.PartLaws.{append-left, append-right}
+use Rattle.hip_runs.specs.Laws.PartLaws.{append-left, append-right}
 use Rattle.hip_runs.specs.Reports.{Range, checked_by, next_check, report_of, check_reports, reports}
 use Rattle.hip_runs.specs.State.{Level, World, State, levels_of}
 use Rattle.hip_runs.specs.Step.{event, step, on_ending, run, has_ended}
@@ -26,7 +26,7 @@ use Rattle.hip_fix.proofs.Ahead.{Ahead}
 use Rattle.hip_fix.proofs.Cure.{none_loose}
 use Rattle.hip_fix.proofs.Events.{Checks, checks}
 use Rattle.hip_fix.proofs.Facts.{Lines}
-use Rattle.hip_runs.specs.HistoryLaws.{has_history}
+use Rattle.hip_runs.specs.Laws.HistoryLaws.{has_history}
 use Rattle.hip_fix.proofs.KeptAlong.{Held, held}
 use Rattle.hip_fix.proofs.Lookup.{sound_callable}
 use Rattle.hip_fix.proofs.Pairs.{Related, related}

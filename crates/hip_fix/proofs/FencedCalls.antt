@@ -14,7 +14,7 @@ use Rattle.hip_runs.specs.declared.input.Input.{Input}
 use Rattle.hip_runs.specs.Actions.{Flushes, Fences, instr_action, call_action, is_turn, is_flush_or_fence, deed_of}
 use Rattle.hip_runs.specs.Operands.{values_of}
 use Rattle.hip_runs.specs.Parts.{In, PartOf}
-use Rattle.hip_runs.specs.PartLaws.{part-fenced}
+use Rattle.hip_runs.specs.Laws.PartLaws.{part-fenced}
 use Rattle.hip_runs.specs.Persistence.{fence_line, fenced_lines}
 use Rattle.hip_runs.specs.Places.{body_at, end_at, code_at}
 use Rattle.hip_runs.specs.State.{Registers, Level, Flush, StorePart, Frame, World, Counts, State, site_of}

@@ -1,6 +1,6 @@
 -- What one step of a program does to the frames and to the parts of stores.
 use Rattle.std.proofs.Common.{◌≡◌, ◌⊎◌, inl, inr, ℕ, suc, ◌-◌, ◌%◌, Bool, true, false, cond, nat_lt, nat_eq, List, [], ◌∷◌, length, Option, Some, None, slice_get, refl, sym, ap, ◌∙◌, subst}
-use Rattle.hip_types.specs.Numbers.{signed}
+use Rattle.hip_types.specs.Numbers.{bits, signed}
 use Rattle.hip_types.specs.declared.number.Scalar.{Scalar}
 use Rattle.hip_types.specs.declared.number.Width.TheVariants.{W32}
 use Rattle.hip_ir.specs.declared.instr.Arg.{Arg}
@@ -19,12 +19,12 @@ use Rattle.hip_runs.specs.declared.event.TrapKind.TheVariants as traps
 use Rattle.hip_runs.specs.declared.input.Input.{Input}
 use Rattle.hip_runs.specs.Actions.{Action, Traps, Assigns, Allocates, Stores, Flushes, Persists, Fences, Asserts, Prints, Reads, Calls, Jumps, Returns, Deed, in_region, are_valid, accessed, entered, numbered_call, call_action, instr_action, deed_of}
 use Rattle.hip_runs.specs.Parts.{PartOf}
-use Rattle.hip_runs.specs.PartLaws.{IsFlushedFrom, part-fenced, part-flushed, part-stored}
+use Rattle.hip_runs.specs.Laws.PartLaws.{IsFlushedFrom, part-fenced, part-flushed, part-stored}
 use Rattle.hip_runs.specs.Persistence.{part_of_store, stored_lines, flushed_lines, fenced_lines}
 use Rattle.hip_runs.specs.Places.{body_at, code_at, end_at}
 use Rattle.hip_runs.specs.State.{Flush, StorePart, Frame, World, Counts, State, levels_of, site_of}
 use Rattle.hip_runs.specs.Step.{stop, with_turn, with_register, next, leave, perform, is_cut, carry_out, deed_at, on_frames, on_ending, step, event_at, counted}
-use Rattle.hip_fix.proofs.Blocks.{get_drop}
+use Rattle.hip_invariants.specs.Laws.Places.{get_drop}
 use Rattle.hip_fix.proofs.Facts.{Lines}
 use Rattle.hip_fix.proofs.Sim.{IsPlain, plain_calculated, plain_allocated, plain_extern, plain_load, is_end, end_is}
 
@@ -190,7 +190,7 @@ module _ (Q : Program) (I : Input) (f : Frame) (fs : List Frame) (ls : Lines) (c
 
   leave_out : (v : ℕ) (w : World) (e : Event) (gs : List Frame) → fs ≡ gs → Out Q f fs ls c.steps (leave v w f gs ls (counted e c))
   unfolding leave
-  leave_out v w e [] q = out _ (subst (λ (hs : List Frame). Moves Q f fs (f ∷ hs) (Some (Stop (signed W32 v)))) q ends) refl (old_same ls)
+  leave_out v w e [] q = out _ (subst (λ (hs : List Frame). Moves Q f fs (f ∷ hs) (Some (Stop (signed W32 (bits W32 v).value)))) q ends) refl (old_same ls)
   leave_out v w e (g ∷ gs) q = out _ (returns g gs f.dest v q) refl (old_same ls)
 
   perform_out : (w : World) (e : Event) (x : Action) → Fits Q f x → Out Q f fs ls c.steps (perform I w f fs ls c (counted e c) x)

@@ -6,7 +6,7 @@ use Rattle.hip_ir.specs.declared.instr.Instr.TheVariants.{Binary, Compare, Selec
 use Rattle.hip_ir.specs.declared.program.Program.{Program}
 use Rattle.hip_runs.specs.declared.event.Ending.{Ending}
 use Rattle.hip_runs.specs.declared.input.Input.{Input}
-use Rattle.hip_runs.specs.HistoryLaws.{has_history}
+use Rattle.hip_runs.specs.Laws.HistoryLaws.{has_history}
 use Rattle.hip_runs.specs.Parts.{PartOf}
 use Rattle.hip_runs.specs.Places.{body_at}
 use Rattle.hip_runs.specs.State.{StorePart, Frame, State}

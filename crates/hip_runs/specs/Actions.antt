@@ -6,13 +6,11 @@ use Rattle.hip_types.specs.Layout.{shape}
 use Rattle.hip_types.specs.Numbers.{bits, modulus, signed, wrapped}
 use Rattle.hip_types.specs.declared.number.Bits.{Bits}
 use Rattle.hip_types.specs.declared.number.CastOp.{CastOp}
-use Rattle.hip_types.specs.declared.number.CastOp.TheVariants as casts
 use Rattle.hip_types.specs.declared.number.Scalar.{Scalar}
 use Rattle.hip_types.specs.declared.number.Width.TheVariants.{W64}
 use Rattle.hip_ir.specs.declared.block.Case.{Case}
 use Rattle.hip_ir.specs.declared.block.Edge.{Edge}
 use Rattle.hip_ir.specs.declared.block.End.{End}
-use Rattle.hip_ir.specs.declared.block.End.TheVariants as ends
 use Rattle.hip_ir.specs.declared.block.Phi.{Phi}
 use Rattle.hip_ir.specs.declared.instr.Arg.{Arg}
 use Rattle.hip_ir.specs.declared.instr.Instr.{Instr}
@@ -26,20 +24,22 @@ use Rattle.hip_num.specs.Arithmetic.{binary_of}
 use Rattle.hip_num.specs.Casts.{widened}
 use Rattle.hip_num.specs.Comparisons.{holds}
 use Rattle.hip_num.specs.declared.arithmetic.NumTrap.{NumTrap}
-use Rattle.hip_num.specs.declared.arithmetic.NumTrap.TheVariants as num_traps
 use Rattle.hip_globals.specs.Addresses.{volatile_end}
 use Rattle.hip_externs.specs.Externs.{call_of}
 use Rattle.hip_globals.specs.Initial.{volatile_bytes}
 use Rattle.hip_externs.specs.declared.call.ExternCall.{ExternCall}
-use Rattle.hip_externs.specs.declared.call.ExternCall.TheVariants as calls
 use Rattle.hip_typing.specs.Numbering.{function_number}
 use Rattle.hip_globals.specs.Values.{element_address}
 use Rattle.hip_runs.specs.declared.event.TrapKind.{TrapKind}
-use Rattle.hip_runs.specs.declared.event.TrapKind.TheVariants as traps
 use Rattle.hip_runs.specs.declared.input.Input.{Input}
 use Rattle.hip_runs.specs.State.{Registers, Frame, World}
 use Rattle.hip_runs.specs.Operands.{value_of, values_of, bound, scalar_size, width_of, access_align}
 use Rattle.hip_runs.specs.Places.{blocks_of, block_at, phis_of, label_of, block_number}
+use Rattle.hip_types.specs.declared.number.CastOp.TheVariants as casts
+use Rattle.hip_ir.specs.declared.block.End.TheVariants as ends
+use Rattle.hip_num.specs.declared.arithmetic.NumTrap.TheVariants as num_traps
+use Rattle.hip_externs.specs.declared.call.ExternCall.TheVariants as calls
+use Rattle.hip_runs.specs.declared.event.TrapKind.TheVariants as traps
 
 pub data Action : Type 0 where
   Traps : TrapKind → Action
@@ -67,7 +67,7 @@ pub data Action : Type 0 where
 
 -- ---- addresses that are valid
 
-abbrev is_within : ℕ → ℕ → ℕ → ℕ → Bool
+abbrev pub is_within : ℕ → ℕ → ℕ → ℕ → Bool
 is_within from to a n = nat_le from a && nat_le (a + n) to
 
 -- whether n bytes from address a on lie in the region
@@ -89,7 +89,7 @@ accessed P I w a n align go = cond (nat_eq (a % align) 0) (cond (are_valid P I w
 
 -- ---- values
 
-abbrev trap_of : NumTrap → TrapKind
+abbrev pub trap_of : NumTrap → TrapKind
 trap_of num_traps.DivZero = traps.DivZero
 trap_of num_traps.DivOverflow = traps.DivOverflow
 trap_of num_traps.ShiftRange = traps.ShiftRange
@@ -99,12 +99,12 @@ calculated dest (Ok b) = Assigns (Some dest) b.value
 calculated dest (Err trap) = Traps (trap_of trap)
 
 -- 1 for what holds
-abbrev truth : Bool → ℕ
+abbrev pub truth : Bool → ℕ
 truth true = 1
 truth false = 0
 
 -- `zext` and `inttoptr` put zeros in front, `trunc` and `ptrtoint` take the number modulo 2^N, `sext` puts the sign in front.
-abbrev cast_value : CastOp → Scalar → Scalar → ℕ → ℕ
+abbrev pub cast_value : CastOp → Scalar → Scalar → ℕ → ℕ
 cast_value casts.Sext from to v = (widened (bits (width_of from) v) (width_of to) true).value
 cast_value casts.Zext from to v = v % modulus (width_of to)
 cast_value casts.Trunc from to v = v % modulus (width_of to)
@@ -112,14 +112,14 @@ cast_value casts.Ptrtoint from to v = v % modulus (width_of to)
 cast_value casts.Inttoptr from to v = v % modulus (width_of to)
 
 -- an index of an integer type, sign-extended to 64 bits
-abbrev index_value : Scalar → ℕ → ℕ
-index_value s v = wrapped W64 (signed (width_of s) v)
+abbrev pub index_value : Scalar → ℕ → ℕ
+index_value s v = wrapped W64 (signed (width_of s) (bits (width_of s) v).value)
 
-abbrev index_values : List GlobalVar → ℕ → Registers → List Arg → List ℕ
+abbrev pub index_values : List GlobalVar → ℕ → Registers → List Arg → List ℕ
 index_values globals base registers args = map (λ a. index_value a.ty (value_of globals base registers a.value)) args
 
 -- the value that bytes in memory give under a scalar type: an i1 is the lowest bit
-abbrev read_value : Scalar → List ℕ → ℕ
+abbrev pub read_value : Scalar → List ℕ → ℕ
 read_value s bytes = little_endian bytes % modulus (width_of s)
 
 -- ---- the stack
@@ -184,7 +184,7 @@ unfoldable pub instr_action : Program → Input → World → ℕ → Registers 
 instr_action P I w below rs (Binary dest op flags width a b) =
     calculated dest (binary_of op (bits width (value_of P.globals I.base rs a)) (bits width (value_of P.globals I.base rs b)))
 instr_action P I w below rs (Compare dest pred ty a b) =
-    Assigns (Some dest) (truth (holds pred (width_of ty) (value_of P.globals I.base rs a) (value_of P.globals I.base rs b)))
+    Assigns (Some dest) (truth (holds pred (width_of ty) (bits (width_of ty) (value_of P.globals I.base rs a)).value (bits (width_of ty) (value_of P.globals I.base rs b)).value))
 instr_action P I w below rs (Select dest test ty a b) =
     Assigns (Some dest) (cond (nat_eq (value_of P.globals I.base rs test) 1) (value_of P.globals I.base rs a) (value_of P.globals I.base rs b))
 instr_action P I w below rs (Cast dest op from a to) = Assigns (Some dest) (cast_value op from to (value_of P.globals I.base rs a))
@@ -202,7 +202,7 @@ instr_action P I w below rs (Call dest ret callee args) = call_action P I w belo
 -- ---- ends of blocks
 
 -- the operand that a phi has for control that comes from the block with a label
-abbrev edge_value : List GlobalVar → ℕ → Registers → List Edge → List ℕ → ℕ
+abbrev pub edge_value : List GlobalVar → ℕ → Registers → List Edge → List ℕ → ℕ
 edge_value globals base rs [] from = 0
 edge_value globals base rs (e ∷ es) from = cond (bytes_eq e.label from) (value_of globals base rs e.value) (edge_value globals base rs es from)
 
@@ -221,11 +221,11 @@ unfoldable pub jump : Program → Input → Frame → List ℕ → Action
 jump P I f label = jump_to P I f (block_number (blocks_of P f.function) label)
 
 -- the label of the case with the value, else the other one
-abbrev case_label : ℕ → List Case → List ℕ → List ℕ
+abbrev pub case_label : ℕ → List Case → List ℕ → List ℕ
 case_label v [] other = other
 case_label v (c ∷ cs) other = cond (nat_eq c.value.value v) c.label (case_label v cs other)
 
-abbrev returned : List GlobalVar → ℕ → Registers → Option Arg → ℕ
+abbrev pub returned : List GlobalVar → ℕ → Registers → Option Arg → ℕ
 returned globals base rs None = 0
 returned globals base rs (Some arg) = value_of globals base rs arg.value
 

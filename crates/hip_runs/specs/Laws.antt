@@ -1,12 +1,21 @@
 -- Laws of the definitions.
 pub mod CallLaws
+pub mod CrashLaws
+pub mod DurableLaws
+pub mod EndLaws
 pub mod Fits
 pub mod FoundLaws
+pub mod HistoryLaws
 pub mod ImageLaws
 pub mod LineOrder
 pub mod LooseBytes
 pub mod Members
 pub mod NextLaws
+pub mod OrderLaws
+pub mod PartLaws
 pub mod ReportLaws
+pub mod SinceLaws
 pub mod SiteLaws
+pub mod StepLaws
+pub mod StoreLaws
 pub mod TagLaws

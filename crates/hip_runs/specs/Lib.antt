@@ -12,16 +12,7 @@ pub mod Marks
 pub mod Scores
 pub mod Parts
 pub mod History
-pub mod PartLaws
-pub mod HistoryLaws
-pub mod Ends
-pub mod StepLaws
 pub mod Since
-pub mod CrashLaws
-pub mod DurableLaws
-pub mod SinceLaws
-pub mod OrderLaws
-pub mod StoreLaws
 pub mod Shown
 pub mod Sites
 pub mod Frames
@@ -30,4 +21,5 @@ pub mod Tags
 pub mod WellFormed
 pub mod Entry
 pub mod After
+pub mod Ends
 pub mod Laws

@@ -13,9 +13,7 @@ use Rattle.hip_ir.specs.declared.site.Site.{Site}
 use Rattle.hip_ir.specs.Sites.{same_site}
 use Rattle.hip_typing.specs.Numbering.{function_number}
 use Rattle.hip_runs.specs.declared.event.Event.{Event}
-use Rattle.hip_runs.specs.declared.event.Event.TheVariants as events
 use Rattle.hip_runs.specs.declared.event.Object.{Object}
-use Rattle.hip_runs.specs.declared.event.Object.TheVariants as objects
 use Rattle.hip_runs.specs.declared.input.Input.{Input}
 use Rattle.hip_runs.specs.declared.report.Findings.{Findings}
 use Rattle.hip_runs.specs.declared.report.Mark.{Mark}
@@ -25,10 +23,12 @@ use Rattle.hip_runs.specs.Operands.{value_of}
 use Rattle.hip_runs.specs.Places.{code_at}
 use Rattle.hip_runs.specs.Reports.{reports}
 use Rattle.hip_runs.specs.Step.{event, run, has_ended}
+use Rattle.hip_runs.specs.declared.event.Event.TheVariants as events
+use Rattle.hip_runs.specs.declared.event.Object.TheVariants as objects
 
 -- ---- pointer operands
 
-abbrev pointer_arg : Arg → List Operand
+abbrev pub pointer_arg : Arg → List Operand
 pointer_arg a = pointed_by a.ty a.value
   where
     pointed_by : Scalar → Operand → List Operand
@@ -53,15 +53,15 @@ same_mark a b = same_site a.site b.site && (nat_eq a.operand b.operand && same_o
 
 -- ---- the marks of a step
 
-abbrev mark_of : Site → ℕ → Option Object → List Mark
+abbrev pub mark_of : Site → ℕ → Option Object → List Mark
 mark_of site k None = []
 mark_of site k (Some object) = record { site = site; operand = k; object = object } ∷ []
 
-abbrev operand_marks : Program → Input → List Frame → Frame → ℕ → List Operand → List Mark
+abbrev pub operand_marks : Program → Input → List Frame → Frame → ℕ → List Operand → List Mark
 operand_marks P I fs f k [] = []
 operand_marks P I fs f k (o ∷ os) = mark_of (site_of f) k (object_at P I.base fs (value_of P.globals I.base f.registers o)) ++ operand_marks P I fs f (suc k) os
 
-abbrev code_marks : Program → Input → List Frame → Frame → List Instr → List Mark
+abbrev pub code_marks : Program → Input → List Frame → Frame → List Instr → List Mark
 code_marks P I fs f [] = []
 code_marks P I fs f (i ∷ rest) = operand_marks P I fs f 0 (pointer_operands P i)
 

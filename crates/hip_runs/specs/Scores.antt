@@ -33,15 +33,15 @@ worth_in hit site operand (m ∷ ms) sum =
 abbrev pub worth : Marks → Site → ℕ → ℤ
 worth marks site operand = worth_in marks.hit site operand marks.pointed (pos 0)
 
-abbrev greater : ℤ → Option ℤ → Option ℤ
+abbrev pub greater : ℤ → Option ℤ → Option ℤ
 greater a None = Some a
 greater a (Some b) = Some (cond (int_lt a b) b a)
 
-abbrev greatest_worth : Marks → Site → ℕ → List Operand → Option ℤ
+abbrev pub greatest_worth : Marks → Site → ℕ → List Operand → Option ℤ
 greatest_worth marks site k [] = None
 greatest_worth marks site k (o ∷ os) = greater (worth marks site k) (greatest_worth marks site (suc k) os)
 
-abbrev operands_at : Program → Option Instr → List Operand
+abbrev pub operands_at : Program → Option Instr → List Operand
 operands_at P None = []
 operands_at P (Some i) = pointer_operands P i
 

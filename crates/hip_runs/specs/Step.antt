@@ -1,7 +1,7 @@
 -- One step of a machine, its event, and a run.
 use Rattle.std.specs.Prelude.{ℕ, zero, suc, ◌+◌, ◌-◌, ◌*◌, ◌/◌, Bool, true, false, cond, not, ◌&&◌, nat_lt, List, [], ◌∷◌, ◌++◌, length, take, drop, Option, Some, None, is_some, ℤ, codes}
 use Rattle.std.specs.Fmt.{signed_decimal}
-use Rattle.hip_types.specs.Numbers.{signed, wrapped}
+use Rattle.hip_types.specs.Numbers.{bits, signed, wrapped}
 use Rattle.hip_types.specs.declared.number.Width.TheVariants.{W32, W64}
 use Rattle.hip_ir.specs.declared.program.Program.{Program}
 use Rattle.hip_lines.specs.Line.{Line, fresh_lines}
@@ -11,13 +11,13 @@ use Rattle.hip_typing.specs.Numbering.{function_number}
 use Rattle.hip_runs.specs.declared.event.Ending.{Ending}
 use Rattle.hip_runs.specs.declared.event.Ending.TheVariants.{Stop, Trap, Cut}
 use Rattle.hip_runs.specs.declared.event.Event.{Event}
-use Rattle.hip_runs.specs.declared.event.Event.TheVariants as events
 use Rattle.hip_runs.specs.declared.input.Input.{Input}
 use Rattle.hip_runs.specs.State.{Frame, StorePart, World, Counts, State, levels_of, site_of}
 use Rattle.hip_runs.specs.Operands.{assigned}
 use Rattle.hip_runs.specs.Places.{code_at, end_at}
 use Rattle.hip_runs.specs.Actions.{Action, Traps, Assigns, Allocates, Stores, Flushes, Persists, Fences, Asserts, Prints, Reads, Calls, Jumps, Returns, Deed, in_region, deed_of}
 use Rattle.hip_runs.specs.Persistence.{stored_lines, flushes_lines, flushed_lines, fenced_lines}
+use Rattle.hip_runs.specs.declared.event.Event.TheVariants as events
 
 abbrev pub state : World → List Frame → List (Line StorePart) → Counts → State
 state w fs ls counts = record { world = w; frames = fs; lines = ls; counts = counts }
@@ -45,7 +45,7 @@ event_of I fs (Persists a n) = cond (flushes_lines I a n) (events.Persist (first
 event_of I fs Fences = events.Fence
 event_of I fs (Asserts a n) = events.Assert a n
 event_of I fs (Prints z) = events.Print z
-event_of I fs (Returns v) = cond (is_bottom fs) (events.End (Stop (signed W32 v))) events.Quiet
+event_of I fs (Returns v) = cond (is_bottom fs) (events.End (Stop (signed W32 (bits W32 v).value))) events.Quiet
 event_of I fs _ = events.Quiet
 
 -- a step has an entry in the trace, unless nothing is seen of it but what it prints
@@ -92,7 +92,7 @@ with_left rest w = record w { left = rest }
 
 -- The return of a value: the frame goes, and the stack's mark is what it was at the call. The run ends with the bottom frame.
 unfoldable pub leave : ℕ → World → Frame → List Frame → List (Line StorePart) → Counts → State
-leave v w f [] ls after = stop (Stop (signed W32 v)) w (f ∷ []) ls after
+leave v w f [] ls after = stop (Stop (signed W32 (bits W32 v).value)) w (f ∷ []) ls after
 leave v w f (g ∷ fs) ls after = state (record w { mark = f.mark }) (with_register f.dest v g ∷ fs) ls after
 
 -- What an action does to a state; a trap changes nothing but the ending. The counts are those before the step and after it.
@@ -155,14 +155,14 @@ event P I s = event_on_ending P I s s.world.ending
 -- ---- runs
 
 -- the number of `main`; 0 where there is none, which never comes in a sound program
-abbrev numbered_main : Option ℕ → ℕ
+abbrev pub numbered_main : Option ℕ → ℕ
 numbered_main None = 0
 numbered_main (Some f) = f
 
 abbrev pub main_number : Program → ℕ
 main_number P = numbered_main (function_number P (codes "main"))
 
-abbrev some_byte : List ℕ → Bool
+abbrev pub some_byte : List ℕ → Bool
 some_byte [] = false
 some_byte (zero ∷ bs) = some_byte bs
 some_byte (suc b ∷ bs) = true

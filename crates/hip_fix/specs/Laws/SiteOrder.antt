@@ -11,7 +11,7 @@ use Rattle.hip_ir.specs.declared.program.Program.{Program}
 use Rattle.hip_ir.specs.declared.site.Site.{Site}
 use Rattle.hip_runs.specs.declared.report.Findings.{Findings}
 use Rattle.hip_runs.specs.Parts.{In}
-use Rattle.hip_runs.specs.PartLaws.{in-append, append-left, append-right}
+use Rattle.hip_runs.specs.Laws.PartLaws.{in-append, append-left, append-right}
 use Rattle.hip_fix.specs.Choice.{wants_flush, wants_fence, wants_hoist}
 use Rattle.hip_fix.specs.Suits.{site_before, is_ascending, IsStrictOrder}
 use Rattle.hip_fix.specs.Planned.{AreSites, IsAsked}

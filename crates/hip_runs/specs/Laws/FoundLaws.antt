@@ -16,7 +16,8 @@ use Rattle.hip_runs.specs.declared.event.Ending.{Ending}
 use Rattle.hip_runs.specs.declared.input.Input.{Input}
 use Rattle.hip_runs.specs.declared.report.Findings.{Findings}
 use Rattle.hip_runs.specs.declared.report.Report.{Report}
-use Rattle.hip_runs.specs.Ends.{Ends, runs_end}
+use Rattle.hip_runs.specs.Ends.{Ends}
+use Rattle.hip_runs.specs.Laws.EndLaws.{runs_end}
 use Rattle.hip_runs.specs.Reports.{checked_by, check_reports, reports}
 use Rattle.hip_runs.specs.State.{State}
 use Rattle.hip_runs.specs.Step.{event, event_on_ending, step, on_ending, run, has_ended}

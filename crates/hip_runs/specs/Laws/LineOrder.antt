@@ -9,13 +9,13 @@ use Rattle.hip_lines.specs.LineLaws.{byte-of_part, slice_get-change_range, order
 use Rattle.hip_lines.specs.LooseLaws.{get-append_left, get-append_end, get-below, get-of_map}
 use Rattle.hip_runs.specs.declared.input.Input.{Input}
 use Rattle.hip_runs.specs.Crash.{covers}
-use Rattle.hip_runs.specs.HistoryLaws.{has_history, line_of_fresh, lines_ordered}
+use Rattle.hip_runs.specs.Laws.HistoryLaws.{has_history, line_of_fresh, lines_ordered}
 use Rattle.hip_runs.specs.Order.{HasOrder, last_fence, is_before}
 use Rattle.hip_runs.specs.Persistence.{part_of_store, noted_flush, noted_fence, flush_line, fence_line, fenced_lines}
-use Rattle.hip_runs.specs.SinceLaws.{line_of_start, below, fence_told, told_by_fence}
+use Rattle.hip_runs.specs.Laws.SinceLaws.{line_of_start, below, fence_told, told_by_fence}
 use Rattle.hip_runs.specs.State.{Level, Flush, StorePart, Counts, site_of, levels_of}
 use Rattle.hip_runs.specs.Step.{run, step, event}
-use Rattle.hip_runs.specs.StepLaws.{Cases, met_lines, step-cases, counted-steps}
+use Rattle.hip_runs.specs.Laws.StepLaws.{Cases, met_lines, step-cases, counted-steps}
 use Rattle.hip_runs.specs.Laws.LooseBytes.{AreInLines, true_over, lt_true, true_lt}
 use Rattle.hip_runs.specs.Parts.{PartOf}
 use Rattle.hip_runs.specs.Since.{fences, FencedSince}

@@ -11,7 +11,7 @@ use Rattle.hip_lines.specs.declared.part.Part.{Part}
 use Rattle.hip_lines.specs.declared.part.LooseByte.{LooseByte}
 use Rattle.hip_runs.specs.Crash.{covers}
 use Rattle.hip_runs.specs.Parts.{In, PartOf}
-use Rattle.hip_runs.specs.PartLaws.{in-append, append-left, append-right}
+use Rattle.hip_runs.specs.Laws.PartLaws.{in-append, append-left, append-right}
 use Rattle.hip_runs.specs.Reports.{LoosePart, shows, is_last, loose_from, loose_in, loose_parts}
 use Rattle.hip_runs.specs.State.{StorePart}
 use Rattle.hip_runs.specs.Laws.Members.{or_right, none_at, at_none, of_flat, to_flat}

@@ -2,7 +2,7 @@
 use Rattle.std.proofs.Common.{◌≡◌, ◌⊎◌, inl, inr, ℕ, zero, suc, Bool, true, false, ◌||◌, List, [], ◌∷◌, Some, slice_get, refl, subst}
 use Rattle.std.specs.List.{flat_map, list_any}
 use Rattle.hip_runs.specs.Parts.{In}
-use Rattle.hip_runs.specs.PartLaws.{in-append, append-left, append-right}
+use Rattle.hip_runs.specs.Laws.PartLaws.{in-append, append-left, append-right}
 
 pub or_right : (a b : Bool) → b ≡ true → a || b ≡ true
 or_right true b h = refl

@@ -15,7 +15,7 @@ use Rattle.hip_runs.specs.Persistence.{part_of_store, flush_line, flushes_lines,
 use Rattle.hip_runs.specs.Since.{top_site}
 use Rattle.hip_runs.specs.State.{Flush, StorePart, Frame, World, Counts, State, levels_of, site_of}
 use Rattle.hip_runs.specs.Step.{first_line, lines_size, stop, with_turn, leave, perform, is_cut, has_entry, counted, header_entries, carry_out, deed_at, on_frames, on_ending, step, event_on_frames, event_on_ending, event, run}
-use Rattle.hip_runs.specs.StepLaws.{Cases, IsTop, is_plain, flush_here, met_lines, step-cases}
+use Rattle.hip_runs.specs.Laws.StepLaws.{Cases, IsTop, is_plain, flush_here, met_lines, step-cases}
 use Rattle.hip_runs.specs.declared.event.Event.TheVariants as events
 
 -- ---- the lines that an event names are those that a range meets

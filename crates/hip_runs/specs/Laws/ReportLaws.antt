@@ -8,9 +8,9 @@ use Rattle.hip_lines.specs.LooseLaws.{get-of_map}
 use Rattle.hip_runs.specs.declared.input.Input.{Input}
 use Rattle.hip_runs.specs.declared.report.Report.{Report}
 use Rattle.hip_runs.specs.History.{HasHistory}
-use Rattle.hip_runs.specs.HistoryLaws.{has_history}
+use Rattle.hip_runs.specs.Laws.HistoryLaws.{has_history}
 use Rattle.hip_runs.specs.Parts.{In, PartOf}
-use Rattle.hip_runs.specs.PartLaws.{in-append}
+use Rattle.hip_runs.specs.Laws.PartLaws.{in-append}
 use Rattle.hip_runs.specs.Reports.{LoosePart, Range, loose_parts, later_flush, latest_flush, kind_of, all_flushed, flush_site_of, is_open, closed_count, report_by, report_of, next_check, check_reports, reports}
 use Rattle.hip_runs.specs.Sites.{is_store, is_flush_call, is_defined_call, HasSites}
 use Rattle.hip_runs.specs.State.{Level, Flush, State, levels_of}

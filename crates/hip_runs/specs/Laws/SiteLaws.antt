@@ -6,14 +6,14 @@ use Rattle.hip_ir.specs.declared.program.Program.{Program}
 use Rattle.hip_lines.specs.Line.{Line}
 use Rattle.hip_runs.specs.declared.event.Event.{Event}
 use Rattle.hip_runs.specs.declared.input.Input.{Input}
-use Rattle.hip_runs.specs.OrderLaws.{told_durable}
+use Rattle.hip_runs.specs.Laws.OrderLaws.{told_durable}
 use Rattle.hip_runs.specs.Parts.{In, PartOf}
 use Rattle.hip_runs.specs.Since.{fences, flushes, IsFirst, IsFirstFlush, IsPartIn, IsDurableIn}
-use Rattle.hip_runs.specs.SinceLaws.{flush_told}
+use Rattle.hip_runs.specs.Laws.SinceLaws.{flush_told}
 use Rattle.hip_runs.specs.Sites.{is_flush_call, is_persist_call, HasSites}
 use Rattle.hip_runs.specs.State.{Flush, StorePart}
 use Rattle.hip_runs.specs.Step.{event, run}
-use Rattle.hip_runs.specs.StoreLaws.{part-of_store}
+use Rattle.hip_runs.specs.Laws.StoreLaws.{part-of_store}
 use Rattle.hip_runs.specs.Laws.CallLaws.{calls_defined}
 use Rattle.hip_runs.specs.Laws.Fits.{Told, site_told}
 use Rattle.hip_runs.specs.Laws.LineOrder.{lines_well}

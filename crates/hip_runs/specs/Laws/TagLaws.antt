@@ -4,7 +4,7 @@ use Rattle.std.specs.List.{flat_map, range_with_len}
 use Rattle.hip_ir.specs.declared.program.Program.{Program}
 use Rattle.hip_lines.specs.declared.part.LooseByte.{LooseByte}
 use Rattle.hip_runs.specs.declared.input.Input.{Input}
-use Rattle.hip_runs.specs.HistoryLaws.{has_history}
+use Rattle.hip_runs.specs.Laws.HistoryLaws.{has_history}
 use Rattle.hip_runs.specs.Parts.{In}
 use Rattle.hip_runs.specs.Reports.{LoosePart, Range, loose_parts, all_flushed, report_of, check_reports}
 use Rattle.hip_runs.specs.State.{levels_of}

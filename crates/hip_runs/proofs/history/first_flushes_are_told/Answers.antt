@@ -1,4 +1,4 @@
-use Rattle.hip_runs.specs.SinceLaws.{flush_told, one_first}
+use Rattle.hip_runs.specs.Laws.SinceLaws.{flush_told, one_first}
 use Rattle.hip_runs.proofs.history.first_flushes_are_told.Goals as goal
 
 pub returns : goal.returns

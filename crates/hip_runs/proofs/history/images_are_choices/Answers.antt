@@ -1,4 +1,4 @@
-use Rattle.hip_runs.specs.CrashLaws.{choice-image, image-choice}
+use Rattle.hip_runs.specs.Laws.CrashLaws.{choice-image, image-choice}
 use Rattle.hip_runs.proofs.history.images_are_choices.Goals as goal
 
 pub returns : goal.returns

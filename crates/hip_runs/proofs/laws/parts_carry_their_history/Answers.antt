@@ -1,5 +1,5 @@
 use Rattle.hip_runs.proofs.laws.parts_carry_their_history.Goals as goal
-use Rattle.hip_runs.specs.HistoryLaws.{has_history}
+use Rattle.hip_runs.specs.Laws.HistoryLaws.{has_history}
 
 -- src/laws.rt:18:1
 pub returns : goal.returns

@@ -1,0 +1,160 @@
+-- The parts of the cache lines are those of the stores that the run made.
+use Rattle.std.proofs.Common.{◌≡◌, ◌⊎◌, inl, inr, ℕ, zero, suc, ◌+◌, ◌-◌, ◌/◌, ◌<◌, ◌≤◌, Bool, true, false, cond, ◌&&◌, nat_lt, nat_le, List, [], ◌∷◌, length, take, drop, Some, slice_get, slice_index, refl, sym, ap, ◌∙◌, subst, arith}
+use Rattle.std.proofs.lemmas.Bool.Decides.{nat_tests}
+use Rattle.std.proofs.lemmas.List.{length-take-le, length-drop}
+use Rattle.hip_ir.specs.declared.program.Program.{Program}
+use Rattle.hip_mem.specs.Bytes.{little_endian}
+use Rattle.hip_lines.specs.Line.{Line, start_in, end_in, has_bytes}
+use Rattle.hip_lines.specs.LineLaws.{byte-of_part}
+use Rattle.hip_runs.specs.declared.event.Event.{Event}
+use Rattle.hip_runs.specs.declared.input.Input.{Input}
+use Rattle.hip_runs.specs.Actions.{in_region}
+use Rattle.hip_runs.specs.Parts.{PartOf}
+use Rattle.hip_runs.specs.Persistence.{part_of_store, noted_flush, noted_fence}
+use Rattle.hip_runs.specs.Since.{top_site, IsOfStore}
+use Rattle.hip_runs.specs.Laws.SinceLaws.{InLine, line_of_part, of_fenced, of_flushed, of_stored, line_of_start, no_part}
+use Rattle.hip_runs.specs.State.{Flush, StorePart, Frame, levels_of, site_of}
+use Rattle.hip_runs.specs.Step.{event, run}
+use Rattle.hip_runs.specs.Laws.StepLaws.{Cases, IsTop, step-cases, counted-steps}
+use Rattle.hip_runs.specs.declared.event.Event.TheVariants as events
+
+-- ---- the bytes of a part
+
+index_take : (n : ℕ) (xs : List ℕ) (i : ℕ) → i < n → slice_index (take n xs) i ≡ slice_index xs i
+index_take zero xs i h = absurd (omega arith)
+index_take (suc n) [] i h = refl
+index_take (suc n) (x ∷ xs) zero h = refl
+index_take (suc n) (x ∷ xs) (suc i) h = index_take n xs i (omega arith)
+
+index_drop : (n : ℕ) (xs : List ℕ) (i : ℕ) → slice_index (drop n xs) i ≡ slice_index xs (n + i)
+index_drop zero xs i = let e : i ≡ 0 + i = omega arith in ap (slice_index xs) e
+index_drop (suc n) [] i = refl
+index_drop (suc n) (x ∷ xs) i = index_drop n xs i ∙ (let e : suc (n + i) ≡ suc n + i = omega arith in ap (slice_index (x ∷ xs)) e)
+
+covered : (first size b : ℕ) → nat_le first b && nat_lt b (first + size) ≡ true → (first ≤ b) × (b < first + size)
+covered first size b h = (grind (arith, nat_tests), grind (arith, nat_tests))
+
+cover : (first size b : ℕ) → first ≤ b → b < first + size → nat_le first b && nat_lt b (first + size) ≡ true
+cover first size b h k = grind (arith, nat_tests)
+
+in_there : (I : Input) (a n : ℕ) → in_region I a n ≡ true → I.base ≤ a
+in_there I a n h = grind (arith, nat_tests)
+
+module _ (o : ℕ) (bytes : List ℕ) (j : ℕ) where
+  abbrev Held : List ℕ
+  Held = take (end_in j o (length bytes) - start_in j o) (drop (start_in j o - o) bytes)
+
+  fits : (n rest : ℕ) → rest ≡ n - (start_in j o - o) → end_in j o n - start_in j o ≤ rest
+  fits n rest e = omega (arith, e)
+
+  length_held : length Held ≡ end_in j o (length bytes) - start_in j o
+  length_held = length-take-le (end_in j o (length bytes) - start_in j o) (drop (start_in j o - o) bytes) (fits (length bytes) (length (drop (start_in j o - o) bytes)) (length-drop (start_in j o - o) bytes))
+
+  ends : (n b : ℕ) → start_in j o ≤ b → b < start_in j o + (end_in j o n - start_in j o) → b < end_in j o n
+  ends n b h k = omega arith
+
+  starts : (n b : ℕ) → start_in j o ≤ b → b < end_in j o n → b < start_in j o + (end_in j o n - start_in j o)
+  starts n b h k = omega arith
+
+  -- a byte that the part covers lies in the part's line and in the store
+  held : (b : ℕ) → nat_le (start_in j o) b && nat_lt b (start_in j o + length Held) ≡ true → (start_in j o ≤ b) × (b < end_in j o (length bytes))
+  held b h =
+      let c = covered (start_in j o) (length Held) b h in
+      (c.0, ends (length bytes) b c.0 (subst (λ k. b < start_in j o + k) length_held c.1))
+
+  holds_byte : (b : ℕ) → start_in j o ≤ b → b < end_in j o (length bytes) → nat_le (start_in j o) b && nat_lt b (start_in j o + length Held) ≡ true
+  holds_byte b h k = cover (start_in j o) (length Held) b h (subst (λ i. b < start_in j o + i) (sym length_held) (starts (length bytes) b h k))
+
+  behind : (n b : ℕ) → start_in j o ≤ b → b < end_in j o n → b - start_in j o < end_in j o n - start_in j o
+  behind n b h k = omega arith
+
+  sums : (b : ℕ) → start_in j o ≤ b → (start_in j o - o) + (b - start_in j o) ≡ b - o
+  sums b h = omega arith
+
+  held_byte : (b : ℕ) → start_in j o ≤ b → b < end_in j o (length bytes) → slice_index Held (b - start_in j o) ≡ slice_index bytes (b - o)
+  held_byte b h k =
+      index_take (end_in j o (length bytes) - start_in j o) (drop (start_in j o - o) bytes) (b - start_in j o) (behind (length bytes) b h k)
+      ∙ index_drop (start_in j o - o) bytes (b - start_in j o)
+      ∙ ap (slice_index bytes) (sums b h)
+
+  -- a byte of the store that lies in the line is one that the part covers
+  line_byte : (b : ℕ) → o ≤ b → b < o + length bytes → b / 64 ≡ j → (start_in j o ≤ b) × (b < end_in j o (length bytes))
+  line_byte b h k e = inside (length bytes) b h k e
+    where
+      inside : (n b : ℕ) → o ≤ b → b < o + n → b / 64 ≡ j → (start_in j o ≤ b) × (b < end_in j o n)
+      inside n b h k e = (omega (arith, e), omega (arith, e))
+
+-- ---- a step
+
+module _ (P : Program) (I : Input) where
+  of_fence : (x : StorePart) → IsOfStore P I x → IsOfStore P I (noted_fence x)
+  of_fence x s = record { addr = s.addr; bytes = s.bytes; stored = s.stored; site = s.site; levels = s.levels; entry = s.entry; covered = s.covered; whole = s.whole }
+
+  of_flush : (flush : Flush) (x : StorePart) → IsOfStore P I x → IsOfStore P I (noted_flush flush x)
+  of_flush flush x s = record { addr = s.addr; bytes = s.bytes; stored = s.stored; site = s.site; levels = s.levels; entry = s.entry; covered = s.covered; whole = s.whole }
+
+  of_flushes : (flush : Flush) (b : Bool) (x : StorePart) → IsOfStore P I x → IsOfStore P I (cond b (noted_flush flush x) x)
+  of_flushes flush true x s = of_flush flush x s
+  of_flushes flush false x s = s
+
+  abbrev AreOf : List (Line StorePart) → Type 0
+  AreOf ls = (j : ℕ) (x : StorePart) → InLine (slice_get ls j) x → IsOfStore P I x
+
+  module _ (n : ℕ) where
+    new : (f : Frame) (fs : List Frame) → IsTop (run P I n) f fs → (a : ℕ) (bytes : List ℕ) → I.base ≤ a → event P I (run P I n) ≡ events.Store a (little_endian bytes) (length bytes) →
+        (j : ℕ) → has_bytes j (a - I.base) (length bytes) ≡ true → IsOfStore P I (part_of_store (run P I n).counts (site_of f) (levels_of (f ∷ fs)) (a - I.base) bytes j)
+    new f fs t a bytes low q j there =
+        let steps = counted-steps P I n t.going in
+        let line = line_of_start (a - I.base) (length bytes) j there in
+        record {
+          addr = a;
+          bytes = bytes;
+          stored = subst (λ i. event P I (run P I i) ≡ events.Store a (little_endian bytes) (length bytes)) (sym steps) q;
+          site = subst (λ i. top_site (run P I i).frames ≡ Some (site_of f)) (sym steps) (ap top_site t.frames);
+          levels = subst (λ i. levels_of (f ∷ fs) ≡ levels_of (run P I i).frames) (sym steps) (sym (ap levels_of t.frames));
+          entry = subst (λ i. (run P I n).counts.entries + 1 ≡ (run P I i).counts.entries + 1) (sym steps) refl;
+          covered = λ b h.
+              let r = held (a - I.base) bytes j b h in
+              let o = byte-of_part (a - I.base) (length bytes) j b r.0 r.1 in (
+                omega (arith, low, o.0),
+                omega (arith, low, o.1),
+                o.2 ∙ sym line,
+                held_byte (a - I.base) bytes j b r.0 r.1 ∙ (let e : b - (a - I.base) ≡ I.base + b - a = omega (arith, low) in ap (slice_index bytes) e),
+              );
+          whole = λ b from to e.
+              let r = line_byte (a - I.base) bytes j b (omega (arith, low, from)) (omega (arith, low, to)) (e ∙ line) in
+              holds_byte (a - I.base) bytes j b r.0 r.1;
+        }
+
+    abbrev Next : Event → List (Line StorePart) → Type 0
+    Next e ls = event P I (run P I n) ≡ e → AreOf ls
+
+    of_cases : AreOf (run P I n).lines → Cases I (run P I n) Next
+    of_cases old = record {
+      plain = λ e p q. old;
+      store = λ f fs t a bytes e w q j x i. by_store f fs t a bytes (in_there I a (length bytes) e) q j x (of_stored _ (a - I.base) (length bytes) _ j x i);
+      flush = λ f fs t a m e q j y i. let r = of_flushed I _ a m _ j y i in subst (IsOfStore P I) (sym r.2) (of_flushes _ (has_bytes j (a - I.base) m) r.0 (old j r.0 r.1));
+      persist = λ f fs t a m e q j z i.
+          let s = of_fenced _ j z i in
+          let r = of_flushed I _ a m _ j s.0 s.1 in
+          subst (IsOfStore P I) (sym (s.2 ∙ ap noted_fence r.2)) (of_fence _ (of_flushes _ (has_bytes j (a - I.base) m) r.0 (old j r.0 r.1)));
+      fence = λ q j y i. let r = of_fenced _ j y i in subst (IsOfStore P I) (sym r.2) (of_fence r.0 (old j r.0 r.1));
+    }
+      where
+        by_store : (f : Frame) (fs : List Frame) → IsTop (run P I n) f fs → (a : ℕ) (bytes : List ℕ) → I.base ≤ a → event P I (run P I n) ≡ events.Store a (little_endian bytes) (length bytes) → (j : ℕ) (x : StorePart) →
+            InLine (slice_get (run P I n).lines j) x ⊎ ((has_bytes j (a - I.base) (length bytes) ≡ true) × (x ≡ part_of_store (run P I n).counts (site_of f) (levels_of (f ∷ fs)) (a - I.base) bytes j)) → IsOfStore P I x
+        by_store f fs t a bytes low q j x (inl i) = old j x i
+        by_store f fs t a bytes low q j x (inr r) = subst (IsOfStore P I) (sym r.1) (new f fs t a bytes low q j r.0)
+
+    of_next : AreOf (run P I n).lines → AreOf (run P I (suc n)).lines
+    unfolding run
+    of_next old = step-cases P I (run P I n) Next (of_cases old) refl
+
+  run_of : (n : ℕ) → AreOf (run P I n).lines
+  unfolding run
+  run_of zero j x i = absurd (no_part _ j x i)
+  run_of (suc n) j x i = of_next n (run_of n) j x i
+
+  -- each part of a line is one of a store that the run made
+  pub part-of_store : (n : ℕ) (x : StorePart) → PartOf (run P I n).lines x → IsOfStore P I x
+  part-of_store n x i = let r = line_of_part (run P I n).lines x i in run_of n r.0 x r.1

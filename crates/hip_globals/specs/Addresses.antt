@@ -3,8 +3,10 @@
 use Rattle.std.specs.Prelude.{ℕ, zero, suc, ◌+◌, ◌%◌, ◌^◌, ◌≡◌, ◌≤◌, ◌&&◌, nat_le, max, Bool, true, false, List, [], ◌∷◌, All, Option, Some, None, if◌then◌else◌}
 use Rattle.std.specs.Int.{next_multiple_of}
 use Rattle.hip_types.specs.Layout.{Fits, shape}
+use Rattle.hip_types.specs.declared.limits.TheConstants.{LARGEST_REGION, LARGEST_VOLATILE}
 use Rattle.hip_ir.specs.declared.program.GlobalVar.{GlobalVar}
 use Rattle.hip_ir.specs.declared.program.Program.{Program}
+use Rattle.hip_lines.specs.declared.TheConstants.{LINE_SIZE}
 use Rattle.hip_mem.specs.Memory.{volatile_start}
 use Rattle.hip_globals.specs.Constants.{types_in}
 
@@ -63,7 +65,7 @@ volatile_end P = end_of false volatile_start P.globals
 -- The region ends with the last persistent global, rounded up to a whole cache line. It is the same from each base,
 -- since a base is a multiple of every alignment.
 abbrev pub region_size : Program → ℕ
-region_size P = next_multiple_of (end_of true 0 P.globals) 64
+region_size P = next_multiple_of (end_of true 0 P.globals) LINE_SIZE
 
 -- the types of the globals fit
 abbrev pub AllFit : List GlobalVar → Type 0
@@ -73,8 +75,8 @@ AllFit globals = All (λ g. Fits g.ty) globals
 abbrev pub TypesFitIn : GlobalVar → Type 0
 TypesFitIn g = All Fits (g.ty ∷ types_in g.init)
 
--- the region has at most 67,108,864 bytes, and the volatile globals at most 16,777,216
+-- the region and the volatile globals have at most as many bytes as they may
 abbrev pub are_within_limits : List GlobalVar → Bool
 are_within_limits globals =
-    nat_le (next_multiple_of (end_of true 0 globals) 64) 67108864
-    && nat_le (end_of false volatile_start globals) (volatile_start + 16777216)
+    nat_le (next_multiple_of (end_of true 0 globals) LINE_SIZE) LARGEST_REGION
+    && nat_le (end_of false volatile_start globals) (volatile_start + LARGEST_VOLATILE)

@@ -3,6 +3,7 @@
 use Rattle.std.specs.Prelude.{ℕ, Bool, true, false, List, [], ◌∷◌, ◌++◌, if◌then◌else◌}
 use Rattle.hip_ir.specs.declared.program.GlobalVar.{GlobalVar}
 use Rattle.hip_ir.specs.declared.program.Program.{Program}
+use Rattle.hip_lines.specs.declared.TheConstants.{LINE_SIZE}
 use Rattle.hip_mem.specs.Memory.{volatile_start}
 use Rattle.hip_globals.specs.Addresses.{global_align, same}
 use Rattle.hip_globals.specs.Values.{global_address, aligned, constant_bytes}
@@ -21,4 +22,4 @@ volatile_bytes P base = laid_bytes (global_address P.globals base) false volatil
 
 -- the bytes of the region, with zeros behind the last persistent global up to a whole cache line
 abbrev pub region_bytes : Program → ℕ → List ℕ
-region_bytes P base = aligned 0 64 (laid_bytes (global_address P.globals base) true 0 [] P.globals)
+region_bytes P base = aligned 0 LINE_SIZE (laid_bytes (global_address P.globals base) true 0 [] P.globals)

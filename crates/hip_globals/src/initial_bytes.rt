@@ -9,15 +9,14 @@ ghost use Rattle.hip_globals.specs.InitialSeen.{AllFit, GlobalsFit};
 ghost use Rattle.hip_globals.specs.Addresses.{TypesFitIn};
 ghost use Rattle.hip_globals.specs.Values.{aligned, constant_bytes};
 
-use crate::addresses::{VOLATILE_START, alignment};
+use crate::addresses::alignment;
 use crate::initial::{push_constant, set_align, set_size};
 use crate::table::{AddressTable, address_table};
 use hip_ir::{GlobalVar, Program};
+use hip_lines::LINE_SIZE;
+use hip_mem::VOLATILE_START;
 use hip_types::{NoMemory, Row, size};
 use std::alloc::Global;
-
-/// How many bytes a cache line has; the region is made of whole lines.
-const CACHE_LINE: u64 = 64;
 
 /// Adds the bytes of a global behind those of the globals before it, the first of which lies at an address.
 fn add_global(
@@ -88,6 +87,6 @@ pub fn region_bytes(alloc: Global, program: &Program, base: u64) -> Result<Row<u
     let globals = program.globals.as_slice();
     let addresses = address_table(alloc, globals, base)?;
     let mut bytes = laid_bytes(alloc, &addresses, globals, true, 0)?;
-    set_align(alloc, &mut bytes, 0, 0, CACHE_LINE)?;
+    set_align(alloc, &mut bytes, 0, 0, LINE_SIZE)?;
     Ok(bytes)
 }

@@ -7,8 +7,9 @@ ghost use Rattle.hip_globals.specs.AddressesSeen.{address_entry, address_beside,
 ghost use Rattle.hip_names.specs.Tables.{Gains};
 ghost use Rattle.hip_names.specs.Tables.{StandsFor};
 
-use crate::addresses::{VOLATILE_START, alignment};
+use crate::addresses::alignment;
 use hip_ir::GlobalVar;
+use hip_mem::VOLATILE_START;
 use hip_names::NameTable;
 use hip_types::{Name, NoMemory, size};
 use std::alloc::Global;

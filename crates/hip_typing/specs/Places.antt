@@ -10,6 +10,7 @@ use Rattle.hip_types.specs.declared.number.Scalar.{Scalar}
 use Rattle.hip_types.specs.declared.number.Scalar.TheVariants as scalars
 use Rattle.hip_types.specs.declared.ty.Ty.{Ty, out-Ty}
 use Rattle.hip_types.specs.declared.ty.Ty.TheOpen.{Ty-F}
+use Rattle.hip_types.specs.declared.limits.TheConstants.{DEEPEST_NESTING, LARGEST_TYPE}
 use Rattle.hip_ir.specs.declared.constant.Const.{Const, out-Const}
 use Rattle.hip_ir.specs.declared.constant.Const.TheOpen.{Const-F}
 use Rattle.hip_ir.specs.declared.constant.ConstGep.{ConstGep}
@@ -88,7 +89,7 @@ uses_known s us =
     && are_among (global_names s) (used_globals us)
 
 abbrev pub fits_test : Ty → Bool
-fits_test t = nat_le (shape t).largest 67108864 && nat_le (shape t).depth 32
+fits_test t = nat_le (shape t).largest LARGEST_TYPE && nat_le (shape t).depth DEEPEST_NESTING
 
 abbrev pub types_fit : List Ty → Place → Check
 types_fit ts place = asks (All Fits ts) (list_all fits_test ts) breaks.TooLarge place

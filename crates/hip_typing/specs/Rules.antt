@@ -15,6 +15,7 @@ use Rattle.hip_ir.specs.declared.program.Function.{Function}
 use Rattle.hip_ir.specs.declared.program.GlobalVar.{GlobalVar}
 use Rattle.hip_ir.specs.declared.program.Param.{Param}
 use Rattle.hip_ir.specs.declared.program.Program.{Program}
+use Rattle.hip_types.specs.declared.limits.TheConstants.{LARGEST_REGION, LARGEST_VOLATILE}
 use Rattle.hip_ir.specs.declared.site.Site.{Site}
 use Rattle.hip_ir.specs.Reading.{IsSpelled}
 use Rattle.hip_mem.specs.Memory.{volatile_start}
@@ -97,7 +98,7 @@ externs_check P =
 abbrev pub sizes_check : Program → Check
 sizes_check P =
     asks_true
-    (nat_le (region_size P) 67108864 && nat_le (volatile_end P) (volatile_start + 16777216))
+    (nat_le (region_size P) LARGEST_REGION && nat_le (volatile_end P) (volatile_start + LARGEST_VOLATILE))
     breaks.TooLarge places.Whole
 
 -- ---- `main` is there, has no parameters and answers an i32

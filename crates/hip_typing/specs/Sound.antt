@@ -8,6 +8,7 @@ use Rattle.hip_types.specs.declared.number.Scalar.TheVariants.{Int}
 use Rattle.hip_types.specs.declared.number.Width.TheVariants.{W32}
 use Rattle.hip_types.specs.declared.ty.Ty.{Ty}
 use Rattle.hip_types.specs.Layout.{Fits}
+use Rattle.hip_types.specs.declared.limits.TheConstants.{LARGEST_REGION, LARGEST_VOLATILE}
 use Rattle.hip_ir.specs.declared.block.Block.{Block}
 use Rattle.hip_ir.specs.declared.block.Edge.{Edge}
 use Rattle.hip_ir.specs.declared.block.End.{End}
@@ -93,8 +94,8 @@ pub record KeepsToTable (P : Program) : Type 0 where
 -- ---- sizes
 
 pub record KeepsToSizes (P : Program) : Type 0 where
-  pub region : region_size P ≤ 67108864
-  pub volatile : volatile_end P ≤ volatile_start + 16777216
+  pub region : region_size P ≤ LARGEST_REGION
+  pub volatile : volatile_end P ≤ volatile_start + LARGEST_VOLATILE
 
 -- ---- `main`
 

@@ -7,6 +7,7 @@ use Rattle.std.proofs.lemmas.Bool.{and_parts}
 use Rattle.hip_types.specs.declared.number.Scalar.{Scalar}
 use Rattle.hip_types.specs.declared.number.Scalar.TheVariants as scalars
 use Rattle.hip_types.specs.declared.number.Width.TheVariants.{W1, W8, W16, W32, W64}
+use Rattle.hip_types.specs.declared.limits.TheConstants.{LARGEST_REGION, LARGEST_VOLATILE}
 use Rattle.hip_ir.specs.declared.block.Block.{Block}
 use Rattle.hip_ir.specs.declared.program.Extern.{Extern}
 use Rattle.hip_ir.specs.declared.program.Function.{Function}
@@ -86,8 +87,8 @@ externs-whole P k = (
 
 -- ---- sizes
 
-sizes-decides : (P : Program) → Decides (nat_le (region_size P) 67108864 && nat_le (volatile_end P) (volatile_start + 16777216)) ((region_size P ≤ 67108864) × (volatile_end P ≤ volatile_start + 16777216))
-sizes-decides P = both-decides _ _ (le-decides (region_size P) 67108864) (le-decides (volatile_end P) (volatile_start + 16777216))
+sizes-decides : (P : Program) → Decides (nat_le (region_size P) LARGEST_REGION && nat_le (volatile_end P) (volatile_start + LARGEST_VOLATILE)) ((region_size P ≤ LARGEST_REGION) × (volatile_end P ≤ volatile_start + LARGEST_VOLATILE))
+sizes-decides P = both-decides _ _ (le-decides (region_size P) LARGEST_REGION) (le-decides (volatile_end P) (volatile_start + LARGEST_VOLATILE))
 
 sizes-sound : (P : Program) → (sizes_check P).Holds → KeepsToSizes P
 sizes-sound P h = let both = (sizes-decides P).0 h in record { region = both.0; volatile = both.1 }

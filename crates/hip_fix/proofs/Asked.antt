@@ -8,7 +8,7 @@ use Rattle.hip_ir.specs.declared.program.Program.{Program}
 use Rattle.hip_ir.specs.declared.site.Site.{Site}
 use Rattle.hip_runs.specs.declared.report.Findings.{Findings}
 use Rattle.hip_runs.specs.declared.report.Report.{Report}
-use Rattle.hip_runs.specs.History.{IsSplit}
+use Rattle.hip_runs.specs.History.{IsParted}
 use Rattle.hip_runs.specs.Parts.{In}
 use Rattle.hip_runs.specs.Laws.PartLaws.{append-left, append-right}
 use Rattle.hip_runs.specs.Reports.{is_open, closed_count}
@@ -84,24 +84,6 @@ call_at (l ∷ closed) ls (suc k) h = let r = call_at closed ls k (omega arith) 
 in_closed : (closed ls : List Level) (v : Level) → In v closed → In v (closed ++ ls)
 in_closed closed ls v i = append-left closed ls v i
 
--- where a level behind a call is chosen, that call has returned
-pub record IsReturned (standing levels : List Level) (k : ℕ) : Type 0 where
-  pub call : Level
-  pub of : In call levels
-  pub closed : is_open standing call ≡ false
-  pub at : slice_get (map (λ l. l.call) levels) k ≡ Some call.call
-
-pub returned_at : (standing levels : List Level) → IsSplit standing levels → (k : ℕ) → k < closed_count standing levels → IsReturned standing levels k
-returned_at standing levels split k h =
-    let count = ap (closed_count standing) split.are ∙ count_closed standing split.closed split.open_ones split.returned split.stand in
-    let r = call_at split.closed split.open_ones k (omega (arith, count)) in
-    record {
-      call = r.0;
-      of = subst (In r.0) (sym split.are) (in_closed split.closed split.open_ones r.0 r.1);
-      closed = split.returned r.0 r.1;
-      at = ap (λ (ls : List Level). slice_get (map (λ l. l.call) ls) k) split.are ∙ r.2;
-    }
-
 -- a call that stands is open
 pub in_open : (standing : List Level) (v : Level) → In v standing → is_open standing v ≡ true
 in_open [] v i = absurd i
@@ -111,6 +93,24 @@ in_open (l ∷ ls) v (inr i) = go (nat_eq l.birth v.birth) (in_open ls v i)
     go : (t : Bool) → is_open ls v ≡ true → t || is_open ls v ≡ true
     go true h = refl
     go false h = h
+
+-- where a level behind a call is chosen, that call has returned
+pub record IsReturned (standing levels : List Level) (k : ℕ) : Type 0 where
+  pub call : Level
+  pub of : In call levels
+  pub closed : is_open standing call ≡ false
+  pub at : slice_get (map (λ l. l.call) levels) k ≡ Some call.call
+
+pub returned_at : (standing levels : List Level) → IsParted standing levels → (k : ℕ) → k < closed_count standing levels → IsReturned standing levels k
+returned_at standing levels split k h =
+    let count = ap (closed_count standing) split.are ∙ count_closed standing split.closed split.open_ones split.returned (λ v i. in_open standing v (subst (In v) (sym split.outermost) (append-right split.above split.open_ones v i))) in
+    let r = call_at split.closed split.open_ones k (omega (arith, count)) in
+    record {
+      call = r.0;
+      of = subst (In r.0) (sym split.are) (in_closed split.closed split.open_ones r.0 r.1);
+      closed = split.returned r.0 r.1;
+      at = ap (λ (ls : List Level). slice_get (map (λ l. l.call) ls) k) split.are ∙ r.2;
+    }
 
 -- ---- lists of all steps
 

@@ -15,18 +15,6 @@ use Rattle.hip_fix.specs.Harmless.{marked_body}
 use Rattle.hip_fix.specs.Repaired.{Clone, Wanted, wanted_by, clones_of, repaired, instrs_of, repaired_body, repaired_block, repaired_blocks}
 use Rattle.hip_fix.proofs.Twins.{Twin}
 
-pub get_drop : {A : Type 0} (xs : List A) (k : ℕ) (x : A) (ys : List A) → drop k xs ≡ x ∷ ys → slice_get xs k ≡ Some x
-get_drop [] zero x ys e = cc
-get_drop [] (suc k) x ys e = cc
-get_drop (y ∷ xs) zero x ys e = cc
-get_drop (y ∷ xs) (suc k) x ys e = get_drop xs k x ys e
-
-pub drop_next : {A : Type 0} (xs : List A) (k : ℕ) (x : A) (ys : List A) → drop k xs ≡ x ∷ ys → drop (suc k) xs ≡ ys
-drop_next [] zero x ys e = cc
-drop_next [] (suc k) x ys e = cc
-drop_next (y ∷ xs) zero x ys e = cc
-drop_next (y ∷ xs) (suc k) x ys e = drop_next xs k x ys e
-
 module _ (clones : List Clone) (w : Wanted) (clone : Bool) (f : ℕ) where
   get_blocks : (b0 b c : ℕ) (xs : List Block) → b0 + b ≡ c → slice_get (repaired_blocks clones w clone f b0 xs) b ≡ option_map (repaired_block clones w clone f c) (slice_get xs b)
   get_blocks b0 b c [] e = refl

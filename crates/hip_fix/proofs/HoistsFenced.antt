@@ -16,7 +16,9 @@ use Rattle.hip_fix.specs.declared.plan.Plan.{Plan}
 use Rattle.hip_fix.specs.Covered.{is_numbered_from, IsFenceCall, IsCallFrom, repaired_place, IsFenced, AreHoistsFenced}
 use Rattle.hip_fix.specs.Harmless.{marked_body}
 use Rattle.hip_fix.specs.Repaired.{Marked, Clone, Wanted, the_fence, clone_name, inserted_behind, wanted_by, clones_of, repaired, instrs_of, repaired_body}
-use Rattle.hip_fix.proofs.Blocks.{get_drop, drop_next, body_twin}
+use Rattle.hip_runs.specs.Laws.EndLaws.{drop_next}
+use Rattle.hip_invariants.specs.Laws.Places.{get_drop}
+use Rattle.hip_fix.proofs.Blocks.{body_twin}
 use Rattle.hip_fix.proofs.Callable.{instr_place}
 use Rattle.hip_fix.proofs.Clones.{twin_of_clone}
 use Rattle.hip_fix.proofs.Lookup.{sound_callable, number_there, plain_twin, calls_clone, hoisted_cloned}

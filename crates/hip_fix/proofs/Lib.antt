@@ -3,13 +3,13 @@ pub mod Twins
 pub mod Functions
 pub mod Callable
 pub mod Clones
+pub mod CloneNumbers
 pub mod Lookup
 pub mod Items
 pub mod Bodies
 pub mod Origins
 pub mod Declarations
 pub mod SpelledAgain
-pub mod NamesAgain
 pub mod HeadsAgain
 pub mod OutsideAddresses
 pub mod InnerAgain

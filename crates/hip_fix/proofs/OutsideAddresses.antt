@@ -23,32 +23,10 @@ use Rattle.hip_typing.specs.Sound.{callee_names}
 use Rattle.hip_globals.specs.Values.{Written, global_address, const_value}
 use Rattle.hip_names.specs.NameLaws.{bytes_eq-sym}
 use Rattle.hip_typing.specs.Laws.NameLaws.{names-sound}
+use Rattle.hip_invariants.proofs.GlobalAddresses.{start_before_end}
 use Rattle.hip_fix.specs.Direct.{is_volatile_global, names_volatile}
 use Rattle.hip_fix.proofs.HeadsAgain.{names_of_globals}
-use Rattle.hip_fix.proofs.NamesAgain.{differ_first}
-
--- ---- what is laid lies before the end
-
-later_start : (at : ℕ) (g : GlobalVar) → at ≤ global_start at g
-later_start at g = omega arith
-
-later_end : (persistent : Bool) (at : ℕ) (gs : List GlobalVar) → at ≤ end_of persistent at gs
-later_end persistent at [] = omega arith
-later_end persistent at (g ∷ gs) = go (same g.persistent persistent) (λ n. later_end persistent n gs)
-  where
-    go : (t : Bool) → ((n : ℕ) → n ≤ end_of persistent n gs) → at ≤ end_of persistent (if t then global_start at g + (shape g.ty).size else at) gs
-    go true rest = omega (arith, rest (global_start at g + (shape g.ty).size), later_start at g)
-    go false rest = rest at
-
--- a volatile global begins before the end of them all
-start_before_end : (at : ℕ) (gs : List GlobalVar) (k : ℕ) → is_persistent gs k ≡ false → start_of false at gs k ≤ end_of false at gs
-start_before_end at [] k e = omega arith
-start_before_end at (g ∷ gs) zero e = go (same g.persistent false) (ap (λ b. same b false) e)
-  where
-    go : (t : Bool) → t ≡ true → global_start at g ≤ end_of false (if t then global_start at g + (shape g.ty).size else at) gs
-    go true h = omega (arith, later_end false (global_start at g + (shape g.ty).size) gs)
-    go false h = cc
-start_before_end at (g ∷ gs) (suc k) e = start_before_end (if same g.persistent false then global_start at g + (shape g.ty).size else at) gs k e
+use Rattle.hip_invariants.proofs.NamesDiffer.{differ_first}
 
 -- ---- a volatile global by its name
 
@@ -93,7 +71,7 @@ module _ (P : Program) (sound : Passes P) where
     where
       at_number : (k : ℕ) (t : Bool) → t ≡ false → is_persistent P.globals k ≡ false → (if t then start_of true base P.globals k else start_of false volatile_start P.globals k) ≤ volatile_start + 16777216
       at_number k true f p = cc
-      at_number k false f p = omega (arith, start_before_end volatile_start P.globals k p, volatile_low)
+      at_number k false f p = omega (arith, start_before_end false volatile_start P.globals k p, volatile_low)
 
       go : (o : Option ℕ) → number_of (names_of_globals P.globals) name ≡ o → unwrap_or (option_map (address_in P.globals base) o) 0 ≤ volatile_start + 16777216
       go None n = omega arith

@@ -21,79 +21,15 @@ use Rattle.hip_runs.specs.Places.{blocks_of, body_at, code_at, end_at}
 use Rattle.hip_runs.specs.State.{StorePart, Frame, World, Counts, State, site_of}
 use Rattle.hip_runs.specs.Step.{stop, with_turn, leave, perform, is_cut, carry_out, deed_at, on_frames, on_ending, step, event_of, event_at, event_on_frames, event_on_ending, event, counted, run}
 use Rattle.hip_runs.specs.Validity.{IsValid}
+use Rattle.hip_invariants.specs.Laws.RegisterFacts.{values_in_frames}
 use Rattle.hip_fix.specs.Direct.{is_outside, stores_outside, direct}
 use Rattle.hip_fix.specs.Quiet.{stores_in_region, IsQuiet}
-use Rattle.hip_fix.proofs.Blocks.{get_drop}
+use Rattle.hip_invariants.specs.Laws.Places.{get_drop}
 use Rattle.hip_fix.proofs.OutsideAddresses.{constant_low}
 use Rattle.hip_fix.proofs.Sim.{instr_at_place}
-use Rattle.hip_fix.proofs.StackRegisters.{AreLow, Avoids, low_beside, low_allocated, Suits, suits_deed}
-
--- ---- frames
-
--- no `alloca` of the frame below assigns the register
-abbrev Answers : Program → Option (List ℕ) → List Frame → Type 0
-Answers P dest [] = Unit {0}
-Answers P dest (g ∷ fs) = Avoids (blocks_of P g.function) dest
-
-record IsLow (P : Program) (f : Frame) (fs : List Frame) : Type 0 where
-  registers : AreLow (blocks_of P f.function) f.registers
-  answers : Answers P f.dest fs
-
-abbrev AllLow : Program → List Frame → Type 0
-AllLow P [] = Unit {0}
-AllLow P (f ∷ fs) = IsLow P f fs × AllLow P fs
+use Rattle.hip_fix.proofs.StackRegisters.{AreLow, IsLow, Any, run_low, are_low}
 
 module _ (P : Program) (sound : Passes P) (I : Input) where
-  -- ---- a step
-
-  leave_low : (v : ℕ) (w : World) (f : Frame) (fs : List Frame) (ls : List (Line StorePart)) (after : Counts) → AllLow P (f ∷ fs) → AllLow P (leave v w f fs ls after).frames
-  unfolding leave
-  leave_low v w f [] ls after low = low
-  leave_low v w f (g ∷ fs) ls after low = (record { registers = low_beside (blocks_of P g.function) f.dest v g.registers low.0.answers low.1.0.registers; answers = low.1.0.answers }, low.1.1)
-
-  perform_low : (w : World) (f : Frame) (fs : List Frame) (ls : List (Line StorePart)) (before after : Counts) → AllLow P (f ∷ fs) → (x : Action) → Suits P (blocks_of P f.function) x → AllLow P (perform I w f fs ls before after x).frames
-  unfolding perform
-  perform_low w f fs ls before after low (Traps kind) p = low
-  perform_low w f fs ls before after low (Assigns dest v) p = (record { registers = low_beside (blocks_of P f.function) dest v f.registers p.is low.0.registers; answers = low.0.answers }, low.1)
-  perform_low w f fs ls before after low (Allocates dest a n) p = (record { registers = low_allocated (blocks_of P f.function) dest a f.registers p.is low.0.registers; answers = low.0.answers }, low.1)
-  perform_low w f fs ls before after low (Stores a bytes) p = (record { registers = low.0.registers; answers = low.0.answers }, low.1)
-  perform_low w f fs ls before after low (Flushes a n) p = (record { registers = low.0.registers; answers = low.0.answers }, low.1)
-  perform_low w f fs ls before after low (Persists a n) p = (record { registers = low.0.registers; answers = low.0.answers }, low.1)
-  perform_low w f fs ls before after low Fences p = (record { registers = low.0.registers; answers = low.0.answers }, low.1)
-  perform_low w f fs ls before after low (Asserts a n) p = (record { registers = low.0.registers; answers = low.0.answers }, low.1)
-  perform_low w f fs ls before after low (Prints z) p = (record { registers = low.0.registers; answers = low.0.answers }, low.1)
-  perform_low w f fs ls before after low (Reads dest z rest) p = (record { registers = low_beside (blocks_of P f.function) dest _ f.registers p.is low.0.registers; answers = low.0.answers }, low.1)
-  perform_low w f fs ls before after low (Calls g rs dest) p = (record { registers = p.is.0; answers = p.is.1 }, (record { registers = low.0.registers; answers = low.0.answers }, low.1))
-  perform_low w f fs ls before after low (Jumps b rs) p = (record { registers = p.is; answers = low.0.answers }, low.1)
-  perform_low w f fs ls before after low (Returns v) p = leave_low v w f fs ls after low
-
-  carry_out_low : (w : World) (f : Frame) (fs : List Frame) (ls : List (Line StorePart)) (before after : Counts) → AllLow P (f ∷ fs) → (d : Deed) → Suits P (blocks_of P f.function) d.action → AllLow P (carry_out I w f fs ls before after d).frames
-  unfolding carry_out
-  carry_out_low w f fs ls before after low d p = go (is_cut I w d)
-    where
-      go : (b : Bool) → AllLow P (cond b (stop Cut w (f ∷ fs) ls after) (perform I (cond d.turn (with_turn w) w) f fs ls before after d.action)).frames
-      go true = low
-      go false = perform_low (cond d.turn (with_turn w) w) f fs ls before after low d.action p
-
-  frames_low : (w : World) (ls : List (Line StorePart)) (c : Counts) (fs : List Frame) → AllLow P fs → AllLow P (on_frames P I w ls c fs).frames
-  unfolding on_frames
-  frames_low w ls c [] low = low
-  frames_low w ls c (f ∷ fs) low =
-      carry_out_low w f fs ls c (counted (event_at I w fs (deed_at P I w f fs)) c) low (deed_at P I w f fs) (suits_deed P sound I w (length fs) f (code_at P f) low.0.registers refl)
-
-  step_low : (s : State) → AllLow P s.frames → AllLow P (step P I s).frames
-  unfolding step on_ending
-  step_low s low = go s.world.ending
-    where
-      go : (o : Option Ending) → AllLow P (on_ending P I s o).frames
-      go (Some e) = low
-      go None = frames_low s.world s.lines s.counts s.frames low
-
-  run_low : (n : ℕ) → AllLow P (run P I n).frames
-  unfolding run
-  run_low zero = (record { registers = λ q h. omega arith; answers = tt }, tt)
-  run_low (suc n) = step_low (run P I n) (run_low n)
-
   -- ---- a store
 
   module _ (valid : IsValid P I) where
@@ -155,16 +91,16 @@ module _ (P : Program) (sound : Passes P) (I : Input) where
         go true = λ t. t
         go false = instr_quiet w f fs i low outside
 
-    step_quiet : (s : State) (f : Frame) (fs : List Frame) → AllLow P s.frames → s.frames ≡ f ∷ fs → direct P (site_of f) ≡ true → ¬ stores_in_region (event P I s)
+    step_quiet : (s : State) (f : Frame) (fs : List Frame) → values_in_frames (IsLow P) Any s.frames → s.frames ≡ f ∷ fs → direct P (site_of f) ≡ true → ¬ stores_in_region (event P I s)
     unfolding event
     step_quiet s f fs low e at = go s.world.ending
       where
-        here : AllLow P (f ∷ fs)
-        here = subst (AllLow P) e low
+        here : values_in_frames (IsLow P) Any (f ∷ fs)
+        here = subst (values_in_frames (IsLow P) Any) e low
 
         go : (o : Option Ending) → ¬ stores_in_region (event_on_ending P I s o)
         go (Some x) = λ t. t
-        go None = subst (λ (gs : List Frame). ¬ stores_in_region (event_on_frames P I s.world gs)) (sym e) (code_quiet s.world f fs (code_at P f) refl here.0.registers at)
+        go None = subst (λ (gs : List Frame). ¬ stores_in_region (event_on_frames P I s.world gs)) (sym e) (code_quiet s.world f fs (code_at P f) refl (are_low P f.function f.registers here.0) at)
 
 pub quiet_stores : (P : Program) → Passes P → IsQuiet P (direct P)
 quiet_stores P sound I valid n f fs e at = step_quiet P sound I valid (run P I n) f fs (run_low P sound I n) e at

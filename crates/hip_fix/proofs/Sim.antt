@@ -45,7 +45,9 @@ use Rattle.hip_fix.specs.Harmless.{extents, marked_body, marked_at, is_inserted,
 use Rattle.hip_fix.specs.Quiet.{IsQuiet, stores_in_region}
 use Rattle.hip_fix.specs.Repaired.{Marked, flush_of, the_fence, renamed, clone_name, wanted_by, inserted_behind, clones_of, cloned, repaired, instrs_of, repaired_body}
 use Rattle.hip_fix.proofs.Ahead.{Ahead, ahead_stored, ahead_flushed, ahead_more_flushed, ahead_fenced, ahead_more_fenced, ahead_start}
-use Rattle.hip_fix.proofs.Blocks.{get_drop, drop_next, body_twin, end_twin, end_action_twin}
+use Rattle.hip_runs.specs.Laws.EndLaws.{drop_next}
+use Rattle.hip_invariants.specs.Laws.Places.{get_drop}
+use Rattle.hip_fix.proofs.Blocks.{body_twin, end_twin, end_action_twin}
 use Rattle.hip_runs.specs.Parts.{In}
 use Rattle.hip_runs.specs.History.{HasHistory}
 use Rattle.hip_runs.specs.Laws.HistoryLaws.{has_history}

@@ -5,6 +5,7 @@ pub mod Harmless
 pub mod Quiet
 pub mod Choice
 pub mod Planned
+pub mod CloneNumbers
 pub mod Clean
 pub mod Covered
 pub mod Laws

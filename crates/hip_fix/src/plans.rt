@@ -4,16 +4,19 @@ ghost use Rattle.hip_ir.specs.Sites.{has_site, sites_of};
 ghost use Rattle.hip_ir.specs.declared.program.Program.{Program};
 ghost use Rattle.hip_ir.specs.declared.site.Site.{Site};
 ghost use Rattle.hip_runs.specs.Marks.{IsFound};
+ghost use Rattle.hip_runs.specs.Parts.{In};
 ghost use Rattle.hip_runs.specs.Validity.{IsValid};
 ghost use Rattle.hip_runs.specs.declared.input.Input.{Input};
 ghost use Rattle.hip_runs.specs.declared.report.Findings.{Findings};
 ghost use Rattle.hip_fix.specs.Choice.{Contains, plan_for};
+ghost use Rattle.hip_fix.specs.CloneNumbers.{IsCloneOf, clone_numbers};
 ghost use Rattle.hip_fix.specs.Planned.{IsAsked, IsWithin, union};
-ghost use Rattle.hip_fix.specs.Repaired.{repaired};
+ghost use Rattle.hip_fix.specs.Repaired.{cloned, repaired};
 ghost use Rattle.hip_fix.specs.Suits.{IsStrictOrder, IsSuiting, is_ascending, no_repairs};
+ghost use Rattle.hip_fix.specs.declared.plan.CloneOf.{CloneOf};
 ghost use Rattle.hip_fix.specs.declared.plan.Plan.{Plan};
 ghost use Rattle.std.specs.List.{filter};
-ghost use Rattle.std.specs.Prelude.{◌≡◌, List, [], Bool, true};
+ghost use Rattle.std.specs.Prelude.{◌≡◌, ℕ, List, [], Bool, true};
 
 /// Sites are strictly ordered; the program's sites that pass a test ascend; and ascending lists with the same sites are equal.
 pub fn sites_are_ordered()
@@ -51,4 +54,13 @@ pub fn nothing_is_changed_without_reports()
 /// A valid input of a program is one of the repaired program, by whatever plan.
 pub fn inputs_stay_valid()
     ensures { (P : Program) → (plan : Plan) → (skip : Site → Bool) → (I : Input) → IsValid P I → IsValid (repaired P plan skip) I }
+{}
+
+/// The clones that are numbered for a plan are those of the repaired program: each stands there under its number as the clone of the
+/// function that it was made of, and each function that is cloned has one.
+pub fn clones_are_numbered()
+    ensures clone { (P : Program) → (plan : Plan) → (skip : Site → Bool) → (clone : CloneOf) →
+        In clone (clone_numbers P plan) → IsCloneOf P plan skip clone }
+    ensures original { (P : Program) → (plan : Plan) → (function : ℕ) → In function (cloned P plan) →
+        (clone : CloneOf) × In clone (clone_numbers P plan) × (clone.original ≡ function) }
 {}

@@ -6,6 +6,7 @@ use Rattle.hip_types.specs.declared.number.Scalar.{Scalar}
 use Rattle.hip_types.specs.declared.number.Scalar.TheVariants as scalars
 use Rattle.hip_types.specs.declared.number.Width.{Width}
 use Rattle.hip_types.specs.declared.number.Width.TheVariants.{W1}
+use Rattle.hip_tokens.specs.Bytes.{byte}
 use Rattle.hip_tokens.specs.Tokens.{Tok}
 use Rattle.hip_rules.specs.Reader.{folded}
 use Rattle.hip_rules.specs.Part.{Part, gives, token, ◌>>=◌, either, repeated, optional, passing, separated, listed, phased}
@@ -32,7 +33,7 @@ ret = token (a_word_of ret_word)
 -- align = "," "align" NUM
 unfoldable pub align : Part Fault ℕ
 align = do
-  _ ← mark 44
+  _ ← mark (byte ",")
   _ ← word (codes "align")
   token an_alignment
 
@@ -45,17 +46,17 @@ maybe_align = optional comma align
 unfoldable pub assigned : Part Fault (List ℕ)
 assigned = do
   name ← token a_local
-  _ ← mark 61
+  _ ← mark (byte "=")
   gives name
 
 -- edge = "[" operand "," LOCAL "]"
 unfoldable pub edge : Scalar → Part Fault Edge
 edge s = do
-  _ ← mark 91
+  _ ← mark (byte "[")
   value ← operand s
-  _ ← mark 44
+  _ ← mark (byte ",")
   label ← token a_local
-  _ ← mark 93
+  _ ← mark (byte "]")
   gives (record { value = value; label = label })
 
 -- phi = LOCAL "=" "phi" scalar edge { "," edge }, behind its LOCAL "="
@@ -88,7 +89,7 @@ binary dest = do
   set ← flags op
   w ← int
   a ← operand (scalars.Int w)
-  _ ← mark 44
+  _ ← mark (byte ",")
   b ← operand (scalars.Int w)
   gives (instrs.Binary dest op set w a b)
 
@@ -99,7 +100,7 @@ compare dest = do
   pred ← token (a_word_of pred_word)
   s ← scalar
   a ← operand s
-  _ ← mark 44
+  _ ← mark (byte ",")
   b ← operand s
   gives (instrs.Compare dest pred s a b)
 
@@ -109,10 +110,10 @@ select dest = do
   _ ← word (codes "select")
   _ ← word (codes "i1")
   cond ← operand (scalars.Int W1)
-  _ ← mark 44
+  _ ← mark (byte ",")
   s ← scalar
   a ← operand s
-  _ ← mark 44
+  _ ← mark (byte ",")
   _ ← passing (is_scalar s)
   b ← operand s
   gives (instrs.Select dest cond s a b)
@@ -160,7 +161,7 @@ unfoldable pub load : List ℕ → Part Fault Instr
 load dest = do
   _ ← word (codes "load")
   s ← scalar
-  _ ← mark 44
+  _ ← mark (byte ",")
   _ ← word (codes "ptr")
   addr ← operand scalars.Ptr
   n ← maybe_align
@@ -172,10 +173,10 @@ gep dest = do
   _ ← word (codes "getelementptr")
   inbounds ← maybe_word (codes "inbounds")
   ty ← type
-  _ ← mark 44
+  _ ← mark (byte ",")
   _ ← word (codes "ptr")
   base ← operand scalars.Ptr
-  _ ← mark 44
+  _ ← mark (byte ",")
   indices ← separated comma index
   gives (instrs.Gep dest inbounds ty base indices)
 
@@ -185,8 +186,8 @@ plain_call dest = do
   _ ← word (codes "call")
   result ← ret
   callee ← token a_global
-  _ ← mark 40
-  args ← listed comma (is_mark 41) arg
+  _ ← mark (byte "(")
+  args ← listed comma (is_mark (byte ")")) arg
   gives (instrs.Call dest result callee args)
 
 unfoldable pub call : Option (List ℕ) → Part Fault Instr
@@ -200,7 +201,7 @@ store = do
   _ ← word (codes "store")
   s ← scalar
   value ← operand s
-  _ ← mark 44
+  _ ← mark (byte ",")
   _ ← word (codes "ptr")
   addr ← operand scalars.Ptr
   n ← maybe_align
@@ -266,9 +267,9 @@ unfoldable pub branch : Part Fault End
 branch = do
   _ ← word (codes "i1")
   cond ← operand (scalars.Int W1)
-  _ ← mark 44
+  _ ← mark (byte ",")
   yes_label ← target
-  _ ← mark 44
+  _ ← mark (byte ",")
   no_label ← target
   gives (ends.CondBr cond yes_label no_label)
 
@@ -282,7 +283,7 @@ unfoldable pub case : Width → Part Fault Case
 case w = do
   _ ← passing (is_width w)
   value ← token (a_literal w)
-  _ ← mark 44
+  _ ← mark (byte ",")
   label ← target
   gives (record { value = value; label = label })
 
@@ -292,11 +293,11 @@ switch = do
   _ ← word (codes "switch")
   w ← int
   value ← operand (scalars.Int w)
-  _ ← mark 44
+  _ ← mark (byte ",")
   other ← target
-  _ ← mark 91
+  _ ← mark (byte "[")
   cases ← repeated (is_width w) (case w)
-  _ ← mark 93
+  _ ← mark (byte "]")
   gives (ends.Switch w value other cases)
 
 unfoldable pub ret_void : Part Fault End
@@ -321,7 +322,9 @@ unreachable = do
   gives ends.Unreachable
 
 unfoldable pub end : Part Fault End
-end = either (is_word (codes "br")) br (either (is_word (codes "switch")) switch (either (is_word (codes "ret")) ret_end unreachable))
+end =
+    either (is_word (codes "br")) br (either (is_word (codes "switch")) switch
+    (either (is_word (codes "ret")) ret_end unreachable))
 
 -- ---- blocks
 

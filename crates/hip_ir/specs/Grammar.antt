@@ -8,6 +8,7 @@ use Rattle.hip_types.specs.declared.number.Scalar.TheVariants as scalars
 use Rattle.hip_types.specs.declared.ty.Ty.{Ty, out-Ty}
 use Rattle.hip_types.specs.declared.ty.Ty.TheOpen.{Ty-F}
 use Rattle.hip_types.specs.declared.ty.Ty.TheVariants as types
+use Rattle.hip_tokens.specs.Bytes.{byte}
 use Rattle.hip_tokens.specs.Tokens.{Tok, Word, Global}
 use Rattle.hip_rules.specs.Rule.{Verdict, Yes, No}
 use Rattle.hip_rules.specs.Part.{Part, gives, token, ◌>>=◌, either, optional, passing, separated, listed}
@@ -54,27 +55,28 @@ is_scalar s = is_word (scalar_text s)
 -- "[" NUM "x" type "]"
 unfoldable pub array_type : Part Fault Ty → Part Fault Ty
 array_type element = do
-  _ ← mark 91
+  _ ← mark (byte "[")
   count ← token a_count
   _ ← word (codes "x")
   ty ← element
-  _ ← mark 93
+  _ ← mark (byte "]")
   gives (types.Array count ty)
 
 -- "{" [ type { "," type } ] "}"
 unfoldable pub struct_type : Part Fault Ty → Part Fault Ty
 struct_type field = do
-  _ ← mark 123
-  fields ← listed comma (is_mark 125) field
+  _ ← mark (byte "{")
+  fields ← listed comma (is_mark (byte "}")) field
   gives (types.Struct fields)
 
 -- type = scalar | "[" NUM "x" type "]" | "{" [ type { "," type } ] "}"
 unfoldable pub type_by : Part Fault Ty → Part Fault Ty → Part Fault Ty
-type_by array struct = either (is_mark 91) array (either (is_mark 123) struct (token (a_word_of type_word)))
+type_by array struct =
+    either (is_mark (byte "[")) array (either (is_mark (byte "{")) struct (token (a_word_of type_word)))
 
 -- nested at most so deep: where no level is left, an opening bracket or brace is too deep
 unfoldable pub type_within : ℕ → Part Fault Ty
-type_within zero = type_by (token (too_deep 91)) (token (too_deep 123))
+type_within zero = type_by (token (too_deep (byte "["))) (token (too_deep (byte "{")))
 type_within (suc n) = type_by (array_type (type_within n)) (struct_type (type_within n))
 
 abbrev pub type : Part Fault Ty
@@ -90,21 +92,24 @@ literal_index = do
 
 -- "null" | "zeroinitializer" | GLOBAL
 abbrev pub a_pointer : Tok → Verdict Fault Const
-a_pointer (Word t) = if bytes_eq t (codes "null") then Yes consts.Null else (if bytes_eq t (codes "zeroinitializer") then Yes consts.Zero else No)
+a_pointer (Word t) =
+    if bytes_eq t (codes "null") then Yes consts.Null
+    else (if bytes_eq t (codes "zeroinitializer") then Yes consts.Zero
+    else No)
 a_pointer (Global t) = Yes (consts.Address t)
 a_pointer _ = No
 
 -- "(" type "," "ptr" const "," int literal { "," int literal } ")"
 unfoldable pub gep_inside : Part Fault Const → Bool → Part Fault Const
 gep_inside base inbounds = do
-  _ ← mark 40
+  _ ← mark (byte "(")
   ty ← type
-  _ ← mark 44
+  _ ← mark (byte ",")
   _ ← word (codes "ptr")
   from ← base
-  _ ← mark 44
+  _ ← mark (byte ",")
   indices ← separated comma literal_index
-  _ ← mark 41
+  _ ← mark (byte ")")
   gives (consts.Gep (record { inbounds = inbounds; ty = ty; base = from; indices = indices }))
 
 -- "getelementptr" [ "inbounds" ] and what it opens
@@ -120,7 +125,7 @@ pointer_by inside = either (is_word (codes "getelementptr")) (gep_const inside) 
 
 -- at most so many `getelementptr` in one another: where none is left, the parenthesis is too deep
 unfoldable pub pointer_within : ℕ → Part Fault Const
-pointer_within zero = pointer_by (λ inbounds. token (too_deep 40))
+pointer_within zero = pointer_by (λ inbounds. token (too_deep (byte "(")))
 pointer_within (suc n) = pointer_by (gep_inside (pointer_within n))
 
 abbrev pub pointer_const : Part Fault Const
@@ -157,13 +162,17 @@ struct_const items = do
 unfoldable pub const_by : Part Fault (List TypedConst) → Part Fault (List TypedConst) → Ty-F Ty → Part Fault Const
 const_by elements fields (Ty-F.Int w) = token (an_int_const w)
 const_by elements fields Ty-F.Ptr = pointer_const
-const_by elements fields (Ty-F.Array n e) = either (is_mark 91) (array_const elements) (token zero_const)
-const_by elements fields (Ty-F.Struct fs) = either (is_mark 123) (struct_const fields) (token zero_const)
+const_by elements fields (Ty-F.Array n e) = either (is_mark (byte "[")) (array_const elements) (token zero_const)
+const_by elements fields (Ty-F.Struct fs) = either (is_mark (byte "{")) (struct_const fields) (token zero_const)
 
 -- bracketed and braced constants nested at most so deep
 unfoldable pub const_within : ℕ → Ty → Part Fault Const
-const_within zero ty = const_by (token (too_deep 91)) (token (too_deep 123)) (out-Ty ty)
-const_within (suc n) ty = const_by (const_list 91 93 (const_within n)) (const_list 123 125 (const_within n)) (out-Ty ty)
+const_within zero ty = const_by (token (too_deep (byte "["))) (token (too_deep (byte "{"))) (out-Ty ty)
+const_within (suc n) ty =
+    const_by
+    (const_list (byte "[") (byte "]") (const_within n))
+    (const_list (byte "{") (byte "}") (const_within n))
+    (out-Ty ty)
 
 abbrev pub const : Ty → Part Fault Const
 const = const_within 32

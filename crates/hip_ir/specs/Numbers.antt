@@ -1,6 +1,7 @@
 -- The numbers of a text, by the places where they stand.
 use Rattle.std.specs.Prelude.{ℕ, ◌+◌, ◌-◌, ◌*◌, ◌^◌, ◌%◌, Bool, false, not, ◌&&◌, List, [], ◌∷◌, Option, Some, None, ◌==◌, nat_lt, nat_le, if◌then◌else◌, codes}
 use Rattle.std.specs.Str.{bytes_eq}
+use Rattle.hip_tokens.specs.Bytes.{byte}
 use Rattle.hip_types.specs.Widths.{bits_of}
 use Rattle.hip_types.specs.declared.number.Bits.{Bits}
 use Rattle.hip_types.specs.declared.number.Width.{Width}
@@ -17,16 +18,16 @@ use Rattle.hip_ir.specs.Words.{or_no, is_word}
 -- the value of digits behind others
 abbrev pub digits_from : ℕ → List ℕ → ℕ
 digits_from n [] = n
-digits_from n (d ∷ ds) = digits_from (10 * n + (d - 48)) ds
+digits_from n (d ∷ ds) = digits_from (10 * n + (d - byte "0")) ds
 
 abbrev pub is_negative : List ℕ → Bool
 is_negative [] = false
-is_negative (d ∷ ds) = d == 45
+is_negative (d ∷ ds) = d == byte "-"
 
 -- the value of a number's digits, without its sign
 abbrev pub magnitude : List ℕ → ℕ
 magnitude [] = 0
-magnitude (d ∷ ds) = if d == 45 then digits_from 0 ds else digits_from 0 (d ∷ ds)
+magnitude (d ∷ ds) = if d == byte "-" then digits_from 0 ds else digits_from 0 (d ∷ ds)
 
 abbrev pub or_range : {A : Type 0} → Option A → Verdict Fault A
 or_range (Some n) = Yes n
@@ -49,7 +50,10 @@ bits_in_range w None = Because Range
 
 -- `true` and `false`, which are of one bit
 abbrev pub truth_word : Width → List ℕ → Option Bits
-truth_word W1 t = if bytes_eq t (codes "true") then Some (bits W1 1) else (if bytes_eq t (codes "false") then Some (bits W1 0) else None)
+truth_word W1 t =
+    if bytes_eq t (codes "true") then Some (bits W1 1)
+    else (if bytes_eq t (codes "false") then Some (bits W1 0)
+    else None)
 truth_word W8 t = None
 truth_word W16 t = None
 truth_word W32 t = None

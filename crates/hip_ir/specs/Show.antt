@@ -106,7 +106,9 @@ const_step (Const-F.Struct items) = braced items
 
 -- `getelementptr inbounds (T, ptr C, i64 0, i32 1)`
 abbrev pub gep_step : ConstGep-F (List ℕ) (List ℕ) (List ℕ) → List ℕ
-gep_step gep = codes "getelementptr " ++ (inbounds_text gep.inbounds ++ (codes "(" ++ (type_text gep.ty ++ (codes ", ptr " ++ (gep.base ++ (after_commas (map index_text gep.indices) ++ codes ")"))))))
+gep_step gep =
+    codes "getelementptr " ++ (inbounds_text gep.inbounds ++ (codes "(" ++ (type_text gep.ty ++ (codes ", ptr "
+    ++ (gep.base ++ (after_commas (map index_text gep.indices) ++ codes ")"))))))
 
 abbrev pub typed_step : TypedConst-F (List ℕ) (List ℕ) (List ℕ) → List ℕ
 typed_step item = type_text item.ty ++ (codes " " ++ item.value)
@@ -147,17 +149,30 @@ result_text None = []
 result_text (Some dest) = assigned_text dest
 
 abbrev pub instr_text : Instr → List ℕ
-instr_text (instrs.Binary dest op flags w a b) = assigned_text dest ++ (binary_text op ++ (codes " " ++ (flags_text flags ++ (width_text w ++ (codes " " ++ (operand_text a ++ (codes ", " ++ operand_text b)))))))
-instr_text (instrs.Compare dest pred ty a b) = assigned_text dest ++ (codes "icmp " ++ (pred_text pred ++ (codes " " ++ (scalar_text ty ++ (codes " " ++ (operand_text a ++ (codes ", " ++ operand_text b)))))))
+instr_text (instrs.Binary dest op flags w a b) =
+    assigned_text dest ++ (binary_text op ++ (codes " " ++ (flags_text flags ++ (width_text w ++ (codes " "
+    ++ (operand_text a ++ (codes ", " ++ operand_text b)))))))
+instr_text (instrs.Compare dest pred ty a b) =
+    assigned_text dest ++ (codes "icmp " ++ (pred_text pred ++ (codes " " ++ (scalar_text ty ++ (codes " "
+    ++ (operand_text a ++ (codes ", " ++ operand_text b)))))))
 instr_text (instrs.Select dest cond ty a b) =
-    assigned_text dest ++ (codes "select i1 " ++ (operand_text cond ++ (codes ", " ++ (scalar_text ty ++ (codes " " ++ (operand_text a ++ (codes ", " ++ (scalar_text ty ++ (codes " " ++ operand_text b)))))))))
-instr_text (instrs.Cast dest op from a to) = assigned_text dest ++ (cast_text op ++ (codes " " ++ (scalar_text from ++ (codes " " ++ (operand_text a ++ (codes " to " ++ scalar_text to))))))
+    assigned_text dest ++ (codes "select i1 " ++ (operand_text cond ++ (codes ", " ++ (scalar_text ty ++ (codes " "
+    ++ (operand_text a ++ (codes ", " ++ (scalar_text ty ++ (codes " " ++ operand_text b)))))))))
+instr_text (instrs.Cast dest op from a to) =
+    assigned_text dest ++ (cast_text op ++ (codes " " ++ (scalar_text from ++ (codes " " ++ (operand_text a
+    ++ (codes " to " ++ scalar_text to))))))
 instr_text (instrs.Alloca dest ty n) = assigned_text dest ++ (codes "alloca " ++ (type_text ty ++ align_text n))
-instr_text (instrs.Load dest ty addr n) = assigned_text dest ++ (codes "load " ++ (scalar_text ty ++ (codes ", ptr " ++ (operand_text addr ++ align_text n))))
-instr_text (instrs.Store ty value addr n) = codes "store " ++ (scalar_text ty ++ (codes " " ++ (operand_text value ++ (codes ", ptr " ++ (operand_text addr ++ align_text n)))))
+instr_text (instrs.Load dest ty addr n) =
+    assigned_text dest ++ (codes "load " ++ (scalar_text ty ++ (codes ", ptr " ++ (operand_text addr ++ align_text n))))
+instr_text (instrs.Store ty value addr n) =
+    codes "store " ++ (scalar_text ty ++ (codes " " ++ (operand_text value ++ (codes ", ptr " ++ (operand_text addr
+    ++ align_text n)))))
 instr_text (instrs.Gep dest inbounds ty base indices) =
-    assigned_text dest ++ (codes "getelementptr " ++ (inbounds_text inbounds ++ (type_text ty ++ (codes ", ptr " ++ (operand_text base ++ after_commas (map arg_text indices))))))
-instr_text (instrs.Call dest ret callee args) = result_text dest ++ (codes "call " ++ (ret_text ret ++ (codes " @" ++ (callee ++ parenthesized (map arg_text args)))))
+    assigned_text dest ++ (codes "getelementptr " ++ (inbounds_text inbounds ++ (type_text ty ++ (codes ", ptr "
+    ++ (operand_text base ++ after_commas (map arg_text indices))))))
+instr_text (instrs.Call dest ret callee args) =
+    result_text dest ++ (codes "call " ++ (ret_text ret ++ (codes " @"
+    ++ (callee ++ parenthesized (map arg_text args)))))
 
 -- ---- blocks
 
@@ -166,7 +181,8 @@ abbrev pub edge_text : Edge → List ℕ
 edge_text edge = codes "[ " ++ (operand_text edge.value ++ (codes ", %" ++ (edge.label ++ codes " ]")))
 
 abbrev pub phi_text : Phi → List ℕ
-phi_text phi = assigned_text phi.dest ++ (codes "phi " ++ (scalar_text phi.ty ++ (codes " " ++ commas (map edge_text phi.edges))))
+phi_text phi =
+    assigned_text phi.dest ++ (codes "phi " ++ (scalar_text phi.ty ++ (codes " " ++ commas (map edge_text phi.edges))))
 
 -- `i64 1, label %a `
 abbrev pub case_text : Case → List ℕ
@@ -174,8 +190,11 @@ case_text case = index_text case.value ++ (codes ", label %" ++ (case.label ++ c
 
 abbrev pub end_text : End → List ℕ
 end_text (ends.Br label) = codes "br label %" ++ label
-end_text (ends.CondBr cond yes_label no_label) = codes "br i1 " ++ (operand_text cond ++ (codes ", label %" ++ (yes_label ++ (codes ", label %" ++ no_label))))
-end_text (ends.Switch w value other cases) = codes "switch " ++ (width_text w ++ (codes " " ++ (operand_text value ++ (codes ", label %" ++ (other ++ (codes " [ " ++ (flat_map case_text cases ++ codes "]")))))))
+end_text (ends.CondBr cond yes_label no_label) =
+    codes "br i1 " ++ (operand_text cond ++ (codes ", label %" ++ (yes_label ++ (codes ", label %" ++ no_label))))
+end_text (ends.Switch w value other cases) =
+    codes "switch " ++ (width_text w ++ (codes " " ++ (operand_text value ++ (codes ", label %"
+    ++ (other ++ (codes " [ " ++ (flat_map case_text cases ++ codes "]")))))))
 end_text (ends.Ret None) = codes "ret void"
 end_text (ends.Ret (Some arg)) = codes "ret " ++ arg_text arg
 end_text ends.Unreachable = codes "unreachable"
@@ -185,7 +204,9 @@ abbrev pub line_of : List ℕ → List ℕ
 line_of t = codes "  " ++ (t ++ codes "\n")
 
 abbrev pub block_text : Block → List ℕ
-block_text block = block.label ++ (codes ":\n" ++ (flat_map (λ p. line_of (phi_text p)) block.phis ++ (flat_map (λ i. line_of (instr_text i)) block.body ++ line_of (end_text block.end))))
+block_text block =
+    block.label ++ (codes ":\n" ++ (flat_map (λ p. line_of (phi_text p)) block.phis
+    ++ (flat_map (λ i. line_of (instr_text i)) block.body ++ line_of (end_text block.end))))
 
 -- ---- programs
 
@@ -198,16 +219,22 @@ fixed_text true = codes "constant "
 fixed_text false = codes "global "
 
 abbrev pub global_text : GlobalVar → List ℕ
-global_text g = codes "@" ++ (g.name ++ (codes " = " ++ (fixed_text g.fixed ++ (type_text g.ty ++ (codes " " ++ (const_text g.init ++ (section_text g.persistent ++ (align_text g.align ++ codes "\n"))))))))
+global_text g =
+    codes "@" ++ (g.name ++ (codes " = " ++ (fixed_text g.fixed ++ (type_text g.ty ++ (codes " " ++ (const_text g.init
+    ++ (section_text g.persistent ++ (align_text g.align ++ codes "\n"))))))))
 
 abbrev pub extern_text : Extern → List ℕ
-extern_text e = codes "declare " ++ (ret_text e.ret ++ (codes " @" ++ (e.name ++ (parenthesized (map scalar_text e.params) ++ codes "\n"))))
+extern_text e =
+    codes "declare " ++ (ret_text e.ret ++ (codes " @" ++ (e.name ++ (parenthesized (map scalar_text e.params)
+    ++ codes "\n"))))
 
 abbrev pub param_text : Param → List ℕ
 param_text p = scalar_text p.ty ++ (codes " %" ++ p.name)
 
 abbrev pub function_text : Function → List ℕ
-function_text f = codes "define " ++ (ret_text f.ret ++ (codes " @" ++ (f.name ++ (parenthesized (map param_text f.params) ++ (codes " {\n" ++ (flat_map block_text f.blocks ++ codes "}\n"))))))
+function_text f =
+    codes "define " ++ (ret_text f.ret ++ (codes " @" ++ (f.name ++ (parenthesized (map param_text f.params)
+    ++ (codes " {\n" ++ (flat_map block_text f.blocks ++ codes "}\n"))))))
 
 -- the globals, then the externs, then the functions
 abbrev pub show : Program → List ℕ

@@ -1,4 +1,5 @@
--- Which trees some text reads as, by rules on the tree alone: production by production, what the grammar asks and the types of the tree do not.
+-- Which trees some text reads as, by rules on the tree alone: production by production, what the grammar asks and the
+-- types of the tree do not.
 use Rattle.std.specs.Prelude.{ℕ, zero, suc, Bool, true, false, not, ◌&&◌, ◌||◌, ◌==◌, nat_lt, List, [], ◌∷◌, Option, Some, None}
 use Rattle.std.specs.List.{list_all}
 use Rattle.hip_types.specs.Widths.{bits_of}
@@ -128,7 +129,8 @@ spelled_struct inner (Const-F.Gep gep) = false
 spelled_struct inner (Const-F.Array items) = false
 spelled_struct inner (Const-F.Struct items) = inner items
 
--- a constant under a type, by which lists may stand; that lists have the type's lengths and member types is no rule of the reader
+-- a constant under a type, by which lists may stand; that lists have the type's lengths and member types is no rule
+-- of the reader
 abbrev pub spelled_const_by : (List TypedConst → Bool) → Ty-F Ty → Const → Bool
 spelled_const_by inner (Ty-F.Int w) c = spelled_int w (out-Const c)
 spelled_const_by inner Ty-F.Ptr c = spelled_pointer c
@@ -174,7 +176,8 @@ spelled_index arg = is_int_type arg.ty && spelled_operand arg.ty arg.value
 abbrev pub spelled_flags : BinaryOp → Flags → Bool
 spelled_flags op flags = (may_wrap op || not (flags.nuw || flags.nsw)) && (may_be_exact op || not flags.exact)
 
--- `ptrtoint` from a pointer to an integer, `inttoptr` from an integer to a pointer, the others from an integer to an integer
+-- `ptrtoint` from a pointer to an integer, `inttoptr` from an integer to a pointer, the others from an integer to an
+-- integer
 abbrev pub spelled_cast : CastOp → Scalar → Scalar → Bool
 spelled_cast casts.Zext from to = is_int_type from && is_int_type to
 spelled_cast casts.Sext from to = is_int_type from && is_int_type to
@@ -191,15 +194,21 @@ spelled_result (Some dest) = is_name dest
 abbrev pub spelled_memory_instr : Instr → Bool
 spelled_memory_instr (instrs.Alloca dest ty n) = is_name dest && (spelled_type ty && spelled_align n)
 spelled_memory_instr (instrs.Load dest s addr n) = is_name dest && (spelled_operand scalars.Ptr addr && spelled_align n)
-spelled_memory_instr (instrs.Store s value addr n) = spelled_operand s value && (spelled_operand scalars.Ptr addr && spelled_align n)
-spelled_memory_instr (instrs.Gep dest inbounds ty base indices) = is_name dest && (spelled_type ty && (spelled_operand scalars.Ptr base && (not_empty indices && list_all spelled_index indices)))
-spelled_memory_instr (instrs.Call dest ret callee args) = spelled_result dest && (is_name callee && list_all spelled_arg args)
+spelled_memory_instr (instrs.Store s value addr n) =
+    spelled_operand s value && (spelled_operand scalars.Ptr addr && spelled_align n)
+spelled_memory_instr (instrs.Gep dest inbounds ty base indices) =
+    is_name dest && (spelled_type ty && (spelled_operand scalars.Ptr base && (not_empty indices
+    && list_all spelled_index indices)))
+spelled_memory_instr (instrs.Call dest ret callee args) =
+    spelled_result dest && (is_name callee && list_all spelled_arg args)
 spelled_memory_instr _ = false
 
 abbrev pub spelled_instr : Instr → Bool
-spelled_instr (instrs.Binary dest op flags w a b) = is_name dest && (spelled_flags op flags && (spelled_operand (scalars.Int w) a && spelled_operand (scalars.Int w) b))
+spelled_instr (instrs.Binary dest op flags w a b) =
+    is_name dest && (spelled_flags op flags && (spelled_operand (scalars.Int w) a && spelled_operand (scalars.Int w) b))
 spelled_instr (instrs.Compare dest pred s a b) = is_name dest && (spelled_operand s a && spelled_operand s b)
-spelled_instr (instrs.Select dest cond s a b) = is_name dest && (spelled_operand (scalars.Int W1) cond && (spelled_operand s a && spelled_operand s b))
+spelled_instr (instrs.Select dest cond s a b) =
+    is_name dest && (spelled_operand (scalars.Int W1) cond && (spelled_operand s a && spelled_operand s b))
 spelled_instr (instrs.Cast dest op from a to) = is_name dest && (spelled_cast op from to && spelled_operand from a)
 spelled_instr instr = spelled_memory_instr instr
 
@@ -217,14 +226,18 @@ spelled_case w case = of_width w case.value && is_name case.label
 
 abbrev pub spelled_end : End → Bool
 spelled_end (ends.Br label) = is_name label
-spelled_end (ends.CondBr cond yes_label no_label) = spelled_operand (scalars.Int W1) cond && (is_name yes_label && is_name no_label)
-spelled_end (ends.Switch w value other cases) = spelled_operand (scalars.Int w) value && (is_name other && list_all (spelled_case w) cases)
+spelled_end (ends.CondBr cond yes_label no_label) =
+    spelled_operand (scalars.Int W1) cond && (is_name yes_label && is_name no_label)
+spelled_end (ends.Switch w value other cases) =
+    spelled_operand (scalars.Int w) value && (is_name other && list_all (spelled_case w) cases)
 spelled_end (ends.Ret None) = true
 spelled_end (ends.Ret (Some arg)) = spelled_arg arg
 spelled_end ends.Unreachable = true
 
 abbrev pub spelled_block : Block → Bool
-spelled_block block = is_name block.label && (list_all spelled_phi block.phis && (list_all spelled_instr block.body && spelled_end block.end))
+spelled_block block =
+    is_name block.label && (list_all spelled_phi block.phis && (list_all spelled_instr block.body
+    && spelled_end block.end))
 
 -- ---- programs
 
@@ -238,7 +251,9 @@ abbrev pub spelled_param : Param → Bool
 spelled_param p = is_name p.name
 
 abbrev pub spelled_function : Function → Bool
-spelled_function f = is_name f.name && (list_all spelled_param f.params && (not_empty f.blocks && list_all spelled_block f.blocks))
+spelled_function f =
+    is_name f.name && (list_all spelled_param f.params && (not_empty f.blocks && list_all spelled_block f.blocks))
 
 abbrev pub spelled_program : Program → Bool
-spelled_program p = list_all spelled_global p.globals && (list_all spelled_extern p.externs && list_all spelled_function p.functions)
+spelled_program p =
+    list_all spelled_global p.globals && (list_all spelled_extern p.externs && list_all spelled_function p.functions)

@@ -1,5 +1,6 @@
 -- The grammar of programs: globals, externs, functions and whole texts.
 use Rattle.std.specs.Prelude.{ℕ, Bool, true, false, ◌||◌, List, [], ◌∷◌, ◌++◌, Option, Some, None, codes}
+use Rattle.hip_tokens.specs.Bytes.{byte}
 use Rattle.hip_tokens.specs.Tokens.{Tok}
 use Rattle.hip_rules.specs.Reader.{folded}
 use Rattle.hip_rules.specs.Part.{Part, gives, token, ◌>>=◌, either, repeated, optional, listed, skipped}
@@ -25,7 +26,7 @@ pub data Item : Type 0 where
 unfoldable pub source_filename : Part Fault Item
 source_filename = do
   _ ← word (codes "source_filename")
-  _ ← mark 61
+  _ ← mark (byte "=")
   _ ← token a_string
   gives DroppedItem
 
@@ -34,7 +35,7 @@ unfoldable pub target_item : Part Fault Item
 target_item = do
   _ ← word (codes "target")
   _ ← token (a_word_of target_word)
-  _ ← mark 61
+  _ ← mark (byte "=")
   _ ← token a_string
   gives DroppedItem
 
@@ -66,7 +67,7 @@ only_align = do
 -- [ "," "section" STRING ] [ align ], where something stands: both begin by the comma, which is taken once
 unfoldable pub placement : Part Fault (Bool × Option ℕ)
 placement = do
-  _ ← mark 44
+  _ ← mark (byte ",")
   either (is_word (codes "section")) section only_align
 
 abbrev pub placed : Option (Bool × Option ℕ) → Bool × Option ℕ
@@ -82,13 +83,20 @@ place = do
 unfoldable pub global : Part Fault Item
 global = do
   name ← token a_global
-  _ ← mark 61
+  _ ← mark (byte "=")
   _ ← linkages
   fixed ← token (a_word_of fixed_word)
   ty ← type
   init ← const ty
   where_it_lies ← place
-  gives (GlobalItem (record { name = name; fixed = fixed; ty = ty; init = init; persistent = where_it_lies.0; align = where_it_lies.1 }))
+  gives (GlobalItem (record {
+    name = name;
+    fixed = fixed;
+    ty = ty;
+    init = init;
+    persistent = where_it_lies.0;
+    align = where_it_lies.1;
+  }))
 
 -- ---- externs and functions
 
@@ -101,8 +109,8 @@ extern_item = do
   _ ← word (codes "declare")
   result ← ret
   name ← token a_global
-  _ ← mark 40
-  params ← listed comma (is_mark 41) scalar
+  _ ← mark (byte "(")
+  params ← listed comma (is_mark (byte ")")) scalar
   _ ← maybe_unnamed
   gives (ExternItem (record { ret = result; name = name; params = params }))
 
@@ -127,12 +135,12 @@ function = do
   _ ← links
   result ← ret
   name ← token a_global
-  _ ← mark 40
-  params ← listed comma (is_mark 41) param
+  _ ← mark (byte "(")
+  params ← listed comma (is_mark (byte ")")) param
   _ ← maybe_unnamed
-  _ ← mark 123
+  _ ← mark (byte "{")
   body ← blocks
-  _ ← mark 125
+  _ ← mark (byte "}")
   gives (FunctionItem (record { ret = result; name = name; params = params; blocks = body }))
 
 -- ---- texts
@@ -147,7 +155,9 @@ item =
     target_item)))
 
 abbrev pub begins_item : Tok → Bool
-begins_item t = is_global t || (is_word (codes "declare") t || (is_word (codes "define") t || (is_word (codes "source_filename") t || is_word (codes "target") t)))
+begins_item t =
+    is_global t || (is_word (codes "declare") t || (is_word (codes "define") t || (is_word (codes "source_filename") t
+    || is_word (codes "target") t)))
 
 abbrev pub no_items : Program
 no_items = record { globals = []; externs = []; functions = [] }

@@ -2,7 +2,7 @@
 use Rattle.std.specs.Prelude.{ℕ, Bool, false, List, [], ◌∷◌, ◌||◌, ◌&&◌, ◌==◌, codes, if◌then◌else◌}
 use Rattle.std.specs.List.{list_all}
 use Rattle.std.specs.Str.{bytes_eq}
-use Rattle.hip_tokens.specs.Bytes.{is_digit}
+use Rattle.hip_tokens.specs.Bytes.{byte, is_digit}
 use Rattle.hip_tokens.specs.Tokens.{Tok, Word, Odd, At}
 use Rattle.hip_ir.specs.declared.fault.Fault.{Fault}
 use Rattle.hip_ir.specs.declared.fault.Fault.TheVariants as faults
@@ -11,7 +11,7 @@ use Rattle.hip_ir.specs.declared.fault.Fault.TheVariants as faults
 abbrev pub is_int_name : List ℕ → Bool
 is_int_name [] = false
 is_int_name (a ∷ []) = false
-is_int_name (a ∷ b ∷ bs) = (a == 105) && list_all is_digit (b ∷ bs)
+is_int_name (a ∷ b ∷ bs) = (a == byte "i") && list_all is_digit (b ∷ bs)
 
 abbrev pub one_of : List (List ℕ) → List ℕ → Bool
 one_of [] t = false
@@ -19,52 +19,70 @@ one_of (w ∷ ws) t = bytes_eq t w || one_of ws t
 
 -- types that are no integer and no pointer
 abbrev pub type_words : List (List ℕ)
-type_words = codes "half" ∷ codes "bfloat" ∷ codes "float" ∷ codes "double" ∷ codes "fp128" ∷ codes "x86_fp80" ∷ codes "ppc_fp128" ∷ []
+type_words =
+    codes "half" ∷ codes "bfloat" ∷ codes "float" ∷ codes "double" ∷ codes "fp128" ∷ codes "x86_fp80"
+    ∷ codes "ppc_fp128" ∷ []
 
 abbrev pub other_type_words : List (List ℕ)
-other_type_words = codes "metadata" ∷ codes "label" ∷ codes "token" ∷ codes "vector" ∷ codes "opaque" ∷ codes "type" ∷ []
+other_type_words =
+    codes "metadata" ∷ codes "label" ∷ codes "token" ∷ codes "vector" ∷ codes "opaque" ∷ codes "type" ∷ []
 
 abbrev pub constant_words : List (List ℕ)
 constant_words = codes "undef" ∷ codes "poison" ∷ codes "freeze" ∷ codes "c" ∷ codes "none" ∷ []
 
 abbrev pub float_words : List (List ℕ)
-float_words = codes "fadd" ∷ codes "fsub" ∷ codes "fmul" ∷ codes "fdiv" ∷ codes "frem" ∷ codes "fneg" ∷ codes "fcmp" ∷ []
+float_words =
+    codes "fadd" ∷ codes "fsub" ∷ codes "fmul" ∷ codes "fdiv" ∷ codes "frem" ∷ codes "fneg" ∷ codes "fcmp" ∷ []
 
 abbrev pub cast_words : List (List ℕ)
-cast_words = codes "fptoui" ∷ codes "fptosi" ∷ codes "uitofp" ∷ codes "sitofp" ∷ codes "fpext" ∷ codes "fptrunc" ∷ codes "bitcast" ∷ codes "addrspacecast" ∷ []
+cast_words =
+    codes "fptoui" ∷ codes "fptosi" ∷ codes "uitofp" ∷ codes "sitofp" ∷ codes "fpext" ∷ codes "fptrunc"
+    ∷ codes "bitcast" ∷ codes "addrspacecast" ∷ []
 
 abbrev pub aggregate_words : List (List ℕ)
-aggregate_words = codes "extractelement" ∷ codes "insertelement" ∷ codes "shufflevector" ∷ codes "extractvalue" ∷ codes "insertvalue" ∷ []
+aggregate_words =
+    codes "extractelement" ∷ codes "insertelement" ∷ codes "shufflevector" ∷ codes "extractvalue"
+    ∷ codes "insertvalue" ∷ []
 
 abbrev pub memory_words : List (List ℕ)
 memory_words = codes "atomicrmw" ∷ codes "cmpxchg" ∷ codes "fence" ∷ codes "atomic" ∷ codes "volatile" ∷ []
 
 abbrev pub control_words : List (List ℕ)
-control_words = codes "invoke" ∷ codes "resume" ∷ codes "landingpad" ∷ codes "catchswitch" ∷ codes "cleanupret" ∷ codes "callbr" ∷ codes "indirectbr" ∷ codes "va_arg" ∷ []
+control_words =
+    codes "invoke" ∷ codes "resume" ∷ codes "landingpad" ∷ codes "catchswitch" ∷ codes "cleanupret" ∷ codes "callbr"
+    ∷ codes "indirectbr" ∷ codes "va_arg" ∷ []
 
 abbrev pub call_words : List (List ℕ)
-call_words = codes "asm" ∷ codes "musttail" ∷ codes "notail" ∷ codes "attributes" ∷ codes "module" ∷ codes "comdat" ∷ codes "alias" ∷ codes "ifunc" ∷ []
+call_words =
+    codes "asm" ∷ codes "musttail" ∷ codes "notail" ∷ codes "attributes" ∷ codes "module" ∷ codes "comdat"
+    ∷ codes "alias" ∷ codes "ifunc" ∷ []
 
 abbrev pub linkage_words : List (List ℕ)
-linkage_words = codes "external" ∷ codes "extern_weak" ∷ codes "weak" ∷ codes "linkonce" ∷ codes "common" ∷ codes "thread_local" ∷ codes "addrspace" ∷ []
+linkage_words =
+    codes "external" ∷ codes "extern_weak" ∷ codes "weak" ∷ codes "linkonce" ∷ codes "common" ∷ codes "thread_local"
+    ∷ codes "addrspace" ∷ []
 
 abbrev pub flag_words : List (List ℕ)
 flag_words = codes "disjoint" ∷ codes "nneg" ∷ codes "samesign" ∷ codes "nusw" ∷ []
 
 abbrev pub attribute_words : List (List ℕ)
-attribute_words = codes "noundef" ∷ codes "nonnull" ∷ codes "nocapture" ∷ codes "readonly" ∷ codes "writeonly" ∷ codes "nounwind" ∷ []
+attribute_words =
+    codes "noundef" ∷ codes "nonnull" ∷ codes "nocapture" ∷ codes "readonly" ∷ codes "writeonly" ∷ codes "nounwind" ∷ []
 
 abbrev pub function_words : List (List ℕ)
 function_words = codes "noinline" ∷ codes "alwaysinline" ∷ codes "optnone" ∷ codes "uselistorder" ∷ []
 
 abbrev pub is_unsupported_word : List ℕ → Bool
 is_unsupported_word t =
-    is_int_name t || (one_of type_words t || (one_of other_type_words t || (one_of constant_words t || (one_of float_words t || (one_of cast_words t || (one_of aggregate_words t
-    || (one_of memory_words t || (one_of control_words t || (one_of call_words t || (one_of linkage_words t || (one_of flag_words t || (one_of attribute_words t || one_of function_words t))))))))))))
+    is_int_name t || (one_of type_words t || (one_of other_type_words t || (one_of constant_words t
+    || (one_of float_words t || (one_of cast_words t || (one_of aggregate_words t || (one_of memory_words t
+    || (one_of control_words t || (one_of call_words t || (one_of linkage_words t || (one_of flag_words t
+    || (one_of attribute_words t || one_of function_words t))))))))))))
 
 -- `! # < * % @`
 abbrev pub is_unsupported_byte : ℕ → Bool
-is_unsupported_byte b = (b == 33) || (b == 35) || (b == 60) || (b == 42) || (b == 37) || (b == 64)
+is_unsupported_byte b =
+    (b == byte "!") || (b == byte "#") || (b == byte "<") || (b == byte "*") || (b == byte "%") || (b == byte "@")
 
 abbrev pub is_unsupported : Tok → Bool
 is_unsupported (Word t) = is_unsupported_word t

@@ -13,6 +13,7 @@ use Rattle.hip_types.specs.declared.number.CastOp.{CastOp}
 use Rattle.hip_types.specs.declared.number.CastOp.TheVariants as casts
 use Rattle.hip_types.specs.declared.ty.Ty.{Ty}
 use Rattle.hip_types.specs.declared.ty.Ty.TheVariants as types
+use Rattle.hip_tokens.specs.Bytes.{byte}
 use Rattle.hip_tokens.specs.Tokens.{Tok, Word, Label, Local, Global, Str, Mark}
 use Rattle.hip_rules.specs.Rule.{Verdict, Yes, Because, No}
 use Rattle.hip_ir.specs.declared.fault.Fault.{Fault}
@@ -41,7 +42,7 @@ is_label (Label t) = true
 is_label _ = false
 
 abbrev pub comma : Tok → Bool
-comma = is_mark 44
+comma = is_mark (byte ",")
 
 -- any LOCAL, GLOBAL, LABEL, STRING, by its name or its bytes
 abbrev pub a_local : Tok → Verdict Fault (List ℕ)

@@ -1,4 +1,5 @@
-/// What is wrong with the first token by which a text leaves the grammar, or with the end of a text that stops too early.
+/// What is wrong with the first token by which a text leaves the grammar, or with the end of a text that stops too
+/// early.
 #[derive(Clone, Copy, Debug, PartialEq, Eq)]
 pub enum Fault {
     /// It may not stand there, or the text ends too early.

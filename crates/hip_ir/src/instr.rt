@@ -16,8 +16,8 @@ pub struct Arg {
     pub value: Operand,
 }
 
-/// A flag of an operation on integers: the result does not wrap as a number without sign, or as one with a sign; nothing is
-/// lost by a division or a shift to the right. It changes no value.
+/// A flag of an operation on integers: the result does not wrap as a number without sign, or as one with a sign;
+/// nothing is lost by a division or a shift to the right. It changes no value.
 #[derive(Clone, Copy, Debug, PartialEq, Eq)]
 pub enum Flag {
     Nuw,
@@ -140,8 +140,8 @@ macro_rules! copy_variant {
     };
 }
 
-/// Compares two values of one variant field by field: the fields in braces by `same`, those in brackets by `==`. Behind each
-/// field stands the name of the other value's.
+/// Compares two values of one variant field by field: the fields in braces by `same`, those in brackets by `==`.
+/// Behind each field stands the name of the other value's.
 macro_rules! same_variant {
     ($a:expr, $b:expr, $($variant:ident { $($x:ident $y:ident),* } [ $($p:ident $q:ident),* ],)*) => {
         match ($a, $b) {
@@ -156,15 +156,15 @@ macro_rules! same_variant {
 impl Structural for Instr {
     fn copy(&self, alloc: Global) -> Result<Instr, NoMemory> {
         copy_variant!(self, alloc,
-            Binary { dest, op, width, a, b } [flags],
-            Compare { dest, pred, ty, a, b } [],
-            Select { dest, cond, ty, a, b } [],
-            Cast { dest, op, from, a, to } [],
+            Binary { dest, a, b } [op, flags, width],
+            Compare { dest, a, b } [pred, ty],
+            Select { dest, cond, a, b } [ty],
+            Cast { dest, a } [op, from, to],
             Alloca { dest, ty } [align],
-            Load { dest, ty, addr } [align],
-            Store { ty, value, addr } [align],
+            Load { dest, addr } [ty, align],
+            Store { value, addr } [ty, align],
             Gep { dest, ty, base, indices } [inbounds],
-            Call { dest, ret, callee, args } [],
+            Call { dest, callee, args } [ret],
         )
     }
 

@@ -243,7 +243,8 @@ fn spelled_access(addr: &Operand, align: &Option<u64>) -> bool
 
 /// What `getelementptr` goes over, and by which indices.
 fn spelled_element(ty: &Ty, base: &Operand, indices: &[Arg]) -> bool
-    ensures { result ≡ (spelled_type ty.now && (spelled_operand Ptr base.now && (not_empty indices.now && list_all spelled_index indices.now))) }
+    ensures { result ≡ (spelled_type ty.now && (spelled_operand Ptr base.now
+        && (not_empty indices.now && list_all spelled_index indices.now))) }
 {
     spelled_type_within(32, ty)
         && spelled_operand(Scalar::Ptr, base)
@@ -476,7 +477,8 @@ fn meets_rules(program: &Program) -> bool
         && spelled_functions(program.functions.as_slice())
 }
 
-/// Whether the program is the one that its canonical text reads as, which is so of every program that some text reads as.
+/// Whether the program is the one that its canonical text reads as, which is so of every program that some text reads
+/// as.
 ///
 /// It takes no memory, and time linear in the program. Recursion is bounded by the limits of nesting.
 pub fn spelled(program: &Program) -> bool

@@ -27,9 +27,6 @@ quotient_fits (negsuc a) (pos b) h apart = record { sfits = negated (suc a / b) 
 quotient_fits (negsuc a) (negsuc b) h apart =
     record { sfits = negatives a b (omega arith) (λ e f. apart (ap negsuc e) (ap negsuc f)) }
 
-pub rest_fits : (x y : ℤ) → FitsSigned w64 x → FitsSigned w64 (int_rem x y)
-rest_fits x y h = record { sfits = omega (arith, mag_rem x y) }
-
 -- what an integer is that reads as z
 read_back : (w : Width) (n : ℕ) (z : ℤ) → n < modulus w → signed w n ≡ z → n ≡ wrapped w z
 read_back w n z h e = sym (wrapped-signed w n h) ∙ ap (wrapped w) e

@@ -14,7 +14,8 @@ use Rattle.hip_num.specs.declared.arithmetic.NumTrap.TheVariants.{DivZero, DivOv
 abbrev pub divided : ℕ → ℕ → Result ℕ NumTrap
 divided divisor value = if divisor == 0 then Err DivZero else Ok value
 
--- why a division with a sign has no result: a divisor of 0, or -2 ^ (N - 1) by -1, whose quotient is no integer of N bits
+-- why a division with a sign has no result: a divisor of 0, or -2 ^ (N - 1) by -1, whose quotient is no integer of N
+-- bits
 abbrev pub division_fault : Width → ℕ → ℕ → Option NumTrap
 division_fault w a b =
     if b == 0 then Some DivZero else (if a == sign_of w && b == modulus w - 1 then Some DivOverflow else None)
@@ -27,8 +28,8 @@ unless None value = Ok value
 abbrev pub shifted : Width → ℕ → ℕ → Result ℕ NumTrap
 shifted w amount value = if nat_lt amount (bits_of w) then Ok value else Err ShiftRange
 
--- the value before it is taken modulo 2 ^ N. Quotients with a sign are rounded toward zero, and the rest has the dividend's
--- sign. Zeros come in at `lshr`, and the sign at `ashr`.
+-- the value before it is taken modulo 2 ^ N. Quotients with a sign are rounded toward zero, and the rest has the
+-- dividend's sign. Zeros come in at `lshr`, and the sign at `ashr`.
 abbrev pub value_of : BinaryOp → Width → ℕ → ℕ → Result ℕ NumTrap
 value_of Add w a b = Ok (a + b)
 value_of Sub w a b = Ok (a + modulus w - b)

@@ -1,5 +1,5 @@
--- The texts of numbers, written and read. A written text has the least number of digits and lower case; digits are read with
--- leading zeros too, and hexadecimal ones in either case.
+-- The texts of numbers, written and read. A written text has the least number of digits and lower case; digits are
+-- read with leading zeros too, and hexadecimal ones in either case.
 use Rattle.std.specs.Prelude.{ℕ, ◌^◌, ◌<◌, Bool, false, List, ◌++◌, drop, IsTrue, codes, ℤ, pos, neg_ℤ, if◌then◌else◌, nat_eq, FitsSigned}
 use Rattle.std.specs.Fmt.{digits}
 use Rattle.std.specs.Int.{w64}
@@ -26,7 +26,9 @@ signed_digits text = if has_minus text then drop 1 text else text
 
 -- the number that decimal digits write, negated where a `-` stands first
 abbrev pub signed_value : List ℕ → ℤ
-signed_value text = if has_minus text then neg_ℤ (pos (digits_value 10 (signed_digits text))) else pos (digits_value 10 (signed_digits text))
+signed_value text =
+    if has_minus text then neg_ℤ (pos (digits_value 10 (signed_digits text)))
+    else pos (digits_value 10 (signed_digits text))
 
 -- one or more decimal digits, after a `-` or none, of a number from -2 ^ 63 to 2 ^ 63 - 1
 abbrev pub IsSignedNumber : List ℕ → Type 0

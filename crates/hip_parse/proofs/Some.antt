@@ -9,10 +9,10 @@ use Rattle.hip_rules.specs.Laws.Loops.{TakesSome}
 use Rattle.hip_rules.specs.Part.{one_more_by, token}
 use Rattle.hip_rules.specs.Laws.Parts.{read_takes_some, one_more_read, token_read, read_within}
 use Rattle.hip_ir.specs.declared.fault.Fault.{Fault}
-use Rattle.hip_ir.specs.Words.{comma, is_mark, is_local, is_label, a_word_of, is_word_of, width_word, scalar_word}
+use Rattle.hip_ir.specs.Words.{comma, is_mark, is_local, is_label, a_word_of, is_word_of, width_word, scalar_word, flag_word}
 use Rattle.hip_ir.specs.Grammar.{scalar, is_width, type_within, literal_index, const_within, typed_const, arg, index}
 use Rattle.hip_ir.specs.Laws.Apart.{not_word_of}
-use Rattle.hip_ir.specs.Bodies.{flag_word, assigned, edge, phi, case, instr, begins_instr, block}
+use Rattle.hip_ir.specs.Bodies.{assigned, edge, phi, case, instr, begins_instr, block}
 use Rattle.hip_ir.specs.Laws.BodiesExact.{assigned_read, edge_read, phi_read, case_read, instr_read, block_read}
 use Rattle.hip_ir.specs.Text.{param, item, begins_item}
 use Rattle.hip_ir.specs.Laws.TextExact.{scalar_read, param_read, item_read, goes_on_item}
@@ -22,41 +22,14 @@ use Rattle.hip_ir.specs.Laws.Exactness.{begins_type, type_read, literal_index_re
 pub type_some : (n : ℕ) → TakesSome (one_more_by comma (type_within n)).read
 type_some n = read_takes_some (one_more_by comma (type_within n)) comma never (one_more_read (type_within n) comma begins_type never (type_read n))
 
-pub literal_index_some : TakesSome (one_more_by comma literal_index).read
-literal_index_some = read_takes_some (one_more_by comma literal_index) comma never (one_more_read literal_index comma (is_word_of width_word) never literal_index_read)
-
 pub typed_const_some : (n : ℕ) → TakesSome (one_more_by comma (typed_const (const_within n))).read
 typed_const_some n = read_takes_some (one_more_by comma (typed_const (const_within n))) comma never (one_more_read (typed_const (const_within n)) comma begins_type never (typed_const_read (const_within n) (const_exact n)))
-
-pub arg_some : TakesSome (one_more_by comma arg).read
-arg_some = read_takes_some (one_more_by comma arg) comma never (one_more_read arg comma (is_word_of scalar_word) never arg_read)
-
-pub index_some : TakesSome (one_more_by comma index).read
-index_some = read_takes_some (one_more_by comma index) comma never (one_more_read index comma (is_word_of width_word) never index_read)
 
 pub word_some : {A : Type 0} (f : List ℕ → Option A) → TakesSome (token (a_word_of f)).read
 word_some f = read_takes_some (token (a_word_of f)) (is_word_of f) never (token_read (a_word_of f) (is_word_of f) never (not_word_of f))
 
 pub flag_some : (op : BinaryOp) → TakesSome (token (a_word_of (flag_word op))).read
 flag_some op = word_some (flag_word op)
-
-pub edge_some : (s : Scalar) → TakesSome (one_more_by comma (edge s)).read
-edge_some s = read_takes_some (one_more_by comma (edge s)) comma never (one_more_read (edge s) comma (is_mark 91) never (edge_read s))
-
-pub case_some : (w : Width) → TakesSome (case w).read
-case_some w = read_takes_some (case w) (is_width w) never (case_read w)
-
-pub instr_some : TakesSome instr.read
-instr_some = read_takes_some instr begins_instr comma instr_read
-
-pub block_some : TakesSome block.read
-block_some = read_takes_some block is_label never block_read
-
-pub scalar_some : TakesSome (one_more_by comma scalar).read
-scalar_some = read_takes_some (one_more_by comma scalar) comma never (one_more_read scalar comma (is_word_of scalar_word) never scalar_read)
-
-pub param_some : TakesSome (one_more_by comma param).read
-param_some = read_takes_some (one_more_by comma param) comma never (one_more_read param comma (is_word_of scalar_word) never param_read)
 
 pub item_some : TakesSome item.read
 item_some = read_takes_some item begins_item goes_on_item item_read

@@ -6,15 +6,76 @@ ghost use Rattle.hip_rules.specs.Reader.{many_at, next, with_front, leaders_at};
 ghost use Rattle.hip_ir.specs.Words.{comma, is_local, is_word};
 ghost use Rattle.hip_ir.specs.Grammar.{is_width};
 ghost use Rattle.hip_ir.specs.Bodies.{assigned, edge, phi, instr, begins_instr, target, jump, branch, br, case, switch, ret_void, ret_arg, ret_end, unreachable, end, closing, after_first, after_name, from_effect, after_phis, block};
+ghost use Rattle.hip_parse.specs.Lengths.{edge_within, case_some, instr_some};
 ghost use Rattle.hip_parse.specs.Left.{left, Gives, Takes};
 
-use crate::constants::name_of;
 use crate::error::ReadError;
 use crate::parser::Parser;
-use crate::words::width_text;
-use hip_ir::{Block, Case, Edge, End, Fault, Instr, Phi};
+use crate::parts::{Production, Repeated};
+use crate::words::{Scalars, Widths};
+use hip_ir::{Block, Case, Edge, End, Fault, Instr, Keyword, Phi};
 use hip_types::{Name, Row, Scalar, Width};
 use std::alloc::Global;
+
+/// An edge of a phi of this type.
+#[derive(Clone, Copy)]
+struct EdgeOf(Scalar);
+
+impl Production for EdgeOf {
+    type Value = Edge;
+
+    ghost part = { λ s. edge s.0 };
+
+    fn read<'a>(self, parser: &mut Parser<'a>, alloc: Global) -> Result<Edge, ReadError> {
+        parser.edge(alloc, self.0)
+    }
+
+    ghost within = { λ s. edge_within s.0 };
+}
+
+/// A case of a switch over integers of this width.
+#[derive(Clone, Copy)]
+struct CaseOf(Width);
+
+impl Repeated for CaseOf {
+    type Item = Case;
+
+    ghost begins = { λ s. is_width s.0 };
+
+    ghost reading = { λ s. (case s.0).read };
+
+    fn is_next<'a>(self, parser: &Parser<'a>) -> bool {
+        parser.at_word(self.0.keyword())
+    }
+
+    fn read_next<'a>(self, parser: &mut Parser<'a>, alloc: Global) -> Result<Case, ReadError> {
+        parser.case(alloc, self.0)
+    }
+
+    ghost some = { λ s. case_some s.0 };
+}
+
+/// The instructions of a basic block.
+#[derive(Clone, Copy)]
+struct Instructions;
+
+impl Repeated for Instructions {
+    type Item = Instr;
+
+    ghost begins = { λ _. begins_instr };
+
+    ghost reading = { λ _. instr.read };
+
+    fn is_next<'a>(self, parser: &Parser<'a>) -> bool {
+        parser.at_instr()
+    }
+
+    fn read_next<'a>(self, parser: &mut Parser<'a>, alloc: Global) -> Result<Instr, ReadError> {
+        parser.instr(alloc)
+    }
+
+    ghost some = { λ _. instr_some };
+}
 
 impl<'a> Parser<'a> {
     // ---- phis
@@ -28,42 +89,8 @@ impl<'a> Parser<'a> {
         self.mark(b',')?;
         let label = self.local()?;
         self.mark(b']')?;
-        let label = name_of(alloc, label)?;
+        let label = Row::from_slice(alloc, label)?;
         Ok(Edge { value, label })
-    }
-
-    #[tactic(auto, unfolding(hip_rules::specs::Part::separated))]
-    fn edges(&mut self, alloc: Global, scalar: Scalar) -> Result<Row<Edge>, ReadError>
-        ensures { Takes (λ x. x) result ((separated comma (edge scalar)).read (left self.old)) (left self.new) }
-    {
-        let first = self.edge(alloc, scalar)?;
-        let mut items = Row::new(alloc);
-        items.push(first)?;
-        self.more_edges(alloc, scalar, items)
-    }
-
-    #[tactic(auto, unfolding(hip_rules::specs::Part::one_more_by))]
-    fn next_edge(&mut self, alloc: Global, scalar: Scalar) -> Result<Edge, ReadError>
-        ensures { Takes (λ x. x) result ((one_more_by comma (edge scalar)).read (left self.old)) (left self.new) }
-    {
-        self.mark(b',')?;
-        self.edge(alloc, scalar)
-    }
-
-    fn more_edges(
-        &mut self,
-        alloc: Global,
-        scalar: Scalar,
-        items: Row<Edge>,
-    ) -> Result<Row<Edge>, ReadError>
-        ensures { Takes (λ x. x) result (with_front items (many_at comma (one_more_by comma (edge scalar)).read (left self.old))) (left self.new) }
-    {
-        let mut items = items;
-        'more: while self.at_mark(b',') {
-            let item = self.next_edge(alloc, scalar)?;
-            items.push(item)?;
-        }
-        Ok(items)
     }
 
     #[tactic(auto, unfolding(hip_ir::specs::Bodies::phi))]
@@ -71,8 +98,8 @@ impl<'a> Parser<'a> {
         ensures { Takes (λ x. x) result ((phi dest).read (left self.old)) (left self.new) }
     {
         self.word(b"phi")?;
-        let ty = self.scalar()?;
-        let edges = self.edges(alloc, ty)?;
+        let ty = self.keyword(Scalars)?;
+        let edges = self.separated(alloc, EdgeOf(ty))?;
         Ok(Phi { dest, ty, edges })
     }
 
@@ -107,7 +134,7 @@ impl<'a> Parser<'a> {
         ensures { Takes (λ x. x) result (jump.read (left self.old)) (left self.new) }
     {
         let label = self.target()?;
-        let label = name_of(alloc, label)?;
+        let label = Row::from_slice(alloc, label)?;
         Ok(End::Br { label })
     }
 
@@ -121,8 +148,8 @@ impl<'a> Parser<'a> {
         let yes = self.target()?;
         self.mark(b',')?;
         let no = self.target()?;
-        let yes = name_of(alloc, yes)?;
-        let no = name_of(alloc, no)?;
+        let yes = Row::from_slice(alloc, yes)?;
+        let no = Row::from_slice(alloc, no)?;
         Ok(End::CondBr { cond, yes, no })
     }
 
@@ -142,34 +169,12 @@ impl<'a> Parser<'a> {
     fn case(&mut self, alloc: Global, width: Width) -> Result<Case, ReadError>
         ensures { Takes (λ x. x) result ((case width).read (left self.old)) (left self.new) }
     {
-        self.word(width_text(width))?;
+        self.word(width.keyword())?;
         let value = self.literal(width)?;
         self.mark(b',')?;
         let label = self.target()?;
-        let label = name_of(alloc, label)?;
+        let label = Row::from_slice(alloc, label)?;
         Ok(Case { value, label })
-    }
-
-    fn at_width(&self, width: Width) -> bool
-        ensures { result ≡ next (is_width width) (left self.now) }
-    {
-        self.at_word(width_text(width))
-    }
-
-    fn cases(
-        &mut self,
-        alloc: Global,
-        width: Width,
-        items: Row<Case>,
-    ) -> Result<Row<Case>, ReadError>
-        ensures { Takes (λ x. x) result (with_front items (many_at (is_width width) (case width).read (left self.old))) (left self.new) }
-    {
-        let mut items = items;
-        'more: while self.at_width(width) {
-            let item = self.case(alloc, width)?;
-            items.push(item)?;
-        }
-        Ok(items)
     }
 
     #[tactic(auto, using(crate::proofs::Loops::nothing_before), unfolding(hip_ir::specs::Bodies::switch))]
@@ -177,14 +182,14 @@ impl<'a> Parser<'a> {
         ensures { Takes (λ x. x) result (switch.read (left self.old)) (left self.new) }
     {
         self.word(b"switch")?;
-        let width = self.width()?;
+        let width = self.keyword(Widths)?;
         let value = self.operand(alloc, Scalar::Int(width))?;
         self.mark(b',')?;
         let other = self.target()?;
         self.mark(b'[')?;
-        let cases = self.cases(alloc, width, Row::new(alloc))?;
+        let cases = self.repeated(alloc, CaseOf(width), Row::new(alloc))?;
         self.mark(b']')?;
-        let other = name_of(alloc, other)?;
+        let other = Row::from_slice(alloc, other)?;
         Ok(End::Switch {
             width,
             value,
@@ -233,17 +238,6 @@ impl<'a> Parser<'a> {
 
     // ---- blocks
 
-    fn more_instrs(&mut self, alloc: Global, items: Row<Instr>) -> Result<Row<Instr>, ReadError>
-        ensures { Takes (λ x. x) result (with_front items (many_at begins_instr instr.read (left self.old))) (left self.new) }
-    {
-        let mut items = items;
-        'more: while self.at_instr() {
-            let item = self.instr(alloc)?;
-            items.push(item)?;
-        }
-        Ok(items)
-    }
-
     #[tactic(auto, unfolding(hip_ir::specs::Bodies::closing))]
     fn closing(
         &mut self,
@@ -275,7 +269,7 @@ impl<'a> Parser<'a> {
     {
         let mut body = Row::new(alloc);
         body.push(first)?;
-        let body = self.more_instrs(alloc, body)?;
+        let body = self.repeated(alloc, Instructions, body)?;
         self.closing(alloc, label, phis, body)
     }
 
@@ -311,7 +305,7 @@ impl<'a> Parser<'a> {
     {
         let label = self.label()?;
         let (phis, pending) = self.leading_phis(alloc)?;
-        let label = name_of(alloc, label)?;
+        let label = Row::from_slice(alloc, label)?;
         match pending {
             Some(dest) => self.after_name(alloc, label, phis, dest),
             None => self.after_phis(alloc, label, phis),

@@ -1,29 +1,72 @@
 //! Constants and operands.
 
-ghost use Rattle.std.specs.Prelude.{◌≡◌, ℕ, List, [], ◌∷◌, ◌++◌, IfOk, codes};
+ghost use Rattle.std.specs.Prelude.{◌≡◌, ℕ, List, [], ◌∷◌, ◌++◌, codes};
 ghost use Rattle.hip_types.specs.declared.number.Scalar.TheVariants.{Ptr};
+ghost use Rattle.hip_tokens.specs.Bytes.{byte};
 ghost use Rattle.hip_rules.specs.Part.{token, either, one_more_by, separated, listed};
 ghost use Rattle.hip_rules.specs.Reader.{many_at, with_front};
 ghost use Rattle.hip_ir.specs.Words.{is_mark, comma, too_deep};
 ghost use Rattle.hip_ir.specs.Numbers.{an_int_const};
 ghost use Rattle.hip_ir.specs.Grammar.{a_pointer, zero_const, literal_index, gep_inside, gep_const, pointer_within, typed_const, const_list, array_const, struct_const, const_within, scalar_const, register, fixed_operand, operand, arg, index};
+ghost use Rattle.hip_parse.specs.Lengths.{literal_index_within, arg_within, index_within};
 ghost use Rattle.hip_parse.specs.Left.{left, Gives, Takes};
 
 use crate::error::ReadError;
 use crate::parser::Parser;
+use crate::parts::Production;
+use crate::words::{Scalars, Widths};
 use hip_ir::{Arg, Const, ConstGep, Fault, Operand, TypedConst};
 use hip_tokens::Token;
-use hip_types::{Bits, Link, Name, NoMemory, Row, Scalar, Ty};
+use hip_types::{Bits, Link, Row, Scalar, Ty};
 use std::alloc::Global;
 
-/// A name of its own.
-pub(crate) fn name_of(alloc: Global, text: &[u8]) -> Result<Name, NoMemory>
-    ensures { IfOk result (λ name. name ≡ text.now) }
-{
-    match Vec::from_slice(alloc, text) {
-        Ok(bytes) => Ok(Row::from_vec(bytes)),
-        Err(_) => Err(NoMemory),
+/// An integer type and a literal of it.
+#[derive(Clone, Copy)]
+struct LiteralIndex;
+
+impl Production for LiteralIndex {
+    type Value = Bits;
+
+    ghost part = { λ _. literal_index };
+
+    fn read<'a>(self, parser: &mut Parser<'a>, _alloc: Global) -> Result<Bits, ReadError> {
+        let index = parser.literal_index()?;
+        Ok(index)
     }
+
+    ghost within = { λ _. literal_index_within };
+}
+
+/// An operand with its type.
+#[derive(Clone, Copy)]
+pub(crate) struct Argument;
+
+impl Production for Argument {
+    type Value = Arg;
+
+    ghost part = { λ _. arg };
+
+    fn read<'a>(self, parser: &mut Parser<'a>, alloc: Global) -> Result<Arg, ReadError> {
+        parser.arg(alloc)
+    }
+
+    ghost within = { λ _. arg_within };
+}
+
+/// An operand with its integer type.
+#[derive(Clone, Copy)]
+pub(crate) struct Index;
+
+impl Production for Index {
+    type Value = Arg;
+
+    ghost part = { λ _. index };
+
+    fn read<'a>(self, parser: &mut Parser<'a>, alloc: Global) -> Result<Arg, ReadError> {
+        parser.index(alloc)
+    }
+
+    ghost within = { λ _. index_within };
 }
 
 impl<'a> Parser<'a> {
@@ -33,37 +76,8 @@ impl<'a> Parser<'a> {
     fn literal_index(&mut self) -> Result<Bits, Option<Fault>>
         ensures { Gives (λ x. x) result (literal_index.read (left self.old)) (left self.new) }
     {
-        let width = self.width()?;
+        let width = self.keyword(Widths)?;
         self.literal(width)
-    }
-
-    #[tactic(auto, unfolding(hip_rules::specs::Part::one_more_by))]
-    fn next_literal_index(&mut self) -> Result<Bits, Option<Fault>>
-        ensures { Gives (λ x. x) result ((one_more_by comma literal_index).read (left self.old)) (left self.new) }
-    {
-        self.mark(b',')?;
-        self.literal_index()
-    }
-
-    fn more_literal_indices(&mut self, items: Row<Bits>) -> Result<Row<Bits>, ReadError>
-        ensures { Takes (λ x. x) result (with_front items (many_at comma (one_more_by comma literal_index).read (left self.old))) (left self.new) }
-    {
-        let mut items = items;
-        'more: while self.at_mark(b',') {
-            let item = self.next_literal_index()?;
-            items.push(item)?;
-        }
-        Ok(items)
-    }
-
-    #[tactic(auto, unfolding(hip_rules::specs::Part::separated))]
-    fn literal_indices(&mut self, alloc: Global) -> Result<Row<Bits>, ReadError>
-        ensures { Takes (λ x. x) result ((separated comma literal_index).read (left self.old)) (left self.new) }
-    {
-        let first = self.literal_index()?;
-        let mut items = Row::new(alloc);
-        items.push(first)?;
-        self.more_literal_indices(items)
     }
 
     /// A constant under `ptr` that opens nothing.
@@ -85,7 +99,7 @@ impl<'a> Parser<'a> {
             }
             Some((Token::Global(t), _)) => {
                 self.advance();
-                Ok(Const::Address(name_of(alloc, t)?))
+                Ok(Const::Address(Row::from_slice(alloc, t)?))
             }
             _ => Err(ReadError::Refused(None)),
         }
@@ -94,7 +108,7 @@ impl<'a> Parser<'a> {
     /// A `getelementptr` where none may open any more.
     #[tactic(auto, unfolding(crate::specs::Left::left, hip_ir::specs::Grammar::gep_const))]
     fn shallow_gep(&mut self) -> Result<Const, Option<Fault>>
-        ensures { Gives (λ x. x) result ((gep_const (λ inbounds. token (too_deep 40))).read (left self.old)) (left self.new) }
+        ensures { Gives (λ x. x) result ((gep_const (λ inbounds. token (too_deep (byte "(")))).read (left self.old)) (left self.new) }
     {
         self.word(b"getelementptr")?;
         let _inbounds = self.maybe_word(b"inbounds")?;
@@ -142,7 +156,7 @@ impl<'a> Parser<'a> {
         self.word(b"ptr")?;
         let base = self.pointer(alloc, depth)?;
         self.mark(b',')?;
-        let indices = self.literal_indices(alloc)?;
+        let indices = self.separated(alloc, LiteralIndex)?;
         self.mark(b')')?;
         let gep = ConstGep {
             inbounds,
@@ -170,7 +184,7 @@ impl<'a> Parser<'a> {
     /// An aggregate constant where no level is left.
     #[tactic(auto, unfolding(crate::specs::Left::left, hip_ir::specs::Grammar::array_const))]
     fn shallow_array(&mut self) -> Result<Const, Option<Fault>>
-        ensures { Gives (λ x. x) result ((either (is_mark 91) (array_const (token (too_deep 91))) (token zero_const)).read (left self.old)) (left self.new) }
+        ensures { Gives (λ x. x) result ((either (is_mark (byte "[")) (array_const (token (too_deep (byte "[")))) (token zero_const)).read (left self.old)) (left self.new) }
     {
         if self.at_mark(b'[') {
             Err(Some(Fault::TooDeep))
@@ -181,7 +195,7 @@ impl<'a> Parser<'a> {
 
     #[tactic(auto, unfolding(crate::specs::Left::left, hip_ir::specs::Grammar::struct_const))]
     fn shallow_struct(&mut self) -> Result<Const, Option<Fault>>
-        ensures { Gives (λ x. x) result ((either (is_mark 123) (struct_const (token (too_deep 123))) (token zero_const)).read (left self.old)) (left self.new) }
+        ensures { Gives (λ x. x) result ((either (is_mark (byte "{")) (struct_const (token (too_deep (byte "{")))) (token zero_const)).read (left self.old)) (left self.new) }
     {
         if self.at_mark(b'{') {
             Err(Some(Fault::TooDeep))
@@ -240,7 +254,7 @@ impl<'a> Parser<'a> {
     #[cycle(constants)]
     #[tactic(auto, unfolding(hip_ir::specs::Grammar::array_const))]
     fn array_value(&mut self, alloc: Global, depth: u32) -> Result<Const, ReadError>
-        ensures { Takes (λ x. x) result ((either (is_mark 91) (array_const (const_list 91 93 (const_within depth))) (token zero_const)).read (left self.old)) (left self.new) }
+        ensures { Takes (λ x. x) result ((either (is_mark (byte "[")) (array_const (const_list (byte "[") (byte "]") (const_within depth))) (token zero_const)).read (left self.old)) (left self.new) }
     {
         if self.at_mark(b'[') {
             let elements = self.elements(alloc, depth)?;
@@ -254,7 +268,7 @@ impl<'a> Parser<'a> {
     #[cycle(constants)]
     #[tactic(auto, unfolding(hip_ir::specs::Grammar::struct_const))]
     fn struct_value(&mut self, alloc: Global, depth: u32) -> Result<Const, ReadError>
-        ensures { Takes (λ x. x) result ((either (is_mark 123) (struct_const (const_list 123 125 (const_within depth))) (token zero_const)).read (left self.old)) (left self.new) }
+        ensures { Takes (λ x. x) result ((either (is_mark (byte "{")) (struct_const (const_list (byte "{") (byte "}") (const_within depth))) (token zero_const)).read (left self.old)) (left self.new) }
     {
         if self.at_mark(b'{') {
             let fields = self.field_values(alloc, depth)?;
@@ -268,7 +282,7 @@ impl<'a> Parser<'a> {
     #[cycle(constants)]
     #[tactic(auto, unfolding(hip_ir::specs::Grammar::const_list, hip_rules::specs::Part::listed, hip_rules::specs::Part::none_up_to, hip_rules::specs::Part::some_up_to))]
     fn elements(&mut self, alloc: Global, depth: u32) -> Result<Row<TypedConst>, ReadError>
-        ensures { Takes (λ x. x) result ((const_list 91 93 (const_within depth)).read (left self.old)) (left self.new) }
+        ensures { Takes (λ x. x) result ((const_list (byte "[") (byte "]") (const_within depth)).read (left self.old)) (left self.new) }
     {
         self.mark(b'[')?;
         if self.at_mark(b']') {
@@ -283,7 +297,7 @@ impl<'a> Parser<'a> {
     #[cycle(constants)]
     #[tactic(auto, unfolding(hip_ir::specs::Grammar::const_list, hip_rules::specs::Part::listed, hip_rules::specs::Part::none_up_to, hip_rules::specs::Part::some_up_to))]
     fn field_values(&mut self, alloc: Global, depth: u32) -> Result<Row<TypedConst>, ReadError>
-        ensures { Takes (λ x. x) result ((const_list 123 125 (const_within depth)).read (left self.old)) (left self.new) }
+        ensures { Takes (λ x. x) result ((const_list (byte "{") (byte "}") (const_within depth)).read (left self.old)) (left self.new) }
     {
         self.mark(b'{')?;
         if self.at_mark(b'}') {
@@ -364,7 +378,7 @@ impl<'a> Parser<'a> {
     {
         if self.at_local() {
             let name = self.local()?;
-            Ok(Operand::Reg(name_of(alloc, name)?))
+            Ok(Operand::Reg(Row::from_slice(alloc, name)?))
         } else {
             let value = self.scalar_const(alloc, scalar)?;
             Ok(Operand::Fixed(value))
@@ -375,7 +389,7 @@ impl<'a> Parser<'a> {
     pub(crate) fn arg(&mut self, alloc: Global) -> Result<Arg, ReadError>
         ensures { Takes (λ x. x) result (arg.read (left self.old)) (left self.new) }
     {
-        let ty = self.scalar()?;
+        let ty = self.keyword(Scalars)?;
         let value = self.operand(alloc, ty)?;
         Ok(Arg { ty, value })
     }
@@ -384,80 +398,9 @@ impl<'a> Parser<'a> {
     fn index(&mut self, alloc: Global) -> Result<Arg, ReadError>
         ensures { Takes (λ x. x) result (index.read (left self.old)) (left self.new) }
     {
-        let width = self.width()?;
+        let width = self.keyword(Widths)?;
         let ty = Scalar::Int(width);
         let value = self.operand(alloc, ty)?;
         Ok(Arg { ty, value })
-    }
-
-    #[tactic(auto, unfolding(hip_rules::specs::Part::listed, hip_rules::specs::Part::none_up_to, hip_rules::specs::Part::some_up_to))]
-    pub(crate) fn args(&mut self, alloc: Global) -> Result<Row<Arg>, ReadError>
-        ensures { Takes (λ x. x) result ((listed comma (is_mark 41) arg).read (left self.old)) (left self.new) }
-    {
-        if self.at_mark(b')') {
-            self.mark(b')')?;
-            return Ok(Row::new(alloc));
-        }
-        let items = self.some_args(alloc)?;
-        self.mark(b')')?;
-        Ok(items)
-    }
-
-    #[tactic(auto, unfolding(hip_rules::specs::Part::separated))]
-    fn some_args(&mut self, alloc: Global) -> Result<Row<Arg>, ReadError>
-        ensures { Takes (λ x. x) result ((separated comma arg).read (left self.old)) (left self.new) }
-    {
-        let first = self.arg(alloc)?;
-        let mut items = Row::new(alloc);
-        items.push(first)?;
-        self.more_args(alloc, items)
-    }
-
-    #[tactic(auto, unfolding(hip_rules::specs::Part::one_more_by))]
-    fn next_arg(&mut self, alloc: Global) -> Result<Arg, ReadError>
-        ensures { Takes (λ x. x) result ((one_more_by comma arg).read (left self.old)) (left self.new) }
-    {
-        self.mark(b',')?;
-        self.arg(alloc)
-    }
-
-    fn more_args(&mut self, alloc: Global, items: Row<Arg>) -> Result<Row<Arg>, ReadError>
-        ensures { Takes (λ x. x) result (with_front items (many_at comma (one_more_by comma arg).read (left self.old))) (left self.new) }
-    {
-        let mut items = items;
-        'more: while self.at_mark(b',') {
-            let item = self.next_arg(alloc)?;
-            items.push(item)?;
-        }
-        Ok(items)
-    }
-
-    #[tactic(auto, unfolding(hip_rules::specs::Part::separated))]
-    pub(crate) fn indices(&mut self, alloc: Global) -> Result<Row<Arg>, ReadError>
-        ensures { Takes (λ x. x) result ((separated comma index).read (left self.old)) (left self.new) }
-    {
-        let first = self.index(alloc)?;
-        let mut items = Row::new(alloc);
-        items.push(first)?;
-        self.more_indices(alloc, items)
-    }
-
-    #[tactic(auto, unfolding(hip_rules::specs::Part::one_more_by))]
-    fn next_index(&mut self, alloc: Global) -> Result<Arg, ReadError>
-        ensures { Takes (λ x. x) result ((one_more_by comma index).read (left self.old)) (left self.new) }
-    {
-        self.mark(b',')?;
-        self.index(alloc)
-    }
-
-    fn more_indices(&mut self, alloc: Global, items: Row<Arg>) -> Result<Row<Arg>, ReadError>
-        ensures { Takes (λ x. x) result (with_front items (many_at comma (one_more_by comma index).read (left self.old))) (left self.new) }
-    {
-        let mut items = items;
-        'more: while self.at_mark(b',') {
-            let item = self.next_index(alloc)?;
-            items.push(item)?;
-        }
-        Ok(items)
     }
 }

@@ -6,22 +6,25 @@ ghost use Rattle.hip_rules.specs.Reader.{many_at, next};
 ghost use Rattle.hip_ir.specs.Bodies.{align, maybe_align, assigned, with_flag, flags, binary, compare, select, int_cast, ptrtoint, inttoptr, alloca, load, gep, plain_call, call, store, memory_instr, cast_instr, value_instr, effect_instr, assigning_instr, instr, begins_effect, begins_instr};
 ghost use Rattle.hip_parse.specs.Left.{left, Gives, Takes};
 
-use crate::constants::name_of;
+use crate::constants::{Argument, Index};
 use crate::error::ReadError;
 use crate::parser::Parser;
-use crate::words::scalar_text;
-use hip_ir::{Fault, Flags, Instr};
-use hip_types::{BinaryOp, CastOp, Name, Scalar, Width};
+use crate::words::{BinaryOps, FlagsAfter, IntCasts, Preds, Results, Scalars, Widths};
+use hip_ir::{Fault, Flag, Flags, Instr, Keyword};
+use hip_types::{BinaryOp, CastOp, Name, Row, Scalar, Width};
 use std::alloc::Global;
 
-/// The flags of both.
-fn with_flag(a: Flags, b: Flags) -> Flags
-    ensures { result ≡ with_flag a b }
+/// The flags and one more.
+fn with_flag(flags: Flags, flag: Flag) -> Flags
+    ensures { result ≡ with_flag flags flag }
 {
-    Flags {
-        nuw: a.nuw | b.nuw,
-        nsw: a.nsw | b.nsw,
-        exact: a.exact | b.exact,
+    match flag {
+        Flag::Nuw => Flags { nuw: true, ..flags },
+        Flag::Nsw => Flags { nsw: true, ..flags },
+        Flag::Exact => Flags {
+            exact: true,
+            ..flags
+        },
     }
 }
 
@@ -55,8 +58,8 @@ impl<'a> Parser<'a> {
             nsw: false,
             exact: false,
         };
-        'more: while self.at_flag(op) {
-            let item = self.flag(op)?;
+        'more: while self.at_keyword(FlagsAfter(op)) {
+            let item = self.keyword(FlagsAfter(op))?;
             set = with_flag(set, item);
         }
         Ok(set)
@@ -66,9 +69,9 @@ impl<'a> Parser<'a> {
     fn binary(&mut self, alloc: Global, dest: Name) -> Result<Instr, ReadError>
         ensures { Takes (λ x. x) result ((binary dest).read (left self.old)) (left self.new) }
     {
-        let op = self.binary_op()?;
+        let op = self.keyword(BinaryOps)?;
         let flags = self.flags(op)?;
-        let width = self.width()?;
+        let width = self.keyword(Widths)?;
         let a = self.operand(alloc, Scalar::Int(width))?;
         self.mark(b',')?;
         let b = self.operand(alloc, Scalar::Int(width))?;
@@ -87,8 +90,8 @@ impl<'a> Parser<'a> {
         ensures { Takes (λ x. x) result ((compare dest).read (left self.old)) (left self.new) }
     {
         self.word(b"icmp")?;
-        let pred = self.pred()?;
-        let ty = self.scalar()?;
+        let pred = self.keyword(Preds)?;
+        let ty = self.keyword(Scalars)?;
         let a = self.operand(alloc, ty)?;
         self.mark(b',')?;
         let b = self.operand(alloc, ty)?;
@@ -109,10 +112,10 @@ impl<'a> Parser<'a> {
         self.word(b"i1")?;
         let cond = self.operand(alloc, Scalar::Int(Width::W1))?;
         self.mark(b',')?;
-        let ty = self.scalar()?;
+        let ty = self.keyword(Scalars)?;
         let a = self.operand(alloc, ty)?;
         self.mark(b',')?;
-        self.word(scalar_text(ty))?;
+        self.word(ty.keyword())?;
         let b = self.operand(alloc, ty)?;
         Ok(Instr::Select {
             dest,
@@ -127,12 +130,12 @@ impl<'a> Parser<'a> {
     fn int_cast(&mut self, alloc: Global, dest: Name) -> Result<Instr, ReadError>
         ensures { Takes (λ x. x) result ((int_cast dest).read (left self.old)) (left self.new) }
     {
-        let op = self.int_cast_op()?;
-        let width = self.width()?;
+        let op = self.keyword(IntCasts)?;
+        let width = self.keyword(Widths)?;
         let from = Scalar::Int(width);
         let a = self.operand(alloc, from)?;
         self.word(b"to")?;
-        let width = self.width()?;
+        let width = self.keyword(Widths)?;
         let to = Scalar::Int(width);
         Ok(Instr::Cast {
             dest,
@@ -151,7 +154,7 @@ impl<'a> Parser<'a> {
         self.word(b"ptr")?;
         let a = self.operand(alloc, Scalar::Ptr)?;
         self.word(b"to")?;
-        let width = self.width()?;
+        let width = self.keyword(Widths)?;
         Ok(Instr::Cast {
             dest,
             op: CastOp::Ptrtoint,
@@ -166,7 +169,7 @@ impl<'a> Parser<'a> {
         ensures { Takes (λ x. x) result ((inttoptr dest).read (left self.old)) (left self.new) }
     {
         self.word(b"inttoptr")?;
-        let width = self.width()?;
+        let width = self.keyword(Widths)?;
         let a = self.operand(alloc, Scalar::Int(width))?;
         self.word(b"to")?;
         self.word(b"ptr")?;
@@ -194,7 +197,7 @@ impl<'a> Parser<'a> {
         ensures { Takes (λ x. x) result ((load dest).read (left self.old)) (left self.new) }
     {
         self.word(b"load")?;
-        let ty = self.scalar()?;
+        let ty = self.keyword(Scalars)?;
         self.mark(b',')?;
         self.word(b"ptr")?;
         let addr = self.operand(alloc, Scalar::Ptr)?;
@@ -212,7 +215,7 @@ impl<'a> Parser<'a> {
         ensures { Takes (λ x. x) result (store.read (left self.old)) (left self.new) }
     {
         self.word(b"store")?;
-        let ty = self.scalar()?;
+        let ty = self.keyword(Scalars)?;
         let value = self.operand(alloc, ty)?;
         self.mark(b',')?;
         self.word(b"ptr")?;
@@ -237,7 +240,7 @@ impl<'a> Parser<'a> {
         self.word(b"ptr")?;
         let base = self.operand(alloc, Scalar::Ptr)?;
         self.mark(b',')?;
-        let indices = self.indices(alloc)?;
+        let indices = self.separated(alloc, Index)?;
         Ok(Instr::Gep {
             dest,
             inbounds,
@@ -252,11 +255,11 @@ impl<'a> Parser<'a> {
         ensures { Takes (λ x. x) result ((plain_call dest).read (left self.old)) (left self.new) }
     {
         self.word(b"call")?;
-        let ret = self.ret()?;
+        let ret = self.keyword(Results)?;
         let callee = self.global_name()?;
         self.mark(b'(')?;
-        let args = self.args(alloc)?;
-        let callee = name_of(alloc, callee)?;
+        let args = self.listed(alloc, b')', Argument)?;
+        let callee = Row::from_slice(alloc, callee)?;
         Ok(Instr::Call {
             dest,
             ret,
@@ -297,7 +300,7 @@ impl<'a> Parser<'a> {
     fn cast_instr(&mut self, alloc: Global, dest: Name) -> Result<Instr, ReadError>
         ensures { Takes (λ x. x) result ((cast_instr dest).read (left self.old)) (left self.new) }
     {
-        if self.at_int_cast() {
+        if self.at_keyword(IntCasts) {
             self.int_cast(alloc, dest)
         } else if self.at_word(b"ptrtoint") {
             self.ptrtoint(alloc, dest)
@@ -313,7 +316,7 @@ impl<'a> Parser<'a> {
     pub(crate) fn value_instr(&mut self, alloc: Global, dest: Name) -> Result<Instr, ReadError>
         ensures { Takes (λ x. x) result ((value_instr dest).read (left self.old)) (left self.new) }
     {
-        if self.at_binary() {
+        if self.at_keyword(BinaryOps) {
             self.binary(alloc, dest)
         } else if self.at_word(b"icmp") {
             self.compare(alloc, dest)
@@ -357,7 +360,7 @@ impl<'a> Parser<'a> {
     {
         let name = self.local()?;
         self.mark(b'=')?;
-        Ok(name_of(alloc, name)?)
+        Ok(Row::from_slice(alloc, name)?)
     }
 
     #[tactic(auto, unfolding(hip_ir::specs::Bodies::assigning_instr))]

@@ -8,11 +8,13 @@ ghost use Rattle.hip_ir.specs.Grammar.{scalar};
 ghost use Rattle.hip_ir.specs.Bodies.{block};
 ghost use Rattle.hip_ir.specs.Text.{GlobalItem, ExternItem, FunctionItem, DroppedItem, linkages, links, source_filename, target_item, section, only_align, placement, place, global, maybe_unnamed, extern_item, param, blocks, function, item, begins_item, with_item, text};
 ghost use Rattle.hip_parse.specs.Items.{item_of};
+ghost use Rattle.hip_parse.specs.Lengths.{scalar_within, param_within, block_some};
 ghost use Rattle.hip_parse.specs.Left.{left, Gives, Takes};
 
-use crate::constants::name_of;
 use crate::error::ReadError;
 use crate::parser::Parser;
+use crate::parts::{Production, Repeated};
+use crate::words::{Fixed, Linkages, Links, Results, Scalars, TargetWords, Unnamed};
 use hip_ir::{Block, Extern, Fault, Function, GlobalVar, Param, Program};
 use hip_types::{NoMemory, Row, Scalar};
 use std::alloc::Global;
@@ -39,13 +41,68 @@ fn add(program: &mut Program, item: Item) -> Result<(), NoMemory>
     }
 }
 
+/// The type of a parameter of a declared function.
+#[derive(Clone, Copy)]
+struct ParamType;
+
+impl Production for ParamType {
+    type Value = Scalar;
+
+    ghost part = { λ _. scalar };
+
+    fn read<'a>(self, parser: &mut Parser<'a>, _alloc: Global) -> Result<Scalar, ReadError> {
+        let scalar = parser.keyword(Scalars)?;
+        Ok(scalar)
+    }
+
+    ghost within = { λ _. scalar_within };
+}
+
+/// A parameter of a function.
+#[derive(Clone, Copy)]
+struct Parameter;
+
+impl Production for Parameter {
+    type Value = Param;
+
+    ghost part = { λ _. param };
+
+    fn read<'a>(self, parser: &mut Parser<'a>, alloc: Global) -> Result<Param, ReadError> {
+        parser.param(alloc)
+    }
+
+    ghost within = { λ _. param_within };
+}
+
+/// The basic blocks of a function.
+#[derive(Clone, Copy)]
+struct Blocks;
+
+impl Repeated for Blocks {
+    type Item = Block;
+
+    ghost begins = { λ _. is_label };
+
+    ghost reading = { λ _. block.read };
+
+    fn is_next<'a>(self, parser: &Parser<'a>) -> bool {
+        parser.at_label()
+    }
+
+    fn read_next<'a>(self, parser: &mut Parser<'a>, alloc: Global) -> Result<Block, ReadError> {
+        parser.block(alloc)
+    }
+
+    ghost some = { λ _. block_some };
+}
+
 impl<'a> Parser<'a> {
     #[tactic(auto, unfolding(hip_rules::specs::Part::skipped))]
     fn linkages(&mut self) -> Result<(), Option<Fault>>
         ensures { Gives (λ x. x) result (linkages.read (left self.old)) (left self.new) }
     {
-        'more: while self.at_linkage() {
-            self.linkage()?;
+        'more: while self.at_keyword(Linkages) {
+            self.keyword(Linkages)?;
         }
         Ok(())
     }
@@ -54,8 +111,8 @@ impl<'a> Parser<'a> {
     fn links(&mut self) -> Result<(), Option<Fault>>
         ensures { Gives (λ x. x) result (links.read (left self.old)) (left self.new) }
     {
-        'more: while self.at_link() {
-            self.link()?;
+        'more: while self.at_keyword(Links) {
+            self.keyword(Links)?;
         }
         Ok(())
     }
@@ -63,8 +120,8 @@ impl<'a> Parser<'a> {
     fn skip_unnamed(&mut self) -> Result<Option<()>, Option<Fault>>
         ensures { Gives (λ x. x) result (maybe_unnamed.read (left self.old)) (left self.new) }
     {
-        if self.at_unnamed() {
-            self.unnamed()?;
+        if self.at_keyword(Unnamed) {
+            self.keyword(Unnamed)?;
             Ok(Some(()))
         } else {
             Ok(None)
@@ -86,7 +143,7 @@ impl<'a> Parser<'a> {
         ensures { Gives item_of result (target_item.read (left self.old)) (left self.new) }
     {
         self.word(b"target")?;
-        self.target_name()?;
+        self.keyword(TargetWords)?;
         self.mark(b'=')?;
         self.string()?;
         Ok(Item::Dropped)
@@ -142,11 +199,11 @@ impl<'a> Parser<'a> {
         let name = self.global_name()?;
         self.mark(b'=')?;
         self.linkages()?;
-        let fixed = self.fixed()?;
+        let fixed = self.keyword(Fixed)?;
         let ty = self.ty(alloc, 32)?;
         let init = self.const_value(alloc, 32, &ty)?;
         let (persistent, align) = self.place()?;
-        let name = name_of(alloc, name)?;
+        let name = Row::from_slice(alloc, name)?;
         Ok(Item::Global(GlobalVar {
             name,
             fixed,
@@ -157,59 +214,17 @@ impl<'a> Parser<'a> {
         }))
     }
 
-    #[tactic(auto, unfolding(hip_rules::specs::Part::listed, hip_rules::specs::Part::none_up_to, hip_rules::specs::Part::some_up_to))]
-    fn scalars(&mut self, alloc: Global) -> Result<Row<Scalar>, ReadError>
-        ensures { Takes (λ x. x) result ((listed comma (is_mark 41) scalar).read (left self.old)) (left self.new) }
-    {
-        if self.at_mark(b')') {
-            self.mark(b')')?;
-            return Ok(Row::new(alloc));
-        }
-        let items = self.some_scalars(alloc)?;
-        self.mark(b')')?;
-        Ok(items)
-    }
-
-    #[tactic(auto, unfolding(hip_rules::specs::Part::separated))]
-    fn some_scalars(&mut self, alloc: Global) -> Result<Row<Scalar>, ReadError>
-        ensures { Takes (λ x. x) result ((separated comma scalar).read (left self.old)) (left self.new) }
-    {
-        let first = self.scalar()?;
-        let mut items = Row::new(alloc);
-        items.push(first)?;
-        self.more_scalars(items)
-    }
-
-    #[tactic(auto, unfolding(hip_rules::specs::Part::one_more_by))]
-    fn next_scalar(&mut self) -> Result<Scalar, Option<Fault>>
-        ensures { Gives (λ x. x) result ((one_more_by comma scalar).read (left self.old)) (left self.new) }
-    {
-        self.mark(b',')?;
-        self.scalar()
-    }
-
-    fn more_scalars(&mut self, items: Row<Scalar>) -> Result<Row<Scalar>, ReadError>
-        ensures { Takes (λ x. x) result (with_front items (many_at comma (one_more_by comma scalar).read (left self.old))) (left self.new) }
-    {
-        let mut items = items;
-        'more: while self.at_mark(b',') {
-            let item = self.next_scalar()?;
-            items.push(item)?;
-        }
-        Ok(items)
-    }
-
     #[tactic(auto, unfolding(hip_ir::specs::Text::extern_item))]
     fn extern_item(&mut self, alloc: Global) -> Result<Item, ReadError>
         ensures { Takes item_of result (extern_item.read (left self.old)) (left self.new) }
     {
         self.word(b"declare")?;
-        let ret = self.ret()?;
+        let ret = self.keyword(Results)?;
         let name = self.global_name()?;
         self.mark(b'(')?;
-        let params = self.scalars(alloc)?;
+        let params = self.listed(alloc, b')', ParamType)?;
         let _unnamed = self.skip_unnamed()?;
-        let name = name_of(alloc, name)?;
+        let name = Row::from_slice(alloc, name)?;
         Ok(Item::Extern(Extern { ret, name, params }))
     }
 
@@ -217,63 +232,10 @@ impl<'a> Parser<'a> {
     fn param(&mut self, alloc: Global) -> Result<Param, ReadError>
         ensures { Takes (λ x. x) result (param.read (left self.old)) (left self.new) }
     {
-        let ty = self.scalar()?;
+        let ty = self.keyword(Scalars)?;
         let name = self.local()?;
-        let name = name_of(alloc, name)?;
+        let name = Row::from_slice(alloc, name)?;
         Ok(Param { ty, name })
-    }
-
-    #[tactic(auto, unfolding(hip_rules::specs::Part::listed, hip_rules::specs::Part::none_up_to, hip_rules::specs::Part::some_up_to))]
-    fn params(&mut self, alloc: Global) -> Result<Row<Param>, ReadError>
-        ensures { Takes (λ x. x) result ((listed comma (is_mark 41) param).read (left self.old)) (left self.new) }
-    {
-        if self.at_mark(b')') {
-            self.mark(b')')?;
-            return Ok(Row::new(alloc));
-        }
-        let items = self.some_params(alloc)?;
-        self.mark(b')')?;
-        Ok(items)
-    }
-
-    #[tactic(auto, unfolding(hip_rules::specs::Part::separated))]
-    fn some_params(&mut self, alloc: Global) -> Result<Row<Param>, ReadError>
-        ensures { Takes (λ x. x) result ((separated comma param).read (left self.old)) (left self.new) }
-    {
-        let first = self.param(alloc)?;
-        let mut items = Row::new(alloc);
-        items.push(first)?;
-        self.more_params(alloc, items)
-    }
-
-    #[tactic(auto, unfolding(hip_rules::specs::Part::one_more_by))]
-    fn next_param(&mut self, alloc: Global) -> Result<Param, ReadError>
-        ensures { Takes (λ x. x) result ((one_more_by comma param).read (left self.old)) (left self.new) }
-    {
-        self.mark(b',')?;
-        self.param(alloc)
-    }
-
-    fn more_params(&mut self, alloc: Global, items: Row<Param>) -> Result<Row<Param>, ReadError>
-        ensures { Takes (λ x. x) result (with_front items (many_at comma (one_more_by comma param).read (left self.old))) (left self.new) }
-    {
-        let mut items = items;
-        'more: while self.at_mark(b',') {
-            let item = self.next_param(alloc)?;
-            items.push(item)?;
-        }
-        Ok(items)
-    }
-
-    fn more_blocks(&mut self, alloc: Global, items: Row<Block>) -> Result<Row<Block>, ReadError>
-        ensures { Takes (λ x. x) result (with_front items (many_at is_label block.read (left self.old))) (left self.new) }
-    {
-        let mut items = items;
-        'more: while self.at_label() {
-            let item = self.block(alloc)?;
-            items.push(item)?;
-        }
-        Ok(items)
     }
 
     #[tactic(auto, unfolding(hip_ir::specs::Text::blocks))]
@@ -283,7 +245,7 @@ impl<'a> Parser<'a> {
         let first = self.block(alloc)?;
         let mut blocks = Row::new(alloc);
         blocks.push(first)?;
-        self.more_blocks(alloc, blocks)
+        self.repeated(alloc, Blocks, blocks)
     }
 
     #[tactic(auto, unfolding(hip_ir::specs::Text::function))]
@@ -292,15 +254,15 @@ impl<'a> Parser<'a> {
     {
         self.word(b"define")?;
         self.links()?;
-        let ret = self.ret()?;
+        let ret = self.keyword(Results)?;
         let name = self.global_name()?;
         self.mark(b'(')?;
-        let params = self.params(alloc)?;
+        let params = self.listed(alloc, b')', Parameter)?;
         let _unnamed = self.skip_unnamed()?;
         self.mark(b'{')?;
         let blocks = self.blocks(alloc)?;
         self.mark(b'}')?;
-        let name = name_of(alloc, name)?;
+        let name = Row::from_slice(alloc, name)?;
         Ok(Item::Function(Function {
             ret,
             name,

@@ -8,6 +8,7 @@ mod instructions;
 mod items;
 mod numbers;
 mod parser;
+mod parts;
 mod reading;
 mod tokens;
 mod types;

@@ -1,6 +1,7 @@
 //! Types, which nest.
 
 ghost use Rattle.std.specs.Prelude.{◌≡◌, ℕ, List, [], ◌∷◌, ◌++◌};
+ghost use Rattle.hip_tokens.specs.Bytes.{byte};
 ghost use Rattle.hip_rules.specs.Part.{one_more_by, separated, listed};
 ghost use Rattle.hip_rules.specs.Reader.{many_at, with_front};
 ghost use Rattle.hip_ir.specs.Words.{is_mark, comma};
@@ -9,6 +10,7 @@ ghost use Rattle.hip_parse.specs.Left.{left, Gives, Takes};
 
 use crate::error::ReadError;
 use crate::parser::Parser;
+use crate::words::TypeWords;
 use hip_ir::Fault;
 use hip_types::{Link, Row, Ty};
 use std::alloc::Global;
@@ -22,7 +24,7 @@ impl<'a> Parser<'a> {
         if self.at_mark(b'[') || self.at_mark(b'{') {
             Err(Some(Fault::TooDeep))
         } else {
-            self.scalar_type()
+            self.keyword(TypeWords)
         }
     }
 
@@ -40,7 +42,7 @@ impl<'a> Parser<'a> {
         } else if self.at_mark(b'{') {
             self.structure(alloc, depth - 1)
         } else {
-            let ty = self.scalar_type()?;
+            let ty = self.keyword(TypeWords)?;
             Ok(ty)
         }
     }
@@ -71,7 +73,7 @@ impl<'a> Parser<'a> {
     #[cycle(types)]
     #[tactic(auto, unfolding(hip_rules::specs::Part::listed, hip_rules::specs::Part::none_up_to, hip_rules::specs::Part::some_up_to))]
     fn fields(&mut self, alloc: Global, depth: u32) -> Result<Row<Ty>, ReadError>
-        ensures { Takes (λ x. x) result ((listed comma (is_mark 125) (type_within depth)).read (left self.old)) (left self.new) }
+        ensures { Takes (λ x. x) result ((listed comma (is_mark (byte "}")) (type_within depth)).read (left self.old)) (left self.new) }
     {
         if self.at_mark(b'}') {
             self.mark(b'}')?;

@@ -1,283 +1,253 @@
-//! Words with a meaning.
+//! Words with a meaning, by the places where they stand.
 
-ghost use Rattle.std.specs.Prelude.{◌≡◌, codes};
-ghost use Rattle.hip_ir.specs.Words.{width_word, scalar_word, ret_word, type_word, binary_word, pred_word, int_cast_word, link_word, unnamed_word, linkage_word, target_word, fixed_word, width_text, scalar_text};
-ghost use Rattle.hip_ir.specs.Bodies.{may_wrap, may_be_exact, wrap_word, exact_word, flag_word};
+ghost use Rattle.std.specs.Prelude.{◌≡◌, ℕ, List, Option, codes};
+ghost use Rattle.hip_rules.specs.Reader.{next};
+ghost use Rattle.hip_rules.specs.Part.{token};
+ghost use Rattle.hip_ir.specs.Words.{a_word_of, is_word_of, width_word, scalar_word, ret_word, type_word, binary_word, pred_word, int_cast_word, flag_word, link_word, unnamed_word, linkage_word, target_word, fixed_word};
+ghost use Rattle.hip_parse.specs.Left.{left, Gives};
 
-use hip_ir::Flags;
+use crate::parser::Parser;
+use hip_ir::{
+    Fault, Flag, binary_word, flag_word, int_cast_word, pred_word, ret_word, scalar_word,
+    type_word, width_word,
+};
+use hip_tokens::Token;
 use hip_types::{BinaryOp, CastOp, Pred, Scalar, Ty, Width};
 
-pub(crate) fn width_word(t: &[u8]) -> Option<Width>
-    ensures { result ≡ width_word t.now }
-{
-    if t == b"i1".as_slice() {
-        Some(Width::W1)
-    } else if t == b"i8".as_slice() {
-        Some(Width::W8)
-    } else if t == b"i16".as_slice() {
-        Some(Width::W16)
-    } else if t == b"i32".as_slice() {
-        Some(Width::W32)
-    } else if t == b"i64".as_slice() {
-        Some(Width::W64)
-    } else {
-        None
+/// The words that may stand at one place, each with its meaning there.
+pub(crate) trait Words: Copy {
+    type Meaning: Drop;
+
+    ghost meaning: { Self → List ℕ → Option Self.Meaning };
+
+    /// What the word means; none where it may not stand there.
+    fn meaning(self, word: &[u8]) -> Option<Self::Meaning>
+        ensures { result ≡ meaning self word.now };
+}
+
+impl<'a> Parser<'a> {
+    /// Takes a word with a meaning.
+    #[tactic(auto, unfolding(crate::specs::Left::left))]
+    pub(crate) fn keyword<W: Words>(&mut self, words: W) -> Result<W::Meaning, Option<Fault>>
+        ensures { Gives (λ x. x) result ((token (a_word_of (W.meaning words))).read (left self.old)) (left self.new) }
+    {
+        match self.token {
+            Some((Token::Word(t), _)) => match words.meaning(t) {
+                Some(found) => {
+                    self.advance();
+                    Ok(found)
+                }
+                None => Err(None),
+            },
+            _ => Err(None),
+        }
+    }
+
+    #[tactic(auto, unfolding(crate::specs::Left::left))]
+    pub(crate) fn at_keyword<W: Words>(&self, words: W) -> bool
+        ensures { result ≡ next (is_word_of (W.meaning words)) (left self.now) }
+    {
+        match self.token {
+            Some((Token::Word(t), _)) => words.meaning(t).is_some(),
+            _ => false,
+        }
     }
 }
 
-pub(crate) fn scalar_word(t: &[u8]) -> Option<Scalar>
-    ensures { result ≡ scalar_word t.now }
-{
-    if t == b"ptr".as_slice() {
-        return Some(Scalar::Ptr);
-    }
-    match width_word(t) {
-        Some(width) => Some(Scalar::Int(width)),
-        None => None,
-    }
-}
+/// The integer types.
+#[derive(Clone, Copy)]
+pub(crate) struct Widths;
 
-pub(crate) fn ret_word(t: &[u8]) -> Option<Option<Scalar>>
-    ensures { result ≡ ret_word t.now }
-{
-    if t == b"void".as_slice() {
-        return Some(None);
-    }
-    match scalar_word(t) {
-        Some(scalar) => Some(Some(scalar)),
-        None => None,
+impl Words for Widths {
+    type Meaning = Width;
+
+    ghost meaning = { λ _. width_word };
+
+    fn meaning(self, word: &[u8]) -> Option<Width> {
+        width_word(word)
     }
 }
 
-pub(crate) fn type_word(t: &[u8]) -> Option<Ty>
-    ensures { result ≡ type_word t.now }
-{
-    match scalar_word(t) {
-        Some(Scalar::Int(width)) => Some(Ty::Int(width)),
-        Some(Scalar::Ptr) => Some(Ty::Ptr),
-        None => None,
+/// The types of registers.
+#[derive(Clone, Copy)]
+pub(crate) struct Scalars;
+
+impl Words for Scalars {
+    type Meaning = Scalar;
+
+    ghost meaning = { λ _. scalar_word };
+
+    fn meaning(self, word: &[u8]) -> Option<Scalar> {
+        scalar_word(word)
     }
 }
 
-pub(crate) fn binary_word(t: &[u8]) -> Option<BinaryOp>
-    ensures { result ≡ binary_word t.now }
-{
-    if t == b"add".as_slice() {
-        Some(BinaryOp::Add)
-    } else if t == b"sub".as_slice() {
-        Some(BinaryOp::Sub)
-    } else if t == b"mul".as_slice() {
-        Some(BinaryOp::Mul)
-    } else if t == b"udiv".as_slice() {
-        Some(BinaryOp::Udiv)
-    } else if t == b"sdiv".as_slice() {
-        Some(BinaryOp::Sdiv)
-    } else if t == b"urem".as_slice() {
-        Some(BinaryOp::Urem)
-    } else if t == b"srem".as_slice() {
-        Some(BinaryOp::Srem)
-    } else if t == b"and".as_slice() {
-        Some(BinaryOp::And)
-    } else if t == b"or".as_slice() {
-        Some(BinaryOp::Or)
-    } else if t == b"xor".as_slice() {
-        Some(BinaryOp::Xor)
-    } else if t == b"shl".as_slice() {
-        Some(BinaryOp::Shl)
-    } else if t == b"lshr".as_slice() {
-        Some(BinaryOp::Lshr)
-    } else if t == b"ashr".as_slice() {
-        Some(BinaryOp::Ashr)
-    } else {
-        None
+/// The types of results.
+#[derive(Clone, Copy)]
+pub(crate) struct Results;
+
+impl Words for Results {
+    type Meaning = Option<Scalar>;
+
+    ghost meaning = { λ _. ret_word };
+
+    fn meaning(self, word: &[u8]) -> Option<Option<Scalar>> {
+        ret_word(word)
     }
 }
 
-pub(crate) fn pred_word(t: &[u8]) -> Option<Pred>
-    ensures { result ≡ pred_word t.now }
-{
-    if t == b"eq".as_slice() {
-        Some(Pred::Eq)
-    } else if t == b"ne".as_slice() {
-        Some(Pred::Ne)
-    } else if t == b"ugt".as_slice() {
-        Some(Pred::Ugt)
-    } else if t == b"uge".as_slice() {
-        Some(Pred::Uge)
-    } else if t == b"ult".as_slice() {
-        Some(Pred::Ult)
-    } else if t == b"ule".as_slice() {
-        Some(Pred::Ule)
-    } else if t == b"sgt".as_slice() {
-        Some(Pred::Sgt)
-    } else if t == b"sge".as_slice() {
-        Some(Pred::Sge)
-    } else if t == b"slt".as_slice() {
-        Some(Pred::Slt)
-    } else if t == b"sle".as_slice() {
-        Some(Pred::Sle)
-    } else {
-        None
+/// The types that are one word.
+#[derive(Clone, Copy)]
+pub(crate) struct TypeWords;
+
+impl Words for TypeWords {
+    type Meaning = Ty;
+
+    ghost meaning = { λ _. type_word };
+
+    fn meaning(self, word: &[u8]) -> Option<Ty> {
+        type_word(word)
     }
 }
 
-pub(crate) fn int_cast_word(t: &[u8]) -> Option<CastOp>
-    ensures { result ≡ int_cast_word t.now }
-{
-    if t == b"zext".as_slice() {
-        Some(CastOp::Zext)
-    } else if t == b"sext".as_slice() {
-        Some(CastOp::Sext)
-    } else if t == b"trunc".as_slice() {
-        Some(CastOp::Trunc)
-    } else {
-        None
+/// The operations on integers.
+#[derive(Clone, Copy)]
+pub(crate) struct BinaryOps;
+
+impl Words for BinaryOps {
+    type Meaning = BinaryOp;
+
+    ghost meaning = { λ _. binary_word };
+
+    fn meaning(self, word: &[u8]) -> Option<BinaryOp> {
+        binary_word(word)
     }
 }
 
-pub(crate) fn link_word(t: &[u8]) -> Option<()>
-    ensures { result ≡ link_word t.now }
-{
-    if t == b"private".as_slice() {
-        Some(())
-    } else if t == b"internal".as_slice() {
-        Some(())
-    } else if t == b"dso_local".as_slice() {
-        Some(())
-    } else {
-        None
+/// The flags that may stand after an operation.
+#[derive(Clone, Copy)]
+pub(crate) struct FlagsAfter(pub(crate) BinaryOp);
+
+impl Words for FlagsAfter {
+    type Meaning = Flag;
+
+    ghost meaning = { λ s. flag_word s.0 };
+
+    fn meaning(self, word: &[u8]) -> Option<Flag> {
+        flag_word(self.0, word)
     }
 }
 
-pub(crate) fn unnamed_word(t: &[u8]) -> Option<()>
-    ensures { result ≡ unnamed_word t.now }
-{
-    if t == b"unnamed_addr".as_slice() {
-        Some(())
-    } else if t == b"local_unnamed_addr".as_slice() {
-        Some(())
-    } else {
-        None
+/// The predicates of `icmp`.
+#[derive(Clone, Copy)]
+pub(crate) struct Preds;
+
+impl Words for Preds {
+    type Meaning = Pred;
+
+    ghost meaning = { λ _. pred_word };
+
+    fn meaning(self, word: &[u8]) -> Option<Pred> {
+        pred_word(word)
     }
 }
 
-pub(crate) fn linkage_word(t: &[u8]) -> Option<()>
-    ensures { result ≡ linkage_word t.now }
-{
-    if link_word(t).is_some() {
-        Some(())
-    } else {
-        unnamed_word(t)
+/// The casts from an integer type to an integer type.
+#[derive(Clone, Copy)]
+pub(crate) struct IntCasts;
+
+impl Words for IntCasts {
+    type Meaning = CastOp;
+
+    ghost meaning = { λ _. int_cast_word };
+
+    fn meaning(self, word: &[u8]) -> Option<CastOp> {
+        int_cast_word(word)
     }
 }
 
-pub(crate) fn target_word(t: &[u8]) -> Option<()>
-    ensures { result ≡ target_word t.now }
-{
-    if t == b"triple".as_slice() {
-        Some(())
-    } else if t == b"datalayout".as_slice() {
-        Some(())
-    } else {
-        None
+/// The words of linkage before a function's result.
+#[derive(Clone, Copy)]
+pub(crate) struct Links;
+
+impl Words for Links {
+    type Meaning = ();
+
+    ghost meaning = { λ _. link_word };
+
+    fn meaning(self, word: &[u8]) -> Option<()> {
+        let is_link = word == b"private".as_slice()
+            || word == b"internal".as_slice()
+            || word == b"dso_local".as_slice();
+        if is_link { Some(()) } else { None }
     }
 }
 
-pub(crate) fn fixed_word(t: &[u8]) -> Option<bool>
-    ensures { result ≡ fixed_word t.now }
-{
-    if t == b"global".as_slice() {
-        Some(false)
-    } else if t == b"constant".as_slice() {
-        Some(true)
-    } else {
-        None
+/// Whether an address has a meaning.
+#[derive(Clone, Copy)]
+pub(crate) struct Unnamed;
+
+impl Words for Unnamed {
+    type Meaning = ();
+
+    ghost meaning = { λ _. unnamed_word };
+
+    fn meaning(self, word: &[u8]) -> Option<()> {
+        let is_unnamed = word == b"unnamed_addr".as_slice()
+            || word == b"local_unnamed_addr".as_slice();
+        if is_unnamed { Some(()) } else { None }
     }
 }
 
-/// How the type is written.
-pub(crate) fn width_text(width: Width) -> &'static [u8]
-    ensures { result.now ≡ width_text width }
-{
-    match width {
-        Width::W1 => b"i1",
-        Width::W8 => b"i8",
-        Width::W16 => b"i16",
-        Width::W32 => b"i32",
-        Width::W64 => b"i64",
+/// The words of linkage before a global.
+#[derive(Clone, Copy)]
+pub(crate) struct Linkages;
+
+impl Words for Linkages {
+    type Meaning = ();
+
+    ghost meaning = { λ _. linkage_word };
+
+    fn meaning(self, word: &[u8]) -> Option<()> {
+        if Links.meaning(word).is_some() {
+            Some(())
+        } else {
+            Unnamed.meaning(word)
+        }
     }
 }
 
-pub(crate) fn scalar_text(scalar: Scalar) -> &'static [u8]
-    ensures { result.now ≡ scalar_text scalar }
-{
-    match scalar {
-        Scalar::Int(width) => width_text(width),
-        Scalar::Ptr => b"ptr",
+/// What may be told of the target.
+#[derive(Clone, Copy)]
+pub(crate) struct TargetWords;
+
+impl Words for TargetWords {
+    type Meaning = ();
+
+    ghost meaning = { λ _. target_word };
+
+    fn meaning(self, word: &[u8]) -> Option<()> {
+        let is_target = word == b"triple".as_slice() || word == b"datalayout".as_slice();
+        if is_target { Some(()) } else { None }
     }
 }
 
-fn may_wrap(op: BinaryOp) -> bool
-    ensures { result ≡ may_wrap op }
-{
-    matches!(
-        op,
-        BinaryOp::Add | BinaryOp::Sub | BinaryOp::Mul | BinaryOp::Shl
-    )
-}
+/// Whether a global is a `constant`.
+#[derive(Clone, Copy)]
+pub(crate) struct Fixed;
 
-fn may_be_exact(op: BinaryOp) -> bool
-    ensures { result ≡ may_be_exact op }
-{
-    matches!(
-        op,
-        BinaryOp::Udiv | BinaryOp::Sdiv | BinaryOp::Lshr | BinaryOp::Ashr
-    )
-}
+impl Words for Fixed {
+    type Meaning = bool;
 
-fn wrap_word(t: &[u8]) -> Option<Flags>
-    ensures { result ≡ wrap_word t.now }
-{
-    if t == b"nuw".as_slice() {
-        Some(Flags {
-            nuw: true,
-            nsw: false,
-            exact: false,
-        })
-    } else if t == b"nsw".as_slice() {
-        Some(Flags {
-            nuw: false,
-            nsw: true,
-            exact: false,
-        })
-    } else {
-        None
-    }
-}
+    ghost meaning = { λ _. fixed_word };
 
-fn exact_word(t: &[u8]) -> Option<Flags>
-    ensures { result ≡ exact_word t.now }
-{
-    if t == b"exact".as_slice() {
-        Some(Flags {
-            nuw: false,
-            nsw: false,
-            exact: true,
-        })
-    } else {
-        None
-    }
-}
-
-/// A flag that may stand after the operation.
-pub(crate) fn flag_word(op: BinaryOp, t: &[u8]) -> Option<Flags>
-    ensures { result ≡ flag_word op t.now }
-{
-    if may_wrap(op) {
-        wrap_word(t)
-    } else if may_be_exact(op) {
-        exact_word(t)
-    } else {
-        None
+    fn meaning(self, word: &[u8]) -> Option<bool> {
+        if word == b"global".as_slice() {
+            Some(false)
+        } else if word == b"constant".as_slice() {
+            Some(true)
+        } else {
+            None
+        }
     }
 }

@@ -61,9 +61,12 @@ unfoldable pub skipped : {F A : Type 0} → (Tok → Bool) → Part F A → Part
 skipped k l = repeated k l >>= λ _. gives tt
 
 -- Any number of parts of one kind, and what follows them, which may begin by the same head.
--- The rule reads the parts and then what follows. The reading goes by the next tokens: behind a head that no such part follows comes `after_head`, and where no head stands `no_head`.
-abbrev pub phased : {F X P B : Type 0} → (Tok → Bool) → Part F X → (Tok → Bool) → (X → Part F P) → (List P → X → Part F B) → (List P → Part F B) → (List P → Part F B) → Part F B
+-- The rule reads the parts and then what follows. The reading goes by the next tokens: behind a head that no such
+-- part follows comes `after_head`, and where no head stands `no_head`.
+abbrev pub phased : {F X P B : Type 0} → (Tok → Bool) → Part F X → (Tok → Bool) → (X → Part F P)
+    → (List P → X → Part F B) → (List P → Part F B) → (List P → Part F B) → Part F B
 phased kh head kf part after_head no_head following = record {
   rule = both (many (both head.rule (λ x. (part x).rule))) (λ ps. (following ps).rule);
-  read = λ ts. on_ok (leaders_at kh head.read kf (λ x. (part x).read) ts) (λ q. by_head q.1 (λ x. (after_head q.0 x).read) ((no_head q.0).read));
+  read = λ ts. on_ok (leaders_at kh head.read kf (λ x. (part x).read) ts)
+      (λ q. by_head q.1 (λ x. (after_head q.0 x).read) ((no_head q.0).read));
 }

@@ -62,15 +62,21 @@ folded step s (x ∷ xs) = folded step (step s x) xs
 abbrev pub taken_up : {F A S : Type 0} → (S → A → S) → S → Outcome F (List A) → Outcome F S
 taken_up step s o = on_ok o (λ xs rest. Ok (folded step s xs, rest))
 
--- Parts of one kind that begin by a head, at most so many. Where a head is followed by no such part, the head is given with them.
-unfoldable pub leading_at : {F X P : Type 0} → (Tok → Bool) → Reader F X → (Tok → Bool) → (X → Reader F P) → ℕ → Reader F (List P × Option X)
+-- Parts of one kind that begin by a head, at most so many. Where a head is followed by no such part, the head is
+-- given with them.
+unfoldable pub leading_at : {F X P : Type 0} → (Tok → Bool) → Reader F X → (Tok → Bool) → (X → Reader F P) → ℕ
+    → Reader F (List P × Option X)
 leading_at kh rh kf rf zero ts = Ok (([], None), ts)
 leading_at kh rh kf rf (suc n) ts =
     if next kh ts
-    then on_ok (rh ts) (λ x m. if next kf m then on_ok (rf x m) (λ p more. on_ok (leading_at kh rh kf rf n more) (λ q rest. Ok ((p ∷ q.0, q.1), rest))) else Ok (([], Some x), m))
+    then on_ok (rh ts) (λ x m.
+    if next kf m
+    then on_ok (rf x m) (λ p more. on_ok (leading_at kh rh kf rf n more) (λ q rest. Ok ((p ∷ q.0, q.1), rest)))
+    else Ok (([], Some x), m))
     else Ok (([], None), ts)
 
-abbrev pub leaders_at : {F X P : Type 0} → (Tok → Bool) → Reader F X → (Tok → Bool) → (X → Reader F P) → Reader F (List P × Option X)
+abbrev pub leaders_at : {F X P : Type 0} → (Tok → Bool) → Reader F X → (Tok → Bool) → (X → Reader F P)
+    → Reader F (List P × Option X)
 leaders_at kh rh kf rf ts = leading_at kh rh kf rf (length ts) ts
 
 -- what the head asks for, or what stands where there is none

@@ -1,4 +1,5 @@
--- Grammars by parts. A rule says of two places in one list of tokens, the second at or after the first, what the tokens between them are.
+-- Grammars by parts. A rule says of two places in one list of tokens, the second at or after the first, what the
+-- tokens between them are.
 use Rattle.std.specs.Prelude.{◌≡◌, List, [], ◌∷◌, ◌++◌, Option, Some, None, ◌⊎◌}
 use Rattle.hip_tokens.specs.Tokens.{Tok, At}
 
@@ -37,12 +38,14 @@ one {F} {A} p = record {
   Refuses = λ why ts rest. (rest ≡ ts) × (t : At) × (more : List At) × (ts ≡ t ∷ more) × (p t.tok ≡ Because why);
 }
 
--- One part, and then the part that its value asks for. A front is one of the first part, or the first part whole and a front of the second.
+-- One part, and then the part that its value asks for. A front is one of the first part, or the first part whole and
+-- a front of the second.
 unfoldable pub both : {F A B : Type 0} → Rule F A → (A → Rule F B) → Rule F B
 both {F} {A} {B} l f = record {
   Derives = λ ts y rest. (x : A) × (m : List At) × l.Derives ts x m × (f x).Derives m y rest;
   Front = λ ts rest. l.Front ts rest ⊎ ((x : A) × (m : List At) × l.Derives ts x m × (f x).Front m rest);
-  Refuses = λ why ts rest. l.Refuses why ts rest ⊎ ((x : A) × (m : List At) × l.Derives ts x m × (f x).Refuses why m rest);
+  Refuses = λ why ts rest. l.Refuses why ts rest ⊎ ((x : A) × (m : List At) × l.Derives ts x m
+      × (f x).Refuses why m rest);
 }
 
 infixl 10 ◌>>=◌

@@ -6,13 +6,11 @@ use Rattle.hip_types.specs.Layout.{shape}
 use Rattle.hip_types.specs.Numbers.{bits, modulus, signed, wrapped}
 use Rattle.hip_types.specs.declared.number.Bits.{Bits}
 use Rattle.hip_types.specs.declared.number.CastOp.{CastOp}
-use Rattle.hip_types.specs.declared.number.CastOp.TheVariants as casts
 use Rattle.hip_types.specs.declared.number.Scalar.{Scalar}
 use Rattle.hip_types.specs.declared.number.Width.TheVariants.{W64}
 use Rattle.hip_ir.specs.declared.block.Case.{Case}
 use Rattle.hip_ir.specs.declared.block.Edge.{Edge}
 use Rattle.hip_ir.specs.declared.block.End.{End}
-use Rattle.hip_ir.specs.declared.block.End.TheVariants as ends
 use Rattle.hip_ir.specs.declared.block.Phi.{Phi}
 use Rattle.hip_ir.specs.declared.instr.Arg.{Arg}
 use Rattle.hip_ir.specs.declared.instr.Instr.{Instr}
@@ -26,20 +24,22 @@ use Rattle.hip_num.specs.Arithmetic.{binary_of}
 use Rattle.hip_num.specs.Casts.{widened}
 use Rattle.hip_num.specs.Comparisons.{holds}
 use Rattle.hip_num.specs.declared.arithmetic.NumTrap.{NumTrap}
-use Rattle.hip_num.specs.declared.arithmetic.NumTrap.TheVariants as num_traps
 use Rattle.hip_globals.specs.Addresses.{volatile_end}
 use Rattle.hip_externs.specs.Externs.{call_of}
 use Rattle.hip_globals.specs.Initial.{volatile_bytes}
 use Rattle.hip_externs.specs.declared.call.ExternCall.{ExternCall}
-use Rattle.hip_externs.specs.declared.call.ExternCall.TheVariants as calls
 use Rattle.hip_typing.specs.Numbering.{function_number}
 use Rattle.hip_globals.specs.Values.{element_address}
 use Rattle.hip_runs.specs.declared.event.TrapKind.{TrapKind}
-use Rattle.hip_runs.specs.declared.event.TrapKind.TheVariants as traps
 use Rattle.hip_runs.specs.declared.input.Input.{Input}
 use Rattle.hip_runs.specs.State.{Registers, Frame, World}
 use Rattle.hip_runs.specs.Operands.{value_of, values_of, bound, scalar_size, width_of, access_align}
 use Rattle.hip_runs.specs.Places.{blocks_of, block_at, phis_of, label_of, block_number}
+use Rattle.hip_types.specs.declared.number.CastOp.TheVariants as casts
+use Rattle.hip_ir.specs.declared.block.End.TheVariants as ends
+use Rattle.hip_num.specs.declared.arithmetic.NumTrap.TheVariants as num_traps
+use Rattle.hip_externs.specs.declared.call.ExternCall.TheVariants as calls
+use Rattle.hip_runs.specs.declared.event.TrapKind.TheVariants as traps
 
 pub data Action : Type 0 where
   Traps : TrapKind → Action

@@ -1,5 +1,5 @@
 -- What every run keeps: the history that the parts of stores carry, and the calls that they were made under.
-use Rattle.std.specs.Prelude.{◌≡◌, ℕ, ◌<◌, true, false, List, [], ◌∷◌, ◌++◌, Some, slice_get}
+use Rattle.std.specs.Prelude.{◌≡◌, ℕ, ◌<◌, false, List, [], ◌∷◌, ◌++◌, Some, slice_get}
 use Rattle.hip_ir.specs.Sites.{instr_of}
 use Rattle.hip_ir.specs.declared.instr.Instr.{Instr}
 use Rattle.hip_ir.specs.declared.program.Program.{Program}
@@ -13,7 +13,7 @@ abbrev pub AreDescending : List Level → ℕ → Type 0
 AreDescending [] n = Unit {0}
 AreDescending (l ∷ ls) n = (l.birth < n) × AreDescending ls l.birth
 
--- The calls of a store are those that have returned, and then the outermost ones of those that stand.
+-- The calls of a store are those that have returned, which are the innermost ones, and then the outermost ones of those that stand.
 pub record IsParted (standing levels : List Level) : Type 0 where
   pub closed : List Level
   pub open_ones : List Level
@@ -21,14 +21,6 @@ pub record IsParted (standing levels : List Level) : Type 0 where
   pub are : levels ≡ closed ++ open_ones
   pub outermost : standing ≡ above ++ open_ones
   pub returned : (v : Level) → In v closed → is_open standing v ≡ false
-
--- The calls of a store are those that have returned, which are the innermost ones, and then those that stand.
-pub record IsSplit (standing : List Level) (levels : List Level) : Type 0 where
-  pub closed : List Level
-  pub open_ones : List Level
-  pub are : levels ≡ closed ++ open_ones
-  pub returned : (v : Level) → In v closed → is_open standing v ≡ false
-  pub stand : (v : Level) → In v open_ones → is_open standing v ≡ true
 
 pub record HasHistory (P : Program) (s : State) : Type 0 where
   -- a part was made by an earlier step, and first flushed by a later one
@@ -45,4 +37,4 @@ pub record HasHistory (P : Program) (s : State) : Type 0 where
   pub site_there : (x : StorePart) → PartOf s.lines x → (i : Instr) × (instr_of P x.site ≡ Some i)
   pub flush_there : (x : StorePart) (f : Flush) → PartOf s.lines x → x.first_flush ≡ Some f → (i : Instr) × (instr_of P f.site ≡ Some i)
   pub call_there : (x : StorePart) (v : Level) → PartOf s.lines x → In v x.levels → (i : Instr) × (instr_of P v.call ≡ Some i)
-  pub split : (x : StorePart) → PartOf s.lines x → IsSplit (levels_of s.frames) x.levels
+  pub split : (x : StorePart) → PartOf s.lines x → IsParted (levels_of s.frames) x.levels

@@ -13,7 +13,6 @@ pub mod Scores
 pub mod Parts
 pub mod History
 pub mod Since
-pub mod Ends
 pub mod Shown
 pub mod Sites
 pub mod Frames
@@ -22,4 +21,5 @@ pub mod Tags
 pub mod WellFormed
 pub mod Entry
 pub mod After
+pub mod Ends
 pub mod Laws

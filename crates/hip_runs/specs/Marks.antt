@@ -13,9 +13,7 @@ use Rattle.hip_ir.specs.declared.site.Site.{Site}
 use Rattle.hip_ir.specs.Sites.{same_site}
 use Rattle.hip_typing.specs.Numbering.{function_number}
 use Rattle.hip_runs.specs.declared.event.Event.{Event}
-use Rattle.hip_runs.specs.declared.event.Event.TheVariants as events
 use Rattle.hip_runs.specs.declared.event.Object.{Object}
-use Rattle.hip_runs.specs.declared.event.Object.TheVariants as objects
 use Rattle.hip_runs.specs.declared.input.Input.{Input}
 use Rattle.hip_runs.specs.declared.report.Findings.{Findings}
 use Rattle.hip_runs.specs.declared.report.Mark.{Mark}
@@ -25,6 +23,8 @@ use Rattle.hip_runs.specs.Operands.{value_of}
 use Rattle.hip_runs.specs.Places.{code_at}
 use Rattle.hip_runs.specs.Reports.{reports}
 use Rattle.hip_runs.specs.Step.{event, run, has_ended}
+use Rattle.hip_runs.specs.declared.event.Event.TheVariants as events
+use Rattle.hip_runs.specs.declared.event.Object.TheVariants as objects
 
 -- ---- pointer operands
 

@@ -6,8 +6,8 @@ use Rattle.hip_ir.specs.declared.program.GlobalVar.{GlobalVar}
 use Rattle.hip_ir.specs.declared.program.Program.{Program}
 use Rattle.hip_globals.specs.Addresses.{address_in}
 use Rattle.hip_runs.specs.declared.event.Object.{Object}
-use Rattle.hip_runs.specs.declared.event.Object.TheVariants as objects
 use Rattle.hip_runs.specs.State.{Slot, Frame}
+use Rattle.hip_runs.specs.declared.event.Object.TheVariants as objects
 
 abbrev pub contains : ℕ → ℕ → ℕ → Bool
 contains at size a = nat_le at a && nat_lt a (at + size)

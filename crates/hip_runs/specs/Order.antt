@@ -4,7 +4,7 @@ use Rattle.hip_ir.specs.declared.program.Program.{Program}
 use Rattle.hip_lines.specs.Line.{Line}
 use Rattle.hip_runs.specs.declared.input.Input.{Input}
 use Rattle.hip_runs.specs.Crash.{covers}
-use Rattle.hip_runs.specs.History.{AreDescending, IsParted}
+use Rattle.hip_runs.specs.History.{AreDescending}
 use Rattle.hip_runs.specs.Parts.{PartOf}
 use Rattle.hip_runs.specs.Since.{fences}
 use Rattle.hip_runs.specs.State.{Flush, StorePart, State, levels_of}
@@ -22,12 +22,10 @@ pub record HasOrder (s : State) : Type 0 where
   pub inside : (m : ℕ) (l : Line StorePart) (k : ℕ) (x : StorePart) →
       slice_get s.lines m ≡ Some l → slice_get l.parts k ≡ Some x → (b : ℕ) → covers x b ≡ true → b / 64 ≡ m
 
--- The calls that stand were made one after another, and so were those of each part, before its store; and those of a part's calls
--- that stand are the outermost of those that stand.
+-- The calls that stand were made one after another, and so were those of each part, before its store.
 pub record HasCalls (s : State) : Type 0 where
   pub born : AreDescending (levels_of s.frames) s.counts.steps
   pub births : (x : StorePart) → PartOf s.lines x → AreDescending x.levels x.step
-  pub parted : (x : StorePart) → PartOf s.lines x → IsParted (levels_of s.frames) x.levels
 
 -- the last of the first n steps that is a fence
 unfoldable pub last_fence : Program → Input → ℕ → Option ℕ

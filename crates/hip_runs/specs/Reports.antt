@@ -7,7 +7,6 @@ use Rattle.hip_ir.specs.declared.site.Site.{Site}
 use Rattle.hip_lines.specs.Line.{Line}
 use Rattle.hip_runs.specs.declared.event.Ending.TheVariants.{Stop}
 use Rattle.hip_runs.specs.declared.event.Event.{Event}
-use Rattle.hip_runs.specs.declared.event.Event.TheVariants as events
 use Rattle.hip_runs.specs.declared.input.Input.{Input}
 use Rattle.hip_runs.specs.declared.report.Kind.{Kind}
 use Rattle.hip_runs.specs.declared.report.Kind.TheVariants.{MissingFlush, MissingFence, MissingBoth}
@@ -15,6 +14,7 @@ use Rattle.hip_runs.specs.declared.report.Report.{Report}
 use Rattle.hip_runs.specs.State.{Level, Flush, StorePart, State, levels_of}
 use Rattle.hip_runs.specs.Crash.{covers}
 use Rattle.hip_runs.specs.Step.{event, run, has_ended}
+use Rattle.hip_runs.specs.declared.event.Event.TheVariants as events
 
 -- ---- loose parts
 

@@ -5,11 +5,11 @@ use Rattle.hip_ir.specs.declared.site.Site.{Site}
 use Rattle.hip_lines.specs.Line.{Line}
 use Rattle.hip_mem.specs.Bytes.{little_endian}
 use Rattle.hip_runs.specs.declared.event.Event.{Event}
-use Rattle.hip_runs.specs.declared.event.Event.TheVariants as events
 use Rattle.hip_runs.specs.declared.input.Input.{Input}
 use Rattle.hip_runs.specs.Crash.{covers, byte_of}
 use Rattle.hip_runs.specs.State.{Flush, StorePart, Frame, State, levels_of, site_of}
 use Rattle.hip_runs.specs.Step.{event, run}
+use Rattle.hip_runs.specs.declared.event.Event.TheVariants as events
 
 -- whether a step with this event stores into the region
 abbrev pub stores : Event → Bool

@@ -11,13 +11,13 @@ use Rattle.hip_typing.specs.Numbering.{function_number}
 use Rattle.hip_runs.specs.declared.event.Ending.{Ending}
 use Rattle.hip_runs.specs.declared.event.Ending.TheVariants.{Stop, Trap, Cut}
 use Rattle.hip_runs.specs.declared.event.Event.{Event}
-use Rattle.hip_runs.specs.declared.event.Event.TheVariants as events
 use Rattle.hip_runs.specs.declared.input.Input.{Input}
 use Rattle.hip_runs.specs.State.{Frame, StorePart, World, Counts, State, levels_of, site_of}
 use Rattle.hip_runs.specs.Operands.{assigned}
 use Rattle.hip_runs.specs.Places.{code_at, end_at}
 use Rattle.hip_runs.specs.Actions.{Action, Traps, Assigns, Allocates, Stores, Flushes, Persists, Fences, Asserts, Prints, Reads, Calls, Jumps, Returns, Deed, in_region, deed_of}
 use Rattle.hip_runs.specs.Persistence.{stored_lines, flushes_lines, flushed_lines, fenced_lines}
+use Rattle.hip_runs.specs.declared.event.Event.TheVariants as events
 
 abbrev pub state : World → List Frame → List (Line StorePart) → Counts → State
 state w fs ls counts = record { world = w; frames = fs; lines = ls; counts = counts }

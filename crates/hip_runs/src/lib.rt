@@ -26,7 +26,7 @@ pub use loose::{
     loose_bytes_tell_loose_parts, loose_parts_are_last_over_loose_bytes, reports_follow_the_tags, steps_of_nothing_may_be_left_out, tags_are_steps,
 };
 pub use order::{
-    a_step_moves_the_top, events_tell_the_next_lines, lines_keep_their_order, parts_share_the_outermost_calls, states_name_what_stands_there,
+    a_step_moves_the_top, calls_were_made_in_order, events_tell_the_next_lines, lines_keep_their_order, states_name_what_stands_there,
     the_last_fence_tells,
 };
 pub use report::{Findings, Kind, Mark, Marks, Report};

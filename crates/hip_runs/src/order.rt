@@ -30,9 +30,8 @@ pub fn a_step_moves_the_top()
     ensures { (P : Program) → (I : Input) → (n : ℕ) → Moves P (run P I n) (run P I (suc n)) }
 {}
 
-/// The calls of a part were made one after another before its store, and those of them that stand are the outermost of those
-/// that stand.
-pub fn parts_share_the_outermost_calls()
+/// The calls that stand were made one after another, and so were those of each part, before its store.
+pub fn calls_were_made_in_order()
     ensures { (P : Program) → (I : Input) → (n : ℕ) → HasCalls (run P I n) }
 {}
 

@@ -1,73 +1,250 @@
-//! Cache lines: bytes that are not durable.
+//! Cache lines: which bytes are not durable after stores, flushes and fences.
+
+ghost use Rattle.std.specs.Prelude.{◌≡◌, ◌≤◌, ◌*◌, length};
 
 use hip_lines::{Lines, LooseByte};
+use std::alloc::Global;
 use std::process::Abort;
 use std::test::Fail;
 
-// Asserts that the next loose bytes are those of a range, each with this tag and flushed or not.
-fn assert_next(
-    rt: &impl Abort,
-    found: &[LooseByte],
-    at: usize,
+/// Bytes side by side that are not durable, all of one store.
+struct Bytes {
     from: u64,
-    count: usize,
+    count: u64,
     tag: u128,
-    flushed: bool,
-) {
-    for i in 0..count {
-        let wanted = LooseByte {
-            offset: from.wrapping_add(i as u64),
-            tag,
-            flushed,
-        };
-        assert!(rt; found.get(at.wrapping_add(i)).copied() == Some(wanted));
-    }
+    is_flushed: bool,
 }
+
+/// One call on the lines of a region.
+#[derive(Clone, Copy)]
+enum Call {
+    Store { offset: u64, size: u32, tag: u128 },
+    Flush { offset: u64 },
+    FlushRange { offset: u64, count: u64 },
+    Fence,
+    /// What is not durable among so many bytes from the start.
+    NotDurable { among: u64, bytes: &'static [Bytes] },
+}
+
+/// Asserts that the loose bytes are these, and no more.
+fn assert_bytes(rt: &impl Abort, found: &[LooseByte], bytes: &[Bytes]) {
+    let mut at = 0usize;
+    for wanted in bytes {
+        for offset in wanted.from..wanted.from.wrapping_add(wanted.count) {
+            let byte = LooseByte {
+                offset,
+                tag: wanted.tag,
+                flushed: wanted.is_flushed,
+            };
+            assert!(rt; found.get(at).copied() == Some(byte), "byte {offset}");
+            at = at.wrapping_add(1);
+        }
+    }
+    assert!(rt; found.len() == at);
+}
+
+/// One call on so many lines.
+fn make_call(
+    rt: &impl Abort,
+    alloc: Global,
+    lines: &mut Lines,
+    count: u64,
+    call: Call,
+) -> Result<(), Fail>
+    requires count { length lines.old.lines ≡ count }
+    requires few { count ≤ 1048576 }
+    ensures { length lines.new.lines ≡ count }
+{
+    let size_of_region = count * 64;
+    match call {
+        Call::Store { offset, size, tag } => {
+            assert!(rt; 0 < size && size <= 8 && offset < size_of_region);
+            assert!(rt; offset + u64::from(size) <= size_of_region);
+            lines.note_store(offset, size, tag)?;
+        }
+        Call::Flush { offset } => {
+            assert!(rt; offset < size_of_region);
+            lines.flush(offset);
+        }
+        Call::FlushRange { offset, count } => {
+            assert!(rt; 0 < count && count <= size_of_region && offset <= size_of_region - count);
+            lines.flush_range(offset, count);
+        }
+        Call::Fence => lines.fence(),
+        Call::NotDurable { among, bytes } => {
+            assert!(rt; among <= size_of_region);
+            let found: Vec<LooseByte> = lines.not_durable(0, among).collect(alloc)?;
+            assert_bytes(rt, found.as_slice(), bytes);
+        }
+    }
+    Ok(())
+}
+
+/// The calls in turn, on so many lines.
+fn make_calls(rt: &impl Abort, alloc: Global, count: u64, calls: &[Call]) -> Result<(), Fail>
+    requires { count ≤ 1048576 }
+{
+    let mut lines = Lines::new(alloc, count * 64)?;
+    'calls: for call in calls {
+        make_call(rt, alloc, &mut lines, count, *call)?;
+    }
+    Ok(())
+}
+
+const TWO_STORES_AND_ONE: &[Call] = &[
+    Call::Store {
+        offset: 0,
+        size: 8,
+        tag: 1,
+    },
+    Call::Store {
+        offset: 8,
+        size: 8,
+        tag: 2,
+    },
+    Call::Flush { offset: 0 },
+    Call::Store {
+        offset: 4,
+        size: 4,
+        tag: 3,
+    },
+    Call::NotDurable {
+        among: 16,
+        bytes: &[
+            Bytes {
+                from: 0,
+                count: 4,
+                tag: 1,
+                is_flushed: true,
+            },
+            Bytes {
+                from: 4,
+                count: 4,
+                tag: 3,
+                is_flushed: false,
+            },
+            Bytes {
+                from: 8,
+                count: 8,
+                tag: 2,
+                is_flushed: true,
+            },
+        ],
+    },
+    Call::Fence,
+    Call::NotDurable {
+        among: 16,
+        bytes: &[Bytes {
+            from: 4,
+            count: 4,
+            tag: 3,
+            is_flushed: false,
+        }],
+    },
+];
 
 #[test]
 fn loose_bytes(rt: HostRuntime) -> Result<(), Fail> {
-    let mut lines = Lines::new(rt.alloc(), 64)?;
-    lines.note_store(0, 8, 1)?;
-    lines.note_store(8, 8, 2)?;
-    lines.flush(0);
-    lines.note_store(4, 4, 3)?;
-    let found: Vec<LooseByte> = lines.not_durable(0, 16).collect(rt.alloc())?;
-    assert_eq!(rt; found.len(), 16);
-    assert_next(&rt, &found, 0, 0, 4, 1, true);
-    assert_next(&rt, &found, 4, 4, 4, 3, false);
-    assert_next(&rt, &found, 8, 8, 8, 2, true);
-    lines.fence();
-    let left: Vec<LooseByte> = lines.not_durable(0, 16).collect(rt.alloc())?;
-    assert_eq!(rt; left.len(), 4);
-    assert_next(&rt, &left, 0, 4, 4, 3, false);
-    Ok(())
+    make_calls(&rt, rt.alloc(), 1, TWO_STORES_AND_ONE)
 }
+
+const STORE_OVER_A_BORDER: &[Call] = &[
+    Call::Store {
+        offset: 60,
+        size: 8,
+        tag: 7,
+    },
+    Call::Flush { offset: 60 },
+    Call::NotDurable {
+        among: 128,
+        bytes: &[
+            Bytes {
+                from: 60,
+                count: 4,
+                tag: 7,
+                is_flushed: true,
+            },
+            Bytes {
+                from: 64,
+                count: 4,
+                tag: 7,
+                is_flushed: false,
+            },
+        ],
+    },
+    Call::Fence,
+    Call::NotDurable {
+        among: 128,
+        bytes: &[Bytes {
+            from: 64,
+            count: 4,
+            tag: 7,
+            is_flushed: false,
+        }],
+    },
+    Call::Flush { offset: 127 },
+    Call::Fence,
+    Call::NotDurable {
+        among: 128,
+        bytes: &[],
+    },
+];
 
 #[test]
 fn store_in_two_lines(rt: HostRuntime) -> Result<(), Fail> {
-    let mut lines = Lines::new(rt.alloc(), 128)?;
-    lines.note_store(60, 8, 7)?;
-    lines.flush(60);
-    let found: Vec<LooseByte> = lines.not_durable(0, 128).collect(rt.alloc())?;
-    assert_eq!(rt; found.len(), 8);
-    assert_next(&rt, &found, 0, 60, 4, 7, true);
-    assert_next(&rt, &found, 4, 64, 4, 7, false);
-    lines.fence();
-    let left: Vec<LooseByte> = lines.not_durable(0, 128).collect(rt.alloc())?;
-    assert_eq!(rt; left.len(), 4);
-    assert_next(&rt, &left, 0, 64, 4, 7, false);
-    lines.flush(127);
-    lines.fence();
-    assert!(rt; lines.not_durable(0, 128).next().is_none());
-    Ok(())
+    make_calls(&rt, rt.alloc(), 2, STORE_OVER_A_BORDER)
 }
 
-// A region of a million lines: each of 50,000 fences costs one line, and each check those that hold something.
+const FLUSH_OVER_A_BORDER: &[Call] = &[
+    Call::Store {
+        offset: 56,
+        size: 8,
+        tag: 1,
+    },
+    Call::Store {
+        offset: 64,
+        size: 8,
+        tag: 2,
+    },
+    Call::Store {
+        offset: 128,
+        size: 8,
+        tag: 3,
+    },
+    Call::FlushRange {
+        offset: 63,
+        count: 2,
+    },
+    Call::Fence,
+    Call::NotDurable {
+        among: 256,
+        bytes: &[Bytes {
+            from: 128,
+            count: 8,
+            tag: 3,
+            is_flushed: false,
+        }],
+    },
+];
+
+#[test]
+fn flush_of_a_range(rt: HostRuntime) -> Result<(), Fail> {
+    make_calls(&rt, rt.alloc(), 4, FLUSH_OVER_A_BORDER)
+}
+
+const LAST_STORE: &[Bytes] = &[Bytes {
+    from: 67_108_856,
+    count: 8,
+    tag: 1,
+    is_flushed: false,
+}];
+
+/// A region of a million lines: each of 50,000 fences costs one line, and each check those that hold something.
 #[test]
 fn many_lines(rt: HostRuntime) -> Result<(), Fail> {
     let mut lines = Lines::new(rt.alloc(), 67_108_864)?;
     lines.note_store(67_108_856, 8, 1)?;
-    for turn in 0..50_000u32 {
+    'turns: for turn in 0..50_000u32 {
         let offset = u64::from(turn) * 64;
         lines.make_room(offset, 4)?;
         lines.note_store(offset, 4, 2)?;
@@ -75,21 +252,6 @@ fn many_lines(rt: HostRuntime) -> Result<(), Fail> {
         lines.fence();
     }
     let found: Vec<LooseByte> = lines.not_durable(0, 67_108_864).collect(rt.alloc())?;
-    assert_eq!(rt; found.len(), 8);
-    assert_next(&rt, &found, 0, 67_108_856, 8, 1, false);
-    Ok(())
-}
-
-#[test]
-fn flush_of_a_range(rt: HostRuntime) -> Result<(), Fail> {
-    let mut lines = Lines::new(rt.alloc(), 256)?;
-    lines.note_store(56, 8, 1)?;
-    lines.note_store(64, 8, 2)?;
-    lines.note_store(128, 8, 3)?;
-    lines.flush_range(63, 2);
-    lines.fence();
-    let left: Vec<LooseByte> = lines.not_durable(0, 256).collect(rt.alloc())?;
-    assert_eq!(rt; left.len(), 8);
-    assert_next(&rt, &left, 0, 128, 8, 3, false);
+    assert_bytes(&rt, found.as_slice(), LAST_STORE);
     Ok(())
 }

@@ -1,78 +1,350 @@
 //! Memory: loads, stores, and blocks of the stack.
 
+ghost use Rattle.std.specs.Prelude.{◌≤◌};
+
 use hip_mem::{MemTrap, PushRefusal, Ram, StoreRefusal};
+use std::process::Abort;
 use std::test::Fail;
 
-const BASE: u64 = 4_294_967_296;
+/// Where the region begins.
+const BASE: u64 = 0x1_0000_0000;
 
-const STACK: u64 = 268_435_456;
+/// Where the stack begins.
+const STACK: u64 = 0x1000_0000;
+
+/// One call on a memory, and what it answers.
+#[derive(Clone, Copy)]
+enum Call {
+    Load {
+        addr: u64,
+        size: u32,
+        align: u32,
+        answer: Result<u64, MemTrap>,
+    },
+    Store {
+        addr: u64,
+        size: u32,
+        align: u32,
+        value: u64,
+        answer: Result<(), StoreRefusal>,
+    },
+    Push {
+        size: u64,
+        align: u64,
+        answer: Result<u64, PushRefusal>,
+    },
+    Pop {
+        mark: u64,
+    },
+    Mark {
+        answer: u64,
+    },
+    Valid {
+        addr: u64,
+        answer: bool,
+    },
+}
+
+fn assert_call(rt: &impl Abort, ram: &mut Ram, call: Call) {
+    match call {
+        Call::Load {
+            addr,
+            size,
+            align,
+            answer,
+        } => {
+            assert!(rt; 0 < size && size <= 8 && 0 < align);
+            assert!(rt; ram.load(addr, size, align) == answer, "load at {addr}");
+        }
+        Call::Store {
+            addr,
+            size,
+            align,
+            value,
+            answer,
+        } => {
+            assert!(rt; 0 < size && size <= 8 && 0 < align);
+            assert!(rt;
+                ram.store(addr, size, align, value) == answer,
+                "store at {addr}"
+            );
+        }
+        Call::Push {
+            size,
+            align,
+            answer,
+        } => {
+            assert!(rt; 0 < align);
+            assert!(rt; ram.push_stack(size, align) == answer, "block of {size}");
+        }
+        Call::Pop { mark } => {
+            assert!(rt; STACK <= mark && mark <= ram.mark());
+            ram.pop_stack(mark);
+        }
+        Call::Mark { answer } => assert!(rt; ram.mark() == answer),
+        Call::Valid { addr, answer } => assert!(rt; ram.valid(addr) == answer, "byte {addr}"),
+    }
+}
+
+fn assert_calls(rt: &impl Abort, ram: &mut Ram, calls: &[Call]) {
+    for call in calls {
+        assert_call(rt, ram, *call);
+    }
+}
+
+/// Three volatile bytes, no region, and a block that fills the stack.
+const FRESH: &[Call] = &[
+    Call::Load {
+        addr: STACK,
+        size: 8,
+        align: 8,
+        answer: Err(MemTrap::BadAddress),
+    },
+    Call::Load {
+        addr: 65_537,
+        size: 2,
+        align: 2,
+        answer: Err(MemTrap::Misaligned),
+    },
+    Call::Load {
+        addr: 65_537,
+        size: 2,
+        align: 1,
+        answer: Ok(0x0302),
+    },
+    Call::Load {
+        addr: 65_538,
+        size: 2,
+        align: 2,
+        answer: Err(MemTrap::BadAddress),
+    },
+    Call::Push {
+        size: 16_777_216,
+        align: 1,
+        answer: Ok(STACK),
+    },
+    Call::Push {
+        size: 1,
+        align: 1,
+        answer: Err(PushRefusal::StackFull),
+    },
+    Call::Load {
+        addr: STACK,
+        size: 8,
+        align: 8,
+        answer: Ok(0),
+    },
+    Call::Mark {
+        answer: 285_212_672,
+    },
+];
 
 #[test]
 fn fresh_memory(rt: HostRuntime) -> Result<(), Fail> {
     let mut ram = Ram::new(rt.alloc(), BASE, &[1, 2, 3], &[])?;
-    assert!(rt; ram.load(STACK, 8, 8) == Err(MemTrap::BadAddress));
-    assert!(rt; ram.load(65_537, 2, 2) == Err(MemTrap::Misaligned));
-    assert!(rt; ram.load(65_537, 2, 1) == Ok(0x0302));
-    assert!(rt; ram.load(65_538, 2, 2) == Err(MemTrap::BadAddress));
-    assert!(rt; ram.push_stack(16_777_216, 1) == Ok(STACK));
-    assert!(rt; ram.push_stack(1, 1) == Err(PushRefusal::StackFull));
-    assert!(rt; ram.load(STACK, 8, 8) == Ok(0));
-    assert!(rt; ram.mark() == 285_212_672);
+    assert_calls(&rt, &mut ram, FRESH);
     Ok(())
 }
 
-// A region of two pages: a store over their border, one of low bytes, and refusals that change nothing.
+/// A region of two pages: a store over their border, one of low bytes, and refusals that change nothing.
+const TWO_PAGES: &[Call] = &[
+    Call::Load {
+        addr: BASE + 4092,
+        size: 8,
+        align: 4,
+        answer: Ok(0xabab_abab_abab_abab),
+    },
+    Call::Store {
+        addr: BASE + 4092,
+        size: 8,
+        align: 4,
+        value: 0x0102_0304_0506_0708,
+        answer: Ok(()),
+    },
+    Call::Load {
+        addr: BASE + 4092,
+        size: 8,
+        align: 4,
+        answer: Ok(0x0102_0304_0506_0708),
+    },
+    Call::Load {
+        addr: BASE + 4096,
+        size: 4,
+        align: 4,
+        answer: Ok(0x0102_0304),
+    },
+    Call::Load {
+        addr: BASE + 4100,
+        size: 1,
+        align: 1,
+        answer: Ok(0xab),
+    },
+    Call::Store {
+        addr: BASE,
+        size: 2,
+        align: 2,
+        value: 0x0005_1122,
+        answer: Ok(()),
+    },
+    Call::Load {
+        addr: BASE,
+        size: 4,
+        align: 4,
+        answer: Ok(0xabab_1122),
+    },
+    Call::Store {
+        addr: BASE + 1,
+        size: 2,
+        align: 2,
+        value: 0,
+        answer: Err(StoreRefusal::Misaligned),
+    },
+    Call::Store {
+        addr: BASE + 8188,
+        size: 8,
+        align: 4,
+        value: 0,
+        answer: Err(StoreRefusal::BadAddress),
+    },
+    Call::Load {
+        addr: BASE + 8188,
+        size: 4,
+        align: 4,
+        answer: Ok(0xabab_abab),
+    },
+    Call::Valid {
+        addr: BASE + 8191,
+        answer: true,
+    },
+    Call::Valid {
+        addr: BASE + 8192,
+        answer: false,
+    },
+];
+
 #[test]
 fn stores_are_read(rt: HostRuntime) -> Result<(), Fail> {
     let region = vec![in rt.alloc(); 0xabu8; 8192]?;
     let mut ram = Ram::new(rt.alloc(), BASE, &[], region.as_slice())?;
-    assert!(rt; ram.load(BASE + 4092, 8, 4) == Ok(0xabab_abab_abab_abab));
-    assert!(rt; ram.store(BASE + 4092, 8, 4, 0x0102_0304_0506_0708) == Ok(()));
-    assert!(rt; ram.load(BASE + 4092, 8, 4) == Ok(0x0102_0304_0506_0708));
-    assert!(rt; ram.load(BASE + 4096, 4, 4) == Ok(0x0102_0304));
-    assert!(rt; ram.load(BASE + 4100, 1, 1) == Ok(0xab));
-    assert!(rt; ram.store(BASE, 2, 2, 0x0005_1122) == Ok(()));
-    assert!(rt; ram.load(BASE, 4, 4) == Ok(0xabab_1122));
-    assert!(rt; ram.store(BASE + 1, 2, 2, 0) == Err(StoreRefusal::Misaligned));
-    assert!(rt; ram.store(BASE + 8188, 8, 4, 0) == Err(StoreRefusal::BadAddress));
-    assert!(rt; ram.load(BASE + 8188, 4, 4) == Ok(0xabab_abab));
-    assert!(rt; ram.valid(BASE + 8191));
-    assert!(rt; !ram.valid(BASE + 8192));
+    assert_calls(&rt, &mut ram, TWO_PAGES);
     Ok(())
 }
 
-// A block over bytes that an earlier frame wrote reads as zeros again.
+/// A block over bytes that an earlier frame wrote reads as zeros again.
+const TWO_FRAMES: &[Call] = &[
+    Call::Push {
+        size: 3,
+        align: 1,
+        answer: Ok(STACK),
+    },
+    Call::Push {
+        size: 20_000,
+        align: 8,
+        answer: Ok(STACK + 8),
+    },
+    Call::Store {
+        addr: STACK + 4100,
+        size: 8,
+        align: 4,
+        value: 77,
+        answer: Ok(()),
+    },
+    Call::Store {
+        addr: STACK + 20_000,
+        size: 8,
+        align: 8,
+        value: 78,
+        answer: Ok(()),
+    },
+    Call::Store {
+        addr: STACK,
+        size: 1,
+        align: 1,
+        value: 9,
+        answer: Ok(()),
+    },
+    Call::Pop { mark: STACK + 3 },
+    Call::Load {
+        addr: STACK + 8,
+        size: 8,
+        align: 8,
+        answer: Err(MemTrap::BadAddress),
+    },
+    Call::Push {
+        size: 20_000,
+        align: 8,
+        answer: Ok(STACK + 8),
+    },
+    Call::Load {
+        addr: STACK + 4100,
+        size: 8,
+        align: 4,
+        answer: Ok(0),
+    },
+    Call::Load {
+        addr: STACK + 20_000,
+        size: 8,
+        align: 8,
+        answer: Ok(0),
+    },
+    Call::Load {
+        addr: STACK,
+        size: 1,
+        align: 1,
+        answer: Ok(9),
+    },
+];
+
 #[test]
 fn block_is_zeros_again(rt: HostRuntime) -> Result<(), Fail> {
     let mut ram = Ram::new(rt.alloc(), BASE, &[], &[])?;
-    assert!(rt; ram.push_stack(3, 1) == Ok(STACK));
-    assert!(rt; ram.push_stack(20_000, 8) == Ok(STACK + 8));
-    assert!(rt; ram.store(STACK + 4100, 8, 4, 77) == Ok(()));
-    assert!(rt; ram.store(STACK + 20_000, 8, 8, 78) == Ok(()));
-    assert!(rt; ram.store(STACK, 1, 1, 9) == Ok(()));
-    assert!(rt; ram.mark() >= STACK + 3);
-    ram.pop_stack(STACK + 3);
-    assert!(rt; ram.load(STACK + 8, 8, 8) == Err(MemTrap::BadAddress));
-    assert!(rt; ram.push_stack(20_000, 8) == Ok(STACK + 8));
-    assert!(rt; ram.load(STACK + 4100, 8, 4) == Ok(0));
-    assert!(rt; ram.load(STACK + 20_000, 8, 8) == Ok(0));
-    assert!(rt; ram.load(STACK, 1, 1) == Ok(9));
+    assert_calls(&rt, &mut ram, TWO_FRAMES);
     Ok(())
 }
+
+/// A block that fills the stack, and a store at its end.
+const FULL_STACK: &[Call] = &[
+    Call::Push {
+        size: 16_777_216,
+        align: 1,
+        answer: Ok(STACK),
+    },
+    Call::Store {
+        addr: 285_212_664,
+        size: 8,
+        align: 8,
+        value: 1,
+        answer: Ok(()),
+    },
+];
+
+/// What it leaves.
+const LEFT: &[Call] = &[
+    Call::Load {
+        addr: 285_212_664,
+        size: 8,
+        align: 8,
+        answer: Ok(1),
+    },
+    Call::Load {
+        addr: STACK,
+        size: 8,
+        align: 8,
+        answer: Ok(0),
+    },
+];
 
 #[test]
 fn pages_on_demand(rt: HostRuntime) -> Result<(), Fail> {
     let mut rams = Vec::new(rt.alloc());
     for _ in 0..4000u32 {
         let mut ram = Ram::new(rt.alloc(), BASE, &[], &[])?;
-        assert!(rt; ram.push_stack(16_777_216, 1) == Ok(STACK));
-        assert!(rt; ram.store(285_212_664, 8, 8, 1) == Ok(()));
+        assert_calls(&rt, &mut ram, FULL_STACK);
         rams.push(ram)?;
     }
     assert!(rt; rams.len() == 4000);
-    for ram in &rams {
-        assert!(rt; ram.load(285_212_664, 8, 8) == Ok(1));
-        assert!(rt; ram.load(STACK, 8, 8) == Ok(0));
+    for ram in &mut rams {
+        assert_calls(&rt, ram, LEFT);
     }
     Ok(())
 }

@@ -1,7 +1,7 @@
 -- What spells a token, and that the piece at a place is the longest.
-use Rattle.std.specs.Prelude.{◌≡◌, ℕ, ◌+◌, ◌≤◌, Bool, true, false, not, ◌&&◌, ◌||◌, List, [], ◌∷◌, ◌++◌, length, take, ◌==◌}
+use Rattle.std.specs.Prelude.{◌≡◌, ℕ, ◌+◌, ◌≤◌, Bool, true, false, not, ◌&&◌, ◌||◌, List, [], ◌∷◌, ◌++◌, codes, length, take, ◌==◌}
 use Rattle.std.specs.List.{list_all}
-use Rattle.hip_tokens.specs.Bytes.{is_digit, begins_name, goes_on_name, is_mark, in_string}
+use Rattle.hip_tokens.specs.Bytes.{byte, is_digit, begins_name, goes_on_name, is_mark, in_string}
 use Rattle.hip_tokens.specs.Tokens.{Tok, Word, Label, Local, Global, Num, Str, Mark, Odd, Piece}
 
 abbrev pub is_name : List ℕ → Bool
@@ -14,7 +14,7 @@ are_digits (d ∷ ds) = is_digit d && list_all is_digit ds
 
 abbrev pub is_number : List ℕ → Bool
 is_number [] = false
-is_number (d ∷ ds) = ((d == 45) && are_digits ds) || are_digits (d ∷ ds)
+is_number (d ∷ ds) = ((d == byte "-") && are_digits ds) || are_digits (d ∷ ds)
 
 -- a byte that begins no other token
 abbrev pub is_odd : ℕ → Bool
@@ -23,11 +23,11 @@ is_odd b = not (begins_name b || (is_digit b || is_mark b))
 -- the bytes that spell a token, by its kind
 abbrev pub Spells : Tok → List ℕ → Type 0
 Spells (Word t) w = (w ≡ t) × (is_name t ≡ true)
-Spells (Label t) w = (w ≡ t ++ 58 ∷ []) × (is_name t ≡ true)
-Spells (Local t) w = (w ≡ 37 ∷ t) × (is_name t ≡ true)
-Spells (Global t) w = (w ≡ 64 ∷ t) × (is_name t ≡ true)
+Spells (Label t) w = (w ≡ t ++ codes ":") × (is_name t ≡ true)
+Spells (Local t) w = (w ≡ byte "%" ∷ t) × (is_name t ≡ true)
+Spells (Global t) w = (w ≡ byte "@" ∷ t) × (is_name t ≡ true)
 Spells (Num t) w = (w ≡ t) × (is_number t ≡ true)
-Spells (Str t) w = (w ≡ 34 ∷ (t ++ 34 ∷ [])) × (list_all in_string t ≡ true)
+Spells (Str t) w = (w ≡ codes "\"" ++ (t ++ codes "\"")) × (list_all in_string t ≡ true)
 Spells (Mark b) w = (w ≡ b ∷ []) × (is_mark b ≡ true)
 Spells (Odd b) w = (w ≡ b ∷ []) × (is_odd b ≡ true)
 

@@ -1,7 +1,7 @@
 -- The tokens of a text: at each place the longest one, with its line.
 use Rattle.std.specs.Prelude.{ℕ, zero, suc, ◌+◌, Bool, false, List, [], ◌∷◌, take, slice_index, if◌then◌else◌, ◌==◌}
 use Rattle.std.specs.List.{prefix_len}
-use Rattle.hip_tokens.specs.Bytes.{is_blank, is_digit, begins_name, goes_on_name, is_mark, in_string, in_comment}
+use Rattle.hip_tokens.specs.Bytes.{byte, is_blank, is_digit, begins_name, goes_on_name, is_mark, in_string, in_comment}
 
 pub data Tok : Type 0 where
   Word : List ℕ → Tok
@@ -29,47 +29,51 @@ name_here (b ∷ bs) = begins_name b
 -- a name is a label where `:` follows it
 unfoldable pub word_piece : ℕ → List ℕ → Piece
 word_piece b bs =
-    if slice_index bs (prefix_len goes_on_name bs) == 58
+    if slice_index bs (prefix_len goes_on_name bs) == byte ":"
     then piece (Label (b ∷ take (prefix_len goes_on_name bs) bs)) (prefix_len goes_on_name bs + 1)
     else piece (Word (b ∷ take (prefix_len goes_on_name bs) bs)) (prefix_len goes_on_name bs)
 
 -- behind `%` and `@` a name stands, or nothing
 unfoldable pub local_piece : List ℕ → Piece
 local_piece bs =
-    if name_here bs then piece (Local (take (prefix_len goes_on_name bs) bs)) (prefix_len goes_on_name bs) else piece (Odd 37) 0
+    if name_here bs
+    then piece (Local (take (prefix_len goes_on_name bs) bs)) (prefix_len goes_on_name bs)
+    else piece (Odd (byte "%")) 0
 
 unfoldable pub global_piece : List ℕ → Piece
 global_piece bs =
-    if name_here bs then piece (Global (take (prefix_len goes_on_name bs) bs)) (prefix_len goes_on_name bs) else piece (Odd 64) 0
+    if name_here bs
+    then piece (Global (take (prefix_len goes_on_name bs) bs)) (prefix_len goes_on_name bs)
+    else piece (Odd (byte "@")) 0
 
 unfoldable pub number_piece : ℕ → List ℕ → Piece
 number_piece b bs = piece (Num (b ∷ take (prefix_len is_digit bs) bs)) (prefix_len is_digit bs)
 
 -- behind `-` a digit stands, or nothing
 unfoldable pub minus_piece : List ℕ → Piece
-minus_piece bs = if prefix_len is_digit bs == 0 then piece (Odd 45) 0 else number_piece 45 bs
+minus_piece bs = if prefix_len is_digit bs == 0 then piece (Odd (byte "-")) 0 else number_piece (byte "-") bs
 
 -- a string is closed on its line, or `"` stands alone
 unfoldable pub string_piece : List ℕ → Piece
 string_piece bs =
-    if slice_index bs (prefix_len in_string bs) == 34
+    if slice_index bs (prefix_len in_string bs) == byte "\""
     then piece (Str (take (prefix_len in_string bs) bs)) (prefix_len in_string bs + 1)
-    else piece (Odd 34) 0
+    else piece (Odd (byte "\"")) 0
 
 -- the longest token that begins with b, a byte that neither separates tokens nor begins a comment
 unfoldable pub piece_at : ℕ → List ℕ → Piece
 piece_at b bs =
     if begins_name b then word_piece b bs
     else (if is_digit b then number_piece b bs
-    else (if b == 45 then minus_piece bs
-    else (if b == 37 then local_piece bs
-    else (if b == 64 then global_piece bs
-    else (if b == 34 then string_piece bs
+    else (if b == byte "-" then minus_piece bs
+    else (if b == byte "%" then local_piece bs
+    else (if b == byte "@" then global_piece bs
+    else (if b == byte "\"" then string_piece bs
     else (if is_mark b then piece (Mark b) 0
     else piece (Odd b) 0))))))
 
 abbrev pub line_after : ℕ → ℕ → ℕ
-line_after line b = if b == 10 then line + 1 else line
+line_after line b = if b == byte "\n" then line + 1 else line
 
 -- a token and its line
 pub record At : Type 0 where
@@ -82,7 +86,7 @@ cut line inside [] = []
 cut line (suc inside) (b ∷ bs) = cut line inside bs
 cut line zero (b ∷ bs) =
     if is_blank b then cut (line_after line b) 0 bs
-    else (if b == 59 then cut line (prefix_len in_comment bs) bs
+    else (if b == byte ";" then cut line (prefix_len in_comment bs) bs
     else (record { tok = (piece_at b bs).tok; line = line }) ∷ cut line (piece_at b bs).more bs)
 
 -- the tokens of a text

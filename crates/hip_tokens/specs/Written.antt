@@ -5,7 +5,7 @@ use Rattle.std.specs.List.{prefix_len, list_all}
 use Rattle.std.proofs.lemmas.List.{take_at, drop_at}
 use Rattle.std.proofs.lemmas.Bool.{and_parts}
 use Rattle.std.proofs.lemmas.Bool.Decides.{nat_tests}
-use Rattle.hip_tokens.specs.Bytes.{is_blank, is_digit, begins_name, goes_on_name, is_mark}
+use Rattle.hip_tokens.specs.Bytes.{byte, is_blank, is_digit, begins_name, goes_on_name, is_mark}
 use Rattle.hip_tokens.specs.Tokens.{Tok, Word, Label, Local, Global, Num, Mark, At, piece, piece_at, word_piece, number_piece, minus_piece, local_piece, global_piece, name_here, cut}
 use Rattle.hip_tokens.specs.Longest.{is_name, are_digits}
 use Rattle.hip_tokens.specs.Cuts.{cut_token}
@@ -18,7 +18,7 @@ begins_without p (b ∷ bs) = not (p b)
 -- the bytes go on no name, and make none a label
 abbrev pub ends_word : List ℕ → Bool
 ends_word [] = true
-ends_word (b ∷ bs) = not (goes_on_name b) && not (b == 58)
+ends_word (b ∷ bs) = not (goes_on_name b) && not (b == byte ":")
 
 not_is : (a : Bool) → not a ≡ true → a ≡ false
 not_is true e = absurd cc

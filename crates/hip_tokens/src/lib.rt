@@ -5,6 +5,6 @@ mod bytes;
 mod lexer;
 mod lines;
 
-pub use bytes::is_name;
+pub use bytes::{is_digit, is_name};
 pub use lexer::{Lexer, Token, tokens_are_longest};
 pub use lines::last_line;

@@ -93,7 +93,8 @@ pub record IsTraceFile (files : List NamedFile) (name : List ℕ) (program : Pro
   pub found : file_of files name ≡ Some bytes
   pub trace : IsTraceOf program bytes input
 
-pub record IsMisfitFile (files : List NamedFile) (name : List ℕ) (program : Program) (entry : ℕ) (kind : MisfitKind) : Type 0 where
+pub record IsMisfitFile (files : List NamedFile) (name : List ℕ) (program : Program) (entry : ℕ)
+    (kind : MisfitKind) : Type 0 where
   pub bytes : List ℕ
   pub found : file_of files name ≡ Some bytes
   pub misfit : IsMisfit program bytes true entry kind
@@ -117,11 +118,17 @@ TraceCause files name program statuses.Cut = ⊥
 
 -- why `repair` is not carried out: the program is looked at first, and then the trace
 abbrev pub Cause : List NamedFile → List ℕ → List ℕ → Status → Type 0
-Cause files program_name trace_name (statuses.Missing roles.Trace) = (program : Program) × IsProgram files program_name program × TraceCause files trace_name program (statuses.Missing roles.Trace)
-Cause files program_name trace_name (statuses.Misfit entry kind) = (program : Program) × IsProgram files program_name program × TraceCause files trace_name program (statuses.Misfit entry kind)
-Cause files program_name trace_name (statuses.Missing roles.Program) = ProgramCause files program_name (statuses.Missing roles.Program)
+Cause files program_name trace_name (statuses.Missing roles.Trace) =
+    (program : Program) × IsProgram files program_name program
+    × TraceCause files trace_name program (statuses.Missing roles.Trace)
+Cause files program_name trace_name (statuses.Misfit entry kind) =
+    (program : Program) × IsProgram files program_name program
+    × TraceCause files trace_name program (statuses.Misfit entry kind)
+Cause files program_name trace_name (statuses.Missing roles.Program) =
+    ProgramCause files program_name (statuses.Missing roles.Program)
 Cause files program_name trace_name statuses.TooLarge = ProgramCause files program_name statuses.TooLarge
-Cause files program_name trace_name (statuses.BadProgram why) = ProgramCause files program_name (statuses.BadProgram why)
+Cause files program_name trace_name (statuses.BadProgram why) =
+    ProgramCause files program_name (statuses.BadProgram why)
 Cause files program_name trace_name statuses.ReadFault = Unit {0}
 Cause files program_name trace_name statuses.NoMemory = Unit {0}
 Cause files program_name trace_name statuses.Done = ⊥
@@ -136,7 +143,10 @@ count_line word n = word ++ decimal n ++ codes "\n"
 
 -- how many reports, flushes, fences, hoisted calls and clones
 abbrev pub counts_text : ℕ → Plan → List ℕ
-counts_text found p = count_line (codes "reports ") found ++ count_line (codes "flushes ") (length p.flush_after) ++ count_line (codes "fences ") (length p.fence_after) ++ count_line (codes "hoists ") (length p.hoist) ++ count_line (codes "clones ") 0
+counts_text found p =
+    count_line (codes "reports ") found ++ count_line (codes "flushes ") (length p.flush_after)
+    ++ count_line (codes "fences ") (length p.fence_after) ++ count_line (codes "hoists ") (length p.hoist)
+    ++ count_line (codes "clones ") 0
 
 -- The repair of a program for a run: the canonical text of the repaired program, and the counts.
 pub record Repairs (files : List NamedFile) (program_name trace_name out notes : List ℕ) : Type 0 where

@@ -60,7 +60,9 @@ CountsBy Cut old new = IsSteady old new
 
 -- There is an order, and where the cabinet tells its files, P holds of them and of the order's names.
 abbrev pub ForOrder : Option Order → Option (List NamedFile) → (List NamedFile → List ℕ → List ℕ → Type 0) → Type 0
-ForOrder given files P = (program_name : List ℕ) × (trace_name : List ℕ) × (given ≡ Some (Repair program_name trace_name)) × IfSome files (λ fs. P fs program_name trace_name)
+ForOrder given files P =
+    (program_name : List ℕ) × (trace_name : List ℕ) × (given ≡ Some (Repair program_name trace_name))
+    × IfSome files (λ fs. P fs program_name trace_name)
 
 -- `Usage` comes exactly where the words are no order, and want of memory is the one answer without a cause.
 abbrev pub CauseBy : Option Order → Option (List NamedFile) → Status → Type 0
@@ -91,7 +93,8 @@ abbrev pub TextsOf : Option Order → Option (List NamedFile) → List ℕ → L
 TextsOf given files out notes = ForOrder given files (λ fs p t. Repairs fs p t out notes)
 
 -- Both texts were written whole.
-pub record HasWritten (given : Option Order) (files : Option (List NamedFile)) (out out_new notes notes_new : SinkState) : Type 0 where
+pub record HasWritten (given : Option Order) (files : Option (List NamedFile))
+    (out out_new notes notes_new : SinkState) : Type 0 where
   pub out_text : List ℕ
   pub notes_text : List ℕ
   pub texts : TextsOf given files out_text notes_text
@@ -102,39 +105,52 @@ pub record HasWritten (given : Option Order) (files : Option (List NamedFile)) (
 abbrev pub IsCutShort : SinkState → SinkState → SinkState → SinkState → List ℕ → List ℕ → Type 0
 IsCutShort out out_new notes notes_new out_text notes_text =
     (AppendsPrefix out out_new out_text × PutsLine WriteFault notes notes_new)
-    ⊎ ((mid : SinkState) × AppendsAll out out_new out_text × AppendsPrefix notes mid notes_text × PutsLine WriteFault mid notes_new)
+    ⊎ ((mid : SinkState) × AppendsAll out out_new out_text × AppendsPrefix notes mid notes_text
+    × PutsLine WriteFault mid notes_new)
 
-pub record HasFailedToWrite (given : Option Order) (files : Option (List NamedFile)) (out out_new notes notes_new : SinkState) : Type 0 where
+pub record HasFailedToWrite (given : Option Order) (files : Option (List NamedFile))
+    (out out_new notes notes_new : SinkState) : Type 0 where
   pub out_text : List ℕ
   pub notes_text : List ℕ
   pub texts : TextsOf given files out_text notes_text
   pub cut : IsCutShort out out_new notes notes_new out_text notes_text
 
 -- A refusal writes nothing but its line.
-pub record HasRefused (given : Option Order) (status : Status) (old new : CabinetState) (out out_new notes notes_new : SinkState) : Type 0 where
+pub record HasRefused (given : Option Order) (status : Status) (old new : CabinetState)
+    (out out_new notes notes_new : SinkState) : Type 0 where
   pub refused : IsRefused given status old new
   pub out_kept : out_new ≡ out
   pub line : PutsLine status notes notes_new
 
-pub record IsCarriedOut (given : Option Order) (old new : CabinetState) (out out_new notes notes_new : SinkState) : Type 0 where
+pub record IsCarriedOut (given : Option Order) (old new : CabinetState)
+    (out out_new notes notes_new : SinkState) : Type 0 where
   pub steady : IsSteady old new
   pub written : HasWritten given old.files out out_new notes notes_new
 
-pub record IsHalfWritten (given : Option Order) (old new : CabinetState) (out out_new notes notes_new : SinkState) : Type 0 where
+pub record IsHalfWritten (given : Option Order) (old new : CabinetState)
+    (out out_new notes notes_new : SinkState) : Type 0 where
   pub steady : IsSteady old new
   pub failed : HasFailedToWrite given old.files out out_new notes notes_new
 
 -- What a call does, by its status.
-abbrev pub HasAnswered : Option Order → CabinetState → CabinetState → SinkState → SinkState → SinkState → SinkState → Status → Type 0
+abbrev pub HasAnswered : Option Order → CabinetState → CabinetState → SinkState → SinkState → SinkState →
+    SinkState → Status → Type 0
 HasAnswered given old new out out_new notes notes_new Done = IsCarriedOut given old new out out_new notes notes_new
-HasAnswered given old new out out_new notes notes_new WriteFault = IsHalfWritten given old new out out_new notes notes_new
+HasAnswered given old new out out_new notes notes_new WriteFault =
+    IsHalfWritten given old new out out_new notes notes_new
 HasAnswered given old new out out_new notes notes_new Usage = HasRefused given Usage old new out out_new notes notes_new
-HasAnswered given old new out out_new notes notes_new (Missing file) = HasRefused given (Missing file) old new out out_new notes notes_new
-HasAnswered given old new out out_new notes notes_new ReadFault = HasRefused given ReadFault old new out out_new notes notes_new
-HasAnswered given old new out out_new notes notes_new (BadProgram why) = HasRefused given (BadProgram why) old new out out_new notes notes_new
-HasAnswered given old new out out_new notes notes_new (Misfit entry kind) = HasRefused given (Misfit entry kind) old new out out_new notes notes_new
-HasAnswered given old new out out_new notes notes_new NoMemory = HasRefused given NoMemory old new out out_new notes notes_new
-HasAnswered given old new out out_new notes notes_new TooLarge = HasRefused given TooLarge old new out out_new notes notes_new
+HasAnswered given old new out out_new notes notes_new (Missing file) =
+    HasRefused given (Missing file) old new out out_new notes notes_new
+HasAnswered given old new out out_new notes notes_new ReadFault =
+    HasRefused given ReadFault old new out out_new notes notes_new
+HasAnswered given old new out out_new notes notes_new (BadProgram why) =
+    HasRefused given (BadProgram why) old new out out_new notes notes_new
+HasAnswered given old new out out_new notes notes_new (Misfit entry kind) =
+    HasRefused given (Misfit entry kind) old new out out_new notes notes_new
+HasAnswered given old new out out_new notes notes_new NoMemory =
+    HasRefused given NoMemory old new out out_new notes notes_new
+HasAnswered given old new out out_new notes notes_new TooLarge =
+    HasRefused given TooLarge old new out out_new notes notes_new
 HasAnswered given old new out out_new notes notes_new (Trapped kind) = ⊥
 HasAnswered given old new out out_new notes notes_new Cut = ⊥
 
@@ -168,12 +184,16 @@ MayStopTrace (Trapped kind) = ⊥
 MayStopTrace Cut = ⊥
 
 abbrev pub LoadsProgram : List ℕ → CabinetState → CabinetState → Result Program Status → Type 0
-LoadsProgram name old new (Ok program) = IsSteady old new × IfSome old.files (λ fs. IsProgram fs name program) × (is_one_store program ≡ true)
-LoadsProgram name old new (Err status) = CountsBy status old new × IfSome old.files (λ fs. ProgramCause fs name status) × MayStopProgram status
+LoadsProgram name old new (Ok program) =
+    IsSteady old new × IfSome old.files (λ fs. IsProgram fs name program) × (is_one_store program ≡ true)
+LoadsProgram name old new (Err status) =
+    CountsBy status old new × IfSome old.files (λ fs. ProgramCause fs name status) × MayStopProgram status
 
 abbrev pub LoadsTrace : Program → List ℕ → CabinetState → CabinetState → Result Input Status → Type 0
-LoadsTrace program name old new (Ok input) = IsSteady old new × IfSome old.files (λ fs. IsTraceFile fs name program input)
-LoadsTrace program name old new (Err status) = CountsBy status old new × IfSome old.files (λ fs. TraceCause fs name program status) × MayStopTrace status
+LoadsTrace program name old new (Ok input) =
+    IsSteady old new × IfSome old.files (λ fs. IsTraceFile fs name program input)
+LoadsTrace program name old new (Err status) =
+    CountsBy status old new × IfSome old.files (λ fs. TraceCause fs name program status) × MayStopTrace status
 
 -- what the check of a program that is read answers
 abbrev pub TakesProgram : Program → Result Program Status → Type 0
@@ -221,8 +241,10 @@ Finds given old new (Err status) = IsRefused given status old new
 
 -- what writing both texts answers
 abbrev pub PutsTexts : SinkState → SinkState → SinkState → SinkState → List ℕ → List ℕ → Status → Type 0
-PutsTexts out out_new notes notes_new out_text notes_text Done = AppendsAll out out_new out_text × AppendsAll notes notes_new notes_text
-PutsTexts out out_new notes notes_new out_text notes_text WriteFault = IsCutShort out out_new notes notes_new out_text notes_text
+PutsTexts out out_new notes notes_new out_text notes_text Done =
+    AppendsAll out out_new out_text × AppendsAll notes notes_new notes_text
+PutsTexts out out_new notes notes_new out_text notes_text WriteFault =
+    IsCutShort out out_new notes notes_new out_text notes_text
 PutsTexts out out_new notes notes_new out_text notes_text Usage = ⊥
 PutsTexts out out_new notes notes_new out_text notes_text (Missing file) = ⊥
 PutsTexts out out_new notes notes_new out_text notes_text ReadFault = ⊥

@@ -29,18 +29,27 @@ start fs = option_and_then (λ l. option_map (λ limit. Start limit) (decimal_of
 
 -- `REGISTER;B;S`
 unfoldable pub register : List (List ℕ) → Option Entry
-register fs = option_and_then (λ f. option_and_then (λ base. option_map (λ size. Register base size) (hex_of f.1)) (hex_of f.0)) (two_fields fs)
+register fs =
+    option_and_then (λ f.
+    option_and_then (λ base. option_map (λ size. Register base size) (hex_of f.1)) (hex_of f.0))
+    (two_fields fs)
 
 -- sizes are 1, 2, 4 and 8, and the value has at most so many bytes
 abbrev pub is_store_size : ℕ → Bool
 is_store_size size = (size == 1) || ((size == 2) || ((size == 4) || (size == 8)))
 
 abbrev pub sized_store : ℕ → ℕ → ℕ → Option Entry
-sized_store addr value size = if is_store_size size && nat_lt value (2 ^ (8 * size)) then Some (Store addr value size) else None
+sized_store addr value size =
+    if is_store_size size && nat_lt value (2 ^ (8 * size)) then Some (Store addr value size) else None
 
 -- `STORE;A;V;S`
 unfoldable pub store : List (List ℕ) → Option Entry
-store fs = option_and_then (λ f. option_and_then (λ addr. option_and_then (λ value. option_and_then (λ size. sized_store addr value size) (hex_of f.2)) (hex_of f.1)) (hex_of f.0)) (three_fields fs)
+store fs =
+    option_and_then (λ f.
+    option_and_then (λ addr.
+    option_and_then (λ value.
+    option_and_then (λ size. sized_store addr value size) (hex_of f.2)) (hex_of f.1)) (hex_of f.0))
+    (three_fields fs)
 
 -- `STOP;C`
 unfoldable pub stop : List (List ℕ) → Option Entry

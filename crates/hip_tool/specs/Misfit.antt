@@ -36,7 +36,8 @@ spelled_base program (Some e) = valid_base program e
 
 -- the region's bytes are 0, as no entry of the header says otherwise
 abbrev pub input_of : Program → ℕ → ℕ → Input
-input_of program limit base = record { base = base; image = replicate (region_size program) 0; numbers = []; limit = limit }
+input_of program limit base =
+    record { base = base; image = replicate (region_size program) 0; numbers = []; limit = limit }
 
 abbrev pub from_base : Program → ℕ → Option ℕ → Header
 from_base program limit None = Stops 1
@@ -67,7 +68,8 @@ DiffersAt whole (Some piece) None kind = kind ≡ kind_of piece Extra
 DiffersAt whole (Some piece) (Some t) kind = (piece ≢ Some t) × (kind ≡ kind_of piece Differs)
 
 -- the pieces before spell the run's entries, and the next one does not
-pub record FirstDiffers (whole : Bool) (es : List (Option Entry)) (ts : List Entry) (count : ℕ) (kind : MisfitKind) : Type 0 where
+pub record FirstDiffers (whole : Bool) (es : List (Option Entry)) (ts : List Entry) (count : ℕ)
+    (kind : MisfitKind) : Type 0 where
   pub before : take count es ≡ map (λ t. Some t) (take count ts)
   pub here : DiffersAt whole (slice_get es count) (slice_get ts count) kind
 
@@ -77,14 +79,16 @@ StopsAt whole None kind = (whole ≡ true) × (kind ≡ Early)
 StopsAt whole (Some piece) kind = kind ≡ kind_of piece Differs
 
 -- the header of the entries stops there, with this misfit
-pub record HeaderStops (program : Program) (es : List (Option Entry)) (count entry : ℕ) (kind : MisfitKind) : Type 0 where
+pub record HeaderStops (program : Program) (es : List (Option Entry)) (count entry : ℕ)
+    (kind : MisfitKind) : Type 0 where
   pub header_is : header program es ≡ Stops count
   pub entry_is : entry ≡ count + 1
   pub kind_is : StopsAt true (slice_get es count) kind
 
 abbrev pub MisfitBehind : Header → Bool → Program → List (Option Entry) → ℕ → MisfitKind → Type 0
 MisfitBehind (Stops count) whole program es entry kind = (entry ≡ count + 1) × StopsAt whole (slice_get es count) kind
-MisfitBehind (Gives input) whole program es entry kind = (count : ℕ) × (entry ≡ count + 1) × FirstDiffers whole es (trace program input) count kind
+MisfitBehind (Gives input) whole program es entry kind =
+    (count : ℕ) × (entry ≡ count + 1) × FirstDiffers whole es (trace program input) count kind
 
 -- The misfit of a program and the bytes of a trace: the number of an entry, and in which way it is not the run's.
 pub record IsMisfit (program : Program) (bytes : List ℕ) (whole : Bool) (entry : ℕ) (kind : MisfitKind) : Type 0 where

@@ -42,7 +42,8 @@ negative_to limit (Some n) = if nat_le n limit then Some (negated n) else None
 -- digits with an optional `-` before them, in the range of 32 bits
 abbrev pub signed_32_of : List ℕ → Option ℤ
 signed_32_of [] = None
-signed_32_of (d ∷ ds) = if d == 45 then negative_to (2 ^ 31) (decimal_of ds) else positive_below (2 ^ 31) (decimal_of (d ∷ ds))
+signed_32_of (d ∷ ds) =
+    if d == 45 then negative_to (2 ^ 31) (decimal_of ds) else positive_below (2 ^ 31) (decimal_of (d ∷ ds))
 
 -- a number of 32 bits, with its sign
 abbrev pub signed_32 : ℕ → ℤ

@@ -116,7 +116,8 @@ only_store _ = None
 
 -- what a block is labelled, stores and returns, which has no phi and stores once
 abbrev pub block_parts : List Phi → List Instr → End → List ℕ → Option (List ℕ × Bits × List ℕ × Bits)
-block_parts [] body end label = option_and_then (λ s. option_map (λ code. (label, s.0, s.1, code)) (number_return end)) (only_store body)
+block_parts [] body end label =
+    option_and_then (λ s. option_map (λ code. (label, s.0, s.1, code)) (number_return end)) (only_store body)
 block_parts (phi ∷ phis) body end label = None
 
 abbrev pub only_block : List Block → Option (List ℕ × Bits × List ℕ × Bits)
@@ -131,7 +132,16 @@ returns_i32 (Some s) = is_i32 s
 abbrev pub store_function : List ℕ × Bits → Option Scalar → List Param → List Block → List ℕ → Option OneStore
 store_function global ret [] blocks name =
     if returns_i32 ret
-    then option_map (λ b. record { global = global.0; init = global.1; function = name; label = b.0; value = b.1; target = b.2; code = b.3 }) (only_block blocks) else None
+    then option_map (λ b. record {
+      global = global.0;
+      init = global.1;
+      function = name;
+      label = b.0;
+      value = b.1;
+      target = b.2;
+      code = b.3;
+    }) (only_block blocks)
+    else None
 store_function global ret (param ∷ params) blocks name = None
 
 abbrev pub only_function : List ℕ × Bits → List Function → Option OneStore

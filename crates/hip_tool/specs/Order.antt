@@ -14,7 +14,8 @@ is_positional (b ∷ bs) = not (b == 45)
 -- `repair PROGRAM TRACE`
 unfoldable pub order : List (List ℕ) → Option Order
 order (command ∷ program ∷ trace ∷ []) =
-    if bytes_eq command (codes "repair") && (is_positional program && is_positional trace) then Some (Repair program trace) else None
+    if bytes_eq command (codes "repair") && (is_positional program && is_positional trace)
+    then Some (Repair program trace) else None
 order _ = None
 
 -- what reading the words answers; want of memory comes only for an order

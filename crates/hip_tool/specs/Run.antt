@@ -36,14 +36,16 @@ steps_of (Some s) limit base = if limit == 0 then Cut ∷ [] else Store base s.v
 
 -- the trace of the run
 unfoldable pub trace : Program → Input → List Entry
-trace program input = Start input.limit ∷ Register input.base (region_size program) ∷ steps_of (one_store program) input.limit input.base
+trace program input =
+    Start input.limit ∷ Register input.base (region_size program) ∷ steps_of (one_store program) input.limit input.base
 
 abbrev pub store_site : Site
 store_site = record { function = 0; block = 0; index = 0 }
 
 -- The store is entry 3 and the check, at the return, is entry 4. No flush and no fence comes between them.
 abbrev pub store_report : Report
-store_report = record { entry = 3; check_entry = 4; kind = MissingBoth; flush_site = None; path = store_site ∷ []; closed = 0 }
+store_report =
+    record { entry = 3; check_entry = 4; kind = MissingBoth; flush_site = None; path = store_site ∷ []; closed = 0 }
 
 -- the reports of the run: the return is reached with two turns
 unfoldable pub reports : Input → List Report
@@ -77,7 +79,15 @@ fence_instr = instrs.Call None None fence_name []
 
 -- the parts of the program, with more declarations, and more instructions directly after the store
 abbrev pub global_part : OneStore → GlobalVar
-global_part s = record { name = s.global; fixed = false; ty = types.Int W64; init = consts.Int s.init; persistent = true; align = None }
+global_part s =
+    record {
+      name = s.global;
+      fixed = false;
+      ty = types.Int W64;
+      init = consts.Int s.init;
+      persistent = true;
+      align = None;
+    }
 
 abbrev pub store_part : OneStore → Instr
 store_part s = instrs.Store (Int W64) (Fixed (consts.Int s.value)) (Fixed (consts.Address s.target)) None
@@ -94,7 +104,8 @@ function_part inserted s = record {
 }
 
 abbrev pub tree : List Extern → List Instr → OneStore → Program
-tree externs inserted s = record { globals = global_part s ∷ []; externs = externs; functions = function_part inserted s ∷ [] }
+tree externs inserted s =
+    record { globals = global_part s ∷ []; externs = externs; functions = function_part inserted s ∷ [] }
 
 -- the flush and the fence stand directly after the store of a plan that has it
 abbrev pub tree_by : List Site → OneStore → Program

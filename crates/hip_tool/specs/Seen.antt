@@ -29,4 +29,13 @@ abbrev pub seen_parts : Bor (List ℕ) × Bits × Bor (List ℕ) × Bits → Lis
 seen_parts p = (p.0.now, p.1, p.2.now, p.3)
 
 abbrev pub seen_one_store : code.OneStore → OneStore
-seen_one_store s = record { global = s.global.now; init = s.init; function = s.function.now; label = s.label.now; value = s.value; target = s.target.now; code = s.code }
+seen_one_store s =
+    record {
+      global = s.global.now;
+      init = s.init;
+      function = s.function.now;
+      label = s.label.now;
+      value = s.value;
+      target = s.target.now;
+      code = s.code;
+    }

@@ -157,7 +157,8 @@ fn find_repair<C: Cabinet>(
     program_name: &str,
     trace_name: &str,
 ) -> Result<Found, Status>
-    ensures { Finds (Some (Order.Repair program_name.now trace_name.now)) (C.state cabinet.old) (C.state cabinet.new) result }
+    ensures { Finds (Some (Order.Repair program_name.now trace_name.now))
+        (C.state cabinet.old) (C.state cabinet.new) result }
 {
     let checked = match load_program(alloc, cabinet, program_name) {
         Ok(checked) => checked,
@@ -234,7 +235,8 @@ fn put_program<S: Sink>(out: &mut S, program: &Program) -> Put
 
 /// Both texts, the program's first.
 fn put_texts<S: Sink, N: Sink>(found: &Found, out: &mut S, notes: &mut N) -> Status
-    ensures { PutsTexts (S.state out.old) (S.state out.new) (N.state notes.old) (N.state notes.new) (show found.now.program) (counts_text found.now.reports found.now.plan) result }
+    ensures { PutsTexts (S.state out.old) (S.state out.new) (N.state notes.old) (N.state notes.new)
+        (show found.now.program) (counts_text found.now.reports found.now.plan) result }
 {
     match put_program(out, &found.program) {
         Put::Done => match put_counts(notes, found.reports, &found.plan) {
@@ -254,7 +256,8 @@ pub fn hippo<C: Cabinet, S: Sink, N: Sink>(
     out: &mut S,
     notes: &mut N,
 ) -> Status
-    ensures { HasAnswered (order (map string_bytes words.now)) (C.state cabinet.old) (C.state cabinet.new) (S.state out.old) (S.state out.new) (N.state notes.old) (N.state notes.new) result }
+    ensures { HasAnswered (order (map string_bytes words.now)) (C.state cabinet.old) (C.state cabinet.new)
+        (S.state out.old) (S.state out.new) (N.state notes.old) (N.state notes.new) result }
 {
     match find(alloc, words, cabinet) {
         Ok(found) => put_texts(&found, out, notes),

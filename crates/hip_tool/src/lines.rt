@@ -108,7 +108,8 @@ fn put_in_block<S: Sink>(
     word: &[u8],
     index: usize,
 ) -> Put
-    ensures { Writes before result (S.state out.old) (S.state out.new) (block_text function block ++ word.now ++ decimal index) }
+    ensures { Writes before result (S.state out.old) (S.state out.new)
+        (block_text function block ++ word.now ++ decimal index) }
 {
     let put = put_block(before, out, function, block);
     let put = put_after(put, out, word);
@@ -198,7 +199,8 @@ fn put_misfit<S: Sink>(out: &mut S, entry: u128, word: &[u8]) -> Put
 }
 
 fn put_missing<S: Sink>(out: &mut S, word: &[u8]) -> Put
-    ensures { Writes Put.Done result (S.state out.old) (S.state out.new) (codes "hippo: no file: " ++ word.now ++ codes "\n") }
+    ensures { Writes Put.Done result (S.state out.old) (S.state out.new)
+        (codes "hippo: no file: " ++ word.now ++ codes "\n") }
 {
     let put = put_after(Put::Done, out, b"hippo: no file: ");
     let put = put_after(put, out, word);

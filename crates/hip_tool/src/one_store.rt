@@ -218,7 +218,8 @@ fn returns_i32(ret: Option<Scalar>) -> bool
 }
 
 fn store_function<'a>(global: &'a [u8], init: Bits, function: &'a Function) -> Option<OneStore<'a>>
-    ensures { option_map seen_one_store result ≡ store_function (global.now, init) function.now.ret function.now.params function.now.blocks function.now.name }
+    ensures { option_map seen_one_store result
+        ≡ store_function (global.now, init) function.now.ret function.now.params function.now.blocks function.now.name }
 {
     match function.params.as_slice() {
         [] => {

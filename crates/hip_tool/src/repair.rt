@@ -132,7 +132,12 @@ fn body(alloc: Global, store: OneStore<'_>, inserted: Row<Instr>) -> Result<Row<
 }
 
 fn block(alloc: Global, store: OneStore<'_>, inserted: Row<Instr>) -> Result<Block, NoMemory>
-    ensures { IfOk result (λ block. block ≡ record { label = store.entry.label.now; phis = []; body = store_part (seen_one_store store.entry) ∷ inserted; end = end_part (seen_one_store store.entry) }) }
+    ensures { IfOk result (λ block. block ≡ record {
+      label = store.entry.label.now;
+      phis = [];
+      body = store_part (seen_one_store store.entry) ∷ inserted;
+      end = end_part (seen_one_store store.entry);
+    }) }
 {
     Ok(Block {
         label: Row::from_slice(alloc, store.label)?,

@@ -6,8 +6,10 @@ ghost use Rattle.hip_io.specs.Sinks.{Writes};
 ghost use Rattle.hip_ir.specs.Show.{truth_text, literal_text, index_text, inbounds_text, const_text, bracketed, braced, commas, after_commas};
 ghost use Rattle.hip_write.specs.Parts.{gep_text, item_text};
 
+use crate::lists::{Written, put_more};
 use crate::text::{put_address, put_natural};
-use crate::types::{put_type, put_width};
+use crate::types::put_type;
+use crate::words::put_keyword;
 use hip_io::{Put, Sink, put_after};
 use hip_ir::{Const, ConstGep, TypedConst};
 use hip_types::{Bits, Row, Width};
@@ -33,7 +35,10 @@ fn put_negative<S: Sink>(before: Put, out: &mut S, magnitude: u64) -> Put
 fn put_signed<S: Sink>(before: Put, out: &mut S, n: u64, half: u64, last: u64) -> Put
     requires below { n ≤ last }
     requires half { 0 < half }
-    ensures { Writes before result (S.state out.old) (S.state out.new) (if nat_lt n half then decimal n else codes "-" ++ decimal (last + 1 - n)) }
+    ensures {
+        Writes before result (S.state out.old) (S.state out.new)
+            (if nat_lt n half then decimal n else codes "-" ++ decimal (last + 1 - n))
+    }
 {
     if n < half {
         put_natural(before, out, n)
@@ -54,23 +59,14 @@ fn put_literal<S: Sink>(before: Put, out: &mut S, bits: Bits) -> Put
     }
 }
 
-pub fn put_index<S: Sink>(before: Put, out: &mut S, bits: &Bits) -> Put
-    ensures { Writes before result (S.state out.old) (S.state out.new) (index_text bits.now) }
-{
-    let put = put_width(before, out, bits.width);
-    let put = put_after(put, out, b" ");
-    put_literal(put, out, *bits)
-}
+impl Written for Bits {
+    ghost text = { index_text };
 
-fn put_more_indices<S: Sink>(before: Put, out: &mut S, indices: &Row<Bits>) -> Put
-    ensures { Writes before result (S.state out.old) (S.state out.new) (after_commas (map index_text indices.now)) }
-{
-    let mut put = before;
-    'each_index: for index in indices.as_slice() {
-        put = put_after(put, out, b", ");
-        put = put_index(put, out, index);
+    fn put<S: Sink>(&self, before: Put, out: &mut S) -> Put {
+        let put = put_keyword(before, out, self.width);
+        let put = put_after(put, out, b" ");
+        put_literal(put, out, *self)
     }
-    put
 }
 
 pub fn put_inbounds<S: Sink>(before: Put, out: &mut S, inbounds: bool) -> Put
@@ -115,7 +111,7 @@ fn put_const_gep<S: Sink>(before: Put, out: &mut S, gep: &ConstGep) -> Put
     let put = put_type(put, out, &gep.ty);
     let put = put_after(put, out, b", ptr ");
     let put = put_const(put, out, &gep.base);
-    let put = put_more_indices(put, out, &gep.indices);
+    let put = put_more(put, out, &gep.indices);
     put_after(put, out, b")")
 }
 

@@ -7,9 +7,10 @@ ghost use Rattle.hip_ir.specs.Show.{operand_text, arg_text, align_text, result_t
 ghost use Rattle.hip_write.specs.Parts.{computed_text, memory_text};
 
 use crate::constants::{put_const, put_inbounds};
+use crate::lists::{Written, put_more, put_parenthesized};
 use crate::text::{put_assigned, put_name, put_natural, put_register};
-use crate::types::{put_ret, put_scalar, put_type, put_width};
-use crate::words::{put_binary_word, put_cast_word, put_flags, put_pred_word};
+use crate::types::{put_ret, put_type};
+use crate::words::{put_flags, put_keyword};
 use hip_io::{Put, Sink, put_after};
 use hip_ir::{Arg, Flags, Instr, Operand};
 use hip_types::{BinaryOp, CastOp, Name, Pred, Row, Scalar, Ty, Width};
@@ -23,36 +24,14 @@ pub fn put_operand<S: Sink>(before: Put, out: &mut S, operand: &Operand) -> Put
     }
 }
 
-pub fn put_arg<S: Sink>(before: Put, out: &mut S, arg: &Arg) -> Put
-    ensures { Writes before result (S.state out.old) (S.state out.new) (arg_text arg.now) }
-{
-    let put = put_scalar(before, out, arg.ty);
-    let put = put_after(put, out, b" ");
-    put_operand(put, out, &arg.value)
-}
+impl Written for Arg {
+    ghost text = { arg_text };
 
-fn put_args<S: Sink>(before: Put, out: &mut S, args: &Row<Arg>) -> Put
-    ensures { Writes before result (S.state out.old) (S.state out.new) (commas (map arg_text args.now)) }
-{
-    let mut put = before;
-    let mut separator = b"".as_slice();
-    'each_arg: for arg in args.as_slice() {
-        put = put_after(put, out, separator);
-        put = put_arg(put, out, arg);
-        separator = b", ".as_slice();
+    fn put<S: Sink>(&self, before: Put, out: &mut S) -> Put {
+        let put = put_keyword(before, out, self.ty);
+        let put = put_after(put, out, b" ");
+        put_operand(put, out, &self.value)
     }
-    put
-}
-
-fn put_more_args<S: Sink>(before: Put, out: &mut S, args: &Row<Arg>) -> Put
-    ensures { Writes before result (S.state out.old) (S.state out.new) (after_commas (map arg_text args.now)) }
-{
-    let mut put = before;
-    'each_arg: for arg in args.as_slice() {
-        put = put_after(put, out, b", ");
-        put = put_arg(put, out, arg);
-    }
-    put
 }
 
 fn put_aligned<S: Sink>(before: Put, out: &mut S, n: u64) -> Put
@@ -81,7 +60,10 @@ fn put_result<S: Sink>(before: Put, out: &mut S, dest: &Option<Name>) -> Put
 }
 
 fn put_operands<S: Sink>(before: Put, out: &mut S, a: &Operand, b: &Operand) -> Put
-    ensures { Writes before result (S.state out.old) (S.state out.new) (operand_text a.now ++ (codes ", " ++ operand_text b.now)) }
+    ensures {
+        Writes before result (S.state out.old) (S.state out.new)
+            (operand_text a.now ++ (codes ", " ++ operand_text b.now))
+    }
 {
     let put = put_operand(before, out, a);
     let put = put_after(put, out, b", ");
@@ -98,13 +80,16 @@ fn put_binary<S: Sink>(
     a: &Operand,
     b: &Operand,
 ) -> Put
-    ensures { Writes before result (S.state out.old) (S.state out.new) (instr_text (Instr.Binary dest.now op flags width a.now b.now)) }
+    ensures {
+        Writes before result (S.state out.old) (S.state out.new)
+            (instr_text (Instr.Binary dest.now op flags width a.now b.now))
+    }
 {
     let put = put_assigned(before, out, dest);
-    let put = put_binary_word(put, out, op);
+    let put = put_keyword(put, out, op);
     let put = put_after(put, out, b" ");
     let put = put_flags(put, out, flags);
-    let put = put_width(put, out, width);
+    let put = put_keyword(put, out, width);
     let put = put_after(put, out, b" ");
     put_operands(put, out, a, b)
 }
@@ -118,13 +103,16 @@ fn put_compare<S: Sink>(
     a: &Operand,
     b: &Operand,
 ) -> Put
-    ensures { Writes before result (S.state out.old) (S.state out.new) (instr_text (Instr.Compare dest.now pred ty a.now b.now)) }
+    ensures {
+        Writes before result (S.state out.old) (S.state out.new)
+            (instr_text (Instr.Compare dest.now pred ty a.now b.now))
+    }
 {
     let put = put_assigned(before, out, dest);
     let put = put_after(put, out, b"icmp ");
-    let put = put_pred_word(put, out, pred);
+    let put = put_keyword(put, out, pred);
     let put = put_after(put, out, b" ");
-    let put = put_scalar(put, out, ty);
+    let put = put_keyword(put, out, ty);
     let put = put_after(put, out, b" ");
     put_operands(put, out, a, b)
 }
@@ -138,17 +126,20 @@ fn put_select<S: Sink>(
     a: &Operand,
     b: &Operand,
 ) -> Put
-    ensures { Writes before result (S.state out.old) (S.state out.new) (instr_text (Instr.Select dest.now cond.now ty a.now b.now)) }
+    ensures {
+        Writes before result (S.state out.old) (S.state out.new)
+            (instr_text (Instr.Select dest.now cond.now ty a.now b.now))
+    }
 {
     let put = put_assigned(before, out, dest);
     let put = put_after(put, out, b"select i1 ");
     let put = put_operand(put, out, cond);
     let put = put_after(put, out, b", ");
-    let put = put_scalar(put, out, ty);
+    let put = put_keyword(put, out, ty);
     let put = put_after(put, out, b" ");
     let put = put_operand(put, out, a);
     let put = put_after(put, out, b", ");
-    let put = put_scalar(put, out, ty);
+    let put = put_keyword(put, out, ty);
     let put = put_after(put, out, b" ");
     put_operand(put, out, b)
 }
@@ -162,20 +153,26 @@ fn put_cast<S: Sink>(
     a: &Operand,
     to: Scalar,
 ) -> Put
-    ensures { Writes before result (S.state out.old) (S.state out.new) (instr_text (Instr.Cast dest.now op from a.now to)) }
+    ensures {
+        Writes before result (S.state out.old) (S.state out.new)
+            (instr_text (Instr.Cast dest.now op from a.now to))
+    }
 {
     let put = put_assigned(before, out, dest);
-    let put = put_cast_word(put, out, op);
+    let put = put_keyword(put, out, op);
     let put = put_after(put, out, b" ");
-    let put = put_scalar(put, out, from);
+    let put = put_keyword(put, out, from);
     let put = put_after(put, out, b" ");
     let put = put_operand(put, out, a);
     let put = put_after(put, out, b" to ");
-    put_scalar(put, out, to)
+    put_keyword(put, out, to)
 }
 
 fn put_alloca<S: Sink>(before: Put, out: &mut S, dest: &Name, ty: &Ty, align: Option<u64>) -> Put
-    ensures { Writes before result (S.state out.old) (S.state out.new) (instr_text (Instr.Alloca dest.now ty.now align)) }
+    ensures {
+        Writes before result (S.state out.old) (S.state out.new)
+            (instr_text (Instr.Alloca dest.now ty.now align))
+    }
 {
     let put = put_assigned(before, out, dest);
     let put = put_after(put, out, b"alloca ");
@@ -191,11 +188,14 @@ fn put_load<S: Sink>(
     addr: &Operand,
     align: Option<u64>,
 ) -> Put
-    ensures { Writes before result (S.state out.old) (S.state out.new) (instr_text (Instr.Load dest.now ty addr.now align)) }
+    ensures {
+        Writes before result (S.state out.old) (S.state out.new)
+            (instr_text (Instr.Load dest.now ty addr.now align))
+    }
 {
     let put = put_assigned(before, out, dest);
     let put = put_after(put, out, b"load ");
-    let put = put_scalar(put, out, ty);
+    let put = put_keyword(put, out, ty);
     let put = put_after(put, out, b", ptr ");
     let put = put_operand(put, out, addr);
     put_align(put, out, align)
@@ -209,10 +209,13 @@ fn put_store<S: Sink>(
     addr: &Operand,
     align: Option<u64>,
 ) -> Put
-    ensures { Writes before result (S.state out.old) (S.state out.new) (instr_text (Instr.Store ty value.now addr.now align)) }
+    ensures {
+        Writes before result (S.state out.old) (S.state out.new)
+            (instr_text (Instr.Store ty value.now addr.now align))
+    }
 {
     let put = put_after(before, out, b"store ");
-    let put = put_scalar(put, out, ty);
+    let put = put_keyword(put, out, ty);
     let put = put_after(put, out, b" ");
     let put = put_operand(put, out, value);
     let put = put_after(put, out, b", ptr ");
@@ -229,7 +232,10 @@ fn put_gep<S: Sink>(
     base: &Operand,
     indices: &Row<Arg>,
 ) -> Put
-    ensures { Writes before result (S.state out.old) (S.state out.new) (instr_text (Instr.Gep dest.now inbounds ty.now base.now indices.now)) }
+    ensures {
+        Writes before result (S.state out.old) (S.state out.new)
+            (instr_text (Instr.Gep dest.now inbounds ty.now base.now indices.now))
+    }
 {
     let put = put_assigned(before, out, dest);
     let put = put_after(put, out, b"getelementptr ");
@@ -237,7 +243,7 @@ fn put_gep<S: Sink>(
     let put = put_type(put, out, ty);
     let put = put_after(put, out, b", ptr ");
     let put = put_operand(put, out, base);
-    put_more_args(put, out, indices)
+    put_more(put, out, indices)
 }
 
 fn put_call<S: Sink>(
@@ -248,16 +254,17 @@ fn put_call<S: Sink>(
     callee: &Name,
     args: &Row<Arg>,
 ) -> Put
-    ensures { Writes before result (S.state out.old) (S.state out.new) (instr_text (Instr.Call dest.now ret callee.now args.now)) }
+    ensures {
+        Writes before result (S.state out.old) (S.state out.new)
+            (instr_text (Instr.Call dest.now ret callee.now args.now))
+    }
 {
     let put = put_result(before, out, dest);
     let put = put_after(put, out, b"call ");
     let put = put_ret(put, out, ret);
     let put = put_after(put, out, b" @");
     let put = put_name(put, out, callee);
-    let put = put_after(put, out, b"(");
-    let put = put_args(put, out, args);
-    put_after(put, out, b")")
+    put_parenthesized(put, out, args)
 }
 
 /// Puts an instruction that computes a value from its operands alone, and nothing of any other.

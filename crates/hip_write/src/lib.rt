@@ -4,6 +4,7 @@
 mod blocks;
 mod constants;
 mod instructions;
+mod lists;
 mod program;
 mod text;
 mod types;

@@ -3,41 +3,19 @@
 ghost use Rattle.std.specs.Prelude.{◌≡◌, ◌++◌, codes, map};
 ghost use Rattle.std.specs.Fmt.{decimal};
 ghost use Rattle.hip_io.specs.Sinks.{Writes};
-ghost use Rattle.hip_ir.specs.Show.{type_text, ret_text, commas, braced};
-ghost use Rattle.hip_ir.specs.Words.{width_text, scalar_text};
+ghost use Rattle.hip_ir.specs.Show.{type_text, commas, braced};
+ghost use Rattle.hip_ir.specs.Words.{ret_text};
 
 use crate::text::put_natural;
+use crate::words::put_keyword;
 use hip_io::{Put, Sink, put_after};
-use hip_types::{Scalar, Ty, Width};
-
-pub fn put_width<S: Sink>(before: Put, out: &mut S, width: Width) -> Put
-    ensures { Writes before result (S.state out.old) (S.state out.new) (width_text width) }
-{
-    match width {
-        Width::W1 => put_after(before, out, b"i1"),
-        Width::W8 => put_after(before, out, b"i8"),
-        Width::W16 => put_after(before, out, b"i16"),
-        Width::W32 => put_after(before, out, b"i32"),
-        Width::W64 => put_after(before, out, b"i64"),
-    }
-}
-
-pub fn put_scalar<S: Sink>(before: Put, out: &mut S, ty: Scalar) -> Put
-    ensures { Writes before result (S.state out.old) (S.state out.new) (scalar_text ty) }
-{
-    match ty {
-        Scalar::Int(width) => put_width(before, out, width),
-        Scalar::Ptr => put_after(before, out, b"ptr"),
-    }
-}
+use hip_ir::ret_text;
+use hip_types::{Scalar, Ty};
 
 pub fn put_ret<S: Sink>(before: Put, out: &mut S, ret: Option<Scalar>) -> Put
     ensures { Writes before result (S.state out.old) (S.state out.new) (ret_text ret) }
 {
-    match ret {
-        None => put_after(before, out, b"void"),
-        Some(ty) => put_scalar(before, out, ty),
-    }
+    put_after(before, out, ret_text(ret))
 }
 
 #[cycle(kind)]
@@ -45,7 +23,7 @@ pub fn put_type<S: Sink>(before: Put, out: &mut S, ty: &Ty) -> Put
     ensures { Writes before result (S.state out.old) (S.state out.new) (type_text ty.now) }
 {
     match ty {
-        Ty::Int(width) => put_width(before, out, *width),
+        Ty::Int(width) => put_keyword(before, out, *width),
         Ty::Ptr => put_after(before, out, b"ptr"),
         Ty::Array(count, item) => put_array(before, out, *count, item.get()),
         Ty::Struct(fields) => put_struct(before, out, fields.as_slice()),
@@ -54,7 +32,10 @@ pub fn put_type<S: Sink>(before: Put, out: &mut S, ty: &Ty) -> Put
 
 #[cycle(kind)]
 fn put_array<S: Sink>(before: Put, out: &mut S, count: u64, item: &Ty) -> Put
-    ensures { Writes before result (S.state out.old) (S.state out.new) (codes "[" ++ (decimal count ++ (codes " x " ++ (type_text item.now ++ codes "]")))) }
+    ensures {
+        Writes before result (S.state out.old) (S.state out.new)
+            (codes "[" ++ (decimal count ++ (codes " x " ++ (type_text item.now ++ codes "]"))))
+    }
 {
     let put = put_after(before, out, b"[");
     let put = put_natural(put, out, count);

@@ -704,12 +704,6 @@ pub token_absent : {F A : Type 0} (p : Tok → Verdict F A) (k : Tok → Bool) (
 token_absent p k b h [] e = empty_absent p
 token_absent p k b h (t ∷ ts) e = other_absent p t ts (h t.tok e)
 
--- what begins with a token derives some
-pub token_takes_some : {F A B : Type 0} (p : Tok → Verdict F A) (f : A → Rule F B) → ((a : A) (ts : List At) (b : B) (rest : List At) → (f a).Derives ts b rest → (f a).Front ts rest) → ((a : A) (ts rest : List At) → (f a).Front ts rest → length rest ≤ length ts)
-    → (ts : List At) (b : B) (rest : List At) → (both (one p) f).Derives ts b rest → length rest < length ts
-unfolding both one
-token_takes_some p f w q ts b rest t = let e = ap length t.2.1 in let k = q t.0 t.1 rest (w t.0 t.1 b rest t.3) in omega arith
-
 pub or_takes_some : {F A : Type 0} (l m : Rule F A) → ((ts : List At) (a : A) (rest : List At) → l.Derives ts a rest → length rest < length ts) → ((ts : List At) (a : A) (rest : List At) → m.Derives ts a rest → length rest < length ts)
     → (ts : List At) (a : A) (rest : List At) → (l or m).Derives ts a rest → length rest < length ts
 unfolding ◌or◌

@@ -2,11 +2,25 @@
 use Rattle.std.proofs.Common.{◌≡◌, ℕ, zero, suc, ◌≤◌, ◌<◌, Bool, true, false, cond, List, [], ◌∷◌, ◌++◌, length, Option, Some, None, Ok, Err, refl, sym, ap, ◌∙◌, append_assoc, arith}
 use Rattle.std.proofs.lemmas.List.{append-nil}
 use Rattle.hip_tokens.specs.Tokens.{Tok, At}
-use Rattle.hip_rules.specs.Reader.{Outcome, Reader, on_ok, next, times_at, many_at, with_front, taken_up, leading_at, leaders_at, with_leaders}
+use Rattle.std.specs.Prelude.{if◌then◌else◌}
+use Rattle.hip_rules.specs.Rule.{Yes, No}
+use Rattle.hip_rules.specs.Part.{Part, one_more_by}
+use Rattle.hip_rules.specs.Reader.{Outcome, Reader, on_ok, judged, next, times_at, many_at, with_front, taken_up, leading_at, leaders_at, with_leaders}
 
 -- a reader that takes a token at least
 abbrev pub TakesSome : {F A : Type 0} → Reader F A → Type 0
 TakesSome {F} {A} r = (ts : List At) (x : A × List At) → r ts ≡ Ok x → length x.1 < length ts
+
+-- one more part behind a token that passes
+pub another_some : {F A : Type 0} (k : Tok → Bool) (l : Part F A) → ((ts : List At) (x : A × List At) → l.read ts ≡ Ok x → length x.1 ≤ length ts)
+    → TakesSome (one_more_by k l).read
+unfolding one_more_by
+another_some k l within [] x e = absurd cc
+another_some {F} {A} k l within (t ∷ ts) x e = by_test (k t.tok) e
+  where
+    by_test : (b : Bool) → on_ok {F = F} {B = A} (judged (if b then Yes (tt {0}) else No) t ts) (λ _ more. l.read more) ≡ Ok x → length x.1 < suc (length ts)
+    by_test true h = let le = within ts x h in omega arith
+    by_test false h = absurd cc
 
 module _ (F A : Type 0) (k : Tok → Bool) (r : Reader F A) (some : TakesSome r) where
   abbrev onto : A → Outcome F (List A) → Outcome F (List A)

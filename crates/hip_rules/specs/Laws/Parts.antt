@@ -46,10 +46,6 @@ widens p first c d h r = record { exact = exact_widens p.rule p.read c d (next_w
 never_passes : (d : Tok → Bool) (t : Tok) → never t ≡ true → d t ≡ true
 never_passes d t e = absurd cc
 
--- a part whose follow set is empty may be followed by anything
-pub closed_widens : {F A : Type 0} (p : Part F A) (first d : Tok → Bool) → IsRead p first never → IsRead p first d
-closed_widens p first d r = widens p first never d (never_passes d) r
-
 pub gives_exact : {F A : Type 0} (a : A) (follow : Tok → Bool) → Exact {F = F} {A = A} (gives a) follow
 gives_exact {F} {A} a follow = exact_widens _ _ never follow (next_widens never follow (never_passes follow)) (done_exact {F = F} a)
 

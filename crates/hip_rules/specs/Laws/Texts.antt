@@ -78,9 +78,6 @@ global_text p w n e = token_text p (Global w) (λ line rest h. global_cut line w
 pub digits_text : {F A : Type 0} (p : Tok → Verdict F A) {x : A} (ds : List ℕ) → are_digits ds ≡ true → p (Num ds) ≡ Yes x → IsTextOf ends_word (one p) ds x
 digits_text p ds n e = token_text p (Num ds) (λ line rest h. digits_cut line ds rest n h) e
 
-pub minus_text : {F A : Type 0} (p : Tok → Verdict F A) {x : A} (ds : List ℕ) → are_digits ds ≡ true → p (Num (45 ∷ ds)) ≡ Yes x → IsTextOf ends_word (one p) (45 ∷ ds) x
-minus_text p ds n e = token_text p (Num (45 ∷ ds)) (λ line rest h. minus_cut line ds rest n h) e
-
 pub mark_text : {F A : Type 0} (p : Tok → Verdict F A) {x : A} (b : ℕ) → is_mark b ≡ true → p (Mark b) ≡ Yes x → IsTextOf anything (one p) (b ∷ []) x
 mark_text p b n e = token_text p (Mark b) (λ line rest h. mark_cut line b rest n) e
 

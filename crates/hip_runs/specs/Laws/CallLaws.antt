@@ -9,7 +9,7 @@ use Rattle.hip_runs.specs.declared.input.Input.{Input}
 use Rattle.hip_runs.specs.Actions.{Action, Traps, Assigns, Allocates, Stores, Flushes, Persists, Fences, Asserts, Prints, Reads, Calls, Jumps, Returns, Deed}
 use Rattle.hip_runs.specs.Frames.{IsSameCall, Moves, rests, stays, calls, returns}
 use Rattle.hip_runs.specs.History.{AreDescending}
-use Rattle.hip_runs.specs.Laws.HistoryLaws.{calls_descend, calls_parted}
+use Rattle.hip_runs.specs.Laws.HistoryLaws.{calls_descend}
 use Rattle.hip_runs.specs.Order.{HasCalls}
 use Rattle.hip_runs.specs.Parts.{In}
 use Rattle.hip_runs.specs.Sites.{is_defined_call}
@@ -133,5 +133,4 @@ has_calls P I n = record {
   births = λ x i.
       let o = (part-of_store P I n x i).levels in
       subst (λ ls. AreDescending ls x.step) (sym o) (later (levels_of (run P I x.step).frames) (run P I x.step).counts.steps x.step (steps_few P I x.step) (calls_descend P I x.step));
-  parted = calls_parted P I n;
 }

@@ -9,11 +9,9 @@ use Rattle.hip_ir.specs.declared.program.Program.{Program}
 use Rattle.hip_lines.specs.Line.{Line}
 use Rattle.hip_externs.specs.Externs.{call_of}
 use Rattle.hip_externs.specs.declared.call.ExternCall.{ExternCall}
-use Rattle.hip_externs.specs.declared.call.ExternCall.TheVariants as calls
 use Rattle.hip_runs.specs.declared.event.Ending.{Ending}
 use Rattle.hip_runs.specs.declared.event.Ending.TheVariants.{Cut}
 use Rattle.hip_runs.specs.declared.event.TrapKind.{TrapKind}
-use Rattle.hip_runs.specs.declared.event.TrapKind.TheVariants as traps
 use Rattle.hip_runs.specs.declared.input.Input.{Input}
 use Rattle.hip_runs.specs.Actions.{Action, Traps, Assigns, Allocates, Stores, Flushes, Persists, Fences, Asserts, Prints, Reads, Calls, Jumps, Returns, flushing, call_action, extern_action, instr_action, is_flush_or_fence, is_turn, deed_of}
 use Rattle.hip_runs.specs.Ends.{longest_block, longest_in, longest, steps_left, Ends}
@@ -21,6 +19,8 @@ use Rattle.hip_runs.specs.Operands.{values_of}
 use Rattle.hip_runs.specs.Places.{blocks_in, body_of, body_at, code_at, end_at}
 use Rattle.hip_runs.specs.State.{Registers, StorePart, Frame, World, Counts, State}
 use Rattle.hip_runs.specs.Step.{stop, with_turn, leave, perform, carry_out, on_frames, on_ending, step, event_at, counted, run, has_ended, start_frame, main_number}
+use Rattle.hip_externs.specs.declared.call.ExternCall.TheVariants as calls
+use Rattle.hip_runs.specs.declared.event.TrapKind.TheVariants as traps
 
 -- ---- the longest body
 
@@ -39,10 +39,10 @@ drop_short zero xs = omega arith
 drop_short (suc k) [] = omega arith
 drop_short (suc k) (x ∷ xs) = omega (arith, drop_short k xs)
 
-code_short : (P : Program) (f : Frame) → length (code_at P f) ≤ longest P
+pub code_short : (P : Program) (f : Frame) → length (code_at P f) ≤ longest P
 code_short P f = omega (arith, drop_short f.place (body_at P f.function f.block), body_short P.functions f.function f.block)
 
-drop_next : {A : Type 0} (xs : List A) (k : ℕ) (x : A) (ys : List A) → drop k xs ≡ x ∷ ys → drop (suc k) xs ≡ ys
+pub drop_next : {A : Type 0} (xs : List A) (k : ℕ) (x : A) (ys : List A) → drop k xs ≡ x ∷ ys → drop (suc k) xs ≡ ys
 drop_next [] zero x ys e = cc
 drop_next [] (suc k) x ys e = cc
 drop_next (y ∷ xs) zero x ys e = cc
@@ -51,7 +51,7 @@ drop_next (y ∷ xs) (suc k) x ys e = drop_next xs k x ys e
 -- ---- what a step does
 
 -- The run has ended, or a turn more was taken, which the limit allowed, or the top frame has one instruction less to do.
-data Goes (P : Program) (I : Input) (turns left : ℕ) (s : State) : Type 0 where
+pub data Goes (P : Program) (I : Input) (turns left : ℕ) (s : State) : Type 0 where
   ended : has_ended s ≡ true → Goes P I turns left s
   turned : (f : Frame) (fs : List Frame) → s.frames ≡ f ∷ fs → s.world.turns ≡ suc turns → turns < I.limit → Goes P I turns left s
   moved : (f : Frame) (fs : List Frame) → s.frames ≡ f ∷ fs → s.world.turns ≡ turns → suc (length (code_at P f)) ≡ left → Goes P I turns left s
@@ -168,7 +168,7 @@ step_goes P I s f fs going frames =
 
 -- ---- the end
 
-more_turns : (limit turns b : ℕ) → turns < limit → (limit - suc turns) * suc b + b < (limit - turns) * suc b
+pub more_turns : (limit turns b : ℕ) → turns < limit → (limit - suc turns) * suc b + b < (limit - turns) * suc b
 more_turns limit turns b h =
     let e : limit - turns ≡ suc (limit - suc turns) = omega arith in
     rw e (omega arith)
@@ -189,7 +189,7 @@ module _ (P : Program) (I : Input) where
       rest g gs frames (subst (λ (n : ℕ). steps_left P I n (length (code_at P g)) < m) (sym t)
       (less_moved ((I.limit - turns) * suc (longest P)) left (length (code_at P g)) m lt l))
 
-  next_goes : (n : ℕ) (f : Frame) (fs : List Frame) → (run P I n).world.ending ≡ None → (run P I n).frames ≡ f ∷ fs → Goes P I (run P I n).world.turns (length (code_at P f)) (run P I (suc n))
+  pub next_goes : (n : ℕ) (f : Frame) (fs : List Frame) → (run P I n).world.ending ≡ None → (run P I n).frames ≡ f ∷ fs → Goes P I (run P I n).world.turns (length (code_at P f)) (run P I (suc n))
   unfolding run
   next_goes n f fs going frames = step_goes P I (run P I n) f fs going frames
 

@@ -159,7 +159,7 @@ event_told P I fs (Prints z) o h = record { is = tt {0} }
 event_told P I fs (Reads to z rest) o h = record { is = tt {0} }
 event_told P I fs (Calls g rs to) o h = record { is = tt {0} }
 event_told P I fs (Jumps b rs) o h = record { is = tt {0} }
-event_told P I fs (Returns v) o h = told_cond (is_bottom fs) (events.End (Stop (signed W32 v))) events.Quiet o (record { is = tt {0} }) (record { is = tt {0} })
+event_told P I fs (Returns v) o h = told_cond (is_bottom fs) (events.End (Stop (signed W32 (bits W32 v).value))) events.Quiet o (record { is = tt {0} }) (record { is = tt {0} })
 
 at_told : (P : Program) (I : Input) (w : World) (fs : List Frame) (d : Deed) (o : Option Instr) → Fits P d.action o → Told (event_at I w fs d) o
 at_told P I w fs d o h = told_cond (is_cut I w d) (events.End Cut) (event_of I fs d.action) o (record { is = tt {0} }) (event_told P I fs d.action o h)

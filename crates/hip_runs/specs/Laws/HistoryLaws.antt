@@ -5,7 +5,6 @@ use Rattle.std.proofs.lemmas.Bool.Decides.{nat_tests}
 use Rattle.hip_ir.specs.Sites.{instr_of}
 use Rattle.hip_ir.specs.declared.block.Block.{Block}
 use Rattle.hip_ir.specs.declared.block.End.{End}
-use Rattle.hip_ir.specs.declared.block.End.TheVariants as ends
 use Rattle.hip_ir.specs.declared.instr.Instr.{Instr}
 use Rattle.hip_ir.specs.declared.program.Function.{Function}
 use Rattle.hip_ir.specs.declared.program.Program.{Program}
@@ -17,14 +16,15 @@ use Rattle.hip_runs.specs.declared.event.Ending.TheVariants.{Cut}
 use Rattle.hip_runs.specs.declared.event.Event.{Event}
 use Rattle.hip_runs.specs.declared.input.Input.{Input}
 use Rattle.hip_runs.specs.Actions.{Action, Traps, Assigns, Allocates, Stores, Flushes, Persists, Fences, Asserts, Prints, Reads, Calls, Jumps, Returns, Deed, in_region, jump, jump_to, end_action, deed_of}
-use Rattle.hip_runs.specs.History.{AreDescending, IsParted, IsSplit, HasHistory}
+use Rattle.hip_runs.specs.History.{AreDescending, IsParted, HasHistory}
 use Rattle.hip_runs.specs.Parts.{In, PartOf}
-use Rattle.hip_runs.specs.Laws.PartLaws.{in-append, append-left, append-right, part-fenced, part-flushed_from, part-stored, IsFlushedFrom}
+use Rattle.hip_runs.specs.Laws.PartLaws.{in-append, append-left, part-fenced, part-flushed_from, part-stored, IsFlushedFrom}
 use Rattle.hip_runs.specs.Persistence.{part_of_store, stored_lines, earlier, noted_flush, noted_fence, flush_line, fence_line, flushes_lines, flushed_lines, fenced_lines}
 use Rattle.hip_runs.specs.Places.{blocks_in, body_of, body_at, code_at, end_at}
 use Rattle.hip_runs.specs.Reports.{is_open}
 use Rattle.hip_runs.specs.State.{Level, Flush, StorePart, Frame, World, Counts, State, level_list, levels_of, site_of}
 use Rattle.hip_runs.specs.Step.{stop, with_turn, start, is_cut, leave, perform, carry_out, deed_at, on_frames, on_ending, step, event_at, counted, run}
+use Rattle.hip_ir.specs.declared.block.End.TheVariants as ends
 
 -- an instruction stands at the site
 abbrev Stands : Program → Site → Type 0
@@ -57,15 +57,6 @@ pub born_before : (up : List Level) (n : ℕ) → AreDescending up n → (v : Le
 born_before [] n h v i = absurd i
 born_before (l ∷ ls) n h v (inl e) = subst (λ (x : Level). x.birth < n) (sym e) h.0
 born_before (l ∷ ls) n h v (inr i) = omega (arith, h.0, born_before ls l.birth h.1 v i)
-
-open_there : (up : List Level) (v : Level) → In v up → is_open up v ≡ true
-open_there [] v i = absurd i
-open_there (l ∷ ls) v (inl e) = let q : nat_eq l.birth v.birth ≡ true = subst (λ (x : Level). nat_eq x.birth v.birth ≡ true) e (let z : nat_eq v.birth v.birth ≡ true = grind (arith, nat_tests) in z) in rw q refl
-open_there (l ∷ ls) v (inr i) = go (nat_eq l.birth v.birth) (open_there ls v i)
-  where
-    go : (t : Bool) → is_open ls v ≡ true → t || is_open ls v ≡ true
-    go true h = refl
-    go false h = h
 
 -- a call that is not among those made before step b, and was made at step b or later, does not stand
 closed_there : (up : List Level) (b : ℕ) → AreDescending up b → (v : Level) → b ≤ v.birth → is_open up v ≡ false
@@ -531,15 +522,6 @@ module _ (P : Program) where
   run_kept I zero = start_kept I
   run_kept I (suc n) = step_kept I (run P I n) (run_kept I n)
 
-  split_of : (up levels : List Level) → IsParted up levels → IsSplit up levels
-  split_of up levels p = record {
-    closed = p.closed;
-    open_ones = p.open_ones;
-    are = p.are;
-    returned = p.returned;
-    stand = λ v i. open_there up v (subst (In v) (sym p.outermost) (append-right p.above p.open_ones v i));
-  }
-
   pub has_history : (I : Input) (n : ℕ) → HasHistory P (run P I n)
   has_history I n =
       let k = run_kept I n in
@@ -554,7 +536,7 @@ module _ (P : Program) where
         site_there = k.site_there;
         flush_there = k.flush_there;
         call_there = k.call_there;
-        split = λ x i. split_of (levels_of (run P I n).frames) x.levels (k.split x i);
+        split = k.split;
       }
 
   -- in each line at most as many parts are durable as are flushed, and at most as many are flushed as it has
@@ -564,7 +546,3 @@ module _ (P : Program) where
   -- the calls that stand were made one after another
   pub calls_descend : (I : Input) (n : ℕ) → AreDescending (levels_of (run P I n).frames) (run P I n).counts.steps
   calls_descend I n = (run_kept I n).stack
-
-  -- those of a part's calls that stand are the outermost of those that stand
-  pub calls_parted : (I : Input) (n : ℕ) (x : StorePart) → PartOf (run P I n).lines x → IsParted (levels_of (run P I n).frames) x.levels
-  calls_parted I n = (run_kept I n).split

@@ -6,7 +6,6 @@ use Rattle.hip_ir.specs.declared.site.Site.{Site}
 use Rattle.hip_lines.specs.Line.{Line, with_part, start_in, has_bytes, stored, fresh_lines}
 use Rattle.hip_lines.specs.LineLaws.{slice_get-change_range}
 use Rattle.hip_runs.specs.declared.event.Event.{Event}
-use Rattle.hip_runs.specs.declared.event.Event.TheVariants as events
 use Rattle.hip_runs.specs.declared.input.Input.{Input}
 use Rattle.hip_runs.specs.Actions.{in_region}
 use Rattle.hip_runs.specs.Parts.{In, PartOf}
@@ -16,6 +15,7 @@ use Rattle.hip_runs.specs.Since.{fences, flushes, has_line, FencedSince, NotFlus
 use Rattle.hip_runs.specs.State.{Flush, StorePart, Frame, levels_of, site_of}
 use Rattle.hip_runs.specs.Step.{first_line, lines_size, event, run}
 use Rattle.hip_runs.specs.Laws.StepLaws.{Cases, IsTop, is_plain, flush_here, met_lines, step-cases, counted-steps}
+use Rattle.hip_runs.specs.declared.event.Event.TheVariants as events
 
 -- ---- one step more
 

@@ -7,7 +7,6 @@ use Rattle.hip_mem.specs.Bytes.{little_endian}
 use Rattle.hip_lines.specs.Line.{Line, start_in, end_in, has_bytes}
 use Rattle.hip_lines.specs.LineLaws.{byte-of_part}
 use Rattle.hip_runs.specs.declared.event.Event.{Event}
-use Rattle.hip_runs.specs.declared.event.Event.TheVariants as events
 use Rattle.hip_runs.specs.declared.input.Input.{Input}
 use Rattle.hip_runs.specs.Actions.{in_region}
 use Rattle.hip_runs.specs.Parts.{PartOf}
@@ -17,6 +16,7 @@ use Rattle.hip_runs.specs.Laws.SinceLaws.{InLine, line_of_part, of_fenced, of_fl
 use Rattle.hip_runs.specs.State.{Flush, StorePart, Frame, levels_of, site_of}
 use Rattle.hip_runs.specs.Step.{event, run}
 use Rattle.hip_runs.specs.Laws.StepLaws.{Cases, IsTop, step-cases, counted-steps}
+use Rattle.hip_runs.specs.declared.event.Event.TheVariants as events
 
 -- ---- the bytes of a part
 

@@ -2,4 +2,4 @@ use Rattle.hip_io.specs.SinkLaws.{and_then}
 use Rattle.hip_write.proofs.blocks.put_phi.Goals as goal
 
 pub returns : goal.returns
-returns g c = and_then c.put_assigned-put.ensures (and_then c.put_after-put.ensures (and_then c.put_scalar-put.ensures (and_then c.put_after-put-2.ensures (c.put_edges.ensures))))
+returns g c = and_then c.put_assigned-put.ensures (and_then c.put_after-put.ensures (and_then c.put_keyword-put.ensures (and_then c.put_after-put-2.ensures (c.put_joined.ensures))))

@@ -2,4 +2,4 @@ use Rattle.hip_io.specs.SinkLaws.{and_then}
 use Rattle.hip_write.proofs.blocks.put_returned.Goals as goal
 
 pub returns : goal.returns
-returns g c = and_then c.put_after-put.ensures (c.put_arg.ensures)
+returns g c = and_then c.put_after-put.ensures (c.put.ensures)

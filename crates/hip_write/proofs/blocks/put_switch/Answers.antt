@@ -2,4 +2,4 @@ use Rattle.hip_io.specs.SinkLaws.{and_then}
 use Rattle.hip_write.proofs.blocks.put_switch.Goals as goal
 
 pub returns : goal.returns
-returns g c = and_then c.put_after-put.ensures (and_then c.put_width-put.ensures (and_then c.put_after-put-2.ensures (and_then c.put_operand-put.ensures (and_then c.put_after-put-3.ensures (and_then c.put_name-put.ensures (and_then c.put_after-put-4.ensures (and_then c.put_cases-put.ensures (c.put_after.ensures))))))))
+returns g c = and_then c.put_after-put.ensures (and_then c.put_keyword-put.ensures (and_then c.put_after-put-2.ensures (and_then c.put_operand-put.ensures (and_then c.put_after-put-3.ensures (and_then c.put_name-put.ensures (and_then c.put_after-put-4.ensures (and_then c.put_all-put.ensures (c.put_after.ensures))))))))

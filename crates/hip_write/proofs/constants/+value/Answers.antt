@@ -8,7 +8,7 @@ use Rattle.hip_write.proofs.Lists.{braced_some, commas_more, separator_after}
 use Rattle.hip_write.proofs.constants.+value.Goals as goal
 
 pub put_const_gep-returns : goal.put_const_gep-returns
-put_const_gep-returns g t c = same_text (sym (gep_text-is c.args.gep.now)) (and_then c.put_after-put.ensures (and_then c.put_inbounds-put.ensures (and_then c.put_after-put-2.ensures (and_then c.put_type-put.ensures (and_then c.put_after-put-3.ensures (and_then c.put_const-put.ensures (and_then c.put_more_indices-put.ensures (c.put_after.ensures))))))))
+put_const_gep-returns g t c = same_text (sym (gep_text-is c.args.gep.now)) (and_then c.put_after-put.ensures (and_then c.put_inbounds-put.ensures (and_then c.put_after-put-2.ensures (and_then c.put_type-put.ensures (and_then c.put_after-put-3.ensures (and_then c.put_const-put.ensures (and_then c.put_more-put.ensures (c.put_after.ensures))))))))
 
 pub put_item-returns : goal.put_item-returns
 put_item-returns g t c = same_text (sym (item_text-is c.args.item.now)) (and_then c.put_type-put.ensures (and_then c.put_after-put.ensures (c.put_const.ensures)))

@@ -2,4 +2,4 @@ use Rattle.hip_io.specs.SinkLaws.{and_then}
 use Rattle.hip_write.proofs.instructions.put_call.Goals as goal
 
 pub returns : goal.returns
-returns g c = and_then c.put_result-put.ensures (and_then c.put_after-put.ensures (and_then c.put_ret-put.ensures (and_then c.put_after-put-2.ensures (and_then c.put_name-put.ensures (and_then c.put_after-put-3.ensures (and_then c.put_args-put.ensures (c.put_after.ensures)))))))
+returns g c = and_then c.put_result-put.ensures (and_then c.put_after-put.ensures (and_then c.put_ret-put.ensures (and_then c.put_after-put-2.ensures (and_then c.put_name-put.ensures c.put_parenthesized.ensures))))

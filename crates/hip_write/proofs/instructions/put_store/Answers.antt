@@ -2,4 +2,4 @@ use Rattle.hip_io.specs.SinkLaws.{and_then}
 use Rattle.hip_write.proofs.instructions.put_store.Goals as goal
 
 pub returns : goal.returns
-returns g c = and_then c.put_after-put.ensures (and_then c.put_scalar-put.ensures (and_then c.put_after-put-2.ensures (and_then c.put_operand-put.ensures (and_then c.put_after-put-3.ensures (and_then c.put_operand-put-2.ensures (c.put_align.ensures))))))
+returns g c = and_then c.put_after-put.ensures (and_then c.put_keyword-put.ensures (and_then c.put_after-put-2.ensures (and_then c.put_operand-put.ensures (and_then c.put_after-put-3.ensures (and_then c.put_operand-put-2.ensures (c.put_align.ensures))))))

@@ -2,4 +2,4 @@ use Rattle.hip_io.specs.SinkLaws.{and_then}
 use Rattle.hip_write.proofs.words.put_flags.Goals as goal
 
 pub returns : goal.returns
-returns g c = and_then c.put_nuw-put.ensures (and_then c.put_nsw-put.ensures (c.put_exact.ensures))
+returns g c = and_then c.put_flag-put.ensures (and_then c.put_flag-put-2.ensures c.put_flag.ensures)

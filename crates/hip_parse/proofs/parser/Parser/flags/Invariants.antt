@@ -2,9 +2,10 @@ use Rattle.std.proofs.Common.{◌≡◌, length}
 use Rattle.hip_rules.specs.Reader.{many_at, taken_up}
 use Rattle.hip_parse.specs.Left.{left}
 use Rattle.hip_rules.specs.Part.{token}
+use Rattle.hip_ir.specs.declared.instr.Flag.{Flag}
 use Rattle.hip_ir.specs.declared.instr.Flags.{Flags}
-use Rattle.hip_ir.specs.Words.{a_word_of, is_word_of}
-use Rattle.hip_ir.specs.Bodies.{flag_word, flags, with_flag, no_flags}
+use Rattle.hip_ir.specs.Words.{a_word_of, is_word_of, flag_word}
+use Rattle.hip_ir.specs.Bodies.{flags, with_flag, no_flags}
 use Rattle.hip_parse.proofs.Some.{flag_some}
 use Rattle.hip_parse.proofs.parser.Parser.flags.Given as goal
 

@@ -1,0 +1,17 @@
+pub mod NamesDiffer
+pub mod RegisterNames
+pub mod RegisterTypes
+pub mod ConstantTypes
+pub mod Callees
+pub mod Entry
+pub mod AssignedPaths
+pub mod Reached
+pub mod ReachedAlways
+pub mod FittingValues
+pub mod FittingOperands
+pub mod NeverStuck
+pub mod LevelBounds
+pub mod StackShape
+pub mod GlobalAddresses
+pub mod ObjectsApart
+pub mod Bounds

@@ -1,0 +1,28 @@
+-- What stands at a frame's place, in its block and its function.
+use Rattle.std.proofs.Common.{◌≡◌, ℕ, zero, suc, true, List, [], ◌∷◌, drop, Option, Some, None, slice_get, refl}
+use Rattle.hip_ir.specs.declared.block.Block.{Block}
+use Rattle.hip_ir.specs.declared.program.Function.{Function}
+use Rattle.hip_ir.specs.declared.program.Program.{Program}
+use Rattle.hip_typing.specs.Sound.{IsBlockAt}
+use Rattle.hip_runs.specs.Places.{blocks_in, block_at}
+use Rattle.hip_runs.specs.State.{Frame}
+use Rattle.hip_runs.specs.Laws.StepLaws.{has_frame}
+
+pub get_drop : {A : Type 0} (xs : List A) (k : ℕ) (x : A) (ys : List A) → drop k xs ≡ x ∷ ys → slice_get xs k ≡ Some x
+get_drop [] zero x ys e = cc
+get_drop [] (suc k) x ys e = cc
+get_drop (y ∷ xs) zero x ys e = cc
+get_drop (y ∷ xs) (suc k) x ys e = get_drop xs k x ys e
+
+-- the function of a block that is there
+pub block_there : (P : Program) (g b : ℕ) (block : Block) → block_at P g b ≡ Some block → (fn : Function) × IsBlockAt P g b fn block
+block_there P g b block e = go (slice_get P.functions g) refl e
+  where
+    go : (o : Option Function) → slice_get P.functions g ≡ o → slice_get (blocks_in o) b ≡ Some block → (fn : Function) × IsBlockAt P g b fn block
+    go None q h = cc
+    go (Some fn) q h = (fn, record { function = q; block_is = h })
+
+-- the first of some frames
+pub first_frame : (fs : List Frame) → has_frame fs ≡ true → (f : Frame) × (gs : List Frame) × (fs ≡ f ∷ gs)
+first_frame [] h = cc
+first_frame (f ∷ fs) h = (f, fs, refl)

@@ -1,0 +1,9 @@
+pub mod FrameFacts
+pub mod Reached
+pub mod Types
+pub mod NeverStuck
+pub mod PointerLevels
+pub mod StackShape
+pub mod ObjectsApart
+pub mod Bounds
+pub mod Laws

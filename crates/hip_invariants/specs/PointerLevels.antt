@@ -1,0 +1,168 @@
+-- Levels of pointers: how far a pointer may point behind the stack's end.
+use Rattle.std.specs.Prelude.{◌≡◌, ℕ, suc, ◌+◌, ◌*◌, ◌≤◌, cond, nat_eq, nat_lt, List, [], ◌∷◌, map, Option, Some, None, unwrap_or, slice_get}
+use Rattle.hip_types.specs.Layout.{gep_of}
+use Rattle.hip_types.specs.declared.number.Scalar.{Scalar}
+use Rattle.hip_types.specs.declared.ty.Ty.{Ty}
+use Rattle.hip_ir.specs.declared.block.Block.{Block}
+use Rattle.hip_ir.specs.declared.block.Edge.{Edge}
+use Rattle.hip_ir.specs.declared.block.End.TheVariants as ends
+use Rattle.hip_ir.specs.declared.block.Phi.{Phi}
+use Rattle.hip_ir.specs.declared.constant.Const.{Const, out-Const}
+use Rattle.hip_ir.specs.declared.constant.Const.TheOpen.{Const-F, ConstGep-F, TypedConst-F}
+use Rattle.hip_ir.specs.declared.constant.Const.TheFolds.{fold-Const}
+use Rattle.hip_ir.specs.declared.constant.ConstGep.{ConstGep}
+use Rattle.hip_ir.specs.declared.constant.TypedConst.{TypedConst}
+use Rattle.hip_ir.specs.declared.instr.Arg.{Arg}
+use Rattle.hip_ir.specs.declared.instr.Instr.{Instr}
+use Rattle.hip_ir.specs.declared.instr.Instr.TheVariants.{Binary, Compare, Select, Cast, Alloca, Load, Store, Gep, Call}
+use Rattle.hip_ir.specs.declared.instr.Operand.{Operand}
+use Rattle.hip_ir.specs.declared.instr.Operand.TheVariants.{Reg, Fixed}
+use Rattle.hip_ir.specs.declared.program.Function.{Function}
+use Rattle.hip_ir.specs.declared.program.GlobalVar.{GlobalVar}
+use Rattle.hip_ir.specs.declared.program.Param.{Param}
+use Rattle.hip_ir.specs.declared.program.Program.{Program}
+use Rattle.hip_mem.specs.Memory.{stack_end}
+use Rattle.hip_names.specs.Names.{number_of}
+use Rattle.hip_globals.specs.Addresses.{is_persistent}
+use Rattle.hip_globals.specs.Constants.{index_of}
+use Rattle.hip_externs.specs.Externs.{call_of}
+use Rattle.hip_typing.specs.Numbering.{function_number}
+use Rattle.hip_typing.specs.Sound.{IsBlockAt}
+use Rattle.hip_externs.specs.declared.call.ExternCall.TheVariants as calls
+use Rattle.hip_runs.specs.Actions.{index_value}
+use Rattle.hip_runs.specs.State.{Frame}
+use Rattle.hip_invariants.specs.FrameFacts.{each_register}
+
+-- A number of steps of less than 64 MiB behind the stack's end; none where nothing is known of the pointer, which is
+-- the greatest level. (This project's own, as all of this file.)
+abbrev pub PointerLevel : Type 0
+PointerLevel = Option ℕ
+
+-- A value is at most the greatest of its level.
+abbrev pub within_level : PointerLevel → ℕ → Type 0
+within_level None v = Unit {0}
+within_level (Some t) v = v ≤ stack_end + 67108864 * t
+
+-- A level is at most another.
+abbrev pub is_at_most : PointerLevel → PointerLevel → Type 0
+is_at_most a None = Unit {0}
+is_at_most None (Some u) = ⊥
+is_at_most (Some t) (Some u) = t ≤ u
+
+-- The level behind an offset: the same behind none, one more behind less than 64 MiB where it is below 32, else none.
+abbrev pub behind_offset : PointerLevel → ℕ → PointerLevel
+behind_offset None offset = None
+behind_offset (Some t) offset =
+    cond (nat_eq offset 0) (Some t) (cond (nat_lt offset 67108864) (cond (nat_lt t 32) (Some (suc t)) None) None)
+
+-- ---- constants
+
+abbrev pub number_level : List GlobalVar → Option ℕ → PointerLevel
+number_level globals None = Some 0
+number_level globals (Some k) = cond (is_persistent globals k) None (Some 0)
+
+-- a volatile global has level 0, a persistent one none
+abbrev pub global_level : List GlobalVar → List ℕ → PointerLevel
+global_level globals name = number_level globals (number_of (map (λ g. g.name) globals) name)
+
+abbrev pub level_step : (List ℕ → PointerLevel) → Const-F PointerLevel PointerLevel PointerLevel → PointerLevel
+level_step names Const-F.Null = Some 0
+level_step names Const-F.Zero = Some 0
+level_step names (Const-F.Address name) = names name
+level_step names (Const-F.Gep level) = level
+level_step names _ = None
+
+abbrev pub gep_level_step : ConstGep-F PointerLevel PointerLevel PointerLevel → PointerLevel
+gep_level_step gep = behind_offset gep.base (unwrap_or (gep_of gep.ty (map index_of gep.indices)) 0)
+
+abbrev pub item_level_step : TypedConst-F PointerLevel PointerLevel PointerLevel → PointerLevel
+item_level_step item = item.value
+
+-- The level of a constant: 0 for `null` and `zeroinitializer`, a global's own, that behind its offset for a
+-- `getelementptr`.
+abbrev pub const_level : List GlobalVar → Const → PointerLevel
+const_level globals =
+    fold-Const PointerLevel PointerLevel PointerLevel (level_step (global_level globals)) gep_level_step item_level_step
+
+-- ---- rules
+
+-- a level for each register of each function, by the function's number, and for each function's result
+pub record Levels : Type 0 where
+  pub register : ℕ → List ℕ → PointerLevel
+  pub result : ℕ → PointerLevel
+
+abbrev pub literal : Scalar → Const-F Const ConstGep TypedConst → Option ℕ
+literal ty (Const-F.Int b) = Some (index_value ty b.value)
+literal ty _ = None
+
+abbrev pub fixed_index : Scalar → Operand → Option ℕ
+fixed_index ty (Reg name) = None
+fixed_index ty (Fixed c) = literal ty (out-Const c)
+
+abbrev pub both : Option ℕ → Option (List ℕ) → Option (List ℕ)
+both (Some i) (Some is) = Some (i ∷ is)
+both _ _ = None
+
+-- the values of indices that are all numbers; none where one is a register
+abbrev pub fixed_path : List Arg → Option (List ℕ)
+fixed_path [] = Some []
+fixed_path (a ∷ args) = both (fixed_index a.ty a.value) (fixed_path args)
+
+-- The level of a `getelementptr` from a level on: none by a register as index, else that behind its offset.
+abbrev pub gep_level : PointerLevel → Ty → Option (List ℕ) → PointerLevel
+gep_level a ty None = None
+gep_level a ty (Some path) = behind_offset a (unwrap_or (gep_of ty path) 0)
+
+module _ (P : Program) (L : Levels) (g : ℕ) where
+  abbrev pub operand_level : Operand → PointerLevel
+  operand_level (Reg name) = L.register g name
+  operand_level (Fixed c) = const_level P.globals c
+
+  -- the register that a result goes into, if any, has at least this level
+  abbrev pub goes_into : PointerLevel → Option (List ℕ) → Type 0
+  goes_into a None = Unit {0}
+  goes_into a (Some dest) = is_at_most a (L.register g dest)
+
+  -- each parameter has at least the level of its argument
+  abbrev pub args_are_at_most : ℕ → List Param → List Arg → Type 0
+  args_are_at_most h (p ∷ ps) (a ∷ args) =
+      is_at_most (operand_level a.value) (L.register h p.name) × args_are_at_most h ps args
+  args_are_at_most h ps args = Unit {0}
+
+  -- What is read has no level, and the result of a call has at least its function's.
+  pub record CallIsClosed (dest : Option (List ℕ)) (callee : List ℕ) (args : List Arg) : Type 0 where
+    pub read : call_of callee ≡ Some calls.ReadI64 → goes_into None dest
+    pub enter : (h : ℕ) (fn : Function) → call_of callee ≡ None → function_number P callee ≡ Some h →
+        slice_get P.functions h ≡ Some fn → goes_into (L.result h) dest × args_are_at_most h fn.params args
+
+  -- The register of an instruction has at least the level of its rule.
+  abbrev pub instr_is_closed : Instr → Type 0
+  instr_is_closed (Binary dest op flags width a b) = is_at_most None (L.register g dest)
+  instr_is_closed (Compare dest pred ty a b) = is_at_most None (L.register g dest)
+  instr_is_closed (Select dest test ty a b) =
+      is_at_most (operand_level a) (L.register g dest) × is_at_most (operand_level b) (L.register g dest)
+  instr_is_closed (Cast dest op from a to) = is_at_most None (L.register g dest)
+  instr_is_closed (Alloca dest ty align) = is_at_most (Some 0) (L.register g dest)
+  instr_is_closed (Load dest ty addr align) = is_at_most None (L.register g dest)
+  instr_is_closed (Store ty value addr align) = Unit {0}
+  instr_is_closed (Gep dest inbounds ty base indices) =
+      is_at_most (gep_level (operand_level base) ty (fixed_path indices)) (L.register g dest)
+  instr_is_closed (Call dest ret callee args) = CallIsClosed dest callee args
+
+-- Each register and each result has at least the level of its rule, whatever the path that control takes.
+pub record IsClosed (P : Program) (L : Levels) : Type 0 where
+  pub instr : (g b k : ℕ) (fn : Function) (block : Block) (i : Instr) → IsBlockAt P g b fn block →
+      slice_get block.body k ≡ Some i → instr_is_closed P L g i
+  pub phi : (g b k j : ℕ) (fn : Function) (block : Block) (p : Phi) (e : Edge) → IsBlockAt P g b fn block →
+      slice_get block.phis k ≡ Some p → slice_get p.edges j ≡ Some e →
+      is_at_most (operand_level P L g e.value) (L.register g p.dest)
+  pub result : (g b : ℕ) (fn : Function) (block : Block) (a : Arg) → IsBlockAt P g b fn block →
+      block.end ≡ ends.Ret (Some a) → is_at_most (operand_level P L g a.value) (L.result g)
+
+-- A register's value is within its level.
+pub record IsWithinLevel (L : Levels) (g : ℕ) (name : List ℕ) (v : ℕ) : Type 0 where
+  pub is : within_level (L.register g name) v
+
+-- The registers of each frame have values within their levels.
+abbrev pub RegistersAreWithin : Levels → List Frame → Type 0
+RegistersAreWithin L fs = each_register (IsWithinLevel L) fs

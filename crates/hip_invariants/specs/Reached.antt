@@ -1,0 +1,44 @@
+-- How control has come to a frame's place: along a path through its function on which registers were assigned.
+use Rattle.std.specs.Prelude.{◌≡◌, ◌⊎◌, ℕ, List, [], ◌∷◌, ◌++◌, map, Option, Some, None, slice_get}
+use Rattle.hip_ir.specs.declared.block.Block.{Block}
+use Rattle.hip_ir.specs.declared.block.End.TheVariants as ends
+use Rattle.hip_ir.specs.declared.program.Function.{Function}
+use Rattle.hip_ir.specs.declared.program.Program.{Program}
+use Rattle.hip_names.specs.Names.{IsAmong}
+use Rattle.hip_typing.specs.Paths.{IsPathTo, assigned_on}
+use Rattle.hip_typing.specs.declared.assigned.Point.TheVariants.{Before}
+use Rattle.hip_runs.specs.Places.{code_at, end_at}
+use Rattle.hip_runs.specs.State.{Registers, Frame}
+
+-- the names of the registers that have values
+abbrev pub assigned_names : Registers → List (List ℕ)
+assigned_names rs = map (λ (r : List ℕ × ℕ). r.0) rs
+
+-- A register has a value, or it is the one that waits for the result of a call.
+abbrev pub has_or_awaits : Registers → Option (List ℕ) → List ℕ → Type 0
+has_or_awaits rs awaited name = IsAmong (assigned_names rs) name ⊎ (awaited ≡ Some name)
+
+-- The place before instruction k of block b of function g is reached by a path from the entry block, and each register
+-- that is assigned on that path has a value, but for one that waits for the result of a call. (LLVM, "well-formedness":
+-- a definition dominates its uses.)
+pub record IsReached (P : Program) (awaited : Option (List ℕ)) (g b k : ℕ) (rs : Registers) : Type 0 where
+  pub fn : Function
+  pub here : slice_get P.functions g ≡ Some fn
+  pub block : Block
+  pub at : slice_get fn.blocks b ≡ Some block
+  pub earlier : List ℕ
+  pub leads : IsPathTo fn (earlier ++ b ∷ []) b
+  pub among : (name : List ℕ) → IsAmong (assigned_on fn earlier b (Before k)) name → has_or_awaits rs awaited name
+
+-- The frame stands at the end of a block, and that end is `unreachable`.
+abbrev pub StandsAtUnreachable : Program → Frame → Type 0
+StandsAtUnreachable P f = (code_at P f ≡ []) × (end_at P f ≡ Some ends.Unreachable)
+
+module _ (P : Program) where
+  -- the place of the frame on top
+  abbrev pub top_is_reached : Frame → Type 0
+  top_is_reached f = IsReached P None f.function f.block f.place f.registers
+
+  -- the place behind the call that a frame waits for, whose result goes into a register
+  abbrev pub caller_is_reached : ℕ → Option (List ℕ) → Frame → Type 0
+  caller_is_reached h dest f = IsReached P dest f.function f.block f.place f.registers

@@ -1,0 +1,5 @@
+use Rattle.hip_io.specs.SinkLaws.{and_then}
+use Rattle.hip_write.proofs.blocks.BlockWritten.put.Goals as goal
+
+pub returns : goal.returns
+returns g c = and_then c.put_name-put.ensures (and_then c.put_after-put.ensures (and_then c.put_all-put.ensures (and_then c.put_all-put-2.ensures (c.put_end_line.ensures))))

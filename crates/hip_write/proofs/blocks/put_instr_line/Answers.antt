@@ -1,5 +1,0 @@
-use Rattle.hip_io.specs.SinkLaws.{and_then}
-use Rattle.hip_write.proofs.blocks.put_instr_line.Goals as goal
-
-pub returns : goal.returns
-returns g c = and_then c.put_after-put.ensures (and_then c.put_instr-put.ensures (c.put_after.ensures))

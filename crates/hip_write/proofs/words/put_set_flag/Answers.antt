@@ -1,0 +1,5 @@
+use Rattle.hip_io.specs.SinkLaws.{and_then}
+use Rattle.hip_write.proofs.words.put_set_flag.Goals as goal
+
+pub returns : goal.returns
+returns g c = and_then c.put_keyword-put.ensures c.put_after.ensures

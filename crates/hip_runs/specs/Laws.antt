@@ -9,13 +9,13 @@ pub mod HistoryLaws
 pub mod ImageLaws
 pub mod LineOrder
 pub mod LooseBytes
-pub mod Members
 pub mod NextLaws
 pub mod OrderLaws
 pub mod PartLaws
 pub mod ReportLaws
 pub mod SinceLaws
 pub mod SiteLaws
+pub mod Standing
 pub mod StepLaws
 pub mod StoreLaws
 pub mod TagLaws

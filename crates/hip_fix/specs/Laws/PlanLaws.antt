@@ -1,5 +1,5 @@
 -- What plans have, and that they suit.
-use Rattle.hip_runs.specs.Laws.Members.{any_in, in_any}
+use Rattle.hip_runs.specs.Laws.PartLaws.{any_in, in_any}
 use Rattle.std.proofs.Common.{◌≡◌, ◌⊎◌, inl, inr, ℕ, zero, suc, Bool, true, false, ◌||◌, nat_eq, List, Option, Some, None, slice_get, refl, sym, ap, ◌∙◌, subst}
 use Rattle.hip_types.specs.DistinctLaws.{or_first, or_second, either}
 use Rattle.hip_ir.specs.Sites.{instr_of, has_site, sites_of}

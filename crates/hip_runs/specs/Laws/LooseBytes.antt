@@ -14,7 +14,7 @@ use Rattle.hip_runs.specs.Parts.{In, PartOf}
 use Rattle.hip_runs.specs.Laws.PartLaws.{in-append, append-left, append-right}
 use Rattle.hip_runs.specs.Reports.{LoosePart, shows, is_last, loose_from, loose_in, loose_parts}
 use Rattle.hip_runs.specs.State.{StorePart}
-use Rattle.hip_runs.specs.Laws.Members.{or_right, none_at, at_none, of_flat, to_flat}
+use Rattle.hip_runs.specs.Laws.PartLaws.{or_right, none_at, at_none, of_flat, to_flat}
 use Rattle.hip_runs.specs.Tags.{AreAlike, IsLoosePart}
 use Rattle.hip_runs.specs.Shown.{shown_part, shown_line, shown}
 use Rattle.hip_lines.specs.Parts as bytes

@@ -17,7 +17,7 @@ use Rattle.hip_runs.specs.State.{Level, Flush, State, levels_of}
 use Rattle.hip_runs.specs.Step.{run}
 use Rattle.hip_runs.specs.WellFormed.{lacks_fence_alone, IsWellFormed}
 use Rattle.hip_runs.specs.Laws.LooseBytes.{part_loose, loose_there, in_at, in_all, lt_true}
-use Rattle.hip_runs.specs.Laws.Members.{of_flat}
+use Rattle.hip_runs.specs.Laws.PartLaws.{of_flat}
 use Rattle.hip_runs.specs.Laws.SiteLaws.{has_sites}
 
 closed_few : (standing levels : List Level) → closed_count standing levels ≤ length levels

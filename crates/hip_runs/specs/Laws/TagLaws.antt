@@ -10,7 +10,7 @@ use Rattle.hip_runs.specs.Reports.{LoosePart, Range, loose_parts, all_flushed, r
 use Rattle.hip_runs.specs.State.{levels_of}
 use Rattle.hip_runs.specs.Step.{run}
 use Rattle.hip_runs.specs.Laws.LooseBytes.{part_loose, loose_there, in_all, all_in, are_alike, equal_true, true_equal}
-use Rattle.hip_runs.specs.Laws.Members.{any_in, in_any}
+use Rattle.hip_runs.specs.Laws.PartLaws.{any_in, in_any}
 use Rattle.hip_runs.specs.Laws.LineOrder.{in_lines}
 use Rattle.hip_runs.specs.Tags.{AreAlike, AreToldBy, AscendWithin, HoldsTags, IsNoneBeside, has_some, has_tag, loose_bytes, reports_for, tag_flushed}
 

@@ -17,7 +17,7 @@ use Rattle.hip_runs.specs.State.{Level}
 use Rattle.hip_fix.specs.declared.plan.Plan.{Plan}
 use Rattle.hip_fix.specs.Choice.{Candidate, is_better, best_of, best_on, choice, asks_flush, asks_fence, asks_hoist, wants_flush, wants_fence, wants_hoist, plan_for, Contains}
 use Rattle.hip_fix.specs.Laws.SiteOrder.{filtered_has, site_in}
-use Rattle.hip_runs.specs.Laws.PartLaws.{in_any}
+use Rattle.hip_runs.specs.Laws.Members.{in_any}
 
 module _ (P : Program) (plan : Plan) (found : Findings) (contains : Contains plan (plan_for P found)) (r : Report) (there : In r found.reports) (s : Site) (i : Instr) (at : instr_of P s ≡ Some i) where
   pub has_flush : asks_flush r.kind (choice P found r) r.path s ≡ true → has_site plan.flush_after s ≡ true

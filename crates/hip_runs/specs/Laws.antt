@@ -9,6 +9,7 @@ pub mod HistoryLaws
 pub mod ImageLaws
 pub mod LineOrder
 pub mod LooseBytes
+pub mod Members
 pub mod NextLaws
 pub mod OrderLaws
 pub mod PartLaws

@@ -1,11 +1,10 @@
--- The parts of lines after a store, a flush and a fence; and members of lists.
-use Rattle.std.proofs.Common.{◌≡◌, ◌⊎◌, inl, inr, ℕ, suc, ◌-◌, Bool, true, false, cond, List, [], ◌∷◌, ◌++◌, map, refl, zero, ◌||◌, Some, slice_get, subst}
+-- Which parts cache lines have after a store, a flush and a fence.
+use Rattle.std.proofs.Common.{◌≡◌, ◌⊎◌, inl, inr, ℕ, suc, ◌-◌, Bool, true, false, cond, List, [], ◌∷◌, ◌++◌, map, refl}
 use Rattle.hip_lines.specs.Line.{Line, with_part, has_bytes, change_from, change_range, stored}
 use Rattle.hip_runs.specs.declared.input.Input.{Input}
 use Rattle.hip_runs.specs.Parts.{In, PartOf}
 use Rattle.hip_runs.specs.Persistence.{noted_flush, noted_fence, flush_line, flushes_lines, flushed_lines, fenced_lines}
 use Rattle.hip_runs.specs.State.{Flush, StorePart}
-use Rattle.std.specs.List.{flat_map, list_any}
 
 pub in-map : {A B : Type 0} (f : A → B) (xs : List A) (y : B) → In y (map f xs) → (x : A) × In x xs × (y ≡ f x)
 in-map f [] y i = absurd i
@@ -75,53 +74,3 @@ part-stored_from part o n j (l ∷ ls) y (inr i) = go (part-stored_from part o n
 
 pub part-stored : (part : ℕ → StorePart) (o n : ℕ) (ls : List (Line StorePart)) (y : StorePart) → PartOf (stored part o n ls) y → PartOf ls y ⊎ ((k : ℕ) × (y ≡ part k))
 part-stored part o n ls y i = part-stored_from part o n 0 ls y i
-
--- ---- members of lists: by a test, of a flat map, and by their places
-
-pub or_right : (a b : Bool) → b ≡ true → a || b ≡ true
-or_right true b h = refl
-or_right false b h = h
-
-or_false : (a b : Bool) → a || b ≡ false → (a ≡ false) × (b ≡ false)
-or_false true b h = absurd (let z : ⊥ = cc in z)
-or_false false b h = (refl, h)
-
-module _ {A : Type 0} (test : A → Bool) where
-  pub none_at : (xs : List A) → list_any test xs ≡ false → (j : ℕ) (y : A) → slice_get xs j ≡ Some y → test y ≡ false
-  none_at [] h j y e = absurd (let z : ⊥ = cc in z)
-  none_at (x ∷ xs) h zero y e = let q : x ≡ y = cc in subst (λ z. test z ≡ false) q (or_false (test x) _ h).0
-  none_at (x ∷ xs) h (suc j) y e = none_at xs (or_false (test x) _ h).1 j y e
-
-  pub at_none : (xs : List A) → ((j : ℕ) (y : A) → slice_get xs j ≡ Some y → test y ≡ false) → list_any test xs ≡ false
-  at_none [] h = refl
-  at_none (x ∷ xs) h = both (h 0 x refl) (at_none xs (λ j y e. h (suc j) y e))
-    where
-      both : {a b : Bool} → a ≡ false → b ≡ false → a || b ≡ false
-      both p q = rw (p, q) refl
-
-  pub any_in : (xs : List A) → list_any test xs ≡ true → (x : A) × In x xs × (test x ≡ true)
-  any_in [] h = absurd (let z : ⊥ = cc in z)
-  any_in (x ∷ xs) h = go (λ g. any_in xs g) (test x) refl h
-    where
-      go : (list_any test xs ≡ true → (y : A) × In y xs × (test y ≡ true)) → (b : Bool) → test x ≡ b → b || list_any test xs ≡ true → (y : A) × In y (x ∷ xs) × (test y ≡ true)
-      go next true e h = (x, inl refl, e)
-      go next false e h = let r = next h in (r.0, inr r.1, r.2)
-
-  pub in_any : (xs : List A) (x : A) → In x xs → test x ≡ true → list_any test xs ≡ true
-  in_any [] x i h = absurd i
-  in_any (y ∷ xs) x (inl e) h = let q : test y ≡ true = subst (λ z. test z ≡ true) e h in rw q refl
-  in_any (y ∷ xs) x (inr i) h = or_right (test y) _ (in_any xs x i h)
-
-module _ {A B : Type 0} (f : A → List B) where
-  pub of_flat : (xs : List A) (y : B) → In y (flat_map f xs) → (m : ℕ) × (x : A) × (slice_get xs m ≡ Some x) × In y (f x)
-  of_flat [] y i = absurd i
-  of_flat (x ∷ xs) y i = go (λ j. of_flat xs y j) (in-append (f x) (flat_map f xs) y i)
-    where
-      go : (In y (flat_map f xs) → (m : ℕ) × (z : A) × (slice_get xs m ≡ Some z) × In y (f z)) → In y (f x) ⊎ In y (flat_map f xs) → (m : ℕ) × (z : A) × (slice_get (x ∷ xs) m ≡ Some z) × In y (f z)
-      go next (inl j) = (0, x, refl, j)
-      go next (inr j) = let r = next j in (suc r.0, r.1, r.2, r.3)
-
-  pub to_flat : (xs : List A) (y : B) (m : ℕ) (x : A) → slice_get xs m ≡ Some x → In y (f x) → In y (flat_map f xs)
-  to_flat [] y m x e i = absurd (let z : ⊥ = cc in z)
-  to_flat (z ∷ xs) y zero x e i = let q : x ≡ z = cc in append-left (f z) (flat_map f xs) y (subst (λ w. In y (f w)) q i)
-  to_flat (z ∷ xs) y (suc m) x e i = append-right (f z) (flat_map f xs) y (to_flat xs y m x e i)

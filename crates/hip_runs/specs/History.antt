@@ -13,7 +13,8 @@ abbrev pub AreDescending : List Level → ℕ → Type 0
 AreDescending [] n = Unit {0}
 AreDescending (l ∷ ls) n = (l.birth < n) × AreDescending ls l.birth
 
--- The calls of a store are those that have returned, which are the innermost ones, and then the outermost ones of those that stand.
+-- The calls of a store are those that have returned, which are the innermost ones, and then the outermost ones of
+-- those that stand.
 pub record IsParted (standing levels : List Level) : Type 0 where
   pub closed : List Level
   pub open_ones : List Level

@@ -50,8 +50,8 @@ is_defined_call P i = is_some (called_number P i)
 
 -- ---- what a state names
 
--- A part names a store as its site. Its first flush is a call that flushes, and one that takes no fence where the part is not
--- durable. The calls that stand, and those of each part, are calls of functions of the program.
+-- A part names a store as its site. Its first flush is a call that flushes, and one that takes no fence where the
+-- part is not durable. The calls that stand, and those of each part, are calls of functions of the program.
 pub record HasSites (P : Program) (s : State) : Type 0 where
   pub store : (x : StorePart) → PartOf s.lines x → is_store (instr_of P x.site) ≡ true
   pub flush : (x : StorePart) (f : Flush) → PartOf s.lines x → x.first_flush ≡ Some f →
@@ -60,4 +60,5 @@ pub record HasSites (P : Program) (s : State) : Type 0 where
       slice_get s.lines m ≡ Some l → slice_get l.parts k ≡ Some x → l.durable ≤ k → x.first_flush ≡ Some f →
       is_flush_call (instr_of P f.site) ≡ true
   pub standing : (v : Level) → In v (levels_of s.frames) → is_defined_call P (instr_of P v.call) ≡ true
-  pub call : (x : StorePart) (v : Level) → PartOf s.lines x → In v x.levels → is_defined_call P (instr_of P v.call) ≡ true
+  pub call : (x : StorePart) (v : Level) → PartOf s.lines x → In v x.levels →
+      is_defined_call P (instr_of P v.call) ≡ true

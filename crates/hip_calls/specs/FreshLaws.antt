@@ -175,7 +175,7 @@ not_later : (b c : Bool) → (b || c) ≡ false → (b ≡ false) × (c ≡ fals
 not_later true c e = cc
 not_later false c e = (refl, e)
 
-among_alike : (xs ys : List (List ℕ)) (x q : List ℕ) → is_among (xs ++ x ∷ ys) q ≡ is_among (x ∷ (xs ++ ys)) q
+pub among_alike : (xs ys : List (List ℕ)) (x q : List ℕ) → is_among (xs ++ x ∷ ys) q ≡ is_among (x ∷ (xs ++ ys)) q
 among_alike xs ys x q =
     list_any-append (bytes_eq q) xs (x ∷ ys)
     ∙ moved (list_any (bytes_eq q) xs) (bytes_eq q x) (list_any (bytes_eq q) ys) ∙ ap (λ b. bytes_eq q x || b) (sym (list_any-append (bytes_eq q) xs ys))
@@ -185,7 +185,7 @@ among_alike xs ys x q =
     moved true false c = refl
     moved false b c = refl
 
-first_alike : (xs ys : List (List ℕ)) (name fresh : List ℕ) → ((q : List ℕ) → is_among xs q ≡ is_among ys q) → IsFirstFree xs name fresh → IsFirstFree ys name fresh
+pub first_alike : (xs ys : List (List ℕ)) (name fresh : List ℕ) → ((q : List ℕ) → is_among xs q ≡ is_among ys q) → IsFirstFree xs name fresh → IsFirstFree ys name fresh
 first_alike xs ys name fresh same f = record {
   number = f.number;
   is = f.is;

@@ -1,3 +1,4 @@
+pub mod Numbered
 pub mod Reach
 pub mod ReachLaws
 pub mod Fresh

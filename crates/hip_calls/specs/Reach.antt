@@ -37,7 +37,11 @@ abbrev pub called_at : Program → Option Instr → List ℕ
 called_at P None = []
 called_at P (Some i) = called_by P i
 
+-- the callees of these calls, each once
+abbrev pub first_callees : Program → List Site → List ℕ
+first_callees P sites = met nat_eq [] (flat_map (λ s. called_at P (instr_of P s)) sites)
+
 -- the callees of these calls, and all functions that calls reach from them; each is gone through once, so as many steps as the
 -- program has functions are enough
 abbrev pub callees : Program → List Site → List ℕ
-callees P sites = reached P (length P.functions) 0 (met nat_eq [] (flat_map (λ s. called_at P (instr_of P s)) sites))
+callees P sites = reached P (length P.functions) 0 (first_callees P sites)

@@ -1,6 +1,11 @@
 //! Which functions calls can reach, and names that nothing has yet.
 #![tactic(auto)]
 
+mod fresh;
+mod function_table;
 mod laws;
+mod reach;
 
+pub use fresh::fresh_names;
 pub use laws::{callees_are_reached, fresh_names_are_fresh};
+pub use reach::callees;

@@ -76,11 +76,11 @@ abbrev pub renamed : List Clone → Instr → Bool → Instr
 renamed clones (Call dest ret callee args) to_clone = Call dest ret (cond to_clone (clone_name clones callee) callee) args
 renamed clones i to_clone = i
 
-abbrev flush_behind : Instr → Bool → List Marked
+abbrev pub flush_behind : Instr → Bool → List Marked
 flush_behind (Store ty value addr align) wanted = cond wanted ((flush_of ty addr align, true) ∷ []) []
 flush_behind i wanted = []
 
-abbrev fence_behind : Bool → List Marked
+abbrev pub fence_behind : Bool → List Marked
 fence_behind wanted = cond wanted ((the_fence, true) ∷ []) []
 
 -- Where repairs are wanted: sets of sites of the program, each by its test. `skip` has the stores that get no flush by cloning.

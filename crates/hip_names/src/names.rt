@@ -1,4 +1,4 @@
-ghost use Rattle.std.specs.Prelude.{◌≡◌, [], ◌∷◌, ◌++◌, if◌then◌else◌, not, IfOk, OnErr};
+ghost use Rattle.std.specs.Prelude.{◌≡◌, ◌<◌, ◌^◌, [], ◌∷◌, ◌++◌, length, if◌then◌else◌, not, IfOk, OnErr};
 ghost use Rattle.std.specs.List.{list_all};
 ghost use Rattle.hip_names.specs.Names.{is_among, number_of};
 
@@ -40,6 +40,14 @@ impl<'a> NameSet<'a> {
             Ok(is_new) => Ok(is_new),
             Err(_) => Err(NoMemory),
         }
+    }
+
+    /// How many names there are.
+    pub fn len(&self) -> usize
+        ensures length { result ≡ length self.now }
+        ensures small { result < 2 ^ 63 }
+    {
+        self.names.len()
     }
 
     pub fn contains(&self, name: &[u8]) -> bool

@@ -102,5 +102,7 @@ pub record IsOfStore (P : Program) (I : Input) (x : StorePart) : Type 0 where
   pub site : top_site (run P I x.step).frames ≡ Some x.site
   pub levels : x.levels ≡ levels_of (run P I x.step).frames
   pub entry : x.entry ≡ (run P I x.step).counts.entries + 1
-  pub covered : (b : ℕ) → covers x b ≡ true → (addr ≤ I.base + b) × (I.base + b < addr + length bytes) × (b / LINE_SIZE ≡ x.offset / LINE_SIZE) × (byte_of x b ≡ slice_index bytes (I.base + b - addr))
-  pub whole : (b : ℕ) → addr ≤ I.base + b → I.base + b < addr + length bytes → b / LINE_SIZE ≡ x.offset / LINE_SIZE → covers x b ≡ true
+  pub covered : (b : ℕ) → covers x b ≡ true → (addr ≤ I.base + b) × (I.base + b < addr + length bytes)
+      × (b / LINE_SIZE ≡ x.offset / LINE_SIZE) × (byte_of x b ≡ slice_index bytes (I.base + b - addr))
+  pub whole : (b : ℕ) → addr ≤ I.base + b → I.base + b < addr + length bytes → b / LINE_SIZE ≡ x.offset / LINE_SIZE →
+      covers x b ≡ true

@@ -56,17 +56,20 @@ pub record IsLastBefore (Q : Program) (I : Input) (j n : ℕ) : Type 0 where
   pub same : length (run Q I j).frames ≡ length (run Q I n).frames
   pub between : (i : ℕ) → j < i → i < n → length (run Q I i).frames ≢ length (run Q I n).frames
 
--- the state stands at a call of a clone
-pub record IsAtClone (Q : Program) (functions : ℕ) (s : State) : Type 0 where
-  pub frame : Frame
-  pub others : List Frame
-  pub frames : s.frames ≡ frame ∷ others
-  pub call : IsCallFrom Q functions (slice_get (body_at Q frame.function frame.block) frame.place)
+-- The state stands at a call at that place in the function and the block of a frame, with the same frames below.
+pub record IsAtCall (frame : Frame) (others : List Frame) (at : ℕ) (s : State) : Type 0 where
+  pub top : Frame
+  pub frames : s.frames ≡ top ∷ others
+  pub function : top.function ≡ frame.function
+  pub block : top.block ≡ frame.block
+  pub place : top.place ≡ at
 
--- Wherever the run stands at a fence behind a call of a clone, there is a last state before with as many frames, which stands at
--- the call; and each part of a store that the cache lines got from the call on is durable after the fence.
+-- Wherever the run stands at a fence behind a call of a clone, there is a last state before with as many frames, which stands
+-- at that call; and each part of a store that the cache lines got from the call on is durable after the fence.
 pub record IsCovered (P Q : Program) : Type 0 where
-  pub call : (I : Input) → IsValid P I → (n : ℕ) → IsBehindClone Q (length P.functions) (run Q I n) → (j : ℕ) × IsLastBefore Q I j n × IsAtClone Q (length P.functions) (run Q I j)
+  pub call :
+      (I : Input) → IsValid P I → (n : ℕ) (behind : IsBehindClone Q (length P.functions) (run Q I n)) →
+      (j : ℕ) × IsLastBefore Q I j n × IsAtCall behind.frame behind.others behind.at (run Q I j)
   pub durable :
       (I : Input) → IsValid P I → (j n : ℕ) → IsBehindClone Q (length P.functions) (run Q I n) → IsLastBefore Q I j n →
       (m : ℕ) (l : Line StorePart) → slice_get (run Q I (suc n)).lines m ≡ Some l →

@@ -1,5 +1,5 @@
 -- What the instruction at a frame's place does: its action.
-use Rattle.std.specs.Prelude.{ℕ, ◌+◌, ◌%◌, Bool, true, false, cond, not, ◌&&◌, ◌||◌, nat_le, nat_lt, nat_eq, List, [], ◌∷◌, map, length, Option, Some, None, unwrap_or, slice_get, Result, Ok, Err, ℤ}
+use Rattle.std.specs.Prelude.{ℕ, ◌+◌, ◌-◌, ◌%◌, Bool, true, false, cond, not, ◌&&◌, ◌||◌, nat_le, nat_lt, nat_eq, List, [], ◌∷◌, map, length, Option, Some, None, unwrap_or, slice_get, Result, Ok, Err, ℤ}
 use Rattle.std.specs.Int.{next_multiple_of}
 use Rattle.std.specs.Str.{bytes_eq}
 use Rattle.hip_types.specs.Layout.{shape}
@@ -40,6 +40,7 @@ use Rattle.hip_ir.specs.declared.block.End.TheVariants as ends
 use Rattle.hip_num.specs.declared.arithmetic.NumTrap.TheVariants as num_traps
 use Rattle.hip_externs.specs.declared.call.ExternCall.TheVariants as calls
 use Rattle.hip_runs.specs.declared.event.TrapKind.TheVariants as traps
+use Rattle.hip_runs.specs.declared.limits.TheConstants.{MOST_FRAMES}
 
 pub data Action : Type 0 where
   Traps : TrapKind → Action
@@ -142,7 +143,7 @@ numbered_call P (Some g) values dest = bound_call (slice_get P.functions g) g va
 -- A call of a defined function makes a frame, where fewer than 16,384 stand. A name that no function has traps, which never
 -- comes in a sound program.
 unfoldable pub entered : Program → ℕ → List ℕ → List ℕ → Option (List ℕ) → Action
-entered P below callee values dest = cond (nat_lt below 16383) (numbered_call P (function_number P callee) values dest) (Traps traps.Depth)
+entered P below callee values dest = cond (nat_lt below (MOST_FRAMES - 1)) (numbered_call P (function_number P callee) values dest) (Traps traps.Depth)
 
 abbrev pub arg_value : List ℕ → ℕ → ℕ
 arg_value values k = unwrap_or (slice_get values k) 0

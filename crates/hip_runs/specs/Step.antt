@@ -18,6 +18,7 @@ use Rattle.hip_runs.specs.Places.{code_at, end_at}
 use Rattle.hip_runs.specs.Actions.{Action, Traps, Assigns, Allocates, Stores, Flushes, Persists, Fences, Asserts, Prints, Reads, Calls, Jumps, Returns, Deed, in_region, deed_of}
 use Rattle.hip_runs.specs.Persistence.{stored_lines, flushes_lines, flushed_lines, fenced_lines}
 use Rattle.hip_runs.specs.declared.event.Event.TheVariants as events
+use Rattle.hip_lines.specs.declared.TheConstants.{LINE_SIZE}
 
 abbrev pub state : World → List Frame → List (Line StorePart) → Counts → State
 state w fs ls counts = record { world = w; frames = fs; lines = ls; counts = counts }
@@ -26,10 +27,10 @@ state w fs ls counts = record { world = w; frames = fs; lines = ls; counts = cou
 
 -- the first cache line of a range in the region, and 64 times how many lines have a byte of it
 abbrev pub first_line : Input → ℕ → ℕ
-first_line I a = I.base + 64 * ((a - I.base) / 64)
+first_line I a = I.base + LINE_SIZE * ((a - I.base) / LINE_SIZE)
 
 abbrev pub lines_size : Input → ℕ → ℕ → ℕ
-lines_size I a n = 64 * (((a - I.base) + n - 1) / 64 + 1) - 64 * ((a - I.base) / 64)
+lines_size I a n = LINE_SIZE * (((a - I.base) + n - 1) / LINE_SIZE + 1) - LINE_SIZE * ((a - I.base) / LINE_SIZE)
 
 abbrev pub is_bottom : List Frame → Bool
 is_bottom [] = true
@@ -170,12 +171,12 @@ some_byte (suc b ∷ bs) = true
 -- how many of so many cache lines have an initial byte other than 0
 abbrev pub image_lines : ℕ → List ℕ → ℕ
 image_lines zero bytes = 0
-image_lines (suc n) bytes = cond (some_byte (take 64 bytes)) 1 0 + image_lines n (drop 64 bytes)
+image_lines (suc n) bytes = cond (some_byte (take LINE_SIZE bytes)) 1 0 + image_lines n (drop LINE_SIZE bytes)
 
 -- how many entries stand before a run's first step: START, REGISTER, an INPUT for each number, and an IMAGE for each cache line
 -- of the initial region that has a byte other than 0
 abbrev pub header_entries : Input → ℕ
-header_entries I = 2 + length I.numbers + image_lines (length I.image / 64) I.image
+header_entries I = 2 + length I.numbers + image_lines (length I.image / LINE_SIZE) I.image
 
 abbrev pub start_world : Input → World
 start_world I = record { output = []; writes = []; turns = 0; left = I.numbers; mark = stack_start; ending = None }
@@ -185,7 +186,7 @@ start_frame main = record { function = main; block = 0; place = 0; registers = [
 
 -- `main` stands at its first instruction
 abbrev pub start : Program → Input → State
-start P I = state (start_world I) (start_frame (main_number P) ∷ []) (fresh_lines (length I.image / 64)) (record { steps = 0; entries = header_entries I })
+start P I = state (start_world I) (start_frame (main_number P) ∷ []) (fresh_lines (length I.image / LINE_SIZE)) (record { steps = 0; entries = header_entries I })
 
 -- the state after n steps
 unfoldable pub run : Program → Input → ℕ → State

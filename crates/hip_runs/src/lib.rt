@@ -7,9 +7,11 @@ mod history;
 mod images;
 mod input;
 mod laws;
+mod limits;
 mod loose;
 mod order;
 mod report;
+mod standing;
 
 pub use event::{Ending, Event, Object, TrapKind};
 pub use findings::{
@@ -34,4 +36,6 @@ pub use order::{
     a_step_moves_the_top, calls_were_made_in_order, events_tell_the_next_lines,
     lines_keep_their_order, states_name_what_stands_there, the_last_fence_tells,
 };
+pub use limits::{MOST_FRAMES, MOST_NUMBERS, MOST_TURNS};
 pub use report::{Findings, Kind, Mark, Marks, Report};
+pub use standing::{shown_lines_follow_the_run, valid_bytes_are_those_of_the_run};

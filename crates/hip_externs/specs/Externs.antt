@@ -1,5 +1,5 @@
--- The external functions that a program may declare. The flush and fence calls are LLVM's x86 intrinsics, the three `pmem_`
--- calls libpmem's; the others are this project's own.
+-- The external functions that a program may declare. The flush and fence calls are LLVM's x86 intrinsics, the three
+-- `pmem_` calls libpmem's; the others are this project's own.
 use Rattle.std.specs.Prelude.{ℕ, ◌≡◌, ◌||◌, not, Bool, true, false, List, [], ◌∷◌, Option, Some, None, option_map, is_some, codes}
 use Rattle.std.specs.List.{find}
 use Rattle.std.specs.Str.{bytes_eq}
@@ -25,7 +25,8 @@ external name ret params effect = record { name = name; ret = ret; params = para
 abbrev procedure : List ℕ → List Scalar → LineEffect → ExternFunction
 procedure name params effect = external name None params effect
 
--- The table. A flush instruction and a fence are as Intel's manual has them; `pmem_persist` is `pmem_flush` and `pmem_drain`.
+-- The table. A flush instruction and a fence are as Intel's manual has them; `pmem_persist` is `pmem_flush` and
+-- `pmem_drain`.
 abbrev pub row_of : ExternCall → ExternFunction
 row_of calls.ReadI64 = external (codes "read_i64") (Some (Int W64)) [] effects.Nothing
 row_of calls.PrintI64 = procedure (codes "print_i64") (Int W64 ∷ []) effects.Nothing

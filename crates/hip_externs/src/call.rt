@@ -61,7 +61,12 @@ const fn procedure(
     name: &'static [u8],
     params: &'static [Scalar],
     effect: LineEffect,
-) -> ExternRow {
+) -> ExternRow
+    ensures name { result.name.now ≡ name.now }
+    ensures ret { result.ret ≡ None }
+    ensures params { result.params.now ≡ params.now }
+    ensures effect { result.effect ≡ effect }
+{
     ExternRow {
         name,
         ret: None,
@@ -79,6 +84,7 @@ impl ExternCall {
     }
 
     /// Its row of the table: its name, which no other has, its result, its parameters and its effect.
+    #[tactic(auto, using(crate::specs::Laws::ExternLaws::call_of_name))]
     pub fn row(self) -> ExternRow
         ensures name { result.name.now ≡ (row_of self).name }
         ensures ret { result.ret ≡ (row_of self).ret }

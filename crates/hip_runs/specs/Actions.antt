@@ -25,7 +25,7 @@ use Rattle.hip_num.specs.Casts.{widened}
 use Rattle.hip_num.specs.Comparisons.{holds}
 use Rattle.hip_num.specs.declared.arithmetic.NumTrap.{NumTrap}
 use Rattle.hip_globals.specs.Addresses.{volatile_end}
-use Rattle.hip_externs.specs.Externs.{call_of}
+use Rattle.hip_externs.specs.Externs.{call_of, is_flush, is_fence}
 use Rattle.hip_globals.specs.Initial.{volatile_bytes}
 use Rattle.hip_externs.specs.declared.call.ExternCall.{ExternCall}
 use Rattle.hip_typing.specs.Numbering.{function_number}
@@ -266,10 +266,7 @@ end_action P I f (Some ends.Unreachable) = Traps traps.Unreachable
 -- whether an external call is a flush or a fence
 abbrev pub is_flush_or_fence : Option ExternCall → Bool
 is_flush_or_fence None = false
-is_flush_or_fence (Some calls.ReadI64) = false
-is_flush_or_fence (Some calls.PrintI64) = false
-is_flush_or_fence (Some calls.PmAssert) = false
-is_flush_or_fence (Some _) = true
+is_flush_or_fence (Some c) = is_flush c || is_fence c
 
 -- Each step is a turn but flushes and fences.
 abbrev pub is_turn : Instr → Bool

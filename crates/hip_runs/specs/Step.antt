@@ -120,8 +120,16 @@ perform I w f fs ls before after (Prints z) = state (with_output z w) (next f �
 perform I w f fs ls before after (Reads dest z rest) =
     state (with_left rest w) (with_register dest (wrapped W64 z) (next f) ∷ fs) ls after
 perform I w f fs ls before after (Calls g registers dest) =
-    state w (record { function = g; block = 0; place = 0; registers = registers; mark = w.mark; slots = []; dest = dest;
-    level = Some (record { call = site_of f; birth = before.steps }) } ∷ next f ∷ fs) ls after
+    state w (record {
+      function = g;
+      block = 0;
+      place = 0;
+      registers = registers;
+      mark = w.mark;
+      slots = [];
+      dest = dest;
+      level = Some (record { call = site_of f; birth = before.steps });
+    } ∷ next f ∷ fs) ls after
 perform I w f fs ls before after (Jumps b registers) =
     state w (record f { block = b; place = 0; registers = registers } ∷ fs) ls after
 perform I w f fs ls before after (Returns v) = leave v w f fs ls after
@@ -199,8 +207,16 @@ start_world I = record { output = []; writes = []; turns = 0; left = I.numbers; 
 
 abbrev pub start_frame : ℕ → Frame
 start_frame main =
-    record { function = main; block = 0; place = 0; registers = []; mark = stack_start; slots = []; dest = None;
-    level = None }
+    record {
+      function = main;
+      block = 0;
+      place = 0;
+      registers = [];
+      mark = stack_start;
+      slots = [];
+      dest = None;
+      level = None;
+    }
 
 -- `main` stands at its first instruction
 abbrev pub start : Program → Input → State

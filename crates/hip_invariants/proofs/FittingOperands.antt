@@ -30,7 +30,8 @@ use Rattle.hip_runs.specs.Laws.StepLaws.{IsTop}
 use Rattle.hip_runs.specs.Validity.{IsValid}
 use Rattle.hip_invariants.specs.FrameFacts.{frames_hold}
 use Rattle.hip_invariants.specs.Laws.InstrFacts.{fact_holds}
-use Rattle.hip_invariants.specs.Laws.Places.{get_drop, block_there}
+use Rattle.hip_runs.specs.Laws.Members.{get_drop}
+use Rattle.hip_invariants.specs.Laws.Places.{block_there}
 use Rattle.hip_invariants.specs.Laws.RegisterFacts.{ValuesHold, values_in_frames}
 use Rattle.hip_invariants.specs.Reached.{top_is_reached, caller_is_reached}
 use Rattle.hip_invariants.specs.Types.{FitsType}

@@ -10,6 +10,7 @@ use Rattle.hip_runs.specs.Crash.{covers, byte_of}
 use Rattle.hip_runs.specs.State.{Flush, StorePart, Frame, State, levels_of, site_of}
 use Rattle.hip_runs.specs.Step.{event, run}
 use Rattle.hip_runs.specs.declared.event.Event.TheVariants as events
+use Rattle.hip_lines.specs.declared.TheConstants.{LINE_SIZE}
 
 -- whether a step with this event stores into the region
 abbrev pub stores : Event → Bool
@@ -24,7 +25,7 @@ fences _ = false
 
 -- whether cache line j of a region at a base lies in a range of whole lines
 abbrev pub has_line : ℕ → ℕ → ℕ → ℕ → Bool
-has_line base j line size = nat_le line (base + 64 * j) && nat_lt (base + 64 * j) (line + size)
+has_line base j line size = nat_le line (base + LINE_SIZE * j) && nat_lt (base + LINE_SIZE * j) (line + size)
 
 -- whether a step with this event flushes cache line j of the region at a base
 abbrev pub flushes : ℕ → ℕ → Event → Bool
@@ -101,5 +102,7 @@ pub record IsOfStore (P : Program) (I : Input) (x : StorePart) : Type 0 where
   pub site : top_site (run P I x.step).frames ≡ Some x.site
   pub levels : x.levels ≡ levels_of (run P I x.step).frames
   pub entry : x.entry ≡ (run P I x.step).counts.entries + 1
-  pub covered : (b : ℕ) → covers x b ≡ true → (addr ≤ I.base + b) × (I.base + b < addr + length bytes) × (b / 64 ≡ x.offset / 64) × (byte_of x b ≡ slice_index bytes (I.base + b - addr))
-  pub whole : (b : ℕ) → addr ≤ I.base + b → I.base + b < addr + length bytes → b / 64 ≡ x.offset / 64 → covers x b ≡ true
+  pub covered : (b : ℕ) → covers x b ≡ true → (addr ≤ I.base + b) × (I.base + b < addr + length bytes)
+      × (b / LINE_SIZE ≡ x.offset / LINE_SIZE) × (byte_of x b ≡ slice_index bytes (I.base + b - addr))
+  pub whole : (b : ℕ) → addr ≤ I.base + b → I.base + b < addr + length bytes → b / LINE_SIZE ≡ x.offset / LINE_SIZE →
+      covers x b ≡ true

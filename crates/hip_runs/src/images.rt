@@ -7,7 +7,7 @@ ghost use Rattle.hip_runs.specs.Crash.{IsCrashImage, byte_of, covers, is_crash_i
 ghost use Rattle.hip_runs.specs.Entry.{IsAtEntry};
 ghost use Rattle.hip_runs.specs.State.{State, StorePart};
 ghost use Rattle.hip_runs.specs.Step.{header_entries, run};
-ghost use Rattle.hip_runs.specs.Validity.{IsValid};
+ghost use Rattle.hip_runs.specs.Validity.{IsInput, IsValid};
 ghost use Rattle.hip_runs.specs.declared.input.Input.{Input};
 ghost use Rattle.std.specs.Prelude.{◌≡◌, ◌-◌, ◌<◌, ◌≤◌, ℕ, List, drop, take, true};
 
@@ -28,10 +28,12 @@ pub fn images_are_decided_by_lines()
         IsCrashImage I s content → is_crash_image I s content ≡ true }
 {}
 
-/// A valid input stays valid where it begins with a crash image of one of its runs.
+/// A valid input stays valid, and an input, where it begins with a crash image of one of its runs.
 pub fn images_make_valid_inputs()
-    ensures { (P : Program) → (I : Input) → (n : ℕ) → (content : List ℕ) → IsValid P I →
+    ensures valid { (P : Program) → (I : Input) → (n : ℕ) → (content : List ℕ) → IsValid P I →
         IsCrashImage I (run P I n) content → IsValid P (record I { image = content }) }
+    ensures input { (P : Program) → (I : Input) → (n : ℕ) → (content : List ℕ) → IsInput I → IsValid P I →
+        IsCrashImage I (run P I n) content → IsInput (record I { image = content }) }
 {}
 
 /// So many entries are reached after one least number of steps, if they are ever reached; and behind the entries that

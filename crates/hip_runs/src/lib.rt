@@ -7,9 +7,11 @@ mod history;
 mod images;
 mod input;
 mod laws;
+mod limits;
 mod loose;
 mod order;
 mod report;
+mod standing;
 
 pub use event::{Ending, Event, Object, TrapKind};
 pub use findings::{
@@ -26,6 +28,7 @@ pub use images::{
 };
 pub use input::{Input, InputFault};
 pub use laws::{parts_carry_their_history, runs_end};
+pub use limits::{MOST_FRAMES, MOST_NUMBERS, MOST_TURNS};
 pub use loose::{
     loose_bytes_tell_loose_parts, loose_parts_are_last_over_loose_bytes, reports_follow_the_tags,
     steps_of_nothing_may_be_left_out, tags_are_steps,
@@ -35,3 +38,4 @@ pub use order::{
     lines_keep_their_order, states_name_what_stands_there, the_last_fence_tells,
 };
 pub use report::{Findings, Kind, Mark, Marks, Report};
+pub use standing::{shown_lines_follow_the_run, valid_bytes_are_those_of_the_run};

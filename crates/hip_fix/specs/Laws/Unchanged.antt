@@ -148,4 +148,4 @@ module _ (skip : Site → Bool) where
 -- ---- inputs
 
 pub valid_again : (P : Program) (plan : Plan) (skip : Site → Bool) (I : Input) → IsValid P I → IsValid (repaired P plan skip) I
-valid_again P plan skip I v = record { base = v.base; image = v.image; bytes = v.bytes; numbers = v.numbers; numbers_fit = v.numbers_fit; limit = v.limit }
+valid_again P plan skip I v = record { base = v.base; image = v.image; numbers = v.numbers; limit = v.limit }

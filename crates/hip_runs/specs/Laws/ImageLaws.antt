@@ -17,7 +17,7 @@ use Rattle.hip_runs.specs.Crash.{covers, byte_of, IsCrashImage, is_line_after, i
 use Rattle.hip_runs.specs.State.{StorePart, State}
 use Rattle.hip_runs.specs.Laws.Members.{both_true, equal_true, true_both, true_equal}
 use Rattle.hip_runs.specs.Step.{run}
-use Rattle.hip_runs.specs.Validity.{IsValid}
+use Rattle.hip_runs.specs.Validity.{IsInput, IsValid}
 use Rattle.hip_ir.specs.declared.program.Program.{Program}
 
 -- ---- the parts behind the durable ones
@@ -178,4 +178,7 @@ module _ (P : Program) (I : Input) (n : ℕ) where
           (after_below (take r.0 l.0.parts) i (slice_index I.image i) (below_index I.image first i) (λ x j e. part_below x i (part_at (run P I n).lines (i / 64) l.0 x l.1 (in_front r.0 l.0.parts x j)) e))
 
   pub image_valid : (content : List ℕ) → IsValid P I → IsCrashImage I (run P I n) content → IsValid P (record I { image = content })
-  image_valid content v h = record { base = v.base; image = h.whole ∙ v.image; bytes = image_bytes content v v.bytes h; numbers = v.numbers; numbers_fit = v.numbers_fit; limit = v.limit }
+  image_valid content v h = record { base = v.base; image = h.whole ∙ v.image; numbers = v.numbers; limit = v.limit }
+
+  pub image_input : (content : List ℕ) → IsInput I → IsValid P I → IsCrashImage I (run P I n) content → IsInput (record I { image = content })
+  image_input content i v h = record { bytes = image_bytes content v i.bytes h; numbers = i.numbers }

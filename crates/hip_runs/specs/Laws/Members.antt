@@ -1,5 +1,5 @@
 -- Tests and what they tell; and members of lists: by a test, of a flat map, and by their places.
-use Rattle.std.proofs.Common.{◌≡◌, ◌⊎◌, inl, inr, ℕ, zero, suc, Bool, true, false, ◌||◌, List, [], ◌∷◌, Some, slice_get, refl, subst, arith, nat_eq, sym, ◌<◌, ◌≤◌}
+use Rattle.std.proofs.Common.{◌≡◌, ◌⊎◌, inl, inr, ℕ, zero, suc, Bool, true, false, ◌||◌, List, [], ◌∷◌, Some, slice_get, refl, subst, arith, nat_eq, sym, ◌<◌, ◌≤◌, drop}
 use Rattle.std.specs.List.{flat_map, list_any, list_all}
 use Rattle.hip_runs.specs.Parts.{In}
 use Rattle.hip_runs.specs.Laws.PartLaws.{in-append, append-left, append-right}
@@ -92,3 +92,10 @@ module _ {A : Type 0} (test : A → Bool) where
   pub all_in : (xs : List A) → ((x : A) → In x xs → test x ≡ true) → list_all test xs ≡ true
   all_in [] h = refl
   all_in (y ∷ xs) h = true_both (h y (inl refl)) (all_in xs (λ x i. h x (inr i)))
+
+-- the first item of what is left behind so many stands at that place
+pub get_drop : {A : Type 0} (xs : List A) (k : ℕ) (x : A) (ys : List A) → drop k xs ≡ x ∷ ys → slice_get xs k ≡ Some x
+get_drop [] zero x ys e = cc
+get_drop [] (suc k) x ys e = cc
+get_drop (y ∷ xs) zero x ys e = cc
+get_drop (y ∷ xs) (suc k) x ys e = get_drop xs k x ys e

@@ -2,7 +2,7 @@
 use Rattle.std.specs.Prelude.{◌≡◌, ◌≤◌, ◌<◌, ◌||◌, ◌&&◌, ℕ, zero, suc, ◌+◌, ◌-◌, ◌*◌, ◌/◌, ◌%◌, ◌^◌, nat_eq, nat_le, nat_lt, not, Bool, true, false, cond, List, [], ◌∷◌, ◌++◌, length, take, codes, Some, None, slice_get, if◌then◌else◌}
 use Rattle.std.specs.Cmp.Lexicographic.{nat_list_eq_equiv}
 use Rattle.std.specs.Fmt.{decimal}
-use Rattle.std.specs.List.{AllByRecursion, IsDistinct, list_any, list_all}
+use Rattle.std.specs.List.{AllByRecursion, IsDistinct, find, list_any, list_all}
 use Rattle.std.specs.Str.{bytes_eq}
 use Rattle.std.proofs.Common.{refl, sym, ap, ◌∙◌, subst, ⊎_elim, arith, length-append, eq-or-lt_of_le}
 use Rattle.std.proofs.lemmas.Bool.{and_from}
@@ -14,7 +14,9 @@ use Rattle.std.proofs.lemmas.Option.{same_Some}
 use Rattle.std.proofs.lemmas.Slice.Eq.{bytes_eq-Decides}
 use Rattle.hip_tokens.specs.Bytes.{begins_name, goes_on_name}
 use Rattle.hip_tokens.specs.Longest.{is_name}
-use Rattle.hip_externs.specs.Externs.{ExternRow, extern_table, call_in, call_of}
+use Rattle.hip_externs.specs.Externs.{row_of, call_of}
+use Rattle.hip_externs.specs.declared.call.ExternCall.{ExternCall}
+use Rattle.hip_externs.specs.declared.call.TheConstants.{CALLS}
 use Rattle.hip_names.specs.Names.{is_among}
 use Rattle.hip_calls.specs.Fresh.{numeral_in, numeral, candidate, fresh_from, fresh_name, fresh_for}
 
@@ -248,24 +250,28 @@ candidate-marked : (name : List ℕ) (k : ℕ) → has_mark (candidate name k) �
 candidate-marked name zero = marked_at name []
 candidate-marked name (suc k) = marked_at name (numeral (suc k))
 
-not_in : (rows : List ExternRow) (name : List ℕ) → has_mark name ≡ true → list_all (λ r. not (has_mark r.name)) rows ≡ true → call_in rows name ≡ None
+abbrev unmarked : ExternCall → Bool
+unmarked c = not (has_mark (row_of c).name)
+
+not_in : (cs : List ExternCall) (name : List ℕ) → has_mark name ≡ true → list_all unmarked cs ≡ true →
+    find (λ c. bytes_eq (row_of c).name name) cs ≡ None
 not_in [] name marked none = refl
-not_in (r ∷ rows) name marked none = by_name (bytes_eq name r.name) refl (has_mark r.name) refl none (not_in rows name marked)
+not_in (c ∷ cs) name marked none = by_name (bytes_eq (row_of c).name name) refl (has_mark (row_of c).name) refl none (not_in cs name marked)
   where
-    by_name : (b : Bool) → bytes_eq name r.name ≡ b → (c : Bool) → has_mark r.name ≡ c → (not c && list_all (λ r. not (has_mark r.name)) rows) ≡ true
-        → (list_all (λ r. not (has_mark r.name)) rows ≡ true → call_in rows name ≡ None) → (if b then Some r.call else call_in rows name) ≡ None
+    by_name : (b : Bool) → bytes_eq (row_of c).name name ≡ b → (m : Bool) → has_mark (row_of c).name ≡ m → (not m && list_all unmarked cs) ≡ true
+        → (list_all unmarked cs ≡ true → find (λ c. bytes_eq (row_of c).name name) cs ≡ None) → cond b (Some c) (find (λ c. bytes_eq (row_of c).name name) cs) ≡ None
     by_name true t true m n rest = cc
-    by_name true t false m n rest = let same : has_mark name ≡ false = ap has_mark ((bytes_eq-Decides name r.name).0 t) ∙ m in cc
+    by_name true t false m n rest = let same : has_mark name ≡ false = ap has_mark (sym ((bytes_eq-Decides (row_of c).name name).0 t)) ∙ m in cc
     by_name false t true m n rest = cc
     by_name false t false m n rest = rest n
 
 -- no name of an external function has `.pm`
-table-unmarked : list_all (λ r. not (has_mark r.name)) extern_table ≡ true
+table-unmarked : list_all unmarked CALLS ≡ true
 unfolding has_mark begins_marked
 table-unmarked = refl
 
 pub candidate-extern : (name : List ℕ) (k : ℕ) → call_of (candidate name k) ≡ None
-candidate-extern name k = not_in extern_table (candidate name k) (candidate-marked name k) table-unmarked
+candidate-extern name k = not_in CALLS (candidate name k) (candidate-marked name k) table-unmarked
 
 pub fresh_for-extern : (taken names : List (List ℕ)) (k : ℕ) (fresh : List ℕ) → slice_get (fresh_for taken names) k ≡ Some fresh → call_of fresh ≡ None
 fresh_for-extern taken names k fresh e =

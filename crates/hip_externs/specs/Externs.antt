@@ -1,64 +1,87 @@
--- The external functions that a program may declare, each with its name, its result and its parameters.
--- The flush and fence calls are LLVM's x86 intrinsics, the three `pmem_` calls libpmem's; the others are this project's own.
-use Rattle.std.specs.Prelude.{ℕ, List, [], ◌∷◌, Option, Some, None, option_map, codes, if◌then◌else◌}
+-- The external functions that a program may declare. The flush and fence calls are LLVM's x86 intrinsics, the three
+-- `pmem_` calls libpmem's; the others are this project's own.
+use Rattle.std.specs.Prelude.{ℕ, ◌≡◌, ◌||◌, not, Bool, true, false, List, [], ◌∷◌, Option, Some, None, option_map, is_some, codes}
+use Rattle.std.specs.List.{find}
 use Rattle.std.specs.Str.{bytes_eq}
 use Rattle.hip_types.specs.declared.number.Scalar.{Scalar}
 use Rattle.hip_types.specs.declared.number.Scalar.TheVariants.{Int, Ptr}
 use Rattle.hip_types.specs.declared.number.Width.TheVariants.{W64}
+use Rattle.hip_externs.specs.declared.call.TheConstants.{CALLS}
 use Rattle.hip_externs.specs.declared.call.ExternCall.{ExternCall}
 use Rattle.hip_externs.specs.declared.call.ExternCall.TheVariants as calls
+use Rattle.hip_externs.specs.declared.call.LineEffect.{LineEffect}
+use Rattle.hip_externs.specs.declared.call.LineEffect.TheVariants as effects
+
+-- what is known of an external function before it runs
+pub record ExternFunction : Type 0 where
+  pub name : List ℕ
+  pub ret : Option Scalar
+  pub params : List Scalar
+  pub effect : LineEffect
+
+abbrev external : List ℕ → Option Scalar → List Scalar → LineEffect → ExternFunction
+external name ret params effect = record { name = name; ret = ret; params = params; effect = effect }
+
+abbrev procedure : List ℕ → List Scalar → LineEffect → ExternFunction
+procedure name params effect = external name None params effect
+
+-- The table. A flush instruction and a fence are as Intel's manual has them; `pmem_persist` is `pmem_flush` and
+-- `pmem_drain`.
+abbrev pub row_of : ExternCall → ExternFunction
+row_of calls.ReadI64 = external (codes "read_i64") (Some (Int W64)) [] effects.Nothing
+row_of calls.PrintI64 = procedure (codes "print_i64") (Int W64 ∷ []) effects.Nothing
+row_of calls.PmAssert = procedure (codes "pm_assert") (Ptr ∷ Int W64 ∷ []) effects.Nothing
+row_of calls.Clwb = procedure (codes "llvm.x86.clwb") (Ptr ∷ []) effects.Flush
+row_of calls.Clflushopt = procedure (codes "llvm.x86.clflushopt") (Ptr ∷ []) effects.Flush
+row_of calls.Clflush = procedure (codes "llvm.x86.sse2.clflush") (Ptr ∷ []) effects.Flush
+row_of calls.Sfence = procedure (codes "llvm.x86.sse.sfence") [] effects.Fence
+row_of calls.Mfence = procedure (codes "llvm.x86.sse2.mfence") [] effects.Fence
+row_of calls.PmemFlush = procedure (codes "pmem_flush") (Ptr ∷ Int W64 ∷ []) effects.Flush
+row_of calls.PmemPersist = procedure (codes "pmem_persist") (Ptr ∷ Int W64 ∷ []) effects.FlushAndFence
+row_of calls.PmemDrain = procedure (codes "pmem_drain") [] effects.Fence
+
+-- the external function of that name
+abbrev pub call_of : List ℕ → Option ExternCall
+call_of name = find (λ c. bytes_eq (row_of c).name name) CALLS
+
+-- whether some external function has the name
+abbrev pub is_extern_name : List ℕ → Bool
+is_extern_name name = is_some (call_of name)
+
+-- ---- signatures
 
 pub record Signature : Type 0 where
   pub ret : Option Scalar
   pub params : List Scalar
 
--- the name of each
-pub record ExternRow : Type 0 where
-  pub name : List ℕ
-  pub call : ExternCall
-
-abbrev row : List ℕ → ExternCall → ExternRow
-row name call = record { name = name; call = call }
-
-abbrev pub extern_table : List ExternRow
-extern_table =
-    row (codes "read_i64") calls.ReadI64
-    ∷ row (codes "print_i64") calls.PrintI64
-    ∷ row (codes "pm_assert") calls.PmAssert
-    ∷ row (codes "llvm.x86.clwb") calls.Clwb
-    ∷ row (codes "llvm.x86.clflushopt") calls.Clflushopt
-    ∷ row (codes "llvm.x86.sse2.clflush") calls.Clflush
-    ∷ row (codes "llvm.x86.sse.sfence") calls.Sfence
-    ∷ row (codes "llvm.x86.sse2.mfence") calls.Mfence
-    ∷ row (codes "pmem_flush") calls.PmemFlush
-    ∷ row (codes "pmem_persist") calls.PmemPersist
-    ∷ row (codes "pmem_drain") calls.PmemDrain
-    ∷ []
-
-abbrev pub call_in : List ExternRow → List ℕ → Option ExternCall
-call_in [] name = None
-call_in (r ∷ rows) name = if bytes_eq name r.name then Some r.call else call_in rows name
-
--- the external function of that name
-abbrev pub call_of : List ℕ → Option ExternCall
-call_of name = call_in extern_table name
-
-abbrev procedure : List Scalar → Signature
-procedure params = record { ret = None; params = params }
-
--- the result and the parameters of each
 abbrev pub signature : ExternCall → Signature
-signature calls.ReadI64 = record { ret = Some (Int W64); params = [] }
-signature calls.PrintI64 = procedure (Int W64 ∷ [])
-signature calls.PmAssert = procedure (Ptr ∷ Int W64 ∷ [])
-signature calls.Clwb = procedure (Ptr ∷ [])
-signature calls.Clflushopt = procedure (Ptr ∷ [])
-signature calls.Clflush = procedure (Ptr ∷ [])
-signature calls.Sfence = procedure []
-signature calls.Mfence = procedure []
-signature calls.PmemFlush = procedure (Ptr ∷ Int W64 ∷ [])
-signature calls.PmemPersist = procedure (Ptr ∷ Int W64 ∷ [])
-signature calls.PmemDrain = procedure []
+signature c = record { ret = (row_of c).ret; params = (row_of c).params }
 
 abbrev pub known_signature : List ℕ → Option Signature
 known_signature name = option_map signature (call_of name)
+
+-- ---- flushes, fences and turns
+
+abbrev has_flush : LineEffect → Bool
+has_flush effects.Nothing = false
+has_flush effects.Flush = true
+has_flush effects.Fence = false
+has_flush effects.FlushAndFence = true
+
+abbrev has_fence : LineEffect → Bool
+has_fence effects.Nothing = false
+has_fence effects.Flush = false
+has_fence effects.Fence = true
+has_fence effects.FlushAndFence = true
+
+-- it flushes cache lines
+abbrev pub is_flush : ExternCall → Bool
+is_flush c = has_flush (row_of c).effect
+
+-- it takes a fence
+abbrev pub is_fence : ExternCall → Bool
+is_fence c = has_fence (row_of c).effect
+
+-- A step is a turn unless it flushes or takes a fence.
+abbrev pub is_turn : ExternCall → Bool
+is_turn c = not (is_flush c || is_fence c)

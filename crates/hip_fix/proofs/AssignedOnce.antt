@@ -25,7 +25,7 @@ use Rattle.hip_names.specs.NameLaws.{bytes_eq-sym}
 use Rattle.hip_typing.specs.Laws.NameLaws.{inner-sound}
 use Rattle.hip_runs.specs.Places.{blocks_in, blocks_of}
 use Rattle.hip_fix.specs.Direct.{allocates, allocates_in}
-use Rattle.hip_invariants.proofs.NamesDiffer.{differ_first, differ_second, differ_apart}
+use Rattle.hip_names.specs.DifferLaws.{differ_first, differ_second, differ_apart}
 
 -- ---- lists of items that have names
 

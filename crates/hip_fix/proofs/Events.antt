@@ -29,7 +29,7 @@ use Rattle.hip_runs.specs.Step.{state, is_bottom, is_cut, deed_at, event_of, eve
 use Rattle.hip_fix.specs.declared.plan.Plan.{Plan}
 use Rattle.hip_fix.specs.Harmless.{marked_body, marked_at, is_inserted, inserted_on, stands_inserted}
 use Rattle.hip_fix.specs.Repaired.{Marked, renamed, clone_name, wanted_by, clones_of, repaired, instrs_of, repaired_body}
-use Rattle.hip_invariants.specs.Laws.Places.{get_drop}
+use Rattle.hip_runs.specs.Laws.Members.{get_drop}
 use Rattle.hip_fix.proofs.Blocks.{body_twin, end_twin, end_action_twin}
 use Rattle.hip_fix.proofs.Facts.{Lines}
 use Rattle.hip_fix.proofs.Lookup.{number_there}

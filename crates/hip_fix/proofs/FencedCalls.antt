@@ -21,7 +21,7 @@ use Rattle.hip_runs.specs.State.{Registers, Level, Flush, StorePart, Frame, Worl
 use Rattle.hip_runs.specs.Step.{perform, carry_out, event_at, counted, on_frames, on_ending, step, run}
 use Rattle.hip_runs.specs.Validity.{IsValid}
 use Rattle.hip_fix.specs.declared.plan.Plan.{Plan}
-use Rattle.hip_fix.specs.Covered.{is_fence, IsFenceCall, IsBehindClone, IsLastBefore, IsAtClone, IsCovered}
+use Rattle.hip_fix.specs.Covered.{is_fence, IsFenceCall, IsBehindClone, IsLastBefore, IsAtCall, IsCovered}
 use Rattle.hip_fix.specs.Harmless.{marked_body, matched}
 use Rattle.hip_fix.specs.Quiet.{IsQuiet}
 use Rattle.hip_fix.specs.Repaired.{Marked, wanted_by, clones_of, repaired, instrs_of, repaired_body}
@@ -205,11 +205,12 @@ module _ (P : Program) (plan : Plan) (skip : Site → Bool) (good : IsCallable P
           let durable = line.durable in
           omega arith
 
-      call_found : (n : ℕ) → IsBehindClone Q N (run Q I n) → (j : ℕ) × IsLastBefore Q I j n × IsAtClone Q N (run Q I j)
+      call_found : (n : ℕ) (behind : IsBehindClone Q N (run Q I n)) → (j : ℕ) × IsLastBefore Q I j n × IsAtCall behind.frame behind.others behind.at (run Q I j)
       call_found n behind =
           let r = last_before Q I full N calls_clones n behind in
           let top = full r.0 in
-          (r.0, r.1, record { frame = top.0; others = top.1; frames = top.2; call = (since_call Q I full N calls_clones r.0 n r.1 behind.going top.0 top.1 top.2 behind).call })
+          let since = since_call Q I full N calls_clones r.0 n r.1 behind.going top.0 top.1 top.2 behind in
+          (r.0, r.1, record { top = top.0; frames = since.below; function = since.function; block = since.block; place = since.place })
 
 pub covered : (P : Program) (plan : Plan) (skip : Site → Bool) → Passes P → IsQuiet P skip → IsCovered P (repaired P plan skip)
 covered P plan skip sound still = record {

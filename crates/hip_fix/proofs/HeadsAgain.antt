@@ -27,7 +27,7 @@ use Rattle.hip_fix.specs.Repaired.{wanted_by, clones_of, cloned, added_externs, 
 use Rattle.hip_fix.proofs.Callable.{callable_of}
 use Rattle.hip_fix.proofs.Clones.{fresh, fresh_extern, in_append, names_then}
 use Rattle.hip_fix.proofs.Declarations.{added_at, added_passes, clwb_extern, sfence_extern, pmem_flush_extern}
-use Rattle.hip_invariants.proofs.NamesDiffer.{Apart, differ_append, differ_first, differ_second, differ_apart, apart_append, append_apart, differ_distinct, among_at}
+use Rattle.hip_names.specs.DifferLaws.{Apart, differ_append, differ_first, differ_second, differ_apart, apart_append, append_apart, differ_distinct, among_at}
 use Rattle.hip_fix.proofs.Origins.{Origin, origin}
 use Rattle.hip_fix.proofs.Twins.{IsCallable}
 

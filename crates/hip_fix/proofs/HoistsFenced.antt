@@ -17,12 +17,13 @@ use Rattle.hip_fix.specs.Covered.{is_numbered_from, IsFenceCall, IsCallFrom, rep
 use Rattle.hip_fix.specs.Harmless.{marked_body}
 use Rattle.hip_fix.specs.Repaired.{Marked, Clone, Wanted, the_fence, clone_name, inserted_behind, wanted_by, clones_of, repaired, instrs_of, repaired_body}
 use Rattle.hip_runs.specs.Laws.EndLaws.{drop_next}
-use Rattle.hip_invariants.specs.Laws.Places.{get_drop}
+use Rattle.hip_runs.specs.Laws.Members.{get_drop}
 use Rattle.hip_fix.proofs.Blocks.{body_twin}
 use Rattle.hip_fix.proofs.Callable.{instr_place}
 use Rattle.hip_fix.proofs.Clones.{twin_of_clone}
 use Rattle.hip_fix.proofs.Lookup.{sound_callable, number_there, plain_twin, calls_clone, hoisted_cloned}
-use Rattle.hip_fix.proofs.Sim.{instr_at_place, or_right}
+use Rattle.hip_runs.specs.Laws.HistoryLaws.{instr_at_place}
+use Rattle.hip_fix.proofs.Sim.{or_right}
 use Rattle.hip_fix.proofs.Twins.{IsCallable, Twin}
 
 drop_over : {A : Type 0} (front xs ys : List A) → drop (length (front ++ xs)) (front ++ ys) ≡ drop (length xs) ys

@@ -26,7 +26,7 @@ use Rattle.hip_typing.specs.Laws.NameLaws.{names-sound}
 use Rattle.hip_invariants.proofs.GlobalAddresses.{start_before_end}
 use Rattle.hip_fix.specs.Direct.{is_volatile_global, names_volatile}
 use Rattle.hip_fix.proofs.HeadsAgain.{names_of_globals}
-use Rattle.hip_invariants.proofs.NamesDiffer.{differ_first}
+use Rattle.hip_names.specs.DifferLaws.{differ_first}
 
 -- ---- a volatile global by its name
 

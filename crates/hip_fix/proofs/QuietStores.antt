@@ -24,9 +24,9 @@ use Rattle.hip_runs.specs.Validity.{IsValid}
 use Rattle.hip_invariants.specs.Laws.RegisterFacts.{values_in_frames}
 use Rattle.hip_fix.specs.Direct.{is_outside, stores_outside, direct}
 use Rattle.hip_fix.specs.Quiet.{stores_in_region, IsQuiet}
-use Rattle.hip_invariants.specs.Laws.Places.{get_drop}
+use Rattle.hip_runs.specs.Laws.Members.{get_drop}
 use Rattle.hip_fix.proofs.OutsideAddresses.{constant_low}
-use Rattle.hip_fix.proofs.Sim.{instr_at_place}
+use Rattle.hip_runs.specs.Laws.HistoryLaws.{instr_at_place}
 use Rattle.hip_fix.proofs.StackRegisters.{AreLow, IsLow, Any, run_low, are_low}
 
 module _ (P : Program) (sound : Passes P) (I : Input) where

@@ -1,4 +1,5 @@
 -- The repaired program's run follows the program's.
+use Rattle.hip_runs.specs.Laws.HistoryLaws.{instr_at_place, has_history}
 use Rattle.std.proofs.Common.{◌≡◌, ◌⊎◌, inl, inr, ℕ, zero, suc, ◌+◌, ◌-◌, ◌*◌, ◌/◌, ◌%◌, ◌<◌, ◌≤◌, Bool, true, false, cond, not, ◌&&◌, ◌||◌, nat_lt, nat_eq, List, [], ◌∷◌, ◌++◌, length, drop, Option, Some, None, slice_get, Result, Ok, Err, refl, sym, ap, ◌∙◌, subst, arith}
 use Rattle.std.specs.List.{drop-map}
 use Rattle.std.proofs.lemmas.Bool.Decides.{nat_tests}
@@ -7,11 +8,8 @@ use Rattle.hip_types.specs.Numbers.{wrapped}
 use Rattle.hip_types.specs.declared.number.Width.TheVariants.{W64}
 use Rattle.hip_types.specs.declared.number.Bits.{Bits}
 use Rattle.hip_types.specs.declared.number.Scalar.{Scalar}
-use Rattle.hip_ir.specs.Sites.{instr_of, has_site}
-use Rattle.hip_ir.specs.declared.block.Block.{Block}
+use Rattle.hip_ir.specs.Sites.{has_site}
 use Rattle.hip_ir.specs.declared.block.End.{End}
-use Rattle.hip_ir.specs.declared.block.End.TheVariants as ends
-use Rattle.std.specs.Prelude.{option_and_then}
 use Rattle.hip_ir.specs.declared.instr.Arg.{Arg}
 use Rattle.hip_ir.specs.declared.instr.Instr.{Instr}
 use Rattle.hip_ir.specs.declared.instr.Instr.TheVariants.{Binary, Compare, Select, Cast, Alloca, Load, Store, Gep, Call}
@@ -26,17 +24,14 @@ use Rattle.hip_num.specs.declared.arithmetic.NumTrap.{NumTrap}
 use Rattle.hip_externs.specs.Externs.{call_of}
 use Rattle.hip_typing.specs.Numbering.{function_number}
 use Rattle.hip_externs.specs.declared.call.ExternCall.{ExternCall}
-use Rattle.hip_externs.specs.declared.call.ExternCall.TheVariants as calls
 use Rattle.hip_runs.specs.declared.event.Ending.{Ending}
 use Rattle.hip_runs.specs.declared.event.Ending.TheVariants.{Stop, Trap, Cut}
-use Rattle.hip_runs.specs.declared.event.Event.TheVariants as events
 use Rattle.hip_runs.specs.declared.event.TrapKind.{TrapKind}
-use Rattle.hip_runs.specs.declared.event.TrapKind.TheVariants as traps
 use Rattle.hip_runs.specs.declared.input.Input.{Input}
 use Rattle.hip_runs.specs.Actions.{Action, Traps, Assigns, Allocates, Stores, Flushes, Persists, Fences, Asserts, Prints, Reads, Calls, Jumps, Returns, in_region, are_valid, accessed, allocated, entered, flushing, call_action, extern_action, instr_action, end_action, is_turn, is_flush_or_fence, deed_of, read_next, calculated, jump, jump_to}
 use Rattle.hip_runs.specs.Operands.{value_of, values_of, assigned, bound, scalar_size, access_align}
 use Rattle.hip_runs.specs.Persistence.{part_of_store, stored_lines}
-use Rattle.hip_runs.specs.Places.{blocks_in, body_of, body_at, code_at, end_at}
+use Rattle.hip_runs.specs.Places.{body_at, code_at, end_at}
 use Rattle.hip_runs.specs.State.{Registers, Slot, Level, Flush, Frame, World, Counts, State, level_list, levels_of, site_of}
 use Rattle.hip_runs.specs.Validity.{IsValid}
 use Rattle.hip_runs.specs.Step.{state, stop, with_turn, with_register, with_block, with_bytes, with_output, with_left, next, leave, perform, carry_out, on_frames, on_ending, step, event_at, event, counted, run, start, start_world, start_frame, header_entries, main_number}
@@ -46,16 +41,19 @@ use Rattle.hip_fix.specs.Quiet.{IsQuiet, stores_in_region}
 use Rattle.hip_fix.specs.Repaired.{Marked, flush_of, the_fence, renamed, clone_name, wanted_by, inserted_behind, clones_of, cloned, repaired, instrs_of, repaired_body}
 use Rattle.hip_fix.proofs.Ahead.{Ahead, ahead_stored, ahead_flushed, ahead_more_flushed, ahead_fenced, ahead_more_fenced, ahead_start}
 use Rattle.hip_runs.specs.Laws.EndLaws.{drop_next}
-use Rattle.hip_invariants.specs.Laws.Places.{get_drop}
+use Rattle.hip_runs.specs.Laws.Members.{get_drop}
 use Rattle.hip_fix.proofs.Blocks.{body_twin, end_twin, end_action_twin}
 use Rattle.hip_runs.specs.Parts.{In}
 use Rattle.hip_runs.specs.History.{HasHistory}
-use Rattle.hip_runs.specs.Laws.HistoryLaws.{has_history}
 use Rattle.hip_fix.proofs.Facts.{Lines, Known, fence_if, flush_if, Keeps}
 use Rattle.hip_fix.proofs.Inserted.{flush_size, flush_size_there, flush_size_small, flushes_there, region_base, reaches, flush_action, flush_no_turn}
 use Rattle.hip_fix.proofs.Lookup.{number_there, plain_twin, same_main, main_there, calls_plain, calls_clone, extern_name, hoisted_cloned, cloned_closed}
 use Rattle.hip_fix.proofs.Pairs.{Quiet, nothing, fence, Ready, quiet, flush, Tied, tied, Below, bottom, on, top_clone, below_size, Related, related, pending_lines, quiet_size, ready_size}
 use Rattle.hip_fix.proofs.Twins.{IsCallable, Twin, CallsTwin}
+use Rattle.hip_ir.specs.declared.block.End.TheVariants as ends
+use Rattle.hip_externs.specs.declared.call.ExternCall.TheVariants as calls
+use Rattle.hip_runs.specs.declared.event.Event.TheVariants as events
+use Rattle.hip_runs.specs.declared.event.TrapKind.TheVariants as traps
 
 pub fence_quiet : (b : Bool) → Quiet (cond b ((the_fence, true) ∷ []) []) b
 fence_quiet true = fence
@@ -160,17 +158,6 @@ pub get_in : {A : Type 0} (xs : List A) (k : ℕ) (x : A) → slice_get xs k ≡
 get_in [] k x e = absurd (let h : ⊥ = cc in h)
 get_in (y ∷ xs) zero x e = inl (let h : x ≡ y = cc in h)
 get_in (y ∷ xs) (suc k) x e = inr (get_in xs k x e)
-
-pub instr_at_place : (P : Program) (f b k : ℕ) → instr_of P (record { function = f; block = b; index = k }) ≡ slice_get (body_at P f b) k
-instr_at_place P f b k = go (slice_get P.functions f)
-  where
-    block_go : (o : Option Block) → option_and_then (λ x. slice_get x.body k) o ≡ slice_get (body_of o) k
-    block_go None = refl
-    block_go (Some x) = refl
-
-    go : (o : Option Function) → option_and_then (λ x. slice_get x.body k) (option_and_then (λ x. slice_get x.blocks b) o) ≡ slice_get (body_of (slice_get (blocks_in o) b)) k
-    go None = refl
-    go (Some x) = block_go (slice_get x.blocks b)
 
 abbrev pub is_end : Action → Type 0
 is_end (Traps kind) = Unit {0}

@@ -142,8 +142,12 @@ module _ (Q : Program) (I : Input) (full : (i : ℕ) → (f : Frame) × (fs : Li
   none_since j e x old le = let lt = (has_history Q I j).made old.part old.there in let s = steps_is j e in let q = old.step in omega arith
 
   -- the state before stands at the call, and what was stored since then was stored by clones
-  pub record SinceCall (j n : ℕ) (c : Frame) : Type 0 where
+  pub record SinceCall (j n : ℕ) (c : Frame) (rest : List Frame) (behind : IsBehindClone Q N (run Q I n)) : Type 0 where
     pub call : IsCallFrom Q N (instr_here Q c)
+    pub function : c.function ≡ behind.frame.function
+    pub block : c.block ≡ behind.frame.block
+    pub place : c.place ≡ behind.at
+    pub below : (run Q I j).frames ≡ c ∷ behind.others
     pub made : SinceClones N j (run Q I n).lines
 
   record Inside (j g : ℕ) (c : Frame) (rest : List Frame) (i : ℕ) : Type 0 where
@@ -293,6 +297,21 @@ module _ (Q : Program) (I : Input) (full : (i : ℕ) → (f : Frame) × (fs : Li
           (subst (λ k. IsCallFrom Q N (slice_get (body_at Q c.function k) behind.at)) v
           (subst (λ k. IsCallFrom Q N (slice_get (body_at Q k behind.frame.block) behind.at)) u behind.call))
 
+      found : (f : Frame) → (run Q I n).frames ≡ f ∷ rest → f.function ≡ c.function → f.block ≡ c.block → f.place ≡ suc c.place → SinceClones N j (run Q I n).lines → SinceCall j n c rest behind
+      found f at function block place made =
+          let e = same_top f rest at in
+          let p = ap (λ (x : Frame). x.place) e in
+          let b = behind.behind in
+          let below : behind.others ≡ rest = let h = behind.frames in cc in
+          record {
+            call = call_here f e function block place;
+            function = sym (ap (λ (x : Frame). x.function) e ∙ function);
+            block = sym (ap (λ (x : Frame). x.block) e ∙ block);
+            place = omega arith;
+            below = at_j ∙ ap (λ (fs : List Frame). c ∷ fs) (sym below);
+            made = made;
+          }
+
       no_start : (h : Frame) → behind.frame ≡ h → h.place ≡ 0 → ⊥
       no_start h e p = let q = ap (λ (x : Frame). x.place) e in let b = behind.behind in omega arith
 
@@ -306,12 +325,13 @@ module _ (Q : Program) (I : Input) (full : (i : ℕ) → (f : Frame) × (fs : Li
       after_call : IsCall (instr_here Q c) → SinceClones N j (run Q I (suc j)).lines
       after_call is_call x there le = absurd (none_since j ok_j x (out_j.called is_call x there) le)
 
-      first : (fs : List Frame) (o : Option Ending) → (run Q I (suc j)).frames ≡ fs → o ≡ None → Moves Q c rest fs o → SinceCall j n c
+      first : (fs : List Frame) (o : Option Ending) → (run Q I (suc j)).frames ≡ fs → o ≡ None → Moves Q c rest fs o → SinceCall j n c rest behind
       first fs o q e ends = absurd (let z : ⊥ = cc in z)
       first fs o q e (goes_on g function block place) =
           let z = at_next g q in
-          let call = call_here g (same_top g rest (subst (λ k. (run Q I k).frames ≡ g ∷ rest) z q)) function block place in
-          record { call = call; made = subst (λ k. SinceClones N j (run Q I k).lines) z (after_call (call_from Q N (instr_here Q c) call)) }
+          let at = subst (λ k. (run Q I k).frames ≡ g ∷ rest) z q in
+          let call = call_here g (same_top g rest at) function block place in
+          found g at function block place (subst (λ k. SinceClones N j (run Q I k).lines) z (after_call (call_from Q N (instr_here Q c) call)))
       first fs o q e (jumps g function place) = absurd (no_start g (same_top g rest (subst (λ k. (run Q I k).frames ≡ g ∷ rest) (at_next g q) q)) place)
       first fs o q e (enters h called place) =
           let l = last.before in
@@ -321,11 +341,11 @@ module _ (Q : Program) (I : Input) (full : (i : ℕ) → (f : Frame) × (fs : Li
           } in
           let back = walk h.function (n - suc j) (suc j) (omega arith) (omega arith) inside in
           let call = call_here _ (same_top _ rest back.behind.frames) refl refl refl in
-          record { call = call; made = back.made (called_from Q N h.function (instr_here Q c) call called) }
+          found _ back.behind.frames refl refl refl (back.made (called_from Q N h.function (instr_here Q c) call called))
       first fs o q e (returns f gs dest v k) =
           let l = last.before in
           let low : depth (suc j) < depth n = omega (arith, ap length q, ap length k, depth_n) in
           absurd (no_start_behind n behind (climb j n ok last.between (n - suc j) (suc j) (omega arith) (omega arith) low))
 
-      pub since_call : SinceCall j n c
+      pub since_call : SinceCall j n c rest behind
       since_call = let l = last.before in first _ _ refl (going Q I (suc j) n (omega arith) ok) out_j.moves

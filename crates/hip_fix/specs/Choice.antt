@@ -1,5 +1,5 @@
--- The plan for what a run found: at which level each report is repaired, and the sites of the repairs. (The three sorts of repair
--- are the Hippocrates paper's; the choice of the level is this project's own.)
+-- The plan for what a run found: at which level each report is repaired, and the sites of the repairs. (The three
+-- sorts of repair are the Hippocrates paper's; the choice of the level is this project's own.)
 use Rattle.std.specs.Prelude.{◌≡◌, ℕ, zero, suc, Bool, true, false, cond, ◌&&◌, nat_eq, List, [], ◌∷◌, Option, Some, None, slice_get, ℤ, int_lt}
 use Rattle.std.specs.List.{list_any, filter}
 use Rattle.hip_ir.specs.Sites.{same_site, has_site, sites_of}
@@ -36,8 +36,8 @@ abbrev pub best_on : Program → Findings → ℕ → List Site → ℕ
 best_on P found closed [] = 0
 best_on P found closed (store ∷ calls) = (best_of P found (record { level = 0; score = score P found store }) 1 closed calls).level
 
--- The level of the greatest score among the store's, which is 0, and those of the calls that had returned and have a pointer operand;
--- the innermost one where scores are equal. A missing fence needs no level.
+-- The level of the greatest score among the store's, which is 0, and those of the calls that had returned and have a
+-- pointer operand; the innermost one where scores are equal. A missing fence needs no level.
 abbrev pub level_for : Program → Findings → Report → Kind → ℕ
 level_for P found r MissingFence = 0
 level_for P found r MissingFlush = best_on P found r.closed r.path

@@ -8,7 +8,9 @@ use Rattle.hip_fix.specs.declared.plan.Plan.{Plan}
 
 -- sites are ordered by function, block and index
 abbrev pub site_before : Site → Site → Bool
-site_before a b = nat_lt a.function b.function || (nat_eq a.function b.function && (nat_lt a.block b.block || (nat_eq a.block b.block && nat_lt a.index b.index)))
+site_before a b =
+    nat_lt a.function b.function
+    || (nat_eq a.function b.function && (nat_lt a.block b.block || (nat_eq a.block b.block && nat_lt a.index b.index)))
 
 -- the order of sites is strict, and of two sites that differ one is before the other
 pub record IsStrictOrder : Type 0 where
@@ -21,11 +23,12 @@ is_ascending [] = true
 is_ascending (a ∷ []) = true
 is_ascending (a ∷ b ∷ rest) = site_before a b && is_ascending (b ∷ rest)
 
--- Flushes are put after stores, fences after flush calls and after stores that a flush is put after, and the hoisted calls are
--- calls of defined functions; each list is strictly ascending.
+-- Flushes are put after stores, fences after flush calls and after stores that a flush is put after, and the hoisted
+-- calls are calls of defined functions; each list is strictly ascending.
 pub record IsSuiting (P : Program) (plan : Plan) : Type 0 where
   pub flushes : (s : Site) → has_site plan.flush_after s ≡ true → is_store (instr_of P s) ≡ true
-  pub fences : (s : Site) → has_site plan.fence_after s ≡ true → (is_flush_call (instr_of P s) || has_site plan.flush_after s) ≡ true
+  pub fences : (s : Site) → has_site plan.fence_after s ≡ true →
+      (is_flush_call (instr_of P s) || has_site plan.flush_after s) ≡ true
   pub hoists : (s : Site) → has_site plan.hoist s ≡ true → is_defined_call P (instr_of P s) ≡ true
   pub flushes_ascend : is_ascending plan.flush_after ≡ true
   pub fences_ascend : is_ascending plan.fence_after ≡ true

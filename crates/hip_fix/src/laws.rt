@@ -39,8 +39,8 @@ pub fn repaired_is_sound()
         address (repaired P plan skip) base number ≡ address P base number }
 {}
 
-/// Behind a call of a clone a fence makes all durable that was stored under the call, where the stores that the clones do
-/// not flush never lie in the region.
+/// Behind a call of a clone a fence makes all durable that was stored under the call, where the stores that the
+/// clones do not flush never lie in the region.
 pub fn hoisted_calls_are_covered()
     ensures { (P : Program) → (plan : Plan) → (skip : Site → Bool) → IsSound P → IsQuiet P skip → IsCovered P (repaired P plan skip) }
 {}

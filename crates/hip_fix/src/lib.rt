@@ -17,6 +17,6 @@ pub use laws::{
 };
 pub use plan::{CloneOf, Plan};
 pub use plans::{
-    clones_are_numbered, inputs_stay_valid, nothing_is_changed_without_reports, plans_have_what_is_asked, plans_suit, plans_unite,
-    sites_are_ordered,
+    clones_are_numbered, inputs_stay_valid, nothing_is_changed_without_reports,
+    plans_have_what_is_asked, plans_suit, plans_unite, sites_are_ordered,
 };

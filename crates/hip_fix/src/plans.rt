@@ -18,7 +18,8 @@ ghost use Rattle.hip_fix.specs.declared.plan.Plan.{Plan};
 ghost use Rattle.std.specs.List.{filter};
 ghost use Rattle.std.specs.Prelude.{◌≡◌, ℕ, List, [], Bool, true};
 
-/// Sites are strictly ordered; the program's sites that pass a test ascend; and ascending lists with the same sites are equal.
+/// Sites are strictly ordered; the program's sites that pass a test ascend; and ascending lists with the same sites
+/// are equal.
 pub fn sites_are_ordered()
     ensures order { IsStrictOrder }
     ensures ascends { (P : Program) → (test : Site → Bool) → is_ascending (filter test (sites_of P)) ≡ true }
@@ -36,8 +37,8 @@ pub fn plans_suit()
     ensures { (P : Program) → (I : Input) → (found : Findings) → IsFound P I found → IsSuiting P (plan_for P found) }
 {}
 
-/// The union of two plans has each of them, where that one names sites of the program alone, as a plan does that suits it; and it
-/// suits the program where both do.
+/// The union of two plans has each of them, where that one names sites of the program alone, as a plan does that
+/// suits it; and it suits the program where both do.
 pub fn plans_unite()
     ensures first { (P : Program) → (a b : Plan) → IsWithin P a → Contains (union P a b) a }
     ensures second { (P : Program) → (a b : Plan) → IsWithin P b → Contains (union P a b) b }
@@ -53,11 +54,12 @@ pub fn nothing_is_changed_without_reports()
 
 /// A valid input of a program is one of the repaired program, by whatever plan.
 pub fn inputs_stay_valid()
-    ensures { (P : Program) → (plan : Plan) → (skip : Site → Bool) → (I : Input) → IsValid P I → IsValid (repaired P plan skip) I }
+    ensures { (P : Program) → (plan : Plan) → (skip : Site → Bool) → (I : Input) → IsValid P I →
+        IsValid (repaired P plan skip) I }
 {}
 
-/// The clones that are numbered for a plan are those of the repaired program: each stands there under its number as the clone of the
-/// function that it was made of, and each function that is cloned has one.
+/// The clones that are numbered for a plan are those of the repaired program: each stands there under its number as
+/// the clone of the function that it was made of, and each function that is cloned has one.
 pub fn clones_are_numbered()
     ensures clone { (P : Program) → (plan : Plan) → (skip : Site → Bool) → (clone : CloneOf) →
         In clone (clone_numbers P plan) → IsCloneOf P plan skip clone }

@@ -107,7 +107,7 @@ laid_at p v (g ∷ gs) name = by_kind g.persistent refl (λ p' v'. laid_at p' v'
         ∙ first_or_later (bytes_eq name g.name) (place p v (g ∷ gs)) (place p next gs) (global_start v g) (number_of (global_names gs) name) first (λ k. volatile_next p v g gs k kind)
 
 -- the table has the program's addresses
-addresses_alike : (globals : List GlobalVar) (base : ℕ) (table : NameTable ℕ) → StandsFor table.names table.values (laid_entries base volatile_start globals) → address_beside table ≡ global_address globals base
+pub addresses_alike : (globals : List GlobalVar) (base : ℕ) (table : NameTable ℕ) → StandsFor table.names table.values (laid_entries base volatile_start globals) → address_beside table ≡ global_address globals base
 addresses_alike globals base table stands = fun_ext (λ name. ap (λ o. unwrap_or o 0) (stands.finds name ∙ laid_at base volatile_start globals name))
 
 -- ---- how many bytes they are

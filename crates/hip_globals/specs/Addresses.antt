@@ -3,8 +3,10 @@
 use Rattle.std.specs.Prelude.{ℕ, zero, suc, ◌+◌, ◌%◌, ◌^◌, ◌≡◌, ◌≤◌, ◌&&◌, nat_le, max, Bool, true, false, List, [], ◌∷◌, All, Option, Some, None, if◌then◌else◌}
 use Rattle.std.specs.Int.{next_multiple_of}
 use Rattle.hip_types.specs.Layout.{Fits, shape}
+use Rattle.hip_types.specs.declared.limits.TheConstants.{LARGEST_REGION, LARGEST_VOLATILE}
 use Rattle.hip_ir.specs.declared.program.GlobalVar.{GlobalVar}
 use Rattle.hip_ir.specs.declared.program.Program.{Program}
+use Rattle.hip_lines.specs.declared.TheConstants.{LINE_SIZE}
 use Rattle.hip_mem.specs.Memory.{volatile_start}
 use Rattle.hip_globals.specs.Constants.{types_in}
 
@@ -33,13 +35,15 @@ global_start at g = next_multiple_of at (global_align g)
 -- where those of these globals that are persistent, or that are not, end if they are laid from `at` on
 abbrev pub end_of : Bool → ℕ → List GlobalVar → ℕ
 end_of persistent at [] = at
-end_of persistent at (g ∷ gs) = end_of persistent (if same g.persistent persistent then global_start at g + (shape g.ty).size else at) gs
+end_of persistent at (g ∷ gs) =
+    end_of persistent (if same g.persistent persistent then global_start at g + (shape g.ty).size else at) gs
 
 -- where the one of that number begins
 abbrev pub start_of : Bool → ℕ → List GlobalVar → ℕ → ℕ
 start_of persistent at [] number = at
 start_of persistent at (g ∷ gs) zero = global_start at g
-start_of persistent at (g ∷ gs) (suc number) = start_of persistent (if same g.persistent persistent then global_start at g + (shape g.ty).size else at) gs number
+start_of persistent at (g ∷ gs) (suc number) =
+    start_of persistent (if same g.persistent persistent then global_start at g + (shape g.ty).size else at) gs number
 
 abbrev pub is_persistent : List GlobalVar → ℕ → Bool
 is_persistent [] number = false
@@ -49,7 +53,8 @@ is_persistent (g ∷ gs) (suc number) = is_persistent gs number
 -- the address of the global of that number
 abbrev pub address_in : List GlobalVar → ℕ → ℕ → ℕ
 address_in globals base number =
-    if is_persistent globals number then start_of true base globals number else start_of false volatile_start globals number
+    if is_persistent globals number then start_of true base globals number
+    else start_of false volatile_start globals number
 
 abbrev pub address : Program → ℕ → ℕ → ℕ
 address P base number = address_in P.globals base number
@@ -60,7 +65,7 @@ volatile_end P = end_of false volatile_start P.globals
 -- The region ends with the last persistent global, rounded up to a whole cache line. It is the same from each base,
 -- since a base is a multiple of every alignment.
 abbrev pub region_size : Program → ℕ
-region_size P = next_multiple_of (end_of true 0 P.globals) 64
+region_size P = next_multiple_of (end_of true 0 P.globals) LINE_SIZE
 
 -- the types of the globals fit
 abbrev pub AllFit : List GlobalVar → Type 0
@@ -70,8 +75,8 @@ AllFit globals = All (λ g. Fits g.ty) globals
 abbrev pub TypesFitIn : GlobalVar → Type 0
 TypesFitIn g = All Fits (g.ty ∷ types_in g.init)
 
--- the region has at most 67,108,864 bytes, and the volatile globals at most 16,777,216
+-- the region and the volatile globals have at most as many bytes as they may
 abbrev pub are_within_limits : List GlobalVar → Bool
 are_within_limits globals =
-    nat_le (next_multiple_of (end_of true 0 globals) 64) 67108864
-    && nat_le (end_of false volatile_start globals) (volatile_start + 16777216)
+    nat_le (next_multiple_of (end_of true 0 globals) LINE_SIZE) LARGEST_REGION
+    && nat_le (end_of false volatile_start globals) (volatile_start + LARGEST_VOLATILE)

@@ -14,8 +14,12 @@ abbrev pub laid_entries : ℕ → ℕ → List GlobalVar → List (Entry ℕ)
 laid_entries persistent volatile [] = []
 laid_entries persistent volatile (g ∷ gs) =
     if g.persistent
-    then (address_entry g.name (global_start persistent g) ∷ laid_entries (global_start persistent g + size_of g.ty) volatile gs)
-    else (address_entry g.name (global_start volatile g) ∷ laid_entries persistent (global_start volatile g + size_of g.ty) gs)
+    then
+    (address_entry g.name (global_start persistent g)
+    ∷ laid_entries (global_start persistent g + size_of g.ty) volatile gs)
+    else
+    (address_entry g.name (global_start volatile g)
+    ∷ laid_entries persistent (global_start volatile g + size_of g.ty) gs)
 
 -- the address that a table has beside a name; 0 where it does not have the name
 abbrev pub address_beside : NameTable ℕ → List ℕ → ℕ

@@ -1,8 +1,9 @@
--- The bytes that the globals hold before a program runs: those of their initialisers, each where its global lies, with zeros
--- in between.
+-- The bytes that the globals hold before a program runs: those of their initialisers, each where its global lies, with
+-- zeros in between.
 use Rattle.std.specs.Prelude.{ℕ, Bool, true, false, List, [], ◌∷◌, ◌++◌, if◌then◌else◌}
 use Rattle.hip_ir.specs.declared.program.GlobalVar.{GlobalVar}
 use Rattle.hip_ir.specs.declared.program.Program.{Program}
+use Rattle.hip_lines.specs.declared.TheConstants.{LINE_SIZE}
 use Rattle.hip_mem.specs.Memory.{volatile_start}
 use Rattle.hip_globals.specs.Addresses.{global_align, same}
 use Rattle.hip_globals.specs.Values.{global_address, aligned, constant_bytes}
@@ -11,7 +12,9 @@ use Rattle.hip_globals.specs.Values.{global_address, aligned, constant_bytes}
 abbrev pub laid_bytes : (List ℕ → ℕ) → Bool → ℕ → List ℕ → List GlobalVar → List ℕ
 laid_bytes address_of persistent start so_far [] = so_far
 laid_bytes address_of persistent start so_far (g ∷ gs) =
-    laid_bytes address_of persistent start (if same g.persistent persistent then aligned start (global_align g) so_far ++ constant_bytes address_of g.init g.ty else so_far) gs
+    laid_bytes address_of persistent start
+    (if same g.persistent persistent
+    then aligned start (global_align g) so_far ++ constant_bytes address_of g.init g.ty else so_far) gs
 
 -- the bytes of the volatile globals, from the first one's place to the end of the last one
 abbrev pub volatile_bytes : Program → ℕ → List ℕ
@@ -19,4 +22,4 @@ volatile_bytes P base = laid_bytes (global_address P.globals base) false volatil
 
 -- the bytes of the region, with zeros behind the last persistent global up to a whole cache line
 abbrev pub region_bytes : Program → ℕ → List ℕ
-region_bytes P base = aligned 0 64 (laid_bytes (global_address P.globals base) true 0 [] P.globals)
+region_bytes P base = aligned 0 LINE_SIZE (laid_bytes (global_address P.globals base) true 0 [] P.globals)

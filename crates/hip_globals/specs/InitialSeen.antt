@@ -22,4 +22,5 @@ pub record AllFit (types : List Ty) : Type 0 where
 
 -- the types of globals and those in their initialisers fit
 pub record GlobalsFit (globals : List GlobalVar) : Type 0 where
-  pub fit : (k : ℕ) (d : GlobalVar) → k < length globals → AllFit ((get_or globals k d).ty ∷ types_in (get_or globals k d).init)
+  pub fit : (k : ℕ) (d : GlobalVar) → k < length globals →
+      AllFit ((get_or globals k d).ty ∷ types_in (get_or globals k d).init)

@@ -16,15 +16,16 @@ use Rattle.hip_names.specs.Names.{number_of}
 
 -- the address of the first global of that name, where the region begins at a base; 0 where none has it
 abbrev pub global_address : List GlobalVar → ℕ → List ℕ → ℕ
-global_address globals base name = unwrap_or (option_map (address_in globals base) (number_of (map (λ g. g.name) globals) name)) 0
+global_address globals base name =
+    unwrap_or (option_map (address_in globals base) (number_of (map (λ g. g.name) globals) name)) 0
 
--- The address of an element: from a base by the offset of a path into a type, modulo 2 ^ 64; the base where there is no such
--- path. (LLVM, "getelementptr".)
+-- The address of an element: from a base by the offset of a path into a type, modulo 2 ^ 64; the base where there is no
+-- such path. (LLVM, "getelementptr".)
 abbrev pub element_address : ℕ → Ty → List ℕ → ℕ
 element_address base ty path = (base + unwrap_or (gep_of ty path) 0) % 2 ^ 64
 
--- The value, where names have these addresses: an integer is its value, a name is its global's address, a `getelementptr` is
--- the element's address, and `null` and `zeroinitializer` are 0. (LLVM, "Constants".)
+-- The value, where names have these addresses: an integer is its value, a name is its global's address, a
+-- `getelementptr` is the element's address, and `null` and `zeroinitializer` are 0. (LLVM, "Constants".)
 abbrev value_step : {A B : Type 0} → (List ℕ → ℕ) → Const-F A ℕ B → ℕ
 value_step address_of (Const-F.Int b) = b.value
 value_step address_of (Const-F.Address name) = address_of name
@@ -35,7 +36,8 @@ value_step address_of _ = 0
 
 -- zeros behind them up to where a multiple of the alignment lies, if the first byte lies at a place
 abbrev pub aligned : ℕ → ℕ → List ℕ → List ℕ
-aligned start align bytes = bytes ++ replicate (next_multiple_of (start + length bytes) align - (start + length bytes)) 0
+aligned start align bytes =
+    bytes ++ replicate (next_multiple_of (start + length bytes) align - (start + length bytes)) 0
 
 -- as many as a size: cut, or with zeros behind
 abbrev pub sized : ℕ → List ℕ → List ℕ
@@ -58,8 +60,8 @@ pub record Written : Type 0 where
   pub value : ℕ
   pub bytes : List ℕ
 
--- An array's items follow one another, and a struct's fields lie each at its alignment. Any other constant is the bytes of
--- its value, the lowest first. (LLVM, "Constants"; the order of bytes of x86-64.)
+-- An array's items follow one another, and a struct's fields lie each at its alignment. Any other constant is the bytes
+-- of its value, the lowest first. (LLVM, "Constants"; the order of bytes of x86-64.)
 abbrev bytes_step : ℕ → Const-F Written ℕ Piece → List ℕ
 bytes_step value (Const-F.Array items) = joined (map (λ p. p.bytes) items)
 bytes_step value (Const-F.Struct items) = placed [] items

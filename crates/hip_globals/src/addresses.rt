@@ -6,19 +6,12 @@ ghost use Rattle.hip_globals.specs.Addresses.{AllFit, global_align, global_start
 ghost use Rattle.hip_ir.specs.Reading.{IsSpelled};
 
 use hip_ir::{GlobalVar, Program};
-use hip_types::{align, size};
-
-/// How many bytes the persistent globals may take, from the first one's start to the last one's end.
-const LARGEST_REGION: u64 = 67_108_864;
-
-/// Where the first volatile global lies.
-pub const VOLATILE_START: u64 = 65_536;
-
-/// How many bytes a cache line has.
-const CACHE_LINE: u64 = 64;
+use hip_lines::LINE_SIZE;
+use hip_mem::VOLATILE_START;
+use hip_types::{LARGEST_REGION, LARGEST_VOLATILE, align, size};
 
 /// Where the last volatile global may end.
-const VOLATILE_LIMIT: u64 = VOLATILE_START + 16_777_216;
+const VOLATILE_LIMIT: u64 = VOLATILE_START + LARGEST_VOLATILE;
 
 /// The greater of the type's alignment and the one that is written.
 pub fn alignment(global: &GlobalVar) -> u64
@@ -36,7 +29,8 @@ pub fn alignment(global: &GlobalVar) -> u64
 /// Where a global ends that is laid from a place on; none from 2^64 on.
 fn end_after(at: u64, global: &GlobalVar) -> Option<u64>
     requires { Fits global.now.ty }
-    ensures { SomeIff result (global_start at global.now + size_of global.now.ty < 2 ^ 64) (global_start at global.now + size_of global.now.ty) }
+    ensures { SomeIff result (global_start at global.now + size_of global.now.ty < 2 ^ 64)
+        (global_start at global.now + size_of global.now.ty) }
 {
     match at.checked_next_multiple_of(alignment(global)) {
         Some(start) => start.checked_add(size(&global.ty)),
@@ -47,7 +41,8 @@ fn end_after(at: u64, global: &GlobalVar) -> Option<u64>
 /// Where those of the globals end that are persistent, or that are not; none from 2^64 on.
 fn end_of(globals: &[GlobalVar], persistent: bool, start: u64) -> Option<u64>
     requires { AllFit globals.now }
-    ensures { SomeIff result (spec.end_of persistent start globals.now < 2 ^ 64) (spec.end_of persistent start globals.now) }
+    ensures { SomeIff result (spec.end_of persistent start globals.now < 2 ^ 64)
+        (spec.end_of persistent start globals.now) }
 {
     let mut at = start;
     'globals: for global in globals {
@@ -72,7 +67,7 @@ fn end_within(globals: &[GlobalVar], persistent: bool, start: u64, limit: u64) -
     }
 }
 
-/// Whether the region has at most 67,108,864 bytes, and the volatile globals at most 16,777,216.
+/// Whether the region and the volatile globals have at most as many bytes as they may.
 pub fn are_within_limits(globals: &[GlobalVar]) -> bool
     requires { AllFit globals.now }
     ensures { result ≡ spec.are_within_limits globals.now }
@@ -84,11 +79,11 @@ pub fn are_within_limits(globals: &[GlobalVar]) -> bool
 /// How many bytes the persistent globals take, rounded up to whole cache lines.
 pub fn region_size(program: &Program) -> u64
     requires fit { AllFit program.now.globals }
-    requires small { spec.region_size program.now ≤ 67108864 }
+    requires small { spec.region_size program.now ≤ LARGEST_REGION }
     ensures { result ≡ spec.region_size program.now }
 {
     match end_of(program.globals.as_slice(), true, 0) {
-        Some(end) => end.next_multiple_of(CACHE_LINE),
+        Some(end) => end.next_multiple_of(LINE_SIZE),
         None => unreachable!(),
     }
 }

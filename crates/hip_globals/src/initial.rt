@@ -6,8 +6,8 @@ ghost use Rattle.hip_globals.specs.Constants.{index_of, joined, types_in, gep_ty
 ghost use Rattle.hip_globals.specs.InitialSeen.{AllFit, gep_address, item_piece};
 ghost use Rattle.hip_globals.specs.Values.{aligned, sized, placed, written};
 
-use crate::table::{AddressTable, address_of};
 use crate::indices::index;
+use crate::table::{AddressTable, address_of};
 use hip_ir::{Const, ConstGep, TypedConst};
 use hip_types::{Bits, NoMemory, Row, Ty, align, gep_offset, size};
 use std::alloc::Global;
@@ -85,7 +85,7 @@ fn offset_of(alloc: Global, ty: &Ty, indices: &[Bits]) -> Result<u64, NoMemory>
 
 /// The value of a constant: an integer's number, the address that a pointer has, 0 for any other.
 #[cycle(value)]
-fn value_of(alloc: Global, addresses: &AddressTable<'_>, value: &Const) -> Result<u64, NoMemory>
+pub fn value_of(alloc: Global, addresses: &AddressTable<'_>, value: &Const) -> Result<u64, NoMemory>
     requires { AllFit (types_in value.now) }
     ensures { IfOk result (λ number. number ≡ (written (address_beside addresses.now) value.now).value) }
 {
@@ -157,7 +157,9 @@ fn push_items(
     items: &[TypedConst],
 ) -> Result<(), NoMemory>
     requires { AllFit (joined (map item_types items.now)) }
-    ensures { OnOk result (bytes.new ≡ bytes.old ++ joined (map (λ p. p.bytes) (map (item_piece (address_beside addresses.now)) items.now))) }
+    ensures { OnOk result
+        (bytes.new ≡ bytes.old
+        ++ joined (map (λ p. p.bytes) (map (item_piece (address_beside addresses.now)) items.now))) }
 {
     'items: for item in items {
         push_item(alloc, bytes, addresses, item)?;

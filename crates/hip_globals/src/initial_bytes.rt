@@ -9,15 +9,14 @@ ghost use Rattle.hip_globals.specs.InitialSeen.{AllFit, GlobalsFit};
 ghost use Rattle.hip_globals.specs.Addresses.{TypesFitIn};
 ghost use Rattle.hip_globals.specs.Values.{aligned, constant_bytes};
 
-use crate::table::{AddressTable, address_table};
-use crate::addresses::{VOLATILE_START, alignment};
+use crate::addresses::alignment;
 use crate::initial::{push_constant, set_align, set_size};
+use crate::table::{AddressTable, address_table};
 use hip_ir::{GlobalVar, Program};
+use hip_lines::LINE_SIZE;
+use hip_mem::VOLATILE_START;
 use hip_types::{NoMemory, Row, size};
 use std::alloc::Global;
-
-/// How many bytes a cache line has; the region is made of whole lines.
-const CACHE_LINE: u64 = 64;
 
 /// Adds the bytes of a global behind those of the globals before it, the first of which lies at an address.
 fn add_global(
@@ -28,7 +27,9 @@ fn add_global(
     global: &GlobalVar,
 ) -> Result<(), NoMemory>
     requires { AllFit (global.now.ty ∷ types_in global.now.init) }
-    ensures { OnOk result (bytes.new ≡ aligned start (global_align global.now) bytes.old ++ constant_bytes (address_beside addresses.now) global.now.init global.now.ty) }
+    ensures { OnOk result
+        (bytes.new ≡ aligned start (global_align global.now) bytes.old
+        ++ constant_bytes (address_beside addresses.now) global.now.init global.now.ty) }
 {
     set_align(alloc, bytes, 0, start, alignment(global))?;
     let len = bytes.len();
@@ -45,7 +46,8 @@ fn laid_bytes(
     start: u64,
 ) -> Result<Row<u8>, NoMemory>
     requires { GlobalsFit globals.now }
-    ensures { IfOk result (λ bytes. bytes ≡ spec.laid_bytes (address_beside addresses.now) persistent start [] globals.now) }
+    ensures { IfOk result
+        (λ bytes. bytes ≡ spec.laid_bytes (address_beside addresses.now) persistent start [] globals.now) }
 {
     let mut bytes = Row::new(alloc);
     'globals: for index in 0..globals.len() {
@@ -85,6 +87,6 @@ pub fn region_bytes(alloc: Global, program: &Program, base: u64) -> Result<Row<u
     let globals = program.globals.as_slice();
     let addresses = address_table(alloc, globals, base)?;
     let mut bytes = laid_bytes(alloc, &addresses, globals, true, 0)?;
-    set_align(alloc, &mut bytes, 0, 0, CACHE_LINE)?;
+    set_align(alloc, &mut bytes, 0, 0, LINE_SIZE)?;
     Ok(bytes)
 }

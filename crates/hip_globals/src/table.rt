@@ -7,8 +7,9 @@ ghost use Rattle.hip_globals.specs.AddressesSeen.{address_entry, address_beside,
 ghost use Rattle.hip_names.specs.Tables.{Gains};
 ghost use Rattle.hip_names.specs.Tables.{StandsFor};
 
-use crate::addresses::{VOLATILE_START, alignment};
+use crate::addresses::alignment;
 use hip_ir::GlobalVar;
+use hip_mem::VOLATILE_START;
 use hip_names::NameTable;
 use hip_types::{Name, NoMemory, size};
 use std::alloc::Global;
@@ -31,7 +32,9 @@ fn lay<'a>(table: &mut AddressTable<'a>, at: u64, global: &'a GlobalVar) -> Resu
     requires fits { Fits global.now.ty }
     requires end { global_start at global.now + size_of global.now.ty < 2 ^ 64 }
     ensures end { IfOk result (λ end. end ≡ global_start at global.now + size_of global.now.ty) }
-    ensures table { OnOk result (Gains table.old.names table.old.values table.new.names table.new.values (address_entry global.now.name (global_start at global.now) ∷ [])) }
+    ensures table { OnOk result
+        (Gains table.old.names table.old.values table.new.names table.new.values
+        (address_entry global.now.name (global_start at global.now) ∷ [])) }
 {
     let start = match at.checked_next_multiple_of(alignment(global)) {
         Some(start) => start,

@@ -19,7 +19,7 @@ use Rattle.hip_ir.specs.declared.program.Program.{Program}
 use Rattle.hip_num.specs.Comparisons.{holds}
 use Rattle.hip_typing.specs.Laws.GivenLaws.{sound-operands}
 use Rattle.hip_typing.specs.Registers.{Use, instr_uses, end_uses, phi_uses}
-use Rattle.hip_typing.specs.Sound.{IsSound, IsTyped, EndItem, own_types_agree}
+use Rattle.hip_typing.specs.Sound.{IsSound, IsTyped, EndItem, OwnTypesAgree}
 use Rattle.hip_runs.specs.declared.input.Input.{Input}
 use Rattle.hip_runs.specs.Actions.{returned}
 use Rattle.hip_runs.specs.Operands.{width_of}
@@ -30,7 +30,8 @@ use Rattle.hip_runs.specs.Laws.StepLaws.{IsTop}
 use Rattle.hip_runs.specs.Validity.{IsValid}
 use Rattle.hip_invariants.specs.FrameFacts.{frames_hold}
 use Rattle.hip_invariants.specs.Laws.InstrFacts.{fact_holds}
-use Rattle.hip_invariants.specs.Laws.Places.{get_drop, block_there}
+use Rattle.hip_runs.specs.Laws.Members.{get_drop}
+use Rattle.hip_invariants.specs.Laws.Places.{block_there}
 use Rattle.hip_invariants.specs.Laws.RegisterFacts.{ValuesHold, values_in_frames}
 use Rattle.hip_invariants.specs.Reached.{top_is_reached, caller_is_reached}
 use Rattle.hip_invariants.specs.Types.{FitsType}
@@ -96,5 +97,5 @@ module _ (P : Program) (s : IsSound P) (I : Input) (valid : IsValid P I) where
           let same : at.0 ≡ s.main.function = same_Some at.0 s.main.function (sym at.1.function ∙ ap (slice_get P.functions) bottom ∙ s.main.here) in
           let answers : at.0.ret ≡ Some (Int W32) = ap (λ (g : Function). g.ret) same ∙ s.main.result in
           let typed = subst (λ (x : End). All (IsTyped at.0) (end_uses x)) is (sound-operands P s f.function f.block at.0 block at.1).last in
-          let agrees = subst (λ (x : End). own_types_agree P at.0 (EndItem x)) is (s.types_agree f.function f.block at.0 block at.1).last.own in
+          let agrees = subst (λ (x : End). OwnTypesAgree P at.0 (EndItem x)) is (s.types_agree f.function f.block at.0 block at.1).last.own in
           subst (λ (r : Option Scalar). fits_type (Some r) (returned P.globals I.base f.registers arg)) answers (result_fits P s I valid f.function at.0 at.1.function f.registers (top_holds n f [] t) arg typed agrees)

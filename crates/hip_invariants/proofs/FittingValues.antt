@@ -32,7 +32,7 @@ use Rattle.hip_typing.specs.Given.{CallsFunction, CallsExtern}
 use Rattle.hip_typing.specs.Laws.Decided.{all-at}
 use Rattle.hip_typing.specs.Laws.GivenLaws.{sound-operands, sound-calls}
 use Rattle.hip_typing.specs.Registers.{Register, Use, find_register, registers_of, assigned_by, instr_uses, end_uses, arg_uses, edge_uses}
-use Rattle.hip_typing.specs.Sound.{IsSound, IsBlockAt, IsTyped, EndItem, own_types_agree, names_in_function, operand_is_typed}
+use Rattle.hip_typing.specs.Sound.{IsSound, IsBlockAt, IsTyped, EndItem, OwnTypesAgree, names_in_function, operand_is_typed}
 use Rattle.hip_externs.specs.declared.call.ExternCall.TheVariants as calls
 use Rattle.hip_runs.specs.declared.input.Input.{Input}
 use Rattle.hip_runs.specs.Actions.{truth, cast_value, edge_value, returned}
@@ -189,7 +189,7 @@ module _ (P : Program) (s : IsSound P) (I : Input) (valid : IsValid P I) where
         (edge_fits P s I valid f.function fn at.function f.registers h p.ty from p.edges ((sound-operands P s f.function c fn block at).phis k p e));
     result = λ f fn block arg h at e.
         let typed = subst (λ (x : End). All (IsTyped fn) (end_uses x)) e (sound-operands P s f.function f.block fn block at).last in
-        let agrees = subst (λ (x : End). own_types_agree P fn (EndItem x)) e (s.types_agree f.function f.block fn block at).last.own in
+        let agrees = subst (λ (x : End). OwnTypesAgree P fn (EndItem x)) e (s.types_agree f.function f.block fn block at).last.own in
         record { is = subst (λ (o : Option Function). fits_type (result_in o) (returned P.globals I.base f.registers arg)) (sym at.function) (result_fits P s I valid f.function fn at.function f.registers h arg typed agrees) };
   }
 

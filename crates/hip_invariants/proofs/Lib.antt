@@ -1,4 +1,3 @@
-pub mod NamesDiffer
 pub mod RegisterNames
 pub mod RegisterTypes
 pub mod ConstantTypes

@@ -27,7 +27,8 @@ use Rattle.hip_runs.specs.Places.{blocks_in, block_at, body_of, end_of, label_of
 use Rattle.hip_runs.specs.State.{Frame, State}
 use Rattle.hip_runs.specs.Step.{first_line, lines_size, event_of, is_cut, event_at, deed_at, event_on_frames, event_on_ending, event, run}
 use Rattle.hip_runs.specs.Laws.StepLaws.{IsTop, standing-frame}
-use Rattle.hip_invariants.specs.Laws.Places.{first_frame, get_drop}
+use Rattle.hip_runs.specs.Laws.Members.{get_drop}
+use Rattle.hip_invariants.specs.Laws.Places.{first_frame}
 use Rattle.hip_invariants.specs.Reached.{assigned_names, top_is_reached, StandsAtUnreachable}
 use Rattle.hip_invariants.proofs.AssignedPaths.{at_end}
 use Rattle.hip_invariants.proofs.Entry.{own_number}

@@ -36,7 +36,7 @@ use Rattle.hip_runs.specs.State.{Registers, Frame, World}
 use Rattle.hip_runs.specs.Step.{next, with_register}
 use Rattle.hip_invariants.specs.Laws.Frames.{keeps}
 use Rattle.hip_invariants.specs.Laws.InstrActions.{leaves_registers, CallCases, instr_cases, of_instr_action}
-use Rattle.hip_invariants.specs.Laws.Places.{get_drop}
+use Rattle.hip_runs.specs.Laws.Members.{get_drop}
 use Rattle.hip_invariants.proofs.AssignedPaths.{on_path, behind, at_end, over_edge, path_more}
 use Rattle.hip_invariants.proofs.Entry.{among_all, entry_block, no_entry_phi, label_there, label_known}
 use Rattle.hip_invariants.proofs.RegisterNames.{named_either}

@@ -1,5 +1,5 @@
 -- What contracts see of a cabinet: named files, of which one at a time is current and is read from its start.
-use Rattle.std.specs.Prelude.{ℕ, ◌≡◌, ◌≤◌, if◌then◌else◌, Bool, true, false, List, [], ◌∷◌, ◌++◌, length, take, Option, Some, None, IfSome, option_map}
+use Rattle.std.specs.Prelude.{ℕ, ◌≡◌, ◌≤◌, if◌then◌else◌, Bool, true, false, List, [], ◌∷◌, ◌++◌, length, take, Option, Some, None, IfSome, is_some, option_map}
 use Rattle.std.specs.Str.{bytes_eq}
 use Rattle.hip_io.specs.Counts.{Rose}
 use Rattle.hip_io.specs.declared.cabinet.NamedFile.{NamedFile}
@@ -17,6 +17,10 @@ pub record CabinetState : Type 0 where
   pub rest : Option (List ℕ)
   pub misses : ℕ
   pub faults : ℕ
+
+-- where the files are told and one is current, so are its name and its rest
+abbrev pub IsTold : CabinetState → Type 0
+IsTold s = IfSome s.files (λ files. s.is_current ≡ true → (is_some s.name ≡ true) × (is_some s.rest ≡ true))
 
 -- the bytes of the first file of that name
 abbrev pub file_of : List NamedFile → List ℕ → Option (List ℕ)

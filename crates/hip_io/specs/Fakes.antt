@@ -1,7 +1,8 @@
 -- What contracts see of the cabinets and the sink in memory.
-use Rattle.std.specs.Prelude.{ℕ, ◌≡◌, ◌≤◌, if◌then◌else◌, List, Option, Some, None, is_some, option_map, option_and_then, slice_get, drop}
+use Rattle.std.specs.Prelude.{ℕ, ◌≡◌, ◌-◌, ◌≤◌, if◌then◌else◌, true, List, Option, Some, None, is_some, option_map, option_and_then, slice_get, drop}
 use Rattle.std.specs.Str.{bytes_eq}
-use Rattle.hip_io.specs.Cabinets.{CabinetState, file_of}
+use Rattle.std.proofs.Common.{refl}
+use Rattle.hip_io.specs.Cabinets.{CabinetState, IsTold, file_of}
 use Rattle.hip_io.specs.Sinks.{SinkState}
 use Rattle.hip_io.specs.declared.cabinet.NamedFile.{NamedFile}
 use Rattle.hip_io.specs.declared.cabinet.Taken.{Taken}
@@ -31,6 +32,14 @@ mem_cabinet_state m = record {
   misses = m.misses;
   faults = 0;
 }
+
+-- the name and the rest of the current file are told
+pub memory_told : (m : MemFiles) → IsTold (mem_cabinet_state m)
+memory_told m = by_file m.current
+  where
+    by_file : (current : Option OpenFile) → is_some current ≡ true → (is_some (option_map (λ (file : OpenFile). file.name) current) ≡ true) × (is_some (option_map (λ (file : OpenFile). file.rest) current) ≡ true)
+    by_file None e = absurd (let z : ⊥ = cc in z)
+    by_file (Some file) e = (refl, refl)
 
 -- Bytes in memory, and for how many more there is room.
 pub record MemBytes : Type 0 where
@@ -69,6 +78,9 @@ pub record FailingFiles : Type 0 where
 abbrev pub failing_cabinet_state : FailingFiles → CabinetState
 failing_cabinet_state f = record (mem_cabinet_state f.inner) { faults = f.faults }
 
+pub failing_told : (f : FailingFiles) → IsTold (failing_cabinet_state f)
+failing_told f = memory_told f.inner
+
 abbrev limit_of : FailAt → Option ℕ
 limit_of Fetch = None
 limit_of (Byte n) = Some n
@@ -76,3 +88,15 @@ limit_of (Byte n) = Some n
 -- how many bytes a file of this name gives once it is fetched, if it is the one that fails
 abbrev pub left_of : FailingFiles → List ℕ → Option ℕ
 left_of f name = if bytes_eq f.name name then limit_of f.at else None
+
+-- how many bytes the file that fails still gives after a read
+abbrev pub left_after : Option ℕ → Taken → Option ℕ
+left_after left (Got n) = option_map (λ l. l - n) left
+left_after left End = left
+left_after left Failed = left
+
+-- Which file fails and where stays as it is, and so does how many bytes come at a time.
+pub record FailsAlike (old new : FailingFiles) : Type 0 where
+  pub name : new.name ≡ old.name
+  pub at : new.at ≡ old.at
+  pub chunk : new.inner.chunk ≡ old.inner.chunk

@@ -1,5 +1,5 @@
 -- What it means to read a whole file of a cabinet.
-use Rattle.std.specs.Prelude.{ℕ, ◌+◌, ◌≡◌, ◌≤◌, ◌<◌, true, List, [], ◌++◌, length, drop, Option, Some, IfSome, option_map, Result, Ok, Err}
+use Rattle.std.specs.Prelude.{ℕ, ◌+◌, ◌≡◌, ◌≤◌, ◌<◌, ◌⊎◌, true, false, List, [], ◌++◌, length, drop, Option, Some, IfSome, option_map, Result, Ok, Err}
 use Rattle.hip_io.specs.Counts.{Rose}
 use Rattle.hip_io.specs.Cabinets.{CabinetState, StaysOpen, IsMissed, file_of}
 use Rattle.hip_io.specs.declared.read.ReadRefusal.{ReadRefusal}
@@ -43,24 +43,42 @@ pub record HasReadTooMuch (old new : CabinetState) (name : List ℕ) (limit : �
   pub named : IfSome new.name (λ n. n ≡ name)
   pub told : IfSome old.files (λ files. IsLongFile files name limit new)
 
-pub record HasFailedRead (old new : CabinetState) : Type 0 where
+-- Of the file of that name these many bytes were taken, at most one more than the limit, and the others are left.
+pub record IsPartTaken (files : List NamedFile) (name : List ℕ) (limit : ℕ) (new : CabinetState) : Type 0 where
+  pub bytes : List ℕ
+  pub count : ℕ
+  pub found : file_of files name ≡ Some bytes
+  pub few : count ≤ limit + 1
+  pub named : new.name ≡ Some name
+  pub rest : new.rest ≡ Some (drop count bytes)
+
+-- The named file is current, and was read in part.
+pub record HasBegun (old new : CabinetState) (name : List ℕ) (limit : ℕ) : Type 0 where
+  pub current : new.is_current ≡ true
+  pub named : IfSome new.name (λ n. n ≡ name)
+  pub told : IfSome old.files (λ files. IsPartTaken files name limit new)
+
+-- The fetch failed, and no file is current, or a read did.
+pub record HasFailedRead (old new : CabinetState) (name : List ℕ) (limit : ℕ) : Type 0 where
   pub files : new.files ≡ old.files
   pub misses : new.misses ≡ old.misses
   pub later : old.faults ≤ new.faults
   pub rose : Rose old.faults new.faults
+  pub begun : (new.is_current ≡ false) ⊎ HasBegun old new name limit
 
-pub record HasReadPart (old new : CabinetState) : Type 0 where
+pub record HasReadPart (old new : CabinetState) (name : List ℕ) (limit : ℕ) : Type 0 where
   pub files : new.files ≡ old.files
   pub misses : new.misses ≡ old.misses
   pub faults : new.faults ≡ old.faults
+  pub begun : HasBegun old new name limit
 
 -- what `read_all` does, by its answer
 abbrev pub HasRead : CabinetState → CabinetState → List ℕ → ℕ → Result (List ℕ) ReadRefusal → Type 0
 HasRead old new name limit (Ok bytes) = HasReadWhole old new name limit bytes
 HasRead old new name limit (Err refusals.Missing) = IsMissed old new name
-HasRead old new name limit (Err refusals.ReadFault) = HasFailedRead old new
+HasRead old new name limit (Err refusals.ReadFault) = HasFailedRead old new name limit
 HasRead old new name limit (Err refusals.TooLarge) = HasReadTooMuch old new name limit
-HasRead old new name limit (Err refusals.NoMemory) = HasReadPart old new
+HasRead old new name limit (Err refusals.NoMemory) = HasReadPart old new name limit
 
 -- the whole rest of the current file was taken
 pub record HasTakenRest (old new : CabinetState) (limit : ℕ) (bytes : List ℕ) : Type 0 where
@@ -74,9 +92,25 @@ pub record HasTakenTooMuch (old new : CabinetState) (limit : ℕ) : Type 0 where
   pub taken : HasTakenAll old new bytes
   pub long : length bytes ≡ limit + 1
 
+-- at most one byte more than the limit was taken
+pub record HasTakenPart (old new : CabinetState) (limit : ℕ) : Type 0 where
+  pub bytes : List ℕ
+  pub stays : StaysOpen old new
+  pub few : length bytes ≤ limit + 1
+  pub rest : old.rest ≡ option_map (λ rest. bytes ++ rest) new.rest
+
+pub record HasFailedRest (old new : CabinetState) (limit : ℕ) : Type 0 where
+  pub part : HasTakenPart old new limit
+  pub later : old.faults ≤ new.faults
+  pub rose : Rose old.faults new.faults
+
+pub record HasStopped (old new : CabinetState) (limit : ℕ) : Type 0 where
+  pub part : HasTakenPart old new limit
+  pub faults : new.faults ≡ old.faults
+
 abbrev pub HasReadRest : CabinetState → CabinetState → ℕ → Result (List ℕ) ReadRefusal → Type 0
 HasReadRest old new limit (Ok bytes) = HasTakenRest old new limit bytes
 HasReadRest old new limit (Err refusals.Missing) = ⊥
-HasReadRest old new limit (Err refusals.ReadFault) = HasFailedRead old new
+HasReadRest old new limit (Err refusals.ReadFault) = HasFailedRest old new limit
 HasReadRest old new limit (Err refusals.TooLarge) = HasTakenTooMuch old new limit
-HasReadRest old new limit (Err refusals.NoMemory) = HasReadPart old new
+HasReadRest old new limit (Err refusals.NoMemory) = HasStopped old new limit

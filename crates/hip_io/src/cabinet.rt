@@ -28,7 +28,7 @@ pub enum Taken {
 
 /// Named files, of which one at a time is current.
 pub trait Cabinet {
-    ghost use Rattle.hip_io.specs.Cabinets.{CabinetState};
+    ghost use Rattle.hip_io.specs.Cabinets.{CabinetState, IsTold};
 
     ghost state: { Self → CabinetState };
 
@@ -41,4 +41,6 @@ pub trait Cabinet {
         requires room { 0 < length buf.old }
         requires current { IsTrue (state self.old).is_current }
         ensures { HasTaken (state self.old) (state self.new) buf.new result };
+
+    ghost told: { (cabinet : Self) → IsTold (state cabinet) };
 }

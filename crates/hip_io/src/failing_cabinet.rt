@@ -1,7 +1,7 @@
-ghost use Rattle.std.specs.Prelude.{◌≡◌, ◌<◌, ◌≤◌, ◌↔◌, None, Some, length, IsTrue};
+ghost use Rattle.std.specs.Prelude.{◌≡◌, ◌<◌, ◌≤◌, ◌↔◌, None, Some, length, IfSome, IsTrue};
 ghost use Rattle.hip_io.specs.Counts.{counted};
 ghost use Rattle.hip_io.specs.Cabinets.{HasFetched, HasTaken};
-ghost use Rattle.hip_io.specs.Fakes.{failing_cabinet_state, left_of};
+ghost use Rattle.hip_io.specs.Fakes.{failing_cabinet_state, left_of, left_after, FailsAlike, GotAtMost};
 
 use crate::cabinet::{Cabinet, Fetched, Taken};
 use crate::mem_cabinet::MemCabinet;
@@ -58,12 +58,17 @@ impl FailingCabinet {
 }
 
 impl Cabinet for FailingCabinet {
+    ghost use Rattle.hip_io.specs.Fakes.{failing_told};
+
     ghost state = { failing_cabinet_state };
+
+    ghost told = { failing_told };
 
     fn fetch(&mut self, name: &str) -> Fetched
         ensures fetch { HasFetched (failing_cabinet_state self.old) (failing_cabinet_state self.new) name.now result }
         ensures fails { (result ≡ Fetched.Failed) ↔ ((self.old.at ≡ FailAt.Fetch) × (self.old.name ≡ name.now)) }
         ensures left { self.new.left ≡ left_of self.old name.now }
+        ensures alike { FailsAlike self.old self.new }
     {
         let watched = self.name.as_slice() == name.as_bytes();
         match self.at {
@@ -85,6 +90,10 @@ impl Cabinet for FailingCabinet {
         requires current { IsTrue (failing_cabinet_state self.old).is_current }
         ensures take { HasTaken (failing_cabinet_state self.old) (failing_cabinet_state self.new) buf.new result }
         ensures fails { (result ≡ Taken.Failed) ↔ (self.old.left ≡ Some 0) }
+        ensures left { self.new.left ≡ left_after self.old.left result }
+        ensures within { IfSome self.old.left (λ left. GotAtMost left result) }
+        ensures few { GotAtMost self.old.inner.chunk result }
+        ensures alike { FailsAlike self.old self.new }
     {
         match self.left {
             None => self.inner.take(buf),

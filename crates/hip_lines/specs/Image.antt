@@ -1,6 +1,7 @@
 -- Crash images: the contents that a crash may leave in the region.
 use Rattle.std.specs.Prelude.{◌≡◌, ℕ, suc, ◌+◌, ◌*◌, ◌/◌, ◌<◌, ◌≤◌, Bool, cond, List, [], ◌∷◌, length, take, Option, Some, None, slice_get, slice_index}
 use Rattle.hip_lines.specs.Line.{Line}
+use Rattle.hip_lines.specs.declared.TheConstants.{LINE_SIZE}
 
 -- P's parts cover bytes, and give each byte that they cover its value
 module _ {P : Type 0} (covers : P → ℕ → Bool) (value : P → ℕ → ℕ) where
@@ -13,7 +14,7 @@ module _ {P : Type 0} (covers : P → ℕ → Bool) (value : P → ℕ → ℕ) 
   pub record IsLineImageAt (first r : List ℕ) (j : ℕ) (l : Line P) (q : ℕ) : Type 0 where
     pub least : l.durable ≤ q
     pub most : q ≤ length l.parts
-    pub bytes : (b : ℕ) → 64 * j ≤ b → b < 64 * j + 64 → slice_index r b ≡ byte_after (take q l.parts) b (slice_index first b)
+    pub bytes : (b : ℕ) → LINE_SIZE * j ≤ b → b < LINE_SIZE * j + LINE_SIZE → slice_index r b ≡ byte_after (take q l.parts) b (slice_index first b)
 
   -- in line j the content r is one that a crash may leave
   abbrev pub IsLineImage : List ℕ → List ℕ → ℕ → Line P → Type 0
@@ -32,7 +33,7 @@ module _ {P : Type 0} (covers : P → ℕ → Bool) (value : P → ℕ → ℕ) 
   -- the content that a pick gives, from byte b on: in each line that many of its parts
   abbrev pub image_from : List (Line P) → (ℕ → ℕ) → ℕ → List ℕ → List ℕ
   image_from ls pick b [] = []
-  image_from ls pick b (x ∷ xs) = byte_after (take (pick (b / 64)) (parts_of (slice_get ls (b / 64)))) b x ∷ image_from ls pick (suc b) xs
+  image_from ls pick b (x ∷ xs) = byte_after (take (pick (b / LINE_SIZE)) (parts_of (slice_get ls (b / LINE_SIZE)))) b x ∷ image_from ls pick (suc b) xs
 
   abbrev pub image_of : List (Line P) → (ℕ → ℕ) → List ℕ → List ℕ
   image_of ls pick first = image_from ls pick 0 first

@@ -4,6 +4,7 @@ use Rattle.std.proofs.Common.{Option, None, ◌≡◌, ◌⊎◌, inl, inr, ℕ,
 use Rattle.std.proofs.lemmas.List.{take-append-le}
 use Rattle.hip_lines.specs.Line.{Line, IsOrdered, AreOrdered, with_part, flushed_line, fenced_line, has_bytes, change_from, stored, flushed, fenced}
 use Rattle.hip_lines.specs.Image.{byte_after, IsLineImageAt, IsLineImage, IsImage, parts_of, image_from, image_of, IsPick}
+use Rattle.hip_lines.specs.declared.TheConstants.{LINE_SIZE}
 
 -- l' has the parts of l, and at least as many of them flushed and durable
 pub record IsAhead {P : Type 0} (l l' : Line P) : Type 0 where
@@ -191,10 +192,10 @@ module _ {P : Type 0} (covers : P → ℕ → Bool) (value : P → ℕ → ℕ) 
   length-image_from ls pick b [] = refl
   length-image_from ls pick b (x ∷ xs) = ap suc (length-image_from ls pick (suc b) xs)
 
-  pub slice_index-image_from : (ls : List (Line P)) (pick : ℕ → ℕ) (b : ℕ) (xs : List ℕ) (i : ℕ) → i < length xs → slice_index (image_from covers value ls pick b xs) i ≡ byte_after covers value (take (pick ((b + i) / 64)) (parts_of covers value (slice_get ls ((b + i) / 64)))) (b + i) (slice_index xs i)
+  pub slice_index-image_from : (ls : List (Line P)) (pick : ℕ → ℕ) (b : ℕ) (xs : List ℕ) (i : ℕ) → i < length xs → slice_index (image_from covers value ls pick b xs) i ≡ byte_after covers value (take (pick ((b + i) / LINE_SIZE)) (parts_of covers value (slice_get ls ((b + i) / LINE_SIZE)))) (b + i) (slice_index xs i)
   slice_index-image_from ls pick b [] i h = absurd (omega arith)
-  slice_index-image_from ls pick b (x ∷ xs) zero h = ap (λ c. byte_after covers value (take (pick (c / 64)) (parts_of covers value (slice_get ls (c / 64)))) c x) (let e : b ≡ b + 0 = omega arith in e)
-  slice_index-image_from ls pick b (x ∷ xs) (suc i) h = slice_index-image_from ls pick (suc b) xs i (omega arith) ∙ ap (λ c. byte_after covers value (take (pick (c / 64)) (parts_of covers value (slice_get ls (c / 64)))) c (slice_index xs i)) (let e : suc b + i ≡ b + suc i = omega arith in e)
+  slice_index-image_from ls pick b (x ∷ xs) zero h = ap (λ c. byte_after covers value (take (pick (c / LINE_SIZE)) (parts_of covers value (slice_get ls (c / LINE_SIZE)))) c x) (let e : b ≡ b + 0 = omega arith in e)
+  slice_index-image_from ls pick b (x ∷ xs) (suc i) h = slice_index-image_from ls pick (suc b) xs i (omega arith) ∙ ap (λ c. byte_after covers value (take (pick (c / LINE_SIZE)) (parts_of covers value (slice_get ls (c / LINE_SIZE)))) c (slice_index xs i)) (let e : suc b + i ≡ b + suc i = omega arith in e)
 
   index_past : (xs : List ℕ) (i : ℕ) → length xs ≤ i → slice_index xs i ≡ 0
   index_past [] i h = refl
@@ -207,7 +208,7 @@ module _ {P : Type 0} (covers : P → ℕ → Bool) (value : P → ℕ → ℕ) 
   get_below (x ∷ ls) (suc j) l e = omega (arith, get_below ls j l e)
 
   -- the content of a pick is an image
-  pub image_of-image : (ls : List (Line P)) (pick : ℕ → ℕ) (first : List ℕ) → length first ≡ 64 * length ls → IsPick covers value ls pick → IsImage covers value first ls (image_of covers value ls pick first)
+  pub image_of-image : (ls : List (Line P)) (pick : ℕ → ℕ) (first : List ℕ) → length first ≡ LINE_SIZE * length ls → IsPick covers value ls pick → IsImage covers value first ls (image_of covers value ls pick first)
   image_of-image ls pick first n p = record {
     whole = length-image_from ls pick 0 first;
     lines = λ j l e. (
@@ -217,7 +218,7 @@ module _ {P : Type 0} (covers : P → ℕ → Bool) (value : P → ℕ → ℕ) 
         most = (p j l e).1;
         bytes = λ b from to.
             let c : b < length first = omega (arith, n, get_below ls j l e) in
-            let q : (0 + b) / 64 ≡ j = omega arith in
+            let q : (0 + b) / LINE_SIZE ≡ j = omega arith in
             let z : 0 + b ≡ b = omega arith in
             slice_index-image_from ls pick 0 first b c
             ∙ ap (λ i. byte_after covers value (take (pick i) (parts_of covers value (slice_get ls i))) (0 + b) (slice_index first b)) q
@@ -259,13 +260,13 @@ module _ {P : Type 0} (covers : P → ℕ → Bool) (value : P → ℕ → ℕ) 
       go None f g = absurd (let z : ⊥ = cc in z)
       go (Some l') f g = let s : l' ≡ l = some_line l' l (Some l') refl g in subst (λ (m : Line P). (m.durable ≤ (h.lines j l' f).0) × ((h.lines j l' f).0 ≤ length m.parts)) s ((h.lines j l' f).1.least, (h.lines j l' f).1.most)
 
-  pub image-image_of : (first r : List ℕ) (ls : List (Line P)) (h : IsImage covers value first ls r) → length first ≡ 64 * length ls → r ≡ image_of covers value ls (pick_of first r ls h) first
+  pub image-image_of : (first r : List ℕ) (ls : List (Line P)) (h : IsImage covers value first ls r) → length first ≡ LINE_SIZE * length ls → r ≡ image_of covers value ls (pick_of first r ls h) first
   unfolding pick_of pick_by
   image-image_of first r ls h n = same_lists r (image_of covers value ls (pick_of first r ls h) first) (h.whole ∙ sym (length-image_from ls (pick_of first r ls h) 0 first)) at
     where
       at : (b : ℕ) → b < length r → slice_index r b ≡ slice_index (image_of covers value ls (pick_of first r ls h) first) b
-      at b lt = line (slice_get ls (b / 64)) refl ∙ sym (slice_index-image_from ls (pick_of first r ls h) 0 first b (omega (arith, h.whole)) ∙ ap (λ a. byte_after covers value (take (pick_of first r ls h (a / 64)) (parts_of covers value (slice_get ls (a / 64)))) a (slice_index first b)) (let z : 0 + b ≡ b = omega arith in z))
+      at b lt = line (slice_get ls (b / LINE_SIZE)) refl ∙ sym (slice_index-image_from ls (pick_of first r ls h) 0 first b (omega (arith, h.whole)) ∙ ap (λ a. byte_after covers value (take (pick_of first r ls h (a / LINE_SIZE)) (parts_of covers value (slice_get ls (a / LINE_SIZE)))) a (slice_index first b)) (let z : 0 + b ≡ b = omega arith in z))
         where
-          line : (o : Option (Line P)) (f : slice_get ls (b / 64) ≡ o) → slice_index r b ≡ byte_after covers value (take (pick_by first r ls h (b / 64) o f) (parts_of covers value o)) b (slice_index first b)
-          line None f = absurd (let t = get_there ls (b / 64) (omega (arith, h.whole, n, lt)) in let g = t.1 in let z : ⊥ = cc in z)
-          line (Some l) f = (h.lines (b / 64) l f).1.bytes b (omega arith) (omega arith)
+          line : (o : Option (Line P)) (f : slice_get ls (b / LINE_SIZE) ≡ o) → slice_index r b ≡ byte_after covers value (take (pick_by first r ls h (b / LINE_SIZE) o f) (parts_of covers value o)) b (slice_index first b)
+          line None f = absurd (let t = get_there ls (b / LINE_SIZE) (omega (arith, h.whole, n, lt)) in let g = t.1 in let z : ⊥ = cc in z)
+          line (Some l) f = (h.lines (b / LINE_SIZE) l f).1.bytes b (omega arith) (omega arith)

@@ -6,6 +6,7 @@
 -- flushed number. After Intel's Software Developer's Manual: CLWB and CLFLUSHOPT act on the line that contains the address,
 -- are ordered after older stores to that line, and need a later fence.
 use Rattle.std.specs.Prelude.{ℕ, suc, ◌+◌, ◌*◌, ◌≤◌, Bool, cond, nat_lt, min, max, List, [], ◌∷◌, ◌++◌, length, map, replicate}
+use Rattle.hip_lines.specs.declared.TheConstants.{LINE_SIZE}
 
 -- a line whose parts are of a type P: the parts in order, how many of them are flushed, and how many are durable
 pub record Line (P : Type 0) : Type 0 where
@@ -39,10 +40,10 @@ map_line f l = record { parts = map f l.parts; flushed = l.flushed; durable = l.
 
 -- the first byte of line j that is not before a range from o, and the end of line j or of the range of n bytes from o
 abbrev pub start_in : ℕ → ℕ → ℕ
-start_in j o = max o (64 * j)
+start_in j o = max o (LINE_SIZE * j)
 
 abbrev pub end_in : ℕ → ℕ → ℕ → ℕ
-end_in j o n = min (o + n) (64 * j + 64)
+end_in j o n = min (o + n) (LINE_SIZE * j + LINE_SIZE)
 
 -- whether line j has a byte of the range of n bytes from o
 abbrev pub has_bytes : ℕ → ℕ → ℕ → Bool

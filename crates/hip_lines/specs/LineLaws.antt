@@ -3,19 +3,20 @@ use Rattle.std.proofs.Common.{◌≡◌, ℕ, zero, suc, ◌+◌, ◌/◌, ◌-�
 use Rattle.std.proofs.lemmas.List.{map-append, length-map}
 use Rattle.std.proofs.lemmas.Bool.Decides.{nat_tests}
 use Rattle.hip_lines.specs.Line.{Line, IsOrdered, AreOrdered, with_part, flushed_line, fenced_line, map_line, start_in, end_in, has_bytes, change_from, change_range, stored, flushed, fenced, fresh_lines}
+use Rattle.hip_lines.specs.declared.TheConstants.{LINE_SIZE}
 
 -- ---- which lines a range reaches
 
 -- a byte of the range lies in the part of its line
-pub has_bytes-of_byte : (o n b : ℕ) → o ≤ b → b < o + n → (has_bytes (b / 64) o n ≡ true) × (start_in (b / 64) o ≤ b) × (b < end_in (b / 64) o n)
+pub has_bytes-of_byte : (o n b : ℕ) → o ≤ b → b < o + n → (has_bytes (b / LINE_SIZE) o n ≡ true) × (start_in (b / LINE_SIZE) o ≤ b) × (b < end_in (b / LINE_SIZE) o n)
 has_bytes-of_byte o n b h k = (grind (arith, nat_tests), omega arith, omega arith)
 
 -- and a byte of a line's part lies in the range and in that line
-pub byte-of_part : (o n j b : ℕ) → start_in j o ≤ b → b < end_in j o n → (o ≤ b) × (b < o + n) × (b / 64 ≡ j)
+pub byte-of_part : (o n j b : ℕ) → start_in j o ≤ b → b < end_in j o n → (o ≤ b) × (b < o + n) × (b / LINE_SIZE ≡ j)
 byte-of_part o n j b h k = (omega arith, omega arith, omega arith)
 
 -- a range reaches no line outside those of its first and last byte
-pub has_bytes-other : (o n j : ℕ) → has_bytes j o n ≡ true → (o / 64 ≤ j) × (j ≤ (o + n - 1) / 64) × (0 < n)
+pub has_bytes-other : (o n j : ℕ) → has_bytes j o n ≡ true → (o / LINE_SIZE ≤ j) × (j ≤ (o + n - 1) / LINE_SIZE) × (0 < n)
 has_bytes-other o n j h = (grind (arith, nat_tests), grind (arith, nat_tests), grind (arith, nat_tests))
 
 -- ---- changes line by line

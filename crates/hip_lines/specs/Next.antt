@@ -8,6 +8,7 @@ use Rattle.hip_lines.specs.declared.queue.Queue.{Queue}
 use Rattle.hip_lines.specs.Pending.{Pending}
 use Rattle.hip_lines.specs.Parts.{loose_in}
 use Rattle.hip_lines.specs.Kept.{Queues, pending_at}
+use Rattle.hip_lines.specs.declared.TheConstants.{LINE_SIZE}
 
 -- no byte from `from` up to `to` is loose
 abbrev pub NoneLoose : Pending Part → ℕ → ℕ → Type 0
@@ -21,7 +22,7 @@ IsFirstLoose w from to (Some f) = (from ≤ f.offset) × (f.offset < to) × (loo
 -- the loose bytes of the n bytes from offset o, ascending
 abbrev pub loose_of : Queues → ℕ → ℕ → List LooseByte
 loose_of m o zero = []
-loose_of m o (suc n) = option_to_list (loose_in (pending_at m (o / 64)) o) ++ loose_of m (suc o) n
+loose_of m o (suc n) = option_to_list (loose_in (pending_at m (o / LINE_SIZE)) o) ++ loose_of m (suc o) n
 
 -- no line from `from` up to `to` has a queue
 abbrev pub NoQueues : Queues → ℕ → ℕ → Type 0
@@ -34,5 +35,5 @@ IsQueueFrom m line (Some q) = (get nat_cmp m q.line ≡ Some q) × (line ≤ q.l
 
 -- the queue of the line at whose bytes a search stands, or of the next one that has a queue
 abbrev pub IsNextQueue : Queues → ℕ → Option Queue → Type 0
-IsNextQueue m at None = (j : ℕ) → at / 64 ≤ j → get nat_cmp m j ≡ None
-IsNextQueue m at (Some q) = (get nat_cmp m q.line ≡ Some q) × (at ≤ 64 * q.line + 64) × NoQueues m (at / 64) q.line
+IsNextQueue m at None = (j : ℕ) → at / LINE_SIZE ≤ j → get nat_cmp m j ≡ None
+IsNextQueue m at (Some q) = (get nat_cmp m q.line ≡ Some q) × (at ≤ LINE_SIZE * q.line + LINE_SIZE) × NoQueues m (at / LINE_SIZE) q.line

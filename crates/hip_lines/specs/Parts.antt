@@ -5,6 +5,7 @@ use Rattle.hip_lines.specs.Loose.{last_over}
 use Rattle.hip_lines.specs.Pending.{Pending, none_pending, pending_with, pending_flushed, pending_fenced}
 use Rattle.hip_lines.specs.declared.part.Part.{Part}
 use Rattle.hip_lines.specs.declared.part.LooseByte.{LooseByte}
+use Rattle.hip_lines.specs.declared.TheConstants.{LINE_SIZE}
 
 -- the pending parts of each line, and the offset and the size of the store that room was made for
 pub record Held : Type 0 where
@@ -40,7 +41,7 @@ abbrev pub loose_in : Pending Part → ℕ → Option LooseByte
 loose_in w b = option_map (loose_by w b) (last_over part_covers b w.parts)
 
 abbrev pub loose_at : List (Pending Part) → ℕ → Option LooseByte
-loose_at ws b = option_and_then (λ w. loose_in w b) (slice_get ws (b / 64))
+loose_at ws b = option_and_then (λ w. loose_in w b) (slice_get ws (b / LINE_SIZE))
 
 -- the loose bytes of the n bytes from offset o, ascending
 abbrev pub loose_from : List (Pending Part) → ℕ → ℕ → List LooseByte

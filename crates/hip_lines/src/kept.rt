@@ -10,8 +10,9 @@ ghost use Rattle.hip_lines.specs.Pending.{pending_with, pending_flushed, pending
 ghost use Rattle.hip_lines.specs.Parts.{part_in};
 ghost use Rattle.hip_lines.specs.Kept.{pending_at, HasRoomAt, HasRoomFor, AreNumbered, AreBelow, ListsFlushed, ChangesLine, FlushesLines, ChangesSome};
 
+use crate::LINE_SIZE;
 use crate::part::Part;
-use crate::queue::{LINE, Queue};
+use crate::queue::Queue;
 use hip_types::NoMemory;
 use std::alloc::Global;
 use std::collections::BTreeMap;
@@ -73,8 +74,8 @@ fn add_queue(
 fn push_at(queues: &mut BTreeMap<u64, Queue>, line: u64, part: Part)
     requires room { HasRoomAt queues.old line }
     requires numbered { AreNumbered queues.old }
-    requires first { part.offset / 64 ≡ line }
-    requires last { part.offset + part.size ≤ 64 * line + 64 }
+    requires first { part.offset / LINE_SIZE ≡ line }
+    requires last { part.offset + part.size ≤ LINE_SIZE * line + LINE_SIZE }
     ensures { ChangesLine (pending_with part) line queues.old queues.new }
 {
     match queues.get_mut(&line) {
@@ -112,12 +113,12 @@ pub fn make_room_in(
     ensures kept { (j : ℕ) → HasRoomAt queues.old j → HasRoomAt queues.new j }
     ensures ok { OnOk result (HasRoomFor queues.new (Some (offset, size))) }
     ensures numbered { AreNumbered queues.old → AreNumbered queues.new }
-    ensures below { (n : ℕ) → offset + size ≤ 64 * n → AreBelow n queues.old → AreBelow n queues.new }
+    ensures below { (n : ℕ) → offset + size ≤ LINE_SIZE * n → AreBelow n queues.old → AreBelow n queues.new }
     ensures flushed { flushed.new.items ≡ flushed.old.items }
     ensures spare { btree_map_len queues.old ≤ vec_capacity flushed.old → btree_map_len queues.new ≤ vec_capacity flushed.new }
 {
-    let end = (offset + size as u64 - 1) / LINE + 1;
-    for line in offset / LINE..end {
+    let end = (offset + size as u64 - 1) / LINE_SIZE + 1;
+    for line in offset / LINE_SIZE..end {
         make_room_at(alloc, queues, flushed, line)?;
     }
     Ok(())
@@ -141,7 +142,7 @@ pub fn ensure_room(
     ensures ok { OnOk result (HasRoomFor queues.new (Some (offset, size))) }
     ensures ready { room ≡ Some (offset, size) → IsOk result }
     ensures numbered { AreNumbered queues.old → AreNumbered queues.new }
-    ensures below { (n : ℕ) → offset + size ≤ 64 * n → AreBelow n queues.old → AreBelow n queues.new }
+    ensures below { (n : ℕ) → offset + size ≤ LINE_SIZE * n → AreBelow n queues.old → AreBelow n queues.new }
     ensures flushed { flushed.new.items ≡ flushed.old.items }
     ensures spare { btree_map_len queues.old ≤ vec_capacity flushed.old → btree_map_len queues.new ≤ vec_capacity flushed.new }
 {
@@ -164,7 +165,7 @@ fn is_room_for(room: Option<(u64, u32)>, offset: u64, size: u32) -> bool
 /// Takes up the parts of a store in the room that was made for them.
 pub fn push_in(queues: &mut BTreeMap<u64, Queue>, offset: u64, size: u32, tag: u128)
     requires some { 0 < size }
-    requires fits { offset + size < 2 ^ 64 - 64 }
+    requires fits { offset + size < 2 ^ 64 - LINE_SIZE }
     requires room { HasRoomFor queues.old (Some (offset, size)) }
     requires numbered { AreNumbered queues.old }
     ensures pending { (j : ℕ) → pending_at queues.new j ≡ cond (has_bytes j offset size) (pending_with (part_in offset size tag j) (pending_at queues.old j)) (pending_at queues.old j) }
@@ -172,8 +173,8 @@ pub fn push_in(queues: &mut BTreeMap<u64, Queue>, offset: u64, size: u32, tag: u
     ensures below { (n : ℕ) → AreBelow n queues.old → AreBelow n queues.new }
     ensures len { btree_map_len queues.new ≤ btree_map_len queues.old }
 {
-    let end = (offset + size as u64 - 1) / LINE + 1;
-    for line in offset / LINE..end {
+    let end = (offset + size as u64 - 1) / LINE_SIZE + 1;
+    for line in offset / LINE_SIZE..end {
         push_at(queues, line, part_at(offset, size, tag, line));
     }
 }
@@ -181,12 +182,12 @@ pub fn push_in(queues: &mut BTreeMap<u64, Queue>, offset: u64, size: u32, tag: u
 // The part of a store in a line that it reaches.
 fn part_at(offset: u64, size: u32, tag: u128, line: u64) -> Part
     requires fits { offset + size < 2 ^ 64 }
-    requires line { 64 * line + 64 < 2 ^ 64 }
+    requires line { LINE_SIZE * line + LINE_SIZE < 2 ^ 64 }
     requires reached { has_bytes line offset size ≡ true }
     ensures { result ≡ part_in offset size tag line }
 {
-    let from = offset.max(line * LINE);
-    let to = (offset + size as u64).min(line * LINE + LINE);
+    let from = offset.max(line * LINE_SIZE);
+    let to = (offset + size as u64).min(line * LINE_SIZE + LINE_SIZE);
     Part {
         offset: from,
         size: (to - from) as u32,
@@ -238,8 +239,8 @@ pub fn flush_in(
     ensures changed { result ≡ true → ChangesSome queues.old queues.new }
     ensures unchanged { result ≡ false → (j : ℕ) → get nat_cmp queues.new j ≡ get nat_cmp queues.old j }
 {
-    let end = (offset + len - 1) / LINE + 1;
-    let mut next = offset / LINE;
+    let end = (offset + len - 1) / LINE_SIZE + 1;
+    let mut next = offset / LINE_SIZE;
     let mut changed = false;
     while let Some(queue) = queue_from(queues, next) {
         let line = queue.line;

@@ -1,10 +1,11 @@
 ghost use Rattle.std.specs.Prelude.{◌≡◌, ℕ, ◌+◌, ◌*◌, ◌/◌, ◌%◌, ◌<◌, ◌≤◌, length, IfOk, IsOk, OnOk, OnErr, Some, None};
 ghost use Rattle.hip_lines.specs.Parts.{pending_stored, pending_flushed_all, pending_fenced_all, none_pending_all, loose_from, KeepsRoom};
 
+use crate::LINE_SIZE;
 use crate::kept::{ensure_room, fence_in, flush_at, flush_in, make_room_in, push_in};
 use crate::loose::NotDurable;
-use crate::queue::{LINE, Queue};
-use hip_types::NoMemory;
+use crate::queue::Queue;
+use hip_types::{LARGEST_REGION, NoMemory};
 use std::alloc::Global;
 use std::collections::BTreeMap;
 use std::marker::Model;
@@ -36,15 +37,15 @@ impl Model for Lines {
 impl Lines {
     /// The lines of a region of so many bytes, into which nothing was stored.
     pub fn new(alloc: Global, size: u64) -> Result<Lines, NoMemory>
-        requires whole { size % 64 ≡ 0 }
-        requires small { size ≤ 67108864 }
-        ensures lines { IfOk result (λ lines. lines.lines ≡ none_pending_all (size / 64)) }
-        ensures length { IfOk result (λ lines. length lines.lines ≡ size / 64) }
+        requires whole { size % LINE_SIZE ≡ 0 }
+        requires small { size ≤ LARGEST_REGION }
+        ensures lines { IfOk result (λ lines. lines.lines ≡ none_pending_all (size / LINE_SIZE)) }
+        ensures length { IfOk result (λ lines. length lines.lines ≡ size / LINE_SIZE) }
         ensures room { IfOk result (λ lines. lines.room ≡ None) }
     {
         Ok(Lines {
             alloc,
-            count: size / LINE,
+            count: size / LINE_SIZE,
             queues: BTreeMap::new(alloc),
             flushed: Vec::new(alloc),
             room: None,
@@ -55,7 +56,7 @@ impl Lines {
     pub fn make_room(&mut self, offset: u64, size: u32) -> Result<(), NoMemory>
         requires some { 0 < size }
         requires few { size ≤ 8 }
-        requires within { offset + size ≤ 64 * length self.old.lines }
+        requires within { offset + size ≤ LINE_SIZE * length self.old.lines }
         ensures lines { self.new.lines ≡ self.old.lines }
         ensures ok { OnOk result (self.new.room ≡ Some (offset, size)) }
         ensures err { OnErr result (self.new.room ≡ None) }
@@ -76,7 +77,7 @@ impl Lines {
     pub fn note_store(&mut self, offset: u64, size: u32, tag: u128) -> Result<(), NoMemory>
         requires some { 0 < size }
         requires few { size ≤ 8 }
-        requires within { offset + size ≤ 64 * length self.old.lines }
+        requires within { offset + size ≤ LINE_SIZE * length self.old.lines }
         ensures ok { OnOk result (self.new.lines ≡ pending_stored offset size tag self.old.lines) }
         ensures no_room { OnOk result (self.new.room ≡ None) }
         ensures err { OnErr result (self.new ≡ self.old) }
@@ -98,12 +99,12 @@ impl Lines {
 
     /// Flushes the line that contains the offset.
     pub fn flush(&mut self, offset: u64)
-        requires { offset < 64 * length self.old.lines }
+        requires { offset < LINE_SIZE * length self.old.lines }
         ensures lines { self.new.lines ≡ pending_flushed_all offset 1 self.old.lines }
         ensures length { length self.new.lines ≡ length self.old.lines }
         ensures room { KeepsRoom self.old self.new }
     {
-        if flush_at(&mut self.queues, &mut self.flushed, offset / LINE) {
+        if flush_at(&mut self.queues, &mut self.flushed, offset / LINE_SIZE) {
             self.room = None;
         }
     }
@@ -111,7 +112,7 @@ impl Lines {
     /// Flushes each line that has a byte of the range, in time of the lines that hold something.
     pub fn flush_range(&mut self, offset: u64, len: u64)
         requires some { 0 < len }
-        requires within { offset + len ≤ 64 * length self.old.lines }
+        requires within { offset + len ≤ LINE_SIZE * length self.old.lines }
         ensures lines { self.new.lines ≡ pending_flushed_all offset len self.old.lines }
         ensures length { length self.new.lines ≡ length self.old.lines }
         ensures room { KeepsRoom self.old self.new }
@@ -136,7 +137,7 @@ impl Lines {
 
     /// The bytes of a range that are not durable, ascending, each by the last part over it.
     pub fn not_durable(&self, from: u64, len: u64) -> NotDurable<'_>
-        requires { from + len ≤ 64 * length self.now.lines }
+        requires { from + len ≤ LINE_SIZE * length self.now.lines }
         ensures { result ≡ loose_from self.now.lines from len }
     {
         NotDurable::new(&self.queues, from, len)

@@ -3,9 +3,10 @@ ghost use Rattle.std.specs.Iterator.{YieldsFirst, item_count};
 ghost use Rattle.hip_lines.specs.Kept.{AreNumbered, AreBelow};
 ghost use Rattle.hip_lines.specs.Next.{loose_of};
 
+use crate::LINE_SIZE;
 use crate::kept::queue_from;
 use crate::part::LooseByte;
-use crate::queue::{LINE, Queue};
+use crate::queue::Queue;
 use std::collections::BTreeMap;
 use std::marker::Model;
 
@@ -41,7 +42,7 @@ impl<'a> NotDurable<'a> {
     {
         NotDurable {
             queues,
-            queue: queue_from(queues, from / LINE),
+            queue: queue_from(queues, from / LINE_SIZE),
             at: from,
             end: from + len,
         }
@@ -57,8 +58,8 @@ impl<'a> Iterator for NotDurable<'a> {
 
     fn next(&mut self) -> Option<LooseByte> {
         while let Some(queue) = self.queue {
-            let stop = self.end.min((queue.line + 1) * LINE);
-            match queue.first_loose(self.at.max(queue.line * LINE), stop) {
+            let stop = self.end.min((queue.line + 1) * LINE_SIZE);
+            match queue.first_loose(self.at.max(queue.line * LINE_SIZE), stop) {
                 Some(byte) => {
                     self.at = byte.offset + 1;
                     return Some(byte);

@@ -1,13 +1,12 @@
 ghost use Rattle.std.specs.Prelude.{◌≡◌, ℕ, ◌+◌, ◌-◌, ◌*◌, ◌/◌, ◌%◌, ◌<◌, ◌≤◌, [], ◌∷◌, ◌&&◌, cond, nat_le, nat_lt, drop, length, slice_index, vec_len, vec_capacity, OnOk, MatchOption, None};
 ghost use Rattle.hip_lines.specs.Loose.{last_over};
 ghost use Rattle.hip_lines.specs.Parts.{part_covers, mark_of};
+ghost use Rattle.hip_lines.specs.declared.TheConstants.{LINE_SIZE};
 
+use crate::LINE_SIZE;
 use crate::part::{LooseByte, Part};
 use hip_types::NoMemory;
 use std::alloc::Global;
-
-/// The number of bytes of a cache line.
-pub const LINE: u64 = 64;
 
 /// The pending parts of one line, in the order of their stores.
 #[derive(Drop)]
@@ -16,9 +15,9 @@ pub struct Queue {
     pub parts: Vec<Part>,
     pub flushed: usize,
     /// For each byte of the line one more than the place of the last part over it, or 0.
-    pub last: [u32; 64],
+    pub last: [u32; LINE_SIZE as usize],
     pub ghost within: { flushed ≤ length parts.items },
-    pub ghost marked: { (b : ℕ) → b / 64 ≡ line → slice_index last (b % 64) ≡ mark_of (last_over part_covers b parts.items) },
+    pub ghost marked: { (b : ℕ) → b / LINE_SIZE ≡ line → slice_index last (b % LINE_SIZE) ≡ mark_of (last_over part_covers b parts.items) },
 }
 
 impl Queue {
@@ -58,12 +57,12 @@ impl Queue {
     /// Takes up a part of the line, in the room that was made for it.
     pub fn push(&mut self, part: Part)
         requires room { HasRoom self.old }
-        requires first { part.offset / 64 ≡ self.old.line }
-        requires last { part.offset + part.size ≤ 64 * self.old.line + 64 }
+        requires first { part.offset / LINE_SIZE ≡ self.old.line }
+        requires last { part.offset + part.size ≤ LINE_SIZE * self.old.line + LINE_SIZE }
         ensures line { self.new.line ≡ self.old.line }
         ensures pending { pending_in self.new ≡ pending_with part (pending_in self.old) }
     {
-        let from = (part.offset % LINE) as usize;
+        let from = (part.offset % LINE_SIZE) as usize;
         let mark = (self.parts.len() + 1) as u32;
         set_marks(&mut self.last, from, from + part.size as usize, mark);
         self.parts.push_reserved(part);
@@ -88,8 +87,8 @@ impl Queue {
 
     /// The first loose byte from an offset up to another, both of the line.
     pub fn first_loose(&self, from: u64, to: u64) -> Option<LooseByte>
-        requires line { 64 * self.now.line ≤ from }
-        requires end { to ≤ 64 * self.now.line + 64 }
+        requires line { LINE_SIZE * self.now.line ≤ from }
+        requires end { to ≤ LINE_SIZE * self.now.line + LINE_SIZE }
         ensures { IsFirstLoose (pending_in self.now) from to result }
     {
         for offset in from..to {
@@ -102,10 +101,10 @@ impl Queue {
 
     /// The byte at this offset of the line, if it is loose.
     pub fn loose_byte(&self, offset: u64) -> Option<LooseByte>
-        requires { offset / 64 ≡ self.now.line }
+        requires { offset / LINE_SIZE ≡ self.now.line }
         ensures { result ≡ loose_in (pending_in self.now) offset }
     {
-        let mark = self.last[(offset % LINE) as usize] as usize;
+        let mark = self.last[(offset % LINE_SIZE) as usize] as usize;
         if mark == 0 {
             return None;
         }

@@ -5,6 +5,8 @@ use Rattle.hip_mem.specs.declared.refusal.MemTrap.{MemTrap}
 use Rattle.hip_mem.specs.declared.refusal.MemTrap.TheVariants.{Misaligned, BadAddress}
 use Rattle.hip_mem.specs.Memory.{Write, byte_written, volatile_start, stack_start, is_in, Memory, byte_at}
 use Rattle.hip_mem.specs.Bytes.{little_endian, zeros}
+use Rattle.hip_types.specs.declared.limits.TheConstants.{LARGEST_REGION, LARGEST_VOLATILE}
+use Rattle.hip_mem.specs.declared.TheConstants.{STACK_SIZE}
 
 -- the volatile globals, the stack below the mark, and the region
 pub record Areas : Type 0 where
@@ -18,9 +20,9 @@ pub record IsLaidOut (r : Areas) : Type 0 where
   pub low : 2 ^ 32 ≤ r.base
   pub high : r.base ≤ 2 ^ 46
   pub aligned : r.base % 4096 ≡ 0
-  pub volatile : length r.volatile ≤ 16777216
-  pub stack : length r.stack ≤ 16777216
-  pub region : length r.region ≤ 67108864
+  pub volatile : length r.volatile ≤ LARGEST_VOLATILE
+  pub stack : length r.stack ≤ STACK_SIZE
+  pub region : length r.region ≤ LARGEST_REGION
 
 -- the end of the stack's valid bytes
 abbrev pub mark_of : Areas → ℕ

@@ -1,5 +1,6 @@
 -- The memory of a machine: its initial bytes and the list of all writes so far.
 use Rattle.std.specs.Prelude.{ℕ, suc, zero, ◌+◌, ◌-◌, Bool, cond, ◌&&◌, nat_lt, nat_le, List, [], ◌∷◌, ◌++◌, length, slice_index}
+use Rattle.hip_mem.specs.declared.TheConstants.{STACK_END, STACK_START, VOLATILE_START}
 
 -- bytes that were written from an address on: a store's, or the zeros of a new stack block
 pub record Write : Type 0 where
@@ -20,14 +21,14 @@ byte_from (w ∷ ws) a first = byte_from ws a (byte_written w a first)
 
 -- volatile globals lie from this address on
 abbrev pub volatile_start : ℕ
-volatile_start = 65536
+volatile_start = VOLATILE_START
 
 -- the stack's first address, and its end
 abbrev pub stack_start : ℕ
-stack_start = 268435456
+stack_start = STACK_START
 
 abbrev pub stack_end : ℕ
-stack_end = 285212672
+stack_end = STACK_END
 
 -- the base of the persistent region, the initial bytes of the volatile globals and of the region, and all writes so far
 pub record Memory : Type 0 where

@@ -4,6 +4,7 @@ use Rattle.hip_mem.specs.declared.ram.Ram.TheInside.{Inside}
 use Rattle.hip_mem.specs.Memory.{volatile_start, stack_start, stack_end}
 use Rattle.hip_mem.specs.Areas.{Areas}
 use Rattle.hip_mem.specs.Pages.{Pages, page_bytes}
+use Rattle.hip_types.specs.declared.limits.TheConstants.{LARGEST_REGION, LARGEST_VOLATILE}
 
 -- the n bytes from an address on
 unfoldable pub area : Pages → ℕ → ℕ → List ℕ
@@ -16,7 +17,7 @@ pub record IsRam (s : Inside) : Type 0 where
   pub low : 2 ^ 32 ≤ s.base
   pub high : s.base ≤ 2 ^ 46
   pub aligned : s.base % 4096 ≡ 0
-  pub volatile : s.volatile ≤ 16777216
-  pub region : s.region ≤ 67108864
+  pub volatile : s.volatile ≤ LARGEST_VOLATILE
+  pub region : s.region ≤ LARGEST_REGION
   pub start : stack_start ≤ s.mark
   pub end : s.mark ≤ stack_end

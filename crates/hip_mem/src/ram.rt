@@ -6,16 +6,11 @@ ghost use Rattle.hip_mem.specs.Pages.{page_byte, page_bytes};
 use crate::page::Page;
 use crate::pages::{clear, fill, read, write};
 use crate::refusal::{MemTrap, PushRefusal, StoreRefusal};
-use hip_types::NoMemory;
+use crate::{STACK_END, STACK_START, VOLATILE_START};
+use hip_types::{LARGEST_REGION, LARGEST_VOLATILE, NoMemory};
 use std::alloc::Global;
 use std::collections::BTreeMap;
 use std::marker::Model;
-
-const VOLATILE_START: u64 = 65_536;
-
-const STACK_START: u64 = 268_435_456;
-
-const STACK_END: u64 = 285_212_672;
 
 /// The bytes of a machine, which contracts see as the three areas of valid bytes.
 #[derive(Drop)]
@@ -51,8 +46,8 @@ impl Ram {
         requires low { 2 ^ 32 ≤ base }
         requires high { base ≤ 2 ^ 46 }
         requires aligned { base % 4096 ≡ 0 }
-        requires volatile { length volatile.now ≤ 16777216 }
-        requires region { length region.now ≤ 67108864 }
+        requires volatile { length volatile.now ≤ LARGEST_VOLATILE }
+        requires region { length region.now ≤ LARGEST_REGION }
         ensures { IfOk result (λ ram. ram ≡ record { base = base; volatile = volatile.now; stack = []; region = region.now }) }
     {
         let mut pages = BTreeMap::new(alloc);
@@ -112,6 +107,17 @@ impl Ram {
         ensures { result ≡ is_valid self.now addr }
     {
         self.are_valid(addr, 1)
+    }
+
+    /// Whether the `len` bytes from the address on are all valid; of no bytes it is true at any address. A range does not wrap:
+    /// what would lie past the last address is not valid.
+    pub fn valid_range(&self, addr: u64, len: u64) -> bool
+        ensures { result ≡ are_valid self.now addr len }
+    {
+        if len == 0 {
+            return true;
+        }
+        self.are_valid(addr, len)
     }
 
     /// The end of the stack's valid bytes.

@@ -3,3 +3,4 @@ pub mod Tables
 pub mod NumberLaws
 pub mod NameLaws
 pub mod TableLaws
+pub mod DifferLaws

@@ -17,11 +17,14 @@ flush_at counts site = record { step = counts.steps; site = site }
 abbrev pub flushed_by : Input → Flush → ℕ → ℕ → List (Line StorePart) → List (Line StorePart)
 flushed_by I flush line size ls = change_range (λ _ l. flush_line flush l) (line - I.base) size ls
 
--- The lines after a step with an event, where the top frame stood at a site, under these calls, and so much was counted.
-abbrev pub lines_after : Input → Event → Counts → Option Site → List Level → List (Line StorePart) → List (Line StorePart)
+-- The lines after a step with an event, where the top frame stood at a site, under these calls, and so much was
+-- counted.
+abbrev pub lines_after :
+    Input → Event → Counts → Option Site → List Level → List (Line StorePart) → List (Line StorePart)
 lines_after I (events.Store a v n) counts (Some site) levels ls =
     stored (part_of_store counts site levels (a - I.base) (bytes_of n v)) (a - I.base) n ls
 lines_after I (events.Flush line size) counts (Some site) levels ls = flushed_by I (flush_at counts site) line size ls
-lines_after I (events.Persist line size) counts (Some site) levels ls = fenced_lines (flushed_by I (flush_at counts site) line size ls)
+lines_after I (events.Persist line size) counts (Some site) levels ls =
+    fenced_lines (flushed_by I (flush_at counts site) line size ls)
 lines_after I events.Fence counts site levels ls = fenced_lines ls
 lines_after I _ counts site levels ls = ls

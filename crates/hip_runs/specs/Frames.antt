@@ -13,9 +13,9 @@ pub record IsSameCall (f f' : Frame) : Type 0 where
   pub dest : f'.dest ≡ f.dest
   pub level : f'.level ≡ f.level
 
--- The frames and the count of steps before a step and after it. A run that has ended rests. Else the top frame stays, or a frame of
--- a function comes upon it, made by the call of that function at which it stood, or it goes; the frames below, or below the one
--- that it returns to, are as they were.
+-- The frames and the count of steps before a step and after it. A run that has ended rests. Else the top frame stays,
+-- or a frame of a function comes upon it, made by the call of that function at which it stood, or it goes; the frames
+-- below, or below the one that it returns to, are as they were.
 pub data Moves (P : Program) (s s' : State) : Type 0 where
   rests : s' ≡ s → Moves P s s'
   stays : (f f' : Frame) (fs : List Frame) → s.frames ≡ f ∷ fs → s'.frames ≡ f' ∷ fs → IsSameCall f f' →

@@ -13,7 +13,8 @@ abbrev pub AreDescending : List Level → ℕ → Type 0
 AreDescending [] n = Unit {0}
 AreDescending (l ∷ ls) n = (l.birth < n) × AreDescending ls l.birth
 
--- The calls of a store are those that have returned, which are the innermost ones, and then the outermost ones of those that stand.
+-- The calls of a store are those that have returned, which are the innermost ones, and then the outermost ones of
+-- those that stand.
 pub record IsParted (standing levels : List Level) : Type 0 where
   pub closed : List Level
   pub open_ones : List Level
@@ -32,9 +33,12 @@ pub record HasHistory (P : Program) (s : State) : Type 0 where
   pub entry : (x y : StorePart) → PartOf s.lines x → PartOf s.lines y → x.step ≡ y.step → x.entry ≡ y.entry
   pub fenced : (x y : StorePart) → PartOf s.lines x → PartOf s.lines y → x.step ≡ y.step → x.fenced ≡ y.fenced
   -- a part that is flushed has a first flush
-  pub flushed : (m k : ℕ) (l : Line StorePart) (x : StorePart) → slice_get s.lines m ≡ Some l → slice_get l.parts k ≡ Some x → k < l.flushed → (f : Flush) × (x.first_flush ≡ Some f)
+  pub flushed : (m k : ℕ) (l : Line StorePart) (x : StorePart) → slice_get s.lines m ≡ Some l →
+      slice_get l.parts k ≡ Some x → k < l.flushed → (f : Flush) × (x.first_flush ≡ Some f)
   -- stores, flushes and calls stand in the program
   pub site_there : (x : StorePart) → PartOf s.lines x → (i : Instr) × (instr_of P x.site ≡ Some i)
-  pub flush_there : (x : StorePart) (f : Flush) → PartOf s.lines x → x.first_flush ≡ Some f → (i : Instr) × (instr_of P f.site ≡ Some i)
-  pub call_there : (x : StorePart) (v : Level) → PartOf s.lines x → In v x.levels → (i : Instr) × (instr_of P v.call ≡ Some i)
+  pub flush_there : (x : StorePart) (f : Flush) → PartOf s.lines x → x.first_flush ≡ Some f →
+      (i : Instr) × (instr_of P f.site ≡ Some i)
+  pub call_there : (x : StorePart) (v : Level) → PartOf s.lines x → In v x.levels →
+      (i : Instr) × (instr_of P v.call ≡ Some i)
   pub split : (x : StorePart) → PartOf s.lines x → IsParted (levels_of s.frames) x.levels

@@ -16,6 +16,7 @@ pub mod PartLaws
 pub mod ReportLaws
 pub mod SinceLaws
 pub mod SiteLaws
+pub mod Standing
 pub mod StepLaws
 pub mod StoreLaws
 pub mod TagLaws

@@ -22,4 +22,5 @@ pub mod WellFormed
 pub mod Entry
 pub mod After
 pub mod Ends
+pub mod Standing
 pub mod Laws

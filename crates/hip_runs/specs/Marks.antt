@@ -38,7 +38,8 @@ pointer_arg a = pointed_by a.ty a.value
 -- The pointer operand of a store is its address, those of a call of a defined function are its arguments of type `ptr`.
 abbrev pub pointer_operands : Program → Instr → List Operand
 pointer_operands P (Store ty value addr align) = addr ∷ []
-pointer_operands P (Call dest ret callee args) = cond (is_some (function_number P callee)) (flat_map pointer_arg args) []
+pointer_operands P (Call dest ret callee args) =
+    cond (is_some (function_number P callee)) (flat_map pointer_arg args) []
 pointer_operands P _ = []
 
 -- ---- marks without repeats, in the order of first meeting
@@ -59,7 +60,9 @@ mark_of site k (Some object) = record { site = site; operand = k; object = objec
 
 abbrev pub operand_marks : Program → Input → List Frame → Frame → ℕ → List Operand → List Mark
 operand_marks P I fs f k [] = []
-operand_marks P I fs f k (o ∷ os) = mark_of (site_of f) k (object_at P I.base fs (value_of P.globals I.base f.registers o)) ++ operand_marks P I fs f (suc k) os
+operand_marks P I fs f k (o ∷ os) =
+    mark_of (site_of f) k (object_at P I.base fs (value_of P.globals I.base f.registers o))
+    ++ operand_marks P I fs f (suc k) os
 
 abbrev pub code_marks : Program → Input → List Frame → Frame → List Instr → List Mark
 code_marks P I fs f [] = []

@@ -1,5 +1,5 @@
--- The objects of a program in a run: its globals, and the live blocks on the stack. An address points into the object whose bytes
--- contain it.
+-- The objects of a program in a run: its globals, and the live blocks on the stack. An address points into the object
+-- whose bytes contain it.
 use Rattle.std.specs.Prelude.{ℕ, suc, ◌+◌, cond, Bool, ◌&&◌, nat_le, nat_lt, List, [], ◌∷◌, Option, Some, None, option_map}
 use Rattle.hip_types.specs.Layout.{shape}
 use Rattle.hip_ir.specs.declared.program.GlobalVar.{GlobalVar}
@@ -15,7 +15,8 @@ contains at size a = nat_le at a && nat_lt a (at + size)
 -- the number of the global that contains the address, of these from number n on
 abbrev pub global_from : List GlobalVar → ℕ → ℕ → ℕ → List GlobalVar → Option ℕ
 global_from globals base a n [] = None
-global_from globals base a n (g ∷ gs) = cond (contains (address_in globals base n) (shape g.ty).size a) (Some n) (global_from globals base a (suc n) gs)
+global_from globals base a n (g ∷ gs) =
+    cond (contains (address_in globals base n) (shape g.ty).size a) (Some n) (global_from globals base a (suc n) gs)
 
 abbrev pub global_at : Program → ℕ → ℕ → Option ℕ
 global_at P base a = global_from P.globals base a 0 P.globals

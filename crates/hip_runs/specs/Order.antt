@@ -9,18 +9,21 @@ use Rattle.hip_runs.specs.Parts.{PartOf}
 use Rattle.hip_runs.specs.Since.{fences}
 use Rattle.hip_runs.specs.State.{Flush, StorePart, State, levels_of}
 use Rattle.hip_runs.specs.Step.{event, run, step}
+use Rattle.hip_lines.specs.declared.TheConstants.{LINE_SIZE}
 
--- The parts of a line are in the order of their stores' steps, a part is flushed exactly where it has a first flush, and what it
--- covers lies in its line.
+-- The parts of a line are in the order of their stores' steps, a part is flushed exactly where it has a first flush,
+-- and what it covers lies in its line.
 pub record HasOrder (s : State) : Type 0 where
   pub ascend : (m : ℕ) (l : Line StorePart) (j k : ℕ) (x y : StorePart) →
-      slice_get s.lines m ≡ Some l → slice_get l.parts j ≡ Some x → slice_get l.parts k ≡ Some y → j < k → x.step < y.step
+      slice_get s.lines m ≡ Some l → slice_get l.parts j ≡ Some x → slice_get l.parts k ≡ Some y →
+      j < k → x.step < y.step
   pub flushed : (m : ℕ) (l : Line StorePart) (k : ℕ) (x : StorePart) →
-      slice_get s.lines m ≡ Some l → slice_get l.parts k ≡ Some x → k < l.flushed → (f : Flush) × (x.first_flush ≡ Some f)
+      slice_get s.lines m ≡ Some l → slice_get l.parts k ≡ Some x → k < l.flushed →
+      (f : Flush) × (x.first_flush ≡ Some f)
   pub by_flush : (m : ℕ) (l : Line StorePart) (k : ℕ) (x : StorePart) (f : Flush) →
       slice_get s.lines m ≡ Some l → slice_get l.parts k ≡ Some x → x.first_flush ≡ Some f → k < l.flushed
   pub inside : (m : ℕ) (l : Line StorePart) (k : ℕ) (x : StorePart) →
-      slice_get s.lines m ≡ Some l → slice_get l.parts k ≡ Some x → (b : ℕ) → covers x b ≡ true → b / 64 ≡ m
+      slice_get s.lines m ≡ Some l → slice_get l.parts k ≡ Some x → (b : ℕ) → covers x b ≡ true → b / LINE_SIZE ≡ m
 
 -- The calls that stand were made one after another, and so were those of each part, before its store.
 pub record HasCalls (s : State) : Type 0 where

@@ -1,4 +1,5 @@
--- What stores, flushes and fences do to the cache lines of the region, with the history that each part of a store carries.
+-- What stores, flushes and fences do to the cache lines of the region, with the history that each part of a store
+-- carries.
 use Rattle.std.specs.Prelude.{ℕ, ◌+◌, ◌-◌, Bool, true, false, cond, nat_lt, ◌&&◌, List, map, length, take, drop, Option, Some, None}
 use Rattle.hip_ir.specs.declared.site.Site.{Site}
 use Rattle.hip_lines.specs.Line.{Line, map_line, flushed_line, fenced_line, start_in, end_in, change_range, stored}
@@ -21,9 +22,11 @@ part_of_store counts site levels o bytes j =
     }
 
 -- a store of bytes at an address appends its part to each line that has a byte of it, where it lies in the region
-abbrev pub stored_lines : Input → Counts → Site → List Level → ℕ → List ℕ → List (Line StorePart) → List (Line StorePart)
+abbrev pub stored_lines : Input → Counts → Site → List Level → ℕ → List ℕ → List (Line StorePart) →
+    List (Line StorePart)
 stored_lines I counts site levels a bytes ls =
-    cond (in_region I a (length bytes)) (stored (part_of_store counts site levels (a - I.base) bytes) (a - I.base) (length bytes) ls) ls
+    cond (in_region I a (length bytes))
+    (stored (part_of_store counts site levels (a - I.base) bytes) (a - I.base) (length bytes) ls) ls
 
 abbrev pub earlier : Option Flush → Flush → Option Flush
 earlier None flush = Some flush
@@ -48,7 +51,8 @@ abbrev pub flushes_lines : Input → ℕ → ℕ → Bool
 flushes_lines I a n = nat_lt 0 n && in_region I a n
 
 abbrev pub flushed_lines : Input → Flush → ℕ → ℕ → List (Line StorePart) → List (Line StorePart)
-flushed_lines I flush a n ls = cond (flushes_lines I a n) (change_range (λ _ l. flush_line flush l) (a - I.base) n ls) ls
+flushed_lines I flush a n ls =
+    cond (flushes_lines I a n) (change_range (λ _ l. flush_line flush l) (a - I.base) n ls) ls
 
 abbrev pub fenced_lines : List (Line StorePart) → List (Line StorePart)
 fenced_lines ls = map fence_line ls

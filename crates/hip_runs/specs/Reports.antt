@@ -1,5 +1,5 @@
--- Reports: at each check, the stores that are not durable. After pmemcheck's report at exit and the kinds of the Hippocrates
--- paper; that a store whose bytes were all overwritten is not reported is this project's own.
+-- Reports: at each check, the stores that are not durable. After pmemcheck's report at exit and the kinds of the
+-- Hippocrates paper; that a store whose bytes were all overwritten is not reported is this project's own.
 use Rattle.std.specs.Prelude.{ℕ, zero, suc, ◌+◌, ◌-◌, Bool, true, false, cond, not, ◌&&◌, ◌||◌, nat_le, nat_lt, nat_eq, List, [], ◌∷◌, ◌++◌, map, length, Option, Some, None, option_map}
 use Rattle.std.specs.List.{flat_map, list_all, list_any, range_with_len}
 use Rattle.hip_ir.specs.declared.program.Program.{Program}
@@ -21,7 +21,8 @@ use Rattle.hip_runs.specs.declared.event.Event.TheVariants as events
 -- whether a range of n bytes from o has a byte of so many bytes from b on that none of the later parts covers
 abbrev pub shows : ℕ → ℕ → ℕ → ℕ → List StorePart → Bool
 shows o n zero b later = false
-shows o n (suc count) b later = (nat_le o b && (nat_lt b (o + n) && not (list_any (λ q. covers q b) later))) || shows o n count (suc b) later
+shows o n (suc count) b later =
+    (nat_le o b && (nat_lt b (o + n) && not (list_any (λ q. covers q b) later))) || shows o n count (suc b) later
 
 -- whether a part is the last one over a byte of a range, where these parts stand behind it in its line
 abbrev pub is_last : ℕ → ℕ → StorePart → List StorePart → Bool
@@ -32,8 +33,9 @@ pub record LoosePart : Type 0 where
   pub part : StorePart
   pub flushed : Bool
 
--- The loose parts of a step's store in a line, in a range: those that are the last one over a byte of the range, and stand
--- behind all durable ones. These are the line's parts from place k on, of which so many are durable and so many flushed.
+-- The loose parts of a step's store in a line, in a range: those that are the last one over a byte of the range, and
+-- stand behind all durable ones. These are the line's parts from place k on, of which so many are durable and so many
+-- flushed.
 abbrev pub loose_from : ℕ → ℕ → ℕ → ℕ → ℕ → ℕ → List StorePart → List LoosePart
 loose_from o n made durable flushed k [] = []
 loose_from o n made durable flushed k (p ∷ later) =
@@ -106,7 +108,8 @@ pub record Range : Type 0 where
   pub offset : ℕ
   pub size : ℕ
 
--- What a step checks: `pm_assert` its range, and the return of the bottom frame the whole region. A trap or a cut checks nothing.
+-- What a step checks: `pm_assert` its range, and the return of the bottom frame the whole region. A trap or a cut
+-- checks nothing.
 abbrev pub checked_by : Input → Event → Option Range
 checked_by I (events.Assert a n) = Some (record { offset = a - I.base; size = n })
 checked_by I (events.End (Stop code)) = Some (record { offset = 0; size = length I.image })
@@ -120,7 +123,8 @@ next_check P I s = cond (has_ended s) None (checked_by I (event P I s))
 abbrev pub check_reports : State → Option Range → List Report
 check_reports s None = []
 check_reports s (Some range) =
-    flat_map (λ made. report_of (levels_of s.frames) (suc s.counts.entries) (loose_parts range.offset range.size s.lines made)) (range_with_len 0 s.counts.steps)
+    flat_map (λ made. report_of (levels_of s.frames) (suc s.counts.entries)
+    (loose_parts range.offset range.size s.lines made)) (range_with_len 0 s.counts.steps)
 
 -- the reports of the first n steps, in the order of their checks
 unfoldable pub reports : Program → Input → ℕ → List Report

@@ -1,5 +1,5 @@
--- The score of a site: how likely its pointers are to point into persistent memory. (This project's own; nothing of it is claimed of
--- the Hippocrates tool.)
+-- The score of a site: how likely its pointers are to point into persistent memory. (This project's own; nothing of
+-- it is claimed of the Hippocrates tool.)
 use Rattle.std.specs.Prelude.{ℕ, suc, Bool, true, false, cond, ◌&&◌, nat_eq, List, [], ◌∷◌, Option, Some, None, ℤ, pos, negsuc, ◌+ℤ◌, int_lt}
 use Rattle.std.specs.List.{list_any}
 use Rattle.hip_ir.specs.Sites.{instr_of, same_site}
@@ -27,7 +27,8 @@ worth_of false = negsuc 0
 abbrev pub worth_in : List ℕ → Site → ℕ → List Mark → ℤ → ℤ
 worth_in hit site operand [] sum = sum
 worth_in hit site operand (m ∷ ms) sum =
-    worth_in hit site operand ms (cond (same_site m.site site && nat_eq m.operand operand) (sum +ℤ worth_of (is_marked hit m.object)) sum)
+    worth_in hit site operand ms
+    (cond (same_site m.site site && nat_eq m.operand operand) (sum +ℤ worth_of (is_marked hit m.object)) sum)
 
 -- the worth of an operand of a site
 abbrev pub worth : Marks → Site → ℕ → ℤ
@@ -67,7 +68,8 @@ worth_at (w ∷ ws) site operand = cond (is_worth_of w site operand) w.worth (wo
 
 -- the table after one mark more
 abbrev pub with_mark : List ℕ → List Worth → Mark → List Worth
-with_mark hit [] m = record { site = m.site; operand = m.operand; worth = pos 0 +ℤ worth_of (is_marked hit m.object) } ∷ []
+with_mark hit [] m =
+    record { site = m.site; operand = m.operand; worth = pos 0 +ℤ worth_of (is_marked hit m.object) } ∷ []
 with_mark hit (w ∷ ws) m =
     cond (is_worth_of w m.site m.operand)
     (record { site = w.site; operand = w.operand; worth = w.worth +ℤ worth_of (is_marked hit m.object) } ∷ ws)

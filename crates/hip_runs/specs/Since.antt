@@ -3,13 +3,14 @@ use Rattle.std.specs.Prelude.{◌≡◌, ℕ, ◌+◌, ◌-◌, ◌*◌, ◌/◌
 use Rattle.hip_ir.specs.declared.program.Program.{Program}
 use Rattle.hip_ir.specs.declared.site.Site.{Site}
 use Rattle.hip_lines.specs.Line.{Line}
-use Rattle.hip_mem.specs.Bytes.{little_endian}
+use Rattle.hip_mem.specs.Bytes.{little_endian, bytes_of}
 use Rattle.hip_runs.specs.declared.event.Event.{Event}
 use Rattle.hip_runs.specs.declared.input.Input.{Input}
 use Rattle.hip_runs.specs.Crash.{covers, byte_of}
 use Rattle.hip_runs.specs.State.{Flush, StorePart, Frame, State, levels_of, site_of}
 use Rattle.hip_runs.specs.Step.{event, run}
 use Rattle.hip_runs.specs.declared.event.Event.TheVariants as events
+use Rattle.hip_lines.specs.declared.TheConstants.{LINE_SIZE}
 
 -- whether a step with this event stores into the region
 abbrev pub stores : Event → Bool
@@ -24,7 +25,7 @@ fences _ = false
 
 -- whether cache line j of a region at a base lies in a range of whole lines
 abbrev pub has_line : ℕ → ℕ → ℕ → ℕ → Bool
-has_line base j line size = nat_le line (base + 64 * j) && nat_lt (base + 64 * j) (line + size)
+has_line base j line size = nat_le line (base + LINE_SIZE * j) && nat_lt (base + LINE_SIZE * j) (line + size)
 
 -- whether a step with this event flushes cache line j of the region at a base
 abbrev pub flushes : ℕ → ℕ → Event → Bool
@@ -62,8 +63,8 @@ IsFirstFlush P I j from n (Some flush) = IsFirst P I j from n flush
 abbrev pub FlushedSince : Program → Input → ℕ → ℕ → ℕ → Type 0
 FlushedSince P I j from n = (m : ℕ) × (from < m) × (m < n) × (flushes I.base j (event P I (run P I m)) ≡ true)
 
--- A step after step `from` flushes cache line j, and before step n a fence comes with it or after it. (Intel's manual: a line is
--- durable where it was flushed and a fence came behind the flush.)
+-- A step after step `from` flushes cache line j, and before step n a fence comes with it or after it. (Intel's
+-- manual: a line is durable where it was flushed and a fence came behind the flush.)
 pub record IsFlushedThenFenced (P : Program) (I : Input) (j from n : ℕ) : Type 0 where
   pub flush : ℕ
   pub fence : ℕ
@@ -91,14 +92,17 @@ IsDurableIn (Some l) k x = (slice_get l.parts k ≡ Some x) × (k < l.durable)
 abbrev pub IsDurableAt : State → ℕ → ℕ → StorePart → Type 0
 IsDurableAt s m k x = IsDurableIn (slice_get s.lines m) k x
 
--- The part is one of the store of its step: it has the store's bytes that lie in its cache line, and names the site and the calls
--- at which the run stood then, and the store's entry in the trace.
+-- The part is one of the store of its step: it has the store's bytes that lie in its cache line, which are those of
+-- the stored value, and names the site and the calls at which the run stood then, and the store's entry in the trace.
 pub record IsOfStore (P : Program) (I : Input) (x : StorePart) : Type 0 where
   pub addr : ℕ
   pub bytes : List ℕ
   pub stored : event P I (run P I x.step) ≡ events.Store addr (little_endian bytes) (length bytes)
+  pub written : bytes_of (length bytes) (little_endian bytes) ≡ bytes
   pub site : top_site (run P I x.step).frames ≡ Some x.site
   pub levels : x.levels ≡ levels_of (run P I x.step).frames
   pub entry : x.entry ≡ (run P I x.step).counts.entries + 1
-  pub covered : (b : ℕ) → covers x b ≡ true → (addr ≤ I.base + b) × (I.base + b < addr + length bytes) × (b / 64 ≡ x.offset / 64) × (byte_of x b ≡ slice_index bytes (I.base + b - addr))
-  pub whole : (b : ℕ) → addr ≤ I.base + b → I.base + b < addr + length bytes → b / 64 ≡ x.offset / 64 → covers x b ≡ true
+  pub covered : (b : ℕ) → covers x b ≡ true → (addr ≤ I.base + b) × (I.base + b < addr + length bytes)
+      × (b / LINE_SIZE ≡ x.offset / LINE_SIZE) × (byte_of x b ≡ slice_index bytes (I.base + b - addr))
+  pub whole : (b : ℕ) → addr ≤ I.base + b → I.base + b < addr + length bytes → b / LINE_SIZE ≡ x.offset / LINE_SIZE →
+      covers x b ≡ true

@@ -1,16 +1,15 @@
 -- What stands at the sites that the cache lines and the frames of a state name.
-use Rattle.std.specs.Prelude.{◌≡◌, ℕ, ◌≤◌, Bool, true, false, ◌||◌, is_some, Option, Some, None, slice_get}
+use Rattle.std.specs.Prelude.{◌≡◌, ℕ, ◌≤◌, Bool, true, false, ◌&&◌, ◌||◌, not, is_some, Option, Some, None, slice_get}
 use Rattle.hip_ir.specs.Sites.{instr_of}
 use Rattle.hip_ir.specs.declared.instr.Instr.{Instr}
 use Rattle.hip_ir.specs.declared.instr.Instr.TheVariants.{Store, Call}
 use Rattle.hip_ir.specs.declared.program.Program.{Program}
 use Rattle.hip_lines.specs.Line.{Line}
-use Rattle.hip_externs.specs.Externs.{call_of}
+use Rattle.hip_externs.specs.Externs.{call_of, is_flush, is_fence}
 use Rattle.hip_typing.specs.Numbering.{function_number}
 use Rattle.hip_externs.specs.declared.call.ExternCall.{ExternCall}
 use Rattle.hip_runs.specs.Parts.{In, PartOf}
 use Rattle.hip_runs.specs.State.{Level, Flush, StorePart, State, levels_of}
-use Rattle.hip_externs.specs.declared.call.ExternCall.TheVariants as calls
 
 -- ---- what an instruction is
 
@@ -20,16 +19,13 @@ is_store _ = false
 
 -- an external function that flushes, and takes no fence
 abbrev pub only_flushes : Option ExternCall → Bool
-only_flushes (Some calls.Clwb) = true
-only_flushes (Some calls.Clflushopt) = true
-only_flushes (Some calls.Clflush) = true
-only_flushes (Some calls.PmemFlush) = true
-only_flushes _ = false
+only_flushes None = false
+only_flushes (Some c) = is_flush c && not (is_fence c)
 
 -- the external function that flushes and then fences
 abbrev pub persists : Option ExternCall → Bool
-persists (Some calls.PmemPersist) = true
-persists _ = false
+persists None = false
+persists (Some c) = is_flush c && is_fence c
 
 abbrev pub is_flush_call : Option Instr → Bool
 is_flush_call (Some (Call dest ret callee args)) = only_flushes (call_of callee)
@@ -50,8 +46,8 @@ is_defined_call P i = is_some (called_number P i)
 
 -- ---- what a state names
 
--- A part names a store as its site. Its first flush is a call that flushes, and one that takes no fence where the part is not
--- durable. The calls that stand, and those of each part, are calls of functions of the program.
+-- A part names a store as its site. Its first flush is a call that flushes, and one that takes no fence where the
+-- part is not durable. The calls that stand, and those of each part, are calls of functions of the program.
 pub record HasSites (P : Program) (s : State) : Type 0 where
   pub store : (x : StorePart) → PartOf s.lines x → is_store (instr_of P x.site) ≡ true
   pub flush : (x : StorePart) (f : Flush) → PartOf s.lines x → x.first_flush ≡ Some f →
@@ -60,4 +56,5 @@ pub record HasSites (P : Program) (s : State) : Type 0 where
       slice_get s.lines m ≡ Some l → slice_get l.parts k ≡ Some x → l.durable ≤ k → x.first_flush ≡ Some f →
       is_flush_call (instr_of P f.site) ≡ true
   pub standing : (v : Level) → In v (levels_of s.frames) → is_defined_call P (instr_of P v.call) ≡ true
-  pub call : (x : StorePart) (v : Level) → PartOf s.lines x → In v x.levels → is_defined_call P (instr_of P v.call) ≡ true
+  pub call : (x : StorePart) (v : Level) → PartOf s.lines x → In v x.levels →
+      is_defined_call P (instr_of P v.call) ≡ true

@@ -1,4 +1,5 @@
--- What the loose bytes of a range tell of loose parts and of reports: a loose byte's tag is the step of the store that it is of.
+-- What the loose bytes of a range tell of loose parts and of reports: a loose byte's tag is the step of the store
+-- that it is of.
 use Rattle.std.specs.Prelude.{◌≡◌, ℕ, Some, slice_get, nat_lt, suc, ◌+◌, ◌<◌, ◌≤◌, Bool, true, false, not, ◌||◌, nat_eq, List, [], ◌∷◌}
 use Rattle.std.specs.List.{list_all, list_any}
 use Rattle.hip_lines.specs.Line.{Line}
@@ -16,8 +17,8 @@ use Rattle.hip_lines.specs.Parts as bytes
 abbrev pub loose_bytes : State → ℕ → ℕ → List LooseByte
 loose_bytes s o n = bytes.loose_from (shown s.lines) o n
 
--- A part of a step's store is loose, in the n bytes from o, where some byte of them is loose by it: it is the last part over the byte,
--- and is not durable. It is flushed where it stands before the flushed number of its line.
+-- A part of a step's store is loose, in the n bytes from o, where some byte of them is loose by it: it is the last
+-- part over the byte, and is not durable. It is flushed where it stands before the flushed number of its line.
 pub record IsLoosePart (o n made : ℕ) (ls : List (Line StorePart)) (p : LoosePart) : Type 0 where
   pub line : ℕ
   pub of : Line StorePart
@@ -42,12 +43,14 @@ abbrev pub has_some : {A : Type 0} → List A → Bool
 has_some [] = false
 has_some (x ∷ xs) = true
 
--- The loose parts of a store, and the loose bytes that have its tag: each of either has one of the other that is flushed alike.
+-- The loose parts of a store, and the loose bytes that have its tag: each of either has one of the other that is
+-- flushed alike.
 pub record AreAlike (ps : List LoosePart) (bs : List LooseByte) (made : ℕ) : Type 0 where
   pub byte_of : (p : LoosePart) → In p ps → (b : LooseByte) × In b bs × (b.tag ≡ made) × (b.flushed ≡ p.flushed)
   pub part_of : (b : LooseByte) → In b bs → b.tag ≡ made → (p : LoosePart) × In p ps × (p.flushed ≡ b.flushed)
 
--- A store has loose parts exactly where some loose byte has its tag, and all are flushed exactly where all those bytes are.
+-- A store has loose parts exactly where some loose byte has its tag, and all are flushed exactly where all those
+-- bytes are.
 pub record AreToldBy (ps : List LoosePart) (bs : List LooseByte) (made : ℕ) : Type 0 where
   pub alike : AreAlike ps bs made
   pub some : has_some ps ≡ has_tag made bs

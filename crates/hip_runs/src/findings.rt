@@ -28,8 +28,9 @@ pub fn same_marks_are_equal()
     ensures equal { (a : Mark) → (b : Mark) → a ≡ b → same_mark a b ≡ true }
 {}
 
-/// A report names a flush exactly where a fence alone is missing, fewer calls have returned than its path is long, the path begins
-/// at a store and goes on with calls of functions of the program, and the flush is a call that flushes and takes no fence.
+/// A report names a flush exactly where a fence alone is missing, fewer calls have returned than its path is long,
+/// the path begins at a store and goes on with calls of functions of the program, and the flush is a call that
+/// flushes and takes no fence.
 pub fn reports_are_well_formed()
     ensures { (P : Program) → (I : Input) → (n : ℕ) → (r : Report) → In r (reports P I n) → IsWellFormed P r }
 {}
@@ -44,5 +45,6 @@ pub fn marks_are_met_once()
 
 /// The table of worths, made by one pass over the marks, gives each operand of each site its worth.
 pub fn worths_are_made_by_one_pass()
-    ensures { (marks : Marks) → (site : Site) → (operand : ℕ) → worth_at (worths marks) site operand ≡ worth marks site operand }
+    ensures { (marks : Marks) → (site : Site) → (operand : ℕ) →
+        worth_at (worths marks) site operand ≡ worth marks site operand }
 {}

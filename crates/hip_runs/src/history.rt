@@ -1,6 +1,7 @@
 //! Laws of runs: what the cache lines tell of the steps before, and which contents a crash may leave.
 
 ghost use Rattle.hip_ir.specs.declared.program.Program.{Program};
+ghost use Rattle.hip_lines.specs.declared.TheConstants.{LINE_SIZE};
 ghost use Rattle.hip_runs.specs.Crash.{IsCrashImage, IsCrashPick, crash_image};
 ghost use Rattle.hip_runs.specs.Parts.{PartOf};
 ghost use Rattle.hip_runs.specs.Since.{stores, fences, FencedSince, IsFirstFlush, IsFlushedThenFenced, IsOfStore, IsPartAt, IsDurableAt};
@@ -10,8 +11,8 @@ ghost use Rattle.hip_runs.specs.Validity.{IsValid};
 ghost use Rattle.hip_runs.specs.declared.input.Input.{Input};
 ghost use Rattle.std.specs.Prelude.{◌≡◌, ℕ, suc, ◌+◌, ◌/◌, true, false, List, Option};
 
-/// Each choice of first parts, a line at a time and no durable part left out, gives a crash image, and each crash image comes
-/// of such a choice.
+/// Each choice of first parts, a line at a time and no durable part left out, gives a crash image, and each crash
+/// image comes of such a choice.
 pub fn images_are_choices()
     ensures choice { (P : Program) → (I : Input) → (n : ℕ) → (pick : ℕ → ℕ) → IsValid P I →
         IsCrashPick (run P I n) pick → IsCrashImage I (run P I n) (crash_image I (run P I n) pick) }
@@ -28,8 +29,8 @@ pub fn images_shrink()
         IsCrashImage I (run P I n) content → IsCrashImage I (run P I (suc n)) content }
 {}
 
-/// A part of a store is durable exactly where its cache line was flushed after the store, and a fence came with the flush or
-/// behind it.
+/// A part of a store is durable exactly where its cache line was flushed after the store, and a fence came with the
+/// flush or behind it.
 pub fn durable_stores_were_flushed_then_fenced()
     ensures came { (P : Program) → (I : Input) → (n line place : ℕ) → (part : StorePart) →
         IsDurableAt (run P I n) line place part → IsFlushedThenFenced P I line part.step n }
@@ -43,8 +44,8 @@ pub fn durable_stores_stay_durable()
         IsDurableAt (run P I n) line place part → IsDurableAt (run P I (n + d)) line place part }
 {}
 
-/// Each part in a cache line is one of a store that the run made: it has the store's bytes in that line, and tells where the run
-/// stood then.
+/// Each part in a cache line is one of a store that the run made: it has the store's bytes in that line, and tells
+/// where the run stood then.
 pub fn parts_are_of_stores()
     ensures { (P : Program) → (I : Input) → (n : ℕ) → (part : StorePart) → PartOf (run P I n).lines part → IsOfStore P I part }
 {}
@@ -57,11 +58,11 @@ pub fn fences_are_told()
         FencedSince P I part.step n → part.fenced ≡ true }
 {}
 
-/// A part of a store tells the first flush of its cache line after its store, or that there was none; and there is one first
-/// flush at most.
+/// A part of a store tells the first flush of its cache line after its store, or that there was none; and there is
+/// one first flush at most.
 pub fn first_flushes_are_told()
     ensures told { (P : Program) → (I : Input) → (n : ℕ) → (part : StorePart) → PartOf (run P I n).lines part →
-        IsFirstFlush P I (part.offset / 64) part.step n part.first_flush }
+        IsFirstFlush P I (part.offset / LINE_SIZE) part.step n part.first_flush }
     ensures one { (P : Program) → (I : Input) → (line from n : ℕ) → (first other : Option Flush) →
         IsFirstFlush P I line from n first → IsFirstFlush P I line from n other → first ≡ other }
 {}

@@ -7,11 +7,12 @@ ghost use Rattle.hip_runs.specs.Crash.{IsCrashImage, byte_of, covers, is_crash_i
 ghost use Rattle.hip_runs.specs.Entry.{IsAtEntry};
 ghost use Rattle.hip_runs.specs.State.{State, StorePart};
 ghost use Rattle.hip_runs.specs.Step.{header_entries, run};
+ghost use Rattle.hip_runs.specs.Validity.{IsInput, IsValid};
 ghost use Rattle.hip_runs.specs.declared.input.Input.{Input};
 ghost use Rattle.std.specs.Prelude.{◌≡◌, ◌-◌, ◌<◌, ◌≤◌, ℕ, List, drop, take, true};
 
-/// A byte after some first parts of its line is what the parts behind the durable ones make of it, where the durable ones went
-/// before.
+/// A byte after some first parts of its line is what the parts behind the durable ones make of it, where the durable
+/// ones went before.
 pub fn bytes_follow_the_durable()
     ensures { (line : Line StorePart) → (upto byte first : ℕ) → line.durable ≤ upto →
         byte_after covers byte_of (take upto line.parts) byte first
@@ -21,16 +22,27 @@ pub fn bytes_follow_the_durable()
 
 /// Whether a content is a crash image is decided line by line.
 pub fn images_are_decided_by_lines()
-    ensures image { (I : Input) → (s : State) → (content : List ℕ) → is_crash_image I s content ≡ true → IsCrashImage I s content }
-    ensures decided { (I : Input) → (s : State) → (content : List ℕ) → IsCrashImage I s content → is_crash_image I s content ≡ true }
+    ensures image { (I : Input) → (s : State) → (content : List ℕ) →
+        is_crash_image I s content ≡ true → IsCrashImage I s content }
+    ensures decided { (I : Input) → (s : State) → (content : List ℕ) →
+        IsCrashImage I s content → is_crash_image I s content ≡ true }
 {}
 
-/// So many entries are reached after one least number of steps, if they are ever reached; and behind the entries that stand before
-/// the first step, there are just so many then.
+/// A valid input stays valid, and an input, where it begins with a crash image of one of its runs.
+pub fn images_make_valid_inputs()
+    ensures valid { (P : Program) → (I : Input) → (n : ℕ) → (content : List ℕ) → IsValid P I →
+        IsCrashImage I (run P I n) content → IsValid P (record I { image = content }) }
+    ensures input { (P : Program) → (I : Input) → (n : ℕ) → (content : List ℕ) → IsInput I → IsValid P I →
+        IsCrashImage I (run P I n) content → IsInput (record I { image = content }) }
+{}
+
+/// So many entries are reached after one least number of steps, if they are ever reached; and behind the entries that
+/// stand before the first step, there are just so many then.
 pub fn entries_find_one_state()
     ensures there { (P : Program) → (I : Input) → (entry steps : ℕ) → entry ≤ (run P I steps).counts.entries →
         (n : ℕ) × (n ≤ steps) × IsAtEntry P I entry n }
-    ensures one { (P : Program) → (I : Input) → (entry m n : ℕ) → IsAtEntry P I entry m → IsAtEntry P I entry n → m ≡ n }
+    ensures one { (P : Program) → (I : Input) → (entry m n : ℕ) →
+        IsAtEntry P I entry m → IsAtEntry P I entry n → m ≡ n }
     ensures exact { (P : Program) → (I : Input) → (entry n : ℕ) → header_entries I < entry → IsAtEntry P I entry n →
         (run P I n).counts.entries ≡ entry }
 {}

@@ -13,15 +13,16 @@ ghost use Rattle.hip_runs.specs.declared.report.Report.{Report};
 ghost use Rattle.std.specs.List.{flat_map, range_with_len};
 ghost use Rattle.std.specs.Prelude.{◌≡◌, ◌<◌, ℕ, List, Some};
 
-/// A step's store has loose parts in a range exactly where one of the range's loose bytes has its tag, all of them are flushed
-/// exactly where all those bytes are, and each of either has one of the other that is flushed alike.
+/// A step's store has loose parts in a range exactly where one of the range's loose bytes has its tag, all of them
+/// are flushed exactly where all those bytes are, and each of either has one of the other that is flushed alike.
 pub fn loose_bytes_tell_loose_parts()
     ensures { (P : Program) → (I : Input) → (n offset size made : ℕ) →
         AreToldBy (loose_parts offset size (run P I n).lines made) (loose_bytes (run P I n) offset size) made }
 {}
 
-/// A part is one of a step's loose parts in a range exactly where some byte of the range is loose by it, as cache lines tell, and
-/// its store was made by that step; and it is flushed where it stands before the flushed number of its line.
+/// A part is one of a step's loose parts in a range exactly where some byte of the range is loose by it, as cache
+/// lines tell, and its store was made by that step; and it is flushed where it stands before the flushed number of
+/// its line.
 pub fn loose_parts_are_last_over_loose_bytes()
     ensures byte { (offset size made : ℕ) → (lines : List (Line StorePart)) → (part : LoosePart) →
         In part (loose_parts offset size lines made) → IsLoosePart offset size made lines part }
@@ -35,7 +36,8 @@ pub fn tags_are_steps()
         In b (loose_bytes (run P I n) offset size) → b.tag < (run P I n).counts.steps }
 {}
 
-/// A flat map over all numbers below n is one over an ascending list of them, where the function has nothing at the others.
+/// A flat map over all numbers below n is one over an ascending list of them, where the function has nothing at the
+/// others.
 pub fn steps_of_nothing_may_be_left_out()
     ensures { (f : ℕ → List Report) → (n : ℕ) → (members : List ℕ) → AscendWithin 0 n members →
         IsNoneBeside f 0 n members → flat_map f (range_with_len 0 n) ≡ flat_map f members }
@@ -43,6 +45,7 @@ pub fn steps_of_nothing_may_be_left_out()
 
 /// The reports of a check are those of the stores whose tags its loose bytes have, in ascending order.
 pub fn reports_follow_the_tags()
-    ensures { (P : Program) → (I : Input) → (n : ℕ) → (range : Range) → (tags : List ℕ) → HoldsTags (run P I n) range tags →
+    ensures { (P : Program) → (I : Input) → (n : ℕ) → (range : Range) → (tags : List ℕ) →
+        HoldsTags (run P I n) range tags →
         check_reports (run P I n) (Some range) ≡ flat_map (reports_for (run P I n) range) tags }
 {}

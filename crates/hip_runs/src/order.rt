@@ -1,4 +1,5 @@
-//! Laws of the order of a run: of the parts in a cache line, of flushes and fences, and of calls and the frames that they make.
+//! Laws of the order of a run: of the parts in a cache line, of flushes and fences, and of calls and the frames that
+//! they make.
 
 ghost use Rattle.hip_ir.specs.declared.program.Program.{Program};
 ghost use Rattle.hip_runs.specs.After.{lines_after};
@@ -12,8 +13,8 @@ ghost use Rattle.hip_runs.specs.Step.{event, run};
 ghost use Rattle.hip_runs.specs.declared.input.Input.{Input};
 ghost use Rattle.std.specs.Prelude.{◌≡◌, ℕ, suc};
 
-/// In each line of a run the parts lie in the order of their stores' steps, each covers bytes of its line alone, and it is
-/// flushed exactly where it has a first flush.
+/// In each line of a run the parts lie in the order of their stores' steps, each covers bytes of its line alone, and
+/// it is flushed exactly where it has a first flush.
 pub fn lines_keep_their_order()
     ensures { (P : Program) → (I : Input) → (n : ℕ) → HasOrder (run P I n) }
 {}
@@ -24,8 +25,8 @@ pub fn the_last_fence_tells()
         part.fenced ≡ is_before part.step (last_fence P I n) }
 {}
 
-/// A step leaves the frames below the top one, or below the one that it returns to, as they were: the top frame stays, a frame
-/// comes upon it, made by the call at which it stood, or it goes. A run that has ended stays as it is.
+/// A step leaves the frames below the top one, or below the one that it returns to, as they were: the top frame
+/// stays, a frame comes upon it, made by the call at which it stood, or it goes. A run that has ended stays as it is.
 pub fn a_step_moves_the_top()
     ensures { (P : Program) → (I : Input) → (n : ℕ) → Moves P (run P I n) (run P I (suc n)) }
 {}
@@ -35,8 +36,8 @@ pub fn calls_were_made_in_order()
     ensures { (P : Program) → (I : Input) → (n : ℕ) → HasCalls (run P I n) }
 {}
 
-/// A part names a store as its site, and as that of its first flush a call that flushes, which takes no fence where the part is
-/// not durable; and the calls that stand, and those of each part, are calls of functions of the program.
+/// A part names a store as its site, and as that of its first flush a call that flushes, which takes no fence where
+/// the part is not durable; and the calls that stand, and those of each part, are calls of functions of the program.
 pub fn states_name_what_stands_there()
     ensures { (P : Program) → (I : Input) → (n : ℕ) → HasSites P (run P I n) }
 {}

@@ -3,32 +3,98 @@
 use hip_names::{NameSet, NameTable};
 use std::test::Fail;
 
+/// A name that is put into a set, and whether it is new there.
+struct Inserted {
+    name: &'static str,
+    is_new: bool,
+}
+
+const INSERTED: &[Inserted] = &[
+    Inserted {
+        name: "main",
+        is_new: true,
+    },
+    Inserted {
+        name: "copy",
+        is_new: true,
+    },
+    Inserted {
+        name: "main",
+        is_new: false,
+    },
+];
+
+/// A name, and its number in a set if it is there.
+struct Numbered {
+    name: &'static str,
+    number: Option<usize>,
+}
+
+const NUMBERED: &[Numbered] = &[
+    Numbered {
+        name: "main",
+        number: Some(0),
+    },
+    Numbered {
+        name: "copy",
+        number: Some(1),
+    },
+    Numbered {
+        name: "cop",
+        number: None,
+    },
+    Numbered {
+        name: "",
+        number: None,
+    },
+];
+
 #[test]
 fn names_are_numbered(rt: HostRuntime) -> Result<(), Fail> {
     let mut names = NameSet::new(rt.alloc());
-    assert!(rt; names.insert(b"main")?);
-    assert!(rt; names.insert(b"copy")?);
-    assert!(rt; !names.insert(b"main")?);
-    assert_eq!(rt; names.number_of(b"main"), Some(0));
-    assert_eq!(rt; names.number_of(b"copy"), Some(1));
-    assert_eq!(rt; names.number_of(b"cop"), None);
-    assert!(rt; names.contains(b"copy"));
-    assert!(rt; !names.contains(b""));
+    for case in INSERTED {
+        assert!(rt;
+            names.insert(case.name.as_bytes())? == case.is_new,
+            "{}",
+            case.name
+        );
+    }
+    for case in NUMBERED {
+        let name = case.name.as_bytes();
+        assert_eq!(rt; names.number_of(name), case.number, "{}", case.name);
+        assert!(rt;
+            names.contains(name) == case.number.is_some(),
+            "{}",
+            case.name
+        );
+    }
+    Ok(())
+}
+
+#[test]
+fn set_within_another(rt: HostRuntime) -> Result<(), Fail> {
+    let mut names = NameSet::new(rt.alloc());
+    names.insert(b"main")?;
+    names.insert(b"copy")?;
     let mut others = NameSet::new(rt.alloc());
-    assert!(rt; others.insert(b"copy")?);
+    others.insert(b"copy")?;
     assert!(rt; others.is_within(&names));
     assert!(rt; !names.is_within(&others));
     Ok(())
 }
 
+const VALUES: &[(&str, u64)] = &[("x", 7), ("y", 8), ("x", 9)];
+
+const FIRST_VALUES: &[(&str, Option<u64>)] = &[("x", Some(7)), ("y", Some(8)), ("z", None)];
+
 #[test]
 fn first_value_counts(rt: HostRuntime) -> Result<(), Fail> {
     let mut table = NameTable::new(rt.alloc());
-    assert_eq!(rt; table.get(b"x"), None);
-    table.add(b"x", 7_u64)?;
-    table.add(b"y", 8)?;
-    table.add(b"x", 9)?;
-    assert_eq!(rt; table.get(b"x"), Some(7));
-    assert_eq!(rt; table.get(b"y"), Some(8));
+    for (name, value) in VALUES {
+        table.add(name.as_bytes(), *value)?;
+    }
+    for (name, value) in FIRST_VALUES {
+        assert_eq!(rt; table.get(name.as_bytes()), *value, "{name}");
+    }
     Ok(())
 }

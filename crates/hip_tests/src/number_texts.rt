@@ -40,6 +40,13 @@ const DECIMALS: &[(&str, Option<u64>)] = &[
     ("", None),
 ];
 
+#[test]
+fn decimal_numbers(rt: HostRuntime) {
+    for (text, number) in DECIMALS {
+        assert_eq!(rt; read_decimal(text.as_bytes()), *number, "{text}");
+    }
+}
+
 const SIGNED: &[(&str, Option<i64>)] = &[
     ("-9223372036854775808", Some(i64::MIN)),
     ("-9223372036854775809", None),
@@ -47,6 +54,13 @@ const SIGNED: &[(&str, Option<i64>)] = &[
     ("-0", Some(0)),
     ("-", None),
 ];
+
+#[test]
+fn signed_numbers(rt: HostRuntime) {
+    for (text, number) in SIGNED {
+        assert_eq!(rt; read_signed(text.as_bytes()), *number, "{text}");
+    }
+}
 
 const HEXADECIMALS: &[(&str, Option<u64>)] = &[
     ("0x00FFfF", Some(0xffff)),
@@ -56,13 +70,7 @@ const HEXADECIMALS: &[(&str, Option<u64>)] = &[
 ];
 
 #[test]
-fn read_numbers(rt: HostRuntime) {
-    for (text, number) in DECIMALS {
-        assert_eq!(rt; read_decimal(text.as_bytes()), *number, "{text}");
-    }
-    for (text, number) in SIGNED {
-        assert_eq!(rt; read_signed(text.as_bytes()), *number, "{text}");
-    }
+fn hexadecimal_numbers(rt: HostRuntime) {
     for (text, number) in HEXADECIMALS {
         assert_eq!(rt; read_hex(text.as_bytes()), *number, "{text}");
     }

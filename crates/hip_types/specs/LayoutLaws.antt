@@ -14,6 +14,7 @@ use Rattle.hip_types.specs.declared.ty.Ty.TheFolds.{ind-Ty, fold-roll-Ty, fold_o
 use Rattle.hip_types.specs.declared.ty.Ty.TheViews.{Struct, Array, roll-Ty}
 use Rattle.hip_types.specs.Widths.{bytes_of}
 use Rattle.hip_types.specs.Layout.{Shape, scalar_shape, shape_of_level, shape, shapes, size_of, align_of, Fits, end_after, greatest_align, greatest_depth, greatest_largest, struct_size, field_of, offset_in}
+use Rattle.hip_types.specs.declared.limits.TheConstants.{LARGEST_TYPE}
 
 -- ---- alignments
 
@@ -116,7 +117,7 @@ align_of-alignment t = (regular t).alignment
 pub size_of-multiple : (t : Ty) → size_of t % align_of t ≡ 0
 size_of-multiple t = (regular t).whole
 
-pub size_of-le : (t : Ty) → Fits t → size_of t ≤ 67108864
+pub size_of-le : (t : Ty) → Fits t → size_of t ≤ LARGEST_TYPE
 size_of-le t f = omega (arith, f.small, (regular t).held)
 
 -- ---- one level of a type
@@ -267,7 +268,7 @@ Fits-Array n e f =
     let shallow : (shape e).depth + 1 ≤ 32 = subst (λ (x : Shape). x.depth ≤ 32) s f.shallow in
     record { small = omega arith; shallow = omega arith }
 
-pub field-fits : (fs : List Ty) (k : ℕ) → k < length fs → greatest_largest (shapes fs) ≤ 67108864 → greatest_depth (shapes fs) ≤ 31 → Fits (field_of fs k)
+pub field-fits : (fs : List Ty) (k : ℕ) → k < length fs → greatest_largest (shapes fs) ≤ LARGEST_TYPE → greatest_depth (shapes fs) ≤ 31 → Fits (field_of fs k)
 field-fits fs k h small shallow =
     let next : IsNextField fs k (field_of fs k) = next_field fs k (field_of fs k) h (field_of-is fs k h) in
     record { small = omega (arith, next.largest_le); shallow = omega (arith, next.depth_le) }

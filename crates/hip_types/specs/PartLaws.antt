@@ -9,6 +9,7 @@ use Rattle.hip_types.specs.declared.ty.Ty.TheOpen.{Ty-F}
 use Rattle.hip_types.specs.declared.ty.Ty.TheVariants.{Ptr}
 use Rattle.hip_types.specs.Layout.{Shape, shape, shape_of_level, shapes, size_of, align_of, Fits, Part, field_of, offset_in, enter_level, enter, further, part_at, gep_of}
 use Rattle.hip_types.specs.LayoutLaws.{align_of-alignment, multiple_of_multiple, shape-level, sum_of_multiples, times_multiple, size_of-multiple, size_of-le, size_of-Struct, offset_in-multiple, greatest_align-multiple, field-inside, field-fits}
+use Rattle.hip_types.specs.declared.limits.TheConstants.{DEEPEST_NESTING, LARGEST_TYPE}
 
 abbrev pub level_is_inside : ℕ → Ty-F Ty → Type 0
 level_is_inside i (Ty-F.Array n e) = i < n
@@ -24,7 +25,7 @@ record IsEntered (s : Shape) (p : Part) (inside : Type 0) : Type 0 where
   within : inside → p.offset + size_of p.ty ≤ s.size
   aligned : p.offset % align_of p.ty ≡ 0
   align : s.align % align_of p.ty ≡ 0
-  fits : s.largest ≤ 67108864 → s.depth ≤ 32 → Fits p.ty
+  fits : s.largest ≤ LARGEST_TYPE → s.depth ≤ DEEPEST_NESTING → Fits p.ty
 
 entered_level : (i : ℕ) (y : Ty-F Ty) (p : Part) → enter_level i y ≡ Some p → IsEntered (shape_of_level (map-Ty Ty Shape shape y)) p (level_is_inside i y)
 entered_level i (Ty-F.Int w) p is = cc

@@ -2,6 +2,7 @@
 #![tactic(auto)]
 
 mod layout;
+mod limits;
 mod link;
 mod memory;
 mod number;
@@ -11,6 +12,7 @@ mod text;
 mod ty;
 
 pub use layout::{FieldPlace, align, field_offset, field_place, fits, gep_offset, size};
+pub use limits::{DEEPEST_NESTING, LARGEST_COUNT, LARGEST_REGION, LARGEST_TYPE, LARGEST_VOLATILE};
 pub use link::Link;
 pub use memory::NoMemory;
 pub use number::{BinaryOp, Bits, CastOp, Pred, Scalar, Width};

@@ -23,7 +23,8 @@ nothing_asked = record { Holds = Unit {0}; found = None }
 
 -- a fact with the test that decides it
 abbrev pub asks : Type 0 → Bool → Fault → Place → Check
-asks fact test fault place = record { Holds = fact; found = if test then None else Some (record { fault = fault; place = place }) }
+asks fact test fault place =
+    record { Holds = fact; found = if test then None else Some (record { fault = fault; place = place }) }
 
 abbrev pub asks_true : Bool → Fault → Place → Check
 asks_true test fault place = asks (IsTrue test) test fault place

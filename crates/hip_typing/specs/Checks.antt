@@ -84,10 +84,12 @@ all-at {A = A} P before after x all =
 unassigned_is_not : (P : Program) (place : Place) (path : List ℕ) → IsFirstUnassigned P place path → ¬ Passes P
 unassigned_is_not P place path u s =
     let all : AllAssigned u.fn u.function = s.assigned u.function u.fn u.here in
-    let here : All (UseIsAssigned u.fn) (u.before ++ u.it ∷ u.after) = subst (λ (us : List RegisterUse). All (UseIsAssigned u.fn) us) u.uses all in
+    let here : All (UseIsAssigned u.fn) (u.before ++ u.it ∷ u.after) =
+    subst (λ (us : List RegisterUse). All (UseIsAssigned u.fn) us) u.uses all in
     all-at (UseIsAssigned u.fn) u.before u.after u.it here path u.unassigned
 
-by_fault : (P : Program) (fault : TypeFault) (place : Place) → IsFirstFault P (record { fault = fault; place = place }) → ¬ Passes P
+by_fault : (P : Program) (fault : TypeFault) (place : Place) →
+    IsFirstFault P (record { fault = fault; place = place }) → ¬ Passes P
 by_fault P faults.BadShape place f s = f.0 s.spelled
 by_fault P faults.Duplicate place f s = breaks_no_rule P _ f s
 by_fault P faults.Unknown place f s = breaks_no_rule P _ f s
@@ -103,18 +105,23 @@ by_fault P faults.NoMemory place f s = f
 pub first_fault-unsound : (P : Program) (refusal : TypeRefusal) → IsFirstFault P refusal → ¬ IsSound P
 first_fault-unsound P refusal f s = by_fault P refusal.fault refusal.place f (sound-passes P s)
 
-refused_for : (P : Program) (fault : TypeFault) (place : Place) → IsFirstFault P (record { fault = fault; place = place }) → IsRefused P (record { fault = fault; place = place })
+refused_for : (P : Program) (fault : TypeFault) (place : Place) →
+    IsFirstFault P (record { fault = fault; place = place }) → IsRefused P (record { fault = fault; place = place })
 refused_for P fault place f = record { unsound = λ s. by_fault P fault place f (sound-passes P s); first = f }
 
 -- ---- the answers of the stages
 
-pub refuses-unspelled : (P : Program) (spelled : Bool) → IsTrue spelled ↔ IsSpelled P → spelled ≡ false → Refuses P (record { fault = faults.BadShape; place = places.Whole })
-refuses-unspelled P spelled tells off = refused_for P faults.BadShape places.Whole (λ s. let on : spelled ≡ true = tells.1 s in cc, refl)
+pub refuses-unspelled : (P : Program) (spelled : Bool) → IsTrue spelled ↔ IsSpelled P → spelled ≡ false →
+    Refuses P (record { fault = faults.BadShape; place = places.Whole })
+refuses-unspelled P spelled tells off =
+    refused_for P faults.BadShape places.Whole (λ s. let on : spelled ≡ true = tells.1 s in cc, refl)
 
 pub is_spelled : (P : Program) (spelled : Bool) → IsTrue spelled ↔ IsSpelled P → spelled ≡ true → IsSpelled P
 is_spelled P spelled tells on = tells.0 on
 
-pub refuses-found : (P : Program) (fault : Fault) (place : Place) → IsSpelled P → (rules_check P).found ≡ Some (record { fault = fault; place = place }) → Refuses P (record { fault = fault_of fault; place = place })
+pub refuses-found : (P : Program) (fault : Fault) (place : Place) → IsSpelled P →
+    (rules_check P).found ≡ Some (record { fault = fault; place = place }) →
+    Refuses P (record { fault = fault_of fault; place = place })
 refuses-found P breaks.Duplicate place s e = refused_for P faults.Duplicate place (s, e)
 refuses-found P breaks.Unknown place s e = refused_for P faults.Unknown place (s, e)
 refuses-found P breaks.Mismatch place s e = refused_for P faults.Mismatch place (s, e)
@@ -124,22 +131,26 @@ refuses-found P breaks.BadGlobal place s e = refused_for P faults.BadGlobal plac
 refuses-found P breaks.BadEdge place s e = refused_for P faults.BadEdge place (s, e)
 refuses-found P breaks.TooLarge place s e = refused_for P faults.TooLarge place (s, e)
 
-pub refuses-stopped : (P : Program) (r : Refused) → IsSpelled P → Answers {T = Unit {0}} (Err r) (rules_check P).found → Refuses P (refusal_of r)
+pub refuses-stopped : (P : Program) (r : Refused) → IsSpelled P → Answers {T = Unit {0}} (Err r) (rules_check P).found →
+    Refuses P (refusal_of r)
 refuses-stopped P (refused.Found f) s e = refuses-found P f.fault f.place s e
 refuses-stopped P refused.NoMemory s e = refl
 
 pub registers-hold : (P : Program) → (rules_check P).found ≡ None → (registers_check P).Holds
 registers-hold P none = ((rules-exact P).sound none).1.1.1.1.1.0
 
-pub refuses-unassigned : (P : Program) (place : Place) (path : List ℕ) → IsSpelled P → (rules_check P).found ≡ None → IsFirstUnassigned P place path → Refuses P (record { fault = faults.Unassigned path; place = place })
+pub refuses-unassigned : (P : Program) (place : Place) (path : List ℕ) → IsSpelled P → (rules_check P).found ≡ None →
+    IsFirstUnassigned P place path → Refuses P (record { fault = faults.Unassigned path; place = place })
 refuses-unassigned P place path s none u = refused_for P (faults.Unassigned path) place (s, none, u)
 
-pub refuses-on_paths : (P : Program) (e : NotAssigned) → IsSpelled P → (rules_check P).found ≡ None → AnswersAssigned {T = Unit {0}} (Err e) P → Refuses P (refusal_on_paths e)
+pub refuses-on_paths : (P : Program) (e : NotAssigned) → IsSpelled P → (rules_check P).found ≡ None →
+    AnswersAssigned {T = Unit {0}} (Err e) P → Refuses P (refusal_on_paths e)
 refuses-on_paths P (unassigned.Use place path) s none u = refuses-unassigned P place path s none u
 refuses-on_paths P unassigned.NoMemory s none u = refl
 
 -- a spelled program that breaks no rule and uses nothing unassigned is sound
-pub sound-is : (P : Program) → IsSpelled P → (rules_check P).found ≡ None → ((f : ℕ) (fn : Function) → slice_get P.functions f ≡ Some fn → AllAssigned fn f) → IsSound P
+pub sound-is : (P : Program) → IsSpelled P → (rules_check P).found ≡ None →
+    ((f : ℕ) (fn : Function) → slice_get P.functions f ≡ Some fn → AllAssigned fn f) → IsSound P
 sound-is P spelled none assigned =
     let h = (rules-exact P).sound none in
     passes-sound P (record {

@@ -53,7 +53,8 @@ is_struct tests (Const-F.Struct items) = all_pass tests items
 is_struct tests _ = false
 
 -- one level of a constant, with the test of each constant inside in its place
-abbrev pub same_level : Const-F (Const → Bool) (ConstGep → Bool) (TypedConst → Bool) → Const-F Const ConstGep TypedConst → Bool
+abbrev pub same_level : Const-F (Const → Bool) (ConstGep → Bool) (TypedConst → Bool) →
+    Const-F Const ConstGep TypedConst → Bool
 same_level (Const-F.Int b) c = is_int b c
 same_level Const-F.Null c = is_null c
 same_level Const-F.Zero c = is_zero c
@@ -67,7 +68,8 @@ same_step tests c = same_level tests (out-Const c)
 
 abbrev pub same_gep_step : ConstGep-F (Const → Bool) (ConstGep → Bool) (TypedConst → Bool) → ConstGep → Bool
 same_gep_step gep other =
-    same_truth gep.inbounds other.inbounds && (same_type gep.ty other.ty && (gep.base other.base && same_list same_bits gep.indices other.indices))
+    same_truth gep.inbounds other.inbounds
+    && (same_type gep.ty other.ty && (gep.base other.base && same_list same_bits gep.indices other.indices))
 
 abbrev pub same_item_step : TypedConst-F (Const → Bool) (ConstGep → Bool) (TypedConst → Bool) → TypedConst → Bool
 same_item_step item other = same_type item.ty other.ty && item.value other.value

@@ -36,8 +36,10 @@ pub record CallsExtern (callee : List ℕ) (ret : Option Scalar) (args : List Ar
 -- each call names a function or an external function with its result and its arguments' types
 abbrev pub CallsAgree : Program → Type 0
 CallsAgree P =
-    (f b i : ℕ) (fn : Function) (block : Block) (dest : Option (List ℕ)) (ret : Option Scalar) (callee : List ℕ) (args : List Arg) →
-    IsBlockAt P f b fn block → slice_get block.body i ≡ Some (Call dest ret callee args) → CallsFunction P callee ret args ⊎ CallsExtern callee ret args
+    (f b i : ℕ) (fn : Function) (block : Block) (dest : Option (List ℕ)) (ret : Option Scalar) (callee : List ℕ)
+    (args : List Arg) →
+    IsBlockAt P f b fn block → slice_get block.body i ≡ Some (Call dest ret callee args) →
+    CallsFunction P callee ret args ⊎ CallsExtern callee ret args
 
 -- ---- operands
 
@@ -60,10 +62,13 @@ pub record HasBlock (fn : Function) (label : List ℕ) : Type 0 where
   pub named : block.label ≡ label
 
 abbrev pub LabelsExist : Program → Type 0
-LabelsExist P = (f b : ℕ) (fn : Function) (block : Block) → IsBlockAt P f b fn block → All (HasBlock fn) (end_labels block.end)
+LabelsExist P =
+    (f b : ℕ) (fn : Function) (block : Block) → IsBlockAt P f b fn block → All (HasBlock fn) (end_labels block.end)
 
 -- a phi has an edge for each block whose end names its own
 abbrev pub PhisAgree : Program → Type 0
 PhisAgree P =
-    (f b c i : ℕ) (fn : Function) (block prior : Block) (p : Phi) → IsBlockAt P f b fn block → IsBlockAt P f c fn prior →
-    IsAmong (end_labels prior.end) block.label → slice_get block.phis i ≡ Some p → IsAmong (edge_labels p.edges) prior.label
+    (f b c i : ℕ) (fn : Function) (block prior : Block) (p : Phi) → IsBlockAt P f b fn block →
+    IsBlockAt P f c fn prior →
+    IsAmong (end_labels prior.end) block.label → slice_get block.phis i ≡ Some p →
+    IsAmong (edge_labels p.edges) prior.label

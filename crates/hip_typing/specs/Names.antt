@@ -14,7 +14,8 @@ pub record Named : Type 0 where
 abbrev pub differ_after : List (List ℕ) → List Named → Check
 differ_after earlier [] = nothing_asked
 differ_after earlier (x ∷ xs) =
-    and_then (asks (¬ IsAmong earlier x.name) (not (is_among earlier x.name)) breaks.Duplicate x.place) (differ_after (earlier ++ x.name ∷ []) xs)
+    and_then (asks (¬ IsAmong earlier x.name) (not (is_among earlier x.name)) breaks.Duplicate x.place)
+    (differ_after (earlier ++ x.name ∷ []) xs)
 
 abbrev pub all_differ : List Named → Check
 all_differ names = differ_after [] names

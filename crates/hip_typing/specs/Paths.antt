@@ -45,11 +45,13 @@ abbrev pub whole_block_names : Function → ℕ → List (List ℕ)
 whole_block_names f b = unwrap_or (option_map (λ block. names_of (block_registers block)) (slice_get f.blocks b)) []
 
 abbrev pub names_before : Function → Point → ℕ → List (List ℕ)
-names_before f point b = unwrap_or (option_map (λ block. names_of (registers_before point block)) (slice_get f.blocks b)) []
+names_before f point b =
+    unwrap_or (option_map (λ block. names_of (registers_before point block)) (slice_get f.blocks b)) []
 
 -- what is assigned on a path, given as the blocks before its last one, before a point in the last
 abbrev pub assigned_on : Function → List ℕ → ℕ → Point → List (List ℕ)
-assigned_on f earlier last point = names_of (parameter_registers f) ++ (flat_map (whole_block_names f) earlier ++ names_before f point last)
+assigned_on f earlier last point =
+    names_of (parameter_registers f) ++ (flat_map (whole_block_names f) earlier ++ names_before f point last)
 
 -- A path to the point on which nothing assigns the register before it.
 pub record IsUnassigned (f : Function) (last : ℕ) (point : Point) (name : List ℕ) (path : List ℕ) : Type 0 where

@@ -10,7 +10,7 @@ use Rattle.hip_types.specs.declared.number.Scalar.{Scalar}
 use Rattle.hip_types.specs.declared.number.Scalar.TheVariants as scalars
 use Rattle.hip_types.specs.declared.ty.Ty.{Ty, out-Ty}
 use Rattle.hip_types.specs.declared.ty.Ty.TheOpen.{Ty-F}
-use Rattle.hip_types.specs.declared.ty.Ty.TheVariants as types
+use Rattle.hip_types.specs.declared.limits.TheConstants.{DEEPEST_NESTING, LARGEST_TYPE}
 use Rattle.hip_ir.specs.declared.constant.Const.{Const, out-Const}
 use Rattle.hip_ir.specs.declared.constant.Const.TheOpen.{Const-F}
 use Rattle.hip_ir.specs.declared.constant.ConstGep.{ConstGep}
@@ -20,6 +20,7 @@ use Rattle.hip_ir.specs.declared.instr.Instr.{Instr}
 use Rattle.hip_ir.specs.declared.instr.Instr.TheVariants.{Cast, Alloca, Gep, Call}
 use Rattle.hip_ir.specs.declared.instr.Operand.{Operand}
 use Rattle.hip_ir.specs.declared.instr.Operand.TheVariants.{Reg, Fixed}
+use Rattle.hip_ir.specs.Words.{type_of}
 use Rattle.hip_ir.specs.declared.block.Block.{Block}
 use Rattle.hip_ir.specs.declared.block.Case.{Case}
 use Rattle.hip_ir.specs.declared.block.Edge.{Edge}
@@ -44,11 +45,14 @@ use Rattle.hip_typing.specs.declared.fault.Place.{Place}
 
 abbrev pub extern_of : List Extern → List ℕ → Option Signature
 extern_of [] name = None
-extern_of (e ∷ es) name = if bytes_eq e.name name then Some (record { ret = e.ret; params = e.params }) else extern_of es name
+extern_of (e ∷ es) name =
+    if bytes_eq e.name name then Some (record { ret = e.ret; params = e.params }) else extern_of es name
 
 abbrev pub function_of : List Function → List ℕ → Option Signature
 function_of [] name = None
-function_of (f ∷ fs) name = if bytes_eq f.name name then Some (record { ret = f.ret; params = map (λ p. p.ty) f.params }) else function_of fs name
+function_of (f ∷ fs) name =
+    if bytes_eq f.name name then Some (record { ret = f.ret; params = map (λ p. p.ty) f.params })
+    else function_of fs name
 
 abbrev pub first_of : Option Signature → Option Signature → Option Signature
 first_of (Some s) other = Some s
@@ -80,17 +84,15 @@ are_among known names = list_all (is_among known) names
 
 -- registers and globals that are named, exist
 abbrev pub uses_known : Scope → List Use → Bool
-uses_known s us = list_all (λ n. is_some (find_register s.registers n)) (used_registers us) && are_among (global_names s) (used_globals us)
+uses_known s us =
+    list_all (λ n. is_some (find_register s.registers n)) (used_registers us)
+    && are_among (global_names s) (used_globals us)
 
 abbrev pub fits_test : Ty → Bool
-fits_test t = nat_le (shape t).largest 67108864 && nat_le (shape t).depth 32
+fits_test t = nat_le (shape t).largest LARGEST_TYPE && nat_le (shape t).depth DEEPEST_NESTING
 
 abbrev pub types_fit : List Ty → Place → Check
 types_fit ts place = asks (All Fits ts) (list_all fits_test ts) breaks.TooLarge place
-
-abbrev pub type_of : Scalar → Ty
-type_of (scalars.Int w) = types.Int w
-type_of scalars.Ptr = types.Ptr
 
 abbrev pub has_type : Scalar → Option (Option Scalar) → Bool
 has_type ty (Some (Some t)) = same_scalar t ty
@@ -146,7 +148,8 @@ gep_agrees (first ∷ indices) t = args_enter indices t
 
 abbrev pub signature_agrees : Option Scalar → List Arg → Option Signature → Bool
 signature_agrees ret args None = false
-signature_agrees ret args (Some s) = same_result s.ret ret && all_pass (map (λ t a. same_scalar t a) s.params) (map (λ a. a.ty) args)
+signature_agrees ret args (Some s) =
+    same_result s.ret ret && all_pass (map (λ t a. same_scalar t a) s.params) (map (λ a. a.ty) args)
 
 abbrev pub register_agrees : Option (List ℕ) → Option Scalar → Bool
 register_agrees (Some dest) None = false
@@ -155,7 +158,8 @@ register_agrees _ _ = true
 abbrev pub instr_agrees : Scope → Instr → Bool
 instr_agrees s (Cast dest op from a to) = cast_agrees op from to
 instr_agrees s (Gep dest inbounds ty base indices) = gep_agrees indices ty
-instr_agrees s (Call dest ret callee args) = signature_agrees ret args (callee_of s.program callee) && register_agrees dest ret
+instr_agrees s (Call dest ret callee args) =
+    signature_agrees ret args (callee_of s.program callee) && register_agrees dest ret
 instr_agrees s _ = true
 
 abbrev pub callee_known : Scope → Instr → Bool
@@ -170,7 +174,8 @@ written_types _ = []
 abbrev pub instr_check : Scope → Instr → Place → Check
 instr_check s i place =
     and_then (asks_true (uses_known s (instr_uses i) && callee_known s i) breaks.Unknown place)
-    (and_then (types_fit (written_types i ++ used_types (instr_uses i)) place) (asks_true (uses_agree s (instr_uses i) && instr_agrees s i) breaks.Mismatch place))
+    (and_then (types_fit (written_types i ++ used_types (instr_uses i)) place)
+    (asks_true (uses_agree s (instr_uses i) && instr_agrees s i) breaks.Mismatch place))
 
 -- ---- ends
 
@@ -210,7 +215,8 @@ end_check s e place =
     and_then (asks_true (uses_known s (end_uses e) && are_among (labels s) (end_labels e)) breaks.Unknown place)
     (and_then (types_fit (used_types (end_uses e)) place)
     (and_then (asks_true (uses_agree s (end_uses e) && end_agrees s e) breaks.Mismatch place)
-    (and_then (asks_true (cases_differ (end_cases e)) breaks.Duplicate place) (asks_true (not (list_any (is_entry s.function.blocks) (end_labels e))) breaks.BadEdge place))))
+    (and_then (asks_true (cases_differ (end_cases e)) breaks.Duplicate place)
+    (asks_true (not (list_any (is_entry s.function.blocks) (end_labels e))) breaks.BadEdge place))))
 
 -- ---- phis
 
@@ -234,10 +240,12 @@ edge_labels edges = map (λ e. e.label) edges
 
 -- each predecessor is named, and nothing else
 abbrev pub edges_agree : List (List ℕ) → List Edge → Bool
-edges_agree before edges = are_among (edge_labels edges) before && (are_among before (edge_labels edges) && repeats_agree edges)
+edges_agree before edges =
+    are_among (edge_labels edges) before && (are_among before (edge_labels edges) && repeats_agree edges)
 
 abbrev pub phi_check : Scope → List ℕ → Phi → Place → Check
 phi_check s label p place =
     and_then (asks_true (uses_known s (phi_uses p) && are_among (labels s) (edge_labels p.edges)) breaks.Unknown place)
     (and_then (types_fit (used_types (phi_uses p)) place)
-    (and_then (asks_true (uses_agree s (phi_uses p)) breaks.Mismatch place) (asks_true (edges_agree (predecessors s.function.blocks label) p.edges) breaks.BadEdge place)))
+    (and_then (asks_true (uses_agree s (phi_uses p)) breaks.Mismatch place)
+    (asks_true (edges_agree (predecessors s.function.blocks label) p.edges) breaks.BadEdge place)))

@@ -15,6 +15,7 @@ use Rattle.hip_ir.specs.declared.program.Function.{Function}
 use Rattle.hip_ir.specs.declared.program.GlobalVar.{GlobalVar}
 use Rattle.hip_ir.specs.declared.program.Param.{Param}
 use Rattle.hip_ir.specs.declared.program.Program.{Program}
+use Rattle.hip_types.specs.declared.limits.TheConstants.{LARGEST_REGION, LARGEST_VOLATILE}
 use Rattle.hip_ir.specs.declared.site.Site.{Site}
 use Rattle.hip_ir.specs.Reading.{IsSpelled}
 use Rattle.hip_mem.specs.Memory.{volatile_start}
@@ -44,27 +45,28 @@ use Rattle.hip_typing.specs.declared.fault.TypeRefusal.{TypeRefusal}
 abbrev named : List ℕ → Place → Named
 named name place = record { name = name; place = place }
 
-abbrev pub global_names : List GlobalVar → List Named
-global_names globals = numbered (λ n g. named g.name (places.Global n)) globals
+abbrev pub global_declarations : List GlobalVar → List Named
+global_declarations globals = numbered (λ n g. named g.name (places.Global n)) globals
 
-abbrev pub extern_names : List Extern → List Named
-extern_names externs = numbered (λ n e. named e.name (places.Extern n)) externs
+abbrev pub extern_declarations : List Extern → List Named
+extern_declarations externs = numbered (λ n e. named e.name (places.Extern n)) externs
 
-abbrev pub function_names : List Function → List Named
-function_names functions = numbered (λ n f. named f.name (places.Head n)) functions
+abbrev pub function_declarations : List Function → List Named
+function_declarations functions = numbered (λ n f. named f.name (places.Head n)) functions
 
-abbrev pub top_names : Program → List Named
-top_names P = global_names P.globals ++ extern_names P.externs ++ function_names P.functions
+abbrev pub declarations : Program → List Named
+declarations P = global_declarations P.globals ++ extern_declarations P.externs ++ function_declarations P.functions
 
 abbrev pub names_check : Program → Check
-names_check P = all_differ (top_names P)
+names_check P = all_differ (declarations P)
 
 -- ---- globals: their types fit, their initialisers have their types' shape and name globals
 
 abbrev pub global_check : List (List ℕ) → ℕ → GlobalVar → Check
 global_check known n g =
     and_then (types_fit (g.ty ∷ types_in g.init) (places.Global n))
-    (and_then (asks_true (has_shape g.init g.ty) breaks.BadGlobal (places.Global n)) (asks_true (list_all (is_among known) (names_in g.init)) breaks.Unknown (places.Global n)))
+    (and_then (asks_true (has_shape g.init g.ty) breaks.BadGlobal (places.Global n))
+    (asks_true (list_all (is_among known) (names_in g.init)) breaks.Unknown (places.Global n)))
 
 abbrev pub globals_check : Program → Check
 globals_check P = each (global_check (map (λ g. g.name) P.globals)) P.globals
@@ -88,13 +90,16 @@ abbrev pub free_function : ℕ → Function → Check
 free_function n f = asks_true (is_free f.name) breaks.BadExtern (places.Head n)
 
 abbrev pub externs_check : Program → Check
-externs_check P = and_then (each free_global P.globals) (and_then (each declared P.externs) (each free_function P.functions))
+externs_check P =
+    and_then (each free_global P.globals) (and_then (each declared P.externs) (each free_function P.functions))
 
 -- ---- the region and the volatile globals are not too large
 
 abbrev pub sizes_check : Program → Check
 sizes_check P =
-    asks_true (nat_le (region_size P) 67108864 && nat_le (volatile_end P) (volatile_start + 16777216)) breaks.TooLarge places.Whole
+    asks_true
+    (nat_le (region_size P) LARGEST_REGION && nat_le (volatile_end P) (volatile_start + LARGEST_VOLATILE))
+    breaks.TooLarge places.Whole
 
 -- ---- `main` is there, has no parameters and answers an i32
 
@@ -162,7 +167,8 @@ instr_at s f b i instr = instr_check s instr (places.Body (site f b i))
 
 abbrev pub block_check : Scope → ℕ → ℕ → Block → Check
 block_check s f b block =
-    and_then (each (phi_at s block.label f b) block.phis) (and_then (each (instr_at s f b) block.body) (end_check s block.end (places.End f b)))
+    and_then (each (phi_at s block.label f b) block.phis)
+    (and_then (each (instr_at s f b) block.body) (end_check s block.end (places.End f b)))
 
 abbrev pub function_check : Program → ℕ → Function → Check
 function_check P f fn = each (block_check (scope_of P fn) f) fn.blocks
@@ -189,21 +195,24 @@ block_numbers_from n (b ∷ bs) label = if bytes_eq b.label label then n ∷ [] 
 -- a phi's operand is used at the end of the predecessor
 abbrev pub edge_register_uses : List Block → Place → Scalar → Edge → List RegisterUse
 edge_register_uses blocks place ty e =
-    flat_map (λ b. map (use_at place b AtEnd) (used_registers (record { operand = e.value; ty = ty } ∷ []))) (block_numbers_from 0 blocks e.label)
+    flat_map (λ b. map (use_at place b AtEnd) (used_registers (record { operand = e.value; ty = ty } ∷ [])))
+    (block_numbers_from 0 blocks e.label)
 
 abbrev pub phi_register_uses : List Block → Place → Phi → List RegisterUse
 phi_register_uses blocks place p = flat_map (edge_register_uses blocks place p.ty) p.edges
 
 -- an instruction's registers are used before it
 abbrev pub instr_register_uses : ℕ → ℕ → ℕ → Instr → List RegisterUse
-instr_register_uses f b i instr = map (use_at (places.Body (site f b i)) b (Before i)) (used_registers (instr_uses instr))
+instr_register_uses f b i instr =
+    map (use_at (places.Body (site f b i)) b (Before i)) (used_registers (instr_uses instr))
 
 abbrev pub end_register_uses : ℕ → ℕ → End → List RegisterUse
 end_register_uses f b end = map (use_at (places.End f b) b AtEnd) (used_registers (end_uses end))
 
 abbrev pub block_register_uses : List Block → ℕ → ℕ → Block → List RegisterUse
 block_register_uses blocks f b block =
-    joined (numbered (λ i p. phi_register_uses blocks (places.Phi (site f b i)) p) block.phis) ++ joined (numbered (instr_register_uses f b) block.body) ++ end_register_uses f b block.end
+    joined (numbered (λ i p. phi_register_uses blocks (places.Phi (site f b i)) p) block.phis)
+    ++ joined (numbered (instr_register_uses f b) block.body) ++ end_register_uses f b block.end
 
 -- the uses of registers in a function, in the order of their places
 abbrev pub register_uses : ℕ → Function → List RegisterUse
@@ -233,7 +242,9 @@ pub record Passes (P : Program) : Type 0 where
 abbrev pub rules_check : Program → Check
 rules_check P =
     and_then (names_check P)
-    (and_then (globals_check P) (and_then (externs_check P) (and_then (sizes_check P) (and_then (main_check P) (and_then (registers_check P) (places_check P))))))
+    (and_then (globals_check P)
+    (and_then (externs_check P)
+    (and_then (sizes_check P) (and_then (main_check P) (and_then (registers_check P) (places_check P))))))
 
 -- The path shows that the use is not assigned; every use before it is.
 pub record IsFirstUnassigned (P : Program) (place : Place) (path : List ℕ) : Type 0 where
@@ -260,7 +271,8 @@ is_first P place faults.Duplicate = BreaksFirst P breaks.Duplicate place
 is_first P place faults.Unknown = BreaksFirst P breaks.Unknown place
 is_first P place faults.Mismatch = BreaksFirst P breaks.Mismatch place
 is_first P place faults.NoMain = BreaksFirst P breaks.NoMain place
-is_first P place (faults.Unassigned path) = IsSpelled P × ((rules_check P).found ≡ None) × IsFirstUnassigned P place path
+is_first P place (faults.Unassigned path) =
+    IsSpelled P × ((rules_check P).found ≡ None) × IsFirstUnassigned P place path
 is_first P place faults.BadExtern = BreaksFirst P breaks.BadExtern place
 is_first P place faults.BadGlobal = BreaksFirst P breaks.BadGlobal place
 is_first P place faults.BadEdge = BreaksFirst P breaks.BadEdge place

@@ -1,6 +1,6 @@
--- Sound programs: the rules, one a field. Names, types, edges and paths are LLVM's ("Well-Formedness", and of instructions
--- "phi", "switch", "call", "getelementptr" and the conversions; its rule of dominance is said by paths). The external
--- functions and the limits are this project's own.
+-- Sound programs: the rules, one a field. Names, types, edges and paths are LLVM's ("Well-Formedness", and of
+-- instructions "phi", "switch", "call", "getelementptr" and the conversions; its rule of dominance is said by paths).
+-- The external functions and the limits are this project's own.
 use Rattle.std.specs.Prelude.{ℕ, ◌+◌, ◌≡◌, ◌≢◌, ◌≤◌, List, [], ◌∷◌, ◌++◌, map, All, Option, Some, None, slice_get, codes, option_map, IsTrue}
 use Rattle.std.specs.List.{flat_map, AllPairs}
 use Rattle.hip_types.specs.declared.number.Scalar.{Scalar}
@@ -8,6 +8,7 @@ use Rattle.hip_types.specs.declared.number.Scalar.TheVariants.{Int}
 use Rattle.hip_types.specs.declared.number.Width.TheVariants.{W32}
 use Rattle.hip_types.specs.declared.ty.Ty.{Ty}
 use Rattle.hip_types.specs.Layout.{Fits}
+use Rattle.hip_types.specs.declared.limits.TheConstants.{LARGEST_REGION, LARGEST_VOLATILE}
 use Rattle.hip_ir.specs.declared.block.Block.{Block}
 use Rattle.hip_ir.specs.declared.block.Edge.{Edge}
 use Rattle.hip_ir.specs.declared.block.End.{End}
@@ -31,7 +32,8 @@ use Rattle.hip_externs.specs.Externs.{known_signature, call_of}
 use Rattle.hip_names.specs.Names.{IsAmong, number_of, AllDiffer}
 use Rattle.hip_typing.specs.Numbering.{function_number}
 use Rattle.hip_typing.specs.Paths.{IsAssigned, label_at, names_of}
-use Rattle.hip_typing.specs.Places.{callee_of, cast_agrees, gep_agrees, type_of, written_types, edge_labels}
+use Rattle.hip_ir.specs.Words.{type_of}
+use Rattle.hip_typing.specs.Places.{callee_of, cast_agrees, gep_agrees, written_types, edge_labels}
 use Rattle.hip_typing.specs.Registers.{Register, Use, find_register, registers_of, parameter_registers, block_registers, instr_uses, end_uses, end_labels, phi_uses, operand_registers, used_registers, used_globals, used_types}
 use Rattle.hip_typing.specs.declared.assigned.Point.TheVariants.{Before, AtEnd}
 
@@ -92,8 +94,8 @@ pub record KeepsToTable (P : Program) : Type 0 where
 -- ---- sizes
 
 pub record KeepsToSizes (P : Program) : Type 0 where
-  pub region : region_size P ≤ 67108864
-  pub volatile : volatile_end P ≤ volatile_start + 16777216
+  pub region : region_size P ≤ LARGEST_REGION
+  pub volatile : volatile_end P ≤ volatile_start + LARGEST_VOLATILE
 
 -- ---- `main`
 
@@ -150,7 +152,8 @@ pub record EachItem (block : Block) (fact : Item → Type 0) : Type 0 where
 
 -- a fact of each place of each function
 abbrev pub Everywhere : Program → (Function → Block → Item → Type 0) → Type 0
-Everywhere P fact = (f b : ℕ) (fn : Function) (block : Block) → IsBlockAt P f b fn block → EachItem block (fact fn block)
+Everywhere P fact =
+    (f b : ℕ) (fn : Function) (block : Block) → IsBlockAt P f b fn block → EachItem block (fact fn block)
 
 -- registers, globals, callees and labels that are named there exist
 pub record NamesExist (P : Program) (fn : Function) (x : Item) : Type 0 where
@@ -170,28 +173,29 @@ operand_is_typed registers (Fixed value) ty = IsTrue (has_shape value (type_of t
 abbrev pub IsTyped : Function → Use → Type 0
 IsTyped fn u = operand_is_typed (registers_of fn) u.operand u.ty
 
--- A call agrees with what it names in its result, and in the number and the types of its arguments. One without a result
--- has no register.
-pub record CallAgrees (P : Program) (dest : Option (List ℕ)) (ret : Option Scalar) (callee : List ℕ) (args : List Arg) : Type 0 where
+-- A call agrees with what it names in its result, and in the number and the types of its arguments. One without a
+-- result has no register.
+pub record CallAgrees (P : Program) (dest : Option (List ℕ)) (ret : Option Scalar) (callee : List ℕ)
+    (args : List Arg) : Type 0 where
   pub signature : callee_of P callee ≡ Some (record { ret = ret; params = map (λ a. a.ty) args })
   pub register : ret ≡ None → dest ≡ None
 
 -- conversions, paths of elements and calls agree, and what is returned has the type of the function's result
-abbrev pub own_types_agree : Program → Function → Item → Type 0
-own_types_agree P fn (InstrItem (Cast dest op from a to)) = IsTrue (cast_agrees op from to)
-own_types_agree P fn (InstrItem (Gep dest inbounds ty base indices)) = IsTrue (gep_agrees indices ty)
-own_types_agree P fn (InstrItem (Call dest ret callee args)) = CallAgrees P dest ret callee args
-own_types_agree P fn (EndItem (Ret arg)) = option_map (λ a. a.ty) arg ≡ fn.ret
-own_types_agree P fn _ = Unit {0}
+abbrev pub OwnTypesAgree : Program → Function → Item → Type 0
+OwnTypesAgree P fn (InstrItem (Cast dest op from a to)) = IsTrue (cast_agrees op from to)
+OwnTypesAgree P fn (InstrItem (Gep dest inbounds ty base indices)) = IsTrue (gep_agrees indices ty)
+OwnTypesAgree P fn (InstrItem (Call dest ret callee args)) = CallAgrees P dest ret callee args
+OwnTypesAgree P fn (EndItem (Ret arg)) = option_map (λ a. a.ty) arg ≡ fn.ret
+OwnTypesAgree P fn _ = Unit {0}
 
 pub record TypesAgree (P : Program) (fn : Function) (x : Item) : Type 0 where
   pub operands : All (IsTyped fn) (uses_of x)
-  pub own : own_types_agree P fn x
+  pub own : OwnTypesAgree P fn x
 
 -- the values of a switch's cases differ
-abbrev pub cases_differ : Item → Type 0
-cases_differ (EndItem (Switch width value other cases)) = AllPairs (λ c d. c.value ≢ d.value) cases
-cases_differ _ = Unit {0}
+abbrev pub CasesDiffer : Item → Type 0
+CasesDiffer (EndItem (Switch width value other cases)) = AllPairs (λ c d. c.value ≢ d.value) cases
+CasesDiffer _ = Unit {0}
 
 -- a block of the first label, whose end names the second
 pub record Precedes (fn : Function) (from to : List ℕ) : Type 0 where
@@ -208,21 +212,23 @@ pub record EdgesAgree (fn : Function) (block : Block) (edges : List Edge) : Type
   pub repeats : AllPairs (λ e d. e.label ≡ d.label → e.value ≡ d.value) edges
 
 -- the edges of a phi agree, and no end names the entry block
-abbrev pub edges_agree : Function → Block → Item → Type 0
-edges_agree fn block (PhiItem p) = EdgesAgree fn block p.edges
-edges_agree fn block (InstrItem i) = Unit {0}
-edges_agree fn block (EndItem e) = All (λ label. label_at fn 0 ≢ Some label) (end_labels e)
+abbrev pub EdgesAreSound : Function → Block → Item → Type 0
+EdgesAreSound fn block (PhiItem p) = EdgesAgree fn block p.edges
+EdgesAreSound fn block (InstrItem i) = Unit {0}
+EdgesAreSound fn block (EndItem e) = All (λ label. label_at fn 0 ≢ Some label) (end_labels e)
 
 -- ---- paths
 
 -- the operand of a phi is used at the end of the predecessor
 abbrev pub EdgeIsAssigned : Function → Edge → Type 0
-EdgeIsAssigned fn e = (c : ℕ) → label_number fn e.label ≡ Some c → All (IsAssigned fn c AtEnd) (operand_registers e.value)
+EdgeIsAssigned fn e =
+    (c : ℕ) → label_number fn e.label ≡ Some c → All (IsAssigned fn c AtEnd) (operand_registers e.value)
 
 -- each register that is used in a block has been assigned on every path to the use
 pub record UsesAreAssigned (fn : Function) (b : ℕ) (block : Block) : Type 0 where
   pub phis : All (λ p. All (EdgeIsAssigned fn) p.edges) block.phis
-  pub body : (i : ℕ) (instr : Instr) → slice_get block.body i ≡ Some instr → All (IsAssigned fn b (Before i)) (used_registers (instr_uses instr))
+  pub body : (i : ℕ) (instr : Instr) → slice_get block.body i ≡ Some instr →
+      All (IsAssigned fn b (Before i)) (used_registers (instr_uses instr))
   pub last : All (IsAssigned fn b AtEnd) (used_registers (end_uses block.end))
 
 abbrev pub RegistersAssigned : Program → Type 0
@@ -249,6 +255,6 @@ pub record IsSound (P : Program) : Type 0 where
   pub names_exist : Everywhere P (λ fn block. NamesExist P fn)
   pub types_fit : Everywhere P (λ fn block. TypesFit)
   pub types_agree : Everywhere P (λ fn block. TypesAgree P fn)
-  pub cases_differ : Everywhere P (λ fn block. cases_differ)
-  pub edges_agree : Everywhere P edges_agree
+  pub cases_differ : Everywhere P (λ fn block. CasesDiffer)
+  pub edges_agree : Everywhere P EdgesAreSound
   pub assigned : RegistersAssigned P

@@ -132,7 +132,8 @@ fn check_one(
 ) -> Result<(), NotAssigned>
     requires body { Describes body.now.function.now body.now.names.now.names body.now.names.now.values body.now.paths.now }
     requires block { block < length body.now.function.now.blocks }
-    ensures { AnswersUses body.now.function.now result (map (use_at place block point) (used_registers (use_seen used.entry))) }
+    ensures { AnswersUses body.now.function.now result
+        (map (use_at place block point) (used_registers (use_seen used.entry))) }
 {
     match used {
         Some(used) => check_operand(body, place, block, point, used.operand),
@@ -150,7 +151,8 @@ fn check_args(
 ) -> Result<(), NotAssigned>
     requires body { Describes body.now.function.now body.now.names.now.names body.now.names.now.values body.now.paths.now }
     requires block { block < length body.now.function.now.blocks }
-    ensures { AnswersUses body.now.function.now result (map (use_at place block point) (used_registers (arg_uses args.now))) }
+    ensures { AnswersUses body.now.function.now result
+        (map (use_at place block point) (used_registers (arg_uses args.now))) }
 {
     'each: for index in 0..args.len() {
         let arg = &args[index];
@@ -171,7 +173,8 @@ pub fn check_uses(
 ) -> Result<(), NotAssigned>
     requires body { Describes body.now.function.now body.now.names.now.names body.now.names.now.values body.now.paths.now }
     requires block { block < length body.now.function.now.blocks }
-    ensures { AnswersUses body.now.function.now result (map (use_at place block point) (used_registers (uses_seen uses.now))) }
+    ensures { AnswersUses body.now.function.now result
+        (map (use_at place block point) (used_registers (uses_seen uses.now))) }
 {
     if let Err(refused) = check_one(body, place, block, point, uses.first) {
         return Err(refused);

@@ -52,7 +52,10 @@ fn check_phis(
     phis: &Row<Phi>,
 ) -> Result<(), NotAssigned>
     requires { Describes body.now.function.now body.now.names.now.names body.now.names.now.values body.now.paths.now }
-    ensures { AnswersUses body.now.function.now result (joined (numbered (λ i p. phi_register_uses body.now.function.now.blocks (places.Phi (site function block i)) p) phis.now)) }
+    ensures { AnswersUses body.now.function.now result
+        (joined
+        (numbered
+        (λ i p. phi_register_uses body.now.function.now.blocks (places.Phi (site function block i)) p) phis.now)) }
 {
     let items = phis.as_slice();
     'each: for index in 0..items.len() {
@@ -136,7 +139,8 @@ fn check_block(
 ) -> Result<(), NotAssigned>
     requires body { Describes body.now.function.now body.now.names.now.names body.now.names.now.values body.now.paths.now }
     requires block { number < length body.now.function.now.blocks }
-    ensures { AnswersUses body.now.function.now result (block_register_uses body.now.function.now.blocks function number block.now) }
+    ensures { AnswersUses body.now.function.now result
+        (block_register_uses body.now.function.now.blocks function number block.now) }
 {
     if let Err(refused) = check_phis(body, function, number, &block.phis) {
         return Err(refused);

@@ -24,7 +24,8 @@ pub struct Callee<'a> {
 pub type CalleeTable<'a> = NameTable<'a, Callee<'a>>;
 
 fn add_extern<'a>(table: &mut CalleeTable<'a>, external: &'a Extern) -> Result<(), NoMemory>
-    ensures { OnOk result (AddsCallees table.old.names table.old.values table.new.names table.new.values (extern_entry external.now ∷ [])) }
+    ensures { OnOk result
+        (AddsCallees table.old.names table.old.values table.new.names table.new.values (extern_entry external.now ∷ [])) }
 {
     let callee = Callee {
         ret: external.ret,
@@ -35,7 +36,9 @@ fn add_extern<'a>(table: &mut CalleeTable<'a>, external: &'a Extern) -> Result<(
 }
 
 fn add_function<'a>(table: &mut CalleeTable<'a>, function: &'a Function) -> Result<(), NoMemory>
-    ensures { OnOk result (AddsCallees table.old.names table.old.values table.new.names table.new.values (function_entry function.now ∷ [])) }
+    ensures { OnOk result
+        (AddsCallees table.old.names table.old.values table.new.names table.new.values
+        (function_entry function.now ∷ [])) }
 {
     let callee = Callee {
         ret: function.ret,
@@ -46,7 +49,8 @@ fn add_function<'a>(table: &mut CalleeTable<'a>, function: &'a Function) -> Resu
 }
 
 fn add_externs<'a>(table: &mut CalleeTable<'a>, externs: &'a [Extern]) -> Result<(), NoMemory>
-    ensures { OnOk result (AddsCallees table.old.names table.old.values table.new.names table.new.values (map extern_entry externs.now)) }
+    ensures { OnOk result
+        (AddsCallees table.old.names table.old.values table.new.names table.new.values (map extern_entry externs.now)) }
 {
     'each: for external in externs {
         add_extern(table, external)?;
@@ -55,7 +59,9 @@ fn add_externs<'a>(table: &mut CalleeTable<'a>, externs: &'a [Extern]) -> Result
 }
 
 fn add_functions<'a>(table: &mut CalleeTable<'a>, functions: &'a [Function]) -> Result<(), NoMemory>
-    ensures { OnOk result (AddsCallees table.old.names table.old.values table.new.names table.new.values (map function_entry functions.now)) }
+    ensures { OnOk result
+        (AddsCallees table.old.names table.old.values table.new.names table.new.values
+        (map function_entry functions.now)) }
 {
     'each: for function in functions {
         add_function(table, function)?;

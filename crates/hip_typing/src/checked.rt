@@ -2,6 +2,8 @@ ghost use Rattle.std.specs.Prelude.{◌≡◌, ◌+◌, ◌<◌, true, false, le
 ghost use Rattle.hip_mem.specs.Memory.{volatile_start};
 ghost use Rattle.hip_globals.specs.Addresses as spec;
 ghost use Rattle.hip_globals.specs.Addresses.{IsBase};
+ghost use Rattle.hip_globals.specs.AddressesSeen.{address_beside};
+ghost use Rattle.hip_globals.specs.Values.{global_address};
 ghost use Rattle.hip_typing.specs.Checks.{Checks};
 ghost use Rattle.hip_typing.specs.Given.{CallsAgree, OperandsAgree, LabelsExist, PhisAgree};
 ghost use Rattle.hip_globals.specs.Held.{HoldsGlobals};
@@ -14,7 +16,7 @@ use crate::assigned_functions::check_assigned;
 use crate::fault::{Place, TypeFault, TypeRefusal};
 use crate::refusal::{refusal_of, refusal_on_paths};
 use crate::rules::check_rules;
-use hip_globals::{address, region_bytes, region_size, volatile_bytes};
+use hip_globals::{GlobalAddresses, address, region_bytes, region_size, volatile_bytes};
 use hip_ir::{Function, Program, spelled};
 use hip_types::{NoMemory, Row};
 use std::alloc::Global;
@@ -70,6 +72,14 @@ impl Checked {
         ensures { result ≡ spec.address self.now base global }
     {
         address(&self.program, base, global)
+    }
+
+    /// The addresses of all globals by their names, where the region begins at a base: worked out once.
+    pub fn addresses(&self, alloc: Global, base: u64) -> Result<GlobalAddresses<'_>, NoMemory>
+        requires { IsBase base }
+        ensures { IfOk result (λ addresses. address_beside addresses ≡ global_address self.now.globals base) }
+    {
+        GlobalAddresses::new(alloc, self.program.globals.as_slice(), base)
     }
 
     /// The bytes that the region has before a run, from a base on: those of the initialisers, each where its global lies, with zeros between them.

@@ -42,10 +42,9 @@ fn cases_differ(alloc: Global, cases: &[Case]) -> Result<bool, NoMemory>
 {
     let mut earlier = IndexSet::new(alloc);
     'each: for case in cases {
-        match earlier.insert((case.value.width.bits(), case.value.value)) {
-            Ok(true) => {}
-            Ok(false) => return Ok(false),
-            Err(_) => return Err(NoMemory),
+        let is_new = earlier.insert((case.value.width.bits(), case.value.value))?;
+        if !is_new {
+            return Ok(false);
         }
     }
     Ok(true)
@@ -71,7 +70,8 @@ pub fn check_end(
     end: &End,
     place: Place,
 ) -> Result<(), Refused>
-    ensures { Answers result (end_found registers.now.names registers.now.values globals.now labels.now function.now end.now place) }
+    ensures { Answers result
+        (end_found registers.now.names registers.now.values globals.now labels.now function.now end.now place) }
 {
     let uses = Uses::of_end(end);
     let targets = Targets::of_end(end);

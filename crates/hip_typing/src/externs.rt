@@ -7,9 +7,9 @@ ghost use Rattle.hip_typing.specs.Types.{all_pass, same_result, same_scalar};
 
 use crate::fault::{Fault, Place};
 use crate::refused::{Refused, ask};
-use hip_externs::{ExternCall, extern_call};
+use hip_externs::ExternCall;
 use hip_ir::{Extern, Function, GlobalVar, Program};
-use hip_types::{Scalar, Width};
+use hip_types::Scalar;
 
 pub fn is_same_scalar(a: Scalar, b: Scalar) -> bool
     ensures { result ≡ same_scalar a b }
@@ -56,26 +56,14 @@ fn is_declared(external: &Extern, ret: Option<Scalar>, params: &[Scalar]) -> boo
 pub fn is_declared_as(external: &Extern, call: ExternCall) -> bool
     ensures { result ≡ is_of external.now (Some (signature call)) }
 {
-    let number = Scalar::Int(Width::W64);
-    match call {
-        ExternCall::ReadI64 => is_declared(external, Some(number), &[]),
-        ExternCall::PrintI64 => is_declared(external, None, &[number]),
-        ExternCall::PmAssert | ExternCall::PmemFlush | ExternCall::PmemPersist => {
-            is_declared(external, None, &[Scalar::Ptr, number])
-        }
-        ExternCall::Clwb | ExternCall::Clflushopt | ExternCall::Clflush => {
-            is_declared(external, None, &[Scalar::Ptr])
-        }
-        ExternCall::Sfence | ExternCall::Mfence | ExternCall::PmemDrain => {
-            is_declared(external, None, &[])
-        }
-    }
+    let row = call.row();
+    is_declared(external, row.ret, row.params)
 }
 
 fn is_known(external: &Extern) -> bool
     ensures { result ≡ is_of external.now (known_signature external.now.name) }
 {
-    match extern_call(external.name.as_slice()) {
+    match ExternCall::named(external.name.as_slice()) {
         Some(call) => is_declared_as(external, call),
         None => false,
     }
@@ -84,7 +72,7 @@ fn is_known(external: &Extern) -> bool
 fn check_free_global(number: usize, global: &GlobalVar) -> Result<(), Refused>
     ensures { Answers result (free_global number global.now).found }
 {
-    let is_free = extern_call(global.name.as_slice()).is_none();
+    let is_free = ExternCall::named(global.name.as_slice()).is_none();
     ask(is_free, Fault::BadExtern, Place::Global(number))
 }
 
@@ -97,7 +85,7 @@ fn check_declaration(number: usize, external: &Extern) -> Result<(), Refused>
 fn check_free_function(number: usize, function: &Function) -> Result<(), Refused>
     ensures { Answers result (free_function number function.now).found }
 {
-    let is_free = extern_call(function.name.as_slice()).is_none();
+    let is_free = ExternCall::named(function.name.as_slice()).is_none();
     ask(is_free, Fault::BadExtern, Place::Head(number))
 }
 

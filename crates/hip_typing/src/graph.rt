@@ -12,7 +12,8 @@ use std::alloc::Global;
 
 /// The number of the block that a label names, if there is one.
 pub fn block_of(names: &InnerTable<'_>, label: &Name) -> Option<usize>
-    ensures { MatchOption result (block_number (value_beside names.now.names names.now.values label.now) ≡ []) (λ number. value_beside names.now.names names.now.values label.now ≡ Some (inner.Label number)) }
+    ensures { MatchOption result (block_number (value_beside names.now.names names.now.values label.now) ≡ [])
+        (λ number. value_beside names.now.names names.now.values label.now ≡ Some (inner.Label number)) }
 {
     match names.get(label.as_slice()) {
         Some(Inner::Label(number)) => Some(number),
@@ -28,7 +29,8 @@ fn push_label(
     names: &InnerTable<'_>,
     label: &Name,
 ) -> Result<(), NoMemory>
-    ensures { OnOk result (numbers.new ≡ numbers.old ++ block_number (value_beside names.now.names names.now.values label.now)) }
+    ensures { OnOk result
+        (numbers.new ≡ numbers.old ++ block_number (value_beside names.now.names names.now.values label.now)) }
 {
     match block_of(names, label) {
         Some(number) => numbers.push(number),
@@ -42,7 +44,8 @@ fn push_cases(
     names: &InnerTable<'_>,
     cases: &[Case],
 ) -> Result<(), NoMemory>
-    ensures { OnOk result (numbers.new ≡ numbers.old ++ label_numbers names.now.names names.now.values (map (λ c. c.label) cases.now)) }
+    ensures { OnOk result
+        (numbers.new ≡ numbers.old ++ label_numbers names.now.names names.now.values (map (λ c. c.label) cases.now)) }
 {
     'cases: for case in cases {
         push_label(numbers, names, &case.label)?;
@@ -52,7 +55,8 @@ fn push_cases(
 
 /// Adds the numbers of the blocks that the end of a block names.
 fn push_end(numbers: &mut Row<usize>, names: &InnerTable<'_>, end: &End) -> Result<(), NoMemory>
-    ensures { OnOk result (numbers.new ≡ numbers.old ++ label_numbers names.now.names names.now.values (end_labels end.now)) }
+    ensures { OnOk result
+        (numbers.new ≡ numbers.old ++ label_numbers names.now.names names.now.values (end_labels end.now)) }
 {
     match end {
         End::Br { label } => push_label(numbers, names, label),
@@ -75,7 +79,9 @@ pub fn flow_graph(
     names: &InnerTable<'_>,
     blocks: &[Block],
 ) -> Result<Row<Row<usize>>, NoMemory>
-    ensures { IfOk result (λ graph. graph ≡ map (λ block. label_numbers names.now.names names.now.values (end_labels block.end)) blocks.now) }
+    ensures { IfOk result
+        (λ graph. graph
+        ≡ map (λ block. label_numbers names.now.names names.now.values (end_labels block.end)) blocks.now) }
 {
     let mut graph = Row::new(alloc);
     'each_block: for block in blocks {

@@ -23,14 +23,16 @@ pub enum Inner {
 pub type InnerTable<'a> = NameTable<'a, Inner>;
 
 fn add_name<'a>(table: &mut InnerTable<'a>, name: &'a Name, inner: Inner) -> Result<(), NoMemory>
-    ensures { OnOk result (Gains table.old.names table.old.values table.new.names table.new.values (spec.entry name.now inner ∷ [])) }
+    ensures { OnOk result
+        (Gains table.old.names table.old.values table.new.names table.new.values (spec.entry name.now inner ∷ [])) }
 {
     table.add(name.as_slice(), inner)?;
     Ok(())
 }
 
 fn add_params<'a>(table: &mut InnerTable<'a>, params: &'a [Param]) -> Result<(), NoMemory>
-    ensures { OnOk result (Gains table.old.names table.old.values table.new.names table.new.values (map param_entry params.now)) }
+    ensures { OnOk result
+        (Gains table.old.names table.old.values table.new.names table.new.values (map param_entry params.now)) }
 {
     'params: for param in params {
         add_name(table, &param.name, Inner::Parameter)?;
@@ -39,7 +41,8 @@ fn add_params<'a>(table: &mut InnerTable<'a>, params: &'a [Param]) -> Result<(),
 }
 
 fn add_phis<'a>(table: &mut InnerTable<'a>, block: usize, phis: &'a [Phi]) -> Result<(), NoMemory>
-    ensures { OnOk result (Gains table.old.names table.old.values table.new.names table.new.values (map (phi_entry block) phis.now)) }
+    ensures { OnOk result
+        (Gains table.old.names table.old.values table.new.names table.new.values (map (phi_entry block) phis.now)) }
 {
     'phis: for phi in phis {
         add_name(table, &phi.dest, Inner::Assigned { block, after: 0 })?;
@@ -54,7 +57,8 @@ fn add_assigned<'a>(
     instr: &'a Instr,
 ) -> Result<(), NoMemory>
     requires { index + 1 < 2 ^ 64 }
-    ensures { OnOk result (Gains table.old.names table.old.values table.new.names table.new.values (instr_entries block index instr.now)) }
+    ensures { OnOk result
+        (Gains table.old.names table.old.values table.new.names table.new.values (instr_entries block index instr.now)) }
 {
     let inner = Inner::Assigned {
         block,
@@ -67,7 +71,8 @@ fn add_assigned<'a>(
 }
 
 fn add_body<'a>(table: &mut InnerTable<'a>, block: usize, body: &'a [Instr]) -> Result<(), NoMemory>
-    ensures { OnOk result (Gains table.old.names table.old.values table.new.names table.new.values (body_entries block body.now)) }
+    ensures { OnOk result
+        (Gains table.old.names table.old.values table.new.names table.new.values (body_entries block body.now)) }
 {
     'instrs: for index in 0..body.len() {
         add_assigned(table, block, index, &body[index])?;
@@ -80,7 +85,8 @@ fn add_block<'a>(
     number: usize,
     block: &'a Block,
 ) -> Result<(), NoMemory>
-    ensures { OnOk result (Gains table.old.names table.old.values table.new.names table.new.values (block_entries number block.now)) }
+    ensures { OnOk result
+        (Gains table.old.names table.old.values table.new.names table.new.values (block_entries number block.now)) }
 {
     add_name(table, &block.label, Inner::Label(number))?;
     add_phis(table, number, block.phis.as_slice())?;
@@ -89,7 +95,8 @@ fn add_block<'a>(
 }
 
 fn add_blocks<'a>(table: &mut InnerTable<'a>, blocks: &'a [Block]) -> Result<(), NoMemory>
-    ensures { OnOk result (Gains table.old.names table.old.values table.new.names table.new.values (blocks_entries blocks.now)) }
+    ensures { OnOk result
+        (Gains table.old.names table.old.values table.new.names table.new.values (blocks_entries blocks.now)) }
 {
     'each_block: for number in 0..blocks.len() {
         add_block(table, number, &blocks[number])?;

@@ -1,7 +1,7 @@
 ghost use Rattle.std.specs.Prelude.{◌≡◌, ◌++◌, OnOk};
 ghost use Rattle.hip_typing.specs.Seen.Answers.{Answers};
 ghost use Rattle.hip_typing.specs.Names.{all_differ};
-ghost use Rattle.hip_typing.specs.Rules.{global_names, extern_names, function_names, names_check};
+ghost use Rattle.hip_typing.specs.Rules.{global_declarations, extern_declarations, function_declarations, names_check};
 ghost use Rattle.hip_typing.specs.Seen.NamesSeen.{seen};
 
 use crate::fault::{Fault, Finding, Place};
@@ -39,7 +39,7 @@ fn push_globals<'a>(
     names: &mut Row<NamedPlace<'a>>,
     globals: &'a [GlobalVar],
 ) -> Result<(), NoMemory>
-    ensures { OnOk result (seen names.new ≡ seen names.old ++ global_names globals.now) }
+    ensures { OnOk result (seen names.new ≡ seen names.old ++ global_declarations globals.now) }
 {
     'globals: for number in 0..globals.len() {
         names.push(NamedPlace {
@@ -52,7 +52,7 @@ fn push_globals<'a>(
 
 /// Adds the names of externs.
 fn push_externs<'a>(names: &mut Row<NamedPlace<'a>>, externs: &'a [Extern]) -> Result<(), NoMemory>
-    ensures { OnOk result (seen names.new ≡ seen names.old ++ extern_names externs.now) }
+    ensures { OnOk result (seen names.new ≡ seen names.old ++ extern_declarations externs.now) }
 {
     'externs: for number in 0..externs.len() {
         names.push(NamedPlace {
@@ -68,7 +68,7 @@ fn push_functions<'a>(
     names: &mut Row<NamedPlace<'a>>,
     functions: &'a [Function],
 ) -> Result<(), NoMemory>
-    ensures { OnOk result (seen names.new ≡ seen names.old ++ function_names functions.now) }
+    ensures { OnOk result (seen names.new ≡ seen names.old ++ function_declarations functions.now) }
 {
     'functions: for number in 0..functions.len() {
         names.push(NamedPlace {

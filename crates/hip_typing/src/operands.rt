@@ -1,6 +1,6 @@
 ghost use Rattle.std.specs.Prelude.{◌≡◌};
 ghost use Rattle.hip_typing.specs.Places as places;
-ghost use Rattle.hip_typing.specs.Places.{type_of};
+ghost use Rattle.hip_ir.specs.Words.{type_of};
 ghost use Rattle.hip_typing.specs.Registers.{arg_uses, phi_uses};
 ghost use Rattle.hip_typing.specs.Seen.UsesSeen as spec;
 ghost use Rattle.hip_typing.specs.Seen.UsesSeen.{use_seen, uses_seen, operands_known, operands_agree, operands_fit};
@@ -10,9 +10,9 @@ use crate::externs::is_same_scalar;
 use crate::registers::RegisterTable;
 use crate::shape::const_has_shape;
 use crate::uses::{OperandUse, Uses};
-use hip_ir::{Arg, Operand, Phi};
+use hip_ir::{Arg, Operand, Phi, type_of};
 use hip_names::NameSet;
-use hip_types::{Scalar, Ty};
+use hip_types::Scalar;
 
 // ---- registers and globals that are named, exist
 
@@ -99,15 +99,6 @@ pub fn uses_fit(uses: &Uses<'_>) -> bool
 
 // ---- registers have the type that their use states, constants its shape
 
-fn scalar_type(ty: Scalar) -> Ty
-    ensures { result ≡ type_of ty }
-{
-    match ty {
-        Scalar::Int(width) => Ty::Int(width),
-        Scalar::Ptr => Ty::Ptr,
-    }
-}
-
 fn has_type(ty: Scalar, found: Option<Option<Scalar>>) -> bool
     ensures { result ≡ places.has_type ty found }
 {
@@ -122,7 +113,7 @@ fn operand_agrees(registers: &RegisterTable<'_>, operand: &Operand, ty: Scalar) 
 {
     match operand {
         Operand::Reg(name) => has_type(ty, registers.get(name.as_slice())),
-        Operand::Fixed(value) => const_has_shape(value, &scalar_type(ty)),
+        Operand::Fixed(value) => const_has_shape(value, &type_of(ty)),
     }
 }
 

@@ -31,7 +31,9 @@ pub fn check_instr(
     instr: &Instr,
     place: Place,
 ) -> Result<(), Refused>
-    ensures { Answers result (instr_found registers.now.names registers.now.values globals.now callees.now.names callees.now.values instr.now place) }
+    ensures { Answers result
+        (instr_found registers.now.names registers.now.values globals.now callees.now.names callees.now.values instr.now
+        place) }
 {
     let uses = Uses::of_instr(instr);
     ask(
@@ -61,7 +63,9 @@ fn check_phi(
     phi: &Phi,
     place: Place,
 ) -> Result<(), Refused>
-    ensures { Answers result (phi_found function.now.registers.names function.now.registers.values program.now.globals function.now.labels before.now phi.now place) }
+    ensures { Answers result
+        (phi_found function.now.registers.names function.now.registers.values program.now.globals function.now.labels
+        before.now phi.now place) }
 {
     let edges = phi.edges.as_slice();
     ask(

@@ -40,10 +40,8 @@ impl<'a> Predecessors<'a> {
     {
         let mut set = NameSet::new(alloc);
         let _is_new = set.insert(from)?;
-        match self.sets.insert(label, set) {
-            Ok(_) => Ok(()),
-            Err(_) => Err(NoMemory),
-        }
+        let _replaced = self.sets.insert(label, set)?;
+        Ok(())
     }
 
     /// Adds a block whose end names a label.

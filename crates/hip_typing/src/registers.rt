@@ -24,14 +24,18 @@ fn add_register<'a>(
     name: &'a Name,
     ty: Option<Scalar>,
 ) -> Result<(), NoMemory>
-    ensures { OnOk result (Adds table.old.names table.old.values table.new.names table.new.values (record { name = name.now; ty = ty } ∷ [])) }
+    ensures { OnOk result
+        (Adds table.old.names table.old.values table.new.names table.new.values
+        (record { name = name.now; ty = ty } ∷ [])) }
 {
     table.add(name.as_slice(), ty)?;
     Ok(())
 }
 
 fn add_params<'a>(table: &mut RegisterTable<'a>, params: &'a [Param]) -> Result<(), NoMemory>
-    ensures { OnOk result (Adds table.old.names table.old.values table.new.names table.new.values (map (λ p. record { name = p.name; ty = Some p.ty }) params.now)) }
+    ensures { OnOk result
+        (Adds table.old.names table.old.values table.new.names table.new.values
+        (map (λ p. record { name = p.name; ty = Some p.ty }) params.now)) }
 {
     'params: for param in params {
         add_register(table, &param.name, Some(param.ty))?;
@@ -40,7 +44,8 @@ fn add_params<'a>(table: &mut RegisterTable<'a>, params: &'a [Param]) -> Result<
 }
 
 fn add_phis<'a>(table: &mut RegisterTable<'a>, phis: &'a [Phi]) -> Result<(), NoMemory>
-    ensures { OnOk result (Adds table.old.names table.old.values table.new.names table.new.values (phi_registers phis.now)) }
+    ensures { OnOk result
+        (Adds table.old.names table.old.values table.new.names table.new.values (phi_registers phis.now)) }
 {
     'phis: for phi in phis {
         add_register(table, &phi.dest, Some(phi.ty))?;
@@ -81,7 +86,8 @@ fn add_assigned<'a>(table: &mut RegisterTable<'a>, instr: &'a Instr) -> Result<(
 }
 
 fn add_body<'a>(table: &mut RegisterTable<'a>, body: &'a [Instr]) -> Result<(), NoMemory>
-    ensures { OnOk result (Adds table.old.names table.old.values table.new.names table.new.values (body_registers body.now)) }
+    ensures { OnOk result
+        (Adds table.old.names table.old.values table.new.names table.new.values (body_registers body.now)) }
 {
     'body: for instr in body {
         add_assigned(table, instr)?;
@@ -90,7 +96,8 @@ fn add_body<'a>(table: &mut RegisterTable<'a>, body: &'a [Instr]) -> Result<(), 
 }
 
 fn add_block<'a>(table: &mut RegisterTable<'a>, block: &'a Block) -> Result<(), NoMemory>
-    ensures { OnOk result (Adds table.old.names table.old.values table.new.names table.new.values (block_registers block.now)) }
+    ensures { OnOk result
+        (Adds table.old.names table.old.values table.new.names table.new.values (block_registers block.now)) }
 {
     add_phis(table, block.phis.as_slice())?;
     add_body(table, block.body.as_slice())?;
@@ -98,7 +105,8 @@ fn add_block<'a>(table: &mut RegisterTable<'a>, block: &'a Block) -> Result<(), 
 }
 
 fn add_blocks<'a>(table: &mut RegisterTable<'a>, blocks: &'a [Block]) -> Result<(), NoMemory>
-    ensures { OnOk result (Adds table.old.names table.old.values table.new.names table.new.values (flat_map block_registers blocks.now)) }
+    ensures { OnOk result
+        (Adds table.old.names table.old.values table.new.names table.new.values (flat_map block_registers blocks.now)) }
 {
     'each: for block in blocks {
         add_block(table, block)?;

@@ -27,6 +27,8 @@ impl Cabinet for FileCabinet<'_> {
 
     ghost state = { λ c. record { files = None; is_current = is_some c.file; name = None; rest = None; misses = c.misses; faults = c.faults } };
 
+    ghost told = { λ c. tt };
+
     /// A file that the open call reports as absent is missing; every other failure is a fault.
     fn fetch(&mut self, name: &str) -> Fetched {
         self.file = None;

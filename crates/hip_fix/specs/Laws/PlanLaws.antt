@@ -1,5 +1,5 @@
 -- What plans have, and that they suit.
-use Rattle.hip_runs.specs.Laws.Members.{any_in, in_any}
+use Rattle.hip_runs.specs.Laws.Members.{both_true, any_in, in_any}
 use Rattle.std.proofs.Common.{◌≡◌, ◌⊎◌, inl, inr, ℕ, zero, suc, Bool, true, false, ◌||◌, nat_eq, List, Option, Some, None, slice_get, refl, sym, ap, ◌∙◌, subst}
 use Rattle.hip_types.specs.DistinctLaws.{or_first, or_second, either}
 use Rattle.hip_ir.specs.Sites.{instr_of, has_site, sites_of}
@@ -15,7 +15,7 @@ use Rattle.hip_runs.specs.Parts.{In}
 use Rattle.hip_fix.specs.Choice.{choice, is_site, asks_flush, asks_fence, asks_hoist, wants_flush, wants_fence, wants_hoist, plan_for, Contains}
 use Rattle.hip_fix.specs.Suits.{IsSuiting}
 use Rattle.hip_fix.specs.Planned.{IsAsked, IsWithin, union, either_list}
-use Rattle.hip_fix.specs.Laws.SiteOrder.{plan_asked, filter_ascends, and_true, in_has, has_in, site_in, filtered_are, filtered_has}
+use Rattle.hip_fix.specs.Laws.SiteOrder.{plan_asked, filter_ascends, in_has, has_in, site_in, filtered_are, filtered_has}
 use Rattle.hip_runs.specs.Sites.{is_store, is_flush_call, is_defined_call}
 use Rattle.hip_runs.specs.Laws.ReportLaws.{reports_formed}
 use Rattle.hip_runs.specs.Laws.FoundLaws.{same_site_equal}
@@ -31,8 +31,8 @@ is_the_site (Some t) s e = ap Some (sym (same_site_equal s t e))
 
 flush_at : (kind : Kind) (level : ℕ) (path : List Site) (s : Site) → asks_flush kind level path s ≡ true → slice_get path 0 ≡ Some s
 flush_at MissingFence level path s e = absurd (let z : ⊥ = cc in z)
-flush_at MissingFlush level path s e = is_the_site (slice_get path 0) s (and_true (nat_eq level 0) _ e).1
-flush_at MissingBoth level path s e = is_the_site (slice_get path 0) s (and_true (nat_eq level 0) _ e).1
+flush_at MissingFlush level path s e = is_the_site (slice_get path 0) s (both_true (nat_eq level 0) _ e).1
+flush_at MissingBoth level path s e = is_the_site (slice_get path 0) s (both_true (nat_eq level 0) _ e).1
 
 fence_at : (kind : Kind) (level : ℕ) (flush : Option Site) (path : List Site) (s : Site) → asks_fence kind level flush path s ≡ true → (flush ≡ Some s) ⊎ (asks_flush kind level path s ≡ true)
 fence_at MissingFence level flush path s e = inl (is_the_site flush s e)

@@ -1,7 +1,6 @@
 -- The order of sites, and lists of sites that ascend.
 use Rattle.std.proofs.Common.{◌≡◌, ◌⊎◌, inl, inr, ℕ, suc, ◌<◌, ◌≤◌, Bool, true, false, cond, ◌&&◌, ◌||◌, nat_lt, nat_eq, List, [], ◌∷◌, ◌++◌, refl, sym, ap, ◌∙◌, subst, arith, Option, Some, zero, ◌+◌}
 use Rattle.std.specs.List.{filter}
-use Rattle.std.proofs.lemmas.Bool.Decides.{nat_tests}
 use Rattle.hip_types.specs.DistinctLaws.{or_first, or_second, either}
 use Rattle.hip_ir.specs.Sites.{same_site, has_site, sites_of, function_sites, block_sites, body_sites, instr_of}
 use Rattle.hip_ir.specs.declared.block.Block.{Block}
@@ -17,27 +16,7 @@ use Rattle.hip_fix.specs.Suits.{site_before, is_ascending, IsStrictOrder}
 use Rattle.hip_fix.specs.Planned.{AreSites, IsAsked}
 use Rattle.std.specs.Prelude.{None, option_and_then, slice_get}
 use Rattle.hip_runs.specs.Laws.FoundLaws.{same_site_equal, site_same}
-
--- ---- tests
-
-pub and_true : (a b : Bool) → a && b ≡ true → (a ≡ true) × (b ≡ true)
-and_true true b e = (refl, e)
-and_true false b e = absurd (let z : ⊥ = cc in z)
-
-and_both : (a b : Bool) → a ≡ true → b ≡ true → a && b ≡ true
-and_both a b e f = rw (e, f) refl
-
-equal : (a b : ℕ) → nat_eq a b ≡ true → a ≡ b
-equal a b e = grind (arith, nat_tests)
-
-less : (a b : ℕ) → nat_lt a b ≡ true → a < b
-less a b e = grind (arith, nat_tests)
-
-equal_then : (a b : ℕ) → a ≡ b → nat_eq a b ≡ true
-equal_then a b e = grind (arith, nat_tests)
-
-less_then : (a b : ℕ) → a < b → nat_lt a b ≡ true
-less_then a b e = grind (arith, nat_tests)
+use Rattle.hip_runs.specs.Laws.Members.{both_true, true_both, equal_true, true_equal, lt_true, true_lt}
 
 site : ℕ → ℕ → ℕ → Site
 site f b k = record { function = f; block = b; index = k }
@@ -140,17 +119,17 @@ is_before : (a b : Site) → site_before a b ≡ true → Before a b
 is_before a b e = go (either (nat_lt a.function b.function) _ e)
   where
     blocks : (nat_lt a.block b.block ≡ true) ⊎ ((nat_eq a.block b.block && nat_lt a.index b.index) ≡ true) → (a.block < b.block) ⊎ ((a.block ≡ b.block) × (a.index < b.index))
-    blocks (inl h) = inl (less _ _ h)
-    blocks (inr h) = let g = and_true (nat_eq a.block b.block) _ h in inr (equal _ _ g.0, less _ _ g.1)
+    blocks (inl h) = inl (lt_true _ _ h)
+    blocks (inr h) = let g = both_true (nat_eq a.block b.block) _ h in inr (equal_true _ _ g.0, lt_true _ _ g.1)
 
     go : (nat_lt a.function b.function ≡ true) ⊎ ((nat_eq a.function b.function && (nat_lt a.block b.block || (nat_eq a.block b.block && nat_lt a.index b.index))) ≡ true) → Before a b
-    go (inl h) = inl (less _ _ h)
-    go (inr h) = let g = and_true (nat_eq a.function b.function) _ h in inr (equal _ _ g.0, blocks (either (nat_lt a.block b.block) _ g.1))
+    go (inl h) = inl (lt_true _ _ h)
+    go (inr h) = let g = both_true (nat_eq a.function b.function) _ h in inr (equal_true _ _ g.0, blocks (either (nat_lt a.block b.block) _ g.1))
 
 then_before : (a b : Site) → Before a b → site_before a b ≡ true
-then_before a b (inl h) = or_first _ _ (less_then _ _ h)
-then_before a b (inr (e, inl h)) = or_second (nat_lt a.function b.function) _ (and_both _ _ (equal_then _ _ e) (or_first _ _ (less_then _ _ h)))
-then_before a b (inr (e, inr (f, h))) = or_second (nat_lt a.function b.function) _ (and_both _ _ (equal_then _ _ e) (or_second (nat_lt a.block b.block) _ (and_both _ _ (equal_then _ _ f) (less_then _ _ h))))
+then_before a b (inl h) = or_first _ _ (true_lt _ _ h)
+then_before a b (inr (e, inl h)) = or_second (nat_lt a.function b.function) _ (true_both (true_equal _ _ e) (or_first _ _ (true_lt _ _ h)))
+then_before a b (inr (e, inr (f, h))) = or_second (nat_lt a.function b.function) _ (true_both (true_equal _ _ e) (or_second (nat_lt a.block b.block) _ (true_both (true_equal _ _ f) (true_lt _ _ h))))
 
 never : (a : Site) → Before a a → ⊥
 never a (inl h) = omega (arith, h)
@@ -218,12 +197,12 @@ Sorted (x ∷ xs) = AllAfter x xs × Sorted xs
 sorted_ascends : (xs : List Site) → Sorted xs → is_ascending xs ≡ true
 sorted_ascends [] h = refl
 sorted_ascends (a ∷ []) h = refl
-sorted_ascends (a ∷ b ∷ rest) h = and_both _ _ (then_before a b (h.0 b (inl refl))) (sorted_ascends (b ∷ rest) h.1)
+sorted_ascends (a ∷ b ∷ rest) h = true_both (then_before a b (h.0 b (inl refl))) (sorted_ascends (b ∷ rest) h.1)
 
 ascending_sorted : (xs : List Site) → is_ascending xs ≡ true → Sorted xs
 ascending_sorted [] e = tt
 ascending_sorted (a ∷ []) e = ((λ s i. absurd i), tt)
-ascending_sorted (a ∷ b ∷ rest) e = go (and_true (site_before a b) _ e).0 (ascending_sorted (b ∷ rest) (and_true (site_before a b) _ e).1)
+ascending_sorted (a ∷ b ∷ rest) e = go (both_true (site_before a b) _ e).0 (ascending_sorted (b ∷ rest) (both_true (site_before a b) _ e).1)
   where
     go : site_before a b ≡ true → Sorted (b ∷ rest) → Sorted (a ∷ b ∷ rest)
     go h r = (after, r)

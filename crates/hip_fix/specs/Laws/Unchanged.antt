@@ -17,7 +17,7 @@ use Rattle.hip_runs.specs.Validity.{IsValid}
 use Rattle.hip_fix.specs.declared.plan.Plan.{Plan}
 use Rattle.hip_fix.specs.Choice.{wants_flush, wants_fence, wants_hoist, plan_for}
 use Rattle.hip_fix.specs.Repaired.{Marked, Clone, Wanted, wanted_by, renamed, inserted_behind, repaired_body, instrs_of, repaired_blocks, repaired_functions, clone_functions, cloned, clones_of, inserts, inserts_in, inserts_from, inserts_cloned, needs, added_externs, repaired}
-use Rattle.hip_runs.specs.Laws.FoundLaws.{append_nil}
+use Rattle.std.proofs.lemmas.List.{append-nil}
 use Rattle.hip_fix.specs.Suits.{no_repairs}
 
 -- ---- no reports
@@ -142,10 +142,10 @@ module _ (skip : Site → Bool) where
 
     pub nothing_repaired : repaired P no_repairs skip ≡ P
     nothing_repaired =
-        ap (λ es. program_with P es (repaired P no_repairs skip).functions) (ap (λ es. P.externs ++ es) none_added ∙ append_nil P.externs)
-        ∙ ap (λ fs. program_with P P.externs fs) (ap₂ (λ xs ys. xs ++ ys) (same_functions (clones_of P no_repairs) 0 P.functions) no_clones ∙ append_nil P.functions)
+        ap (λ es. program_with P es (repaired P no_repairs skip).functions) (ap (λ es. P.externs ++ es) none_added ∙ append-nil P.externs)
+        ∙ ap (λ fs. program_with P P.externs fs) (ap₂ (λ xs ys. xs ++ ys) (same_functions (clones_of P no_repairs) 0 P.functions) no_clones ∙ append-nil P.functions)
 
 -- ---- inputs
 
 pub valid_again : (P : Program) (plan : Plan) (skip : Site → Bool) (I : Input) → IsValid P I → IsValid (repaired P plan skip) I
-valid_again P plan skip I v = record { base = v.base; image = v.image; bytes = v.bytes; numbers = v.numbers; numbers_fit = v.numbers_fit; limit = v.limit }
+valid_again P plan skip I v = record { base = v.base; image = v.image; numbers = v.numbers; limit = v.limit }

@@ -1,5 +1,5 @@
 -- What stands at a frame's place, in its block and its function.
-use Rattle.std.proofs.Common.{◌≡◌, ℕ, zero, suc, true, List, [], ◌∷◌, drop, Option, Some, None, slice_get, refl}
+use Rattle.std.proofs.Common.{◌≡◌, ℕ, true, List, [], ◌∷◌, Option, Some, None, slice_get, refl}
 use Rattle.hip_ir.specs.declared.block.Block.{Block}
 use Rattle.hip_ir.specs.declared.program.Function.{Function}
 use Rattle.hip_ir.specs.declared.program.Program.{Program}
@@ -7,12 +7,6 @@ use Rattle.hip_typing.specs.Sound.{IsBlockAt}
 use Rattle.hip_runs.specs.Places.{blocks_in, block_at}
 use Rattle.hip_runs.specs.State.{Frame}
 use Rattle.hip_runs.specs.Laws.StepLaws.{has_frame}
-
-pub get_drop : {A : Type 0} (xs : List A) (k : ℕ) (x : A) (ys : List A) → drop k xs ≡ x ∷ ys → slice_get xs k ≡ Some x
-get_drop [] zero x ys e = cc
-get_drop [] (suc k) x ys e = cc
-get_drop (y ∷ xs) zero x ys e = cc
-get_drop (y ∷ xs) (suc k) x ys e = get_drop xs k x ys e
 
 -- the function of a block that is there
 pub block_there : (P : Program) (g b : ℕ) (block : Block) → block_at P g b ≡ Some block → (fn : Function) × IsBlockAt P g b fn block

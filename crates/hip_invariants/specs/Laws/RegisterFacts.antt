@@ -23,7 +23,8 @@ use Rattle.hip_runs.specs.Step.{main_number, run}
 use Rattle.hip_runs.specs.Laws.StepLaws.{IsTop}
 use Rattle.hip_invariants.specs.FrameFacts.{below_hold, frames_hold, each_register}
 use Rattle.hip_invariants.specs.Laws.Frames.{keeps, IsInvariant, invariant_holds}
-use Rattle.hip_invariants.specs.Laws.Places.{get_drop, block_there}
+use Rattle.hip_runs.specs.Laws.Members.{get_drop}
+use Rattle.hip_invariants.specs.Laws.Places.{block_there}
 
 -- The fact of a function's register and its value; and one of a function and what it returns.
 module _ (Fact : ℕ → List ℕ → ℕ → Type 0) (Returned : ℕ → ℕ → Type 0) where

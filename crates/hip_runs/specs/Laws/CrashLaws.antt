@@ -26,7 +26,8 @@ whole_lines P I v = go (end_of true 0 P.globals) v.image
     go : (x : ℕ) → length I.image ≡ x + (64 - x % 64) % 64 → length I.image ≡ 64 * (length I.image / 64)
     go x e = omega arith
 
-same_size : (P : Program) (I : Input) (n : ℕ) → IsValid P I → length I.image ≡ 64 * length (run P I n).lines
+-- the region's initial bytes fill its lines
+pub same_size : (P : Program) (I : Input) (n : ℕ) → IsValid P I → length I.image ≡ 64 * length (run P I n).lines
 same_size P I n v = whole_lines P I v ∙ ap (λ k. 64 * k) (sym (length-lines P I n))
 
 pub choice-image : (P : Program) (I : Input) (n : ℕ) (pick : ℕ → ℕ) → IsValid P I → IsCrashPick (run P I n) pick → IsCrashImage I (run P I n) (crash_image I (run P I n) pick)

@@ -21,7 +21,8 @@ use Rattle.hip_mem.specs.Bytes.{little_endian, bytes_of}
 use Rattle.hip_mem.specs.BytesLaws.{bytes_of-below, bytes_of-little_endian}
 use Rattle.hip_mem.specs.Memory.{stack_end}
 use Rattle.hip_num.specs.Arithmetic.{binary_of}
-use Rattle.hip_runs.specs.Laws.HistoryLaws.{get_drop, instr_at_place}
+use Rattle.hip_runs.specs.Laws.HistoryLaws.{instr_at_place}
+use Rattle.hip_runs.specs.Laws.Members.{get_drop}
 use Rattle.hip_runs.specs.Operands.{scalar_size, value_of, values_of}
 use Rattle.hip_runs.specs.declared.event.Event.{Event}
 use Rattle.hip_runs.specs.declared.input.Input.{Input}
@@ -171,7 +172,7 @@ deed_fits P I w f fs = by_code (code_at P f) refl
     by_code : (code : List Instr) → code_at P f ≡ code → Fits P (deed_of P I w (length fs) f (end_at P f) code).action (instr_of P (site_of f))
     by_code [] q = fits_end P I f (end_at P f) _
     by_code (i ∷ rest) q =
-        let at : instr_of P (site_of f) ≡ Some i = instr_at_place P f.function f.block f.place ∙ get_drop P (body_at P f.function f.block) f.place i rest q in
+        let at : instr_of P (site_of f) ≡ Some i = instr_at_place P f.function f.block f.place ∙ get_drop (body_at P f.function f.block) f.place i rest q in
         subst (Fits P (instr_action P I w (length fs) f.registers i)) (sym at) (fits_instr P I w (length fs) f.registers i)
 
 -- and so does the event that is seen of it

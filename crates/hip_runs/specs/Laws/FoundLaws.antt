@@ -1,6 +1,6 @@
 -- Marks are the same exactly where they are equal; and the findings of a run exist, and are one.
+use Rattle.std.proofs.lemmas.List.{append-nil}
 use Rattle.std.proofs.Common.{◌≡◌, ℕ, Bool, true, false, ◌&&◌, nat_eq, refl, ap, ap₂, subst, arith, ◌⊎◌, inl, inr, zero, suc, ◌+◌, cond, List, [], ◌∷◌, ◌++◌, Option, Some, None, sym, ◌∙◌}
-use Rattle.std.proofs.lemmas.Bool.Decides.{nat_tests}
 use Rattle.hip_ir.specs.declared.site.Site.{Site}
 use Rattle.std.specs.Cmp.{IsEquivalence, both_ways, nat_eq_equiv}
 use Rattle.std.specs.List.{list_any, IsDistinct}
@@ -23,39 +23,27 @@ use Rattle.hip_runs.specs.State.{State}
 use Rattle.hip_runs.specs.Step.{event, event_on_ending, step, on_ending, run, has_ended}
 use Rattle.hip_runs.specs.declared.report.Marks.{Marks}
 use Rattle.hip_runs.specs.Scores.{Worth, is_worth_of, worth_at, is_marked, with_mark, worth, worth_in, worth_of, worths, worths_from}
+use Rattle.hip_runs.specs.Laws.Members.{both_true, equal_true, true_both, true_equal}
 use Rattle.hip_runs.specs.declared.event.Object.TheVariants as objects
-
-both_true : (a b : Bool) → a && b ≡ true → (a ≡ true) × (b ≡ true)
-both_true true b h = (refl, h)
-both_true false b h = absurd (let z : ⊥ = cc in z)
-
-true_both : {a b : Bool} → a ≡ true → b ≡ true → a && b ≡ true
-true_both p q = rw (p, q) refl
-
-same_number : (a b : ℕ) → nat_eq a b ≡ true → a ≡ b
-same_number a b h = grind (arith, nat_tests)
-
-number_same : (a : ℕ) → nat_eq a a ≡ true
-number_same a = grind (arith, nat_tests)
 
 pub same_site_equal : (a b : Site) → same_site a b ≡ true → a ≡ b
 same_site_equal a b h =
     let p = both_true _ _ h in
     let q = both_true _ _ p.1 in
-    ap₂ (λ (f : ℕ) (r : Site). record { function = f; block = r.block; index = r.index }) (same_number _ _ p.0)
-    (ap₂ (λ (x y : ℕ). record { function = a.function; block = x; index = y }) (same_number _ _ q.0) (same_number _ _ q.1))
+    ap₂ (λ (f : ℕ) (r : Site). record { function = f; block = r.block; index = r.index }) (equal_true _ _ p.0)
+    (ap₂ (λ (x y : ℕ). record { function = a.function; block = x; index = y }) (equal_true _ _ q.0) (equal_true _ _ q.1))
 
 pub site_same : (a : Site) → same_site a a ≡ true
-site_same a = true_both (number_same a.function) (true_both (number_same a.block) (number_same a.index))
+site_same a = true_both (true_equal a.function a.function refl) (true_both (true_equal a.block a.block refl) (true_equal a.index a.index refl))
 
 pub same_object_equal : (a b : Object) → same_object a b ≡ true → a ≡ b
-same_object_equal (objects.Global a) (objects.Global b) h = ap objects.Global (same_number a b h)
+same_object_equal (objects.Global a) (objects.Global b) h = ap objects.Global (equal_true a b h)
 same_object_equal (objects.Slot a) (objects.Slot b) h = ap objects.Slot (same_site_equal a b h)
 same_object_equal (objects.Global a) (objects.Slot b) h = absurd (let z : ⊥ = cc in z)
 same_object_equal (objects.Slot a) (objects.Global b) h = absurd (let z : ⊥ = cc in z)
 
 pub object_same : (a : Object) → same_object a a ≡ true
-object_same (objects.Global a) = number_same a
+object_same (objects.Global a) = true_equal a a refl
 object_same (objects.Slot a) = site_same a
 
 pub same_mark_equal : (a b : Mark) → same_mark a b ≡ true → a ≡ b
@@ -63,10 +51,10 @@ same_mark_equal a b h =
     let p = both_true _ _ h in
     let q = both_true _ _ p.1 in
     ap₂ (λ (s : Site) (m : Mark). record { site = s; operand = m.operand; object = m.object }) (same_site_equal _ _ p.0)
-    (ap₂ (λ (n : ℕ) (o : Object). record { site = a.site; operand = n; object = o }) (same_number _ _ q.0) (same_object_equal _ _ q.1))
+    (ap₂ (λ (n : ℕ) (o : Object). record { site = a.site; operand = n; object = o }) (equal_true _ _ q.0) (same_object_equal _ _ q.1))
 
 pub mark_same : (a b : Mark) → a ≡ b → same_mark a b ≡ true
-mark_same a b e = subst (λ x. same_mark a x ≡ true) e (true_both (site_same a.site) (true_both (number_same a.operand) (object_same a.object)))
+mark_same a b e = subst (λ x. same_mark a x ≡ true) e (true_both (site_same a.site) (true_both (true_equal a.operand a.operand refl) (object_same a.object)))
 
 -- ---- marks are met once
 
@@ -102,7 +90,7 @@ module _ (hit : List ℕ) (site : Site) (operand : ℕ) where
   same_test : (w : Worth) (m : Mark) → is_worth_of w m.site m.operand ≡ true → is_worth_of w site operand ≡ same_site m.site site && nat_eq m.operand operand
   same_test w m e =
       let p = both_true (same_site w.site m.site) _ e in
-      ap₂ (λ (s : Site) (n : ℕ). same_site s site && nat_eq n operand) (same_site_equal w.site m.site p.0) (same_number w.operand m.operand p.1)
+      ap₂ (λ (s : Site) (n : ℕ). same_site s site && nat_eq n operand) (same_site_equal w.site m.site p.0) (equal_true w.operand m.operand p.1)
 
   other_test : (w : Worth) (m : Mark) → is_worth_of w m.site m.operand ≡ false → is_worth_of w site operand ≡ true → same_site m.site site && nat_eq m.operand operand ≡ false
   other_test w m e f = go (same_site m.site site && nat_eq m.operand operand) refl
@@ -113,8 +101,8 @@ module _ (hit : List ℕ) (site : Site) (operand : ℕ) where
           let p = both_true (same_site w.site site) _ f in
           let q = both_true (same_site m.site site) _ g in
           let s : m.site ≡ w.site = same_site_equal m.site site q.0 ∙ sym (same_site_equal w.site site p.0) in
-          let n : m.operand ≡ w.operand = same_number m.operand operand q.1 ∙ sym (same_number w.operand operand p.1) in
-          let t : is_worth_of w m.site m.operand ≡ true = ap₂ (λ (u : Site) (k : ℕ). is_worth_of w u k) s n ∙ true_both (site_same w.site) (number_same w.operand) in
+          let n : m.operand ≡ w.operand = equal_true m.operand operand q.1 ∙ sym (equal_true w.operand operand p.1) in
+          let t : is_worth_of w m.site m.operand ≡ true = ap₂ (λ (u : Site) (k : ℕ). is_worth_of w u k) s n ∙ true_both (site_same w.site) (true_equal w.operand w.operand refl) in
           absurd (let z : false ≡ true = sym e ∙ t in let u : ⊥ = cc in u)
 
   worth-with_mark : (ws : List Worth) (m : Mark) → worth_at (with_mark hit ws m) site operand ≡ more (worth_at ws site operand) m
@@ -159,15 +147,11 @@ run_next : (P : Program) (I : Input) (n : ℕ) → has_ended (run P I n) ≡ tru
 unfolding run
 run_next P I n e = ended_next P I (run P I n) e
 
-pub append_nil : {A : Type 0} (xs : List A) → xs ++ [] ≡ xs
-append_nil [] = refl
-append_nil (x ∷ xs) = ap (λ ys. x ∷ ys) (append_nil xs)
-
 same_reports : (P : Program) (I : Input) (n : ℕ) → has_ended (run P I n) ≡ true → reports P I (suc n) ≡ reports P I n
 unfolding reports
 same_reports P I n e =
     ap (λ b. reports P I n ++ check_reports (run P I n) (cond b None (checked_by I (event P I (run P I n))))) e
-    ∙ append_nil (reports P I n)
+    ∙ append-nil (reports P I n)
 
 same_pointed : (P : Program) (I : Input) (n : ℕ) → has_ended (run P I n) ≡ true → pointed P I (suc n) ≡ pointed P I n
 unfolding pointed

@@ -1,5 +1,5 @@
 -- Every run keeps its history.
-use Rattle.std.proofs.Common.{◌≡◌, ◌⊎◌, inl, inr, ℕ, zero, suc, ◌+◌, ◌-◌, ◌<◌, ◌≤◌, Bool, true, false, cond, ◌||◌, nat_eq, List, [], ◌∷◌, ◌++◌, map, length, drop, Option, Some, None, slice_get, refl, sym, ap, ◌∙◌, subst, arith, append_assoc}
+use Rattle.std.proofs.Common.{◌≡◌, ◌⊎◌, inl, inr, ℕ, zero, suc, ◌+◌, ◌-◌, ◌<◌, ◌≤◌, Bool, true, false, cond, ◌||◌, nat_eq, List, [], ◌∷◌, ◌++◌, map, length, Option, Some, None, slice_get, refl, sym, ap, ◌∙◌, subst, arith, append_assoc}
 use Rattle.std.specs.Prelude.{option_and_then}
 use Rattle.std.proofs.lemmas.Bool.Decides.{nat_tests}
 use Rattle.hip_ir.specs.Sites.{instr_of}
@@ -18,6 +18,7 @@ use Rattle.hip_runs.specs.declared.input.Input.{Input}
 use Rattle.hip_runs.specs.Actions.{Action, Traps, Assigns, Allocates, Stores, Flushes, Persists, Fences, Asserts, Prints, Reads, Calls, Jumps, Returns, Deed, in_region, jump, jump_to, end_action, deed_of}
 use Rattle.hip_runs.specs.History.{AreDescending, IsParted, HasHistory}
 use Rattle.hip_runs.specs.Parts.{In, PartOf}
+use Rattle.hip_runs.specs.Laws.Members.{get_drop}
 use Rattle.hip_runs.specs.Laws.PartLaws.{in-append, append-left, part-fenced, part-flushed_from, part-stored, IsFlushedFrom}
 use Rattle.hip_runs.specs.Persistence.{part_of_store, stored_lines, earlier, noted_flush, noted_fence, flush_line, fence_line, flushes_lines, flushed_lines, fenced_lines}
 use Rattle.hip_runs.specs.Places.{blocks_in, body_of, body_at, code_at, end_at}
@@ -452,12 +453,6 @@ module _ (P : Program) where
       go : (t : Bool) → StateKept (cond t (stop Cut w (f ∷ fs) ls (counted e c)) (perform I (cond d.turn (with_turn w) w) f fs ls c (counted e c) d.action))
       go true = later (levels_of (f ∷ fs)) ls c.steps k
       go false = h _
-
-  pub get_drop : {A : Type 0} (xs : List A) (k : ℕ) (x : A) (ys : List A) → drop k xs ≡ x ∷ ys → slice_get xs k ≡ Some x
-  get_drop [] zero x ys e = cc
-  get_drop [] (suc k) x ys e = cc
-  get_drop (y ∷ xs) zero x ys e = cc
-  get_drop (y ∷ xs) (suc k) x ys e = get_drop xs k x ys e
 
   pub instr_at_place : (f b k : ℕ) → instr_of P (record { function = f; block = b; index = k }) ≡ slice_get (body_at P f b) k
   instr_at_place f b k = go (slice_get P.functions f)

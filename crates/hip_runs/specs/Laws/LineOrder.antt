@@ -1,5 +1,5 @@
--- What every run keeps of each of its lines: its parts lie in it, their steps ascend, those that are not flushed have no first flush,
--- and those that are fenced are the ones before the last fence.
+-- What every run keeps of each of its lines: its parts lie in it, their steps ascend, those that are not flushed have
+-- no first flush, and those that are fenced are the ones before the last fence.
 use Rattle.std.proofs.Common.{◌≡◌, ◌⊎◌, inl, inr, ℕ, zero, suc, ◌+◌, ◌-◌, ◌/◌, ◌<◌, ◌≤◌, Bool, true, false, cond, List, [], ◌∷◌, ◌++◌, length, map, take, drop, Option, Some, None, option_map, slice_get, refl, sym, ap, ◌∙◌, subst, arith, length-append, length-drop}
 use Rattle.std.proofs.lemmas.List.{length-map, length-take-le}
 use Rattle.hip_ir.specs.declared.program.Program.{Program}
@@ -16,9 +16,11 @@ use Rattle.hip_runs.specs.Laws.SinceLaws.{line_of_start, below, fence_told, told
 use Rattle.hip_runs.specs.State.{Level, Flush, StorePart, Counts, site_of, levels_of}
 use Rattle.hip_runs.specs.Step.{run, step, event}
 use Rattle.hip_runs.specs.Laws.StepLaws.{Cases, met_lines, step-cases, counted-steps}
-use Rattle.hip_runs.specs.Laws.LooseBytes.{AreInLines, true_over, lt_true, true_lt}
+use Rattle.hip_runs.specs.Laws.LooseBytes.{AreInLines, true_over}
 use Rattle.hip_runs.specs.Parts.{PartOf}
 use Rattle.hip_runs.specs.Since.{fences, FencedSince}
+use Rattle.hip_runs.specs.Laws.Members.{lt_true, true_lt}
+use Rattle.std.specs.Cmp.{both_ways}
 
 -- Line m of a state after n steps.
 pub record IsWell (n m : ℕ) (l : Line StorePart) : Type 0 where
@@ -209,11 +211,6 @@ module _ (P : Program) (I : Input) (from : ℕ) where
       go : (is_before from (last_fence P I n) ≡ true → FencedSince P I from n) → (b : Bool) → fences (event P I (run P I n)) ≡ b → is_before from (cond b (Some n) (last_fence P I n)) ≡ true → FencedSince P I from (suc n)
       go next true e g = (n, lt_true from n g, omega arith, e)
       go next false e g = let r = next g in (r.0, r.1, omega (arith, r.2), r.3)
-
-both_ways : (a b : Bool) → (a ≡ true → b ≡ true) → (b ≡ true → a ≡ true) → a ≡ b
-both_ways true b f g = sym (f refl)
-both_ways false true f g = g refl
-both_ways false false f g = refl
 
 pub fenced_by_last : (P : Program) (I : Input) (n : ℕ) (x : StorePart) → PartOf (run P I n).lines x → x.fenced ≡ is_before x.step (last_fence P I n)
 fenced_by_last P I n x i = both_ways _ _ (λ e. fenced_before P I x.step n (fence_told P I n x i e)) (λ e. told_by_fence P I n x i (before_fenced P I x.step n e))

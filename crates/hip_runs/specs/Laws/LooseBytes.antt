@@ -1,7 +1,7 @@
 -- The loose parts of a store are those that the loose bytes of its step tell.
 use Rattle.std.proofs.Common.{◌≡◌, ◌⊎◌, inl, inr, ℕ, zero, suc, ◌+◌, ◌-◌, ◌/◌, ◌<◌, ◌≤◌, Bool, true, false, cond, not, ◌&&◌, ◌||◌, nat_eq, nat_le, nat_lt, List, [], ◌∷◌, length, drop, Option, Some, None, option_map, slice_get, refl, sym, ap, ap₂, ◌∙◌, subst, arith}
 use Rattle.std.specs.Prelude.{option_and_then, option_to_list}
-use Rattle.std.specs.List.{list_any, list_all}
+use Rattle.std.specs.List.{list_any}
 use Rattle.std.proofs.lemmas.Bool.Decides.{nat_tests}
 use Rattle.hip_lines.specs.Line.{Line, map_line}
 use Rattle.hip_lines.specs.Loose.{IsLastOver, IsLooseBy, last_over}
@@ -14,9 +14,10 @@ use Rattle.hip_runs.specs.Parts.{In, PartOf}
 use Rattle.hip_runs.specs.Laws.PartLaws.{in-append, append-left, append-right}
 use Rattle.hip_runs.specs.Reports.{LoosePart, shows, is_last, loose_from, loose_in, loose_parts}
 use Rattle.hip_runs.specs.State.{StorePart}
-use Rattle.hip_runs.specs.Laws.Members.{or_right, none_at, at_none, of_flat, to_flat}
 use Rattle.hip_runs.specs.Tags.{AreAlike, IsLoosePart}
 use Rattle.hip_runs.specs.Shown.{shown_part, shown_line, shown}
+use Rattle.hip_runs.specs.Laws.Members.{at_none, equal_true, in_at, le_true, lt_true, none_at, of_flat, to_flat, true_equal, true_le, true_lt}
+use Rattle.hip_types.specs.DistinctLaws.{or_second}
 use Rattle.hip_lines.specs.Parts as bytes
 
 -- every byte that a part covers lies in the part's line
@@ -32,18 +33,6 @@ record IsShown (o n count b : ℕ) (later : List StorePart) (c : ℕ) : Type 0 w
   low : o ≤ c
   high : c < o + n
   bare : list_any (λ q. covers q c) later ≡ false
-
-le_true : (a b : ℕ) → nat_le a b ≡ true → a ≤ b
-le_true a b h = grind (arith, nat_tests)
-
-true_le : (a b : ℕ) → a ≤ b → nat_le a b ≡ true
-true_le a b h = grind (arith, nat_tests)
-
-pub lt_true : (a b : ℕ) → nat_lt a b ≡ true → a < b
-lt_true a b h = grind (arith, nat_tests)
-
-pub true_lt : (a b : ℕ) → a < b → nat_lt a b ≡ true
-true_lt a b h = grind (arith, nat_tests)
 
 shown_byte : (o n count b : ℕ) (later : List StorePart) → shows o n count b later ≡ true → (c : ℕ) × IsShown o n count b later c
 shown_byte o n zero b later h = absurd (let z : ⊥ = cc in z)
@@ -73,7 +62,7 @@ byte_shown o n (suc count) b later c s = go (λ t. byte_shown o n count (suc b) 
 
     go : (IsShown o n count (suc b) later c → shows o n count (suc b) later ≡ true) → (b ≡ c) ⊎ (suc b ≤ c) → shows o n (suc count) b later ≡ true
     go next (inl e) = first _ _ (subst (λ a. nat_le o a && (nat_lt a (o + n) && not (list_any (λ q. covers q a) later)) ≡ true) (sym e) here)
-    go next (inr lt) = or_right (nat_le o b && (nat_lt b (o + n) && not (list_any (λ q. covers q b) later))) _ (next (record { from = lt; to = omega (arith, s.to); low = s.low; high = s.high; bare = s.bare }))
+    go next (inr lt) = or_second (nat_le o b && (nat_lt b (o + n) && not (list_any (λ q. covers q b) later))) _ (next (record { from = lt; to = omega (arith, s.to); low = s.low; high = s.high; bare = s.bare }))
 
 -- ---- the loose parts of a line, by their places
 
@@ -83,12 +72,6 @@ pub record IsFound (o n made d f k : ℕ) (ps : List StorePart) (y : LoosePart) 
   pub loose : d ≤ k + i
   pub last : is_last o n p (drop (suc i) ps) ≡ true
   pub is : y ≡ record { part = p; flushed = nat_lt (k + i) f }
-
-pub equal_true : (a b : ℕ) → nat_eq a b ≡ true → a ≡ b
-equal_true a b h = grind (arith, nat_tests)
-
-pub true_equal : (a b : ℕ) → a ≡ b → nat_eq a b ≡ true
-true_equal a b h = grind (arith, nat_tests)
 
 pub found_part : (o n made d f k : ℕ) (ps : List StorePart) (y : LoosePart) → In y (loose_from o n made d f k ps) → (i : ℕ) × (p : StorePart) × IsFound o n made d f k ps y i p
 found_part o n made d f k [] y h = absurd h
@@ -282,11 +265,6 @@ module _ (ls : List (Line StorePart)) (inside : AreInLines ls) (o n made : ℕ) 
 
 -- ---- parts and items at their places
 
-pub in_at : {A : Type 0} (xs : List A) (k : ℕ) (x : A) → slice_get xs k ≡ Some x → In x xs
-in_at [] k x e = absurd (let z : ⊥ = cc in z)
-in_at (y ∷ xs) zero x e = inl (let z : x ≡ y = cc in z)
-in_at (y ∷ xs) (suc k) x e = inr (in_at xs k x e)
-
 pub part_at : (ls : List (Line StorePart)) (m : ℕ) (l : Line StorePart) (x : StorePart) → slice_get ls m ≡ Some l → In x l.parts → PartOf ls x
 part_at [] m l x e i = absurd (let z : ⊥ = cc in z)
 part_at (y ∷ ls) zero l x e i = inl (let z : l ≡ y = cc in subst (λ (w : Line StorePart). In x w.parts) z i)
@@ -295,20 +273,3 @@ part_at (y ∷ ls) (suc m) l x e i = inr (part_at ls m l x e i)
 -- the part of a loose part is one of the lines
 pub loose_there : (o n made : ℕ) (ls : List (Line StorePart)) (p : LoosePart) → IsLoosePart o n made ls p → PartOf ls p.part
 loose_there o n made ls p r = part_at ls r.line r.of p.part r.line_at (in_at r.of.parts r.place p.part r.loose.last_over.at)
-
-both : (a b : Bool) → a && b ≡ true → (a ≡ true) × (b ≡ true)
-both true b h = (refl, h)
-both false b h = absurd (let z : ⊥ = cc in z)
-
-module _ {A : Type 0} (test : A → Bool) where
-  pub in_all : (xs : List A) → list_all test xs ≡ true → (x : A) → In x xs → test x ≡ true
-  in_all [] h x i = absurd i
-  in_all (y ∷ xs) h x (inl e) = subst (λ z. test z ≡ true) (sym e) (both (test y) _ h).0
-  in_all (y ∷ xs) h x (inr i) = in_all xs (both (test y) _ h).1 x i
-
-  pub all_in : (xs : List A) → ((x : A) → In x xs → test x ≡ true) → list_all test xs ≡ true
-  all_in [] h = refl
-  all_in (y ∷ xs) h = pair (h y (inl refl)) (all_in xs (λ x i. h x (inr i)))
-    where
-      pair : {a b : Bool} → a ≡ true → b ≡ true → a && b ≡ true
-      pair p q = rw (p, q) refl

@@ -1,12 +1,38 @@
--- Members of lists: by a test, of a flat map, and by their places.
-use Rattle.std.proofs.Common.{◌≡◌, ◌⊎◌, inl, inr, ℕ, zero, suc, Bool, true, false, ◌||◌, List, [], ◌∷◌, Some, slice_get, refl, subst}
-use Rattle.std.specs.List.{flat_map, list_any}
+-- Tests and what they tell; and members of lists: by a test, of a flat map, and by their places.
+use Rattle.std.proofs.Common.{◌≡◌, ◌⊎◌, inl, inr, ℕ, zero, suc, Bool, true, false, ◌||◌, List, [], ◌∷◌, Some, slice_get, refl, subst, arith, nat_eq, sym, ◌<◌, ◌≤◌, drop}
+use Rattle.std.specs.List.{flat_map, list_any, list_all}
 use Rattle.hip_runs.specs.Parts.{In}
 use Rattle.hip_runs.specs.Laws.PartLaws.{in-append, append-left, append-right}
+use Rattle.hip_types.specs.DistinctLaws.{or_second}
+use Rattle.std.proofs.lemmas.Bool.Decides.{nat_tests}
+use Rattle.std.specs.Prelude.{nat_le, nat_lt, ◌&&◌}
 
-pub or_right : (a b : Bool) → b ≡ true → a || b ≡ true
-or_right true b h = refl
-or_right false b h = h
+-- ---- tests and what they tell
+
+pub both_true : (a b : Bool) → a && b ≡ true → (a ≡ true) × (b ≡ true)
+both_true true b h = (refl, h)
+both_true false b h = absurd (let z : ⊥ = cc in z)
+
+pub true_both : {a b : Bool} → a ≡ true → b ≡ true → a && b ≡ true
+true_both p q = rw (p, q) refl
+
+pub equal_true : (a b : ℕ) → nat_eq a b ≡ true → a ≡ b
+equal_true a b h = grind (arith, nat_tests)
+
+pub true_equal : (a b : ℕ) → a ≡ b → nat_eq a b ≡ true
+true_equal a b h = grind (arith, nat_tests)
+
+pub le_true : (a b : ℕ) → nat_le a b ≡ true → a ≤ b
+le_true a b h = grind (arith, nat_tests)
+
+pub true_le : (a b : ℕ) → a ≤ b → nat_le a b ≡ true
+true_le a b h = grind (arith, nat_tests)
+
+pub lt_true : (a b : ℕ) → nat_lt a b ≡ true → a < b
+lt_true a b h = grind (arith, nat_tests)
+
+pub true_lt : (a b : ℕ) → a < b → nat_lt a b ≡ true
+true_lt a b h = grind (arith, nat_tests)
 
 or_false : (a b : Bool) → a || b ≡ false → (a ≡ false) × (b ≡ false)
 or_false true b h = absurd (let z : ⊥ = cc in z)
@@ -36,7 +62,7 @@ module _ {A : Type 0} (test : A → Bool) where
   pub in_any : (xs : List A) (x : A) → In x xs → test x ≡ true → list_any test xs ≡ true
   in_any [] x i h = absurd i
   in_any (y ∷ xs) x (inl e) h = let q : test y ≡ true = subst (λ z. test z ≡ true) e h in rw q refl
-  in_any (y ∷ xs) x (inr i) h = or_right (test y) _ (in_any xs x i h)
+  in_any (y ∷ xs) x (inr i) h = or_second (test y) _ (in_any xs x i h)
 
 module _ {A B : Type 0} (f : A → List B) where
   pub of_flat : (xs : List A) (y : B) → In y (flat_map f xs) → (m : ℕ) × (x : A) × (slice_get xs m ≡ Some x) × In y (f x)
@@ -51,3 +77,25 @@ module _ {A B : Type 0} (f : A → List B) where
   to_flat [] y m x e i = absurd (let z : ⊥ = cc in z)
   to_flat (z ∷ xs) y zero x e i = let q : x ≡ z = cc in append-left (f z) (flat_map f xs) y (subst (λ w. In y (f w)) q i)
   to_flat (z ∷ xs) y (suc m) x e i = append-right (f z) (flat_map f xs) y (to_flat xs y m x e i)
+
+pub in_at : {A : Type 0} (xs : List A) (k : ℕ) (x : A) → slice_get xs k ≡ Some x → In x xs
+in_at [] k x e = absurd (let z : ⊥ = cc in z)
+in_at (y ∷ xs) zero x e = inl (let z : x ≡ y = cc in z)
+in_at (y ∷ xs) (suc k) x e = inr (in_at xs k x e)
+
+module _ {A : Type 0} (test : A → Bool) where
+  pub in_all : (xs : List A) → list_all test xs ≡ true → (x : A) → In x xs → test x ≡ true
+  in_all [] h x i = absurd i
+  in_all (y ∷ xs) h x (inl e) = subst (λ z. test z ≡ true) (sym e) (both_true (test y) _ h).0
+  in_all (y ∷ xs) h x (inr i) = in_all xs (both_true (test y) _ h).1 x i
+
+  pub all_in : (xs : List A) → ((x : A) → In x xs → test x ≡ true) → list_all test xs ≡ true
+  all_in [] h = refl
+  all_in (y ∷ xs) h = true_both (h y (inl refl)) (all_in xs (λ x i. h x (inr i)))
+
+-- the first item of what is left behind so many stands at that place
+pub get_drop : {A : Type 0} (xs : List A) (k : ℕ) (x : A) (ys : List A) → drop k xs ≡ x ∷ ys → slice_get xs k ≡ Some x
+get_drop [] zero x ys e = cc
+get_drop [] (suc k) x ys e = cc
+get_drop (y ∷ xs) zero x ys e = cc
+get_drop (y ∷ xs) (suc k) x ys e = get_drop xs k x ys e

@@ -16,6 +16,7 @@ use Rattle.hip_runs.specs.Since.{top_site}
 use Rattle.hip_runs.specs.State.{Flush, StorePart, Frame, World, Counts, State, levels_of, site_of}
 use Rattle.hip_runs.specs.Step.{first_line, lines_size, stop, with_turn, leave, perform, is_cut, has_entry, counted, header_entries, carry_out, deed_at, on_frames, on_ending, step, event_on_frames, event_on_ending, event, run}
 use Rattle.hip_runs.specs.Laws.StepLaws.{Cases, IsTop, is_plain, flush_here, met_lines, step-cases}
+use Rattle.std.specs.Cmp.{both_ways}
 use Rattle.hip_runs.specs.declared.event.Event.TheVariants as events
 
 -- ---- the lines that an event names are those that a range meets
@@ -25,11 +26,6 @@ lines_there o n j lt h = grind (arith, nat_tests)
 
 there_lines : (o n j : ℕ) → 0 < n → has_bytes j o n ≡ true → has_bytes j (64 * (o / 64)) (64 * ((o + n - 1) / 64 + 1) - 64 * (o / 64)) ≡ true
 there_lines o n j lt h = grind (arith, nat_tests)
-
-both_ways : (a b : Bool) → (a ≡ true → b ≡ true) → (b ≡ true → a ≡ true) → a ≡ b
-both_ways true b f g = sym (f refl)
-both_ways false true f g = g refl
-both_ways false false f g = refl
 
 some_bytes : (n : ℕ) (b : Bool) → nat_lt 0 n && b ≡ true → 0 < n
 some_bytes n b h = grind (arith, nat_tests)

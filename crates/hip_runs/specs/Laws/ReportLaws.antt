@@ -16,9 +16,9 @@ use Rattle.hip_runs.specs.Sites.{is_store, is_flush_call, is_defined_call, HasSi
 use Rattle.hip_runs.specs.State.{Level, Flush, State, levels_of}
 use Rattle.hip_runs.specs.Step.{run}
 use Rattle.hip_runs.specs.WellFormed.{lacks_fence_alone, IsWellFormed}
-use Rattle.hip_runs.specs.Laws.LooseBytes.{part_loose, loose_there, in_at, in_all, lt_true}
-use Rattle.hip_runs.specs.Laws.Members.{of_flat}
+use Rattle.hip_runs.specs.Laws.LooseBytes.{part_loose, loose_there}
 use Rattle.hip_runs.specs.Laws.SiteLaws.{has_sites}
+use Rattle.hip_runs.specs.Laws.Members.{in_all, in_at, lt_true, of_flat}
 
 closed_few : (standing levels : List Level) → closed_count standing levels ≤ length levels
 closed_few standing [] = omega arith

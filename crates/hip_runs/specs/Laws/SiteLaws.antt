@@ -17,7 +17,8 @@ use Rattle.hip_runs.specs.Laws.StoreLaws.{part-of_store}
 use Rattle.hip_runs.specs.Laws.CallLaws.{calls_defined}
 use Rattle.hip_runs.specs.Laws.Fits.{Told, site_told}
 use Rattle.hip_runs.specs.Laws.LineOrder.{lines_well}
-use Rattle.hip_runs.specs.Laws.LooseBytes.{part_at, in_at}
+use Rattle.hip_runs.specs.Laws.LooseBytes.{part_at}
+use Rattle.hip_runs.specs.Laws.Members.{in_at}
 use Rattle.hip_runs.specs.declared.event.Event.TheVariants as events
 
 flush_of : (base j : ℕ) (e : Event) (o : Option Instr) → Told e o → flushes base j e ≡ true → (is_flush_call o ≡ true) ⊎ ((is_persist_call o ≡ true) × (fences e ≡ true))

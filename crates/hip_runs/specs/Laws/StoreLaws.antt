@@ -3,7 +3,7 @@ use Rattle.std.proofs.Common.{◌≡◌, ◌⊎◌, inl, inr, ℕ, zero, suc, �
 use Rattle.std.proofs.lemmas.Bool.Decides.{nat_tests}
 use Rattle.std.proofs.lemmas.List.{length-take-le, length-drop}
 use Rattle.hip_ir.specs.declared.program.Program.{Program}
-use Rattle.hip_mem.specs.Bytes.{little_endian}
+use Rattle.hip_mem.specs.Bytes.{little_endian, bytes_of}
 use Rattle.hip_lines.specs.Line.{Line, start_in, end_in, has_bytes}
 use Rattle.hip_lines.specs.LineLaws.{byte-of_part}
 use Rattle.hip_runs.specs.declared.event.Event.{Event}
@@ -88,10 +88,10 @@ module _ (o : ℕ) (bytes : List ℕ) (j : ℕ) where
 
 module _ (P : Program) (I : Input) where
   of_fence : (x : StorePart) → IsOfStore P I x → IsOfStore P I (noted_fence x)
-  of_fence x s = record { addr = s.addr; bytes = s.bytes; stored = s.stored; site = s.site; levels = s.levels; entry = s.entry; covered = s.covered; whole = s.whole }
+  of_fence x s = record { addr = s.addr; bytes = s.bytes; stored = s.stored; written = s.written; site = s.site; levels = s.levels; entry = s.entry; covered = s.covered; whole = s.whole }
 
   of_flush : (flush : Flush) (x : StorePart) → IsOfStore P I x → IsOfStore P I (noted_flush flush x)
-  of_flush flush x s = record { addr = s.addr; bytes = s.bytes; stored = s.stored; site = s.site; levels = s.levels; entry = s.entry; covered = s.covered; whole = s.whole }
+  of_flush flush x s = record { addr = s.addr; bytes = s.bytes; stored = s.stored; written = s.written; site = s.site; levels = s.levels; entry = s.entry; covered = s.covered; whole = s.whole }
 
   of_flushes : (flush : Flush) (b : Bool) (x : StorePart) → IsOfStore P I x → IsOfStore P I (cond b (noted_flush flush x) x)
   of_flushes flush true x s = of_flush flush x s
@@ -101,15 +101,16 @@ module _ (P : Program) (I : Input) where
   AreOf ls = (j : ℕ) (x : StorePart) → InLine (slice_get ls j) x → IsOfStore P I x
 
   module _ (n : ℕ) where
-    new : (f : Frame) (fs : List Frame) → IsTop (run P I n) f fs → (a : ℕ) (bytes : List ℕ) → I.base ≤ a → event P I (run P I n) ≡ events.Store a (little_endian bytes) (length bytes) →
+    new : (f : Frame) (fs : List Frame) → IsTop (run P I n) f fs → (a : ℕ) (bytes : List ℕ) → I.base ≤ a → bytes_of (length bytes) (little_endian bytes) ≡ bytes → event P I (run P I n) ≡ events.Store a (little_endian bytes) (length bytes) →
         (j : ℕ) → has_bytes j (a - I.base) (length bytes) ≡ true → IsOfStore P I (part_of_store (run P I n).counts (site_of f) (levels_of (f ∷ fs)) (a - I.base) bytes j)
-    new f fs t a bytes low q j there =
+    new f fs t a bytes low w q j there =
         let steps = counted-steps P I n t.going in
         let line = line_of_start (a - I.base) (length bytes) j there in
         record {
           addr = a;
           bytes = bytes;
           stored = subst (λ i. event P I (run P I i) ≡ events.Store a (little_endian bytes) (length bytes)) (sym steps) q;
+          written = w;
           site = subst (λ i. top_site (run P I i).frames ≡ Some (site_of f)) (sym steps) (ap top_site t.frames);
           levels = subst (λ i. levels_of (f ∷ fs) ≡ levels_of (run P I i).frames) (sym steps) (sym (ap levels_of t.frames));
           entry = subst (λ i. (run P I n).counts.entries + 1 ≡ (run P I i).counts.entries + 1) (sym steps) refl;
@@ -132,7 +133,7 @@ module _ (P : Program) (I : Input) where
     of_cases : AreOf (run P I n).lines → Cases I (run P I n) Next
     of_cases old = record {
       plain = λ e p q. old;
-      store = λ f fs t a bytes e w q j x i. by_store f fs t a bytes (in_there I a (length bytes) e) q j x (of_stored _ (a - I.base) (length bytes) _ j x i);
+      store = λ f fs t a bytes e w q j x i. by_store f fs t a bytes (in_there I a (length bytes) e) w q j x (of_stored _ (a - I.base) (length bytes) _ j x i);
       flush = λ f fs t a m e q j y i. let r = of_flushed I _ a m _ j y i in subst (IsOfStore P I) (sym r.2) (of_flushes _ (has_bytes j (a - I.base) m) r.0 (old j r.0 r.1));
       persist = λ f fs t a m e q j z i.
           let s = of_fenced _ j z i in
@@ -141,10 +142,10 @@ module _ (P : Program) (I : Input) where
       fence = λ q j y i. let r = of_fenced _ j y i in subst (IsOfStore P I) (sym r.2) (of_fence r.0 (old j r.0 r.1));
     }
       where
-        by_store : (f : Frame) (fs : List Frame) → IsTop (run P I n) f fs → (a : ℕ) (bytes : List ℕ) → I.base ≤ a → event P I (run P I n) ≡ events.Store a (little_endian bytes) (length bytes) → (j : ℕ) (x : StorePart) →
+        by_store : (f : Frame) (fs : List Frame) → IsTop (run P I n) f fs → (a : ℕ) (bytes : List ℕ) → I.base ≤ a → bytes_of (length bytes) (little_endian bytes) ≡ bytes → event P I (run P I n) ≡ events.Store a (little_endian bytes) (length bytes) → (j : ℕ) (x : StorePart) →
             InLine (slice_get (run P I n).lines j) x ⊎ ((has_bytes j (a - I.base) (length bytes) ≡ true) × (x ≡ part_of_store (run P I n).counts (site_of f) (levels_of (f ∷ fs)) (a - I.base) bytes j)) → IsOfStore P I x
-        by_store f fs t a bytes low q j x (inl i) = old j x i
-        by_store f fs t a bytes low q j x (inr r) = subst (IsOfStore P I) (sym r.1) (new f fs t a bytes low q j r.0)
+        by_store f fs t a bytes low w q j x (inl i) = old j x i
+        by_store f fs t a bytes low w q j x (inr r) = subst (IsOfStore P I) (sym r.1) (new f fs t a bytes low w q j r.0)
 
     of_next : AreOf (run P I n).lines → AreOf (run P I (suc n)).lines
     unfolding run

@@ -9,10 +9,11 @@ use Rattle.hip_runs.specs.Parts.{In}
 use Rattle.hip_runs.specs.Reports.{LoosePart, Range, loose_parts, all_flushed, report_of, check_reports}
 use Rattle.hip_runs.specs.State.{levels_of}
 use Rattle.hip_runs.specs.Step.{run}
-use Rattle.hip_runs.specs.Laws.LooseBytes.{part_loose, loose_there, in_all, all_in, are_alike, equal_true, true_equal}
-use Rattle.hip_runs.specs.Laws.Members.{any_in, in_any}
+use Rattle.hip_runs.specs.Laws.LooseBytes.{part_loose, loose_there, are_alike}
 use Rattle.hip_runs.specs.Laws.LineOrder.{in_lines}
 use Rattle.hip_runs.specs.Tags.{AreAlike, AreToldBy, AscendWithin, HoldsTags, IsNoneBeside, has_some, has_tag, loose_bytes, reports_for, tag_flushed}
+use Rattle.hip_runs.specs.Laws.Members.{all_in, any_in, equal_true, in_all, in_any, true_equal}
+use Rattle.std.specs.Cmp.{both_ways}
 
 -- ---- a flat map over all numbers of a range, and over those at which something is
 
@@ -51,14 +52,9 @@ module _ {A : Type 0} (f : ℕ → List A) where
 
 -- ---- tags
 
-equal : (a b : Bool) → (a ≡ true → b ≡ true) → (b ≡ true → a ≡ true) → a ≡ b
-equal true b f g = sym (f refl)
-equal false true f g = g refl
-equal false false f g = refl
-
 module _ (ps : List LoosePart) (bs : List LooseByte) (made : ℕ) (h : AreAlike ps bs made) where
   some_told : has_some ps ≡ has_tag made bs
-  some_told = equal _ _ (λ e. to ps (λ p i. h.byte_of p i) e) (λ e. from (any_in (λ b. nat_eq b.tag made) bs e))
+  some_told = both_ways _ _ (λ e. to ps (λ p i. h.byte_of p i) e) (λ e. from (any_in (λ b. nat_eq b.tag made) bs e))
     where
       to : (qs : List LoosePart) → ((p : LoosePart) → In p qs → (b : LooseByte) × In b bs × (b.tag ≡ made) × (b.flushed ≡ p.flushed)) → has_some qs ≡ true → has_tag made bs ≡ true
       to [] f e = absurd (let z : ⊥ = cc in z)
@@ -72,7 +68,7 @@ module _ (ps : List LoosePart) (bs : List LooseByte) (made : ℕ) (h : AreAlike 
       from r = let q = h.part_of r.0 r.1 (equal_true r.0.tag made r.2) in there ps q.0 q.1
 
   flushed_told : all_flushed ps ≡ tag_flushed made bs
-  flushed_told = equal _ _
+  flushed_told = both_ways _ _
       (λ e. all_in (λ b. not (nat_eq b.tag made) || b.flushed) bs (λ b i. to e b i (nat_eq b.tag made) refl))
       (λ e. all_in (λ (p : LoosePart). p.flushed) ps (λ p i. let r = h.byte_of p i in sym r.3 ∙ use_it r.0 (true_equal r.0.tag made r.2) (in_all (λ b. not (nat_eq b.tag made) || b.flushed) bs e r.0 r.1)))
     where

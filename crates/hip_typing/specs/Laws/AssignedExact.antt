@@ -63,15 +63,16 @@ joined-all Q n make (y ∷ ys) h =
 
 -- ---- numbers of blocks by their label
 
+-- a number that is one more than another is there only with that other
+pub number_before : (o : Option ℕ) (c : ℕ) → option_map suc o ≡ Some c → (d : ℕ) × (o ≡ Some d) × (c ≡ suc d)
+number_before None c e = cc
+number_before (Some d) c e = (d, refl, cc)
+
 all-numbers : (Q : ℕ → Type 0) (n : ℕ) (bs : List Block) (label : List ℕ) → All Q (block_numbers_from n bs label) → (c : ℕ) → number_of (map (λ b. b.label) bs) label ≡ Some c → Q (n + c)
 all-numbers Q n [] label h c e = cc
 all-numbers Q n (b ∷ bs) label h c e =
     by_test (bytes_eq label b.label) refl c h (sym (number_of-cons b.label (map (λ b. b.label) bs) label) ∙ e) (λ g d f. all-numbers Q (n + 1) bs label g d f)
   where
-    shifted : (o : Option ℕ) (c : ℕ) → option_map suc o ≡ Some c → (d : ℕ) × (o ≡ Some d) × (c ≡ suc d)
-    shifted None c e = cc
-    shifted (Some d) c e = (d, refl, cc)
-
     by_test : (t : Bool) → bytes_eq label b.label ≡ t → (c : ℕ) → All Q (if bytes_eq b.label label then n ∷ [] else block_numbers_from (n + 1) bs label) → cond t (Some 0) (option_map suc (number_of (map (λ b. b.label) bs) label)) ≡ Some c →
         (All Q (block_numbers_from (n + 1) bs label) → (d : ℕ) → number_of (map (λ b. b.label) bs) label ≡ Some d → Q (n + 1 + d)) → Q (n + c)
     by_test true is c h e rest =
@@ -83,7 +84,7 @@ all-numbers Q n (b ∷ bs) label h c e =
     by_test false is c h e rest =
         let there : bytes_eq b.label label ≡ false = bytes_eq-sym b.label label ∙ is in
         let later : All Q (block_numbers_from (n + 1) bs label) = subst (λ t. All Q (if t then n ∷ [] else block_numbers_from (n + 1) bs label)) there h in
-        let d = shifted (number_of (map (λ b. b.label) bs) label) c e in
+        let d = number_before (number_of (map (λ b. b.label) bs) label) c e in
         let number = d.2 in
         let at : n + 1 + d.0 ≡ n + c = omega (arith, number) in
         subst Q at (rest later d.0 d.1)

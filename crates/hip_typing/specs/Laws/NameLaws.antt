@@ -60,20 +60,20 @@ named_alike : {A : Type 0} (n : ℕ) (name : A → List ℕ) (place : ℕ → Pl
 named_alike n name place [] = refl
 named_alike n name place (x ∷ xs) = ap (λ ns. name x ∷ ns) (named_alike (n + 1) name place xs)
 
-top_alike : (P : Program) → place_names (rules.top_names P) ≡ top_names P
+top_alike : (P : Program) → place_names (rules.declarations P) ≡ top_names P
 top_alike P =
-    map-append (λ n. n.name) (rules.global_names P.globals ++ rules.extern_names P.externs) (rules.function_names P.functions)
-    ∙ ap (λ ns. ns ++ place_names (rules.function_names P.functions)) (map-append (λ n. n.name) (rules.global_names P.globals) (rules.extern_names P.externs))
-    ∙ append_assoc (place_names (rules.global_names P.globals)) (place_names (rules.extern_names P.externs)) (place_names (rules.function_names P.functions))
-    ∙ ap (λ ns. ns ++ (place_names (rules.extern_names P.externs) ++ place_names (rules.function_names P.functions))) (named_alike 0 (λ g. g.name) places.Global P.globals)
-    ∙ ap (λ ns. map (λ g. g.name) P.globals ++ (ns ++ place_names (rules.function_names P.functions))) (named_alike 0 (λ e. e.name) places.Extern P.externs)
+    map-append (λ n. n.name) (rules.global_declarations P.globals ++ rules.extern_declarations P.externs) (rules.function_declarations P.functions)
+    ∙ ap (λ ns. ns ++ place_names (rules.function_declarations P.functions)) (map-append (λ n. n.name) (rules.global_declarations P.globals) (rules.extern_declarations P.externs))
+    ∙ append_assoc (place_names (rules.global_declarations P.globals)) (place_names (rules.extern_declarations P.externs)) (place_names (rules.function_declarations P.functions))
+    ∙ ap (λ ns. ns ++ (place_names (rules.extern_declarations P.externs) ++ place_names (rules.function_declarations P.functions))) (named_alike 0 (λ g. g.name) places.Global P.globals)
+    ∙ ap (λ ns. map (λ g. g.name) P.globals ++ (ns ++ place_names (rules.function_declarations P.functions))) (named_alike 0 (λ e. e.name) places.Extern P.externs)
     ∙ ap (λ ns. map (λ g. g.name) P.globals ++ (map (λ e. e.name) P.externs ++ ns)) (named_alike 0 (λ f. f.name) places.Head P.functions)
 
 pub names-sound : (P : Program) → (names_check P).Holds → AllDiffer (top_names P)
-names-sound P h = differ-sound (rules.top_names P) (top_names P) (top_alike P) h
+names-sound P h = differ-sound (rules.declarations P) (top_names P) (top_alike P) h
 
 pub names-whole : (P : Program) → AllDiffer (top_names P) → (names_check P).Holds
-names-whole P h = differ-whole (rules.top_names P) (top_names P) (top_alike P) h
+names-whole P h = differ-whole (rules.declarations P) (top_names P) (top_alike P) h
 
 -- ---- the names in a function
 

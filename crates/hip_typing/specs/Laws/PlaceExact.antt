@@ -32,7 +32,7 @@ use Rattle.hip_typing.specs.Laws.Decided.{both-decides, all-decides, not-decides
 use Rattle.hip_names.specs.NameLaws.{among-decides, among-left, among-right, among-either}
 use Rattle.hip_typing.specs.Laws.EqualLaws.{same_scalar-decides, same_scalars-decides, same_result-decides, same_bits-decides, same_operand-decides}
 use Rattle.hip_typing.specs.Sound as sound
-use Rattle.hip_typing.specs.Sound.{Item, PhiItem, InstrItem, EndItem, uses_of, global_names, callee_names, label_names, register_names, NamesExist, TypesFit, operand_is_typed, IsTyped, CallAgrees, own_types_agree, TypesAgree, Precedes, EdgesAgree}
+use Rattle.hip_typing.specs.Sound.{Item, PhiItem, InstrItem, EndItem, uses_of, global_names, callee_names, label_names, register_names, NamesExist, TypesFit, operand_is_typed, IsTyped, CallAgrees, OwnTypesAgree, TypesAgree, Precedes, EdgesAgree}
 
 -- ---- what is found by its name
 
@@ -134,7 +134,7 @@ call-decides P dest ret callee args =
     let d = both-decides _ _ (signature-decides ret args (callee_of P callee)) (register-agrees dest ret) in
     (λ e. let h = d.0 e in record { signature = h.0; register = h.1 }, λ c. d.1 (c.signature, c.register))
 
-instr_own-decides : (P : Program) (fn : Function) (i : Instr) → Decides (instr_agrees (scope_of P fn) i) (own_types_agree P fn (InstrItem i))
+instr_own-decides : (P : Program) (fn : Function) (i : Instr) → Decides (instr_agrees (scope_of P fn) i) (OwnTypesAgree P fn (InstrItem i))
 instr_own-decides P fn (Cast dest op from a to) = (λ e. e, λ h. h)
 instr_own-decides P fn (Gep dest inbounds ty base indices) = (λ e. e, λ h. h)
 instr_own-decides P fn (Call dest ret callee args) = call-decides P dest ret callee args
@@ -151,7 +151,7 @@ returned-decides None (Some t) = (λ e. cc, λ h. cc)
 returned-decides (Some a) None = (λ e. cc, λ h. cc)
 returned-decides (Some a) (Some t) = (λ e. ap Some ((same_scalar-decides a.ty t).0 e), λ h. (same_scalar-decides a.ty t).1 (let same : a.ty ≡ t = cc in same))
 
-end_own-decides : (P : Program) (fn : Function) (e : End) → Decides (returns fn.ret e) (own_types_agree P fn (EndItem e))
+end_own-decides : (P : Program) (fn : Function) (e : End) → Decides (returns fn.ret e) (OwnTypesAgree P fn (EndItem e))
 end_own-decides P fn (Ret arg) = returned-decides arg fn.ret
 end_own-decides P fn (Br label) = (λ e. tt, λ h. refl)
 end_own-decides P fn (CondBr cond first second) = (λ e. tt, λ h. refl)
@@ -178,7 +178,7 @@ phi_types-decides P fn p =
 pairs_differ-decides : (cases : List Case) → Decides (cases_differ cases) (AllPairs (λ c d. c.value ≢ d.value) cases)
 pairs_differ-decides cases = pairs-decides differ (λ c d. c.value ≢ d.value) cases (λ c d. not-decides (same_bits c.value d.value) (same_bits-decides c.value d.value))
 
-cases-decides : (e : End) → Decides (cases_differ (end_cases e)) (sound.cases_differ (EndItem e))
+cases-decides : (e : End) → Decides (cases_differ (end_cases e)) (sound.CasesDiffer (EndItem e))
 cases-decides (Switch width value other cases) = pairs_differ-decides cases
 cases-decides (Br label) = (λ e. tt, λ h. refl)
 cases-decides (CondBr cond first second) = (λ e. tt, λ h. refl)
@@ -194,7 +194,7 @@ entry-decides fn label = by_blocks fn.blocks
     by_blocks [] = (λ e. cc, λ h. cc)
     by_blocks (b ∷ bs) = (λ e. ap Some ((bytes_eq-Decides b.label label).0 e), λ h. (bytes_eq-Decides b.label label).1 (let same : b.label ≡ label = cc in same))
 
-ends-decides : (fn : Function) (block : Block) (e : End) → Decides (not (list_any (is_entry fn.blocks) (end_labels e))) (sound.edges_agree fn block (EndItem e))
+ends-decides : (fn : Function) (block : Block) (e : End) → Decides (not (list_any (is_entry fn.blocks) (end_labels e))) (sound.EdgesAreSound fn block (EndItem e))
 ends-decides fn block e = none-decides (is_entry fn.blocks) (λ label. label_at fn 0 ≡ Some label) (end_labels e) (λ label. entry-decides fn label)
 
 abbrev IsPredecessor : List Block → List ℕ → List ℕ → Type 0
@@ -271,8 +271,8 @@ pub record ItemIsSound (P : Program) (fn : Function) (block : Block) (x : Item) 
   pub names : NamesExist P fn x
   pub fit : TypesFit x
   pub agree : TypesAgree P fn x
-  pub cases : sound.cases_differ x
-  pub edges : sound.edges_agree fn block x
+  pub cases : sound.CasesDiffer x
+  pub edges : sound.EdgesAreSound fn block x
 
 pub phi-sound : (P : Program) (fn : Function) (block : Block) (p : Phi) (place : Place) → (phi_check (scope_of P fn) block.label p place).Holds → ItemIsSound P fn block (PhiItem p)
 phi-sound P fn block p place h = record {

@@ -7,6 +7,7 @@ use Rattle.std.proofs.lemmas.Bool.{and_parts}
 use Rattle.hip_types.specs.declared.number.Scalar.{Scalar}
 use Rattle.hip_types.specs.declared.number.Scalar.TheVariants as scalars
 use Rattle.hip_types.specs.declared.number.Width.TheVariants.{W1, W8, W16, W32, W64}
+use Rattle.hip_types.specs.declared.limits.TheConstants.{LARGEST_REGION, LARGEST_VOLATILE}
 use Rattle.hip_ir.specs.declared.block.Block.{Block}
 use Rattle.hip_ir.specs.declared.program.Extern.{Extern}
 use Rattle.hip_ir.specs.declared.program.Function.{Function}
@@ -24,7 +25,7 @@ use Rattle.hip_typing.specs.Places.{scope_of}
 use Rattle.hip_typing.specs.Rules as rules
 use Rattle.hip_typing.specs.Rules.{names_check, globals_check, global_check, externs_check, sizes_check, main_check, registers_check, places_check, function_check, block_check, phi_at, instr_at, site, is_of, is_main, is_i32, no_params, has_main, AllAssigned}
 use Rattle.hip_typing.specs.declared.fault.Place.TheVariants as places
-use Rattle.hip_typing.specs.Laws.AssignedExact.{assigned-sound, assigned-whole}
+use Rattle.hip_typing.specs.Laws.AssignedExact.{assigned-sound, assigned-whole, number_before}
 use Rattle.hip_typing.specs.Laws.Decided.{both-decides, all-decides, le-decides, each-sound, each-whole, holds-at, holds-made}
 use Rattle.hip_names.specs.NameLaws.{bytes_eq-sym, among-decides}
 use Rattle.hip_typing.specs.Laws.NameLaws.{names-sound, names-whole, inner-sound, inner-whole}
@@ -86,8 +87,8 @@ externs-whole P k = (
 
 -- ---- sizes
 
-sizes-decides : (P : Program) → Decides (nat_le (region_size P) 67108864 && nat_le (volatile_end P) (volatile_start + 16777216)) ((region_size P ≤ 67108864) × (volatile_end P ≤ volatile_start + 16777216))
-sizes-decides P = both-decides _ _ (le-decides (region_size P) 67108864) (le-decides (volatile_end P) (volatile_start + 16777216))
+sizes-decides : (P : Program) → Decides (nat_le (region_size P) LARGEST_REGION && nat_le (volatile_end P) (volatile_start + LARGEST_VOLATILE)) ((region_size P ≤ LARGEST_REGION) × (volatile_end P ≤ volatile_start + LARGEST_VOLATILE))
+sizes-decides P = both-decides _ _ (le-decides (region_size P) LARGEST_REGION) (le-decides (volatile_end P) (volatile_start + LARGEST_VOLATILE))
 
 sizes-sound : (P : Program) → (sizes_check P).Holds → KeepsToSizes P
 sizes-sound P h = let both = (sizes-decides P).0 h in record { region = both.0; volatile = both.1 }
@@ -102,10 +103,6 @@ main_there [] n g named here is = cc
 main_there (f ∷ fs) n g named here is =
     by_test (bytes_eq (codes "main") f.name) refl n here (sym (number_of-cons f.name (function_names fs) (codes "main")) ∙ named) (λ m at there. main_there fs m g at there is)
   where
-    shifted : (o : Option ℕ) (c : ℕ) → option_map suc o ≡ Some c → (d : ℕ) × (o ≡ Some d) × (c ≡ suc d)
-    shifted None c e = cc
-    shifted (Some d) c e = (d, refl, cc)
-
     by_test : (t : Bool) → bytes_eq (codes "main") f.name ≡ t → (n : ℕ) → slice_get (f ∷ fs) n ≡ Some g → cond t (Some 0) (option_map suc (number_of (function_names fs) (codes "main"))) ≡ Some n →
         ((m : ℕ) → number_of (function_names fs) (codes "main") ≡ Some m → slice_get fs m ≡ Some g → has_main fs ≡ true) → has_main (f ∷ fs) ≡ true
     by_test true e n here at rest =
@@ -116,7 +113,7 @@ main_there (f ∷ fs) n g named here is =
         ap (λ t. if t then is_main f else has_main fs) there ∙ ap is_main same ∙ is
     by_test false e n here at rest =
         let there : bytes_eq f.name (codes "main") ≡ false = bytes_eq-sym f.name (codes "main") ∙ e in
-        let d = shifted (number_of (function_names fs) (codes "main")) n at in
+        let d = number_before (number_of (function_names fs) (codes "main")) n at in
         ap (λ t. if t then is_main f else has_main fs) there ∙ rest d.0 d.1 (subst (λ m. slice_get (f ∷ fs) m ≡ Some g) d.2 here)
 
 main_is : (g : Function) → g.params ≡ [] → g.ret ≡ Some (scalars.Int W32) → is_main g ≡ true

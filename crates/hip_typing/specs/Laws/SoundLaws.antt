@@ -1,5 +1,6 @@
 -- The rules of a program are exact: the first fault is none exactly where all of them hold.
 use Rattle.std.specs.Prelude.{ℕ, ◌≤◌, true, List, ◌∷◌, get_or, All}
+use Rattle.hip_types.specs.declared.limits.TheConstants.{LARGEST_REGION}
 use Rattle.hip_ir.specs.declared.block.Block.{Block}
 use Rattle.hip_ir.specs.declared.block.End.{End}
 use Rattle.hip_ir.specs.declared.block.Phi.{Phi}
@@ -60,5 +61,5 @@ rules-exact P =
     (and_then-exact _ _ (externs-exact P) (and_then-exact _ _ (asks_true-exact _ _ _) (and_then-exact _ _ (asks_true-exact _ _ _) (and_then-exact _ _ (registers-exact P) (places-exact P))))))
 
 -- where the persistent globals of a sound program end
-pub persistent-end : (P : Program) → KeepsToSizes P → end_of true 0 P.globals ≤ 67108864
+pub persistent-end : (P : Program) → KeepsToSizes P → end_of true 0 P.globals ≤ LARGEST_REGION
 persistent-end P k = let small = k.region in omega (arith, small)

@@ -15,9 +15,12 @@ abbrev pub names_at : {S : Type 0} → IndexMap (Bor (List ℕ)) (List (List ℕ
 names_at m label = unwrap_or (found_at m label) []
 
 -- a table grows by a block with this label, whose end names these labels
-pub record Arrives {S : Type 0} (old new : IndexMap (Bor (List ℕ)) (List (List ℕ)) S) (labels : List (List ℕ)) (from : List ℕ) : Type 0 where
-  pub adds : (at name : List ℕ) → is_among (names_at new at) name ≡ (is_among (names_at old at) name || (is_among labels at && bytes_eq name from))
+pub record Arrives {S : Type 0} (old new : IndexMap (Bor (List ℕ)) (List (List ℕ)) S) (labels : List (List ℕ))
+    (from : List ℕ) : Type 0 where
+  pub adds : (at name : List ℕ) →
+      is_among (names_at new at) name ≡ (is_among (names_at old at) name || (is_among labels at && bytes_eq name from))
 
 -- the table finds the predecessors of each block
-pub record FindsPredecessors {S : Type 0} (m : IndexMap (Bor (List ℕ)) (List (List ℕ)) S) (blocks : List Block) : Type 0 where
+pub record FindsPredecessors {S : Type 0} (m : IndexMap (Bor (List ℕ)) (List (List ℕ)) S)
+    (blocks : List Block) : Type 0 where
   pub finds : (label : List ℕ) → Knows (names_at m label) (predecessors blocks label)

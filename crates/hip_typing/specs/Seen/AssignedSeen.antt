@@ -28,7 +28,8 @@ to_pass count block point (Some (Assigned b after)) = if b == block && is_there 
 to_pass count block point _ = Some count
 
 -- the names of a function differ, the table finds what they stand for, and the graph is that of its blocks
-pub record Describes (fn : Function) (names : List (List ℕ)) (values : List Inner) (graph : List (List ℕ)) : Type 0 where
+pub record Describes (fn : Function) (names : List (List ℕ)) (values : List Inner)
+    (graph : List (List ℕ)) : Type 0 where
   pub stands : StandsFor names values (inner_entries fn)
   pub graph_is : graph ≡ graph_of fn
   pub differ : AllDiffer (map (λ e. e.name) (inner_entries fn))

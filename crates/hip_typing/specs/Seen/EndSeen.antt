@@ -22,25 +22,43 @@ end_found_by known fit agree function e place =
     or_else (asked known breaks.Unknown place)
     (or_else (asked fit breaks.TooLarge place)
     (or_else (asked agree breaks.Mismatch place)
-    (or_else (asked (cases_differ (end_cases e)) breaks.Duplicate place) (asked (not (list_any (is_entry function.blocks) (end_labels e))) breaks.BadEdge place))))
+    (or_else (asked (cases_differ (end_cases e)) breaks.Duplicate place)
+    (asked (not (list_any (is_entry function.blocks) (end_labels e))) breaks.BadEdge place))))
 
-abbrev pub end_found : List (List ℕ) → List (Option Scalar) → List (List ℕ) → List (List ℕ) → Function → End → Place → Option Finding
+abbrev pub end_found : List (List ℕ) → List (Option Scalar) → List (List ℕ) → List (List ℕ) → Function → End → Place →
+    Option Finding
 end_found names values globals known_labels function e place =
-    end_found_by (operands_known names values globals (end_uses e) && are_among known_labels (end_labels e)) (operands_fit (end_uses e))
+    end_found_by (operands_known names values globals (end_uses e) && are_among known_labels (end_labels e))
+    (operands_fit (end_uses e))
     (operands_agree names values (end_uses e) && returns function.ret e) function e place
 
-module _ (s : Scope) (names : List (List ℕ)) (values : List (Option Scalar)) (globals known_labels : List (List ℕ)) (finds : Finds names values s.registers) (knows : Knows globals (global_names s)) (knows_labels : Knows known_labels (labels s)) where
-  known : (e : End) → (operands_known names values globals (end_uses e) && are_among known_labels (end_labels e)) ≡ (uses_known s (end_uses e) && are_among (labels s) (end_labels e))
+module _ (s : Scope) (names : List (List ℕ)) (values : List (Option Scalar)) (globals known_labels : List (List ℕ))
+    (finds : Finds names values s.registers) (knows : Knows globals (global_names s))
+    (knows_labels : Knows known_labels (labels s)) where
+  known : (e : End) →
+      (operands_known names values globals (end_uses e) && are_among known_labels (end_labels e))
+      ≡ (uses_known s (end_uses e) && are_among (labels s) (end_labels e))
   known e =
-      ap (λ b. b && are_among known_labels (end_labels e)) (uses_known-by_tables s names values globals finds knows (end_uses e))
+      ap (λ b. b && are_among known_labels (end_labels e))
+      (uses_known-by_tables s names values globals finds knows (end_uses e))
       ∙ ap (λ b. uses_known s (end_uses e) && b) (known_alike known_labels (labels s) (end_labels e) knows_labels)
 
-  agree : (e : End) → (operands_agree names values (end_uses e) && returns s.function.ret e) ≡ (uses_agree s (end_uses e) && end_agrees s e)
+  agree : (e : End) →
+      (operands_agree names values (end_uses e) && returns s.function.ret e)
+      ≡ (uses_agree s (end_uses e) && end_agrees s e)
   agree e = ap (λ b. b && returns s.function.ret e) (uses_agree-by_tables s names values finds (end_uses e))
 
   -- by the tables the end of a block is checked as the rules say
-  pub end_found-is : (e : End) (place : Place) → end_found names values globals known_labels s.function e place ≡ (end_check s e place).found
+  pub end_found-is : (e : End) (place : Place) →
+      end_found names values globals known_labels s.function e place ≡ (end_check s e place).found
   end_found-is e place =
-      ap (λ b. end_found_by b (operands_fit (end_uses e)) (operands_agree names values (end_uses e) && returns s.function.ret e) s.function e place) (known e)
-      ∙ ap (λ b. end_found_by (uses_known s (end_uses e) && are_among (labels s) (end_labels e)) b (operands_agree names values (end_uses e) && returns s.function.ret e) s.function e place) (uses_fit-is (end_uses e))
-      ∙ ap (λ b. end_found_by (uses_known s (end_uses e) && are_among (labels s) (end_labels e)) (list_all fits_test (used_types (end_uses e))) b s.function e place) (agree e)
+      ap
+      (λ b. end_found_by b (operands_fit (end_uses e))
+      (operands_agree names values (end_uses e) && returns s.function.ret e) s.function e place) (known e)
+      ∙ ap
+      (λ b. end_found_by (uses_known s (end_uses e) && are_among (labels s) (end_labels e)) b
+      (operands_agree names values (end_uses e) && returns s.function.ret e) s.function e place)
+      (uses_fit-is (end_uses e))
+      ∙ ap
+      (λ b. end_found_by (uses_known s (end_uses e) && are_among (labels s) (end_labels e))
+      (list_all fits_test (used_types (end_uses e))) b s.function e place) (agree e)

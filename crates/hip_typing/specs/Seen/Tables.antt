@@ -18,8 +18,10 @@ abbrev pub register_entry : Register → Entry (Option Scalar)
 register_entry r = record { name = r.name; value = r.ty }
 
 -- a table grows by these registers
-pub record Adds (names : List (List ℕ)) (values : List (Option Scalar)) (more_names : List (List ℕ)) (more_values : List (Option Scalar)) (registers : List Register) : Type 0 where
-  pub adds : (entries : List (Entry (Option Scalar))) → StandsFor names values entries → StandsFor more_names more_values (entries ++ map register_entry registers)
+pub record Adds (names : List (List ℕ)) (values : List (Option Scalar)) (more_names : List (List ℕ))
+    (more_values : List (Option Scalar)) (registers : List Register) : Type 0 where
+  pub adds : (entries : List (Entry (Option Scalar))) → StandsFor names values entries →
+      StandsFor more_names more_values (entries ++ map register_entry registers)
 
 -- the table finds each register of the list
 pub record Finds (names : List (List ℕ)) (values : List (Option Scalar)) (registers : List Register) : Type 0 where
@@ -44,14 +46,17 @@ abbrev pub entry_seen : Entry Callee → Entry Signature
 entry_seen e = record { name = e.name; value = callee_seen e.value }
 
 -- names and values that stand for the entries and for some more, which have these names and signatures
-pub record Grown (names : List (List ℕ)) (values : List Callee) (entries : List (Entry Callee)) (signatures : List (Entry Signature)) : Type 0 where
+pub record Grown (names : List (List ℕ)) (values : List Callee) (entries : List (Entry Callee))
+    (signatures : List (Entry Signature)) : Type 0 where
   pub more : List (Entry Callee)
   pub stands : StandsFor names values (entries ++ more)
   pub are : map entry_seen more ≡ signatures
 
 -- a table grows by callees with these names and signatures
-pub record AddsCallees (names : List (List ℕ)) (values : List Callee) (more_names : List (List ℕ)) (more_values : List Callee) (signatures : List (Entry Signature)) : Type 0 where
-  pub adds : (entries : List (Entry Callee)) → StandsFor names values entries → Grown more_names more_values entries signatures
+pub record AddsCallees (names : List (List ℕ)) (values : List Callee) (more_names : List (List ℕ))
+    (more_values : List Callee) (signatures : List (Entry Signature)) : Type 0 where
+  pub adds : (entries : List (Entry Callee)) → StandsFor names values entries →
+      Grown more_names more_values entries signatures
 
 -- the table finds what a program calls by a name
 pub record FindsCallees (names : List (List ℕ)) (values : List Callee) (P : Program) : Type 0 where

@@ -9,7 +9,8 @@ use Rattle.hip_ir.specs.declared.instr.Operand.TheVariants.{Reg, Fixed}
 use Rattle.hip_typing.specs.Constants.{has_shape, names_in}
 use Rattle.hip_globals.specs.Constants.{types_in}
 use Rattle.hip_names.specs.Names.{is_among}
-use Rattle.hip_typing.specs.Places.{fits_test, has_type, type_of, cast_agrees, gep_agrees, signature_agrees, register_agrees, written_types}
+use Rattle.hip_ir.specs.Words.{type_of}
+use Rattle.hip_typing.specs.Places.{fits_test, has_type, cast_agrees, gep_agrees, signature_agrees, register_agrees, written_types}
 use Rattle.hip_typing.specs.Registers.{Use, uses, arg_uses}
 use Rattle.hip_names.specs.Tables.{value_beside}
 use Rattle.hip_typing.specs.Seen.Tables.{callee_seen}

@@ -1,0 +1,47 @@
+-- The law of calls of defined functions.
+use Rattle.std.specs.Prelude.{ℕ, ◌+◌, ◌≤◌, ◌≡◌, Bool, true, false, cond, not, nat_lt, List, [], ◌∷◌, length, Option, Some, None, slice_get}
+use Rattle.std.proofs.Common.{refl, sym, ap, ap₂, ◌∙◌, subst}
+use Rattle.hip_types.specs.declared.number.Scalar.{Scalar}
+use Rattle.hip_ir.specs.declared.instr.Arg.{Arg}
+use Rattle.hip_ir.specs.declared.instr.Instr.TheVariants as instrs
+use Rattle.hip_ir.specs.declared.program.Program.{Program}
+use Rattle.hip_externs.specs.Externs.{call_of}
+use Rattle.hip_runs.specs.declared.event.TrapKind.TheVariants as traps
+use Rattle.hip_runs.specs.declared.input.Input.{Input}
+use Rattle.hip_runs.specs.Actions.{Calls, Traps, bound_call, call_action, entered, instr_action, is_flush_or_fence, numbered_call}
+use Rattle.hip_runs.specs.Operands.{bound, values_of}
+use Rattle.hip_code.specs.Edges.{IsCall}
+use Rattle.hip_code.specs.Frames.{names_at}
+use Rattle.hip_code.specs.Moves.{moved}
+use Rattle.hip_code.specs.Numbers.{Tables, entries_of}
+use Rattle.hip_code.specs.Resolved.{Resolves, numbers_at}
+use Rattle.hip_code.specs.Laws.MoveLaws.{arguments_are, arguments_move}
+use Rattle.hip_code.specs.Laws.Operands.{result_is}
+use Rattle.hip_code.specs.declared.op.Call.{Call}
+use Rattle.hip_code.specs.declared.op.Control.TheVariants as controls
+use Rattle.hip_code.specs.declared.op.Op.TheVariants as ops
+
+module _ (P : Program) (I : Input) (f : ℕ) (tables : Tables) where
+  pub resolves_call : (dest : Option (List ℕ)) (ret : Option Scalar) (callee : List ℕ) (args : List Arg) (call : Call) → call_of callee ≡ None → IsCall P I f tables call callee args dest →
+      Resolves P I f tables (ops.Control (controls.Call call)) (instrs.Call dest ret callee args)
+  unfolding instr_action entered
+  resolves_call dest ret callee args call defined c = record {
+    acts = λ w below slots base rs h k.
+        let n = numbers_at tables slots base in
+        let names = names_at P f in
+        let called = names_at P call.function in
+        let ms = entries_of call.arguments tables.moves in
+        let vs = values_of P.globals I.base rs args in
+        let r = result_is names n rs call.dest dest h c.result in
+        let m = arguments_are P.globals I.base names called n rs h call.size ms c.function.params args c.size c.arguments in
+        let moves = arguments_move P.globals I.base names called n rs h ms c.function.params args c.arguments k.all in
+        record {
+          within = record { frame = subst (λ s. base + s ≤ length slots) (sym c.frame) h.room; span = c.span; read = m.read; written = m.written };
+          placed = record { begins = c.begins; frame = c.frame; size = c.size; arguments = m.placed; result = r.placed };
+          turn = ap (λ o. not (is_flush_or_fence o)) (sym defined);
+          acts = ap₂ (λ xs to. cond (nat_lt below 16383) (Calls call.function xs to) (Traps traps.Depth)) moves r.name_is
+              ∙ sym (ap (λ o. call_action P I w below o callee vs dest) defined
+              ∙ ap (λ o. cond (nat_lt below 16383) (numbered_call P o vs dest) (Traps traps.Depth)) c.numbered
+              ∙ ap (λ o. cond (nat_lt below 16383) (bound_call o call.function vs dest) (Traps traps.Depth)) c.here);
+        };
+  }

@@ -1,0 +1,172 @@
+-- The laws of loads, stores, blocks on the stack, and external functions.
+use Rattle.std.specs.Prelude.{ℕ, ◌+◌, ◌%◌, ◌<◌, ◌≤◌, ◌≡◌, Bool, true, false, cond, not, List, [], ◌∷◌, Option, Some, None}
+use Rattle.std.proofs.Common.{refl, sym, ap, ap₂, ◌∙◌, subst, arith, inl, inr}
+use Rattle.hip_types.specs.Layout.{shape}
+use Rattle.hip_types.specs.Numbers.{modulus, signed}
+use Rattle.hip_types.specs.Widths as widths
+use Rattle.hip_types.specs.declared.number.Scalar.{Scalar}
+use Rattle.hip_types.specs.declared.number.Scalar.TheVariants as scalars
+use Rattle.hip_types.specs.declared.number.Width.TheVariants.{W1, W8, W16, W32, W64}
+use Rattle.hip_types.specs.declared.ty.Ty.{Ty}
+use Rattle.hip_ir.specs.declared.instr.Arg.{Arg}
+use Rattle.hip_ir.specs.declared.instr.Instr.TheVariants as instrs
+use Rattle.hip_ir.specs.declared.instr.Operand as named
+use Rattle.hip_ir.specs.declared.program.Program.{Program}
+use Rattle.hip_mem.specs.Bytes.{bytes_of, little_endian}
+use Rattle.hip_mem.specs.Memory.{bytes_at}
+use Rattle.hip_names.specs.Names.{number_of}
+use Rattle.hip_externs.specs.Externs.{call_of}
+use Rattle.hip_typing.specs.Registers.{arg_uses}
+use Rattle.hip_externs.specs.declared.call.ExternCall.{ExternCall}
+use Rattle.hip_externs.specs.declared.call.ExternCall.TheVariants as calls
+use Rattle.hip_runs.specs.declared.event.TrapKind.TheVariants as traps
+use Rattle.hip_runs.specs.declared.input.Input.{Input}
+use Rattle.hip_runs.specs.Actions.{Action, Traps, Assigns, Stores, Flushes, Persists, Asserts, Prints, accessed, allocated, call_action, extern_action, flushing, in_region, instr_action, is_flush_or_fence, memory_of, read_next}
+use Rattle.hip_runs.specs.Operands.{access_align, scalar_size, value_of, values_of, width_of}
+use Rattle.hip_runs.specs.State.{Registers, World}
+use Rattle.hip_code.specs.Calls.{extern_op, are_taken}
+use Rattle.hip_code.specs.Frames.{are_known, HoldsFrame, names_at}
+use Rattle.hip_code.specs.Numbers.{Numbers, Tables, operand_value}
+use Rattle.hip_code.specs.Ops.{IsSize, EffectWithin, effect_action, op_turn}
+use Rattle.hip_code.specs.Resolved.{IsOperand, is_result, effect_placed, Resolves, numbers_at}
+use Rattle.hip_code.specs.Laws.Operands.{operand_same, result_is}
+use Rattle.hip_code.specs.Laws.Slots.{slot_within, name_there, name_placed}
+use Rattle.hip_code.specs.declared.op.Effect.TheVariants as effects
+use Rattle.hip_code.specs.declared.op.Memory.TheVariants as memories
+use Rattle.hip_code.specs.declared.op.Op.TheVariants as ops
+use Rattle.hip_code.specs.declared.op.Operand.{Operand}
+
+size_is : (s : Scalar) → widths.bytes_of (width_of s) ≡ scalar_size s
+size_is scalars.Ptr = refl
+size_is (scalars.Int w) = refl
+
+sizes : (s : Scalar) → IsSize (scalar_size s)
+sizes scalars.Ptr = inr (inr (inr refl))
+sizes (scalars.Int W1) = inl refl
+sizes (scalars.Int W8) = inl refl
+sizes (scalars.Int W16) = inr (inl refl)
+sizes (scalars.Int W32) = inr (inr (inl refl))
+sizes (scalars.Int W64) = inr (inr (inr refl))
+
+module _ (P : Program) (I : Input) (f : ℕ) (tables : Tables) where
+  abbrev names : List (List ℕ)
+  names = names_at P f
+
+  abbrev stands_for : Operand → named.Operand → Type 0
+  stands_for o x = IsOperand P.globals I.base (names_at P f) tables.constants o x
+
+  pub resolves_load : (name : List ℕ) (dest : ℕ) (ty : Scalar) (align : Option ℕ) (a : Operand) (x : named.Operand) →
+      0 < access_align ty align → number_of names name ≡ Some dest → stands_for a x →
+      Resolves P I f tables (ops.Memory (memories.Load dest (width_of ty) (access_align ty align) a)) (instrs.Load name ty x align)
+  unfolding instr_action
+  resolves_load name dest ty align a x some d p = record {
+    acts = λ w below slots base rs h k.
+        let n = numbers_at tables slots base in
+        let addr = operand_same P.globals I.base names n rs a x p h k.all.0 in
+        let load : List ℕ → ℕ → ℕ → Action =
+        λ to at size. accessed P I w at size (access_align ty align) (Assigns (Some to) (little_endian (bytes_at (memory_of P I w) at size) % modulus (width_of ty))) in
+        record {
+          within = (omega (arith, h.room, slot_within names name dest d), addr.within, some);
+          placed = name_placed names name dest d;
+          turn = refl;
+          acts = ap₂ (λ to at. load to at (widths.bytes_of (width_of ty))) (name_there names name dest d) addr.same ∙ ap (load name (value_of P.globals I.base rs x)) (size_is ty);
+        };
+  }
+
+  pub resolves_store : (ty : Scalar) (align : Option ℕ) (v a : Operand) (x y : named.Operand) →
+      0 < access_align ty align → stands_for v x → stands_for a y →
+      Resolves P I f tables (ops.Memory (memories.Store (scalar_size ty) (access_align ty align) v a)) (instrs.Store ty x y align)
+  unfolding instr_action
+  resolves_store ty align v a x y some p q = record {
+    acts = λ w below slots base rs h k.
+        let n = numbers_at tables slots base in
+        let value = operand_same P.globals I.base names n rs v x p h k.all.0 in
+        let addr = operand_same P.globals I.base names n rs a y q h k.all.1.0 in
+        record {
+          within = (value.within, addr.within, sizes ty, some);
+          placed = tt;
+          turn = refl;
+          acts = ap₂ (λ b c. accessed P I w b (scalar_size ty) (access_align ty align) (Stores b (bytes_of (scalar_size ty) c))) addr.same value.same;
+        };
+  }
+
+  pub resolves_alloca : (name : List ℕ) (dest : ℕ) (ty : Ty) (written : Option ℕ) (size align : ℕ) →
+      size ≡ (shape ty).size → align ≡ (shape ty).align → 0 < align → align ≤ 8 → number_of names name ≡ Some dest →
+      Resolves P I f tables (ops.Memory (memories.Effect (effects.Alloca dest size align))) (instrs.Alloca name ty written)
+  unfolding instr_action
+  resolves_alloca name dest ty written size align s a some most d = record {
+    acts = λ w below slots base rs h k. record {
+      within = (omega (arith, h.room, slot_within names name dest d), some, most);
+      placed = name_placed names name dest d;
+      turn = refl;
+      acts = ap (λ to. allocated w to size align) (name_there names name dest d) ∙ ap₂ (allocated w name) s a;
+    };
+  }
+
+  -- ---- external functions
+
+  record Effects (w : World) (n : Numbers) (rs : Registers) (c : ExternCall) (slot : Option ℕ) (a b : Operand) (args : List Arg) (dest : Option (List ℕ)) : Type 0 where
+    within : EffectWithin n (extern_op c slot a b)
+    placed : effect_placed names (extern_op c slot a b)
+    turn : op_turn (ops.Memory (memories.Effect (extern_op c slot a b))) ≡ not (is_flush_or_fence (Some c))
+    acts : effect_action P I w names n (extern_op c slot a b) ≡ extern_action P I w c (values_of P.globals I.base rs args) dest
+
+  effects_of : (w : World) (slots : List ℕ) (base : ℕ) (rs : Registers) (c : ExternCall) (slot : Option ℕ) (a b : Operand) (args : List Arg) (dest : Option (List ℕ)) →
+      HoldsFrame names slots base rs → are_known rs (arg_uses args) → is_result names slot dest → are_taken P.globals I.base names tables.constants c args a b →
+      Effects w (numbers_at tables slots base) rs c slot a b args dest
+  effects_of w slots base rs calls.ReadI64 slot a b args dest h k r t =
+      let x = result_is names (numbers_at tables slots base) rs slot dest h r in
+      record { within = x.there; placed = x.placed; turn = refl; acts = ap (λ to. read_next to w.left) x.name_is }
+  effects_of w slots base rs calls.PrintI64 slot a b [] dest h k r t = absurd t
+  effects_of w slots base rs calls.PrintI64 slot a b (x ∷ xs) dest h k r t =
+      let v = operand_same P.globals I.base names (numbers_at tables slots base) rs a x.value t h k.0 in
+      record { within = v.within; placed = tt; turn = refl; acts = ap (λ u. Prints (signed W64 u)) v.same }
+  effects_of w slots base rs calls.PmAssert slot a b [] dest h k r t = absurd t
+  effects_of w slots base rs calls.PmAssert slot a b (x ∷ []) dest h k r t = absurd t.1
+  effects_of w slots base rs calls.PmAssert slot a b (x ∷ y ∷ ys) dest h k r t =
+      let u = operand_same P.globals I.base names (numbers_at tables slots base) rs a x.value t.0 h k.0 in
+      let v = operand_same P.globals I.base names (numbers_at tables slots base) rs b y.value t.1 h k.1.0 in
+      record { within = (u.within, v.within); placed = tt; turn = refl; acts = ap₂ (λ i j. cond (in_region I i j) (Asserts i j) (Traps traps.Address)) u.same v.same }
+  effects_of w slots base rs calls.Clwb slot a b [] dest h k r t = absurd t
+  effects_of w slots base rs calls.Clwb slot a b (x ∷ xs) dest h k r t =
+      let v = operand_same P.globals I.base names (numbers_at tables slots base) rs a x.value t h k.0 in
+      record { within = v.within; placed = tt; turn = refl; acts = ap (λ u. flushing P I w u 1 (Flushes u 1)) v.same }
+  effects_of w slots base rs calls.Clflushopt slot a b [] dest h k r t = absurd t
+  effects_of w slots base rs calls.Clflushopt slot a b (x ∷ xs) dest h k r t =
+      let v = operand_same P.globals I.base names (numbers_at tables slots base) rs a x.value t h k.0 in
+      record { within = v.within; placed = tt; turn = refl; acts = ap (λ u. flushing P I w u 1 (Flushes u 1)) v.same }
+  effects_of w slots base rs calls.Clflush slot a b [] dest h k r t = absurd t
+  effects_of w slots base rs calls.Clflush slot a b (x ∷ xs) dest h k r t =
+      let v = operand_same P.globals I.base names (numbers_at tables slots base) rs a x.value t h k.0 in
+      record { within = v.within; placed = tt; turn = refl; acts = ap (λ u. flushing P I w u 1 (Flushes u 1)) v.same }
+  effects_of w slots base rs calls.Sfence slot a b args dest h k r t = record { within = tt; placed = tt; turn = refl; acts = refl }
+  effects_of w slots base rs calls.Mfence slot a b args dest h k r t = record { within = tt; placed = tt; turn = refl; acts = refl }
+  effects_of w slots base rs calls.PmemFlush slot a b [] dest h k r t = absurd t
+  effects_of w slots base rs calls.PmemFlush slot a b (x ∷ []) dest h k r t = absurd t.1
+  effects_of w slots base rs calls.PmemFlush slot a b (x ∷ y ∷ ys) dest h k r t =
+      let u = operand_same P.globals I.base names (numbers_at tables slots base) rs a x.value t.0 h k.0 in
+      let v = operand_same P.globals I.base names (numbers_at tables slots base) rs b y.value t.1 h k.1.0 in
+      record { within = (u.within, v.within); placed = tt; turn = refl; acts = ap₂ (λ i j. flushing P I w i j (Flushes i j)) u.same v.same }
+  effects_of w slots base rs calls.PmemPersist slot a b [] dest h k r t = absurd t
+  effects_of w slots base rs calls.PmemPersist slot a b (x ∷ []) dest h k r t = absurd t.1
+  effects_of w slots base rs calls.PmemPersist slot a b (x ∷ y ∷ ys) dest h k r t =
+      let u = operand_same P.globals I.base names (numbers_at tables slots base) rs a x.value t.0 h k.0 in
+      let v = operand_same P.globals I.base names (numbers_at tables slots base) rs b y.value t.1 h k.1.0 in
+      record { within = (u.within, v.within); placed = tt; turn = refl; acts = ap₂ (λ i j. flushing P I w i j (Persists i j)) u.same v.same }
+  effects_of w slots base rs calls.PmemDrain slot a b args dest h k r t = record { within = tt; placed = tt; turn = refl; acts = refl }
+
+  -- a call of an external function
+  pub resolves_extern : (dest : Option (List ℕ)) (slot : Option ℕ) (ret : Option Scalar) (callee : List ℕ) (args : List Arg) (c : ExternCall) (a b : Operand) →
+      call_of callee ≡ Some c → is_result names slot dest → are_taken P.globals I.base names tables.constants c args a b →
+      Resolves P I f tables (ops.Memory (memories.Effect (extern_op c slot a b))) (instrs.Call dest ret callee args)
+  unfolding instr_action
+  resolves_extern dest slot ret callee args c a b is r t = record {
+    acts = λ w below slots base rs h k.
+        let e = effects_of w slots base rs c slot a b args dest h k.all r t in
+        record {
+          within = e.within;
+          placed = e.placed;
+          turn = e.turn ∙ ap (λ o. not (is_flush_or_fence o)) (sym is);
+          acts = e.acts ∙ ap (λ o. call_action P I w below o callee (values_of P.globals I.base rs args) dest) (sym is);
+        };
+  }

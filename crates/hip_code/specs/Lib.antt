@@ -1,0 +1,13 @@
+pub mod Numbers
+pub mod Values
+pub mod Frames
+pub mod Entries
+pub mod Moves
+pub mod Ops
+pub mod Resolved
+pub mod Translated
+pub mod Paths
+pub mod Calls
+pub mod Edges
+pub mod Whole
+pub mod Laws

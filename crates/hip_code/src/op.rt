@@ -1,0 +1,266 @@
+use hip_types::Width;
+
+/// Where an op takes a value from: a register's slot in its frame, or a place in the table of constants.
+#[derive(Clone, Copy)]
+pub enum Operand {
+    Register(u32),
+    Constant(u32),
+}
+
+/// Some entries of a table that follow one another: the place of the first one, and how many there are.
+#[derive(Clone, Copy)]
+pub struct Span {
+    pub from: u32,
+    pub count: u32,
+}
+
+/// Sums, differences and products.
+#[derive(Clone, Copy)]
+pub enum SumOp {
+    Add,
+    Sub,
+    Mul,
+}
+
+/// Operations bit by bit.
+#[derive(Clone, Copy)]
+pub enum BitOp {
+    And,
+    Or,
+    Xor,
+}
+
+#[derive(Clone, Copy)]
+pub enum ShiftOp {
+    Shl,
+    Lshr,
+    Ashr,
+}
+
+/// An operation on two integers other than a division.
+#[derive(Clone, Copy)]
+pub enum IntegerOp {
+    Sum(SumOp),
+    Bit(BitOp),
+    Shift(ShiftOp),
+}
+
+/// A division: of integers with a sign or without one, for the rest or for the quotient.
+#[derive(Clone, Copy)]
+pub struct DivisionOp {
+    pub signed: bool,
+    pub rest: bool,
+}
+
+/// What is asked of two integers: whether they are equal, or the first one is less, without a sign or with one.
+#[derive(Clone, Copy)]
+pub enum Comparison {
+    Equal,
+    Less,
+    SignedLess,
+}
+
+/// An address that is worked out from a base, modulo 2^64. Scales and offsets are in bytes, and an index is sign-extended
+/// to 64 bits from its width.
+#[derive(Clone, Copy)]
+pub enum Gep {
+    /// The base and an offset.
+    Fixed {
+        base: Operand,
+        offset: u64,
+    },
+    /// The base, an offset, and an index times a scale.
+    Scaled {
+        base: Operand,
+        index: Operand,
+        width: Width,
+        scale: u32,
+        offset: u32,
+    },
+    /// The base, an offset, and entries of the table of terms.
+    Terms {
+        base: Operand,
+        offset: u64,
+        terms: Span,
+    },
+}
+
+/// An index times a scale.
+#[derive(Clone, Copy)]
+pub struct Term {
+    pub index: Operand,
+    pub width: Width,
+    pub scale: u32,
+}
+
+/// An op that gives a value.
+#[derive(Clone, Copy)]
+pub enum Value {
+    Integer {
+        op: IntegerOp,
+        width: Width,
+        a: Operand,
+        b: Operand,
+    },
+    Gep(Gep),
+    Rest(Rest),
+}
+
+#[derive(Clone, Copy)]
+pub enum Rest {
+    /// 1 where the comparison holds or, if it is negated, where it does not.
+    Compare {
+        test: Comparison,
+        negated: bool,
+        width: Width,
+        a: Operand,
+        b: Operand,
+    },
+    /// The value modulo 2 to a width; if it is signed, its sign from the other width is put in front before.
+    Cast {
+        signed: bool,
+        from: Width,
+        to: Width,
+        a: Operand,
+    },
+    Other(Other),
+}
+
+#[derive(Clone, Copy)]
+pub enum Other {
+    Select {
+        test: Operand,
+        a: Operand,
+        b: Operand,
+    },
+    Divide {
+        op: DivisionOp,
+        width: Width,
+        a: Operand,
+        b: Operand,
+    },
+}
+
+/// An op on memory, on cache lines or on the outside. Sizes and alignments are in bytes; `dest` is the slot of a result.
+#[derive(Clone, Copy)]
+pub enum Memory {
+    Load {
+        dest: u32,
+        width: Width,
+        align: u32,
+        addr: Operand,
+    },
+    Store {
+        size: u32,
+        align: u32,
+        value: Operand,
+        addr: Operand,
+    },
+    Effect(Effect),
+}
+
+#[derive(Clone, Copy)]
+pub enum Effect {
+    /// A new block on the stack.
+    Alloca { dest: u32, size: u32, align: u32 },
+    Persistence(Persistence),
+    Outside(Outside),
+}
+
+#[derive(Clone, Copy)]
+pub enum Persistence {
+    /// The flush of the line of an address.
+    Flush(Operand),
+    Fence,
+    /// The flush of the lines of a range, which a fence may follow.
+    Range {
+        addr: Operand,
+        size: Operand,
+        fence: bool,
+    },
+}
+
+#[derive(Clone, Copy)]
+pub enum Outside {
+    /// The check of a range of the region.
+    Assert { addr: Operand, size: Operand },
+    Print(Operand),
+    /// The next input number.
+    Read(Option<u32>),
+}
+
+/// What an edge moves into a slot, a phi's operand for the block that control comes from; or what a call moves into the slot
+/// of a parameter.
+#[derive(Clone, Copy)]
+pub struct Move {
+    pub dest: u32,
+    pub value: Operand,
+}
+
+/// An edge to a block of the same function: the place of its first op, its number, and the moves.
+#[derive(Clone, Copy)]
+pub struct Edge {
+    pub target: u32,
+    pub block: u32,
+    pub moves: Span,
+}
+
+/// A value of a switch, and the number of the edge that it takes.
+#[derive(Clone, Copy)]
+pub struct Case {
+    pub value: u64,
+    pub edge: u32,
+}
+
+/// An op after which control goes elsewhere.
+#[derive(Clone, Copy)]
+pub enum Control {
+    Go(Go),
+    Call(Call),
+    Exit(Exit),
+}
+
+/// A branch along edges, which are named by their numbers.
+#[derive(Clone, Copy)]
+pub enum Go {
+    Cond {
+        test: Operand,
+        yes: u32,
+        no: u32,
+    },
+    Br(u32),
+    Switch {
+        value: Operand,
+        cases: Span,
+        other: u32,
+    },
+}
+
+/// A call of the function of that number, which begins at a place and has so many registers; `frame` is the number of
+/// registers of the caller, and the arguments are moves into the slots of the callee.
+#[derive(Clone, Copy)]
+pub struct Call {
+    pub target: u32,
+    pub function: u32,
+    pub size: u32,
+    pub frame: u32,
+    pub arguments: Span,
+    pub dest: Option<u32>,
+}
+
+/// A return with a value or without one, or a place that control never reaches.
+#[derive(Clone, Copy)]
+pub enum Exit {
+    Value(Operand),
+    Nothing,
+    Unreachable,
+}
+
+/// What stands at a place of the code.
+#[derive(Clone, Copy)]
+pub enum Op {
+    /// A value that goes into a slot.
+    Value { dest: u32, value: Value },
+    Memory(Memory),
+    Control(Control),
+}

@@ -1,0 +1,8 @@
+/// How many frames may stand at once, that of `main` among them.
+pub const MOST_FRAMES: u64 = 16_384;
+
+/// How many turns an input may allow.
+pub const MOST_TURNS: u64 = 1_099_511_627_776;
+
+/// How many numbers an input may have.
+pub const MOST_NUMBERS: u64 = 1_048_576;

@@ -1,0 +1,14 @@
+/// How many bytes a type and each type inside it may have.
+pub const LARGEST_TYPE: u64 = 67_108_864;
+
+/// How deep types, lists of constants and constant `getelementptr`s may be nested, a scalar being 0 deep.
+pub const DEEPEST_NESTING: u64 = 32;
+
+/// How many elements an array may have.
+pub const LARGEST_COUNT: u64 = 67_108_864;
+
+/// How many bytes the persistent region may have.
+pub const LARGEST_REGION: u64 = 67_108_864;
+
+/// How many bytes the volatile globals may take, from their start to the end of the last one.
+pub const LARGEST_VOLATILE: u64 = 16_777_216;

@@ -1,12 +1,12 @@
 -- The walk that collects direct stores finds exactly those.
-use Rattle.std.proofs.Common.{ℕ, zero, suc, ◌+◌, ◌≡◌, ◌||◌, ◌&&◌, not, Bool, true, false, cond, List, [], ◌∷◌, ◌++◌, Option, Some, None, append_assoc, refl, sym, ap, ◌∙◌, arith}
+use Rattle.std.proofs.Common.{ℕ, zero, suc, ◌+◌, ◌≡◌, ◌||◌, ◌&&◌, not, Bool, true, false, cond, List, [], ◌∷◌, ◌++◌, Option, Some, None, length, drop, ◌≤◌, append-nil, refl, sym, ap, ◌∙◌, arith}
 use Rattle.std.specs.Prelude.{option_and_then, slice_get}
 use Rattle.std.specs.List.{filter, flat_map, list_any}
+use Rattle.std.specs.Cmp.{both_ways}
 use Rattle.std.specs.Str.{bytes_eq}
 use Rattle.std.proofs.lemmas.List.Folds.{list_any-append}
 use Rattle.hip_types.specs.Distinct.{met}
-use Rattle.hip_types.specs.declared.number.Scalar.{Scalar}
-use Rattle.hip_ir.specs.Sites.{instr_of, body_sites, block_sites, function_sites, sites_of}
+use Rattle.hip_ir.specs.Sites.{has_site, instr_of, body_sites, block_sites, function_sites, sites_of}
 use Rattle.hip_ir.specs.declared.block.Block.{Block}
 use Rattle.hip_ir.specs.declared.constant.Const.{Const, out-Const}
 use Rattle.hip_ir.specs.declared.constant.Const.TheOpen.{Const-F}
@@ -24,6 +24,7 @@ use Rattle.hip_names.specs.Names.{is_among}
 use Rattle.hip_calls.specs.MetLaws.{met-alike}
 use Rattle.hip_runs.specs.Places.{blocks_in, blocks_of}
 use Rattle.hip_fix.specs.Direct.{allocates, allocates_in, is_volatile_global, names_volatile, stores_outside, direct}
+use Rattle.hip_fix.specs.Laws.SiteOrder.{filtered_has, filtered_in, has_in, site_in}
 use Rattle.hip_fix.specs.DirectWalk.{volatile_names, allocated, body_allocas, alloca_names, names_one_of, stores_by, outside_in_body, outside_in_blocks, outside_in_function, outside_in_functions}
 
 -- ---- the names
@@ -133,3 +134,25 @@ module _ (P : Program) where
 
 pub walk_filtered : (P : Program) → outside_in_functions (met bytes_eq [] (volatile_names P.globals)) 0 P.functions ≡ filter (direct P) (sites_of P)
 walk_filtered P = sym (functions_filtered P 0 P.functions (λ j. ap (slice_get P.functions) (let q : j ≡ 0 + j = omega arith in q)))
+
+-- behind the last function there is nothing
+pub functions_done : (volatile : List (List ℕ)) (sites : List Site) (k : ℕ) (fs : List Function) → length fs ≤ k → sites ≡ sites ++ outside_in_functions volatile k (drop k fs)
+functions_done volatile sites k fs h = sym (append-nil sites) ∙ ap (λ xs. sites ++ outside_in_functions volatile k xs) (sym (nothing fs k h))
+  where
+    nothing : (fs : List Function) (k : ℕ) → length fs ≤ k → drop k fs ≡ []
+    nothing [] zero h = refl
+    nothing [] (suc k) h = refl
+    nothing (f ∷ fs) zero h = absurd (omega arith)
+    nothing (f ∷ fs) (suc k) h = nothing fs k (omega arith)
+
+-- a site is found exactly where a direct store stands
+pub found_direct : (P : Program) (s : Site) → has_site (filter (direct P) (sites_of P)) s ≡ direct P s
+found_direct P s =
+    both_ways _ _ (λ e. (filtered_in (direct P) (sites_of P) s (has_in (filter (direct P) (sites_of P)) s e)).1) (λ e. there (instr_of P s) refl e)
+  where
+    there : (o : Option Instr) → instr_of P s ≡ o → direct P s ≡ true → has_site (filter (direct P) (sites_of P)) s ≡ true
+    there None e d = let none : direct P s ≡ false = ap (stores_outside P (blocks_of P s.function)) e in absurd (never (sym none ∙ d))
+      where
+        never : false ≡ true → ⊥
+        never e = cc
+    there (Some i) e d = filtered_has (direct P) (sites_of P) s (site_in P s i e) d

@@ -40,3 +40,9 @@ pub mod SinceCall
 pub mod FencedCalls
 pub mod HoistsFenced
 pub mod worked
+pub mod Grows
+pub mod Walks
+pub mod Whole
+pub mod SiteKeys
+pub mod CloneNames
+pub mod DirectSites

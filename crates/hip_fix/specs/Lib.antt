@@ -3,6 +3,7 @@ pub mod SiteSets
 pub mod Walk
 pub mod Repaired
 pub mod Direct
+pub mod DirectWalk
 pub mod Harmless
 pub mod Quiet
 pub mod Choice

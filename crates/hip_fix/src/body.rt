@@ -4,7 +4,7 @@ ghost use Rattle.hip_fix.specs.Repaired as spec;
 ghost use Rattle.hip_fix.specs.Repaired.{fence_behind, flush_behind, flush_of, the_fence};
 ghost use Rattle.hip_fix.specs.Walk.{grown, none_needed};
 
-use crate::inserted::{fence, is_wide, line_flush, range_flush};
+use crate::insertions::{fence, is_wide, line_flush, range_flush};
 use hip_ir::{Instr, Operand};
 use hip_types::{NoMemory, Row, Scalar};
 use std::alloc::Global;

@@ -1,10 +1,19 @@
 //! Repairs of programs: flushes and fences that are inserted, and clones that flush what they store.
 #![tactic(auto)]
 
+mod body;
+mod clone_table;
+mod direct;
 mod examples;
+mod externs;
+mod insertions;
 mod laws;
 mod plan;
 mod plans;
+mod program;
+mod repair;
+mod repaired;
+mod sites;
 
 pub use examples::{
     assert_inside_callee_is_repaired, copy_is_hoisted, fence_without_flush_is_repaired,
@@ -20,3 +29,4 @@ pub use plans::{
     clones_are_numbered, inputs_stay_valid, nothing_is_changed_without_reports,
     plans_have_what_is_asked, plans_suit, plans_unite, sites_are_ordered,
 };
+pub use repaired::{Repaired, apply, apply_skipping};

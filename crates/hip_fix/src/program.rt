@@ -5,8 +5,8 @@ ghost use Rattle.hip_fix.specs.Repaired.{cloned, clones_from, repaired, wanted_b
 ghost use Rattle.hip_fix.specs.Walk.{none_needed, walked, wanted_in};
 
 use crate::body::Needed;
-use crate::clones::CloneTable;
-use crate::declarations::declarations;
+use crate::clone_table::CloneTable;
+use crate::externs::declarations;
 use crate::plan::Plan;
 use crate::repair::Repair;
 use crate::sites::SiteSet;

@@ -4,7 +4,7 @@ ghost use Rattle.hip_fix.specs.Repaired.{clone_functions, clone_in, instrs_of, r
 ghost use Rattle.hip_fix.specs.Walk.{grown, marked_blocks, marked_clone, marked_clones, marked_functions, noted, repaired_at, wanted_in};
 
 use crate::body::{Body, Needed};
-use crate::clones::CloneTable;
+use crate::clone_table::CloneTable;
 use crate::sites::SiteSet;
 use hip_ir::{Block, Function, Instr, Program, Site};
 use hip_types::{Name, NoMemory, Row, Structural};

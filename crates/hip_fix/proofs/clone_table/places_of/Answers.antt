@@ -4,7 +4,7 @@ use Rattle.hip_names.specs.Tables.{Entry, StandsFor}
 use Rattle.hip_calls.specs.Fresh.{name_of}
 use Rattle.hip_calls.specs.Numbered.{entries_from, entries-next, numbers_found}
 use Rattle.hip_fix.proofs.CloneNames.{original_named}
-use Rattle.hip_fix.proofs.clones.places_of.Goals as goal
+use Rattle.hip_fix.proofs.clone_table.places_of.Goals as goal
 
 from_zero : (n : ℕ) → n ≡ 0 + n
 from_zero n = omega arith

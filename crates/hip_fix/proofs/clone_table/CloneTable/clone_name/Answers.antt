@@ -1,7 +1,7 @@
 use Rattle.std.proofs.Common.{None, Some, ap, ◌∙◌}
 use Rattle.hip_fix.specs.Repaired.{clone_name}
 use Rattle.hip_fix.proofs.CloneNames.{clone_at}
-use Rattle.hip_fix.proofs.clones.CloneTable.clone_name.Goals as goal
+use Rattle.hip_fix.proofs.clone_table.CloneTable.clone_name.Goals as goal
 
 pub returns-in-Some : goal.returns-in-Some
 returns-in-Some c =

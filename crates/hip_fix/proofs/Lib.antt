@@ -46,3 +46,4 @@ pub mod Whole
 pub mod SiteKeys
 pub mod CloneNames
 pub mod DirectSites
+pub mod Suited

@@ -1,4 +1,5 @@
 pub mod Suits
+pub mod SuitsTest
 pub mod SiteSets
 pub mod Walk
 pub mod Repaired

@@ -9,6 +9,7 @@ mod externs;
 mod insertions;
 mod laws;
 mod plan;
+mod plan_check;
 mod plans;
 mod program;
 mod repair;
@@ -30,3 +31,4 @@ pub use plans::{
     plans_have_what_is_asked, plans_suit, plans_unite, sites_are_ordered,
 };
 pub use repaired::{Repaired, apply, apply_skipping};
+pub use plan_check::suits;

@@ -1,0 +1,43 @@
+-- Whether a plan suits, as it is tested: ascending lists are gone through side by side.
+use Rattle.std.specs.Prelude.{ℕ, Bool, true, false, cond, ◌&&◌, ◌||◌, is_none, List, [], ◌∷◌, Option, Some}
+use Rattle.std.specs.List.{list_all}
+use Rattle.hip_externs.specs.Externs.{call_of}
+use Rattle.hip_ir.specs.Sites.{instr_of, same_site}
+use Rattle.hip_ir.specs.declared.instr.Instr.{Instr}
+use Rattle.hip_ir.specs.declared.instr.Instr.TheVariants.{Call}
+use Rattle.hip_ir.specs.declared.program.Program.{Program}
+use Rattle.hip_ir.specs.declared.site.Site.{Site}
+use Rattle.hip_runs.specs.Sites.{is_flush_call, is_store}
+use Rattle.hip_fix.specs.Suits.{site_before, is_ascending}
+use Rattle.hip_fix.specs.declared.plan.Plan.{Plan}
+
+abbrev pub is_before_first : Site → List Site → Bool
+is_before_first s [] = true
+is_before_first s (x ∷ xs) = site_before s x
+
+-- the sites from the first on that is not before a site
+abbrev pub not_before : Site → List Site → List Site
+not_before s [] = []
+not_before s (x ∷ xs) = cond (site_before x s) (not_before s xs) (x ∷ xs)
+
+abbrev pub begins_with : List Site → Site → Bool
+begins_with [] s = false
+begins_with (x ∷ xs) s = same_site s x
+
+-- a call that is of no external function; in a sound program it is of a defined one
+abbrev pub calls_defined : Option Instr → Bool
+calls_defined (Some (Call dest ret callee args)) = is_none (call_of callee)
+calls_defined _ = false
+
+-- each of these sites is a flush call or among the first ones, where both lists ascend
+abbrev pub fences_pass : Program → List Site → List Site → Bool
+fences_pass P flushes [] = true
+fences_pass P flushes (s ∷ ss) = (is_flush_call (instr_of P s) || begins_with (not_before s flushes) s) && fences_pass P (not_before s flushes) ss
+
+abbrev pub ascend : Plan → Bool
+ascend plan = is_ascending plan.flush_after && is_ascending plan.fence_after && is_ascending plan.hoist
+
+abbrev pub passes : Program → Plan → Bool
+passes P plan =
+    ascend plan && list_all (λ s. is_store (instr_of P s)) plan.flush_after && fences_pass P plan.flush_after plan.fence_after
+    && list_all (λ s. calls_defined (instr_of P s)) plan.hoist

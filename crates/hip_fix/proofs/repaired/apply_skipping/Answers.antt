@@ -1,24 +1,40 @@
-use Rattle.std.proofs.Common.{◌≡◌, refl, sym, ap, ◌∙◌, subst}
+use Rattle.std.proofs.Common.{◌≡◌, length, refl, sym, ap, ◌∙◌, subst}
 use Rattle.hip_ir.specs.Sites.{has_site}
 use Rattle.hip_ir.specs.declared.program.Program.{Program}
 use Rattle.hip_typing.specs.Laws.SoundExact.{sound-passes, passes-sound}
 use Rattle.hip_typing.specs.Sound.{IsSound}
+use Rattle.hip_calls.specs.Reach as reach
 use Rattle.hip_fix.specs.Clean.{IsClean}
 use Rattle.hip_fix.specs.CloneNumbers.{numbered_from}
 use Rattle.hip_fix.specs.Covered.{IsCovered}
 use Rattle.hip_fix.specs.Repaired.{repaired}
-use Rattle.hip_fix.proofs.Cured.{clean}
-use Rattle.hip_fix.proofs.FencedCalls.{covered}
-use Rattle.hip_fix.proofs.Harm.{harmless}
+use Rattle.hip_fix.proofs.Cured as cured
+use Rattle.hip_fix.proofs.FencedCalls as calls
+use Rattle.hip_fix.proofs.Harm as harm
 use Rattle.hip_fix.proofs.HoistsFenced.{hoists_fenced}
 use Rattle.hip_fix.proofs.SoundAgain.{passes_again}
 use Rattle.hip_fix.proofs.repaired.apply_skipping.Goals as goal
 
-pub repaired_program-requires : goal.repaired_program-requires
-repaired_program-requires c = ?
-
 pub of_sound-requires : goal.of_sound-requires
-of_sound-requires c = ?
+of_sound-requires c =
+    let P = c.args.checked.now in
+    let plan = c.args.plan.now in
+    let skip = has_site c.args.skip.now in
+    let is : c.in_ok-repaired.repaired ≡ repaired P plan skip = c.in_ok-repaired.ensures ∙ ap (λ (p : Program). repaired p plan skip) c.program.ensures.is in
+    subst IsSound (sym is) (passes-sound (repaired P plan skip) (passes_again P plan skip (sound-passes P c.program.ensures.sound)))
 
 pub returns : goal.returns
-returns c = ?
+returns c =
+    let P = c.args.checked.now in
+    let plan = c.args.plan.now in
+    let skip = has_site c.args.skip.now in
+    let sound = sound-passes P c.program.ensures.sound in
+    let is : c.of_sound.result ≡ repaired P plan skip = c.of_sound.ensures ∙ c.in_ok-repaired.ensures ∙ ap (λ (p : Program). repaired p plan skip) c.program.ensures.is in
+    record {
+      program = is;
+      clones = ?;
+      harmless = harm.harmless P plan skip sound;
+      clean = λ I found quiet valid is_found contains. subst (λ (p : Program). IsClean p I) (sym is) (cured.clean P plan skip I found sound valid quiet is_found contains);
+      covered = λ quiet. subst (IsCovered P) (sym is) (calls.covered P plan skip sound quiet);
+      fenced = hoists_fenced P plan skip sound;
+    }

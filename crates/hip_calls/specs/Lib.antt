@@ -1,7 +1,6 @@
 pub mod Numbered
 pub mod MetLaws
 pub mod Reach
-pub mod ReachLaws
 pub mod Fresh
-pub mod FreshLaws
+pub mod Meaning
 pub mod Laws

@@ -16,7 +16,7 @@ use Rattle.hip_runs.specs.State.{Frame, StorePart, World, Counts, State, levels_
 use Rattle.hip_runs.specs.Operands.{assigned}
 use Rattle.hip_runs.specs.Places.{code_at, end_at}
 use Rattle.hip_runs.specs.Actions.{Action, Traps, Assigns, Allocates, Stores, Flushes, Persists, Fences, Asserts, Prints, Reads, Calls, Jumps, Returns, Deed, in_region, deed_of}
-use Rattle.hip_runs.specs.Persistence.{stored_lines, flushes_lines, flushed_lines, fenced_lines}
+use Rattle.hip_runs.specs.StoredParts.Persistence.{stored_lines, flushes_lines, flushed_lines, fenced_lines}
 use Rattle.hip_runs.specs.declared.event.Event.TheVariants as events
 use Rattle.hip_lines.specs.declared.TheConstants.{LINE_SIZE}
 

@@ -3,8 +3,8 @@
 ghost use Rattle.hip_ir.specs.declared.program.Program.{Program};
 ghost use Rattle.hip_lines.specs.declared.TheConstants.{LINE_SIZE};
 ghost use Rattle.hip_runs.specs.Crash.{IsCrashImage, IsCrashPick, crash_image};
-ghost use Rattle.hip_runs.specs.Parts.{PartOf};
-ghost use Rattle.hip_runs.specs.Since.{stores, fences, FencedSince, IsFirstFlush, IsFlushedThenFenced, IsOfStore, IsPartAt, IsDurableAt};
+ghost use Rattle.hip_runs.specs.StoredParts.Parts.{PartOf};
+ghost use Rattle.hip_runs.specs.StoredParts.Since.{stores, fences, FencedSince, IsFirstFlush, IsFlushedThenFenced, IsOfStore, IsPartAt, IsDurableAt};
 ghost use Rattle.hip_runs.specs.State.{Flush, StorePart};
 ghost use Rattle.hip_runs.specs.Step.{event, run};
 ghost use Rattle.hip_runs.specs.Validity.{IsValid};

@@ -5,13 +5,13 @@ use Rattle.hip_ir.specs.declared.program.Program.{Program}
 use Rattle.hip_lines.specs.declared.part.LooseByte.{LooseByte}
 use Rattle.hip_runs.specs.declared.input.Input.{Input}
 use Rattle.hip_runs.specs.Laws.HistoryLaws.{has_history}
-use Rattle.hip_runs.specs.Parts.{In}
-use Rattle.hip_runs.specs.Reports.{LoosePart, Range, loose_parts, all_flushed, report_of, check_reports}
+use Rattle.hip_runs.specs.StoredParts.Parts.{In}
+use Rattle.hip_runs.specs.Found.Reports.{LoosePart, Range, loose_parts, all_flushed, report_of, check_reports}
 use Rattle.hip_runs.specs.State.{levels_of}
 use Rattle.hip_runs.specs.Step.{run}
-use Rattle.hip_runs.specs.Laws.LooseBytes.{part_loose, loose_there, are_alike}
+use Rattle.hip_runs.specs.Laws.Found.LooseBytes.{part_loose, loose_there, are_alike}
 use Rattle.hip_runs.specs.Laws.LineOrder.{in_lines}
-use Rattle.hip_runs.specs.Tags.{AreAlike, AreToldBy, AscendWithin, HoldsTags, IsNoneBeside, has_some, has_tag, loose_bytes, reports_for, tag_flushed}
+use Rattle.hip_runs.specs.Found.Tags.{AreAlike, AreToldBy, AscendWithin, HoldsTags, IsNoneBeside, has_some, has_tag, loose_bytes, reports_for, tag_flushed}
 use Rattle.hip_runs.specs.Laws.Members.{all_in, any_in, equal_true, in_all, in_any, true_equal}
 use Rattle.std.specs.Cmp.{both_ways}
 

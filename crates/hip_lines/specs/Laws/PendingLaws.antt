@@ -2,7 +2,7 @@
 use Rattle.std.proofs.Common.{◌≡◌, ℕ, zero, suc, ◌+◌, ◌-◌, ◌<◌, ◌≤◌, Bool, true, false, cond, List, [], ◌∷◌, ◌++◌, length, map, drop, Option, Some, None, MatchOption, refl, sym, ap, ap₂, ◌∙◌, arith, length-drop}
 use Rattle.hip_lines.specs.Line.{Line, IsOrdered, AreOrdered, with_part, flushed_line, fenced_line, has_bytes, change_from, fenced}
 use Rattle.hip_lines.specs.Loose.{IsLooseBy, IsLoose, last_over}
-use Rattle.hip_lines.specs.LooseLaws.{last_over-finds, Finds, loose-drop, drop-loose}
+use Rattle.hip_lines.specs.Laws.LooseLaws.{last_over-finds, Finds, loose-drop, drop-loose}
 use Rattle.hip_lines.specs.Pending.{Pending, pending_of, pending_with, pending_flushed, pending_fenced}
 
 drop-append : {A : Type 0} (g : ℕ) (xs ys : List A) → g ≤ length xs → drop g (xs ++ ys) ≡ drop g xs ++ ys

@@ -4,19 +4,19 @@ use Rattle.std.proofs.lemmas.List.{length-map}
 use Rattle.hip_ir.specs.Sites.{instr_of}
 use Rattle.hip_ir.specs.declared.program.Program.{Program}
 use Rattle.hip_ir.specs.declared.site.Site.{Site}
-use Rattle.hip_lines.specs.LooseLaws.{get-of_map}
+use Rattle.hip_lines.specs.Laws.LooseLaws.{get-of_map}
 use Rattle.hip_runs.specs.declared.input.Input.{Input}
 use Rattle.hip_runs.specs.declared.report.Report.{Report}
-use Rattle.hip_runs.specs.History.{HasHistory}
+use Rattle.hip_runs.specs.StoredParts.History.{HasHistory}
 use Rattle.hip_runs.specs.Laws.HistoryLaws.{has_history}
-use Rattle.hip_runs.specs.Parts.{In, PartOf}
+use Rattle.hip_runs.specs.StoredParts.Parts.{In, PartOf}
 use Rattle.hip_runs.specs.Laws.PartLaws.{in-append}
-use Rattle.hip_runs.specs.Reports.{LoosePart, Range, loose_parts, later_flush, latest_flush, kind_of, all_flushed, flush_site_of, is_open, closed_count, report_by, report_of, next_check, check_reports, reports}
+use Rattle.hip_runs.specs.Found.Reports.{LoosePart, Range, loose_parts, later_flush, latest_flush, kind_of, all_flushed, flush_site_of, is_open, closed_count, report_by, report_of, next_check, check_reports, reports}
 use Rattle.hip_runs.specs.Sites.{is_store, is_flush_call, is_defined_call, HasSites}
 use Rattle.hip_runs.specs.State.{Level, Flush, State, levels_of}
 use Rattle.hip_runs.specs.Step.{run}
-use Rattle.hip_runs.specs.WellFormed.{lacks_fence_alone, IsWellFormed}
-use Rattle.hip_runs.specs.Laws.LooseBytes.{part_loose, loose_there}
+use Rattle.hip_runs.specs.Found.WellFormed.{lacks_fence_alone, IsWellFormed}
+use Rattle.hip_runs.specs.Laws.Found.LooseBytes.{part_loose, loose_there}
 use Rattle.hip_runs.specs.Laws.SiteLaws.{has_sites}
 use Rattle.hip_runs.specs.Laws.Members.{in_all, in_at, lt_true, of_flat}
 

@@ -3,7 +3,7 @@ use Rattle.std.proofs.Common.{◌≡◌, ◌⊎◌, inl, inr, ℕ, zero, suc, �
 use Rattle.std.proofs.lemmas.Bool.Decides.{nat_tests}
 use Rattle.hip_mem.specs.Memory.{Write, write_covers, byte_written, byte_from, volatile_start, stack_start, stack_end, is_in, Memory, initial_byte, byte_at, bytes_at, with_write}
 use Rattle.hip_mem.specs.Bytes.{zeros}
-use Rattle.hip_mem.specs.BytesLaws.{length-zeros, slice_index-zeros}
+use Rattle.hip_mem.specs.Laws.BytesLaws.{length-zeros, slice_index-zeros}
 use Rattle.hip_mem.specs.Areas.{Areas, IsLaidOut, mark_of, is_valid, are_valid, byte_in, bytes_in, area_written, after_write, block_address, after_push, after_pop, Holds}
 
 -- ---- tests

@@ -8,7 +8,7 @@ use Rattle.std.proofs.lemmas.Bool.Decides.{Decides-eqb}
 use Rattle.std.proofs.lemmas.Map.Steps.{length-le_from_distinct_below}
 use Rattle.std.proofs.lemmas.Option.{slice_get_within, same_Some}
 use Rattle.hip_types.specs.Distinct.{met}
-use Rattle.hip_types.specs.DistinctLaws.{any_front, any_back, any_either, any_at, any_found, met-kept, met-distinct, met-first, met-second, met-only}
+use Rattle.hip_types.specs.Laws.DistinctLaws.{any_front, any_back, any_either, any_at, any_found, met-kept, met-distinct, met-first, met-second, met-only}
 use Rattle.hip_ir.specs.Sites.{instr_of}
 use Rattle.hip_ir.specs.declared.block.Block.{Block}
 use Rattle.hip_ir.specs.declared.instr.Arg.{Arg}

@@ -5,7 +5,7 @@ use Rattle.hip_lines.specs.Line.{Line, change_range, stored}
 use Rattle.hip_mem.specs.Bytes.{bytes_of}
 use Rattle.hip_runs.specs.declared.event.Event.{Event}
 use Rattle.hip_runs.specs.declared.input.Input.{Input}
-use Rattle.hip_runs.specs.Persistence.{part_of_store, flush_line, fenced_lines}
+use Rattle.hip_runs.specs.StoredParts.Persistence.{part_of_store, flush_line, fenced_lines}
 use Rattle.hip_runs.specs.State.{Level, Flush, StorePart, Counts}
 use Rattle.hip_runs.specs.declared.event.Event.TheVariants as events
 

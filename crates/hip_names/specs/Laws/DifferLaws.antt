@@ -4,7 +4,7 @@ use Rattle.std.specs.List.{AllByRecursion, IsDistinct}
 use Rattle.std.specs.Str.{bytes_eq}
 use Rattle.std.proofs.lemmas.Bool.{both_ways}
 use Rattle.std.proofs.lemmas.Slice.Eq.{bytes_eq-Decides}
-use Rattle.hip_names.specs.NameLaws.{among-left, among-right, among-either}
+use Rattle.hip_names.specs.Laws.NameLaws.{among-left, among-right, among-either}
 use Rattle.hip_names.specs.Names.{AllDiffer, IsAmong}
 
 -- no name of the first list is one of the second

@@ -7,9 +7,9 @@ use Rattle.hip_lines.specs.Loose.{IsLooseBy}
 use Rattle.hip_lines.specs.declared.part.LooseByte.{LooseByte}
 use Rattle.hip_runs.specs.declared.report.Report.{Report}
 use Rattle.hip_runs.specs.Crash.{covers}
-use Rattle.hip_runs.specs.Parts.{In}
-use Rattle.hip_runs.specs.Reports.{LoosePart, Range, loose_parts, all_flushed, report_of}
-use Rattle.hip_runs.specs.Shown.{shown}
+use Rattle.hip_runs.specs.StoredParts.Parts.{In}
+use Rattle.hip_runs.specs.Found.Reports.{LoosePart, Range, loose_parts, all_flushed, report_of}
+use Rattle.hip_runs.specs.StoredParts.Shown.{shown}
 use Rattle.hip_runs.specs.State.{StorePart, State, levels_of}
 use Rattle.hip_lines.specs.Parts as bytes
 

@@ -7,7 +7,7 @@ use Rattle.std.proofs.lemmas.Bool.Decides.{nat_tests}
 use Rattle.std.proofs.lemmas.List.{length-append}
 use Rattle.std.proofs.lemmas.Slice.Eq.{bytes_eq-Decides}
 use Rattle.hip_names.specs.Names.{is_among}
-use Rattle.hip_names.specs.NameLaws.{bytes_eq-sym}
+use Rattle.hip_names.specs.Laws.NameLaws.{bytes_eq-sym}
 use Rattle.hip_names.specs.Tables.{Entry, value_of, value_beside, StandsFor}
 
 module _ {V : Type 0} where

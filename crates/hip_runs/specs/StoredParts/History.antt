@@ -4,8 +4,8 @@ use Rattle.hip_ir.specs.Sites.{instr_of}
 use Rattle.hip_ir.specs.declared.instr.Instr.{Instr}
 use Rattle.hip_ir.specs.declared.program.Program.{Program}
 use Rattle.hip_lines.specs.Line.{Line}
-use Rattle.hip_runs.specs.Parts.{In, PartOf}
-use Rattle.hip_runs.specs.Reports.{is_open}
+use Rattle.hip_runs.specs.StoredParts.Parts.{In, PartOf}
+use Rattle.hip_runs.specs.Found.Reports.{is_open}
 use Rattle.hip_runs.specs.State.{Level, Flush, StorePart, State, levels_of}
 
 -- the calls were made one after another, each before the one above it, and all before step n

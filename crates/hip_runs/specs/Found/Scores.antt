@@ -11,7 +11,7 @@ use Rattle.hip_runs.specs.declared.event.Object.{Object}
 use Rattle.hip_runs.specs.declared.report.Findings.{Findings}
 use Rattle.hip_runs.specs.declared.report.Mark.{Mark}
 use Rattle.hip_runs.specs.declared.report.Marks.{Marks}
-use Rattle.hip_runs.specs.Marks.{pointer_operands}
+use Rattle.hip_runs.specs.Found.Marks.{pointer_operands}
 use Rattle.hip_runs.specs.declared.event.Object.TheVariants as objects
 
 -- a persistent global that was stored into is marked; blocks on the stack and other globals are not

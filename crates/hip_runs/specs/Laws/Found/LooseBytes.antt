@@ -5,19 +5,19 @@ use Rattle.std.specs.List.{list_any}
 use Rattle.std.proofs.lemmas.Bool.Decides.{nat_tests}
 use Rattle.hip_lines.specs.Line.{Line, map_line}
 use Rattle.hip_lines.specs.Loose.{IsLastOver, IsLooseBy, last_over}
-use Rattle.hip_lines.specs.LooseLaws.{get-drop, get-of_map, get-map, last_over-finds, Finds, last_over-place, last_over-part, loose-drop, drop-loose, loose-map_line, map_line-loose}
+use Rattle.hip_lines.specs.Laws.LooseLaws.{get-drop, get-of_map, get-map, last_over-finds, Finds, last_over-place, last_over-part, loose-drop, drop-loose, loose-map_line, map_line-loose}
 use Rattle.hip_lines.specs.Pending.{Pending}
 use Rattle.hip_lines.specs.declared.part.Part.{Part}
 use Rattle.hip_lines.specs.declared.part.LooseByte.{LooseByte}
 use Rattle.hip_runs.specs.Crash.{covers}
-use Rattle.hip_runs.specs.Parts.{In, PartOf}
+use Rattle.hip_runs.specs.StoredParts.Parts.{In, PartOf}
 use Rattle.hip_runs.specs.Laws.PartLaws.{in-append, append-left, append-right}
-use Rattle.hip_runs.specs.Reports.{LoosePart, shows, is_last, loose_from, loose_in, loose_parts}
+use Rattle.hip_runs.specs.Found.Reports.{LoosePart, shows, is_last, loose_from, loose_in, loose_parts}
 use Rattle.hip_runs.specs.State.{StorePart}
-use Rattle.hip_runs.specs.Tags.{AreAlike, IsLoosePart}
-use Rattle.hip_runs.specs.Shown.{shown_part, shown_line, shown}
+use Rattle.hip_runs.specs.Found.Tags.{AreAlike, IsLoosePart}
+use Rattle.hip_runs.specs.StoredParts.Shown.{shown_part, shown_line, shown}
 use Rattle.hip_runs.specs.Laws.Members.{at_none, equal_true, in_at, le_true, lt_true, none_at, of_flat, to_flat, true_equal, true_le, true_lt}
-use Rattle.hip_types.specs.DistinctLaws.{or_second}
+use Rattle.hip_types.specs.Laws.DistinctLaws.{or_second}
 use Rattle.hip_lines.specs.Parts as bytes
 
 -- every byte that a part covers lies in the part's line

@@ -8,7 +8,7 @@ use Rattle.hip_types.specs.declared.ty.Ty.{Ty, out-Ty, map-Ty}
 use Rattle.hip_types.specs.declared.ty.Ty.TheOpen.{Ty-F}
 use Rattle.hip_types.specs.declared.ty.Ty.TheVariants.{Ptr}
 use Rattle.hip_types.specs.Layout.{Shape, shape, shape_of_level, shapes, size_of, align_of, Fits, Part, field_of, offset_in, enter_level, enter, further, part_at, gep_of}
-use Rattle.hip_types.specs.LayoutLaws.{align_of-alignment, multiple_of_multiple, shape-level, sum_of_multiples, times_multiple, size_of-multiple, size_of-le, size_of-Struct, offset_in-multiple, greatest_align-multiple, field-inside, field-fits}
+use Rattle.hip_types.specs.Laws.LayoutLaws.{align_of-alignment, multiple_of_multiple, shape-level, sum_of_multiples, times_multiple, size_of-multiple, size_of-le, size_of-Struct, offset_in-multiple, greatest_align-multiple, field-inside, field-fits}
 use Rattle.hip_types.specs.declared.limits.TheConstants.{DEEPEST_NESTING, LARGEST_TYPE}
 
 abbrev pub level_is_inside : ℕ → Ty-F Ty → Type 0

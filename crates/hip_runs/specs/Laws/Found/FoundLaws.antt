@@ -4,11 +4,11 @@ use Rattle.std.proofs.Common.{◌≡◌, ℕ, Bool, true, false, ◌&&◌, nat_e
 use Rattle.hip_ir.specs.declared.site.Site.{Site}
 use Rattle.std.specs.Cmp.{IsEquivalence, both_ways, nat_eq_equiv}
 use Rattle.std.specs.List.{list_any, IsDistinct}
-use Rattle.hip_types.specs.DistinctLaws.{met-distinct}
+use Rattle.hip_types.specs.Laws.DistinctLaws.{met-distinct}
 use Rattle.hip_ir.specs.Sites.{same_site}
 use Rattle.hip_runs.specs.declared.event.Object.{Object}
 use Rattle.hip_runs.specs.declared.report.Mark.{Mark}
-use Rattle.hip_runs.specs.Marks.{same_object, same_mark, IsFound, findings, pointed, hit, unless_ended, frame_marks, step_marks, event_hits}
+use Rattle.hip_runs.specs.Found.Marks.{same_object, same_mark, IsFound, findings, pointed, hit, unless_ended, frame_marks, step_marks, event_hits}
 use Rattle.std.specs.Prelude.{is_some, ℤ, ◌+ℤ◌}
 use Rattle.hip_types.specs.Distinct.{met}
 use Rattle.hip_ir.specs.declared.program.Program.{Program}
@@ -18,11 +18,11 @@ use Rattle.hip_runs.specs.declared.report.Findings.{Findings}
 use Rattle.hip_runs.specs.declared.report.Report.{Report}
 use Rattle.hip_runs.specs.Ends.{Ends}
 use Rattle.hip_runs.specs.Laws.EndLaws.{runs_end}
-use Rattle.hip_runs.specs.Reports.{checked_by, check_reports, reports}
+use Rattle.hip_runs.specs.Found.Reports.{checked_by, check_reports, reports}
 use Rattle.hip_runs.specs.State.{State}
 use Rattle.hip_runs.specs.Step.{event, event_on_ending, step, on_ending, run, has_ended}
 use Rattle.hip_runs.specs.declared.report.Marks.{Marks}
-use Rattle.hip_runs.specs.Scores.{Worth, is_worth_of, worth_at, is_marked, with_mark, worth, worth_in, worth_of, worths, worths_from}
+use Rattle.hip_runs.specs.Found.Scores.{Worth, is_worth_of, worth_at, is_marked, with_mark, worth, worth_in, worth_of, worths, worths_from}
 use Rattle.hip_runs.specs.Laws.Members.{both_true, equal_true, true_both, true_equal}
 use Rattle.hip_runs.specs.declared.event.Object.TheVariants as objects
 

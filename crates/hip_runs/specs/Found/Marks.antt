@@ -18,10 +18,10 @@ use Rattle.hip_runs.specs.declared.input.Input.{Input}
 use Rattle.hip_runs.specs.declared.report.Findings.{Findings}
 use Rattle.hip_runs.specs.declared.report.Mark.{Mark}
 use Rattle.hip_runs.specs.State.{Frame, State, site_of}
-use Rattle.hip_runs.specs.Objects.{global_at, object_at}
+use Rattle.hip_runs.specs.Found.Objects.{global_at, object_at}
 use Rattle.hip_runs.specs.Operands.{value_of}
 use Rattle.hip_runs.specs.Places.{code_at}
-use Rattle.hip_runs.specs.Reports.{reports}
+use Rattle.hip_runs.specs.Found.Reports.{reports}
 use Rattle.hip_runs.specs.Step.{event, run, has_ended}
 use Rattle.hip_runs.specs.declared.event.Event.TheVariants as events
 use Rattle.hip_runs.specs.declared.event.Object.TheVariants as objects

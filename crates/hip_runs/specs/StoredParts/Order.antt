@@ -4,9 +4,9 @@ use Rattle.hip_ir.specs.declared.program.Program.{Program}
 use Rattle.hip_lines.specs.Line.{Line}
 use Rattle.hip_runs.specs.declared.input.Input.{Input}
 use Rattle.hip_runs.specs.Crash.{covers}
-use Rattle.hip_runs.specs.History.{AreDescending}
-use Rattle.hip_runs.specs.Parts.{PartOf}
-use Rattle.hip_runs.specs.Since.{fences}
+use Rattle.hip_runs.specs.StoredParts.History.{AreDescending}
+use Rattle.hip_runs.specs.StoredParts.Parts.{PartOf}
+use Rattle.hip_runs.specs.StoredParts.Since.{fences}
 use Rattle.hip_runs.specs.State.{Flush, StorePart, State, levels_of}
 use Rattle.hip_runs.specs.Step.{event, run, step}
 use Rattle.hip_lines.specs.declared.TheConstants.{LINE_SIZE}

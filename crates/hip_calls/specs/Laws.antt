@@ -1,3 +1,4 @@
 -- Laws of the definitions.
 pub mod FreshLaws
 pub mod ReachLaws
+pub mod MetLaws

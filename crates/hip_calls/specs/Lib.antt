@@ -1,5 +1,4 @@
 pub mod Numbered
-pub mod MetLaws
 pub mod Reach
 pub mod Fresh
 pub mod Meaning

@@ -19,9 +19,9 @@ use Rattle.hip_ir.specs.declared.program.Function.{Function}
 use Rattle.hip_ir.specs.declared.program.GlobalVar.{GlobalVar}
 use Rattle.hip_ir.specs.declared.program.Program.{Program}
 use Rattle.hip_ir.specs.declared.site.Site.{Site}
-use Rattle.hip_names.specs.NameLaws.{bytes_eq-sym}
+use Rattle.hip_names.specs.Laws.NameLaws.{bytes_eq-sym}
 use Rattle.hip_names.specs.Names.{is_among}
-use Rattle.hip_calls.specs.MetLaws.{met-alike}
+use Rattle.hip_calls.specs.Laws.MetLaws.{met-alike}
 use Rattle.hip_runs.specs.Places.{blocks_in, blocks_of}
 use Rattle.hip_fix.specs.Direct.{allocates, allocates_in, is_volatile_global, names_volatile, stores_outside, direct}
 use Rattle.hip_fix.specs.Laws.SiteOrder.{filtered_has, filtered_in, has_in, site_in}

@@ -12,13 +12,14 @@ use Rattle.hip_ir.specs.declared.instr.Instr.TheVariants.{Call}
 use Rattle.hip_ir.specs.declared.program.Function.{Function}
 use Rattle.hip_ir.specs.declared.program.Program.{Program}
 use Rattle.hip_ir.specs.declared.site.Site.{Site}
-use Rattle.hip_runs.specs.Laws.FoundLaws.{same_site_equal, site_same}
-use Rattle.hip_runs.specs.Parts.{In}
+use Rattle.hip_runs.specs.Laws.Members.{both_true}
+use Rattle.hip_runs.specs.Laws.Found.FoundLaws.{same_site_equal, site_same}
+use Rattle.hip_runs.specs.StoredParts.Parts.{In}
 use Rattle.hip_runs.specs.Places.{blocks_in, body_at, body_of}
 use Rattle.hip_runs.specs.Sites.{is_defined_call, is_flush_call, is_store}
 use Rattle.hip_typing.specs.Numbering.{function_number}
 use Rattle.hip_fix.specs.declared.plan.Plan.{Plan}
-use Rattle.hip_fix.specs.Laws.SiteOrder.{and_true, has_in, in_has, strict_order}
+use Rattle.hip_fix.specs.Laws.SiteOrder.{has_in, in_has, strict_order}
 use Rattle.hip_fix.specs.Suits.{IsSuiting, site_before, is_ascending}
 use Rattle.hip_fix.specs.SuitsTest.{ascend, begins_with, calls_defined, fences_pass, not_before, passes}
 use Rattle.hip_fix.proofs.Twins.{IsCallable}
@@ -31,13 +32,13 @@ never false e f = absurd (let z : ⊥ = cc in z)
 
 tail_ascends : (x : Site) (xs : List Site) → is_ascending (x ∷ xs) ≡ true → is_ascending xs ≡ true
 tail_ascends x [] e = refl
-tail_ascends x (y ∷ ys) e = (and_true (site_before x y) _ e).1
+tail_ascends x (y ∷ ys) e = (both_true (site_before x y) _ e).1
 
 -- the first site is before each other
 all_later : (x : Site) (xs : List Site) → is_ascending (x ∷ xs) ≡ true → (y : Site) → In y xs → site_before x y ≡ true
 all_later x [] e y i = absurd i
-all_later x (z ∷ zs) e y (inl same) = subst (λ (s : Site). site_before x s ≡ true) (sym same) (and_true (site_before x z) _ e).0
-all_later x (z ∷ zs) e y (inr i) = let both = and_true (site_before x z) _ e in strict_order.trans x z y both.0 (all_later z zs both.1 y i)
+all_later x (z ∷ zs) e y (inl same) = subst (λ (s : Site). site_before x s ≡ true) (sym same) (both_true (site_before x z) _ e).0
+all_later x (z ∷ zs) e y (inr i) = let both = both_true (site_before x z) _ e in strict_order.trans x z y both.0 (all_later z zs both.1 y i)
 
 -- a site that is before all of them is none of them
 none_of : (xs : List Site) (s : Site) → ((y : Site) → In y xs → site_before s y ≡ true) → has_site xs s ≡ false
@@ -107,7 +108,7 @@ fences_told P flushes rest (s ∷ ss) up e same =
 
 all_pass : (test : Site → Bool) (xs : List Site) → list_all test xs ≡ true → (s : Site) → has_site xs s ≡ true → test s ≡ true
 all_pass test [] e s h = absurd (let z : ⊥ = cc in z)
-all_pass test (x ∷ xs) e s h = in_list (has_in (x ∷ xs) s h) (and_true (test x) _ e)
+all_pass test (x ∷ xs) e s h = in_list (has_in (x ∷ xs) s h) (both_true (test x) _ e)
   where
     in_list : In s (x ∷ xs) → (test x ≡ true) × (list_all test xs ≡ true) → test s ≡ true
     in_list (inl same) both = ap test same ∙ both.0
@@ -154,11 +155,11 @@ module _ (P : Program) (callable : IsCallable P) where
   -- the whole test passes exactly the plans that suit
   pub passes_suits : (plan : Plan) → passes P plan ≡ true → IsSuiting P plan
   passes_suits plan e =
-      let one = and_true (ascend plan && list_all (λ s. is_store (instr_of P s)) plan.flush_after && fences_pass P plan.flush_after plan.fence_after) _ e in
-      let two = and_true (ascend plan && list_all (λ s. is_store (instr_of P s)) plan.flush_after) _ one.0 in
-      let three = and_true (ascend plan) _ two.0 in
-      let four = and_true (is_ascending plan.flush_after && is_ascending plan.fence_after) _ three.0 in
-      let five = and_true (is_ascending plan.flush_after) _ four.0 in
+      let one = both_true (ascend plan && list_all (λ s. is_store (instr_of P s)) plan.flush_after && fences_pass P plan.flush_after plan.fence_after) _ e in
+      let two = both_true (ascend plan && list_all (λ s. is_store (instr_of P s)) plan.flush_after) _ one.0 in
+      let three = both_true (ascend plan) _ two.0 in
+      let four = both_true (is_ascending plan.flush_after && is_ascending plan.fence_after) _ three.0 in
+      let five = both_true (is_ascending plan.flush_after) _ four.0 in
       record {
         flushes = all_pass (λ s. is_store (instr_of P s)) plan.flush_after three.1;
         fences = all_pass (λ s. is_flush_call (instr_of P s) || has_site plan.flush_after s) plan.fence_after

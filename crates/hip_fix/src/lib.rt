@@ -13,7 +13,7 @@ mod plan_check;
 mod plans;
 mod program;
 mod repair;
-mod repaired;
+mod repairing;
 mod sites;
 
 pub use examples::{
@@ -30,5 +30,5 @@ pub use plans::{
     clones_are_numbered, inputs_stay_valid, nothing_is_changed_without_reports,
     plans_have_what_is_asked, plans_suit, plans_unite, sites_are_ordered,
 };
-pub use repaired::{Repaired, apply, apply_skipping};
+pub use repairing::{Repaired, apply, apply_skipping};
 pub use plan_check::suits;

@@ -30,6 +30,8 @@ mod number_texts;
 #[cfg(test)]
 mod programs;
 #[cfg(test)]
+mod reached_functions;
+#[cfg(test)]
 mod read_texts;
 #[cfg(test)]
 mod refused_functions;
@@ -37,6 +39,8 @@ mod refused_functions;
 mod refused_programs;
 #[cfg(test)]
 mod refused_texts;
+#[cfg(test)]
+mod repairs;
 #[cfg(test)]
 mod sound_programs;
 #[cfg(test)]

@@ -5,7 +5,7 @@ use Rattle.std.specs.Str.{bytes_eq}
 use Rattle.hip_names.specs.Names.{is_among}
 use Rattle.hip_calls.specs.Fresh.{fresh_for, fresh_name, fresh_names, names_taken, name_of}
 use Rattle.hip_calls.proofs.FreshSteps.{Alike, fresh_for-next, fresh-put}
-use Rattle.hip_calls.specs.MetLaws.{met-alike}
+use Rattle.hip_calls.specs.Laws.MetLaws.{met-alike}
 use Rattle.hip_calls.proofs.fresh.fresh_names.Goals as goal
 
 pub each-preserved : goal.each-preserved

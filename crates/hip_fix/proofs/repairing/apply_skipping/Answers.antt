@@ -13,7 +13,7 @@ use Rattle.hip_fix.proofs.FencedCalls as calls
 use Rattle.hip_fix.proofs.Harm as harm
 use Rattle.hip_fix.proofs.HoistsFenced.{hoists_fenced}
 use Rattle.hip_fix.proofs.SoundAgain.{passes_again}
-use Rattle.hip_fix.proofs.repaired.apply_skipping.Goals as goal
+use Rattle.hip_fix.proofs.repairing.apply_skipping.Goals as goal
 
 pub of_sound-requires : goal.of_sound-requires
 of_sound-requires c =

@@ -6,7 +6,7 @@ use Rattle.std.specs.List.{flat_map, list_any}
 use Rattle.std.specs.Str.{bytes_eq}
 use Rattle.std.proofs.Common.{get_or, refl, sym, ap, ◌∙◌, ⊎_elim, arith}
 use Rattle.hip_types.specs.Distinct.{met}
-use Rattle.hip_types.specs.DistinctLaws.{met-second, met-only}
+use Rattle.hip_types.specs.Laws.DistinctLaws.{met-second, met-only}
 use Rattle.hip_names.specs.Names.{is_among}
 
 module _ {A : Type 0} (same : A → A → Bool) where

@@ -4,7 +4,7 @@ use Rattle.std.specs.List.{filter}
 use Rattle.hip_ir.specs.Sites.{has_site, sites_of}
 use Rattle.hip_ir.specs.declared.program.Program.{Program}
 use Rattle.hip_ir.specs.declared.site.Site.{Site}
-use Rattle.hip_runs.specs.Marks.{IsFound}
+use Rattle.hip_runs.specs.Found.Marks.{IsFound}
 use Rattle.hip_runs.specs.Validity.{IsValid}
 use Rattle.hip_runs.specs.declared.input.Input.{Input}
 use Rattle.hip_runs.specs.declared.report.Findings.{Findings}
@@ -16,10 +16,10 @@ use Rattle.hip_fix.specs.Direct.{direct}
 use Rattle.hip_fix.specs.Harmless.{IsHarmless}
 use Rattle.hip_fix.specs.Quiet.{IsQuiet}
 use Rattle.hip_fix.specs.Repaired.{repaired}
-use Rattle.hip_fix.specs.declared.repaired.Repaired.{Repaired}
+use Rattle.hip_fix.specs.declared.repairing.Repaired.{Repaired}
 use Rattle.hip_fix.proofs.DirectSites.{found_direct}
 use Rattle.hip_fix.proofs.QuietStores.{quiet_stores}
-use Rattle.hip_fix.proofs.repaired.apply.Goals as goal
+use Rattle.hip_fix.proofs.repairing.apply.Goals as goal
 
 -- what holds of each answer, by what held of it before
 if_ok : {T E : Type 0} (A B : T → Type 0) → ((x : T) → A x → B x) → (r : Result T E) → IfOk r A → IfOk r B

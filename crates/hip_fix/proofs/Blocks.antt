@@ -1,5 +1,5 @@
 -- The blocks of a function, and of what stands for it in the repaired program: the same labels, phis and ends, and the repaired body.
-use Rattle.std.proofs.Common.{◌≡◌, ℕ, zero, suc, ◌+◌, Bool, List, [], ◌∷◌, map, drop, Option, Some, None, slice_get, option_map, refl, ap, ap₂, ◌∙◌, arith}
+use Rattle.std.proofs.Common.{◌≡◌, ℕ, zero, suc, ◌+◌, Bool, List, [], ◌∷◌, map, Option, Some, None, slice_get, option_map, refl, ap, ap₂, ◌∙◌, arith}
 use Rattle.hip_ir.specs.declared.block.Block.{Block}
 use Rattle.hip_ir.specs.declared.block.End.{End}
 use Rattle.hip_ir.specs.declared.block.End.TheVariants as ends

@@ -1,7 +1,7 @@
 -- The walk that collects direct stores finds exactly those.
-use Rattle.std.proofs.Common.{ℕ, zero, suc, ◌+◌, ◌≡◌, ◌||◌, ◌&&◌, not, Bool, true, false, cond, List, [], ◌∷◌, ◌++◌, Option, Some, None, length, drop, ◌≤◌, append-nil, refl, sym, ap, ◌∙◌, arith}
+use Rattle.std.proofs.Common.{ℕ, suc, ◌+◌, ◌≡◌, ◌||◌, ◌&&◌, not, Bool, true, false, cond, List, [], ◌∷◌, ◌++◌, Option, Some, None, refl, sym, ap, ◌∙◌, arith}
 use Rattle.std.specs.Prelude.{option_and_then, slice_get}
-use Rattle.std.specs.List.{filter, flat_map, list_any}
+use Rattle.std.specs.List.{filter, list_any}
 use Rattle.std.specs.Cmp.{both_ways}
 use Rattle.std.specs.Str.{bytes_eq}
 use Rattle.std.proofs.lemmas.List.Folds.{list_any-append}
@@ -93,8 +93,8 @@ module _ (P : Program) where
       direct P (record { function = f; block = b; index = k }) ≡ stores_by (met bytes_eq [] (volatile_names P.globals)) (met bytes_eq [] (alloca_names fn.blocks)) i
   direct_there f b k fn block i e_f e_b e_i =
       let instr : instr_of P (record { function = f; block = b; index = k }) ≡ Some i =
-          ap (λ o. option_and_then (λ (x : Block). slice_get x.body k) (option_and_then (λ (x : Function). slice_get x.blocks b) o)) e_f
-          ∙ ap (λ o. option_and_then (λ (x : Block). slice_get x.body k) o) e_b ∙ e_i in
+      ap (λ o. option_and_then (λ (x : Block). slice_get x.body k) (option_and_then (λ (x : Function). slice_get x.blocks b) o)) e_f
+      ∙ ap (λ o. option_and_then (λ (x : Block). slice_get x.body k) o) e_b ∙ e_i in
       ap (λ o. stores_outside P (blocks_in o) (instr_of P (record { function = f; block = b; index = k }))) e_f
       ∙ ap (stores_outside P fn.blocks) instr ∙ sym (stores_same P fn.blocks i)
 
@@ -134,16 +134,6 @@ module _ (P : Program) where
 
 pub walk_filtered : (P : Program) → outside_in_functions (met bytes_eq [] (volatile_names P.globals)) 0 P.functions ≡ filter (direct P) (sites_of P)
 walk_filtered P = sym (functions_filtered P 0 P.functions (λ j. ap (slice_get P.functions) (let q : j ≡ 0 + j = omega arith in q)))
-
--- behind the last function there is nothing
-pub functions_done : (volatile : List (List ℕ)) (sites : List Site) (k : ℕ) (fs : List Function) → length fs ≤ k → sites ≡ sites ++ outside_in_functions volatile k (drop k fs)
-functions_done volatile sites k fs h = sym (append-nil sites) ∙ ap (λ xs. sites ++ outside_in_functions volatile k xs) (sym (nothing fs k h))
-  where
-    nothing : (fs : List Function) (k : ℕ) → length fs ≤ k → drop k fs ≡ []
-    nothing [] zero h = refl
-    nothing [] (suc k) h = refl
-    nothing (f ∷ fs) zero h = absurd (omega arith)
-    nothing (f ∷ fs) (suc k) h = nothing fs k (omega arith)
 
 -- a site is found exactly where a direct store stands
 pub found_direct : (P : Program) (s : Site) → has_site (filter (direct P) (sites_of P)) s ≡ direct P s

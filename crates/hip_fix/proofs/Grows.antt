@@ -1,6 +1,5 @@
 -- A body grows by lists of instructions, one behind another.
-use Rattle.std.proofs.Common.{ℕ, ◌≡◌, ◌||◌, ◌&&◌, Bool, true, false, List, [], ◌∷◌, ◌++◌, map, append_assoc, append-nil, refl, sym, ap, ◌∙◌}
-use Rattle.std.specs.List.{list_any}
+use Rattle.std.proofs.Common.{ℕ, ◌≡◌, ◌||◌, ◌&&◌, Bool, true, false, List, [], ◌∷◌, ◌++◌, append_assoc, append-nil, refl, sym, ap, ◌∙◌}
 use Rattle.std.proofs.lemmas.List.{map-append}
 use Rattle.std.proofs.lemmas.List.Folds.{list_any-append}
 use Rattle.hip_ir.specs.declared.instr.Instr.{Instr}
@@ -39,7 +38,7 @@ noted-none n = λ i. record { clwb = or_false n.clwb i; sfence = or_false n.sfen
 pub grown-append : (b : Body) (xs ys : List Marked) → grown (grown b xs) ys ≡ grown b (xs ++ ys)
 grown-append b xs ys =
     let instrs : (b.instrs ++ instrs_of xs) ++ instrs_of ys ≡ b.instrs ++ instrs_of (xs ++ ys) =
-        append_assoc b.instrs (instrs_of xs) (instrs_of ys) ∙ ap (λ is. b.instrs ++ is) (sym (map-append (λ (m : Marked). m.0) xs ys)) in
+    append_assoc b.instrs (instrs_of xs) (instrs_of ys) ∙ ap (λ is. b.instrs ++ is) (sym (map-append (λ (m : Marked). m.0) xs ys)) in
     λ i. record { instrs = instrs i; needed = noted-append b.needed xs ys i }
 
 pub grown-none : (b : Body) → b ≡ grown b []

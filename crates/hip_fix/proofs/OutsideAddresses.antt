@@ -1,10 +1,9 @@
 -- The address of a volatile global lies below every base.
-use Rattle.std.proofs.Common.{◌≡◌, ◌⊎◌, ⊎_elim, ℕ, zero, suc, ◌+◌, ◌≤◌, Bool, true, false, ◌&&◌, not, nat_le, List, [], ◌∷◌, Option, Some, None, option_map, refl, sym, ap, ◌∙◌, subst, arith, leb-true}
+use Rattle.std.proofs.Common.{◌≡◌, ◌⊎◌, ⊎_elim, ℕ, suc, ◌+◌, ◌≤◌, Bool, true, false, ◌&&◌, not, nat_le, List, [], ◌∷◌, Option, Some, None, option_map, refl, sym, ap, ◌∙◌, subst, arith, leb-true}
 use Rattle.std.specs.Prelude.{unwrap_or, if◌then◌else◌}
 use Rattle.std.specs.Str.{bytes_eq}
 use Rattle.std.proofs.lemmas.Slice.Eq.{bytes_eq-Decides}
 use Rattle.std.proofs.lemmas.Bool.{not-true, and_parts, both_ways}
-use Rattle.hip_types.specs.Layout.{shape}
 use Rattle.hip_types.specs.Laws.DistinctLaws.{or_first, or_second, either}
 use Rattle.hip_ir.specs.declared.constant.Const.{Const, out-Const, roll-Const, roll-out-Const}
 use Rattle.hip_ir.specs.declared.constant.Const.TheOpen.{Const-F}
@@ -14,7 +13,7 @@ use Rattle.hip_ir.specs.declared.constant.TypedConst.{TypedConst}
 use Rattle.hip_ir.specs.declared.program.GlobalVar.{GlobalVar}
 use Rattle.hip_ir.specs.declared.program.Program.{Program}
 use Rattle.hip_mem.specs.Memory.{volatile_start}
-use Rattle.hip_globals.specs.Addresses.{same, global_start, end_of, start_of, is_persistent, address_in, volatile_end, region_size}
+use Rattle.hip_globals.specs.Addresses.{start_of, is_persistent, address_in, volatile_end, region_size}
 use Rattle.hip_names.specs.Laws.NameLaws.{among-sound}
 use Rattle.hip_names.specs.Names.{AllDiffer, is_among, number_of}
 use Rattle.hip_names.specs.Laws.NumberLaws.{number_cases}

@@ -7,7 +7,6 @@ use Rattle.hip_ir.specs.declared.instr.Instr.TheVariants.{Binary, Compare, Selec
 use Rattle.hip_ir.specs.declared.instr.Operand.{Operand}
 use Rattle.hip_ir.specs.declared.instr.Operand.TheVariants.{Reg, Fixed}
 use Rattle.hip_ir.specs.declared.program.Program.{Program}
-use Rattle.hip_lines.specs.Line.{Line}
 use Rattle.hip_mem.specs.Bytes.{little_endian}
 use Rattle.hip_typing.specs.Rules.{Passes}
 use Rattle.hip_runs.specs.declared.event.Ending.{Ending}
@@ -15,11 +14,11 @@ use Rattle.hip_runs.specs.declared.event.Ending.TheVariants.{Cut}
 use Rattle.hip_runs.specs.declared.event.Event.TheVariants as events
 use Rattle.hip_runs.specs.declared.event.TrapKind.TheVariants as traps
 use Rattle.hip_runs.specs.declared.input.Input.{Input}
-use Rattle.hip_runs.specs.Actions.{Action, Traps, Assigns, Allocates, Stores, Flushes, Persists, Fences, Asserts, Prints, Reads, Calls, Jumps, Returns, Deed, in_region, are_valid, accessed, instr_action, deed_of}
+use Rattle.hip_runs.specs.Actions.{Action, Traps, Stores, in_region, are_valid, accessed, instr_action, deed_of}
 use Rattle.hip_runs.specs.Operands.{value_of}
 use Rattle.hip_runs.specs.Places.{blocks_of, body_at, code_at, end_at}
-use Rattle.hip_runs.specs.State.{StorePart, Frame, World, Counts, State, site_of}
-use Rattle.hip_runs.specs.Step.{stop, with_turn, leave, perform, is_cut, carry_out, deed_at, on_frames, on_ending, step, event_of, event_at, event_on_frames, event_on_ending, event, counted, run}
+use Rattle.hip_runs.specs.State.{Frame, World, State, site_of}
+use Rattle.hip_runs.specs.Step.{is_cut, event_of, event_at, event_on_frames, event_on_ending, event, run}
 use Rattle.hip_runs.specs.Validity.{IsValid}
 use Rattle.hip_invariants.specs.Laws.RegisterFacts.{values_in_frames}
 use Rattle.hip_fix.specs.Direct.{is_outside, stores_outside, direct}

@@ -1,5 +1,5 @@
 -- A register that an `alloca` assigns holds an address of the stack, or nothing yet.
-use Rattle.std.proofs.Common.{◌≡◌, ℕ, zero, suc, ◌≤◌, true, false, List, [], ◌∷◌, map, Option, Some, None, slice_get, refl, sym, ap, subst, arith}
+use Rattle.std.proofs.Common.{◌≡◌, ℕ, zero, suc, ◌≤◌, true, false, List, [], ◌∷◌, map, Option, Some, None, slice_get, refl, sym, subst, arith}
 use Rattle.std.specs.Cmp.Lexicographic.{nat_list_eq_equiv}
 use Rattle.std.specs.Str.{bytes_eq}
 use Rattle.std.proofs.lemmas.Bool.{both_ways, false_from_ne_true}
@@ -18,7 +18,7 @@ use Rattle.hip_typing.specs.Sound.{IsBlockAt}
 use Rattle.hip_runs.specs.declared.input.Input.{Input}
 use Rattle.hip_runs.specs.Operands.{look_up, bound}
 use Rattle.hip_runs.specs.Places.{blocks_in, blocks_of}
-use Rattle.hip_runs.specs.State.{Registers, Frame, World}
+use Rattle.hip_runs.specs.State.{Registers, World}
 use Rattle.hip_runs.specs.Step.{run}
 use Rattle.hip_invariants.specs.Laws.RegisterFacts.{ValuesHold, each_value, assigned_fact, fact_of_value, values_in_frames}
 use Rattle.hip_invariants.specs.Laws.InstrFacts.{instr_fact, fact_holds}

@@ -1,7 +1,6 @@
 -- The test of plans decides which plans suit.
-use Rattle.std.proofs.Common.{◌≡◌, ◌⊎◌, ℕ, suc, Bool, true, false, cond, ◌&&◌, ◌||◌, List, [], ◌∷◌, Option, Some, None, is_some, is_none, refl, sym, ap, ◌∙◌, subst, inl, inr}
-use Rattle.std.specs.Prelude.{◌↔◌, IsTrue, option_and_then, slice_get}
-use Rattle.std.specs.Cmp.{both_ways}
+use Rattle.std.proofs.Common.{◌≡◌, ◌⊎◌, ℕ, Bool, true, false, cond, ◌&&◌, ◌||◌, List, [], ◌∷◌, Option, Some, None, is_some, is_none, refl, sym, ap, ◌∙◌, subst, inl, inr}
+use Rattle.std.specs.Prelude.{option_and_then, slice_get}
 use Rattle.std.specs.List.{list_all}
 use Rattle.hip_externs.specs.Externs.{call_of}
 use Rattle.hip_externs.specs.declared.call.ExternCall.{ExternCall}
@@ -58,7 +57,7 @@ other s x before = by_test (same_site s x) refl
 -- what is left begins with the site exactly where the list has it
 begins : (xs : List Site) (s : Site) → is_ascending xs ≡ true → begins_with (not_before s xs) s ≡ has_site xs s
 begins [] s e = refl
-begins (x ∷ xs) s e = by_test (site_before x s) refl
+begins (x ∷ xs) s e = by_test (site_before x s) refl (begins xs s (tail_ascends x xs e))
   where
     first : site_before x s ≡ false → (site_before s x ≡ true) ⊎ ((s ≡ x) ⊎ (site_before x s ≡ true)) → same_site s x ≡ (same_site s x || has_site xs s)
     first t (inl before) = absorbed (same_site s x) (has_site xs s) (none_of xs s (λ y i. strict_order.trans s x y before (all_later x xs e y i)))
@@ -73,26 +72,26 @@ begins (x ∷ xs) s e = by_test (site_before x s) refl
         met false f = absurd (let z : ⊥ = cc in z)
     first t (inr (inr before)) = never (site_before x s) before t
 
-    by_test : (b : Bool) → site_before x s ≡ b → begins_with (cond b (not_before s xs) (x ∷ xs)) s ≡ (same_site s x || has_site xs s)
-    by_test true t = begins xs s (tail_ascends x xs e) ∙ ap (λ a. a || has_site xs s) (sym (other s x t))
-    by_test false t = first t (strict_order.total s x)
+    by_test : (b : Bool) → site_before x s ≡ b → begins_with (not_before s xs) s ≡ has_site xs s → begins_with (cond b (not_before s xs) (x ∷ xs)) s ≡ (same_site s x || has_site xs s)
+    by_test true t rest = rest ∙ ap (λ a. a || has_site xs s) (sym (other s x t))
+    by_test false t rest = first t (strict_order.total s x)
 
 left_ascends : (xs : List Site) (s : Site) → is_ascending xs ≡ true → is_ascending (not_before s xs) ≡ true
 left_ascends [] s e = refl
-left_ascends (x ∷ xs) s e = by_test (site_before x s)
+left_ascends (x ∷ xs) s e = by_test (site_before x s) (left_ascends xs s (tail_ascends x xs e))
   where
-    by_test : (b : Bool) → is_ascending (cond b (not_before s xs) (x ∷ xs)) ≡ true
-    by_test true = left_ascends xs s (tail_ascends x xs e)
-    by_test false = e
+    by_test : (b : Bool) → is_ascending (not_before s xs) ≡ true → is_ascending (cond b (not_before s xs) (x ∷ xs)) ≡ true
+    by_test true rest = rest
+    by_test false rest = e
 
 -- sites that come later are left
 left_has : (xs : List Site) (s t : Site) → site_before s t ≡ true → has_site (not_before s xs) t ≡ has_site xs t
 left_has [] s t h = refl
-left_has (x ∷ xs) s t h = by_test (site_before x s) refl
+left_has (x ∷ xs) s t h = by_test (site_before x s) refl (left_has xs s t h)
   where
-    by_test : (b : Bool) → site_before x s ≡ b → has_site (cond b (not_before s xs) (x ∷ xs)) t ≡ (same_site t x || has_site xs t)
-    by_test true e = left_has xs s t h ∙ ap (λ a. a || has_site xs t) (sym (other t x (strict_order.trans x s t e h)))
-    by_test false e = refl
+    by_test : (b : Bool) → site_before x s ≡ b → has_site (not_before s xs) t ≡ has_site xs t → has_site (cond b (not_before s xs) (x ∷ xs)) t ≡ (same_site t x || has_site xs t)
+    by_test true e rest = rest ∙ ap (λ a. a || has_site xs t) (sym (other t x (strict_order.trans x s t e h)))
+    by_test false e rest = refl
 
 -- ---- fences
 
@@ -108,11 +107,11 @@ fences_told P flushes rest (s ∷ ss) up e same =
 
 all_pass : (test : Site → Bool) (xs : List Site) → list_all test xs ≡ true → (s : Site) → has_site xs s ≡ true → test s ≡ true
 all_pass test [] e s h = absurd (let z : ⊥ = cc in z)
-all_pass test (x ∷ xs) e s h = in_list (has_in (x ∷ xs) s h) (both_true (test x) _ e)
+all_pass test (x ∷ xs) e s h = let both = both_true (test x) _ e in in_list (has_in (x ∷ xs) s h) both.0 (λ i. all_pass test xs both.1 s (in_has xs s i))
   where
-    in_list : In s (x ∷ xs) → (test x ≡ true) × (list_all test xs ≡ true) → test s ≡ true
-    in_list (inl same) both = ap test same ∙ both.0
-    in_list (inr i) both = all_pass test xs both.1 s (in_has xs s i)
+    in_list : In s (x ∷ xs) → test x ≡ true → (In s xs → test s ≡ true) → test s ≡ true
+    in_list (inl same) first rest = ap test same ∙ first
+    in_list (inr i) first rest = rest i
 
 pass_all : (test : Site → Bool) (xs : List Site) → ((s : Site) → has_site xs s ≡ true → test s ≡ true) → list_all test xs ≡ true
 pass_all test [] each = refl

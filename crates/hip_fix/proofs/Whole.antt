@@ -1,14 +1,13 @@
 -- The program that one walk makes is the repaired program: the calls that the walk noted are those that inserted calls need.
-use Rattle.std.proofs.Common.{ℕ, suc, ◌≡◌, ◌||◌, ◌&&◌, Bool, true, false, List, [], ◌∷◌, ◌++◌, Option, Some, None, length, map, refl, sym, ap, ◌∙◌}
+use Rattle.std.proofs.Common.{ℕ, suc, ◌≡◌, ◌||◌, ◌&&◌, Bool, true, false, List, [], ◌∷◌, ◌++◌, Option, Some, None, length, map, refl, ap, ◌∙◌}
 use Rattle.std.specs.Prelude.{slice_get}
-use Rattle.std.specs.List.{flat_map, list_any}
+use Rattle.std.specs.List.{list_any}
 use Rattle.std.proofs.lemmas.List.{length-map}
 use Rattle.std.proofs.lemmas.List.Folds.{list_any-append}
 use Rattle.hip_types.specs.declared.number.Scalar.{Scalar}
 use Rattle.hip_types.specs.declared.number.Scalar.TheVariants.{Int, Ptr}
 use Rattle.hip_types.specs.declared.number.Width.TheVariants.{W64}
 use Rattle.hip_ir.specs.declared.block.Block.{Block}
-use Rattle.hip_ir.specs.declared.program.Extern.{Extern}
 use Rattle.hip_ir.specs.declared.program.Function.{Function}
 use Rattle.hip_ir.specs.declared.program.Program.{Program}
 use Rattle.hip_ir.specs.declared.site.Site.{Site}
@@ -54,8 +53,8 @@ pub walked-repaired : (P : Program) (plan : Plan) (w : Wanted) → walked P (clo
 walked-repaired P plan w =
     let clones = clones_of P plan in
     let one : (name : List ℕ) (params : List Scalar) →
-            declared_if (inserts name (marked_functions clones w 0 P.functions) || inserts name (marked_clones P clones w (cloned P plan))) P.externs name params ≡ declared_if (needs P plan w name) P.externs name params
-        = λ name params. ap (λ t. declared_if t P.externs name params) (in_program name clones w P (cloned P plan)) in
+    declared_if (inserts name (marked_functions clones w 0 P.functions) || inserts name (marked_clones P clones w (cloned P plan))) P.externs name params ≡ declared_if (needs P plan w name) P.externs name params
+    = λ name params. ap (λ t. declared_if t P.externs name params) (in_program name clones w P (cloned P plan)) in
     let clwb = one clwb_name (Ptr ∷ []) in
     let sfence = one sfence_name [] in
     let pmem_flush = one pmem_flush_name (Ptr ∷ Int W64 ∷ []) in

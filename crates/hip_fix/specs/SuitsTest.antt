@@ -1,5 +1,5 @@
 -- Whether a plan suits, as it is tested: ascending lists are gone through side by side.
-use Rattle.std.specs.Prelude.{ℕ, Bool, true, false, cond, ◌&&◌, ◌||◌, is_none, List, [], ◌∷◌, Option, Some}
+use Rattle.std.specs.Prelude.{Bool, true, false, cond, ◌&&◌, ◌||◌, is_none, List, [], ◌∷◌, Option, Some}
 use Rattle.std.specs.List.{list_all}
 use Rattle.hip_externs.specs.Externs.{call_of}
 use Rattle.hip_ir.specs.Sites.{instr_of, same_site}

@@ -90,9 +90,12 @@ impl Body {
         ensures { OnOk result (self.new ≡ grown self.old (flush_behind instr.now is_wanted)) }
     {
         match instr {
-            Instr::Store { ty, addr, align, .. } if is_wanted => {
-                self.add_flush(alloc, *ty, addr, *align)
-            }
+            Instr::Store {
+                ty,
+                addr,
+                align,
+                ..
+            } if is_wanted => { self.add_flush(alloc, *ty, addr, *align) }
             _ => Ok(()),
         }
     }

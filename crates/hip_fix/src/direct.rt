@@ -104,7 +104,14 @@ fn add_blocks(
     ensures { OnOk result (sites.new ≡ sites.old ++ outside_in_blocks volatile.now allocated.now function 0 blocks.now) }
 {
     'each: for block in 0..blocks.len() {
-        add_body(sites, volatile, allocated, function, block, blocks[block].body.as_slice())?;
+        add_body(
+            sites,
+            volatile,
+            allocated,
+            function,
+            block,
+            blocks[block].body.as_slice(),
+        )?;
     }
     Ok(())
 }
@@ -120,7 +127,28 @@ fn add_function(
     ensures { OnOk result (sites.new ≡ sites.old ++ outside_in_function volatile.now number function.now) }
 {
     let allocated = alloca_names(alloc, function.blocks.as_slice())?;
-    add_blocks(sites, volatile, &allocated, number, function.blocks.as_slice())
+    add_blocks(
+        sites,
+        volatile,
+        &allocated,
+        number,
+        function.blocks.as_slice(),
+    )
+}
+
+/// Adds those of all functions.
+fn add_functions(
+    alloc: Global,
+    sites: &mut Row<Site>,
+    volatile: &NameSet<'_>,
+    functions: &[Function],
+) -> Result<(), NoMemory>
+    ensures { OnOk result (sites.new ≡ sites.old ++ outside_in_functions volatile.now 0 functions.now) }
+{
+    'each: for number in 0..functions.len() {
+        add_function(alloc, sites, volatile, number, &functions[number])?;
+    }
+    Ok(())
 }
 
 /// The sites of the stores whose address is a register that an `alloca` assigns, or a volatile global itself, in the program's order.
@@ -129,8 +157,6 @@ pub fn direct_stores(alloc: Global, program: &Program) -> Result<Row<Site>, NoMe
 {
     let volatile = volatile_names(alloc, program.globals.as_slice())?;
     let mut sites = Row::new(alloc);
-    'each: for number in 0..program.functions.len() {
-        add_function(alloc, &mut sites, &volatile, number, &program.functions.as_slice()[number])?;
-    }
+    add_functions(alloc, &mut sites, &volatile, program.functions.as_slice())?;
     Ok(sites)
 }

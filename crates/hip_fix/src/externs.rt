@@ -42,14 +42,39 @@ fn declare(
 }
 
 /// The declarations of a program, and behind them those that inserted calls need and that are absent.
-pub fn declarations(alloc: Global, declared: &Row<Extern>, needed: Needed) -> Result<Row<Extern>, NoMemory>
+pub fn declarations(
+    alloc: Global,
+    declared: &Row<Extern>,
+    needed: Needed,
+) -> Result<Row<Extern>, NoMemory>
     ensures { IfOk result (λ externs. externs ≡ declared.now ++ added declared.now needed) }
 {
     let mut externs = declared.copy(alloc)?;
     let old = declared.as_slice();
     let number = Scalar::Int(Width::W64);
-    declare(alloc, &mut externs, old, needed.clwb, b"llvm.x86.clwb", &[Scalar::Ptr])?;
-    declare(alloc, &mut externs, old, needed.sfence, b"llvm.x86.sse.sfence", &[])?;
-    declare(alloc, &mut externs, old, needed.pmem_flush, b"pmem_flush", &[Scalar::Ptr, number])?;
+    declare(
+        alloc,
+        &mut externs,
+        old,
+        needed.clwb,
+        b"llvm.x86.clwb",
+        &[Scalar::Ptr],
+    )?;
+    declare(
+        alloc,
+        &mut externs,
+        old,
+        needed.sfence,
+        b"llvm.x86.sse.sfence",
+        &[],
+    )?;
+    declare(
+        alloc,
+        &mut externs,
+        old,
+        needed.pmem_flush,
+        b"pmem_flush",
+        &[Scalar::Ptr, number],
+    )?;
     Ok(externs)
 }

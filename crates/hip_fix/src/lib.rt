@@ -26,9 +26,9 @@ pub use laws::{
     repaired_is_sound, repairs_are_clean, repairs_do_no_harm,
 };
 pub use plan::{CloneOf, Plan};
+pub use plan_check::suits;
 pub use plans::{
     clones_are_numbered, inputs_stay_valid, nothing_is_changed_without_reports,
     plans_have_what_is_asked, plans_suit, plans_unite, sites_are_ordered,
 };
 pub use repairing::{Repaired, apply, apply_skipping};
-pub use plan_check::suits;

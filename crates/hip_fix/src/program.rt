@@ -50,7 +50,14 @@ fn walk(
     let mut functions = Row::new(alloc);
     let old = program.functions.as_slice();
     repair.add_functions(alloc, &mut functions, &mut needed, old)?;
-    repair.add_clones(alloc, &mut functions, &mut needed, program, originals, names)?;
+    repair.add_clones(
+        alloc,
+        &mut functions,
+        &mut needed,
+        program,
+        originals,
+        names,
+    )?;
     Ok(Program {
         globals: program.globals.copy(alloc)?,
         externs: declarations(alloc, &program.externs, needed)?,

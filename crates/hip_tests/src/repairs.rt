@@ -32,7 +32,12 @@ const fn site(function: usize, block: usize, index: usize) -> Site {
 }
 
 /// A plan of these sites.
-fn plan(alloc: Global, flush_after: &[Site], fence_after: &[Site], hoist: &[Site]) -> Result<Plan, Fail> {
+fn plan(
+    alloc: Global,
+    flush_after: &[Site],
+    fence_after: &[Site],
+    hoist: &[Site],
+) -> Result<Plan, Fail> {
     Ok(Plan {
         flush_after: Row::from_slice(alloc, flush_after)?,
         fence_after: Row::from_slice(alloc, fence_after)?,
@@ -41,7 +46,12 @@ fn plan(alloc: Global, flush_after: &[Site], fence_after: &[Site], hoist: &[Site
 }
 
 /// The repaired program is written so.
-fn assert_written(rt: &impl Abort, alloc: Global, repaired: &Repaired, text: &str) -> Result<(), Fail> {
+fn assert_written(
+    rt: &impl Abort,
+    alloc: Global,
+    repaired: &Repaired,
+    text: &str,
+) -> Result<(), Fail> {
     let mut sink = MemSink::new(alloc, 10_000)?;
     assert!(rt; write(repaired.checked.program(), &mut sink).is_ok());
     assert_eq!(rt; sink.bytes(), text.as_bytes());
@@ -203,7 +213,14 @@ fn mutual_recursion(rt: HostRuntime) -> Result<(), Fail> {
         original: 1,
         copy: 4,
     };
-    assert_repaired(&rt, rt.alloc(), EVEN_AND_ODD, &plan, COUNTING_CLONES, &[even, odd])
+    assert_repaired(
+        &rt,
+        rt.alloc(),
+        EVEN_AND_ODD,
+        &plan,
+        COUNTING_CLONES,
+        &[even, odd],
+    )
 }
 
 const HOISTED_INSIDE: &str = "@p = global i64 0, section \".pm\"
@@ -282,7 +299,14 @@ fn hoists_inside_clones(rt: HostRuntime) -> Result<(), Fail> {
         original: 0,
         copy: 4,
     };
-    assert_repaired(&rt, rt.alloc(), EVEN_AND_ODD, &plan, HOISTED_INSIDE, &[odd, even])
+    assert_repaired(
+        &rt,
+        rt.alloc(),
+        EVEN_AND_ODD,
+        &plan,
+        HOISTED_INSIDE,
+        &[odd, even],
+    )
 }
 
 #[test]
@@ -344,7 +368,14 @@ fn clone_name_taken(rt: HostRuntime) -> Result<(), Fail> {
         original: 0,
         copy: 3,
     };
-    assert_repaired(&rt, rt.alloc(), NAME_TAKEN, &plan, NAME_TAKEN_REPAIRED, &[clone])
+    assert_repaired(
+        &rt,
+        rt.alloc(),
+        NAME_TAKEN,
+        &plan,
+        NAME_TAKEN_REPAIRED,
+        &[clone],
+    )
 }
 
 const REACH_REPAIRED: &str = "@p = global i64 0, section \".pm\"

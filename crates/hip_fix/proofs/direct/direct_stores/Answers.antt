@@ -1,10 +1,14 @@
-use Rattle.std.proofs.Common.{◌≡◌, ap, ◌∙◌}
-use Rattle.hip_fix.specs.DirectWalk.{outside_in_functions}
-use Rattle.hip_fix.proofs.DirectSites.{functions_done, walk_filtered}
+use Rattle.std.proofs.Common.{◌≡◌, [], ◌++◌, ap, ◌∙◌}
+use Rattle.std.specs.Str.{bytes_eq}
+use Rattle.hip_types.specs.Distinct.{met}
+use Rattle.hip_fix.specs.DirectWalk.{outside_in_functions, volatile_names}
+use Rattle.hip_fix.proofs.DirectSites.{walk_filtered}
 use Rattle.hip_fix.proofs.direct.direct_stores.Goals as goal
 
 pub returns : goal.returns
 returns c =
     let P = c.args.program.now in
-    functions_done c.in_ok-volatile.volatile c.each.sites c.each.number P.functions c.each-test.false ∙ c.each.invariant
-    ∙ ap (λ names. outside_in_functions names 0 P.functions) c.in_ok-volatile.ensures ∙ walk_filtered P
+    let volatile : c.in_ok-volatile.volatile ≡ met bytes_eq [] (volatile_names P.globals) = c.in_ok-volatile.ensures ∙ ap (λ gs. met bytes_eq [] (volatile_names gs)) c.as_slice.ensures in
+    c.in_ok-add_functions.ensures
+    ∙ (λ i. c.new-sites.ensures i ++ outside_in_functions (volatile i) 0 (c.as_slice-2.ensures i))
+    ∙ walk_filtered P

@@ -1,4 +1,4 @@
-use Rattle.std.proofs.Common.{◌≡◌, IfOk, subst, sym, ap, ◌∙◌}
+use Rattle.std.proofs.Common.{◌≡◌, IfOk, subst}
 use Rattle.hip_ir.specs.Sites.{has_site}
 use Rattle.hip_fix.specs.Walk.{wanted_in}
 use Rattle.hip_fix.proofs.Whole.{names_as_long, walked_is}

@@ -1,4 +1,4 @@
-use Rattle.std.proofs.Common.{◌≡◌, Bool, List, refl, sym, ap, ◌∙◌, subst}
+use Rattle.std.proofs.Common.{◌≡◌, Bool, List, sym, ap, ◌∙◌, subst}
 use Rattle.std.specs.Prelude.{IfOk, OnOk, Result, Ok, Err}
 use Rattle.std.specs.List.{filter}
 use Rattle.hip_ir.specs.Sites.{has_site, sites_of}
@@ -33,7 +33,7 @@ returns c =
     let r = c.apply_skipping.result in
     let skip = has_site c.as_slice.result.now in
     let listed : c.as_slice.result.now ≡ filter (direct P) (sites_of P) =
-        c.as_slice.ensures ∙ c.in_ok-skip.ensures ∙ ap (λ (p : Program). filter (direct p) (sites_of p)) c.program.ensures.is in
+    c.as_slice.ensures ∙ c.in_ok-skip.ensures ∙ ap (λ (p : Program). filter (direct p) (sites_of p)) c.program.ensures.is in
     let same : skip ≡ direct P = λ i s. (ap (λ (xs : List Site). has_site xs s) listed ∙ found_direct P s) i in
     let quiet : IsQuiet P skip = subst (IsQuiet P) (sym same) (quiet_stores P (sound-passes P c.program.ensures.sound)) in
     let told = c.apply_skipping.ensures in

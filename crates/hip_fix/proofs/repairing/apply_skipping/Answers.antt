@@ -1,4 +1,4 @@
-use Rattle.std.proofs.Common.{◌≡◌, length, refl, sym, ap, ◌∙◌, subst}
+use Rattle.std.proofs.Common.{◌≡◌, length, sym, ap, ◌∙◌, subst}
 use Rattle.hip_ir.specs.Sites.{has_site}
 use Rattle.hip_ir.specs.declared.program.Program.{Program}
 use Rattle.hip_typing.specs.Laws.SoundExact.{sound-passes, passes-sound}
@@ -20,19 +20,21 @@ of_sound-requires c =
     let P = c.args.checked.now in
     let plan = c.args.plan.now in
     let skip = has_site c.args.skip.now in
-    let is : c.in_ok-repaired.repaired ≡ repaired P plan skip = c.in_ok-repaired.ensures ∙ ap (λ (p : Program). repaired p plan skip) c.program.ensures.is in
-    subst IsSound (sym is) (passes-sound (repaired P plan skip) (passes_again P plan skip (sound-passes P c.program.ensures.sound)))
+    let is : c.in_ok-repaired.repaired ≡ repaired P plan skip = c.in_ok-repaired.ensures ∙ ap (λ (p : Program). repaired p plan skip) c.program-program.ensures.is in
+    subst IsSound (sym is) (passes-sound (repaired P plan skip) (passes_again P plan skip (sound-passes P c.program-program.ensures.sound)))
 
 pub returns : goal.returns
 returns c =
     let P = c.args.checked.now in
     let plan = c.args.plan.now in
     let skip = has_site c.args.skip.now in
-    let sound = sound-passes P c.program.ensures.sound in
-    let is : c.of_sound.result ≡ repaired P plan skip = c.of_sound.ensures ∙ c.in_ok-repaired.ensures ∙ ap (λ (p : Program). repaired p plan skip) c.program.ensures.is in
+    let sound = sound-passes P c.program-program.ensures.sound in
+    let is : c.of_sound.result ≡ repaired P plan skip = c.of_sound.ensures ∙ c.in_ok-repaired.ensures ∙ ap (λ (p : Program). repaired p plan skip) c.program-program.ensures.is in
+    let functions : c.as_slice-3.result.now ≡ P.functions = c.as_slice-3.ensures ∙ ap (λ (p : Program). p.functions) c.program-program.ensures.is in
+    let originals : c.as_slice-4.result.now ≡ reach.callees P plan.hoist = c.as_slice-4.ensures ∙ c.in_ok-originals.ensures ∙ (λ i. reach.callees (c.program-program.ensures.is i) (c.as_slice.ensures i)) in
     record {
       program = is;
-      clones = ?;
+      clones = c.in_ok-clones.ensures ∙ (λ i. numbered_from (length (functions i)) (originals i));
       harmless = harm.harmless P plan skip sound;
       clean = λ I found quiet valid is_found contains. subst (λ (p : Program). IsClean p I) (sym is) (cured.clean P plan skip I found sound valid quiet is_found contains);
       covered = λ quiet. subst (IsCovered P) (sym is) (calls.covered P plan skip sound quiet);

@@ -1,4 +1,4 @@
-use Rattle.std.proofs.Common.{◌<◌, ◌++◌, ◌+◌, [], ◌∷◌, drop, get_or, length, refl, ap, ◌∙◌, arith}
+use Rattle.std.proofs.Common.{◌<◌, ◌++◌, ◌+◌, drop, get_or, length, refl, ap, ◌∙◌, arith}
 use Rattle.hip_fix.specs.Repaired.{clone_functions}
 use Rattle.hip_fix.specs.Walk.{marked_clones, noted, wanted_in}
 use Rattle.hip_fix.proofs.Walks.{clones_next, noted_clones_next}

@@ -1,0 +1,5 @@
+pub mod Decided
+pub mod FieldLaws
+pub mod HeldLaws
+pub mod PieceLaws
+pub mod ReaderLaws

@@ -17,11 +17,11 @@ all_digits-whole : (base : ℕ) (text : List ℕ) → AllDigits base text → li
 all_digits-whole base [] h = refl
 all_digits-whole base (c ∷ cs) h = both_true (lt-ltb _ _ h.0) (all_digits-whole base cs h.1)
 
-digits-sound : (base : ℕ) (text : List ℕ) → are_digits base text ≡ true → IsNumeral base text
+pub digits-sound : (base : ℕ) (text : List ℕ) → are_digits base text ≡ true → IsNumeral base text
 digits-sound base [] e = cc
 digits-sound base (c ∷ cs) e = (omega arith, all_digits-sound base (c ∷ cs) (and_parts (is_nonempty (c ∷ cs)) (list_all (λ b. nat_lt (digit_value b) base) (c ∷ cs)) e).1)
 
-digits-whole : (base : ℕ) (text : List ℕ) → IsNumeral base text → are_digits base text ≡ true
+pub digits-whole : (base : ℕ) (text : List ℕ) → IsNumeral base text → are_digits base text ≡ true
 digits-whole base [] h = absurd (let z : ⊥ = omega (arith, h.0) in z)
 digits-whole base (c ∷ cs) h = all_digits-whole base (c ∷ cs) h.1
 

@@ -3,3 +3,5 @@ pub mod FieldLaws
 pub mod HeldLaws
 pub mod PieceLaws
 pub mod ReaderLaws
+pub mod EndLaws
+pub mod TextLaws

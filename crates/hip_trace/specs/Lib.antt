@@ -1,5 +1,6 @@
 pub mod Entries
 pub mod Fronts
+pub mod Laws
 pub mod Numbers
 pub mod Pieces
 pub mod Seen

@@ -5,6 +5,7 @@ mod entry;
 mod fields;
 mod front;
 mod held;
+mod laws;
 mod numbers;
 mod reader;
 mod refusal;
@@ -12,6 +13,7 @@ mod spelled;
 mod write;
 
 pub use entry::{Entry, TrapWord};
+pub use laws::{canonical_texts_are_shortest, canonical_texts_spell, readers_end};
 pub use reader::Reader;
 pub use refusal::TraceRefusal;
 pub use write::write_entry;

@@ -79,7 +79,11 @@ impl Reader {
         ensures { AnswersFront self.old self.new front result }
     {
         match front {
-            Front::Piece(len) => self.answer_piece(len, len + 1),
+            Front::Piece(len) => {
+                let held = self.held.len();
+                prove!(len < held);
+                self.answer_piece(len, len + 1)
+            }
             Front::Rest => self.answer_rest(),
             Front::TooLong => {
                 self.begin_text();

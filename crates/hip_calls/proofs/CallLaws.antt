@@ -4,13 +4,13 @@ use Rattle.std.proofs.lemmas.Bool.Decides.{Decides-eqb}
 use Rattle.std.proofs.lemmas.List.{length-map}
 use Rattle.std.proofs.lemmas.Option.{slice_get-map, same_Some}
 use Rattle.std.proofs.lemmas.Bool.{and_parts}
-use Rattle.hip_types.specs.DistinctLaws.{any_found, any_at}
+use Rattle.hip_types.specs.Laws.DistinctLaws.{any_found, any_at}
 use Rattle.hip_ir.specs.Sites.{same_site}
 use Rattle.hip_ir.specs.declared.site.Site.{Site}
 use Rattle.hip_calls.specs.Fresh.{names_taken, name_of, fresh_names}
-use Rattle.hip_calls.specs.FreshLaws.{IsFirstFree, length-fresh_for, fresh_for-distinct, fresh_for-free, fresh_for-first, fresh_for-extern}
-use Rattle.hip_calls.specs.Laws.{CalleesAreReached, FreshNamesAreFresh}
-use Rattle.hip_calls.specs.ReachLaws.{callees-within, callees-distinct, callees-first, callees-closed, callees-least}
+use Rattle.hip_calls.specs.Laws.FreshLaws.{IsFirstFree, length-fresh_for, fresh_for-distinct, fresh_for-free, fresh_for-first, fresh_for-extern}
+use Rattle.hip_calls.specs.Meaning.{CalleesAreReached, FreshNamesAreFresh}
+use Rattle.hip_calls.specs.Laws.ReachLaws.{callees-within, callees-distinct, callees-first, callees-closed, callees-least}
 
 same_sites : (s t : Site) → same_site s t ≡ true → s ≡ t
 same_sites s t e =

@@ -8,10 +8,10 @@ use Rattle.std.specs.Cmp.Lexicographic.{nat_list_eq_equiv}
 use Rattle.std.proofs.lemmas.List.Folds.{list_any-append}
 use Rattle.hip_ir.specs.declared.program.Program.{Program}
 use Rattle.hip_types.specs.Distinct.{met}
-use Rattle.hip_types.specs.DistinctLaws.{met-second, met-only}
+use Rattle.hip_types.specs.Laws.DistinctLaws.{met-second, met-only}
 use Rattle.hip_names.specs.Names.{is_among}
 use Rattle.hip_calls.specs.Fresh.{candidate, fresh_from, fresh_name, fresh_for, names_taken, name_of, numeral}
-use Rattle.hip_calls.specs.FreshLaws.{IsFirstFree, fresh-first, fresh-free, first_alike, among_alike}
+use Rattle.hip_calls.specs.Laws.FreshLaws.{IsFirstFree, fresh-first, fresh-free, first_alike, among_alike}
 
 -- the same names are taken
 abbrev pub Alike : List (List ℕ) → List (List ℕ) → Type 0

@@ -1,6 +1,5 @@
 pub mod Numbered
 pub mod Reach
-pub mod ReachLaws
 pub mod Fresh
-pub mod FreshLaws
+pub mod Meaning
 pub mod Laws

@@ -3,9 +3,9 @@
 use Rattle.std.specs.Prelude.{ℕ, zero, suc, ◌+◌, ◌<◌, ◌≤◌, ◌≡◌, Bool, true, false, cond, List, [], ◌∷◌, ◌++◌, length, take, Option, Some, None, option_map, if◌then◌else◌}
 use Rattle.std.specs.Str.{bytes_eq}
 use Rattle.std.proofs.Common.{get_or, refl, sym, ap, ◌∙◌, arith}
-use Rattle.hip_names.specs.NameLaws.{bytes_eq-sym}
+use Rattle.hip_names.specs.Laws.NameLaws.{bytes_eq-sym}
 use Rattle.hip_names.specs.Names.{number_of}
-use Rattle.hip_names.specs.NumberLaws.{number_of-cons}
+use Rattle.hip_names.specs.Laws.NumberLaws.{number_of-cons}
 use Rattle.hip_names.specs.Tables.{Entry, StandsFor, value_beside, value_of}
 
 pub record Numbers (known : List (List ℕ)) (numbers : List ℕ) (names : List (List ℕ)) : Type 0 where

@@ -112,7 +112,11 @@ fn name_of(program: &Program, number: usize) -> &[u8]
 /// that no global, extern or function has and no earlier copy.
 ///
 /// Where the functions differ, the time is linear in the names of the program and of the copies together.
-pub fn fresh_names(alloc: Global, program: &Program, functions: &[usize]) -> Result<Row<Name>, NoMemory>
+pub fn fresh_names(
+    alloc: Global,
+    program: &Program,
+    functions: &[usize],
+) -> Result<Row<Name>, NoMemory>
     ensures { IfOk result (λ names. names ≡ spec.fresh_names program.now functions.now) }
 {
     let taken = taken_names(alloc, program)?;

@@ -1,6 +1,6 @@
 //! Laws of the definitions of this crate.
 
-ghost use Rattle.hip_calls.specs.Laws.{CalleesAreReached, FreshNamesAreFresh};
+ghost use Rattle.hip_calls.specs.Meaning.{CalleesAreReached, FreshNamesAreFresh};
 
 /// The callees of calls are the functions that calls reach from them, each once.
 pub fn callees_are_reached()

@@ -106,10 +106,7 @@ fn number_at(seen: &IndexSet<usize>, place: usize) -> Option<usize>
 }
 
 /// Adds what calls reach from the functions that are there.
-fn add_reached(
-    seen: &mut IndexSet<usize>,
-    functions: &FunctionTable<'_>,
-) -> Result<(), NoMemory>
+fn add_reached(seen: &mut IndexSet<usize>, functions: &FunctionTable<'_>) -> Result<(), NoMemory>
     ensures { OnOk result (seen.new.keys ≡ reached functions.now (length functions.now.functions) 0 seen.old.keys) }
 {
     'places: for place in 0..functions.program().functions.len() {

@@ -57,11 +57,7 @@ pub struct ExternRow {
 
 const NUMBER: Scalar = Scalar::Int(Width::W64);
 
-const fn procedure(
-    name: &'static [u8],
-    params: &'static [Scalar],
-    effect: LineEffect,
-) -> ExternRow
+const fn procedure(name: &'static [u8], params: &'static [Scalar], effect: LineEffect) -> ExternRow
     ensures name { result.name.now ≡ name.now }
     ensures ret { result.ret ≡ None }
     ensures params { result.params.now ≡ params.now }

@@ -4,13 +4,13 @@ use Rattle.std.proofs.Common.{◌≡◌, ℕ, zero, suc, ◌+◌, ◌-◌, Bool,
 use Rattle.std.proofs.lemmas.List.{length-map}
 use Rattle.hip_ir.specs.declared.site.Site.{Site}
 use Rattle.hip_lines.specs.Image.{byte_after, IsLineImage, IsImage}
-use Rattle.hip_lines.specs.ImageLaws.{AreAhead, ahead-stored, ahead-flushed, ahead-more_flushed, ahead-fenced, ahead-more_fenced, are_ahead_refl, image-ahead}
+use Rattle.hip_lines.specs.Laws.ImageLaws.{AreAhead, ahead-stored, ahead-flushed, ahead-more_flushed, ahead-fenced, ahead-more_fenced, are_ahead_refl, image-ahead}
 use Rattle.hip_lines.specs.Line.{Line, map_line, flushed_line, fenced_line, stored, flushed, fenced, change_range, fresh_lines}
-use Rattle.hip_lines.specs.LineLaws.{map-change_from, map-stored, ordered-fresh_lines}
+use Rattle.hip_lines.specs.Laws.LineLaws.{map-change_from, map-stored, ordered-fresh_lines}
 use Rattle.hip_runs.specs.declared.input.Input.{Input}
 use Rattle.hip_runs.specs.Actions.{in_region}
 use Rattle.hip_runs.specs.Crash.{covers, byte_of, IsCrashImage}
-use Rattle.hip_runs.specs.Persistence.{part_of_store, stored_lines, noted_flush, noted_fence, flush_line, fence_line, flushes_lines, flushed_lines, fenced_lines}
+use Rattle.hip_runs.specs.StoredParts.Persistence.{part_of_store, stored_lines, noted_flush, noted_fence, flush_line, fence_line, flushes_lines, flushed_lines, fenced_lines}
 use Rattle.hip_runs.specs.State.{Level, Flush, StorePart, Counts, State}
 use Rattle.hip_fix.specs.Harmless.{Content, contents}
 use Rattle.hip_fix.proofs.Facts.{Lines}

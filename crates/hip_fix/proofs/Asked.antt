@@ -8,11 +8,11 @@ use Rattle.hip_ir.specs.declared.program.Program.{Program}
 use Rattle.hip_ir.specs.declared.site.Site.{Site}
 use Rattle.hip_runs.specs.declared.report.Findings.{Findings}
 use Rattle.hip_runs.specs.declared.report.Report.{Report}
-use Rattle.hip_runs.specs.History.{IsParted}
-use Rattle.hip_runs.specs.Parts.{In}
+use Rattle.hip_runs.specs.StoredParts.History.{IsParted}
+use Rattle.hip_runs.specs.StoredParts.Parts.{In}
 use Rattle.hip_runs.specs.Laws.PartLaws.{append-left, append-right}
-use Rattle.hip_runs.specs.Reports.{is_open, closed_count}
-use Rattle.hip_runs.specs.Scores.{score}
+use Rattle.hip_runs.specs.Found.Reports.{is_open, closed_count}
+use Rattle.hip_runs.specs.Found.Scores.{score}
 use Rattle.hip_runs.specs.State.{Level}
 use Rattle.hip_fix.specs.declared.plan.Plan.{Plan}
 use Rattle.hip_fix.specs.Choice.{Candidate, is_better, best_of, best_on, choice, asks_flush, asks_fence, asks_hoist, wants_flush, wants_fence, wants_hoist, plan_for, Contains}

@@ -6,7 +6,7 @@ use Rattle.std.proofs.lemmas.List.{map-append}
 use Rattle.std.proofs.lemmas.Option.{same_Some}
 use Rattle.std.proofs.lemmas.Simd.{map-map}
 use Rattle.std.proofs.lemmas.Bool.{false_from_ne_true}
-use Rattle.hip_types.specs.DistinctLaws.{or_first, or_second, any_front, any_back, any_found}
+use Rattle.hip_types.specs.Laws.DistinctLaws.{or_first, or_second, any_front, any_back, any_found}
 use Rattle.hip_ir.specs.declared.block.Block.{Block}
 use Rattle.hip_ir.specs.declared.instr.Instr.{Instr}
 use Rattle.hip_ir.specs.declared.instr.Instr.TheVariants.{Binary, Compare, Select, Cast, Alloca, Load, Store, Gep, Call}
@@ -14,18 +14,18 @@ use Rattle.hip_ir.specs.declared.block.Phi.{Phi}
 use Rattle.hip_ir.specs.declared.program.Function.{Function}
 use Rattle.hip_ir.specs.declared.program.Param.{Param}
 use Rattle.hip_ir.specs.declared.program.Program.{Program}
-use Rattle.hip_names.specs.NameLaws.{among-sound}
+use Rattle.hip_names.specs.Laws.NameLaws.{among-sound}
 use Rattle.hip_names.specs.Names.{AllDiffer, is_among}
 use Rattle.hip_typing.specs.Paths.{names_of}
 use Rattle.hip_typing.specs.Registers.{Register, assigned_by, body_registers, phi_registers, block_registers, parameter_registers}
 use Rattle.hip_typing.specs.Rules.{Passes, inner_check}
 use Rattle.hip_typing.specs.Sound.{names_in_block, names_in_function}
 use Rattle.hip_typing.specs.Laws.Decided.{holds-at}
-use Rattle.hip_names.specs.NameLaws.{bytes_eq-sym}
+use Rattle.hip_names.specs.Laws.NameLaws.{bytes_eq-sym}
 use Rattle.hip_typing.specs.Laws.NameLaws.{inner-sound}
 use Rattle.hip_runs.specs.Places.{blocks_in, blocks_of}
 use Rattle.hip_fix.specs.Direct.{allocates, allocates_in}
-use Rattle.hip_names.specs.DifferLaws.{differ_first, differ_second, differ_apart}
+use Rattle.hip_names.specs.Laws.DifferLaws.{differ_first, differ_second, differ_apart}
 
 -- ---- lists of items that have names
 

@@ -14,7 +14,7 @@ use Rattle.hip_typing.specs.Check.{each}
 use Rattle.hip_externs.specs.Externs.{Signature, signature, call_of, known_signature}
 use Rattle.hip_names.specs.Names.{number_of}
 use Rattle.hip_typing.specs.Numbering.{function_names, function_number}
-use Rattle.hip_names.specs.NumberLaws.{number_of-cons, number_of-known}
+use Rattle.hip_names.specs.Laws.NumberLaws.{number_of-cons, number_of-known}
 use Rattle.hip_typing.specs.Laws.NumberingLaws.{function_number-there}
 use Rattle.hip_typing.specs.Places.{extern_of, function_of, first_of, callee_of, scope_of, instr_check}
 use Rattle.hip_typing.specs.Rules.{Passes, is_main, has_main, is_of, declared, free_function, externs_check, block_check, places_check}

@@ -4,7 +4,7 @@ use Rattle.std.specs.Prelude.{if◌then◌else◌}
 use Rattle.std.specs.Str.{bytes_eq}
 use Rattle.std.proofs.lemmas.Option.{same_Some}
 use Rattle.std.proofs.lemmas.Slice.Eq.{bytes_eq-Decides}
-use Rattle.hip_types.specs.DistinctLaws.{either}
+use Rattle.hip_types.specs.Laws.DistinctLaws.{either}
 use Rattle.hip_ir.specs.declared.program.Extern.{Extern}
 use Rattle.hip_ir.specs.declared.program.Function.{Function}
 use Rattle.hip_ir.specs.declared.program.Program.{Program}
@@ -13,19 +13,19 @@ use Rattle.hip_typing.specs.Check.{each}
 use Rattle.hip_externs.specs.Externs.{Signature, signature, call_of, known_signature}
 use Rattle.hip_names.specs.Names.{is_among, number_of}
 use Rattle.hip_typing.specs.Numbering.{function_names, function_number}
-use Rattle.hip_names.specs.NumberLaws.{number_cases}
+use Rattle.hip_names.specs.Laws.NumberLaws.{number_cases}
 use Rattle.hip_typing.specs.Laws.NumberingLaws.{function_number-there}
 use Rattle.hip_typing.specs.Places.{extern_of, function_of, first_of, callee_of}
 use Rattle.hip_typing.specs.Laws.SoundExact.{table-decides}
 use Rattle.hip_typing.specs.Rules.{Passes, is_of, declared}
 use Rattle.hip_externs.specs.declared.call.ExternCall.{ExternCall}
 use Rattle.hip_typing.specs.Laws.Decided.{holds-at}
-use Rattle.hip_names.specs.NameLaws.{bytes_eq-sym}
+use Rattle.hip_names.specs.Laws.NameLaws.{bytes_eq-sym}
 use Rattle.hip_fix.specs.declared.plan.Plan.{Plan}
 use Rattle.hip_fix.specs.Repaired.{wanted_by, clone_name, clones_of, cloned, added_externs, repaired}
 use Rattle.hip_fix.proofs.Callable.{function_at, callee_there, callable_of}
 use Rattle.hip_fix.proofs.Clones.{extern_kept, calls_of_clone}
-use Rattle.hip_runs.specs.Parts.{In}
+use Rattle.hip_runs.specs.StoredParts.Parts.{In}
 use Rattle.hip_fix.proofs.HeadsAgain.{externs_again}
 use Rattle.hip_fix.proofs.Lookup.{calls_plain}
 use Rattle.hip_fix.proofs.Twins.{IsCallable, CallsTwin}

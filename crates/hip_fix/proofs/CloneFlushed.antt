@@ -5,7 +5,7 @@ use Rattle.hip_ir.specs.declared.program.Program.{Program}
 use Rattle.hip_ir.specs.declared.site.Site.{Site}
 use Rattle.hip_lines.specs.Line.{Line, with_part, has_bytes, change_from, change_range, stored, fresh_lines}
 use Rattle.hip_runs.specs.declared.input.Input.{Input}
-use Rattle.hip_runs.specs.Persistence.{part_of_store, noted_flush, noted_fence, flush_line, fence_line, flushes_lines, flushed_lines, fenced_lines}
+use Rattle.hip_runs.specs.StoredParts.Persistence.{part_of_store, noted_flush, noted_fence, flush_line, fence_line, flushes_lines, flushed_lines, fenced_lines}
 use Rattle.hip_runs.specs.State.{Level, Flush, StorePart}
 use Rattle.hip_fix.specs.declared.plan.Plan.{Plan}
 use Rattle.hip_fix.specs.Quiet.{IsQuiet}

@@ -2,7 +2,7 @@
 use Rattle.std.proofs.Common.{◌≡◌, inl, inr, ℕ, suc, ◌+◌, ◌-◌, Bool, List, [], ◌∷◌, length, Some, slice_get, refl, sym, ap, ◌∙◌, arith}
 use Rattle.hip_ir.specs.declared.program.Program.{Program}
 use Rattle.hip_ir.specs.declared.site.Site.{Site}
-use Rattle.hip_runs.specs.Parts.{In}
+use Rattle.hip_runs.specs.StoredParts.Parts.{In}
 use Rattle.hip_fix.specs.declared.plan.CloneOf.{CloneOf}
 use Rattle.hip_fix.specs.declared.plan.Plan.{Plan}
 use Rattle.hip_fix.specs.CloneNumbers.{numbered_from, clone_numbers, IsCloneOf}

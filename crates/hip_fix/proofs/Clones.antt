@@ -11,7 +11,7 @@ use Rattle.std.proofs.lemmas.Map.Keys.{apart_from_distinct}
 use Rattle.std.proofs.lemmas.Option.{slice_get_within, get_or_from_slice_get, same_Some}
 use Rattle.std.proofs.lemmas.Slice.Eq.{bytes_eq-Decides}
 use Rattle.std.proofs.lemmas.Bool.{and_parts}
-use Rattle.hip_types.specs.DistinctLaws.{or_second, either, any_back, any_at, any_found}
+use Rattle.hip_types.specs.Laws.DistinctLaws.{or_second, either, any_back, any_at, any_found}
 use Rattle.hip_types.specs.declared.number.Scalar.{Scalar}
 use Rattle.hip_ir.specs.Sites.{instr_of, same_site, has_site}
 use Rattle.hip_ir.specs.declared.instr.Arg.{Arg}
@@ -24,12 +24,12 @@ use Rattle.hip_ir.specs.declared.site.Site.{Site}
 use Rattle.hip_externs.specs.Externs.{call_of}
 use Rattle.hip_names.specs.Names.{number_of}
 use Rattle.hip_typing.specs.Numbering.{function_names, function_number}
-use Rattle.hip_names.specs.NumberLaws.{number_of-first, number_of-behind, number_of-known, number_of-there}
+use Rattle.hip_names.specs.Laws.NumberLaws.{number_of-first, number_of-behind, number_of-known, number_of-there}
 use Rattle.hip_typing.specs.Laws.NumberingLaws.{function_number-there}
 use Rattle.hip_calls.specs.Fresh.{fresh_names, names_taken, name_in, name_of}
-use Rattle.hip_calls.specs.FreshLaws.{length-fresh_for, fresh_for-free, fresh_for-distinct, fresh_for-extern}
+use Rattle.hip_calls.specs.Laws.FreshLaws.{length-fresh_for, fresh_for-free, fresh_for-distinct, fresh_for-extern}
 use Rattle.hip_calls.specs.Reach.{called_at, callees}
-use Rattle.hip_calls.specs.ReachLaws.{Has, IsNamed, called-has, callees-first, callees-closed, callees-named}
+use Rattle.hip_calls.specs.Laws.ReachLaws.{Has, IsNamed, called-has, callees-first, callees-closed, callees-named}
 use Rattle.hip_runs.specs.Operands.{scalar_size}
 use Rattle.hip_runs.specs.Places.{blocks_in, body_at}
 use Rattle.hip_externs.specs.declared.call.ExternCall.{ExternCall}
@@ -39,7 +39,7 @@ use Rattle.hip_fix.specs.Harmless.{marked_body}
 use Rattle.hip_fix.specs.Repaired.{Marked, clwb_name, sfence_name, pmem_flush_name, is_wide, line_flush, range_flush, flush_of, the_fence, renamed, inserted_behind, repaired_body, instrs_of, Clone, Wanted, clone_name, clones_from, clones_of, clone_in, repaired_functions, clone_functions, cloned, repaired_blocks, repaired, repaired_function, wanted_by}
 use Rattle.hip_fix.proofs.Blocks.{body_twin}
 use Rattle.hip_fix.proofs.Callable.{instr_place}
-use Rattle.hip_runs.specs.Parts.{In}
+use Rattle.hip_runs.specs.StoredParts.Parts.{In}
 use Rattle.hip_fix.proofs.Functions.{length-repaired_functions, names-repaired_functions, get_back}
 use Rattle.hip_fix.proofs.Twins.{IsCallable, Twin, CallsTwin}
 

@@ -10,15 +10,15 @@ use Rattle.hip_lines.specs.Line.{Line}
 use Rattle.hip_runs.specs.declared.report.Findings.{Findings}
 use Rattle.hip_runs.specs.declared.report.Report.{Report}
 use Rattle.hip_runs.specs.Crash.{covers}
-use Rattle.hip_runs.specs.History.{HasHistory}
-use Rattle.hip_runs.specs.Parts.{In, PartOf}
+use Rattle.hip_runs.specs.StoredParts.History.{HasHistory}
+use Rattle.hip_runs.specs.StoredParts.Parts.{In, PartOf}
 use Rattle.hip_runs.specs.Laws.PartLaws.{in-append, append-left, append-right}
-use Rattle.hip_runs.specs.Reports.{LoosePart, Range, shows, is_last, loose_from, loose_in, loose_parts, all_flushed, latest_flush, later_flush, is_open, closed_count, report_by, report_of, check_reports}
+use Rattle.hip_runs.specs.Found.Reports.{LoosePart, Range, shows, is_last, loose_from, loose_in, loose_parts, all_flushed, latest_flush, later_flush, is_open, closed_count, report_by, report_of, check_reports}
 use Rattle.hip_runs.specs.State.{Level, Flush, StorePart, State, levels_of}
 use Rattle.hip_fix.specs.declared.plan.Plan.{Plan}
 use Rattle.hip_fix.specs.Choice.{Contains, choice, plan_for, best_on, asks_flush, asks_fence, asks_hoist}
 use Rattle.hip_fix.specs.Harmless.{Content}
-use Rattle.hip_runs.specs.Laws.FoundLaws.{site_same}
+use Rattle.hip_runs.specs.Laws.Found.FoundLaws.{site_same}
 use Rattle.hip_fix.proofs.Asked.{has_flush, has_fence, has_hoist, IsLevel, best_on_is, returned_at, in_open, in_range, in_flat}
 use Rattle.hip_fix.proofs.Ahead.{Ahead}
 use Rattle.hip_fix.proofs.Facts.{Lines, Known}

@@ -9,10 +9,10 @@ use Rattle.hip_runs.specs.declared.event.Ending.{Ending}
 use Rattle.hip_runs.specs.declared.input.Input.{Input}
 use Rattle.hip_runs.specs.declared.report.Findings.{Findings}
 use Rattle.hip_runs.specs.declared.report.Report.{Report}
-use Rattle.hip_runs.specs.Marks.{IsFound}
-use Rattle.hip_runs.specs.Parts.{In}
+use Rattle.hip_runs.specs.Found.Marks.{IsFound}
+use Rattle.hip_runs.specs.StoredParts.Parts.{In}
 use Rattle.hip_runs.specs.Laws.PartLaws.{append-left, append-right}
-use Rattle.hip_runs.specs.Reports.{Range, checked_by, next_check, report_of, check_reports, reports}
+use Rattle.hip_runs.specs.Found.Reports.{Range, checked_by, next_check, report_of, check_reports, reports}
 use Rattle.hip_runs.specs.State.{Level, World, State, levels_of}
 use Rattle.hip_runs.specs.Step.{event, step, on_ending, run, has_ended}
 use Rattle.hip_runs.specs.Validity.{IsValid}

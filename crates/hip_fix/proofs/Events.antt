@@ -21,9 +21,9 @@ use Rattle.hip_runs.specs.declared.event.TrapKind.TheVariants as traps
 use Rattle.hip_runs.specs.declared.input.Input.{Input}
 use Rattle.hip_runs.specs.Actions.{Action, Traps, Assigns, Allocates, Stores, Flushes, Persists, Fences, Asserts, Prints, Reads, Calls, Jumps, Returns, Deed, accessed, allocated, entered, call_action, extern_action, instr_action, end_action, is_turn, is_flush_or_fence, deed_of}
 use Rattle.hip_runs.specs.Operands.{values_of, bound}
-use Rattle.hip_runs.specs.Persistence.{flushes_lines}
+use Rattle.hip_runs.specs.StoredParts.Persistence.{flushes_lines}
 use Rattle.hip_runs.specs.Places.{body_at, code_at, end_at}
-use Rattle.hip_runs.specs.Reports.{checked_by}
+use Rattle.hip_runs.specs.Found.Reports.{checked_by}
 use Rattle.hip_runs.specs.State.{Registers, Slot, Level, Flush, Frame, World, Counts, State, level_list, levels_of, site_of}
 use Rattle.hip_runs.specs.Step.{state, is_bottom, is_cut, deed_at, event_of, event_at, event_on_ending, event}
 use Rattle.hip_fix.specs.declared.plan.Plan.{Plan}

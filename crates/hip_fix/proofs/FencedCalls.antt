@@ -13,9 +13,9 @@ use Rattle.hip_externs.specs.declared.call.ExternCall.TheVariants as calls
 use Rattle.hip_runs.specs.declared.input.Input.{Input}
 use Rattle.hip_runs.specs.Actions.{Flushes, Fences, instr_action, call_action, is_turn, is_flush_or_fence, deed_of}
 use Rattle.hip_runs.specs.Operands.{values_of}
-use Rattle.hip_runs.specs.Parts.{In, PartOf}
+use Rattle.hip_runs.specs.StoredParts.Parts.{In, PartOf}
 use Rattle.hip_runs.specs.Laws.PartLaws.{part-fenced}
-use Rattle.hip_runs.specs.Persistence.{fence_line, fenced_lines}
+use Rattle.hip_runs.specs.StoredParts.Persistence.{fence_line, fenced_lines}
 use Rattle.hip_runs.specs.Places.{body_at, end_at, code_at}
 use Rattle.hip_runs.specs.State.{Registers, Level, Flush, StorePart, Frame, World, Counts, State, site_of}
 use Rattle.hip_runs.specs.Step.{perform, carry_out, event_at, counted, on_frames, on_ending, step, run}

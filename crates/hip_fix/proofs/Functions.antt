@@ -7,7 +7,7 @@ use Rattle.hip_ir.specs.declared.program.Program.{Program}
 use Rattle.hip_ir.specs.declared.site.Site.{Site}
 use Rattle.hip_names.specs.Names.{number_of}
 use Rattle.hip_typing.specs.Numbering.{function_names, function_number}
-use Rattle.hip_names.specs.NumberLaws.{number_of-front}
+use Rattle.hip_names.specs.Laws.NumberLaws.{number_of-front}
 use Rattle.hip_calls.specs.Fresh.{fresh_names}
 use Rattle.hip_runs.specs.Places.{blocks_in}
 use Rattle.hip_runs.specs.Step.{main_number}

@@ -6,28 +6,28 @@ use Rattle.std.specs.Str.{bytes_eq}
 use Rattle.std.proofs.lemmas.List.{map-append}
 use Rattle.std.proofs.lemmas.Slice.Eq.{bytes_eq-Decides}
 use Rattle.std.proofs.lemmas.Bool.{both_ways}
-use Rattle.hip_types.specs.DistinctLaws.{any_found}
+use Rattle.hip_types.specs.Laws.DistinctLaws.{any_found}
 use Rattle.hip_ir.specs.declared.program.Extern.{Extern}
 use Rattle.hip_ir.specs.declared.program.Function.{Function}
 use Rattle.hip_ir.specs.declared.program.GlobalVar.{GlobalVar}
 use Rattle.hip_ir.specs.declared.program.Program.{Program}
 use Rattle.hip_ir.specs.declared.site.Site.{Site}
 use Rattle.hip_externs.specs.Externs.{call_of, known_signature}
-use Rattle.hip_names.specs.NameLaws.{among-whole}
-use Rattle.hip_names.specs.NameLaws.{among-left, among-right}
+use Rattle.hip_names.specs.Laws.NameLaws.{among-whole}
+use Rattle.hip_names.specs.Laws.NameLaws.{among-left, among-right}
 use Rattle.hip_typing.specs.Laws.NameLaws.{names-sound, names-whole}
 use Rattle.hip_names.specs.Names.{AllDiffer, IsAmong, is_among}
 use Rattle.hip_typing.specs.Numbering as numbers
 use Rattle.hip_typing.specs.Rules.{Passes, names_check, is_of, declared, free_function, externs_check, is_main, has_main, main_check}
 use Rattle.hip_typing.specs.Laws.Decided.{holds-at, holds-made}
 use Rattle.hip_calls.specs.Fresh.{name_of, names_taken}
-use Rattle.hip_calls.specs.FreshLaws.{fresh_for-distinct, fresh_for-free}
+use Rattle.hip_calls.specs.Laws.FreshLaws.{fresh_for-distinct, fresh_for-free}
 use Rattle.hip_fix.specs.declared.plan.Plan.{Plan}
 use Rattle.hip_fix.specs.Repaired.{wanted_by, clones_of, cloned, added_externs, repaired, repaired_functions}
 use Rattle.hip_fix.proofs.Callable.{callable_of}
 use Rattle.hip_fix.proofs.Clones.{fresh, fresh_extern, in_append, names_then}
 use Rattle.hip_fix.proofs.Declarations.{added_at, added_passes, clwb_extern, sfence_extern, pmem_flush_extern}
-use Rattle.hip_names.specs.DifferLaws.{Apart, differ_append, differ_first, differ_second, differ_apart, apart_append, append_apart, differ_distinct, among_at}
+use Rattle.hip_names.specs.Laws.DifferLaws.{Apart, differ_append, differ_first, differ_second, differ_apart, apart_append, append_apart, differ_distinct, among_at}
 use Rattle.hip_fix.proofs.Origins.{Origin, origin}
 use Rattle.hip_fix.proofs.Twins.{IsCallable}
 

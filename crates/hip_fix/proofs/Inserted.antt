@@ -18,7 +18,7 @@ use Rattle.hip_globals.specs.Values.{Written, const_value}
 use Rattle.hip_runs.specs.declared.input.Input.{Input}
 use Rattle.hip_runs.specs.Actions.{Action, Flushes, Fences, in_region, are_valid, flushing, instr_action, is_turn}
 use Rattle.hip_runs.specs.Operands.{value_of, scalar_size, access_align}
-use Rattle.hip_runs.specs.Persistence.{flushes_lines}
+use Rattle.hip_runs.specs.StoredParts.Persistence.{flushes_lines}
 use Rattle.hip_runs.specs.State.{Registers, World}
 use Rattle.hip_fix.specs.Repaired.{flush_of, line_flush, range_flush, the_fence, is_wide}
 

@@ -6,8 +6,8 @@ use Rattle.hip_ir.specs.Sites.{has_site}
 use Rattle.hip_ir.specs.declared.site.Site.{Site}
 use Rattle.hip_lines.specs.Line.{Line, with_part, has_bytes, change_from, change_range, fresh_lines}
 use Rattle.hip_runs.specs.declared.input.Input.{Input}
-use Rattle.hip_runs.specs.Parts.{In}
-use Rattle.hip_runs.specs.Persistence.{earlier, noted_flush, noted_fence, flush_line, fence_line, flushes_lines, flushed_lines, fenced_lines}
+use Rattle.hip_runs.specs.StoredParts.Parts.{In}
+use Rattle.hip_runs.specs.StoredParts.Persistence.{earlier, noted_flush, noted_fence, flush_line, fence_line, flushes_lines, flushed_lines, fenced_lines}
 use Rattle.hip_runs.specs.State.{Level, Flush, StorePart}
 use Rattle.hip_fix.specs.declared.plan.Plan.{Plan}
 use Rattle.hip_fix.proofs.Facts.{Lines, fence_if}

@@ -5,9 +5,9 @@ use Rattle.hip_ir.specs.declared.program.Program.{Program}
 use Rattle.hip_ir.specs.declared.site.Site.{Site}
 use Rattle.hip_lines.specs.Line.{has_bytes, change_range, stored}
 use Rattle.hip_runs.specs.declared.input.Input.{Input}
-use Rattle.hip_runs.specs.Parts.{In, PartOf}
+use Rattle.hip_runs.specs.StoredParts.Parts.{In, PartOf}
 use Rattle.hip_runs.specs.Laws.PartLaws.{part-fenced, part-flushed, part-stored}
-use Rattle.hip_runs.specs.Persistence.{part_of_store, earlier, noted_flush, flush_line, flushes_lines, flushed_lines, fenced_lines}
+use Rattle.hip_runs.specs.StoredParts.Persistence.{part_of_store, earlier, noted_flush, flush_line, flushes_lines, flushed_lines, fenced_lines}
 use Rattle.hip_runs.specs.State.{Level, Flush, StorePart, Counts}
 use Rattle.hip_fix.specs.declared.plan.Plan.{Plan}
 use Rattle.hip_fix.specs.Quiet.{IsQuiet}

@@ -20,7 +20,7 @@ use Rattle.hip_fix.specs.declared.plan.Plan.{Plan}
 use Rattle.hip_fix.specs.Repaired.{wanted_by, clone_name, clones_of, cloned, repaired, repaired_function}
 use Rattle.hip_fix.proofs.Callable.{callable_of}
 use Rattle.hip_fix.proofs.Clones.{called_there, closed_there, extern_kept, calls_of_clone, calls_in_clone}
-use Rattle.hip_runs.specs.Parts.{In}
+use Rattle.hip_runs.specs.StoredParts.Parts.{In}
 use Rattle.hip_fix.proofs.Functions.{twin_of_plain, plain_code, plain_number, main_of, repaired_main_of}
 use Rattle.hip_fix.proofs.Twins.{IsCallable, Twin, CallsTwin}
 

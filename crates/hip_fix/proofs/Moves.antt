@@ -18,9 +18,9 @@ use Rattle.hip_runs.specs.declared.event.Event.{Event}
 use Rattle.hip_runs.specs.declared.event.TrapKind.TheVariants as traps
 use Rattle.hip_runs.specs.declared.input.Input.{Input}
 use Rattle.hip_runs.specs.Actions.{Action, Traps, Assigns, Allocates, Stores, Flushes, Persists, Fences, Asserts, Prints, Reads, Calls, Jumps, Returns, Deed, in_region, are_valid, accessed, entered, numbered_call, call_action, instr_action, deed_of}
-use Rattle.hip_runs.specs.Parts.{PartOf}
+use Rattle.hip_runs.specs.StoredParts.Parts.{PartOf}
 use Rattle.hip_runs.specs.Laws.PartLaws.{IsFlushedFrom, part-fenced, part-flushed, part-stored}
-use Rattle.hip_runs.specs.Persistence.{part_of_store, stored_lines, flushed_lines, fenced_lines}
+use Rattle.hip_runs.specs.StoredParts.Persistence.{part_of_store, stored_lines, flushed_lines, fenced_lines}
 use Rattle.hip_runs.specs.Places.{body_at, code_at, end_at}
 use Rattle.hip_runs.specs.State.{Flush, StorePart, Frame, World, Counts, State, levels_of, site_of}
 use Rattle.hip_runs.specs.Step.{stop, with_turn, with_register, next, leave, perform, is_cut, carry_out, deed_at, on_frames, on_ending, step, event_at, counted}

@@ -6,14 +6,14 @@ use Rattle.hip_ir.specs.declared.program.Program.{Program}
 use Rattle.hip_ir.specs.declared.site.Site.{Site}
 use Rattle.hip_runs.specs.declared.input.Input.{Input}
 use Rattle.hip_runs.specs.Actions.{Flushes, instr_action, is_turn}
-use Rattle.hip_runs.specs.Persistence.{flushed_lines}
+use Rattle.hip_runs.specs.StoredParts.Persistence.{flushed_lines}
 use Rattle.hip_runs.specs.Places.{body_at}
 use Rattle.hip_runs.specs.State.{Registers, Slot, Level, Flush, Frame, World, Counts, State, level_list, levels_of, site_of}
 use Rattle.hip_fix.specs.declared.plan.Plan.{Plan}
 use Rattle.hip_fix.specs.Harmless.{extents, marked_body}
 use Rattle.hip_fix.specs.Repaired.{Marked, the_fence, wanted_by, clones_of, repaired, repaired_body}
 use Rattle.hip_fix.proofs.Ahead.{Ahead}
-use Rattle.hip_runs.specs.Parts.{In}
+use Rattle.hip_runs.specs.StoredParts.Parts.{In}
 use Rattle.hip_fix.proofs.Facts.{Lines, fence_if}
 use Rattle.hip_fix.proofs.Twins.{Twin}
 

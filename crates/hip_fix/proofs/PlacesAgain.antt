@@ -4,7 +4,7 @@ use Rattle.std.specs.Prelude.{option_and_then, if◌then◌else◌}
 use Rattle.std.specs.List.{list_all, list_any}
 use Rattle.std.proofs.lemmas.Option.{same_Some}
 use Rattle.std.proofs.lemmas.Bool.{and_from, and_parts}
-use Rattle.hip_types.specs.DistinctLaws.{either}
+use Rattle.hip_types.specs.Laws.DistinctLaws.{either}
 use Rattle.hip_types.specs.declared.number.Scalar.{Scalar}
 use Rattle.hip_ir.specs.Sites.{has_site}
 use Rattle.hip_ir.specs.declared.block.Block.{Block}
@@ -32,7 +32,7 @@ use Rattle.hip_fix.specs.Repaired.{Clone, Wanted, wanted_by, clwb_name, sfence_n
 use Rattle.hip_fix.proofs.Bodies.{IsOriginal, IsInserted, in_body, inserted_kind, site_at, repaired_instrs, same_blocks_registers}
 use Rattle.hip_fix.proofs.CalleesAgain.{callee_again}
 use Rattle.hip_fix.proofs.Clones.{called_there, closed_there, has_at, in_has}
-use Rattle.hip_runs.specs.Parts.{In}
+use Rattle.hip_runs.specs.StoredParts.Parts.{In}
 use Rattle.hip_fix.proofs.InsertedAgain.{fence_check, flush_check}
 use Rattle.hip_fix.proofs.Needed.{inserted_needed, clwb_callee, sfence_callee, pmem_flush_callee}
 use Rattle.hip_fix.proofs.Origins.{Origin, origin}

@@ -19,7 +19,7 @@ use Rattle.hip_ir.specs.declared.program.Program.{Program}
 use Rattle.hip_ir.specs.declared.site.Site.{Site}
 use Rattle.hip_lines.specs.Line.{has_bytes, stored, fresh_lines}
 use Rattle.hip_mem.specs.Bytes.{bytes_of, little_endian}
-use Rattle.hip_mem.specs.BytesLaws.{length-bytes_of}
+use Rattle.hip_mem.specs.Laws.BytesLaws.{length-bytes_of}
 use Rattle.hip_num.specs.declared.arithmetic.NumTrap.{NumTrap}
 use Rattle.hip_externs.specs.Externs.{call_of}
 use Rattle.hip_typing.specs.Numbering.{function_number}
@@ -30,7 +30,7 @@ use Rattle.hip_runs.specs.declared.event.TrapKind.{TrapKind}
 use Rattle.hip_runs.specs.declared.input.Input.{Input}
 use Rattle.hip_runs.specs.Actions.{Action, Traps, Assigns, Allocates, Stores, Flushes, Persists, Fences, Asserts, Prints, Reads, Calls, Jumps, Returns, in_region, are_valid, accessed, allocated, entered, flushing, call_action, extern_action, instr_action, end_action, is_turn, is_flush_or_fence, deed_of, read_next, calculated, jump, jump_to}
 use Rattle.hip_runs.specs.Operands.{value_of, values_of, assigned, bound, scalar_size, access_align}
-use Rattle.hip_runs.specs.Persistence.{part_of_store, stored_lines}
+use Rattle.hip_runs.specs.StoredParts.Persistence.{part_of_store, stored_lines}
 use Rattle.hip_runs.specs.Places.{body_at, code_at, end_at}
 use Rattle.hip_runs.specs.State.{Registers, Slot, Level, Flush, Frame, World, Counts, State, level_list, levels_of, site_of}
 use Rattle.hip_runs.specs.Validity.{IsValid}
@@ -43,8 +43,8 @@ use Rattle.hip_fix.proofs.Ahead.{Ahead, ahead_stored, ahead_flushed, ahead_more_
 use Rattle.hip_runs.specs.Laws.EndLaws.{drop_next}
 use Rattle.hip_runs.specs.Laws.Members.{get_drop}
 use Rattle.hip_fix.proofs.Blocks.{body_twin, end_twin, end_action_twin}
-use Rattle.hip_runs.specs.Parts.{In}
-use Rattle.hip_runs.specs.History.{HasHistory}
+use Rattle.hip_runs.specs.StoredParts.Parts.{In}
+use Rattle.hip_runs.specs.StoredParts.History.{HasHistory}
 use Rattle.hip_fix.proofs.Facts.{Lines, Known, fence_if, flush_if, Keeps}
 use Rattle.hip_fix.proofs.Inserted.{flush_size, flush_size_there, flush_size_small, flushes_there, region_base, reaches, flush_action, flush_no_turn}
 use Rattle.hip_fix.proofs.Lookup.{number_there, plain_twin, same_main, main_there, calls_plain, calls_clone, extern_name, hoisted_cloned, cloned_closed}

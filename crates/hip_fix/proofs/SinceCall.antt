@@ -7,7 +7,7 @@ use Rattle.hip_ir.specs.declared.program.Program.{Program}
 use Rattle.hip_runs.specs.declared.event.Ending.{Ending}
 use Rattle.hip_runs.specs.declared.input.Input.{Input}
 use Rattle.hip_runs.specs.Laws.HistoryLaws.{has_history}
-use Rattle.hip_runs.specs.Parts.{PartOf}
+use Rattle.hip_runs.specs.StoredParts.Parts.{PartOf}
 use Rattle.hip_runs.specs.Places.{body_at}
 use Rattle.hip_runs.specs.State.{StorePart, Frame, State}
 use Rattle.hip_runs.specs.Step.{with_register, next, on_ending, step, run}

@@ -22,7 +22,7 @@ use Rattle.hip_ir.specs.declared.program.Function.{Function}
 use Rattle.hip_ir.specs.declared.program.Program.{Program}
 use Rattle.hip_ir.specs.declared.site.Site.{Site}
 use Rattle.hip_calls.specs.Fresh.{name_in, name_of, names_taken}
-use Rattle.hip_calls.specs.FreshLaws.{fresh_for-first, candidate-name}
+use Rattle.hip_calls.specs.Laws.FreshLaws.{fresh_for-first, candidate-name}
 use Rattle.hip_runs.specs.Operands.{scalar_size}
 use Rattle.hip_fix.specs.declared.plan.Plan.{Plan}
 use Rattle.hip_fix.specs.Repaired.{Clone, Wanted, wanted_by, clone_name, clones_from, clones_of, cloned, renamed, is_wide, line_flush, range_flush, flush_of, added_externs, repaired, repaired_block, repaired_blocks, repaired_function}

@@ -9,7 +9,7 @@ use Rattle.hip_runs.specs.declared.report.Findings.{Findings}
 use Rattle.hip_runs.specs.declared.report.Kind.{Kind}
 use Rattle.hip_runs.specs.declared.report.Kind.TheVariants.{MissingFlush, MissingFence, MissingBoth}
 use Rattle.hip_runs.specs.declared.report.Report.{Report}
-use Rattle.hip_runs.specs.Scores.{score}
+use Rattle.hip_runs.specs.Found.Scores.{score}
 use Rattle.hip_fix.specs.declared.plan.Plan.{Plan}
 
 -- a level, and its score

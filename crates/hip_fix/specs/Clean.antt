@@ -2,7 +2,7 @@
 use Rattle.std.specs.Prelude.{◌≡◌, ℕ, []}
 use Rattle.hip_ir.specs.declared.program.Program.{Program}
 use Rattle.hip_runs.specs.declared.input.Input.{Input}
-use Rattle.hip_runs.specs.Reports.{reports}
+use Rattle.hip_runs.specs.Found.Reports.{reports}
 
 -- no step of the program's run on the input has a report
 abbrev pub IsClean : Program → Input → Type 0

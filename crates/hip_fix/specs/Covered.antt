@@ -38,8 +38,8 @@ abbrev pub IsCallFrom : Program → ℕ → Option Instr → Type 0
 IsCallFrom Q functions (Some (Call dest ret callee args)) = is_numbered_from functions (function_number Q callee)
 IsCallFrom Q functions _ = ⊥
 
--- The state stands at a call of `sfence` or `mfence` directly behind a call of a clone in its block; clones are numbered from a
--- number up.
+-- The state stands at a call of `sfence` or `mfence` directly behind a call of a clone in its block; clones are
+-- numbered from a number up.
 pub record IsBehindClone (Q : Program) (functions : ℕ) (s : State) : Type 0 where
   pub going : s.world.ending ≡ None
   pub frame : Frame
@@ -64,8 +64,8 @@ pub record IsAtCall (frame : Frame) (others : List Frame) (at : ℕ) (s : State)
   pub block : top.block ≡ frame.block
   pub place : top.place ≡ at
 
--- Wherever the run stands at a fence behind a call of a clone, there is a last state before with as many frames, which stands
--- at that call; and each part of a store that the cache lines got from the call on is durable after the fence.
+-- Wherever the run stands at a fence behind a call of a clone, there is a last state before with as many frames, which
+-- stands at that call; and each part of a store that the cache lines got from the call on is durable after the fence.
 pub record IsCovered (P Q : Program) : Type 0 where
   pub call :
       (I : Input) → IsValid P I → (n : ℕ) (behind : IsBehindClone Q (length P.functions) (run Q I n)) →
@@ -77,22 +77,25 @@ pub record IsCovered (P Q : Program) : Type 0 where
 
 -- ---- the fence behind a hoisted call
 
--- where the instruction at a site of the program stands in the repaired body, of its function or of the function's clone: behind
--- the repaired body of what stands before it
+-- where the instruction at a site of the program stands in the repaired body, of its function or of the function's
+-- clone: behind the repaired body of what stands before it
 abbrev pub repaired_place : Program → Plan → (Site → Bool) → Bool → Site → ℕ
 repaired_place P plan skip clone s =
-    length (repaired_body (clones_of P plan) (wanted_by plan skip) clone s.function s.block 0 (take s.index (body_at P s.function s.block)))
+    length (repaired_body (clones_of P plan) (wanted_by plan skip) clone s.function s.block 0
+    (take s.index (body_at P s.function s.block)))
 
 -- a call of a clone stands at that place of the block, and a fence directly behind it
 pub record IsFenced (Q : Program) (functions f b place : ℕ) : Type 0 where
   pub call : IsCallFrom Q functions (slice_get (body_at Q f b) place)
   pub fence : IsFenceCall (slice_get (body_at Q f b) (suc place))
 
--- Each hoisted call of a defined function has become a call of a clone with a fence directly behind it, in its function and in
--- the clone of its function.
+-- Each hoisted call of a defined function has become a call of a clone with a fence directly behind it, in its function
+-- and in the clone of its function.
 abbrev pub AreHoistsFenced : Program → Plan → (Site → Bool) → Type 0
 AreHoistsFenced P plan skip =
     (s : Site) (dest : Option (List ℕ)) (ret : Option Scalar) (callee : List ℕ) (args : List Arg) (g : ℕ) →
     has_site plan.hoist s ≡ true → instr_of P s ≡ Some (Call dest ret callee args) → function_number P callee ≡ Some g →
     IsFenced (repaired P plan skip) (length P.functions) s.function s.block (repaired_place P plan skip false s)
-    × ((c : ℕ) → slice_get (cloned P plan) c ≡ Some s.function → IsFenced (repaired P plan skip) (length P.functions) (length P.functions + c) s.block (repaired_place P plan skip true s))
+    × ((c : ℕ) → slice_get (cloned P plan) c ≡ Some s.function →
+    IsFenced (repaired P plan skip) (length P.functions) (length P.functions + c) s.block
+    (repaired_place P plan skip true s))

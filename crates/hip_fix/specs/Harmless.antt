@@ -42,11 +42,13 @@ inserted_on P plan skip None (f ∷ fs) = is_inserted (drop f.place (marked_at P
 abbrev pub stands_inserted : Program → Plan → (Site → Bool) → State → Bool
 stands_inserted P plan skip s = inserted_on P plan skip s.world.ending s.frames
 
--- How many of the first n steps of the repaired program did not stand at an inserted instruction: the number of the program's step
--- that corresponds. A step after the end counts.
+-- How many of the first n steps of the repaired program did not stand at an inserted instruction: the number of the
+-- program's step that corresponds. A step after the end counts.
 unfoldable pub matched : Program → Plan → (Site → Bool) → Input → ℕ → ℕ
 matched P plan skip I zero = 0
-matched P plan skip I (suc n) = cond (stands_inserted P plan skip (run (repaired P plan skip) I n)) (matched P plan skip I n) (suc (matched P plan skip I n))
+matched P plan skip I (suc n) =
+    cond (stands_inserted P plan skip (run (repaired P plan skip) I n)) (matched P plan skip I n)
+    (suc (matched P plan skip I n))
 
 -- ---- what is the same
 
@@ -68,7 +70,8 @@ extents slots = map (λ s. record { addr = s.addr; size = s.size }) slots
 
 -- The function is the same or a clone of it; registers, stack mark and blocks on the stack are the same.
 pub record SameFrame (functions : ℕ) (copied : List ℕ) (f f' : Frame) : Type 0 where
-  pub function : (f'.function ≡ f.function) ⊎ ((k : ℕ) × (f'.function ≡ functions + k) × (slice_get copied k ≡ Some f.function))
+  pub function : (f'.function ≡ f.function)
+      ⊎ ((k : ℕ) × (f'.function ≡ functions + k) × (slice_get copied k ≡ Some f.function))
   pub block : f'.block ≡ f.block
   pub registers : f'.registers ≡ f.registers
   pub mark : f'.mark ≡ f.mark
@@ -80,16 +83,19 @@ SameFrames functions copied (f ∷ fs) (f' ∷ fs') = SameFrame functions copied
 SameFrames functions copied [] (f' ∷ fs') = ⊥
 SameFrames functions copied (f ∷ fs) [] = ⊥
 
--- A state of the repaired program matches one of the program: output, ending, turns, writes, numbers left and the stack's mark are
--- the same, each cache line has the same parts, the frames are the same one by one, and each crash image was possible before.
+-- A state of the repaired program matches one of the program: output, ending, turns, writes, numbers left and the
+-- stack's mark are the same, each cache line has the same parts, the frames are the same one by one, and each crash
+-- image was possible before.
 pub record Matches (functions : ℕ) (copied : List ℕ) (I : Input) (s s' : State) : Type 0 where
   pub world : s'.world ≡ s.world
   pub lines : map contents s'.lines ≡ map contents s.lines
   pub frames : SameFrames functions copied s.frames s'.frames
   pub images : (content : List ℕ) → IsCrashImage I s' content → IsCrashImage I s content
 
--- On every valid input each state of the repaired program matches the corresponding one, and each step of the program corresponds to
--- one of the repaired program.
+-- On every valid input each state of the repaired program matches the corresponding one, and each step of the program
+-- corresponds to one of the repaired program.
 pub record IsHarmless (P : Program) (plan : Plan) (skip : Site → Bool) : Type 0 where
-  pub matches : (I : Input) → IsValid P I → (n : ℕ) → Matches (length P.functions) (cloned P plan) I (run P I (matched P plan skip I n)) (run (repaired P plan skip) I n)
+  pub matches : (I : Input) → IsValid P I → (n : ℕ) →
+      Matches (length P.functions) (cloned P plan) I (run P I (matched P plan skip I n))
+      (run (repaired P plan skip) I n)
   pub progress : (I : Input) → IsValid P I → (n : ℕ) → n ≤ matched P plan skip I (3 * n)

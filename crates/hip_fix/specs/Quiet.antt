@@ -13,8 +13,9 @@ abbrev pub stores_in_region : Event → Type 0
 stores_in_region (events.Store addr value size) = Unit {0}
 stores_in_region _ = ⊥
 
--- A set of sites is quiet where, in the run of every valid input, no store at one of them lies in the region: a step whose
--- frame stands there is no store into the region.
+-- A set of sites is quiet where, in the run of every valid input, no store at one of them lies in the region: a step
+-- whose frame stands there is no store into the region.
 abbrev pub IsQuiet : Program → (Site → Bool) → Type 0
 IsQuiet P skip =
-    (I : Input) → IsValid P I → (n : ℕ) (f : Frame) (fs : List Frame) → (run P I n).frames ≡ f ∷ fs → skip (site_of f) ≡ true → ¬ stores_in_region (event P I (run P I n))
+    (I : Input) → IsValid P I → (n : ℕ) (f : Frame) (fs : List Frame) → (run P I n).frames ≡ f ∷ fs →
+    skip (site_of f) ≡ true → ¬ stores_in_region (event P I (run P I n))

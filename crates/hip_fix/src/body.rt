@@ -104,9 +104,12 @@ impl Repair<'_> {
         ensures { OnOk result (body.new ≡ grown body.old (flush_behind instr.now is_wanted)) }
     {
         match instr {
-            Instr::Store { ty, addr, align, .. } if is_wanted => {
-                body.add_flush(alloc, *ty, addr, *align)
-            }
+            Instr::Store {
+                ty,
+                addr,
+                align,
+                ..
+            } if is_wanted => { body.add_flush(alloc, *ty, addr, *align) }
             _ => Ok(()),
         }
     }
@@ -123,8 +126,7 @@ impl Repair<'_> {
         ensures { OnOk result (body.new ≡ grown body.old (repaired_at self.now.clones (wanted_in self.now) is_clone site instr.now)) }
     {
         let is_hoisted = self.hoist.contains(site);
-        let is_flushed =
-            self.flush_after.contains(site) || is_clone && !self.skip.contains(site);
+        let is_flushed = self.flush_after.contains(site) || is_clone && !self.skip.contains(site);
         body.add(self.renamed(alloc, instr, is_clone || is_hoisted)?)?;
         self.add_flush_behind(alloc, body, instr, is_flushed)?;
         if self.fence_after.contains(site) || is_hoisted {

@@ -8,7 +8,6 @@ use hip_ir::{Arg, Const, Instr, Operand};
 use hip_types::{Bits, NoMemory, Row, Scalar, Structural, Width};
 use std::alloc::Global;
 
-
 /// How many bytes a scalar takes in memory.
 fn scalar_size(ty: Scalar) -> u64
     ensures { result ≡ scalar_size ty }

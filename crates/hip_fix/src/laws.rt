@@ -4,7 +4,7 @@ ghost use Rattle.hip_ir.specs.declared.program.Program.{Program};
 ghost use Rattle.hip_ir.specs.declared.site.Site.{Site};
 ghost use Rattle.hip_globals.specs.Addresses.{address, region_size};
 ghost use Rattle.hip_typing.specs.Sound.{IsSound};
-ghost use Rattle.hip_runs.specs.Marks.{IsFound};
+ghost use Rattle.hip_runs.specs.Found.Marks.{IsFound};
 ghost use Rattle.hip_runs.specs.Validity.{IsValid};
 ghost use Rattle.hip_runs.specs.declared.input.Input.{Input};
 ghost use Rattle.hip_runs.specs.declared.report.Findings.{Findings};

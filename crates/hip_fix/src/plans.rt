@@ -3,8 +3,8 @@
 ghost use Rattle.hip_ir.specs.Sites.{has_site, sites_of};
 ghost use Rattle.hip_ir.specs.declared.program.Program.{Program};
 ghost use Rattle.hip_ir.specs.declared.site.Site.{Site};
-ghost use Rattle.hip_runs.specs.Marks.{IsFound};
-ghost use Rattle.hip_runs.specs.Parts.{In};
+ghost use Rattle.hip_runs.specs.Found.Marks.{IsFound};
+ghost use Rattle.hip_runs.specs.StoredParts.Parts.{In};
 ghost use Rattle.hip_runs.specs.Validity.{IsValid};
 ghost use Rattle.hip_runs.specs.declared.input.Input.{Input};
 ghost use Rattle.hip_runs.specs.declared.report.Findings.{Findings};

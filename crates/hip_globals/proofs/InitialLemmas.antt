@@ -17,12 +17,12 @@ use Rattle.hip_globals.specs.Constants.{types_in}
 use Rattle.hip_globals.specs.Initial.{laid_bytes, volatile_bytes, region_bytes}
 use Rattle.hip_globals.specs.InitialSeen.{AllFit, GlobalsFit}
 use Rattle.hip_names.specs.Names.{number_of}
-use Rattle.hip_names.specs.NumberLaws.{number_of-cons}
+use Rattle.hip_names.specs.Laws.NumberLaws.{number_of-cons}
 use Rattle.hip_globals.specs.Addresses.{TypesFitIn}
 use Rattle.hip_names.specs.Tables.{StandsFor, value_of}
 use Rattle.hip_globals.specs.Values.{global_address, aligned, sized, written, constant_bytes}
 use Rattle.hip_names.specs.declared.table.NameTable.{NameTable}
-use Rattle.hip_names.specs.NameLaws.{bytes_eq-sym}
+use Rattle.hip_names.specs.Laws.NameLaws.{bytes_eq-sym}
 
 pub globals_fit : (gs : List GlobalVar) → All TypesFitIn gs → GlobalsFit gs
 globals_fit gs h = record { fit = λ k d low. record { fit = h k d low } }

@@ -6,7 +6,7 @@ use Rattle.std.proofs.lemmas.Option.{same_Some}
 use Rattle.hip_ir.specs.declared.block.Block.{Block}
 use Rattle.hip_ir.specs.declared.instr.Instr.{Instr}
 use Rattle.hip_ir.specs.declared.program.Function.{Function}
-use Rattle.hip_names.specs.NameLaws.{among-left, among-right, among-either}
+use Rattle.hip_names.specs.Laws.NameLaws.{among-left, among-right, among-either}
 use Rattle.hip_names.specs.Names.{IsAmong}
 use Rattle.hip_typing.specs.Paths.{LeadsTo, IsChain, IsPathTo, registers_before, names_of, whole_block_names, names_before, assigned_on}
 use Rattle.hip_typing.specs.Registers.{assigned_by, phi_registers, body_registers, block_registers, parameter_registers}

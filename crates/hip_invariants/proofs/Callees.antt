@@ -5,7 +5,7 @@ use Rattle.hip_types.specs.declared.number.Scalar.{Scalar}
 use Rattle.hip_ir.specs.declared.instr.Arg.{Arg}
 use Rattle.hip_ir.specs.declared.program.Function.{Function}
 use Rattle.hip_ir.specs.declared.program.Program.{Program}
-use Rattle.hip_names.specs.NumberLaws.{number_of-there}
+use Rattle.hip_names.specs.Laws.NumberLaws.{number_of-there}
 use Rattle.hip_externs.specs.Externs.{call_of}
 use Rattle.hip_typing.specs.Given.{CallsFunction}
 use Rattle.hip_typing.specs.Laws.Decided.{all-at}

@@ -12,14 +12,14 @@ use Rattle.hip_ir.specs.declared.block.Edge.{Edge}
 use Rattle.hip_ir.specs.declared.block.Phi.{Phi}
 use Rattle.hip_ir.specs.declared.program.Function.{Function}
 use Rattle.hip_ir.specs.declared.program.Program.{Program}
-use Rattle.hip_names.specs.NameLaws.{among-right}
+use Rattle.hip_names.specs.Laws.NameLaws.{among-right}
 use Rattle.hip_names.specs.Names.{AllDiffer, IsAmong}
-use Rattle.hip_names.specs.NumberLaws.{number_of-first, number_of-known, number_of-there}
+use Rattle.hip_names.specs.Laws.NumberLaws.{number_of-first, number_of-known, number_of-there}
 use Rattle.hip_typing.specs.Laws.Decided.{all-at}
 use Rattle.hip_typing.specs.Paths.{label_at, names_of}
 use Rattle.hip_typing.specs.Registers.{end_labels, parameter_registers}
 use Rattle.hip_typing.specs.Sound.{IsSound, Precedes, EdgesAgree, PhiItem, edges_agree, label_names, label_number, names_in_block, names_in_function}
-use Rattle.hip_names.specs.DifferLaws.{differ_second}
+use Rattle.hip_names.specs.Laws.DifferLaws.{differ_second}
 
 -- ---- what is spelled
 

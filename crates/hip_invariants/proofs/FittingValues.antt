@@ -37,7 +37,7 @@ use Rattle.hip_externs.specs.declared.call.ExternCall.TheVariants as calls
 use Rattle.hip_runs.specs.declared.input.Input.{Input}
 use Rattle.hip_runs.specs.Actions.{truth, cast_value, edge_value, returned}
 use Rattle.hip_runs.specs.Operands.{look_up, value_of, values_of, bound, width_of}
-use Rattle.hip_runs.specs.Parts.{In}
+use Rattle.hip_runs.specs.StoredParts.Parts.{In}
 use Rattle.hip_runs.specs.State.{Registers, World}
 use Rattle.hip_runs.specs.Step.{run}
 use Rattle.hip_runs.specs.Validity.{IsValid}

@@ -3,7 +3,7 @@ use Rattle.std.proofs.Common.{◌≡◌, ℕ, zero, suc, ◌+◌, ◌≤◌, ◌
 use Rattle.std.specs.Prelude.{if◌then◌else◌}
 use Rattle.std.proofs.lemmas.Option.{same_Some}
 use Rattle.hip_types.specs.Layout.{shape}
-use Rattle.hip_types.specs.LayoutLaws.{next-le}
+use Rattle.hip_types.specs.Laws.LayoutLaws.{next-le}
 use Rattle.hip_ir.specs.declared.program.GlobalVar.{GlobalVar}
 use Rattle.hip_globals.specs.Addresses.{same, global_align, global_start, end_of, start_of, is_persistent}
 

@@ -7,7 +7,7 @@ use Rattle.hip_ir.specs.declared.block.End.{End}
 use Rattle.hip_ir.specs.declared.program.Function.{Function}
 use Rattle.hip_ir.specs.declared.program.Program.{Program}
 use Rattle.hip_mem.specs.Bytes.{little_endian}
-use Rattle.hip_names.specs.NameLaws.{among-sound, among-whole}
+use Rattle.hip_names.specs.Laws.NameLaws.{among-sound, among-whole}
 use Rattle.hip_names.specs.Names.{IsAmong, is_among, AllDiffer}
 use Rattle.hip_typing.specs.Laws.Decided.{all-at}
 use Rattle.hip_typing.specs.Laws.GivenLaws.{sound-phis}
@@ -22,7 +22,7 @@ use Rattle.hip_runs.specs.declared.event.Event.TheVariants as events
 use Rattle.hip_runs.specs.declared.event.TrapKind.TheVariants as traps
 use Rattle.hip_runs.specs.declared.input.Input.{Input}
 use Rattle.hip_runs.specs.Actions.{Action, Traps, Assigns, Allocates, Stores, Flushes, Persists, Fences, Asserts, Prints, Reads, Calls, Jumps, Returns, in_region}
-use Rattle.hip_runs.specs.Persistence.{flushes_lines}
+use Rattle.hip_runs.specs.StoredParts.Persistence.{flushes_lines}
 use Rattle.hip_runs.specs.Places.{blocks_in, block_at, body_of, end_of, label_of, body_at, code_at, end_at}
 use Rattle.hip_runs.specs.State.{Frame, State}
 use Rattle.hip_runs.specs.Step.{first_line, lines_size, event_of, is_cut, event_at, deed_at, event_on_frames, event_on_ending, event, run}

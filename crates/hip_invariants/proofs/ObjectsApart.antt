@@ -11,7 +11,7 @@ use Rattle.hip_globals.specs.Addresses.{IsBase, start_of, is_persistent, address
 use Rattle.hip_typing.specs.Sound.{IsSound}
 use Rattle.hip_runs.specs.declared.event.Object.TheVariants as objects
 use Rattle.hip_runs.specs.declared.input.Input.{Input}
-use Rattle.hip_runs.specs.Objects.{contains, global_from, slot_in, or_else, slot_at}
+use Rattle.hip_runs.specs.Found.Objects.{contains, global_from, slot_in, or_else, slot_at}
 use Rattle.hip_runs.specs.State.{Slot, Frame}
 use Rattle.hip_runs.specs.Step.{run}
 use Rattle.hip_runs.specs.Validity.{IsValid}

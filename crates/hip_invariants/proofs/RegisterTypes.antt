@@ -10,13 +10,13 @@ use Rattle.hip_ir.specs.declared.block.Phi.{Phi}
 use Rattle.hip_ir.specs.declared.instr.Instr.{Instr}
 use Rattle.hip_ir.specs.declared.program.Function.{Function}
 use Rattle.hip_ir.specs.declared.program.Param.{Param}
-use Rattle.hip_names.specs.NameLaws.{among-left, among-right, among-either}
+use Rattle.hip_names.specs.Laws.NameLaws.{among-left, among-right, among-either}
 use Rattle.hip_names.specs.Names.{AllDiffer, IsAmong}
 use Rattle.hip_typing.specs.Paths.{names_of}
 use Rattle.hip_typing.specs.Registers.{Register, find_register, registers_of, assigned_by, phi_registers, body_registers, block_registers, parameter_registers}
 use Rattle.hip_typing.specs.Sound.{names_in_block, names_in_function, register_names}
-use Rattle.hip_runs.specs.Parts.{In}
-use Rattle.hip_names.specs.DifferLaws.{differ_append, differ_first, differ_second, differ_apart}
+use Rattle.hip_runs.specs.StoredParts.Parts.{In}
+use Rattle.hip_names.specs.Laws.DifferLaws.{differ_append, differ_first, differ_second, differ_apart}
 use Rattle.hip_invariants.proofs.RegisterNames.{names_append}
 
 among_blocks : (bs : List Block) (q : List ℕ) → IsAmong (names_of (flat_map block_registers bs)) q → IsAmong (flat_map names_in_block bs) q

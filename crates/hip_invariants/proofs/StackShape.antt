@@ -1,7 +1,7 @@
 -- The stack's shape: the blocks and the marks of frames lie in order below the mark; at most 16,384 frames stand; each but the
 -- bottom one has the call that made it.
 use Rattle.std.proofs.Common.{◌≡◌, ℕ, zero, suc, ◌+◌, ◌≤◌, ◌<◌, Bool, true, false, cond, List, [], ◌∷◌, length, Option, Some, None, refl, sym, ap, ◌∙◌, subst, arith}
-use Rattle.hip_types.specs.LayoutLaws.{next-le}
+use Rattle.hip_types.specs.Laws.LayoutLaws.{next-le}
 use Rattle.hip_ir.specs.declared.block.End.{End}
 use Rattle.hip_ir.specs.declared.block.End.TheVariants as ends
 use Rattle.hip_ir.specs.declared.instr.Instr.{Instr}
@@ -16,8 +16,13 @@ use Rattle.hip_runs.specs.Actions.{Action, Traps, Assigns, Allocates, Stores, Fl
 use Rattle.hip_runs.specs.Places.{code_at, end_at}
 use Rattle.hip_runs.specs.State.{Registers, Slot, StorePart, Frame, World, Counts, State, levels_of}
 use Rattle.hip_runs.specs.Step.{stop, with_turn, next, with_register, with_slot, leave, perform, is_cut, carry_out, deed_at, on_frames, on_ending, step, event_at, counted, run}
+use Rattle.hip_runs.specs.Laws.StepLaws.{has_frame, standing-frame}
 use Rattle.hip_invariants.specs.Laws.InstrActions.{leaves_registers, instr_cases, of_instr_action}
 use Rattle.hip_invariants.specs.StackShape.{lie_between, lie_in_order, have_calls, HasShape, StackIsShaped}
+
+-- the shape after a step
+record KeepsShape (s : State) : Type 0 where
+  is : HasShape s.world.mark s.frames
 
 -- ---- actions
 
@@ -97,7 +102,7 @@ module _ (P : Program) (I : Input) where
   changed : (mark : ℕ) (f h : Frame) (fs : List Frame) → lie_in_order mark (h ∷ fs) → h.level ≡ f.level → HasShape mark (f ∷ fs) → HasShape mark (h ∷ fs)
   changed mark f h fs o e s = record { in_order = o; within = s.within; few = s.few; calls = same_level f h fs e s.calls }
 
-  leave_shaped : (v : ℕ) (w : World) (f : Frame) (fs : List Frame) (ls : List (Line StorePart)) (after : Counts) → HasShape w.mark (f ∷ fs) → StackIsShaped (leave v w f fs ls after)
+  leave_shaped : (v : ℕ) (w : World) (f : Frame) (fs : List Frame) (ls : List (Line StorePart)) (after : Counts) → HasShape w.mark (f ∷ fs) → KeepsShape (leave v w f fs ls after)
   unfolding leave
   leave_shaped v w f [] ls after s = record { is = s }
   leave_shaped v w f (g ∷ fs) ls after s = record {
@@ -109,7 +114,7 @@ module _ (P : Program) (I : Input) where
     };
   }
 
-  perform_shaped : (w : World) (f : Frame) (fs : List Frame) (ls : List (Line StorePart)) (before after : Counts) → HasShape w.mark (f ∷ fs) → (x : Action) → allowed w.mark (length fs) x → StackIsShaped (perform I w f fs ls before after x)
+  perform_shaped : (w : World) (f : Frame) (fs : List Frame) (ls : List (Line StorePart)) (before after : Counts) → HasShape w.mark (f ∷ fs) → (x : Action) → allowed w.mark (length fs) x → KeepsShape (perform I w f fs ls before after x)
   unfolding perform
   perform_shaped w f fs ls before after s (Traps kind) p = record { is = s }
   perform_shaped w f fs ls before after s (Assigns dest v) p = record { is = changed w.mark f _ fs s.in_order refl s }
@@ -139,37 +144,46 @@ module _ (P : Program) (I : Input) where
   perform_shaped w f fs ls before after s (Jumps b registers) p = record { is = changed w.mark f _ fs s.in_order refl s }
   perform_shaped w f fs ls before after s (Returns v) p = leave_shaped v w f fs ls after s
 
-  carry_out_shaped : (w : World) (f : Frame) (fs : List Frame) (ls : List (Line StorePart)) (before after : Counts) → HasShape w.mark (f ∷ fs) → (d : Deed) → Allowed w.mark (length fs) d.action → StackIsShaped (carry_out I w f fs ls before after d)
+  carry_out_shaped : (w : World) (f : Frame) (fs : List Frame) (ls : List (Line StorePart)) (before after : Counts) → HasShape w.mark (f ∷ fs) → (d : Deed) → Allowed w.mark (length fs) d.action → KeepsShape (carry_out I w f fs ls before after d)
   unfolding carry_out
   carry_out_shaped w f fs ls before after s d p = go (is_cut I w d)
     where
-      taken : (t : Bool) → StackIsShaped (perform I (cond t (with_turn w) w) f fs ls before after d.action)
+      taken : (t : Bool) → KeepsShape (perform I (cond t (with_turn w) w) f fs ls before after d.action)
       taken true = perform_shaped (with_turn w) f fs ls before after s d.action p.is
       taken false = perform_shaped w f fs ls before after s d.action p.is
 
-      go : (b : Bool) → StackIsShaped (cond b (stop Cut w (f ∷ fs) ls after) (perform I (cond d.turn (with_turn w) w) f fs ls before after d.action))
+      go : (b : Bool) → KeepsShape (cond b (stop Cut w (f ∷ fs) ls after) (perform I (cond d.turn (with_turn w) w) f fs ls before after d.action))
       go true = record { is = s }
       go false = taken d.turn
 
-  step_shaped : (s : State) → StackIsShaped s → StackIsShaped (step P I s)
+  step_shaped : (s : State) → KeepsShape s → KeepsShape (step P I s)
   unfolding step on_ending on_frames
   step_shaped s h = go s.world.ending
     where
-      on_them : (fs : List Frame) → HasShape s.world.mark fs → StackIsShaped (on_frames P I s.world s.lines s.counts fs)
+      on_them : (fs : List Frame) → HasShape s.world.mark fs → KeepsShape (on_frames P I s.world s.lines s.counts fs)
       on_them [] q = record { is = q }
       on_them (f ∷ fs) q = carry_out_shaped s.world f fs s.lines s.counts (counted (event_at I s.world fs (deed_at P I s.world f fs)) s.counts) q (deed_at P I s.world f fs) (deed_allowed s.world (length fs) f (code_at P f))
 
-      go : (o : Option Ending) → StackIsShaped (on_ending P I s o)
+      go : (o : Option Ending) → KeepsShape (on_ending P I s o)
       go (Some e) = h
       go None = on_them s.frames h.is
 
-  -- in each state of a run
-  pub stack_is_shaped : (n : ℕ) → StackIsShaped (run P I n)
+  run_shaped : (n : ℕ) → KeepsShape (run P I n)
   unfolding run
-  stack_is_shaped zero = record { is = record { in_order = (omega arith, omega arith); within = omega arith; few = omega arith; calls = refl } }
-  stack_is_shaped (suc n) = step_shaped (run P I n) (stack_is_shaped n)
+  run_shaped zero = record { is = record { in_order = (omega arith, omega arith); within = omega arith; few = omega arith; calls = refl } }
+  run_shaped (suc n) = step_shaped (run P I n) (run_shaped n)
 
 -- one level fewer than frames
-pub levels_fewer : (f : Frame) (fs : List Frame) → have_calls (f ∷ fs) → length (levels_of (f ∷ fs)) ≡ length fs
+levels_fewer : (f : Frame) (fs : List Frame) → have_calls (f ∷ fs) → length (levels_of (f ∷ fs)) ≡ length fs
 levels_fewer f [] l = rw l refl
 levels_fewer f (g ∷ fs) l = rw l.0.1 (ap suc (levels_fewer g fs l.1))
+
+levels_counted : (fs : List Frame) → has_frame fs ≡ true → have_calls fs → suc (length (levels_of fs)) ≡ length fs
+levels_counted [] h l = cc
+levels_counted (f ∷ fs) h l = ap suc (levels_fewer f fs l)
+
+-- in each state of a run
+pub stack_is_shaped : (P : Program) (I : Input) (n : ℕ) → StackIsShaped (run P I n)
+stack_is_shaped P I n =
+    let shape = (run_shaped P I n).is in
+    record { is = shape; levels = levels_counted (run P I n).frames (standing-frame P I n) shape.calls }

@@ -6,7 +6,7 @@ use Rattle.hip_ir.specs.declared.program.GlobalVar.{GlobalVar}
 use Rattle.hip_ir.specs.declared.program.Program.{Program}
 use Rattle.hip_globals.specs.Addresses.{address}
 use Rattle.hip_runs.specs.declared.event.Object.TheVariants as objects
-use Rattle.hip_runs.specs.Objects.{contains, object_at}
+use Rattle.hip_runs.specs.Found.Objects.{contains, object_at}
 use Rattle.hip_runs.specs.State.{Slot, Frame}
 
 -- the blocks of all frames, the newest first

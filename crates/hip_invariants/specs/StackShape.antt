@@ -1,7 +1,7 @@
 -- The shape of the stack: its blocks and marks lie in order.
-use Rattle.std.specs.Prelude.{◌≡◌, ℕ, ◌+◌, ◌≤◌, List, [], ◌∷◌, length, Some, None}
+use Rattle.std.specs.Prelude.{◌≡◌, ℕ, suc, ◌+◌, ◌≤◌, List, [], ◌∷◌, length, Some, None}
 use Rattle.hip_mem.specs.Memory.{stack_start, stack_end}
-use Rattle.hip_runs.specs.State.{Slot, Level, Frame, State}
+use Rattle.hip_runs.specs.State.{Slot, Level, Frame, State, levels_of}
 
 -- Blocks, the newest first, lie in order between two addresses.
 abbrev pub lie_between : ℕ → ℕ → List Slot → Type 0
@@ -27,6 +27,7 @@ pub record HasShape (mark : ℕ) (fs : List Frame) : Type 0 where
   pub few : length fs ≤ 16384
   pub calls : have_calls fs
 
--- The stack of a state has this shape.
+-- The stack of a state has this shape, and one call fewer than frames.
 pub record StackIsShaped (s : State) : Type 0 where
   pub is : HasShape s.world.mark s.frames
+  pub levels : suc (length (levels_of s.frames)) ≡ length s.frames

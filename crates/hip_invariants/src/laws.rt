@@ -45,7 +45,7 @@ pub fn levels_bound_registers()
 {}
 
 /// The blocks and the marks of the frames lie in order below the stack's mark, at most 16,384 frames stand, and each but the
-/// bottom one has the call that made it.
+/// bottom one has the call that made it, so that there is one call fewer than frames.
 pub fn stack_keeps_its_shape()
     ensures { (P : Program) → (I : Input) → (n : ℕ) → StackIsShaped (run P I n) }
 {}

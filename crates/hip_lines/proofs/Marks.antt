@@ -3,7 +3,7 @@ use Rattle.std.proofs.Common.{◌≡◌, ◌⊎◌, inl, inr, ℕ, zero, suc, �
 use Rattle.std.proofs.lemmas.Bool.Decides.{nat_tests}
 use Rattle.hip_lines.specs.declared.part.Part.{Part}
 use Rattle.hip_lines.specs.Loose.{later, last_over}
-use Rattle.hip_lines.specs.LooseLaws.{last_over-append, get-below, last_over-finds, Finds}
+use Rattle.hip_lines.specs.Laws.LooseLaws.{last_over-append, get-below, last_over-finds, Finds}
 use Rattle.hip_lines.specs.Parts.{part_covers, mark_of, loose_in, loose_by}
 
 pub zero_index : (n i : ℕ) → slice_index (replicate n 0) i ≡ 0

@@ -8,7 +8,4 @@ pub mod Kept
 pub mod Views
 pub mod Next
 pub mod Rest
-pub mod LineLaws
-pub mod LooseLaws
-pub mod ImageLaws
-pub mod PendingLaws
+pub mod Laws

@@ -10,8 +10,8 @@ ghost use Rattle.hip_lines.specs.Pending.{pending_with, pending_flushed, pending
 ghost use Rattle.hip_lines.specs.Parts.{part_in};
 ghost use Rattle.hip_lines.specs.Kept.{pending_at, HasRoomAt, HasRoomFor, AreNumbered, AreBelow, ListsFlushed, ChangesLine, FlushesLines, ChangesSome};
 
-use crate::part::Part;
 use crate::LINE_SIZE;
+use crate::part::Part;
 use crate::queue::Queue;
 use hip_types::NoMemory;
 use std::alloc::Global;

@@ -3,9 +3,9 @@ ghost use Rattle.std.specs.Iterator.{YieldsFirst, item_count};
 ghost use Rattle.hip_lines.specs.Kept.{AreNumbered, AreBelow};
 ghost use Rattle.hip_lines.specs.Next.{loose_of};
 
+use crate::LINE_SIZE;
 use crate::kept::queue_from;
 use crate::part::LooseByte;
-use crate::LINE_SIZE;
 use crate::queue::Queue;
 use std::collections::BTreeMap;
 use std::marker::Model;

@@ -1,7 +1,7 @@
 -- Writes part by part.
 use Rattle.std.proofs.Common.{◌≡◌, ◌⊎◌, inl, inr, ℕ, zero, suc, ◌+◌, ◌-◌, ◌<◌, ◌≤◌, true, false, cond, List, [], ◌∷◌, ◌++◌, length, take, drop, slice_index, slice_range, refl, sym, ap, ◌∙◌, arith, length-append}
 use Rattle.hip_mem.specs.Memory.{write_covers, byte_written}
-use Rattle.hip_mem.specs.AreasLaws.{covered_or_not, not_written, index-append_left, index-append_right}
+use Rattle.hip_mem.specs.Laws.AreasLaws.{covered_or_not, not_written, index-append_left, index-append_right}
 use Rattle.hip_mem.specs.Pages.{Pages, page_byte}
 
 -- a byte that a write covers

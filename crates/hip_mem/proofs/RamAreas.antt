@@ -3,7 +3,7 @@ use Rattle.std.proofs.Common.{◌≡◌, ◌⊎◌, inl, inr, ℕ, zero, suc, �
 use Rattle.hip_mem.specs.Memory.{Write, byte_written, volatile_start, stack_start, is_in}
 use Rattle.hip_mem.specs.Bytes.{zeros}
 use Rattle.hip_mem.specs.Areas.{IsLaidOut, mark_of, byte_in, bytes_in, area_written}
-use Rattle.hip_mem.specs.AreasLaws.{in_or_not, FitsOne}
+use Rattle.hip_mem.specs.Laws.AreasLaws.{in_or_not, FitsOne}
 use Rattle.hip_mem.specs.declared.ram.Ram.TheInside.{Inside}
 use Rattle.hip_mem.specs.Pages.{Pages, page_byte, page_bytes}
 use Rattle.hip_mem.specs.Rams.{area, areas_of, IsRam}

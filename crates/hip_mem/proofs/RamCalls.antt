@@ -6,9 +6,9 @@ use Rattle.hip_mem.specs.declared.refusal.MemTrap.{MemTrap}
 use Rattle.hip_mem.specs.declared.refusal.MemTrap.TheVariants.{Misaligned, BadAddress}
 use Rattle.hip_mem.specs.Memory.{Write, byte_written, volatile_start, stack_start, stack_end}
 use Rattle.hip_mem.specs.Bytes.{little_endian, zeros}
-use Rattle.hip_mem.specs.BytesLaws.{little_endian-take}
+use Rattle.hip_mem.specs.Laws.BytesLaws.{little_endian-take}
 use Rattle.hip_mem.specs.Areas.{Areas, mark_of, are_valid, bytes_in, access_trap, or_trap, loaded, block_address, pushed_mark, after_write, after_push, after_pop}
-use Rattle.hip_mem.specs.AreasLaws.{FitsOne, are_valid-fits, fits-are_valid, not_written}
+use Rattle.hip_mem.specs.Laws.AreasLaws.{FitsOne, are_valid-fits, fits-are_valid, not_written}
 use Rattle.hip_mem.specs.declared.ram.Ram.TheInside.{Inside}
 use Rattle.hip_mem.specs.Pages.{Pages, page_byte, page_bytes}
 use Rattle.hip_mem.specs.Rams.{area, areas_of, IsRam}

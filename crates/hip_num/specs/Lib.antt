@@ -2,4 +2,4 @@ pub mod Arithmetic
 pub mod Casts
 pub mod Comparisons
 pub mod Texts
-pub mod TextLaws
+pub mod Laws

@@ -12,9 +12,6 @@ pub ends : (A : Type 0) (k : Tok → Bool) (r : Reader Fault A) (some : TakesSom
 ends A k r some errors.Memory front ts after total e h so_far = tt
 ends A k r some (errors.Refused why) front ts after total e h so_far = fails Fault A k r some front ts (why, after) total e h so_far
 
-pub refused_by : (A : Type 0) (k : Tok → Bool) (r : Reader Fault A) (some : TakesSome r) (why : Option Fault) (front : List A) (ts after : List At) (total : Outcome Fault (List A)) → next k ts ≡ true → r ts ≡ Err (why, after) → with_front front (many_at k r ts) ≡ total → total ≡ Err (why, after)
-refused_by A k r some why front ts after total e h so_far = fails Fault A k r some front ts (why, after) total e h so_far
-
 pub nothing_before : (A : Type 0) (o : Outcome Fault (List A)) → with_front [] o ≡ o
 nothing_before A (Ok x) = refl
 nothing_before A (Err e) = refl

@@ -105,7 +105,9 @@ impl<'a> Parser<'a> {
 
     /// The phis at the front of a block, and the register that is assigned behind them where one is.
     fn leading_phis(&mut self, alloc: Global) -> Result<(Row<Phi>, Option<Name>), ReadError>
-        ensures { Takes (λ x. x) result (leaders_at is_local assigned.read (is_word (codes "phi")) (λ dest. (phi dest).read) (left self.old)) (left self.new) }
+        ensures { Takes (λ x. x) result
+            (leaders_at is_local assigned.read (is_word (codes "phi")) (λ dest. (phi dest).read) (left self.old))
+            (left self.new) }
     {
         let mut phis = Row::new(alloc);
         'more: while self.at_local() {

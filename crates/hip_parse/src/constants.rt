@@ -108,7 +108,9 @@ impl<'a> Parser<'a> {
     /// A `getelementptr` where none may open any more.
     #[tactic(auto, unfolding(crate::specs::Left::left, hip_ir::specs::Grammar::gep_const))]
     fn shallow_gep(&mut self) -> Result<Const, Option<Fault>>
-        ensures { Gives (λ x. x) result ((gep_const (λ inbounds. token (too_deep (byte "(")))).read (left self.old)) (left self.new) }
+        ensures { Gives (λ x. x) result
+            ((gep_const (λ inbounds. token (too_deep (byte "(")))).read (left self.old))
+            (left self.new) }
     {
         self.word(b"getelementptr")?;
         let _inbounds = self.maybe_word(b"inbounds")?;
@@ -138,7 +140,9 @@ impl<'a> Parser<'a> {
     #[cycle(pointers)]
     #[tactic(auto, unfolding(hip_ir::specs::Grammar::gep_const))]
     fn gep_const(&mut self, alloc: Global, depth: u32) -> Result<Const, ReadError>
-        ensures { Takes (λ x. x) result ((gep_const (gep_inside (pointer_within depth))).read (left self.old)) (left self.new) }
+        ensures { Takes (λ x. x) result
+            ((gep_const (gep_inside (pointer_within depth))).read (left self.old))
+            (left self.new) }
     {
         self.word(b"getelementptr")?;
         let inbounds = self.maybe_word(b"inbounds")?;
@@ -148,7 +152,9 @@ impl<'a> Parser<'a> {
     #[cycle(pointers)]
     #[tactic(auto, unfolding(hip_ir::specs::Grammar::gep_inside))]
     fn gep_inside(&mut self, alloc: Global, depth: u32, inbounds: bool) -> Result<Const, ReadError>
-        ensures { Takes (λ x. x) result ((gep_inside (pointer_within depth) inbounds).read (left self.old)) (left self.new) }
+        ensures { Takes (λ x. x) result
+            ((gep_inside (pointer_within depth) inbounds).read (left self.old))
+            (left self.new) }
     {
         self.mark(b'(')?;
         let ty = self.ty(alloc, 32)?;
@@ -184,7 +190,10 @@ impl<'a> Parser<'a> {
     /// An aggregate constant where no level is left.
     #[tactic(auto, unfolding(crate::specs::Left::left, hip_ir::specs::Grammar::array_const))]
     fn shallow_array(&mut self) -> Result<Const, Option<Fault>>
-        ensures { Gives (λ x. x) result ((either (is_mark (byte "[")) (array_const (token (too_deep (byte "[")))) (token zero_const)).read (left self.old)) (left self.new) }
+        ensures { Gives (λ x. x) result
+            ((either (is_mark (byte "[")) (array_const (token (too_deep (byte "[")))) (token zero_const)).read
+            (left self.old))
+            (left self.new) }
     {
         if self.at_mark(b'[') {
             Err(Some(Fault::TooDeep))
@@ -195,7 +204,10 @@ impl<'a> Parser<'a> {
 
     #[tactic(auto, unfolding(crate::specs::Left::left, hip_ir::specs::Grammar::struct_const))]
     fn shallow_struct(&mut self) -> Result<Const, Option<Fault>>
-        ensures { Gives (λ x. x) result ((either (is_mark (byte "{")) (struct_const (token (too_deep (byte "{")))) (token zero_const)).read (left self.old)) (left self.new) }
+        ensures { Gives (λ x. x) result
+            ((either (is_mark (byte "{")) (struct_const (token (too_deep (byte "{")))) (token zero_const)).read
+            (left self.old))
+            (left self.new) }
     {
         if self.at_mark(b'{') {
             Err(Some(Fault::TooDeep))
@@ -254,10 +266,14 @@ impl<'a> Parser<'a> {
     #[cycle(constants)]
     #[tactic(auto, unfolding(hip_ir::specs::Grammar::array_const))]
     fn array_value(&mut self, alloc: Global, depth: u32) -> Result<Const, ReadError>
-        ensures { Takes (λ x. x) result ((either (is_mark (byte "[")) (array_const (const_list (byte "[") (byte "]") (const_within depth))) (token zero_const)).read (left self.old)) (left self.new) }
+        ensures { Takes (λ x. x) result
+            ((either (is_mark (byte "["))
+            (array_const (const_list (byte "[") (byte "]") (const_within depth)))
+            (token zero_const)).read (left self.old))
+            (left self.new) }
     {
         if self.at_mark(b'[') {
-            let elements = self.elements(alloc, depth)?;
+            let elements = self.items(alloc, depth, b'[', b']')?;
             Ok(Const::Array(elements))
         } else {
             let value = self.zero_const()?;
@@ -268,10 +284,14 @@ impl<'a> Parser<'a> {
     #[cycle(constants)]
     #[tactic(auto, unfolding(hip_ir::specs::Grammar::struct_const))]
     fn struct_value(&mut self, alloc: Global, depth: u32) -> Result<Const, ReadError>
-        ensures { Takes (λ x. x) result ((either (is_mark (byte "{")) (struct_const (const_list (byte "{") (byte "}") (const_within depth))) (token zero_const)).read (left self.old)) (left self.new) }
+        ensures { Takes (λ x. x) result
+            ((either (is_mark (byte "{"))
+            (struct_const (const_list (byte "{") (byte "}") (const_within depth)))
+            (token zero_const)).read (left self.old))
+            (left self.new) }
     {
         if self.at_mark(b'{') {
-            let fields = self.field_values(alloc, depth)?;
+            let fields = self.items(alloc, depth, b'{', b'}')?;
             Ok(Const::Struct(fields))
         } else {
             let value = self.zero_const()?;
@@ -279,33 +299,27 @@ impl<'a> Parser<'a> {
         }
     }
 
+    /// The constants of a list, between the marks that open and close it.
     #[cycle(constants)]
     #[tactic(auto, unfolding(hip_ir::specs::Grammar::const_list, hip_rules::specs::Part::listed, hip_rules::specs::Part::none_up_to, hip_rules::specs::Part::some_up_to))]
-    fn elements(&mut self, alloc: Global, depth: u32) -> Result<Row<TypedConst>, ReadError>
-        ensures { Takes (λ x. x) result ((const_list (byte "[") (byte "]") (const_within depth)).read (left self.old)) (left self.new) }
+    fn items(
+        &mut self,
+        alloc: Global,
+        depth: u32,
+        start: u8,
+        end: u8,
+    ) -> Result<Row<TypedConst>, ReadError>
+        ensures { Takes (λ x. x) result
+            ((const_list start end (const_within depth)).read (left self.old))
+            (left self.new) }
     {
-        self.mark(b'[')?;
-        if self.at_mark(b']') {
-            self.mark(b']')?;
+        self.mark(start)?;
+        if self.at_mark(end) {
+            self.mark(end)?;
             return Ok(Row::new(alloc));
         }
         let items = self.some_consts(alloc, depth)?;
-        self.mark(b']')?;
-        Ok(items)
-    }
-
-    #[cycle(constants)]
-    #[tactic(auto, unfolding(hip_ir::specs::Grammar::const_list, hip_rules::specs::Part::listed, hip_rules::specs::Part::none_up_to, hip_rules::specs::Part::some_up_to))]
-    fn field_values(&mut self, alloc: Global, depth: u32) -> Result<Row<TypedConst>, ReadError>
-        ensures { Takes (λ x. x) result ((const_list (byte "{") (byte "}") (const_within depth)).read (left self.old)) (left self.new) }
-    {
-        self.mark(b'{')?;
-        if self.at_mark(b'}') {
-            self.mark(b'}')?;
-            return Ok(Row::new(alloc));
-        }
-        let items = self.some_consts(alloc, depth)?;
-        self.mark(b'}')?;
+        self.mark(end)?;
         Ok(items)
     }
 
@@ -322,7 +336,9 @@ impl<'a> Parser<'a> {
     #[cycle(constants)]
     #[tactic(auto, unfolding(hip_rules::specs::Part::separated))]
     fn some_consts(&mut self, alloc: Global, depth: u32) -> Result<Row<TypedConst>, ReadError>
-        ensures { Takes (λ x. x) result ((separated comma (typed_const (const_within depth))).read (left self.old)) (left self.new) }
+        ensures { Takes (λ x. x) result
+            ((separated comma (typed_const (const_within depth))).read (left self.old))
+            (left self.new) }
     {
         let first = self.typed_const(alloc, depth)?;
         let mut items = Row::new(alloc);
@@ -333,7 +349,9 @@ impl<'a> Parser<'a> {
     #[cycle(constants)]
     #[tactic(auto, unfolding(hip_rules::specs::Part::one_more_by))]
     fn next_const(&mut self, alloc: Global, depth: u32) -> Result<TypedConst, ReadError>
-        ensures { Takes (λ x. x) result ((one_more_by comma (typed_const (const_within depth))).read (left self.old)) (left self.new) }
+        ensures { Takes (λ x. x) result
+            ((one_more_by comma (typed_const (const_within depth))).read (left self.old))
+            (left self.new) }
     {
         self.mark(b',')?;
         self.typed_const(alloc, depth)
@@ -346,7 +364,10 @@ impl<'a> Parser<'a> {
         depth: u32,
         items: Row<TypedConst>,
     ) -> Result<Row<TypedConst>, ReadError>
-        ensures { Takes (λ x. x) result (with_front items (many_at comma (one_more_by comma (typed_const (const_within depth))).read (left self.old))) (left self.new) }
+        ensures { Takes (λ x. x) result
+            (with_front items
+            (many_at comma (one_more_by comma (typed_const (const_within depth))).read (left self.old)))
+            (left self.new) }
     {
         let mut items = items;
         'more: while self.at_mark(b',') {

@@ -97,26 +97,6 @@ impl Repeated for Blocks {
 }
 
 impl<'a> Parser<'a> {
-    #[tactic(auto, unfolding(hip_rules::specs::Part::skipped))]
-    fn linkages(&mut self) -> Result<(), Option<Fault>>
-        ensures { Gives (λ x. x) result (linkages.read (left self.old)) (left self.new) }
-    {
-        'more: while self.at_keyword(Linkages) {
-            self.keyword(Linkages)?;
-        }
-        Ok(())
-    }
-
-    #[tactic(auto, unfolding(hip_rules::specs::Part::skipped))]
-    fn links(&mut self) -> Result<(), Option<Fault>>
-        ensures { Gives (λ x. x) result (links.read (left self.old)) (left self.new) }
-    {
-        'more: while self.at_keyword(Links) {
-            self.keyword(Links)?;
-        }
-        Ok(())
-    }
-
     fn skip_unnamed(&mut self) -> Result<Option<()>, Option<Fault>>
         ensures { Gives (λ x. x) result (maybe_unnamed.read (left self.old)) (left self.new) }
     {
@@ -198,7 +178,7 @@ impl<'a> Parser<'a> {
     {
         let name = self.global_name()?;
         self.mark(b'=')?;
-        self.linkages()?;
+        self.skip_keywords(Linkages)?;
         let fixed = self.keyword(Fixed)?;
         let ty = self.ty(alloc, 32)?;
         let init = self.const_value(alloc, 32, &ty)?;
@@ -253,7 +233,7 @@ impl<'a> Parser<'a> {
         ensures { Takes item_of result (function.read (left self.old)) (left self.new) }
     {
         self.word(b"define")?;
-        self.links()?;
+        self.skip_keywords(Links)?;
         let ret = self.keyword(Results)?;
         let name = self.global_name()?;
         self.mark(b'(')?;
@@ -272,7 +252,9 @@ impl<'a> Parser<'a> {
     }
 
     fn dropped(&mut self) -> Result<Item, Option<Fault>>
-        ensures { Gives item_of result ((either (is_word (codes "source_filename")) source_filename target_item).read (left self.old)) (left self.new) }
+        ensures { Gives item_of result
+            ((either (is_word (codes "source_filename")) source_filename target_item).read (left self.old))
+            (left self.new) }
     {
         if self.at_word(b"source_filename") {
             self.source_filename()

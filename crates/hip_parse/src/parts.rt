@@ -80,7 +80,9 @@ impl<'a> Parser<'a> {
         part: R,
         items: Row<R::Item>,
     ) -> Result<Row<R::Item>, ReadError>
-        ensures { Takes (λ x. x) result (with_front items (many_at (R.begins part) (R.reading part) (left self.old))) (left self.new) }
+        ensures { Takes (λ x. x) result
+            (with_front items (many_at (R.begins part) (R.reading part) (left self.old)))
+            (left self.new) }
     {
         let mut items = items;
         'more: while part.is_next(self) {
@@ -113,7 +115,9 @@ impl<'a> Parser<'a> {
         close: u8,
         part: P,
     ) -> Result<Row<P::Value>, ReadError>
-        ensures { Takes (λ x. x) result ((listed comma (is_mark close) (P.part part)).read (left self.old)) (left self.new) }
+        ensures { Takes (λ x. x) result
+            ((listed comma (is_mark close) (P.part part)).read (left self.old))
+            (left self.new) }
     {
         if self.at_mark(close) {
             self.mark(close)?;

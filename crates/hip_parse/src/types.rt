@@ -73,7 +73,9 @@ impl<'a> Parser<'a> {
     #[cycle(types)]
     #[tactic(auto, unfolding(hip_rules::specs::Part::listed, hip_rules::specs::Part::none_up_to, hip_rules::specs::Part::some_up_to))]
     fn fields(&mut self, alloc: Global, depth: u32) -> Result<Row<Ty>, ReadError>
-        ensures { Takes (λ x. x) result ((listed comma (is_mark (byte "}")) (type_within depth)).read (left self.old)) (left self.new) }
+        ensures { Takes (λ x. x) result
+            ((listed comma (is_mark (byte "}")) (type_within depth)).read (left self.old))
+            (left self.new) }
     {
         if self.at_mark(b'}') {
             self.mark(b'}')?;
@@ -111,7 +113,9 @@ impl<'a> Parser<'a> {
         depth: u32,
         items: Row<Ty>,
     ) -> Result<Row<Ty>, ReadError>
-        ensures { Takes (λ x. x) result (with_front items (many_at comma (one_more_by comma (type_within depth)).read (left self.old))) (left self.new) }
+        ensures { Takes (λ x. x) result
+            (with_front items (many_at comma (one_more_by comma (type_within depth)).read (left self.old)))
+            (left self.new) }
     {
         let mut items = items;
         'more: while self.at_mark(b',') {

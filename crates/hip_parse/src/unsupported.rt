@@ -6,13 +6,7 @@ ghost use Rattle.hip_tokens.specs.Bytes.{is_digit};
 ghost use Rattle.hip_tokens.specs.Seen.{seen};
 ghost use Rattle.hip_ir.specs.Unsupported.{is_int_name, one_of, type_words, other_type_words, constant_words, float_words, cast_words, aggregate_words, memory_words, control_words, call_words, linkage_words, flag_words, attribute_words, function_words, is_unsupported_word, is_unsupported_byte, is_unsupported};
 
-use hip_tokens::Token;
-
-fn is_digit(b: u8) -> bool
-    ensures { result ≡ is_digit b }
-{
-    b >= b'0' && b <= b'9'
-}
+use hip_tokens::{Token, is_digit};
 
 fn are_digits(t: &[u8]) -> bool
     ensures { result ≡ list_all is_digit t.now }

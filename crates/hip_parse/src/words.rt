@@ -2,7 +2,7 @@
 
 ghost use Rattle.std.specs.Prelude.{◌≡◌, ℕ, List, Option, codes};
 ghost use Rattle.hip_rules.specs.Reader.{next};
-ghost use Rattle.hip_rules.specs.Part.{token};
+ghost use Rattle.hip_rules.specs.Part.{token, skipped};
 ghost use Rattle.hip_ir.specs.Words.{a_word_of, is_word_of, width_word, scalar_word, ret_word, type_word, binary_word, pred_word, int_cast_word, flag_word, link_word, unnamed_word, linkage_word, target_word, fixed_word};
 ghost use Rattle.hip_parse.specs.Left.{left, Gives};
 
@@ -51,6 +51,19 @@ impl<'a> Parser<'a> {
             Some((Token::Word(t), _)) => words.meaning(t).is_some(),
             _ => false,
         }
+    }
+
+    /// Takes all words with a meaning that stand here. Nothing of them is kept.
+    #[tactic(auto, unfolding(hip_rules::specs::Part::skipped))]
+    pub(crate) fn skip_keywords<W: Words>(&mut self, words: W) -> Result<(), Option<Fault>>
+        ensures { Gives (λ x. x) result
+            ((skipped (is_word_of (W.meaning words)) (token (a_word_of (W.meaning words)))).read (left self.old))
+            (left self.new) }
+    {
+        'more: while self.at_keyword(words) {
+            self.keyword(words)?;
+        }
+        Ok(())
     }
 }
 

@@ -3,8 +3,8 @@ use Rattle.hip_mem.specs.Bytes.{zeros}
 use Rattle.hip_lines.specs.Line.{fresh_lines}
 use Rattle.hip_runs.specs.Actions.{accessed, allocated, entered, flushing, instr_action, jump, end_action}
 use Rattle.hip_runs.specs.Step.{leave, perform, carry_out, on_frames, on_ending, step, event, run}
-use Rattle.hip_runs.specs.Reports.{reports}
-use Rattle.hip_runs.specs.Marks.{pointed, hit}
+use Rattle.hip_runs.specs.Found.Reports.{reports}
+use Rattle.hip_runs.specs.Found.Marks.{pointed, hit}
 
 unfoldable pub run_opened : Unit {0}
 unfolding zeros fresh_lines accessed allocated entered flushing instr_action jump end_action leave perform carry_out on_frames on_ending step event run reports pointed hit

@@ -75,10 +75,11 @@ is_within from to a n = nat_le from a && nat_le (a + n) to
 abbrev pub in_region : Input → ℕ → ℕ → Bool
 in_region I a n = is_within I.base (I.base + length I.image) a n
 
--- Whether the n bytes from address a on are all valid: the bytes of the volatile globals, those of the stack below the mark,
--- and those of the region are, and none of these areas touches another. (This project's own.)
+-- Whether the n bytes from address a on are all valid: the bytes of the volatile globals, those of the stack below the
+-- mark, and those of the region are, and none of these areas touches another. (This project's own.)
 abbrev pub are_valid : Program → Input → World → ℕ → ℕ → Bool
-are_valid P I w a n = is_within volatile_start (volatile_end P) a n || (is_within stack_start w.mark a n || in_region I a n)
+are_valid P I w a n =
+    is_within volatile_start (volatile_end P) a n || (is_within stack_start w.mark a n || in_region I a n)
 
 -- the memory in a run
 abbrev pub memory_of : Program → Input → World → Memory
@@ -86,7 +87,8 @@ memory_of P I w = record { base = I.base; volatile = volatile_bytes P I.base; re
 
 -- An access of n bytes is refused by its alignment first, and then by its bytes.
 unfoldable pub accessed : Program → Input → World → ℕ → ℕ → ℕ → Action → Action
-accessed P I w a n align go = cond (nat_eq (a % align) 0) (cond (are_valid P I w a n) go (Traps traps.Address)) (Traps traps.Misaligned)
+accessed P I w a n align go =
+    cond (nat_eq (a % align) 0) (cond (are_valid P I w a n) go (Traps traps.Address)) (Traps traps.Misaligned)
 
 -- ---- values
 
@@ -104,7 +106,8 @@ abbrev pub truth : Bool → ℕ
 truth true = 1
 truth false = 0
 
--- `zext` and `inttoptr` put zeros in front, `trunc` and `ptrtoint` take the number modulo 2^N, `sext` puts the sign in front.
+-- `zext` and `inttoptr` put zeros in front, `trunc` and `ptrtoint` take the number modulo 2^N, `sext` puts the sign in
+-- front.
 abbrev pub cast_value : CastOp → Scalar → Scalar → ℕ → ℕ
 cast_value casts.Sext from to v = (widened (bits (width_of from) v) (width_of to) true).value
 cast_value casts.Zext from to v = v % modulus (width_of to)
@@ -128,7 +131,8 @@ read_value s bytes = little_endian bytes % modulus (width_of s)
 -- A block lies at the next multiple of its alignment from the mark on, if it ends within the stack.
 unfoldable pub allocated : World → List ℕ → ℕ → ℕ → Action
 allocated w dest size align =
-    cond (nat_le (next_multiple_of w.mark align + size) stack_end) (Allocates dest (next_multiple_of w.mark align) size) (Traps traps.Stack)
+    cond (nat_le (next_multiple_of w.mark align + size) stack_end) (Allocates dest (next_multiple_of w.mark align) size)
+    (Traps traps.Stack)
 
 -- ---- calls
 
@@ -140,10 +144,11 @@ abbrev pub numbered_call : Program → Option ℕ → List ℕ → Option (List 
 numbered_call P None values dest = Traps traps.Unreachable
 numbered_call P (Some g) values dest = bound_call (slice_get P.functions g) g values dest
 
--- A call of a defined function makes a frame, where fewer than 16,384 stand. A name that no function has traps, which never
--- comes in a sound program.
+-- A call of a defined function makes a frame, where fewer than 16,384 stand. A name that no function has traps, which
+-- never comes in a sound program.
 unfoldable pub entered : Program → ℕ → List ℕ → List ℕ → Option (List ℕ) → Action
-entered P below callee values dest = cond (nat_lt below (MOST_FRAMES - 1)) (numbered_call P (function_number P callee) values dest) (Traps traps.Depth)
+entered P below callee values dest =
+    cond (nat_lt below (MOST_FRAMES - 1)) (numbered_call P (function_number P callee) values dest) (Traps traps.Depth)
 
 abbrev pub arg_value : List ℕ → ℕ → ℕ
 arg_value values k = unwrap_or (slice_get values k) 0
@@ -156,20 +161,24 @@ abbrev pub read_next : Option (List ℕ) → List ℤ → Action
 read_next dest [] = Traps traps.InputEnd
 read_next dest (z ∷ rest) = Reads dest z rest
 
--- What an external function does. The cache line instructions act on the line that has the address (Intel's manual); the
--- `pmem_` functions on the lines that have a byte of the range (libpmem); the others are this project's own.
+-- What an external function does. The cache line instructions act on the line that has the address (Intel's manual);
+-- the `pmem_` functions on the lines that have a byte of the range (libpmem); the others are this project's own.
 abbrev pub extern_action : Program → Input → World → ExternCall → List ℕ → Option (List ℕ) → Action
 extern_action P I w calls.ReadI64 values dest = read_next dest w.left
 extern_action P I w calls.PrintI64 values dest = Prints (signed W64 (arg_value values 0))
 extern_action P I w calls.PmAssert values dest =
-    cond (in_region I (arg_value values 0) (arg_value values 1)) (Asserts (arg_value values 0) (arg_value values 1)) (Traps traps.Address)
+    cond (in_region I (arg_value values 0) (arg_value values 1)) (Asserts (arg_value values 0) (arg_value values 1))
+    (Traps traps.Address)
 extern_action P I w calls.Clwb values dest = flushing P I w (arg_value values 0) 1 (Flushes (arg_value values 0) 1)
-extern_action P I w calls.Clflushopt values dest = flushing P I w (arg_value values 0) 1 (Flushes (arg_value values 0) 1)
+extern_action P I w calls.Clflushopt values dest =
+    flushing P I w (arg_value values 0) 1 (Flushes (arg_value values 0) 1)
 extern_action P I w calls.Clflush values dest = flushing P I w (arg_value values 0) 1 (Flushes (arg_value values 0) 1)
 extern_action P I w calls.Sfence values dest = Fences
 extern_action P I w calls.Mfence values dest = Fences
-extern_action P I w calls.PmemFlush values dest = flushing P I w (arg_value values 0) (arg_value values 1) (Flushes (arg_value values 0) (arg_value values 1))
-extern_action P I w calls.PmemPersist values dest = flushing P I w (arg_value values 0) (arg_value values 1) (Persists (arg_value values 0) (arg_value values 1))
+extern_action P I w calls.PmemFlush values dest =
+    flushing P I w (arg_value values 0) (arg_value values 1) (Flushes (arg_value values 0) (arg_value values 1))
+extern_action P I w calls.PmemPersist values dest =
+    flushing P I w (arg_value values 0) (arg_value values 1) (Persists (arg_value values 0) (arg_value values 1))
 extern_action P I w calls.PmemDrain values dest = Fences
 
 -- a call of an external function, or else of a defined one
@@ -183,39 +192,50 @@ call_action P I w below None callee values dest = entered P below callee values 
 -- (LLVM's language reference, with traps in place of undefined behaviour.)
 unfoldable pub instr_action : Program → Input → World → ℕ → Registers → Instr → Action
 instr_action P I w below rs (Binary dest op flags width a b) =
-    calculated dest (binary_of op (bits width (value_of P.globals I.base rs a)) (bits width (value_of P.globals I.base rs b)))
+    calculated dest (binary_of op (bits width (value_of P.globals I.base rs a))
+    (bits width (value_of P.globals I.base rs b)))
 instr_action P I w below rs (Compare dest pred ty a b) =
-    Assigns (Some dest) (truth (holds pred (width_of ty) (bits (width_of ty) (value_of P.globals I.base rs a)).value (bits (width_of ty) (value_of P.globals I.base rs b)).value))
+    Assigns (Some dest)
+    (truth (holds pred (width_of ty) (bits (width_of ty) (value_of P.globals I.base rs a)).value
+    (bits (width_of ty) (value_of P.globals I.base rs b)).value))
 instr_action P I w below rs (Select dest test ty a b) =
-    Assigns (Some dest) (cond (nat_eq (value_of P.globals I.base rs test) 1) (value_of P.globals I.base rs a) (value_of P.globals I.base rs b))
-instr_action P I w below rs (Cast dest op from a to) = Assigns (Some dest) (cast_value op from to (value_of P.globals I.base rs a))
+    Assigns (Some dest) (cond (nat_eq (value_of P.globals I.base rs test) 1) (value_of P.globals I.base rs a)
+    (value_of P.globals I.base rs b))
+instr_action P I w below rs (Cast dest op from a to) =
+    Assigns (Some dest) (cast_value op from to (value_of P.globals I.base rs a))
 instr_action P I w below rs (Alloca dest ty align) = allocated w dest (shape ty).size (shape ty).align
 instr_action P I w below rs (Load dest ty addr align) =
     accessed P I w (value_of P.globals I.base rs addr) (scalar_size ty) (access_align ty align)
-    (Assigns (Some dest) (read_value ty (bytes_at (memory_of P I w) (value_of P.globals I.base rs addr) (scalar_size ty))))
+    (Assigns (Some dest) (read_value ty
+    (bytes_at (memory_of P I w) (value_of P.globals I.base rs addr) (scalar_size ty))))
 instr_action P I w below rs (Store ty value addr align) =
     accessed P I w (value_of P.globals I.base rs addr) (scalar_size ty) (access_align ty align)
     (Stores (value_of P.globals I.base rs addr) (bytes_of (scalar_size ty) (value_of P.globals I.base rs value)))
 instr_action P I w below rs (Gep dest inbounds ty base indices) =
-    Assigns (Some dest) (element_address (value_of P.globals I.base rs base) ty (index_values P.globals I.base rs indices))
-instr_action P I w below rs (Call dest ret callee args) = call_action P I w below (call_of callee) callee (values_of P.globals I.base rs args) dest
+    Assigns (Some dest) (element_address (value_of P.globals I.base rs base) ty
+    (index_values P.globals I.base rs indices))
+instr_action P I w below rs (Call dest ret callee args) =
+    call_action P I w below (call_of callee) callee (values_of P.globals I.base rs args) dest
 
 -- ---- ends of blocks
 
 -- the operand that a phi has for control that comes from the block with a label
 abbrev pub edge_value : List GlobalVar → ℕ → Registers → List Edge → List ℕ → ℕ
 edge_value globals base rs [] from = 0
-edge_value globals base rs (e ∷ es) from = cond (bytes_eq e.label from) (value_of globals base rs e.value) (edge_value globals base rs es from)
+edge_value globals base rs (e ∷ es) from =
+    cond (bytes_eq e.label from) (value_of globals base rs e.value) (edge_value globals base rs es from)
 
 -- Phis take their values together, each from the registers at the edge.
 abbrev pub after_phis : List GlobalVar → ℕ → Registers → List ℕ → List Phi → Registers
 after_phis globals base rs from [] = rs
-after_phis globals base rs from (p ∷ ps) = (p.dest, edge_value globals base rs p.edges from) ∷ after_phis globals base rs from ps
+after_phis globals base rs from (p ∷ ps) =
+    (p.dest, edge_value globals base rs p.edges from) ∷ after_phis globals base rs from ps
 
 abbrev pub jump_to : Program → Input → Frame → Option ℕ → Action
 jump_to P I f None = Traps traps.Unreachable
 jump_to P I f (Some b) =
-    Jumps b (after_phis P.globals I.base f.registers (label_of (block_at P f.function f.block)) (phis_of (block_at P f.function b)))
+    Jumps b (after_phis P.globals I.base f.registers (label_of (block_at P f.function f.block))
+    (phis_of (block_at P f.function b)))
 
 -- Control goes to the block with the label. A label that no block has traps, which never comes in a sound program.
 unfoldable pub jump : Program → Input → Frame → List ℕ → Action
@@ -234,8 +254,10 @@ returned globals base rs (Some arg) = value_of globals base rs arg.value
 unfoldable pub end_action : Program → Input → Frame → Option End → Action
 end_action P I f None = Traps traps.Unreachable
 end_action P I f (Some (ends.Br label)) = jump P I f label
-end_action P I f (Some (ends.CondBr test first second)) = jump P I f (cond (nat_eq (value_of P.globals I.base f.registers test) 1) first second)
-end_action P I f (Some (ends.Switch width value other cases)) = jump P I f (case_label (value_of P.globals I.base f.registers value) cases other)
+end_action P I f (Some (ends.CondBr test first second)) =
+    jump P I f (cond (nat_eq (value_of P.globals I.base f.registers test) 1) first second)
+end_action P I f (Some (ends.Switch width value other cases)) =
+    jump P I f (case_label (value_of P.globals I.base f.registers value) cases other)
 end_action P I f (Some (ends.Ret arg)) = Returns (returned P.globals I.base f.registers arg)
 end_action P I f (Some ends.Unreachable) = Traps traps.Unreachable
 

@@ -5,6 +5,7 @@ use Rattle.hip_lines.specs.Image.{byte_after, IsImage, IsPick, image_of}
 use Rattle.hip_lines.specs.Line.{Line}
 use Rattle.hip_runs.specs.declared.input.Input.{Input}
 use Rattle.hip_runs.specs.State.{StorePart, State}
+use Rattle.hip_lines.specs.declared.TheConstants.{LINE_SIZE}
 
 -- whether a part covers the byte at an offset of the region, and the value that it gives it
 abbrev pub covers : StorePart → ℕ → Bool
@@ -32,7 +33,7 @@ abbrev pub is_line_after : List ℕ → List ℕ → ℕ → Line StorePart → 
 is_line_after first content j l q =
     list_all
     (λ b. nat_eq (slice_index content b) (byte_after covers byte_of (take q l.parts) b (slice_index first b)))
-    (range_with_len (64 * j) 64)
+    (range_with_len (LINE_SIZE * j) LINE_SIZE)
 
 -- whether it is so for some number of parts, all durable ones among them
 abbrev pub is_line_image : List ℕ → List ℕ → ℕ → Line StorePart → Bool

@@ -9,7 +9,7 @@ use Rattle.hip_mem.specs.Areas.{Areas, Holds, IsLaidOut, mark_of}
 use Rattle.hip_mem.specs.Memory.{Write}
 use Rattle.hip_globals.specs.Initial.{volatile_bytes}
 use Rattle.hip_runs.specs.declared.input.Input.{Input}
-use Rattle.hip_runs.specs.Shown.{shown}
+use Rattle.hip_runs.specs.StoredParts.Shown.{shown}
 use Rattle.hip_runs.specs.State.{StorePart}
 use Rattle.hip_runs.specs.Step.{run}
 

@@ -20,9 +20,9 @@ pub record Slot : Type 0 where
 abbrev pub Registers : Type 0
 Registers = List (List ℕ × ℕ)
 
--- A frame: its function, its basic block, and its place there, which is the number of the next instruction in the block's
--- body, or that of its end; its registers; the stack mark at its call; its blocks on the stack, the newest first; the register
--- that its result goes into; and the call that made it, which the bottom frame has not.
+-- A frame: its function, its basic block, and its place there, which is the number of the next instruction in the
+-- block's body, or that of its end; its registers; the stack mark at its call; its blocks on the stack, the newest
+-- first; the register that its result goes into; and the call that made it, which the bottom frame has not.
 pub record Frame : Type 0 where
   pub function : ℕ
   pub block : ℕ
@@ -38,9 +38,9 @@ pub record Flush : Type 0 where
   pub step : ℕ
   pub site : Site
 
--- The part of a store in a cache line: where it begins in the region, its bytes; the number of its store's step and of its
--- entry in the trace; the site of its store and the calls that the frame stood in, from the innermost one outward; the first
--- flush of its line after it; and whether a fence came after it.
+-- The part of a store in a cache line: where it begins in the region, its bytes; the number of its store's step and of
+-- its entry in the trace; the site of its store and the calls that the frame stood in, from the innermost one outward;
+-- the first flush of its line after it; and whether a fence came after it.
 pub record StorePart : Type 0 where
   pub offset : ℕ
   pub bytes : List ℕ
@@ -51,7 +51,8 @@ pub record StorePart : Type 0 where
   pub first_flush : Option Flush
   pub fenced : Bool
 
--- what was printed, all writes in order, the turns taken, the input numbers left, the stack's mark, and how the run ended
+-- what was printed, all writes in order, the turns taken, the input numbers left, the stack's mark, and how the run
+-- ended
 pub record World : Type 0 where
   pub output : List ℕ
   pub writes : List Write

@@ -16,7 +16,7 @@ use Rattle.hip_runs.specs.State.{Frame, StorePart, World, Counts, State, levels_
 use Rattle.hip_runs.specs.Operands.{assigned}
 use Rattle.hip_runs.specs.Places.{code_at, end_at}
 use Rattle.hip_runs.specs.Actions.{Action, Traps, Assigns, Allocates, Stores, Flushes, Persists, Fences, Asserts, Prints, Reads, Calls, Jumps, Returns, Deed, in_region, deed_of}
-use Rattle.hip_runs.specs.Persistence.{stored_lines, flushes_lines, flushed_lines, fenced_lines}
+use Rattle.hip_runs.specs.StoredParts.Persistence.{stored_lines, flushes_lines, flushed_lines, fenced_lines}
 use Rattle.hip_runs.specs.declared.event.Event.TheVariants as events
 use Rattle.hip_lines.specs.declared.TheConstants.{LINE_SIZE}
 
@@ -25,7 +25,7 @@ state w fs ls counts = record { world = w; frames = fs; lines = ls; counts = cou
 
 -- ---- events
 
--- the first cache line of a range in the region, and 64 times how many lines have a byte of it
+-- the first cache line of a range in the region, and the bytes of the lines that have a byte of it
 abbrev pub first_line : Input → ℕ → ℕ
 first_line I a = I.base + LINE_SIZE * ((a - I.base) / LINE_SIZE)
 
@@ -36,13 +36,15 @@ abbrev pub is_bottom : List Frame → Bool
 is_bottom [] = true
 is_bottom (f ∷ fs) = false
 
--- What an action shows from outside. Stores, flushes and asserts of other bytes than the region's show nothing, and a persist
--- that flushes no line is a fence.
+-- What an action shows from outside. Stores, flushes and asserts of other bytes than the region's show nothing, and a
+-- persist that flushes no line is a fence.
 abbrev pub event_of : Input → List Frame → Action → Event
 event_of I fs (Traps kind) = events.End (Trap kind)
-event_of I fs (Stores a bytes) = cond (in_region I a (length bytes)) (events.Store a (little_endian bytes) (length bytes)) events.Quiet
+event_of I fs (Stores a bytes) =
+    cond (in_region I a (length bytes)) (events.Store a (little_endian bytes) (length bytes)) events.Quiet
 event_of I fs (Flushes a n) = cond (flushes_lines I a n) (events.Flush (first_line I a) (lines_size I a n)) events.Quiet
-event_of I fs (Persists a n) = cond (flushes_lines I a n) (events.Persist (first_line I a) (lines_size I a n)) events.Fence
+event_of I fs (Persists a n) =
+    cond (flushes_lines I a n) (events.Persist (first_line I a) (lines_size I a n)) events.Fence
 event_of I fs Fences = events.Fence
 event_of I fs (Asserts a n) = events.Assert a n
 event_of I fs (Prints z) = events.Print z
@@ -76,7 +78,8 @@ with_register dest value f = record f { registers = assigned dest value f.regist
 
 -- a new block on the stack; all bytes from the old mark to the new one become zeros
 abbrev pub with_block : ℕ → ℕ → World → World
-with_block a n w = record w { writes = w.writes ++ record { addr = w.mark; bytes = zeros ((a + n) - w.mark) } ∷ []; mark = a + n }
+with_block a n w =
+    record w { writes = w.writes ++ record { addr = w.mark; bytes = zeros ((a + n) - w.mark) } ∷ []; mark = a + n }
 
 abbrev pub with_slot : ℕ → ℕ → Frame → Frame
 with_slot a n f = record f { slots = record { addr = a; size = n; site = site_of f } ∷ f.slots }
@@ -91,26 +94,44 @@ with_output z w = record w { output = w.output ++ (signed_decimal z ++ codes "\n
 abbrev pub with_left : List ℤ → World → World
 with_left rest w = record w { left = rest }
 
--- The return of a value: the frame goes, and the stack's mark is what it was at the call. The run ends with the bottom frame.
+-- The return of a value: the frame goes, and the stack's mark is what it was at the call. The run ends with the bottom
+-- frame.
 unfoldable pub leave : ℕ → World → Frame → List Frame → List (Line StorePart) → Counts → State
 leave v w f [] ls after = stop (Stop (signed W32 (bits W32 v).value)) w (f ∷ []) ls after
 leave v w f (g ∷ fs) ls after = state (record w { mark = f.mark }) (with_register f.dest v g ∷ fs) ls after
 
--- What an action does to a state; a trap changes nothing but the ending. The counts are those before the step and after it.
+-- What an action does to a state; a trap changes nothing but the ending. The counts are those before the step and after
+-- it.
 unfoldable pub perform : Input → World → Frame → List Frame → List (Line StorePart) → Counts → Counts → Action → State
 perform I w f fs ls before after (Traps kind) = stop (Trap kind) w (f ∷ fs) ls after
 perform I w f fs ls before after (Assigns dest v) = state w (with_register dest v (next f) ∷ fs) ls after
-perform I w f fs ls before after (Allocates dest a n) = state (with_block a n w) (with_register (Some dest) a (next (with_slot a n f)) ∷ fs) ls after
-perform I w f fs ls before after (Stores a bytes) = state (with_bytes a bytes w) (next f ∷ fs) (stored_lines I before (site_of f) (levels_of (f ∷ fs)) a bytes ls) after
-perform I w f fs ls before after (Flushes a n) = state w (next f ∷ fs) (flushed_lines I (record { step = before.steps; site = site_of f }) a n ls) after
-perform I w f fs ls before after (Persists a n) = state w (next f ∷ fs) (fenced_lines (flushed_lines I (record { step = before.steps; site = site_of f }) a n ls)) after
+perform I w f fs ls before after (Allocates dest a n) =
+    state (with_block a n w) (with_register (Some dest) a (next (with_slot a n f)) ∷ fs) ls after
+perform I w f fs ls before after (Stores a bytes) =
+    state (with_bytes a bytes w) (next f ∷ fs) (stored_lines I before (site_of f) (levels_of (f ∷ fs)) a bytes ls) after
+perform I w f fs ls before after (Flushes a n) =
+    state w (next f ∷ fs) (flushed_lines I (record { step = before.steps; site = site_of f }) a n ls) after
+perform I w f fs ls before after (Persists a n) =
+    state w (next f ∷ fs) (fenced_lines (flushed_lines I (record { step = before.steps; site = site_of f }) a n ls))
+    after
 perform I w f fs ls before after Fences = state w (next f ∷ fs) (fenced_lines ls) after
 perform I w f fs ls before after (Asserts a n) = state w (next f ∷ fs) ls after
 perform I w f fs ls before after (Prints z) = state (with_output z w) (next f ∷ fs) ls after
-perform I w f fs ls before after (Reads dest z rest) = state (with_left rest w) (with_register dest (wrapped W64 z) (next f) ∷ fs) ls after
+perform I w f fs ls before after (Reads dest z rest) =
+    state (with_left rest w) (with_register dest (wrapped W64 z) (next f) ∷ fs) ls after
 perform I w f fs ls before after (Calls g registers dest) =
-    state w (record { function = g; block = 0; place = 0; registers = registers; mark = w.mark; slots = []; dest = dest; level = Some (record { call = site_of f; birth = before.steps }) } ∷ next f ∷ fs) ls after
-perform I w f fs ls before after (Jumps b registers) = state w (record f { block = b; place = 0; registers = registers } ∷ fs) ls after
+    state w (record {
+      function = g;
+      block = 0;
+      place = 0;
+      registers = registers;
+      mark = w.mark;
+      slots = [];
+      dest = dest;
+      level = Some (record { call = site_of f; birth = before.steps });
+    } ∷ next f ∷ fs) ls after
+perform I w f fs ls before after (Jumps b registers) =
+    state w (record f { block = b; place = 0; registers = registers } ∷ fs) ls after
 perform I w f fs ls before after (Returns v) = leave v w f fs ls after
 
 -- ---- steps
@@ -123,7 +144,9 @@ abbrev pub event_at : Input → World → List Frame → Deed → Event
 event_at I w fs d = cond (is_cut I w d) (events.End Cut) (event_of I fs d.action)
 
 unfoldable pub carry_out : Input → World → Frame → List Frame → List (Line StorePart) → Counts → Counts → Deed → State
-carry_out I w f fs ls before after d = cond (is_cut I w d) (stop Cut w (f ∷ fs) ls after) (perform I (cond d.turn (with_turn w) w) f fs ls before after d.action)
+carry_out I w f fs ls before after d =
+    cond (is_cut I w d) (stop Cut w (f ∷ fs) ls after)
+    (perform I (cond d.turn (with_turn w) w) f fs ls before after d.action)
 
 -- what the top frame does next
 abbrev pub deed_at : Program → Input → World → Frame → List Frame → Deed
@@ -131,7 +154,8 @@ deed_at P I w f fs = deed_of P I w (length fs) f (end_at P f) (code_at P f)
 
 unfoldable pub on_frames : Program → Input → World → List (Line StorePart) → Counts → List Frame → State
 on_frames P I w ls counts [] = state w [] ls counts
-on_frames P I w ls counts (f ∷ fs) = carry_out I w f fs ls counts (counted (event_at I w fs (deed_at P I w f fs)) counts) (deed_at P I w f fs)
+on_frames P I w ls counts (f ∷ fs) =
+    carry_out I w f fs ls counts (counted (event_at I w fs (deed_at P I w f fs)) counts) (deed_at P I w f fs)
 
 -- a run that has ended stays as it is
 unfoldable pub on_ending : Program → Input → State → Option Ending → State
@@ -173,8 +197,8 @@ abbrev pub image_lines : ℕ → List ℕ → ℕ
 image_lines zero bytes = 0
 image_lines (suc n) bytes = cond (some_byte (take LINE_SIZE bytes)) 1 0 + image_lines n (drop LINE_SIZE bytes)
 
--- how many entries stand before a run's first step: START, REGISTER, an INPUT for each number, and an IMAGE for each cache line
--- of the initial region that has a byte other than 0
+-- how many entries stand before a run's first step: START, REGISTER, an INPUT for each number, and an IMAGE for each
+-- cache line of the initial region that has a byte other than 0
 abbrev pub header_entries : Input → ℕ
 header_entries I = 2 + length I.numbers + image_lines (length I.image / LINE_SIZE) I.image
 
@@ -182,11 +206,23 @@ abbrev pub start_world : Input → World
 start_world I = record { output = []; writes = []; turns = 0; left = I.numbers; mark = stack_start; ending = None }
 
 abbrev pub start_frame : ℕ → Frame
-start_frame main = record { function = main; block = 0; place = 0; registers = []; mark = stack_start; slots = []; dest = None; level = None }
+start_frame main =
+    record {
+      function = main;
+      block = 0;
+      place = 0;
+      registers = [];
+      mark = stack_start;
+      slots = [];
+      dest = None;
+      level = None;
+    }
 
 -- `main` stands at its first instruction
 abbrev pub start : Program → Input → State
-start P I = state (start_world I) (start_frame (main_number P) ∷ []) (fresh_lines (length I.image / LINE_SIZE)) (record { steps = 0; entries = header_entries I })
+start P I =
+    state (start_world I) (start_frame (main_number P) ∷ []) (fresh_lines (length I.image / LINE_SIZE))
+    (record { steps = 0; entries = header_entries I })
 
 -- the state after n steps
 unfoldable pub run : Program → Input → ℕ → State

@@ -2,11 +2,11 @@
 
 ghost use Rattle.hip_ir.specs.declared.program.Program.{Program};
 ghost use Rattle.hip_ir.specs.declared.site.Site.{Site};
-ghost use Rattle.hip_runs.specs.Marks.{IsFound, hit, pointed, same_mark};
-ghost use Rattle.hip_runs.specs.Parts.{In};
-ghost use Rattle.hip_runs.specs.Reports.{reports};
-ghost use Rattle.hip_runs.specs.Scores.{worth, worth_at, worths};
-ghost use Rattle.hip_runs.specs.WellFormed.{IsWellFormed};
+ghost use Rattle.hip_runs.specs.Found.Marks.{IsFound, hit, pointed, same_mark};
+ghost use Rattle.hip_runs.specs.StoredParts.Parts.{In};
+ghost use Rattle.hip_runs.specs.Found.Reports.{reports};
+ghost use Rattle.hip_runs.specs.Found.Scores.{worth, worth_at, worths};
+ghost use Rattle.hip_runs.specs.Found.WellFormed.{IsWellFormed};
 ghost use Rattle.hip_runs.specs.declared.input.Input.{Input};
 ghost use Rattle.hip_runs.specs.declared.report.Findings.{Findings};
 ghost use Rattle.hip_runs.specs.declared.report.Mark.{Mark};

@@ -1,9 +1,10 @@
 //! Laws of runs: what the cache lines tell of the steps before, and which contents a crash may leave.
 
 ghost use Rattle.hip_ir.specs.declared.program.Program.{Program};
+ghost use Rattle.hip_lines.specs.declared.TheConstants.{LINE_SIZE};
 ghost use Rattle.hip_runs.specs.Crash.{IsCrashImage, IsCrashPick, crash_image};
-ghost use Rattle.hip_runs.specs.Parts.{PartOf};
-ghost use Rattle.hip_runs.specs.Since.{stores, fences, FencedSince, IsFirstFlush, IsFlushedThenFenced, IsOfStore, IsPartAt, IsDurableAt};
+ghost use Rattle.hip_runs.specs.StoredParts.Parts.{PartOf};
+ghost use Rattle.hip_runs.specs.StoredParts.Since.{stores, fences, FencedSince, IsFirstFlush, IsFlushedThenFenced, IsOfStore, IsPartAt, IsDurableAt};
 ghost use Rattle.hip_runs.specs.State.{Flush, StorePart};
 ghost use Rattle.hip_runs.specs.Step.{event, run};
 ghost use Rattle.hip_runs.specs.Validity.{IsValid};
@@ -61,7 +62,7 @@ pub fn fences_are_told()
 /// one first flush at most.
 pub fn first_flushes_are_told()
     ensures told { (P : Program) → (I : Input) → (n : ℕ) → (part : StorePart) → PartOf (run P I n).lines part →
-        IsFirstFlush P I (part.offset / 64) part.step n part.first_flush }
+        IsFirstFlush P I (part.offset / LINE_SIZE) part.step n part.first_flush }
     ensures one { (P : Program) → (I : Input) → (line from n : ℕ) → (first other : Option Flush) →
         IsFirstFlush P I line from n first → IsFirstFlush P I line from n other → first ≡ other }
 {}

@@ -3,7 +3,7 @@
 ghost use Rattle.std.specs.Prelude.{ℕ};
 ghost use Rattle.hip_ir.specs.declared.program.Program.{Program};
 ghost use Rattle.hip_runs.specs.Ends.{Ends};
-ghost use Rattle.hip_runs.specs.History.{HasHistory};
+ghost use Rattle.hip_runs.specs.StoredParts.History.{HasHistory};
 ghost use Rattle.hip_runs.specs.Step.{run};
 ghost use Rattle.hip_runs.specs.declared.input.Input.{Input};
 

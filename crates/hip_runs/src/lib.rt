@@ -28,6 +28,7 @@ pub use images::{
 };
 pub use input::{Input, InputFault};
 pub use laws::{parts_carry_their_history, runs_end};
+pub use limits::{MOST_FRAMES, MOST_NUMBERS, MOST_TURNS};
 pub use loose::{
     loose_bytes_tell_loose_parts, loose_parts_are_last_over_loose_bytes, reports_follow_the_tags,
     steps_of_nothing_may_be_left_out, tags_are_steps,
@@ -36,6 +37,5 @@ pub use order::{
     a_step_moves_the_top, calls_were_made_in_order, events_tell_the_next_lines,
     lines_keep_their_order, states_name_what_stands_there, the_last_fence_tells,
 };
-pub use limits::{MOST_FRAMES, MOST_NUMBERS, MOST_TURNS};
 pub use report::{Findings, Kind, Mark, Marks, Report};
 pub use standing::{shown_lines_follow_the_run, valid_bytes_are_those_of_the_run};

@@ -3,11 +3,11 @@
 ghost use Rattle.hip_ir.specs.declared.program.Program.{Program};
 ghost use Rattle.hip_lines.specs.Line.{Line};
 ghost use Rattle.hip_lines.specs.declared.part.LooseByte.{LooseByte};
-ghost use Rattle.hip_runs.specs.Parts.{In};
-ghost use Rattle.hip_runs.specs.Reports.{LoosePart, Range, loose_parts, check_reports};
+ghost use Rattle.hip_runs.specs.StoredParts.Parts.{In};
+ghost use Rattle.hip_runs.specs.Found.Reports.{LoosePart, Range, loose_parts, check_reports};
 ghost use Rattle.hip_runs.specs.State.{StorePart};
 ghost use Rattle.hip_runs.specs.Step.{run};
-ghost use Rattle.hip_runs.specs.Tags.{AreToldBy, AscendWithin, HoldsTags, IsLoosePart, IsNoneBeside, loose_bytes, reports_for};
+ghost use Rattle.hip_runs.specs.Found.Tags.{AreToldBy, AscendWithin, HoldsTags, IsLoosePart, IsNoneBeside, loose_bytes, reports_for};
 ghost use Rattle.hip_runs.specs.declared.input.Input.{Input};
 ghost use Rattle.hip_runs.specs.declared.report.Report.{Report};
 ghost use Rattle.std.specs.List.{flat_map, range_with_len};

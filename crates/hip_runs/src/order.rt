@@ -2,11 +2,11 @@
 //! they make.
 
 ghost use Rattle.hip_ir.specs.declared.program.Program.{Program};
-ghost use Rattle.hip_runs.specs.After.{lines_after};
+ghost use Rattle.hip_runs.specs.StoredParts.After.{lines_after};
 ghost use Rattle.hip_runs.specs.Frames.{Moves};
-ghost use Rattle.hip_runs.specs.Order.{HasCalls, HasOrder, is_before, last_fence};
-ghost use Rattle.hip_runs.specs.Parts.{PartOf};
-ghost use Rattle.hip_runs.specs.Since.{top_site};
+ghost use Rattle.hip_runs.specs.StoredParts.Order.{HasCalls, HasOrder, is_before, last_fence};
+ghost use Rattle.hip_runs.specs.StoredParts.Parts.{PartOf};
+ghost use Rattle.hip_runs.specs.StoredParts.Since.{top_site};
 ghost use Rattle.hip_runs.specs.Sites.{HasSites};
 ghost use Rattle.hip_runs.specs.State.{StorePart, levels_of};
 ghost use Rattle.hip_runs.specs.Step.{event, run};

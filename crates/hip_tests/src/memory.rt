@@ -43,6 +43,11 @@ enum Call {
         addr: u64,
         answer: bool,
     },
+    ValidRange {
+        addr: u64,
+        len: u64,
+        answer: bool,
+    },
 }
 
 fn assert_call(rt: &impl Abort, ram: &mut Ram, call: Call) {
@@ -83,6 +88,9 @@ fn assert_call(rt: &impl Abort, ram: &mut Ram, call: Call) {
         }
         Call::Mark { answer } => assert!(rt; ram.mark() == answer),
         Call::Valid { addr, answer } => assert!(rt; ram.valid(addr) == answer, "byte {addr}"),
+        Call::ValidRange { addr, len, answer } => {
+            assert!(rt; ram.valid_range(addr, len) == answer, "{len} from {addr}");
+        }
     }
 }
 
@@ -214,6 +222,27 @@ const TWO_PAGES: &[Call] = &[
     },
     Call::Valid {
         addr: BASE + 8191,
+        answer: true,
+    },
+    Call::ValidRange {
+        addr: BASE + 1,
+        len: 8191,
+        answer: true,
+    },
+    Call::ValidRange {
+        addr: BASE + 1,
+        len: 8192,
+        answer: false,
+    },
+    // The last bytes that there are addresses for, and beyond.
+    Call::ValidRange {
+        addr: BASE,
+        len: u64::MAX,
+        answer: false,
+    },
+    Call::ValidRange {
+        addr: u64::MAX,
+        len: 0,
         answer: true,
     },
     Call::Valid {

@@ -13,7 +13,7 @@ use Rattle.hip_names.specs.Names.{is_among}
 use Rattle.hip_typing.specs.Places.{is_predecessor, predecessors}
 use Rattle.hip_typing.specs.Registers.{end_labels}
 use Rattle.hip_typing.proofs.KnownLemmas.{or_false, among-append, add_known}
-use Rattle.hip_names.specs.NameLaws.{bytes_eq-sym}
+use Rattle.hip_names.specs.Laws.NameLaws.{bytes_eq-sym}
 
 abbrev same_name : Bor (List ℕ) → Bor (List ℕ) → Bool
 same_name x y = bytes_eq x.now y.now

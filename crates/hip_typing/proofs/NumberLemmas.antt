@@ -4,10 +4,10 @@ use Rattle.std.specs.Prelude.{if◌then◌else◌, option_map}
 use Rattle.std.specs.Str.{bytes_eq}
 use Rattle.std.proofs.lemmas.List.{at_drop_more}
 use Rattle.hip_ir.specs.declared.program.Function.{Function}
-use Rattle.hip_names.specs.NameLaws.{bytes_eq-sym}
+use Rattle.hip_names.specs.Laws.NameLaws.{bytes_eq-sym}
 use Rattle.hip_names.specs.Names.{number_of}
 use Rattle.hip_typing.specs.Numbering.{function_names}
-use Rattle.hip_names.specs.NumberLaws.{number_of-cons}
+use Rattle.hip_names.specs.Laws.NumberLaws.{number_of-cons}
 
 module _ (fs : List Function) (i : ℕ) (f : Function) (name : List ℕ) (within : i < length fs) (is : f ≡ get_or fs i f) where
   abbrev pub later : Option ℕ

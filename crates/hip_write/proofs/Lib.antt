@@ -1,2 +1,2 @@
 pub mod Consts
-pub mod Lists
+pub mod ListTexts

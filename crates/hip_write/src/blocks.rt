@@ -9,7 +9,6 @@ ghost use Rattle.hip_write.specs.Parts.{phi_line, instr_line};
 use crate::instructions::{put_instr, put_operand};
 use crate::lists::{Written, put_all, put_joined};
 use crate::text::{put_assigned, put_name};
-
 use crate::words::put_keyword;
 use hip_io::{Put, Sink, put_after};
 use hip_ir::{Arg, Block, Case, Edge, End, Instr, Operand, Phi};
@@ -62,10 +61,8 @@ fn put_cond_branch<S: Sink>(
     first: &Name,
     second: &Name,
 ) -> Put
-    ensures {
-        Writes before result (S.state out.old) (S.state out.new)
-            (end_text (End.CondBr cond.now first.now second.now))
-    }
+    ensures { Writes before result (S.state out.old) (S.state out.new)
+        (end_text (End.CondBr cond.now first.now second.now)) }
 {
     let put = put_after(before, out, b"br i1 ");
     let put = put_operand(put, out, cond);
@@ -83,10 +80,8 @@ fn put_switch<S: Sink>(
     other: &Name,
     cases: &Row<Case>,
 ) -> Put
-    ensures {
-        Writes before result (S.state out.old) (S.state out.new)
-            (end_text (End.Switch width value.now other.now cases.now))
-    }
+    ensures { Writes before result (S.state out.old) (S.state out.new)
+        (end_text (End.Switch width value.now other.now cases.now)) }
 {
     let put = put_after(before, out, b"switch ");
     let put = put_keyword(put, out, width);
@@ -163,4 +158,3 @@ impl Written for Block {
         put_end_line(put, out, &self.end)
     }
 }
-

@@ -35,10 +35,8 @@ fn put_negative<S: Sink>(before: Put, out: &mut S, magnitude: u64) -> Put
 fn put_signed<S: Sink>(before: Put, out: &mut S, n: u64, half: u64, last: u64) -> Put
     requires below { n ≤ last }
     requires half { 0 < half }
-    ensures {
-        Writes before result (S.state out.old) (S.state out.new)
-            (if nat_lt n half then decimal n else codes "-" ++ decimal (last + 1 - n))
-    }
+    ensures { Writes before result (S.state out.old) (S.state out.new)
+        (if nat_lt n half then decimal n else codes "-" ++ decimal (last + 1 - n)) }
 {
     if n < half {
         put_natural(before, out, n)

@@ -60,10 +60,8 @@ fn put_result<S: Sink>(before: Put, out: &mut S, dest: &Option<Name>) -> Put
 }
 
 fn put_operands<S: Sink>(before: Put, out: &mut S, a: &Operand, b: &Operand) -> Put
-    ensures {
-        Writes before result (S.state out.old) (S.state out.new)
-            (operand_text a.now ++ (codes ", " ++ operand_text b.now))
-    }
+    ensures { Writes before result (S.state out.old) (S.state out.new)
+        (operand_text a.now ++ (codes ", " ++ operand_text b.now)) }
 {
     let put = put_operand(before, out, a);
     let put = put_after(put, out, b", ");
@@ -80,10 +78,8 @@ fn put_binary<S: Sink>(
     a: &Operand,
     b: &Operand,
 ) -> Put
-    ensures {
-        Writes before result (S.state out.old) (S.state out.new)
-            (instr_text (Instr.Binary dest.now op flags width a.now b.now))
-    }
+    ensures { Writes before result (S.state out.old) (S.state out.new)
+        (instr_text (Instr.Binary dest.now op flags width a.now b.now)) }
 {
     let put = put_assigned(before, out, dest);
     let put = put_keyword(put, out, op);
@@ -103,10 +99,8 @@ fn put_compare<S: Sink>(
     a: &Operand,
     b: &Operand,
 ) -> Put
-    ensures {
-        Writes before result (S.state out.old) (S.state out.new)
-            (instr_text (Instr.Compare dest.now pred ty a.now b.now))
-    }
+    ensures { Writes before result (S.state out.old) (S.state out.new)
+        (instr_text (Instr.Compare dest.now pred ty a.now b.now)) }
 {
     let put = put_assigned(before, out, dest);
     let put = put_after(put, out, b"icmp ");
@@ -126,10 +120,8 @@ fn put_select<S: Sink>(
     a: &Operand,
     b: &Operand,
 ) -> Put
-    ensures {
-        Writes before result (S.state out.old) (S.state out.new)
-            (instr_text (Instr.Select dest.now cond.now ty a.now b.now))
-    }
+    ensures { Writes before result (S.state out.old) (S.state out.new)
+        (instr_text (Instr.Select dest.now cond.now ty a.now b.now)) }
 {
     let put = put_assigned(before, out, dest);
     let put = put_after(put, out, b"select i1 ");
@@ -153,10 +145,8 @@ fn put_cast<S: Sink>(
     a: &Operand,
     to: Scalar,
 ) -> Put
-    ensures {
-        Writes before result (S.state out.old) (S.state out.new)
-            (instr_text (Instr.Cast dest.now op from a.now to))
-    }
+    ensures { Writes before result (S.state out.old) (S.state out.new)
+        (instr_text (Instr.Cast dest.now op from a.now to)) }
 {
     let put = put_assigned(before, out, dest);
     let put = put_keyword(put, out, op);
@@ -169,10 +159,8 @@ fn put_cast<S: Sink>(
 }
 
 fn put_alloca<S: Sink>(before: Put, out: &mut S, dest: &Name, ty: &Ty, align: Option<u64>) -> Put
-    ensures {
-        Writes before result (S.state out.old) (S.state out.new)
-            (instr_text (Instr.Alloca dest.now ty.now align))
-    }
+    ensures { Writes before result (S.state out.old) (S.state out.new)
+        (instr_text (Instr.Alloca dest.now ty.now align)) }
 {
     let put = put_assigned(before, out, dest);
     let put = put_after(put, out, b"alloca ");
@@ -188,10 +176,8 @@ fn put_load<S: Sink>(
     addr: &Operand,
     align: Option<u64>,
 ) -> Put
-    ensures {
-        Writes before result (S.state out.old) (S.state out.new)
-            (instr_text (Instr.Load dest.now ty addr.now align))
-    }
+    ensures { Writes before result (S.state out.old) (S.state out.new)
+        (instr_text (Instr.Load dest.now ty addr.now align)) }
 {
     let put = put_assigned(before, out, dest);
     let put = put_after(put, out, b"load ");
@@ -209,10 +195,8 @@ fn put_store<S: Sink>(
     addr: &Operand,
     align: Option<u64>,
 ) -> Put
-    ensures {
-        Writes before result (S.state out.old) (S.state out.new)
-            (instr_text (Instr.Store ty value.now addr.now align))
-    }
+    ensures { Writes before result (S.state out.old) (S.state out.new)
+        (instr_text (Instr.Store ty value.now addr.now align)) }
 {
     let put = put_after(before, out, b"store ");
     let put = put_keyword(put, out, ty);
@@ -232,10 +216,8 @@ fn put_gep<S: Sink>(
     base: &Operand,
     indices: &Row<Arg>,
 ) -> Put
-    ensures {
-        Writes before result (S.state out.old) (S.state out.new)
-            (instr_text (Instr.Gep dest.now inbounds ty.now base.now indices.now))
-    }
+    ensures { Writes before result (S.state out.old) (S.state out.new)
+        (instr_text (Instr.Gep dest.now inbounds ty.now base.now indices.now)) }
 {
     let put = put_assigned(before, out, dest);
     let put = put_after(put, out, b"getelementptr ");
@@ -254,10 +236,8 @@ fn put_call<S: Sink>(
     callee: &Name,
     args: &Row<Arg>,
 ) -> Put
-    ensures {
-        Writes before result (S.state out.old) (S.state out.new)
-            (instr_text (Instr.Call dest.now ret callee.now args.now))
-    }
+    ensures { Writes before result (S.state out.old) (S.state out.new)
+        (instr_text (Instr.Call dest.now ret callee.now args.now)) }
 {
     let put = put_result(before, out, dest);
     let put = put_after(put, out, b"call ");

@@ -32,10 +32,8 @@ pub fn put_type<S: Sink>(before: Put, out: &mut S, ty: &Ty) -> Put
 
 #[cycle(kind)]
 fn put_array<S: Sink>(before: Put, out: &mut S, count: u64, item: &Ty) -> Put
-    ensures {
-        Writes before result (S.state out.old) (S.state out.new)
-            (codes "[" ++ (decimal count ++ (codes " x " ++ (type_text item.now ++ codes "]"))))
-    }
+    ensures { Writes before result (S.state out.old) (S.state out.new)
+        (codes "[" ++ (decimal count ++ (codes " x " ++ (type_text item.now ++ codes "]")))) }
 {
     let put = put_after(before, out, b"[");
     let put = put_natural(put, out, count);

@@ -5,7 +5,7 @@ use Rattle.std.proofs.Common.{refl, sym, ap, ◌∙◌, subst, arith, get_or-set
 use Rattle.std.proofs.lemmas.Option.{same_Some, slice_get_within}
 use Rattle.std.proofs.lemmas.Slice.Eq.{bytes_eq-Decides}
 use Rattle.hip_names.specs.Names.{number_of}
-use Rattle.hip_names.specs.NumberLaws.{number_of-there}
+use Rattle.hip_names.specs.Laws.NumberLaws.{number_of-there}
 use Rattle.hip_runs.specs.Operands.{look_up, assigned}
 use Rattle.hip_runs.specs.State.{Registers}
 use Rattle.hip_code.specs.Frames.{is_assigned, HoldsFrame}

@@ -2,7 +2,7 @@
 use Rattle.std.proofs.Common.{◌≡◌, true, ℕ, [], ◌∷◌, List, ◌++◌, ◌+◌, Some, None, codes, refl, ap, ◌∙◌}
 use Rattle.std.specs.Int.{next_multiple_of}
 use Rattle.hip_types.specs.Layout.{Shape}
-use Rattle.hip_types.specs.LayoutLaws.{shape-Int}
+use Rattle.hip_types.specs.Laws.LayoutLaws.{shape-Int}
 use Rattle.hip_types.specs.Numbers.{bits}
 use Rattle.hip_types.specs.declared.number.Width.TheVariants.{W64}
 use Rattle.hip_types.specs.declared.ty.Ty.TheVariants as types
@@ -13,8 +13,8 @@ use Rattle.hip_globals.specs.Values.{aligned, constant_bytes, global_address, si
 use Rattle.hip_runs.specs.declared.event.Object.TheVariants.{Global}
 use Rattle.hip_runs.specs.declared.report.Mark.{Mark}
 use Rattle.hip_runs.specs.Actions.{Deed, Assigns, Asserts, Calls, Returns, Stores}
-use Rattle.hip_runs.specs.Marks.{pointed, hit}
-use Rattle.hip_runs.specs.Reports.{reports}
+use Rattle.hip_runs.specs.Found.Marks.{pointed, hit}
+use Rattle.hip_runs.specs.Found.Reports.{reports}
 use Rattle.hip_runs.specs.Step.{start, run, has_ended}
 use Rattle.hip_runs.proofs.Opened.{run_opened}
 use Rattle.hip_fix.specs.examples.Words.{site, zeroed, IsHoisted}

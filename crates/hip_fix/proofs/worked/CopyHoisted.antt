@@ -1,11 +1,11 @@
 -- The run of a program that copies, and its repair by a clone.
 use Rattle.std.proofs.Common.{◌≡◌, true, [], ◌∷◌, List, Some, None, codes, refl, ap}
-use Rattle.hip_types.specs.LayoutLaws.{shape-Int}
+use Rattle.hip_types.specs.Laws.LayoutLaws.{shape-Int}
 use Rattle.hip_runs.specs.declared.event.Object.TheVariants.{Global, Slot}
 use Rattle.hip_runs.specs.declared.report.Mark.{Mark}
 use Rattle.hip_runs.specs.Actions.{Deed, Allocates, Assigns, Calls, Returns, Stores}
-use Rattle.hip_runs.specs.Marks.{pointed, hit}
-use Rattle.hip_runs.specs.Reports.{reports}
+use Rattle.hip_runs.specs.Found.Marks.{pointed, hit}
+use Rattle.hip_runs.specs.Found.Reports.{reports}
 use Rattle.hip_runs.specs.Step.{start, run, has_ended}
 use Rattle.hip_runs.proofs.Opened.{run_opened}
 use Rattle.hip_fix.specs.examples.Words.{site, zeroed, IsHoisted}

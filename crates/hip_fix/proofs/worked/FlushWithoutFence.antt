@@ -1,8 +1,8 @@
 -- The run of a store with a flush and no fence behind it, and its repair.
 use Rattle.std.proofs.Common.{◌≡◌, true, false, [], ◌∷◌, List, refl, ap}
-use Rattle.hip_types.specs.LayoutLaws.{shape-Int}
+use Rattle.hip_types.specs.Laws.LayoutLaws.{shape-Int}
 use Rattle.hip_runs.specs.Actions.{Deed, Flushes, Returns, Stores}
-use Rattle.hip_runs.specs.Reports.{reports}
+use Rattle.hip_runs.specs.Found.Reports.{reports}
 use Rattle.hip_runs.specs.Step.{start, run, has_ended}
 use Rattle.hip_runs.proofs.Opened.{run_opened}
 use Rattle.hip_fix.specs.examples.Words.{zeroed, IsWorked}

@@ -12,7 +12,7 @@ use Rattle.hip_runs.specs.declared.event.Event.{Event}
 use Rattle.hip_runs.specs.declared.input.Input.{Input}
 use Rattle.hip_runs.specs.declared.report.Mark.{Mark}
 use Rattle.hip_runs.specs.Actions.{Deed}
-use Rattle.hip_runs.specs.Marks.{same_mark, frame_marks, unless_ended, event_hits, pointed, hit}
+use Rattle.hip_runs.specs.Found.Marks.{same_mark, frame_marks, unless_ended, event_hits, pointed, hit}
 use Rattle.hip_runs.specs.State.{State}
 use Rattle.hip_runs.specs.Step.{event, run, start}
 use Rattle.hip_fix.proofs.worked.Runs.{next_deed, done, shown, Follows, steps, run_next, event_shown}

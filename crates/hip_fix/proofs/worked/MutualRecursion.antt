@@ -1,12 +1,12 @@
 -- The run of two functions that call one another, and its repair by two clones.
 use Rattle.std.proofs.Common.{◌≡◌, true, [], ◌∷◌, List, Some, None, codes, refl, ap, ◌∙◌, false}
-use Rattle.hip_types.specs.LayoutLaws.{shape-Int}
+use Rattle.hip_types.specs.Laws.LayoutLaws.{shape-Int}
 use Rattle.hip_runs.specs.declared.event.Object.TheVariants.{Global, Slot}
 use Rattle.hip_runs.specs.declared.report.Mark.{Mark}
 use Rattle.hip_runs.specs.Actions.{Deed, Allocates, Assigns, Calls, Jumps, Returns, Stores}
 use Rattle.hip_runs.specs.declared.report.Findings.{Findings}
-use Rattle.hip_runs.specs.Marks.{pointed, hit, findings}
-use Rattle.hip_runs.specs.Reports.{reports}
+use Rattle.hip_runs.specs.Found.Marks.{pointed, hit, findings}
+use Rattle.hip_runs.specs.Found.Reports.{reports}
 use Rattle.hip_runs.specs.Step.{start, run, has_ended}
 use Rattle.hip_runs.proofs.Opened.{run_opened}
 use Rattle.hip_fix.specs.Choice.{plan_for}

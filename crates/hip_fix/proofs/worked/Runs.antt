@@ -17,7 +17,7 @@ use Rattle.hip_runs.specs.declared.event.Event.TheVariants as events
 use Rattle.hip_runs.specs.declared.input.Input.{Input}
 use Rattle.hip_runs.specs.declared.report.Report.{Report}
 use Rattle.hip_runs.specs.Actions.{Fences, Deed}
-use Rattle.hip_runs.specs.Reports.{reports, check_reports, checked_by, next_check}
+use Rattle.hip_runs.specs.Found.Reports.{reports, check_reports, checked_by, next_check}
 use Rattle.hip_runs.specs.State.{Frame, StorePart, World, Counts, State}
 use Rattle.hip_runs.specs.Step.{state, leave, perform, step, on_ending, on_frames, carry_out, counted, event, event_at, event_on_frames, event_on_ending, deed_at, run, start}
 

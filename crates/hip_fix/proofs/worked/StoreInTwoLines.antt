@@ -2,14 +2,14 @@
 use Rattle.std.proofs.Common.{◌≡◌, true, [], ◌∷◌, List, ℕ, Option, Some, codes, ◌+◌, ◌*◌, ◌%◌, ◌^◌, option_map, option_and_then, refl, ap, ◌∙◌}
 use Rattle.hip_ir.specs.declared.constant.Const.TheVariants as consts
 use Rattle.hip_ir.specs.Laws.Levels.{out-Ty-Array}
-use Rattle.hip_types.specs.LayoutLaws.{shape-Int, shape-Array}
+use Rattle.hip_types.specs.Laws.LayoutLaws.{shape-Int, shape-Array}
 use Rattle.hip_types.specs.Layout.{Shape, Part, size_of, enter, enter_level, further, part_at, gep_of}
 use Rattle.hip_types.specs.declared.number.Width.TheVariants.{W8, W64}
 use Rattle.hip_types.specs.declared.ty.Ty.TheVariants as types
 use Rattle.hip_globals.specs.Values.{const_value}
 use Rattle.hip_runs.specs.Operands.{value_of}
 use Rattle.hip_runs.specs.Actions.{Deed, Returns, Stores}
-use Rattle.hip_runs.specs.Reports.{reports}
+use Rattle.hip_runs.specs.Found.Reports.{reports}
 use Rattle.hip_runs.specs.Step.{start, run, has_ended}
 use Rattle.hip_runs.proofs.Opened.{run_opened}
 use Rattle.hip_fix.specs.examples.Words.{zeroed, IsWorked}

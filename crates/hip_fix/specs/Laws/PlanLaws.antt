@@ -1,7 +1,7 @@
 -- What plans have, and that they suit.
 use Rattle.hip_runs.specs.Laws.Members.{both_true, any_in, in_any}
 use Rattle.std.proofs.Common.{◌≡◌, ◌⊎◌, inl, inr, ℕ, zero, suc, Bool, true, false, ◌||◌, nat_eq, List, Option, Some, None, slice_get, refl, sym, ap, ◌∙◌, subst}
-use Rattle.hip_types.specs.DistinctLaws.{or_first, or_second, either}
+use Rattle.hip_types.specs.Laws.DistinctLaws.{or_first, or_second, either}
 use Rattle.hip_ir.specs.Sites.{instr_of, has_site, sites_of}
 use Rattle.hip_ir.specs.declared.program.Program.{Program}
 use Rattle.hip_ir.specs.declared.site.Site.{Site}
@@ -10,17 +10,17 @@ use Rattle.hip_runs.specs.declared.report.Findings.{Findings}
 use Rattle.hip_runs.specs.declared.report.Kind.{Kind}
 use Rattle.hip_runs.specs.declared.report.Kind.TheVariants.{MissingFlush, MissingFence, MissingBoth}
 use Rattle.hip_runs.specs.declared.report.Report.{Report}
-use Rattle.hip_runs.specs.Marks.{IsFound}
-use Rattle.hip_runs.specs.Parts.{In}
+use Rattle.hip_runs.specs.Found.Marks.{IsFound}
+use Rattle.hip_runs.specs.StoredParts.Parts.{In}
 use Rattle.hip_fix.specs.Choice.{choice, is_site, asks_flush, asks_fence, asks_hoist, wants_flush, wants_fence, wants_hoist, plan_for, Contains}
 use Rattle.hip_fix.specs.Suits.{IsSuiting}
 use Rattle.hip_fix.specs.Planned.{IsAsked, IsWithin, union, either_list}
 use Rattle.hip_fix.specs.Laws.SiteOrder.{plan_asked, filter_ascends, in_has, has_in, site_in, filtered_are, filtered_has}
 use Rattle.hip_runs.specs.Sites.{is_store, is_flush_call, is_defined_call}
-use Rattle.hip_runs.specs.Laws.ReportLaws.{reports_formed}
-use Rattle.hip_runs.specs.Laws.FoundLaws.{same_site_equal}
+use Rattle.hip_runs.specs.Laws.Found.ReportLaws.{reports_formed}
+use Rattle.hip_runs.specs.Laws.Found.FoundLaws.{same_site_equal}
 use Rattle.hip_ir.specs.declared.instr.Instr.{Instr}
-use Rattle.hip_runs.specs.WellFormed.{IsWellFormed}
+use Rattle.hip_runs.specs.Found.WellFormed.{IsWellFormed}
 use Rattle.hip_fix.specs.declared.plan.Plan.{Plan}
 
 -- ---- what a report asks for

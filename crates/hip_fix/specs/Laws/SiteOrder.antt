@@ -1,7 +1,7 @@
 -- The order of sites, and lists of sites that ascend.
 use Rattle.std.proofs.Common.{◌≡◌, ◌⊎◌, inl, inr, ℕ, suc, ◌<◌, ◌≤◌, Bool, true, false, cond, ◌&&◌, ◌||◌, nat_lt, nat_eq, List, [], ◌∷◌, ◌++◌, refl, sym, ap, ◌∙◌, subst, arith, Option, Some, zero, ◌+◌}
 use Rattle.std.specs.List.{filter}
-use Rattle.hip_types.specs.DistinctLaws.{or_first, or_second, either}
+use Rattle.hip_types.specs.Laws.DistinctLaws.{or_first, or_second, either}
 use Rattle.hip_ir.specs.Sites.{same_site, has_site, sites_of, function_sites, block_sites, body_sites, instr_of}
 use Rattle.hip_ir.specs.declared.block.Block.{Block}
 use Rattle.hip_ir.specs.declared.instr.Instr.{Instr}
@@ -9,13 +9,13 @@ use Rattle.hip_ir.specs.declared.program.Function.{Function}
 use Rattle.hip_ir.specs.declared.program.Program.{Program}
 use Rattle.hip_ir.specs.declared.site.Site.{Site}
 use Rattle.hip_runs.specs.declared.report.Findings.{Findings}
-use Rattle.hip_runs.specs.Parts.{In}
+use Rattle.hip_runs.specs.StoredParts.Parts.{In}
 use Rattle.hip_runs.specs.Laws.PartLaws.{in-append, append-left, append-right}
 use Rattle.hip_fix.specs.Choice.{wants_flush, wants_fence, wants_hoist}
 use Rattle.hip_fix.specs.Suits.{site_before, is_ascending, IsStrictOrder}
 use Rattle.hip_fix.specs.Planned.{AreSites, IsAsked}
 use Rattle.std.specs.Prelude.{None, option_and_then, slice_get}
-use Rattle.hip_runs.specs.Laws.FoundLaws.{same_site_equal, site_same}
+use Rattle.hip_runs.specs.Laws.Found.FoundLaws.{same_site_equal, site_same}
 use Rattle.hip_runs.specs.Laws.Members.{both_true, true_both, equal_true, true_equal, lt_true, true_lt}
 
 site : ℕ → ℕ → ℕ → Site

@@ -7,7 +7,7 @@ use Rattle.std.proofs.Math.Nat.{add-mul-mod_self_right, mod-add-div'}
 use Rattle.std.proofs.lemmas.Bool.{eqb-true, and_parts}
 use Rattle.hip_tokens.specs.Longest.{is_name}
 use Rattle.hip_types.specs.Layout.{align_of, size_of}
-use Rattle.hip_types.specs.LayoutLaws.{IsAlignment, align_of-alignment, times_multiple}
+use Rattle.hip_types.specs.Laws.LayoutLaws.{IsAlignment, align_of-alignment, times_multiple}
 use Rattle.hip_ir.specs.declared.program.GlobalVar.{GlobalVar}
 use Rattle.hip_ir.specs.declared.program.Program.{Program}
 use Rattle.hip_ir.specs.Reading.{IsSpelled}

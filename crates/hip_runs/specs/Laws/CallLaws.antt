@@ -8,10 +8,10 @@ use Rattle.hip_runs.specs.declared.event.Ending.TheVariants.{Cut}
 use Rattle.hip_runs.specs.declared.input.Input.{Input}
 use Rattle.hip_runs.specs.Actions.{Action, Traps, Assigns, Allocates, Stores, Flushes, Persists, Fences, Asserts, Prints, Reads, Calls, Jumps, Returns, Deed}
 use Rattle.hip_runs.specs.Frames.{IsSameCall, Moves, rests, stays, calls, returns}
-use Rattle.hip_runs.specs.History.{AreDescending}
+use Rattle.hip_runs.specs.StoredParts.History.{AreDescending}
 use Rattle.hip_runs.specs.Laws.HistoryLaws.{calls_descend}
-use Rattle.hip_runs.specs.Order.{HasCalls}
-use Rattle.hip_runs.specs.Parts.{In}
+use Rattle.hip_runs.specs.StoredParts.Order.{HasCalls}
+use Rattle.hip_runs.specs.StoredParts.Parts.{In}
 use Rattle.hip_runs.specs.Sites.{is_defined_call}
 use Rattle.hip_runs.specs.State.{Level, StorePart, Frame, World, Counts, State, level_list, levels_of, site_of}
 use Rattle.hip_runs.specs.Step.{stop, with_turn, leave, perform, is_cut, carry_out, deed_at, on_frames, on_ending, step, run}

@@ -3,16 +3,16 @@ use Rattle.std.proofs.Common.{◌≡◌, ℕ, zero, suc, ◌+◌, ◌-◌, ◌*�
 use Rattle.std.proofs.lemmas.List.{length-map}
 use Rattle.hip_ir.specs.declared.program.Program.{Program}
 use Rattle.hip_lines.specs.Image.{byte_after, IsLineImage, IsImage}
-use Rattle.hip_lines.specs.ImageLaws.{line_image-with_part, image_of-image, pick_of, pick_of-pick, image-image_of}
+use Rattle.hip_lines.specs.Laws.ImageLaws.{line_image-with_part, image_of-image, pick_of, pick_of-pick, image-image_of}
 use Rattle.hip_lines.specs.Line.{Line, IsOrdered, AreOrdered, with_part, has_bytes, stored}
-use Rattle.hip_lines.specs.LineLaws.{slice_get-change_range, ordered-at}
-use Rattle.hip_lines.specs.LooseLaws.{get-map}
+use Rattle.hip_lines.specs.Laws.LineLaws.{slice_get-change_range, ordered-at}
+use Rattle.hip_lines.specs.Laws.LooseLaws.{get-map}
 use Rattle.hip_globals.specs.Addresses.{end_of}
 use Rattle.hip_runs.specs.declared.input.Input.{Input}
 use Rattle.hip_runs.specs.Crash.{covers, byte_of, IsCrashImage, IsCrashPick, crash_image}
 use Rattle.hip_runs.specs.Laws.HistoryLaws.{lines_ordered}
-use Rattle.hip_runs.specs.Persistence.{noted_flush, noted_fence, flush_line, fence_line, fenced_lines}
-use Rattle.hip_runs.specs.Since.{stores, fences}
+use Rattle.hip_runs.specs.StoredParts.Persistence.{noted_flush, noted_fence, flush_line, fence_line, fenced_lines}
+use Rattle.hip_runs.specs.StoredParts.Since.{stores, fences}
 use Rattle.hip_runs.specs.State.{Flush, StorePart, State}
 use Rattle.hip_runs.specs.Step.{event, run}
 use Rattle.hip_runs.specs.Laws.StepLaws.{Cases, met_lines, step-cases, length-lines, ordered-met_lines}

@@ -2,12 +2,12 @@
 use Rattle.std.proofs.Common.{◌≡◌, ℕ, zero, suc, ◌+◌, ◌-◌, ◌<◌, Bool, true, false, cond, List, [], ◌∷◌, ◌++◌, length, Option, Some, None, option_map, slice_get, refl, sym, ap, ◌∙◌, subst, arith}
 use Rattle.hip_ir.specs.declared.program.Program.{Program}
 use Rattle.hip_lines.specs.Line.{Line, IsOrdered, AreOrdered, with_part, has_bytes, stored, fresh_lines}
-use Rattle.hip_lines.specs.LineLaws.{slice_get-change_range, ordered-at}
-use Rattle.hip_lines.specs.LooseLaws.{get-map, get-of_map}
+use Rattle.hip_lines.specs.Laws.LineLaws.{slice_get-change_range, ordered-at}
+use Rattle.hip_lines.specs.Laws.LooseLaws.{get-map, get-of_map}
 use Rattle.hip_runs.specs.declared.input.Input.{Input}
 use Rattle.hip_runs.specs.Laws.HistoryLaws.{has_history, lines_ordered}
-use Rattle.hip_runs.specs.Persistence.{earlier, noted_flush, noted_fence, flush_line, fence_line, fenced_lines}
-use Rattle.hip_runs.specs.Since.{IsDurableIn, IsDurableAt}
+use Rattle.hip_runs.specs.StoredParts.Persistence.{earlier, noted_flush, noted_fence, flush_line, fence_line, fenced_lines}
+use Rattle.hip_runs.specs.StoredParts.Since.{IsDurableIn, IsDurableAt}
 use Rattle.hip_runs.specs.Laws.SinceLaws.{get_mapped}
 use Rattle.hip_runs.specs.State.{Flush, StorePart, State}
 use Rattle.hip_runs.specs.Step.{run}

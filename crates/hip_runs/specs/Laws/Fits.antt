@@ -18,7 +18,7 @@ use Rattle.hip_types.specs.Numbers.{bits, signed}
 use Rattle.hip_types.specs.declared.number.Width.TheVariants.{W32}
 use Rattle.std.specs.Int.{next_multiple_of}
 use Rattle.hip_mem.specs.Bytes.{little_endian, bytes_of}
-use Rattle.hip_mem.specs.BytesLaws.{bytes_of-below, bytes_of-little_endian}
+use Rattle.hip_mem.specs.Laws.BytesLaws.{bytes_of-below, bytes_of-little_endian}
 use Rattle.hip_mem.specs.Memory.{stack_end}
 use Rattle.hip_num.specs.Arithmetic.{binary_of}
 use Rattle.hip_runs.specs.Laws.HistoryLaws.{instr_at_place}
@@ -27,9 +27,9 @@ use Rattle.hip_runs.specs.Operands.{scalar_size, value_of, values_of}
 use Rattle.hip_runs.specs.declared.event.Event.{Event}
 use Rattle.hip_runs.specs.declared.input.Input.{Input}
 use Rattle.hip_runs.specs.Actions.{Action, Traps, Assigns, Allocates, Stores, Flushes, Persists, Fences, Asserts, Prints, Reads, Calls, Jumps, Returns, Deed, are_valid, arg_value, in_region, accessed, calculated, allocated, bound_call, numbered_call, entered, flushing, read_next, call_action, instr_action, jump_to, jump, end_action, deed_of}
-use Rattle.hip_runs.specs.Persistence.{flushes_lines}
+use Rattle.hip_runs.specs.StoredParts.Persistence.{flushes_lines}
 use Rattle.hip_runs.specs.Places.{body_at, code_at, end_at}
-use Rattle.hip_runs.specs.Since.{top_site}
+use Rattle.hip_runs.specs.StoredParts.Since.{top_site}
 use Rattle.hip_runs.specs.Sites.{is_store, only_flushes, persists, is_flush_call, is_persist_call, called_number}
 use Rattle.hip_runs.specs.State.{Registers, Frame, World, State, site_of}
 use Rattle.hip_runs.specs.Step.{first_line, lines_size, event_of, is_bottom, is_cut, event_at, deed_at, event_on_frames, event_on_ending, event}

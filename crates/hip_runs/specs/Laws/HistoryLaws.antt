@@ -9,20 +9,20 @@ use Rattle.hip_ir.specs.declared.instr.Instr.{Instr}
 use Rattle.hip_ir.specs.declared.program.Function.{Function}
 use Rattle.hip_ir.specs.declared.program.Program.{Program}
 use Rattle.hip_ir.specs.declared.site.Site.{Site}
-use Rattle.hip_lines.specs.LineLaws.{ordered-fenced_line, ordered-flushed_line, ordered-map_line, ordered-change_from, ordered-stored, ordered-at, ordered-fresh_lines}
+use Rattle.hip_lines.specs.Laws.LineLaws.{ordered-fenced_line, ordered-flushed_line, ordered-map_line, ordered-change_from, ordered-stored, ordered-at, ordered-fresh_lines}
 use Rattle.hip_lines.specs.Line.{Line, AreOrdered, map_line, with_part, has_bytes, change_from, change_range, stored, fresh_lines}
 use Rattle.hip_runs.specs.declared.event.Ending.{Ending}
 use Rattle.hip_runs.specs.declared.event.Ending.TheVariants.{Cut}
 use Rattle.hip_runs.specs.declared.event.Event.{Event}
 use Rattle.hip_runs.specs.declared.input.Input.{Input}
 use Rattle.hip_runs.specs.Actions.{Action, Traps, Assigns, Allocates, Stores, Flushes, Persists, Fences, Asserts, Prints, Reads, Calls, Jumps, Returns, Deed, in_region, jump, jump_to, end_action, deed_of}
-use Rattle.hip_runs.specs.History.{AreDescending, IsParted, HasHistory}
-use Rattle.hip_runs.specs.Parts.{In, PartOf}
+use Rattle.hip_runs.specs.StoredParts.History.{AreDescending, IsParted, HasHistory}
+use Rattle.hip_runs.specs.StoredParts.Parts.{In, PartOf}
 use Rattle.hip_runs.specs.Laws.Members.{get_drop}
 use Rattle.hip_runs.specs.Laws.PartLaws.{in-append, append-left, part-fenced, part-flushed_from, part-stored, IsFlushedFrom}
-use Rattle.hip_runs.specs.Persistence.{part_of_store, stored_lines, earlier, noted_flush, noted_fence, flush_line, fence_line, flushes_lines, flushed_lines, fenced_lines}
+use Rattle.hip_runs.specs.StoredParts.Persistence.{part_of_store, stored_lines, earlier, noted_flush, noted_fence, flush_line, fence_line, flushes_lines, flushed_lines, fenced_lines}
 use Rattle.hip_runs.specs.Places.{blocks_in, body_of, body_at, code_at, end_at}
-use Rattle.hip_runs.specs.Reports.{is_open}
+use Rattle.hip_runs.specs.Found.Reports.{is_open}
 use Rattle.hip_runs.specs.State.{Level, Flush, StorePart, Frame, World, Counts, State, level_list, levels_of, site_of}
 use Rattle.hip_runs.specs.Step.{stop, with_turn, start, is_cut, leave, perform, carry_out, deed_at, on_frames, on_ending, step, event_at, counted, run}
 use Rattle.hip_ir.specs.declared.block.End.TheVariants as ends

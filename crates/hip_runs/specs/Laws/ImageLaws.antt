@@ -1,15 +1,15 @@
 -- Crash images line by line, and inputs that begin with them.
 use Rattle.std.proofs.Common.{◌≡◌, ◌⊎◌, inl, inr, ℕ, zero, suc, ◌+◌, ◌-◌, ◌*◌, ◌<◌, ◌≤◌, Bool, true, nat_eq, List, [], ◌∷◌, ◌++◌, length, take, drop, Some, slice_get, slice_index, refl, sym, ap, ◌∙◌, subst, arith, false}
 use Rattle.std.specs.List.{list_all, list_any, range_with_len}
-use Rattle.hip_types.specs.DistinctLaws.{or_first, or_second, either}
+use Rattle.hip_types.specs.Laws.DistinctLaws.{or_first, or_second, either}
 use Rattle.hip_lines.specs.Image.{byte_after, IsLineImage}
 use Rattle.hip_lines.specs.Line.{Line}
 use Rattle.std.proofs.lemmas.List.Elements.{All-nil, All-cons, All-head, All-tail}
 use Rattle.hip_mem.specs.Bytes.{little_endian, bytes_of}
-use Rattle.hip_mem.specs.BytesLaws.{bytes_of-below}
-use Rattle.hip_runs.specs.Parts.{In, PartOf}
+use Rattle.hip_mem.specs.Laws.BytesLaws.{bytes_of-below}
+use Rattle.hip_runs.specs.StoredParts.Parts.{In, PartOf}
 use Rattle.hip_runs.specs.Laws.CrashLaws.{same_size}
-use Rattle.hip_runs.specs.Laws.LooseBytes.{part_at}
+use Rattle.hip_runs.specs.Laws.Found.LooseBytes.{part_at}
 use Rattle.hip_runs.specs.Laws.StoreLaws.{part-of_store}
 use Rattle.std.specs.Prelude.{All, cond, ◌/◌}
 use Rattle.hip_runs.specs.declared.input.Input.{Input}

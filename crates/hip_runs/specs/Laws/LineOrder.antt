@@ -5,20 +5,20 @@ use Rattle.std.proofs.lemmas.List.{length-map, length-take-le}
 use Rattle.hip_ir.specs.declared.program.Program.{Program}
 use Rattle.hip_ir.specs.declared.site.Site.{Site}
 use Rattle.hip_lines.specs.Line.{Line, IsOrdered, with_part, start_in, end_in, has_bytes, stored}
-use Rattle.hip_lines.specs.LineLaws.{byte-of_part, slice_get-change_range, ordered-at}
-use Rattle.hip_lines.specs.LooseLaws.{get-append_left, get-append_end, get-below, get-of_map}
+use Rattle.hip_lines.specs.Laws.LineLaws.{byte-of_part, slice_get-change_range, ordered-at}
+use Rattle.hip_lines.specs.Laws.LooseLaws.{get-append_left, get-append_end, get-below, get-of_map}
 use Rattle.hip_runs.specs.declared.input.Input.{Input}
 use Rattle.hip_runs.specs.Crash.{covers}
 use Rattle.hip_runs.specs.Laws.HistoryLaws.{has_history, line_of_fresh, lines_ordered}
-use Rattle.hip_runs.specs.Order.{HasOrder, last_fence, is_before}
-use Rattle.hip_runs.specs.Persistence.{part_of_store, noted_flush, noted_fence, flush_line, fence_line, fenced_lines}
+use Rattle.hip_runs.specs.StoredParts.Order.{HasOrder, last_fence, is_before}
+use Rattle.hip_runs.specs.StoredParts.Persistence.{part_of_store, noted_flush, noted_fence, flush_line, fence_line, fenced_lines}
 use Rattle.hip_runs.specs.Laws.SinceLaws.{line_of_start, below, fence_told, told_by_fence}
 use Rattle.hip_runs.specs.State.{Level, Flush, StorePart, Counts, site_of, levels_of}
 use Rattle.hip_runs.specs.Step.{run, step, event}
 use Rattle.hip_runs.specs.Laws.StepLaws.{Cases, met_lines, step-cases, counted-steps}
-use Rattle.hip_runs.specs.Laws.LooseBytes.{AreInLines, true_over}
-use Rattle.hip_runs.specs.Parts.{PartOf}
-use Rattle.hip_runs.specs.Since.{fences, FencedSince}
+use Rattle.hip_runs.specs.Laws.Found.LooseBytes.{AreInLines, true_over}
+use Rattle.hip_runs.specs.StoredParts.Parts.{PartOf}
+use Rattle.hip_runs.specs.StoredParts.Since.{fences, FencedSince}
 use Rattle.hip_runs.specs.Laws.Members.{lt_true, true_lt}
 use Rattle.std.specs.Cmp.{both_ways}
 

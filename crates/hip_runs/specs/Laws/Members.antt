@@ -1,9 +1,9 @@
 -- Tests and what they tell; and members of lists: by a test, of a flat map, and by their places.
 use Rattle.std.proofs.Common.{◌≡◌, ◌⊎◌, inl, inr, ℕ, zero, suc, Bool, true, false, ◌||◌, List, [], ◌∷◌, Some, slice_get, refl, subst, arith, nat_eq, sym, ◌<◌, ◌≤◌, drop}
 use Rattle.std.specs.List.{flat_map, list_any, list_all}
-use Rattle.hip_runs.specs.Parts.{In}
+use Rattle.hip_runs.specs.StoredParts.Parts.{In}
 use Rattle.hip_runs.specs.Laws.PartLaws.{in-append, append-left, append-right}
-use Rattle.hip_types.specs.DistinctLaws.{or_second}
+use Rattle.hip_types.specs.Laws.DistinctLaws.{or_second}
 use Rattle.std.proofs.lemmas.Bool.Decides.{nat_tests}
 use Rattle.std.specs.Prelude.{nat_le, nat_lt, ◌&&◌}
 

@@ -9,10 +9,10 @@ use Rattle.hip_runs.specs.declared.event.Ending.TheVariants.{Cut}
 use Rattle.hip_runs.specs.declared.event.Event.{Event}
 use Rattle.hip_runs.specs.declared.input.Input.{Input}
 use Rattle.hip_runs.specs.Actions.{Action, Traps, Assigns, Allocates, Stores, Flushes, Persists, Fences, Asserts, Prints, Reads, Calls, Jumps, Returns, Deed, in_region}
-use Rattle.hip_runs.specs.After.{flushed_by, lines_after}
+use Rattle.hip_runs.specs.StoredParts.After.{flushed_by, lines_after}
 use Rattle.hip_runs.specs.Entry.{IsAtEntry}
-use Rattle.hip_runs.specs.Persistence.{part_of_store, flush_line, flushes_lines, fenced_lines}
-use Rattle.hip_runs.specs.Since.{top_site}
+use Rattle.hip_runs.specs.StoredParts.Persistence.{part_of_store, flush_line, flushes_lines, fenced_lines}
+use Rattle.hip_runs.specs.StoredParts.Since.{top_site}
 use Rattle.hip_runs.specs.State.{Flush, StorePart, Frame, World, Counts, State, levels_of, site_of}
 use Rattle.hip_runs.specs.Step.{first_line, lines_size, stop, with_turn, leave, perform, is_cut, has_entry, counted, header_entries, carry_out, deed_at, on_frames, on_ending, step, event_on_frames, event_on_ending, event, run}
 use Rattle.hip_runs.specs.Laws.StepLaws.{Cases, IsTop, is_plain, flush_here, met_lines, step-cases}

@@ -2,13 +2,13 @@
 use Rattle.std.proofs.Common.{◌≡◌, ◌⊎◌, inl, inr, ℕ, zero, suc, ◌-◌, ◌<◌, ◌≤◌, Bool, true, false, cond, List, [], ◌∷◌, ◌++◌, length, map, Option, Some, None, option_map, slice_get, refl, sym, ap, ◌∙◌, subst, arith}
 use Rattle.hip_ir.specs.declared.program.Program.{Program}
 use Rattle.hip_lines.specs.Line.{Line, IsOrdered, with_part, has_bytes, fresh_lines}
-use Rattle.hip_lines.specs.LineLaws.{slice_get-change_range, ordered-at}
-use Rattle.hip_lines.specs.LooseLaws.{get-of_map}
+use Rattle.hip_lines.specs.Laws.LineLaws.{slice_get-change_range, ordered-at}
+use Rattle.hip_lines.specs.Laws.LooseLaws.{get-of_map}
 use Rattle.hip_runs.specs.declared.event.Event.{Event}
 use Rattle.hip_runs.specs.declared.input.Input.{Input}
 use Rattle.hip_runs.specs.Laws.HistoryLaws.{lines_ordered}
-use Rattle.hip_runs.specs.Persistence.{part_of_store, noted_flush, noted_fence, flush_line, fence_line}
-use Rattle.hip_runs.specs.Since.{fences, flushes, FlushedSince, IsFlushedThenFenced, IsPartIn, IsPartAt, IsDurableIn, IsDurableAt}
+use Rattle.hip_runs.specs.StoredParts.Persistence.{part_of_store, noted_flush, noted_fence, flush_line, fence_line}
+use Rattle.hip_runs.specs.StoredParts.Since.{fences, flushes, FlushedSince, IsFlushedThenFenced, IsPartIn, IsPartAt, IsDurableIn, IsDurableAt}
 use Rattle.hip_runs.specs.Laws.SinceLaws.{below, get_mapped, line_met, plain_fences, plain_flushes}
 use Rattle.hip_runs.specs.State.{Flush, StorePart, levels_of, site_of}
 use Rattle.hip_runs.specs.Step.{event, run}

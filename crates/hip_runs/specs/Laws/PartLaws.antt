@@ -2,8 +2,8 @@
 use Rattle.std.proofs.Common.{◌≡◌, ◌⊎◌, inl, inr, ℕ, suc, ◌-◌, Bool, true, false, cond, List, [], ◌∷◌, ◌++◌, map, refl}
 use Rattle.hip_lines.specs.Line.{Line, with_part, has_bytes, change_from, change_range, stored}
 use Rattle.hip_runs.specs.declared.input.Input.{Input}
-use Rattle.hip_runs.specs.Parts.{In, PartOf}
-use Rattle.hip_runs.specs.Persistence.{noted_flush, noted_fence, flush_line, flushes_lines, flushed_lines, fenced_lines}
+use Rattle.hip_runs.specs.StoredParts.Parts.{In, PartOf}
+use Rattle.hip_runs.specs.StoredParts.Persistence.{noted_flush, noted_fence, flush_line, flushes_lines, flushed_lines, fenced_lines}
 use Rattle.hip_runs.specs.State.{Flush, StorePart}
 
 pub in-map : {A B : Type 0} (f : A → B) (xs : List A) (y : B) → In y (map f xs) → (x : A) × In x xs × (y ≡ f x)

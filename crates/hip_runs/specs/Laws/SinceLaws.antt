@@ -4,14 +4,14 @@ use Rattle.std.proofs.lemmas.Bool.Decides.{nat_tests}
 use Rattle.hip_ir.specs.declared.program.Program.{Program}
 use Rattle.hip_ir.specs.declared.site.Site.{Site}
 use Rattle.hip_lines.specs.Line.{Line, with_part, start_in, has_bytes, stored, fresh_lines}
-use Rattle.hip_lines.specs.LineLaws.{slice_get-change_range}
+use Rattle.hip_lines.specs.Laws.LineLaws.{slice_get-change_range}
 use Rattle.hip_runs.specs.declared.event.Event.{Event}
 use Rattle.hip_runs.specs.declared.input.Input.{Input}
 use Rattle.hip_runs.specs.Actions.{in_region}
-use Rattle.hip_runs.specs.Parts.{In, PartOf}
+use Rattle.hip_runs.specs.StoredParts.Parts.{In, PartOf}
 use Rattle.hip_runs.specs.Laws.PartLaws.{in-map, in-append}
-use Rattle.hip_runs.specs.Persistence.{part_of_store, earlier, noted_flush, noted_fence, flush_line, fence_line, flushes_lines, fenced_lines}
-use Rattle.hip_runs.specs.Since.{fences, flushes, has_line, FencedSince, NotFlushedSince, top_site, IsFirst, IsFirstFlush}
+use Rattle.hip_runs.specs.StoredParts.Persistence.{part_of_store, earlier, noted_flush, noted_fence, flush_line, fence_line, flushes_lines, fenced_lines}
+use Rattle.hip_runs.specs.StoredParts.Since.{fences, flushes, has_line, FencedSince, NotFlushedSince, top_site, IsFirst, IsFirstFlush}
 use Rattle.hip_runs.specs.State.{Flush, StorePart, Frame, levels_of, site_of}
 use Rattle.hip_runs.specs.Step.{first_line, lines_size, event, run}
 use Rattle.hip_runs.specs.Laws.StepLaws.{Cases, IsTop, is_plain, flush_here, met_lines, step-cases, counted-steps}

@@ -7,8 +7,8 @@ use Rattle.hip_lines.specs.Line.{Line}
 use Rattle.hip_runs.specs.declared.event.Event.{Event}
 use Rattle.hip_runs.specs.declared.input.Input.{Input}
 use Rattle.hip_runs.specs.Laws.OrderLaws.{told_durable}
-use Rattle.hip_runs.specs.Parts.{In, PartOf}
-use Rattle.hip_runs.specs.Since.{fences, flushes, IsFirst, IsFirstFlush, IsPartIn, IsDurableIn}
+use Rattle.hip_runs.specs.StoredParts.Parts.{In, PartOf}
+use Rattle.hip_runs.specs.StoredParts.Since.{fences, flushes, IsFirst, IsFirstFlush, IsPartIn, IsDurableIn}
 use Rattle.hip_runs.specs.Laws.SinceLaws.{flush_told}
 use Rattle.hip_runs.specs.Sites.{is_flush_call, is_persist_call, HasSites}
 use Rattle.hip_runs.specs.State.{Flush, StorePart}
@@ -17,7 +17,7 @@ use Rattle.hip_runs.specs.Laws.StoreLaws.{part-of_store}
 use Rattle.hip_runs.specs.Laws.CallLaws.{calls_defined}
 use Rattle.hip_runs.specs.Laws.Fits.{Told, site_told}
 use Rattle.hip_runs.specs.Laws.LineOrder.{lines_well}
-use Rattle.hip_runs.specs.Laws.LooseBytes.{part_at}
+use Rattle.hip_runs.specs.Laws.Found.LooseBytes.{part_at}
 use Rattle.hip_runs.specs.Laws.Members.{in_at}
 use Rattle.hip_runs.specs.declared.event.Event.TheVariants as events
 

@@ -5,13 +5,13 @@ use Rattle.hip_ir.specs.Sites.{instr_of}
 use Rattle.hip_ir.specs.declared.program.Program.{Program}
 use Rattle.hip_mem.specs.Bytes.{little_endian, bytes_of}
 use Rattle.hip_lines.specs.Line.{Line, AreOrdered, map_line, change_range, stored, fresh_lines}
-use Rattle.hip_lines.specs.LineLaws.{length-change_from, ordered-change_from, ordered-flushed_line, ordered-map_line}
+use Rattle.hip_lines.specs.Laws.LineLaws.{length-change_from, ordered-change_from, ordered-flushed_line, ordered-map_line}
 use Rattle.hip_runs.specs.declared.event.Ending.{Ending}
 use Rattle.hip_runs.specs.declared.event.Ending.TheVariants.{Cut}
 use Rattle.hip_runs.specs.declared.event.Event.{Event}
 use Rattle.hip_runs.specs.declared.input.Input.{Input}
 use Rattle.hip_runs.specs.Actions.{Action, Traps, Assigns, Allocates, Stores, Flushes, Persists, Fences, Asserts, Prints, Reads, Calls, Jumps, Returns, Deed, in_region}
-use Rattle.hip_runs.specs.Persistence.{part_of_store, noted_flush, flush_line, flushes_lines, fenced_lines}
+use Rattle.hip_runs.specs.StoredParts.Persistence.{part_of_store, noted_flush, flush_line, flushes_lines, fenced_lines}
 use Rattle.hip_runs.specs.State.{Flush, StorePart, Frame, World, Counts, State, levels_of, site_of}
 use Rattle.hip_runs.specs.Step.{first_line, lines_size, event_of, stop, with_turn, leave, perform, is_cut, event_at, carry_out, deed_at, on_frames, on_ending, step, event_on_frames, event_on_ending, event, run}
 use Rattle.hip_runs.specs.Laws.Fits.{Fits, deed_fits}

@@ -5,13 +5,13 @@ use Rattle.std.proofs.lemmas.List.{length-take-le, length-drop}
 use Rattle.hip_ir.specs.declared.program.Program.{Program}
 use Rattle.hip_mem.specs.Bytes.{little_endian, bytes_of}
 use Rattle.hip_lines.specs.Line.{Line, start_in, end_in, has_bytes}
-use Rattle.hip_lines.specs.LineLaws.{byte-of_part}
+use Rattle.hip_lines.specs.Laws.LineLaws.{byte-of_part}
 use Rattle.hip_runs.specs.declared.event.Event.{Event}
 use Rattle.hip_runs.specs.declared.input.Input.{Input}
 use Rattle.hip_runs.specs.Actions.{in_region}
-use Rattle.hip_runs.specs.Parts.{PartOf}
-use Rattle.hip_runs.specs.Persistence.{part_of_store, noted_flush, noted_fence}
-use Rattle.hip_runs.specs.Since.{top_site, IsOfStore}
+use Rattle.hip_runs.specs.StoredParts.Parts.{PartOf}
+use Rattle.hip_runs.specs.StoredParts.Persistence.{part_of_store, noted_flush, noted_fence}
+use Rattle.hip_runs.specs.StoredParts.Since.{top_site, IsOfStore}
 use Rattle.hip_runs.specs.Laws.SinceLaws.{InLine, line_of_part, of_fenced, of_flushed, of_stored, line_of_start, no_part}
 use Rattle.hip_runs.specs.State.{Flush, StorePart, Frame, levels_of, site_of}
 use Rattle.hip_runs.specs.Step.{event, run}

@@ -11,7 +11,7 @@ use Rattle.hip_ir.specs.declared.program.Function.{Function}
 use Rattle.hip_globals.specs.Constants.{joined}
 use Rattle.hip_names.specs.Names.{number_of}
 use Rattle.hip_typing.specs.Names.{numbered_from}
-use Rattle.hip_names.specs.NumberLaws.{number_of-cons}
+use Rattle.hip_names.specs.Laws.NumberLaws.{number_of-cons}
 use Rattle.hip_typing.specs.Paths.{IsAssigned}
 use Rattle.hip_typing.specs.Registers.{instr_uses, end_uses, operand_registers, used_registers}
 use Rattle.hip_typing.specs.Rules.{UseIsAssigned, AllAssigned, use_at, site, block_numbers_from, edge_register_uses, phi_register_uses, instr_register_uses, end_register_uses, block_register_uses}
@@ -19,7 +19,7 @@ use Rattle.hip_typing.specs.declared.assigned.Point.TheVariants.{Before, AtEnd}
 use Rattle.hip_typing.specs.declared.fault.Place.{Place}
 use Rattle.hip_typing.specs.declared.fault.Place.TheVariants as places
 use Rattle.hip_typing.specs.Laws.Decided.{all-at, all-made}
-use Rattle.hip_names.specs.NameLaws.{bytes_eq-sym}
+use Rattle.hip_names.specs.Laws.NameLaws.{bytes_eq-sym}
 use Rattle.hip_typing.specs.Sound.{EdgeIsAssigned, UsesAreAssigned}
 
 -- ---- what holds of all items of lists that are put together

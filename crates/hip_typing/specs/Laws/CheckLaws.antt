@@ -7,7 +7,7 @@ use Rattle.std.proofs.lemmas.Bool.{leb-true, le-leb, and_parts}
 use Rattle.std.specs.Cmp.Derive.{both_true}
 use Rattle.hip_types.specs.Layout.{Fits}
 use Rattle.hip_types.specs.declared.ty.Ty.{Ty}
-use Rattle.hip_names.specs.NameLaws.{among-sound, among-whole}
+use Rattle.hip_names.specs.Laws.NameLaws.{among-sound, among-whole}
 use Rattle.hip_typing.specs.Check.{Check, IsExact, or_else, nothing_asked, asks, asks_true, and_then, each_from, each}
 use Rattle.hip_names.specs.Names.{IsAmong, is_among}
 use Rattle.hip_typing.specs.Names.{Named, differ_after}

@@ -14,10 +14,10 @@ use Rattle.hip_ir.specs.declared.program.Program.{Program}
 use Rattle.hip_typing.specs.Laws.Decided.{all-at}
 use Rattle.hip_externs.specs.Externs.{Signature, known_signature}
 use Rattle.hip_typing.specs.Given.{CallsFunction, CallsExtern, CallsAgree, OperandsAgree, HasBlock, LabelsExist, PhisAgree}
-use Rattle.hip_names.specs.NameLaws.{bytes_eq-sym}
+use Rattle.hip_names.specs.Laws.NameLaws.{bytes_eq-sym}
 use Rattle.hip_names.specs.Names.{IsAmong, number_of}
 use Rattle.hip_typing.specs.Numbering.{function_names}
-use Rattle.hip_names.specs.NumberLaws.{number_of-cons}
+use Rattle.hip_names.specs.Laws.NumberLaws.{number_of-cons}
 use Rattle.hip_typing.specs.Places.{callee_of, extern_of, function_of, first_of}
 use Rattle.hip_typing.specs.Registers.{end_labels}
 use Rattle.hip_typing.specs.Sound.{IsOfTable, EdgesAgree, PhiItem, InstrItem, TypesAgree, label_names, IsSound}

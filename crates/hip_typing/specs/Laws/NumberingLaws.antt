@@ -4,7 +4,7 @@ use Rattle.std.proofs.Common.{refl, sym, ap, ◌∙◌}
 use Rattle.std.proofs.lemmas.Option.{slice_get-map, slice_get_within, same_Some}
 use Rattle.hip_ir.specs.declared.program.Function.{Function}
 use Rattle.hip_ir.specs.declared.program.Program.{Program}
-use Rattle.hip_names.specs.NumberLaws.{number_of-there, number_of-known}
+use Rattle.hip_names.specs.Laws.NumberLaws.{number_of-there, number_of-known}
 use Rattle.hip_typing.specs.Numbering.{function_names, function_number}
 
 -- a function that has a number is there, and has that name

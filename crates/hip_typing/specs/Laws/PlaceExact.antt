@@ -29,7 +29,7 @@ use Rattle.hip_typing.specs.Places.{scope_of, are_among, extern_of, function_of,
 use Rattle.hip_typing.specs.Registers.{Register, Use, find_register, registers_of, instr_uses, end_uses, end_labels, phi_uses, used_registers, used_globals}
 use Rattle.hip_typing.specs.declared.fault.Place.{Place}
 use Rattle.hip_typing.specs.Laws.Decided.{both-decides, all-decides, not-decides, none-decides, pairs-decides}
-use Rattle.hip_names.specs.NameLaws.{among-decides, among-left, among-right, among-either}
+use Rattle.hip_names.specs.Laws.NameLaws.{among-decides, among-left, among-right, among-either}
 use Rattle.hip_typing.specs.Laws.EqualLaws.{same_scalar-decides, same_scalars-decides, same_result-decides, same_bits-decides, same_operand-decides}
 use Rattle.hip_typing.specs.Sound as sound
 use Rattle.hip_typing.specs.Sound.{Item, PhiItem, InstrItem, EndItem, uses_of, global_names, callee_names, label_names, register_names, NamesExist, TypesFit, operand_is_typed, IsTyped, CallAgrees, OwnTypesAgree, TypesAgree, Precedes, EdgesAgree}

@@ -1,7 +1,7 @@
 use Rattle.std.proofs.Common.{◌≡◌, ◌++◌, ◌^◌, ◌<◌, OnOk, sym, subst, arith}
 use Rattle.std.specs.Fmt.{decimal}
 use Rattle.hip_calls.specs.Fresh.{numeral}
-use Rattle.hip_calls.specs.FreshLaws.{numeral-decimal}
+use Rattle.hip_calls.specs.Laws.FreshLaws.{numeral-decimal}
 use Rattle.hip_calls.proofs.fresh.add_number.Goals as goal
 
 pub returns : goal.returns

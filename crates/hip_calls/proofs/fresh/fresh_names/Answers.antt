@@ -13,7 +13,7 @@ each-preserved c =
     let f = get_or c.args.functions.now c.each.number-index 0 in
     let named : c.in_ok-name.name ≡ fresh_name (c.each.fresh.keys ++ c.in_ok-taken.taken) (name_of P f) = c.in_ok-name.ensures ∙ ap (fresh_name (c.each.fresh.keys ++ c.in_ok-taken.taken)) c.name_of.ensures in
     let put : c.insert.new.self.keys ≡ c.each.fresh.keys ++ fresh_name (c.each.fresh.keys ++ c.in_ok-taken.taken) (name_of P f) ∷ [] =
-        c.in_ok-_is_new.ensures.keys ∙ ap (λ (x : List ℕ). if list_any (bytes_eq x) c.each.fresh.keys then c.each.fresh.keys else c.each.fresh.keys ++ x ∷ []) named ∙ fresh-put c.each.fresh.keys c.in_ok-taken.taken (name_of P f) in
+    c.in_ok-_is_new.ensures.keys ∙ ap (λ (x : List ℕ). if list_any (bytes_eq x) c.each.fresh.keys then c.each.fresh.keys else c.each.fresh.keys ++ x ∷ []) named ∙ fresh-put c.each.fresh.keys c.in_ok-taken.taken (name_of P f) in
     let alike : Alike c.in_ok-taken.taken (names_taken P) = λ q. ap (λ ns. is_among ns q) c.in_ok-taken.ensures ∙ met-alike (names_taken P) q in
     subst (λ ks. ks ++ fresh_for (ks ++ names_taken P) (map (name_of P) (drop (c.each.number-index + 1) c.args.functions.now)) ≡ fresh_names P c.args.functions.now) (sym put)
     (fresh_for-next c.each.fresh.keys c.in_ok-taken.taken c.args.functions.now P c.each.number-index f 0 alike c.each-test.true refl ∙ c.each.invariant)

@@ -1,5 +1,5 @@
 use Rattle.std.proofs.Common.{arith}
-use Rattle.hip_types.specs.LayoutLaws.{alignment-low, align_of-alignment}
+use Rattle.hip_types.specs.Laws.LayoutLaws.{alignment-low, align_of-alignment}
 use Rattle.hip_globals.proofs.addresses.alignment.Goals as goal
 
 pub returns-in-Some-clause-some : goal.returns-in-Some-clause-some

@@ -1,5 +1,5 @@
 use Rattle.std.proofs.Common.{◌≡◌, ◌∙◌, ℕ, zero, suc, refl, arith, replicate, slice_index}
-use Rattle.hip_mem.specs.BytesLaws.{from_le_bytes-little_endian}
+use Rattle.hip_mem.specs.Laws.BytesLaws.{from_le_bytes-little_endian}
 use Rattle.hip_mem.proofs.RamCalls.{number-of}
 use Rattle.hip_mem.proofs.ram.number_at.Goals as goal
 

@@ -1,5 +1,5 @@
 use Rattle.hip_runs.proofs.findings.reports_are_well_formed.Goals as goal
-use Rattle.hip_runs.specs.Laws.ReportLaws.{reports_formed}
+use Rattle.hip_runs.specs.Laws.Found.ReportLaws.{reports_formed}
 
 pub returns : goal.returns
 returns c = λ P I n r i. reports_formed P I n r i

@@ -3,16 +3,16 @@ use Rattle.std.proofs.Common.{◌≡◌, ℕ, zero, suc, ◌-◌, ◌*◌, ◌<�
 use Rattle.std.proofs.lemmas.List.{length-map, length-take-le}
 use Rattle.hip_ir.specs.declared.site.Site.{Site}
 use Rattle.hip_lines.specs.Line.{Line, IsOrdered, AreOrdered, map_line, with_part, flushed_line, fenced_line, start_in, end_in, has_bytes, change_from, change_range, stored, fresh_lines}
-use Rattle.hip_lines.specs.LineLaws.{length-change_from, ordered-map_line, ordered-flushed_line, ordered-fenced_line, ordered-change_from, ordered-stored, map_line-with_part}
+use Rattle.hip_lines.specs.Laws.LineLaws.{length-change_from, ordered-map_line, ordered-flushed_line, ordered-fenced_line, ordered-change_from, ordered-stored, map_line-with_part}
 use Rattle.hip_lines.specs.Parts.{part_in, none_pending_all, pending_stored, pending_flushed_all, pending_fenced_all}
 use Rattle.hip_lines.specs.Pending.{Pending, none_pending, pending_of, pending_with, pending_flushed, pending_fenced}
-use Rattle.hip_lines.specs.PendingLaws.{pending-with_part, pending-flushed_line, pending-fenced_line}
+use Rattle.hip_lines.specs.Laws.PendingLaws.{pending-with_part, pending-flushed_line, pending-fenced_line}
 use Rattle.hip_lines.specs.declared.part.Part.{Part}
 use Rattle.hip_runs.specs.declared.input.Input.{Input}
 use Rattle.hip_runs.specs.Actions.{in_region}
-use Rattle.hip_runs.specs.Persistence.{stored_lines, flushed_lines, part_of_store, noted_flush, noted_fence, flush_line, fence_line, fenced_lines}
+use Rattle.hip_runs.specs.StoredParts.Persistence.{stored_lines, flushed_lines, part_of_store, noted_flush, noted_fence, flush_line, fence_line, fenced_lines}
 use Rattle.hip_runs.specs.State.{Level, Flush, StorePart, Counts}
-use Rattle.hip_runs.specs.Shown.{shown_part, shown_line, shown}
+use Rattle.hip_runs.specs.StoredParts.Shown.{shown_part, shown_line, shown}
 use Rattle.hip_runs.specs.Standing.{HoldsLines}
 
 -- a change of the lines, and one of what is shown of them

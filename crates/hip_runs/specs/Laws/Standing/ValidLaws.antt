@@ -7,7 +7,7 @@ use Rattle.hip_mem.specs.declared.refusal.MemTrap.TheVariants as mem_traps
 use Rattle.hip_runs.specs.declared.event.TrapKind.TheVariants as traps
 use Rattle.hip_mem.specs.Areas.{Areas, access_trap, IsLaidOut, Holds, mark_of, after_write}
 use Rattle.hip_mem.specs.Areas as areas
-use Rattle.hip_mem.specs.AreasLaws.{FitsOne, are_valid-fits, fits-are_valid, holds-write, mark_of-after_write, laid_out-after_write}
+use Rattle.hip_mem.specs.Laws.AreasLaws.{FitsOne, are_valid-fits, fits-are_valid, holds-write, mark_of-after_write, laid_out-after_write}
 use Rattle.hip_mem.specs.Memory.{Write, volatile_start, stack_start}
 use Rattle.hip_globals.specs.Addresses.{volatile_end}
 use Rattle.hip_globals.specs.Initial.{volatile_bytes}

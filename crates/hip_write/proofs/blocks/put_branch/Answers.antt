@@ -1,4 +1,4 @@
-use Rattle.hip_io.specs.SinkLaws.{and_then}
+use Rattle.hip_io.specs.Laws.SinkLaws.{and_then}
 use Rattle.hip_write.proofs.blocks.put_branch.Goals as goal
 
 pub returns : goal.returns

@@ -3,8 +3,8 @@ use Rattle.hip_write.proofs.Consts.{gep_text-is, item_text-is}
 use Rattle.hip_write.specs.Parts.{item_text}
 use Rattle.std.proofs.Common.{◌∙◌, sym, arith}
 use Rattle.hip_write.specs.Parts.{item_text}
-use Rattle.hip_io.specs.SinkLaws.{and_then, same_text}
-use Rattle.hip_write.proofs.Lists.{braced_some, commas_more, separator_after}
+use Rattle.hip_io.specs.Laws.SinkLaws.{and_then, same_text}
+use Rattle.hip_write.proofs.ListTexts.{braced_some, commas_more, separator_after}
 use Rattle.hip_write.proofs.constants.+value.Goals as goal
 
 pub put_const_gep-returns : goal.put_const_gep-returns

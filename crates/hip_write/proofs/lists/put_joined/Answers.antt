@@ -1,6 +1,6 @@
 use Rattle.std.proofs.Common.{◌∙◌, sym}
-use Rattle.hip_io.specs.SinkLaws.{and_then, same_text}
-use Rattle.hip_write.proofs.Lists.{commas_more, separator_after}
+use Rattle.hip_io.specs.Laws.SinkLaws.{and_then, same_text}
+use Rattle.hip_write.proofs.ListTexts.{commas_more, separator_after}
 use Rattle.hip_write.proofs.lists.put_joined.Goals as goal
 
 pub each-preserved : goal.each-preserved

@@ -1,6 +1,6 @@
 use Rattle.std.proofs.Common.{sym}
-use Rattle.hip_io.specs.SinkLaws.{and_then, same_text}
-use Rattle.hip_write.proofs.Lists.{after_more}
+use Rattle.hip_io.specs.Laws.SinkLaws.{and_then, same_text}
+use Rattle.hip_write.proofs.ListTexts.{after_more}
 use Rattle.hip_write.proofs.lists.put_more.Goals as goal
 
 pub each-preserved : goal.each-preserved

@@ -1,6 +1,6 @@
 use Rattle.std.proofs.Common.{◌∙◌, ap, sym, refl, take}
 use Rattle.hip_mem.specs.Areas.{after_write}
-use Rattle.hip_mem.specs.BytesLaws.{to_le_bytes-bytes_of, take-bytes_of}
+use Rattle.hip_mem.specs.Laws.BytesLaws.{to_le_bytes-bytes_of, take-bytes_of}
 use Rattle.hip_mem.proofs.RamCalls.{access-below, areas-same, areas-written, on_ok_map, on_err_map}
 use Rattle.hip_mem.proofs.ram.Ram.store.Goals as goal
 

@@ -1,7 +1,7 @@
 use Rattle.std.proofs.Common.{◌≡◌, ◌++◌, ◌∷◌, [], take, not, Bool, true, false, refl, sym, ap, ◌∙◌}
 use Rattle.std.proofs.Math.Seq.{take-append_seam}
 use Rattle.hip_names.specs.Names.{is_among}
-use Rattle.hip_names.specs.TableLaws.{entry_added, entry_kept}
+use Rattle.hip_names.specs.Laws.TableLaws.{entry_added, entry_kept}
 use Rattle.hip_names.proofs.table.NameTable.add.Goals as goal
 
 is_there : (b : Bool) → not b ≡ false → b ≡ true

@@ -23,11 +23,8 @@ decreases-array_value l = 9 * l.depth + 8
 abbrev pub decreases-struct_value : goal.decreases-struct_value
 decreases-struct_value l = 9 * l.depth + 8
 
-abbrev pub decreases-elements : goal.decreases-elements
-decreases-elements l = 9 * l.depth + 6
-
-abbrev pub decreases-field_values : goal.decreases-field_values
-decreases-field_values l = 9 * l.depth + 6
+abbrev pub decreases-items : goal.decreases-items
+decreases-items l = 9 * l.depth + 6
 
 abbrev pub decreases-some_consts : goal.decreases-some_consts
 decreases-some_consts l = 9 * l.depth + 4

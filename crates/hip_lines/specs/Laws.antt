@@ -1,0 +1,5 @@
+-- Laws of the definitions.
+pub mod ImageLaws
+pub mod LineLaws
+pub mod LooseLaws
+pub mod PendingLaws

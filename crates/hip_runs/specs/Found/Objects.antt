@@ -1,0 +1,38 @@
+-- The objects of a program in a run: its globals, and the live blocks on the stack. An address points into the object
+-- whose bytes contain it.
+use Rattle.std.specs.Prelude.{ℕ, suc, ◌+◌, cond, Bool, ◌&&◌, nat_le, nat_lt, List, [], ◌∷◌, Option, Some, None, option_map}
+use Rattle.hip_types.specs.Layout.{shape}
+use Rattle.hip_ir.specs.declared.program.GlobalVar.{GlobalVar}
+use Rattle.hip_ir.specs.declared.program.Program.{Program}
+use Rattle.hip_globals.specs.Addresses.{address_in}
+use Rattle.hip_runs.specs.declared.event.Object.{Object}
+use Rattle.hip_runs.specs.State.{Slot, Frame}
+use Rattle.hip_runs.specs.declared.event.Object.TheVariants as objects
+
+abbrev pub contains : ℕ → ℕ → ℕ → Bool
+contains at size a = nat_le at a && nat_lt a (at + size)
+
+-- the number of the global that contains the address, of these from number n on
+abbrev pub global_from : List GlobalVar → ℕ → ℕ → ℕ → List GlobalVar → Option ℕ
+global_from globals base a n [] = None
+global_from globals base a n (g ∷ gs) =
+    cond (contains (address_in globals base n) (shape g.ty).size a) (Some n) (global_from globals base a (suc n) gs)
+
+abbrev pub global_at : Program → ℕ → ℕ → Option ℕ
+global_at P base a = global_from P.globals base a 0 P.globals
+
+abbrev pub slot_in : List Slot → ℕ → Option Object
+slot_in [] a = None
+slot_in (x ∷ xs) a = cond (contains x.addr x.size a) (Some (objects.Slot x.site)) (slot_in xs a)
+
+abbrev pub or_else : Option Object → Option Object → Option Object
+or_else None later = later
+or_else (Some o) later = Some o
+
+abbrev pub slot_at : List Frame → ℕ → Option Object
+slot_at [] a = None
+slot_at (f ∷ fs) a = or_else (slot_in f.slots a) (slot_at fs a)
+
+-- the object that an address points into, where these frames stand
+abbrev pub object_at : Program → ℕ → List Frame → ℕ → Option Object
+object_at P base frames a = or_else (option_map objects.Global (global_at P base a)) (slot_at frames a)

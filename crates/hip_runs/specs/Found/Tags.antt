@@ -1,0 +1,76 @@
+-- What the loose bytes of a range tell of loose parts and of reports: a loose byte's tag is the step of the store
+-- that it is of.
+use Rattle.std.specs.Prelude.{◌≡◌, ℕ, Some, slice_get, nat_lt, suc, ◌+◌, ◌<◌, ◌≤◌, Bool, true, false, not, ◌||◌, nat_eq, List, [], ◌∷◌}
+use Rattle.std.specs.List.{list_all, list_any}
+use Rattle.hip_lines.specs.Line.{Line}
+use Rattle.hip_lines.specs.Loose.{IsLooseBy}
+use Rattle.hip_lines.specs.declared.part.LooseByte.{LooseByte}
+use Rattle.hip_runs.specs.declared.report.Report.{Report}
+use Rattle.hip_runs.specs.Crash.{covers}
+use Rattle.hip_runs.specs.StoredParts.Parts.{In}
+use Rattle.hip_runs.specs.Found.Reports.{LoosePart, Range, loose_parts, all_flushed, report_of}
+use Rattle.hip_runs.specs.StoredParts.Shown.{shown}
+use Rattle.hip_runs.specs.State.{StorePart, State, levels_of}
+use Rattle.hip_lines.specs.Parts as bytes
+
+-- the loose bytes of a range of a state's lines, as the code's lines yield them
+abbrev pub loose_bytes : State → ℕ → ℕ → List LooseByte
+loose_bytes s o n = bytes.loose_from (shown s.lines) o n
+
+-- A part of a step's store is loose, in the n bytes from o, where some byte of them is loose by it: it is the last
+-- part over the byte, and is not durable. It is flushed where it stands before the flushed number of its line.
+pub record IsLoosePart (o n made : ℕ) (ls : List (Line StorePart)) (p : LoosePart) : Type 0 where
+  pub line : ℕ
+  pub of : Line StorePart
+  pub place : ℕ
+  pub byte : ℕ
+  pub line_at : slice_get ls line ≡ Some of
+  pub loose : IsLooseBy covers of byte place p.part
+  pub low : o ≤ byte
+  pub high : byte < o + n
+  pub step : p.part.step ≡ made
+  pub flushed : p.flushed ≡ nat_lt place of.flushed
+
+-- one of the loose bytes has the tag
+abbrev pub has_tag : ℕ → List LooseByte → Bool
+has_tag made bs = list_any (λ b. nat_eq b.tag made) bs
+
+-- all loose bytes that have the tag are flushed
+abbrev pub tag_flushed : ℕ → List LooseByte → Bool
+tag_flushed made bs = list_all (λ b. not (nat_eq b.tag made) || b.flushed) bs
+
+abbrev pub has_some : {A : Type 0} → List A → Bool
+has_some [] = false
+has_some (x ∷ xs) = true
+
+-- The loose parts of a store, and the loose bytes that have its tag: each of either has one of the other that is
+-- flushed alike.
+pub record AreAlike (ps : List LoosePart) (bs : List LooseByte) (made : ℕ) : Type 0 where
+  pub byte_of : (p : LoosePart) → In p ps → (b : LooseByte) × In b bs × (b.tag ≡ made) × (b.flushed ≡ p.flushed)
+  pub part_of : (b : LooseByte) → In b bs → b.tag ≡ made → (p : LoosePart) × In p ps × (p.flushed ≡ b.flushed)
+
+-- A store has loose parts exactly where some loose byte has its tag, and all are flushed exactly where all those
+-- bytes are.
+pub record AreToldBy (ps : List LoosePart) (bs : List LooseByte) (made : ℕ) : Type 0 where
+  pub alike : AreAlike ps bs made
+  pub some : has_some ps ≡ has_tag made bs
+  pub flushed : all_flushed ps ≡ tag_flushed made bs
+
+-- the numbers ascend, the first of them at least a, and the last below b
+abbrev pub AscendWithin : ℕ → ℕ → List ℕ → Type 0
+AscendWithin a b [] = Unit {0}
+AscendWithin a b (x ∷ xs) = (a ≤ x) × (x < b) × AscendWithin (x + 1) b xs
+
+-- a function has nothing at the numbers from a up to b that are not in the list
+abbrev pub IsNoneBeside : {A : Type 0} → (ℕ → List A) → ℕ → ℕ → List ℕ → Type 0
+IsNoneBeside f a b xs = (y : ℕ) → a ≤ y → y < b → ¬ In y xs → f y ≡ []
+
+-- the ascending list holds the tags of all loose bytes of the range
+pub record HoldsTags (s : State) (range : Range) (tags : List ℕ) : Type 0 where
+  pub ascend : AscendWithin 0 s.counts.steps tags
+  pub holds : (b : LooseByte) → In b (loose_bytes s range.offset range.size) → In b.tag tags
+
+-- the reports of one store at a check
+abbrev pub reports_for : State → Range → ℕ → List Report
+reports_for s range made =
+    report_of (levels_of s.frames) (suc s.counts.entries) (loose_parts range.offset range.size s.lines made)

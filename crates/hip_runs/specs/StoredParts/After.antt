@@ -1,0 +1,30 @@
+-- The cache lines after a step, from its event and what stood before it.
+use Rattle.std.specs.Prelude.{ℕ, ◌-◌, List, Option, Some}
+use Rattle.hip_ir.specs.declared.site.Site.{Site}
+use Rattle.hip_lines.specs.Line.{Line, change_range, stored}
+use Rattle.hip_mem.specs.Bytes.{bytes_of}
+use Rattle.hip_runs.specs.declared.event.Event.{Event}
+use Rattle.hip_runs.specs.declared.input.Input.{Input}
+use Rattle.hip_runs.specs.StoredParts.Persistence.{part_of_store, flush_line, fenced_lines}
+use Rattle.hip_runs.specs.State.{Level, Flush, StorePart, Counts}
+use Rattle.hip_runs.specs.declared.event.Event.TheVariants as events
+
+-- the flush of a step at a site
+abbrev pub flush_at : Counts → Site → Flush
+flush_at counts site = record { step = counts.steps; site = site }
+
+-- the lines that an event names are flushed
+abbrev pub flushed_by : Input → Flush → ℕ → ℕ → List (Line StorePart) → List (Line StorePart)
+flushed_by I flush line size ls = change_range (λ _ l. flush_line flush l) (line - I.base) size ls
+
+-- The lines after a step with an event, where the top frame stood at a site, under these calls, and so much was
+-- counted.
+abbrev pub lines_after :
+    Input → Event → Counts → Option Site → List Level → List (Line StorePart) → List (Line StorePart)
+lines_after I (events.Store a v n) counts (Some site) levels ls =
+    stored (part_of_store counts site levels (a - I.base) (bytes_of n v)) (a - I.base) n ls
+lines_after I (events.Flush line size) counts (Some site) levels ls = flushed_by I (flush_at counts site) line size ls
+lines_after I (events.Persist line size) counts (Some site) levels ls =
+    fenced_lines (flushed_by I (flush_at counts site) line size ls)
+lines_after I events.Fence counts site levels ls = fenced_lines ls
+lines_after I _ counts site levels ls = ls

@@ -1,0 +1,44 @@
+-- What every run keeps: the history that the parts of stores carry, and the calls that they were made under.
+use Rattle.std.specs.Prelude.{◌≡◌, ℕ, ◌<◌, false, List, [], ◌∷◌, ◌++◌, Some, slice_get}
+use Rattle.hip_ir.specs.Sites.{instr_of}
+use Rattle.hip_ir.specs.declared.instr.Instr.{Instr}
+use Rattle.hip_ir.specs.declared.program.Program.{Program}
+use Rattle.hip_lines.specs.Line.{Line}
+use Rattle.hip_runs.specs.StoredParts.Parts.{In, PartOf}
+use Rattle.hip_runs.specs.Found.Reports.{is_open}
+use Rattle.hip_runs.specs.State.{Level, Flush, StorePart, State, levels_of}
+
+-- the calls were made one after another, each before the one above it, and all before step n
+abbrev pub AreDescending : List Level → ℕ → Type 0
+AreDescending [] n = Unit {0}
+AreDescending (l ∷ ls) n = (l.birth < n) × AreDescending ls l.birth
+
+-- The calls of a store are those that have returned, which are the innermost ones, and then the outermost ones of
+-- those that stand.
+pub record IsParted (standing levels : List Level) : Type 0 where
+  pub closed : List Level
+  pub open_ones : List Level
+  pub above : List Level
+  pub are : levels ≡ closed ++ open_ones
+  pub outermost : standing ≡ above ++ open_ones
+  pub returned : (v : Level) → In v closed → is_open standing v ≡ false
+
+pub record HasHistory (P : Program) (s : State) : Type 0 where
+  -- a part was made by an earlier step, and first flushed by a later one
+  pub made : (x : StorePart) → PartOf s.lines x → x.step < s.counts.steps
+  pub flush_made : (x : StorePart) (f : Flush) → PartOf s.lines x → x.first_flush ≡ Some f → f.step < s.counts.steps
+  -- the parts of one store have one history of fences
+  pub site : (x y : StorePart) → PartOf s.lines x → PartOf s.lines y → x.step ≡ y.step → x.site ≡ y.site
+  pub levels : (x y : StorePart) → PartOf s.lines x → PartOf s.lines y → x.step ≡ y.step → x.levels ≡ y.levels
+  pub entry : (x y : StorePart) → PartOf s.lines x → PartOf s.lines y → x.step ≡ y.step → x.entry ≡ y.entry
+  pub fenced : (x y : StorePart) → PartOf s.lines x → PartOf s.lines y → x.step ≡ y.step → x.fenced ≡ y.fenced
+  -- a part that is flushed has a first flush
+  pub flushed : (m k : ℕ) (l : Line StorePart) (x : StorePart) → slice_get s.lines m ≡ Some l →
+      slice_get l.parts k ≡ Some x → k < l.flushed → (f : Flush) × (x.first_flush ≡ Some f)
+  -- stores, flushes and calls stand in the program
+  pub site_there : (x : StorePart) → PartOf s.lines x → (i : Instr) × (instr_of P x.site ≡ Some i)
+  pub flush_there : (x : StorePart) (f : Flush) → PartOf s.lines x → x.first_flush ≡ Some f →
+      (i : Instr) × (instr_of P f.site ≡ Some i)
+  pub call_there : (x : StorePart) (v : Level) → PartOf s.lines x → In v x.levels →
+      (i : Instr) × (instr_of P v.call ≡ Some i)
+  pub split : (x : StorePart) → PartOf s.lines x → IsParted (levels_of s.frames) x.levels

@@ -1,0 +1,4 @@
+-- Laws of the definitions.
+pub mod DistinctLaws
+pub mod LayoutLaws
+pub mod PartLaws

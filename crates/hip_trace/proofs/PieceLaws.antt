@@ -1,14 +1,13 @@
 -- The first piece of what is ahead.
-use Rattle.std.proofs.Common.{◌≡◌, ℕ, zero, suc, ◌+◌, ◌<◌, ◌≤◌, Bool, true, false, ◌||◌, List, [], ◌∷◌, ◌++◌, length, take, drop, get_or, map, slice_get, Option, Some, None, IfSome, refl, sym, ap, subst, ◌∙◌, arith, append_assoc, length-append, add-one, drop-cons}
-use Rattle.std.specs.Prelude.{position, option_map, cond, nat_lt}
-use Rattle.std.specs.List.{list_any, onto_first, position_or_len, slice_split}
+use Rattle.std.proofs.Common.{◌≡◌, ℕ, suc, ◌+◌, ◌<◌, ◌≤◌, Bool, true, false, ◌||◌, List, [], ◌∷◌, ◌++◌, length, take, drop, get_or, map, slice_get, Some, None, refl, sym, ap, subst, ◌∙◌, arith, length-append, add-one, drop-cons}
+use Rattle.std.specs.Prelude.{position, cond, nat_lt}
+use Rattle.std.specs.List.{list_any, onto_first, position_or_len}
 use Rattle.std.proofs.lemmas.Bool.{lt-ltb, ltb-false, le-ltb}
 use Rattle.std.proofs.lemmas.List.{take-append-drop, get_or-take, length-take}
 use Rattle.std.proofs.lemmas.List.Quantifiers.{position-Some}
 use Rattle.hip_trace.specs.Entries.{entry_of}
 use Rattle.hip_trace.specs.Numbers.{is_nonempty}
 use Rattle.hip_trace.specs.Pieces.{is_separator, parts, counted, pieces, spelled}
-use Rattle.hip_trace.specs.declared.entry.Entry.{Entry}
 use Rattle.hip_trace.proofs.FieldLaws.{some_field}
 
 -- ---- bytes with no separator

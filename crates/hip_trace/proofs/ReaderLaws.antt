@@ -1,5 +1,5 @@
 -- From what stands first in what a reader holds to what `next` answers.
-use Rattle.std.proofs.Common.{◌≡◌, ℕ, ◌+◌, ◌<◌, ◌≤◌, Bool, true, false, List, [], ◌∷◌, ◌++◌, length, take, drop, get_or, slice_get, Option, Some, None, IfSome, Result, Ok, Err, inl, inr, refl, sym, ap, subst, ◌∙◌, arith, append_assoc}
+use Rattle.std.proofs.Common.{◌≡◌, ℕ, ◌+◌, ◌<◌, ◌≤◌, true, false, List, [], ◌∷◌, ◌++◌, length, take, drop, get_or, slice_get, Option, Some, None, IfSome, Result, Ok, Err, inl, inr, refl, sym, ap, subst, ◌∙◌, arith, append_assoc}
 use Rattle.std.specs.Prelude.{option_map, position, if◌then◌else◌}
 use Rattle.std.proofs.lemmas.List.{append-nil, take_all, drop_all}
 use Rattle.std.specs.List.{list_any}
@@ -9,13 +9,13 @@ use Rattle.hip_trace.specs.Numbers.{is_nonempty}
 use Rattle.hip_trace.specs.Entries.{entry_of}
 use Rattle.hip_trace.specs.Fronts.{FindsFront, HasRestFirst, HasFailedFirst, HoldsMore, HasTakenSome, HasTakenNothing, HasFailedMore, AnswersFront, answers_piece, answers_rest, IsFrontOf}
 use Rattle.hip_trace.specs.Pieces.{is_separator, spelled}
-use Rattle.hip_trace.specs.Reads.{ReaderState, after_held, ahead, entries_left, IsReading, EndsAtSeparator, EndsWithFile, TakesPiece, ReadsOn, one_more}
+use Rattle.hip_trace.specs.Reads.{ReaderState, after_held, ahead, entries_left, IsReading, TakesPiece, ReadsOn, one_more}
 use Rattle.hip_trace.specs.declared.entry.Entry.{Entry}
 use Rattle.hip_trace.specs.declared.front.Front.{Front}
 use Rattle.hip_trace.specs.declared.front.Front.TheVariants as fronts
 use Rattle.hip_trace.specs.declared.refusal.TraceRefusal.{TraceRefusal}
 use Rattle.hip_trace.specs.declared.refusal.TraceRefusal.TheVariants.{Malformed, ReadFault}
-use Rattle.hip_trace.proofs.PieceLaws.{cut_at, IsCut, none_found, spelled_at, spelled_last, spelled_long, no_piece}
+use Rattle.hip_trace.proofs.PieceLaws.{cut_at, none_found, spelled_at, spelled_last, spelled_long, no_piece}
 
 -- ---- under the option of what is told
 

@@ -1,14 +1,15 @@
 -- The canonical text of an entry that some text spells: it spells the entry, and is no longer.
 use Rattle.std.proofs.Common.{◌≡◌, ℕ, ℤ, pos, negsuc, zero, suc, ◌+◌, ◌*◌, ◌/◌, ◌%◌, ◌^◌, ◌<◌, ◌≤◌, Bool, true, false, ◌||◌, ◌&&◌, List, [], ◌∷◌, ◌++◌, length, drop, Option, Some, None, Ok, Err, Result, nat_lt, slice_index, rules, refl, sym, ap, subst, ◌∙◌, arith, append_assoc, length-append, FitsSigned, w64}
-use Rattle.std.specs.Prelude.{if◌then◌else◌, cond, codes, decimal, option_map, option_and_then, nat_eq, ◌==◌, neg_ℤ}
+use Rattle.std.specs.Prelude.{if◌then◌else◌, cond, codes, decimal, option_map, option_and_then, ◌==◌, neg_ℤ}
 use Rattle.std.specs.Char.{digit_value}
 use Rattle.std.specs.Fmt.{digits, digits_onto, digit_glyph, signed_decimal}
-use Rattle.std.specs.List.{list_any, onto_first, slice_split}
+use Rattle.std.specs.List.{list_any, onto_first}
 use Rattle.std.specs.Result.{result_ok}
 use Rattle.std.specs.Str.{bytes_eq}
 use Rattle.std.specs.Str.Parse.{AllDigits, IsNumeral, digits_value}
+use native.Mathlib.Nat.{pow-zero}
 use Rattle.std.proofs.Math.Nat.{pow-suc}
-use Rattle.std.proofs.lemmas.Bool.{eqb-true, ltb-true, lt-ltb, le-ltb, ltb-false, and_parts}
+use Rattle.std.proofs.lemmas.Bool.{eqb-true, ltb-true, le-ltb, ltb-false, and_parts}
 use Rattle.std.proofs.lemmas.Slice.Eq.{bytes_eq-Decides}
 use Rattle.std.specs.Cmp.Derive.{both_true}
 use Rattle.std.proofs.lemmas.List.{append-nil, length-drop}
@@ -17,8 +18,8 @@ use Rattle.std.proofs.lemmas.Int.Digits.{digits_value-lt}
 use Rattle.hex.specs.Hex.{decode_sized, encode_lower, encode_with, lower_digits}
 use Rattle.hex.proofs.HexLemmas.{decode_of-encode_lower, decode_of-ok, decode_sized-ok, decode_sized-twice, length-encode_with}
 use Rattle.hex.specs.declared.error.FromHexError.{FromHexError}
-use Rattle.hip_num.specs.Texts.{hexadecimal, IsNumber, IsHexadecimal, has_minus, signed_digits, signed_value}
-use Rattle.hip_num.specs.TextLaws.{decimal-value, decimal-number, hexadecimal-value, hexadecimal-number, signed_decimal-value, signed_decimal-number}
+use Rattle.hip_num.specs.Texts.{hexadecimal, has_minus, signed_digits, signed_value}
+use Rattle.hip_num.specs.Laws.TextLaws.{decimal-value, decimal-number, hexadecimal-value, hexadecimal-number, signed_decimal-value, signed_decimal-number}
 use Rattle.hip_tokens.specs.Bytes.{byte}
 use Rattle.hip_trace.specs.Numbers.{decimal_of, hex_of, is_number, is_hexadecimal, in_range, is_signed, signed_of, are_digits}
 use Rattle.hip_trace.specs.Entries.{fields, one_field, two_fields, three_fields, two_numbers, start, register, input, line_bytes, image_at, image, is_store_size, sized_store, store, are_lines, some_lines, flush, persist, assert, stop, trap_text, trap_of, trap, alone, entry_by, entry_of}
@@ -108,7 +109,7 @@ onto_length (suc k) base n j acc low lt = go (n / base == 0) refl j lt (λ i roo
     go : (b : Bool) → (n / base == 0) ≡ b → (i : ℕ) → n < base ^ suc i → ((m : ℕ) → n / base < base ^ suc m → length (digits_onto k base false (n / base) (digit_glyph false (n % base) ∷ acc)) ≤ length (digit_glyph false (n % base) ∷ acc) + suc m) → length (if b then digit_glyph false (n % base) ∷ acc else digits_onto k base false (n / base) (digit_glyph false (n % base) ∷ acc)) ≤ length acc + suc i
     go true e i less ih = omega arith
     go false e zero less ih =
-        let one : n < 1 * base = subst (λ (x : ℕ). n < x) (pow-suc base 0) less in
+        let one : n < 1 * base = subst (λ (x : ℕ). n < x) (pow-suc base 0 ∙ ap (λ (x : ℕ). x * base) (pow-zero base)) less in
         let none = div_below n base 1 (omega arith) one in
         let zeroed : n / base ≡ 0 = omega (arith, none) in
         let tested : (n / base == 0) ≡ true = rw zeroed refl in
@@ -326,7 +327,7 @@ numbers_again fs n e =
     subst (NumbersAgain fs) b.2 (record {
       again = ap (option_and_then (λ x. option_map (λ y. (x, y)) (hex_of (hexadecimal b.0)))) first.again ∙ ap (option_map (λ y. (a.0, y))) second.again;
       short = omega (arith, len, shorts, shorter);
-      plain = (first.plain, second.plain, tt);
+      plain = (first.plain, (second.plain, tt));
     })
 
 -- an entry of a word and its fields, read again from its canonical fields
@@ -444,7 +445,7 @@ image_again fs e k =
       named = refl;
       again = ap (option_and_then (λ addr. image_at addr (line_bytes (encode_lower b.0)))) first.again ∙ ap (image_at a.0) second.again ∙ there;
       short = omega (arith, len, shorts, shorter);
-      plain = (first.plain, second.plain, tt);
+      plain = (first.plain, (second.plain, tt));
     })
 
 sized_same : (addr value size : ℕ) (e : Entry) → sized_store addr value size ≡ Some e → Store addr value size ≡ e
@@ -475,7 +476,7 @@ store_again fs e k =
           ∙ ap (option_and_then (λ value. option_and_then (λ size. sized_store a.0 value size) (hex_of (hexadecimal s.0)))) second.again
           ∙ ap (option_and_then (λ size. sized_store a.0 v.0 size)) third.again ∙ s.2 ∙ ap (λ (x : Entry). Some x) (sym same);
       short = omega (arith, len, shorts, shorter, shortest);
-      plain = (first.plain, second.plain, third.plain, tt);
+      plain = (first.plain, (second.plain, (third.plain, tt)));
     })
 
 alone_same : (e : Entry) (fs : List (List ℕ)) (x : Entry) → alone e fs ≡ Some x → e ≡ x

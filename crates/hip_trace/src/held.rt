@@ -104,5 +104,7 @@ fn take_behind<C: Cabinet>(bytes: &mut [u8], front: usize, cabinet: &mut C) -> T
 fn position_of_separator(bytes: &[u8]) -> Option<usize>
     ensures { result ≡ position is_separator bytes.now }
 {
-    bytes.iter().position(|byte| *byte == b'|' || *byte == b'\n')
+    bytes
+        .iter()
+        .position(|byte| *byte == b'|' || *byte == b'\n')
 }

@@ -47,7 +47,11 @@ fn image_at(addr: u64, bytes: Option<[u8; 64]>) -> Option<Entry>
     ensures { result ≡ image_at addr bytes }
 {
     match bytes {
-        Some(bytes) => if addr % 64 == 0 { Some(Entry::Image { addr, bytes }) } else { None },
+        Some(bytes) => if addr % 64 == 0 {
+            Some(Entry::Image { addr, bytes })
+        } else {
+            None
+        },
         None => None,
     }
 }

@@ -1,4 +1,4 @@
-use Rattle.std.proofs.Common.{ℕ, ◌≤◌, length, slice_range, arith, ap, drop, ◌∙◌, subst}
+use Rattle.std.proofs.Common.{ℕ, ◌≤◌, length, slice_range, arith, ap, drop, ◌∙◌}
 use Rattle.std.proofs.lemmas.List.{length-take, length-drop}
 use Rattle.hip_trace.proofs.HeldLaws.{skipped}
 use Rattle.hip_trace.proofs.held.Held.skip.Goals as goal

@@ -1,4 +1,4 @@
-use Rattle.std.proofs.Common.{ℕ, ◌∙◌, drop}
+use Rattle.std.proofs.Common.{◌∙◌, drop}
 use Rattle.hip_trace.proofs.HeldLaws.{behind_front, got_more}
 use Rattle.hip_trace.proofs.held.Held.take_more.Goals as goal
 

@@ -1,4 +1,4 @@
-use Rattle.std.proofs.Common.{◌∙◌, refl, subst, ap}
+use Rattle.std.proofs.Common.{refl, subst}
 use Rattle.hip_trace.specs.Reads.{ReaderState, ReadsOn}
 use Rattle.hip_trace.proofs.ReaderLaws.{reads_on, front_within, stays_current}
 use Rattle.hip_trace.proofs.reader.Reader.read_on.Goals as goal

@@ -54,7 +54,9 @@ const SPELLINGS: &[Spelling] = &[
     },
     Spelling {
         text: b"START;18446744073709551615",
-        entry: Entry::Start { limit: 18_446_744_073_709_551_615 },
+        entry: Entry::Start {
+            limit: 18_446_744_073_709_551_615,
+        },
         canonical: "START;18446744073709551615\n",
     },
     Spelling {
@@ -72,12 +74,16 @@ const SPELLINGS: &[Spelling] = &[
     },
     Spelling {
         text: b"INPUT;-9223372036854775808",
-        entry: Entry::Input { number: -9_223_372_036_854_775_808 },
+        entry: Entry::Input {
+            number: -9_223_372_036_854_775_808,
+        },
         canonical: "INPUT;-9223372036854775808\n",
     },
     Spelling {
         text: b"INPUT;9223372036854775807",
-        entry: Entry::Input { number: 9_223_372_036_854_775_807 },
+        entry: Entry::Input {
+            number: 9_223_372_036_854_775_807,
+        },
         canonical: "INPUT;9223372036854775807\n",
     },
     Spelling {
@@ -126,17 +132,23 @@ const SPELLINGS: &[Spelling] = &[
     },
     Spelling {
         text: b"STOP;-2147483648",
-        entry: Entry::Stop { code: -2_147_483_648 },
+        entry: Entry::Stop {
+            code: -2_147_483_648,
+        },
         canonical: "STOP;-2147483648\n",
     },
     Spelling {
         text: b"TRAP;divoverflow",
-        entry: Entry::Trap { kind: TrapWord::DivOverflow },
+        entry: Entry::Trap {
+            kind: TrapWord::DivOverflow,
+        },
         canonical: "TRAP;divoverflow\n",
     },
     Spelling {
         text: b"TRAP;input",
-        entry: Entry::Trap { kind: TrapWord::InputEnd },
+        entry: Entry::Trap {
+            kind: TrapWord::InputEnd,
+        },
         canonical: "TRAP;input\n",
     },
     Spelling {
@@ -152,7 +164,11 @@ fn read_and_written(rt: HostRuntime) -> Result<(), Fail> {
         let mut cabinet = file(rt.alloc(), case.text, 7)?;
         assert_reads(&rt, &mut cabinet, &[case.entry], Ok(None), case.canonical);
         let mut sink = MemSink::new(rt.alloc(), 200)?;
-        assert!(rt; write_entry(&case.entry, &mut sink).is_ok(), "{}", case.canonical);
+        assert!(rt;
+            write_entry(&case.entry, &mut sink).is_ok(),
+            "{}",
+            case.canonical
+        );
         assert_eq!(rt; sink.bytes(), case.canonical.as_bytes());
     }
     Ok(())
@@ -204,7 +220,13 @@ fn malformed(rt: HostRuntime) -> Result<(), Fail> {
         bytes.extend_from_slice(text.as_bytes())?;
         bytes.push(b'\n')?;
         let mut cabinet = file(rt.alloc(), bytes.as_slice(), 4096)?;
-        assert_reads(&rt, &mut cabinet, &[Entry::Cut], Err(TraceRefusal::Malformed), text);
+        assert_reads(
+            &rt,
+            &mut cabinet,
+            &[Entry::Cut],
+            Err(TraceRefusal::Malformed),
+            text,
+        );
     }
     Ok(())
 }
@@ -231,7 +253,13 @@ const TWO_STORES_ENTRIES: &[Entry] = &[
 fn cut_anywhere(rt: HostRuntime) -> Result<(), Fail> {
     for chunk in 1..60 {
         let mut cabinet = file(rt.alloc(), TWO_STORES, chunk)?;
-        assert_reads(&rt, &mut cabinet, TWO_STORES_ENTRIES, Ok(None), "two stores");
+        assert_reads(
+            &rt,
+            &mut cabinet,
+            TWO_STORES_ENTRIES,
+            Ok(None),
+            "two stores",
+        );
     }
     let mut cabinet = file(rt.alloc(), b"", 1)?;
     assert_reads(&rt, &mut cabinet, &[], Ok(None), "no byte");
@@ -265,7 +293,13 @@ fn longest_entry(rt: HostRuntime) -> Result<(), Fail> {
         assert_reads(&rt, &mut cabinet, &[store], Ok(None), "256 bytes");
         let text = long_store(rt.alloc(), 257)?;
         let mut cabinet = file(rt.alloc(), text.as_slice(), chunk)?;
-        assert_reads(&rt, &mut cabinet, &[], Err(TraceRefusal::Malformed), "257 bytes");
+        assert_reads(
+            &rt,
+            &mut cabinet,
+            &[],
+            Err(TraceRefusal::Malformed),
+            "257 bytes",
+        );
     }
     Ok(())
 }
@@ -284,7 +318,13 @@ fn images(rt: HostRuntime) -> Result<(), Fail> {
     }
     text.extend_from_slice(b"05|IMAGE;0x41;00")?;
     let mut cabinet = file(rt.alloc(), text.as_slice(), 100)?;
-    assert_reads(&rt, &mut cabinet, &[image], Err(TraceRefusal::Malformed), "image");
+    assert_reads(
+        &rt,
+        &mut cabinet,
+        &[image],
+        Err(TraceRefusal::Malformed),
+        "image",
+    );
     let mut sink = MemSink::new(rt.alloc(), 200)?;
     assert!(rt; write_entry(&image, &mut sink).is_ok());
     assert_eq!(rt; sink.bytes().len(), 140);
@@ -300,7 +340,13 @@ fn fault_in_the_middle(rt: HostRuntime) -> Result<(), Fail> {
     let name = Row::from_slice(rt.alloc(), b"t")?;
     let mut cabinet = FailingCabinet::new(inner, name, FailAt::Byte(9));
     let first = Entry::Start { limit: 7 };
-    assert_reads(&rt, &mut cabinet, &[first], Err(TraceRefusal::ReadFault), "fault");
+    assert_reads(
+        &rt,
+        &mut cabinet,
+        &[first],
+        Err(TraceRefusal::ReadFault),
+        "fault",
+    );
     Ok(())
 }
 

@@ -44,6 +44,8 @@ mod spelling;
 #[cfg(test)]
 mod tokens;
 #[cfg(test)]
+mod trace_entries;
+#[cfg(test)]
 mod trace_misfits;
 #[cfg(test)]
 mod trees;

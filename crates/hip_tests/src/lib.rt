@@ -48,6 +48,8 @@ mod spelling;
 #[cfg(test)]
 mod tokens;
 #[cfg(test)]
+mod trace_entries;
+#[cfg(test)]
 mod trace_misfits;
 #[cfg(test)]
 mod trees;

@@ -1,0 +1,375 @@
+//! Entries of traces, read however the bytes are cut, and written.
+
+ghost use Rattle.std.specs.Prelude.{◌≤◌};
+
+use hip_io::{Cabinet, FailAt, FailingCabinet, Fetched, MemCabinet, MemSink, NamedFile};
+use hip_trace::{Entry, Reader, TraceRefusal, TrapWord, write_entry};
+use hip_types::{NoMemory, Row};
+use std::alloc::Global;
+use std::process::Abort;
+use std::test::Fail;
+
+/// The only file, by the name `t`.
+fn file(alloc: Global, text: &[u8], chunk: usize) -> Result<MemCabinet, Fail>
+    requires { 1 ≤ chunk }
+{
+    let mut files = Row::new(alloc);
+    files.push(NamedFile {
+        name: Row::from_slice(alloc, b"t")?,
+        bytes: Row::from_slice(alloc, text)?,
+    })?;
+    Ok(MemCabinet::new(files, chunk))
+}
+
+/// Reads the entries of the file `t`, and what comes behind them twice.
+fn assert_reads<C: Cabinet>(
+    rt: &impl Abort,
+    cabinet: &mut C,
+    entries: &[Entry],
+    end: Result<Option<Entry>, TraceRefusal>,
+    case: &str,
+) {
+    let fetched = cabinet.fetch("t");
+    assert!(rt; matches!(fetched, Fetched::Ready), "{case}");
+    let mut reader = Reader::new();
+    for entry in entries {
+        assert_eq!(rt; reader.next(cabinet), Ok(Some(*entry)), "{case}");
+    }
+    assert_eq!(rt; reader.next(cabinet), end, "{case}");
+    assert_eq!(rt; reader.next(cabinet), end, "{case}");
+}
+
+/// A text that spells an entry, and the entry's canonical text.
+struct Spelling {
+    text: &'static [u8],
+    entry: Entry,
+    canonical: &'static str,
+}
+
+const SPELLINGS: &[Spelling] = &[
+    Spelling {
+        text: b"START;00",
+        entry: Entry::Start { limit: 0 },
+        canonical: "START;0\n",
+    },
+    Spelling {
+        text: b"START;18446744073709551615",
+        entry: Entry::Start {
+            limit: 18_446_744_073_709_551_615,
+        },
+        canonical: "START;18446744073709551615\n",
+    },
+    Spelling {
+        text: b"REGISTER;0x100000000;0x0040",
+        entry: Entry::Register {
+            base: 4_294_967_296,
+            size: 64,
+        },
+        canonical: "REGISTER;0x100000000;0x40\n",
+    },
+    Spelling {
+        text: b"INPUT;-0",
+        entry: Entry::Input { number: 0 },
+        canonical: "INPUT;0\n",
+    },
+    Spelling {
+        text: b"INPUT;-9223372036854775808",
+        entry: Entry::Input {
+            number: -9_223_372_036_854_775_808,
+        },
+        canonical: "INPUT;-9223372036854775808\n",
+    },
+    Spelling {
+        text: b"INPUT;9223372036854775807",
+        entry: Entry::Input {
+            number: 9_223_372_036_854_775_807,
+        },
+        canonical: "INPUT;9223372036854775807\n",
+    },
+    Spelling {
+        text: b"STORE;0xABcdEF;0xff;0x1",
+        entry: Entry::Store {
+            addr: 11_259_375,
+            value: 255,
+            size: 1,
+        },
+        canonical: "STORE;0xabcdef;0xff;0x1\n",
+    },
+    Spelling {
+        text: b"STORE;0xffffffffffffffff;0xffffffffffffffff;0x8",
+        entry: Entry::Store {
+            addr: 18_446_744_073_709_551_615,
+            value: 18_446_744_073_709_551_615,
+            size: 8,
+        },
+        canonical: "STORE;0xffffffffffffffff;0xffffffffffffffff;0x8\n",
+    },
+    Spelling {
+        text: b"FLUSH;0xffffffffffffffc0;0x40",
+        entry: Entry::Flush {
+            addr: 18_446_744_073_709_551_552,
+            size: 64,
+        },
+        canonical: "FLUSH;0xffffffffffffffc0;0x40\n",
+    },
+    Spelling {
+        text: b"FENCE",
+        entry: Entry::Fence,
+        canonical: "FENCE\n",
+    },
+    Spelling {
+        text: b"PERSIST;0x80;0x80",
+        entry: Entry::Persist {
+            addr: 128,
+            size: 128,
+        },
+        canonical: "PERSIST;0x80;0x80\n",
+    },
+    Spelling {
+        text: b"ASSERT;0x1;0x0",
+        entry: Entry::Assert { addr: 1, size: 0 },
+        canonical: "ASSERT;0x1;0x0\n",
+    },
+    Spelling {
+        text: b"STOP;-2147483648",
+        entry: Entry::Stop {
+            code: -2_147_483_648,
+        },
+        canonical: "STOP;-2147483648\n",
+    },
+    Spelling {
+        text: b"TRAP;divoverflow",
+        entry: Entry::Trap {
+            kind: TrapWord::DivOverflow,
+        },
+        canonical: "TRAP;divoverflow\n",
+    },
+    Spelling {
+        text: b"TRAP;input",
+        entry: Entry::Trap {
+            kind: TrapWord::InputEnd,
+        },
+        canonical: "TRAP;input\n",
+    },
+    Spelling {
+        text: b"CUT",
+        entry: Entry::Cut,
+        canonical: "CUT\n",
+    },
+];
+
+#[test]
+fn read_and_written(rt: HostRuntime) -> Result<(), Fail> {
+    for case in SPELLINGS {
+        let mut cabinet = file(rt.alloc(), case.text, 7)?;
+        assert_reads(&rt, &mut cabinet, &[case.entry], Ok(None), case.canonical);
+        let mut sink = MemSink::new(rt.alloc(), 200)?;
+        assert!(rt;
+            write_entry(&case.entry, &mut sink).is_ok(),
+            "{}",
+            case.canonical
+        );
+        assert_eq!(rt; sink.bytes(), case.canonical.as_bytes());
+    }
+    Ok(())
+}
+
+const MALFORMED: &[&str] = &[
+    "",
+    "start;1",
+    "START",
+    "START;",
+    "START;+5",
+    "START;-1",
+    "START;1;2",
+    "START;18446744073709551616",
+    "REGISTER;0x1",
+    "REGISTER;1;0x1",
+    "REGISTER;0X1;0x1",
+    "INPUT;-",
+    "INPUT;9223372036854775808",
+    "INPUT;-9223372036854775809",
+    "STORE;0x0;0x100;0x1",
+    "STORE;0x0;0x10000;0x2",
+    "STORE;0x0;0x100000000;0x4",
+    "STORE;0x0;0x0;0x3",
+    "STORE;0x0;0x0;0x0",
+    "STORE;0x0;0x0",
+    "STORE;0x0;0x10000000000000000;0x8",
+    "FLUSH;0x1;0x40",
+    "FLUSH;0x40;0x0",
+    "FLUSH;0x40;0x41",
+    "FLUSH;0xffffffffffffffc0;0x80",
+    "FENCE;",
+    "PERSIST;0x20;0x40",
+    "ASSERT;0x0",
+    "STOP;2147483648",
+    "STOP;-2147483649",
+    "TRAP;Stack",
+    "TRAP;",
+    "CUT\r",
+    "IMAGE;0x40;00",
+];
+
+/// A text and a separator behind it, with an entry in front.
+#[test]
+fn malformed(rt: HostRuntime) -> Result<(), Fail> {
+    for text in MALFORMED {
+        let mut bytes = Vec::new(rt.alloc());
+        bytes.extend_from_slice(b"CUT|")?;
+        bytes.extend_from_slice(text.as_bytes())?;
+        bytes.push(b'\n')?;
+        let mut cabinet = file(rt.alloc(), bytes.as_slice(), 4096)?;
+        assert_reads(
+            &rt,
+            &mut cabinet,
+            &[Entry::Cut],
+            Err(TraceRefusal::Malformed),
+            text,
+        );
+    }
+    Ok(())
+}
+
+const TWO_STORES: &[u8] = b"START;7|STORE;0x40;0x1;0x8\nSTORE;0x48;0x2;0x8|CUT";
+
+const TWO_STORES_ENTRIES: &[Entry] = &[
+    Entry::Start { limit: 7 },
+    Entry::Store {
+        addr: 64,
+        value: 1,
+        size: 8,
+    },
+    Entry::Store {
+        addr: 72,
+        value: 2,
+        size: 8,
+    },
+    Entry::Cut,
+];
+
+/// The last piece has no separator. Its end is the file's.
+#[test]
+fn cut_anywhere(rt: HostRuntime) -> Result<(), Fail> {
+    for chunk in 1..60 {
+        let mut cabinet = file(rt.alloc(), TWO_STORES, chunk)?;
+        assert_reads(
+            &rt,
+            &mut cabinet,
+            TWO_STORES_ENTRIES,
+            Ok(None),
+            "two stores",
+        );
+    }
+    let mut cabinet = file(rt.alloc(), b"", 1)?;
+    assert_reads(&rt, &mut cabinet, &[], Ok(None), "no byte");
+    Ok(())
+}
+
+/// A store of which the address has as many leading zeros as make the text that long.
+fn long_store(alloc: Global, len: usize) -> Result<Vec<u8>, NoMemory>
+    requires { len ≤ 1000 }
+{
+    let mut text = Vec::new(alloc);
+    text.extend_from_slice(b"STORE;0x")?;
+    for _ in 17..len {
+        text.push(b'0')?;
+    }
+    text.extend_from_slice(b"1;0x2;0x8")?;
+    Ok(text)
+}
+
+#[test]
+fn longest_entry(rt: HostRuntime) -> Result<(), Fail> {
+    let store = Entry::Store {
+        addr: 1,
+        value: 2,
+        size: 8,
+    };
+    for chunk in [1, 7, 4096] {
+        let text = long_store(rt.alloc(), 256)?;
+        assert_eq!(rt; text.len(), 256);
+        let mut cabinet = file(rt.alloc(), text.as_slice(), chunk)?;
+        assert_reads(&rt, &mut cabinet, &[store], Ok(None), "256 bytes");
+        let text = long_store(rt.alloc(), 257)?;
+        let mut cabinet = file(rt.alloc(), text.as_slice(), chunk)?;
+        assert_reads(
+            &rt,
+            &mut cabinet,
+            &[],
+            Err(TraceRefusal::Malformed),
+            "257 bytes",
+        );
+    }
+    Ok(())
+}
+
+/// A line whose first byte is 171 and whose last is 5; the text has upper case and then lower case.
+#[test]
+fn images(rt: HostRuntime) -> Result<(), Fail> {
+    let mut bytes = [0; 64];
+    bytes[0] = 171;
+    bytes[63] = 5;
+    let image = Entry::Image { addr: 64, bytes };
+    let mut text = Vec::new(rt.alloc());
+    text.extend_from_slice(b"IMAGE;0x40;AB")?;
+    for _ in 0..62 {
+        text.extend_from_slice(b"00")?;
+    }
+    text.extend_from_slice(b"05|IMAGE;0x41;00")?;
+    let mut cabinet = file(rt.alloc(), text.as_slice(), 100)?;
+    assert_reads(
+        &rt,
+        &mut cabinet,
+        &[image],
+        Err(TraceRefusal::Malformed),
+        "image",
+    );
+    let mut sink = MemSink::new(rt.alloc(), 200)?;
+    assert!(rt; write_entry(&image, &mut sink).is_ok());
+    assert_eq!(rt; sink.bytes().len(), 140);
+    assert_eq!(rt; &sink.bytes()[..15], b"IMAGE;0x40;ab00".as_slice());
+    assert_eq!(rt; &sink.bytes()[136..], b"005\n".as_slice());
+    Ok(())
+}
+
+/// The file fails behind its ninth byte: the first entry is read before that.
+#[test]
+fn fault_in_the_middle(rt: HostRuntime) -> Result<(), Fail> {
+    let inner = file(rt.alloc(), TWO_STORES, 4)?;
+    let name = Row::from_slice(rt.alloc(), b"t")?;
+    let mut cabinet = FailingCabinet::new(inner, name, FailAt::Byte(9));
+    let first = Entry::Start { limit: 7 };
+    assert_reads(
+        &rt,
+        &mut cabinet,
+        &[first],
+        Err(TraceRefusal::ReadFault),
+        "fault",
+    );
+    Ok(())
+}
+
+#[test]
+fn texts_are_counted(rt: HostRuntime) -> Result<(), Fail> {
+    let mut cabinet = file(rt.alloc(), b"CUT|CUT||CUT", 5)?;
+    let fetched = cabinet.fetch("t");
+    assert!(rt; matches!(fetched, Fetched::Ready));
+    let mut reader = Reader::new();
+    assert_eq!(rt; reader.count(), 0);
+    assert_eq!(rt; reader.next(&mut cabinet), Ok(Some(Entry::Cut)));
+    assert_eq!(rt; reader.next(&mut cabinet), Ok(Some(Entry::Cut)));
+    assert_eq!(rt; reader.count(), 2);
+    assert_eq!(rt; reader.next(&mut cabinet), Err(TraceRefusal::Malformed));
+    assert_eq!(rt; reader.next(&mut cabinet), Err(TraceRefusal::Malformed));
+    assert_eq!(rt; reader.count(), 3);
+    Ok(())
+}
+
+#[test]
+fn no_room(rt: HostRuntime) -> Result<(), Fail> {
+    let mut sink = MemSink::new(rt.alloc(), 3)?;
+    assert!(rt; write_entry(&Entry::Cut, &mut sink).is_err());
+    assert_eq!(rt; sink.bytes(), b"CUT".as_slice());
+    Ok(())
+}

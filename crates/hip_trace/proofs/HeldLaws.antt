@@ -1,0 +1,34 @@
+-- The bytes of a buffer from one place to another, and what is ahead of them in a file.
+use Rattle.std.proofs.Common.{◌≡◌, ℕ, ◌+◌, ◌-◌, ◌≤◌, List, ◌++◌, length, take, drop, slice_range, Option, Some, None, refl, sym, ap, ◌∙◌, arith, append_assoc, length-append}
+use Rattle.std.proofs.lemmas.List.{drop-take, drop-drop, length-take-le}
+use Rattle.std.specs.Prelude.{option_map}
+use Rattle.hip_io.specs.Cabinets.{CabinetState, HasGot}
+use Rattle.hip_trace.specs.Fronts.{HasTakenSome}
+use lib.Seq.{take-add}
+
+pub skipped : (xs : List ℕ) (start end count : ℕ) → start + count ≤ end → slice_range xs (start + count) end ≡ drop count (slice_range xs start end)
+skipped xs start end count inside =
+    let parts : end - start ≡ count + (end - (start + count)) = omega arith in
+    sym (ap (λ j. drop count (take j (drop start xs))) parts ∙ drop-take count _ (drop start xs) ∙ ap (take (end - (start + count))) (drop-drop count start xs))
+
+pub behind_front : (front n : ℕ) (held xs : List ℕ) → take front xs ≡ held → slice_range xs 0 (front + n) ≡ held ++ take n (drop front xs)
+behind_front front n held xs e =
+    let all : front + n - 0 ≡ front + n = omega arith in
+    ap (λ (j : ℕ). take j xs) all ∙ take-add front n xs ∙ ap (λ (h : List ℕ). h ++ take n (drop front xs)) e
+
+moved : (held t : List ℕ) (old new : Option (List ℕ)) → old ≡ option_map (λ rest. t ++ rest) new → option_map (λ rest. (held ++ t) ++ rest) new ≡ option_map (λ rest. held ++ rest) old
+moved held t old None e = rw e refl
+moved held t old (Some r) e = rw e (ap (λ (x : List ℕ). Some x) (append_assoc held t r))
+
+-- bytes that were got behind the held ones are held
+pub got_more : (held held' buffer : List ℕ) (n : ℕ) (s s' : CabinetState) → HasGot s s' buffer n → held' ≡ held ++ take n buffer → HasTakenSome held held' s s'
+got_more held held' buffer n s s' got e =
+    let len = length-append held (take n buffer) in
+    let taken : length (take n buffer) ≡ n = length-take-le n buffer got.fits in
+    record {
+      more = record {
+        reading = record { stays = got.stays; faults = got.faults };
+        ahead = rw e (moved held (take n buffer) s.rest s'.rest got.bytes);
+      };
+      longer = rw e (omega (arith, len, taken, got.some));
+    }

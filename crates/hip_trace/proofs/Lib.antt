@@ -1,0 +1,7 @@
+pub mod Decided
+pub mod FieldLaws
+pub mod HeldLaws
+pub mod PieceLaws
+pub mod ReaderLaws
+pub mod EndLaws
+pub mod TextLaws

@@ -1,0 +1,5 @@
+use Rattle.hip_trace.proofs.TextLaws as laws
+use Rattle.hip_trace.proofs.laws.canonical_texts_spell.Goals as goal
+
+pub returns : goal.returns
+returns c = laws.spells

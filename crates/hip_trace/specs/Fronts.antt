@@ -1,0 +1,117 @@
+-- What stands first in the bytes that a reader holds, once enough of them were taken.
+use Rattle.std.specs.Prelude.{ℕ, ◌+◌, ◌≡◌, ◌≤◌, ◌<◌, if◌then◌else◌, List, [], ◌∷◌, length, take, drop, position, Option, Some, None, IfSome, Result, Ok, Err}
+use Rattle.hip_io.specs.Counts.{Rose}
+use Rattle.hip_io.specs.Cabinets.{CabinetState, StaysOpen}
+use Rattle.hip_io.specs.declared.cabinet.Taken.{Taken}
+use Rattle.hip_io.specs.declared.cabinet.Taken.TheVariants as taken
+use Rattle.hip_trace.specs.Numbers.{is_nonempty}
+use Rattle.hip_trace.specs.Entries.{entry_of}
+use Rattle.hip_trace.specs.Pieces.{is_separator}
+use Rattle.hip_trace.specs.Reads.{ReaderState, IsReading, after_held, one_more}
+use Rattle.hip_trace.specs.declared.entry.Entry.{Entry}
+use Rattle.hip_trace.specs.declared.front.Front.{Front}
+use Rattle.hip_trace.specs.declared.front.Front.TheVariants as fronts
+use Rattle.hip_trace.specs.declared.refusal.TraceRefusal.{TraceRefusal}
+use Rattle.hip_trace.specs.declared.refusal.TraceRefusal.TheVariants.{Malformed, ReadFault}
+use Rattle.hip_trace.specs.declared.refusal.Progress.TheVariants.{Reading, Ended, Refused}
+
+-- ---- more bytes are taken
+
+-- More bytes are held, and what is ahead is as before.
+pub record HoldsMore (held held' : List ℕ) (s s' : CabinetState) : Type 0 where
+  pub reading : IsReading s s'
+  pub ahead : after_held held' s' ≡ after_held held s
+
+pub record HasTakenSome (held held' : List ℕ) (s s' : CabinetState) : Type 0 where
+  pub more : HoldsMore held held' s s'
+  pub longer : length held + 1 ≤ length held'
+
+pub record HasTakenNothing (held held' : List ℕ) (s s' : CabinetState) : Type 0 where
+  pub same : held' ≡ held
+  pub reading : IsReading s s'
+  pub rest : s'.rest ≡ s.rest
+  pub ended : IfSome s.rest (λ rest. rest ≡ [])
+
+pub record HasFailedMore (held held' : List ℕ) (s s' : CabinetState) : Type 0 where
+  pub same : held' ≡ held
+  pub stays : StaysOpen s s'
+  pub later : s.faults ≤ s'.faults
+  pub rose : Rose s.faults s'.faults
+  pub rest : s'.rest ≡ s.rest
+
+abbrev pub HasTakenMore : List ℕ → List ℕ → CabinetState → CabinetState → Taken → Type 0
+HasTakenMore held held' s s' (taken.Got n) = HasTakenSome held held' s s'
+HasTakenMore held held' s s' taken.End = HasTakenNothing held held' s s'
+HasTakenMore held held' s s' taken.Failed = HasFailedMore held held' s s'
+
+-- ---- what stands first
+
+-- a piece of n bytes, with a separator behind it
+pub record HasPieceFirst (held held' : List ℕ) (s s' : CabinetState) (n : ℕ) : Type 0 where
+  pub more : HoldsMore held held' s s'
+  pub here : position is_separator held' ≡ Some n
+
+-- the rest of the file, which has no separator
+pub record HasRestFirst (held held' : List ℕ) (s s' : CabinetState) : Type 0 where
+  pub more : HoldsMore held held' s s'
+  pub none : position is_separator held' ≡ None
+  pub ended : IfSome s'.rest (λ rest. rest ≡ [])
+
+-- more than 256 bytes with no separator
+pub record IsTooLong (held held' : List ℕ) (s s' : CabinetState) : Type 0 where
+  pub more : HoldsMore held held' s s'
+  pub none : position is_separator held' ≡ None
+  pub long : 256 < length held'
+
+-- at most 256 bytes with no separator, behind which a read failed
+pub record HasFailedFirst (held held' : List ℕ) (s s' : CabinetState) : Type 0 where
+  pub none : position is_separator held' ≡ None
+  pub few : length held' ≤ 256
+  pub stays : StaysOpen s s'
+  pub later : s.faults ≤ s'.faults
+  pub rose : Rose s.faults s'.faults
+  pub ahead : after_held held' s' ≡ after_held held s
+
+abbrev pub FindsFront : List ℕ → List ℕ → CabinetState → CabinetState → Front → Type 0
+FindsFront held held' s s' (fronts.Piece n) = HasPieceFirst held held' s s' n
+FindsFront held held' s s' fronts.Rest = HasRestFirst held held' s s'
+FindsFront held held' s s' fronts.TooLong = IsTooLong held held' s s'
+FindsFront held held' s s' fronts.Failed = HasFailedFirst held held' s s'
+
+-- ---- the answer to what stands first
+
+-- The first n bytes are a piece; with its end `taken` bytes are let go.
+abbrev pub answers_piece : Option Entry → ReaderState → ReaderState → ℕ → Result (Option Entry) TraceRefusal → Type 0
+answers_piece None r r' taken result =
+    (result ≡ Err Malformed) × (r' ≡ record { held = r.held; count = one_more r.count; progress = Refused Malformed })
+answers_piece (Some e) r r' taken result =
+    (result ≡ Ok (Some e)) × (r' ≡ record { held = drop taken r.held; count = one_more r.count; progress = Reading })
+
+abbrev pub AnswersPiece : ReaderState → ReaderState → ℕ → ℕ → Result (Option Entry) TraceRefusal → Type 0
+AnswersPiece r r' n taken result = answers_piece (entry_of (take n r.held)) r r' taken result
+
+abbrev pub answers_rest : List ℕ → ReaderState → ReaderState → Result (Option Entry) TraceRefusal → Type 0
+answers_rest [] r r' result = (result ≡ Ok None) × (r' ≡ record { held = []; count = r.count; progress = Ended })
+answers_rest (b ∷ bs) r r' result = AnswersPiece r r' (length (b ∷ bs)) (length (b ∷ bs)) result
+
+abbrev pub failed : ReaderState → ReaderState
+failed r =
+    record {
+      held = r.held;
+      count = if is_nonempty r.held then one_more r.count else r.count;
+      progress = Refused ReadFault;
+    }
+
+abbrev pub AnswersFront : ReaderState → ReaderState → Front → Result (Option Entry) TraceRefusal → Type 0
+AnswersFront r r' (fronts.Piece n) result = AnswersPiece r r' n (n + 1) result
+AnswersFront r r' fronts.Rest result = answers_rest r.held r r' result
+AnswersFront r r' fronts.TooLong result =
+    (result ≡ Err Malformed) × (r' ≡ record { held = r.held; count = one_more r.count; progress = Refused Malformed })
+AnswersFront r r' fronts.Failed result = (result ≡ Err ReadFault) × (r' ≡ failed r)
+
+-- a piece and its separator lie in what is held
+abbrev pub IsFrontOf : List ℕ → Front → Type 0
+IsFrontOf held (fronts.Piece n) = n < length held
+IsFrontOf held fronts.Rest = Unit {0}
+IsFrontOf held fronts.TooLong = Unit {0}
+IsFrontOf held fronts.Failed = Unit {0}

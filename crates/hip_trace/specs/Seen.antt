@@ -1,0 +1,15 @@
+-- What the code's borrowed fields are.
+use Rattle.std.specs.Prelude.{ℕ, List, [], Option, Some, None}
+use Rattle.std.specs.Borrow.{Bor}
+use Rattle.hip_trace.specs.Entries.{fields}
+
+-- the fields of the text behind a field, if there is one
+abbrev pub behind : Option (Bor (List ℕ)) → List (List ℕ)
+behind None = []
+behind (Some text) = fields text.now
+
+abbrev pub pair_seen : Bor (List ℕ) × Bor (List ℕ) → List ℕ × List ℕ
+pair_seen p = (p.0.now, p.1.now)
+
+abbrev pub triple_seen : Bor (List ℕ) × Bor (List ℕ) × Bor (List ℕ) → List ℕ × List ℕ × List ℕ
+triple_seen p = (p.0.now, p.1.now, p.2.now)

@@ -1,0 +1,49 @@
+-- The canonical text of an entry: numbers with the least number of digits, in lower case.
+use Rattle.std.specs.Prelude.{ℕ, List, [], ◌∷◌, ◌++◌, codes, decimal}
+use Rattle.std.specs.Fmt.{signed_decimal}
+use Rattle.hex.specs.Hex.{encode_lower}
+use Rattle.hip_num.specs.Texts.{hexadecimal}
+use Rattle.hip_tokens.specs.Bytes.{byte}
+use Rattle.hip_trace.specs.Entries.{trap_text}
+use Rattle.hip_trace.specs.declared.entry.Entry.{Entry}
+use Rattle.hip_trace.specs.declared.entry.Entry.TheVariants.{Start, Register, Input, Image, Store, Flush, Fence, Persist, Assert, Stop, Trap, Cut}
+
+abbrev pub word_of : Entry → List ℕ
+word_of (Start limit) = codes "START"
+word_of (Register base size) = codes "REGISTER"
+word_of (Input number) = codes "INPUT"
+word_of (Image addr bytes) = codes "IMAGE"
+word_of (Store addr value size) = codes "STORE"
+word_of (Flush addr size) = codes "FLUSH"
+word_of Fence = codes "FENCE"
+word_of (Persist addr size) = codes "PERSIST"
+word_of (Assert addr size) = codes "ASSERT"
+word_of (Stop code) = codes "STOP"
+word_of (Trap kind) = codes "TRAP"
+word_of Cut = codes "CUT"
+
+abbrev pub fields_of : Entry → List (List ℕ)
+fields_of (Start limit) = decimal limit ∷ []
+fields_of (Register base size) = hexadecimal base ∷ hexadecimal size ∷ []
+fields_of (Input number) = signed_decimal number ∷ []
+fields_of (Image addr bytes) = hexadecimal addr ∷ encode_lower bytes ∷ []
+fields_of (Store addr value size) = hexadecimal addr ∷ hexadecimal value ∷ hexadecimal size ∷ []
+fields_of (Flush addr size) = hexadecimal addr ∷ hexadecimal size ∷ []
+fields_of Fence = []
+fields_of (Persist addr size) = hexadecimal addr ∷ hexadecimal size ∷ []
+fields_of (Assert addr size) = hexadecimal addr ∷ hexadecimal size ∷ []
+fields_of (Stop code) = signed_decimal code ∷ []
+fields_of (Trap kind) = trap_text kind ∷ []
+fields_of Cut = []
+
+-- each field stands behind a semicolon
+abbrev pub with_fields : List ℕ → List (List ℕ) → List ℕ
+with_fields text [] = text
+with_fields text (f ∷ fs) = with_fields (text ++ byte ";" ∷ f) fs
+
+unfoldable pub text_of : Entry → List ℕ
+text_of e = with_fields (word_of e) (fields_of e)
+
+-- what is written: a line feed ends the text
+abbrev pub line_of : Entry → List ℕ
+line_of e = text_of e ++ codes "\n"

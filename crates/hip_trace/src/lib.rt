@@ -1,0 +1,19 @@
+//! The entries of traces: read from a cabinet however it cuts the bytes, and written to a sink. No call takes memory.
+#![tactic(auto)]
+
+mod entry;
+mod fields;
+mod front;
+mod held;
+mod laws;
+mod numbers;
+mod reader;
+mod refusal;
+mod spelled;
+mod write;
+
+pub use entry::{Entry, TrapWord};
+pub use laws::{canonical_texts_are_shortest, canonical_texts_spell, readers_end};
+pub use reader::Reader;
+pub use refusal::TraceRefusal;
+pub use write::write_entry;

@@ -1,0 +1,17 @@
+/// Why there is no next entry.
+#[derive(Clone, Copy, Debug, PartialEq, Eq)]
+pub enum TraceRefusal {
+    /// The piece spells no entry, or has more than 256 bytes.
+    Malformed,
+    /// A read of the file failed.
+    ReadFault,
+}
+
+/// Whether a reader reads on, or answers the same for good.
+#[derive(Clone, Copy, Debug, PartialEq, Eq)]
+pub enum Progress {
+    Reading,
+    /// The file has ended.
+    Ended,
+    Refused(TraceRefusal),
+}

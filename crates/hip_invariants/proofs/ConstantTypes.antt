@@ -22,7 +22,7 @@ use Rattle.hip_globals.specs.Addresses.{IsBase, end_of, start_of, is_persistent,
 use Rattle.hip_typing.specs.Constants.{has_shape}
 use Rattle.hip_globals.specs.Laws.AddressLaws.{spelled-divide, end_of-from}
 use Rattle.hip_typing.specs.Laws.TypeLaws.{same_width-equal}
-use Rattle.hip_typing.specs.Places.{type_of}
+use Rattle.hip_ir.specs.Words.{type_of}
 use Rattle.hip_typing.specs.Types.{same_width}
 use Rattle.hip_typing.specs.Sound.{IsSound}
 use Rattle.hip_globals.specs.Values.{Written, Piece, global_address, written_step, gep_step, item_step, const_value}

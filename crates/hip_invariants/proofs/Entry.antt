@@ -18,7 +18,7 @@ use Rattle.hip_names.specs.Laws.NumberLaws.{number_of-first, number_of-known, nu
 use Rattle.hip_typing.specs.Laws.Decided.{all-at}
 use Rattle.hip_typing.specs.Paths.{label_at, names_of}
 use Rattle.hip_typing.specs.Registers.{end_labels, parameter_registers}
-use Rattle.hip_typing.specs.Sound.{IsSound, Precedes, EdgesAgree, PhiItem, edges_agree, label_names, label_number, names_in_block, names_in_function}
+use Rattle.hip_typing.specs.Sound.{IsSound, Precedes, EdgesAgree, PhiItem, EdgesAreSound, label_names, label_number, names_in_block, names_in_function}
 use Rattle.hip_names.specs.Laws.DifferLaws.{differ_second}
 
 -- ---- what is spelled
@@ -60,7 +60,7 @@ module _ (P : Program) (s : IsSound P) (g : ℕ) (fn : Function) (here : slice_g
   -- no block's end names the entry block, so that a phi there would have no edge
   pub no_entry_phi : (block : Block) → slice_get fn.blocks 0 ≡ Some block → (k : ℕ) (p : Phi) → slice_get block.phis k ≡ Some p → ⊥
   no_entry_phi block at k p e =
-      let agree : EdgesAgree fn block p.edges = all-at (λ p. edges_agree fn block (PhiItem p)) block.phis k p (s.edges_agree g 0 fn block (record { function = here; block_is = at })).phis e in
+      let agree : EdgesAgree fn block p.edges = all-at (λ p. EdgesAreSound fn block (PhiItem p)) block.phis k p (s.edges_agree g 0 fn block (record { function = here; block_is = at })).phis e in
       let edge = phi_has_edge 0 k block p at e in
       let before : Precedes fn edge.0.label block.label = among_all (λ label. Precedes fn label block.label) _ edge.0.label agree.others (label_first p.edges edge.0 edge.1) in
       let none : label_at fn 0 ≢ Some block.label = among_all (λ label. label_at fn 0 ≢ Some label) (end_labels before.block.end) block.label (s.edges_agree g before.number fn before.block (record { function = here; block_is = before.here })).last before.named in

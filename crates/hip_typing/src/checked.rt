@@ -43,6 +43,14 @@ impl Model for Checked {
 }
 
 impl Checked {
+    /// A program that is known to be sound; nothing is checked.
+    pub fn of_sound(program: Program) -> Checked
+        requires { IsSound program }
+        ensures { result ≡ program }
+    {
+        Checked { program }
+    }
+
     /// The program, and what holds since it is sound.
     pub fn program(&self) -> &Program
         ensures is { result.now ≡ self.now }

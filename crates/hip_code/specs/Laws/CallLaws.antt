@@ -1,5 +1,5 @@
 -- The law of calls of defined functions.
-use Rattle.std.specs.Prelude.{ℕ, ◌+◌, ◌≤◌, ◌≡◌, Bool, true, false, cond, not, nat_lt, List, [], ◌∷◌, length, Option, Some, None, slice_get}
+use Rattle.std.specs.Prelude.{ℕ, ◌+◌, ◌-◌, ◌≤◌, ◌≡◌, Bool, true, false, cond, not, nat_lt, List, [], ◌∷◌, length, Option, Some, None, slice_get}
 use Rattle.std.proofs.Common.{refl, sym, ap, ap₂, ◌∙◌, subst}
 use Rattle.hip_types.specs.declared.number.Scalar.{Scalar}
 use Rattle.hip_ir.specs.declared.instr.Arg.{Arg}
@@ -8,6 +8,7 @@ use Rattle.hip_ir.specs.declared.program.Program.{Program}
 use Rattle.hip_externs.specs.Externs.{call_of}
 use Rattle.hip_runs.specs.declared.event.TrapKind.TheVariants as traps
 use Rattle.hip_runs.specs.declared.input.Input.{Input}
+use Rattle.hip_runs.specs.declared.limits.TheConstants.{MOST_FRAMES}
 use Rattle.hip_runs.specs.Actions.{Calls, Traps, bound_call, call_action, entered, instr_action, is_flush_or_fence, numbered_call}
 use Rattle.hip_runs.specs.Operands.{bound, values_of}
 use Rattle.hip_code.specs.Edges.{IsCall}
@@ -39,9 +40,9 @@ module _ (P : Program) (I : Input) (f : ℕ) (tables : Tables) where
           within = record { frame = subst (λ s. base + s ≤ length slots) (sym c.frame) h.room; span = c.span; read = m.read; written = m.written };
           placed = record { begins = c.begins; frame = c.frame; size = c.size; arguments = m.placed; result = r.placed };
           turn = ap (λ o. not (is_flush_or_fence o)) (sym defined);
-          acts = ap₂ (λ xs to. cond (nat_lt below 16383) (Calls call.function xs to) (Traps traps.Depth)) moves r.name_is
+          acts = ap₂ (λ xs to. cond (nat_lt below (MOST_FRAMES - 1)) (Calls call.function xs to) (Traps traps.Depth)) moves r.name_is
               ∙ sym (ap (λ o. call_action P I w below o callee vs dest) defined
-              ∙ ap (λ o. cond (nat_lt below 16383) (numbered_call P o vs dest) (Traps traps.Depth)) c.numbered
-              ∙ ap (λ o. cond (nat_lt below 16383) (bound_call o call.function vs dest) (Traps traps.Depth)) c.here);
+              ∙ ap (λ o. cond (nat_lt below (MOST_FRAMES - 1)) (numbered_call P o vs dest) (Traps traps.Depth)) c.numbered
+              ∙ ap (λ o. cond (nat_lt below (MOST_FRAMES - 1)) (bound_call o call.function vs dest) (Traps traps.Depth)) c.here);
         };
   }

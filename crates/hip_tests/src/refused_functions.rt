@@ -259,13 +259,11 @@ fn unassigned(alloc: Global, text: &str) -> Result<(Place, Row<usize>), Fail> {
         return Err(Fail::new("not read"));
     };
     match check(alloc, program) {
-        Err(
-            TypeRefusal {
-                fault: TypeFault::Unassigned { path },
-                place,
-            },
-        ) => Ok((place, path)),
-        _ => Err(Fail::new("not refused so")),
+        Err(TypeRefusal { fault, place }) => match fault {
+            TypeFault::Unassigned { path } => Ok((place, path)),
+            _ => Err(Fail::new("refused for another fault")),
+        },
+        Ok(_) => Err(Fail::new("not refused")),
     }
 }
 

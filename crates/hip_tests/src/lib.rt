@@ -1,18 +1,13 @@
-//! Tests of more than one function, of every crate, by public calls alone.
+//! Tests of more than one function by public calls alone: layout, numbers, tokens, names, memory, cache lines and paths.
+//!
+//! A test stands in the lowest of the crates of tests that has what it calls: `hip_text_tests` for files, traces and the texts
+//! of programs, `hip_repair_tests` for calls and repairs, `hip_tool_tests` for soundness and the command.
 #![tactic(auto)]
 
-#[cfg(test)]
-mod answers;
 #[cfg(test)]
 mod arithmetic;
 #[cfg(test)]
 mod cache_lines;
-#[cfg(test)]
-mod canonical_texts;
-#[cfg(test)]
-mod commands;
-#[cfg(test)]
-mod files;
 #[cfg(test)]
 mod graph_paths;
 #[cfg(test)]
@@ -24,32 +19,6 @@ mod memory;
 #[cfg(test)]
 mod name_tables;
 #[cfg(test)]
-mod nested_texts;
-#[cfg(test)]
 mod number_texts;
 #[cfg(test)]
-mod programs;
-#[cfg(test)]
-mod reached_functions;
-#[cfg(test)]
-mod read_texts;
-#[cfg(test)]
-mod refused_functions;
-#[cfg(test)]
-mod refused_programs;
-#[cfg(test)]
-mod refused_texts;
-#[cfg(test)]
-mod repairs;
-#[cfg(test)]
-mod sound_programs;
-#[cfg(test)]
-mod spelling;
-#[cfg(test)]
 mod tokens;
-#[cfg(test)]
-mod trace_entries;
-#[cfg(test)]
-mod trace_misfits;
-#[cfg(test)]
-mod trees;

@@ -1,7 +1,7 @@
 //! What `hippo` answers to words, files and faults of files.
 
 use crate::commands::{assert_outcome, call, files, owned_words, repair};
-use crate::programs::{ONE_STORE, ONE_STORE_REPAIRED, ONE_STORE_TRACE};
+use hip_examples::{ONE_STORE, ONE_STORE_REPAIRED, ONE_STORE_TRACE};
 use hip_io::{FailAt, FailingCabinet, MemCabinet, NamedFile};
 use hip_tool::{Order, Status, read_words};
 use hip_types::Row;

@@ -1,7 +1,7 @@
 //! The first entry of a trace that is none of the run.
 
 use crate::commands::{assert_outcome, repair};
-use crate::programs::ONE_STORE;
+use hip_examples::ONE_STORE;
 use std::alloc::Global;
 use std::process::Abort;
 use std::test::Fail;

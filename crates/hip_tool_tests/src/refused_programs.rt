@@ -2,7 +2,7 @@
 //! faults comes first.
 
 use crate::commands::{assert_outcome, repair};
-use crate::programs::ONE_STORE_TRACE;
+use hip_examples::ONE_STORE_TRACE;
 use std::alloc::Global;
 use std::process::Abort;
 use std::test::Fail;

@@ -1,6 +1,6 @@
 //! Repaired programs, by plans.
 
-use crate::programs::{COPY, EVEN_AND_ODD, REACH};
+use hip_examples::{COPY, EVEN_AND_ODD, REACH};
 use hip_fix::{CloneOf, Plan, Repaired, apply, apply_skipping, suits};
 use hip_io::MemSink;
 use hip_ir::Site;

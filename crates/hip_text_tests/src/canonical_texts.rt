@@ -1,6 +1,6 @@
 //! Programs that are read, and written in their canonical text.
 
-use crate::programs::{
+use hip_examples::{
     COPY, ENDLESS_LOOP, EVEN_AND_ODD, KEY_VALUE_LOG, ONE_STORE, ONE_STORE_REPAIRED, REACH,
 };
 use hip_io::MemSink;

@@ -1,4 +1,5 @@
-//! Texts of programs that several tests use, each in its canonical form.
+//! Texts of programs that tests of several crates use, each in its canonical form.
+#![tactic(auto)]
 
 /// One store of a persistent number, which is not flushed.
 pub const ONE_STORE: &str = "@x = global i64 0, section \".pm\"

@@ -1,0 +1,19 @@
+//! Tests of more than one function by public calls alone: files, entries of traces, trees of programs and their texts.
+#![tactic(auto)]
+
+#[cfg(test)]
+mod canonical_texts;
+#[cfg(test)]
+mod files;
+#[cfg(test)]
+mod nested_texts;
+#[cfg(test)]
+mod read_texts;
+#[cfg(test)]
+mod refused_texts;
+#[cfg(test)]
+mod spelling;
+#[cfg(test)]
+mod trace_entries;
+#[cfg(test)]
+mod trees;

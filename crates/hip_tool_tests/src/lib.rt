@@ -1,0 +1,15 @@
+//! Tests of more than one function by public calls alone: programs that are sound or refused, and what the command answers.
+#![tactic(auto)]
+
+#[cfg(test)]
+mod answers;
+#[cfg(test)]
+mod commands;
+#[cfg(test)]
+mod refused_functions;
+#[cfg(test)]
+mod refused_programs;
+#[cfg(test)]
+mod sound_programs;
+#[cfg(test)]
+mod trace_misfits;

@@ -19,7 +19,8 @@ pub cut_comment : (line : ℕ) (bs : List ℕ) → cut line 0 (59 ∷ bs) ≡ cu
 unfolding cut
 cut_comment line bs = cut_inside line (prefix_len in_comment bs) bs
 
-pub cut_token : (line b : ℕ) (bs : List ℕ) (t : Tok) (n : ℕ) → is_blank b ≡ false → eqb b 59 ≡ false → piece t n ≡ piece_at b bs → cut line 0 (b ∷ bs) ≡ (record { tok = t; line = line }) ∷ cut line 0 (drop n bs)
+pub cut_token : (line b : ℕ) (bs : List ℕ) (t : Tok) (n : ℕ) → is_blank b ≡ false → eqb b 59 ≡ false
+    → piece t n ≡ piece_at b bs → cut line 0 (b ∷ bs) ≡ (record { tok = t; line = line }) ∷ cut line 0 (drop n bs)
 unfolding cut
 cut_token line b bs t n blank comment e =
     let step : cut line 0 (b ∷ bs) ≡ (record { tok = (piece_at b bs).tok; line = line }) ∷ cut line (piece_at b bs).more bs = rw (blank, comment) refl in
@@ -27,9 +28,11 @@ cut_token line b bs t n blank comment e =
     let len : (piece_at b bs).more ≡ n = ap (λ (p : Piece). p.more) (sym e) in
     step ∙ rw (token, len) (ap (λ (ts : List At). (record { tok = t; line = line }) ∷ ts) (cut_inside line n bs))
 
-pub after_comment : (line b : ℕ) (all rest after : List ℕ) (n : ℕ) → all ≡ b ∷ rest → b ≡ 59 → n ≡ prefix_len in_comment rest → after ≡ drop n rest → cut line 0 after ≡ cut line 0 all
+pub after_comment : (line b : ℕ) (all rest after : List ℕ) (n : ℕ) → all ≡ b ∷ rest → b ≡ 59
+    → n ≡ prefix_len in_comment rest → after ≡ drop n rest → cut line 0 after ≡ cut line 0 all
 after_comment line b all rest after n whole semi len back = rw (whole, semi, back, len) (sym (cut_comment line rest))
 
-pub at_token : (line b : ℕ) (all rest after : List ℕ) (t : Tok) (n : ℕ) → all ≡ b ∷ rest → is_blank b ≡ false → eqb b 59 ≡ false → piece t n ≡ piece_at b rest → after ≡ drop n rest
+pub at_token : (line b : ℕ) (all rest after : List ℕ) (t : Tok) (n : ℕ) → all ≡ b ∷ rest → is_blank b ≡ false
+    → eqb b 59 ≡ false → piece t n ≡ piece_at b rest → after ≡ drop n rest
     → cut line 0 all ≡ (record { tok = t; line = line }) ∷ cut line 0 after
 at_token line b all rest after t n whole blank comment e back = rw (whole, back) (cut_token line b rest t n blank comment e)

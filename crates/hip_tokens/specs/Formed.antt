@@ -18,7 +18,8 @@ AreFormed (t ∷ ts) = (is_formed t.tok ≡ true) × AreFormed ts
 
 -- ---- the names of the pieces
 
-prefix_by : (p : ℕ → Bool) (x : ℕ) (xs : List ℕ) (b : Bool) → p x ≡ b → list_all p (take (prefix_len p xs) xs) ≡ true → list_all p (take (cond b (1 + prefix_len p xs) 0) (x ∷ xs)) ≡ true
+prefix_by : (p : ℕ → Bool) (x : ℕ) (xs : List ℕ) (b : Bool) → p x ≡ b → list_all p (take (prefix_len p xs) xs) ≡ true
+    → list_all p (take (cond b (1 + prefix_len p xs) 0) (x ∷ xs)) ≡ true
 prefix_by p x xs true e h = rw (one-add, e) h
 prefix_by p x xs false e h = refl
 
@@ -81,7 +82,8 @@ piece_formed b bs =
     by_test (eqb b 34) _ _ (λ _. string_formed bs) (λ _.
     by_test (is_mark b) _ _ (λ _. record { formed = refl }) (λ _. record { formed = refl })))))))
 
-by_tests : (blank comment : Bool) (a b c : List At) (t : At) → AreFormed a → AreFormed b → is_formed t.tok ≡ true → AreFormed c → AreFormed (cond blank a (cond comment b (t ∷ c)))
+by_tests : (blank comment : Bool) (a b c : List At) (t : At) → AreFormed a → AreFormed b → is_formed t.tok ≡ true
+    → AreFormed c → AreFormed (cond blank a (cond comment b (t ∷ c)))
 by_tests true comment a b c t f g h k = f
 by_tests false true a b c t f g h k = g
 by_tests false false a b c t f g h k = (h, k)

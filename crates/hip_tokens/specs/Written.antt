@@ -24,7 +24,8 @@ not_is : (a : Bool) → not a ≡ true → a ≡ false
 not_is true e = absurd cc
 not_is false e = refl
 
-prefix_ends : (p : ℕ → Bool) (xs ys : List ℕ) → list_all p xs ≡ true → begins_without p ys ≡ true → prefix_len p (xs ++ ys) ≡ length xs
+prefix_ends : (p : ℕ → Bool) (xs ys : List ℕ) → list_all p xs ≡ true → begins_without p ys ≡ true
+    → prefix_len p (xs ++ ys) ≡ length xs
 prefix_ends p [] [] a h = refl
 prefix_ends p [] (y ∷ ys) a h = rw (not_is (p y) h) refl
 prefix_ends p (x ∷ xs) ys a h = rw ((and_parts (p x) (list_all p xs) a).0, prefix_ends p xs ys ((and_parts (p x) (list_all p xs) a).1) h) (omega arith)
@@ -68,7 +69,8 @@ at_line line t = record { tok = t; line = line }
 
 -- ---- names
 
-pub word_cut : (line : ℕ) (name rest : List ℕ) → is_name name ≡ true → ends_word rest ≡ true → cut line 0 (name ++ rest) ≡ at_line line (Word name) ∷ cut line 0 rest
+pub word_cut : (line : ℕ) (name rest : List ℕ) → is_name name ≡ true → ends_word rest ≡ true
+    → cut line 0 (name ++ rest) ≡ at_line line (Word name) ∷ cut line 0 rest
 unfolding piece_at word_piece
 word_cut line [] rest p e = absurd cc
 word_cut line (b ∷ bs) rest p e =
@@ -79,7 +81,8 @@ word_cut line (b ∷ bs) rest p e =
     cut_token line b (bs ++ rest) (Word (b ∷ bs)) (length bs) o.0 o.1 token ∙ rw (drop_at bs rest (length bs) refl) refl
 
 -- a name before `:`
-pub label_cut : (line : ℕ) (name rest : List ℕ) → is_name name ≡ true → cut line 0 (name ++ 58 ∷ rest) ≡ at_line line (Label name) ∷ cut line 0 rest
+pub label_cut : (line : ℕ) (name rest : List ℕ) → is_name name ≡ true
+    → cut line 0 (name ++ 58 ∷ rest) ≡ at_line line (Label name) ∷ cut line 0 rest
 unfolding piece_at word_piece
 label_cut line [] rest p = absurd cc
 label_cut line (b ∷ bs) rest p =
@@ -93,25 +96,30 @@ label_cut line (b ∷ bs) rest p =
     behind_colon [] ys = refl
     behind_colon (x ∷ xs) ys = let e : suc (length xs) + 1 ≡ suc (length xs + 1) = omega arith in rw e (behind_colon xs ys)
 
-local_piece_is : (name rest : List ℕ) → is_name name ≡ true → begins_without goes_on_name rest ≡ true → piece (Local name) (length name) ≡ piece_at 37 (name ++ rest)
+local_piece_is : (name rest : List ℕ) → is_name name ≡ true → begins_without goes_on_name rest ≡ true
+    → piece (Local name) (length name) ≡ piece_at 37 (name ++ rest)
 unfolding piece_at local_piece
 local_piece_is name rest p h = rw (begins_here name rest p, prefix_ends goes_on_name name rest (all_go_on name p) h, take_at name rest (length name) refl) refl
 
-pub local_cut : (line : ℕ) (name rest : List ℕ) → is_name name ≡ true → ends_word rest ≡ true → cut line 0 (37 ∷ (name ++ rest)) ≡ at_line line (Local name) ∷ cut line 0 rest
+pub local_cut : (line : ℕ) (name rest : List ℕ) → is_name name ≡ true → ends_word rest ≡ true
+    → cut line 0 (37 ∷ (name ++ rest)) ≡ at_line line (Local name) ∷ cut line 0 rest
 local_cut line name rest p e =
     cut_token line 37 (name ++ rest) (Local name) (length name) refl refl (local_piece_is name rest p (ends_name rest e)) ∙ rw (drop_at name rest (length name) refl) refl
 
-global_piece_is : (name rest : List ℕ) → is_name name ≡ true → begins_without goes_on_name rest ≡ true → piece (Global name) (length name) ≡ piece_at 64 (name ++ rest)
+global_piece_is : (name rest : List ℕ) → is_name name ≡ true → begins_without goes_on_name rest ≡ true
+    → piece (Global name) (length name) ≡ piece_at 64 (name ++ rest)
 unfolding piece_at global_piece
 global_piece_is name rest p h = rw (begins_here name rest p, prefix_ends goes_on_name name rest (all_go_on name p) h, take_at name rest (length name) refl) refl
 
-pub global_cut : (line : ℕ) (name rest : List ℕ) → is_name name ≡ true → ends_word rest ≡ true → cut line 0 (64 ∷ (name ++ rest)) ≡ at_line line (Global name) ∷ cut line 0 rest
+pub global_cut : (line : ℕ) (name rest : List ℕ) → is_name name ≡ true → ends_word rest ≡ true
+    → cut line 0 (64 ∷ (name ++ rest)) ≡ at_line line (Global name) ∷ cut line 0 rest
 global_cut line name rest p e =
     cut_token line 64 (name ++ rest) (Global name) (length name) refl refl (global_piece_is name rest p (ends_name rest e)) ∙ rw (drop_at name rest (length name) refl) refl
 
 -- ---- numbers
 
-pub digits_cut : (line : ℕ) (ds rest : List ℕ) → are_digits ds ≡ true → ends_word rest ≡ true → cut line 0 (ds ++ rest) ≡ at_line line (Num ds) ∷ cut line 0 rest
+pub digits_cut : (line : ℕ) (ds rest : List ℕ) → are_digits ds ≡ true → ends_word rest ≡ true
+    → cut line 0 (ds ++ rest) ≡ at_line line (Num ds) ∷ cut line 0 rest
 unfolding piece_at number_piece
 digits_cut line [] rest p e = absurd cc
 digits_cut line (d ∷ ds) rest p e =
@@ -129,7 +137,8 @@ some_digits : (ds : List ℕ) → are_digits ds ≡ true → eqb (length ds) 0 �
 some_digits [] p = absurd cc
 some_digits (d ∷ ds) p = grind (arith, nat_tests)
 
-pub minus_cut : (line : ℕ) (ds rest : List ℕ) → are_digits ds ≡ true → ends_word rest ≡ true → cut line 0 (45 ∷ (ds ++ rest)) ≡ at_line line (Num (45 ∷ ds)) ∷ cut line 0 rest
+pub minus_cut : (line : ℕ) (ds rest : List ℕ) → are_digits ds ≡ true → ends_word rest ≡ true
+    → cut line 0 (45 ∷ (ds ++ rest)) ≡ at_line line (Num (45 ∷ ds)) ∷ cut line 0 rest
 unfolding piece_at number_piece minus_piece
 minus_cut line ds rest p e =
     let len = prefix_ends is_digit ds rest (all_digits ds p) (ends_number rest e) in
@@ -138,10 +147,13 @@ minus_cut line ds rest p e =
 
 -- ---- marks
 
-mark_first : (b : ℕ) → is_mark b ≡ true → (is_blank b ≡ false) × (eqb b 59 ≡ false) × (begins_name b ≡ false) × (is_digit b ≡ false) × (eqb b 45 ≡ false) × (eqb b 37 ≡ false) × (eqb b 64 ≡ false) × (eqb b 34 ≡ false)
+mark_first : (b : ℕ) → is_mark b ≡ true
+    → (is_blank b ≡ false) × (eqb b 59 ≡ false) × (begins_name b ≡ false) × (is_digit b ≡ false) × (eqb b 45 ≡ false)
+    × (eqb b 37 ≡ false) × (eqb b 64 ≡ false) × (eqb b 34 ≡ false)
 mark_first b e = (grind (arith, nat_tests), grind (arith, nat_tests), grind (arith, nat_tests), grind (arith, nat_tests), grind (arith, nat_tests), grind (arith, nat_tests), grind (arith, nat_tests), grind (arith, nat_tests))
 
-pub mark_cut : (line b : ℕ) (rest : List ℕ) → is_mark b ≡ true → cut line 0 (b ∷ rest) ≡ at_line line (Mark b) ∷ cut line 0 rest
+pub mark_cut : (line b : ℕ) (rest : List ℕ) → is_mark b ≡ true
+    → cut line 0 (b ∷ rest) ≡ at_line line (Mark b) ∷ cut line 0 rest
 unfolding piece_at
 mark_cut line b rest e =
     let o = mark_first b e in

@@ -12,7 +12,8 @@ pub record Accepts {F A : Type 0} (l : Rule F A) (c : Tok → Bool) (ts : List A
   pub unrefused : (why : F) (m : List At) → l.Refuses why ts m → ⊥
 
 -- The tokens up to rest are a front, and no front goes further.
-pub record Rejects {F A : Type 0} (l : Rule F A) (c : Tok → Bool) (ts : List At) (why : Option F) (rest : List At) : Type 0 where
+pub record Rejects {F A : Type 0} (l : Rule F A) (c : Tok → Bool) (ts : List At) (why : Option F)
+    (rest : List At) : Type 0 where
   pub front : l.Front ts rest
   pub only : (b : A) (m : List At) → l.Derives ts b m → next c m ≡ true
   pub last : (m : List At) → l.Front ts m → length rest ≤ length m
@@ -85,7 +86,8 @@ pub next_right : (c d : Tok → Bool) (ts : List At) → next d ts ≡ true → 
 next_right c d [] e = absurd cc
 next_right c d (t ∷ ts) e = or_right_true (c t.tok) (d t.tok) e
 
-pub next_widens : (c d : Tok → Bool) → ((t : Tok) → c t ≡ true → d t ≡ true) → (ts : List At) → next c ts ≡ true → next d ts ≡ true
+pub next_widens : (c d : Tok → Bool) → ((t : Tok) → c t ≡ true → d t ≡ true) → (ts : List At) → next c ts ≡ true
+    → next d ts ≡ true
 next_widens c d h [] e = absurd cc
 next_widens c d h (t ∷ ts) e = h t.tok e
 
@@ -115,7 +117,8 @@ one_empty : {F A : Type 0} (p : Tok → Verdict F A) (ts : List At) → (one p).
 unfolding one
 one_empty p ts = inl refl
 
-one_whole : {F A : Type 0} (p : Tok → Verdict F A) (ts : List At) (a : A) (rest : List At) → (one p).Derives ts a rest → (one p).Front ts rest
+one_whole : {F A : Type 0} (p : Tok → Verdict F A) (ts : List At) (a : A) (rest : List At) → (one p).Derives ts a rest
+    → (one p).Front ts rest
 unfolding one
 one_whole p ts a rest h = inr (h.0, a, h.1, h.2)
 
@@ -142,12 +145,14 @@ tails : (t u : At) (ts m : List At) → t ∷ ts ≡ u ∷ m → m ≡ ts
 tails t u ts m e = cc
 
 -- one token has one verdict
-verdicts : {F A : Type 0} (p : Tok → Verdict F A) (t u : At) (ts m : List At) (v w : Verdict F A) → p t.tok ≡ v → t ∷ ts ≡ u ∷ m → p u.tok ≡ w → w ≡ v
+verdicts : {F A : Type 0} (p : Tok → Verdict F A) (t u : At) (ts m : List At) (v w : Verdict F A) → p t.tok ≡ v
+    → t ∷ ts ≡ u ∷ m → p u.tok ≡ w → w ≡ v
 verdicts p t u ts m v w e k f =
     let same : u ≡ t = cc in
     sym f ∙ ap (λ (x : At). p x.tok) same ∙ e
 
-one_judged : {F A : Type 0} (p : Tok → Verdict F A) (t : At) (ts : List At) (v : Verdict F A) → p t.tok ≡ v → Exactly (one p) never (t ∷ ts) (judged v t ts)
+one_judged : {F A : Type 0} (p : Tok → Verdict F A) (t : At) (ts : List At) (v : Verdict F A) → p t.tok ≡ v
+    → Exactly (one p) never (t ∷ ts) (judged v t ts)
 unfolding one
 one_judged {F} {A} p t ts (Yes x) e = record {
   derives = (t, refl, e);
@@ -174,7 +179,8 @@ one_reads : {F A : Type 0} (p : Tok → Verdict F A) (ts : List At) → Exactly 
 one_reads p [] = one_none p
 one_reads p (t ∷ ts) = one_judged p t ts (p t.tok) refl
 
-one_within : {F A : Type 0} (p : Tok → Verdict F A) (ts rest : List At) → (one p).Front ts rest → length rest ≤ length ts
+one_within : {F A : Type 0} (p : Tok → Verdict F A) (ts rest : List At) → (one p).Front ts rest
+    → length rest ≤ length ts
 unfolding one
 one_within p ts rest h = elim h [ inl k ↦ rw k (omega arith) | inr k ↦ let e = ap length k.2 in omega arith ]
 
@@ -182,7 +188,8 @@ one_later : {F A : Type 0} (p : Tok → Verdict F A) (ts rest : List At) → (on
 unfolding one
 one_later p ts rest h = elim h [ inl k ↦ later_same ts rest (sym k) | inr k ↦ (k.0 ∷ [], k.2) ]
 
-one_between : {F A : Type 0} (p : Tok → Verdict F A) (t : At) (x : A) (m at w : List At) → p t.tok ≡ Yes x → t ∷ m ≡ w ++ at → Later at m → (one p).Front (t ∷ m) at
+one_between : {F A : Type 0} (p : Tok → Verdict F A) (t : At) (x : A) (m at w : List At) → p t.tok ≡ Yes x
+    → t ∷ m ≡ w ++ at → Later at m → (one p).Front (t ∷ m) at
 unfolding one
 one_between p t x m at [] e split q = inl (sym split)
 one_between p t x m at (u ∷ w) e split q = let same = later_antisym m at (w, cc) q in inr (t, x, ap (λ (z : List At). t ∷ z) (sym same), e)
@@ -225,7 +232,8 @@ module _ (F A B : Type 0) (l : Rule F A) (f : A → Rule F B) (c d : Tok → Boo
     (l_whole : (ts : List At) (a : A) (rest : List At) → l.Derives ts a rest → l.Front ts rest)
     (f_empty : (a : A) (ts : List At) → (f a).Front ts ts)
     (absent : (a : A) (m : List At) → next c m ≡ true → IsAbsent (f a) m) where
-  after_ok : (ts : List At) (x : A) (m : List At) → Accepts l c ts x m → (o : Outcome F B) → Exactly (f x) d m o → Exactly (both l f) d ts o
+  after_ok : (ts : List At) (x : A) (m : List At) → Accepts l c ts x m → (o : Outcome F B) → Exactly (f x) d m o
+      → Exactly (both l f) d ts o
   unfolding both
   after_ok ts x m p (Ok y) q = record {
     derives = (x, m, p.derives, q.derives);
@@ -288,33 +296,47 @@ module _ (F A B : Type 0) (l : Rule F A) (f : A → Rule F B) (c d : Tok → Boo
   }
 
   -- the second part is only asked where the first derives
-  pub both_where : (s : A → Reader F B) (ts : List At) (o : Outcome F A) → ((a : A) (m : List At) → l.Derives ts a m → Exactly (f a) d m (s a m)) → Exactly l c ts o → Exactly (both l f) d ts (on_ok o s)
+  pub both_where : (s : A → Reader F B) (ts : List At) (o : Outcome F A)
+      → ((a : A) (m : List At) → l.Derives ts a m → Exactly (f a) d m (s a m)) → Exactly l c ts o
+      → Exactly (both l f) d ts (on_ok o s)
   both_where s ts (Ok x) q p = after_ok ts x.0 x.1 p (s x.0 x.1) (q x.0 x.1 p.derives)
   both_where s ts (Err e) q p = after_err ts e p
 
-  both_step : (s : A → Reader F B) → ((a : A) (m : List At) → Exactly (f a) d m (s a m)) → (ts : List At) (o : Outcome F A) → Exactly l c ts o → Exactly (both l f) d ts (on_ok o s)
+  both_step : (s : A → Reader F B) → ((a : A) (m : List At) → Exactly (f a) d m (s a m))
+      → (ts : List At) (o : Outcome F A) → Exactly l c ts o → Exactly (both l f) d ts (on_ok o s)
   both_step s q ts (Ok x) p = after_ok ts x.0 x.1 p (s x.0 x.1) (q x.0 x.1)
   both_step s q ts (Err e) p = after_err ts e p
 
-pub both_empty : {F A B : Type 0} (l : Rule F A) (f : A → Rule F B) → ((ts : List At) → l.Front ts ts) → (ts : List At) → (both l f).Front ts ts
+pub both_empty : {F A B : Type 0} (l : Rule F A) (f : A → Rule F B) → ((ts : List At) → l.Front ts ts) → (ts : List At)
+    → (both l f).Front ts ts
 unfolding both
 both_empty l f h ts = inl (h ts)
 
-pub both_whole : {F A B : Type 0} (l : Rule F A) (f : A → Rule F B) → ((a : A) (ts : List At) (b : B) (rest : List At) → (f a).Derives ts b rest → (f a).Front ts rest) → (ts : List At) (b : B) (rest : List At) → (both l f).Derives ts b rest → (both l f).Front ts rest
+pub both_whole : {F A B : Type 0} (l : Rule F A) (f : A → Rule F B)
+    → ((a : A) (ts : List At) (b : B) (rest : List At) → (f a).Derives ts b rest → (f a).Front ts rest)
+    → (ts : List At) (b : B) (rest : List At) → (both l f).Derives ts b rest → (both l f).Front ts rest
 unfolding both
 both_whole l f h ts b rest t = inr (t.0, t.1, t.2, h t.0 t.1 b rest t.3)
 
-pub both_within : {F A B : Type 0} (l : Rule F A) (f : A → Rule F B) → ((ts : List At) (a : A) (rest : List At) → l.Derives ts a rest → l.Front ts rest) → ((ts rest : List At) → l.Front ts rest → length rest ≤ length ts)
-    → ((a : A) (ts rest : List At) → (f a).Front ts rest → length rest ≤ length ts) → (ts rest : List At) → (both l f).Front ts rest → length rest ≤ length ts
+pub both_within : {F A B : Type 0} (l : Rule F A) (f : A → Rule F B)
+    → ((ts : List At) (a : A) (rest : List At) → l.Derives ts a rest → l.Front ts rest)
+    → ((ts rest : List At) → l.Front ts rest → length rest ≤ length ts)
+    → ((a : A) (ts rest : List At) → (f a).Front ts rest → length rest ≤ length ts) → (ts rest : List At)
+    → (both l f).Front ts rest → length rest ≤ length ts
 unfolding both
 both_within l f w p q ts rest t = elim t [ inl t ↦ p ts rest t | inr t ↦ let a = p ts t.1 (w ts t.0 t.1 t.2) in let b = q t.0 t.1 rest t.3 in omega arith ]
 
-pub both_later : {F A B : Type 0} (l : Rule F A) (f : A → Rule F B) → ((ts : List At) (a : A) (rest : List At) → l.Derives ts a rest → l.Front ts rest) → ((ts rest : List At) → l.Front ts rest → Later ts rest)
-    → ((a : A) (ts rest : List At) → (f a).Front ts rest → Later ts rest) → (ts rest : List At) → (both l f).Front ts rest → Later ts rest
+pub both_later : {F A B : Type 0} (l : Rule F A) (f : A → Rule F B)
+    → ((ts : List At) (a : A) (rest : List At) → l.Derives ts a rest → l.Front ts rest)
+    → ((ts rest : List At) → l.Front ts rest → Later ts rest)
+    → ((a : A) (ts rest : List At) → (f a).Front ts rest → Later ts rest) → (ts rest : List At)
+    → (both l f).Front ts rest → Later ts rest
 unfolding both
 both_later l f w p q ts rest t = elim t [ inl t ↦ p ts rest t | inr t ↦ later_trans ts t.1 rest (p ts t.1 (w ts t.0 t.1 t.2)) (q t.0 t.1 rest t.3) ]
 
-pub both_closed : {F A B : Type 0} (l : Rule F A) (f : A → Rule F B) → ((ts : List At) (a : A) (rest : List At) → l.Derives ts a rest → l.Front ts rest) → ((ts rest : List At) → l.Front ts rest → Later ts rest)
+pub both_closed : {F A B : Type 0} (l : Rule F A) (f : A → Rule F B)
+    → ((ts : List At) (a : A) (rest : List At) → l.Derives ts a rest → l.Front ts rest)
+    → ((ts rest : List At) → l.Front ts rest → Later ts rest)
     → ClosedFronts l → ((a : A) → ClosedFronts (f a)) → ClosedFronts (both l f)
 unfolding both
 both_closed l f w p c d ts m at t a b = elim t [
@@ -326,7 +348,8 @@ both_closed l f w p c d ts m at t a b = elim t [
 ]
 
 -- where the first part may go on, the second is absent
-pub both_exact : {F A B : Type 0} (l : Rule F A) (f : A → Rule F B) (r : Reader F A) (s : A → Reader F B) (c d : Tok → Bool) → IsExact l r c → ((a : A) → IsExact (f a) (s a) d)
+pub both_exact : {F A B : Type 0} (l : Rule F A) (f : A → Rule F B) (r : Reader F A) (s : A → Reader F B)
+    (c d : Tok → Bool) → IsExact l r c → ((a : A) → IsExact (f a) (s a) d)
     → ((a : A) (m : List At) → next c m ≡ true → IsAbsent (f a) m) → IsExact (both l f) (both_at r s) d
 both_exact {F} {A} {B} l f r s c d p q absent = record {
   empty = both_empty l f p.empty;
@@ -338,10 +361,12 @@ both_exact {F} {A} {B} l f r s c d p q absent = record {
 }
 
 -- a first part that never goes on
-pub then_exact : {F A B : Type 0} (l : Rule F A) (f : A → Rule F B) (r : Reader F A) (s : A → Reader F B) (d : Tok → Bool) → IsExact l r never → ((a : A) → IsExact (f a) (s a) d) → IsExact (both l f) (both_at r s) d
+pub then_exact : {F A B : Type 0} (l : Rule F A) (f : A → Rule F B) (r : Reader F A) (s : A → Reader F B)
+    (d : Tok → Bool) → IsExact l r never → ((a : A) → IsExact (f a) (s a) d) → IsExact (both l f) (both_at r s) d
 then_exact l f r s d p q = both_exact l f r s never d p q (λ a m g. absurd (never_next m g))
 
-pub both_absent : {F A B : Type 0} (l : Rule F A) (f : A → Rule F B) (ts : List At) → IsAbsent l ts → IsAbsent (both l f) ts
+pub both_absent : {F A B : Type 0} (l : Rule F A) (f : A → Rule F B) (ts : List At) → IsAbsent l ts
+    → IsAbsent (both l f) ts
 unfolding both
 both_absent l f ts q = record {
   derives = λ a m t. q.derives t.0 t.1 t.2;
@@ -350,7 +375,10 @@ both_absent l f ts q = record {
 }
 
 -- a part whose value alone is changed goes on as the part does
-pub mapped : {F A B : Type 0} (l : Rule F A) (g : A → B) (c : Tok → Bool) → ((ts : List At) (a : A) (rest : List At) → l.Derives ts a rest → l.Front ts rest) → (ts : List At) (o : Outcome F A) → Exactly l c ts o → Exactly (both l (λ a. done (g a))) c ts (on_ok o (λ x rest. Ok (g x, rest)))
+pub mapped : {F A B : Type 0} (l : Rule F A) (g : A → B) (c : Tok → Bool)
+    → ((ts : List At) (a : A) (rest : List At) → l.Derives ts a rest → l.Front ts rest)
+    → (ts : List At) (o : Outcome F A) → Exactly l c ts o
+    → Exactly (both l (λ a. done (g a))) c ts (on_ok o (λ x rest. Ok (g x, rest)))
 unfolding both done
 mapped l g c w ts (Ok x) p = record {
   derives = (x.0, x.1, p.derives, (refl, refl));
@@ -368,7 +396,8 @@ mapped l g c w ts (Err e) p = record {
 
 -- ---- one case or the other
 
-pub or_left : {F A : Type 0} (l m : Rule F A) (c : Tok → Bool) (ts : List At) (o : Outcome F A) → Exactly l c ts o → IsAbsent m ts → l.Front ts ts → Exactly (l or m) c ts o
+pub or_left : {F A : Type 0} (l m : Rule F A) (c : Tok → Bool) (ts : List At) (o : Outcome F A) → Exactly l c ts o
+    → IsAbsent m ts → l.Front ts ts → Exactly (l or m) c ts o
 unfolding ◌or◌
 or_left l m c ts (Ok x) p q here = record {
   derives = inl p.derives;
@@ -384,7 +413,8 @@ or_left l m c ts (Err e) p q here = record {
   reason = λ w k. inl (p.reason w k);
 }
 
-pub or_right : {F A : Type 0} (l m : Rule F A) (c : Tok → Bool) (ts : List At) (o : Outcome F A) → Exactly m c ts o → IsAbsent l ts → m.Front ts ts → Exactly (l or m) c ts o
+pub or_right : {F A : Type 0} (l m : Rule F A) (c : Tok → Bool) (ts : List At) (o : Outcome F A) → Exactly m c ts o
+    → IsAbsent l ts → m.Front ts ts → Exactly (l or m) c ts o
 unfolding ◌or◌
 or_right l m c ts (Ok x) p q here = record {
   derives = inr p.derives;
@@ -400,23 +430,33 @@ or_right l m c ts (Err e) p q here = record {
   reason = λ w k. inr (p.reason w k);
 }
 
-or_step : {F A : Type 0} (l m : Rule F A) (r s : Reader F A) (c : Tok → Bool) (ts : List At) (b : Bool) → IsExact l r c → IsExact m s c → (b ≡ true → IsAbsent m ts) → (b ≡ false → IsAbsent l ts) → Exactly (l or m) c ts (cond b (r ts) (s ts))
+or_step : {F A : Type 0} (l m : Rule F A) (r s : Reader F A) (c : Tok → Bool) (ts : List At) (b : Bool) → IsExact l r c
+    → IsExact m s c → (b ≡ true → IsAbsent m ts) → (b ≡ false → IsAbsent l ts)
+    → Exactly (l or m) c ts (cond b (r ts) (s ts))
 or_step l m r s c ts true p q go stay = or_left l m c ts (r ts) (p.reads ts) (go refl) (p.empty ts)
 or_step l m r s c ts false p q go stay = or_right l m c ts (s ts) (q.reads ts) (stay refl) (q.empty ts)
 
-pub or_empty : {F A : Type 0} (l m : Rule F A) → ((ts : List At) → l.Front ts ts) → (ts : List At) → (l or m).Front ts ts
+pub or_empty : {F A : Type 0} (l m : Rule F A) → ((ts : List At) → l.Front ts ts) → (ts : List At)
+    → (l or m).Front ts ts
 unfolding ◌or◌
 or_empty l m h ts = inl (h ts)
 
-or_whole : {F A : Type 0} (l m : Rule F A) → ((ts : List At) (a : A) (rest : List At) → l.Derives ts a rest → l.Front ts rest) → ((ts : List At) (a : A) (rest : List At) → m.Derives ts a rest → m.Front ts rest) → (ts : List At) (a : A) (rest : List At) → (l or m).Derives ts a rest → (l or m).Front ts rest
+or_whole : {F A : Type 0} (l m : Rule F A)
+    → ((ts : List At) (a : A) (rest : List At) → l.Derives ts a rest → l.Front ts rest)
+    → ((ts : List At) (a : A) (rest : List At) → m.Derives ts a rest → m.Front ts rest)
+    → (ts : List At) (a : A) (rest : List At) → (l or m).Derives ts a rest → (l or m).Front ts rest
 unfolding ◌or◌
 or_whole l m p q ts a rest t = elim t [ inl t ↦ inl (p ts a rest t) | inr t ↦ inr (q ts a rest t) ]
 
-or_within : {F A : Type 0} (l m : Rule F A) → ((ts rest : List At) → l.Front ts rest → length rest ≤ length ts) → ((ts rest : List At) → m.Front ts rest → length rest ≤ length ts) → (ts rest : List At) → (l or m).Front ts rest → length rest ≤ length ts
+or_within : {F A : Type 0} (l m : Rule F A) → ((ts rest : List At) → l.Front ts rest → length rest ≤ length ts)
+    → ((ts rest : List At) → m.Front ts rest → length rest ≤ length ts) → (ts rest : List At) → (l or m).Front ts rest
+    → length rest ≤ length ts
 unfolding ◌or◌
 or_within l m p q ts rest t = elim t [ inl t ↦ p ts rest t | inr t ↦ q ts rest t ]
 
-or_later : {F A : Type 0} (l m : Rule F A) → ((ts rest : List At) → l.Front ts rest → Later ts rest) → ((ts rest : List At) → m.Front ts rest → Later ts rest) → (ts rest : List At) → (l or m).Front ts rest → Later ts rest
+or_later : {F A : Type 0} (l m : Rule F A) → ((ts rest : List At) → l.Front ts rest → Later ts rest)
+    → ((ts rest : List At) → m.Front ts rest → Later ts rest) → (ts rest : List At) → (l or m).Front ts rest
+    → Later ts rest
 unfolding ◌or◌
 or_later l m p q ts rest t = elim t [ inl t ↦ p ts rest t | inr t ↦ q ts rest t ]
 
@@ -425,7 +465,8 @@ unfolding ◌or◌
 or_closed l m p q ts w at t a b = elim t [ inl t ↦ inl (p ts w at t a b) | inr t ↦ inr (q ts w at t a b) ]
 
 -- the next token says which case it is
-pub or_exact : {F A : Type 0} (l m : Rule F A) (r s : Reader F A) (c k : Tok → Bool) → IsExact l r c → IsExact m s c → ((ts : List At) → next k ts ≡ true → IsAbsent m ts) → ((ts : List At) → next k ts ≡ false → IsAbsent l ts)
+pub or_exact : {F A : Type 0} (l m : Rule F A) (r s : Reader F A) (c k : Tok → Bool) → IsExact l r c → IsExact m s c
+    → ((ts : List At) → next k ts ≡ true → IsAbsent m ts) → ((ts : List At) → next k ts ≡ false → IsAbsent l ts)
     → IsExact (l or m) (either_at k r s) c
 or_exact l m r s c k p q go stay = record {
   empty = or_empty l m p.empty;
@@ -446,7 +487,8 @@ or_absent l m ts p q = record {
 
 -- ---- more tokens may follow
 
-widened : {F A : Type 0} (l : Rule F A) (c d : Tok → Bool) (ts : List At) (o : Outcome F A) → ((m : List At) → next c m ≡ true → next d m ≡ true) → Exactly l c ts o → Exactly l d ts o
+widened : {F A : Type 0} (l : Rule F A) (c d : Tok → Bool) (ts : List At) (o : Outcome F A)
+    → ((m : List At) → next c m ≡ true → next d m ≡ true) → Exactly l c ts o → Exactly l d ts o
 widened l c d ts (Ok x) h p = record {
   derives = p.derives;
   only = λ b m t. elim (p.only b m t) [ inl e ↦ inl e | inr g ↦ inr (h m g) ];
@@ -461,7 +503,8 @@ widened l c d ts (Err e) h p = record {
   reason = p.reason;
 }
 
-pub exact_widens : {F A : Type 0} (l : Rule F A) (r : Reader F A) (c d : Tok → Bool) → ((m : List At) → next c m ≡ true → next d m ≡ true) → IsExact l r c → IsExact l r d
+pub exact_widens : {F A : Type 0} (l : Rule F A) (r : Reader F A) (c d : Tok → Bool)
+    → ((m : List At) → next c m ≡ true → next d m ≡ true) → IsExact l r c → IsExact l r d
 exact_widens l r c d h p = record { empty = p.empty; whole = p.whole; within = p.within; later = p.later; closed = p.closed; reads = λ ts. widened l c d ts (r ts) h (p.reads ts) }
 
 -- ---- any number of parts
@@ -470,8 +513,10 @@ some_first : (k : Tok → Bool) (ts : List At) → next k ts ≡ true → 0 < le
 some_first k [] e = absurd cc
 some_first k (t ∷ ts) e = omega arith
 
-module _ (F A : Type 0) (l : Rule F A) (r : Reader F A) (k c : Tok → Bool) (p : IsExact l r c) (stay : (ts : List At) → next k ts ≡ false → IsAbsent l ts)
-    (ends : (ts : List At) → next c ts ≡ true → IsAbsent l ts) (takes_some : (ts : List At) (a : A) (rest : List At) → l.Derives ts a rest → length rest < length ts) where
+module _ (F A : Type 0) (l : Rule F A) (r : Reader F A) (k c : Tok → Bool) (p : IsExact l r c)
+    (stay : (ts : List At) → next k ts ≡ false → IsAbsent l ts)
+    (ends : (ts : List At) → next c ts ≡ true → IsAbsent l ts)
+    (takes_some : (ts : List At) (a : A) (rest : List At) → l.Derives ts a rest → length rest < length ts) where
   -- what may follow: one part more, or what may follow the last
   abbrev kc : Tok → Bool
   kc = joined k c
@@ -500,7 +545,8 @@ module _ (F A : Type 0) (l : Rule F A) (r : Reader F A) (k c : Tok → Bool) (p 
   unfolding many
   many_later ts rest t = all_later t.0 ts t.1 rest t.2 t.3
 
-  all_closed : (xs : List A) (ts m w at : List At) → AllDerive l ts xs m → l.Front m w → Later ts at → Later at w → (many l).Front ts at
+  all_closed : (xs : List A) (ts m w at : List At) → AllDerive l ts xs m → l.Front m w → Later ts at → Later at w
+      → (many l).Front ts at
   unfolding many
   all_closed [] ts m w at t f a b = ([], ts, refl, p.closed ts w at (subst (λ z. l.Front z w) t f) a b)
   all_closed (x ∷ xs) ts m w at t f a b = elim (later_order ts at t.0 a (p.later ts t.0 (p.whole ts x t.0 t.1))) [
@@ -532,14 +578,17 @@ module _ (F A : Type 0) (l : Rule F A) (r : Reader F A) (k c : Tok → Bool) (p 
   ended_next : (m : List At) → next c m ≡ true → (ys : List A) (w : List At) → AllDerive l m ys w → next kc w ≡ true
   ended_next m g ys w t = rw (ended m g ys w t) (next_right k c m g)
 
-  ended_front : (m : List At) → next c m ≡ true → (ys : List A) (m' w : List At) → AllDerive l m ys m' → l.Front m' w → w ≡ m
+  ended_front : (m : List At) → next c m ≡ true → (ys : List A) (m' w : List At) → AllDerive l m ys m' → l.Front m' w
+      → w ≡ m
   ended_front m g ys m' w t f = (ends m g).front w (subst (λ u. l.Front u w) (ended m g ys m' t) f)
 
-  ended_refuses : (m : List At) → next c m ≡ true → (ys : List A) (m' w : List At) (why : F) → AllDerive l m ys m' → l.Refuses why m' w → ⊥
+  ended_refuses : (m : List At) → next c m ≡ true → (ys : List A) (m' w : List At) (why : F) → AllDerive l m ys m'
+      → l.Refuses why m' w → ⊥
   ended_refuses m g ys m' w why t f = (ends m g).refused why w (subst (λ u. l.Refuses why u w) (ended m g ys m' t) f)
 
   module _ (ts : List At) (x : A) (m : List At) (first : Accepts l c ts x m) (begins : next k ts ≡ true) where
-    more_only : (xs : List A) (rest : List At) → ((b : List A) (w : List At) → AllDerive l m b w → ((b ≡ xs) × (w ≡ rest)) ⊎ (next kc w ≡ true))
+    more_only : (xs : List A) (rest : List At)
+        → ((b : List A) (w : List At) → AllDerive l m b w → ((b ≡ xs) × (w ≡ rest)) ⊎ (next kc w ≡ true))
         → (b : List A) (w : List At) → AllDerive l ts b w → ((b ≡ x ∷ xs) × (w ≡ rest)) ⊎ (next kc w ≡ true)
     more_only xs rest h [] w t = inr (rw t (next_left k c ts begins))
     more_only xs rest h (y ∷ ys) w t = elim (first.only y t.0 t.1) [
@@ -547,25 +596,31 @@ module _ (F A : Type 0) (l : Rule F A) (r : Reader F A) (k c : Tok → Bool) (p 
       | inr g ↦ inr (ended_next t.0 g ys w t.2)
     ]
 
-    more_refused : ((b : List A) (w : List At) → AllDerive l m b w → next kc w ≡ true) → (b : List A) (w : List At) → AllDerive l ts b w → next kc w ≡ true
+    more_refused : ((b : List A) (w : List At) → AllDerive l m b w → next kc w ≡ true) → (b : List A) (w : List At)
+        → AllDerive l ts b w → next kc w ≡ true
     more_refused h [] w t = rw t (next_left k c ts begins)
     more_refused h (y ∷ ys) w t = elim (first.only y t.0 t.1) [ inl e ↦ h ys w (subst (λ u. AllDerive l u ys w) e.1 t.2) | inr g ↦ ended_next t.0 g ys w t.2 ]
 
-    more_last : (n : ℕ) → n ≤ length m → ((ys : List A) (m' w : List At) → AllDerive l m ys m' → l.Front m' w → n ≤ length w) → (ys : List A) (m' w : List At) → AllDerive l ts ys m' → l.Front m' w → n ≤ length w
+    more_last : (n : ℕ) → n ≤ length m
+        → ((ys : List A) (m' w : List At) → AllDerive l m ys m' → l.Front m' w → n ≤ length w)
+        → (ys : List A) (m' w : List At) → AllDerive l ts ys m' → l.Front m' w → n ≤ length w
     more_last n le h [] m' w t f = let k = first.last w (subst (λ u. l.Front u w) t f) in omega arith
     more_last n le h (y ∷ ys) m' w t f = elim (first.only y t.0 t.1) [
       | inl e ↦ h ys m' w (subst (λ u. AllDerive l u ys m') e.1 t.2) f
       | inr g ↦ let k = first.last t.0 (p.whole ts y t.0 t.1) in rw (ended_front t.0 g ys m' w t.2 f) (omega arith)
     ]
 
-    more_refuses : (why : F) (G : List At → Type 0) → ((ys : List A) (m' w : List At) → AllDerive l m ys m' → l.Refuses why m' w → G w) → (ys : List A) (m' w : List At) → AllDerive l ts ys m' → l.Refuses why m' w → G w
+    more_refuses : (why : F) (G : List At → Type 0)
+        → ((ys : List A) (m' w : List At) → AllDerive l m ys m' → l.Refuses why m' w → G w)
+        → (ys : List A) (m' w : List At) → AllDerive l ts ys m' → l.Refuses why m' w → G w
     more_refuses why G h [] m' w t f = absurd (first.unrefused why w (subst (λ u. l.Refuses why u w) t f))
     more_refuses why G h (y ∷ ys) m' w t f = elim (first.only y t.0 t.1) [
       | inl e ↦ h ys m' w (subst (λ u. AllDerive l u ys m') e.1 t.2) f
       | inr g ↦ absurd (ended_refuses t.0 g ys m' w why t.2 f)
     ]
 
-    many_more : (o : Outcome F (List A)) → Exactly (many l) kc m o → Exactly (many l) kc ts (on_ok o (λ xs rest. Ok (x ∷ xs, rest)))
+    many_more : (o : Outcome F (List A)) → Exactly (many l) kc m o
+        → Exactly (many l) kc ts (on_ok o (λ xs rest. Ok (x ∷ xs, rest)))
     unfolding many
     many_more (Ok y) q = record {
       derives = (m, first.derives, q.derives);
@@ -590,7 +645,8 @@ module _ (F A : Type 0) (l : Rule F A) (r : Reader F A) (k c : Tok → Bool) (p 
     first_last [] m w t f = q.last w (subst (λ u. l.Front u w) t f)
     first_last (y ∷ ys) m w t f = rw (ended_front t.0 (q.only y t.0 t.1) ys m w t.2 f) (q.last t.0 (p.whole ts y t.0 t.1))
 
-    first_refuses : (why : F) (ys : List A) (m w : List At) → AllDerive l ts ys m → l.Refuses why m w → (w ≡ e.1) × (e.0 ≡ Some why)
+    first_refuses : (why : F) (ys : List A) (m w : List At) → AllDerive l ts ys m → l.Refuses why m w
+        → (w ≡ e.1) × (e.0 ≡ Some why)
     first_refuses why [] m w t f = q.refused why w (subst (λ u. l.Refuses why u w) t f)
     first_refuses why (y ∷ ys) m w t f = absurd (ended_refuses t.0 (q.only y t.0 t.1) ys m w why t.2 f)
 
@@ -604,13 +660,17 @@ module _ (F A : Type 0) (l : Rule F A) (r : Reader F A) (k c : Tok → Bool) (p 
       reason = λ w g. ([], ts, refl, q.reason w g);
     }
 
-  many_first : (n : ℕ) (ts : List At) (o : Outcome F A) → ((m : List At) → length m ≤ n → Exactly (many l) kc m (times_at k r n m)) → length ts ≤ suc n → next k ts ≡ true → Exactly l c ts o
+  many_first : (n : ℕ) (ts : List At) (o : Outcome F A)
+      → ((m : List At) → length m ≤ n → Exactly (many l) kc m (times_at k r n m)) → length ts ≤ suc n → next k ts ≡ true
+      → Exactly l c ts o
       → Exactly (many l) kc ts (on_ok o (λ x more. on_ok (times_at k r n more) (λ xs rest. Ok (x ∷ xs, rest))))
   many_first n ts (Ok x) others le begins q = many_more ts x.0 x.1 q begins (times_at k r n x.1) (others x.1 (let h = takes_some ts x.0 x.1 q.derives in omega arith))
   many_first n ts (Err e) others le begins q = first_rejected ts e q begins
 
-  many_next : (n : ℕ) (ts : List At) (b : Bool) → next k ts ≡ b → ((m : List At) → length m ≤ n → Exactly (many l) kc m (times_at k r n m)) → length ts ≤ suc n
-      → Exactly (many l) kc ts (cond b (on_ok (r ts) (λ x more. on_ok (times_at k r n more) (λ xs rest. Ok (x ∷ xs, rest)))) (Ok ([], ts)))
+  many_next : (n : ℕ) (ts : List At) (b : Bool) → next k ts ≡ b
+      → ((m : List At) → length m ≤ n → Exactly (many l) kc m (times_at k r n m)) → length ts ≤ suc n
+      → Exactly (many l) kc ts (cond b (on_ok (r ts)
+      (λ x more. on_ok (times_at k r n more) (λ xs rest. Ok (x ∷ xs, rest)))) (Ok ([], ts)))
   many_next n ts true e others le = many_first n ts (r ts) others le e (p.reads ts)
   many_next n ts false e others le = many_none ts (stay ts e)
 
@@ -625,8 +685,10 @@ module _ (F A : Type 0) (l : Rule F A) (r : Reader F A) (k c : Tok → Bool) (p 
 
 -- ---- a part or nothing
 
-module _ (F A : Type 0) (l : Rule F A) (r : Reader F A) (k c : Tok → Bool) (p : IsExact l r c) (stay : (ts : List At) → next k ts ≡ false → IsAbsent l ts) where
-  perhaps_some : (ts : List At) → next k ts ≡ true → (o : Outcome F A) → Exactly l c ts o → Exactly (perhaps l) (joined k c) ts (on_ok o (λ x more. Ok (Some x, more)))
+module _ (F A : Type 0) (l : Rule F A) (r : Reader F A) (k c : Tok → Bool) (p : IsExact l r c)
+    (stay : (ts : List At) → next k ts ≡ false → IsAbsent l ts) where
+  perhaps_some : (ts : List At) → next k ts ≡ true → (o : Outcome F A) → Exactly l c ts o
+      → Exactly (perhaps l) (joined k c) ts (on_ok o (λ x more. Ok (Some x, more)))
   unfolding perhaps
   perhaps_some ts begins (Ok x) q = record {
     derives = inr (x.0, refl, q.derives);
@@ -654,11 +716,13 @@ module _ (F A : Type 0) (l : Rule F A) (r : Reader F A) (k c : Tok → Bool) (p 
     unrefused = q.refused;
   }
 
-  perhaps_next : (ts : List At) (b : Bool) → next k ts ≡ b → Exactly (perhaps l) (joined k c) ts (cond b (on_ok (r ts) (λ x more. Ok (Some x, more))) (Ok (None, ts)))
+  perhaps_next : (ts : List At) (b : Bool) → next k ts ≡ b
+      → Exactly (perhaps l) (joined k c) ts (cond b (on_ok (r ts) (λ x more. Ok (Some x, more))) (Ok (None, ts)))
   perhaps_next ts true e = perhaps_some ts e (r ts) (p.reads ts)
   perhaps_next ts false e = perhaps_none ts (stay ts e)
 
-  perhaps_whole : (ts : List At) (o : Option A) (rest : List At) → (perhaps l).Derives ts o rest → (perhaps l).Front ts rest
+  perhaps_whole : (ts : List At) (o : Option A) (rest : List At) → (perhaps l).Derives ts o rest
+      → (perhaps l).Front ts rest
   unfolding perhaps
   perhaps_whole ts o rest t = elim t [ inl t ↦ inl t.0 | inr t ↦ inr (p.whole ts t.0 rest t.2) ]
 
@@ -700,11 +764,14 @@ other_absent p t ts e = record {
 }
 
 -- the test says that the token is not this one
-pub token_absent : {F A : Type 0} (p : Tok → Verdict F A) (k : Tok → Bool) (b : Bool) → ((t : Tok) → k t ≡ b → p t ≡ No) → (ts : List At) → next k ts ≡ b → IsAbsent (one p) ts
+pub token_absent : {F A : Type 0} (p : Tok → Verdict F A) (k : Tok → Bool) (b : Bool) → ((t : Tok) → k t ≡ b → p t ≡ No)
+    → (ts : List At) → next k ts ≡ b → IsAbsent (one p) ts
 token_absent p k b h [] e = empty_absent p
 token_absent p k b h (t ∷ ts) e = other_absent p t ts (h t.tok e)
 
-pub or_takes_some : {F A : Type 0} (l m : Rule F A) → ((ts : List At) (a : A) (rest : List At) → l.Derives ts a rest → length rest < length ts) → ((ts : List At) (a : A) (rest : List At) → m.Derives ts a rest → length rest < length ts)
+pub or_takes_some : {F A : Type 0} (l m : Rule F A)
+    → ((ts : List At) (a : A) (rest : List At) → l.Derives ts a rest → length rest < length ts)
+    → ((ts : List At) (a : A) (rest : List At) → m.Derives ts a rest → length rest < length ts)
     → (ts : List At) (a : A) (rest : List At) → (l or m).Derives ts a rest → length rest < length ts
 unfolding ◌or◌
 or_takes_some l m p q ts a rest t = elim t [ inl t ↦ p ts a rest t | inr t ↦ q ts a rest t ]

@@ -9,7 +9,8 @@ use Rattle.hip_rules.specs.Laws.Same.{IsSame}
 use Rattle.hip_rules.specs.Laws.Phases.{phases_exact}
 use Rattle.hip_rules.specs.Laws.Loops.{TakesSome}
 
--- the reading is exact for the rule, where the text goes on after a whole by a token that `follow` passes only if the rule itself could go on
+-- the reading is exact for the rule, where the text goes on after a whole by a token that `follow` passes only if the
+-- rule itself could go on
 abbrev pub Exact : {F A : Type 0} → Part F A → (Tok → Bool) → Type 0
 Exact p follow = IsExact p.rule p.read follow
 
@@ -37,10 +38,12 @@ apart_next : (c d : Tok → Bool) → Apart c d → (ts : List At) → next c ts
 apart_next c d p [] e = refl
 apart_next c d p (t ∷ ts) e = p t.tok e
 
-pub apart_absent : {F A : Type 0} (p : Part F A) (first follow c : Tok → Bool) → IsRead p first follow → Apart c first → (ts : List At) → next c ts ≡ true → IsAbsent p.rule ts
+pub apart_absent : {F A : Type 0} (p : Part F A) (first follow c : Tok → Bool) → IsRead p first follow → Apart c first
+    → (ts : List At) → next c ts ≡ true → IsAbsent p.rule ts
 apart_absent p first follow c r a ts e = r.absent ts (apart_next c first a ts e)
 
-pub widens : {F A : Type 0} (p : Part F A) (first c d : Tok → Bool) → ((t : Tok) → c t ≡ true → d t ≡ true) → IsRead p first c → IsRead p first d
+pub widens : {F A : Type 0} (p : Part F A) (first c d : Tok → Bool) → ((t : Tok) → c t ≡ true → d t ≡ true)
+    → IsRead p first c → IsRead p first d
 widens p first c d h r = record { exact = exact_widens p.rule p.read c d (next_widens c d h) r.exact; absent = r.absent; some = r.some }
 
 never_passes : (d : Tok → Bool) (t : Tok) → never t ≡ true → d t ≡ true
@@ -49,11 +52,13 @@ never_passes d t e = absurd cc
 pub gives_exact : {F A : Type 0} (a : A) (follow : Tok → Bool) → Exact {F = F} {A = A} (gives a) follow
 gives_exact {F} {A} a follow = exact_widens _ _ never follow (next_widens never follow (never_passes follow)) (done_exact {F = F} a)
 
-one_takes_some : {F A : Type 0} (p : Tok → Verdict F A) (ts : List At) (a : A) (rest : List At) → (one p).Derives ts a rest → length rest < length ts
+one_takes_some : {F A : Type 0} (p : Tok → Verdict F A) (ts : List At) (a : A) (rest : List At)
+    → (one p).Derives ts a rest → length rest < length ts
 unfolding one
 one_takes_some p ts a rest t = let e = ap length t.1 in omega arith
 
-pub token_read : {F A : Type 0} (p : Tok → Verdict F A) (first follow : Tok → Bool) → ((t : Tok) → first t ≡ false → p t ≡ No) → IsRead (token p) first follow
+pub token_read : {F A : Type 0} (p : Tok → Verdict F A) (first follow : Tok → Bool)
+    → ((t : Tok) → first t ≡ false → p t ≡ No) → IsRead (token p) first follow
 token_read p first follow h = record {
   exact = exact_widens (one p) _ never follow (next_widens never follow (never_passes follow)) (one_exact p);
   absent = token_absent p first false h;
@@ -68,15 +73,19 @@ passing_read {F} k follow = token_read (the {F = F} k) k follow (other_token k)
 
 -- ---- one part after the other
 
-both_takes_some : {F A B : Type 0} (l : Rule F A) (f : A → Rule F B) → ((ts : List At) (a : A) (rest : List At) → l.Derives ts a rest → length rest < length ts) → ((a : A) (ts : List At) (b : B) (rest : List At) → (f a).Derives ts b rest → length rest ≤ length ts)
+both_takes_some : {F A B : Type 0} (l : Rule F A) (f : A → Rule F B)
+    → ((ts : List At) (a : A) (rest : List At) → l.Derives ts a rest → length rest < length ts)
+    → ((a : A) (ts : List At) (b : B) (rest : List At) → (f a).Derives ts b rest → length rest ≤ length ts)
     → (ts : List At) (b : B) (rest : List At) → (both l f).Derives ts b rest → length rest < length ts
 unfolding both
 both_takes_some l f p q ts b rest t = let i = p ts t.0 t.1 t.2 in let j = q t.0 t.1 b rest t.3 in omega arith
 
-derives_within : {F A : Type 0} (p : Part F A) (c : Tok → Bool) → Exact p c → (ts : List At) (a : A) (rest : List At) → p.rule.Derives ts a rest → length rest ≤ length ts
+derives_within : {F A : Type 0} (p : Part F A) (c : Tok → Bool) → Exact p c → (ts : List At) (a : A) (rest : List At)
+    → p.rule.Derives ts a rest → length rest ≤ length ts
 derives_within p c e ts a rest t = e.within ts rest (e.whole ts a rest t)
 
-pub then_read : {F A B : Type 0} (l : Part F A) (f : A → Part F B) (first d : Tok → Bool) → IsRead l first never → ((a : A) → Exact (f a) d) → IsRead (l >>= f) first d
+pub then_read : {F A B : Type 0} (l : Part F A) (f : A → Part F B) (first d : Tok → Bool) → IsRead l first never
+    → ((a : A) → Exact (f a) d) → IsRead (l >>= f) first d
 then_read l f first d p q = record {
   exact = then_exact l.rule (λ a. (f a).rule) l.read (λ a. (f a).read) d p.exact q;
   absent = λ ts e. both_absent l.rule (λ a. (f a).rule) ts (p.absent ts e);
@@ -84,10 +93,12 @@ then_read l f first d p q = record {
 }
 
 -- a part that may go on, and then one that takes a token at least
-pub next_exact : {F A B : Type 0} (l : Part F A) (f : A → Part F B) (c second d : Tok → Bool) → Exact l c → ((a : A) → IsRead (f a) second d) → Apart c second → Exact (l >>= f) d
+pub next_exact : {F A B : Type 0} (l : Part F A) (f : A → Part F B) (c second d : Tok → Bool) → Exact l c
+    → ((a : A) → IsRead (f a) second d) → Apart c second → Exact (l >>= f) d
 next_exact l f c second d p q apart = both_exact l.rule (λ a. (f a).rule) l.read (λ a. (f a).read) c d p (λ a. (q a).exact) (λ a m g. apart_absent (f a) second d c (q a) apart m g)
 
-pub next_read : {F A B : Type 0} (l : Part F A) (f : A → Part F B) (first c second d : Tok → Bool) → IsRead l first c → ((a : A) → IsRead (f a) second d) → Apart c second → IsRead (l >>= f) first d
+pub next_read : {F A B : Type 0} (l : Part F A) (f : A → Part F B) (first c second d : Tok → Bool) → IsRead l first c
+    → ((a : A) → IsRead (f a) second d) → Apart c second → IsRead (l >>= f) first d
 next_read l f first c second d p q apart = record {
   exact = next_exact l f c second d p.exact q apart;
   absent = λ ts e. both_absent l.rule (λ a. (f a).rule) ts (p.absent ts e);
@@ -95,7 +106,8 @@ next_read l f first c second d p q apart = record {
 }
 
 -- the value alone is another
-pub maps_exact : {F A B : Type 0} (l : Part F A) (g : A → B) (c : Tok → Bool) → Exact l c → Exact (l >>= λ a. gives (g a)) c
+pub maps_exact : {F A B : Type 0} (l : Part F A) (g : A → B) (c : Tok → Bool) → Exact l c
+    → Exact (l >>= λ a. gives (g a)) c
 maps_exact {F} {A} {B} l g c p = record {
   empty = both_empty l.rule (λ a. done (g a)) p.empty;
   whole = both_whole l.rule (λ a. done (g a)) (λ a. (gives_exact {F = F} (g a) never).whole);
@@ -108,7 +120,8 @@ maps_exact {F} {A} {B} l g c p = record {
     maps : (ts : List At) (o : Outcome F A) → Exactly l.rule c ts o → Exactly (both l.rule (λ a. done (g a))) c ts (on_ok o (λ x rest. Ok (g x, rest)))
     maps ts o q = mapped l.rule g c p.whole ts o q
 
-pub maps_read : {F A B : Type 0} (l : Part F A) (g : A → B) (first c : Tok → Bool) → IsRead l first c → IsRead (l >>= λ a. gives (g a)) first c
+pub maps_read : {F A B : Type 0} (l : Part F A) (g : A → B) (first c : Tok → Bool) → IsRead l first c
+    → IsRead (l >>= λ a. gives (g a)) first c
 maps_read {F} l g first c p = record {
   exact = maps_exact l g c p.exact;
   absent = λ ts e. both_absent l.rule (λ a. done (g a)) ts (p.absent ts e);
@@ -117,22 +130,26 @@ maps_read {F} l g first c p = record {
 
 -- ---- one case or the other, any number, and none
 
-pub either_read : {F A : Type 0} (l m : Part F A) (k second c : Tok → Bool) → IsRead l k c → IsRead m second c → Apart k second → IsRead (either k l m) (joined k second) c
+pub either_read : {F A : Type 0} (l m : Part F A) (k second c : Tok → Bool) → IsRead l k c → IsRead m second c
+    → Apart k second → IsRead (either k l m) (joined k second) c
 either_read l m k second c p q apart = record {
   exact = or_exact l.rule m.rule l.read m.read c k p.exact q.exact (λ ts e. apart_absent m second c k q apart ts e) p.absent;
   absent = λ ts e. or_absent l.rule m.rule ts (p.absent ts (next_not_left k second ts e)) (q.absent ts (next_not_right k second ts e));
   some = or_takes_some l.rule m.rule p.some q.some;
 }
 
-pub repeated_exact : {F A : Type 0} (l : Part F A) (k c : Tok → Bool) → IsRead l k c → Apart c k → Exact (repeated k l) (joined k c)
+pub repeated_exact : {F A : Type 0} (l : Part F A) (k c : Tok → Bool) → IsRead l k c → Apart c k
+    → Exact (repeated k l) (joined k c)
 repeated_exact {F} {A} l k c p apart = many_exact F A l.rule l.read k c p.exact p.absent (λ ts e. apart_absent l k c c p apart ts e) p.some
 
 pub optional_exact : {F A : Type 0} (l : Part F A) (k c : Tok → Bool) → IsRead l k c → Exact (optional k l) (joined k c)
 optional_exact {F} {A} l k c p = perhaps_exact F A l.rule l.read k c p.exact p.absent
 
 -- an optional part, and then one that takes a token at least
-module _ (F A B : Type 0) (l : Part F A) (f : Option A → Part F B) (k second d : Tok → Bool) (p : IsRead l k never) (q : (o : Option A) → IsRead (f o) second d) (apart : Apart k second) where
-  optional_absent : (ts : List At) → next (joined k second) ts ≡ false → IsAbsent (both (perhaps l.rule) (λ o. (f o).rule)) ts
+module _ (F A B : Type 0) (l : Part F A) (f : Option A → Part F B) (k second d : Tok → Bool) (p : IsRead l k never)
+    (q : (o : Option A) → IsRead (f o) second d) (apart : Apart k second) where
+  optional_absent : (ts : List At) → next (joined k second) ts ≡ false
+      → IsAbsent (both (perhaps l.rule) (λ o. (f o).rule)) ts
   unfolding both perhaps
   optional_absent ts e =
       let here = p.absent ts (next_not_left k second ts e) in
@@ -149,7 +166,8 @@ module _ (F A B : Type 0) (l : Part F A) (f : Option A → Part F B) (k second d
         ];
       }
 
-  optional_some : (ts : List At) (b : B) (rest : List At) → (both (perhaps l.rule) (λ o. (f o).rule)).Derives ts b rest → length rest < length ts
+  optional_some : (ts : List At) (b : B) (rest : List At) → (both (perhaps l.rule) (λ o. (f o).rule)).Derives ts b rest
+      → length rest < length ts
   unfolding both perhaps
   optional_some ts b rest t = let j = (q t.0).some t.1 b rest t.3 in elim t.2 [ inl u ↦ let e = ap length u.0 in omega arith | inr u ↦ let i = p.some ts u.0 t.1 u.2 in omega arith ]
 
@@ -169,15 +187,18 @@ by_never k t e = left_is (k t) e
     left_is true h = refl
     left_is false h = h
 
-pub one_more_read : {F A : Type 0} (l : Part F A) (k first c : Tok → Bool) → IsRead l first c → IsRead (one_more_by k l) k c
+pub one_more_read : {F A : Type 0} (l : Part F A) (k first c : Tok → Bool) → IsRead l first c
+    → IsRead (one_more_by k l) k c
 unfolding one_more_by
 one_more_read {F} l k first c p = then_read (passing {F = F} k) (λ _. l) k c (passing_read k never) (λ _. p.exact)
 
 -- any number more, behind a separator each
-pub more_exact : {F A : Type 0} (l : Part F A) (k first : Tok → Bool) → IsRead l first never → Exact (repeated k (one_more_by k l)) k
+pub more_exact : {F A : Type 0} (l : Part F A) (k first : Tok → Bool) → IsRead l first never
+    → Exact (repeated k (one_more_by k l)) k
 more_exact l k first p = exact_widens _ _ (joined k never) k (next_widens (joined k never) k (by_never k)) (repeated_exact (one_more_by k l) k never (one_more_read l k first never p) (never_apart k))
 
-pub separated_read : {F A : Type 0} (l : Part F A) (k first : Tok → Bool) → IsRead l first never → IsRead (separated k l) first k
+pub separated_read : {F A : Type 0} (l : Part F A) (k first : Tok → Bool) → IsRead l first never
+    → IsRead (separated k l) first k
 unfolding separated
 separated_read {F} {A} l k first p = then_read l (λ x. repeated k (one_more_by k l) >>= λ others. gives (x ∷ others)) first k p (λ x. maps_exact (repeated k (one_more_by k l)) (λ (others : List A). x ∷ others) k (more_exact l k first p))
 
@@ -185,33 +206,40 @@ none_read : {F A : Type 0} (close : Tok → Bool) → IsRead (none_up_to {F = F}
 unfolding none_up_to
 none_read {F} {A} close = maps_read (passing {F = F} close) (λ _. []) close never (passing_read close never)
 
-some_read : {F A : Type 0} (l : Part F A) (k close first : Tok → Bool) → IsRead l first never → Apart k close → IsRead (some_up_to k close l) first never
+some_read : {F A : Type 0} (l : Part F A) (k close first : Tok → Bool) → IsRead l first never → Apart k close
+    → IsRead (some_up_to k close l) first never
 unfolding some_up_to
 some_read {F} {A} l k close first p apart = next_read (separated k l) (λ items. passing close >>= λ _. gives items) first k close never (separated_read l k first p) (λ items. maps_read (passing {F = F} close) (λ _. items) close never (passing_read close never)) apart
 
-pub listed_read : {F A : Type 0} (l : Part F A) (k close first : Tok → Bool) → IsRead l first never → Apart k close → Apart close first → IsRead (listed k close l) (joined close first) never
+pub listed_read : {F A : Type 0} (l : Part F A) (k close first : Tok → Bool) → IsRead l first never → Apart k close
+    → Apart close first → IsRead (listed k close l) (joined close first) never
 unfolding listed
 listed_read l k close first p apart begins = either_read (none_up_to close) (some_up_to k close l) close first never (none_read close) (some_read l k close first p apart) begins
 
 -- ---- what is read is derived
 
-accepted : {F A : Type 0} (p : Part F A) (c : Tok → Bool) (ts : List At) (o : Outcome F A) (x : A × List At) → Exactly p.rule c ts o → o ≡ Ok x → p.rule.Derives ts x.0 x.1
+accepted : {F A : Type 0} (p : Part F A) (c : Tok → Bool) (ts : List At) (o : Outcome F A) (x : A × List At)
+    → Exactly p.rule c ts o → o ≡ Ok x → p.rule.Derives ts x.0 x.1
 accepted p c ts o x h e = let r : Accepts p.rule c ts x.0 x.1 = subst (Exactly p.rule c ts) e h in r.derives
 
-pub read_derives : {F A : Type 0} (p : Part F A) (c : Tok → Bool) → Exact p c → (ts : List At) (x : A × List At) → p.read ts ≡ Ok x → p.rule.Derives ts x.0 x.1
+pub read_derives : {F A : Type 0} (p : Part F A) (c : Tok → Bool) → Exact p c → (ts : List At) (x : A × List At)
+    → p.read ts ≡ Ok x → p.rule.Derives ts x.0 x.1
 read_derives p c q ts x e = accepted p c ts (p.read ts) x (q.reads ts) e
 
 -- what a loop has to know of its part
 pub read_takes_some : {F A : Type 0} (p : Part F A) (first c : Tok → Bool) → IsRead p first c → TakesSome p.read
 read_takes_some p first c q ts x e = q.some ts x.0 x.1 (read_derives p c q.exact ts x e)
 
-pub read_within : {F A : Type 0} (p : Part F A) (c : Tok → Bool) → Exact p c → (ts : List At) (x : A × List At) → p.read ts ≡ Ok x → length x.1 ≤ length ts
+pub read_within : {F A : Type 0} (p : Part F A) (c : Tok → Bool) → Exact p c → (ts : List At) (x : A × List At)
+    → p.read ts ≡ Ok x → length x.1 ≤ length ts
 read_within p c q ts x e = derives_within p c q ts x.0 x.1 (read_derives p c q ts x e)
 
 -- ---- phases
 
-pub phased_exact : {F X P B : Type 0} (head : Part F X) (part : X → Part F P) (after_head : List P → X → Part F B) (no_head following : List P → Part F B) (kh kf c after none d : Tok → Bool)
-    → IsRead head kh never → ((x : X) → IsRead (part x) kf c) → ((ps : List P) (x : X) → IsRead (after_head ps x) after d) → ((ps : List P) → IsRead (no_head ps) none d)
+pub phased_exact : {F X P B : Type 0} (head : Part F X) (part : X → Part F P) (after_head : List P → X → Part F B)
+    (no_head following : List P → Part F B) (kh kf c after none d : Tok → Bool)
+    → IsRead head kh never → ((x : X) → IsRead (part x) kf c)
+    → ((ps : List P) (x : X) → IsRead (after_head ps x) after d) → ((ps : List P) → IsRead (no_head ps) none d)
     → Apart kh none → Apart kf after → Apart c kh → Apart c none
     → ((ps : List P) → IsSame (both head.rule (λ x. (after_head ps x).rule) or (no_head ps).rule) (following ps).rule)
     → Exact (phased kh head kf part after_head no_head following) d
@@ -227,16 +255,20 @@ phased_exact {F} {X} {P} {B} head part after_head no_head following kh kf c afte
 
 -- ---- the links of a chain of parts
 
-pub begins : {F B : Type 0} (k : Tok → Bool) (f : Unit {0} → Part F B) (d : Tok → Bool) → ((a : Unit {0}) → Exact (f a) d) → IsRead (passing k >>= f) k d
+pub begins : {F B : Type 0} (k : Tok → Bool) (f : Unit {0} → Part F B) (d : Tok → Bool)
+    → ((a : Unit {0}) → Exact (f a) d) → IsRead (passing k >>= f) k d
 begins {F} k f d q = then_read (passing {F = F} k) f k d (passing_read k never) q
 
-pub token_begins : {F A B : Type 0} (p : Tok → Verdict F A) (first : Tok → Bool) (f : A → Part F B) (d : Tok → Bool) → ((t : Tok) → first t ≡ false → p t ≡ No) → ((a : A) → Exact (f a) d) → IsRead (token p >>= f) first d
+pub token_begins : {F A B : Type 0} (p : Tok → Verdict F A) (first : Tok → Bool) (f : A → Part F B) (d : Tok → Bool)
+    → ((t : Tok) → first t ≡ false → p t ≡ No) → ((a : A) → Exact (f a) d) → IsRead (token p >>= f) first d
 token_begins p first f d h q = then_read (token p) f first d (token_read p first never h) q
 
-pub link : {F A B : Type 0} (p : Tok → Verdict F A) (f : A → Part F B) (d : Tok → Bool) → ((a : A) → Exact (f a) d) → Exact (token p >>= f) d
+pub link : {F A B : Type 0} (p : Tok → Verdict F A) (f : A → Part F B) (d : Tok → Bool) → ((a : A) → Exact (f a) d)
+    → Exact (token p >>= f) d
 link p f d q = then_exact (one p) (λ a. (f a).rule) _ (λ a. (f a).read) d (one_exact p) q
 
-pub part_link : {F A B : Type 0} (l : Part F A) (f : A → Part F B) (d : Tok → Bool) → Exact l never → ((a : A) → Exact (f a) d) → Exact (l >>= f) d
+pub part_link : {F A B : Type 0} (l : Part F A) (f : A → Part F B) (d : Tok → Bool) → Exact l never
+    → ((a : A) → Exact (f a) d) → Exact (l >>= f) d
 part_link l f d p q = then_exact l.rule (λ a. (f a).rule) l.read (λ a. (f a).read) d p q
 
 pub token_exact : {F A : Type 0} (p : Tok → Verdict F A) (d : Tok → Bool) → Exact (token p) d
@@ -264,20 +296,25 @@ pub apart_joined : (d a b : Tok → Bool) → Apart d a → Apart d b → Apart 
 apart_joined d a b p q t e = rw (p t e) (q t e)
 
 -- more tokens may begin a part than do
-next_not_wide : (first wide : Tok → Bool) → ((t : Tok) → wide t ≡ false → first t ≡ false) → (ts : List At) → next wide ts ≡ false → next first ts ≡ false
+next_not_wide : (first wide : Tok → Bool) → ((t : Tok) → wide t ≡ false → first t ≡ false) → (ts : List At)
+    → next wide ts ≡ false → next first ts ≡ false
 next_not_wide first wide h [] e = refl
 next_not_wide first wide h (t ∷ ts) e = h t.tok e
 
-pub begins_by : {F A : Type 0} (p : Part F A) (first wide c : Tok → Bool) → ((t : Tok) → wide t ≡ false → first t ≡ false) → IsRead p first c → IsRead p wide c
+pub begins_by : {F A : Type 0} (p : Part F A) (first wide c : Tok → Bool)
+    → ((t : Tok) → wide t ≡ false → first t ≡ false) → IsRead p first c → IsRead p wide c
 begins_by p first wide c h r = record { exact = r.exact; absent = λ ts e. r.absent ts (next_not_wide first wide h ts e); some = r.some }
 
 -- any number of parts, and then one that takes a token at least
-module _ (F A B : Type 0) (l : Part F A) (f : List A → Part F B) (k c second d : Tok → Bool) (p : IsRead l k c) (own : Apart c k) (q : (xs : List A) → IsRead (f xs) second d) (apart : Apart (joined k c) second) where
-  nothing_repeated : (ts : List At) → IsAbsent l.rule ts → (xs : List A) (m : List At) → AllDerive l.rule ts xs m → m ≡ ts
+module _ (F A B : Type 0) (l : Part F A) (f : List A → Part F B) (k c second d : Tok → Bool) (p : IsRead l k c)
+    (own : Apart c k) (q : (xs : List A) → IsRead (f xs) second d) (apart : Apart (joined k c) second) where
+  nothing_repeated : (ts : List At) → IsAbsent l.rule ts → (xs : List A) (m : List At) → AllDerive l.rule ts xs m
+      → m ≡ ts
   nothing_repeated ts here [] m t = t
   nothing_repeated ts here (x ∷ xs) m t = absurd (here.derives x t.0 t.1)
 
-  repeated_absent : (ts : List At) → next (joined k second) ts ≡ false → IsAbsent (both (many l.rule) (λ xs. (f xs).rule)) ts
+  repeated_absent : (ts : List At) → next (joined k second) ts ≡ false
+      → IsAbsent (both (many l.rule) (λ xs. (f xs).rule)) ts
   unfolding both many
   repeated_absent ts e =
       let here = p.absent ts (next_not_left k second ts e) in
@@ -294,7 +331,8 @@ module _ (F A B : Type 0) (l : Part F A) (f : List A → Part F B) (k c second d
         ];
       }
 
-  repeated_some : (ts : List At) (b : B) (rest : List At) → (both (many l.rule) (λ xs. (f xs).rule)).Derives ts b rest → length rest < length ts
+  repeated_some : (ts : List At) (b : B) (rest : List At) → (both (many l.rule) (λ xs. (f xs).rule)).Derives ts b rest
+      → length rest < length ts
   unfolding both
   repeated_some ts b rest t =
       let i = derives_within (repeated k l) (joined k c) (repeated_exact l k c p own) ts t.0 t.1 t.2 in

@@ -1,4 +1,5 @@
--- Parts of one kind and then parts of another, which begin alike: the head is read once, and the next token then tells the kind.
+-- Parts of one kind and then parts of another, which begin alike: the head is read once, and the next token then tells
+-- the kind.
 use Rattle.std.proofs.Common.{◌≡◌, ℕ, zero, suc, ◌≤◌, ◌<◌, Bool, true, false, cond, List, [], ◌∷◌, ◌++◌, length, Option, Some, None, Ok, Err, refl, sym, ap, subst, ◌∙◌, arith, append_assoc}
 use Rattle.std.proofs.lemmas.List.{append-nil}
 use Rattle.hip_tokens.specs.Tokens.{Tok, At}
@@ -7,9 +8,13 @@ use Rattle.hip_rules.specs.Reader.{Reader, Outcome, on_ok, next, leading_at, lea
 use Rattle.hip_rules.specs.Laws.Exact.{IsExact, Exactly, IsAbsent, never, never_next, joined, both_where, both_empty, both_whole, both_within, both_later, both_closed, or_left, or_right, or_empty, or_absent, both_absent, then_exact, or_exact, many_exact}
 use Rattle.hip_rules.specs.Laws.Same.{IsSame, factored, many_unrolls, unrolled, same_exactly, same_exact, same_refl, same_sym, same_trans, or_same, or_assoc, both_assoc, both_same, same_absent}
 
-module _ (F X P B : Type 0) (h : Rule F X) (rh : Reader F X) (f : X → Rule F P) (rf : X → Reader F P) (T : List P → Rule F B) (R : List P → X → Rule F B) (rR : List P → X → Reader F B) (O : List P → Rule F B) (rO : List P → Reader F B)
+module _ (F X P B : Type 0) (h : Rule F X) (rh : Reader F X) (f : X → Rule F P) (rf : X → Reader F P)
+    (T : List P → Rule F B) (R : List P → X → Rule F B) (rR : List P → X → Reader F B) (O : List P → Rule F B)
+    (rO : List P → Reader F B)
     (kh kf c d : Tok → Bool)
-    (h_exact : IsExact h rh never) (f_exact : (x : X) → IsExact (f x) (rf x) c) (R_exact : (ps : List P) (x : X) → IsExact (R ps x) (rR ps x) d) (O_exact : (ps : List P) → IsExact (O ps) (rO ps) d)
+    (h_exact : IsExact h rh never) (f_exact : (x : X) → IsExact (f x) (rf x) c)
+    (R_exact : (ps : List P) (x : X) → IsExact (R ps x) (rR ps x) d)
+    (O_exact : (ps : List P) → IsExact (O ps) (rO ps) d)
     (h_some : (ts : List At) (x : X) (rest : List At) → h.Derives ts x rest → length rest < length ts)
     (h_absent : (ts : List At) → next kh ts ≡ false → IsAbsent h ts)
     (O_absent : (ps : List P) (ts : List At) → next kh ts ≡ true → IsAbsent (O ps) ts)
@@ -30,7 +35,9 @@ module _ (F X P B : Type 0) (h : Rule F X) (rh : Reader F X) (f : X → Rule F P
   pushed ps p more = subst (λ (qs : List P). IsSame (T (ps ++ (p ∷ more))) (T qs)) (sym (append_assoc ps (p ∷ []) more)) (same_refl (T (ps ++ (p ∷ more))))
 
   -- one step of the phases
-  first_part : (ps : List P) → IsSame (both (both h f) (λ p. phases (ps ++ (p ∷ [])))) (both (both h f) (λ p. both (many (both h f)) (λ more. T (ps ++ (p ∷ more)))))
+  first_part : (ps : List P)
+      → IsSame (both (both h f) (λ p. phases (ps ++ (p ∷ []))))
+      (both (both h f) (λ p. both (many (both h f)) (λ more. T (ps ++ (p ∷ more)))))
   first_part ps = both_same (both h f) _ _ (λ p. both_same (many (both h f)) _ _ (λ more. same_sym _ _ (pushed ps p more)))
 
   ended_part : (ps : List P) → IsSame (both h (R ps) or O ps) (T (ps ++ []))
@@ -53,7 +60,10 @@ module _ (F X P B : Type 0) (h : Rule F X) (rh : Reader F X) (f : X → Rule F P
 
   ph : ℕ → List P → Reader F B
   ph zero ps ts = rO ps ts
-  ph (suc n) ps ts = cond (next kh ts) (on_ok (rh ts) (λ x m. cond (next kf m) (on_ok (rf x m) (λ p rest. ph n (ps ++ (p ∷ [])) rest)) (rR ps x m))) (rO ps ts)
+  ph (suc n) ps ts =
+      cond (next kh ts)
+      (on_ok (rh ts) (λ x m. cond (next kf m) (on_ok (rf x m) (λ p rest. ph n (ps ++ (p ∷ [])) rest)) (rR ps x m)))
+      (rO ps ts)
 
   many_front : (l : Rule F P) → ((ts : List At) → l.Front ts ts) → (ts : List At) → (many l).Front ts ts
   unfolding many
@@ -68,7 +78,9 @@ module _ (F X P B : Type 0) (h : Rule F X) (rh : Reader F X) (f : X → Rule F P
   goes_empty : (ps : List P) (x : X) (ts : List At) → (goes ps x).Front ts ts
   goes_empty ps x = or_empty (both (f x) (λ p. phases (ps ++ (p ∷ [])))) (R ps x) (both_empty (f x) _ (f_exact x).empty)
 
-  behind : (n : ℕ) (ps : List P) (x : X) (m : List At) (b : Bool) → next kf m ≡ b → ((p : P) (rest : List At) → length rest ≤ n → Exactly (phases (ps ++ (p ∷ []))) d rest (ph n (ps ++ (p ∷ [])) rest)) → length m ≤ n
+  behind : (n : ℕ) (ps : List P) (x : X) (m : List At) (b : Bool) → next kf m ≡ b
+      → ((p : P) (rest : List At) → length rest ≤ n
+      → Exactly (phases (ps ++ (p ∷ []))) d rest (ph n (ps ++ (p ∷ [])) rest)) → length m ≤ n
       → Exactly (goes ps x) d m (cond b (on_ok (rf x m) (λ p rest. ph n (ps ++ (p ∷ [])) rest)) (rR ps x m))
   behind n ps x m true e others le = or_left (both (f x) (λ p. phases (ps ++ (p ∷ [])))) (R ps x) d m _
       (both_where F P B (f x) (λ p. phases (ps ++ (p ∷ []))) c d (f_exact x).whole (λ p. phases_empty (ps ++ (p ∷ []))) (λ p w g. phases_absent (ps ++ (p ∷ [])) w g) (λ p rest. ph n (ps ++ (p ∷ [])) rest) m (rf x m)
@@ -79,8 +91,11 @@ module _ (F X P B : Type 0) (h : Rule F X) (rh : Reader F X) (f : X → Rule F P
   closing : (ps : List P) (ts : List At) → next kh ts ≡ false → Exactly (factored_phases ps) d ts (rO ps ts)
   closing ps ts e = or_right (both h (goes ps)) (O ps) d ts (rO ps ts) ((O_exact ps).reads ts) (both_absent h (goes ps) ts (h_absent ts e)) ((O_exact ps).empty ts)
 
-  opening : (n : ℕ) (ps : List P) (ts : List At) (b : Bool) → next kh ts ≡ b → ((p : P) (rest : List At) → length rest ≤ n → Exactly (phases (ps ++ (p ∷ []))) d rest (ph n (ps ++ (p ∷ [])) rest)) → length ts ≤ suc n
-      → Exactly (factored_phases ps) d ts (cond b (on_ok (rh ts) (λ x m. cond (next kf m) (on_ok (rf x m) (λ p rest. ph n (ps ++ (p ∷ [])) rest)) (rR ps x m))) (rO ps ts))
+  opening : (n : ℕ) (ps : List P) (ts : List At) (b : Bool) → next kh ts ≡ b
+      → ((p : P) (rest : List At) → length rest ≤ n
+      → Exactly (phases (ps ++ (p ∷ []))) d rest (ph n (ps ++ (p ∷ [])) rest)) → length ts ≤ suc n
+      → Exactly (factored_phases ps) d ts (cond b (on_ok (rh ts)
+      (λ x m. cond (next kf m) (on_ok (rf x m) (λ p rest. ph n (ps ++ (p ∷ [])) rest)) (rR ps x m))) (rO ps ts))
   opening n ps ts true e others le = or_left (both h (goes ps)) (O ps) d ts _
       (both_where F X B h (goes ps) never d h_exact.whole (goes_empty ps) (λ x w g. absurd (never_next w g)) (λ x m. cond (next kf m) (on_ok (rf x m) (λ p rest. ph n (ps ++ (p ∷ [])) rest)) (rR ps x m)) ts (rh ts)
       (λ x m t. behind n ps x m (next kf m) refl others (let k = h_some ts x m t in omega arith)) (h_exact.reads ts))
@@ -98,32 +113,50 @@ module _ (F X P B : Type 0) (h : Rule F X) (rh : Reader F X) (f : X → Rule F P
   abbrev finish : List P → List P × Option X → Reader F B
   finish ps q = by_head q.1 (rR (ps ++ q.0)) (rO (ps ++ q.0))
 
-  finish_pushed : (ps : List P) (p : P) (q : List P × Option X) (m : List At) → finish ps (p ∷ q.0, q.1) m ≡ finish (ps ++ (p ∷ [])) q m
+  finish_pushed : (ps : List P) (p : P) (q : List P × Option X) (m : List At)
+      → finish ps (p ∷ q.0, q.1) m ≡ finish (ps ++ (p ∷ [])) q m
   finish_pushed ps p q m = ap (λ (qs : List P). by_head q.1 (rR qs) (rO qs) m) (sym (append_assoc ps (p ∷ []) q.0))
 
-  led : (ps : List P) (p : P) (o : Outcome F (List P × Option X)) → on_ok o (finish (ps ++ (p ∷ []))) ≡ on_ok (on_ok o (λ q rest. Ok ((p ∷ q.0, q.1), rest))) (finish ps)
+  led : (ps : List P) (p : P) (o : Outcome F (List P × Option X))
+      → on_ok o (finish (ps ++ (p ∷ []))) ≡ on_ok (on_ok o (λ q rest. Ok ((p ∷ q.0, q.1), rest))) (finish ps)
   led ps p (Ok q) = sym (finish_pushed ps p q.0 q.1)
   led ps p (Err e) = refl
 
-  led_parts : (n : ℕ) (ps : List P) (o : Outcome F P) → ((ps : List P) (ts : List At) → ph n ps ts ≡ on_ok (leading_at kh rh kf rf n ts) (finish ps))
-      → on_ok o (λ p rest. ph n (ps ++ (p ∷ [])) rest) ≡ on_ok (on_ok o (λ p more. on_ok (leading_at kh rh kf rf n more) (λ q rest. Ok ((p ∷ q.0, q.1), rest)))) (finish ps)
+  led_parts : (n : ℕ) (ps : List P) (o : Outcome F P)
+      → ((ps : List P) (ts : List At) → ph n ps ts ≡ on_ok (leading_at kh rh kf rf n ts) (finish ps))
+      → on_ok o (λ p rest. ph n (ps ++ (p ∷ [])) rest)
+      ≡ on_ok (on_ok o (λ p more. on_ok (leading_at kh rh kf rf n more) (λ q rest. Ok ((p ∷ q.0, q.1), rest))))
+      (finish ps)
   led_parts n ps (Ok p) h = h (ps ++ (p.0 ∷ [])) p.1 ∙ led ps p.0 (leading_at kh rh kf rf n p.1)
   led_parts n ps (Err e) h = refl
 
-  led_behind : (n : ℕ) (ps : List P) (x : X) (m : List At) (b : Bool) → ((ps : List P) (ts : List At) → ph n ps ts ≡ on_ok (leading_at kh rh kf rf n ts) (finish ps))
-      → cond b (on_ok (rf x m) (λ p rest. ph n (ps ++ (p ∷ [])) rest)) (rR ps x m) ≡ on_ok (cond b (on_ok (rf x m) (λ p more. on_ok (leading_at kh rh kf rf n more) (λ q rest. Ok ((p ∷ q.0, q.1), rest)))) (Ok (([], Some x), m))) (finish ps)
+  led_behind : (n : ℕ) (ps : List P) (x : X) (m : List At) (b : Bool)
+      → ((ps : List P) (ts : List At) → ph n ps ts ≡ on_ok (leading_at kh rh kf rf n ts) (finish ps))
+      → cond b (on_ok (rf x m) (λ p rest. ph n (ps ++ (p ∷ [])) rest))
+      (rR ps x m)
+      ≡ on_ok (cond b (on_ok (rf x m)
+      (λ p more. on_ok (leading_at kh rh kf rf n more)
+      (λ q rest. Ok ((p ∷ q.0, q.1), rest)))) (Ok (([], Some x), m))) (finish ps)
   led_behind n ps x m true h = led_parts n ps (rf x m) h
   led_behind n ps x m false h = ap (λ (qs : List P). rR qs x m) (sym (append-nil ps))
 
-  led_head : (n : ℕ) (ps : List P) (o : Outcome F X) → ((ps : List P) (ts : List At) → ph n ps ts ≡ on_ok (leading_at kh rh kf rf n ts) (finish ps))
+  led_head : (n : ℕ) (ps : List P) (o : Outcome F X)
+      → ((ps : List P) (ts : List At) → ph n ps ts ≡ on_ok (leading_at kh rh kf rf n ts) (finish ps))
       → on_ok o (λ x m. cond (next kf m) (on_ok (rf x m) (λ p rest. ph n (ps ++ (p ∷ [])) rest)) (rR ps x m))
-      ≡ on_ok (on_ok o (λ x m. cond (next kf m) (on_ok (rf x m) (λ p more. on_ok (leading_at kh rh kf rf n more) (λ q rest. Ok ((p ∷ q.0, q.1), rest)))) (Ok (([], Some x), m)))) (finish ps)
+      ≡ on_ok (on_ok o (λ x m. cond (next kf m)
+          (on_ok (rf x m) (λ p more. on_ok (leading_at kh rh kf rf n more) (λ q rest. Ok ((p ∷ q.0, q.1), rest))))
+          (Ok (([], Some x), m)))) (finish ps)
   led_head n ps (Ok x) h = led_behind n ps x.0 x.1 (next kf x.1) h
   led_head n ps (Err e) h = refl
 
-  led_here : (n : ℕ) (ps : List P) (ts : List At) (b : Bool) → ((ps : List P) (ts : List At) → ph n ps ts ≡ on_ok (leading_at kh rh kf rf n ts) (finish ps))
-      → cond b (on_ok (rh ts) (λ x m. cond (next kf m) (on_ok (rf x m) (λ p rest. ph n (ps ++ (p ∷ [])) rest)) (rR ps x m))) (rO ps ts)
-      ≡ on_ok (cond b (on_ok (rh ts) (λ x m. cond (next kf m) (on_ok (rf x m) (λ p more. on_ok (leading_at kh rh kf rf n more) (λ q rest. Ok ((p ∷ q.0, q.1), rest)))) (Ok (([], Some x), m)))) (Ok (([], None), ts))) (finish ps)
+  led_here : (n : ℕ) (ps : List P) (ts : List At) (b : Bool)
+      → ((ps : List P) (ts : List At) → ph n ps ts ≡ on_ok (leading_at kh rh kf rf n ts) (finish ps))
+      → cond b (on_ok (rh ts)
+      (λ x m. cond (next kf m) (on_ok (rf x m) (λ p rest. ph n (ps ++ (p ∷ [])) rest)) (rR ps x m))) (rO ps ts)
+      ≡ on_ok (cond b (on_ok (rh ts)
+          (λ x m. cond (next kf m)
+          (on_ok (rf x m) (λ p more. on_ok (leading_at kh rh kf rf n more) (λ q rest. Ok ((p ∷ q.0, q.1), rest))))
+          (Ok (([], Some x), m)))) (Ok (([], None), ts))) (finish ps)
   led_here n ps ts true h = led_head n ps (rh ts) h
   led_here n ps ts false h = ap (λ (qs : List P). rO qs ts) (sym (append-nil ps))
 

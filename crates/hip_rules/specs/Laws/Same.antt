@@ -13,7 +13,8 @@ pub record IsSame {F A : Type 0} (l m : Rule F A) : Type 0 where
   pub refuses : (w : F) (ts rest : List At) → l.Refuses w ts rest → m.Refuses w ts rest
   pub refuses_back : (w : F) (ts rest : List At) → m.Refuses w ts rest → l.Refuses w ts rest
 
-pub same_exactly : {F A : Type 0} (l m : Rule F A) (c : Tok → Bool) (ts : List At) (o : Outcome F A) → IsSame l m → Exactly l c ts o → Exactly m c ts o
+pub same_exactly : {F A : Type 0} (l m : Rule F A) (c : Tok → Bool) (ts : List At) (o : Outcome F A) → IsSame l m
+    → Exactly l c ts o → Exactly m c ts o
 same_exactly l m c ts (Ok x) s q = record {
   derives = s.derives ts x.0 x.1 q.derives;
   only = λ b w t. q.only b w (s.derives_back ts b w t);
@@ -28,7 +29,8 @@ same_exactly l m c ts (Err e) s q = record {
   reason = λ w k. s.refuses w ts e.1 (q.reason w k);
 }
 
-pub same_exact : {F A : Type 0} (l m : Rule F A) (r : Reader F A) (c : Tok → Bool) → IsSame l m → IsExact l r c → IsExact m r c
+pub same_exact : {F A : Type 0} (l m : Rule F A) (r : Reader F A) (c : Tok → Bool) → IsSame l m → IsExact l r c
+    → IsExact m r c
 same_exact l m r c s p = record {
   empty = λ ts. s.front ts ts (p.empty ts);
   whole = λ ts a rest t. s.front ts rest (p.whole ts a rest (s.derives_back ts a rest t));
@@ -39,7 +41,8 @@ same_exact l m r c s p = record {
 }
 
 -- a front that two cases share is read once
-pub factored : {F A B : Type 0} (l : Rule F A) (f g : A → Rule F B) → IsSame (both l (λ x. f x or g x)) ((both l f) or (both l g))
+pub factored : {F A B : Type 0} (l : Rule F A) (f g : A → Rule F B)
+    → IsSame (both l (λ x. f x or g x)) ((both l f) or (both l g))
 unfolding both ◌or◌
 factored l f g = record {
   derives = λ ts a rest t. elim t.3 [ inl u ↦ inl (t.0, t.1, t.2, u) | inr u ↦ inr (t.0, t.1, t.2, u) ];
@@ -88,7 +91,8 @@ or_assoc l m n = record {
   refuses_back = λ w ts rest t. elim t [ inl t ↦ inl (inl t) | inr t ↦ elim t [ inl u ↦ inl (inr u) | inr u ↦ inr u ] ];
 }
 
-pub both_assoc : {F A B C : Type 0} (l : Rule F A) (f : A → Rule F B) (g : B → Rule F C) → IsSame (both (both l f) g) (both l (λ x. both (f x) g))
+pub both_assoc : {F A B C : Type 0} (l : Rule F A) (f : A → Rule F B) (g : B → Rule F C)
+    → IsSame (both (both l f) g) (both l (λ x. both (f x) g))
 unfolding both
 both_assoc l f g = record {
   derives = λ ts c rest t. let u = t.2 in (u.0, u.1, u.2, (t.0, t.1, u.3, t.3));
@@ -99,7 +103,8 @@ both_assoc l f g = record {
   refuses_back = λ w ts rest t. elim t [ inl t ↦ inl (inl t) | inr t ↦ elim t.3 [ inl u ↦ inl (inr (t.0, t.1, t.2, u)) | inr u ↦ inr (u.0, u.1, (t.0, t.1, t.2, u.2), u.3) ] ];
 }
 
-pub both_over_or : {F A B : Type 0} (l m : Rule F A) (f : A → Rule F B) → IsSame (both (l or m) f) (both l f or both m f)
+pub both_over_or : {F A B : Type 0} (l m : Rule F A) (f : A → Rule F B)
+    → IsSame (both (l or m) f) (both l f or both m f)
 unfolding both ◌or◌
 both_over_or l m f = record {
   derives = λ ts b rest t. elim t.2 [ inl u ↦ inl (t.0, t.1, u, t.3) | inr u ↦ inr (t.0, t.1, u, t.3) ];
@@ -110,7 +115,8 @@ both_over_or l m f = record {
   refuses_back = λ w ts rest t. elim t [ inl t ↦ elim t [ inl u ↦ inl (inl u) | inr u ↦ inr (u.0, u.1, inl u.2, u.3) ] | inr t ↦ elim t [ inl u ↦ inl (inr u) | inr u ↦ inr (u.0, u.1, inr u.2, u.3) ] ];
 }
 
-pub both_same : {F A B : Type 0} (l : Rule F A) (f g : A → Rule F B) → ((a : A) → IsSame (f a) (g a)) → IsSame (both l f) (both l g)
+pub both_same : {F A B : Type 0} (l : Rule F A) (f g : A → Rule F B) → ((a : A) → IsSame (f a) (g a))
+    → IsSame (both l f) (both l g)
 unfolding both
 both_same l f g s = record {
   derives = λ ts b rest t. (t.0, t.1, t.2, (s t.0).derives t.1 b rest t.3);
@@ -134,27 +140,32 @@ module _ (F A B : Type 0) (l : Rule F A) (k : List A → Rule F B) where
   abbrev pub unrolled : Rule F B
   unrolled = both l (λ x. both (many l) (λ xs. k (x ∷ xs))) or k []
 
-  unroll_derives : (ts : List At) (xs : List A) (m : List At) (b : B) (rest : List At) → AllDerive l ts xs m → (k xs).Derives m b rest → unrolled.Derives ts b rest
+  unroll_derives : (ts : List At) (xs : List A) (m : List At) (b : B) (rest : List At) → AllDerive l ts xs m
+      → (k xs).Derives m b rest → unrolled.Derives ts b rest
   unfolding both many ◌or◌
   unroll_derives ts [] m b rest t u = inr (subst (λ z. (k []).Derives z b rest) t u)
   unroll_derives ts (x ∷ xs) m b rest t u = inl (x, t.0, t.1, (xs, m, t.2, u))
 
-  unroll_front : (ts : List At) (xs : List A) (m rest : List At) → AllDerive l ts xs m → l.Front m rest → unrolled.Front ts rest
+  unroll_front : (ts : List At) (xs : List A) (m rest : List At) → AllDerive l ts xs m → l.Front m rest
+      → unrolled.Front ts rest
   unfolding both many ◌or◌
   unroll_front ts [] m rest t u = inl (inl (subst (λ z. l.Front z rest) t u))
   unroll_front ts (x ∷ xs) m rest t u = inl (inr (x, t.0, t.1, inl (xs, m, t.2, u)))
 
-  unroll_end : (ts : List At) (xs : List A) (m rest : List At) → AllDerive l ts xs m → (k xs).Front m rest → unrolled.Front ts rest
+  unroll_end : (ts : List At) (xs : List A) (m rest : List At) → AllDerive l ts xs m → (k xs).Front m rest
+      → unrolled.Front ts rest
   unfolding both many ◌or◌
   unroll_end ts [] m rest t u = inr (subst (λ z. (k []).Front z rest) t u)
   unroll_end ts (x ∷ xs) m rest t u = inl (inr (x, t.0, t.1, inr (xs, m, t.2, u)))
 
-  unroll_stop : (w : F) (ts : List At) (xs : List A) (m rest : List At) → AllDerive l ts xs m → l.Refuses w m rest → unrolled.Refuses w ts rest
+  unroll_stop : (w : F) (ts : List At) (xs : List A) (m rest : List At) → AllDerive l ts xs m → l.Refuses w m rest
+      → unrolled.Refuses w ts rest
   unfolding both many ◌or◌
   unroll_stop w ts [] m rest t u = inl (inl (subst (λ z. l.Refuses w z rest) t u))
   unroll_stop w ts (x ∷ xs) m rest t u = inl (inr (x, t.0, t.1, inl (xs, m, t.2, u)))
 
-  unroll_end_stop : (w : F) (ts : List At) (xs : List A) (m rest : List At) → AllDerive l ts xs m → (k xs).Refuses w m rest → unrolled.Refuses w ts rest
+  unroll_end_stop : (w : F) (ts : List At) (xs : List A) (m rest : List At) → AllDerive l ts xs m
+      → (k xs).Refuses w m rest → unrolled.Refuses w ts rest
   unfolding both many ◌or◌
   unroll_end_stop w ts [] m rest t u = inr (subst (λ z. (k []).Refuses w z rest) t u)
   unroll_end_stop w ts (x ∷ xs) m rest t u = inl (inr (x, t.0, t.1, inr (xs, m, t.2, u)))
@@ -176,9 +187,12 @@ module _ (F A B : Type 0) (l : Rule F A) (k : List A → Rule F B) where
     refuses_back = λ w ts rest t. elim t [ inl u ↦ unroll_stop w ts u.0 u.1 rest u.2 u.3 | inr u ↦ unroll_end_stop w ts u.0 u.1 rest u.2 u.3 ];
   }
 
--- Where a repeated part has two cases, of which one begins by a head, what is repeated and then closed is the first part by its head, the first part of the other case, or the close.
+-- Where a repeated part has two cases, of which one begins by a head, what is repeated and then closed is the first
+-- part by its head, the first part of the other case, or the close.
 pub head_or_other : {F X A B : Type 0} (h : Rule F X) (f : X → Rule F A) (e : Rule F A) (k : List A → Rule F B)
-    → IsSame (both h (λ x. both (f x) (λ i. both (many (both h f or e)) (λ is. k (i ∷ is)))) or (both e (λ i. both (many (both h f or e)) (λ is. k (i ∷ is))) or k [])) (both (many (both h f or e)) k)
+    → IsSame (both h (λ x. both (f x)
+    (λ i. both (many (both h f or e)) (λ is. k (i ∷ is)))) or (both e (λ i. both (many (both h f or e))
+    (λ is. k (i ∷ is))) or k [])) (both (many (both h f or e)) k)
 head_or_other {F} {X} {A} {B} h f e k =
     let G : A → Rule F B = λ i. both (many (both h f or e)) (λ is. k (i ∷ is)) in
     let one : IsSame (both h (λ x. both (f x) G) or (both e G or k [])) ((both h (λ x. both (f x) G) or both e G) or k []) = same_sym _ _ (or_assoc (both h (λ x. both (f x) G)) (both e G) (k [])) in

@@ -6,7 +6,7 @@ use Rattle.hip_tokens.specs.Bytes.{is_blank, is_mark}
 use Rattle.hip_tokens.specs.Tokens.{Tok, Word, Label, Local, Global, Num, Mark, At, cut, line_after}
 use Rattle.hip_tokens.specs.Longest.{is_name, are_digits}
 use Rattle.hip_tokens.specs.Cuts.{cut_blank}
-use Rattle.hip_tokens.specs.Written.{ends_word, at_line, word_cut, label_cut, local_cut, global_cut, digits_cut, minus_cut, mark_cut}
+use Rattle.hip_tokens.specs.Written.{ends_word, at_line, word_cut, label_cut, local_cut, global_cut, digits_cut, mark_cut}
 use Rattle.hip_rules.specs.Rule.{Rule, Verdict, Yes, done, one, both, ◌or◌, many, perhaps, AllDerive}
 
 -- whatever stands behind
@@ -15,24 +15,28 @@ anything rest = true
 
 -- the rule derives the value from the text, where bytes that `ends` passes stand behind it
 pub record IsTextOf {F A : Type 0} (ends : List ℕ → Bool) (l : Rule F A) (text : List ℕ) (x : A) : Type 0 where
-  pub derives : (line : ℕ) (rest : List ℕ) → ends rest ≡ true → (after : ℕ) × l.Derives (cut line 0 (text ++ rest)) x (cut after 0 rest)
+  pub derives : (line : ℕ) (rest : List ℕ) → ends rest ≡ true
+      → (after : ℕ) × l.Derives (cut line 0 (text ++ rest)) x (cut after 0 rest)
 
 -- what `c` asks of bytes holds behind `text`, where `d` holds of what follows it
 abbrev pub Leaves : (List ℕ → Bool) → List ℕ → (List ℕ → Bool) → Type 0
 Leaves c text d = (rest : List ℕ) → d rest ≡ true → c (text ++ rest) ≡ true
 
-pub anywhere_text : {F A : Type 0} {l : Rule F A} {s : List ℕ} {x : A} (c : List ℕ → Bool) → IsTextOf anything l s x → IsTextOf c l s x
+pub anywhere_text : {F A : Type 0} {l : Rule F A} {s : List ℕ} {x : A} (c : List ℕ → Bool) → IsTextOf anything l s x
+    → IsTextOf c l s x
 anywhere_text c p = record { derives = λ line rest e. p.derives line rest refl }
 
 pub nothing_text : {F A : Type 0} {x : A} (c : List ℕ → Bool) → IsTextOf {F = F} c (done x) [] x
 unfolding done
 nothing_text c = record { derives = λ line rest e. (line, (refl, refl)) }
 
-pub blank_text : {F A : Type 0} {l : Rule F A} {c : List ℕ → Bool} {t : List ℕ} {x : A} (b : ℕ) → is_blank b ≡ true → IsTextOf c l t x → IsTextOf c l (b ∷ t) x
+pub blank_text : {F A : Type 0} {l : Rule F A} {c : List ℕ → Bool} {t : List ℕ} {x : A} (b : ℕ) → is_blank b ≡ true
+    → IsTextOf c l t x → IsTextOf c l (b ∷ t) x
 blank_text {l = l} {t = t} {x = x} b blank p = record { derives = λ line rest e. let q = p.derives (line_after line b) rest e in (q.0, rw (cut_blank line b (t ++ rest) blank) q.1) }
 
 -- a separator behind it
-pub blank_behind : {F A : Type 0} {l : Rule F A} {c : List ℕ → Bool} {s : List ℕ} {x : A} (b : ℕ) → is_blank b ≡ true → Leaves c (b ∷ []) anything → IsTextOf c l s x → IsTextOf anything l (s ++ b ∷ []) x
+pub blank_behind : {F A : Type 0} {l : Rule F A} {c : List ℕ → Bool} {s : List ℕ} {x : A} (b : ℕ) → is_blank b ≡ true
+    → Leaves c (b ∷ []) anything → IsTextOf c l s x → IsTextOf anything l (s ++ b ∷ []) x
 blank_behind {l = l} {s = s} {x = x} b blank leaves p = record {
   derives = λ line rest e.
       let q = p.derives line (b ∷ rest) (leaves rest refl) in
@@ -41,7 +45,8 @@ blank_behind {l = l} {s = s} {x = x} b blank leaves p = record {
 
 -- ---- one part after the other
 
-pub then_text : {F A B : Type 0} {l : Rule F A} (f : A → Rule F B) {c d : List ℕ → Bool} {s t : List ℕ} {x : A} {y : B} → IsTextOf c l s x → IsTextOf d (f x) t y → Leaves c t d → IsTextOf d (both l f) (s ++ t) y
+pub then_text : {F A B : Type 0} {l : Rule F A} (f : A → Rule F B) {c d : List ℕ → Bool} {s t : List ℕ} {x : A} {y : B}
+    → IsTextOf c l s x → IsTextOf d (f x) t y → Leaves c t d → IsTextOf d (both l f) (s ++ t) y
 unfolding both
 then_text f {s = s} {t = t} {x = x} p q leaves = record {
   derives = λ line rest e.
@@ -51,7 +56,8 @@ then_text f {s = s} {t = t} {x = x} p q leaves = record {
 }
 
 -- where the last part is nothing
-pub last_text : {F A B : Type 0} {l : Rule F A} (f : A → Rule F B) {c : List ℕ → Bool} {s : List ℕ} {x : A} {y : B} → IsTextOf c l s x → IsTextOf anything (f x) [] y → IsTextOf c (both l f) s y
+pub last_text : {F A B : Type 0} {l : Rule F A} (f : A → Rule F B) {c : List ℕ → Bool} {s : List ℕ} {x : A} {y : B}
+    → IsTextOf c l s x → IsTextOf anything (f x) [] y → IsTextOf c (both l f) s y
 unfolding both
 last_text f {x = x} p q = record {
   derives = λ line rest e.
@@ -62,35 +68,48 @@ last_text f {x = x} p q = record {
 
 -- ---- one token
 
-pub token_text : {F A : Type 0} (p : Tok → Verdict F A) {c : List ℕ → Bool} {s : List ℕ} {x : A} (t : Tok) → ((line : ℕ) (rest : List ℕ) → c rest ≡ true → cut line 0 (s ++ rest) ≡ at_line line t ∷ cut line 0 rest) → p t ≡ Yes x → IsTextOf c (one p) s x
+pub token_text : {F A : Type 0} (p : Tok → Verdict F A) {c : List ℕ → Bool} {s : List ℕ} {x : A} (t : Tok)
+    → ((line : ℕ) (rest : List ℕ) → c rest ≡ true → cut line 0 (s ++ rest) ≡ at_line line t ∷ cut line 0 rest)
+    → p t ≡ Yes x → IsTextOf c (one p) s x
 unfolding one
 token_text p t h e = record { derives = λ line rest q. (line, (at_line line t, h line rest q, e)) }
 
-pub word_text : {F A : Type 0} (p : Tok → Verdict F A) {x : A} (w : List ℕ) → is_name w ≡ true → p (Word w) ≡ Yes x → IsTextOf ends_word (one p) w x
+pub word_text : {F A : Type 0} (p : Tok → Verdict F A) {x : A} (w : List ℕ) → is_name w ≡ true → p (Word w) ≡ Yes x
+    → IsTextOf ends_word (one p) w x
 word_text p w n e = token_text p (Word w) (λ line rest h. word_cut line w rest n h) e
 
-pub local_text : {F A : Type 0} (p : Tok → Verdict F A) {x : A} (w : List ℕ) → is_name w ≡ true → p (Local w) ≡ Yes x → IsTextOf ends_word (one p) (37 ∷ w) x
+pub local_text : {F A : Type 0} (p : Tok → Verdict F A) {x : A} (w : List ℕ) → is_name w ≡ true → p (Local w) ≡ Yes x
+    → IsTextOf ends_word (one p) (37 ∷ w) x
 local_text p w n e = token_text p (Local w) (λ line rest h. local_cut line w rest n h) e
 
-pub global_text : {F A : Type 0} (p : Tok → Verdict F A) {x : A} (w : List ℕ) → is_name w ≡ true → p (Global w) ≡ Yes x → IsTextOf ends_word (one p) (64 ∷ w) x
+pub global_text : {F A : Type 0} (p : Tok → Verdict F A) {x : A} (w : List ℕ) → is_name w ≡ true → p (Global w) ≡ Yes x
+    → IsTextOf ends_word (one p) (64 ∷ w) x
 global_text p w n e = token_text p (Global w) (λ line rest h. global_cut line w rest n h) e
 
-pub digits_text : {F A : Type 0} (p : Tok → Verdict F A) {x : A} (ds : List ℕ) → are_digits ds ≡ true → p (Num ds) ≡ Yes x → IsTextOf ends_word (one p) ds x
+pub digits_text : {F A : Type 0} (p : Tok → Verdict F A) {x : A} (ds : List ℕ) → are_digits ds ≡ true
+    → p (Num ds) ≡ Yes x → IsTextOf ends_word (one p) ds x
 digits_text p ds n e = token_text p (Num ds) (λ line rest h. digits_cut line ds rest n h) e
 
-pub mark_text : {F A : Type 0} (p : Tok → Verdict F A) {x : A} (b : ℕ) → is_mark b ≡ true → p (Mark b) ≡ Yes x → IsTextOf anything (one p) (b ∷ []) x
+pub mark_text : {F A : Type 0} (p : Tok → Verdict F A) {x : A} (b : ℕ) → is_mark b ≡ true → p (Mark b) ≡ Yes x
+    → IsTextOf anything (one p) (b ∷ []) x
 mark_text p b n e = token_text p (Mark b) (λ line rest h. mark_cut line b rest n) e
 
 -- a word and a space, and what follows
-pub word_then : {F A B : Type 0} (p : Tok → Verdict F A) (f : A → Rule F B) {d : List ℕ → Bool} {t : List ℕ} {x : A} {y : B} (w : List ℕ) → is_name w ≡ true → p (Word w) ≡ Yes x → IsTextOf d (f x) t y → IsTextOf d (both (one p) f) (w ++ (32 ∷ t)) y
+pub word_then : {F A B : Type 0} (p : Tok → Verdict F A) (f : A → Rule F B) {d : List ℕ → Bool} {t : List ℕ} {x : A}
+    {y : B} (w : List ℕ) → is_name w ≡ true → p (Word w) ≡ Yes x → IsTextOf d (f x) t y
+    → IsTextOf d (both (one p) f) (w ++ (32 ∷ t)) y
 word_then p f w n e q = then_text f (word_text p w n e) (blank_text 32 refl q) (λ rest h. refl)
 
 -- a mark, and what follows
-pub mark_then : {F A B : Type 0} (p : Tok → Verdict F A) (f : A → Rule F B) {d : List ℕ → Bool} {t : List ℕ} {x : A} {y : B} (b : ℕ) → is_mark b ≡ true → p (Mark b) ≡ Yes x → IsTextOf d (f x) t y → IsTextOf d (both (one p) f) (b ∷ t) y
+pub mark_then : {F A B : Type 0} (p : Tok → Verdict F A) (f : A → Rule F B) {d : List ℕ → Bool} {t : List ℕ} {x : A}
+    {y : B} (b : ℕ) → is_mark b ≡ true → p (Mark b) ≡ Yes x → IsTextOf d (f x) t y
+    → IsTextOf d (both (one p) f) (b ∷ t) y
 mark_then p f b n e q = then_text f (mark_text p b n e) q (λ rest h. refl)
 
 -- a name before `:`, and what follows
-pub label_then : {F A B : Type 0} (p : Tok → Verdict F A) (f : A → Rule F B) {d : List ℕ → Bool} {t : List ℕ} {x : A} {y : B} (w : List ℕ) → is_name w ≡ true → p (Label w) ≡ Yes x → IsTextOf d (f x) t y → IsTextOf d (both (one p) f) (w ++ (58 ∷ t)) y
+pub label_then : {F A B : Type 0} (p : Tok → Verdict F A) (f : A → Rule F B) {d : List ℕ → Bool} {t : List ℕ} {x : A}
+    {y : B} (w : List ℕ) → is_name w ≡ true → p (Label w) ≡ Yes x → IsTextOf d (f x) t y
+    → IsTextOf d (both (one p) f) (w ++ (58 ∷ t)) y
 unfolding both one
 label_then p f {t = t} {x = x} w n e q = record {
   derives = λ line rest h.
@@ -100,11 +119,13 @@ label_then p f {t = t} {x = x} w n e q = record {
 
 -- ---- cases
 
-pub left_text : {F A : Type 0} {l : Rule F A} (m : Rule F A) {c : List ℕ → Bool} {s : List ℕ} {x : A} → IsTextOf c l s x → IsTextOf c (l or m) s x
+pub left_text : {F A : Type 0} {l : Rule F A} (m : Rule F A) {c : List ℕ → Bool} {s : List ℕ} {x : A} → IsTextOf c l s x
+    → IsTextOf c (l or m) s x
 unfolding ◌or◌
 left_text m p = record { derives = λ line rest e. let q = p.derives line rest e in (q.0, inl q.1) }
 
-pub right_text : {F A : Type 0} (l : Rule F A) {m : Rule F A} {c : List ℕ → Bool} {s : List ℕ} {x : A} → IsTextOf c m s x → IsTextOf c (l or m) s x
+pub right_text : {F A : Type 0} (l : Rule F A) {m : Rule F A} {c : List ℕ → Bool} {s : List ℕ} {x : A}
+    → IsTextOf c m s x → IsTextOf c (l or m) s x
 unfolding ◌or◌
 right_text l p = record { derives = λ line rest e. let q = p.derives line rest e in (q.0, inr q.1) }
 
@@ -112,7 +133,8 @@ pub none_text : {F A : Type 0} (l : Rule F A) (c : List ℕ → Bool) → IsText
 unfolding perhaps
 none_text l c = record { derives = λ line rest e. (line, inl (refl, refl)) }
 
-pub some_text : {F A : Type 0} {l : Rule F A} {c : List ℕ → Bool} {s : List ℕ} {x : A} → IsTextOf c l s x → IsTextOf c (perhaps l) s (Some x)
+pub some_text : {F A : Type 0} {l : Rule F A} {c : List ℕ → Bool} {s : List ℕ} {x : A} → IsTextOf c l s x
+    → IsTextOf c (perhaps l) s (Some x)
 unfolding perhaps
 some_text {x = x} p = record { derives = λ line rest e. let q = p.derives line rest e in (q.0, inr (x, refl, q.1)) }
 
@@ -122,7 +144,8 @@ pub no_more_text : {F A : Type 0} (l : Rule F A) (c : List ℕ → Bool) → IsT
 unfolding many
 no_more_text l c = record { derives = λ line rest e. (line, refl) }
 
-pub more_text : {F A : Type 0} {l : Rule F A} {c d : List ℕ → Bool} {s t : List ℕ} {x : A} {xs : List A} → IsTextOf c l s x → IsTextOf d (many l) t xs → Leaves c t d → IsTextOf d (many l) (s ++ t) (x ∷ xs)
+pub more_text : {F A : Type 0} {l : Rule F A} {c d : List ℕ → Bool} {s t : List ℕ} {x : A} {xs : List A}
+    → IsTextOf c l s x → IsTextOf d (many l) t xs → Leaves c t d → IsTextOf d (many l) (s ++ t) (x ∷ xs)
 unfolding many
 more_text {s = s} {t = t} p q leaves = record {
   derives = λ line rest e.
@@ -132,7 +155,9 @@ more_text {s = s} {t = t} p q leaves = record {
 }
 
 -- a part may stand behind another
-module _ {F X A : Type 0} (l : Rule F A) (text : X → List ℕ) (value : X → A) (c : List ℕ → Bool) (test : X → Bool) (each : (x : X) → test x ≡ true → IsTextOf c l (text x) (value x)) (leaves : (x : X) (rest : List ℕ) → c (text x ++ rest) ≡ true) where
+module _ {F X A : Type 0} (l : Rule F A) (text : X → List ℕ) (value : X → A) (c : List ℕ → Bool) (test : X → Bool)
+    (each : (x : X) → test x ≡ true → IsTextOf c l (text x) (value x))
+    (leaves : (x : X) (rest : List ℕ) → c (text x ++ rest) ≡ true) where
   texts_leave : (xs : List X) → Leaves c (flat_map text xs) c
   texts_leave [] rest e = e
   texts_leave (x ∷ xs) rest e = rw (append_assoc (text x) (flat_map text xs) rest) (leaves x (flat_map text xs ++ rest))
@@ -141,15 +166,18 @@ module _ {F X A : Type 0} (l : Rule F A) (text : X → List ℕ) (value : X → 
   mapped_texts [] e = no_more_text l c
   mapped_texts (x ∷ xs) e = let passes = and_parts (test x) (list_all test xs) e in more_text (each x passes.0) (mapped_texts xs passes.1) (texts_leave xs)
 
-pub many_texts : {F A : Type 0} (l : Rule F A) (text : A → List ℕ) (c : List ℕ → Bool) (test : A → Bool) → ((x : A) → test x ≡ true → IsTextOf c l (text x) x) → ((x : A) (rest : List ℕ) → c (text x ++ rest) ≡ true)
+pub many_texts : {F A : Type 0} (l : Rule F A) (text : A → List ℕ) (c : List ℕ → Bool) (test : A → Bool)
+    → ((x : A) → test x ≡ true → IsTextOf c l (text x) x) → ((x : A) (rest : List ℕ) → c (text x ++ rest) ≡ true)
     → (xs : List A) → list_all test xs ≡ true → IsTextOf c (many l) (flat_map text xs) xs
 many_texts l text c test each leaves xs e = subst (IsTextOf c (many l) (flat_map text xs)) (map-id xs) (mapped_texts l text (λ x. x) c test each leaves xs e)
 
-all_derive_both : {F A : Type 0} (l : Rule F A) (xs ys : List A) (ts m rest : List At) → AllDerive l ts xs m → AllDerive l m ys rest → AllDerive l ts (xs ++ ys) rest
+all_derive_both : {F A : Type 0} (l : Rule F A) (xs ys : List A) (ts m rest : List At) → AllDerive l ts xs m
+    → AllDerive l m ys rest → AllDerive l ts (xs ++ ys) rest
 all_derive_both l [] ys ts m rest p q = subst (λ u. AllDerive l u ys rest) p q
 all_derive_both l (x ∷ xs) ys ts m rest p q = (p.0, p.1, all_derive_both l xs ys p.0 m rest p.2 q)
 
-pub joined_texts : {F A : Type 0} (l : Rule F A) {c d : List ℕ → Bool} {s t : List ℕ} {xs ys : List A} → IsTextOf c (many l) s xs → IsTextOf d (many l) t ys → Leaves c t d → IsTextOf d (many l) (s ++ t) (xs ++ ys)
+pub joined_texts : {F A : Type 0} (l : Rule F A) {c d : List ℕ → Bool} {s t : List ℕ} {xs ys : List A}
+    → IsTextOf c (many l) s xs → IsTextOf d (many l) t ys → Leaves c t d → IsTextOf d (many l) (s ++ t) (xs ++ ys)
 unfolding many
 joined_texts l {s = s} {t = t} {xs = xs} {ys = ys} p q leaves = record {
   derives = λ line rest e.

@@ -9,14 +9,16 @@ use Rattle.hip_rules.specs.Part.{Part, gives, token, ◌>>=◌, either, repeated
 
 -- the value that is derived has the property, and the tokens that are left are formed too
 abbrev pub RuleYields : {F A : Type 0} → Rule F A → (A → Type 0) → Type 0
-RuleYields {F} {A} l Q = (ts : List At) (a : A) (rest : List At) → AreFormed ts → l.Derives ts a rest → Q a × AreFormed rest
+RuleYields {F} {A} l Q =
+    (ts : List At) (a : A) (rest : List At) → AreFormed ts → l.Derives ts a rest → Q a × AreFormed rest
 
 pub record Yields {F A : Type 0} (p : Part F A) (Q : A → Type 0) : Type 0 where
   pub yields : RuleYields p.rule Q
 
 -- ---- the rules
 
-one_yields : {F A : Type 0} (p : Tok → Verdict F A) (Q : A → Type 0) → ((t : Tok) (a : A) → is_formed t ≡ true → p t ≡ Yes a → Q a) → RuleYields (one p) Q
+one_yields : {F A : Type 0} (p : Tok → Verdict F A) (Q : A → Type 0)
+    → ((t : Tok) (a : A) → is_formed t ≡ true → p t ≡ Yes a → Q a) → RuleYields (one p) Q
 unfolding one
 one_yields p Q h ts a rest f d = let g = subst AreFormed d.1 f in (h d.0.tok a g.0 d.2, g.1)
 
@@ -24,7 +26,8 @@ done_yields : (F : Type 0) {A : Type 0} (a : A) (Q : A → Type 0) → Q a → R
 unfolding done
 done_yields F a Q q ts x rest f d = (subst Q (sym d.1) q, subst AreFormed (sym d.0) f)
 
-both_yields : {F A B : Type 0} (l : Rule F A) (f : A → Rule F B) (P : A → Type 0) (Q : B → Type 0) → RuleYields l P → ((a : A) → P a → RuleYields (f a) Q) → RuleYields (both l f) Q
+both_yields : {F A B : Type 0} (l : Rule F A) (f : A → Rule F B) (P : A → Type 0) (Q : B → Type 0) → RuleYields l P
+    → ((a : A) → P a → RuleYields (f a) Q) → RuleYields (both l f) Q
 unfolding both
 both_yields l f P Q p q ts b rest g d = let first = p ts d.0 d.1 g d.2 in q d.0 first.0 d.1 b rest first.1 d.3
 
@@ -32,15 +35,19 @@ or_yields : {F A : Type 0} (l m : Rule F A) (Q : A → Type 0) → RuleYields l 
 unfolding ◌or◌
 or_yields l m Q p q ts a rest f d = elim d [ inl k ↦ p ts a rest f k | inr k ↦ q ts a rest f k ]
 
-all_yield : {F A : Type 0} (l : Rule F A) (test : A → Bool) → RuleYields l (λ a. test a ≡ true) → (ts : List At) (xs : List A) (rest : List At) → AreFormed ts → AllDerive l ts xs rest → (list_all test xs ≡ true) × AreFormed rest
+all_yield : {F A : Type 0} (l : Rule F A) (test : A → Bool) → RuleYields l (λ a. test a ≡ true)
+    → (ts : List At) (xs : List A) (rest : List At) → AreFormed ts → AllDerive l ts xs rest
+    → (list_all test xs ≡ true) × AreFormed rest
 all_yield l test p ts [] rest f d = (refl, subst AreFormed (sym d) f)
 all_yield l test p ts (x ∷ xs) rest f d = let first = p ts x d.0 f d.1 in let others = all_yield l test p d.0 xs rest first.1 d.2 in (both_true first.0 others.0, others.1)
 
-many_yields : {F A : Type 0} (l : Rule F A) (test : A → Bool) → RuleYields l (λ a. test a ≡ true) → RuleYields (many l) (λ xs. list_all test xs ≡ true)
+many_yields : {F A : Type 0} (l : Rule F A) (test : A → Bool) → RuleYields l (λ a. test a ≡ true)
+    → RuleYields (many l) (λ xs. list_all test xs ≡ true)
 unfolding many
 many_yields l test p ts xs rest f d = all_yield l test p ts xs rest f d
 
-perhaps_yields : {F A : Type 0} (l : Rule F A) (P : A → Type 0) (Q : Option A → Type 0) → RuleYields l P → Q None → ((a : A) → P a → Q (Some a)) → RuleYields (perhaps l) Q
+perhaps_yields : {F A : Type 0} (l : Rule F A) (P : A → Type 0) (Q : Option A → Type 0) → RuleYields l P → Q None
+    → ((a : A) → P a → Q (Some a)) → RuleYields (perhaps l) Q
 unfolding perhaps
 perhaps_yields l P Q p q h ts o rest f d = elim d [
   | inl k ↦ (subst Q (sym k.1) q, subst AreFormed (sym k.0) f)
@@ -53,46 +60,58 @@ perhaps_yields l P Q p q h ts o rest f d = elim d [
 abbrev pub Any : {A : Type 0} → A → Type 0
 Any a = Unit {0}
 
-pub token_yields : {F A : Type 0} (p : Tok → Verdict F A) (Q : A → Type 0) → ((t : Tok) (a : A) → is_formed t ≡ true → p t ≡ Yes a → Q a) → Yields (token p) Q
+pub token_yields : {F A : Type 0} (p : Tok → Verdict F A) (Q : A → Type 0)
+    → ((t : Tok) (a : A) → is_formed t ≡ true → p t ≡ Yes a → Q a) → Yields (token p) Q
 token_yields p Q h = record { yields = one_yields p Q h }
 
 pub gives_yields : {F A : Type 0} (a : A) (Q : A → Type 0) → Q a → Yields {F = F} (gives a) Q
 gives_yields {F} a Q q = record { yields = done_yields F a Q q }
 
-pub then_yields : {F A B : Type 0} (l : Part F A) (f : A → Part F B) (P : A → Type 0) (Q : B → Type 0) → Yields l P → ((a : A) → P a → Yields (f a) Q) → Yields (l >>= f) Q
+pub then_yields : {F A B : Type 0} (l : Part F A) (f : A → Part F B) (P : A → Type 0) (Q : B → Type 0) → Yields l P
+    → ((a : A) → P a → Yields (f a) Q) → Yields (l >>= f) Q
 then_yields l f P Q p q = record { yields = both_yields l.rule (λ a. (f a).rule) P Q p.yields (λ a h. (q a h).yields) }
 
 -- behind a token of which nothing is asked
-pub after_token : {F A B : Type 0} (p : Tok → Verdict F A) (f : A → Part F B) (Q : B → Type 0) → ((a : A) → Yields (f a) Q) → Yields (token p >>= f) Q
+pub after_token : {F A B : Type 0} (p : Tok → Verdict F A) (f : A → Part F B) (Q : B → Type 0)
+    → ((a : A) → Yields (f a) Q) → Yields (token p >>= f) Q
 after_token p f Q q = then_yields (token p) f Any Q (token_yields p Any (λ t a g e. tt)) (λ a h. q a)
 
-pub either_yields : {F A : Type 0} (k : Tok → Bool) (l m : Part F A) (Q : A → Type 0) → Yields l Q → Yields m Q → Yields (either k l m) Q
+pub either_yields : {F A : Type 0} (k : Tok → Bool) (l m : Part F A) (Q : A → Type 0) → Yields l Q → Yields m Q
+    → Yields (either k l m) Q
 either_yields k l m Q p q = record { yields = or_yields l.rule m.rule Q p.yields q.yields }
 
-pub repeated_yields : {F A : Type 0} (k : Tok → Bool) (l : Part F A) (test : A → Bool) → Yields l (λ a. test a ≡ true) → Yields (repeated k l) (λ xs. list_all test xs ≡ true)
+pub repeated_yields : {F A : Type 0} (k : Tok → Bool) (l : Part F A) (test : A → Bool) → Yields l (λ a. test a ≡ true)
+    → Yields (repeated k l) (λ xs. list_all test xs ≡ true)
 repeated_yields k l test p = record { yields = many_yields l.rule test p.yields }
 
-pub optional_yields : {F A : Type 0} (k : Tok → Bool) (l : Part F A) (P : A → Type 0) (Q : Option A → Type 0) → Yields l P → Q None → ((a : A) → P a → Q (Some a)) → Yields (optional k l) Q
+pub optional_yields : {F A : Type 0} (k : Tok → Bool) (l : Part F A) (P : A → Type 0) (Q : Option A → Type 0)
+    → Yields l P → Q None → ((a : A) → P a → Q (Some a)) → Yields (optional k l) Q
 optional_yields k l P Q p q h = record { yields = perhaps_yields l.rule P Q p.yields q h }
 
-pub one_more_yields : {F A : Type 0} (k : Tok → Bool) (l : Part F A) (Q : A → Type 0) → Yields l Q → Yields (one_more_by k l) Q
+pub one_more_yields : {F A : Type 0} (k : Tok → Bool) (l : Part F A) (Q : A → Type 0) → Yields l Q
+    → Yields (one_more_by k l) Q
 unfolding one_more_by
 one_more_yields k l Q p = after_token _ _ Q (λ _. p)
 
 -- all values pass, and there is one
-pub separated_yields : {F A : Type 0} (k : Tok → Bool) (l : Part F A) (test : A → Bool) (Q : List A → Type 0) → Yields l (λ a. test a ≡ true) → ((x : A) (xs : List A) → list_all test (x ∷ xs) ≡ true → Q (x ∷ xs)) → Yields (separated k l) Q
+pub separated_yields : {F A : Type 0} (k : Tok → Bool) (l : Part F A) (test : A → Bool) (Q : List A → Type 0)
+    → Yields l (λ a. test a ≡ true) → ((x : A) (xs : List A) → list_all test (x ∷ xs) ≡ true → Q (x ∷ xs))
+    → Yields (separated k l) Q
 unfolding separated
 separated_yields k l test Q p h = then_yields l _ _ Q p (λ first e. then_yields (repeated k (one_more_by k l)) _ _ Q (repeated_yields k (one_more_by k l) test (one_more_yields k l _ p)) (λ others es. gives_yields (first ∷ others) Q (h first others (both_true e es))))
 
-some_yield : {F A : Type 0} (k close : Tok → Bool) (l : Part F A) (test : A → Bool) → Yields l (λ a. test a ≡ true) → Yields (some_up_to k close l) (λ xs. list_all test xs ≡ true)
+some_yield : {F A : Type 0} (k close : Tok → Bool) (l : Part F A) (test : A → Bool) → Yields l (λ a. test a ≡ true)
+    → Yields (some_up_to k close l) (λ xs. list_all test xs ≡ true)
 unfolding some_up_to
 some_yield k close l test p = then_yields (separated k l) _ (λ xs. list_all test xs ≡ true) _ (separated_yields k l test _ p (λ x xs e. e)) (λ items e. after_token _ _ _ (λ _. gives_yields items _ e))
 
-none_yield : {F A : Type 0} (close : Tok → Bool) (test : A → Bool) → Yields {F = F} (none_up_to close) (λ xs. list_all test xs ≡ true)
+none_yield : {F A : Type 0} (close : Tok → Bool) (test : A → Bool)
+    → Yields {F = F} (none_up_to close) (λ xs. list_all test xs ≡ true)
 unfolding none_up_to
 none_yield close test = after_token _ _ _ (λ _. gives_yields [] _ refl)
 
-pub listed_yields : {F A : Type 0} (k close : Tok → Bool) (l : Part F A) (test : A → Bool) → Yields l (λ a. test a ≡ true) → Yields (listed k close l) (λ xs. list_all test xs ≡ true)
+pub listed_yields : {F A : Type 0} (k close : Tok → Bool) (l : Part F A) (test : A → Bool)
+    → Yields l (λ a. test a ≡ true) → Yields (listed k close l) (λ xs. list_all test xs ≡ true)
 unfolding listed
 listed_yields k close l test p = either_yields close (none_up_to close) (some_up_to k close l) _ (none_yield close test) (some_yield k close l test p)
 
@@ -101,8 +120,11 @@ unfolding skipped
 skipped_yields k l p = then_yields (repeated k l) _ _ Any (repeated_yields k l (λ a. true) (record { yields = λ ts a rest f d. (refl, (p.yields ts a rest f d).1) })) (λ _ h. gives_yields tt Any tt)
 
 -- behind parts of one kind, each of which has a head
-pub phased_yields : {F X P B : Type 0} (kh : Tok → Bool) (head : Part F X) (kf : Tok → Bool) (part : X → Part F P) (after_head : List P → X → Part F B) (no_head following : List P → Part F B) (R : X → Type 0) (test : P → Bool) (Q : B → Type 0)
-    → Yields head R → ((x : X) → R x → Yields (part x) (λ p. test p ≡ true)) → ((ps : List P) → list_all test ps ≡ true → Yields (following ps) Q)
+pub phased_yields : {F X P B : Type 0} (kh : Tok → Bool) (head : Part F X) (kf : Tok → Bool) (part : X → Part F P)
+    (after_head : List P → X → Part F B) (no_head following : List P → Part F B) (R : X → Type 0) (test : P → Bool)
+    (Q : B → Type 0)
+    → Yields head R → ((x : X) → R x → Yields (part x) (λ p. test p ≡ true))
+    → ((ps : List P) → list_all test ps ≡ true → Yields (following ps) Q)
     → Yields (phased kh head kf part after_head no_head following) Q
 phased_yields {F} {X} {P} kh head kf part after_head no_head following R test Q p q r = record {
   yields = both_yields (many (both head.rule (λ x. (part x).rule))) (λ ps. (following ps).rule) (λ ps. list_all test ps ≡ true) Q

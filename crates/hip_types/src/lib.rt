@@ -12,7 +12,10 @@ mod text;
 mod ty;
 
 pub use layout::{FieldPlace, align, field_offset, field_place, fits, gep_offset, size};
-pub use limits::{DEEPEST_NESTING, LARGEST_COUNT, LARGEST_REGION, LARGEST_TYPE, LARGEST_VOLATILE};
+pub use limits::{
+    BASE_ALIGNMENT, DEEPEST_NESTING, HIGHEST_BASE, LARGEST_ALIGNMENT, LARGEST_COUNT,
+    LARGEST_REGION, LARGEST_TYPE, LARGEST_VOLATILE, LOWEST_BASE,
+};
 pub use link::Link;
 pub use memory::NoMemory;
 pub use number::{BinaryOp, Bits, CastOp, Pred, Scalar, Width};

@@ -1,5 +1,5 @@
 -- Laws of lists without repeats: what is met, stays where it stands, and no item is there twice.
-use Rattle.std.specs.Prelude.{◌≡◌, ℕ, zero, suc, ◌⊎◌, Bool, true, false, cond, ◌||◌, List, [], ◌∷◌, ◌++◌, Option, Some, None, slice_get}
+use Rattle.std.specs.Prelude.{◌≡◌, ℕ, zero, suc, ◌⊎◌, Bool, true, false, cond, ◌||◌, List, [], ◌∷◌, ◌++◌, Some, slice_get}
 use Rattle.std.specs.Cmp.{IsEquivalence}
 use Rattle.std.specs.List.{list_any, IsDistinct}
 use Rattle.std.proofs.Common.{refl, sym, ap, ◌∙◌, inl, inr, ⊎_elim}
@@ -26,7 +26,8 @@ module _ {A : Type 0} (test : A → Bool) where
   pub any_back : (xs ys : List A) → list_any test ys ≡ true → list_any test (xs ++ ys) ≡ true
   any_back xs ys e = list_any-append test xs ys ∙ or_second _ _ e
 
-  pub any_either : (xs ys : List A) → list_any test (xs ++ ys) ≡ true → (list_any test xs ≡ true) ⊎ (list_any test ys ≡ true)
+  pub any_either : (xs ys : List A) → list_any test (xs ++ ys) ≡ true
+      → (list_any test xs ≡ true) ⊎ (list_any test ys ≡ true)
   any_either xs ys e = either _ _ (sym (list_any-append test xs ys) ∙ e)
 
   pub any_at : (xs : List A) (k : ℕ) (x : A) → slice_get xs k ≡ Some x → test x ≡ true → list_any test xs ≡ true
@@ -34,7 +35,8 @@ module _ {A : Type 0} (test : A → Bool) where
   any_at (y ∷ xs) zero x e t = or_first _ _ (let same : y ≡ x = cc in ap test same ∙ t)
   any_at (y ∷ xs) (suc k) x e t = or_second _ _ (any_at xs k x e t)
 
-  pub any_found : (xs : List A) → list_any test xs ≡ true → (k : ℕ) × (x : A) × (slice_get xs k ≡ Some x) × (test x ≡ true)
+  pub any_found : (xs : List A) → list_any test xs ≡ true
+      → (k : ℕ) × (x : A) × (slice_get xs k ≡ Some x) × (test x ≡ true)
   any_found [] e = cc
   any_found (y ∷ xs) e = ⊎_elim (λ t. (0, y, refl, t)) (λ f. let rest = any_found xs f in (suc rest.0, rest.1, rest.2, rest.3)) (either _ _ e)
 
@@ -45,7 +47,8 @@ get_kept (y ∷ xs) ys zero x e = e
 get_kept (y ∷ xs) ys (suc k) x e = get_kept xs ys k x e
 
 -- an item stays where it stands
-pub met-kept : {A : Type 0} (same : A → A → Bool) (xs ys : List A) (k : ℕ) (x : A) → slice_get xs k ≡ Some x → slice_get (met same xs ys) k ≡ Some x
+pub met-kept : {A : Type 0} (same : A → A → Bool) (xs ys : List A) (k : ℕ) (x : A) → slice_get xs k ≡ Some x
+    → slice_get (met same xs ys) k ≡ Some x
 met-kept same xs [] k x e = e
 met-kept {A} same xs (y ∷ ys) k x e = met-kept same (cond (list_any (same y) xs) xs (xs ++ y ∷ [])) ys k x (added (list_any (same y) xs))
   where
@@ -83,7 +86,8 @@ module _ {A : Type 0} {same : A → A → Bool} (laws : IsEquivalence same) wher
       added false e t = any_back (same q) xs (y ∷ []) (or_first _ _ t)
 
   -- nothing else is
-  pub met-only : (q : A) (xs ys : List A) → list_any (same q) (met same xs ys) ≡ true → (list_any (same q) xs ≡ true) ⊎ (list_any (same q) ys ≡ true)
+  pub met-only : (q : A) (xs ys : List A) → list_any (same q) (met same xs ys) ≡ true
+      → (list_any (same q) xs ≡ true) ⊎ (list_any (same q) ys ≡ true)
   met-only q xs [] e = inl e
   met-only q xs (y ∷ ys) e =
       ⊎_elim (λ t. from (list_any (same y) xs) t) (λ f. inr (or_second _ _ f)) (met-only q (cond (list_any (same y) xs) xs (xs ++ y ∷ [])) ys e)

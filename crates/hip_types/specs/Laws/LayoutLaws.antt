@@ -152,7 +152,8 @@ shape-level t = fold_out-Ty Shape shape_of_level t
 
 -- ---- fields
 
-pub end_after-append : (place : ℕ) (xs ys : List Ty) → end_after place (shapes (xs ++ ys)) ≡ end_after (end_after place (shapes xs)) (shapes ys)
+pub end_after-append : (place : ℕ) (xs ys : List Ty)
+    → end_after place (shapes (xs ++ ys)) ≡ end_after (end_after place (shapes xs)) (shapes ys)
 end_after-append place [] ys = refl
 end_after-append place (x ∷ xs) ys = end_after-append (next_multiple_of place (align_of x) + size_of x) xs ys
 
@@ -160,7 +161,8 @@ pub end_after-le : (place : ℕ) (ys : List Ty) → place ≤ end_after place (s
 end_after-le place [] = omega arith
 end_after-le place (y ∷ ys) = omega (arith, end_after-le (next_multiple_of place (align_of y) + size_of y) ys)
 
-pub end_after-take : (place : ℕ) (ts : List Ty) (i j : ℕ) → i ≤ j → end_after place (shapes (take i ts)) ≤ end_after place (shapes (take j ts))
+pub end_after-take : (place : ℕ) (ts : List Ty) (i j : ℕ) → i ≤ j
+    → end_after place (shapes (take i ts)) ≤ end_after place (shapes (take j ts))
 end_after-take place [] zero j h = end_after-le place (take j [])
 end_after-take place [] (suc i) j h = end_after-le place (take j [])
 end_after-take place (t ∷ ts) zero j h = end_after-le place (take j (t ∷ ts))
@@ -171,15 +173,18 @@ greatest_align-low : (ys : List Ty) → 1 ≤ greatest_align (shapes ys)
 greatest_align-low [] = omega arith
 greatest_align-low (y ∷ ys) = omega (arith, greatest_align-low ys)
 
-pub greatest_align-append : (xs ys : List Ty) → greatest_align (shapes (xs ++ ys)) ≡ max (greatest_align (shapes xs)) (greatest_align (shapes ys))
+pub greatest_align-append : (xs ys : List Ty)
+    → greatest_align (shapes (xs ++ ys)) ≡ max (greatest_align (shapes xs)) (greatest_align (shapes ys))
 greatest_align-append [] ys = omega (arith, greatest_align-low ys)
 greatest_align-append (x ∷ xs) ys = omega (arith, greatest_align-append xs ys)
 
-pub greatest_depth-append : (xs ys : List Ty) → greatest_depth (shapes (xs ++ ys)) ≡ max (greatest_depth (shapes xs)) (greatest_depth (shapes ys))
+pub greatest_depth-append : (xs ys : List Ty)
+    → greatest_depth (shapes (xs ++ ys)) ≡ max (greatest_depth (shapes xs)) (greatest_depth (shapes ys))
 greatest_depth-append [] ys = omega arith
 greatest_depth-append (x ∷ xs) ys = omega (arith, greatest_depth-append xs ys)
 
-pub greatest_largest-append : (xs ys : List Ty) → greatest_largest (shapes (xs ++ ys)) ≡ max (greatest_largest (shapes xs)) (greatest_largest (shapes ys))
+pub greatest_largest-append : (xs ys : List Ty)
+    → greatest_largest (shapes (xs ++ ys)) ≡ max (greatest_largest (shapes xs)) (greatest_largest (shapes ys))
 greatest_largest-append [] ys = omega arith
 greatest_largest-append (x ∷ xs) ys = omega (arith, greatest_largest-append xs ys)
 
@@ -187,7 +192,8 @@ greatest_align-alignment : (ts : List Ty) → IsAlignment (greatest_align (shape
 greatest_align-alignment [] = record { is = inl refl }
 greatest_align-alignment (t ∷ ts) = greater _ _ (align_of-alignment t) (greatest_align-alignment ts)
 
-pub greatest_align-multiple : (ts : List Ty) (k : ℕ) → k < length ts → greatest_align (shapes ts) % align_of (field_of ts k) ≡ 0
+pub greatest_align-multiple : (ts : List Ty) (k : ℕ) → k < length ts
+    → greatest_align (shapes ts) % align_of (field_of ts k) ≡ 0
 greatest_align-multiple [] k h = absurd (omega arith)
 greatest_align-multiple (t ∷ ts) zero h = greater_left _ _ (align_of-alignment t) (greatest_align-alignment ts)
 greatest_align-multiple (t ∷ ts) (suc k) h =
@@ -198,10 +204,12 @@ greatest_align-multiple (t ∷ ts) (suc k) h =
 
 -- what one further field adds: `t` is field k, and those up to it are the first k + 1
 pub record IsNextField (ts : List Ty) (k : ℕ) (t : Ty) : Type 0 where
-  pub end : end_after 0 (shapes (take (k + 1) ts)) ≡ next_multiple_of (end_after 0 (shapes (take k ts))) (align_of t) + size_of t
+  pub end : end_after 0 (shapes (take (k + 1) ts)) ≡ next_multiple_of (end_after 0 (shapes (take k ts)))
+      (align_of t) + size_of t
   pub align : greatest_align (shapes (take (k + 1) ts)) ≡ max (greatest_align (shapes (take k ts))) (align_of t)
   pub depth : greatest_depth (shapes (take (k + 1) ts)) ≡ max (greatest_depth (shapes (take k ts))) (shape t).depth
-  pub largest : greatest_largest (shapes (take (k + 1) ts)) ≡ max (greatest_largest (shapes (take k ts))) (shape t).largest
+  pub largest : greatest_largest (shapes (take (k + 1) ts)) ≡ max (greatest_largest (shapes (take k ts)))
+      (shape t).largest
   pub end_le : end_after 0 (shapes (take (k + 1) ts)) ≤ end_after 0 (shapes ts)
   pub align_le : greatest_align (shapes (take (k + 1) ts)) ≤ greatest_align (shapes ts)
   pub depth_le : (shape t).depth ≤ greatest_depth (shapes ts)
@@ -241,16 +249,19 @@ pub offset_in-multiple : (ts : List Ty) (k : ℕ) → offset_in ts k % align_of 
 offset_in-multiple ts k = next-multiple _ _ (align_of-alignment (field_of ts k))
 
 -- its end is the end of the fields up to it
-pub field-end : (ts : List Ty) (k : ℕ) → k < length ts → offset_in ts k + size_of (field_of ts k) ≡ end_after 0 (shapes (take (k + 1) ts))
+pub field-end : (ts : List Ty) (k : ℕ) → k < length ts
+    → offset_in ts k + size_of (field_of ts k) ≡ end_after 0 (shapes (take (k + 1) ts))
 field-end ts k h = sym (next_field ts k (field_of ts k) h (field_of-is ts k h)).end
 
 -- fields lie in their order and do not overlap
-pub fields-apart : (ts : List Ty) (j k : ℕ) → j < k → k < length ts → offset_in ts j + size_of (field_of ts j) ≤ offset_in ts k
+pub fields-apart : (ts : List Ty) (j k : ℕ) → j < k → k < length ts
+    → offset_in ts j + size_of (field_of ts j) ≤ offset_in ts k
 fields-apart ts j k before h =
     omega (arith, field-end ts j (omega arith), end_after-take 0 ts (j + 1) k (omega arith))
 
 -- a field ends inside the struct
-pub field-inside : (ts : List Ty) (k : ℕ) → k < length ts → offset_in ts k + size_of (field_of ts k) ≤ size_of (Struct ts)
+pub field-inside : (ts : List Ty) (k : ℕ) → k < length ts
+    → offset_in ts k + size_of (field_of ts k) ≤ size_of (Struct ts)
 field-inside ts k h =
     let next : IsNextField ts k (field_of ts k) = next_field ts k (field_of ts k) h (field_of-is ts k h) in
     omega (arith, next.end, next.end_le, size_of-Struct ts)
@@ -268,7 +279,8 @@ Fits-Array n e f =
     let shallow : (shape e).depth + 1 ≤ 32 = subst (λ (x : Shape). x.depth ≤ 32) s f.shallow in
     record { small = omega arith; shallow = omega arith }
 
-pub field-fits : (fs : List Ty) (k : ℕ) → k < length fs → greatest_largest (shapes fs) ≤ LARGEST_TYPE → greatest_depth (shapes fs) ≤ 31 → Fits (field_of fs k)
+pub field-fits : (fs : List Ty) (k : ℕ) → k < length fs → greatest_largest (shapes fs) ≤ LARGEST_TYPE
+    → greatest_depth (shapes fs) ≤ 31 → Fits (field_of fs k)
 field-fits fs k h small shallow =
     let next : IsNextField fs k (field_of fs k) = next_field fs k (field_of fs k) h (field_of-is fs k h) in
     record { small = omega (arith, next.largest_le); shallow = omega (arith, next.depth_le) }

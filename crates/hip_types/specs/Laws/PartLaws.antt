@@ -27,7 +27,8 @@ record IsEntered (s : Shape) (p : Part) (inside : Type 0) : Type 0 where
   align : s.align % align_of p.ty ≡ 0
   fits : s.largest ≤ LARGEST_TYPE → s.depth ≤ DEEPEST_NESTING → Fits p.ty
 
-entered_level : (i : ℕ) (y : Ty-F Ty) (p : Part) → enter_level i y ≡ Some p → IsEntered (shape_of_level (map-Ty Ty Shape shape y)) p (level_is_inside i y)
+entered_level : (i : ℕ) (y : Ty-F Ty) (p : Part) → enter_level i y ≡ Some p
+    → IsEntered (shape_of_level (map-Ty Ty Shape shape y)) p (level_is_inside i y)
 entered_level i (Ty-F.Int w) p is = cc
 entered_level i Ty-F.Ptr p is = cc
 entered_level i (Ty-F.Array n e) p is =
@@ -135,5 +136,6 @@ element is t o f inside (Some r) there e =
     record { part = r; is_part = there; at = at; within = omega arith }
 
 -- where no index is out of range, the offset of an element of the first value lies in the type
-pub gep_of-element : (is : List ℕ) (t : Ty) (o : ℕ) → Fits t → AreInside is t → gep_of t (0 ∷ is) ≡ Some o → IsElement t is o
+pub gep_of-element : (is : List ℕ) (t : Ty) (o : ℕ) → Fits t → AreInside is t → gep_of t (0 ∷ is) ≡ Some o
+    → IsElement t is o
 gep_of-element is t o f inside e = element is t o f inside (part_at is t) refl e

@@ -23,5 +23,7 @@ pub record StandsFor {V : Type 0} (names : List (List ℕ)) (values : List V) (e
   pub finds : (name : List ℕ) → value_beside names values name ≡ value_of entries name
 
 -- a table grows by these entries
-pub record Gains {V : Type 0} (names : List (List ℕ)) (values : List V) (more_names : List (List ℕ)) (more_values : List V) (entries : List (Entry V)) : Type 0 where
-  pub gains : (before : List (Entry V)) → StandsFor names values before → StandsFor more_names more_values (before ++ entries)
+pub record Gains {V : Type 0} (names : List (List ℕ)) (values : List V) (more_names : List (List ℕ))
+    (more_values : List V) (entries : List (Entry V)) : Type 0 where
+  pub gains : (before : List (Entry V)) → StandsFor names values before
+      → StandsFor more_names more_values (before ++ entries)

@@ -37,7 +37,9 @@ impl<'a, V: Copy> NameTable<'a, V> {
 
     /// Adds a value, unless its name has one. Where memory is short the table stays as it is.
     pub fn add(&mut self, name: &'a [u8], value: V) -> Result<(), NoMemory>
-        ensures ok { IfOk result (λ _. (entries : List (Entry V)) → StandsFor self.old.names self.old.values entries → StandsFor self.new.names self.new.values (entries ++ record { name = name.now; value = value } ∷ [])) }
+        ensures ok { IfOk result (λ _. (entries : List (Entry V)) →
+            StandsFor self.old.names self.old.values entries →
+            StandsFor self.new.names self.new.values (entries ++ record { name = name.now; value = value } ∷ [])) }
         ensures err { OnErr result ((self.new.names ≡ self.old.names) × (self.new.values ≡ self.old.values)) }
     {
         let len = self.values.len();

@@ -45,7 +45,8 @@ differ_distinct [] d = tt
 differ_distinct (x ∷ xs) d = (none_among x xs d.0, differ_distinct xs d.1)
 
 -- what is among the names of some items is the name of one of them
-pub among_at : {A : Type 0} (name : A → List ℕ) (xs : List A) (q : List ℕ) → IsAmong (map name xs) q → (k : ℕ) × (x : A) × (slice_get xs k ≡ Some x) × (q ≡ name x)
+pub among_at : {A : Type 0} (name : A → List ℕ) (xs : List A) (q : List ℕ) → IsAmong (map name xs) q
+    → (k : ℕ) × (x : A) × (slice_get xs k ≡ Some x) × (q ≡ name x)
 among_at name [] q h = absurd h
 among_at name (x ∷ xs) q (inl e) = (0, x, refl, sym e)
 among_at name (x ∷ xs) q (inr h) = let later = among_at name xs q h in (suc later.0, later.1, later.2, later.3)

@@ -1,4 +1,5 @@
--- Laws of the numbers of names: a name has a number exactly where it is among the names, and the first of its kind stands there.
+-- Laws of the numbers of names: a name has a number exactly where it is among the names, and the first of its kind
+-- stands there.
 use Rattle.std.specs.Prelude.{ℕ, zero, suc, ◌+◌, ◌<◌, ◌≡◌, not, nat_lt, Bool, true, false, cond, List, [], ◌∷◌, ◌++◌, length, Option, Some, None, slice_get, option_map}
 use Rattle.std.specs.Str.{bytes_eq}
 use Rattle.std.proofs.Common.{◌≤◌, ◌⊎◌, refl, sym, ap, ◌∙◌, subst, inl, inr, ⊎_elim, arith, zero-add, suc-add, eq-or-lt_of_le}
@@ -17,10 +18,12 @@ placed false p n = behind (nat_lt p n) (nat_lt (1 + p) (suc n)) (grind (arith, n
     behind false c e = rw e refl
 
 -- the first name has number 0, and each other one the number behind its number among the rest
-pub number_of-cons : (x : List ℕ) (xs : List (List ℕ)) (name : List ℕ) → number_of (x ∷ xs) name ≡ cond (bytes_eq name x) (Some 0) (option_map suc (number_of xs name))
+pub number_of-cons : (x : List ℕ) (xs : List (List ℕ)) (name : List ℕ)
+    → number_of (x ∷ xs) name ≡ cond (bytes_eq name x) (Some 0) (option_map suc (number_of xs name))
 number_of-cons x xs name = placed (bytes_eq name x) _ (length xs)
 
-at_first : (b : Bool) (name x : List ℕ) (xs : List (List ℕ)) → bytes_eq name x ≡ b → number_of (x ∷ xs) name ≡ cond b (Some 0) (option_map suc (number_of xs name))
+at_first : (b : Bool) (name x : List ℕ) (xs : List (List ℕ)) → bytes_eq name x ≡ b
+    → number_of (x ∷ xs) name ≡ cond b (Some 0) (option_map suc (number_of xs name))
 at_first b name x xs e = number_of-cons x xs name ∙ ap (λ t. cond t (Some 0) (option_map suc (number_of xs name))) e
 
 abbrev pub IsHere : (x name : List ℕ) → ℕ → Type 0
@@ -30,7 +33,8 @@ abbrev pub IsLater : (x : List ℕ) (xs : List (List ℕ)) (name : List ℕ) →
 IsLater x xs name k = (j : ℕ) × (bytes_eq name x ≡ false) × (number_of xs name ≡ Some j) × (k ≡ suc j)
 
 -- the name that has a number is the first one, or it has a number among the rest
-pub number_cases : (x : List ℕ) (xs : List (List ℕ)) (name : List ℕ) (k : ℕ) → number_of (x ∷ xs) name ≡ Some k → IsHere x name k ⊎ IsLater x xs name k
+pub number_cases : (x : List ℕ) (xs : List (List ℕ)) (name : List ℕ) (k : ℕ) → number_of (x ∷ xs) name ≡ Some k
+    → IsHere x name k ⊎ IsLater x xs name k
 number_cases x xs name k e = by_first (bytes_eq name x) refl
   where
     behind : (o : Option ℕ) → number_of xs name ≡ o → bytes_eq name x ≡ false → option_map suc o ≡ Some k → IsHere x name k ⊎ IsLater x xs name k
@@ -41,18 +45,21 @@ number_cases x xs name k e = by_first (bytes_eq name x) refl
     by_first true t = let s : Some 0 ≡ Some k = sym (at_first true name x xs t) ∙ e in inl (cc, sym ((bytes_eq-Decides name x).0 t), t)
     by_first false t = behind (number_of xs name) refl t (sym (at_first false name x xs t) ∙ e)
 
-number_later : (x : List ℕ) (xs : List (List ℕ)) (name : List ℕ) (k : ℕ) → bytes_eq name x ≡ false → number_of xs name ≡ Some k → number_of (x ∷ xs) name ≡ Some (suc k)
+number_later : (x : List ℕ) (xs : List (List ℕ)) (name : List ℕ) (k : ℕ) → bytes_eq name x ≡ false
+    → number_of xs name ≡ Some k → number_of (x ∷ xs) name ≡ Some (suc k)
 number_later x xs name k t e = at_first false name x xs t ∙ ap (option_map suc) e
 
 -- what stands at a name's number is that name
-pub number_of-there : (xs : List (List ℕ)) (name : List ℕ) (k : ℕ) → number_of xs name ≡ Some k → slice_get xs k ≡ Some name
+pub number_of-there : (xs : List (List ℕ)) (name : List ℕ) (k : ℕ) → number_of xs name ≡ Some k
+    → slice_get xs k ≡ Some name
 number_of-there [] name k e = cc
 number_of-there (x ∷ xs) name k e =
     ⊎_elim (λ h. subst (λ n. slice_get (x ∷ xs) n ≡ Some name) (sym h.0) (ap Some h.1))
     (λ l. subst (λ n. slice_get (x ∷ xs) n ≡ Some name) (sym l.3) (number_of-there xs name l.0 l.2)) (number_cases x xs name k e)
 
 -- it stands at no earlier place
-pub number_of-least : (xs : List (List ℕ)) (name : List ℕ) (k j : ℕ) → number_of xs name ≡ Some k → slice_get xs j ≡ Some name → k ≤ j
+pub number_of-least : (xs : List (List ℕ)) (name : List ℕ) (k j : ℕ) → number_of xs name ≡ Some k
+    → slice_get xs j ≡ Some name → k ≤ j
 number_of-least [] name k j e f = cc
 number_of-least (x ∷ xs) name k zero e f = ⊎_elim (λ h. omega (arith, h.0)) (λ l. absurd (other (same_Some x name f) l.1)) (number_cases x xs name k e)
   where
@@ -61,14 +68,16 @@ number_of-least (x ∷ xs) name k zero e f = ⊎_elim (λ h. omega (arith, h.0))
 number_of-least (x ∷ xs) name k (suc j) e f = ⊎_elim (λ h. omega (arith, h.0)) (λ l. let rest = number_of-least xs name l.0 j l.2 f in omega (arith, l.3)) (number_cases x xs name k e)
 
 -- names that are put behind a list leave the numbers of its names as they are
-pub number_of-front : (xs ys : List (List ℕ)) (name : List ℕ) (k : ℕ) → number_of xs name ≡ Some k → number_of (xs ++ ys) name ≡ Some k
+pub number_of-front : (xs ys : List (List ℕ)) (name : List ℕ) (k : ℕ) → number_of xs name ≡ Some k
+    → number_of (xs ++ ys) name ≡ Some k
 number_of-front [] ys name k e = cc
 number_of-front (x ∷ xs) ys name k e =
     ⊎_elim (λ h. at_first true name x (xs ++ ys) h.2 ∙ ap Some (sym h.0)) (λ l. number_later x (xs ++ ys) name l.0 l.1 (number_of-front xs ys name l.0 l.2) ∙ ap Some (sym l.3))
     (number_cases x xs name k e)
 
 -- a name that stands in the list has a number
-pub number_of-known : (xs : List (List ℕ)) (name : List ℕ) (k : ℕ) → slice_get xs k ≡ Some name → (j : ℕ) × (number_of xs name ≡ Some j)
+pub number_of-known : (xs : List (List ℕ)) (name : List ℕ) (k : ℕ) → slice_get xs k ≡ Some name
+    → (j : ℕ) × (number_of xs name ≡ Some j)
 number_of-known [] name k e = cc
 number_of-known (x ∷ xs) name zero e = (0, at_first true name x xs ((bytes_eq-Decides name x).1 (sym (same_Some x name e))))
 number_of-known (x ∷ xs) name (suc k) e = by_first (bytes_eq name x) refl (number_of-known xs name k e)
@@ -78,7 +87,8 @@ number_of-known (x ∷ xs) name (suc k) e = by_first (bytes_eq name x) refl (num
     by_first false t rest = (suc rest.0, number_later x xs name rest.0 t rest.1)
 
 -- it has the number of a place where it stands, if it stands at no earlier one
-pub number_of-first : (xs : List (List ℕ)) (name : List ℕ) (k : ℕ) → slice_get xs k ≡ Some name → ((j : ℕ) → j < k → ¬ (slice_get xs j ≡ Some name)) → number_of xs name ≡ Some k
+pub number_of-first : (xs : List (List ℕ)) (name : List ℕ) (k : ℕ) → slice_get xs k ≡ Some name
+    → ((j : ℕ) → j < k → ¬ (slice_get xs j ≡ Some name)) → number_of xs name ≡ Some k
 number_of-first xs name k e none =
     let found = number_of-known xs name k e in
     let least = number_of-least xs name found.0 k found.1 e in
@@ -87,7 +97,8 @@ number_of-first xs name k e none =
     found.1 ∙ ap Some same
 
 -- a name that is not in the front list has its number behind it
-pub number_of-behind : (xs ys : List (List ℕ)) (name : List ℕ) (k : ℕ) → number_of ys name ≡ Some k → ((j : ℕ) → ¬ (slice_get xs j ≡ Some name)) → number_of (xs ++ ys) name ≡ Some (length xs + k)
+pub number_of-behind : (xs ys : List (List ℕ)) (name : List ℕ) (k : ℕ) → number_of ys name ≡ Some k
+    → ((j : ℕ) → ¬ (slice_get xs j ≡ Some name)) → number_of (xs ++ ys) name ≡ Some (length xs + k)
 number_of-behind [] ys name k e none = e ∙ ap Some (sym (zero-add k))
 number_of-behind (x ∷ xs) ys name k e none =
     at_first false name x (xs ++ ys) (other (bytes_eq name x) refl)
@@ -98,7 +109,8 @@ number_of-behind (x ∷ xs) ys name k e none =
     other false t = t
 
 -- a name of the whole list has a number in the front list, or it stands in the rest
-pub number_of-append : (xs ys : List (List ℕ)) (name : List ℕ) (k : ℕ) → number_of (xs ++ ys) name ≡ Some k → length xs ≤ k ⊎ (number_of xs name ≡ Some k)
+pub number_of-append : (xs ys : List (List ℕ)) (name : List ℕ) (k : ℕ) → number_of (xs ++ ys) name ≡ Some k
+    → length xs ≤ k ⊎ (number_of xs name ≡ Some k)
 number_of-append [] ys name k e = inl (omega arith)
 number_of-append (x ∷ xs) ys name k e =
     ⊎_elim (λ h. inr (at_first true name x xs h.2 ∙ ap Some (sym h.0)))

@@ -18,7 +18,9 @@ module _ {V : Type 0} where
   abbrev at_name : Bool → V → Option V
   at_name b v = if b then Some v else None
 
-  shifted : (b : Bool) (at : ℕ) (v : V) (vs : List V) → option_and_then (slice_get (v ∷ vs)) (cond b (Some (1 + at)) None) ≡ option_and_then (slice_get vs) (cond b (Some at) None)
+  shifted : (b : Bool) (at : ℕ) (v : V) (vs : List V)
+      → option_and_then (slice_get (v ∷ vs)) (cond b (Some (1 + at)) None) ≡ option_and_then (slice_get vs)
+      (cond b (Some at) None)
   shifted true at v vs = let e : 1 + at ≡ suc at = omega arith in rw e refl
   shifted false at v vs = refl
 
@@ -28,10 +30,12 @@ module _ {V : Type 0} where
   at_place true at len v vs = let e : nat_lt 0 (suc len) ≡ true = grind (arith, nat_tests) in rw e refl
   at_place false at len v vs = let e : nat_lt (1 + at) (suc len) ≡ nat_lt at len = grind (arith, nat_tests) in rw e (shifted (nat_lt at len) at v vs)
 
-  pub beside-cons : (n : List ℕ) (ns : List (List ℕ)) (v : V) (vs : List V) (name : List ℕ) → value_beside (n ∷ ns) (v ∷ vs) name ≡ (if bytes_eq name n then Some v else value_beside ns vs name)
+  pub beside-cons : (n : List ℕ) (ns : List (List ℕ)) (v : V) (vs : List V) (name : List ℕ)
+      → value_beside (n ∷ ns) (v ∷ vs) name ≡ (if bytes_eq name n then Some v else value_beside ns vs name)
   beside-cons n ns v vs name = at_place (bytes_eq name n) (position_or_len (bytes_eq name) ns) (length ns) v vs
 
-  later_if : (b : Bool) (v : V) (o later : Option V) → (if b then Some v else or_later o later) ≡ or_later (if b then Some v else o) later
+  later_if : (b : Bool) (v : V) (o later : Option V)
+      → (if b then Some v else or_later o later) ≡ or_later (if b then Some v else o) later
   later_if true v o later = refl
   later_if false v o later = refl
 
@@ -46,13 +50,15 @@ module _ {V : Type 0} where
       ∙ later_if (bytes_eq name m) w (value_beside ns vs name) (at_name (bytes_eq name n) v)
       ∙ ap (λ o. or_later o (at_name (bytes_eq name n) v)) (sym (beside-cons m ns w vs name))
 
-  of-push : (es : List (Entry V)) (e : Entry V) (name : List ℕ) → value_of (es ++ e ∷ []) name ≡ or_later (value_of es name) (at_name (bytes_eq e.name name) e.value)
+  of-push : (es : List (Entry V)) (e : Entry V) (name : List ℕ)
+      → value_of (es ++ e ∷ []) name ≡ or_later (value_of es name) (at_name (bytes_eq e.name name) e.value)
   of-push [] e name = refl
   of-push (x ∷ es) e name =
       ap (λ o. if bytes_eq x.name name then Some x.value else o) (of-push es e name) ∙ later_if (bytes_eq x.name name) x.value (value_of es name) (at_name (bytes_eq e.name name) e.value)
 
   -- a new name is added
-  pub entry_added : (ns : List (List ℕ)) (vs : List V) (es : List (Entry V)) (n : List ℕ) (v : V) → StandsFor ns vs es → StandsFor (ns ++ n ∷ []) (vs ++ v ∷ []) (es ++ record { name = n; value = v } ∷ [])
+  pub entry_added : (ns : List (List ℕ)) (vs : List V) (es : List (Entry V)) (n : List ℕ) (v : V) → StandsFor ns vs es
+      → StandsFor (ns ++ n ∷ []) (vs ++ v ∷ []) (es ++ record { name = n; value = v } ∷ [])
   entry_added ns vs es n v s = record {
     as_long = omega (arith, s.as_long, length-append ns (n ∷ []), length-append vs (v ∷ []));
     finds = λ name.
@@ -61,7 +67,8 @@ module _ {V : Type 0} where
   }
 
   -- a name that is there has a value
-  has_value : (ns : List (List ℕ)) (vs : List V) (name : List ℕ) → length ns ≡ length vs → is_among ns name ≡ true → value_beside ns vs name ≡ None → ⊥
+  has_value : (ns : List (List ℕ)) (vs : List V) (name : List ℕ) → length ns ≡ length vs → is_among ns name ≡ true
+      → value_beside ns vs name ≡ None → ⊥
   has_value [] vs name e there none = cc
   has_value (n ∷ ns) [] name e there none = omega arith
   has_value (n ∷ ns) (v ∷ vs) name e there none = found (bytes_eq name n) (λ t o. has_value ns vs name (omega arith) t o) there (sym (beside-cons n ns v vs name) ∙ none)
@@ -75,7 +82,8 @@ module _ {V : Type 0} where
   kept None later h = h refl
 
   -- a name that is there keeps its value
-  pub entry_kept : (ns : List (List ℕ)) (vs : List V) (es : List (Entry V)) (n : List ℕ) (v : V) → is_among ns n ≡ true → StandsFor ns vs es → StandsFor ns vs (es ++ record { name = n; value = v } ∷ [])
+  pub entry_kept : (ns : List (List ℕ)) (vs : List V) (es : List (Entry V)) (n : List ℕ) (v : V) → is_among ns n ≡ true
+      → StandsFor ns vs es → StandsFor ns vs (es ++ record { name = n; value = v } ∷ [])
   entry_kept ns vs es n v there s = record {
     as_long = s.as_long;
     finds = λ name. s.finds name ∙ sym (kept (value_of es name) (at_name (bytes_eq n name) v) (other name (bytes_eq n name) refl)) ∙ sym (of-push es (record { name = n; value = v }) name);

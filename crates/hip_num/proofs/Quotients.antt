@@ -1,8 +1,8 @@
 -- Quotients and rests of numbers with a sign that 64 bits hold.
 use Rattle.std.proofs.Common.{ℕ, zero, suc, ◌-◌, ◌/◌, ◌^◌, ◌<◌, ◌≤◌, ◌≡◌, None, refl, sym, ap, ◌∙◌, arith}
-use Rattle.std.specs.Prelude.{ℤ, pos, negsuc, neg_ℤ, FitsSigned, int_div, int_rem}
+use Rattle.std.specs.Prelude.{ℤ, pos, negsuc, neg_ℤ, FitsSigned, int_div}
 use Rattle.std.specs.Int.{w64}
-use Rattle.std.specs.Int.Signed.{mag, mag_rem}
+use Rattle.std.specs.Int.Signed.{mag}
 use Rattle.std.proofs.Math.Nat.{div-le_self}
 use Rattle.std.proofs.lemmas.Nat.{div_below}
 use Rattle.hip_types.specs.declared.number.Width.{Width}

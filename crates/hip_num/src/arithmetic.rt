@@ -3,7 +3,7 @@ ghost use Rattle.std.specs.Option.{SomeIff};
 ghost use Rattle.hip_types.specs.Widths.{bits_of};
 ghost use Rattle.hip_num.specs.Arithmetic.{binary_of, division_fault};
 
-use crate::sign::{all_bits, from_signed, sign_bit, signed_value};
+use crate::sign::{all_bits, from_signed, signed_value};
 use hip_types::{BinaryOp, Bits};
 
 /// Why an operation on two integers has no result.
@@ -64,7 +64,7 @@ fn divisor_fault(a: Bits, b: Bits) -> Option<NumTrap>
 {
     if b.value == 0 {
         Some(NumTrap::DivZero)
-    } else if a.value == sign_bit(a.width) && b.value == all_bits(a.width) {
+    } else if a.value == a.width.sign_bit() && b.value == all_bits(a.width) {
         Some(NumTrap::DivOverflow)
     } else {
         None

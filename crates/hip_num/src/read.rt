@@ -12,8 +12,8 @@ pub fn read_decimal(text: &[u8]) -> Option<u64>
     read_digits(text, 10)
 }
 
-/// The number that `0x` and one or more hexadecimal digits of either case write. None where the text has another form, and
-/// where the number is 2^64 or more.
+/// The number that `0x` and one or more hexadecimal digits of either case write. None where the text has another
+/// form, and where the number is 2^64 or more.
 pub fn read_hex(text: &[u8]) -> Option<u64>
     ensures { SomeIff result (IsHexadecimal text.now) (digits_value 16 (drop 2 text.now)) }
 {

@@ -1,19 +1,26 @@
-ghost use Rattle.std.specs.Prelude.{◌≡◌, ◌≤◌, ◌<◌, take, drop, decimal, false};
+ghost use Rattle.std.specs.Prelude.{◌≡◌, ◌≤◌, ◌<◌, length, take, drop, decimal, false};
 ghost use Rattle.std.specs.Fmt.{digits, digit_glyph, signed_decimal};
 ghost use Rattle.hip_num.specs.Texts.{hexadecimal};
 
 use itoa::Buffer;
+
+/// Writes a text at the start of the buffer, and answers its length.
+fn put(buf: &mut [u8; 40], text: &[u8]) -> usize
+    requires { length text.now ≤ 40 }
+    ensures text { take result buf.new ≡ text.now }
+    ensures length { result ≤ 40 }
+{
+    let len = text.len();
+    buf[..len].copy_from_slice(text);
+    len
+}
 
 /// Writes the decimal text of a number, and answers its length.
 pub fn decimal_into(buf: &mut [u8; 40], v: i64) -> usize
     ensures text { take result buf.new ≡ signed_decimal v }
     ensures length { result ≤ 40 }
 {
-    let mut buffer = Buffer::new();
-    let text = buffer.format(v).as_bytes();
-    let len = text.len();
-    buf[..len].copy_from_slice(text);
-    len
+    put(buf, Buffer::new().format(v).as_bytes())
 }
 
 /// Writes the decimal text of a natural number, and answers its length.
@@ -21,11 +28,7 @@ pub fn natural_into(buf: &mut [u8; 40], v: u128) -> usize
     ensures text { take result buf.new ≡ decimal v }
     ensures length { result ≤ 40 }
 {
-    let mut buffer = Buffer::new();
-    let text = buffer.format(v).as_bytes();
-    let len = text.len();
-    buf[..len].copy_from_slice(text);
-    len
+    put(buf, Buffer::new().format(v).as_bytes())
 }
 
 /// Writes `0x` and the least number of hexadecimal digits in lower case, and answers the length.

@@ -8,6 +8,7 @@ use Rattle.hip_types.specs.declared.number.Scalar.TheVariants as scalars
 use Rattle.hip_types.specs.declared.ty.Ty.{Ty, out-Ty}
 use Rattle.hip_types.specs.declared.ty.Ty.TheOpen.{Ty-F}
 use Rattle.hip_types.specs.declared.ty.Ty.TheVariants as types
+use Rattle.hip_types.specs.declared.limits.TheConstants.{DEEPEST_NESTING}
 use Rattle.hip_tokens.specs.Bytes.{byte}
 use Rattle.hip_tokens.specs.Tokens.{Tok, Word, Global}
 use Rattle.hip_rules.specs.Rule.{Verdict, Yes, No}
@@ -80,7 +81,7 @@ type_within zero = type_by (token (too_deep (byte "["))) (token (too_deep (byte 
 type_within (suc n) = type_by (array_type (type_within n)) (struct_type (type_within n))
 
 abbrev pub type : Part Fault Ty
-type = type_within 32
+type = type_within DEEPEST_NESTING
 
 -- ---- constants
 
@@ -129,7 +130,7 @@ pointer_within zero = pointer_by (λ inbounds. token (too_deep (byte "(")))
 pointer_within (suc n) = pointer_by (gep_inside (pointer_within n))
 
 abbrev pub pointer_const : Part Fault Const
-pointer_const = pointer_within 32
+pointer_const = pointer_within DEEPEST_NESTING
 
 -- "zeroinitializer"
 abbrev pub zero_const : Tok → Verdict Fault Const
@@ -175,7 +176,7 @@ const_within (suc n) ty =
     (out-Ty ty)
 
 abbrev pub const : Ty → Part Fault Const
-const = const_within 32
+const = const_within DEEPEST_NESTING
 
 -- ---- operands
 

@@ -13,6 +13,7 @@ use Rattle.hip_ir.specs.declared.constant.Const.TheVariants as consts
 use Rattle.hip_ir.specs.declared.fault.Fault.{Fault}
 use Rattle.hip_ir.specs.declared.fault.Fault.TheVariants.{Range}
 use Rattle.hip_types.specs.Numbers.{bits}
+use Rattle.hip_types.specs.declared.limits.TheConstants.{LARGEST_ALIGNMENT, LARGEST_COUNT}
 use Rattle.hip_ir.specs.Words.{or_no, is_word}
 
 -- the value of digits behind others
@@ -74,17 +75,17 @@ as_const No = No
 abbrev pub an_int_const : Width → Tok → Verdict Fault Const
 an_int_const w t = if is_word (codes "zeroinitializer") t then Yes consts.Zero else as_const (a_literal w t)
 
--- the count of an array, from 0 to 67108864
+-- the count of an array, from 0 on
 abbrev pub count_of : List ℕ → Option ℕ
-count_of t = if is_negative t && not (magnitude t == 0) then None else below 67108865 (magnitude t)
+count_of t = if is_negative t && not (magnitude t == 0) then None else below (LARGEST_COUNT + 1) (magnitude t)
 
 abbrev pub a_count : Tok → Verdict Fault ℕ
 a_count (Num t) = or_range (count_of t)
 a_count _ = No
 
--- the powers of two from 1 to 4096, which are the divisors of 4096
+-- a power of two up to the largest alignment, which is one itself: its divisors
 abbrev pub is_alignment : ℕ → Bool
-is_alignment n = not (n == 0) && (4096 % n == 0)
+is_alignment n = not (n == 0) && (LARGEST_ALIGNMENT % n == 0)
 
 abbrev pub alignment_of : List ℕ → Option ℕ
 alignment_of t = if not (is_negative t) && is_alignment (magnitude t) then Some (magnitude t) else None

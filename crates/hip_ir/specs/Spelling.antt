@@ -1,6 +1,6 @@
 -- Which trees some text reads as, by rules on the tree alone: production by production, what the grammar asks and the
 -- types of the tree do not.
-use Rattle.std.specs.Prelude.{ℕ, zero, suc, Bool, true, false, not, ◌&&◌, ◌||◌, ◌==◌, nat_lt, List, [], ◌∷◌, Option, Some, None}
+use Rattle.std.specs.Prelude.{ℕ, ◌+◌, zero, suc, Bool, true, false, not, ◌&&◌, ◌||◌, ◌==◌, nat_lt, List, [], ◌∷◌, Option, Some, None}
 use Rattle.std.specs.List.{list_all}
 use Rattle.hip_types.specs.Widths.{bits_of}
 use Rattle.hip_types.specs.declared.number.BinaryOp.{BinaryOp}
@@ -13,6 +13,7 @@ use Rattle.hip_types.specs.declared.number.Width.{Width}
 use Rattle.hip_types.specs.declared.number.Width.TheVariants.{W1}
 use Rattle.hip_types.specs.declared.ty.Ty.{Ty, out-Ty}
 use Rattle.hip_types.specs.declared.ty.Ty.TheOpen.{Ty-F}
+use Rattle.hip_types.specs.declared.limits.TheConstants.{DEEPEST_NESTING, LARGEST_COUNT}
 use Rattle.hip_tokens.specs.Longest.{is_name}
 use Rattle.hip_ir.specs.declared.block.Block.{Block}
 use Rattle.hip_ir.specs.declared.block.Case.{Case}
@@ -43,7 +44,7 @@ abbrev pub not_empty : {A : Type 0} → List A → Bool
 not_empty [] = false
 not_empty (x ∷ xs) = true
 
--- an alignment is not written, or a power of two from 1 to 4096
+-- an alignment is not written, or a power of two up to the largest one
 abbrev pub spelled_align : Option ℕ → Bool
 spelled_align None = true
 spelled_align (Some n) = is_alignment n
@@ -57,11 +58,11 @@ spelled_flat Ty-F.Ptr = true
 spelled_flat (Ty-F.Array n element) = false
 spelled_flat (Ty-F.Struct fields) = false
 
--- an array has at most 67108864 elements
+-- an array has at most as many elements as a count can be
 abbrev pub spelled_level : (Ty → Bool) → Ty-F Ty → Bool
 spelled_level inner (Ty-F.Int w) = true
 spelled_level inner Ty-F.Ptr = true
-spelled_level inner (Ty-F.Array n element) = nat_lt n 67108865 && inner element
+spelled_level inner (Ty-F.Array n element) = nat_lt n (LARGEST_COUNT + 1) && inner element
 spelled_level inner (Ty-F.Struct fields) = list_all inner fields
 
 -- arrays and structs nested at most so deep
@@ -70,7 +71,7 @@ spelled_type_within zero t = spelled_flat (out-Ty t)
 spelled_type_within (suc n) t = spelled_level (spelled_type_within n) (out-Ty t)
 
 abbrev pub spelled_type : Ty → Bool
-spelled_type = spelled_type_within 32
+spelled_type = spelled_type_within DEEPEST_NESTING
 
 -- ---- constants
 
@@ -97,7 +98,7 @@ spelled_pointer_within zero c = spelled_pointer_level (λ gep. false) (out-Const
 spelled_pointer_within (suc n) c = spelled_pointer_level (spelled_gep (spelled_pointer_within n)) (out-Const c)
 
 abbrev pub spelled_pointer : Const → Bool
-spelled_pointer = spelled_pointer_within 32
+spelled_pointer = spelled_pointer_within DEEPEST_NESTING
 
 -- under an integer type: an integer of its width or `zeroinitializer`
 abbrev pub spelled_int : Width → Const-F Const ConstGep TypedConst → Bool
@@ -146,7 +147,7 @@ spelled_const_within zero ty c = spelled_const_by (λ items. false) (out-Ty ty) 
 spelled_const_within (suc n) ty c = spelled_const_by (list_all (spelled_item (spelled_const_within n))) (out-Ty ty) c
 
 abbrev pub spelled_const : Ty → Const → Bool
-spelled_const = spelled_const_within 32
+spelled_const = spelled_const_within DEEPEST_NESTING
 
 -- ---- operands
 

@@ -15,7 +15,10 @@ use crate::instr::{Arg, Flags, Instr, Operand};
 use crate::program::{Extern, Function, GlobalVar, Param, Program};
 use crate::words::{may_be_exact, may_wrap};
 use hip_tokens::is_name;
-use hip_types::{BinaryOp, Bits, CastOp, Name, Scalar, Ty, Width};
+use hip_types::{
+    BinaryOp, Bits, CastOp, DEEPEST_NESTING, LARGEST_ALIGNMENT, LARGEST_COUNT, Name, Scalar, Ty,
+    Width,
+};
 
 fn not_empty<T>(items: &[T]) -> bool
     ensures { result ≡ not_empty items.now }
@@ -27,7 +30,7 @@ fn spelled_align(align: &Option<u64>) -> bool
     ensures { result ≡ spelled_align align.now }
 {
     match align {
-        Some(bytes) => *bytes != 0 && 4096 % *bytes == 0,
+        Some(bytes) => *bytes != 0 && LARGEST_ALIGNMENT % *bytes == 0,
         None => true,
     }
 }
@@ -46,7 +49,7 @@ fn spelled_flat(ty: &Ty) -> bool
 /// Whether the type is nested at most `depth` deep, with arrays that are short enough.
 #[cycle(types)]
 #[tactic(auto, unfolding(crate::specs::Spelling::spelled_type_within))]
-fn spelled_type_within(depth: u32, ty: &Ty) -> bool
+fn spelled_type_within(depth: u64, ty: &Ty) -> bool
     ensures { result ≡ spelled_type_within depth ty.now }
 {
     if depth == 0 {
@@ -55,14 +58,14 @@ fn spelled_type_within(depth: u32, ty: &Ty) -> bool
     match ty {
         Ty::Int(_) | Ty::Ptr => true,
         Ty::Array(count, element) => {
-            *count < 67_108_865 && spelled_type_within(depth - 1, element.get())
+            *count <= LARGEST_COUNT && spelled_type_within(depth - 1, element.get())
         }
         Ty::Struct(fields) => spelled_fields_within(depth - 1, fields.as_slice()),
     }
 }
 
 #[cycle(types)]
-fn spelled_fields_within(depth: u32, fields: &[Ty]) -> bool
+fn spelled_fields_within(depth: u64, fields: &[Ty]) -> bool
     ensures { result ≡ list_all (spelled_type_within depth) fields.now }
 {
     'fields: for field in fields {
@@ -95,7 +98,7 @@ fn spelled_int(width: Width, value: &Const) -> bool
 /// Whether the constant may stand under `ptr`, with at most `depth` `getelementptr` in one another.
 #[cycle(pointers)]
 #[tactic(auto, unfolding(crate::specs::Spelling::spelled_pointer_within))]
-fn spelled_pointer_within(depth: u32, value: &Const) -> bool
+fn spelled_pointer_within(depth: u64, value: &Const) -> bool
     ensures { result ≡ spelled_pointer_within depth value.now }
 {
     match value {
@@ -107,10 +110,10 @@ fn spelled_pointer_within(depth: u32, value: &Const) -> bool
 }
 
 #[cycle(pointers)]
-fn spelled_gep(depth: u32, gep: &ConstGep) -> bool
+fn spelled_gep(depth: u64, gep: &ConstGep) -> bool
     ensures { result ≡ spelled_gep (spelled_pointer_within depth) gep.now }
 {
-    spelled_type_within(32, &gep.ty)
+    spelled_type_within(DEEPEST_NESTING, &gep.ty)
         && spelled_pointer_within(depth, &gep.base)
         && not_empty(gep.indices.as_slice())
 }
@@ -118,12 +121,12 @@ fn spelled_gep(depth: u32, gep: &ConstGep) -> bool
 /// Whether the constant may stand under the type, with lists nested at most `depth` deep.
 #[cycle(constants)]
 #[tactic(auto, unfolding(crate::specs::Spelling::spelled_const_within))]
-fn spelled_const_within(depth: u32, ty: &Ty, value: &Const) -> bool
+fn spelled_const_within(depth: u64, ty: &Ty, value: &Const) -> bool
     ensures { result ≡ spelled_const_within depth ty.now value.now }
 {
     match (ty, value) {
         (Ty::Int(width), _) => spelled_int(*width, value),
-        (Ty::Ptr, _) => spelled_pointer_within(32, value),
+        (Ty::Ptr, _) => spelled_pointer_within(DEEPEST_NESTING, value),
         (_, Const::Zero) => true,
         (Ty::Array(_, _), Const::Array(items)) => {
             depth != 0 && spelled_items_within(depth - 1, items.as_slice())
@@ -136,14 +139,15 @@ fn spelled_const_within(depth: u32, ty: &Ty, value: &Const) -> bool
 }
 
 #[cycle(constants)]
-fn spelled_item(depth: u32, item: &TypedConst) -> bool
+fn spelled_item(depth: u64, item: &TypedConst) -> bool
     ensures { result ≡ spelled_item (spelled_const_within depth) item.now }
 {
-    spelled_type_within(32, &item.ty) && spelled_const_within(depth, &item.ty, &item.value)
+    spelled_type_within(DEEPEST_NESTING, &item.ty)
+        && spelled_const_within(depth, &item.ty, &item.value)
 }
 
 #[cycle(constants)]
-fn spelled_items_within(depth: u32, items: &[TypedConst]) -> bool
+fn spelled_items_within(depth: u64, items: &[TypedConst]) -> bool
     ensures { result ≡ list_all (spelled_item (spelled_const_within depth)) items.now }
 {
     'items: for item in items {
@@ -161,7 +165,7 @@ fn spelled_scalar_const(ty: Scalar, value: &Const) -> bool
 {
     match ty {
         Scalar::Int(width) => spelled_int(width, value),
-        Scalar::Ptr => spelled_pointer_within(32, value),
+        Scalar::Ptr => spelled_pointer_within(DEEPEST_NESTING, value),
     }
 }
 
@@ -246,7 +250,7 @@ fn spelled_element(ty: &Ty, base: &Operand, indices: &[Arg]) -> bool
     ensures { result ≡ (spelled_type ty.now && (spelled_operand Ptr base.now
         && (not_empty indices.now && list_all spelled_index indices.now))) }
 {
-    spelled_type_within(32, ty)
+    spelled_type_within(DEEPEST_NESTING, ty)
         && spelled_operand(Scalar::Ptr, base)
         && not_empty(indices)
         && spelled_indices(indices)
@@ -258,7 +262,9 @@ fn spelled_memory_instr(instr: &Instr) -> bool
 {
     match instr {
         Instr::Alloca { dest, ty, align } => {
-            is_name(dest.as_slice()) && spelled_type_within(32, ty) && spelled_align(align)
+            is_name(dest.as_slice())
+                && spelled_type_within(DEEPEST_NESTING, ty)
+                && spelled_align(align)
         }
         Instr::Load {
             dest,
@@ -431,8 +437,8 @@ fn spelled_global(global: &GlobalVar) -> bool
     ensures { result ≡ spelled_global global.now }
 {
     is_name(global.name.as_slice())
-        && spelled_type_within(32, &global.ty)
-        && spelled_const_within(32, &global.ty, &global.init)
+        && spelled_type_within(DEEPEST_NESTING, &global.ty)
+        && spelled_const_within(DEEPEST_NESTING, &global.ty, &global.init)
         && spelled_align(&global.align)
 }
 

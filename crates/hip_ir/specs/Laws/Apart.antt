@@ -71,7 +71,8 @@ label_apart d h (Mark b) e = absurd cc
 label_apart d h (Odd b) e = absurd cc
 
 -- words with a meaning are apart from what no word passes
-pub words_apart : {A : Type 0} (f : List ℕ → Option A) (d : Tok → Bool) → ((t : List ℕ) → d (Word t) ≡ false) → Apart (is_word_of f) d
+pub words_apart : {A : Type 0} (f : List ℕ → Option A) (d : Tok → Bool) → ((t : List ℕ) → d (Word t) ≡ false)
+    → Apart (is_word_of f) d
 words_apart f d h (Word t) e = h t
 words_apart f d h (Label t) e = absurd cc
 words_apart f d h (Global t) e = absurd cc
@@ -82,7 +83,9 @@ words_apart f d h (Mark b) e = absurd cc
 words_apart f d h (Odd b) e = absurd cc
 
 -- a table of words, by its first entry
-pub entry_apart : {A B : Type 0} (f : List ℕ → Option A) (w : List ℕ) (x : B) (g : List ℕ → Option B) → is_there (f w) ≡ false → Apart (is_word_of f) (is_word_of g) → Apart (is_word_of f) (is_word_of (λ t. cond (bytes_eq t w) (Some x) (g t)))
+pub entry_apart : {A B : Type 0} (f : List ℕ → Option A) (w : List ℕ) (x : B) (g : List ℕ → Option B)
+    → is_there (f w) ≡ false → Apart (is_word_of f) (is_word_of g)
+    → Apart (is_word_of f) (is_word_of (λ t. cond (bytes_eq t w) (Some x) (g t)))
 entry_apart f w x g h p (Word t) e = by_test (bytes_eq t w) refl
   where
     by_test : (b : Bool) → bytes_eq t w ≡ b → is_there (cond b (Some x) (g t)) ≡ false
@@ -96,7 +99,8 @@ entry_apart f w x g h p (Str t) e = refl
 entry_apart f w x g h p (Mark b) e = refl
 entry_apart f w x g h p (Odd b) e = refl
 
-pub no_entry_apart : {A : Type 0} (B : Type 0) (f : List ℕ → Option A) → Apart (is_word_of f) (is_word_of (λ t. let none : Option B = None in none))
+pub no_entry_apart : {A : Type 0} (B : Type 0) (f : List ℕ → Option A)
+    → Apart (is_word_of f) (is_word_of (λ t. let none : Option B = None in none))
 no_entry_apart B f (Word t) e = refl
 no_entry_apart B f (Label t) e = refl
 no_entry_apart B f (Global t) e = refl

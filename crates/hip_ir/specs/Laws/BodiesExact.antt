@@ -1,7 +1,6 @@
 -- The reading of instructions and blocks is exact for its rule.
 use Rattle.std.proofs.Common.{◌≡◌, ℕ, true, false, Bool, not, List, [], ◌∷◌, Option, Some, None, refl, codes}
 use Rattle.hip_types.specs.declared.number.BinaryOp.{BinaryOp}
-use Rattle.hip_types.specs.declared.number.CastOp.{CastOp}
 use Rattle.hip_types.specs.declared.number.Scalar.{Scalar}
 use Rattle.hip_types.specs.declared.number.Scalar.TheVariants as scalars
 use Rattle.hip_types.specs.declared.number.Width.{Width}
@@ -15,7 +14,6 @@ use Rattle.hip_rules.specs.Laws.Parts.{Exact, IsRead, Apart, apart_sym, apart_jo
 use Rattle.hip_ir.specs.declared.block.Block.{Block}
 use Rattle.hip_ir.specs.declared.block.Phi.{Phi}
 use Rattle.hip_ir.specs.declared.fault.Fault.{Fault}
-use Rattle.hip_ir.specs.declared.instr.Flag.{Flag}
 use Rattle.hip_ir.specs.declared.instr.Flag.TheVariants as flag
 use Rattle.hip_ir.specs.declared.instr.Instr.{Instr}
 use Rattle.std.specs.Prelude.{if◌then◌else◌}
@@ -51,14 +49,16 @@ phi_read dest = begins _ _ _ (λ _. link _ _ _ (λ s. maps_exact (separated comm
 -- ---- instructions, each of which may be followed by any token but perhaps a comma
 
 -- a test is apart from a word and from what comes after it
-from_word : {A : Type 0} (f : List ℕ → Option A) (w : List ℕ) (d : Tok → Bool) → is_word_of f (Word w) ≡ false → Apart (is_word_of f) d → Apart (is_word_of f) (joined (is_word w) d)
+from_word : {A : Type 0} (f : List ℕ → Option A) (w : List ℕ) (d : Tok → Bool) → is_word_of f (Word w) ≡ false
+    → Apart (is_word_of f) d → Apart (is_word_of f) (joined (is_word w) d)
 from_word f w d h p = apart_joined (is_word_of f) (is_word w) d (apart_sym (is_word w) (is_word_of f) (word_apart w (is_word_of f) h)) p
 
 no_width : (op : BinaryOp) → list_all (λ f. not (is_there (width_word (flag_text f)))) (flags_after op) ≡ true
 no_width op = by_kind (may_wrap op) (may_be_exact op)
   where
     by_kind : (wraps exact : Bool)
-        → list_all (λ f. not (is_there (width_word (flag_text f)))) (if wraps then flag.Nuw ∷ flag.Nsw ∷ [] else (if exact then flag.Exact ∷ [] else [])) ≡ true
+        → list_all (λ f. not (is_there (width_word (flag_text f))))
+        (if wraps then flag.Nuw ∷ flag.Nsw ∷ [] else (if exact then flag.Exact ∷ [] else [])) ≡ true
     by_kind true exact = refl
     by_kind false true = refl
     by_kind false false = refl
@@ -132,7 +132,9 @@ call_read dest = optional_then_read Fault (Unit {0}) Instr (word (codes "tail"))
 -- ---- any instruction
 
 abbrev pub begins_memory : Tok → Bool
-begins_memory = joined (is_word (codes "alloca")) (joined (is_word (codes "load")) (joined (is_word (codes "getelementptr")) begins_call))
+begins_memory =
+    joined (is_word (codes "alloca"))
+    (joined (is_word (codes "load")) (joined (is_word (codes "getelementptr")) begins_call))
 
 memory_read : (dest : List ℕ) → IsRead (memory_instr dest) begins_memory comma
 unfolding memory_instr
@@ -140,11 +142,15 @@ memory_read dest = either_read _ _ _ _ comma (alloca_read dest) (either_read _ _
     (word_apart (codes "getelementptr") _ refl)) (word_apart (codes "load") _ refl)) (word_apart (codes "alloca") _ refl)
 
 abbrev pub begins_cast : Tok → Bool
-begins_cast = joined (is_word_of int_cast_word) (joined (is_word (codes "ptrtoint")) (joined (is_word (codes "inttoptr")) begins_memory))
+begins_cast =
+    joined (is_word_of int_cast_word)
+    (joined (is_word (codes "ptrtoint")) (joined (is_word (codes "inttoptr")) begins_memory))
 
 -- words with a meaning of another kind
-memory_apart : {A : Type 0} (f : List ℕ → Option A) → is_word_of f (Word (codes "alloca")) ≡ false → is_word_of f (Word (codes "load")) ≡ false → is_word_of f (Word (codes "getelementptr")) ≡ false
-    → is_word_of f (Word (codes "tail")) ≡ false → is_word_of f (Word (codes "call")) ≡ false → Apart (is_word_of f) begins_memory
+memory_apart : {A : Type 0} (f : List ℕ → Option A) → is_word_of f (Word (codes "alloca")) ≡ false
+    → is_word_of f (Word (codes "load")) ≡ false → is_word_of f (Word (codes "getelementptr")) ≡ false
+    → is_word_of f (Word (codes "tail")) ≡ false → is_word_of f (Word (codes "call")) ≡ false
+    → Apart (is_word_of f) begins_memory
 memory_apart f a b c d e = from_word f _ _ a (from_word f _ _ b (from_word f _ _ c (from_word f _ _ d (apart_sym (is_word (codes "call")) (is_word_of f) (word_apart (codes "call") (is_word_of f) e)))))
 
 cast_read : (dest : List ℕ) → IsRead (cast_instr dest) begins_cast comma
@@ -154,12 +160,14 @@ cast_read dest = either_read _ _ _ _ comma (int_cast_read dest) (either_read _ _
     (from_word int_cast_word _ _ refl (from_word int_cast_word _ _ refl (memory_apart int_cast_word refl refl refl refl refl)))
 
 abbrev pub begins_value : Tok → Bool
-begins_value = joined (is_word_of binary_word) (joined (is_word (codes "icmp")) (joined (is_word (codes "select")) begins_cast))
+begins_value =
+    joined (is_word_of binary_word) (joined (is_word (codes "icmp")) (joined (is_word (codes "select")) begins_cast))
 
 binary_no_cast : Apart (is_word_of binary_word) (is_word_of int_cast_word)
 binary_no_cast = table_apart binary_word cast_text int_casts refl
 
-binary_apart : Apart (is_word_of binary_word) (joined (is_word (codes "icmp")) (joined (is_word (codes "select")) begins_cast))
+binary_apart : Apart (is_word_of binary_word)
+    (joined (is_word (codes "icmp")) (joined (is_word (codes "select")) begins_cast))
 binary_apart = from_word binary_word _ _ refl (from_word binary_word _ _ refl (apart_joined (is_word_of binary_word) (is_word_of int_cast_word) _ binary_no_cast
     (from_word binary_word _ _ refl (from_word binary_word _ _ refl (memory_apart binary_word refl refl refl refl refl)))))
 
@@ -224,7 +232,9 @@ unfolding unreachable
 unreachable_read = begins _ _ _ (λ _. gives_exact _ _)
 
 abbrev pub begins_end : Tok → Bool
-begins_end = joined (is_word (codes "br")) (joined (is_word (codes "switch")) (joined (is_word (codes "ret")) (is_word (codes "unreachable"))))
+begins_end =
+    joined (is_word (codes "br"))
+    (joined (is_word (codes "switch")) (joined (is_word (codes "ret")) (is_word (codes "unreachable"))))
 
 pub end_read : IsRead end begins_end never
 unfolding end
@@ -233,7 +243,8 @@ end_read = either_read br _ _ _ never br_read (either_read switch _ _ _ never sw
 
 -- ---- blocks
 
-closing_read : (label : List ℕ) (phis : List Phi) (body : List Instr) → IsRead (closing label phis body) begins_end never
+closing_read : (label : List ℕ) (phis : List Phi) (body : List Instr)
+    → IsRead (closing label phis body) begins_end never
 unfolding closing
 closing_read label phis body = maps_read end _ _ _ end_read
 
@@ -247,11 +258,13 @@ effect_apart = joined_apart (is_word (codes "store")) begins_call begins_end (wo
 instr_apart : Apart (joined begins_instr comma) begins_end
 instr_apart = joined_apart begins_instr comma begins_end (joined_apart is_local begins_effect begins_end (local_apart begins_end (λ n. refl)) effect_apart) (mark_apart 44 begins_end refl)
 
-after_first_read : (label : List ℕ) (phis : List Phi) (first : Instr) → IsRead (after_first label phis first) (joined begins_instr begins_end) never
+after_first_read : (label : List ℕ) (phis : List Phi) (first : Instr)
+    → IsRead (after_first label phis first) (joined begins_instr begins_end) never
 unfolding after_first
 after_first_read label phis first = repeated_then_read Fault Instr Block instr (λ body. closing label phis (first ∷ body)) begins_instr comma begins_end never instr_read comma_apart (λ body. closing_read label phis (first ∷ body)) instr_apart
 
-after_name_read : (label : List ℕ) (phis : List Phi) (dest : List ℕ) → IsRead (after_name label phis dest) begins_value never
+after_name_read : (label : List ℕ) (phis : List Phi) (dest : List ℕ)
+    → IsRead (after_name label phis dest) begins_value never
 unfolding after_name
 after_name_read label phis dest = next_read (value_instr dest) _ begins_value comma (joined begins_instr begins_end) never (value_read dest) (λ first. after_first_read label phis first) (mark_apart 44 (joined begins_instr begins_end) refl)
 
@@ -259,11 +272,14 @@ from_effect_read : (label : List ℕ) (phis : List Phi) → IsRead (from_effect 
 unfolding from_effect
 from_effect_read label phis = next_read effect_instr _ begins_effect comma (joined begins_instr begins_end) never effect_read (λ first. after_first_read label phis first) (mark_apart 44 (joined begins_instr begins_end) refl)
 
-after_phis_read : (label : List ℕ) (phis : List Phi) → IsRead (after_phis label phis) (joined begins_effect begins_end) never
+after_phis_read : (label : List ℕ) (phis : List Phi)
+    → IsRead (after_phis label phis) (joined begins_effect begins_end) never
 unfolding after_phis
 after_phis_read label phis = either_read _ _ begins_effect begins_end never (from_effect_read label phis) (closing_read label phis []) effect_apart
 
-block_parts : (label : List ℕ) (phis : List Phi) → IsSame (both assigned.rule (λ dest. (after_name label phis dest).rule) or (after_phis label phis).rule) (instrs_and_end label phis).rule
+block_parts : (label : List ℕ) (phis : List Phi)
+    → IsSame (both assigned.rule (λ dest. (after_name label phis dest).rule) or (after_phis label phis).rule)
+    (instrs_and_end label phis).rule
 unfolding after_name after_phis from_effect after_first instrs_and_end instr assigning_instr
 block_parts label phis = head_or_other assigned.rule (λ dest. (value_instr dest).rule) effect_instr.rule (λ body. (closing label phis body).rule)
 

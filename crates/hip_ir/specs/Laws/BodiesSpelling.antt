@@ -6,7 +6,6 @@ use Rattle.std.specs.Cmp.Derive.{both_true}
 use Rattle.std.proofs.lemmas.Bool.{and_parts}
 use Rattle.hip_types.specs.declared.number.BinaryOp.{BinaryOp}
 use Rattle.hip_types.specs.declared.number.CastOp.{CastOp}
-use Rattle.hip_types.specs.declared.number.CastOp.TheVariants as casts
 use Rattle.hip_types.specs.declared.number.Scalar.{Scalar}
 use Rattle.hip_types.specs.declared.number.Scalar.TheVariants as scalars
 use Rattle.hip_types.specs.declared.number.Width.{Width}
@@ -59,12 +58,14 @@ may_stand wraps exact Nuw = wraps
 may_stand wraps exact Nsw = wraps
 may_stand wraps exact Exact = exact
 
-flags_stand : (wraps exact : Bool) → list_all (may_stand wraps exact) (if wraps then Nuw ∷ Nsw ∷ [] else (if exact then Exact ∷ [] else [])) ≡ true
+flags_stand : (wraps exact : Bool)
+    → list_all (may_stand wraps exact) (if wraps then Nuw ∷ Nsw ∷ [] else (if exact then Exact ∷ [] else [])) ≡ true
 flags_stand true exact = refl
 flags_stand false true = refl
 flags_stand false false = refl
 
-with_flag_suits : (wraps exact : Bool) (f : Flags) (g : Flag) → suits wraps exact f ≡ true → may_stand wraps exact g ≡ true → suits wraps exact (with_flag f g) ≡ true
+with_flag_suits : (wraps exact : Bool) (f : Flags) (g : Flag) → suits wraps exact f ≡ true
+    → may_stand wraps exact g ≡ true → suits wraps exact (with_flag f g) ≡ true
 with_flag_suits true exact f Nuw h k = h
 with_flag_suits true exact f Nsw h k = h
 with_flag_suits wraps true f Exact h k = both_true (and_parts (wraps || not (f.nuw || f.nsw)) true h).0 refl
@@ -72,7 +73,8 @@ with_flag_suits false exact f Nuw h k = absurd cc
 with_flag_suits false exact f Nsw h k = absurd cc
 with_flag_suits wraps false f Exact h k = absurd cc
 
-all_suit : (wraps exact : Bool) (f : Flags) (gs : List Flag) → suits wraps exact f ≡ true → list_all (may_stand wraps exact) gs ≡ true → suits wraps exact (folded with_flag f gs) ≡ true
+all_suit : (wraps exact : Bool) (f : Flags) (gs : List Flag) → suits wraps exact f ≡ true
+    → list_all (may_stand wraps exact) gs ≡ true → suits wraps exact (folded with_flag f gs) ≡ true
 all_suit wraps exact f [] h k = h
 all_suit wraps exact f (g ∷ gs) h k = let b = and_parts (may_stand wraps exact g) (list_all (may_stand wraps exact) gs) k in all_suit wraps exact (with_flag f g) gs (with_flag_suits wraps exact f g h b.0) b.1
 
@@ -103,7 +105,8 @@ unfolding select
 select_yields dest d = after_token _ _ _ (λ _. after_token _ _ _ (λ _. then_yields _ _ _ _ (operand_yields (scalars.Int W1)) (λ cond c. after_token _ _ _ (λ _. after_token _ _ _ (λ s. then_yields _ _ _ _ (operand_yields s) (λ a x. after_token _ _ _ (λ _. after_token _ _ _ (λ _.
     then_yields _ _ _ _ (operand_yields s) (λ b y. gives_yields _ _ (both_true d (both_true c (both_true x y))))))))))))
 
-int_cast_by : (v w : Width) (t : List ℕ) (op : CastOp) → or_no (int_cast_word t) ≡ Yes op → spelled_cast op (scalars.Int v) (scalars.Int w) ≡ true
+int_cast_by : (v w : Width) (t : List ℕ) (op : CastOp) → or_no (int_cast_word t) ≡ Yes op
+    → spelled_cast op (scalars.Int v) (scalars.Int w) ≡ true
 int_cast_by v w t op e = table_is (λ z. spelled_cast z (scalars.Int v) (scalars.Int w)) cast_text int_casts t op refl e
 
 int_cast_yields : (dest : List ℕ) → is_name dest ≡ true → Yields (int_cast dest) (λ i. spelled_instr i ≡ true)
@@ -137,7 +140,8 @@ unfolding gep
 gep_yields dest d = after_token _ _ _ (λ _. then_yields _ _ _ _ (maybe_word_yields (codes "inbounds")) (λ inbounds _. then_yields _ _ _ _ (type_yields 32) (λ ty t. after_token _ _ _ (λ _. after_token _ _ _ (λ _. then_yields _ _ _ _ (operand_yields scalars.Ptr) (λ base b. after_token _ _ _ (λ _.
     then_yields _ _ _ _ (separated_yields comma index spelled_index (λ is. (not_empty is && list_all spelled_index is) ≡ true) index_yields (λ x xs h. h)) (λ indices i. gives_yields _ _ (both_true d (both_true t (both_true b i)))))))))))
 
-plain_call_yields : (dest : Option (List ℕ)) → spelled_result dest ≡ true → Yields (plain_call dest) (λ i. spelled_instr i ≡ true)
+plain_call_yields : (dest : Option (List ℕ)) → spelled_result dest ≡ true
+    → Yields (plain_call dest) (λ i. spelled_instr i ≡ true)
 unfolding plain_call
 plain_call_yields dest d = after_token _ _ _ (λ _. after_token _ _ _ (λ result. then_yields _ _ _ _ (token_yields a_global _ global_is) (λ callee c. after_token _ _ _ (λ _. then_yields _ _ _ _ (listed_yields comma (is_mark 41) arg spelled_arg arg_yields) (λ args a. gives_yields _ _ (both_true d (both_true c a)))))))
 
@@ -207,7 +211,8 @@ end_yields = either_yields _ _ _ _ br_yields (either_yields _ _ _ _ switch_yield
 
 -- ---- blocks
 
-instrs_and_end_yields : (label : List ℕ) (phis : List Phi) → is_name label ≡ true → list_all spelled_phi phis ≡ true → Yields (instrs_and_end label phis) (λ b. spelled_block b ≡ true)
+instrs_and_end_yields : (label : List ℕ) (phis : List Phi) → is_name label ≡ true → list_all spelled_phi phis ≡ true
+    → Yields (instrs_and_end label phis) (λ b. spelled_block b ≡ true)
 unfolding instrs_and_end closing
 instrs_and_end_yields label phis l p = then_yields _ _ _ _ (repeated_yields begins_instr instr spelled_instr instr_yields) (λ body b. then_yields _ _ _ _ end_yields (λ last e. gives_yields _ _ (both_true l (both_true p (both_true b e)))))
 

@@ -36,11 +36,13 @@ array_type_read : (element : Part Fault Ty) → Exact element never → IsRead (
 unfolding array_type
 array_type_read element p = begins _ _ _ (λ _. link _ _ _ (λ count. link _ _ _ (λ _. part_link _ _ _ p (λ ty. link _ _ _ (λ _. gives_exact _ _)))))
 
-struct_type_read : (field : Part Fault Ty) → IsRead field begins_type never → IsRead (struct_type field) (is_mark 123) never
+struct_type_read : (field : Part Fault Ty) → IsRead field begins_type never
+    → IsRead (struct_type field) (is_mark 123) never
 unfolding struct_type
 struct_type_read field p = begins _ _ _ (λ _. maps_exact _ _ never (listed_read field comma (is_mark 125) begins_type p (mark_apart 44 (is_mark 125) refl) (mark_apart 125 begins_type refl)).exact)
 
-type_by_read : (array struct : Part Fault Ty) → IsRead array (is_mark 91) never → IsRead struct (is_mark 123) never → IsRead (type_by array struct) begins_type never
+type_by_read : (array struct : Part Fault Ty) → IsRead array (is_mark 91) never → IsRead struct (is_mark 123) never
+    → IsRead (type_by array struct) begins_type never
 unfolding type_by
 type_by_read array struct p q = either_read array _ (is_mark 91) _ never p
     (either_read struct _ (is_mark 123) _ never q (token_read (a_word_of type_word) (is_word_of type_word) never (not_word_of type_word)) (mark_apart 123 _ refl))
@@ -84,7 +86,8 @@ begins_pointer (Word t) = is_pointer_word t
 begins_pointer (Global t) = true
 begins_pointer _ = false
 
-not_pointer_word : (t : List ℕ) (b d : Bool) → bytes_eq t (codes "null") ≡ b → bytes_eq t (codes "zeroinitializer") ≡ d → (b || d) ≡ false → a_pointer (Word t) ≡ No
+not_pointer_word : (t : List ℕ) (b d : Bool) → bytes_eq t (codes "null") ≡ b → bytes_eq t (codes "zeroinitializer") ≡ d
+    → (b || d) ≡ false → a_pointer (Word t) ≡ No
 not_pointer_word t true d h k e = absurd cc
 not_pointer_word t false true h k e = absurd cc
 not_pointer_word t false false h k e = rw (h, k) refl
@@ -99,11 +102,13 @@ not_pointer (Str t) e = refl
 not_pointer (Mark b) e = refl
 not_pointer (Odd b) e = refl
 
-gep_const_read : (inside : Bool → Part Fault Const) → ((inbounds : Bool) → IsRead (inside inbounds) (is_mark 40) never) → IsRead (gep_const inside) (is_word (codes "getelementptr")) never
+gep_const_read : (inside : Bool → Part Fault Const) → ((inbounds : Bool) → IsRead (inside inbounds) (is_mark 40) never)
+    → IsRead (gep_const inside) (is_word (codes "getelementptr")) never
 unfolding gep_const
 gep_const_read inside p = begins _ _ _ (λ _. next_exact _ _ (is_word (codes "inbounds")) (is_mark 40) never (maybe_word_exact (codes "inbounds")) p (word_apart (codes "inbounds") (is_mark 40) refl))
 
-gep_inside_read : (base : Part Fault Const) (inbounds : Bool) → Exact base never → IsRead (gep_inside base inbounds) (is_mark 40) never
+gep_inside_read : (base : Part Fault Const) (inbounds : Bool) → Exact base never
+    → IsRead (gep_inside base inbounds) (is_mark 40) never
 unfolding gep_inside
 gep_inside_read base inbounds p = begins _ _ _ (λ _. part_link _ _ _ (type_read 32).exact (λ ty. link _ _ _ (λ _. link _ _ _ (λ _. part_link _ _ _ p (λ from. link _ _ _ (λ _.
     next_exact _ _ comma (is_mark 41) never (separated_read literal_index comma (is_word_of width_word) literal_index_read).exact (λ indices. begins _ _ _ (λ _. gives_exact _ _)) (mark_apart 44 (is_mark 41) refl)))))))
@@ -112,7 +117,8 @@ gep_inside_read base inbounds p = begins _ _ _ (λ _. part_link _ _ _ (type_read
 abbrev pub begins_pointer_const : Tok → Bool
 begins_pointer_const = joined (is_word (codes "getelementptr")) begins_pointer
 
-pointer_by_read : (inside : Bool → Part Fault Const) → ((inbounds : Bool) → IsRead (inside inbounds) (is_mark 40) never) → IsRead (pointer_by inside) begins_pointer_const never
+pointer_by_read : (inside : Bool → Part Fault Const) → ((inbounds : Bool) → IsRead (inside inbounds) (is_mark 40) never)
+    → IsRead (pointer_by inside) begins_pointer_const never
 unfolding pointer_by
 pointer_by_read inside p = either_read _ _ _ begins_pointer never (gep_const_read inside p) (token_read a_pointer begins_pointer never not_pointer) (word_apart (codes "getelementptr") begins_pointer refl)
 
@@ -127,23 +133,29 @@ not_zero t e = rw e refl
 zero_read : IsRead (token zero_const) (is_word (codes "zeroinitializer")) never
 zero_read = token_read zero_const _ never not_zero
 
-pub typed_const_read : (value : Ty → Part Fault Const) → ((ty : Ty) → Exact (value ty) never) → IsRead (typed_const value) begins_type never
+pub typed_const_read : (value : Ty → Part Fault Const) → ((ty : Ty) → Exact (value ty) never)
+    → IsRead (typed_const value) begins_type never
 unfolding typed_const
 typed_const_read value p = then_read type _ begins_type never (type_read 32) (λ ty. maps_exact (value ty) _ never (p ty))
 
-const_list_read : (open_mark close_mark : ℕ) (value : Ty → Part Fault Const) → ((ty : Ty) → Exact (value ty) never) → Apart comma (is_mark close_mark) → Apart (is_mark close_mark) begins_type → IsRead (const_list open_mark close_mark value) (is_mark open_mark) never
+const_list_read : (open_mark close_mark : ℕ) (value : Ty → Part Fault Const) → ((ty : Ty) → Exact (value ty) never)
+    → Apart comma (is_mark close_mark) → Apart (is_mark close_mark) begins_type
+    → IsRead (const_list open_mark close_mark value) (is_mark open_mark) never
 unfolding const_list
 const_list_read open_mark close_mark value p a b = begins _ _ _ (λ _. (listed_read (typed_const value) comma (is_mark close_mark) begins_type (typed_const_read value p) a b).exact)
 
-array_const_read : (items : Part Fault (List TypedConst)) → IsRead items (is_mark 91) never → IsRead (array_const items) (is_mark 91) never
+array_const_read : (items : Part Fault (List TypedConst)) → IsRead items (is_mark 91) never
+    → IsRead (array_const items) (is_mark 91) never
 unfolding array_const
 array_const_read items p = maps_read items _ _ _ p
 
-struct_const_read : (items : Part Fault (List TypedConst)) → IsRead items (is_mark 123) never → IsRead (struct_const items) (is_mark 123) never
+struct_const_read : (items : Part Fault (List TypedConst)) → IsRead items (is_mark 123) never
+    → IsRead (struct_const items) (is_mark 123) never
 unfolding struct_const
 struct_const_read items p = maps_read items _ _ _ p
 
-const_by_exact : (elements fields : Part Fault (List TypedConst)) (L : Ty-F Ty) → IsRead elements (is_mark 91) never → IsRead fields (is_mark 123) never → Exact (const_by elements fields L) never
+const_by_exact : (elements fields : Part Fault (List TypedConst)) (L : Ty-F Ty) → IsRead elements (is_mark 91) never
+    → IsRead fields (is_mark 123) never → Exact (const_by elements fields L) never
 unfolding const_by
 const_by_exact elements fields (Ty-F.Int w) p q = (int_const_read w).exact
 const_by_exact elements fields Ty-F.Ptr p q = (pointer_read 32).exact

@@ -157,7 +157,8 @@ abbrev Says : List At → Outcome Fault Program → Type 0
 Says ts (Ok x) = text.rule.Derives ts x.0 [] × (x.1 ≡ [])
 Says ts (Err e) = IsRefusedAt ts (fault_at e.0 e.1) e.1
 
-at_end : (ts : List At) (program : Program) (rest : List At) → Accepts text.rule goes_on_text ts program rest → Says ts (ended program rest)
+at_end : (ts : List At) (program : Program) (rest : List At) → Accepts text.rule goes_on_text ts program rest
+    → Says ts (ended program rest)
 at_end ts program [] r = (r.derives, refl)
 at_end ts program (t ∷ rest) r = record {
   here = text_exact.later ts (t ∷ rest) (text_exact.whole ts program (t ∷ rest) r.derives);
@@ -167,7 +168,8 @@ at_end ts program (t ∷ rest) r = record {
   other = λ h. refl;
 }
 
-stopped : (ts : List At) (why : Option Fault) (rest : List At) → Rejects text.rule goes_on_text ts why rest → IsRefusedAt ts (fault_at why rest) rest
+stopped : (ts : List At) (why : Option Fault) (rest : List At) → Rejects text.rule goes_on_text ts why rest
+    → IsRefusedAt ts (fault_at why rest) rest
 stopped ts (Some v) rest r = record {
   here = text_exact.later ts rest r.front;
   viable = λ m a b. text_exact.closed ts rest m r.front a b;
@@ -191,20 +193,24 @@ whole_says : (ts : List At) → Says ts (whole_text ts)
 unfolding whole_text
 whole_says ts = says ts (text.read ts) (text_exact.reads ts)
 
-pub read_is : (ts : List At) (program : Program) (rest : List At) → whole_text ts ≡ Ok (program, rest) → text.rule.Derives ts program []
+pub read_is : (ts : List At) (program : Program) (rest : List At) → whole_text ts ≡ Ok (program, rest)
+    → text.rule.Derives ts program []
 read_is ts program rest e = let s : Says ts (Ok (program, rest)) = subst (Says ts) e (whole_says ts) in s.0
 
-pub refused_is : (ts : List At) (why : Option Fault) (rest : List At) → whole_text ts ≡ Err (why, rest) → IsRefusedAt ts (fault_at why rest) rest
+pub refused_is : (ts : List At) (why : Option Fault) (rest : List At) → whole_text ts ≡ Err (why, rest)
+    → IsRefusedAt ts (fault_at why rest) rest
 refused_is ts why rest e = subst (Says ts) e (whole_says ts)
 
-ended_is : (program found : Program) (rest : List At) → program ≡ found → [] ≡ rest → ended found rest ≡ Ok (program, [])
+ended_is : (program found : Program) (rest : List At) → program ≡ found → [] ≡ rest
+    → ended found rest ≡ Ok (program, [])
 ended_is program found [] e k = ap (λ (p : Program). Ok (p, [])) (sym e)
 ended_is program found (t ∷ ts) e k = absurd cc
 
 none_next : {X : Type 0} → next goes_on_text [] ≡ true → X
 none_next e = absurd cc
 
-taken : (ts : List At) (program : Program) (o : Outcome Fault Program) → Exactly text.rule goes_on_text ts o → text.rule.Derives ts program [] → on_ok o ended ≡ Ok (program, [])
+taken : (ts : List At) (program : Program) (o : Outcome Fault Program) → Exactly text.rule goes_on_text ts o
+    → text.rule.Derives ts program [] → on_ok o ended ≡ Ok (program, [])
 taken ts program (Ok x) r t = elim (r.only program [] t) [ inl e ↦ ended_is program x.0 x.1 e.0 e.1 | inr g ↦ none_next g ]
 taken ts program (Err e) r t = none_next (r.only program [] t)
 
@@ -216,10 +222,12 @@ ok_is : (x y : Program × List At) → ◌≡◌ {A = Outcome Fault Program} (Ok
 ok_is x y e = cc
 
 -- what is read is all that is derived
-pub only_is : (ts : List At) (found program : Program) (rest : List At) → whole_text ts ≡ Ok (found, rest) → text.rule.Derives ts program [] → found ≡ program
+pub only_is : (ts : List At) (found program : Program) (rest : List At) → whole_text ts ≡ Ok (found, rest)
+    → text.rule.Derives ts program [] → found ≡ program
 only_is ts found program rest e t = let q : ◌≡◌ {A = Outcome Fault Program} (Ok (found, rest)) (Ok (program, [])) = sym e ∙ derived_is ts program t in ap (λ (p : Program × List At). p.0) (ok_is (found, rest) (program, []) q)
 
-pub never_derived : (ts : List At) (why : Option Fault) (rest : List At) (program : Program) → whole_text ts ≡ Err (why, rest) → text.rule.Derives ts program [] → ⊥
+pub never_derived : (ts : List At) (why : Option Fault) (rest : List At) (program : Program)
+    → whole_text ts ≡ Err (why, rest) → text.rule.Derives ts program [] → ⊥
 never_derived ts why rest program e t = let q : ◌≡◌ {A = Outcome Fault Program} (Err (why, rest)) (Ok (program, [])) = sym e ∙ derived_is ts program t in cc
 
 -- the tokens of a text derive one program at most

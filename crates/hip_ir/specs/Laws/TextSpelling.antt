@@ -84,22 +84,27 @@ unfolding item
 item_yields = either_yields _ _ _ _ global_yields (either_yields _ _ _ _ extern_yields (either_yields _ _ _ _ function_yields (either_yields _ _ _ _ source_filename_yields target_item_yields)))
 
 -- one more at the end
-one_more : {A : Type 0} (test : A → Bool) (xs : List A) (x : A) → list_all test xs ≡ true → test x ≡ true → list_all test (xs ++ x ∷ []) ≡ true
+one_more : {A : Type 0} (test : A → Bool) (xs : List A) (x : A) → list_all test xs ≡ true → test x ≡ true
+    → list_all test (xs ++ x ∷ []) ≡ true
 one_more test xs x h k = list_all-append test xs (x ∷ []) ∙ both_true h (both_true k refl)
 
-spelled_parts : (p : Program) → spelled_program p ≡ true → (list_all spelled_global p.globals ≡ true) × (list_all spelled_extern p.externs ≡ true) × (list_all spelled_function p.functions ≡ true)
+spelled_parts : (p : Program) → spelled_program p ≡ true
+    → (list_all spelled_global p.globals ≡ true) × (list_all spelled_extern p.externs ≡ true)
+    × (list_all spelled_function p.functions ≡ true)
 spelled_parts p h =
     let a = and_parts (list_all spelled_global p.globals) _ h in
     let b = and_parts (list_all spelled_extern p.externs) _ a.1 in
     (a.0, b.0, b.1)
 
-with_item_spelled : (p : Program) (i : Item) → spelled_program p ≡ true → spelled_as_item i ≡ true → spelled_program (with_item p i) ≡ true
+with_item_spelled : (p : Program) (i : Item) → spelled_program p ≡ true → spelled_as_item i ≡ true
+    → spelled_program (with_item p i) ≡ true
 with_item_spelled p (GlobalItem g) h k = let a = spelled_parts p h in both_true (one_more spelled_global p.globals g a.0 k) (both_true a.1 a.2)
 with_item_spelled p (ExternItem e) h k = let a = spelled_parts p h in both_true a.0 (both_true (one_more spelled_extern p.externs e a.1 k) a.2)
 with_item_spelled p (FunctionItem f) h k = let a = spelled_parts p h in both_true a.0 (both_true a.1 (one_more spelled_function p.functions f a.2 k))
 with_item_spelled p DroppedItem h k = h
 
-all_spelled : (p : Program) (items : List Item) → spelled_program p ≡ true → list_all spelled_as_item items ≡ true → spelled_program (folded with_item p items) ≡ true
+all_spelled : (p : Program) (items : List Item) → spelled_program p ≡ true → list_all spelled_as_item items ≡ true
+    → spelled_program (folded with_item p items) ≡ true
 all_spelled p [] h k = h
 all_spelled p (i ∷ items) h k = let b = and_parts (spelled_as_item i) (list_all spelled_as_item items) k in all_spelled (with_item p i) items (with_item_spelled p i h b.0) b.1
 

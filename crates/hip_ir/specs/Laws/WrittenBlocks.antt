@@ -38,8 +38,11 @@ edge_is s e h =
     anywhere_text ends_word (mark_then _ _ 91 refl refl (blank_text 32 refl (then_text _ (operand_is s e.value p.0) (mark_then _ _ 44 refl refl (blank_text 32 refl
     (then_text _ (local_text _ e.label p.1 refl) (blank_text 32 refl (last_text _ (mark_text _ 93 refl refl) (nothing_text anything))) (λ rest h. refl)))) (λ rest h. refl))))
 
-phi_by : (dest : List ℕ) (s : Scalar) (edges : List Edge) → is_name dest ≡ true → not_empty edges ≡ true → list_all (spelled_edge s) edges ≡ true
-    → IsTextOf ends_word (both assigned.rule (λ x. (phi x).rule)) (assigned_text dest ++ (codes "phi " ++ (scalar_text s ++ (codes " " ++ commas (map edge_text edges))))) (record { dest = dest; ty = s; edges = edges })
+phi_by : (dest : List ℕ) (s : Scalar) (edges : List Edge) → is_name dest ≡ true → not_empty edges ≡ true
+    → list_all (spelled_edge s) edges ≡ true
+    → IsTextOf ends_word (both assigned.rule (λ x. (phi x).rule))
+    (assigned_text dest ++ (codes "phi " ++ (scalar_text s ++ (codes " " ++ commas (map edge_text edges)))))
+    (record { dest = dest; ty = s; edges = edges })
 unfolding phi
 phi_by dest s [] n some h = absurd cc
 phi_by dest s (e ∷ es) n some h = then_text _ (assigned_is dest n) (word_then _ _ (codes "phi") refl refl (then_text _ (scalar_is s) (blank_text 32 refl
@@ -57,8 +60,11 @@ target_is : (label : List ℕ) → is_name label ≡ true → IsTextOf ends_word
 unfolding target
 target_is label e = word_then _ _ (codes "label") refl refl (local_text _ label e refl)
 
-branch_is : (cond : Operand) (yes_label no_label : List ℕ) → spelled_operand (scalars.Int W1) cond ≡ true → is_name yes_label ≡ true → is_name no_label ≡ true
-    → IsTextOf ends_word branch.rule (codes "i1 " ++ (operand_text cond ++ (codes ", label %" ++ (yes_label ++ (codes ", label %" ++ no_label))))) (ends.CondBr cond yes_label no_label)
+branch_is : (cond : Operand) (yes_label no_label : List ℕ) → spelled_operand (scalars.Int W1) cond ≡ true
+    → is_name yes_label ≡ true → is_name no_label ≡ true
+    → IsTextOf ends_word branch.rule (codes "i1 " ++
+    (operand_text cond ++ (codes ", label %" ++ (yes_label ++ (codes ", label %" ++ no_label))))) (ends.CondBr cond
+    yes_label no_label)
 unfolding branch
 branch_is cond yes_label no_label e f g = word_then _ _ (codes "i1") refl refl (then_text _ (operand_is (scalars.Int W1) cond e) (mark_then _ _ 44 refl refl (blank_text 32 refl
     (then_text _ (target_is yes_label f) (mark_then _ _ 44 refl refl (blank_text 32 refl (last_text _ (target_is no_label g) (nothing_text anything)))) (λ rest h. refl)))) (λ rest h. refl))
@@ -76,8 +82,14 @@ case_is w c e =
     let p = and_parts (of_width w c.value) (is_name c.label) e in
     subst (λ v. IsTextOf anything (case v).rule (case_text c) c) (same_width c.value.width w p.0) (own_case c p.1)
 
-switch_is : (w : Width) (value : Operand) (other : List ℕ) (cases : List Case) → spelled_operand (scalars.Int w) value ≡ true → is_name other ≡ true → list_all (spelled_case w) cases ≡ true
-    → IsTextOf anything switch.rule (codes "switch " ++ (width_text w ++ (codes " " ++ (operand_text value ++ (codes ", label %" ++ (other ++ (codes " [ " ++ (flat_map case_text cases ++ codes "]")))))))) (ends.Switch w value other cases)
+switch_is : (w : Width) (value : Operand) (other : List ℕ) (cases : List Case)
+    → spelled_operand (scalars.Int w) value ≡ true → is_name other ≡ true → list_all (spelled_case w) cases ≡ true
+    → IsTextOf anything switch.rule (codes "switch " ++
+    (width_text w ++
+    (codes " " ++
+    (operand_text value ++
+    (codes ", label %" ++ (other ++ (codes " [ " ++ (flat_map case_text cases ++ codes "]")))))))) (ends.Switch w value
+    other cases)
 unfolding switch
 switch_is w value other cases e f g = word_then _ _ (codes "switch") refl refl (then_text _ (int_is w) (blank_text 32 refl (then_text _ (operand_is (scalars.Int w) value e) (mark_then _ _ 44 refl refl (blank_text 32 refl
     (then_text _ (target_is other f) (blank_text 32 refl (mark_then _ _ 91 refl refl (blank_text 32 refl
@@ -102,7 +114,8 @@ end_is ends.Unreachable h = right_text _ (right_text _ (right_text _ (last_text 
 -- ---- blocks
 
 -- on a line of its own
-line_is : {A : Type 0} {l : Rule Fault A} {s : List ℕ} {x : A} → IsTextOf ends_word l s x → IsTextOf anything l (line_of s) x
+line_is : {A : Type 0} {l : Rule Fault A} {s : List ℕ} {x : A} → IsTextOf ends_word l s x
+    → IsTextOf anything l (line_of s) x
 line_is p = blank_text 32 refl (blank_text 32 refl (blank_behind 10 refl (λ rest h. refl) p))
 
 abbrev phi_line : Phi → List ℕ
@@ -111,8 +124,16 @@ phi_line p = line_of (phi_text p)
 abbrev instr_line : Instr → List ℕ
 instr_line i = line_of (instr_text i)
 
-block_by : (label : List ℕ) (phis : List Phi) (body : List Instr) (last : End) → is_name label ≡ true → list_all spelled_phi phis ≡ true → list_all spelled_instr body ≡ true → spelled_end last ≡ true
-    → IsTextOf anything block.rule (label ++ (codes ":\n" ++ (flat_map phi_line phis ++ (flat_map instr_line body ++ line_of (end_text last))))) (record { label = label; phis = phis; body = body; end = last })
+block_by : (label : List ℕ) (phis : List Phi) (body : List Instr) (last : End) → is_name label ≡ true
+    → list_all spelled_phi phis ≡ true → list_all spelled_instr body ≡ true → spelled_end last ≡ true
+    → IsTextOf anything block.rule (label ++
+    (codes ":\n" ++ (flat_map phi_line phis ++ (flat_map instr_line body ++ line_of (end_text last))))) (record {
+      label
+          = label;
+      phis = phis;
+      body = body;
+      end = last;
+    })
 unfolding block instrs_and_end closing
 block_by label phis body last n e f g =
     label_then _ _ label n refl (blank_text 10 refl (then_text _ (many_texts (both assigned.rule (λ x. (phi x).rule)) phi_line anything spelled_phi (λ p h. line_is (phi_is p h)) (λ p rest. refl) phis e)

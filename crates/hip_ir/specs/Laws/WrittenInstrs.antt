@@ -108,17 +108,21 @@ or_false : (b : Bool) → (b || false) ≡ true → b ≡ true
 or_false true e = refl
 or_false false e = absurd cc
 
-one_flag : (op : BinaryOp) (flag : Flag) → is_name (flag_text flag) ≡ true → a_word_of (flag_word op) (Word (flag_text flag)) ≡ Yes flag
+one_flag : (op : BinaryOp) (flag : Flag) → is_name (flag_text flag) ≡ true
+    → a_word_of (flag_word op) (Word (flag_text flag)) ≡ Yes flag
     → IsTextOf anything (one (a_word_of (flag_word op))) (flag_text flag ++ codes " ") flag
 one_flag op flag n e = blank_behind 32 refl (λ rest h. refl) (word_text _ (flag_text flag) n e)
 
-nuw_is : (op : BinaryOp) → may_wrap op ≡ true → IsTextOf anything (one (a_word_of (flag_word op))) (flag_if Nuw true) Nuw
+nuw_is : (op : BinaryOp) → may_wrap op ≡ true
+    → IsTextOf anything (one (a_word_of (flag_word op))) (flag_if Nuw true) Nuw
 nuw_is op e = one_flag op Nuw refl (rw (wraps_are op e) refl)
 
-nsw_is : (op : BinaryOp) → may_wrap op ≡ true → IsTextOf anything (one (a_word_of (flag_word op))) (flag_if Nsw true) Nsw
+nsw_is : (op : BinaryOp) → may_wrap op ≡ true
+    → IsTextOf anything (one (a_word_of (flag_word op))) (flag_if Nsw true) Nsw
 nsw_is op e = one_flag op Nsw refl (rw (wraps_are op e) refl)
 
-exact_flag_is : (op : BinaryOp) → may_be_exact op ≡ true → IsTextOf anything (one (a_word_of (flag_word op))) (flag_if Exact true) Exact
+exact_flag_is : (op : BinaryOp) → may_be_exact op ≡ true
+    → IsTextOf anything (one (a_word_of (flag_word op))) (flag_if Exact true) Exact
 exact_flag_is op e = one_flag op Exact refl (rw (exacts_are op (wraps_alone op e) e) refl)
 
 no_flag_is : (op : BinaryOp) → IsTextOf anything (many (one (a_word_of (flag_word op)))) [] []
@@ -127,8 +131,10 @@ no_flag_is op = no_more_text _ anything
 exact_wraps : (op : BinaryOp) → may_wrap op ≡ true → may_be_exact op ≡ true → ⊥
 exact_wraps op e f = let g = wraps_alone op f in absurd cc
 
-flags_by : (op : BinaryOp) (nuw nsw exact : Bool) → (may_wrap op || not (nuw || nsw)) ≡ true → (may_be_exact op || not exact) ≡ true
-    → IsTextOf anything (flags op).rule (flags_text (record { nuw = nuw; nsw = nsw; exact = exact })) (record { nuw = nuw; nsw = nsw; exact = exact })
+flags_by : (op : BinaryOp) (nuw nsw exact : Bool) → (may_wrap op || not (nuw || nsw)) ≡ true
+    → (may_be_exact op || not exact) ≡ true
+    → IsTextOf anything (flags op).rule (flags_text (record { nuw = nuw; nsw = nsw; exact = exact }))
+    (record { nuw = nuw; nsw = nsw; exact = exact })
 unfolding flags
 flags_by op false false false e f = last_text _ (no_flag_is op) (nothing_text anything)
 flags_by op true false false e f = last_text _ (more_text (nuw_is op (or_false (may_wrap op) e)) (no_flag_is op) (λ rest h. refl)) (nothing_text anything)
@@ -140,7 +146,8 @@ flags_by op false false true e f = last_text _ (more_text (exact_flag_is op (or_
 flags_by op true nsw true e f = absurd (exact_wraps op (or_false (may_wrap op) e) (or_false (may_be_exact op) f))
 flags_by op false true true e f = absurd (exact_wraps op (or_false (may_wrap op) e) (or_false (may_be_exact op) f))
 
-flags_are : (op : BinaryOp) (set : Flags) → spelled_flags op set ≡ true → IsTextOf anything (flags op).rule (flags_text set) set
+flags_are : (op : BinaryOp) (set : Flags) → spelled_flags op set ≡ true
+    → IsTextOf anything (flags op).rule (flags_text set) set
 flags_are op set e = let p = and_parts (may_wrap op || not (set.nuw || set.nsw)) (may_be_exact op || not set.exact) e in flags_by op set.nuw set.nsw set.exact p.0 p.1
 
 -- ---- arithmetic, comparison and choice
@@ -148,20 +155,31 @@ flags_are op set e = let p = and_parts (may_wrap op || not (set.nuw || set.nsw))
 abbrev two_operands : Operand → Operand → List ℕ
 two_operands a b = operand_text a ++ (codes ", " ++ operand_text b)
 
-binary_instr_is : (dest : List ℕ) (op : BinaryOp) (set : Flags) (w : Width) (a b : Operand) → spelled_flags op set ≡ true → spelled_operand (scalars.Int w) a ≡ true → spelled_operand (scalars.Int w) b ≡ true
-    → IsTextOf ends_word (binary dest).rule (binary_text op ++ (codes " " ++ (flags_text set ++ (width_text w ++ (codes " " ++ two_operands a b))))) (instrs.Binary dest op set w a b)
+binary_instr_is : (dest : List ℕ) (op : BinaryOp) (set : Flags) (w : Width) (a b : Operand)
+    → spelled_flags op set ≡ true → spelled_operand (scalars.Int w) a ≡ true → spelled_operand (scalars.Int w) b ≡ true
+    → IsTextOf ends_word (binary dest).rule (binary_text op ++
+    (codes " " ++ (flags_text set ++ (width_text w ++ (codes " " ++ two_operands a b))))) (instrs.Binary dest op set w
+    a b)
 unfolding binary
 binary_instr_is dest op set w a b e f g = then_text _ (binary_is op) (blank_text 32 refl (then_text _ (flags_are op set e) (then_text _ (int_is w) (blank_text 32 refl
     (then_text _ (operand_is (scalars.Int w) a f) (mark_then _ _ 44 refl refl (blank_text 32 refl (last_text _ (operand_is (scalars.Int w) b g) (nothing_text anything)))) (λ rest h. refl))) (λ rest h. refl)) (λ rest h. refl))) (λ rest h. refl)
 
-compare_is : (dest : List ℕ) (p : Pred) (s : Scalar) (a b : Operand) → spelled_operand s a ≡ true → spelled_operand s b ≡ true
-    → IsTextOf ends_word (compare dest).rule (codes "icmp " ++ (pred_text p ++ (codes " " ++ (scalar_text s ++ (codes " " ++ two_operands a b))))) (instrs.Compare dest p s a b)
+compare_is : (dest : List ℕ) (p : Pred) (s : Scalar) (a b : Operand) → spelled_operand s a ≡ true
+    → spelled_operand s b ≡ true
+    → IsTextOf ends_word (compare dest).rule (codes "icmp " ++
+    (pred_text p ++ (codes " " ++ (scalar_text s ++ (codes " " ++ two_operands a b))))) (instrs.Compare dest p s a b)
 unfolding compare
 compare_is dest p s a b f g = word_then _ _ (codes "icmp") refl refl (then_text _ (pred_is p) (blank_text 32 refl (then_text _ (scalar_is s) (blank_text 32 refl
     (then_text _ (operand_is s a f) (mark_then _ _ 44 refl refl (blank_text 32 refl (last_text _ (operand_is s b g) (nothing_text anything)))) (λ rest h. refl))) (λ rest h. refl))) (λ rest h. refl))
 
-select_is : (dest : List ℕ) (cond : Operand) (s : Scalar) (a b : Operand) → spelled_operand (scalars.Int W1) cond ≡ true → spelled_operand s a ≡ true → spelled_operand s b ≡ true
-    → IsTextOf ends_word (select dest).rule (codes "select i1 " ++ (operand_text cond ++ (codes ", " ++ (scalar_text s ++ (codes " " ++ (operand_text a ++ (codes ", " ++ (scalar_text s ++ (codes " " ++ operand_text b))))))))) (instrs.Select dest cond s a b)
+select_is : (dest : List ℕ) (cond : Operand) (s : Scalar) (a b : Operand) → spelled_operand (scalars.Int W1) cond ≡ true
+    → spelled_operand s a ≡ true → spelled_operand s b ≡ true
+    → IsTextOf ends_word (select dest).rule (codes "select i1 " ++
+    (operand_text cond ++
+    (codes ", " ++
+    (scalar_text s ++
+    (codes " " ++ (operand_text a ++ (codes ", " ++ (scalar_text s ++ (codes " " ++ operand_text b)))))))))
+    (instrs.Select dest cond s a b)
 unfolding select
 select_is dest cond s a b e f g = word_then _ _ (codes "select") refl refl (word_then _ _ (codes "i1") refl refl (then_text _ (operand_is (scalars.Int W1) cond e) (mark_then _ _ 44 refl refl (blank_text 32 refl
     (then_text _ (scalar_is s) (blank_text 32 refl (then_text _ (operand_is s a f) (mark_then _ _ 44 refl refl (blank_text 32 refl
@@ -170,25 +188,33 @@ select_is dest cond s a b e f g = word_then _ _ (codes "select") refl refl (word
 -- ---- casts
 
 abbrev cast_form : List ℕ → Scalar → Operand → Scalar → List ℕ
-cast_form word from a to = word ++ (codes " " ++ (scalar_text from ++ (codes " " ++ (operand_text a ++ (codes " to " ++ scalar_text to)))))
+cast_form word from a to =
+    word ++ (codes " " ++ (scalar_text from ++ (codes " " ++ (operand_text a ++ (codes " to " ++ scalar_text to)))))
 
-int_cast_is : (dest : List ℕ) (op : CastOp) (word : List ℕ) (w v : Width) (a : Operand) → is_name word ≡ true → a_word_of int_cast_word (Word word) ≡ Yes op → spelled_operand (scalars.Int w) a ≡ true
-    → IsTextOf ends_word (int_cast dest).rule (cast_form word (scalars.Int w) a (scalars.Int v)) (instrs.Cast dest op (scalars.Int w) a (scalars.Int v))
+int_cast_is : (dest : List ℕ) (op : CastOp) (word : List ℕ) (w v : Width) (a : Operand) → is_name word ≡ true
+    → a_word_of int_cast_word (Word word) ≡ Yes op → spelled_operand (scalars.Int w) a ≡ true
+    → IsTextOf ends_word (int_cast dest).rule (cast_form word (scalars.Int w) a (scalars.Int v))
+    (instrs.Cast dest op (scalars.Int w) a (scalars.Int v))
 unfolding int_cast
 int_cast_is dest op word w v a n e f = word_then _ _ word n e (then_text _ (int_is w) (blank_text 32 refl (then_text _ (operand_is (scalars.Int w) a f)
     (blank_text 32 refl (word_then _ _ (codes "to") refl refl (last_text _ (int_is v) (nothing_text anything)))) (λ rest h. refl))) (λ rest h. refl))
 
-ptrtoint_is : (dest : List ℕ) (v : Width) (a : Operand) → spelled_operand scalars.Ptr a ≡ true → IsTextOf ends_word (ptrtoint dest).rule (cast_form (cast_text casts.Ptrtoint) scalars.Ptr a (scalars.Int v)) (instrs.Cast dest casts.Ptrtoint scalars.Ptr a (scalars.Int v))
+ptrtoint_is : (dest : List ℕ) (v : Width) (a : Operand) → spelled_operand scalars.Ptr a ≡ true
+    → IsTextOf ends_word (ptrtoint dest).rule (cast_form (cast_text casts.Ptrtoint) scalars.Ptr a (scalars.Int v))
+    (instrs.Cast dest casts.Ptrtoint scalars.Ptr a (scalars.Int v))
 unfolding ptrtoint
 ptrtoint_is dest v a f = word_then _ _ (cast_text casts.Ptrtoint) refl refl (word_then _ _ (codes "ptr") refl refl (then_text _ (operand_is scalars.Ptr a f)
     (blank_text 32 refl (word_then _ _ (codes "to") refl refl (last_text _ (int_is v) (nothing_text anything)))) (λ rest h. refl)))
 
-inttoptr_is : (dest : List ℕ) (w : Width) (a : Operand) → spelled_operand (scalars.Int w) a ≡ true → IsTextOf ends_word (inttoptr dest).rule (cast_form (cast_text casts.Inttoptr) (scalars.Int w) a scalars.Ptr) (instrs.Cast dest casts.Inttoptr (scalars.Int w) a scalars.Ptr)
+inttoptr_is : (dest : List ℕ) (w : Width) (a : Operand) → spelled_operand (scalars.Int w) a ≡ true
+    → IsTextOf ends_word (inttoptr dest).rule (cast_form (cast_text casts.Inttoptr) (scalars.Int w) a scalars.Ptr)
+    (instrs.Cast dest casts.Inttoptr (scalars.Int w) a scalars.Ptr)
 unfolding inttoptr
 inttoptr_is dest w a f = word_then _ _ (cast_text casts.Inttoptr) refl refl (then_text _ (int_is w) (blank_text 32 refl (then_text _ (operand_is (scalars.Int w) a f)
     (blank_text 32 refl (word_then _ _ (codes "to") refl refl (last_text _ (word_text _ (codes "ptr") refl refl) (nothing_text anything)))) (λ rest h. refl))) (λ rest h. refl))
 
-cast_is : (dest : List ℕ) (op : CastOp) (from : Scalar) (a : Operand) (to : Scalar) → spelled_cast op from to ≡ true → spelled_operand from a ≡ true
+cast_is : (dest : List ℕ) (op : CastOp) (from : Scalar) (a : Operand) (to : Scalar) → spelled_cast op from to ≡ true
+    → spelled_operand from a ≡ true
     → IsTextOf ends_word (cast_instr dest).rule (cast_form (cast_text op) from a to) (instrs.Cast dest op from a to)
 unfolding cast_instr
 cast_is dest casts.Zext (scalars.Int w) a (scalars.Int v) e f = left_text _ (int_cast_is dest casts.Zext (cast_text casts.Zext) w v a refl refl f)
@@ -209,46 +235,62 @@ cast_is dest casts.Inttoptr (scalars.Int w) a (scalars.Int v) e f = absurd cc
 
 -- ---- memory and calls
 
-alloca_is : (dest : List ℕ) (ty : Ty) (n : Option ℕ) → spelled_type ty ≡ true → spelled_align n ≡ true → IsTextOf ends_word (alloca dest).rule (codes "alloca " ++ (type_text ty ++ align_text n)) (instrs.Alloca dest ty n)
+alloca_is : (dest : List ℕ) (ty : Ty) (n : Option ℕ) → spelled_type ty ≡ true → spelled_align n ≡ true
+    → IsTextOf ends_word (alloca dest).rule (codes "alloca " ++ (type_text ty ++ align_text n))
+    (instrs.Alloca dest ty n)
 unfolding alloca
 alloca_is dest ty n e f = word_then _ _ (codes "alloca") refl refl (then_text _ (type_is 32 ty e) (last_text _ (align_is n f) (nothing_text anything)) (align_leaves n))
 
-load_is : (dest : List ℕ) (s : Scalar) (addr : Operand) (n : Option ℕ) → spelled_operand scalars.Ptr addr ≡ true → spelled_align n ≡ true
-    → IsTextOf ends_word (load dest).rule (codes "load " ++ (scalar_text s ++ (codes ", ptr " ++ (operand_text addr ++ align_text n)))) (instrs.Load dest s addr n)
+load_is : (dest : List ℕ) (s : Scalar) (addr : Operand) (n : Option ℕ) → spelled_operand scalars.Ptr addr ≡ true
+    → spelled_align n ≡ true
+    → IsTextOf ends_word (load dest).rule (codes "load " ++
+    (scalar_text s ++ (codes ", ptr " ++ (operand_text addr ++ align_text n)))) (instrs.Load dest s addr n)
 unfolding load
 load_is dest s addr n e f = word_then _ _ (codes "load") refl refl (then_text _ (scalar_is s) (mark_then _ _ 44 refl refl (blank_text 32 refl (word_then _ _ (codes "ptr") refl refl
     (then_text _ (operand_is scalars.Ptr addr e) (last_text _ (align_is n f) (nothing_text anything)) (align_leaves n))))) (λ rest h. refl))
 
-store_is : (s : Scalar) (value addr : Operand) (n : Option ℕ) → spelled_operand s value ≡ true → spelled_operand scalars.Ptr addr ≡ true → spelled_align n ≡ true
-    → IsTextOf ends_word store.rule (codes "store " ++ (scalar_text s ++ (codes " " ++ (operand_text value ++ (codes ", ptr " ++ (operand_text addr ++ align_text n)))))) (instrs.Store s value addr n)
+store_is : (s : Scalar) (value addr : Operand) (n : Option ℕ) → spelled_operand s value ≡ true
+    → spelled_operand scalars.Ptr addr ≡ true → spelled_align n ≡ true
+    → IsTextOf ends_word store.rule (codes "store " ++
+    (scalar_text s ++ (codes " " ++ (operand_text value ++ (codes ", ptr " ++ (operand_text addr ++ align_text n))))))
+    (instrs.Store s value addr n)
 unfolding store
 store_is s value addr n e f g = word_then _ _ (codes "store") refl refl (then_text _ (scalar_is s) (blank_text 32 refl (then_text _ (operand_is s value e) (mark_then _ _ 44 refl refl (blank_text 32 refl (word_then _ _ (codes "ptr") refl refl
     (then_text _ (operand_is scalars.Ptr addr f) (last_text _ (align_is n g) (nothing_text anything)) (align_leaves n))))) (λ rest h. refl))) (λ rest h. refl))
 
-gep_is : (dest : List ℕ) (inbounds : Bool) (ty : Ty) (base : Operand) (indices : List Arg) → spelled_type ty ≡ true → spelled_operand scalars.Ptr base ≡ true → not_empty indices ≡ true → list_all spelled_index indices ≡ true
-    → IsTextOf ends_word (gep dest).rule (codes "getelementptr " ++ (inbounds_text inbounds ++ (type_text ty ++ (codes ", ptr " ++ (operand_text base ++ after_commas (map arg_text indices)))))) (instrs.Gep dest inbounds ty base indices)
+gep_is : (dest : List ℕ) (inbounds : Bool) (ty : Ty) (base : Operand) (indices : List Arg) → spelled_type ty ≡ true
+    → spelled_operand scalars.Ptr base ≡ true → not_empty indices ≡ true → list_all spelled_index indices ≡ true
+    → IsTextOf ends_word (gep dest).rule (codes "getelementptr " ++
+    (inbounds_text inbounds ++
+    (type_text ty ++ (codes ", ptr " ++ (operand_text base ++ after_commas (map arg_text indices)))))) (instrs.Gep dest
+    inbounds ty base indices)
 unfolding gep
 gep_is dest inbounds ty base [] e f some g = absurd cc
 gep_is dest inbounds ty base (i ∷ is) e f some g = word_then _ _ (codes "getelementptr") refl refl (inbounds_then _ ends_word _ _ inbounds (then_text _ (type_is 32 ty e) (mark_then _ _ 44 refl refl (blank_text 32 refl (word_then _ _ (codes "ptr") refl refl
     (then_text _ (operand_is scalars.Ptr base f) (mark_then _ _ 44 refl refl (blank_text 32 refl (last_text _ (separated_are index arg_text spelled_index index_is i is g) (nothing_text anything)))) (λ rest h. refl))))) (λ rest h. refl)))
 
-call_is : (dest : Option (List ℕ)) (ret : Option Scalar) (callee : List ℕ) (args : List Arg) → is_name callee ≡ true → list_all spelled_arg args ≡ true
-    → IsTextOf anything (call dest).rule (codes "call " ++ (ret_text ret ++ (codes " @" ++ (callee ++ parenthesized (map arg_text args))))) (instrs.Call dest ret callee args)
+call_is : (dest : Option (List ℕ)) (ret : Option Scalar) (callee : List ℕ) (args : List Arg) → is_name callee ≡ true
+    → list_all spelled_arg args ≡ true
+    → IsTextOf anything (call dest).rule (codes "call " ++
+    (ret_text ret ++ (codes " @" ++ (callee ++ parenthesized (map arg_text args))))) (instrs.Call dest ret callee args)
 unfolding call plain_call
 call_is dest ret callee args e f = then_text _ {s = []} (none_text _ anything) (word_then _ _ (codes "call") refl refl (then_text _ (ret_is ret) (blank_text 32 refl (then_text _ (global_text _ callee e refl) (mark_then _ _ 40 refl refl
     (last_text _ (listed_are arg arg_text spelled_arg arg_is 41 (codes ")") (mark_text _ 41 refl refl) (λ rest h. refl) args f) (nothing_text anything))) (λ rest h. refl))) (λ rest h. refl))) (λ rest h. refl)
 
 -- ---- all instructions
 
-behind_register : (dest text : List ℕ) (i : Instr) → is_name dest ≡ true → IsTextOf ends_word (value_instr dest).rule text i → IsTextOf ends_word instr.rule (assigned_text dest ++ text) i
+behind_register : (dest text : List ℕ) (i : Instr) → is_name dest ≡ true
+    → IsTextOf ends_word (value_instr dest).rule text i → IsTextOf ends_word instr.rule (assigned_text dest ++ text) i
 unfolding instr assigning_instr
 behind_register dest text i n p = left_text _ (then_text _ (assigned_is dest n) p (λ rest h. refl))
 
-as_cast : (dest text : List ℕ) (i : Instr) → IsTextOf ends_word (cast_instr dest).rule text i → IsTextOf ends_word (value_instr dest).rule text i
+as_cast : (dest text : List ℕ) (i : Instr) → IsTextOf ends_word (cast_instr dest).rule text i
+    → IsTextOf ends_word (value_instr dest).rule text i
 unfolding value_instr
 as_cast dest text i p = right_text _ (right_text _ (right_text _ p))
 
-as_memory : (dest text : List ℕ) (i : Instr) → IsTextOf ends_word (memory_instr dest).rule text i → IsTextOf ends_word (value_instr dest).rule text i
+as_memory : (dest text : List ℕ) (i : Instr) → IsTextOf ends_word (memory_instr dest).rule text i
+    → IsTextOf ends_word (value_instr dest).rule text i
 unfolding cast_instr
 as_memory dest text i p = as_cast dest text i (right_text _ (right_text _ (right_text _ p)))
 

@@ -104,11 +104,13 @@ alignment_text n e = let p = decimal_plain n (alignment_lt n e) in digits_text _
 -- the text is one token, a literal that stands for b
 record IsLiteral (w : Width) (s : List ℕ) (b : Bits) : Type 0 where
   tok : Tok
-  cuts : (line : ℕ) (rest : List ℕ) → ends_word rest ≡ true → cut line 0 (s ++ rest) ≡ at_line line tok ∷ cut line 0 rest
+  cuts : (line : ℕ) (rest : List ℕ) → ends_word rest ≡ true
+      → cut line 0 (s ++ rest) ≡ at_line line tok ∷ cut line 0 rest
   value : a_literal w tok ≡ Yes b
   other : is_word (codes "zeroinitializer") tok ≡ false
 
-word_literal : (w : Width) (s : List ℕ) (b : Bits) → is_name s ≡ true → a_literal w (Word s) ≡ Yes b → is_word (codes "zeroinitializer") (Word s) ≡ false → IsLiteral w s b
+word_literal : (w : Width) (s : List ℕ) (b : Bits) → is_name s ≡ true → a_literal w (Word s) ≡ Yes b
+    → is_word (codes "zeroinitializer") (Word s) ≡ false → IsLiteral w s b
 word_literal w s b n v o = record { tok = Word s; cuts = λ line rest e. word_cut line s rest n e; value = v; other = o }
 
 truth_literal : (n : ℕ) → n < 2 → IsLiteral W1 (number_text W1 n) (bits W1 n)
@@ -123,10 +125,12 @@ below_all W16 n lt = omega arith
 below_all W32 n lt = omega arith
 below_all W64 n lt = omega arith
 
-plain_again : (w : Width) (n : ℕ) (ds : List ℕ) → n < 2 ^ bits_of w → IsPlain n ds → a_literal w (Num ds) ≡ Yes (bits w n)
+plain_again : (w : Width) (n : ℕ) (ds : List ℕ) → n < 2 ^ bits_of w → IsPlain n ds
+    → a_literal w (Num ds) ≡ Yes (bits w n)
 plain_again w n ds lt p = rw (p.unsigned, p.value, lt-ltb n (2 ^ bits_of w) lt) refl
 
-minus_again : (w : Width) (n m : ℕ) (ds : List ℕ) → n < 2 ^ bits_of w → 2 ^ (bits_of w - 1) ≤ n → m ≡ 2 ^ bits_of w - n → IsPlain m ds → a_literal w (Num (45 ∷ ds)) ≡ Yes (bits w n)
+minus_again : (w : Width) (n m : ℕ) (ds : List ℕ) → n < 2 ^ bits_of w → 2 ^ (bits_of w - 1) ≤ n → m ≡ 2 ^ bits_of w - n
+    → IsPlain m ds → a_literal w (Num (45 ∷ ds)) ≡ Yes (bits w n)
 minus_again w n m ds lt le is p =
     let half = modulus_is w in
     let some : eqb m 0 ≡ false = grind (arith, nat_tests) in
@@ -195,11 +199,14 @@ same_width W64 W32 e = absurd cc
 literal_of : (w : Width) (b : Bits) → of_width w b ≡ true → IsLiteral w (literal_text b) b
 literal_of w b e = subst (λ v. IsLiteral v (literal_text b) b) (same_width b.width w e) (own_literal b)
 
-pub literal_is : (w : Width) (b : Bits) → of_width w b ≡ true → IsTextOf ends_word (one (a_literal w)) (literal_text b) b
+pub literal_is : (w : Width) (b : Bits) → of_width w b ≡ true
+    → IsTextOf ends_word (one (a_literal w)) (literal_text b) b
 literal_is w b e = let p = literal_of w b e in token_text _ p.tok p.cuts p.value
 
-int_const_again : (w : Width) (t : Tok) (b : Bits) → a_literal w t ≡ Yes b → is_word (codes "zeroinitializer") t ≡ false → an_int_const w t ≡ Yes (consts.Int b)
+int_const_again : (w : Width) (t : Tok) (b : Bits) → a_literal w t ≡ Yes b → is_word (codes "zeroinitializer") t ≡ false
+    → an_int_const w t ≡ Yes (consts.Int b)
 int_const_again w t b v o = rw (o, v) refl
 
-pub int_const_is : (w : Width) (b : Bits) → of_width w b ≡ true → IsTextOf ends_word (one (an_int_const w)) (literal_text b) (consts.Int b)
+pub int_const_is : (w : Width) (b : Bits) → of_width w b ≡ true
+    → IsTextOf ends_word (one (an_int_const w)) (literal_text b) (consts.Int b)
 int_const_is w b e = let p = literal_of w b e in token_text _ p.tok p.cuts (int_const_again w p.tok b p.value p.other)

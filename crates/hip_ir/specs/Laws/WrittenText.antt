@@ -33,7 +33,8 @@ use Rattle.hip_ir.specs.Laws.WrittenBlocks.{block_is}
 
 -- ---- globals
 
-fixed_is : (fixed : Bool) (t : List ℕ) {B : Type 0} (f : Bool → Rule Fault B) (y : B) → IsTextOf anything (f fixed) t y → IsTextOf anything (both (one (a_word_of fixed_word)) f) (fixed_text fixed ++ t) y
+fixed_is : (fixed : Bool) (t : List ℕ) {B : Type 0} (f : Bool → Rule Fault B) (y : B) → IsTextOf anything (f fixed) t y
+    → IsTextOf anything (both (one (a_word_of fixed_word)) f) (fixed_text fixed ++ t) y
 fixed_is true t f y q = word_then _ f (codes "constant") refl refl q
 fixed_is false t f y q = word_then _ f (codes "global") refl refl q
 
@@ -42,16 +43,19 @@ section_name : IsTextOf anything (one a_section) (codes "\".pm\"") tt
 unfolding cut piece_at string_piece
 section_name = token_text _ (Str (codes ".pm")) (λ line rest e. refl) refl
 
-place_is : (persistent : Bool) (n : Option ℕ) → spelled_align n ≡ true → IsTextOf ends_word place.rule (section_text persistent ++ align_text n) (persistent, n)
+place_is : (persistent : Bool) (n : Option ℕ) → spelled_align n ≡ true
+    → IsTextOf ends_word place.rule (section_text persistent ++ align_text n) (persistent, n)
 unfolding place placement section only_align
 place_is true n e = last_text _ (some_text (mark_then _ _ 44 refl refl (blank_text 32 refl (left_text _ (word_then _ _ (codes "section") refl refl (then_text _ section_name (last_text _ (align_is n e) (nothing_text anything)) (λ rest h. refl))))))) (nothing_text anything)
 place_is false None e = last_text _ (none_text _ ends_word) (nothing_text anything)
 place_is false (Some n) e = last_text _ (some_text (mark_then _ _ 44 refl refl (blank_text 32 refl (right_text _ (word_then _ _ (codes "align") refl refl (last_text _ (alignment_text n e) (nothing_text anything))))))) (nothing_text anything)
 
-place_line : (persistent : Bool) (n : Option ℕ) → spelled_align n ≡ true → IsTextOf anything place.rule (section_text persistent ++ (align_text n ++ codes "\n")) (persistent, n)
+place_line : (persistent : Bool) (n : Option ℕ) → spelled_align n ≡ true
+    → IsTextOf anything place.rule (section_text persistent ++ (align_text n ++ codes "\n")) (persistent, n)
 place_line persistent n e = subst (λ s. IsTextOf anything place.rule s (persistent, n)) (append_assoc (section_text persistent) (align_text n) (codes "\n")) (blank_behind 10 refl (λ rest h. refl) (place_is persistent n e))
 
-place_leaves : (persistent : Bool) (n : Option ℕ) → Leaves ends_word (section_text persistent ++ (align_text n ++ codes "\n")) anything
+place_leaves : (persistent : Bool) (n : Option ℕ)
+    → Leaves ends_word (section_text persistent ++ (align_text n ++ codes "\n")) anything
 place_leaves true n rest e = refl
 place_leaves false None rest e = refl
 place_leaves false (Some n) rest e = refl
@@ -64,7 +68,8 @@ no_links : IsTextOf anything links.rule [] tt
 unfolding skipped
 no_links = last_text _ (no_more_text _ anything) (nothing_text anything)
 
-global_is : (g : GlobalVar) → spelled_global g ≡ true → IsTextOf anything global.rule (global_item_text g) (GlobalItem g)
+global_is : (g : GlobalVar) → spelled_global g ≡ true
+    → IsTextOf anything global.rule (global_item_text g) (GlobalItem g)
 unfolding global
 global_is g h =
     let p = and_parts (is_name g.name) (spelled_type g.ty && (spelled_const g.ty g.init && spelled_align g.align)) h in
@@ -89,14 +94,16 @@ param_is : (p : Param) → spelled_param p ≡ true → IsTextOf ends_word param
 unfolding param
 param_is p e = then_text _ (scalar_is p.ty) (blank_text 32 refl (last_text _ (local_text _ p.name e refl) (nothing_text anything))) (λ rest h. refl)
 
-blocks_are : (bs : List Block) → not_empty bs ≡ true → list_all spelled_block bs ≡ true → IsTextOf anything blocks.rule (flat_map block_text bs) bs
+blocks_are : (bs : List Block) → not_empty bs ≡ true → list_all spelled_block bs ≡ true
+    → IsTextOf anything blocks.rule (flat_map block_text bs) bs
 unfolding blocks
 blocks_are [] some h = absurd cc
 blocks_are (b ∷ bs) some h =
     let p = and_parts (spelled_block b) (list_all spelled_block bs) h in
     then_text _ (block_is b p.0) (last_text _ (many_texts block.rule block_text anything spelled_block block_is (λ b rest. refl) bs p.1) (nothing_text anything)) (λ rest h. refl)
 
-function_is : (f : Function) → spelled_function f ≡ true → IsTextOf anything function.rule (function_text f) (FunctionItem f)
+function_is : (f : Function) → spelled_function f ≡ true
+    → IsTextOf anything function.rule (function_text f) (FunctionItem f)
 unfolding function
 function_is f h =
     let p = and_parts (is_name f.name) (list_all spelled_param f.params && (not_empty f.blocks && list_all spelled_block f.blocks)) h in
@@ -109,7 +116,8 @@ function_is f h =
 
 -- ---- texts
 
-global_listed : (g : GlobalVar) → spelled_global g ≡ true → IsTextOf anything item.rule (global_item_text g) (GlobalItem g)
+global_listed : (g : GlobalVar) → spelled_global g ≡ true
+    → IsTextOf anything item.rule (global_item_text g) (GlobalItem g)
 unfolding item
 global_listed g h = left_text _ (global_is g h)
 
@@ -117,7 +125,8 @@ extern_listed : (e : Extern) → spelled_extern e ≡ true → IsTextOf anything
 unfolding item
 extern_listed e h = right_text _ (left_text _ (extern_is e h))
 
-function_listed : (f : Function) → spelled_function f ≡ true → IsTextOf anything item.rule (function_text f) (FunctionItem f)
+function_listed : (f : Function) → spelled_function f ≡ true
+    → IsTextOf anything item.rule (function_text f) (FunctionItem f)
 unfolding item
 function_listed f h = right_text _ (right_text _ (left_text _ (function_is f h)))
 
@@ -134,15 +143,22 @@ items_are p h =
     (mapped_texts item.rule function_text FunctionItem anything spelled_function function_listed (λ f rest. refl) p.functions r.1) (λ rest h. refl)) (λ rest h. refl)
 
 -- each goes to the end of its list
-functions_taken : (gs : List GlobalVar) (es : List Extern) (fs ms : List Function) → folded with_item (record { globals = gs; externs = es; functions = fs }) (map FunctionItem ms) ≡ record { globals = gs; externs = es; functions = fs ++ ms }
+functions_taken : (gs : List GlobalVar) (es : List Extern) (fs ms : List Function)
+    → folded with_item (record { globals = gs; externs = es; functions = fs })
+    (map FunctionItem ms) ≡ record { globals = gs; externs = es; functions = fs ++ ms }
 functions_taken gs es fs [] = rw (append-nil fs) refl
 functions_taken gs es fs (m ∷ ms) = rw (← append_assoc fs (m ∷ []) ms) (functions_taken gs es (fs ++ m ∷ []) ms)
 
-externs_taken : (gs : List GlobalVar) (es ns : List Extern) (ms : List Function) → folded with_item (record { globals = gs; externs = es; functions = [] }) (map ExternItem ns ++ map FunctionItem ms) ≡ record { globals = gs; externs = es ++ ns; functions = ms }
+externs_taken : (gs : List GlobalVar) (es ns : List Extern) (ms : List Function)
+    → folded with_item (record { globals = gs; externs = es; functions = [] })
+    (map ExternItem ns ++ map FunctionItem ms) ≡ record { globals = gs; externs = es ++ ns; functions = ms }
 externs_taken gs es [] ms = rw (append-nil es) (functions_taken gs es [] ms)
 externs_taken gs es (n ∷ ns) ms = rw (← append_assoc es (n ∷ []) ns) (externs_taken gs (es ++ n ∷ []) ns ms)
 
-globals_taken : (gs hs : List GlobalVar) (ns : List Extern) (ms : List Function) → folded with_item (record { globals = gs; externs = []; functions = [] }) (map GlobalItem hs ++ (map ExternItem ns ++ map FunctionItem ms)) ≡ record { globals = gs ++ hs; externs = ns; functions = ms }
+globals_taken : (gs hs : List GlobalVar) (ns : List Extern) (ms : List Function)
+    → folded with_item (record { globals = gs; externs = []; functions = [] })
+    (map GlobalItem hs ++ (map ExternItem ns ++ map FunctionItem ms))
+    ≡ record { globals = gs ++ hs; externs = ns; functions = ms }
 globals_taken gs [] ns ms = rw (append-nil gs) (externs_taken gs [] ns ms)
 globals_taken gs (h ∷ hs) ns ms = rw (← append_assoc gs (h ∷ []) hs) (globals_taken (gs ++ h ∷ []) hs ns ms)
 

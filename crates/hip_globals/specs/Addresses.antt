@@ -1,9 +1,9 @@
 -- Where globals lie: volatile ones in order from 65,536, persistent ones in order from the base of the region, each at
 -- its alignment. These addresses are this project's own.
-use Rattle.std.specs.Prelude.{ℕ, zero, suc, ◌+◌, ◌%◌, ◌^◌, ◌≡◌, ◌≤◌, ◌&&◌, nat_le, max, Bool, true, false, List, [], ◌∷◌, All, Option, Some, None, if◌then◌else◌}
+use Rattle.std.specs.Prelude.{ℕ, zero, suc, ◌+◌, ◌%◌, ◌≡◌, ◌≤◌, ◌&&◌, nat_le, max, Bool, true, false, List, [], ◌∷◌, All, Option, Some, None, if◌then◌else◌}
 use Rattle.std.specs.Int.{next_multiple_of}
 use Rattle.hip_types.specs.Layout.{Fits, shape}
-use Rattle.hip_types.specs.declared.limits.TheConstants.{LARGEST_REGION, LARGEST_VOLATILE}
+use Rattle.hip_types.specs.declared.limits.TheConstants.{BASE_ALIGNMENT, HIGHEST_BASE, LARGEST_REGION, LARGEST_VOLATILE, LOWEST_BASE}
 use Rattle.hip_ir.specs.declared.program.GlobalVar.{GlobalVar}
 use Rattle.hip_ir.specs.declared.program.Program.{Program}
 use Rattle.hip_lines.specs.declared.TheConstants.{LINE_SIZE}
@@ -15,11 +15,11 @@ same true b = b
 same false true = false
 same false false = true
 
--- A base is a multiple of 4,096 from 2^32 to 2^46.
+-- A base of the persistent region is a multiple of its alignment, from the lowest base to the highest.
 pub record IsBase (base : ℕ) : Type 0 where
-  pub page : base % 4096 ≡ 0
-  pub low : 2 ^ 32 ≤ base
-  pub high : base ≤ 2 ^ 46
+  pub page : base % BASE_ALIGNMENT ≡ 0
+  pub low : LOWEST_BASE ≤ base
+  pub high : base ≤ HIGHEST_BASE
 
 -- the greater of its type's alignment and its own
 abbrev with_own : Option ℕ → ℕ → ℕ

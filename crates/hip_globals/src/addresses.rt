@@ -8,7 +8,7 @@ ghost use Rattle.hip_ir.specs.Reading.{IsSpelled};
 use hip_ir::{GlobalVar, Program};
 use hip_lines::LINE_SIZE;
 use hip_mem::VOLATILE_START;
-use hip_types::{LARGEST_REGION, LARGEST_VOLATILE, align, size};
+use hip_types::{BASE_ALIGNMENT, LARGEST_REGION, LARGEST_VOLATILE, align, size};
 
 /// Where the last volatile global may end.
 const VOLATILE_LIMIT: u64 = VOLATILE_START + LARGEST_VOLATILE;
@@ -117,7 +117,7 @@ fn start_of(globals: &[GlobalVar], persistent: bool, start: u64, number: usize) 
 pub fn address(program: &Program, base: u64, number: usize) -> u64
     requires spelled { IsSpelled program.now }
     requires fit { AllFit program.now.globals }
-    requires base { base % 4096 ≡ 0 }
+    requires base { base % BASE_ALIGNMENT ≡ 0 }
     requires persistent { spec.end_of true base program.now.globals < 2 ^ 64 }
     requires volatile { spec.volatile_end program.now < 2 ^ 64 }
     requires there { number < length program.now.globals }

@@ -176,7 +176,8 @@ fn push_fields(
     items: &[TypedConst],
 ) -> Result<(), NoMemory>
     requires { AllFit (joined (map item_types items.now)) }
-    ensures { OnOk result (bytes.new ≡ bytes.old ++ placed [] (map (item_piece (address_beside addresses.now)) items.now)) }
+    ensures { OnOk result
+        (bytes.new ≡ bytes.old ++ placed [] (map (item_piece (address_beside addresses.now)) items.now)) }
 {
     let start = bytes.len();
     'fields: for item in items {

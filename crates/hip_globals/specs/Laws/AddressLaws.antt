@@ -33,7 +33,8 @@ greater_divides m n p q = go (one_of m n)
     go (inl e) = ap (λ k. 4096 % k) e ∙ p
     go (inr e) = ap (λ k. 4096 % k) e ∙ q
 
-align_divides : (g : GlobalVar) (written : Option ℕ) → g.align ≡ written → spelled_align written ≡ true → 4096 % global_align g ≡ 0
+align_divides : (g : GlobalVar) (written : Option ℕ) → g.align ≡ written → spelled_align written ≡ true
+    → 4096 % global_align g ≡ 0
 align_divides g None is e = rw is (divides_page (align_of g.ty) (align_of-alignment g.ty))
 align_divides g (Some n) is e = rw is (greater_divides n (align_of g.ty) (written_divides n e) (divides_page (align_of g.ty) (align_of-alignment g.ty)))
 
@@ -70,7 +71,8 @@ next_from base x a e =
     let rest = rest_of_sum base x a e in
     ap (λ r. base + x + (a - r) % a) rest ∙ (let assoc : base + x + (a - x % a) % a ≡ base + (x + (a - x % a) % a) = omega arith in assoc)
 
-start_from : (base at : ℕ) (g : GlobalVar) → base % 4096 ≡ 0 → 4096 % global_align g ≡ 0 → global_start (base + at) g ≡ base + global_start at g
+start_from : (base at : ℕ) (g : GlobalVar) → base % 4096 ≡ 0 → 4096 % global_align g ≡ 0
+    → global_start (base + at) g ≡ base + global_start at g
 start_from base at g page divides = next_from base at (global_align g) (page_of_base base (global_align g) page divides)
 
 after : (b : Bool) (base at : ℕ) (g : GlobalVar) → base % 4096 ≡ 0 → 4096 % global_align g ≡ 0 →
@@ -80,14 +82,16 @@ after true base at g page divides =
 after false base at g page divides = refl
 
 -- what lies from a base on lies from 0 on, moved by the base
-pub start_of-from : (persistent : Bool) (base at : ℕ) (gs : List GlobalVar) (number : ℕ) → base % 4096 ≡ 0 → AllDivide gs → start_of persistent (base + at) gs number ≡ base + start_of persistent at gs number
+pub start_of-from : (persistent : Bool) (base at : ℕ) (gs : List GlobalVar) (number : ℕ) → base % 4096 ≡ 0
+    → AllDivide gs → start_of persistent (base + at) gs number ≡ base + start_of persistent at gs number
 start_of-from persistent base at [] number page all = refl
 start_of-from persistent base at (g ∷ gs) zero page all = start_from base at g page all.0
 start_of-from persistent base at (g ∷ gs) (suc number) page all =
     ap (λ n. start_of persistent n gs number) (after (same g.persistent persistent) base at g page all.0)
     ∙ start_of-from persistent base (if same g.persistent persistent then global_start at g + size_of g.ty else at) gs number page all.1
 
-pub end_of-from : (persistent : Bool) (base at : ℕ) (gs : List GlobalVar) → base % 4096 ≡ 0 → AllDivide gs → end_of persistent (base + at) gs ≡ base + end_of persistent at gs
+pub end_of-from : (persistent : Bool) (base at : ℕ) (gs : List GlobalVar) → base % 4096 ≡ 0 → AllDivide gs
+    → end_of persistent (base + at) gs ≡ base + end_of persistent at gs
 end_of-from persistent base at [] page all = refl
 end_of-from persistent base at (g ∷ gs) page all =
     ap (λ n. end_of persistent n gs) (after (same g.persistent persistent) base at g page all.0)

@@ -15,7 +15,10 @@ use Rattle.hip_ir.specs.declared.program.Function.{Function}
 use Rattle.hip_paths.specs.Graphs as graphs
 use Rattle.hip_paths.specs.Graphs.{IsPathFrom, IsPathAround, IsPassedBefore}
 use Rattle.hip_typing.specs.Seen.AssignedSeen.{is_there, to_pass}
-use Rattle.hip_typing.specs.Seen.Inner.{block_entries, inner_entries, block_number, successor_numbers, graph_of}
+use Rattle.hip_typing.specs.Declarations.{block_declared}
+use Rattle.hip_typing.specs.Laws.NameLaws.{entry_names-are}
+use Rattle.hip_typing.specs.Sound.{names_in_function}
+use Rattle.hip_typing.specs.Seen.Inner.{entries, inner_entries, block_number, successor_numbers, graph_of}
 use Rattle.hip_names.specs.Names.{AllDiffer, IsAmong}
 use Rattle.hip_typing.specs.Paths.{LeadsTo, IsChain, IsUnassigned, IsAssigned, names_of, registers_before, whole_block_names, names_before, assigned_on}
 use Rattle.hip_typing.specs.Registers.{parameter_registers, end_labels, uses, operand_registers, used_registers}
@@ -24,15 +27,15 @@ use Rattle.hip_typing.specs.declared.fault.Place.{Place}
 use Rattle.hip_names.specs.Tables.{value_of}
 use Rattle.hip_typing.specs.declared.assigned.Point.{Point}
 use Rattle.hip_typing.specs.declared.assigned.Point.TheVariants.{AtEnd}
-use Rattle.hip_typing.specs.declared.inner_table.Inner.{Inner}
-use Rattle.hip_typing.specs.declared.inner_table.Inner.TheVariants.{Parameter, Label, Assigned}
+use Rattle.hip_typing.specs.declared.tables.inner_table.Inner.{Inner}
+use Rattle.hip_typing.specs.declared.tables.inner_table.Inner.TheVariants.{Parameter, Label, Assigned}
 use Rattle.hip_typing.proofs.EntryLemmas.{IsEntry, value_is_entry, entry_is_value, IsUsable, usable_before, IsAssignedIn, assigned_in, label_in, no_parameter_in, parameter_is_entry, block_is_in, InBlock, entry_of_function, among_left, among_right, among_cases}
 
 abbrev pub NamesDiffer : Function → Type 0
-NamesDiffer fn = AllDiffer (map (λ e. e.name) (inner_entries fn))
+NamesDiffer fn = AllDiffer (names_in_function fn)
 
 found : (fn : Function) (name : List ℕ) (v : Inner) → NamesDiffer fn → IsEntry (inner_entries fn) name v → value_of (inner_entries fn) name ≡ Some v
-found fn name v differ h = entry_is_value (inner_entries fn) name v differ h
+found fn name v differ h = entry_is_value (inner_entries fn) name v (subst AllDiffer (sym (entry_names-are fn)) differ) h
 
 -- ---- the label of a block stands for its number
 
@@ -194,7 +197,7 @@ before_some (x ∷ xs) point (suc b) name h = before_some xs point b name h
 pub usable_at : (fn : Function) (point : Point) (b : ℕ) (name : List ℕ) → NamesDiffer fn → IsAmong (names_before fn point b) name → (after : ℕ) × (is_there point after ≡ true) × (value_of (inner_entries fn) name ≡ Some (Assigned b after))
 usable_at fn point b name differ h =
     let at = before_some fn.blocks point b name h in
-    let u : IsUsable b point (block_entries b at.0) name = usable_before b point at.0 name at.2 in
+    let u : IsUsable b point (block_declared entries b at.0) name = usable_before b point at.0 name at.2 in
     (u.after, u.there, found fn name (Assigned b u.after) differ (block_is_in fn b at.0 name (Assigned b u.after) at.1 u.is))
 
 assigned_by_entry : (fn : Function) (name : List ℕ) (d after : ℕ) (point : Point) → ((Parameter ≡ Assigned d after) × IsAmong (names_of (parameter_registers fn)) name) ⊎ InBlock fn name (Assigned d after) → is_there point after ≡ true → IsAmong (names_before fn point d) name

@@ -10,7 +10,7 @@ use Rattle.hip_externs.specs.Externs.{Signature}
 use Rattle.hip_typing.specs.Places.{extern_of, function_of, first_of}
 use Rattle.hip_names.specs.Tables.{Entry, value_of, StandsFor}
 use Rattle.hip_typing.specs.Seen.Tables.{Grown, AddsCallees, FindsCallees, callee_seen, entry_seen, extern_entry, function_entry}
-use Rattle.hip_typing.specs.declared.callees.Callee.{Callee}
+use Rattle.hip_typing.specs.declared.tables.callees.Callee.{Callee}
 
 module _ {ns ms ks : List (List ℕ)} {vs us ws : List Callee} where
   pub callees_then : (xs ys : List (Entry Signature)) → AddsCallees ns vs ms us xs → AddsCallees ms us ks ws ys → AddsCallees ns vs ks ws (xs ++ ys)

@@ -12,16 +12,17 @@ use Rattle.hip_ir.specs.declared.program.Function.{Function}
 use Rattle.hip_ir.specs.declared.program.Param.{Param}
 use Rattle.hip_typing.specs.Seen.AssignedSeen.{is_there}
 use Rattle.hip_globals.specs.Constants.{joined}
-use Rattle.hip_typing.specs.Seen.Inner.{entry, param_entry, phi_entry, instr_entries, body_entries, block_entries, blocks_entries, inner_entries}
+use Rattle.hip_typing.specs.Declarations.{instr_declared, body_declared, block_declared, blocks_declared}
+use Rattle.hip_typing.specs.Seen.Inner.{entry, entries, inner_entries}
 use Rattle.hip_names.specs.Names.{AllDiffer, IsAmong}
-use Rattle.hip_typing.specs.Names.{numbered_from}
+use Rattle.hip_typing.specs.Names.{numbered, numbered_from}
 use Rattle.hip_typing.specs.Paths.{registers_before, names_of}
 use Rattle.hip_typing.specs.Registers.{Register, assigned_by, phi_registers, body_registers, parameter_registers}
 use Rattle.hip_names.specs.Tables.{Entry, value_of}
 use Rattle.hip_typing.specs.declared.assigned.Point.{Point}
 use Rattle.hip_typing.specs.declared.assigned.Point.TheVariants.{Before, AtEnd}
-use Rattle.hip_typing.specs.declared.inner_table.Inner.{Inner}
-use Rattle.hip_typing.specs.declared.inner_table.Inner.TheVariants.{Parameter, Label, Assigned}
+use Rattle.hip_typing.specs.declared.tables.inner_table.Inner.{Inner}
+use Rattle.hip_typing.specs.declared.tables.inner_table.Inner.TheVariants.{Parameter, Label, Assigned}
 
 -- one of the entries has this name and this value
 abbrev pub IsEntry : List (Entry Inner) → List ℕ → Inner → Type 0
@@ -126,15 +127,15 @@ named_right xs ys name h = rw (map-append (λ r. r.name) xs ys) (among_right (na
 
 -- ---- the entries of phis, of an instruction, of a body
 
-phi_to : (b : ℕ) (phis : List Phi) (name : List ℕ) → IsAmong (names_of (phi_registers phis)) name → IsEntry (map (phi_entry b) phis) name (Assigned b 0)
-phi_to b [] name h = absurd h
-phi_to b (p ∷ ps) name (inl e) = inl (e, refl)
-phi_to b (p ∷ ps) name (inr h) = inr (phi_to b ps name h)
+phi_to : (b n : ℕ) (phis : List Phi) (name : List ℕ) → IsAmong (names_of (phi_registers phis)) name → IsEntry (numbered_from n (entries.phi b) phis) name (Assigned b 0)
+phi_to b n [] name h = absurd h
+phi_to b n (p ∷ ps) name (inl e) = inl (e, refl)
+phi_to b n (p ∷ ps) name (inr h) = inr (phi_to b (n + 1) ps name h)
 
-phi_from : (b : ℕ) (phis : List Phi) (name : List ℕ) (v : Inner) → IsEntry (map (phi_entry b) phis) name v → (Assigned b 0 ≡ v) × IsAmong (names_of (phi_registers phis)) name
-phi_from b [] name v h = absurd h
-phi_from b (p ∷ ps) name v (inl h) = (h.1, inl h.0)
-phi_from b (p ∷ ps) name v (inr h) = let rest = phi_from b ps name v h in (rest.0, inr rest.1)
+phi_from : (b n : ℕ) (phis : List Phi) (name : List ℕ) (v : Inner) → IsEntry (numbered_from n (entries.phi b) phis) name v → (Assigned b 0 ≡ v) × IsAmong (names_of (phi_registers phis)) name
+phi_from b n [] name v h = absurd h
+phi_from b n (p ∷ ps) name v (inl h) = (h.1, inl h.0)
+phi_from b n (p ∷ ps) name v (inr h) = let rest = phi_from b (n + 1) ps name v h in (rest.0, inr rest.1)
 
 assigned_to : (rs : List Register) (name : List ℕ) (v : Inner) → IsAmong (names_of rs) name → IsEntry (map (λ r. entry r.name v) rs) name v
 assigned_to [] name v h = absurd h
@@ -149,7 +150,7 @@ assigned_from (r ∷ rs) name v w (inr h) = let rest = assigned_from rs name v w
 record BodyEntry (b n : ℕ) (body : List Instr) (name : List ℕ) (bound : ℕ) : Type 0 where
   pub after : ℕ
   pub within : after ≤ bound
-  pub is : IsEntry (joined (numbered_from n (instr_entries b) body)) name (Assigned b after)
+  pub is : IsEntry (joined (numbered_from n (instr_declared (entries.instr b)) body)) name (Assigned b after)
 
 body_to : (b n k : ℕ) (body : List Instr) (name : List ℕ) → IsAmong (names_of (body_registers (take k body))) name → BodyEntry b n body name (n + k)
 body_to b n zero [] name h = absurd h
@@ -157,10 +158,10 @@ body_to b n zero (i ∷ is) name h = absurd h
 body_to b n (suc k) [] name h = absurd h
 body_to b n (suc k) (i ∷ is) name h =
     ⊎_elim
-    (λ g. record { after = n + 1; within = omega arith; is = entry_left (instr_entries b n i) _ name (Assigned b (n + 1)) (assigned_to (assigned_by i) name (Assigned b (n + 1)) g) })
+    (λ g. record { after = n + 1; within = omega arith; is = entry_left (instr_declared (entries.instr b) n i) _ name (Assigned b (n + 1)) (assigned_to (assigned_by i) name (Assigned b (n + 1)) g) })
     (λ g.
     let rest : BodyEntry b (n + 1) is name (n + 1 + k) = body_to b (n + 1) k is name g in
-    record { after = rest.after; within = omega (arith, rest.within); is = entry_right (instr_entries b n i) _ name (Assigned b rest.after) rest.is })
+    record { after = rest.after; within = omega (arith, rest.within); is = entry_right (instr_declared (entries.instr b) n i) _ name (Assigned b rest.after) rest.is })
     (named_cases (assigned_by i) (body_registers (take k is)) name h)
 
 record BodyName (b n : ℕ) (body : List Instr) (name : List ℕ) (v : Inner) : Type 0 where
@@ -177,7 +178,7 @@ name_later : (n after k : ℕ) (i : Instr) (is : List Instr) (name : List ℕ) �
 name_later n after zero i is name later named low = absurd (omega arith)
 name_later n after (suc k) i is name later named low = named_right (assigned_by i) (body_registers (take k is)) name (named k (omega arith))
 
-body_from : (b n : ℕ) (body : List Instr) (name : List ℕ) (v : Inner) → IsEntry (joined (numbered_from n (instr_entries b) body)) name v → BodyName b n body name v
+body_from : (b n : ℕ) (body : List Instr) (name : List ℕ) (v : Inner) → IsEntry (joined (numbered_from n (instr_declared (entries.instr b)) body)) name v → BodyName b n body name v
 body_from b n [] name v h = absurd h
 body_from b n (i ∷ is) name v h =
     ⊎_elim
@@ -187,7 +188,7 @@ body_from b n (i ∷ is) name v h =
     (λ g.
     let rest : BodyName b (n + 1) is name v = body_from b (n + 1) is name v g in
     record { after = rest.after; value = rest.value; later = omega (arith, rest.later); named = λ k low. name_later n rest.after k i is name rest.later rest.named low })
-    (entry_cases (instr_entries b n i) (joined (numbered_from (n + 1) (instr_entries b) is)) name v h)
+    (entry_cases (instr_declared (entries.instr b) n i) (joined (numbered_from (n + 1) (instr_declared (entries.instr b)) is)) name v h)
 
 -- ---- the entries of a block
 
@@ -205,7 +206,7 @@ abbrev body_part : Point → Block → List Instr
 body_part (Before k) block = take k block.body
 body_part AtEnd block = block.body
 
-body_before_to : (b : ℕ) (point : Point) (block : Block) (name : List ℕ) → IsAmong (names_of (body_registers (body_part point block))) name → IsUsable b point (body_entries b block.body) name
+body_before_to : (b : ℕ) (point : Point) (block : Block) (name : List ℕ) → IsAmong (names_of (body_registers (body_part point block))) name → IsUsable b point (body_declared (entries.instr b) block.body) name
 body_before_to b (Before k) block name h =
     let found : BodyEntry b 0 block.body name (0 + k) = body_to b 0 k block.body name h in
     record { after = found.after; there = le-leb found.after k (omega (arith, found.within)); is = found.is }
@@ -223,13 +224,13 @@ registers_before-is : (point : Point) (block : Block) → registers_before point
 registers_before-is (Before k) block = refl
 registers_before-is AtEnd block = refl
 
-pub usable_before : (b : ℕ) (point : Point) (block : Block) (name : List ℕ) → IsAmong (names_of (registers_before point block)) name → IsUsable b point (block_entries b block) name
+pub usable_before : (b : ℕ) (point : Point) (block : Block) (name : List ℕ) → IsAmong (names_of (registers_before point block)) name → IsUsable b point (block_declared entries b block) name
 usable_before b point block name h =
     ⊎_elim
-    (λ g. record { after = 0; there = there_from_start point; is = inr (entry_left (map (phi_entry b) block.phis) (body_entries b block.body) name (Assigned b 0) (phi_to b block.phis name g)) })
+    (λ g. record { after = 0; there = there_from_start point; is = inr (entry_left (numbered (entries.phi b) block.phis) (body_declared (entries.instr b) block.body) name (Assigned b 0) (phi_to b 0 block.phis name g)) })
     (λ g.
-    let found : IsUsable b point (body_entries b block.body) name = body_before_to b point block name g in
-    record { after = found.after; there = found.there; is = inr (entry_right (map (phi_entry b) block.phis) (body_entries b block.body) name (Assigned b found.after) found.is) })
+    let found : IsUsable b point (body_declared (entries.instr b) block.body) name = body_before_to b point block name g in
+    record { after = found.after; there = found.there; is = inr (entry_right (numbered (entries.phi b) block.phis) (body_declared (entries.instr b) block.body) name (Assigned b found.after) found.is) })
     (named_cases (phi_registers block.phis) (body_registers (body_part point block)) name (rw (registers_before-is point block) at h))
 
 -- a register's entry in a block is of that block, and where it can be used it was assigned before
@@ -237,13 +238,13 @@ pub record IsAssignedIn (b : ℕ) (block : Block) (name : List ℕ) (d after : �
   pub same : d ≡ b
   pub before : (point : Point) → is_there point after ≡ true → IsAmong (names_of (registers_before point block)) name
 
-phi_assigned : (b : ℕ) (block : Block) (name : List ℕ) (d after : ℕ) → IsEntry (map (phi_entry b) block.phis) name (Assigned d after) → IsAssignedIn b block name d after
+phi_assigned : (b : ℕ) (block : Block) (name : List ℕ) (d after : ℕ) → IsEntry (numbered (entries.phi b) block.phis) name (Assigned d after) → IsAssignedIn b block name d after
 phi_assigned b block name d after h =
-    let found = phi_from b block.phis name (Assigned d after) h in
+    let found = phi_from b 0 block.phis name (Assigned d after) h in
     let e : Assigned b 0 ≡ Assigned d after = found.0 in
     record { same = cc; before = λ point there. rw (registers_before-is point block) (named_left (phi_registers block.phis) (body_registers (body_part point block)) name found.1) }
 
-body_assigned : (b : ℕ) (block : Block) (name : List ℕ) (d after : ℕ) → IsEntry (body_entries b block.body) name (Assigned d after) → IsAssignedIn b block name d after
+body_assigned : (b : ℕ) (block : Block) (name : List ℕ) (d after : ℕ) → IsEntry (body_declared (entries.instr b) block.body) name (Assigned d after) → IsAssignedIn b block name d after
 body_assigned b block name d after h =
     let found : BodyName b 0 block.body name (Assigned d after) = body_from b 0 block.body name (Assigned d after) h in
     let e : Assigned b found.after ≡ Assigned d after = found.value in
@@ -255,58 +256,58 @@ body_assigned b block name d after h =
           (named_right (phi_registers block.phis) (body_registers (body_part point block)) name (body_before_from b point block name found.after found.named (rw same_place there)));
     }
 
-pub assigned_in : (b : ℕ) (block : Block) (name : List ℕ) (d after : ℕ) → IsEntry (block_entries b block) name (Assigned d after) → IsAssignedIn b block name d after
+pub assigned_in : (b : ℕ) (block : Block) (name : List ℕ) (d after : ℕ) → IsEntry (block_declared entries b block) name (Assigned d after) → IsAssignedIn b block name d after
 assigned_in b block name d after (inl h) = let e : Label b ≡ Assigned d after = h.1 in cc
 assigned_in b block name d after (inr h) =
-    ⊎_elim (λ g. phi_assigned b block name d after g) (λ g. body_assigned b block name d after g) (entry_cases (map (phi_entry b) block.phis) (body_entries b block.body) name (Assigned d after) h)
+    ⊎_elim (λ g. phi_assigned b block name d after g) (λ g. body_assigned b block name d after g) (entry_cases (numbered (entries.phi b) block.phis) (body_declared (entries.instr b) block.body) name (Assigned d after) h)
 
 -- what is no label of a block is a register
-registers_assign : (b : ℕ) (block : Block) (name : List ℕ) (v : Inner) → IsEntry (map (phi_entry b) block.phis ++ body_entries b block.body) name v → (after : ℕ) × (Assigned b after ≡ v)
+registers_assign : (b : ℕ) (block : Block) (name : List ℕ) (v : Inner) → IsEntry (numbered (entries.phi b) block.phis ++ body_declared (entries.instr b) block.body) name v → (after : ℕ) × (Assigned b after ≡ v)
 registers_assign b block name v h =
-    ⊎_elim (λ g. (0, (phi_from b block.phis name v g).0)) (λ g. let found : BodyName b 0 block.body name v = body_from b 0 block.body name v g in (found.after, found.value))
-    (entry_cases (map (phi_entry b) block.phis) (body_entries b block.body) name v h)
+    ⊎_elim (λ g. (0, (phi_from b 0 block.phis name v g).0)) (λ g. let found : BodyName b 0 block.body name v = body_from b 0 block.body name v g in (found.after, found.value))
+    (entry_cases (numbered (entries.phi b) block.phis) (body_declared (entries.instr b) block.body) name v h)
 
-pub label_in : (b : ℕ) (block : Block) (name : List ℕ) (c : ℕ) → IsEntry (block_entries b block) name (Label c) → (block.label ≡ name) × (b ≡ c)
+pub label_in : (b : ℕ) (block : Block) (name : List ℕ) (c : ℕ) → IsEntry (block_declared entries b block) name (Label c) → (block.label ≡ name) × (b ≡ c)
 label_in b block name c (inl h) = let e : Label b ≡ Label c = h.1 in (h.0, cc)
 label_in b block name c (inr h) = let found = registers_assign b block name (Label c) h in let e : Assigned b found.0 ≡ Label c = found.1 in cc
 
-pub no_parameter_in : (b : ℕ) (block : Block) (name : List ℕ) → IsEntry (block_entries b block) name Parameter → ⊥
+pub no_parameter_in : (b : ℕ) (block : Block) (name : List ℕ) → IsEntry (block_declared entries b block) name Parameter → ⊥
 no_parameter_in b block name (inl h) = let e : Label b ≡ Parameter = h.1 in cc
 no_parameter_in b block name (inr h) = let found = registers_assign b block name Parameter h in let e : Assigned b found.0 ≡ Parameter = found.1 in cc
 
 -- ---- the entries of a function
 
-parameter_to : (params : List Param) (name : List ℕ) → IsAmong (names_of (map (λ p. record { name = p.name; ty = Some p.ty }) params)) name → IsEntry (map param_entry params) name Parameter
+parameter_to : (params : List Param) (name : List ℕ) → IsAmong (names_of (map (λ p. record { name = p.name; ty = Some p.ty }) params)) name → IsEntry (map entries.parameter params) name Parameter
 parameter_to [] name h = absurd h
 parameter_to (p ∷ ps) name (inl e) = inl (e, refl)
 parameter_to (p ∷ ps) name (inr h) = inr (parameter_to ps name h)
 
-parameter_from : (params : List Param) (name : List ℕ) (v : Inner) → IsEntry (map param_entry params) name v → (Parameter ≡ v) × IsAmong (names_of (map (λ p. record { name = p.name; ty = Some p.ty }) params)) name
+parameter_from : (params : List Param) (name : List ℕ) (v : Inner) → IsEntry (map entries.parameter params) name v → (Parameter ≡ v) × IsAmong (names_of (map (λ p. record { name = p.name; ty = Some p.ty }) params)) name
 parameter_from [] name v h = absurd h
 parameter_from (p ∷ ps) name v (inl h) = (h.1, inl h.0)
 parameter_from (p ∷ ps) name v (inr h) = let rest = parameter_from ps name v h in (rest.0, inr rest.1)
 
 pub parameter_is_entry : (fn : Function) (name : List ℕ) → IsAmong (names_of (parameter_registers fn)) name → IsEntry (inner_entries fn) name Parameter
-parameter_is_entry fn name h = entry_left (map param_entry fn.params) (blocks_entries fn.blocks) name Parameter (parameter_to fn.params name h)
+parameter_is_entry fn name h = entry_left (map entries.parameter fn.params) (blocks_declared entries fn.blocks) name Parameter (parameter_to fn.params name h)
 
-pub block_is_in : (fn : Function) (b : ℕ) (block : Block) (name : List ℕ) (v : Inner) → slice_get fn.blocks b ≡ Some block → IsEntry (block_entries b block) name v → IsEntry (inner_entries fn) name v
+pub block_is_in : (fn : Function) (b : ℕ) (block : Block) (name : List ℕ) (v : Inner) → slice_get fn.blocks b ≡ Some block → IsEntry (block_declared entries b block) name v → IsEntry (inner_entries fn) name v
 block_is_in fn b block name v here h =
     let e : 0 + b ≡ b = omega arith in
-    entry_right (map param_entry fn.params) (blocks_entries fn.blocks) name v (goes_into 0 block_entries fn.blocks b block name v here (subst (λ (k : ℕ). IsEntry (block_entries k block) name v) (sym e) h))
+    entry_right (map entries.parameter fn.params) (blocks_declared entries fn.blocks) name v (goes_into 0 (block_declared entries) fn.blocks b block name v here (subst (λ (k : ℕ). IsEntry (block_declared entries k block) name v) (sym e) h))
 
 -- a block that has the entry
 pub record InBlock (fn : Function) (name : List ℕ) (v : Inner) : Type 0 where
   pub number : ℕ
   pub block : Block
   pub here : slice_get fn.blocks number ≡ Some block
-  pub is : IsEntry (block_entries number block) name v
+  pub is : IsEntry (block_declared entries number block) name v
 
-in_blocks : (fn : Function) (name : List ℕ) (v : Inner) → IsEntry (blocks_entries fn.blocks) name v → InBlock fn name v
+in_blocks : (fn : Function) (name : List ℕ) (v : Inner) → IsEntry (blocks_declared entries fn.blocks) name v → InBlock fn name v
 in_blocks fn name v h =
-    let c : ComesOf 0 block_entries fn.blocks name v = comes_of 0 block_entries fn.blocks name v h in
+    let c : ComesOf 0 (block_declared entries) fn.blocks name v = comes_of 0 (block_declared entries) fn.blocks name v h in
     let e : 0 + c.number ≡ c.number = omega arith in
-    record { number = c.number; block = c.item; here = c.here; is = subst (λ (k : ℕ). IsEntry (block_entries k c.item) name v) e c.is }
+    record { number = c.number; block = c.item; here = c.here; is = subst (λ (k : ℕ). IsEntry (block_declared entries k c.item) name v) e c.is }
 
 pub entry_of_function : (fn : Function) (name : List ℕ) (v : Inner) → IsEntry (inner_entries fn) name v → ((Parameter ≡ v) × IsAmong (names_of (parameter_registers fn)) name) ⊎ InBlock fn name v
 entry_of_function fn name v h =
-    ⊎_elim (λ g. inl (parameter_from fn.params name v g)) (λ g. inr (in_blocks fn name v g)) (entry_cases (map param_entry fn.params) (blocks_entries fn.blocks) name v h)
+    ⊎_elim (λ g. inl (parameter_from fn.params name v g)) (λ g. inr (in_blocks fn name v g)) (entry_cases (map entries.parameter fn.params) (blocks_declared entries fn.blocks) name v h)

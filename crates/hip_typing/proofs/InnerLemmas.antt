@@ -5,12 +5,8 @@ use Rattle.hip_globals.specs.Constants.{joined}
 use Rattle.hip_names.specs.Tables.{Gains}
 use Rattle.hip_typing.specs.Names.{numbered}
 use Rattle.hip_names.specs.Tables.{Entry, StandsFor}
-use Rattle.hip_typing.proofs.NameLists.{numbered_from-push}
+use Rattle.hip_typing.proofs.NameLists.{joined-push, numbered_from-push}
 use Rattle.hip_typing.proofs.RegisterLemmas.{take_one}
-
-pub joined-push : {A : Type 0} (xs : List (List A)) (y : List A) → joined (xs ++ y ∷ []) ≡ joined xs ++ y
-joined-push [] y = append-nil y
-joined-push (x ∷ xs) y = ap (λ zs. x ++ zs) (joined-push xs y) ∙ sym (append_assoc x (joined xs) y)
 
 -- numbered items, one more
 pub numbered_more : {A B : Type 0} (make : ℕ → A → B) (xs : List A) (i : ℕ) (x : A) → i < length xs → x ≡ get_or xs i x → numbered make (take (i + 1) xs) ≡ numbered make (take i xs) ++ make i x ∷ []
@@ -29,6 +25,10 @@ module _ {V : Type 0} {ns ms ks : List (List ℕ)} {vs us ws : List V} where
   pub gains_one : {A : Type 0} (g : A → Entry V) (xs : List A) (i : ℕ) (x : A) → i < length xs → x ≡ get_or xs i x → Gains ns vs ms us (map g (take i xs)) → Gains ms us ks ws (g x ∷ []) → Gains ns vs ks ws (map g (take (i + 1) xs))
   gains_one g xs i x within is first next =
       subst (λ (es : List (Entry V)). Gains ns vs ks ws es) (sym (ap (map g) (take_one xs i x within is) ∙ map-append g (take i xs) (x ∷ []))) (gains_then (map g (take i xs)) (g x ∷ []) first next)
+
+  pub gains_numbered : {A : Type 0} (make : ℕ → A → Entry V) (xs : List A) (i : ℕ) (x : A) → i < length xs → x ≡ get_or xs i x → Gains ns vs ms us (numbered make (take i xs)) → Gains ms us ks ws (make i x ∷ []) → Gains ns vs ks ws (numbered make (take (i + 1) xs))
+  gains_numbered make xs i x within is first next =
+      subst (λ (es : List (Entry V)). Gains ns vs ks ws es) (sym (numbered_more make xs i x within is)) (gains_then (numbered make (take i xs)) (make i x ∷ []) first next)
 
   pub gains_some : {A : Type 0} (make : ℕ → A → List (Entry V)) (xs : List A) (i : ℕ) (x : A) → i < length xs → x ≡ get_or xs i x → Gains ns vs ms us (joined (numbered make (take i xs))) → Gains ms us ks ws (make i x) → Gains ns vs ks ws (joined (numbered make (take (i + 1) xs)))
   gains_some make xs i x within is first next =

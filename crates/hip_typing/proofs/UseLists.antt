@@ -17,7 +17,7 @@ use Rattle.hip_typing.specs.Seen.AssignedSeen.{AnswersUses, IsFirstOf}
 use Rattle.hip_typing.specs.Paths.{IsUnassigned}
 use Rattle.hip_typing.specs.Rules.{RegisterUse, UseIsAssigned, use_at, site, phi_register_uses}
 use Rattle.hip_typing.specs.Seen.UsesSeen.{use_seen, uses_seen}
-use Rattle.hip_typing.specs.declared.uses.Uses.{Uses}
+use Rattle.hip_typing.specs.declared.places.uses.Uses.{Uses}
 use Rattle.hip_typing.specs.declared.assigned.NotAssigned.{NotAssigned}
 use Rattle.hip_typing.specs.declared.assigned.NotAssigned.TheVariants as unassigned
 use Rattle.hip_typing.specs.declared.assigned.Point.{Point}

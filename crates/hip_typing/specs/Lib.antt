@@ -5,6 +5,7 @@ pub mod Names
 pub mod Paths
 pub mod Places
 pub mod Registers
+pub mod Declarations
 pub mod Numbering
 pub mod Checks
 pub mod Given

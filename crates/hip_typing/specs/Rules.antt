@@ -32,7 +32,8 @@ use Rattle.hip_typing.specs.Paths.{IsAssigned, IsUnassigned}
 use Rattle.hip_typing.specs.declared.assigned.Point.{Point}
 use Rattle.hip_typing.specs.declared.assigned.Point.TheVariants.{Before, AtEnd}
 use Rattle.hip_typing.specs.Places.{Scope, scope_of, types_fit, instr_check, end_check, phi_check}
-use Rattle.hip_typing.specs.Registers.{assigned_by, instr_uses, end_uses, used_registers}
+use Rattle.hip_typing.specs.Registers.{instr_uses, end_uses, used_registers}
+use Rattle.hip_typing.specs.Declarations.{Declares, declared_by}
 use Rattle.hip_typing.specs.Types.{same_scalar, same_result, all_pass}
 use Rattle.hip_typing.specs.declared.fault.Place.{Place}
 use Rattle.hip_typing.specs.declared.fault.Place.TheVariants as places
@@ -126,30 +127,17 @@ main_check P = asks_true (has_main P.functions) breaks.NoMain places.Whole
 abbrev pub site : ℕ → ℕ → ℕ → Site
 site f b i = record { function = f; block = b; index = i }
 
-abbrev pub instr_names : ℕ → ℕ → ℕ → Instr → List Named
-instr_names f b i instr = map (λ r. named r.name (places.Body (site f b i))) (assigned_by instr)
-
-abbrev pub all_of : List (List Named) → List Named
-all_of [] = []
-all_of (ns ∷ rest) = ns ++ all_of rest
-
-abbrev pub phi_names : ℕ → ℕ → List Phi → List Named
-phi_names f b phis = numbered (λ i p. named p.dest (places.Phi (site f b i))) phis
-
-abbrev pub body_names : ℕ → ℕ → List Instr → List Named
-body_names f b body = all_of (numbered (instr_names f b) body)
-
-abbrev pub block_names : ℕ → ℕ → Block → List Named
-block_names f b block = named block.label (places.Head f) ∷ (phi_names f b block.phis ++ body_names f b block.body)
-
-abbrev pub param_names : ℕ → List Param → List Named
-param_names f params = numbered (λ n p. named p.name (places.Head f)) params
-
-abbrev pub blocks_names : ℕ → List Block → List Named
-blocks_names f blocks = all_of (numbered (block_names f) blocks)
+-- each name at its place: a parameter or a label at the function's head
+abbrev pub named_in : ℕ → Declares Named
+named_in f = record {
+  parameter = λ p. named p.name (places.Head f);
+  label = λ b label. named label (places.Head f);
+  phi = λ b i p. named p.dest (places.Phi (site f b i));
+  instr = λ b i r. named r.name (places.Body (site f b i));
+}
 
 abbrev pub inner_names : ℕ → Function → List Named
-inner_names f fn = param_names f fn.params ++ blocks_names f fn.blocks
+inner_names f fn = declared_by (named_in f) fn
 
 abbrev pub inner_check : ℕ → Function → Check
 inner_check f fn = all_differ (inner_names f fn)

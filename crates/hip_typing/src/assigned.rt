@@ -5,9 +5,12 @@ ghost use Rattle.hip_typing.specs.Registers.{arg_uses, operand_registers, used_r
 ghost use Rattle.hip_typing.specs.Rules.{use_at};
 ghost use Rattle.hip_typing.specs.Seen.UsesSeen.{use_seen, uses_seen};
 
+pub mod functions;
+pub mod graph;
+
 use crate::fault::Place;
-use crate::inner_table::{Inner, InnerTable};
-use crate::uses::{OperandUse, Uses};
+use crate::places::uses::{OperandUse, Uses};
+use crate::tables::inner_table::{Inner, InnerTable};
 use hip_ir::{Arg, Function, Operand};
 use hip_paths::Paths;
 use hip_types::{Name, NoMemory, Row};
@@ -90,7 +93,8 @@ fn check_use(
     point: Point,
     name: &Name,
 ) -> Result<(), NotAssigned>
-    requires body { Describes body.now.function.now body.now.names.now.names body.now.names.now.values body.now.paths.now }
+    requires body { Describes body.now.function.now
+        body.now.names.now.names body.now.names.now.values body.now.paths.now }
     requires block { block < length body.now.function.now.blocks }
     ensures { AnswersUses body.now.function.now result (use_at place block point name.now ∷ []) }
 {
@@ -112,9 +116,11 @@ pub fn check_operand(
     point: Point,
     operand: &Operand,
 ) -> Result<(), NotAssigned>
-    requires body { Describes body.now.function.now body.now.names.now.names body.now.names.now.values body.now.paths.now }
+    requires body { Describes body.now.function.now
+        body.now.names.now.names body.now.names.now.values body.now.paths.now }
     requires block { block < length body.now.function.now.blocks }
-    ensures { AnswersUses body.now.function.now result (map (use_at place block point) (operand_registers operand.now)) }
+    ensures { AnswersUses body.now.function.now result
+        (map (use_at place block point) (operand_registers operand.now)) }
 {
     match operand {
         Operand::Reg(name) => check_use(body, place, block, point, name),
@@ -130,7 +136,8 @@ fn check_one(
     point: Point,
     used: Option<OperandUse<'_>>,
 ) -> Result<(), NotAssigned>
-    requires body { Describes body.now.function.now body.now.names.now.names body.now.names.now.values body.now.paths.now }
+    requires body { Describes body.now.function.now
+        body.now.names.now.names body.now.names.now.values body.now.paths.now }
     requires block { block < length body.now.function.now.blocks }
     ensures { AnswersUses body.now.function.now result
         (map (use_at place block point) (used_registers (use_seen used.entry))) }
@@ -149,7 +156,8 @@ fn check_args(
     point: Point,
     args: &[Arg],
 ) -> Result<(), NotAssigned>
-    requires body { Describes body.now.function.now body.now.names.now.names body.now.names.now.values body.now.paths.now }
+    requires body { Describes body.now.function.now
+        body.now.names.now.names body.now.names.now.values body.now.paths.now }
     requires block { block < length body.now.function.now.blocks }
     ensures { AnswersUses body.now.function.now result
         (map (use_at place block point) (used_registers (arg_uses args.now))) }
@@ -171,7 +179,8 @@ pub fn check_uses(
     point: Point,
     uses: &Uses<'_>,
 ) -> Result<(), NotAssigned>
-    requires body { Describes body.now.function.now body.now.names.now.names body.now.names.now.values body.now.paths.now }
+    requires body { Describes body.now.function.now
+        body.now.names.now.names body.now.names.now.values body.now.paths.now }
     requires block { block < length body.now.function.now.blocks }
     ensures { AnswersUses body.now.function.now result
         (map (use_at place block point) (used_registers (uses_seen uses.now))) }

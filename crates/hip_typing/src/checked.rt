@@ -12,7 +12,7 @@ ghost use Rattle.hip_names.specs.Names as names;
 ghost use Rattle.hip_typing.specs.Numbering.{function_names, function_number};
 ghost use Rattle.hip_typing.specs.Sound.{RegistersAssigned, HasMain, IsSound};
 
-use crate::assigned_functions::check_assigned;
+use crate::assigned::functions::check_assigned;
 use crate::fault::{Place, TypeFault, TypeRefusal};
 use crate::refusal::{refusal_of, refusal_on_paths};
 use crate::rules::check_rules;
@@ -90,7 +90,8 @@ impl Checked {
         GlobalAddresses::new(alloc, self.program.globals.as_slice(), base)
     }
 
-    /// The bytes that the region has before a run, from a base on: those of the initialisers, each where its global lies, with zeros between them.
+    /// The bytes that the region has before a run, from a base on: those of the initialisers, each where its global
+    /// lies, with zeros between them.
     pub fn region_bytes(&self, alloc: Global, base: u64) -> Result<Row<u8>, NoMemory>
         requires { IsBase base }
         ensures bytes { IfOk result (λ bytes. bytes ≡ initial.region_bytes self.now base) }
@@ -137,10 +138,11 @@ fn find_fault(alloc: Global, program: &Program) -> Result<(), TypeRefusal>
     }
 }
 
-/// The program, where it is sound; it is dropped on a refusal. The refusal is the first rule that the program breaks, at
-/// the first place, in this order: it is one that some text reads as; names of globals, externs and functions differ;
-/// types and initialisers of globals; externs; sizes; `main`; names inside functions; names, types, cases and edges at
-/// each place; each use of a register is assigned on every path. Want of memory is a refusal at the whole program.
+/// The program, where it is sound; it is dropped on a refusal. The refusal is the first rule that the program breaks,
+/// at the first place, in this order: it is one that some text reads as; names of globals, externs and functions
+/// differ; types and initialisers of globals; externs; sizes; `main`; names inside functions; names, types, cases and
+/// edges at each place; each use of a register is assigned on every path. Want of memory is a refusal at the whole
+/// program.
 ///
 /// The time is little more than linear in the program, and so is the memory that it takes for a while.
 pub fn check(alloc: Global, program: Program) -> Result<Checked, TypeRefusal>

@@ -5,6 +5,8 @@ ghost use Rattle.hip_typing.specs.Constants.{names_in, gep_names, item_names};
 ghost use Rattle.hip_names.specs.Names.{is_among};
 ghost use Rattle.hip_typing.specs.Places.{fits_test};
 
+pub mod shape;
+
 use hip_ir::{Const, ConstGep, TypedConst};
 use hip_names::NameSet;
 use hip_types::{Ty, fits};

@@ -8,17 +8,26 @@ ghost use Rattle.hip_typing.specs.Places as spec;
 ghost use Rattle.hip_typing.specs.Rules.{phi_at, instr_at, block_check, function_check, places_check};
 ghost use Rattle.hip_typing.specs.Seen.TablesSeen.{DescribesProgram, DescribesFunction, scope_in};
 
-use crate::callees::{CalleeTable, callees_of};
-use crate::edges::{edge_labels_known, edges_agree};
-use crate::ends::check_end;
+pub mod edges;
+pub mod ends;
+pub mod instrs;
+pub mod operands;
+pub mod targets;
+pub mod uses;
+
 use crate::fault::{Fault, Place};
-use crate::globals::names_of_globals;
-use crate::instrs::{callee_known, instr_agrees, written_fits};
-use crate::operands::{edges_fit, edges_have_type, edges_known, uses_agree, uses_fit, uses_known};
+use crate::places::edges::{edge_labels_known, edges_agree};
+use crate::places::ends::check_end;
+use crate::places::instrs::{callee_known, instr_agrees, written_fits};
+use crate::places::operands::{
+    edges_fit, edges_have_type, edges_known, uses_agree, uses_fit, uses_known,
+};
+use crate::places::uses::Uses;
 use crate::refused::{Refused, ask};
-use crate::registers::{RegisterTable, registers_of};
+use crate::rules::globals::names_of_globals;
+use crate::tables::callees::{CalleeTable, callees_of};
+use crate::tables::registers::{RegisterTable, registers_of};
 use crate::tables::{FunctionTables, ProgramTables, tables_of_function, tables_of_program};
-use crate::uses::Uses;
 use hip_ir::{Block, Function, Instr, Phi, Program, Site};
 use hip_names::NameSet;
 use std::alloc::Global;
@@ -94,7 +103,8 @@ fn check_phis(
 ) -> Result<(), Refused>
     requires program { DescribesProgram program.now }
     requires function { DescribesFunction function.now }
-    ensures { Answers result (each (phi_at (scope_in program.now function.now) label.now site.0 site.1) phis.now).found }
+    ensures { Answers result
+        (each (phi_at (scope_in program.now function.now) label.now site.0 site.1) phis.now).found }
 {
     let nobody = NameSet::new(alloc);
     let before = function.before.at(label, &nobody);

@@ -1,14 +1,21 @@
 ghost use Rattle.hip_typing.specs.Seen.Answers.{Answers};
 ghost use Rattle.hip_typing.specs.Rules.{rules_check};
 
-use crate::externs::check_externs;
-use crate::globals::check_globals;
-use crate::inner::check_registers;
-use crate::named::check_names;
+pub mod externs;
+pub mod globals;
+pub mod inner;
+pub mod named;
+pub mod sizes;
+pub mod whole;
+
 use crate::places::check_places;
 use crate::refused::Refused;
-use crate::sizes::check_sizes;
-use crate::whole::check_main;
+use crate::rules::externs::check_externs;
+use crate::rules::globals::check_globals;
+use crate::rules::inner::check_registers;
+use crate::rules::named::check_names;
+use crate::rules::sizes::check_sizes;
+use crate::rules::whole::check_main;
 use hip_ir::Program;
 use std::alloc::Global;
 

@@ -2,10 +2,15 @@ ghost use Rattle.std.specs.Prelude.{◌≡◌, IfOk, map};
 ghost use Rattle.hip_names.specs.Names.{Knows};
 ghost use Rattle.hip_typing.specs.Seen.TablesSeen.{DescribesProgram, DescribesFunction};
 
-use crate::callees::{CalleeTable, callees_of};
-use crate::globals::names_of_globals;
-use crate::predecessors::{Predecessors, predecessors_of};
-use crate::registers::{RegisterTable, registers_of};
+pub mod callees;
+pub mod inner_table;
+pub mod predecessors;
+pub mod registers;
+
+use crate::rules::globals::names_of_globals;
+use crate::tables::callees::{CalleeTable, callees_of};
+use crate::tables::predecessors::{Predecessors, predecessors_of};
+use crate::tables::registers::{RegisterTable, registers_of};
 use hip_ir::{Block, Function, Program};
 use hip_names::NameSet;
 use hip_types::NoMemory;

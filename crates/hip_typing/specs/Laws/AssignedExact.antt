@@ -36,15 +36,18 @@ all-mapped : {X Y : Type 0} (Q : Y → Type 0) (f : X → Y) (xs : List X) → A
 all-mapped Q f [] h = All-nil (λ y. Q (f y))
 all-mapped Q f (x ∷ xs) h = All-cons (λ y. Q (f y)) x xs (All-head Q (f x) (map f xs) h) (all-mapped Q f xs (All-tail Q (f x) (map f xs) h))
 
-all-flat : {X Y : Type 0} (Q : Y → Type 0) (g : X → List Y) (xs : List X) → All Q (flat_map g xs) → All (λ x. All Q (g x)) xs
+all-flat : {X Y : Type 0} (Q : Y → Type 0) (g : X → List Y) (xs : List X) → All Q (flat_map g xs)
+    → All (λ x. All Q (g x)) xs
 all-flat Q g [] h = All-nil (λ y. All Q (g y))
 all-flat Q g (x ∷ xs) h = All-cons (λ y. All Q (g y)) x xs (all-front Q (g x) (flat_map g xs) h) (all-flat Q g xs (all-back Q (g x) (flat_map g xs) h))
 
-flat-all : {X Y : Type 0} (Q : Y → Type 0) (g : X → List Y) (xs : List X) → All (λ x. All Q (g x)) xs → All Q (flat_map g xs)
+flat-all : {X Y : Type 0} (Q : Y → Type 0) (g : X → List Y) (xs : List X) → All (λ x. All Q (g x)) xs
+    → All Q (flat_map g xs)
 flat-all Q g [] h = All-nil Q
 flat-all Q g (x ∷ xs) h = All-append Q (g x) (flat_map g xs) (All-head (λ y. All Q (g y)) x xs h) (flat-all Q g xs (All-tail (λ y. All Q (g y)) x xs h))
 
-pub all-joined : {X Y : Type 0} (Q : Y → Type 0) (n : ℕ) (make : ℕ → X → List Y) (xs : List X) → All Q (joined (numbered_from n make xs)) → (k : ℕ) (x : X) → slice_get xs k ≡ Some x → All Q (make (n + k) x)
+pub all-joined : {X Y : Type 0} (Q : Y → Type 0) (n : ℕ) (make : ℕ → X → List Y) (xs : List X)
+    → All Q (joined (numbered_from n make xs)) → (k : ℕ) (x : X) → slice_get xs k ≡ Some x → All Q (make (n + k) x)
 all-joined Q n make [] h k x e = cc
 all-joined Q n make (y ∷ ys) h zero x e =
     let same : y ≡ x = cc in
@@ -54,7 +57,8 @@ all-joined Q n make (y ∷ ys) h (suc k) x e =
     let next : n + 1 + k ≡ n + suc k = omega arith in
     subst (λ m. All Q (make m x)) next (all-joined Q (n + 1) make ys (all-back Q (make n y) (joined (numbered_from (n + 1) make ys)) h) k x e)
 
-pub joined-all : {X Y : Type 0} (Q : Y → Type 0) (n : ℕ) (make : ℕ → X → List Y) (xs : List X) → ((k : ℕ) (x : X) → slice_get xs k ≡ Some x → All Q (make (n + k) x)) → All Q (joined (numbered_from n make xs))
+pub joined-all : {X Y : Type 0} (Q : Y → Type 0) (n : ℕ) (make : ℕ → X → List Y) (xs : List X)
+    → ((k : ℕ) (x : X) → slice_get xs k ≡ Some x → All Q (make (n + k) x)) → All Q (joined (numbered_from n make xs))
 joined-all Q n make [] h = All-nil Q
 joined-all Q n make (y ∷ ys) h =
     let first : n + 0 ≡ n = omega arith in
@@ -68,7 +72,8 @@ pub number_before : (o : Option ℕ) (c : ℕ) → option_map suc o ≡ Some c �
 number_before None c e = cc
 number_before (Some d) c e = (d, refl, cc)
 
-all-numbers : (Q : ℕ → Type 0) (n : ℕ) (bs : List Block) (label : List ℕ) → All Q (block_numbers_from n bs label) → (c : ℕ) → number_of (map (λ b. b.label) bs) label ≡ Some c → Q (n + c)
+all-numbers : (Q : ℕ → Type 0) (n : ℕ) (bs : List Block) (label : List ℕ) → All Q (block_numbers_from n bs label)
+    → (c : ℕ) → number_of (map (λ b. b.label) bs) label ≡ Some c → Q (n + c)
 all-numbers Q n [] label h c e = cc
 all-numbers Q n (b ∷ bs) label h c e =
     by_test (bytes_eq label b.label) refl c h (sym (number_of-cons b.label (map (λ b. b.label) bs) label) ∙ e) (λ g d f. all-numbers Q (n + 1) bs label g d f)
@@ -89,7 +94,8 @@ all-numbers Q n (b ∷ bs) label h c e =
         let at : n + 1 + d.0 ≡ n + c = omega (arith, number) in
         subst Q at (rest later d.0 d.1)
 
-numbers-all : (Q : ℕ → Type 0) (n : ℕ) (bs : List Block) (label : List ℕ) → ((c : ℕ) → number_of (map (λ b. b.label) bs) label ≡ Some c → Q (n + c)) → All Q (block_numbers_from n bs label)
+numbers-all : (Q : ℕ → Type 0) (n : ℕ) (bs : List Block) (label : List ℕ)
+    → ((c : ℕ) → number_of (map (λ b. b.label) bs) label ≡ Some c → Q (n + c)) → All Q (block_numbers_from n bs label)
 numbers-all Q n [] label h = All-nil Q
 numbers-all Q n (b ∷ bs) label h = by_test (bytes_eq b.label label) refl (λ g. numbers-all Q (n + 1) bs label g)
   where
@@ -102,7 +108,8 @@ numbers-all Q n (b ∷ bs) label h = by_test (bytes_eq b.label label) refl (λ g
 
 -- ---- uses of a place
 
-edges-sound : (fn : Function) (place : Place) (p : Phi) (e : Edge) → All (UseIsAssigned fn) (edge_register_uses fn.blocks place p.ty e) → EdgeIsAssigned fn e
+edges-sound : (fn : Function) (place : Place) (p : Phi) (e : Edge)
+    → All (UseIsAssigned fn) (edge_register_uses fn.blocks place p.ty e) → EdgeIsAssigned fn e
 edges-sound fn place p e h c at =
     let each = all-flat (UseIsAssigned fn) (λ b. map (use_at place b AtEnd) (used_registers (record { operand = e.value; ty = p.ty } ∷ []))) (block_numbers_from 0 fn.blocks e.label) h in
     let here = all-numbers (λ b. All (UseIsAssigned fn) (map (use_at place b AtEnd) (used_registers (record { operand = e.value; ty = p.ty } ∷ [])))) 0 fn.blocks e.label each c at in
@@ -110,7 +117,8 @@ edges-sound fn place p e h c at =
     let of_c = subst (λ m. All (UseIsAssigned fn) (map (use_at place m AtEnd) (used_registers (record { operand = e.value; ty = p.ty } ∷ [])))) number here in
     subst (λ names. All (IsAssigned fn c AtEnd) names) (append-nil (operand_registers e.value)) (all-mapped (UseIsAssigned fn) (use_at place c AtEnd) (used_registers (record { operand = e.value; ty = p.ty } ∷ [])) of_c)
 
-edges-whole : (fn : Function) (place : Place) (p : Phi) (e : Edge) → EdgeIsAssigned fn e → All (UseIsAssigned fn) (edge_register_uses fn.blocks place p.ty e)
+edges-whole : (fn : Function) (place : Place) (p : Phi) (e : Edge) → EdgeIsAssigned fn e
+    → All (UseIsAssigned fn) (edge_register_uses fn.blocks place p.ty e)
 edges-whole fn place p e h =
     flat-all (UseIsAssigned fn) (λ b. map (use_at place b AtEnd) (used_registers (record { operand = e.value; ty = p.ty } ∷ []))) (block_numbers_from 0 fn.blocks e.label)
     (numbers-all (λ b. All (UseIsAssigned fn) (map (use_at place b AtEnd) (used_registers (record { operand = e.value; ty = p.ty } ∷ [])))) 0 fn.blocks e.label
@@ -121,7 +129,8 @@ edges-whole fn place p e h =
 
 -- ---- uses of a block
 
-block-sound : (fn : Function) (f b : ℕ) (block : Block) → All (UseIsAssigned fn) (block_register_uses fn.blocks f b block) → UsesAreAssigned fn b block
+block-sound : (fn : Function) (f b : ℕ) (block : Block)
+    → All (UseIsAssigned fn) (block_register_uses fn.blocks f b block) → UsesAreAssigned fn b block
 block-sound fn f b block h =
     let Q = UseIsAssigned fn in
     let phi_list = joined (numbered_from 0 (λ i p. phi_register_uses fn.blocks (places.Phi (site f b i)) p) block.phis) in
@@ -141,7 +150,8 @@ block-sound fn f b block h =
       last = all-mapped Q (use_at (places.End f b) b AtEnd) (used_registers (end_uses block.end)) (all-back Q (phi_list ++ body_list) (end_register_uses f b block.end) h);
     }
 
-block-whole : (fn : Function) (f b : ℕ) (block : Block) → UsesAreAssigned fn b block → All (UseIsAssigned fn) (block_register_uses fn.blocks f b block)
+block-whole : (fn : Function) (f b : ℕ) (block : Block) → UsesAreAssigned fn b block
+    → All (UseIsAssigned fn) (block_register_uses fn.blocks f b block)
 block-whole fn f b block u =
     let Q = UseIsAssigned fn in
     let phi_list = joined (numbered_from 0 (λ i p. phi_register_uses fn.blocks (places.Phi (site f b i)) p) block.phis) in
@@ -158,12 +168,14 @@ block-whole fn f b block u =
 
 -- ---- uses of a function
 
-pub assigned-sound : (fn : Function) (f : ℕ) → AllAssigned fn f → (b : ℕ) (block : Block) → slice_get fn.blocks b ≡ Some block → UsesAreAssigned fn b block
+pub assigned-sound : (fn : Function) (f : ℕ) → AllAssigned fn f → (b : ℕ) (block : Block)
+    → slice_get fn.blocks b ≡ Some block → UsesAreAssigned fn b block
 assigned-sound fn f h b block e =
     let number : 0 + b ≡ b = omega arith in
     block-sound fn f b block (subst (λ m. All (UseIsAssigned fn) (block_register_uses fn.blocks f m block)) number (all-joined (UseIsAssigned fn) 0 (block_register_uses fn.blocks f) fn.blocks h b block e))
 
-pub assigned-whole : (fn : Function) (f : ℕ) → ((b : ℕ) (block : Block) → slice_get fn.blocks b ≡ Some block → UsesAreAssigned fn b block) → AllAssigned fn f
+pub assigned-whole : (fn : Function) (f : ℕ)
+    → ((b : ℕ) (block : Block) → slice_get fn.blocks b ≡ Some block → UsesAreAssigned fn b block) → AllAssigned fn f
 assigned-whole fn f h =
     joined-all (UseIsAssigned fn) 0 (block_register_uses fn.blocks f) fn.blocks
     (λ b block e. let number : b ≡ 0 + b = omega arith in subst (λ m. All (UseIsAssigned fn) (block_register_uses fn.blocks f m block)) number (block-whole fn f b block (h b block e)))

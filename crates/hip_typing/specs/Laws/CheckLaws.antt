@@ -20,7 +20,8 @@ use Rattle.hip_typing.specs.declared.fault.Place.{Place}
 pub nothing-exact : IsExact nothing_asked
 nothing-exact = record { sound = λ e. tt; whole = λ h. refl }
 
-pub asks-exact : (fact : Type 0) (test : Bool) (fault : Fault) (place : Place) → (test ≡ true → fact) → (fact → test ≡ true) → IsExact (asks fact test fault place)
+pub asks-exact : (fact : Type 0) (test : Bool) (fault : Fault) (place : Place) → (test ≡ true → fact)
+    → (fact → test ≡ true) → IsExact (asks fact test fault place)
 asks-exact fact true fault place sound whole = record { sound = λ e. sound refl; whole = λ h. refl }
 asks-exact fact false fault place sound whole = record { sound = λ e. cc; whole = λ h. let same = whole h in cc }
 
@@ -42,7 +43,8 @@ and_then-exact a b p q = record {
   whole = λ h. none_then a.found b.found (p.whole h.0) (q.whole h.1);
 }
 
-pub each_from-exact : {A : Type 0} → (n : ℕ) (check : ℕ → A → Check) (xs : List A) → ((m : ℕ) (x : A) → IsExact (check m x)) → IsExact (each_from n check xs)
+pub each_from-exact : {A : Type 0} → (n : ℕ) (check : ℕ → A → Check) (xs : List A)
+    → ((m : ℕ) (x : A) → IsExact (check m x)) → IsExact (each_from n check xs)
 each_from-exact n check [] exact = nothing-exact
 each_from-exact n check (x ∷ xs) exact = and_then-exact (check n x) (each_from (n + 1) check xs) (exact n x) (each_from-exact (n + 1) check xs exact)
 
@@ -84,14 +86,16 @@ types_fit-exact ts place = asks-exact _ _ breaks.TooLarge place (all_fit-sound t
 
 -- ---- what holds of each item
 
-pub each_from-holds : {A : Type 0} → (n : ℕ) (check : ℕ → A → Check) (xs : List A) (k : ℕ) (d : A) → (each_from n check xs).Holds → k < length xs → (check (n + k) (get_or xs k d)).Holds
+pub each_from-holds : {A : Type 0} → (n : ℕ) (check : ℕ → A → Check) (xs : List A) (k : ℕ) (d : A)
+    → (each_from n check xs).Holds → k < length xs → (check (n + k) (get_or xs k d)).Holds
 each_from-holds n check [] k d h within = absurd (omega arith)
 each_from-holds n check (x ∷ xs) zero d h within = let e : n + 0 ≡ n = omega arith in rw e h.0
 each_from-holds n check (x ∷ xs) (suc k) d h within =
     let e : n + suc k ≡ n + 1 + k = omega arith in
     rw e (each_from-holds (n + 1) check xs k d h.1 (omega arith))
 
-pub each-holds : {A : Type 0} → (check : ℕ → A → Check) (xs : List A) (k : ℕ) (d : A) → (each check xs).Holds → k < length xs → (check k (get_or xs k d)).Holds
+pub each-holds : {A : Type 0} → (check : ℕ → A → Check) (xs : List A) (k : ℕ) (d : A) → (each check xs).Holds
+    → k < length xs → (check k (get_or xs k d)).Holds
 each-holds check xs k d h within =
     let e : 0 + k ≡ k = omega arith in
     subst (λ (m : ℕ). (check m (get_or xs k d)).Holds) e (each_from-holds 0 check xs k d h within)

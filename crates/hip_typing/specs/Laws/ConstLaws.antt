@@ -71,15 +71,24 @@ abbrev consts : Const-F Known KnownGep KnownItem → Const-F Const ConstGep Type
 consts y = map-Const Known KnownGep KnownItem Const ConstGep TypedConst (λ e. e.0) (λ e. e.0) (λ e. e.0) y
 
 abbrev tests_of : Const-F Const ConstGep TypedConst → Const-F (Const → Bool) (ConstGep → Bool) (TypedConst → Bool)
-tests_of z = map-Const Const ConstGep TypedConst (Const → Bool) (ConstGep → Bool) (TypedConst → Bool) same_const same_gep same_item z
+tests_of z =
+    map-Const Const ConstGep TypedConst (Const → Bool) (ConstGep → Bool) (TypedConst → Bool)
+    same_const same_gep same_item z
 
-abbrev gep_tests : ConstGep-F Const ConstGep TypedConst → ConstGep-F (Const → Bool) (ConstGep → Bool) (TypedConst → Bool)
-gep_tests z = map-ConstGep Const ConstGep TypedConst (Const → Bool) (ConstGep → Bool) (TypedConst → Bool) same_const same_gep same_item z
+abbrev gep_tests : ConstGep-F Const ConstGep TypedConst
+    → ConstGep-F (Const → Bool) (ConstGep → Bool) (TypedConst → Bool)
+gep_tests z =
+    map-ConstGep Const ConstGep TypedConst (Const → Bool) (ConstGep → Bool) (TypedConst → Bool)
+    same_const same_gep same_item z
 
-abbrev item_tests : TypedConst-F Const ConstGep TypedConst → TypedConst-F (Const → Bool) (ConstGep → Bool) (TypedConst → Bool)
-item_tests z = map-TypedConst Const ConstGep TypedConst (Const → Bool) (ConstGep → Bool) (TypedConst → Bool) same_const same_gep same_item z
+abbrev item_tests : TypedConst-F Const ConstGep TypedConst
+    → TypedConst-F (Const → Bool) (ConstGep → Bool) (TypedConst → Bool)
+item_tests z =
+    map-TypedConst Const ConstGep TypedConst (Const → Bool) (ConstGep → Bool) (TypedConst → Bool)
+    same_const same_gep same_item z
 
-all_equal : (es : List KnownItem) (is : List TypedConst) → all_pass (map same_item (map (λ e. e.0) es)) is ≡ true → map (λ e. e.0) es ≡ is
+all_equal : (es : List KnownItem) (is : List TypedConst) → all_pass (map same_item (map (λ e. e.0) es)) is ≡ true
+    → map (λ e. e.0) es ≡ is
 all_equal [] [] h = refl
 all_equal [] (i ∷ is) h = cc
 all_equal (e ∷ es) [] h = cc
@@ -100,23 +109,28 @@ zero_equal : (o : Const-F Const ConstGep TypedConst) → is_zero o ≡ true → 
 zero_equal Const-F.Zero h = refl
 zero_equal o h = cc
 
-address_equal : (name : List ℕ) (o : Const-F Const ConstGep TypedConst) → is_address name o ≡ true → Const-F.Address name ≡ o
+address_equal : (name : List ℕ) (o : Const-F Const ConstGep TypedConst) → is_address name o ≡ true
+    → Const-F.Address name ≡ o
 address_equal name (Const-F.Address other) h = ap (λ x. Const-F.Address x) ((bytes_eq-Decides name other).0 h)
 address_equal name o h = cc
 
-gep_equal : (e : KnownGep) (o : Const-F Const ConstGep TypedConst) → is_gep (same_gep e.0) o ≡ true → Const-F.Gep e.0 ≡ o
+gep_equal : (e : KnownGep) (o : Const-F Const ConstGep TypedConst) → is_gep (same_gep e.0) o ≡ true
+    → Const-F.Gep e.0 ≡ o
 gep_equal e (Const-F.Gep g) h = ap (λ x. Const-F.Gep x) (e.1 g h)
 gep_equal e o h = cc
 
-array_equal : (es : List KnownItem) (o : Const-F Const ConstGep TypedConst) → is_array (map same_item (map (λ e. e.0) es)) o ≡ true → Const-F.Array (map (λ e. e.0) es) ≡ o
+array_equal : (es : List KnownItem) (o : Const-F Const ConstGep TypedConst)
+    → is_array (map same_item (map (λ e. e.0) es)) o ≡ true → Const-F.Array (map (λ e. e.0) es) ≡ o
 array_equal es (Const-F.Array is) h = ap (λ x. Const-F.Array x) (all_equal es is h)
 array_equal es o h = cc
 
-struct_equal : (es : List KnownItem) (o : Const-F Const ConstGep TypedConst) → is_struct (map same_item (map (λ e. e.0) es)) o ≡ true → Const-F.Struct (map (λ e. e.0) es) ≡ o
+struct_equal : (es : List KnownItem) (o : Const-F Const ConstGep TypedConst)
+    → is_struct (map same_item (map (λ e. e.0) es)) o ≡ true → Const-F.Struct (map (λ e. e.0) es) ≡ o
 struct_equal es (Const-F.Struct is) h = ap (λ x. Const-F.Struct x) (all_equal es is h)
 struct_equal es o h = cc
 
-level_equal : (y : Const-F Known KnownGep KnownItem) (o : Const-F Const ConstGep TypedConst) → same_level (tests_of (consts y)) o ≡ true → consts y ≡ o
+level_equal : (y : Const-F Known KnownGep KnownItem) (o : Const-F Const ConstGep TypedConst)
+    → same_level (tests_of (consts y)) o ≡ true → consts y ≡ o
 level_equal (Const-F.Int b) o h = int_equal b o h
 level_equal Const-F.Null o h = null_equal o h
 level_equal Const-F.Zero o h = zero_equal o h
@@ -125,7 +139,9 @@ level_equal (Const-F.Gep e) o h = gep_equal e o h
 level_equal (Const-F.Array es) o h = array_equal es o h
 level_equal (Const-F.Struct es) o h = struct_equal es o h
 
-gep_is : (a b : ConstGep) → IsEqual a.base → (same_truth a.inbounds b.inbounds && (same_type a.ty b.ty && (same_const a.base b.base && same_list same_bits a.indices b.indices))) ≡ true → a ≡ b
+gep_is : (a b : ConstGep) → IsEqual a.base
+    → (same_truth a.inbounds b.inbounds &&
+    (same_type a.ty b.ty && (same_const a.base b.base && same_list same_bits a.indices b.indices))) ≡ true → a ≡ b
 gep_is a b base h =
     let first = and_parts (same_truth a.inbounds b.inbounds) _ h in
     let second = and_parts (same_type a.ty b.ty) _ first.1 in

@@ -14,7 +14,8 @@ use Rattle.hip_typing.specs.Places.{each_pair}
 pub both-decides : {P Q : Type 0} (a b : Bool) → Decides a P → Decides b Q → Decides (a && b) (P × Q)
 both-decides a b p q = (λ e. let h = and_parts a b e in (p.0 h.0, q.0 h.1), λ h. both_true (p.1 h.0) (q.1 h.1))
 
-pub all-decides : {X : Type 0} (test : X → Bool) (P : X → Type 0) (xs : List X) → ((x : X) → Decides (test x) (P x)) → Decides (list_all test xs) (All P xs)
+pub all-decides : {X : Type 0} (test : X → Bool) (P : X → Type 0) (xs : List X) → ((x : X) → Decides (test x) (P x))
+    → Decides (list_all test xs) (All P xs)
 all-decides test P xs d = (
   λ e k x within. (d (get_or xs k x)).0 (AllPass-from_list_all test xs e k x within),
   λ h. list_all-from_AllPass test xs (λ k x within. (d (get_or xs k x)).1 (h k x within)),
@@ -51,7 +52,8 @@ of_none : {X : Type 0} (test : X → Bool) (xs : List X) → All (λ x. ¬ (test
 of_none test [] h = λ e. cc
 of_none test (x ∷ xs) h = none_first (test x) (list_any test xs) (All-head (λ y. ¬ (test y ≡ true)) x xs h) (of_none test xs (All-tail (λ y. ¬ (test y ≡ true)) x xs h))
 
-pub none-decides : {X : Type 0} (test : X → Bool) (P : X → Type 0) (xs : List X) → ((x : X) → Decides (test x) (P x)) → Decides (not (list_any test xs)) (All (λ x. ¬ P x) xs)
+pub none-decides : {X : Type 0} (test : X → Bool) (P : X → Type 0) (xs : List X) → ((x : X) → Decides (test x) (P x))
+    → Decides (not (list_any test xs)) (All (λ x. ¬ P x) xs)
 none-decides test P xs d = (
   λ e k x within p. none_of test xs (not_false (list_any test xs) e) k x within ((d (get_or xs k x)).1 p),
   λ h. false_not (list_any test xs) (of_none test xs (λ k x within t. h k x within ((d (get_or xs k x)).0 t))),
@@ -68,17 +70,20 @@ pairs_first R x xs h j d within = h 0 (suc j) d (omega arith) (omega arith)
 pairs_rest : {X : Type 0} (R : X → X → Type 0) (x : X) (xs : List X) → AllPairs R (x ∷ xs) → AllPairs R xs
 pairs_rest R x xs h i j d before within = h (suc i) (suc j) d (omega arith) (omega arith)
 
-pairs_sound : {X : Type 0} (test : X → X → Bool) (R : X → X → Type 0) (xs : List X) → ((x y : X) → Decides (test x y) (R x y)) → each_pair test xs ≡ true → AllPairs R xs
+pairs_sound : {X : Type 0} (test : X → X → Bool) (R : X → X → Type 0) (xs : List X)
+    → ((x y : X) → Decides (test x y) (R x y)) → each_pair test xs ≡ true → AllPairs R xs
 pairs_sound test R [] d e = pairs_nil R
 pairs_sound test R (x ∷ xs) d e =
     let both = and_parts (list_all (test x) xs) (each_pair test xs) e in
     AllPairs-cons R x xs ((all-decides (test x) (R x) xs (d x)).0 both.0) (pairs_sound test R xs d both.1)
 
-pairs_whole : {X : Type 0} (test : X → X → Bool) (R : X → X → Type 0) (xs : List X) → ((x y : X) → Decides (test x y) (R x y)) → AllPairs R xs → each_pair test xs ≡ true
+pairs_whole : {X : Type 0} (test : X → X → Bool) (R : X → X → Type 0) (xs : List X)
+    → ((x y : X) → Decides (test x y) (R x y)) → AllPairs R xs → each_pair test xs ≡ true
 pairs_whole test R [] d h = refl
 pairs_whole test R (x ∷ xs) d h = both_true ((all-decides (test x) (R x) xs (d x)).1 (pairs_first R x xs h)) (pairs_whole test R xs d (pairs_rest R x xs h))
 
-pub pairs-decides : {X : Type 0} (test : X → X → Bool) (R : X → X → Type 0) (xs : List X) → ((x y : X) → Decides (test x y) (R x y)) → Decides (each_pair test xs) (AllPairs R xs)
+pub pairs-decides : {X : Type 0} (test : X → X → Bool) (R : X → X → Type 0) (xs : List X)
+    → ((x y : X) → Decides (test x y) (R x y)) → Decides (each_pair test xs) (AllPairs R xs)
 pairs-decides test R xs d = (pairs_sound test R xs d, pairs_whole test R xs d)
 
 -- ---- items by their places
@@ -88,26 +93,32 @@ all-at P [] k x h e = cc
 all-at P (y ∷ ys) zero x h e = let same : y ≡ x = cc in subst P same (All-head P y ys h)
 all-at P (y ∷ ys) (suc k) x h e = all-at P ys k x (All-tail P y ys h) e
 
-pub all-made : {X : Type 0} (P : X → Type 0) (xs : List X) → ((k : ℕ) (x : X) → slice_get xs k ≡ Some x → P x) → All P xs
+pub all-made : {X : Type 0} (P : X → Type 0) (xs : List X) → ((k : ℕ) (x : X) → slice_get xs k ≡ Some x → P x)
+    → All P xs
 all-made P [] h = All-nil P
 all-made P (x ∷ xs) h = All-cons P x xs (h 0 x refl) (all-made P xs (λ k y e. h (suc k) y e))
 
-each_from_sound : {X : Type 0} (n : ℕ) (check : ℕ → X → Check) (P : X → Type 0) (xs : List X) → ((m : ℕ) (x : X) → (check m x).Holds → P x) → (each_from n check xs).Holds → All P xs
+each_from_sound : {X : Type 0} (n : ℕ) (check : ℕ → X → Check) (P : X → Type 0) (xs : List X)
+    → ((m : ℕ) (x : X) → (check m x).Holds → P x) → (each_from n check xs).Holds → All P xs
 each_from_sound n check P [] f h = All-nil P
 each_from_sound n check P (x ∷ xs) f h = All-cons P x xs (f n x h.0) (each_from_sound (n + 1) check P xs f h.1)
 
-each_from_whole : {X : Type 0} (n : ℕ) (check : ℕ → X → Check) (P : X → Type 0) (xs : List X) → ((m : ℕ) (x : X) → P x → (check m x).Holds) → All P xs → (each_from n check xs).Holds
+each_from_whole : {X : Type 0} (n : ℕ) (check : ℕ → X → Check) (P : X → Type 0) (xs : List X)
+    → ((m : ℕ) (x : X) → P x → (check m x).Holds) → All P xs → (each_from n check xs).Holds
 each_from_whole n check P [] f h = tt
 each_from_whole n check P (x ∷ xs) f h = (f n x (All-head P x xs h), each_from_whole (n + 1) check P xs f (All-tail P x xs h))
 
 -- what a check asks of each item holds of all
-pub each-sound : {X : Type 0} (check : ℕ → X → Check) (P : X → Type 0) (xs : List X) → ((m : ℕ) (x : X) → (check m x).Holds → P x) → (each check xs).Holds → All P xs
+pub each-sound : {X : Type 0} (check : ℕ → X → Check) (P : X → Type 0) (xs : List X)
+    → ((m : ℕ) (x : X) → (check m x).Holds → P x) → (each check xs).Holds → All P xs
 each-sound check P xs f h = each_from_sound 0 check P xs f h
 
-pub each-whole : {X : Type 0} (check : ℕ → X → Check) (P : X → Type 0) (xs : List X) → ((m : ℕ) (x : X) → P x → (check m x).Holds) → All P xs → (each check xs).Holds
+pub each-whole : {X : Type 0} (check : ℕ → X → Check) (P : X → Type 0) (xs : List X)
+    → ((m : ℕ) (x : X) → P x → (check m x).Holds) → All P xs → (each check xs).Holds
 each-whole check P xs f h = each_from_whole 0 check P xs f h
 
-holds_from-at : {X : Type 0} (n : ℕ) (check : ℕ → X → Check) (xs : List X) (k : ℕ) (x : X) → (each_from n check xs).Holds → slice_get xs k ≡ Some x → (check (n + k) x).Holds
+holds_from-at : {X : Type 0} (n : ℕ) (check : ℕ → X → Check) (xs : List X) (k : ℕ) (x : X)
+    → (each_from n check xs).Holds → slice_get xs k ≡ Some x → (check (n + k) x).Holds
 holds_from-at n check [] k x h e = cc
 holds_from-at n check (y ∷ ys) zero x h e =
     let first : n ≡ n + 0 = omega arith in
@@ -118,12 +129,14 @@ holds_from-at n check (y ∷ ys) (suc k) x h e =
     subst (λ m. (check m x).Holds) next (holds_from-at (n + 1) check ys k x h.1 e)
 
 -- a check of each item holds of the one at a place
-pub holds-at : {X : Type 0} (check : ℕ → X → Check) (xs : List X) (k : ℕ) (x : X) → (each check xs).Holds → slice_get xs k ≡ Some x → (check k x).Holds
+pub holds-at : {X : Type 0} (check : ℕ → X → Check) (xs : List X) (k : ℕ) (x : X) → (each check xs).Holds
+    → slice_get xs k ≡ Some x → (check k x).Holds
 holds-at check xs k x h e =
     let none : 0 + k ≡ k = omega arith in
     subst (λ m. (check m x).Holds) none (holds_from-at 0 check xs k x h e)
 
-holds_from-made : {X : Type 0} (n : ℕ) (check : ℕ → X → Check) (xs : List X) → ((k : ℕ) (x : X) → slice_get xs k ≡ Some x → (check (n + k) x).Holds) → (each_from n check xs).Holds
+holds_from-made : {X : Type 0} (n : ℕ) (check : ℕ → X → Check) (xs : List X)
+    → ((k : ℕ) (x : X) → slice_get xs k ≡ Some x → (check (n + k) x).Holds) → (each_from n check xs).Holds
 holds_from-made n check [] h = tt
 holds_from-made n check (x ∷ xs) h =
     let first : n + 0 ≡ n = omega arith in (
@@ -132,5 +145,6 @@ holds_from-made n check (x ∷ xs) h =
     )
 
 -- it holds if it holds at each place
-pub holds-made : {X : Type 0} (check : ℕ → X → Check) (xs : List X) → ((k : ℕ) (x : X) → slice_get xs k ≡ Some x → (check k x).Holds) → (each check xs).Holds
+pub holds-made : {X : Type 0} (check : ℕ → X → Check) (xs : List X)
+    → ((k : ℕ) (x : X) → slice_get xs k ≡ Some x → (check k x).Holds) → (each check xs).Holds
 holds-made check xs h = holds_from-made 0 check xs (λ k x e. let same : k ≡ 0 + k = omega arith in subst (λ m. (check m x).Holds) same (h k x e))

@@ -38,7 +38,8 @@ sound-operands P s f b fn block at =
 
 -- ---- labels
 
-has_block : (bs : List Block) (label : List ℕ) → IsAmong (map (λ b. b.label) bs) label → (n : ℕ) × (b : Block) × (slice_get bs n ≡ Some b) × (b.label ≡ label)
+has_block : (bs : List Block) (label : List ℕ) → IsAmong (map (λ b. b.label) bs) label
+    → (n : ℕ) × (b : Block) × (slice_get bs n ≡ Some b) × (b.label ≡ label)
 has_block [] label h = absurd h
 has_block (b ∷ bs) label (inl e) = (0, b, refl, e)
 has_block (b ∷ bs) label (inr h) = let later = has_block bs label h in (suc later.0, later.1, later.2, later.3)
@@ -69,11 +70,14 @@ pub record FunctionAt (fs : List Function) (name : List ℕ) (s : Signature) : T
   pub result : function.ret ≡ s.ret
   pub params : map (λ p. p.ty) function.params ≡ s.params
 
-number_by : (f : Function) (fs : List Function) (name : List ℕ) (b : Bool) → bytes_eq f.name name ≡ b → number_of (function_names (f ∷ fs)) name ≡ (if b then Some 0 else option_map suc (number_of (function_names fs) name))
+number_by : (f : Function) (fs : List Function) (name : List ℕ) (b : Bool) → bytes_eq f.name name ≡ b
+    → number_of (function_names (f ∷ fs)) name
+    ≡ (if b then Some 0 else option_map suc (number_of (function_names fs) name))
 number_by f fs name b is =
     number_of-cons f.name (function_names fs) name ∙ ap (λ t. if t then Some 0 else option_map suc (number_of (function_names fs) name)) (bytes_eq-sym name f.name ∙ is)
 
-function_found : (fs : List Function) (name : List ℕ) (s : Signature) → function_of fs name ≡ Some s → FunctionAt fs name s
+function_found : (fs : List Function) (name : List ℕ) (s : Signature) → function_of fs name ≡ Some s
+    → FunctionAt fs name s
 function_found [] name s e = cc
 function_found (f ∷ fs) name s e = by_test (λ later. function_found fs name s later) (bytes_eq f.name name) refl e
   where
@@ -101,7 +105,8 @@ function_found (f ∷ fs) name s e = by_test (λ later. function_found fs name s
 
 -- ---- external functions
 
-extern_found : (es : List Extern) (name : List ℕ) (s : Signature) → All IsOfTable es → extern_of es name ≡ Some s → known_signature name ≡ Some s
+extern_found : (es : List Extern) (name : List ℕ) (s : Signature) → All IsOfTable es → extern_of es name ≡ Some s
+    → known_signature name ≡ Some s
 extern_found [] name s h e = cc
 extern_found (x ∷ xs) name s h e = by_test (λ later. extern_found xs name s (All-tail IsOfTable x xs h) later) (bytes_eq x.name name) refl e
   where
@@ -111,7 +116,9 @@ extern_found (x ∷ xs) name s h e = by_test (λ later. extern_found xs name s (
 
 -- ---- calls
 
-call_is : (P : Program) (callee : List ℕ) (ret : Option Scalar) (args : List Arg) → All IsOfTable P.externs → callee_of P callee ≡ Some (record { ret = ret; params = map (λ a. a.ty) args }) → CallsFunction P callee ret args ⊎ CallsExtern callee ret args
+call_is : (P : Program) (callee : List ℕ) (ret : Option Scalar) (args : List Arg) → All IsOfTable P.externs
+    → callee_of P callee ≡ Some (record { ret = ret; params = map (λ a. a.ty) args })
+    → CallsFunction P callee ret args ⊎ CallsExtern callee ret args
 call_is P callee ret args table e = by_extern (extern_of P.externs callee) refl e
   where
     of_function : FunctionAt P.functions callee (record { ret = ret; params = map (λ a. a.ty) args }) → CallsFunction P callee ret args

@@ -11,11 +11,14 @@ use Rattle.hip_ir.specs.declared.program.Param.{Param}
 use Rattle.hip_ir.specs.declared.program.Program.{Program}
 use Rattle.hip_names.specs.Names.{AllDiffer, IsAmong}
 use Rattle.hip_names.specs.Laws.NameLaws.{among-left, among-right, among-either}
-use Rattle.hip_typing.specs.Names.{Named, differ_after, numbered_from}
+use Rattle.hip_typing.specs.Names.{Named, differ_after, numbered, numbered_from}
+use Rattle.hip_typing.specs.Declarations.{Declares, instr_declared, body_declared, block_declared, blocks_declared, declared_by}
+use Rattle.hip_typing.specs.Seen.Inner.{entries, inner_entries}
+use Rattle.hip_globals.specs.Constants.{joined}
 use Rattle.hip_typing.specs.Paths.{names_of}
 use Rattle.hip_typing.specs.Registers.{Register, assigned_by, phi_registers, body_registers, parameter_registers}
 use Rattle.hip_typing.specs.Rules as rules
-use Rattle.hip_typing.specs.Rules.{names_check, registers_check, inner_check, inner_names, instr_names, phi_names, body_names, block_names, param_names, blocks_names, all_of}
+use Rattle.hip_typing.specs.Rules.{names_check, inner_check, inner_names, named_in}
 use Rattle.hip_typing.specs.declared.fault.Place.{Place}
 use Rattle.hip_typing.specs.declared.fault.Place.TheVariants as places
 use Rattle.hip_typing.specs.Sound.{top_names, names_in_block, names_in_function}
@@ -28,7 +31,8 @@ record Apart (earlier names : List (List ℕ)) : Type 0 where
   pub differ : AllDiffer names
   pub apart : (name : List ℕ) → IsAmong earlier name → ¬ IsAmong names name
 
-apart_after : (earlier : List (List ℕ)) (xs : List Named) → (differ_after earlier xs).Holds → Apart earlier (place_names xs)
+apart_after : (earlier : List (List ℕ)) (xs : List Named) → (differ_after earlier xs).Holds
+    → Apart earlier (place_names xs)
 apart_after earlier [] h = record { differ = tt; apart = λ name among none. none }
 apart_after earlier (x ∷ xs) h =
     let rest : Apart (earlier ++ x.name ∷ []) (place_names xs) = apart_after (earlier ++ x.name ∷ []) xs h.1 in
@@ -37,7 +41,8 @@ apart_after earlier (x ∷ xs) h =
       apart = λ name among there. ⊎_elim (λ e. h.0 (subst (λ (n : List ℕ). IsAmong earlier n) (sym e) among)) (λ later. rest.apart name (among-left earlier (x.name ∷ []) name among) later) there;
     }
 
-after_apart : (earlier : List (List ℕ)) (xs : List Named) → Apart earlier (place_names xs) → (differ_after earlier xs).Holds
+after_apart : (earlier : List (List ℕ)) (xs : List Named) → Apart earlier (place_names xs)
+    → (differ_after earlier xs).Holds
 after_apart earlier [] a = tt
 after_apart earlier (x ∷ xs) a = (
   (λ h. a.apart x.name h (inl refl)),
@@ -48,15 +53,18 @@ after_apart earlier (x ∷ xs) a = (
       }),
 )
 
-differ-sound : (xs : List Named) (names : List (List ℕ)) → place_names xs ≡ names → (differ_after [] xs).Holds → AllDiffer names
+differ-sound : (xs : List Named) (names : List (List ℕ)) → place_names xs ≡ names → (differ_after [] xs).Holds
+    → AllDiffer names
 differ-sound xs names is h = subst AllDiffer is (apart_after [] xs h).differ
 
-differ-whole : (xs : List Named) (names : List (List ℕ)) → place_names xs ≡ names → AllDiffer names → (differ_after [] xs).Holds
+differ-whole : (xs : List Named) (names : List (List ℕ)) → place_names xs ≡ names → AllDiffer names
+    → (differ_after [] xs).Holds
 differ-whole xs names is h = after_apart [] xs (record { differ = subst AllDiffer (sym is) h; apart = λ name none. absurd none })
 
 -- ---- the names of the whole program
 
-named_alike : {A : Type 0} (n : ℕ) (name : A → List ℕ) (place : ℕ → Place) (xs : List A) → place_names (numbered_from n (λ k x. record { name = name x; place = place k }) xs) ≡ map name xs
+named_alike : {A : Type 0} (n : ℕ) (name : A → List ℕ) (place : ℕ → Place) (xs : List A)
+    → place_names (numbered_from n (λ k x. record { name = name x; place = place k }) xs) ≡ map name xs
 named_alike n name place [] = refl
 named_alike n name place (x ∷ xs) = ap (λ ns. name x ∷ ns) (named_alike (n + 1) name place xs)
 
@@ -77,42 +85,68 @@ names-whole P h = differ-whole (rules.declarations P) (top_names P) (top_alike P
 
 -- ---- the names in a function
 
-registers_alike : (rs : List Register) (place : Place) → place_names (map (λ r. record { name = r.name; place = place }) rs) ≡ names_of rs
-registers_alike [] place = refl
-registers_alike (r ∷ rs) place = ap (λ ns. r.name ∷ ns) (registers_alike rs place)
+-- what is made of a declaration has its name
+pub record Tells {A : Type 0} (d : Declares A) (name : A → List ℕ) : Type 0 where
+  pub parameter : (p : Param) → name (d.parameter p) ≡ p.name
+  pub label : (b : ℕ) (label : List ℕ) → name (d.label b label) ≡ label
+  pub phi : (b i : ℕ) (p : Phi) → name (d.phi b i p) ≡ p.dest
+  pub instr : (b i : ℕ) (r : Register) → name (d.instr b i r) ≡ r.name
 
-params_alike : (n f : ℕ) (params : List Param) → place_names (numbered_from n (λ k p. record { name = p.name; place = places.Head f }) params) ≡ names_of (map (λ p. record { name = p.name; ty = Some p.ty }) params)
-params_alike n f [] = refl
-params_alike n f (p ∷ ps) = ap (λ ns. p.name ∷ ns) (params_alike (n + 1) f ps)
+module _ {A : Type 0} (d : Declares A) (name : A → List ℕ) (t : Tells d name) where
+  registers_told : (b i : ℕ) (rs : List Register) → map name (map (d.instr b i) rs) ≡ names_of rs
+  registers_told b i [] = refl
+  registers_told b i (r ∷ rs) =
+      ap (λ n. n ∷ map name (map (d.instr b i) rs)) (t.instr b i r) ∙ ap (λ ns. r.name ∷ ns) (registers_told b i rs)
 
-phis_alike : (n f b : ℕ) (phis : List Phi) → place_names (numbered_from n (λ i p. record { name = p.dest; place = places.Phi (record { function = f; block = b; index = i }) }) phis) ≡ names_of (phi_registers phis)
-phis_alike n f b [] = refl
-phis_alike n f b (p ∷ ps) = ap (λ ns. p.dest ∷ ns) (phis_alike (n + 1) f b ps)
+  params_told : (params : List Param)
+      → map name (map d.parameter params) ≡ names_of (map (λ p. record { name = p.name; ty = Some p.ty }) params)
+  params_told [] = refl
+  params_told (p ∷ ps) =
+      ap (λ n. n ∷ map name (map d.parameter ps)) (t.parameter p) ∙ ap (λ ns. p.name ∷ ns) (params_told ps)
 
-body_alike : (n f b : ℕ) (body : List Instr) → place_names (all_of (numbered_from n (instr_names f b) body)) ≡ names_of (body_registers body)
-body_alike n f b [] = refl
-body_alike n f b (i ∷ is) =
-    map-append (λ m. m.name) (instr_names f b n i) (all_of (numbered_from (n + 1) (instr_names f b) is))
-    ∙ ap (λ ns. ns ++ place_names (all_of (numbered_from (n + 1) (instr_names f b) is))) (registers_alike (assigned_by i) (places.Body (rules.site f b n)))
-    ∙ ap (λ ns. names_of (assigned_by i) ++ ns) (body_alike (n + 1) f b is) ∙ sym (map-append (λ r. r.name) (assigned_by i) (body_registers is))
+  phis_told : (n b : ℕ) (phis : List Phi) → map name (numbered_from n (d.phi b) phis) ≡ names_of (phi_registers phis)
+  phis_told n b [] = refl
+  phis_told n b (p ∷ ps) =
+      ap (λ x. x ∷ map name (numbered_from (n + 1) (d.phi b) ps)) (t.phi b n p) ∙ ap (λ ns. p.dest ∷ ns) (phis_told (n + 1) b ps)
 
-block_alike : (f b : ℕ) (block : Block) → place_names (block_names f b block) ≡ names_in_block block
-block_alike f b block =
-    ap (λ ns. block.label ∷ ns)
-    (map-append (λ m. m.name) (phi_names f b block.phis) (body_names f b block.body)
-    ∙ ap (λ ns. ns ++ place_names (body_names f b block.body)) (phis_alike 0 f b block.phis)
-    ∙ ap (λ ns. names_of (phi_registers block.phis) ++ ns) (body_alike 0 f b block.body) ∙ sym (map-append (λ r. r.name) (phi_registers block.phis) (body_registers block.body)))
+  body_told : (n b : ℕ) (body : List Instr)
+      → map name (joined (numbered_from n (instr_declared (d.instr b)) body)) ≡ names_of (body_registers body)
+  body_told n b [] = refl
+  body_told n b (i ∷ is) =
+      map-append name (instr_declared (d.instr b) n i) (joined (numbered_from (n + 1) (instr_declared (d.instr b)) is))
+      ∙ ap (λ ns. ns ++ map name (joined (numbered_from (n + 1) (instr_declared (d.instr b)) is))) (registers_told b n (assigned_by i))
+      ∙ ap (λ ns. names_of (assigned_by i) ++ ns) (body_told (n + 1) b is) ∙ sym (map-append (λ r. r.name) (assigned_by i) (body_registers is))
 
-blocks_alike : (n f : ℕ) (blocks : List Block) → place_names (all_of (numbered_from n (block_names f) blocks)) ≡ flat_map names_in_block blocks
-blocks_alike n f [] = refl
-blocks_alike n f (b ∷ bs) =
-    map-append (λ m. m.name) (block_names f n b) (all_of (numbered_from (n + 1) (block_names f) bs))
-    ∙ ap (λ ns. ns ++ place_names (all_of (numbered_from (n + 1) (block_names f) bs))) (block_alike f n b) ∙ ap (λ ns. names_in_block b ++ ns) (blocks_alike (n + 1) f bs)
+  block_told : (b : ℕ) (block : Block) → map name (block_declared d b block) ≡ names_in_block block
+  block_told b block =
+      ap (λ n. n ∷ map name (numbered (d.phi b) block.phis ++ body_declared (d.instr b) block.body)) (t.label b block.label)
+      ∙ ap (λ ns. block.label ∷ ns)
+      (map-append name (numbered (d.phi b) block.phis) (body_declared (d.instr b) block.body)
+      ∙ ap (λ ns. ns ++ map name (body_declared (d.instr b) block.body)) (phis_told 0 b block.phis)
+      ∙ ap (λ ns. names_of (phi_registers block.phis) ++ ns) (body_told 0 b block.body) ∙ sym (map-append (λ r. r.name) (phi_registers block.phis) (body_registers block.body)))
 
-pub inner_names-are : (f : ℕ) (fn : Function) → place_names (inner_names f fn) ≡ names_in_function fn
+  blocks_told : (n : ℕ) (blocks : List Block)
+      → map name (joined (numbered_from n (block_declared d) blocks)) ≡ flat_map names_in_block blocks
+  blocks_told n [] = refl
+  blocks_told n (b ∷ bs) =
+      map-append name (block_declared d n b) (joined (numbered_from (n + 1) (block_declared d) bs))
+      ∙ ap (λ ns. ns ++ map name (joined (numbered_from (n + 1) (block_declared d) bs))) (block_told n b) ∙ ap (λ ns. names_in_block b ++ ns) (blocks_told (n + 1) bs)
+
+  -- what is made of the declarations of a function has the names in it, in their order
+  pub declared_names-are : (fn : Function) → map name (declared_by d fn) ≡ names_in_function fn
+  declared_names-are fn =
+      map-append name (map d.parameter fn.params) (blocks_declared d fn.blocks)
+      ∙ ap (λ ns. ns ++ map name (blocks_declared d fn.blocks)) (params_told fn.params) ∙ ap (λ ns. names_of (parameter_registers fn) ++ ns) (blocks_told 0 fn.blocks)
+
+inner_names-are : (f : ℕ) (fn : Function) → place_names (inner_names f fn) ≡ names_in_function fn
 inner_names-are f fn =
-    map-append (λ m. m.name) (param_names f fn.params) (blocks_names f fn.blocks)
-    ∙ ap (λ ns. ns ++ place_names (blocks_names f fn.blocks)) (params_alike 0 f fn.params) ∙ ap (λ ns. names_of (parameter_registers fn) ++ ns) (blocks_alike 0 f fn.blocks)
+    declared_names-are (named_in f) (λ n. n.name)
+    (record { parameter = λ p. refl; label = λ b label. refl; phi = λ b i p. refl; instr = λ b i r. refl }) fn
+
+pub entry_names-are : (fn : Function) → map (λ e. e.name) (inner_entries fn) ≡ names_in_function fn
+entry_names-are fn =
+    declared_names-are entries (λ e. e.name)
+    (record { parameter = λ p. refl; label = λ b label. refl; phi = λ b i p. refl; instr = λ b i r. refl }) fn
 
 pub inner-sound : (f : ℕ) (fn : Function) → (inner_check f fn).Holds → AllDiffer (names_in_function fn)
 inner-sound f fn h = differ-sound (inner_names f fn) (names_in_function fn) (inner_names-are f fn) h

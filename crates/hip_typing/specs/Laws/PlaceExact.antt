@@ -36,26 +36,33 @@ use Rattle.hip_typing.specs.Sound.{Item, PhiItem, InstrItem, EndItem, uses_of, g
 
 -- ---- what is found by its name
 
-found-by_test : {V : Type 0} (b : Bool) (x name : List ℕ) (v : V) (later : Option V) (names : List (List ℕ)) → bytes_eq x name ≡ b → Decides (is_some later) (IsAmong names name) → Decides (is_some (if b then Some v else later)) (IsAmong (x ∷ names) name)
+found-by_test : {V : Type 0} (b : Bool) (x name : List ℕ) (v : V) (later : Option V) (names : List (List ℕ))
+    → bytes_eq x name ≡ b → Decides (is_some later) (IsAmong names name)
+    → Decides (is_some (if b then Some v else later)) (IsAmong (x ∷ names) name)
 found-by_test true x name v later names e d = (λ _. inl ((bytes_eq-Decides x name).0 e), λ _. refl)
 found-by_test false x name v later names e d =
     (λ t. inr (d.0 t), λ h. ⊎_elim (λ same. let t : bytes_eq x name ≡ true = (bytes_eq-Decides x name).1 same in cc) (λ l. d.1 l) h)
 
-register-decides : (rs : List Register) (name : List ℕ) → Decides (is_some (find_register rs name)) (IsAmong (names_of rs) name)
+register-decides : (rs : List Register) (name : List ℕ)
+    → Decides (is_some (find_register rs name)) (IsAmong (names_of rs) name)
 register-decides [] name = (λ e. cc, λ h. absurd h)
 register-decides (r ∷ rs) name = found-by_test (bytes_eq r.name name) r.name name r.ty (find_register rs name) (names_of rs) refl (register-decides rs name)
 
-extern-decides : (es : List Extern) (name : List ℕ) → Decides (is_some (extern_of es name)) (IsAmong (map (λ e. e.name) es) name)
+extern-decides : (es : List Extern) (name : List ℕ)
+    → Decides (is_some (extern_of es name)) (IsAmong (map (λ e. e.name) es) name)
 extern-decides [] name = (λ e. cc, λ h. absurd h)
 extern-decides (e ∷ es) name =
     found-by_test (bytes_eq e.name name) e.name name (record { ret = e.ret; params = e.params }) (extern_of es name) (map (λ e. e.name) es) refl (extern-decides es name)
 
-function-decides : (fs : List Function) (name : List ℕ) → Decides (is_some (function_of fs name)) (IsAmong (map (λ f. f.name) fs) name)
+function-decides : (fs : List Function) (name : List ℕ)
+    → Decides (is_some (function_of fs name)) (IsAmong (map (λ f. f.name) fs) name)
 function-decides [] name = (λ e. cc, λ h. absurd h)
 function-decides (f ∷ fs) name =
     found-by_test (bytes_eq f.name name) f.name name (record { ret = f.ret; params = map (λ p. p.ty) f.params }) (function_of fs name) (map (λ f. f.name) fs) refl (function-decides fs name)
 
-first-decides : (a b : Option Signature) (names others : List (List ℕ)) (name : List ℕ) → Decides (is_some a) (IsAmong names name) → Decides (is_some b) (IsAmong others name) → Decides (is_some (first_of a b)) (IsAmong (names ++ others) name)
+first-decides : (a b : Option Signature) (names others : List (List ℕ)) (name : List ℕ)
+    → Decides (is_some a) (IsAmong names name) → Decides (is_some b) (IsAmong others name)
+    → Decides (is_some (first_of a b)) (IsAmong (names ++ others) name)
 first-decides (Some s) b names others name p q = (λ e. among-left names others name (p.0 refl), λ h. refl)
 first-decides None b names others name p q =
     (λ e. among-right names others name (q.0 e), λ h. ⊎_elim (λ l. let t = p.1 l in cc) (λ r. q.1 r) (among-either names others name h))
@@ -67,12 +74,15 @@ callee-decides P name =
 are_among-decides : (known names : List (List ℕ)) → Decides (are_among known names) (All (IsAmong known) names)
 are_among-decides known names = all-decides (is_among known) (IsAmong known) names (λ x. among-decides known x)
 
-known-decides : (P : Program) (fn : Function) (us : List Use) → Decides (uses_known (scope_of P fn) us) (All (IsAmong (register_names fn)) (used_registers us) × All (IsAmong (global_names P)) (used_globals us))
+known-decides : (P : Program) (fn : Function) (us : List Use)
+    → Decides (uses_known (scope_of P fn) us)
+    (All (IsAmong (register_names fn)) (used_registers us) × All (IsAmong (global_names P)) (used_globals us))
 known-decides P fn us =
     both-decides _ _ (all-decides (λ n. is_some (find_register (registers_of fn) n)) (IsAmong (register_names fn)) (used_registers us) (λ x. register-decides (registers_of fn) x))
     (are_among-decides (global_names P) (used_globals us))
 
-callees-decides : (P : Program) (fn : Function) (i : Instr) → Decides (callee_known (scope_of P fn) i) (All (IsAmong (callee_names P)) (sound.callees_of (InstrItem i)))
+callees-decides : (P : Program) (fn : Function) (i : Instr)
+    → Decides (callee_known (scope_of P fn) i) (All (IsAmong (callee_names P)) (sound.callees_of (InstrItem i)))
 callees-decides P fn (Call dest ret callee args) =
     (λ e. All-cons (IsAmong (callee_names P)) callee [] ((callee-decides P callee).0 e) (All-nil (IsAmong (callee_names P))), λ h. (callee-decides P callee).1 (All-head (IsAmong (callee_names P)) callee [] h))
 callees-decides P fn (Binary dest op flags width a b) = (λ e. All-nil (IsAmong (callee_names P)), λ h. refl)
@@ -85,17 +95,23 @@ callees-decides P fn (Store ty value addr align) = (λ e. All-nil (IsAmong (call
 callees-decides P fn (Gep dest inbounds ty base indices) = (λ e. All-nil (IsAmong (callee_names P)), λ h. refl)
 
 -- names exist
-phi_names-decides : (P : Program) (fn : Function) (p : Phi) → Decides (uses_known (scope_of P fn) (phi_uses p) && are_among (label_names fn) (edge_labels p.edges)) (NamesExist P fn (PhiItem p))
+phi_names-decides : (P : Program) (fn : Function) (p : Phi)
+    → Decides (uses_known (scope_of P fn) (phi_uses p) && are_among (label_names fn) (edge_labels p.edges))
+    (NamesExist P fn (PhiItem p))
 phi_names-decides P fn p =
     let d = both-decides _ _ (known-decides P fn (phi_uses p)) (are_among-decides (label_names fn) (edge_labels p.edges)) in
     (λ e. let h = d.0 e in record { registers = h.0.0; globals = h.0.1; callees = All-nil (IsAmong (callee_names P)); labels = h.1 }, λ n. d.1 ((n.registers, n.globals), n.labels))
 
-instr_names-decides : (P : Program) (fn : Function) (i : Instr) → Decides (uses_known (scope_of P fn) (instr_uses i) && callee_known (scope_of P fn) i) (NamesExist P fn (InstrItem i))
+instr_names-decides : (P : Program) (fn : Function) (i : Instr)
+    → Decides (uses_known (scope_of P fn) (instr_uses i) && callee_known (scope_of P fn) i)
+    (NamesExist P fn (InstrItem i))
 instr_names-decides P fn i =
     let d = both-decides _ _ (known-decides P fn (instr_uses i)) (callees-decides P fn i) in
     (λ e. let h = d.0 e in record { registers = h.0.0; globals = h.0.1; callees = h.1; labels = All-nil (IsAmong (label_names fn)) }, λ n. d.1 ((n.registers, n.globals), n.callees))
 
-end_names-decides : (P : Program) (fn : Function) (e : End) → Decides (uses_known (scope_of P fn) (end_uses e) && are_among (label_names fn) (end_labels e)) (NamesExist P fn (EndItem e))
+end_names-decides : (P : Program) (fn : Function) (e : End)
+    → Decides (uses_known (scope_of P fn) (end_uses e) && are_among (label_names fn) (end_labels e))
+    (NamesExist P fn (EndItem e))
 end_names-decides P fn e =
     let d = both-decides _ _ (known-decides P fn (end_uses e)) (are_among-decides (label_names fn) (end_labels e)) in
     (λ t. let h = d.0 t in record { registers = h.0.0; globals = h.0.1; callees = All-nil (IsAmong (callee_names P)); labels = h.1 }, λ n. d.1 ((n.registers, n.globals), n.labels))
@@ -107,34 +123,41 @@ has_type-decides ty None = (λ e. cc, λ h. cc)
 has_type-decides ty (Some None) = (λ e. cc, λ h. cc)
 has_type-decides ty (Some (Some t)) = (λ e. ap (λ x. Some (Some x)) ((same_scalar-decides t ty).0 e), λ h. (same_scalar-decides t ty).1 (let same : t ≡ ty = cc in same))
 
-use-decides : (registers : List Register) (o : Operand) (ty : Scalar) → Decides (use_agrees registers o ty) (operand_is_typed registers o ty)
+use-decides : (registers : List Register) (o : Operand) (ty : Scalar)
+    → Decides (use_agrees registers o ty) (operand_is_typed registers o ty)
 use-decides registers (Reg name) ty = has_type-decides ty (find_register registers name)
 use-decides registers (Fixed value) ty = (λ e. e, λ h. h)
 
-uses-decides : (P : Program) (fn : Function) (us : List Use) → Decides (uses_agree (scope_of P fn) us) (All (IsTyped fn) us)
+uses-decides : (P : Program) (fn : Function) (us : List Use)
+    → Decides (uses_agree (scope_of P fn) us) (All (IsTyped fn) us)
 uses-decides P fn us = all-decides (λ u. use_agrees (registers_of fn) u.operand u.ty) (IsTyped fn) us (λ u. use-decides (registers_of fn) u.operand u.ty)
 
 abbrev call_of : Option Scalar → List Arg → Signature
 call_of ret args = record { ret = ret; params = map (λ a. a.ty) args }
 
-signature-decides : (ret : Option Scalar) (args : List Arg) (o : Option Signature) → Decides (signature_agrees ret args o) (o ≡ Some (call_of ret args))
+signature-decides : (ret : Option Scalar) (args : List Arg) (o : Option Signature)
+    → Decides (signature_agrees ret args o) (o ≡ Some (call_of ret args))
 signature-decides ret args None = (λ e. cc, λ h. cc)
 signature-decides ret args (Some s) =
     let d = both-decides _ _ (same_result-decides s.ret ret) (same_scalars-decides s.params (map (λ a. a.ty) args)) in
     (λ e. let h = d.0 e in λ i. Some (record { ret = h.0 i; params = h.1 i }), λ h. let same : s ≡ call_of ret args = cc in d.1 (ap (λ t. t.ret) same, ap (λ t. t.params) same))
 
-register-agrees : (dest : Option (List ℕ)) (ret : Option Scalar) → Decides (register_agrees dest ret) (ret ≡ None → dest ≡ None)
+register-agrees : (dest : Option (List ℕ)) (ret : Option Scalar)
+    → Decides (register_agrees dest ret) (ret ≡ None → dest ≡ None)
 register-agrees (Some d) None = (λ e. cc, λ h. let none : Some d ≡ None = h refl in cc)
 register-agrees (Some d) (Some t) = (λ e f. cc, λ h. refl)
 register-agrees None None = (λ e f. refl, λ h. refl)
 register-agrees None (Some t) = (λ e f. refl, λ h. refl)
 
-call-decides : (P : Program) (dest : Option (List ℕ)) (ret : Option Scalar) (callee : List ℕ) (args : List Arg) → Decides (signature_agrees ret args (callee_of P callee) && register_agrees dest ret) (CallAgrees P dest ret callee args)
+call-decides : (P : Program) (dest : Option (List ℕ)) (ret : Option Scalar) (callee : List ℕ) (args : List Arg)
+    → Decides (signature_agrees ret args (callee_of P callee) && register_agrees dest ret)
+    (CallAgrees P dest ret callee args)
 call-decides P dest ret callee args =
     let d = both-decides _ _ (signature-decides ret args (callee_of P callee)) (register-agrees dest ret) in
     (λ e. let h = d.0 e in record { signature = h.0; register = h.1 }, λ c. d.1 (c.signature, c.register))
 
-instr_own-decides : (P : Program) (fn : Function) (i : Instr) → Decides (instr_agrees (scope_of P fn) i) (OwnTypesAgree P fn (InstrItem i))
+instr_own-decides : (P : Program) (fn : Function) (i : Instr)
+    → Decides (instr_agrees (scope_of P fn) i) (OwnTypesAgree P fn (InstrItem i))
 instr_own-decides P fn (Cast dest op from a to) = (λ e. e, λ h. h)
 instr_own-decides P fn (Gep dest inbounds ty base indices) = (λ e. e, λ h. h)
 instr_own-decides P fn (Call dest ret callee args) = call-decides P dest ret callee args
@@ -145,7 +168,8 @@ instr_own-decides P fn (Alloca dest ty align) = (λ e. tt, λ h. refl)
 instr_own-decides P fn (Load dest ty addr align) = (λ e. tt, λ h. refl)
 instr_own-decides P fn (Store ty value addr align) = (λ e. tt, λ h. refl)
 
-returned-decides : (arg : Option Arg) (ret : Option Scalar) → Decides (returned_agrees arg ret) (option_map (λ a. a.ty) arg ≡ ret)
+returned-decides : (arg : Option Arg) (ret : Option Scalar)
+    → Decides (returned_agrees arg ret) (option_map (λ a. a.ty) arg ≡ ret)
 returned-decides None None = (λ e. refl, λ h. refl)
 returned-decides None (Some t) = (λ e. cc, λ h. cc)
 returned-decides (Some a) None = (λ e. cc, λ h. cc)
@@ -158,17 +182,21 @@ end_own-decides P fn (CondBr cond first second) = (λ e. tt, λ h. refl)
 end_own-decides P fn (Switch width value other cases) = (λ e. tt, λ h. refl)
 end_own-decides P fn Unreachable = (λ e. tt, λ h. refl)
 
-instr_types-decides : (P : Program) (fn : Function) (i : Instr) → Decides (uses_agree (scope_of P fn) (instr_uses i) && instr_agrees (scope_of P fn) i) (TypesAgree P fn (InstrItem i))
+instr_types-decides : (P : Program) (fn : Function) (i : Instr)
+    → Decides (uses_agree (scope_of P fn) (instr_uses i) && instr_agrees (scope_of P fn) i)
+    (TypesAgree P fn (InstrItem i))
 instr_types-decides P fn i =
     let d = both-decides _ _ (uses-decides P fn (instr_uses i)) (instr_own-decides P fn i) in
     (λ e. let h = d.0 e in record { operands = h.0; own = h.1 }, λ t. d.1 (t.operands, t.own))
 
-end_types-decides : (P : Program) (fn : Function) (e : End) → Decides (uses_agree (scope_of P fn) (end_uses e) && returns fn.ret e) (TypesAgree P fn (EndItem e))
+end_types-decides : (P : Program) (fn : Function) (e : End)
+    → Decides (uses_agree (scope_of P fn) (end_uses e) && returns fn.ret e) (TypesAgree P fn (EndItem e))
 end_types-decides P fn e =
     let d = both-decides _ _ (uses-decides P fn (end_uses e)) (end_own-decides P fn e) in
     (λ t. let h = d.0 t in record { operands = h.0; own = h.1 }, λ t. d.1 (t.operands, t.own))
 
-phi_types-decides : (P : Program) (fn : Function) (p : Phi) → Decides (uses_agree (scope_of P fn) (phi_uses p)) (TypesAgree P fn (PhiItem p))
+phi_types-decides : (P : Program) (fn : Function) (p : Phi)
+    → Decides (uses_agree (scope_of P fn) (phi_uses p)) (TypesAgree P fn (PhiItem p))
 phi_types-decides P fn p =
     let d = uses-decides P fn (phi_uses p) in
     (λ e. record { operands = d.0 e; own = tt }, λ t. d.1 t.operands)
@@ -194,13 +222,16 @@ entry-decides fn label = by_blocks fn.blocks
     by_blocks [] = (λ e. cc, λ h. cc)
     by_blocks (b ∷ bs) = (λ e. ap Some ((bytes_eq-Decides b.label label).0 e), λ h. (bytes_eq-Decides b.label label).1 (let same : b.label ≡ label = cc in same))
 
-ends-decides : (fn : Function) (block : Block) (e : End) → Decides (not (list_any (is_entry fn.blocks) (end_labels e))) (sound.EdgesAreSound fn block (EndItem e))
+ends-decides : (fn : Function) (block : Block) (e : End)
+    → Decides (not (list_any (is_entry fn.blocks) (end_labels e))) (sound.EdgesAreSound fn block (EndItem e))
 ends-decides fn block e = none-decides (is_entry fn.blocks) (λ label. label_at fn 0 ≡ Some label) (end_labels e) (λ label. entry-decides fn label)
 
 abbrev IsPredecessor : List Block → List ℕ → List ℕ → Type 0
-IsPredecessor bs from to = (n : ℕ) × (b : Block) × (slice_get bs n ≡ Some b) × (b.label ≡ from) × IsAmong (end_labels b.end) to
+IsPredecessor bs from to =
+    (n : ℕ) × (b : Block) × (slice_get bs n ≡ Some b) × (b.label ≡ from) × IsAmong (end_labels b.end) to
 
-predecessor-kept : (p : Bool) (x : List ℕ) (rest : List (List ℕ)) (from : List ℕ) → IsAmong rest from → IsAmong (if p then x ∷ rest else rest) from
+predecessor-kept : (p : Bool) (x : List ℕ) (rest : List (List ℕ)) (from : List ℕ) → IsAmong rest from
+    → IsAmong (if p then x ∷ rest else rest) from
 predecessor-kept true x rest from h = inr h
 predecessor-kept false x rest from h = h
 
@@ -246,7 +277,8 @@ carry-decides e d = by_test (bytes_eq e.label d.label) refl
     by_test true is = (λ t same. (same_operand-decides e.value d.value).0 t, λ h. (same_operand-decides e.value d.value).1 (h ((bytes_eq-Decides e.label d.label).0 is)))
     by_test false is = (λ t same. let there : bytes_eq e.label d.label ≡ true = (bytes_eq-Decides e.label d.label).1 same in cc, λ h. refl)
 
-edges-decides : (fn : Function) (block : Block) (edges : List Edge) → Decides (edges_agree (predecessors fn.blocks block.label) edges) (EdgesAgree fn block edges)
+edges-decides : (fn : Function) (block : Block) (edges : List Edge)
+    → Decides (edges_agree (predecessors fn.blocks block.label) edges) (EdgesAgree fn block edges)
 edges-decides fn block edges =
     let before = predecessors fn.blocks block.label in
     let labels = edge_labels edges in
@@ -274,7 +306,8 @@ pub record ItemIsSound (P : Program) (fn : Function) (block : Block) (x : Item) 
   pub cases : sound.CasesDiffer x
   pub edges : sound.EdgesAreSound fn block x
 
-pub phi-sound : (P : Program) (fn : Function) (block : Block) (p : Phi) (place : Place) → (phi_check (scope_of P fn) block.label p place).Holds → ItemIsSound P fn block (PhiItem p)
+pub phi-sound : (P : Program) (fn : Function) (block : Block) (p : Phi) (place : Place)
+    → (phi_check (scope_of P fn) block.label p place).Holds → ItemIsSound P fn block (PhiItem p)
 phi-sound P fn block p place h = record {
   names = (phi_names-decides P fn p).0 h.0;
   fit = h.1.0;
@@ -283,10 +316,12 @@ phi-sound P fn block p place h = record {
   edges = (edges-decides fn block p.edges).0 h.1.1.1;
 }
 
-pub phi-whole : (P : Program) (fn : Function) (block : Block) (p : Phi) (place : Place) → ItemIsSound P fn block (PhiItem p) → (phi_check (scope_of P fn) block.label p place).Holds
+pub phi-whole : (P : Program) (fn : Function) (block : Block) (p : Phi) (place : Place)
+    → ItemIsSound P fn block (PhiItem p) → (phi_check (scope_of P fn) block.label p place).Holds
 phi-whole P fn block p place s = ((phi_names-decides P fn p).1 s.names, (s.fit, ((phi_types-decides P fn p).1 s.agree, (edges-decides fn block p.edges).1 s.edges)))
 
-pub instr-sound : (P : Program) (fn : Function) (block : Block) (i : Instr) (place : Place) → (instr_check (scope_of P fn) i place).Holds → ItemIsSound P fn block (InstrItem i)
+pub instr-sound : (P : Program) (fn : Function) (block : Block) (i : Instr) (place : Place)
+    → (instr_check (scope_of P fn) i place).Holds → ItemIsSound P fn block (InstrItem i)
 instr-sound P fn block i place h = record {
   names = (instr_names-decides P fn i).0 h.0;
   fit = h.1.0;
@@ -295,10 +330,12 @@ instr-sound P fn block i place h = record {
   edges = tt;
 }
 
-pub instr-whole : (P : Program) (fn : Function) (block : Block) (i : Instr) (place : Place) → ItemIsSound P fn block (InstrItem i) → (instr_check (scope_of P fn) i place).Holds
+pub instr-whole : (P : Program) (fn : Function) (block : Block) (i : Instr) (place : Place)
+    → ItemIsSound P fn block (InstrItem i) → (instr_check (scope_of P fn) i place).Holds
 instr-whole P fn block i place s = ((instr_names-decides P fn i).1 s.names, (s.fit, (instr_types-decides P fn i).1 s.agree))
 
-pub end-sound : (P : Program) (fn : Function) (block : Block) (e : End) (place : Place) → (end_check (scope_of P fn) e place).Holds → ItemIsSound P fn block (EndItem e)
+pub end-sound : (P : Program) (fn : Function) (block : Block) (e : End) (place : Place)
+    → (end_check (scope_of P fn) e place).Holds → ItemIsSound P fn block (EndItem e)
 end-sound P fn block e place h = record {
   names = (end_names-decides P fn e).0 h.0;
   fit = h.1.0;
@@ -307,6 +344,7 @@ end-sound P fn block e place h = record {
   edges = (ends-decides fn block e).0 h.1.1.1.1;
 }
 
-pub end-whole : (P : Program) (fn : Function) (block : Block) (e : End) (place : Place) → ItemIsSound P fn block (EndItem e) → (end_check (scope_of P fn) e place).Holds
+pub end-whole : (P : Program) (fn : Function) (block : Block) (e : End) (place : Place)
+    → ItemIsSound P fn block (EndItem e) → (end_check (scope_of P fn) e place).Holds
 end-whole P fn block e place s =
     ((end_names-decides P fn e).1 s.names, (s.fit, ((end_types-decides P fn e).1 s.agree, ((cases-decides e).1 s.cases, (ends-decides fn block e).1 s.edges))))

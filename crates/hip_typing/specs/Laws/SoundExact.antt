@@ -61,7 +61,8 @@ none-decides : {A : Type 0} (o : Option A) → Decides (is_none o) (o ≡ None)
 none-decides None = (λ e. refl, λ h. refl)
 none-decides (Some x) = (λ e. cc, λ h. cc)
 
-pub table-decides : (e : Extern) (o : Option Signature) → Decides (is_of e o) (o ≡ Some (record { ret = e.ret; params = e.params }))
+pub table-decides : (e : Extern) (o : Option Signature)
+    → Decides (is_of e o) (o ≡ Some (record { ret = e.ret; params = e.params }))
 table-decides e None = (λ t. cc, λ h. cc)
 table-decides e (Some s) =
     let d = both-decides _ _ (same_result-decides e.ret s.ret) (same_scalars-decides s.params e.params) in (
@@ -87,7 +88,9 @@ externs-whole P k = (
 
 -- ---- sizes
 
-sizes-decides : (P : Program) → Decides (nat_le (region_size P) LARGEST_REGION && nat_le (volatile_end P) (volatile_start + LARGEST_VOLATILE)) ((region_size P ≤ LARGEST_REGION) × (volatile_end P ≤ volatile_start + LARGEST_VOLATILE))
+sizes-decides : (P : Program)
+    → Decides (nat_le (region_size P) LARGEST_REGION && nat_le (volatile_end P) (volatile_start + LARGEST_VOLATILE))
+    ((region_size P ≤ LARGEST_REGION) × (volatile_end P ≤ volatile_start + LARGEST_VOLATILE))
 sizes-decides P = both-decides _ _ (le-decides (region_size P) LARGEST_REGION) (le-decides (volatile_end P) (volatile_start + LARGEST_VOLATILE))
 
 sizes-sound : (P : Program) → (sizes_check P).Holds → KeepsToSizes P
@@ -98,7 +101,8 @@ sizes-whole P k = (sizes-decides P).1 (k.region, k.volatile)
 
 -- ---- `main`
 
-main_there : (fs : List Function) (n : ℕ) (g : Function) → number_of (function_names fs) (codes "main") ≡ Some n → slice_get fs n ≡ Some g → is_main g ≡ true → has_main fs ≡ true
+main_there : (fs : List Function) (n : ℕ) (g : Function) → number_of (function_names fs) (codes "main") ≡ Some n
+    → slice_get fs n ≡ Some g → is_main g ≡ true → has_main fs ≡ true
 main_there [] n g named here is = cc
 main_there (f ∷ fs) n g named here is =
     by_test (bytes_eq (codes "main") f.name) refl n here (sym (number_of-cons f.name (function_names fs) (codes "main")) ∙ named) (λ m at there. main_there fs m g at there is)
@@ -122,11 +126,15 @@ main_is g params ret = ap (λ ps. no_params ps && is_i32 g.ret) params ∙ ap is
 main-whole : (P : Program) → HasMain P → (main_check P).Holds
 main-whole P m = main_there P.functions m.number m.function m.named m.here (main_is m.function m.params m.result)
 
-number_by : (f : Function) (fs : List Function) (b : Bool) → bytes_eq f.name (codes "main") ≡ b → number_of (function_names (f ∷ fs)) (codes "main") ≡ cond b (Some 0) (option_map suc (number_of (function_names fs) (codes "main")))
+number_by : (f : Function) (fs : List Function) (b : Bool) → bytes_eq f.name (codes "main") ≡ b
+    → number_of (function_names (f ∷ fs)) (codes "main") ≡ cond b (Some 0)
+    (option_map suc (number_of (function_names fs) (codes "main")))
 number_by f fs b is =
     number_of-cons f.name (function_names fs) (codes "main") ∙ ap (λ t. cond t (Some 0) (option_map suc (number_of (function_names fs) (codes "main")))) (bytes_eq-sym (codes "main") f.name ∙ is)
 
-main_found : (fs : List Function) → has_main fs ≡ true → (n : ℕ) × (g : Function) × (number_of (function_names fs) (codes "main") ≡ Some n) × (slice_get fs n ≡ Some g) × (is_main g ≡ true)
+main_found : (fs : List Function) → has_main fs ≡ true
+    → (n : ℕ) × (g : Function) × (number_of (function_names fs) (codes "main") ≡ Some n) × (slice_get fs n ≡ Some g)
+    × (is_main g ≡ true)
 main_found [] e = cc
 main_found (f ∷ fs) e = by_test (λ later. main_found fs later) (bytes_eq f.name (codes "main")) refl e
   where
@@ -155,18 +163,28 @@ main-sound : (P : Program) → (main_check P).Holds → HasMain P
 main-sound P h =
     let found = main_found P.functions h in
     let both = and_parts (no_params found.1.params) (is_i32 found.1.ret) found.4 in
-    record { number = found.0; function = found.1; named = found.2; here = found.3; params = without_params found.1.params both.0; result = answers_i32 found.1.ret both.1 }
+    record {
+      number = found.0;
+      function = found.1;
+      named = found.2;
+      here = found.3;
+      params = without_params
+          found.1.params both.0;
+      result = answers_i32 found.1.ret both.1;
+    }
 
 -- ---- places
 
-block-sound : (P : Program) (f b : ℕ) (fn : Function) (block : Block) → (block_check (scope_of P fn) f b block).Holds → EachItem block (ItemIsSound P fn block)
+block-sound : (P : Program) (f b : ℕ) (fn : Function) (block : Block) → (block_check (scope_of P fn) f b block).Holds
+    → EachItem block (ItemIsSound P fn block)
 block-sound P f b fn block h = record {
   phis = each-sound (phi_at (scope_of P fn) block.label f b) (λ p. ItemIsSound P fn block (PhiItem p)) block.phis (λ i p c. phi-sound P fn block p (places.Phi (site f b i)) c) h.0;
   body = each-sound (instr_at (scope_of P fn) f b) (λ i. ItemIsSound P fn block (InstrItem i)) block.body (λ i instr c. instr-sound P fn block instr (places.Body (site f b i)) c) h.1.0;
   last = end-sound P fn block block.end (places.End f b) h.1.1;
 }
 
-block-whole : (P : Program) (f b : ℕ) (fn : Function) (block : Block) → EachItem block (ItemIsSound P fn block) → (block_check (scope_of P fn) f b block).Holds
+block-whole : (P : Program) (f b : ℕ) (fn : Function) (block : Block) → EachItem block (ItemIsSound P fn block)
+    → (block_check (scope_of P fn) f b block).Holds
 block-whole P f b fn block s = (
   each-whole (phi_at (scope_of P fn) block.label f b) (λ p. ItemIsSound P fn block (PhiItem p)) block.phis (λ i p c. phi-whole P fn block p (places.Phi (site f b i)) c) s.phis,
   (
@@ -177,7 +195,8 @@ block-whole P f b fn block s = (
 
 -- each rule of places, at each place
 pub record PlacesAreSound (P : Program) : Type 0 where
-  pub sound : (f b : ℕ) (fn : Function) (block : Block) → IsBlockAt P f b fn block → EachItem block (ItemIsSound P fn block)
+  pub sound : (f b : ℕ) (fn : Function) (block : Block) → IsBlockAt P f b fn block
+      → EachItem block (ItemIsSound P fn block)
 
 places-sound : (P : Program) → (places_check P).Holds → PlacesAreSound P
 places-sound P h = record {
@@ -190,7 +209,8 @@ places-whole P s =
     holds-made (function_check P) P.functions
     (λ f fn e. holds-made (block_check (scope_of P fn) f) fn.blocks (λ b block g. block-whole P f b fn block (s.sound f b fn block (record { function = e; block_is = g }))))
 
-rule-of : (block : Block) (all one : Item → Type 0) → ((x : Item) → all x → one x) → EachItem block all → EachItem block one
+rule-of : (block : Block) (all one : Item → Type 0) → ((x : Item) → all x → one x) → EachItem block all
+    → EachItem block one
 rule-of block all one f s = record { phis = λ k d w. f (PhiItem (get_or block.phis k d)) (s.phis k d w); body = λ k d w. f (InstrItem (get_or block.body k d)) (s.body k d w); last = f (EndItem block.end) s.last }
 
 -- ---- soundness
@@ -218,7 +238,8 @@ passes-sound P s =
       assigned = λ f b fn block at. assigned-sound fn f (s.assigned f fn at.function) b block at.block_is;
     }
 
-item-of : (P : Program) → IsSound P → (f b : ℕ) (fn : Function) (block : Block) → IsBlockAt P f b fn block → EachItem block (ItemIsSound P fn block)
+item-of : (P : Program) → IsSound P → (f b : ℕ) (fn : Function) (block : Block) → IsBlockAt P f b fn block
+    → EachItem block (ItemIsSound P fn block)
 item-of P s f b fn block at =
     let names = s.names_exist f b fn block at in
     let fit = s.types_fit f b fn block at in

@@ -1,5 +1,5 @@
 -- The rules of a program are exact: the first fault is none exactly where all of them hold.
-use Rattle.std.specs.Prelude.{ℕ, ◌≤◌, true, List, ◌∷◌, get_or, All}
+use Rattle.std.specs.Prelude.{ℕ, ◌≤◌, true, List, ◌∷◌}
 use Rattle.hip_types.specs.declared.limits.TheConstants.{LARGEST_REGION}
 use Rattle.hip_ir.specs.declared.block.Block.{Block}
 use Rattle.hip_ir.specs.declared.block.End.{End}
@@ -9,8 +9,7 @@ use Rattle.hip_ir.specs.declared.program.GlobalVar.{GlobalVar}
 use Rattle.hip_ir.specs.declared.program.Program.{Program}
 use Rattle.hip_typing.specs.Check.{IsExact}
 use Rattle.std.proofs.Common.{arith}
-use Rattle.hip_globals.specs.Addresses.{AllFit, end_of}
-use Rattle.hip_globals.specs.Addresses.{TypesFitIn}
+use Rattle.hip_globals.specs.Addresses.{end_of}
 use Rattle.hip_typing.specs.Sound.{KeepsToSizes}
 use Rattle.hip_typing.specs.Laws.CheckLaws.{asks_true-exact, and_then-exact, each_from-exact, differ_after-exact, types_fit-exact}
 use Rattle.hip_typing.specs.Places.{Scope, scope_of, instr_check, end_check, phi_check}

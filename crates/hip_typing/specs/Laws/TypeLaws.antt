@@ -39,7 +39,8 @@ types y = map-Ty Known Ty (λ e. e.0) y
 abbrev tests : Ty-F Known → Ty-F (Ty → Bool)
 tests y = map-Ty Ty (Ty → Bool) same_type (types y)
 
-all_equal : (es : List Known) (ts : List Ty) → all_pass (map same_type (map (λ e. e.0) es)) ts ≡ true → map (λ e. e.0) es ≡ ts
+all_equal : (es : List Known) (ts : List Ty) → all_pass (map same_type (map (λ e. e.0) es)) ts ≡ true
+    → map (λ e. e.0) es ≡ ts
 all_equal [] [] h = refl
 all_equal [] (t ∷ ts) h = cc
 all_equal (e ∷ es) [] h = cc

@@ -25,18 +25,21 @@ and_swap false true c = refl
 and_swap false false c = refl
 
 -- names that a table knows are those that are there
-pub known_alike : (known names asked : List (List ℕ)) → Knows known names → list_all (is_among known) asked ≡ list_all (is_among names) asked
+pub known_alike : (known names asked : List (List ℕ)) → Knows known names
+    → list_all (is_among known) asked ≡ list_all (is_among names) asked
 known_alike known names [] knows = refl
 known_alike known names (x ∷ xs) knows = ap (λ b. b && list_all (is_among known) xs) (knows x) ∙ ap (λ b. is_among names x && b) (known_alike known names xs knows)
 
-module _ (s : Scope) (names : List (List ℕ)) (values : List (Option Scalar)) (globals : List (List ℕ)) (finds : Finds names values s.registers) (knows : Knows globals (global_names s)) where
+module _ (s : Scope) (names : List (List ℕ)) (values : List (Option Scalar)) (globals : List (List ℕ))
+    (finds : Finds names values s.registers) (knows : Knows globals (global_names s)) where
   abbrev registered : List (List ℕ) → Bool
   registered ns = list_all (λ n. is_some (find_register s.registers n)) ns
 
   abbrev global : List (List ℕ) → Bool
   global ns = list_all (is_among (global_names s)) ns
 
-  one_more : (o : Operand) (ty : Scalar) (us : List Use) → (operand_known names values globals o && (registered (used_registers us) && global (used_globals us))) ≡
+  one_more : (o : Operand) (ty : Scalar) (us : List Use)
+      → (operand_known names values globals o && (registered (used_registers us) && global (used_globals us))) ≡
       uses_known s (record { operand = o; ty = ty } ∷ us)
   one_more (Reg name) ty us =
       ap (λ o. is_some o && (registered (used_registers us) && global (used_globals us))) (finds.finds name)
@@ -51,7 +54,8 @@ module _ (s : Scope) (names : List (List ℕ)) (values : List (Option Scalar)) (
   uses_known-by_tables [] = refl
   uses_known-by_tables (u ∷ us) = ap (λ b. operand_known names values globals u.operand && b) (uses_known-by_tables us) ∙ one_more u.operand u.ty us
 
-module _ (s : Scope) (names : List (List ℕ)) (values : List (Option Scalar)) (finds : Finds names values s.registers) where
+module _ (s : Scope) (names : List (List ℕ)) (values : List (Option Scalar))
+    (finds : Finds names values s.registers) where
   agrees_alike : (o : Operand) (ty : Scalar) → operand_agrees names values o ty ≡ use_agrees s.registers o ty
   agrees_alike (Reg name) ty = ap (has_type ty) (finds.finds name)
   agrees_alike (Fixed value) ty = refl
@@ -62,7 +66,9 @@ module _ (s : Scope) (names : List (List ℕ)) (values : List (Option Scalar)) (
   uses_agree-by_tables (u ∷ us) =
       ap (λ b. b && operands_agree names values us) (agrees_alike u.operand u.ty) ∙ ap (λ b. use_agrees s.registers u.operand u.ty && b) (uses_agree-by_tables us)
 
-fits_alike : (o : Operand) (ty : Scalar) (us : List Use) → (operand_fits o && list_all fits_test (used_types us)) ≡ list_all fits_test (used_types (record { operand = o; ty = ty } ∷ us))
+fits_alike : (o : Operand) (ty : Scalar) (us : List Use)
+    → (operand_fits o && list_all fits_test (used_types us))
+    ≡ list_all fits_test (used_types (record { operand = o; ty = ty } ∷ us))
 fits_alike (Reg name) ty us = refl
 fits_alike (Fixed value) ty us = sym (list_all-append fits_test (types_in value) (used_types us))
 

@@ -1,7 +1,8 @@
 -- What the check of uses on paths answers, by the tables of a function.
-use Rattle.std.specs.Prelude.{ℕ, ◌≡◌, ◌++◌, ◌∷◌, nat_le, ◌==◌, ◌&&◌, if◌then◌else◌, Bool, true, List, map, All, Option, Some, None, Result, Ok, Err, slice_get}
+use Rattle.std.specs.Prelude.{ℕ, ◌≡◌, ◌++◌, ◌∷◌, nat_le, ◌==◌, ◌&&◌, if◌then◌else◌, Bool, true, List, All, Option, Some, None, Result, Ok, Err, slice_get}
 use Rattle.hip_ir.specs.declared.program.Function.{Function}
 use Rattle.hip_ir.specs.declared.program.Program.{Program}
+use Rattle.hip_typing.specs.Sound.{names_in_function}
 use Rattle.hip_typing.specs.Seen.Inner.{inner_entries, graph_of}
 use Rattle.hip_names.specs.Names.{AllDiffer}
 use Rattle.hip_typing.specs.Paths.{IsUnassigned}
@@ -12,8 +13,8 @@ use Rattle.hip_typing.specs.declared.assigned.NotAssigned.TheVariants as unassig
 use Rattle.hip_typing.specs.declared.assigned.Point.{Point}
 use Rattle.hip_typing.specs.declared.assigned.Point.TheVariants.{Before, AtEnd}
 use Rattle.hip_typing.specs.declared.fault.Place.{Place}
-use Rattle.hip_typing.specs.declared.inner_table.Inner.{Inner}
-use Rattle.hip_typing.specs.declared.inner_table.Inner.TheVariants.{Parameter, Assigned}
+use Rattle.hip_typing.specs.declared.tables.inner_table.Inner.{Inner}
+use Rattle.hip_typing.specs.declared.tables.inner_table.Inner.TheVariants.{Parameter, Assigned}
 
 -- a register that can be used after so many instructions of its block, can be used at the point
 abbrev pub is_there : Point → ℕ → Bool
@@ -32,7 +33,7 @@ pub record Describes (fn : Function) (names : List (List ℕ)) (values : List In
     (graph : List (List ℕ)) : Type 0 where
   pub stands : StandsFor names values (inner_entries fn)
   pub graph_is : graph ≡ graph_of fn
-  pub differ : AllDiffer (map (λ e. e.name) (inner_entries fn))
+  pub differ : AllDiffer (names_in_function fn)
 
 -- the path shows that the first of the uses that is not assigned on every path is at the place
 pub record IsFirstOf (fn : Function) (uses : List RegisterUse) (place : Place) (path : List ℕ) : Type 0 where

@@ -15,7 +15,7 @@ use Rattle.hip_names.specs.Tables.{value_beside}
 use Rattle.hip_typing.specs.Seen.Tables.{Finds, FindsCallees, callee_seen}
 use Rattle.hip_typing.specs.Laws.UseLaws.{uses_known-by_tables, uses_agree-by_tables, uses_fit-is}
 use Rattle.hip_typing.specs.Seen.UsesSeen.{operands_known, operands_agree, operands_fit, instr_agrees_in, callee_known_in, written_fits}
-use Rattle.hip_typing.specs.declared.callees.Callee.{Callee}
+use Rattle.hip_typing.specs.declared.tables.callees.Callee.{Callee}
 use Rattle.hip_typing.specs.declared.fault.Fault.TheVariants as breaks
 use Rattle.hip_typing.specs.declared.fault.Finding.{Finding}
 use Rattle.hip_typing.specs.declared.fault.Place.{Place}

@@ -1,7 +1,7 @@
 -- What the code's registers stand for.
 use Rattle.std.specs.Prelude.{List, [], ◌∷◌, Option, Some, None}
 use Rattle.hip_typing.specs.Registers.{Register}
-use Rattle.hip_typing.specs.declared.registers.Register as code
+use Rattle.hip_typing.specs.declared.tables.registers.Register as code
 
 abbrev pub register_seen : Option code.Register → List Register
 register_seen None = []

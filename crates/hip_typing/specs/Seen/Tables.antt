@@ -8,9 +8,9 @@ use Rattle.hip_names.specs.Tables.{Entry, value_beside, StandsFor}
 use Rattle.hip_externs.specs.Externs.{Signature}
 use Rattle.hip_typing.specs.Places.{callee_of}
 use Rattle.hip_typing.specs.Registers.{Register, find_register}
-use Rattle.hip_typing.specs.declared.callees.Callee.{Callee}
-use Rattle.hip_typing.specs.declared.callees.Params.{Params}
-use Rattle.hip_typing.specs.declared.callees.Params.TheVariants.{Scalars, Named}
+use Rattle.hip_typing.specs.declared.tables.callees.Callee.{Callee}
+use Rattle.hip_typing.specs.declared.tables.callees.Params.{Params}
+use Rattle.hip_typing.specs.declared.tables.callees.Params.TheVariants.{Scalars, Named}
 
 -- ---- registers
 

@@ -2,7 +2,7 @@
 use Rattle.std.specs.Prelude.{ℕ, List, [], ◌∷◌, ◌++◌, map, Option, Some, None}
 use Rattle.std.specs.Borrow.{Bor}
 use Rattle.hip_ir.specs.declared.block.Case.{Case}
-use Rattle.hip_typing.specs.declared.targets.Targets.{Targets}
+use Rattle.hip_typing.specs.declared.places.targets.Targets.{Targets}
 
 abbrev pub label_seen : Option (Bor (List ℕ)) → List (List ℕ)
 label_seen None = []

@@ -14,9 +14,9 @@ use Rattle.hip_typing.specs.Places.{fits_test, has_type, cast_agrees, gep_agrees
 use Rattle.hip_typing.specs.Registers.{Use, uses, arg_uses}
 use Rattle.hip_names.specs.Tables.{value_beside}
 use Rattle.hip_typing.specs.Seen.Tables.{callee_seen}
-use Rattle.hip_typing.specs.declared.callees.Callee.{Callee}
-use Rattle.hip_typing.specs.declared.uses.OperandUse.{OperandUse}
-use Rattle.hip_typing.specs.declared.uses.Uses.{Uses}
+use Rattle.hip_typing.specs.declared.tables.callees.Callee.{Callee}
+use Rattle.hip_typing.specs.declared.places.uses.OperandUse.{OperandUse}
+use Rattle.hip_typing.specs.declared.places.uses.Uses.{Uses}
 
 abbrev pub use_seen : Option OperandUse → List Use
 use_seen None = []

@@ -1,8 +1,0 @@
-use Rattle.hip_typing.specs.Seen.NamesSeen.{seen}
-use Rattle.hip_typing.specs.Rules.{instr_names}
-use Rattle.hip_typing.proofs.NameLists.{more_names}
-use Rattle.hip_typing.proofs.inner.push_body.Goals as goal
-
-pub body-preserved : goal.body-preserved
-body-preserved c =
-    more_names (instr_names c.args.function c.args.block) (seen c.args.names.now) c.args.body.now c.body.index c.index-body-index.result c.body.names c.push_instr.new.names c.body-test.true c.index-body-index.is c.body.invariant c.in_ok-push_instr.ensures

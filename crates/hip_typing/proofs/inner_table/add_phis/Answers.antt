@@ -1,6 +1,0 @@
-use Rattle.hip_typing.specs.Seen.Inner.{phi_entry}
-use Rattle.hip_typing.proofs.InnerLemmas.{gains_one}
-use Rattle.hip_typing.proofs.inner_table.add_phis.Goals as goal
-
-pub phis-preserved : goal.phis-preserved
-phis-preserved c = gains_one (phi_entry c.args.block) c.args.phis.now c.phis.phi-index c.phi-item.result c.phis-test.true c.phi-item.is c.phis.invariant c.in_ok-add_name.ensures

@@ -1,5 +1,5 @@
 -- A loop that ends by a refusal or for want of memory.
-use Rattle.std.proofs.Common.{◌≡◌, ◌≤◌, ℕ, ◌<◌, Bool, true, List, [], length, Option, Some, None, Ok, Err, refl}
+use Rattle.std.proofs.Common.{◌≡◌, ◌≤◌, Bool, true, List, [], length, Option, Ok, Err, refl}
 use Rattle.hip_tokens.specs.Tokens.{Tok, At}
 use Rattle.hip_rules.specs.Reader.{Outcome, Reader, next, many_at, with_front, taken_up, leaders_at, with_leaders}
 use Rattle.hip_rules.specs.Laws.Loops.{TakesSome, fails, fails_up, leader_head_fails, leader_part_fails}

@@ -1,23 +1,20 @@
 -- Parts that take a token at least.
 use Rattle.std.proofs.Common.{◌≡◌, ◌≤◌, ℕ, List, Option, Ok, length}
-use Rattle.hip_types.specs.declared.number.Scalar.{Scalar}
-use Rattle.hip_types.specs.declared.number.Width.{Width}
 use Rattle.hip_tokens.specs.Tokens.{At}
 use Rattle.hip_types.specs.declared.number.BinaryOp.{BinaryOp}
 use Rattle.hip_rules.specs.Laws.Exact.{never}
 use Rattle.hip_rules.specs.Laws.Loops.{TakesSome}
 use Rattle.hip_rules.specs.Part.{one_more_by, token}
 use Rattle.hip_rules.specs.Laws.Parts.{read_takes_some, one_more_read, token_read, read_within}
-use Rattle.hip_ir.specs.declared.fault.Fault.{Fault}
-use Rattle.hip_ir.specs.Words.{comma, is_mark, is_local, is_label, a_word_of, is_word_of, width_word, scalar_word, flag_word}
-use Rattle.hip_ir.specs.Grammar.{scalar, is_width, type_within, literal_index, const_within, typed_const, arg, index}
+use Rattle.hip_ir.specs.Words.{comma, is_local, a_word_of, is_word_of, flag_word}
+use Rattle.hip_ir.specs.Grammar.{type_within, const_within, typed_const}
 use Rattle.hip_ir.specs.Laws.Apart.{not_word_of}
-use Rattle.hip_ir.specs.Bodies.{assigned, edge, phi, case, instr, begins_instr, block}
-use Rattle.hip_ir.specs.Laws.BodiesExact.{assigned_read, edge_read, phi_read, case_read, instr_read, block_read}
-use Rattle.hip_ir.specs.Text.{param, item, begins_item}
-use Rattle.hip_ir.specs.Laws.TextExact.{scalar_read, param_read, item_read, goes_on_item}
+use Rattle.hip_ir.specs.Bodies.{assigned, phi}
+use Rattle.hip_ir.specs.Laws.BodiesExact.{assigned_read, phi_read}
+use Rattle.hip_ir.specs.Text.{item, begins_item}
+use Rattle.hip_ir.specs.Laws.TextExact.{item_read, goes_on_item}
 use Rattle.hip_ir.specs.declared.block.Phi.{Phi}
-use Rattle.hip_ir.specs.Laws.Exactness.{begins_type, type_read, literal_index_read, typed_const_read, const_exact, arg_read, index_read}
+use Rattle.hip_ir.specs.Laws.Exactness.{begins_type, type_read, typed_const_read, const_exact}
 
 pub type_some : (n : ℕ) → TakesSome (one_more_by comma (type_within n)).read
 type_some n = read_takes_some (one_more_by comma (type_within n)) comma never (one_more_read (type_within n) comma begins_type never (type_read n))

@@ -21,7 +21,8 @@ abbrev pub tail : List At → List At
 tail [] = []
 tail (t ∷ ts) = ts
 
--- What a method gave, seen by `view`, is what the reading gives. The parser then stands behind it, or at the refused place.
+-- What a method gave, seen by `view`, is what the reading gives. The parser then stands behind it, or at the refused
+-- place.
 abbrev pub Gives : {X Y : Type 0} → (X → Y) → Result X (Option Fault) → Outcome Fault Y → List At → Type 0
 Gives view (Ok x) read after = read ≡ Ok (view x, after)
 Gives view (Err why) read after = read ≡ Err (why, after)

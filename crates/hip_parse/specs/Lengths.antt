@@ -1,6 +1,5 @@
 -- A part that is read leaves no more tokens than there were, and one that begins by a token leaves fewer.
-use Rattle.std.proofs.Common.{◌≡◌, ◌≤◌, ℕ, List, Ok, length}
-use Rattle.hip_types.specs.declared.number.Bits.{Bits}
+use Rattle.std.proofs.Common.{◌≡◌, ◌≤◌, List, Ok, length}
 use Rattle.hip_types.specs.declared.number.Scalar.{Scalar}
 use Rattle.hip_types.specs.declared.number.Width.{Width}
 use Rattle.hip_tokens.specs.Tokens.{At}

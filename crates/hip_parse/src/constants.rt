@@ -17,7 +17,7 @@ use crate::parts::Production;
 use crate::words::{Scalars, Widths};
 use hip_ir::{Arg, Const, ConstGep, Fault, Operand, TypedConst};
 use hip_tokens::Token;
-use hip_types::{Bits, Link, Row, Scalar, Ty};
+use hip_types::{Bits, DEEPEST_NESTING, Link, Row, Scalar, Ty};
 use std::alloc::Global;
 
 /// An integer type and a literal of it.
@@ -124,7 +124,7 @@ impl<'a> Parser<'a> {
     /// A constant under `ptr`, with at most `depth` `getelementptr` in one another.
     #[cycle(pointers)]
     #[tactic(auto, unfolding(hip_ir::specs::Grammar::pointer_within, hip_ir::specs::Grammar::pointer_by))]
-    pub(crate) fn pointer(&mut self, alloc: Global, depth: u32) -> Result<Const, ReadError>
+    pub(crate) fn pointer(&mut self, alloc: Global, depth: u64) -> Result<Const, ReadError>
         ensures { Takes (λ x. x) result ((pointer_within depth).read (left self.old)) (left self.new) }
     {
         if !self.at_word(b"getelementptr") {
@@ -139,7 +139,7 @@ impl<'a> Parser<'a> {
 
     #[cycle(pointers)]
     #[tactic(auto, unfolding(hip_ir::specs::Grammar::gep_const))]
-    fn gep_const(&mut self, alloc: Global, depth: u32) -> Result<Const, ReadError>
+    fn gep_const(&mut self, alloc: Global, depth: u64) -> Result<Const, ReadError>
         ensures { Takes (λ x. x) result
             ((gep_const (gep_inside (pointer_within depth))).read (left self.old))
             (left self.new) }
@@ -151,13 +151,13 @@ impl<'a> Parser<'a> {
 
     #[cycle(pointers)]
     #[tactic(auto, unfolding(hip_ir::specs::Grammar::gep_inside))]
-    fn gep_inside(&mut self, alloc: Global, depth: u32, inbounds: bool) -> Result<Const, ReadError>
+    fn gep_inside(&mut self, alloc: Global, depth: u64, inbounds: bool) -> Result<Const, ReadError>
         ensures { Takes (λ x. x) result
             ((gep_inside (pointer_within depth) inbounds).read (left self.old))
             (left self.new) }
     {
         self.mark(b'(')?;
-        let ty = self.ty(alloc, 32)?;
+        let ty = self.ty(alloc, DEEPEST_NESTING)?;
         self.mark(b',')?;
         self.word(b"ptr")?;
         let base = self.pointer(alloc, depth)?;
@@ -226,7 +226,7 @@ impl<'a> Parser<'a> {
                 let value = self.int_const(*width)?;
                 Ok(value)
             }
-            Ty::Ptr => self.pointer(alloc, 32),
+            Ty::Ptr => self.pointer(alloc, DEEPEST_NESTING),
             Ty::Array(_, _) => {
                 let value = self.shallow_array()?;
                 Ok(value)
@@ -244,7 +244,7 @@ impl<'a> Parser<'a> {
     pub(crate) fn const_value(
         &mut self,
         alloc: Global,
-        depth: u32,
+        depth: u64,
         ty: &Ty,
     ) -> Result<Const, ReadError>
         ensures { Takes (λ x. x) result ((const_within depth ty.now).read (left self.old)) (left self.new) }
@@ -257,7 +257,7 @@ impl<'a> Parser<'a> {
                 let value = self.int_const(*width)?;
                 Ok(value)
             }
-            Ty::Ptr => self.pointer(alloc, 32),
+            Ty::Ptr => self.pointer(alloc, DEEPEST_NESTING),
             Ty::Array(_, _) => self.array_value(alloc, depth - 1),
             Ty::Struct(_) => self.struct_value(alloc, depth - 1),
         }
@@ -265,7 +265,7 @@ impl<'a> Parser<'a> {
 
     #[cycle(constants)]
     #[tactic(auto, unfolding(hip_ir::specs::Grammar::array_const))]
-    fn array_value(&mut self, alloc: Global, depth: u32) -> Result<Const, ReadError>
+    fn array_value(&mut self, alloc: Global, depth: u64) -> Result<Const, ReadError>
         ensures { Takes (λ x. x) result
             ((either (is_mark (byte "["))
             (array_const (const_list (byte "[") (byte "]") (const_within depth)))
@@ -283,7 +283,7 @@ impl<'a> Parser<'a> {
 
     #[cycle(constants)]
     #[tactic(auto, unfolding(hip_ir::specs::Grammar::struct_const))]
-    fn struct_value(&mut self, alloc: Global, depth: u32) -> Result<Const, ReadError>
+    fn struct_value(&mut self, alloc: Global, depth: u64) -> Result<Const, ReadError>
         ensures { Takes (λ x. x) result
             ((either (is_mark (byte "{"))
             (struct_const (const_list (byte "{") (byte "}") (const_within depth)))
@@ -305,7 +305,7 @@ impl<'a> Parser<'a> {
     fn items(
         &mut self,
         alloc: Global,
-        depth: u32,
+        depth: u64,
         start: u8,
         end: u8,
     ) -> Result<Row<TypedConst>, ReadError>
@@ -325,17 +325,17 @@ impl<'a> Parser<'a> {
 
     #[cycle(constants)]
     #[tactic(auto, unfolding(hip_ir::specs::Grammar::typed_const))]
-    fn typed_const(&mut self, alloc: Global, depth: u32) -> Result<TypedConst, ReadError>
+    fn typed_const(&mut self, alloc: Global, depth: u64) -> Result<TypedConst, ReadError>
         ensures { Takes (λ x. x) result ((typed_const (const_within depth)).read (left self.old)) (left self.new) }
     {
-        let ty = self.ty(alloc, 32)?;
+        let ty = self.ty(alloc, DEEPEST_NESTING)?;
         let value = self.const_value(alloc, depth, &ty)?;
         Ok(TypedConst { ty, value })
     }
 
     #[cycle(constants)]
     #[tactic(auto, unfolding(hip_rules::specs::Part::separated))]
-    fn some_consts(&mut self, alloc: Global, depth: u32) -> Result<Row<TypedConst>, ReadError>
+    fn some_consts(&mut self, alloc: Global, depth: u64) -> Result<Row<TypedConst>, ReadError>
         ensures { Takes (λ x. x) result
             ((separated comma (typed_const (const_within depth))).read (left self.old))
             (left self.new) }
@@ -348,7 +348,7 @@ impl<'a> Parser<'a> {
 
     #[cycle(constants)]
     #[tactic(auto, unfolding(hip_rules::specs::Part::one_more_by))]
-    fn next_const(&mut self, alloc: Global, depth: u32) -> Result<TypedConst, ReadError>
+    fn next_const(&mut self, alloc: Global, depth: u64) -> Result<TypedConst, ReadError>
         ensures { Takes (λ x. x) result
             ((one_more_by comma (typed_const (const_within depth))).read (left self.old))
             (left self.new) }
@@ -361,7 +361,7 @@ impl<'a> Parser<'a> {
     fn more_consts(
         &mut self,
         alloc: Global,
-        depth: u32,
+        depth: u64,
         items: Row<TypedConst>,
     ) -> Result<Row<TypedConst>, ReadError>
         ensures { Takes (λ x. x) result
@@ -388,7 +388,7 @@ impl<'a> Parser<'a> {
                 let value = self.int_const(width)?;
                 Ok(value)
             }
-            Scalar::Ptr => self.pointer(alloc, 32),
+            Scalar::Ptr => self.pointer(alloc, DEEPEST_NESTING),
         }
     }
 

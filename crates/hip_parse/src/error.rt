@@ -23,8 +23,8 @@ pub enum ParseRefusal {
     NoMemory,
 }
 
-/// Why a method gave nothing: no memory, or the token at which the parser stands is refused, perhaps for a reason of its
-/// place.
+/// Why a method gave nothing: no memory, or the token at which the parser stands is refused, perhaps for a reason of
+/// its place.
 #[derive(Debug, Drop)]
 pub(crate) enum ReadError {
     Memory,

@@ -11,7 +11,7 @@ use crate::error::ReadError;
 use crate::parser::Parser;
 use crate::words::{BinaryOps, FlagsAfter, IntCasts, Preds, Results, Scalars, Widths};
 use hip_ir::{Fault, Flag, Flags, Instr, Keyword};
-use hip_types::{BinaryOp, CastOp, Name, Row, Scalar, Width};
+use hip_types::{BinaryOp, CastOp, DEEPEST_NESTING, Name, Row, Scalar, Width};
 use std::alloc::Global;
 
 /// The flags and one more.
@@ -187,7 +187,7 @@ impl<'a> Parser<'a> {
         ensures { Takes (λ x. x) result ((alloca dest).read (left self.old)) (left self.new) }
     {
         self.word(b"alloca")?;
-        let ty = self.ty(alloc, 32)?;
+        let ty = self.ty(alloc, DEEPEST_NESTING)?;
         let align = self.maybe_align()?;
         Ok(Instr::Alloca { dest, ty, align })
     }
@@ -235,7 +235,7 @@ impl<'a> Parser<'a> {
     {
         self.word(b"getelementptr")?;
         let inbounds = self.maybe_word(b"inbounds")?;
-        let ty = self.ty(alloc, 32)?;
+        let ty = self.ty(alloc, DEEPEST_NESTING)?;
         self.mark(b',')?;
         self.word(b"ptr")?;
         let base = self.operand(alloc, Scalar::Ptr)?;

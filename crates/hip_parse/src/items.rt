@@ -16,7 +16,7 @@ use crate::parser::Parser;
 use crate::parts::{Production, Repeated};
 use crate::words::{Fixed, Linkages, Links, Results, Scalars, TargetWords, Unnamed};
 use hip_ir::{Block, Extern, Fault, Function, GlobalVar, Param, Program};
-use hip_types::{NoMemory, Row, Scalar};
+use hip_types::{DEEPEST_NESTING, NoMemory, Row, Scalar};
 use std::alloc::Global;
 
 /// An item of a text.
@@ -180,8 +180,8 @@ impl<'a> Parser<'a> {
         self.mark(b'=')?;
         self.skip_keywords(Linkages)?;
         let fixed = self.keyword(Fixed)?;
-        let ty = self.ty(alloc, 32)?;
-        let init = self.const_value(alloc, 32, &ty)?;
+        let ty = self.ty(alloc, DEEPEST_NESTING)?;
+        let init = self.const_value(alloc, DEEPEST_NESTING, &ty)?;
         let (persistent, align) = self.place()?;
         let name = Row::from_slice(alloc, name)?;
         Ok(Item::Global(GlobalVar {

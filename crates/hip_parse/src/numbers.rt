@@ -4,7 +4,7 @@ ghost use Rattle.std.specs.Prelude.{◌≡◌, ℕ, List, [], ◌∷◌, ◌^◌
 ghost use Rattle.hip_types.specs.Widths.{bits_of};
 ghost use Rattle.hip_ir.specs.Numbers.{below, digits_from, is_negative, magnitude, negated, value_of, count_of, alignment_of, is_alignment};
 
-use hip_types::Width;
+use hip_types::{LARGEST_ALIGNMENT, LARGEST_COUNT, Width};
 
 /// The value of digits, where it fits 64 bits.
 fn decimal(digits: &[u8]) -> Option<u64>
@@ -46,27 +46,13 @@ fn magnitude(t: &[u8]) -> Option<u64>
     }
 }
 
-/// Half of the number of values of a width.
-fn half(width: Width) -> u64
-    ensures value { result ≡ 2 ^ (bits_of width - 1) }
-    ensures twice { 2 * result ≡ 2 ^ bits_of width }
-{
-    match width {
-        Width::W1 => 1,
-        Width::W8 => 0x80,
-        Width::W16 => 0x8000,
-        Width::W32 => 0x8000_0000,
-        Width::W64 => 0x8000_0000_0000_0000,
-    }
-}
-
 fn negated(width: Width, n: u64) -> Option<u64>
     ensures { result ≡ negated width n }
 {
     if n == 0 {
         return Some(0);
     }
-    let half = half(width);
+    let half = width.sign_bit();
     if n <= half {
         Some(half - n + half)
     } else {
@@ -77,7 +63,11 @@ fn negated(width: Width, n: u64) -> Option<u64>
 fn below_width(width: Width, n: u64) -> Option<u64>
     ensures { result ≡ below (2 ^ bits_of width) n }
 {
-    if n / 2 < half(width) { Some(n) } else { None }
+    if n / 2 < width.sign_bit() {
+        Some(n)
+    } else {
+        None
+    }
 }
 
 /// A number from -2^(w-1) to 2^w - 1, modulo 2^w.
@@ -107,7 +97,7 @@ pub(crate) fn count_of(t: &[u8]) -> Option<u64>
         Some(n) => {
             if is_negative(t) && n != 0 {
                 None
-            } else if n < 67_108_865 {
+            } else if n <= LARGEST_COUNT {
                 Some(n)
             } else {
                 None
@@ -119,7 +109,7 @@ pub(crate) fn count_of(t: &[u8]) -> Option<u64>
 fn is_alignment(n: u64) -> bool
     ensures { result ≡ is_alignment n }
 {
-    n != 0 && 4096 % n == 0
+    n != 0 && LARGEST_ALIGNMENT % n == 0
 }
 
 /// The number behind `align`.

@@ -87,8 +87,8 @@ fn refusal(fault: Fault, line: u64) -> ParseRefusal
 
 /// The program that the text reads as.
 ///
-/// It reads in one pass with one token of look-ahead, in time and memory linear in the text. Recursion is bounded by the
-/// limits of nesting.
+/// It reads in one pass with one token of look-ahead, in time and memory linear in the text. Recursion is bounded by
+/// the limits of nesting.
 pub fn parse(alloc: Global, text: &[u8]) -> Result<Program, ParseRefusal>
     // What is answered is what the text reads as.
     ensures read { IfOk result (λ program. Reads text.now program) }

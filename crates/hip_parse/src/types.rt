@@ -31,7 +31,7 @@ impl<'a> Parser<'a> {
     /// A type that is nested at most `depth` deep.
     #[cycle(types)]
     #[tactic(auto, unfolding(hip_ir::specs::Grammar::type_within, hip_ir::specs::Grammar::type_by))]
-    pub(crate) fn ty(&mut self, alloc: Global, depth: u32) -> Result<Ty, ReadError>
+    pub(crate) fn ty(&mut self, alloc: Global, depth: u64) -> Result<Ty, ReadError>
         ensures { Takes (λ x. x) result ((type_within depth).read (left self.old)) (left self.new) }
     {
         if depth == 0 {
@@ -49,7 +49,7 @@ impl<'a> Parser<'a> {
 
     #[cycle(types)]
     #[tactic(auto, unfolding(hip_ir::specs::Grammar::array_type))]
-    fn array(&mut self, alloc: Global, depth: u32) -> Result<Ty, ReadError>
+    fn array(&mut self, alloc: Global, depth: u64) -> Result<Ty, ReadError>
         ensures { Takes (λ x. x) result ((array_type (type_within depth)).read (left self.old)) (left self.new) }
     {
         self.mark(b'[')?;
@@ -62,7 +62,7 @@ impl<'a> Parser<'a> {
 
     #[cycle(types)]
     #[tactic(auto, unfolding(hip_ir::specs::Grammar::struct_type))]
-    fn structure(&mut self, alloc: Global, depth: u32) -> Result<Ty, ReadError>
+    fn structure(&mut self, alloc: Global, depth: u64) -> Result<Ty, ReadError>
         ensures { Takes (λ x. x) result ((struct_type (type_within depth)).read (left self.old)) (left self.new) }
     {
         self.mark(b'{')?;
@@ -72,7 +72,7 @@ impl<'a> Parser<'a> {
 
     #[cycle(types)]
     #[tactic(auto, unfolding(hip_rules::specs::Part::listed, hip_rules::specs::Part::none_up_to, hip_rules::specs::Part::some_up_to))]
-    fn fields(&mut self, alloc: Global, depth: u32) -> Result<Row<Ty>, ReadError>
+    fn fields(&mut self, alloc: Global, depth: u64) -> Result<Row<Ty>, ReadError>
         ensures { Takes (λ x. x) result
             ((listed comma (is_mark (byte "}")) (type_within depth)).read (left self.old))
             (left self.new) }
@@ -88,7 +88,7 @@ impl<'a> Parser<'a> {
 
     #[cycle(types)]
     #[tactic(auto, unfolding(hip_rules::specs::Part::separated))]
-    fn some_fields(&mut self, alloc: Global, depth: u32) -> Result<Row<Ty>, ReadError>
+    fn some_fields(&mut self, alloc: Global, depth: u64) -> Result<Row<Ty>, ReadError>
         ensures { Takes (λ x. x) result ((separated comma (type_within depth)).read (left self.old)) (left self.new) }
     {
         let first = self.ty(alloc, depth)?;
@@ -99,7 +99,7 @@ impl<'a> Parser<'a> {
 
     #[cycle(types)]
     #[tactic(auto, unfolding(hip_rules::specs::Part::one_more_by))]
-    fn next_field(&mut self, alloc: Global, depth: u32) -> Result<Ty, ReadError>
+    fn next_field(&mut self, alloc: Global, depth: u64) -> Result<Ty, ReadError>
         ensures { Takes (λ x. x) result ((one_more_by comma (type_within depth)).read (left self.old)) (left self.new) }
     {
         self.mark(b',')?;
@@ -110,7 +110,7 @@ impl<'a> Parser<'a> {
     fn more_fields(
         &mut self,
         alloc: Global,
-        depth: u32,
+        depth: u64,
         items: Row<Ty>,
     ) -> Result<Row<Ty>, ReadError>
         ensures { Takes (λ x. x) result

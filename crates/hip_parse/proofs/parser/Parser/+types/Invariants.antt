@@ -1,11 +1,9 @@
 use Rattle.std.proofs.Common.{◌≡◌, ◌+◌, ◌*◌, length}
 use Rattle.hip_rules.specs.Reader.{many_at, with_front}
 use Rattle.hip_parse.specs.Left.{left}
-use Rattle.hip_types.specs.declared.ty.Ty.{Ty}
 use Rattle.hip_rules.specs.Part.{one_more_by}
 use Rattle.hip_ir.specs.Words.{comma}
 use Rattle.hip_ir.specs.Grammar.{type_within}
-use Rattle.hip_parse.proofs.Some.{type_some}
 use Rattle.hip_parse.proofs.parser.Parser.+types.Given as goal
 
 abbrev pub invariant-more_fields-more : goal.invariant-more_fields-more

@@ -7,7 +7,7 @@ use Rattle.hip_rules.specs.Part.{token}
 use Rattle.hip_ir.specs.declared.instr.Flag.{Flag}
 use Rattle.hip_ir.specs.declared.instr.Flags.{Flags}
 use Rattle.hip_ir.specs.Words.{a_word_of, is_word_of, flag_word}
-use Rattle.hip_ir.specs.Bodies.{flags, with_flag, no_flags}
+use Rattle.hip_ir.specs.Bodies.{flags, with_flag}
 use Rattle.hip_parse.proofs.Some.{flag_some}
 use Rattle.hip_parse.proofs.parser.Parser.flags.Goals as goal
 

@@ -1,11 +1,11 @@
 -- What was read of a file, at each way that a read ends.
-use Rattle.std.proofs.Common.{ℕ, ◌+◌, ◌-◌, ◌≡◌, ◌≤◌, ◌<◌, ◌⊎◌, inl, inr, true, List, [], ◌++◌, length, drop, take, Option, Some, None, option_map, Result, Ok, Err, refl, sym, subst, ap, ◌∙◌, arith, append_assoc, append-nil, length-append}
+use Rattle.std.proofs.Common.{ℕ, ◌+◌, ◌≡◌, ◌≤◌, ◌<◌, inr, List, [], ◌++◌, length, drop, take, Option, Some, None, option_map, Result, Ok, Err, sym, subst, ap, ◌∙◌, arith, append_assoc, append-nil, length-append}
 use Rattle.std.proofs.Math.Seq.{drop-append_seam}
 use Rattle.std.proofs.lemmas.List.{length-take-le}
 use Rattle.std.specs.Prelude.{IfSome}
-use Rattle.hip_io.specs.Cabinets.{CabinetState, StaysOpen, HasGot, IsFetched, IsFirstFile}
+use Rattle.hip_io.specs.Cabinets.{CabinetState, HasGot, IsFetched, IsFirstFile}
 use Rattle.hip_io.specs.Counts.{Rose}
-use Rattle.hip_io.specs.Reads.{HasTakenAll, HasTakenPart, HasStopped, HasFailedRest, HasTakenRest, HasTakenTooMuch, HasReadRest, IsPartTaken, IsWholeFile, IsLongFile, HasBegun, HasReadWhole, HasReadTooMuch, HasFailedRead, HasReadPart, HasRead}
+use Rattle.hip_io.specs.Reads.{HasTakenAll, HasTakenPart, HasStopped, HasTakenRest, HasTakenTooMuch, HasReadRest, IsPartTaken, IsWholeFile, IsLongFile, HasBegun, HasReadWhole, HasReadTooMuch, HasRead}
 use Rattle.hip_io.specs.declared.cabinet.NamedFile.{NamedFile}
 use Rattle.hip_io.specs.declared.read.ReadRefusal.{ReadRefusal}
 use Rattle.hip_io.specs.declared.read.ReadRefusal.TheVariants as refusals

@@ -37,7 +37,9 @@ mem_cabinet_state m = record {
 pub memory_told : (m : MemFiles) → IsTold (mem_cabinet_state m)
 memory_told m = by_file m.current
   where
-    by_file : (current : Option OpenFile) → is_some current ≡ true → (is_some (option_map (λ (file : OpenFile). file.name) current) ≡ true) × (is_some (option_map (λ (file : OpenFile). file.rest) current) ≡ true)
+    by_file : (current : Option OpenFile) → is_some current ≡ true
+        → (is_some (option_map (λ (file : OpenFile). file.name) current) ≡ true)
+        × (is_some (option_map (λ (file : OpenFile). file.rest) current) ≡ true)
     by_file None e = absurd (let z : ⊥ = cc in z)
     by_file (Some file) e = (refl, refl)
 
@@ -52,7 +54,10 @@ mem_sink_state m = record { bytes = Some m.bytes; faults = m.faults }
 
 -- Where the code of a cabinet stands: a file by its number, and how many of its bytes were taken.
 abbrev pub open_file : List NamedFile → Option Place → Option OpenFile
-open_file files place = option_and_then (λ p. option_map (λ f. record { name = f.name; rest = drop p.taken f.bytes }) (slice_get files p.file)) place
+open_file files place =
+    option_and_then
+    (λ p. option_map (λ f. record { name = f.name; rest = drop p.taken f.bytes }) (slice_get files p.file))
+    place
 
 -- the file of that number is the first one of the name
 pub record IsFirstAt (files : List NamedFile) (name : List ℕ) (at : ℕ) : Type 0 where

@@ -1,5 +1,5 @@
 -- What it means to read a whole file of a cabinet.
-use Rattle.std.specs.Prelude.{ℕ, ◌+◌, ◌≡◌, ◌≤◌, ◌<◌, ◌⊎◌, true, false, List, [], ◌++◌, length, drop, Option, Some, IfSome, option_map, Result, Ok, Err}
+use Rattle.std.specs.Prelude.{ℕ, ◌+◌, ◌≡◌, ◌≤◌, ◌<◌, ◌⊎◌, true, false, List, [], ◌++◌, length, drop, Some, IfSome, option_map, Result, Ok, Err}
 use Rattle.hip_io.specs.Counts.{Rose}
 use Rattle.hip_io.specs.Cabinets.{CabinetState, StaysOpen, IsMissed, file_of}
 use Rattle.hip_io.specs.declared.read.ReadRefusal.{ReadRefusal}

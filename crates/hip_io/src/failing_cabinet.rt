@@ -36,7 +36,8 @@ impl Model for FailingCabinet {
 impl FailingCabinet {
     /// No file is current in it, whatever is current in `inner`.
     pub fn new(inner: MemCabinet, name: Name, at: FailAt) -> FailingCabinet
-        ensures { result ≡ record { inner = record inner { current = None }; name = name; at = at; left = None; faults = 0 } }
+        ensures { result ≡
+            record { inner = record inner { current = None }; name = name; at = at; left = None; faults = 0 } }
     {
         let mut inner = inner;
         inner.close();

@@ -28,7 +28,8 @@ impl Model for MemCabinet {
 
     ghost Value = { MemFiles };
 
-    ghost view = { λ c. record { files = c.files; chunk = c.chunk; current = open_file c.files c.place; misses = c.misses } };
+    ghost view = { λ c.
+        record { files = c.files; chunk = c.chunk; current = open_file c.files c.place; misses = c.misses } };
 
     ghost invariant = { λ c. 1 ≤ c.chunk };
 }

@@ -6,21 +6,25 @@ use Rattle.hip_io.specs.Sinks.{SinkState, AppendsAll, AppendsPrefix, HasPut, Sta
 use Rattle.hip_io.specs.declared.sink.Put.{Put}
 use Rattle.hip_io.specs.declared.sink.Put.TheVariants.{Done, Failed}
 
-appended : (old : Option (List ℕ)) (s t : List ℕ) → option_map (λ b. b ++ t) (option_map (λ b. b ++ s) old) ≡ option_map (λ b. b ++ (s ++ t)) old
+appended : (old : Option (List ℕ)) (s t : List ℕ)
+    → option_map (λ b. b ++ t) (option_map (λ b. b ++ s) old) ≡ option_map (λ b. b ++ (s ++ t)) old
 appended None s t = refl
 appended (Some b) s t = ap (λ (x : List ℕ). Some x) (append_assoc b s t)
 
-appends_both : (old mid new : Option (List ℕ)) (s t : List ℕ) → mid ≡ option_map (λ b. b ++ s) old → new ≡ option_map (λ b. b ++ t) mid → new ≡ option_map (λ b. b ++ (s ++ t)) old
+appends_both : (old mid new : Option (List ℕ)) (s t : List ℕ) → mid ≡ option_map (λ b. b ++ s) old
+    → new ≡ option_map (λ b. b ++ t) mid → new ≡ option_map (λ b. b ++ (s ++ t)) old
 appends_both old mid new s t first second =
     subst (λ (m : Option (List ℕ)). new ≡ option_map (λ b. b ++ t) m) first second ∙ appended old s t
 
-all_then_all : (old mid new : SinkState) (s t : List ℕ) → AppendsAll old mid s → AppendsAll mid new t → AppendsAll old new (s ++ t)
+all_then_all : (old mid new : SinkState) (s t : List ℕ) → AppendsAll old mid s → AppendsAll mid new t
+    → AppendsAll old new (s ++ t)
 all_then_all old mid new s t p q = record {
   bytes = appends_both old.bytes mid.bytes new.bytes s t p.bytes q.bytes;
   faults = q.faults ∙ p.faults;
 }
 
-all_then_prefix : (old mid new : SinkState) (s t : List ℕ) → AppendsAll old mid s → AppendsPrefix mid new t → AppendsPrefix old new (s ++ t)
+all_then_prefix : (old mid new : SinkState) (s t : List ℕ) → AppendsAll old mid s → AppendsPrefix mid new t
+    → AppendsPrefix old new (s ++ t)
 all_then_prefix old mid new s t p q = record {
   written = s ++ q.written;
   missing = q.missing;
@@ -41,7 +45,8 @@ prefix_of_more old new s t q = record {
   rose = q.rose;
 }
 
-writes_both : (i j k : Put) (old mid new : SinkState) (s t : List ℕ) → writes_from i j old mid s → writes_from j k mid new t → writes_from i k old new (s ++ t)
+writes_both : (i j k : Put) (old mid new : SinkState) (s t : List ℕ) → writes_from i j old mid s
+    → writes_from j k mid new t → writes_from i k old new (s ++ t)
 writes_both Done Done Done old mid new s t p q = all_then_all old mid new s t p q
 writes_both Done Done Failed old mid new s t p q = all_then_prefix old mid new s t p q
 writes_both Done Failed k old mid new s t p q =
@@ -52,7 +57,8 @@ writes_both Failed j k old mid new s t p q =
     record { answer = rest.answer; state = rest.state ∙ p.state }
 
 -- Two stages write both texts.
-pub and_then : {i j k : Put} {old mid new : SinkState} {s t : List ℕ} → Writes i j old mid s → Writes j k mid new t → Writes i k old new (s ++ t)
+pub and_then : {i j k : Put} {old mid new : SinkState} {s t : List ℕ} → Writes i j old mid s → Writes j k mid new t
+    → Writes i k old new (s ++ t)
 and_then {i} {j} {k} {old} {mid} {new} {s} {t} p q = record { how = writes_both i j k old mid new s t p.how q.how }
 
 -- A stage may write nothing.

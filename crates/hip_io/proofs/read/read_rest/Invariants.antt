@@ -1,4 +1,4 @@
-use Rattle.std.proofs.Common.{◌+◌, ◌-◌, ◌≡◌, ◌≤◌, ◌<◌, vec_len, length}
+use Rattle.std.proofs.Common.{◌+◌, ◌-◌, ◌≤◌, ◌<◌, vec_len, length}
 use Rattle.hip_io.specs.Reads.{HasTakenAll}
 use Rattle.hip_io.proofs.read.read_rest.Given as goal
 

@@ -33,7 +33,8 @@ use Rattle.hip_globals.specs.Values.{element_address}
 use Rattle.hip_runs.specs.declared.event.TrapKind.{TrapKind}
 use Rattle.hip_runs.specs.declared.input.Input.{Input}
 use Rattle.hip_runs.specs.State.{Registers, Frame, World}
-use Rattle.hip_runs.specs.Operands.{value_of, values_of, bound, scalar_size, width_of, access_align}
+use Rattle.hip_runs.specs.Operands.{value_of, values_of, bound, scalar_size, access_align}
+use Rattle.hip_types.specs.Scalars.{width_of}
 use Rattle.hip_runs.specs.Places.{blocks_of, block_at, phis_of, label_of, block_number}
 use Rattle.hip_types.specs.declared.number.CastOp.TheVariants as casts
 use Rattle.hip_ir.specs.declared.block.End.TheVariants as ends

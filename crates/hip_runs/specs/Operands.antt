@@ -9,8 +9,6 @@ use Rattle.hip_ir.specs.declared.program.Param.{Param}
 use Rattle.hip_types.specs.Widths.{bytes_of}
 use Rattle.hip_types.specs.declared.number.Scalar.{Scalar}
 use Rattle.hip_types.specs.declared.number.Scalar.TheVariants.{Int, Ptr}
-use Rattle.hip_types.specs.declared.number.Width.{Width}
-use Rattle.hip_types.specs.declared.number.Width.TheVariants.{W64}
 use Rattle.hip_globals.specs.Values.{const_value}
 use Rattle.hip_runs.specs.State.{Registers}
 
@@ -42,11 +40,6 @@ bound (p ∷ ps) (v ∷ vs) = (p.name, v) ∷ bound ps vs
 abbrev pub scalar_size : Scalar → ℕ
 scalar_size (Int w) = bytes_of w
 scalar_size Ptr = 8
-
--- pointers are numbers of 64 bits
-abbrev pub width_of : Scalar → Width
-width_of (Int w) = w
-width_of Ptr = W64
 
 -- The alignment of an access: the less of its type's, which is its size, and the one that is written. (LLVM, "load".)
 abbrev pub access_align : Scalar → Option ℕ → ℕ

@@ -23,9 +23,11 @@ pub fn images_are_choices()
 
 /// Only a store into the region adds crash images, and only a fence takes some away.
 pub fn images_shrink()
-    ensures added { (P : Program) → (I : Input) → (n : ℕ) → (content : List ℕ) → stores (event P I (run P I n)) ≡ false →
+    ensures added { (P : Program) → (I : Input) → (n : ℕ) → (content : List ℕ) →
+        stores (event P I (run P I n)) ≡ false →
         IsCrashImage I (run P I (suc n)) content → IsCrashImage I (run P I n) content }
-    ensures removed { (P : Program) → (I : Input) → (n : ℕ) → (content : List ℕ) → fences (event P I (run P I n)) ≡ false →
+    ensures removed { (P : Program) → (I : Input) → (n : ℕ) → (content : List ℕ) →
+        fences (event P I (run P I n)) ≡ false →
         IsCrashImage I (run P I n) content → IsCrashImage I (run P I (suc n)) content }
 {}
 
@@ -35,7 +37,8 @@ pub fn durable_stores_were_flushed_then_fenced()
     ensures came { (P : Program) → (I : Input) → (n line place : ℕ) → (part : StorePart) →
         IsDurableAt (run P I n) line place part → IsFlushedThenFenced P I line part.step n }
     ensures durable { (P : Program) → (I : Input) → (n line place : ℕ) → (part : StorePart) →
-        IsPartAt (run P I n) line place part → IsFlushedThenFenced P I line part.step n → IsDurableAt (run P I n) line place part }
+        IsPartAt (run P I n) line place part → IsFlushedThenFenced P I line part.step n →
+        IsDurableAt (run P I n) line place part }
 {}
 
 /// A part of a store that is durable stays durable, at its place in its line, and as it is.
@@ -47,7 +50,8 @@ pub fn durable_stores_stay_durable()
 /// Each part in a cache line is one of a store that the run made: it has the store's bytes in that line, and tells
 /// where the run stood then.
 pub fn parts_are_of_stores()
-    ensures { (P : Program) → (I : Input) → (n : ℕ) → (part : StorePart) → PartOf (run P I n).lines part → IsOfStore P I part }
+    ensures { (P : Program) → (I : Input) → (n : ℕ) → (part : StorePart) →
+        PartOf (run P I n).lines part → IsOfStore P I part }
 {}
 
 /// A part of a store tells that it was fenced exactly where a fence came after its store.

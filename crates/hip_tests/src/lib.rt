@@ -1,7 +1,8 @@
-//! Tests of more than one function by public calls alone: layout, numbers, tokens, names, memory, cache lines and paths.
+//! Tests of more than one function by public calls alone: layout, numbers, tokens, names, memory, cache lines and
+//! paths.
 //!
-//! A test stands in the lowest of the crates of tests that has what it calls: `hip_text_tests` for files, traces and the texts
-//! of programs, `hip_repair_tests` for calls and repairs, `hip_tool_tests` for soundness and the command.
+//! A test stands in the lowest of the crates of tests that has what it calls: `hip_text_tests` for files, traces and
+//! the texts of programs, `hip_repair_tests` for calls and repairs, `hip_tool_tests` for soundness and the command.
 #![tactic(auto)]
 
 #[cfg(test)]

@@ -10,7 +10,8 @@ use hip_types::{NoMemory, Row};
 use hip_write::write;
 use std::test::Fail;
 
-/// Whether a text is read, its program spelled and written as the canonical text, and that text read as the same program.
+/// Whether a text is read, its program spelled and written as the canonical text, and that text read as the same
+/// program.
 fn is_written_as(rt: &HostRuntime, text: &str, canonical: &str) -> Result<bool, NoMemory> {
     let mut sink = MemSink::new(rt.alloc(), 10_000)?;
     let Ok(program) = parse(rt.alloc(), text.as_bytes()) else {
@@ -83,7 +84,8 @@ fn canonical_texts_stay(rt: HostRuntime) -> Result<(), Fail> {
     Ok(())
 }
 
-/// Whether the program of a text is still spelled when its last global has a name of no bytes. None where no global is read.
+/// Whether the program of a text is still spelled when its last global has a name of no bytes. None where no global
+/// is read.
 fn is_spelled_without_name(rt: &HostRuntime, text: &str) -> Result<Option<bool>, NoMemory> {
     let Ok(mut program) = parse(rt.alloc(), text.as_bytes()) else {
         return Ok(None);

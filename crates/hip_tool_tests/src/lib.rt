@@ -1,4 +1,5 @@
-//! Tests of more than one function by public calls alone: programs that are sound or refused, and what the command answers.
+//! Tests of more than one function by public calls alone: programs that are sound or refused, and what the command
+//! answers.
 #![tactic(auto)]
 
 #[cfg(test)]

@@ -20,8 +20,8 @@ entry:
 }
 ";
 
-/// Asserts that `repair` refuses this program for this reason, told from the colon or the number of the line on, and writes
-/// nothing else.
+/// Asserts that `repair` refuses this program for this reason, told from the colon or the number of the line on, and
+/// writes nothing else.
 pub fn assert_refused(
     rt: &impl Abort,
     alloc: Global,

@@ -23,12 +23,15 @@ same_call f = record { function = refl; mark = refl; dest = refl; level = refl }
 
 module _ (P : Program) (s : State) where
   -- the top frames of a state that is not opened
-  leave_moves : (v : ℕ) (w : World) (f : Frame) (fs : List Frame) (ls : List (Line StorePart)) (after : Counts) → s.frames ≡ f ∷ fs → after.steps ≡ suc s.counts.steps → Moves P s (leave v w f fs ls after)
+  leave_moves : (v : ℕ) (w : World) (f : Frame) (fs : List Frame) (ls : List (Line StorePart)) (after : Counts)
+      → s.frames ≡ f ∷ fs → after.steps ≡ suc s.counts.steps → Moves P s (leave v w f fs ls after)
   unfolding leave
   leave_moves v w f [] ls after q c = stays f f [] q refl (same_call f) c
   leave_moves v w f (g ∷ fs) ls after q c = returns f g _ fs q refl (record { function = refl; mark = refl; dest = refl; level = refl }) c
 
-  perform_moves : (I : Input) (w : World) (f : Frame) (fs : List Frame) (ls : List (Line StorePart)) (after : Counts) → s.frames ≡ f ∷ fs → after.steps ≡ suc s.counts.steps → (x : Action) → Fits P x (instr_of P (site_of f)) → Moves P s (perform I w f fs ls s.counts after x)
+  perform_moves : (I : Input) (w : World) (f : Frame) (fs : List Frame) (ls : List (Line StorePart)) (after : Counts)
+      → s.frames ≡ f ∷ fs → after.steps ≡ suc s.counts.steps → (x : Action) → Fits P x (instr_of P (site_of f))
+      → Moves P s (perform I w f fs ls s.counts after x)
   unfolding perform
   perform_moves I w f fs ls after q c (Traps kind) h = stays f f fs q refl (same_call f) c
   perform_moves I w f fs ls after q c (Assigns to v) h = stays f _ fs q refl (record { function = refl; mark = refl; dest = refl; level = refl }) c
@@ -44,11 +47,15 @@ module _ (P : Program) (s : State) where
   perform_moves I w f fs ls after q c (Jumps b rs) h = stays f _ fs q refl (record { function = refl; mark = refl; dest = refl; level = refl }) c
   perform_moves I w f fs ls after q c (Returns v) h = leave_moves v w f fs ls after q c
 
-  carry_moves : (I : Input) (f : Frame) (fs : List Frame) (after : Counts) → s.frames ≡ f ∷ fs → after.steps ≡ suc s.counts.steps → (d : Deed) → Fits P d.action (instr_of P (site_of f)) → Moves P s (carry_out I s.world f fs s.lines s.counts after d)
+  carry_moves : (I : Input) (f : Frame) (fs : List Frame) (after : Counts) → s.frames ≡ f ∷ fs
+      → after.steps ≡ suc s.counts.steps → (d : Deed) → Fits P d.action (instr_of P (site_of f))
+      → Moves P s (carry_out I s.world f fs s.lines s.counts after d)
   unfolding carry_out
   carry_moves I f fs after q c d h = go (is_cut I s.world d)
     where
-      go : (b : Bool) → Moves P s (cond b (stop Cut s.world (f ∷ fs) s.lines after) (perform I (cond d.turn (with_turn s.world) s.world) f fs s.lines s.counts after d.action))
+      go : (b : Bool)
+          → Moves P s (cond b (stop Cut s.world (f ∷ fs) s.lines after)
+          (perform I (cond d.turn (with_turn s.world) s.world) f fs s.lines s.counts after d.action))
       go true = stays f f fs q refl (same_call f) c
       go false = perform_moves I _ f fs s.lines after q c d.action h
 
@@ -71,7 +78,8 @@ run_moves P I n = step_moves P I (run P I n)
 
 -- ---- the count of steps
 
-steps_next : (P : Program) (s s' : State) → Moves P s s' → (s.counts.steps ≤ s'.counts.steps) × (s'.counts.steps ≤ suc s.counts.steps)
+steps_next : (P : Program) (s s' : State) → Moves P s s'
+    → (s.counts.steps ≤ s'.counts.steps) × (s'.counts.steps ≤ suc s.counts.steps)
 steps_next P s s' (rests e) = let q : s'.counts.steps ≡ s.counts.steps = ap (λ (t : State). t.counts.steps) e in (omega (arith, q), omega (arith, q))
 steps_next P s s' (stays f f' fs p q k c) = (omega (arith, c), omega (arith, c))
 steps_next P s s' (calls f g fs p q d l c) = (omega (arith, c), omega (arith, c))
@@ -98,10 +106,12 @@ module _ (P : Program) where
   behind None ls h = h
   behind (Some l) ls h = h.1
 
-  with_call : (o : Option Level) (l : Level) (ls : List Level) → o ≡ Some l → is_defined_call P (instr_of P l.call) ≡ true → AreDefined P ls → AreDefined P (level_list o ls)
+  with_call : (o : Option Level) (l : Level) (ls : List Level) → o ≡ Some l
+      → is_defined_call P (instr_of P l.call) ≡ true → AreDefined P ls → AreDefined P (level_list o ls)
   with_call o l ls e d h = subst (λ (x : Option Level). AreDefined P (level_list x ls)) (sym e) (d, h)
 
-  same_calls : (f f' : Frame) (fs : List Frame) → IsSameCall f f' → AreDefined P (levels_of (f ∷ fs)) → AreDefined P (levels_of (f' ∷ fs))
+  same_calls : (f f' : Frame) (fs : List Frame) → IsSameCall f f' → AreDefined P (levels_of (f ∷ fs))
+      → AreDefined P (levels_of (f' ∷ fs))
   same_calls f f' fs k h = subst (λ (o : Option Level). AreDefined P (level_list o (levels_of fs))) (sym k.level) h
 
   abbrev Defined : List Frame → Type 0
@@ -124,7 +134,8 @@ module _ (P : Program) where
   among (l ∷ ls) h v (inr i) = among ls h.1 v i
 
   -- the calls that stand are calls of functions of the program
-  pub calls_defined : (I : Input) (n : ℕ) (v : Level) → In v (levels_of (run P I n).frames) → is_defined_call P (instr_of P v.call) ≡ true
+  pub calls_defined : (I : Input) (n : ℕ) (v : Level) → In v (levels_of (run P I n).frames)
+      → is_defined_call P (instr_of P v.call) ≡ true
   calls_defined I n v i = among (levels_of (run P I n).frames) (run_defined I n) v i
 
 pub has_calls : (P : Program) (I : Input) (n : ℕ) → HasCalls (run P I n)

@@ -30,10 +30,13 @@ whole_lines P I v = go (end_of true 0 P.globals) v.image
 pub same_size : (P : Program) (I : Input) (n : ℕ) → IsValid P I → length I.image ≡ 64 * length (run P I n).lines
 same_size P I n v = whole_lines P I v ∙ ap (λ k. 64 * k) (sym (length-lines P I n))
 
-pub choice-image : (P : Program) (I : Input) (n : ℕ) (pick : ℕ → ℕ) → IsValid P I → IsCrashPick (run P I n) pick → IsCrashImage I (run P I n) (crash_image I (run P I n) pick)
+pub choice-image : (P : Program) (I : Input) (n : ℕ) (pick : ℕ → ℕ) → IsValid P I → IsCrashPick (run P I n) pick
+    → IsCrashImage I (run P I n) (crash_image I (run P I n) pick)
 choice-image P I n pick v p = image_of-image covers byte_of (run P I n).lines pick I.image (same_size P I n v) p
 
-pub image-choice : (P : Program) (I : Input) (n : ℕ) (content : List ℕ) → IsValid P I → IsCrashImage I (run P I n) content → (pick : ℕ → ℕ) × IsCrashPick (run P I n) pick × (crash_image I (run P I n) pick ≡ content)
+pub image-choice : (P : Program) (I : Input) (n : ℕ) (content : List ℕ) → IsValid P I
+    → IsCrashImage I (run P I n) content
+    → (pick : ℕ → ℕ) × IsCrashPick (run P I n) pick × (crash_image I (run P I n) pick ≡ content)
 image-choice P I n content v h =
     let ls = (run P I n).lines in
     (pick_of covers byte_of I.image content ls h, pick_of-pick covers byte_of I.image content ls h, sym (image-image_of covers byte_of I.image content ls h (same_size P I n v)))
@@ -42,9 +45,12 @@ image-choice P I n content v h =
 
 -- A change of parts that keeps the bytes of each.
 abbrev IsSame : (StorePart → StorePart) → Type 0
-IsSame f = (x : StorePart) (b first : ℕ) → cond (covers (f x) b) (byte_of (f x) b) first ≡ cond (covers x b) (byte_of x b) first
+IsSame f =
+    (x : StorePart) (b first : ℕ)
+    → cond (covers (f x) b) (byte_of (f x) b) first ≡ cond (covers x b) (byte_of x b) first
 
-byte_same : (f : StorePart → StorePart) → IsSame f → (xs : List StorePart) (b first : ℕ) → byte_after covers byte_of (map f xs) b first ≡ byte_after covers byte_of xs b first
+byte_same : (f : StorePart → StorePart) → IsSame f → (xs : List StorePart) (b first : ℕ)
+    → byte_after covers byte_of (map f xs) b first ≡ byte_after covers byte_of xs b first
 byte_same f h [] b first = refl
 byte_same f h (x ∷ xs) b first = byte_same f h xs b _ ∙ ap (λ c. byte_after covers byte_of xs b c) (h x b first)
 
@@ -54,7 +60,8 @@ take_map f zero (x ∷ xs) = refl
 take_map f (suc q) [] = refl
 take_map f (suc q) (x ∷ xs) = ap (λ ys. f x ∷ ys) (take_map f q xs)
 
-front_same : (f : StorePart → StorePart) → IsSame f → (q : ℕ) (xs : List StorePart) (b first : ℕ) → byte_after covers byte_of (take q (map f xs)) b first ≡ byte_after covers byte_of (take q xs) b first
+front_same : (f : StorePart → StorePart) → IsSame f → (q : ℕ) (xs : List StorePart) (b first : ℕ)
+    → byte_after covers byte_of (take q (map f xs)) b first ≡ byte_after covers byte_of (take q xs) b first
 front_same f h q xs b first = ap (λ ys. byte_after covers byte_of ys b first) (take_map f q xs) ∙ byte_same f h (take q xs) b first
 
 module _ (first content : List ℕ) (j : ℕ) where
@@ -62,7 +69,8 @@ module _ (first content : List ℕ) (j : ℕ) where
   At l = IsLineImage covers byte_of first content j l
 
   -- an image of the line of changed parts is one of the line, if the line has no more durable parts
-  unmet : (f : StorePart → StorePart) → IsSame f → (l l' : Line StorePart) → l'.parts ≡ map f l.parts → l.durable ≤ l'.durable → At l' → At l
+  unmet : (f : StorePart → StorePart) → IsSame f → (l l' : Line StorePart) → l'.parts ≡ map f l.parts
+      → l.durable ≤ l'.durable → At l' → At l
   unmet f s l l' e d h = (
     h.0,
     record {
@@ -72,7 +80,8 @@ module _ (first content : List ℕ) (j : ℕ) where
     },
   )
 
-  met : (f : StorePart → StorePart) → IsSame f → (l l' : Line StorePart) → l'.parts ≡ map f l.parts → l'.durable ≤ l.durable → At l → At l'
+  met : (f : StorePart → StorePart) → IsSame f → (l l' : Line StorePart) → l'.parts ≡ map f l.parts
+      → l'.durable ≤ l.durable → At l → At l'
   met f s l l' e d h = (
     h.0,
     record {
@@ -91,17 +100,20 @@ module _ (first content : List ℕ) (j : ℕ) where
   unfenced : (l : Line StorePart) → IsOrdered l → At (fence_line l) → At l
   unfenced l o h = unmet noted_fence (λ x b c. refl) l (fence_line l) refl o.durable h
 
-some_before : {A B : Type 0} (g : A → B) (o : Option A) (y : B) → option_map g o ≡ Some y → (x : A) × (o ≡ Some x) × (g x ≡ y)
+some_before : {A B : Type 0} (g : A → B) (o : Option A) (y : B) → option_map g o ≡ Some y
+    → (x : A) × (o ≡ Some x) × (g x ≡ y)
 some_before g None y e = absurd (let z : ⊥ = cc in z)
 some_before g (Some x) y e = (x, refl, cc)
 
 module _ (I : Input) (ls : List (Line StorePart)) where
   -- each image of the other lines is one of these
   abbrev OnlyOf : List (Line StorePart) → Type 0
-  OnlyOf ls' = (content : List ℕ) → IsImage covers byte_of I.image ls' content → IsImage covers byte_of I.image ls content
+  OnlyOf ls' =
+      (content : List ℕ) → IsImage covers byte_of I.image ls' content → IsImage covers byte_of I.image ls content
 
   abbrev AllOf : List (Line StorePart) → Type 0
-  AllOf ls' = (content : List ℕ) → IsImage covers byte_of I.image ls content → IsImage covers byte_of I.image ls' content
+  AllOf ls' =
+      (content : List ℕ) → IsImage covers byte_of I.image ls content → IsImage covers byte_of I.image ls' content
 
   fewer_flushed : (flush : Flush) (a n : ℕ) → OnlyOf (met_lines I flush a n ls)
   fewer_flushed flush a n content h = record { whole = h.whole; lines = at }
@@ -109,7 +121,8 @@ module _ (I : Input) (ls : List (Line StorePart)) where
       at : (j : ℕ) (l : Line StorePart) → slice_get ls j ≡ Some l → IsLineImage covers byte_of I.image content j l
       at j l e = go (has_bytes j (a - I.base) n) (h.lines j _ (slice_get-change_range _ (a - I.base) n ls j ∙ ap (option_map (λ x. cond (has_bytes j (a - I.base) n) (flush_line flush x) x)) e))
         where
-          go : (t : Bool) → IsLineImage covers byte_of I.image content j (cond t (flush_line flush l) l) → IsLineImage covers byte_of I.image content j l
+          go : (t : Bool) → IsLineImage covers byte_of I.image content j (cond t (flush_line flush l) l)
+              → IsLineImage covers byte_of I.image content j l
           go true i = unflushed I.image content j flush l i
           go false i = i
 
@@ -119,24 +132,28 @@ module _ (I : Input) (ls : List (Line StorePart)) where
   all_flushed : (flush : Flush) (a n : ℕ) → AllOf (met_lines I flush a n ls)
   all_flushed flush a n content h = record { whole = h.whole; lines = at }
     where
-      at : (j : ℕ) (l : Line StorePart) → slice_get (met_lines I flush a n ls) j ≡ Some l → IsLineImage covers byte_of I.image content j l
+      at : (j : ℕ) (l : Line StorePart) → slice_get (met_lines I flush a n ls) j ≡ Some l
+          → IsLineImage covers byte_of I.image content j l
       at j l e =
           let b = some_before _ (slice_get ls j) l (sym (slice_get-change_range (λ _ x. flush_line flush x) (a - I.base) n ls j) ∙ e) in
           subst (IsLineImage covers byte_of I.image content j) b.2 (go (has_bytes j (a - I.base) n) b.0 (h.lines j b.0 b.1))
         where
-          go : (t : Bool) (x : Line StorePart) → IsLineImage covers byte_of I.image content j x → IsLineImage covers byte_of I.image content j (cond t (flush_line flush x) x)
+          go : (t : Bool) (x : Line StorePart) → IsLineImage covers byte_of I.image content j x
+              → IsLineImage covers byte_of I.image content j (cond t (flush_line flush x) x)
           go true x i = flushed_too I.image content j flush x i
           go false x i = i
 
   all_stored : (part : ℕ → StorePart) (o n : ℕ) → AllOf (stored part o n ls)
   all_stored part o n content h = record { whole = h.whole; lines = at }
     where
-      at : (j : ℕ) (l : Line StorePart) → slice_get (stored part o n ls) j ≡ Some l → IsLineImage covers byte_of I.image content j l
+      at : (j : ℕ) (l : Line StorePart) → slice_get (stored part o n ls) j ≡ Some l
+          → IsLineImage covers byte_of I.image content j l
       at j l e =
           let b = some_before _ (slice_get ls j) l (sym (slice_get-change_range (λ k x. with_part (part k) x) o n ls j) ∙ e) in
           subst (IsLineImage covers byte_of I.image content j) b.2 (go (has_bytes j o n) b.0 (h.lines j b.0 b.1))
         where
-          go : (t : Bool) (x : Line StorePart) → IsLineImage covers byte_of I.image content j x → IsLineImage covers byte_of I.image content j (cond t (with_part (part j) x) x)
+          go : (t : Bool) (x : Line StorePart) → IsLineImage covers byte_of I.image content j x
+              → IsLineImage covers byte_of I.image content j (cond t (with_part (part j) x) x)
           go true x i = line_image-with_part covers byte_of I.image content j (part j) x i
           go false x i = i
 
@@ -150,7 +167,8 @@ fewer I s o = record {
 }
 
 -- only a step that stores into the region adds crash images
-pub only_stores_add : (P : Program) (I : Input) (n : ℕ) (content : List ℕ) → stores (event P I (run P I n)) ≡ false → IsCrashImage I (run P I (suc n)) content → IsCrashImage I (run P I n) content
+pub only_stores_add : (P : Program) (I : Input) (n : ℕ) (content : List ℕ) → stores (event P I (run P I n)) ≡ false
+    → IsCrashImage I (run P I (suc n)) content → IsCrashImage I (run P I n) content
 unfolding run
 only_stores_add P I n content q h = step-cases P I (run P I n) _ (fewer I (run P I n) (lines_ordered P I n)) q content h
 
@@ -164,6 +182,7 @@ kept I s = record {
 }
 
 -- only a fence takes crash images away
-pub only_fences_remove : (P : Program) (I : Input) (n : ℕ) (content : List ℕ) → fences (event P I (run P I n)) ≡ false → IsCrashImage I (run P I n) content → IsCrashImage I (run P I (suc n)) content
+pub only_fences_remove : (P : Program) (I : Input) (n : ℕ) (content : List ℕ) → fences (event P I (run P I n)) ≡ false
+    → IsCrashImage I (run P I n) content → IsCrashImage I (run P I (suc n)) content
 unfolding run
 only_fences_remove P I n content q h = step-cases P I (run P I n) _ (kept I (run P I n)) q content h

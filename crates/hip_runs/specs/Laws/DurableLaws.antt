@@ -13,7 +13,8 @@ use Rattle.hip_runs.specs.State.{Flush, StorePart, State}
 use Rattle.hip_runs.specs.Step.{run}
 use Rattle.hip_runs.specs.Laws.StepLaws.{Cases, met_lines, step-cases, ordered-met_lines}
 
-get_front : {A : Type 0} (xs : List A) (y x : A) (k : ℕ) → slice_get (xs ++ y ∷ []) k ≡ Some x → k < length xs → slice_get xs k ≡ Some x
+get_front : {A : Type 0} (xs : List A) (y x : A) (k : ℕ) → slice_get (xs ++ y ∷ []) k ≡ Some x → k < length xs
+    → slice_get xs k ≡ Some x
 get_front [] y x k e lt = absurd (omega arith)
 get_front (z ∷ xs) y x zero e lt = e
 get_front (z ∷ xs) y x (suc k) e lt = get_front xs y x k e (omega arith)
@@ -25,7 +26,8 @@ get_longer (z ∷ xs) ys x (suc k) e = get_longer xs ys x k e
 
 -- ---- durable parts were fenced
 
-fence_met : (ls : List (Line StorePart)) (m k : ℕ) (x : StorePart) → IsDurableIn (slice_get (fenced_lines ls) m) k x → x.fenced ≡ true
+fence_met : (ls : List (Line StorePart)) (m k : ℕ) (x : StorePart) → IsDurableIn (slice_get (fenced_lines ls) m) k x
+    → x.fenced ≡ true
 fence_met ls m k x d = go (slice_get ls m) (subst (λ o. IsDurableIn o k x) (get_mapped fence_line ls m) d)
   where
     go : (o : Option (Line StorePart)) → IsDurableIn (option_map fence_line o) k x → x.fenced ≡ true
@@ -36,18 +38,23 @@ fence_met ls m k x d = go (slice_get ls m) (subst (λ o. IsDurableIn o k x) (get
 abbrev AreFenced : List (Line StorePart) → Type 0
 AreFenced ls = (m k : ℕ) (x : StorePart) → IsDurableIn (slice_get ls m) k x → x.fenced ≡ true
 
-flush_kept : (I : Input) (flush : Flush) (a n : ℕ) (ls : List (Line StorePart)) → AreFenced ls → AreFenced (met_lines I flush a n ls)
+flush_kept : (I : Input) (flush : Flush) (a n : ℕ) (ls : List (Line StorePart)) → AreFenced ls
+    → AreFenced (met_lines I flush a n ls)
 flush_kept I flush a n ls h m k x d = go (has_bytes m (a - I.base) n) (slice_get ls m) (λ y. h m k y) (subst (λ o. IsDurableIn o k x) (slice_get-change_range (λ _ l. flush_line flush l) (a - I.base) n ls m) d)
   where
-    go : (b : Bool) (o : Option (Line StorePart)) → ((y : StorePart) → IsDurableIn o k y → y.fenced ≡ true) → IsDurableIn (option_map (λ l. cond b (flush_line flush l) l) o) k x → x.fenced ≡ true
+    go : (b : Bool) (o : Option (Line StorePart)) → ((y : StorePart) → IsDurableIn o k y → y.fenced ≡ true)
+        → IsDurableIn (option_map (λ l. cond b (flush_line flush l) l) o) k x → x.fenced ≡ true
     go b None h d = absurd d
     go true (Some l) h d = let r = get-of_map (noted_flush flush) l.parts k x d.0 in sym (ap (λ (y : StorePart). y.fenced) r.2) ∙ h r.0 (r.1, d.1)
     go false (Some l) h d = h x d
 
-store_kept : (part : ℕ → StorePart) (o n : ℕ) (ls : List (Line StorePart)) → AreOrdered ls → AreFenced ls → AreFenced (stored part o n ls)
+store_kept : (part : ℕ → StorePart) (o n : ℕ) (ls : List (Line StorePart)) → AreOrdered ls → AreFenced ls
+    → AreFenced (stored part o n ls)
 store_kept part o n ls a h m k x d = go (has_bytes m o n) (slice_get ls m) (λ l e. ordered-at ls m l a e) (h m k x) (subst (λ o. IsDurableIn o k x) (slice_get-change_range (λ j l. with_part (part j) l) o n ls m) d)
   where
-    go : (b : Bool) (o : Option (Line StorePart)) → ((l : Line StorePart) → o ≡ Some l → IsOrdered l) → (IsDurableIn o k x → x.fenced ≡ true) → IsDurableIn (option_map (λ l. cond b (with_part (part m) l) l) o) k x → x.fenced ≡ true
+    go : (b : Bool) (o : Option (Line StorePart)) → ((l : Line StorePart) → o ≡ Some l → IsOrdered l)
+        → (IsDurableIn o k x → x.fenced ≡ true) → IsDurableIn (option_map (λ l. cond b (with_part (part m) l) l) o) k x
+        → x.fenced ≡ true
     go b None a h d = absurd d
     go true (Some l) a h d = let r = a l refl in h (get_front l.parts (part m) x k d.0 (omega (arith, d.1, r.durable, r.flushed)), d.1)
     go false (Some l) a h d = h d
@@ -90,10 +97,12 @@ module _ (m k : ℕ) (x : StorePart) where
   abbrev Stays : List (Line StorePart) → List (Line StorePart) → Type 0
   Stays ls ls' = IsDurableIn (slice_get ls m) k x → IsDurableIn (slice_get ls' m) k x
 
-  stays_flushed : (I : Input) (flush : Flush) (a n : ℕ) (ls : List (Line StorePart)) → IsSettled x → Stays ls (met_lines I flush a n ls)
+  stays_flushed : (I : Input) (flush : Flush) (a n : ℕ) (ls : List (Line StorePart)) → IsSettled x
+      → Stays ls (met_lines I flush a n ls)
   stays_flushed I flush a n ls s d = subst (λ o. IsDurableIn o k x) (sym (slice_get-change_range (λ _ l. flush_line flush l) (a - I.base) n ls m)) (go (has_bytes m (a - I.base) n) (slice_get ls m) d)
     where
-      go : (b : Bool) (o : Option (Line StorePart)) → IsDurableIn o k x → IsDurableIn (option_map (λ l. cond b (flush_line flush l) l) o) k x
+      go : (b : Bool) (o : Option (Line StorePart)) → IsDurableIn o k x
+          → IsDurableIn (option_map (λ l. cond b (flush_line flush l) l) o) k x
       go b None d = absurd d
       go true (Some l) d = (get-map (noted_flush flush) l.parts k x d.0 ∙ ap Some (flush_same flush x s), d.1)
       go false (Some l) d = d
@@ -101,14 +110,16 @@ module _ (m k : ℕ) (x : StorePart) where
   stays_fenced : (ls : List (Line StorePart)) → AreOrdered ls → IsSettled x → Stays ls (fenced_lines ls)
   stays_fenced ls a s d = subst (λ o. IsDurableIn o k x) (sym (get_mapped fence_line ls m)) (go (slice_get ls m) (λ l e. ordered-at ls m l a e) d)
     where
-      go : (o : Option (Line StorePart)) → ((l : Line StorePart) → o ≡ Some l → IsOrdered l) → IsDurableIn o k x → IsDurableIn (option_map fence_line o) k x
+      go : (o : Option (Line StorePart)) → ((l : Line StorePart) → o ≡ Some l → IsOrdered l) → IsDurableIn o k x
+          → IsDurableIn (option_map fence_line o) k x
       go None a d = absurd d
       go (Some l) a d = (get-map noted_fence l.parts k x d.0 ∙ ap Some (fence_same x s), omega (arith, d.1, (a l refl).durable))
 
   stays_stored : (part : ℕ → StorePart) (o n : ℕ) (ls : List (Line StorePart)) → Stays ls (stored part o n ls)
   stays_stored part o n ls d = subst (λ z. IsDurableIn z k x) (sym (slice_get-change_range (λ j l. with_part (part j) l) o n ls m)) (go (has_bytes m o n) (slice_get ls m) d)
     where
-      go : (b : Bool) (z : Option (Line StorePart)) → IsDurableIn z k x → IsDurableIn (option_map (λ l. cond b (with_part (part m) l) l) z) k x
+      go : (b : Bool) (z : Option (Line StorePart)) → IsDurableIn z k x
+          → IsDurableIn (option_map (λ l. cond b (with_part (part m) l) l) z) k x
       go b None d = absurd d
       go true (Some l) d = (get_longer l.parts (part m ∷ []) x k d.0, d.1)
       go false (Some l) d = d
@@ -137,6 +148,7 @@ module _ (m k : ℕ) (x : StorePart) where
   unfolding run
   next P I n d = step-cases P I (run P I n) (λ e ls. Stays (run P I n).lines ls) (stays_cases I (run P I n) (lines_ordered P I n) (settled P I n d)) d
 
-pub durable_stays : (P : Program) (I : Input) (n d m k : ℕ) (x : StorePart) → IsDurableAt (run P I n) m k x → IsDurableAt (run P I (n + d)) m k x
+pub durable_stays : (P : Program) (I : Input) (n d m k : ℕ) (x : StorePart) → IsDurableAt (run P I n) m k x
+    → IsDurableAt (run P I (n + d)) m k x
 durable_stays P I n zero m k x h = let e : n ≡ n + zero = omega arith in subst (λ i. IsDurableAt (run P I i) m k x) e h
 durable_stays P I n (suc d) m k x h = let e : suc (n + d) ≡ n + suc d = omega arith in subst (λ i. IsDurableAt (run P I i) m k x) e (next m k x P I (n + d) (durable_stays P I n d m k x h))

@@ -72,15 +72,18 @@ module _ (P : Program) (I : Input) (w : World) (below : ℕ) (rs : Registers) wh
   unfolding allocated
   fits_allocated dest size align o = fits_cond (nat_le (next_multiple_of w.mark align + size) stack_end) (Allocates dest (next_multiple_of w.mark align) size) (Traps traps.Stack) o (record { is = tt {0} }) (record { is = tt {0} })
 
-  fits_bound : (f : Option Function) (g : ℕ) (values : List ℕ) (dest : Option (List ℕ)) (o : Option Instr) → called_number P o ≡ Some g → Fits P (bound_call f g values dest) o
+  fits_bound : (f : Option Function) (g : ℕ) (values : List ℕ) (dest : Option (List ℕ)) (o : Option Instr)
+      → called_number P o ≡ Some g → Fits P (bound_call f g values dest) o
   fits_bound None g values dest o h = record { is = tt {0} }
   fits_bound (Some f) g values dest o h = record { is = h }
 
-  fits_numbered : (n : Option ℕ) (values : List ℕ) (dest : Option (List ℕ)) (o : Option Instr) → called_number P o ≡ n → Fits P (numbered_call P n values dest) o
+  fits_numbered : (n : Option ℕ) (values : List ℕ) (dest : Option (List ℕ)) (o : Option Instr) → called_number P o ≡ n
+      → Fits P (numbered_call P n values dest) o
   fits_numbered None values dest o h = record { is = tt {0} }
   fits_numbered (Some g) values dest o h = fits_bound (slice_get P.functions g) g values dest o h
 
-  fits_entered : (callee values : List ℕ) (dest : Option (List ℕ)) (o : Option Instr) → called_number P o ≡ function_number P callee → Fits P (entered P below callee values dest) o
+  fits_entered : (callee values : List ℕ) (dest : Option (List ℕ)) (o : Option Instr)
+      → called_number P o ≡ function_number P callee → Fits P (entered P below callee values dest) o
   unfolding entered
   fits_entered callee values dest o h = fits_cond (nat_lt below 16383) (numbered_call P (function_number P callee) values dest) (Traps traps.Depth) o (fits_numbered (function_number P callee) values dest o h) (record { is = tt {0} })
 
@@ -104,7 +107,9 @@ module _ (P : Program) (I : Input) (w : World) (below : ℕ) (rs : Registers) wh
       read [] = record { is = tt {0} }
       read (z ∷ rest) = record { is = tt {0} }
 
-      go : (c : Option ExternCall) → call_of callee ≡ c → Fits P (call_action P I w below c callee (values_of P.globals I.base rs args) dest) (Some (Call dest ret callee args))
+      go : (c : Option ExternCall) → call_of callee ≡ c
+          → Fits P (call_action P I w below c callee (values_of P.globals I.base rs args) dest)
+          (Some (Call dest ret callee args))
       go None q = fits_entered callee (values_of P.globals I.base rs args) dest _ refl
       go (Some calls.ReadI64) q = read w.left
       go (Some calls.PrintI64) q = record { is = tt {0} }
@@ -147,7 +152,8 @@ told_cond : (b : Bool) (x y : Event) (o : Option Instr) → Told x o → Told y 
 told_cond true x y o p q = p
 told_cond false x y o p q = q
 
-event_told : (P : Program) (I : Input) (fs : List Frame) (x : Action) (o : Option Instr) → Fits P x o → Told (event_of I fs x) o
+event_told : (P : Program) (I : Input) (fs : List Frame) (x : Action) (o : Option Instr) → Fits P x o
+    → Told (event_of I fs x) o
 event_told P I fs (Traps kind) o h = record { is = tt {0} }
 event_told P I fs (Assigns to v) o h = record { is = tt {0} }
 event_told P I fs (Allocates to a n) o h = record { is = tt {0} }
@@ -162,21 +168,25 @@ event_told P I fs (Calls g rs to) o h = record { is = tt {0} }
 event_told P I fs (Jumps b rs) o h = record { is = tt {0} }
 event_told P I fs (Returns v) o h = told_cond (is_bottom fs) (events.End (Stop (signed W32 (bits W32 v).value))) events.Quiet o (record { is = tt {0} }) (record { is = tt {0} })
 
-at_told : (P : Program) (I : Input) (w : World) (fs : List Frame) (d : Deed) (o : Option Instr) → Fits P d.action o → Told (event_at I w fs d) o
+at_told : (P : Program) (I : Input) (w : World) (fs : List Frame) (d : Deed) (o : Option Instr) → Fits P d.action o
+    → Told (event_at I w fs d) o
 at_told P I w fs d o h = told_cond (is_cut I w d) (events.End Cut) (event_of I fs d.action) o (record { is = tt {0} }) (event_told P I fs d.action o h)
 
 -- what the top frame does next fits the instruction at which it stands
-pub deed_fits : (P : Program) (I : Input) (w : World) (f : Frame) (fs : List Frame) → Fits P (deed_at P I w f fs).action (instr_of P (site_of f))
+pub deed_fits : (P : Program) (I : Input) (w : World) (f : Frame) (fs : List Frame)
+    → Fits P (deed_at P I w f fs).action (instr_of P (site_of f))
 deed_fits P I w f fs = by_code (code_at P f) refl
   where
-    by_code : (code : List Instr) → code_at P f ≡ code → Fits P (deed_of P I w (length fs) f (end_at P f) code).action (instr_of P (site_of f))
+    by_code : (code : List Instr) → code_at P f ≡ code
+        → Fits P (deed_of P I w (length fs) f (end_at P f) code).action (instr_of P (site_of f))
     by_code [] q = fits_end P I f (end_at P f) _
     by_code (i ∷ rest) q =
         let at : instr_of P (site_of f) ≡ Some i = instr_at_place P f.function f.block f.place ∙ get_drop (body_at P f.function f.block) f.place i rest q in
         subst (Fits P (instr_action P I w (length fs) f.registers i)) (sym at) (fits_instr P I w (length fs) f.registers i)
 
 -- and so does the event that is seen of it
-pub site_told : (P : Program) (I : Input) (s : State) (t : Site) → top_site s.frames ≡ Some t → Told (event P I s) (instr_of P t)
+pub site_told : (P : Program) (I : Input) (s : State) (t : Site) → top_site s.frames ≡ Some t
+    → Told (event P I s) (instr_of P t)
 unfolding event
 site_told P I s t e = go s.world.ending
   where

@@ -39,7 +39,8 @@ record IsKept (P : Program) (up : List Level) (ls : List (Line StorePart)) (n : 
   levels : (x y : StorePart) → PartOf ls x → PartOf ls y → x.step ≡ y.step → x.levels ≡ y.levels
   entry : (x y : StorePart) → PartOf ls x → PartOf ls y → x.step ≡ y.step → x.entry ≡ y.entry
   fenced : (x y : StorePart) → PartOf ls x → PartOf ls y → x.step ≡ y.step → x.fenced ≡ y.fenced
-  flushed : (m k : ℕ) (l : Line StorePart) (x : StorePart) → slice_get ls m ≡ Some l → slice_get l.parts k ≡ Some x → k < l.flushed → (f : Flush) × (x.first_flush ≡ Some f)
+  flushed : (m k : ℕ) (l : Line StorePart) (x : StorePart) → slice_get ls m ≡ Some l → slice_get l.parts k ≡ Some x
+      → k < l.flushed → (f : Flush) × (x.first_flush ≡ Some f)
   site_there : (x : StorePart) → PartOf ls x → Stands P x.site
   flush_there : (x : StorePart) (f : Flush) → PartOf ls x → x.first_flush ≡ Some f → Stands P f.site
   call_there : (x : StorePart) (v : Level) → PartOf ls x → In v x.levels → Stands P v.call
@@ -89,7 +90,8 @@ module _ (P : Program) where
 
   -- ---- a call and a return
 
-  split_call : (up levels : List Level) (call : Level) → ((v : Level) → In v levels → v.birth < call.birth) → IsParted up levels → IsParted (call ∷ up) levels
+  split_call : (up levels : List Level) (call : Level) → ((v : Level) → In v levels → v.birth < call.birth)
+      → IsParted up levels → IsParted (call ∷ up) levels
   split_call up levels call born s = record {
     closed = s.closed;
     open_ones = s.open_ones;
@@ -102,7 +104,8 @@ module _ (P : Program) where
       not_new : (v : Level) → v.birth < call.birth → is_open up v ≡ false → is_open (call ∷ up) v ≡ false
       not_new v lt h = let q : nat_eq call.birth v.birth ≡ false = grind (arith, nat_tests) in rw (q, h) refl
 
-  call : (up : List Level) (ls : List (Line StorePart)) (n : ℕ) (s : Site) → Stands P s → IsKept P up ls n → IsKept P (record { call = s; birth = n } ∷ up) ls (suc n)
+  call : (up : List Level) (ls : List (Line StorePart)) (n : ℕ) (s : Site) → Stands P s → IsKept P up ls n
+      → IsKept P (record { call = s; birth = n } ∷ up) ls (suc n)
   call up ls n s there k = record {
     made = λ x i. omega (arith, k.made x i);
     flush_made = λ x f i e. omega (arith, k.flush_made x f i e);
@@ -133,7 +136,8 @@ module _ (P : Program) where
       go false e = e
 
   -- where the frame of call l returns, l goes over to the calls that have returned
-  split_return : (up levels : List Level) (l : Level) → AreDescending up l.birth → IsParted (l ∷ up) levels → IsParted up levels
+  split_return : (up levels : List Level) (l : Level) → AreDescending up l.birth → IsParted (l ∷ up) levels
+      → IsParted up levels
   split_return up levels l down s = go s.above s.outermost
     where
       last : (v : Level) → In v (s.closed ++ l ∷ []) → is_open up v ≡ false
@@ -165,7 +169,8 @@ module _ (P : Program) where
         returned = λ v i. not_open l v up (s.returned v i);
       }
 
-  return : (up : List Level) (l : Level) (ls : List (Line StorePart)) (n : ℕ) → IsKept P (l ∷ up) ls n → IsKept P up ls n
+  return : (up : List Level) (l : Level) (ls : List (Line StorePart)) (n : ℕ) → IsKept P (l ∷ up) ls n
+      → IsKept P up ls n
   return up l ls n k = record {
     made = k.made;
     flush_made = k.flush_made;
@@ -190,12 +195,14 @@ module _ (P : Program) where
 
   -- ---- a fence
 
-  get_fenced : (ls : List (Line StorePart)) (m : ℕ) (l : Line StorePart) → slice_get (fenced_lines ls) m ≡ Some l → (l0 : Line StorePart) × (slice_get ls m ≡ Some l0) × (l ≡ fence_line l0)
+  get_fenced : (ls : List (Line StorePart)) (m : ℕ) (l : Line StorePart) → slice_get (fenced_lines ls) m ≡ Some l
+      → (l0 : Line StorePart) × (slice_get ls m ≡ Some l0) × (l ≡ fence_line l0)
   get_fenced [] m l e = absurd (let z : ⊥ = cc in z)
   get_fenced (x ∷ ls) zero l e = (x, refl, let q : l ≡ fence_line x = cc in q)
   get_fenced (x ∷ ls) (suc m) l e = get_fenced ls m l e
 
-  get_map : {A B : Type 0} (f : A → B) (xs : List A) (k : ℕ) (y : B) → slice_get (map f xs) k ≡ Some y → (x : A) × (slice_get xs k ≡ Some x) × (y ≡ f x)
+  get_map : {A B : Type 0} (f : A → B) (xs : List A) (k : ℕ) (y : B) → slice_get (map f xs) k ≡ Some y
+      → (x : A) × (slice_get xs k ≡ Some x) × (y ≡ f x)
   get_map f [] k y e = absurd (let z : ⊥ = cc in z)
   get_map f (x ∷ xs) zero y e = (x, refl, let q : y ≡ f x = cc in q)
   get_map f (x ∷ xs) (suc k) y e = get_map f xs k y e
@@ -223,7 +230,8 @@ module _ (P : Program) where
       ordered_fence [] h = tt
       ordered_fence (l ∷ ls) h = (ordered-fenced_line (map_line noted_fence l) (ordered-map_line noted_fence l h.0), ordered_fence ls h.1)
 
-      all_flushed : (m j : ℕ) (l : Line StorePart) (x : StorePart) → slice_get (fenced_lines ls) m ≡ Some l → slice_get l.parts j ≡ Some x → j < l.flushed → (f : Flush) × (x.first_flush ≡ Some f)
+      all_flushed : (m j : ℕ) (l : Line StorePart) (x : StorePart) → slice_get (fenced_lines ls) m ≡ Some l
+          → slice_get l.parts j ≡ Some x → j < l.flushed → (f : Flush) × (x.first_flush ≡ Some f)
       all_flushed m j l x e g lt =
           let a = get_fenced ls m l e in
           let b = get_map noted_fence a.0.parts j x (sym (ap (λ (y : Line StorePart). slice_get y.parts j) a.2) ∙ g) in
@@ -232,11 +240,14 @@ module _ (P : Program) where
 
   -- ---- a flush
 
-  get_flushed : (flush : Flush) (o n j : ℕ) (ls : List (Line StorePart)) (m : ℕ) (l : Line StorePart) → slice_get (change_from (λ _ l. flush_line flush l) o n j ls) m ≡ Some l → (l0 : Line StorePart) × (slice_get ls m ≡ Some l0) × ((l ≡ l0) ⊎ (l ≡ flush_line flush l0))
+  get_flushed : (flush : Flush) (o n j : ℕ) (ls : List (Line StorePart)) (m : ℕ) (l : Line StorePart)
+      → slice_get (change_from (λ _ l. flush_line flush l) o n j ls) m ≡ Some l
+      → (l0 : Line StorePart) × (slice_get ls m ≡ Some l0) × ((l ≡ l0) ⊎ (l ≡ flush_line flush l0))
   get_flushed flush o n j [] m l e = absurd (let z : ⊥ = cc in z)
   get_flushed flush o n j (x ∷ ls) zero l e = go (has_bytes j o n) e
     where
-      go : (t : Bool) → Some (cond t (flush_line flush x) x) ≡ Some l → (l0 : Line StorePart) × (Some x ≡ Some l0) × ((l ≡ l0) ⊎ (l ≡ flush_line flush l0))
+      go : (t : Bool) → Some (cond t (flush_line flush x) x) ≡ Some l
+          → (l0 : Line StorePart) × (Some x ≡ Some l0) × ((l ≡ l0) ⊎ (l ≡ flush_line flush l0))
       go true h = (x, refl, inr (let q : l ≡ flush_line flush x = cc in q))
       go false h = (x, refl, inl (let q : l ≡ x = cc in q))
   get_flushed flush o n j (x ∷ ls) (suc m) l e = get_flushed flush o n (suc j) ls m l e
@@ -253,11 +264,13 @@ module _ (P : Program) where
   same_store flush y x (inl e) = record { step = ap (λ (z : StorePart). z.step) e; site = ap (λ (z : StorePart). z.site) e; levels = ap (λ (z : StorePart). z.levels) e; entry = ap (λ (z : StorePart). z.entry) e; fenced = ap (λ (z : StorePart). z.fenced) e }
   same_store flush y x (inr e) = record { step = ap (λ (z : StorePart). z.step) e; site = ap (λ (z : StorePart). z.site) e; levels = ap (λ (z : StorePart). z.levels) e; entry = ap (λ (z : StorePart). z.entry) e; fenced = ap (λ (z : StorePart). z.fenced) e }
 
-  flush_of : (flush f : Flush) (y x : StorePart) → IsFlushedFrom flush y x → y.first_flush ≡ Some f → (f ≡ flush) ⊎ (x.first_flush ≡ Some f)
+  flush_of : (flush f : Flush) (y x : StorePart) → IsFlushedFrom flush y x → y.first_flush ≡ Some f
+      → (f ≡ flush) ⊎ (x.first_flush ≡ Some f)
   flush_of flush f y x (inl e) h = inr (sym (ap (λ (z : StorePart). z.first_flush) e) ∙ h)
   flush_of flush f y x (inr e) h = go x.first_flush refl (sym (ap (λ (z : StorePart). z.first_flush) e) ∙ h)
     where
-      go : (o : Option Flush) → x.first_flush ≡ o → earlier x.first_flush flush ≡ Some f → (f ≡ flush) ⊎ (x.first_flush ≡ Some f)
+      go : (o : Option Flush) → x.first_flush ≡ o → earlier x.first_flush flush ≡ Some f
+          → (f ≡ flush) ⊎ (x.first_flush ≡ Some f)
       go None q g = inl (let r : Some flush ≡ Some f = sym (ap (λ (z : Option Flush). earlier z flush) q) ∙ g in let u : f ≡ flush = cc in u)
       go (Some a) q g = inr (q ∙ sym (ap (λ (z : Option Flush). earlier z flush) q) ∙ g)
 
@@ -265,7 +278,9 @@ module _ (P : Program) where
   met_flushed None flush = (flush, refl)
   met_flushed (Some a) flush = (a, refl)
 
-  flush_here : (up : List Level) (ls : List (Line StorePart)) (n o size : ℕ) (flush : Flush) → flush.step ≡ n → Stands P flush.site → IsKept P up ls n → IsKept P up (change_range (λ _ l. flush_line flush l) o size ls) (suc n)
+  flush_here : (up : List Level) (ls : List (Line StorePart)) (n o size : ℕ) (flush : Flush) → flush.step ≡ n
+      → Stands P flush.site → IsKept P up ls n
+      → IsKept P up (change_range (λ _ l. flush_line flush l) o size ls) (suc n)
   flush_here up ls n o size flush at there k = record {
     made = λ x i. let r = from x i in omega (arith, k.made r.0 r.1, (same_store flush x r.0 r.2).step);
     flush_made = λ x f i e. let r = from x i in made_by f (flush_of flush f x r.0 r.2 e) (λ g. k.flush_made r.0 f r.1 g);
@@ -284,7 +299,8 @@ module _ (P : Program) where
     ordered = ordered-change_from (λ _ l. flush_line flush l) o size (λ _ l h. ordered-flushed_line (map_line (noted_flush flush) l) (ordered-map_line (noted_flush flush) l h)) 0 ls k.ordered;
   }
     where
-      from : (x : StorePart) → PartOf (change_range (λ _ l. flush_line flush l) o size ls) x → (y : StorePart) × PartOf ls y × IsFlushedFrom flush x y
+      from : (x : StorePart) → PartOf (change_range (λ _ l. flush_line flush l) o size ls) x
+          → (y : StorePart) × PartOf ls y × IsFlushedFrom flush x y
       from x i = part-flushed_from flush o size 0 ls x i
 
       made_by : (f : Flush) {A : Type 0} → (f ≡ flush) ⊎ A → (A → f.step < n) → f.step < suc n
@@ -295,14 +311,17 @@ module _ (P : Program) where
       stands_by f (inl e) old = subst (λ (z : Flush). Stands P z.site) (sym e) there
       stands_by f (inr a) old = old a
 
-      all_flushed : (m j : ℕ) (l : Line StorePart) (x : StorePart) (l0 : Line StorePart) → slice_get ls m ≡ Some l0 → slice_get l.parts j ≡ Some x → j < l.flushed → (l ≡ l0) ⊎ (l ≡ flush_line flush l0) → (f : Flush) × (x.first_flush ≡ Some f)
+      all_flushed : (m j : ℕ) (l : Line StorePart) (x : StorePart) (l0 : Line StorePart) → slice_get ls m ≡ Some l0
+          → slice_get l.parts j ≡ Some x → j < l.flushed → (l ≡ l0) ⊎ (l ≡ flush_line flush l0)
+          → (f : Flush) × (x.first_flush ≡ Some f)
       all_flushed m j l x l0 e g lt (inl same) = k.flushed m j l0 x e (sym (ap (λ (y : Line StorePart). slice_get y.parts j) same) ∙ g) (subst (λ (y : Line StorePart). j < y.flushed) same lt)
       all_flushed m j l x l0 e g lt (inr met) =
           let b = get_map (noted_flush flush) l0.parts j x (sym (ap (λ (y : Line StorePart). slice_get y.parts j) met) ∙ g) in
           let c = met_flushed b.0.first_flush flush in
           (c.0, ap (λ (y : StorePart). y.first_flush) b.2 ∙ c.1)
 
-  flush : (I : Input) (up : List Level) (ls : List (Line StorePart)) (n a size : ℕ) (flush : Flush) → flush.step ≡ n → Stands P flush.site → IsKept P up ls n → IsKept P up (flushed_lines I flush a size ls) (suc n)
+  flush : (I : Input) (up : List Level) (ls : List (Line StorePart)) (n a size : ℕ) (flush : Flush) → flush.step ≡ n
+      → Stands P flush.site → IsKept P up ls n → IsKept P up (flushed_lines I flush a size ls) (suc n)
   flush I up ls n a size f at there k = go (flushes_lines I a size)
     where
       go : (t : Bool) → IsKept P up (cond t (change_range (λ _ l. flush_line f l) (a - I.base) size ls) ls) (suc n)
@@ -311,11 +330,14 @@ module _ (P : Program) where
 
   -- ---- a store
 
-  get_stored : (part : ℕ → StorePart) (o n j : ℕ) (ls : List (Line StorePart)) (m : ℕ) (l : Line StorePart) → slice_get (change_from (λ j l. with_part (part j) l) o n j ls) m ≡ Some l → (l0 : Line StorePart) × (slice_get ls m ≡ Some l0) × ((l ≡ l0) ⊎ (l ≡ with_part (part (j + m)) l0))
+  get_stored : (part : ℕ → StorePart) (o n j : ℕ) (ls : List (Line StorePart)) (m : ℕ) (l : Line StorePart)
+      → slice_get (change_from (λ j l. with_part (part j) l) o n j ls) m ≡ Some l
+      → (l0 : Line StorePart) × (slice_get ls m ≡ Some l0) × ((l ≡ l0) ⊎ (l ≡ with_part (part (j + m)) l0))
   get_stored part o n j [] m l e = absurd (let z : ⊥ = cc in z)
   get_stored part o n j (x ∷ ls) zero l e = go (has_bytes j o n) e
     where
-      go : (t : Bool) → Some (cond t (with_part (part j) x) x) ≡ Some l → (l0 : Line StorePart) × (Some x ≡ Some l0) × ((l ≡ l0) ⊎ (l ≡ with_part (part (j + 0)) l0))
+      go : (t : Bool) → Some (cond t (with_part (part j) x) x) ≡ Some l
+          → (l0 : Line StorePart) × (Some x ≡ Some l0) × ((l ≡ l0) ⊎ (l ≡ with_part (part (j + 0)) l0))
       go true h = (x, refl, inr (let q : l ≡ with_part (part j) x = cc in let z : j ≡ j + 0 = omega arith in subst (λ i. l ≡ with_part (part i) x) z q))
       go false h = (x, refl, inl (let q : l ≡ x = cc in q))
   get_stored part o n j (x ∷ ls) (suc m) l e =
@@ -323,13 +345,15 @@ module _ (P : Program) where
       let z : suc j + m ≡ j + suc m = omega arith in
       (r.0, r.1, subst (λ i. (l ≡ r.0) ⊎ (l ≡ with_part (part i) r.0)) z r.2)
 
-  get_front : {A : Type 0} (xs : List A) (y x : A) (k : ℕ) → slice_get (xs ++ y ∷ []) k ≡ Some x → k < length xs → slice_get xs k ≡ Some x
+  get_front : {A : Type 0} (xs : List A) (y x : A) (k : ℕ) → slice_get (xs ++ y ∷ []) k ≡ Some x → k < length xs
+      → slice_get xs k ≡ Some x
   get_front [] y x k e lt = absurd (omega arith)
   get_front (z ∷ xs) y x zero e lt = e
   get_front (z ∷ xs) y x (suc k) e lt = get_front xs y x k e (omega arith)
 
   -- the part is one of before, or a new one
-  store_here : (up : List Level) (ls : List (Line StorePart)) (counts : Counts) (s : Site) (o : ℕ) (bytes : List ℕ) → Stands P s → IsKept P up ls counts.steps →
+  store_here : (up : List Level) (ls : List (Line StorePart)) (counts : Counts) (s : Site) (o : ℕ) (bytes : List ℕ)
+      → Stands P s → IsKept P up ls counts.steps →
       IsKept P up (stored (part_of_store counts s up o bytes) o (length bytes) ls) (suc counts.steps)
   store_here up ls counts s o bytes there k = record {
     made = λ x i. by x (from x i) (λ j. omega (arith, k.made x j)) (λ j e. let q : x.step ≡ counts.steps = ap (λ (y : StorePart). y.step) e in omega arith);
@@ -349,10 +373,12 @@ module _ (P : Program) where
     ordered = ordered-stored (part_of_store counts s up o bytes) o (length bytes) ls k.ordered;
   }
     where
-      from : (x : StorePart) → PartOf (stored (part_of_store counts s up o bytes) o (length bytes) ls) x → PartOf ls x ⊎ ((j : ℕ) × (x ≡ part_of_store counts s up o bytes j))
+      from : (x : StorePart) → PartOf (stored (part_of_store counts s up o bytes) o (length bytes) ls) x
+          → PartOf ls x ⊎ ((j : ℕ) × (x ≡ part_of_store counts s up o bytes j))
       from x i = part-stored (part_of_store counts s up o bytes) o (length bytes) ls x i
 
-      by : {A : Type 0} (x : StorePart) → PartOf ls x ⊎ ((j : ℕ) × (x ≡ part_of_store counts s up o bytes j)) → (PartOf ls x → A) → ((j : ℕ) → x ≡ part_of_store counts s up o bytes j → A) → A
+      by : {A : Type 0} (x : StorePart) → PartOf ls x ⊎ ((j : ℕ) × (x ≡ part_of_store counts s up o bytes j))
+          → (PartOf ls x → A) → ((j : ℕ) → x ≡ part_of_store counts s up o bytes j → A) → A
       by x (inl i) old fresh = old i
       by x (inr j) old fresh = fresh j.0 j.1
 
@@ -360,23 +386,34 @@ module _ (P : Program) where
       never x f j e h = let q : None ≡ Some f = sym (ap (λ (y : StorePart). y.first_flush) e) ∙ h in let z : ⊥ = cc in z
 
       -- an old part and a new one are of different steps, and two new ones are of one store
-      both : {A : Type 0} (x y : StorePart) → PartOf ls x ⊎ ((j : ℕ) × (x ≡ part_of_store counts s up o bytes j)) → PartOf ls y ⊎ ((j : ℕ) × (y ≡ part_of_store counts s up o bytes j)) → x.step ≡ y.step → (see : StorePart → A) → (PartOf ls x → PartOf ls y → see x ≡ see y) → ((m n : ℕ) → see (part_of_store counts s up o bytes m) ≡ see (part_of_store counts s up o bytes n)) → see x ≡ see y
+      both : {A : Type 0} (x y : StorePart) → PartOf ls x ⊎ ((j : ℕ) × (x ≡ part_of_store counts s up o bytes j))
+          → PartOf ls y ⊎ ((j : ℕ) × (y ≡ part_of_store counts s up o bytes j)) → x.step ≡ y.step
+          → (see : StorePart → A) → (PartOf ls x → PartOf ls y → see x ≡ see y)
+          → ((m n : ℕ) → see (part_of_store counts s up o bytes m) ≡ see (part_of_store counts s up o bytes n))
+          → see x ≡ see y
       both x y (inl i) (inl j) e see old fresh = old i j
       both x y (inl i) (inr j) e see old fresh = let q : y.step ≡ counts.steps = ap (λ (z : StorePart). z.step) j.1 in let lt = k.made x i in absurd (omega arith)
       both x y (inr i) (inl j) e see old fresh = let q : x.step ≡ counts.steps = ap (λ (z : StorePart). z.step) i.1 in let lt = k.made y j in absurd (omega arith)
       both x y (inr i) (inr j) e see old fresh = ap see i.1 ∙ fresh i.0 j.0 ∙ sym (ap see j.1)
 
-      all_flushed : (m j : ℕ) (l : Line StorePart) (x : StorePart) (l0 : Line StorePart) → slice_get ls m ≡ Some l0 → slice_get l.parts j ≡ Some x → j < l.flushed → (l ≡ l0) ⊎ (l ≡ with_part (part_of_store counts s up o bytes (0 + m)) l0) → (f : Flush) × (x.first_flush ≡ Some f)
+      all_flushed : (m j : ℕ) (l : Line StorePart) (x : StorePart) (l0 : Line StorePart) → slice_get ls m ≡ Some l0
+          → slice_get l.parts j ≡ Some x → j < l.flushed
+          → (l ≡ l0) ⊎ (l ≡ with_part (part_of_store counts s up o bytes (0 + m)) l0)
+          → (f : Flush) × (x.first_flush ≡ Some f)
       all_flushed m j l x l0 e g lt (inl same) = k.flushed m j l0 x e (sym (ap (λ (y : Line StorePart). slice_get y.parts j) same) ∙ g) (subst (λ (y : Line StorePart). j < y.flushed) same lt)
       all_flushed m j l x l0 e g lt (inr more) =
           let low : j < l0.flushed = subst (λ (y : Line StorePart). j < y.flushed) more lt in
           let h = (ordered-at ls m l0 k.ordered e).flushed in
           k.flushed m j l0 x e (get_front l0.parts (part_of_store counts s up o bytes (0 + m)) x j (sym (ap (λ (y : Line StorePart). slice_get y.parts j) more) ∙ g) (omega arith)) low
 
-  store : (I : Input) (up : List Level) (ls : List (Line StorePart)) (counts : Counts) (s : Site) (a : ℕ) (bytes : List ℕ) → Stands P s → IsKept P up ls counts.steps → IsKept P up (stored_lines I counts s up a bytes ls) (suc counts.steps)
+  store : (I : Input) (up : List Level) (ls : List (Line StorePart)) (counts : Counts) (s : Site) (a : ℕ)
+      (bytes : List ℕ) → Stands P s → IsKept P up ls counts.steps
+      → IsKept P up (stored_lines I counts s up a bytes ls) (suc counts.steps)
   store I up ls counts s a bytes there k = go (in_region I a (length bytes))
     where
-      go : (t : Bool) → IsKept P up (cond t (stored (part_of_store counts s up (a - I.base) bytes) (a - I.base) (length bytes) ls) ls) (suc counts.steps)
+      go : (t : Bool)
+          → IsKept P up (cond t (stored (part_of_store counts s up (a - I.base) bytes) (a - I.base)
+          (length bytes) ls) ls) (suc counts.steps)
       go true = store_here up ls counts s (a - I.base) bytes there k
       go false = later up ls counts.steps k
 
@@ -385,16 +422,20 @@ module _ (P : Program) where
   abbrev StateKept : State → Type 0
   StateKept s = IsKept P (levels_of s.frames) s.lines s.counts.steps
 
-  leave_kept : (v : ℕ) (w : World) (f : Frame) (fs : List Frame) (ls : List (Line StorePart)) (c : Counts) (e : Event) → IsKept P (levels_of (f ∷ fs)) ls c.steps → StateKept (leave v w f fs ls (counted e c))
+  leave_kept : (v : ℕ) (w : World) (f : Frame) (fs : List Frame) (ls : List (Line StorePart)) (c : Counts) (e : Event)
+      → IsKept P (levels_of (f ∷ fs)) ls c.steps → StateKept (leave v w f fs ls (counted e c))
   unfolding leave
   leave_kept v w f [] ls c e k = later (levels_of (f ∷ [])) ls c.steps k
   leave_kept v w f (g ∷ fs) ls c e k = later (levels_of (g ∷ fs)) ls c.steps (go f.level k)
     where
-      go : (o : Option Level) → IsKept P (level_list o (levels_of (g ∷ fs))) ls c.steps → IsKept P (levels_of (g ∷ fs)) ls c.steps
+      go : (o : Option Level) → IsKept P (level_list o (levels_of (g ∷ fs))) ls c.steps
+          → IsKept P (levels_of (g ∷ fs)) ls c.steps
       go None h = h
       go (Some l) h = return (levels_of (g ∷ fs)) l ls c.steps h
 
-  perform_kept : (I : Input) (w : World) (f : Frame) (fs : List Frame) (ls : List (Line StorePart)) (c : Counts) (e : Event) → Stands P (site_of f) → IsKept P (levels_of (f ∷ fs)) ls c.steps → (x : Action) → StateKept (perform I w f fs ls c (counted e c) x)
+  perform_kept : (I : Input) (w : World) (f : Frame) (fs : List Frame) (ls : List (Line StorePart)) (c : Counts)
+      (e : Event) → Stands P (site_of f) → IsKept P (levels_of (f ∷ fs)) ls c.steps → (x : Action)
+      → StateKept (perform I w f fs ls c (counted e c) x)
   unfolding perform
   perform_kept I w f fs ls c e there k (Traps kind) = later (levels_of (f ∷ fs)) ls c.steps k
   perform_kept I w f fs ls c e there k (Assigns to v) = later (levels_of (f ∷ fs)) ls c.steps k
@@ -430,7 +471,9 @@ module _ (P : Program) where
   end_is I f (Some (ends.Ret arg)) = tt
   end_is I f (Some ends.Unreachable) = tt
 
-  end_kept : (I : Input) (w : World) (f : Frame) (fs : List Frame) (ls : List (Line StorePart)) (c : Counts) (e : Event) → IsKept P (levels_of (f ∷ fs)) ls c.steps → (x : Action) → is_end x → StateKept (perform I w f fs ls c (counted e c) x)
+  end_kept : (I : Input) (w : World) (f : Frame) (fs : List Frame) (ls : List (Line StorePart)) (c : Counts) (e : Event)
+      → IsKept P (levels_of (f ∷ fs)) ls c.steps → (x : Action) → is_end x
+      → StateKept (perform I w f fs ls c (counted e c) x)
   unfolding perform
   end_kept I w f fs ls c e k (Traps kind) p = later (levels_of (f ∷ fs)) ls c.steps k
   end_kept I w f fs ls c e k (Jumps b rs) p = later (levels_of (f ∷ fs)) ls c.steps k
@@ -446,22 +489,30 @@ module _ (P : Program) where
   end_kept I w f fs ls c e k (Reads to z rest) p = absurd p
   end_kept I w f fs ls c e k (Calls g rs to) p = absurd p
 
-  cut_kept : (I : Input) (w : World) (f : Frame) (fs : List Frame) (ls : List (Line StorePart)) (c : Counts) (e : Event) (d : Deed) → IsKept P (levels_of (f ∷ fs)) ls c.steps → ((w2 : World) → StateKept (perform I w2 f fs ls c (counted e c) d.action)) → StateKept (carry_out I w f fs ls c (counted e c) d)
+  cut_kept : (I : Input) (w : World) (f : Frame) (fs : List Frame) (ls : List (Line StorePart)) (c : Counts) (e : Event)
+      (d : Deed) → IsKept P (levels_of (f ∷ fs)) ls c.steps
+      → ((w2 : World) → StateKept (perform I w2 f fs ls c (counted e c) d.action))
+      → StateKept (carry_out I w f fs ls c (counted e c) d)
   unfolding carry_out
   cut_kept I w f fs ls c e d k h = go (is_cut I w d)
     where
-      go : (t : Bool) → StateKept (cond t (stop Cut w (f ∷ fs) ls (counted e c)) (perform I (cond d.turn (with_turn w) w) f fs ls c (counted e c) d.action))
+      go : (t : Bool)
+          → StateKept (cond t (stop Cut w (f ∷ fs) ls (counted e c))
+          (perform I (cond d.turn (with_turn w) w) f fs ls c (counted e c) d.action))
       go true = later (levels_of (f ∷ fs)) ls c.steps k
       go false = h _
 
-  pub instr_at_place : (f b k : ℕ) → instr_of P (record { function = f; block = b; index = k }) ≡ slice_get (body_at P f b) k
+  pub instr_at_place : (f b k : ℕ)
+      → instr_of P (record { function = f; block = b; index = k }) ≡ slice_get (body_at P f b) k
   instr_at_place f b k = go (slice_get P.functions f)
     where
       block_go : (o : Option Block) → option_and_then (λ x. slice_get x.body k) o ≡ slice_get (body_of o) k
       block_go None = refl
       block_go (Some x) = refl
 
-      go : (o : Option Function) → option_and_then (λ x. slice_get x.body k) (option_and_then (λ x. slice_get x.blocks b) o) ≡ slice_get (body_of (slice_get (blocks_in o) b)) k
+      go : (o : Option Function)
+          → option_and_then (λ x. slice_get x.body k)
+          (option_and_then (λ x. slice_get x.blocks b) o) ≡ slice_get (body_of (slice_get (blocks_in o) b)) k
       go None = refl
       go (Some x) = block_go (slice_get x.blocks b)
 
@@ -469,11 +520,15 @@ module _ (P : Program) where
   unfolding step on_ending on_frames
   step_kept I s k = go s.world.ending
     where
-      by_code : (f : Frame) (fs : List Frame) (e : Event) (code : List Instr) → code_at P f ≡ code → IsKept P (levels_of (f ∷ fs)) s.lines s.counts.steps → StateKept (carry_out I s.world f fs s.lines s.counts (counted e s.counts) (deed_of P I s.world (length fs) f (end_at P f) code))
+      by_code : (f : Frame) (fs : List Frame) (e : Event) (code : List Instr) → code_at P f ≡ code
+          → IsKept P (levels_of (f ∷ fs)) s.lines s.counts.steps
+          → StateKept (carry_out I s.world f fs s.lines s.counts (counted e s.counts)
+          (deed_of P I s.world (length fs) f (end_at P f) code))
       by_code f fs e [] q k = cut_kept I s.world f fs s.lines s.counts e _ k (λ w2. end_kept I w2 f fs s.lines s.counts e k (end_action P I f (end_at P f)) (end_is I f (end_at P f)))
       by_code f fs e (i ∷ rest) q k = cut_kept I s.world f fs s.lines s.counts e _ k (λ w2. perform_kept I w2 f fs s.lines s.counts e (i, instr_at_place f.function f.block f.place ∙ get_drop (body_at P f.function f.block) f.place i rest q) k _)
 
-      on_them : (fs : List Frame) → IsKept P (levels_of fs) s.lines s.counts.steps → StateKept (on_frames P I s.world s.lines s.counts fs)
+      on_them : (fs : List Frame) → IsKept P (levels_of fs) s.lines s.counts.steps
+          → StateKept (on_frames P I s.world s.lines s.counts fs)
       on_them [] k = k
       on_them (f ∷ fs) k = by_code f fs (event_at I s.world fs (deed_at P I s.world f fs)) (code_at P f) refl k
 
@@ -487,7 +542,8 @@ module _ (P : Program) where
   part_of_fresh (suc n) x (inl i) = i
   part_of_fresh (suc n) x (inr i) = part_of_fresh n x i
 
-  pub line_of_fresh : (n m : ℕ) (l : Line StorePart) → slice_get (fresh_lines {P = StorePart} n) m ≡ Some l → l.parts ≡ []
+  pub line_of_fresh : (n m : ℕ) (l : Line StorePart) → slice_get (fresh_lines {P = StorePart} n) m ≡ Some l
+      → l.parts ≡ []
   unfolding fresh_lines
   line_of_fresh zero m l e = absurd (let z : ⊥ = cc in z)
   line_of_fresh (suc n) zero l e = let q : l ≡ record { parts = []; flushed = 0; durable = 0 } = cc in ap (λ (y : Line StorePart). y.parts) q

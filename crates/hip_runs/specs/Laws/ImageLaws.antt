@@ -22,7 +22,9 @@ use Rattle.hip_ir.specs.declared.program.Program.{Program}
 
 -- ---- the parts behind the durable ones
 
-after_append : (xs ys : List StorePart) (b first : ℕ) → byte_after covers byte_of (xs ++ ys) b first ≡ byte_after covers byte_of ys b (byte_after covers byte_of xs b first)
+after_append : (xs ys : List StorePart) (b first : ℕ)
+    → byte_after covers byte_of (xs ++ ys) b first
+    ≡ byte_after covers byte_of ys b (byte_after covers byte_of xs b first)
 after_append [] ys b first = refl
 after_append (x ∷ xs) ys b first = after_append xs ys b _
 
@@ -66,7 +68,9 @@ module _ (test : ℕ → Bool) where
   some_there a zero h = absurd (let z : ⊥ = cc in z)
   some_there a (suc n) h = go (λ g. some_there (a + 1) n g) (either (test a) _ h)
     where
-      go : (list_any test (range_with_len (a + 1) n) ≡ true → (b : ℕ) × (a + 1 ≤ b) × (b < a + 1 + n) × (test b ≡ true)) → (test a ≡ true) ⊎ (list_any test (range_with_len (a + 1) n) ≡ true) → (b : ℕ) × (a ≤ b) × (b < a + suc n) × (test b ≡ true)
+      go : (list_any test (range_with_len (a + 1) n) ≡ true → (b : ℕ) × (a + 1 ≤ b) × (b < a + 1 + n) × (test b ≡ true))
+          → (test a ≡ true) ⊎ (list_any test (range_with_len (a + 1) n) ≡ true)
+          → (b : ℕ) × (a ≤ b) × (b < a + suc n) × (test b ≡ true)
       go next (inl t) = (a, omega arith, omega arith, t)
       go next (inr t) = let r = next t in (r.0, omega (arith, r.1), omega (arith, r.2), r.3)
 
@@ -74,7 +78,8 @@ module _ (test : ℕ → Bool) where
   there_some a zero b le lt t = absurd (omega (arith, le, lt))
   there_some a (suc n) b le lt t = go (λ low. there_some (a + 1) n b low (omega (arith, lt)) t) (first_or_later a b le)
     where
-      go : (a + 1 ≤ b → list_any test (range_with_len (a + 1) n) ≡ true) → (a ≡ b) ⊎ (a + 1 ≤ b) → list_any test (range_with_len a (suc n)) ≡ true
+      go : (a + 1 ≤ b → list_any test (range_with_len (a + 1) n) ≡ true) → (a ≡ b) ⊎ (a + 1 ≤ b)
+          → list_any test (range_with_len a (suc n)) ≡ true
       go next (inl e) = or_first _ _ (subst (λ k. test k ≡ true) (sym e) t)
       go next (inr low) = or_second (test a) _ (next low)
 
@@ -84,7 +89,8 @@ module _ (first content : List ℕ) where
   same_byte : ℕ → Line StorePart → ℕ → ℕ → Bool
   same_byte j l q b = nat_eq (slice_index content b) (byte_after covers byte_of (take q l.parts) b (slice_index first b))
 
-  line_of_test : (j : ℕ) (l : Line StorePart) → is_line_image first content j l ≡ true → IsLineImage covers byte_of first content j l
+  line_of_test : (j : ℕ) (l : Line StorePart) → is_line_image first content j l ≡ true
+      → IsLineImage covers byte_of first content j l
   line_of_test j l h =
       let r = some_there (is_line_after first content j l) l.durable (suc (length l.parts) - l.durable) h in (
         r.0,
@@ -95,12 +101,14 @@ module _ (first content : List ℕ) where
         },
       )
 
-  test_of_line : (j : ℕ) (l : Line StorePart) → IsLineImage covers byte_of first content j l → is_line_image first content j l ≡ true
+  test_of_line : (j : ℕ) (l : Line StorePart) → IsLineImage covers byte_of first content j l
+      → is_line_image first content j l ≡ true
   test_of_line j l h =
       there_some (is_line_after first content j l) l.durable (suc (length l.parts) - l.durable) h.0 h.1.least (omega (arith, h.1.least, h.1.most))
       (there_all (λ k. nat_eq (slice_index content k) (byte_after covers byte_of (take h.0 l.parts) k (slice_index first k))) (64 * j) 64 (λ b from to. true_equal _ _ (h.1.bytes b from to)))
 
-  lines_of_test : (j : ℕ) (ls : List (Line StorePart)) → are_line_images first content j ls ≡ true → (k : ℕ) (l : Line StorePart) → slice_get ls k ≡ Some l → IsLineImage covers byte_of first content (j + k) l
+  lines_of_test : (j : ℕ) (ls : List (Line StorePart)) → are_line_images first content j ls ≡ true
+      → (k : ℕ) (l : Line StorePart) → slice_get ls k ≡ Some l → IsLineImage covers byte_of first content (j + k) l
   lines_of_test j [] h k l e = absurd (let z : ⊥ = cc in z)
   lines_of_test j (x ∷ ls) h zero l e =
       let same_line : x ≡ l = cc in
@@ -110,19 +118,28 @@ module _ (first content : List ℕ) where
       let z : suc j + k ≡ j + suc k = omega arith in
       subst (λ i. IsLineImage covers byte_of first content i l) z (lines_of_test (suc j) ls (both_true (is_line_image first content j x) _ h).1 k l e)
 
-  test_of_lines : (j : ℕ) (ls : List (Line StorePart)) → ((k : ℕ) (l : Line StorePart) → slice_get ls k ≡ Some l → IsLineImage covers byte_of first content (j + k) l) → are_line_images first content j ls ≡ true
+  test_of_lines : (j : ℕ) (ls : List (Line StorePart))
+      → ((k : ℕ) (l : Line StorePart) → slice_get ls k ≡ Some l → IsLineImage covers byte_of first content (j + k) l)
+      → are_line_images first content j ls ≡ true
   test_of_lines j [] h = refl
   test_of_lines j (x ∷ ls) h =
       let z : j + 0 ≡ j = omega arith in
       true_both (test_of_line j x (subst (λ i. IsLineImage covers byte_of first content i x) z (h 0 x refl)))
       (test_of_lines (suc j) ls (λ k l e. let y : j + suc k ≡ suc j + k = omega arith in subst (λ i. IsLineImage covers byte_of first content i l) y (h (suc k) l e)))
 
-pub image_of_test : (I : Input) (s : State) (content : List ℕ) → is_crash_image I s content ≡ true → IsCrashImage I s content
+pub image_of_test : (I : Input) (s : State) (content : List ℕ) → is_crash_image I s content ≡ true
+    → IsCrashImage I s content
 image_of_test I s content h =
     let p = both_true (nat_eq (length content) (length I.image)) _ h in
-    record { whole = equal_true _ _ p.0; lines = λ j l e. let z : 0 + j ≡ j = omega arith in subst (λ i. IsLineImage covers byte_of I.image content i l) z (lines_of_test I.image content 0 s.lines p.1 j l e) }
+    record {
+      whole = equal_true _ _ p.0;
+      lines = λ j l e. let z : 0 + j
+          ≡ j = omega arith in subst (λ i. IsLineImage covers byte_of I.image content i l) z (lines_of_test I.image
+          content 0 s.lines p.1 j l e);
+    }
 
-pub test_of_image : (I : Input) (s : State) (content : List ℕ) → IsCrashImage I s content → is_crash_image I s content ≡ true
+pub test_of_image : (I : Input) (s : State) (content : List ℕ) → IsCrashImage I s content
+    → is_crash_image I s content ≡ true
 test_of_image I s content h =
     true_both (true_equal _ _ h.whole)
     (test_of_lines I.image content 0 s.lines (λ k l e. let z : k ≡ 0 + k = omega arith in subst (λ i. IsLineImage covers byte_of I.image content i l) z (h.lines k l e)))
@@ -150,7 +167,8 @@ line_there [] j h = absurd (omega (arith, h))
 line_there (l ∷ ls) zero h = (l, refl)
 line_there (l ∷ ls) (suc j) h = line_there ls j (omega (arith, h))
 
-after_below : (xs : List StorePart) (b first : ℕ) → first < 256 → ((x : StorePart) → In x xs → covers x b ≡ true → byte_of x b < 256) → byte_after covers byte_of xs b first < 256
+after_below : (xs : List StorePart) (b first : ℕ) → first < 256
+    → ((x : StorePart) → In x xs → covers x b ≡ true → byte_of x b < 256) → byte_after covers byte_of xs b first < 256
 after_below [] b first h parts = h
 after_below (x ∷ xs) b first h parts = after_below xs b (cond (covers x b) (byte_of x b) first) (go (covers x b) refl) (λ y i. parts y (inr i))
   where
@@ -165,7 +183,8 @@ module _ (P : Program) (I : Input) (n : ℕ) where
       let same : byte_of x b ≡ slice_index (bytes_of (length o.bytes) (little_endian o.bytes)) (I.base + b - o.addr) = (o.covered b e).3 ∙ ap (λ bs. slice_index bs (I.base + b - o.addr)) (sym o.written) in
       subst (λ v. v < 256) (sym same) (bytes_of-below (length o.bytes) (little_endian o.bytes) (I.base + b - o.addr))
 
-  image_bytes : (content : List ℕ) → IsValid P I → All (λ b. b < 256) I.image → IsCrashImage I (run P I n) content → All (λ b. b < 256) content
+  image_bytes : (content : List ℕ) → IsValid P I → All (λ b. b < 256) I.image → IsCrashImage I (run P I n) content
+      → All (λ b. b < 256) content
   image_bytes content v first h = index_below content below
     where
       below : (i : ℕ) → i < length content → slice_index content i < 256
@@ -177,8 +196,10 @@ module _ (P : Program) (I : Input) (n : ℕ) where
           subst (λ k. k < 256) (sym (r.1.bytes i (omega arith) (omega arith)))
           (after_below (take r.0 l.0.parts) i (slice_index I.image i) (below_index I.image first i) (λ x j e. part_below x i (part_at (run P I n).lines (i / 64) l.0 x l.1 (in_front r.0 l.0.parts x j)) e))
 
-  pub image_valid : (content : List ℕ) → IsValid P I → IsCrashImage I (run P I n) content → IsValid P (record I { image = content })
+  pub image_valid : (content : List ℕ) → IsValid P I → IsCrashImage I (run P I n) content
+      → IsValid P (record I { image = content })
   image_valid content v h = record { base = v.base; image = h.whole ∙ v.image; numbers = v.numbers; limit = v.limit }
 
-  pub image_input : (content : List ℕ) → IsInput I → IsValid P I → IsCrashImage I (run P I n) content → IsInput (record I { image = content })
+  pub image_input : (content : List ℕ) → IsInput I → IsValid P I → IsCrashImage I (run P I n) content
+      → IsInput (record I { image = content })
   image_input content i v h = record { bytes = image_bytes content v i.bytes h; numbers = i.numbers }

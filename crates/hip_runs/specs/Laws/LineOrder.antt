@@ -29,7 +29,8 @@ pub record IsWell (n m : ℕ) (l : Line StorePart) : Type 0 where
   pub line : (k : ℕ) (x : StorePart) → slice_get l.parts k ≡ Some x → x.offset / 64 ≡ m
   -- its parts are in the order of their stores' steps
   pub made : (k : ℕ) (x : StorePart) → slice_get l.parts k ≡ Some x → x.step < n
-  pub ascend : (j k : ℕ) (x y : StorePart) → slice_get l.parts j ≡ Some x → slice_get l.parts k ≡ Some y → j < k → x.step < y.step
+  pub ascend : (j k : ℕ) (x y : StorePart) → slice_get l.parts j ≡ Some x → slice_get l.parts k ≡ Some y → j < k
+      → x.step < y.step
   -- a part that is not flushed has no first flush
   pub unflushed : (k : ℕ) (x : StorePart) → slice_get l.parts k ≡ Some x → l.flushed ≤ k → x.first_flush ≡ None
 
@@ -70,7 +71,8 @@ place xs y k x e = go (split k (length xs) (omega (arith, get-below (xs ++ y ∷
     go (inr q) = last q (let g : Some y ≡ Some x = sym (get-append_end xs y) ∙ ap (slice_get (xs ++ y ∷ [])) (sym q) ∙ e in let z : x ≡ y = cc in z)
 
 -- the new part of a store lies in its line
-part_inside : (counts : Counts) (site : Site) (levels : List Level) (o : ℕ) (bytes : List ℕ) (m b : ℕ) → covers (part_of_store counts site levels o bytes m) b ≡ true → b / 64 ≡ m
+part_inside : (counts : Counts) (site : Site) (levels : List Level) (o : ℕ) (bytes : List ℕ) (m b : ℕ)
+    → covers (part_of_store counts site levels o bytes m) b ≡ true → b / 64 ≡ m
 part_inside counts site levels o bytes m b h =
     let n : length (take (end_in m o (length bytes) - start_in m o) (drop (start_in m o - o) bytes)) ≡ end_in m o (length bytes) - start_in m o = length-take-le (end_in m o (length bytes) - start_in m o) (drop (start_in m o - o) bytes) (let e = length-drop (start_in m o - o) bytes in omega (arith, e)) in
     let r = true_over (part_of_store counts site levels o bytes m) b h in
@@ -79,7 +81,8 @@ part_inside counts site levels o bytes m b h =
     bound : (s e len b : ℕ) → len ≡ e - s → s ≤ b → b < s + len → b < e
     bound s e len b q le lt = omega (arith, q, le, lt)
 
-well_store : (n m : ℕ) (y : StorePart) (l : Line StorePart) → IsOrdered l → ((b : ℕ) → covers y b ≡ true → b / 64 ≡ m) → y.offset / 64 ≡ m → y.step ≡ n → y.first_flush ≡ None → IsWell n m l → IsWell (suc n) m (with_part y l)
+well_store : (n m : ℕ) (y : StorePart) (l : Line StorePart) → IsOrdered l → ((b : ℕ) → covers y b ≡ true → b / 64 ≡ m)
+    → y.offset / 64 ≡ m → y.step ≡ n → y.first_flush ≡ None → IsWell n m l → IsWell (suc n) m (with_part y l)
 well_store n m y l o inside at_line step none h = record {
   inside = λ k x e. in_it k x (place l.parts y k x e);
   line = λ k x e. on_line k x (place l.parts y k x e);
@@ -121,22 +124,27 @@ all_later n ls h m l e = later n m l (h m l e)
 all_fence : (n : ℕ) (ls : List (Line StorePart)) → AreWell n ls → AreWell n (fenced_lines ls)
 all_fence n ls h m l e = let r = get-of_map fence_line ls m l e in subst (IsWell n m) r.2 (well_fence n m r.0 (h m r.0 r.1))
 
-all_flush : (n : ℕ) (I : Input) (flush : Flush) (a size : ℕ) (ls : List (Line StorePart)) → AreWell n ls → AreWell n (met_lines I flush a size ls)
+all_flush : (n : ℕ) (I : Input) (flush : Flush) (a size : ℕ) (ls : List (Line StorePart)) → AreWell n ls
+    → AreWell n (met_lines I flush a size ls)
 all_flush n I flush a size ls h m l e = go (has_bytes m (a - I.base) size) (slice_get ls m) (λ x q. h m x q) (sym (slice_get-change_range (λ _ l. flush_line flush l) (a - I.base) size ls m) ∙ e)
   where
-    go : (b : Bool) (o : Option (Line StorePart)) → ((x : Line StorePart) → o ≡ Some x → IsWell n m x) → option_map (λ l. cond b (flush_line flush l) l) o ≡ Some l → IsWell n m l
+    go : (b : Bool) (o : Option (Line StorePart)) → ((x : Line StorePart) → o ≡ Some x → IsWell n m x)
+        → option_map (λ l. cond b (flush_line flush l) l) o ≡ Some l → IsWell n m l
     go b None k q = absurd (let z : ⊥ = cc in z)
     go true (Some x) k q = let z : flush_line flush x ≡ l = cc in subst (IsWell n m) z (well_flush n m flush x (k x refl))
     go false (Some x) k q = k l q
 
-all_store : (n : ℕ) (counts : Counts) (site : Site) (levels : List Level) (o : ℕ) (bytes : List ℕ) (ls : List (Line StorePart)) → counts.steps ≡ n → ((m : ℕ) (l : Line StorePart) → slice_get ls m ≡ Some l → IsOrdered l) → AreWell n ls →
+all_store : (n : ℕ) (counts : Counts) (site : Site) (levels : List Level) (o : ℕ) (bytes : List ℕ)
+    (ls : List (Line StorePart)) → counts.steps ≡ n
+    → ((m : ℕ) (l : Line StorePart) → slice_get ls m ≡ Some l → IsOrdered l) → AreWell n ls →
     AreWell (suc n) (stored (part_of_store counts site levels o bytes) o (length bytes) ls)
 all_store n counts site levels o bytes ls at ordered h m l e = go (has_bytes m o (length bytes)) refl (slice_get ls m) (λ x q. ordered m x q) (λ x q. h m x q) (sym (slice_get-change_range (λ j l. with_part (part_of_store counts site levels o bytes j) l) o (length bytes) ls m) ∙ e)
   where
     part : StorePart
     part = part_of_store counts site levels o bytes m
 
-    go : (b : Bool) → has_bytes m o (length bytes) ≡ b → (w : Option (Line StorePart)) → ((x : Line StorePart) → w ≡ Some x → IsOrdered x) → ((x : Line StorePart) → w ≡ Some x → IsWell n m x) →
+    go : (b : Bool) → has_bytes m o (length bytes) ≡ b → (w : Option (Line StorePart))
+        → ((x : Line StorePart) → w ≡ Some x → IsOrdered x) → ((x : Line StorePart) → w ≡ Some x → IsWell n m x) →
         option_map (λ l. cond b (with_part (part_of_store counts site levels o bytes m) l) l) w ≡ Some l → IsWell (suc n) m l
     go b t None p k q = absurd (let z : ⊥ = cc in z)
     go true t (Some x) p k q =
@@ -144,7 +152,8 @@ all_store n counts site levels o bytes ls at ordered h m l e = go (has_bytes m o
         subst (IsWell (suc n) m) z (well_store n m (part_of_store counts site levels o bytes m) x (p x refl) (λ b c. part_inside counts site levels o bytes m b c) (line_of_start o (length bytes) m t) at refl (k x refl))
     go false t (Some x) p k q = later n m l (k l q)
 
-well_cases : (P : Program) (I : Input) (n : ℕ) → AreWell n (run P I n).lines → Cases I (run P I n) (λ e ls. AreWell (suc n) ls)
+well_cases : (P : Program) (I : Input) (n : ℕ) → AreWell n (run P I n).lines
+    → Cases I (run P I n) (λ e ls. AreWell (suc n) ls)
 well_cases P I n h = record {
   plain = λ e p. all_later n _ h;
   store = λ f fs t a bytes e w. all_store n (run P I n).counts (site_of f) (levels_of (f ∷ fs)) (a - I.base) bytes _ (counted-steps P I n t.going) (λ m l q. ordered-at (run P I n).lines m l (lines_ordered P I n) q) h;
@@ -185,7 +194,8 @@ has_order P I n = record {
     which : (a b : ℕ) → (a < b) ⊎ (b ≤ a)
     which a b = grind arith
 
-    by : (m : ℕ) (l : Line StorePart) (k : ℕ) (x : StorePart) (f : Flush) → slice_get (run P I n).lines m ≡ Some l → slice_get l.parts k ≡ Some x → x.first_flush ≡ Some f → (k < l.flushed) ⊎ (l.flushed ≤ k) → k < l.flushed
+    by : (m : ℕ) (l : Line StorePart) (k : ℕ) (x : StorePart) (f : Flush) → slice_get (run P I n).lines m ≡ Some l
+        → slice_get l.parts k ≡ Some x → x.first_flush ≡ Some f → (k < l.flushed) ⊎ (l.flushed ≤ k) → k < l.flushed
     by m l k x f e g q (inl lt) = lt
     by m l k x f e g q (inr le) = absurd (let z : None ≡ Some f = sym ((lines_well P I n m l e).unflushed k x g le) ∙ q in let w : ⊥ = cc in w)
 
@@ -197,7 +207,9 @@ module _ (P : Program) (I : Input) (from : ℕ) where
   fenced_before zero s = absurd (omega (arith, s.2))
   fenced_before (suc n) s = go (λ t. fenced_before n t) (fences (event P I (run P I n))) refl (below s.0 n s.2)
     where
-      go : (FencedSince P I from n → is_before from (last_fence P I n) ≡ true) → (b : Bool) → fences (event P I (run P I n)) ≡ b → (s.0 < n) ⊎ (s.0 ≡ n) → is_before from (cond b (Some n) (last_fence P I n)) ≡ true
+      go : (FencedSince P I from n → is_before from (last_fence P I n) ≡ true) → (b : Bool)
+          → fences (event P I (run P I n)) ≡ b → (s.0 < n) ⊎ (s.0 ≡ n)
+          → is_before from (cond b (Some n) (last_fence P I n)) ≡ true
       go next true e (inl lt) = true_lt from n (omega (arith, s.1, lt))
       go next true e (inr q) = true_lt from n (omega (arith, s.1, q))
       go next false e (inl lt) = next (s.0, s.1, lt, s.3)
@@ -208,9 +220,12 @@ module _ (P : Program) (I : Input) (from : ℕ) where
   before_fenced zero h = absurd (let z : ⊥ = cc in z)
   before_fenced (suc n) h = go (λ t. before_fenced n t) (fences (event P I (run P I n))) refl h
     where
-      go : (is_before from (last_fence P I n) ≡ true → FencedSince P I from n) → (b : Bool) → fences (event P I (run P I n)) ≡ b → is_before from (cond b (Some n) (last_fence P I n)) ≡ true → FencedSince P I from (suc n)
+      go : (is_before from (last_fence P I n) ≡ true → FencedSince P I from n) → (b : Bool)
+          → fences (event P I (run P I n)) ≡ b → is_before from (cond b (Some n) (last_fence P I n)) ≡ true
+          → FencedSince P I from (suc n)
       go next true e g = (n, lt_true from n g, omega arith, e)
       go next false e g = let r = next g in (r.0, r.1, omega (arith, r.2), r.3)
 
-pub fenced_by_last : (P : Program) (I : Input) (n : ℕ) (x : StorePart) → PartOf (run P I n).lines x → x.fenced ≡ is_before x.step (last_fence P I n)
+pub fenced_by_last : (P : Program) (I : Input) (n : ℕ) (x : StorePart) → PartOf (run P I n).lines x
+    → x.fenced ≡ is_before x.step (last_fence P I n)
 fenced_by_last P I n x i = both_ways _ _ (λ e. fenced_before P I x.step n (fence_told P I n x i e)) (λ e. told_by_fence P I n x i (before_fenced P I x.step n e))

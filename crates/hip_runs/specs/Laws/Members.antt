@@ -55,7 +55,8 @@ module _ {A : Type 0} (test : A → Bool) where
   any_in [] h = absurd (let z : ⊥ = cc in z)
   any_in (x ∷ xs) h = go (λ g. any_in xs g) (test x) refl h
     where
-      go : (list_any test xs ≡ true → (y : A) × In y xs × (test y ≡ true)) → (b : Bool) → test x ≡ b → b || list_any test xs ≡ true → (y : A) × In y (x ∷ xs) × (test y ≡ true)
+      go : (list_any test xs ≡ true → (y : A) × In y xs × (test y ≡ true)) → (b : Bool) → test x ≡ b
+          → b || list_any test xs ≡ true → (y : A) × In y (x ∷ xs) × (test y ≡ true)
       go next true e h = (x, inl refl, e)
       go next false e h = let r = next h in (r.0, inr r.1, r.2)
 
@@ -65,11 +66,13 @@ module _ {A : Type 0} (test : A → Bool) where
   in_any (y ∷ xs) x (inr i) h = or_second (test y) _ (in_any xs x i h)
 
 module _ {A B : Type 0} (f : A → List B) where
-  pub of_flat : (xs : List A) (y : B) → In y (flat_map f xs) → (m : ℕ) × (x : A) × (slice_get xs m ≡ Some x) × In y (f x)
+  pub of_flat : (xs : List A) (y : B) → In y (flat_map f xs)
+      → (m : ℕ) × (x : A) × (slice_get xs m ≡ Some x) × In y (f x)
   of_flat [] y i = absurd i
   of_flat (x ∷ xs) y i = go (λ j. of_flat xs y j) (in-append (f x) (flat_map f xs) y i)
     where
-      go : (In y (flat_map f xs) → (m : ℕ) × (z : A) × (slice_get xs m ≡ Some z) × In y (f z)) → In y (f x) ⊎ In y (flat_map f xs) → (m : ℕ) × (z : A) × (slice_get (x ∷ xs) m ≡ Some z) × In y (f z)
+      go : (In y (flat_map f xs) → (m : ℕ) × (z : A) × (slice_get xs m ≡ Some z) × In y (f z))
+          → In y (f x) ⊎ In y (flat_map f xs) → (m : ℕ) × (z : A) × (slice_get (x ∷ xs) m ≡ Some z) × In y (f z)
       go next (inl j) = (0, x, refl, j)
       go next (inr j) = let r = next j in (suc r.0, r.1, r.2, r.3)
 

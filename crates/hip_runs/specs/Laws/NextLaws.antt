@@ -21,25 +21,30 @@ use Rattle.hip_runs.specs.declared.event.Event.TheVariants as events
 
 -- ---- the lines that an event names are those that a range meets
 
-lines_there : (o n j : ℕ) → 0 < n → has_bytes j (64 * (o / 64)) (64 * ((o + n - 1) / 64 + 1) - 64 * (o / 64)) ≡ true → has_bytes j o n ≡ true
+lines_there : (o n j : ℕ) → 0 < n → has_bytes j (64 * (o / 64)) (64 * ((o + n - 1) / 64 + 1) - 64 * (o / 64)) ≡ true
+    → has_bytes j o n ≡ true
 lines_there o n j lt h = grind (arith, nat_tests)
 
-there_lines : (o n j : ℕ) → 0 < n → has_bytes j o n ≡ true → has_bytes j (64 * (o / 64)) (64 * ((o + n - 1) / 64 + 1) - 64 * (o / 64)) ≡ true
+there_lines : (o n j : ℕ) → 0 < n → has_bytes j o n ≡ true
+    → has_bytes j (64 * (o / 64)) (64 * ((o + n - 1) / 64 + 1) - 64 * (o / 64)) ≡ true
 there_lines o n j lt h = grind (arith, nat_tests)
 
 some_bytes : (n : ℕ) (b : Bool) → nat_lt 0 n && b ≡ true → 0 < n
 some_bytes n b h = grind (arith, nat_tests)
 
-same_lines : (base o n j : ℕ) → 0 < n → has_bytes j (base + 64 * (o / 64) - base) (64 * ((o + n - 1) / 64 + 1) - 64 * (o / 64)) ≡ has_bytes j o n
+same_lines : (base o n j : ℕ) → 0 < n
+    → has_bytes j (base + 64 * (o / 64) - base) (64 * ((o + n - 1) / 64 + 1) - 64 * (o / 64)) ≡ has_bytes j o n
 same_lines base o n j lt =
     ap (λ k. has_bytes j k (64 * ((o + n - 1) / 64 + 1) - 64 * (o / 64))) (let e : base + 64 * (o / 64) - base ≡ 64 * (o / 64) = omega arith in e)
     ∙ both_ways _ _ (lines_there o n j lt) (there_lines o n j lt)
 
-same_changes : {L : Type 0} (f : ℕ → L → L) (o n o' n' : ℕ) → ((j : ℕ) → has_bytes j o n ≡ has_bytes j o' n') → (j : ℕ) (ls : List L) → change_from f o n j ls ≡ change_from f o' n' j ls
+same_changes : {L : Type 0} (f : ℕ → L → L) (o n o' n' : ℕ) → ((j : ℕ) → has_bytes j o n ≡ has_bytes j o' n')
+    → (j : ℕ) (ls : List L) → change_from f o n j ls ≡ change_from f o' n' j ls
 same_changes f o n o' n' h j [] = refl
 same_changes f o n o' n' h j (l ∷ ls) = ap₂ (λ b rest. cond b (f j l) l ∷ rest) (h j) (same_changes f o n o' n' h (suc j) ls)
 
-flushed_alike : (I : Input) (flush : Flush) (a n : ℕ) (ls : List (Line StorePart)) → flushes_lines I a n ≡ true → met_lines I flush a n ls ≡ flushed_by I flush (first_line I a) (lines_size I a n) ls
+flushed_alike : (I : Input) (flush : Flush) (a n : ℕ) (ls : List (Line StorePart)) → flushes_lines I a n ≡ true
+    → met_lines I flush a n ls ≡ flushed_by I flush (first_line I a) (lines_size I a n) ls
 flushed_alike I flush a n ls h =
     sym (same_changes (λ _ l. flush_line flush l) (first_line I a - I.base) (lines_size I a n) (a - I.base) n (λ j. same_lines I.base (a - I.base) n j (some_bytes n (in_region I a n) h)) 0 ls)
 
@@ -60,7 +65,8 @@ plain_next I s (events.Assert a n) p = refl
 plain_next I s (events.End e) p = refl
 
 module _ (I : Input) (s : State) (f : Frame) (fs : List Frame) (t : IsTop s f fs) where
-  at_top : (e : Event) (ls : List (Line StorePart)) → ls ≡ lines_after I e s.counts (Some (site_of f)) (levels_of (f ∷ fs)) s.lines → Next I s e ls
+  at_top : (e : Event) (ls : List (Line StorePart))
+      → ls ≡ lines_after I e s.counts (Some (site_of f)) (levels_of (f ∷ fs)) s.lines → Next I s e ls
   at_top e ls h = subst (λ (gs : List Frame). ls ≡ lines_after I e s.counts (top_site gs) (levels_of gs) s.lines) (sym t.frames) h
 
 next_cases : (I : Input) (s : State) → Cases I s (Next I s)
@@ -73,18 +79,22 @@ next_cases I s = record {
 }
 
 -- the next lines follow from the event, the site and the calls of the top frame, and the counts
-pub next_lines : (P : Program) (I : Input) (n : ℕ) → (run P I (suc n)).lines ≡ lines_after I (event P I (run P I n)) (run P I n).counts (top_site (run P I n).frames) (levels_of (run P I n).frames) (run P I n).lines
+pub next_lines : (P : Program) (I : Input) (n : ℕ)
+    → (run P I (suc n)).lines ≡ lines_after I (event P I (run P I n)) (run P I n).counts (top_site (run P I n).frames)
+    (levels_of (run P I n).frames) (run P I n).lines
 unfolding run
 next_lines P I n = step-cases P I (run P I n) (Next I (run P I n)) (next_cases I (run P I n))
 
 -- ---- the count of entries
 
-leave_counts : (v : ℕ) (w : World) (f : Frame) (fs : List Frame) (ls : List (Line StorePart)) (after : Counts) → (leave v w f fs ls after).counts ≡ after
+leave_counts : (v : ℕ) (w : World) (f : Frame) (fs : List Frame) (ls : List (Line StorePart)) (after : Counts)
+    → (leave v w f fs ls after).counts ≡ after
 unfolding leave
 leave_counts v w f [] ls after = refl
 leave_counts v w f (g ∷ fs) ls after = refl
 
-perform_counts : (I : Input) (w : World) (f : Frame) (fs : List Frame) (ls : List (Line StorePart)) (before after : Counts) (x : Action) → (perform I w f fs ls before after x).counts ≡ after
+perform_counts : (I : Input) (w : World) (f : Frame) (fs : List Frame) (ls : List (Line StorePart))
+    (before after : Counts) (x : Action) → (perform I w f fs ls before after x).counts ≡ after
 unfolding perform
 perform_counts I w f fs ls before after (Traps kind) = refl
 perform_counts I w f fs ls before after (Assigns to v) = refl
@@ -100,24 +110,32 @@ perform_counts I w f fs ls before after (Calls g rs to) = refl
 perform_counts I w f fs ls before after (Jumps b rs) = refl
 perform_counts I w f fs ls before after (Returns v) = leave_counts v w f fs ls after
 
-carry_counts : (I : Input) (w : World) (f : Frame) (fs : List Frame) (ls : List (Line StorePart)) (before after : Counts) (d : Deed) → (carry_out I w f fs ls before after d).counts ≡ after
+carry_counts : (I : Input) (w : World) (f : Frame) (fs : List Frame) (ls : List (Line StorePart))
+    (before after : Counts) (d : Deed) → (carry_out I w f fs ls before after d).counts ≡ after
 unfolding carry_out
 carry_counts I w f fs ls before after d = go (is_cut I w d)
   where
-    go : (b : Bool) → (cond b (stop Cut w (f ∷ fs) ls after) (perform I (cond d.turn (with_turn w) w) f fs ls before after d.action)).counts ≡ after
+    go : (b : Bool)
+        → (cond b (stop Cut w (f ∷ fs) ls after)
+        (perform I (cond d.turn (with_turn w) w) f fs ls before after d.action)).counts ≡ after
     go true = refl
     go false = perform_counts I _ f fs ls before after d.action
 
 -- a step counts itself and its entry, or the run rests
-step_counts : (P : Program) (I : Input) (s : State) → ((step P I s).counts ≡ s.counts) ⊎ ((step P I s).counts ≡ counted (event P I s) s.counts)
+step_counts : (P : Program) (I : Input) (s : State)
+    → ((step P I s).counts ≡ s.counts) ⊎ ((step P I s).counts ≡ counted (event P I s) s.counts)
 unfolding step event on_ending on_frames
 step_counts P I s = go s.world.ending
   where
-    on_them : (fs : List Frame) → ((on_frames P I s.world s.lines s.counts fs).counts ≡ s.counts) ⊎ ((on_frames P I s.world s.lines s.counts fs).counts ≡ counted (event_on_frames P I s.world fs) s.counts)
+    on_them : (fs : List Frame)
+        → ((on_frames P I s.world s.lines s.counts fs).counts ≡ s.counts)
+        ⊎ ((on_frames P I s.world s.lines s.counts fs).counts ≡ counted (event_on_frames P I s.world fs) s.counts)
     on_them [] = inl refl
     on_them (f ∷ fs) = inr (carry_counts I s.world f fs s.lines s.counts _ (deed_at P I s.world f fs))
 
-    go : (o : Option Ending) → ((on_ending P I s o).counts ≡ s.counts) ⊎ ((on_ending P I s o).counts ≡ counted (event_on_ending P I s o) s.counts)
+    go : (o : Option Ending)
+        → ((on_ending P I s o).counts ≡ s.counts)
+        ⊎ ((on_ending P I s o).counts ≡ counted (event_on_ending P I s o) s.counts)
     go (Some e) = inl refl
     go None = on_them s.frames
 
@@ -134,7 +152,8 @@ entries_rise P I n = go (step_counts P I (run P I n))
     by_entry true m c e = (omega (arith, e), omega (arith, e))
     by_entry false m c e = (omega (arith, e), omega (arith, e))
 
-    go : ((step P I (run P I n)).counts ≡ (run P I n).counts) ⊎ ((step P I (run P I n)).counts ≡ counted (event P I (run P I n)) (run P I n).counts) → IsRise P I n
+    go : ((step P I (run P I n)).counts ≡ (run P I n).counts)
+        ⊎ ((step P I (run P I n)).counts ≡ counted (event P I (run P I n)) (run P I n).counts) → IsRise P I n
     go (inl e) = let q : (step P I (run P I n)).counts.entries ≡ (run P I n).counts.entries = ap (λ (c : Counts). c.entries) e in record { least = omega (arith, q); most = omega (arith, q) }
     go (inr e) = let r = by_entry (has_entry (event P I (run P I n))) _ (run P I n).counts.entries (ap (λ (c : Counts). c.entries) e) in record { least = r.0; most = r.1 }
 
@@ -153,7 +172,9 @@ module _ (P : Program) (I : Input) (entry : ℕ) where
       last : (k : ℕ) → k < suc n → (k < n) ⊎ (k ≡ n)
       last k h = grind arith
 
-      go : ((k : ℕ) × (k < n) × IsAtEntry P I entry k) ⊎ ((k : ℕ) → k < n → entries k < entry) → (entry ≤ entries n) ⊎ (entries n < entry) → ((k : ℕ) × (k < suc n) × IsAtEntry P I entry k) ⊎ ((k : ℕ) → k < suc n → entries k < entry)
+      go : ((k : ℕ) × (k < n) × IsAtEntry P I entry k) ⊎ ((k : ℕ) → k < n → entries k < entry)
+          → (entry ≤ entries n) ⊎ (entries n < entry)
+          → ((k : ℕ) × (k < suc n) × IsAtEntry P I entry k) ⊎ ((k : ℕ) → k < suc n → entries k < entry)
       go (inl h) o = inl (h.0, omega (arith, h.1), h.2)
       go (inr h) (inl le) = inl (n, omega arith, record { enough = le; least = h })
       go (inr h) (inr lt) = inr (λ k less. by k (last k less))
@@ -165,7 +186,8 @@ module _ (P : Program) (I : Input) (entry : ℕ) where
   pub entry_there : (m : ℕ) → entry ≤ entries m → (n : ℕ) × (n ≤ m) × IsAtEntry P I entry n
   entry_there m le = go (search_below (suc m))
     where
-      go : ((k : ℕ) × (k < suc m) × IsAtEntry P I entry k) ⊎ ((k : ℕ) → k < suc m → entries k < entry) → (n : ℕ) × (n ≤ m) × IsAtEntry P I entry n
+      go : ((k : ℕ) × (k < suc m) × IsAtEntry P I entry k) ⊎ ((k : ℕ) → k < suc m → entries k < entry)
+          → (n : ℕ) × (n ≤ m) × IsAtEntry P I entry n
       go (inl h) = (h.0, omega (arith, h.1), h.2)
       go (inr h) = absurd (let lt = h m (omega arith) in omega (arith, lt, le))
 

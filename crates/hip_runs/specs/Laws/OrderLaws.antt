@@ -47,7 +47,8 @@ module _ (P : Program) (I : Input) (n j from : ℕ) where
   then_fenced : fences Now ≡ true → FlushedSince P I j from n → IsFlushedThenFenced P I j from (suc n)
   then_fenced q s = record { flush = s.0; fence = n; after = s.1; ordered = omega (arith, s.2); before = omega arith; flushed = s.3; fenced = q }
 
--- At place k of line j, of which so many parts are flushed and durable, stands a part of a store of step `from`, before step n.
+-- At place k of line j, of which so many parts are flushed and durable, stands a part of a store of step `from`, before
+-- step n.
 record IsSeen (P : Program) (I : Input) (n j from k flushed_ones durable_ones : ℕ) : Type 0 where
   made : from < n
   flushed : k < flushed_ones → FlushedSince P I j from n
@@ -59,7 +60,8 @@ module _ (P : Program) (I : Input) (n j from k : ℕ) where
   abbrev Now_too : Event
   Now_too = event P I (run P I n)
 
-  seen_same : (fl du : ℕ) → fences Now_too ≡ false → flushes I.base j Now_too ≡ false → IsSeen P I n j from k fl du → IsSeen P I (suc n) j from k fl du
+  seen_same : (fl du : ℕ) → fences Now_too ≡ false → flushes I.base j Now_too ≡ false → IsSeen P I n j from k fl du
+      → IsSeen P I (suc n) j from k fl du
   seen_same fl du q r h = record {
     made = omega (arith, h.made);
     flushed = λ lt. flushed_more P I n j from (h.flushed lt);
@@ -68,7 +70,8 @@ module _ (P : Program) (I : Input) (n j from k : ℕ) where
     by_fence = λ s. h.by_fence (both_before P I n j from q s);
   }
 
-  seen_flush : (fl du count : ℕ) → k < count → fences Now_too ≡ false → flushes I.base j Now_too ≡ true → IsSeen P I n j from k fl du → IsSeen P I (suc n) j from k count du
+  seen_flush : (fl du count : ℕ) → k < count → fences Now_too ≡ false → flushes I.base j Now_too ≡ true
+      → IsSeen P I n j from k fl du → IsSeen P I (suc n) j from k count du
   seen_flush fl du count c q r h = record {
     made = omega (arith, h.made);
     flushed = λ lt. (n, h.made, omega arith, r);
@@ -77,7 +80,8 @@ module _ (P : Program) (I : Input) (n j from k : ℕ) where
     by_fence = λ s. h.by_fence (both_before P I n j from q s);
   }
 
-  seen_fence : (fl du : ℕ) → fences Now_too ≡ true → flushes I.base j Now_too ≡ false → IsSeen P I n j from k fl du → IsSeen P I (suc n) j from k fl fl
+  seen_fence : (fl du : ℕ) → fences Now_too ≡ true → flushes I.base j Now_too ≡ false → IsSeen P I n j from k fl du
+      → IsSeen P I (suc n) j from k fl fl
   seen_fence fl du q r h = record {
     made = omega (arith, h.made);
     flushed = λ lt. flushed_more P I n j from (h.flushed lt);
@@ -86,7 +90,8 @@ module _ (P : Program) (I : Input) (n j from k : ℕ) where
     by_fence = λ s. h.by_flush (flushed_before P I n j from r (flush_of_both P I n j from s));
   }
 
-  seen_persist : (fl du count : ℕ) → k < count → fences Now_too ≡ true → flushes I.base j Now_too ≡ true → IsSeen P I n j from k fl du → IsSeen P I (suc n) j from k count count
+  seen_persist : (fl du count : ℕ) → k < count → fences Now_too ≡ true → flushes I.base j Now_too ≡ true
+      → IsSeen P I n j from k fl du → IsSeen P I (suc n) j from k count count
   seen_persist fl du count c q r h = record {
     made = omega (arith, h.made);
     flushed = λ lt. (n, h.made, omega arith, r);
@@ -113,13 +118,15 @@ get_below (y ∷ xs) zero x e = omega arith
 get_below (y ∷ xs) (suc k) x e = omega (arith, get_below xs k x e)
 
 -- an item of a list with one more is the last, or stood there before
-get_more : {A : Type 0} (xs : List A) (y x : A) (k : ℕ) → slice_get (xs ++ y ∷ []) k ≡ Some x → (slice_get xs k ≡ Some x) ⊎ ((k ≡ length xs) × (x ≡ y))
+get_more : {A : Type 0} (xs : List A) (y x : A) (k : ℕ) → slice_get (xs ++ y ∷ []) k ≡ Some x
+    → (slice_get xs k ≡ Some x) ⊎ ((k ≡ length xs) × (x ≡ y))
 get_more [] y x zero e = inr (refl, let q : x ≡ y = cc in q)
 get_more [] y x (suc k) e = absurd (let z : ⊥ = cc in z)
 get_more (z ∷ xs) y x zero e = inl e
 get_more (z ∷ xs) y x (suc k) e = go (get_more xs y x k e)
   where
-    go : (slice_get xs k ≡ Some x) ⊎ ((k ≡ length xs) × (x ≡ y)) → (slice_get xs k ≡ Some x) ⊎ ((suc k ≡ suc (length xs)) × (x ≡ y))
+    go : (slice_get xs k ≡ Some x) ⊎ ((k ≡ length xs) × (x ≡ y))
+        → (slice_get xs k ≡ Some x) ⊎ ((suc k ≡ suc (length xs)) × (x ≡ y))
     go (inl h) = inl h
     go (inr h) = inr (ap suc h.0, h.1)
 
@@ -134,21 +141,25 @@ module _ (P : Program) (I : Input) (n j : ℕ) where
   abbrev Now_there : Event
   Now_there = event P I (run P I n)
 
-  line_same : fences Now_there ≡ false → flushes I.base j Now_there ≡ false → (l : Line StorePart) → InSeen n l → InSeen (suc n) l
+  line_same : fences Now_there ≡ false → flushes I.base j Now_there ≡ false → (l : Line StorePart) → InSeen n l
+      → InSeen (suc n) l
   line_same q r l h k x e = seen_same P I n j x.step k l.flushed l.durable q r (h k x e)
 
-  line_flush : (flush : Flush) → fences Now_there ≡ false → flushes I.base j Now_there ≡ true → (l : Line StorePart) → InSeen n l → InSeen (suc n) (flush_line flush l)
+  line_flush : (flush : Flush) → fences Now_there ≡ false → flushes I.base j Now_there ≡ true → (l : Line StorePart)
+      → InSeen n l → InSeen (suc n) (flush_line flush l)
   line_flush flush q r l h k y e =
       let b = get-of_map (noted_flush flush) l.parts k y e in
       subst (λ (z : StorePart). IsSeen P I (suc n) j z.step k (length (map (noted_flush flush) l.parts)) l.durable) b.2
       (seen_flush P I n j b.0.step k l.flushed l.durable (length (map (noted_flush flush) l.parts)) (get_below (map (noted_flush flush) l.parts) k y e) q r (h k b.0 b.1))
 
-  line_fence : fences Now_there ≡ true → flushes I.base j Now_there ≡ false → (l : Line StorePart) → InSeen n l → InSeen (suc n) (fence_line l)
+  line_fence : fences Now_there ≡ true → flushes I.base j Now_there ≡ false → (l : Line StorePart) → InSeen n l
+      → InSeen (suc n) (fence_line l)
   line_fence q r l h k y e =
       let b = get-of_map noted_fence l.parts k y e in
       subst (λ (z : StorePart). IsSeen P I (suc n) j z.step k l.flushed l.flushed) b.2 (seen_fence P I n j b.0.step k l.flushed l.durable q r (h k b.0 b.1))
 
-  line_persist : (flush : Flush) → fences Now_there ≡ true → flushes I.base j Now_there ≡ true → (l : Line StorePart) → InSeen n l → InSeen (suc n) (fence_line (flush_line flush l))
+  line_persist : (flush : Flush) → fences Now_there ≡ true → flushes I.base j Now_there ≡ true → (l : Line StorePart)
+      → InSeen n l → InSeen (suc n) (fence_line (flush_line flush l))
   line_persist flush q r l h k z e =
       let c = get-of_map noted_fence (map (noted_flush flush) l.parts) k z e in
       let b = get-of_map (noted_flush flush) l.parts k c.0 c.1 in
@@ -156,32 +167,42 @@ module _ (P : Program) (I : Input) (n j : ℕ) where
       subst (λ (y : StorePart). IsSeen P I (suc n) j y.step k count count) (ap noted_fence b.2 ∙ c.2)
       (seen_persist P I n j b.0.step k l.flushed l.durable count (get_below (map (noted_flush flush) l.parts) k c.0 c.1) q r (h k b.0 b.1))
 
-  line_store : (part : StorePart) → part.step ≡ n → fences Now_there ≡ false → flushes I.base j Now_there ≡ false → (l : Line StorePart) → IsOrdered l → InSeen n l → InSeen (suc n) (with_part part l)
+  line_store : (part : StorePart) → part.step ≡ n → fences Now_there ≡ false → flushes I.base j Now_there ≡ false
+      → (l : Line StorePart) → IsOrdered l → InSeen n l → InSeen (suc n) (with_part part l)
   line_store part at q r l o h k x e = go (get_more l.parts part x k e)
     where
-      go : (slice_get l.parts k ≡ Some x) ⊎ ((k ≡ length l.parts) × (x ≡ part)) → IsSeen P I (suc n) j x.step k l.flushed l.durable
+      go : (slice_get l.parts k ≡ Some x) ⊎ ((k ≡ length l.parts) × (x ≡ part))
+          → IsSeen P I (suc n) j x.step k l.flushed l.durable
       go (inl g) = line_same q r l h k x g
       go (inr g) = seen_new P I n j x.step k l.flushed l.durable (ap (λ (y : StorePart). y.step) g.1 ∙ at) (omega (arith, o.flushed, g.0)) (omega (arith, o.durable, o.flushed, g.0))
 
-  all_same : fences Now_there ≡ false → flushes I.base j Now_there ≡ false → (o : Option (Line StorePart)) → AllSeen n o → AllSeen (suc n) o
+  all_same : fences Now_there ≡ false → flushes I.base j Now_there ≡ false → (o : Option (Line StorePart)) → AllSeen n o
+      → AllSeen (suc n) o
   all_same q r None h = h
   all_same q r (Some l) h = line_same q r l h
 
-  all_flush : (flush : Flush) → fences Now_there ≡ false → (b : Bool) → flushes I.base j Now_there ≡ b → (o : Option (Line StorePart)) → AllSeen n o → AllSeen (suc n) (option_map (λ l. cond b (flush_line flush l) l) o)
+  all_flush : (flush : Flush) → fences Now_there ≡ false → (b : Bool) → flushes I.base j Now_there ≡ b
+      → (o : Option (Line StorePart)) → AllSeen n o
+      → AllSeen (suc n) (option_map (λ l. cond b (flush_line flush l) l) o)
   all_flush flush q b r None h = h
   all_flush flush q true r (Some l) h = line_flush flush q r l h
   all_flush flush q false r (Some l) h = line_same q r l h
 
-  all_fence : fences Now_there ≡ true → flushes I.base j Now_there ≡ false → (o : Option (Line StorePart)) → AllSeen n o → AllSeen (suc n) (option_map fence_line o)
+  all_fence : fences Now_there ≡ true → flushes I.base j Now_there ≡ false → (o : Option (Line StorePart)) → AllSeen n o
+      → AllSeen (suc n) (option_map fence_line o)
   all_fence q r None h = h
   all_fence q r (Some l) h = line_fence q r l h
 
-  all_persist : (flush : Flush) → fences Now_there ≡ true → (b : Bool) → flushes I.base j Now_there ≡ b → (o : Option (Line StorePart)) → AllSeen n o → AllSeen (suc n) (option_map fence_line (option_map (λ l. cond b (flush_line flush l) l) o))
+  all_persist : (flush : Flush) → fences Now_there ≡ true → (b : Bool) → flushes I.base j Now_there ≡ b
+      → (o : Option (Line StorePart)) → AllSeen n o
+      → AllSeen (suc n) (option_map fence_line (option_map (λ l. cond b (flush_line flush l) l) o))
   all_persist flush q b r None h = h
   all_persist flush q true r (Some l) h = line_persist flush q r l h
   all_persist flush q false r (Some l) h = line_fence q r l h
 
-  all_store : (part : StorePart) → part.step ≡ n → fences Now_there ≡ false → flushes I.base j Now_there ≡ false → (b : Bool) (o : Option (Line StorePart)) → ((l : Line StorePart) → o ≡ Some l → IsOrdered l) → AllSeen n o → AllSeen (suc n) (option_map (λ l. cond b (with_part part l) l) o)
+  all_store : (part : StorePart) → part.step ≡ n → fences Now_there ≡ false → flushes I.base j Now_there ≡ false
+      → (b : Bool) (o : Option (Line StorePart)) → ((l : Line StorePart) → o ≡ Some l → IsOrdered l) → AllSeen n o
+      → AllSeen (suc n) (option_map (λ l. cond b (with_part part l) l) o)
   all_store part at q r b None a h = h
   all_store part at q r true (Some l) a h = line_store part at q r l (a l refl) h
   all_store part at q r false (Some l) a h = line_same q r l h
@@ -224,7 +245,8 @@ no_part zero j k x h = h
 no_part (suc count) zero k x h = let z : ⊥ = cc in z
 no_part (suc count) (suc j) k x h = no_part count j k x h
 
-none_seen : (P : Program) (I : Input) (j : ℕ) (o : Option (Line StorePart)) → ((k : ℕ) (x : StorePart) → IsPartIn o k x → ⊥) → AllSeen P I 0 j 0 o
+none_seen : (P : Program) (I : Input) (j : ℕ) (o : Option (Line StorePart))
+    → ((k : ℕ) (x : StorePart) → IsPartIn o k x → ⊥) → AllSeen P I 0 j 0 o
 none_seen P I j None h = tt
 none_seen P I j (Some l) h = λ k x e. absurd (h k x e)
 
@@ -233,18 +255,23 @@ unfolding run
 run_seen P I zero j = none_seen P I j _ (λ k x h. no_part _ j k x h)
 run_seen P I (suc n) j = seen_next P I n (run_seen P I n) j
 
-part_seen : (P : Program) (I : Input) (n j k : ℕ) (x : StorePart) (l : Line StorePart) → slice_get (run P I n).lines j ≡ Some l → slice_get l.parts k ≡ Some x → IsSeen P I n j x.step k l.flushed l.durable
+part_seen : (P : Program) (I : Input) (n j k : ℕ) (x : StorePart) (l : Line StorePart)
+    → slice_get (run P I n).lines j ≡ Some l → slice_get l.parts k ≡ Some x
+    → IsSeen P I n j x.step k l.flushed l.durable
 part_seen P I n j k x l e g = let all : AllSeen P I n j n (Some l) = subst (AllSeen P I n j n) e (run_seen P I n j) in all k x g
 
 -- a durable part's line was flushed after the store, and a fence came behind the flush
-pub durable_told : (P : Program) (I : Input) (n j k : ℕ) (x : StorePart) → IsDurableAt (run P I n) j k x → IsFlushedThenFenced P I j x.step n
+pub durable_told : (P : Program) (I : Input) (n j k : ℕ) (x : StorePart) → IsDurableAt (run P I n) j k x
+    → IsFlushedThenFenced P I j x.step n
 durable_told P I n j k x d = go (slice_get (run P I n).lines j) refl d
   where
-    go : (o : Option (Line StorePart)) → slice_get (run P I n).lines j ≡ o → IsDurableIn o k x → IsFlushedThenFenced P I j x.step n
+    go : (o : Option (Line StorePart)) → slice_get (run P I n).lines j ≡ o → IsDurableIn o k x
+        → IsFlushedThenFenced P I j x.step n
     go None e h = absurd h
     go (Some l) e h = (part_seen P I n j k x l e h.0).durable h.1
 
-pub told_durable : (P : Program) (I : Input) (n j k : ℕ) (x : StorePart) → IsPartAt (run P I n) j k x → IsFlushedThenFenced P I j x.step n → IsDurableAt (run P I n) j k x
+pub told_durable : (P : Program) (I : Input) (n j k : ℕ) (x : StorePart) → IsPartAt (run P I n) j k x
+    → IsFlushedThenFenced P I j x.step n → IsDurableAt (run P I n) j k x
 told_durable P I n j k x p s = go (slice_get (run P I n).lines j) refl p
   where
     go : (o : Option (Line StorePart)) → slice_get (run P I n).lines j ≡ o → IsPartIn o k x → IsDurableIn o k x

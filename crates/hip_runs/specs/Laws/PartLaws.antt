@@ -29,7 +29,8 @@ pub append-right : {A : Type 0} (xs ys : List A) (x : A) → In x ys → In x (x
 append-right [] ys x i = i
 append-right (y ∷ xs) ys x i = inr (append-right xs ys x i)
 
-pub part-fenced : (ls : List (Line StorePart)) (y : StorePart) → PartOf (fenced_lines ls) y → (x : StorePart) × PartOf ls x × (y ≡ noted_fence x)
+pub part-fenced : (ls : List (Line StorePart)) (y : StorePart) → PartOf (fenced_lines ls) y
+    → (x : StorePart) × PartOf ls x × (y ≡ noted_fence x)
 part-fenced [] y i = absurd i
 part-fenced (l ∷ ls) y (inl i) = let r = in-map noted_fence l.parts y i in (r.0, inl r.1, r.2)
 part-fenced (l ∷ ls) y (inr i) = let r = part-fenced ls y i in (r.0, inr r.1, r.2)
@@ -38,23 +39,29 @@ part-fenced (l ∷ ls) y (inr i) = let r = part-fenced ls y i in (r.0, inr r.1, 
 abbrev pub IsFlushedFrom : Flush → StorePart → StorePart → Type 0
 IsFlushedFrom flush y x = (y ≡ x) ⊎ (y ≡ noted_flush flush x)
 
-pub part-flushed_from : (flush : Flush) (o n j : ℕ) (ls : List (Line StorePart)) (y : StorePart) → PartOf (change_from (λ _ l. flush_line flush l) o n j ls) y → (x : StorePart) × PartOf ls x × IsFlushedFrom flush y x
+pub part-flushed_from : (flush : Flush) (o n j : ℕ) (ls : List (Line StorePart)) (y : StorePart)
+    → PartOf (change_from (λ _ l. flush_line flush l) o n j ls) y
+    → (x : StorePart) × PartOf ls x × IsFlushedFrom flush y x
 part-flushed_from flush o n j [] y i = absurd i
 part-flushed_from flush o n j (l ∷ ls) y (inl i) = here (has_bytes j o n) i
   where
-    here : (b : Bool) → In y (cond b (flush_line flush l) l).parts → (x : StorePart) × PartOf (l ∷ ls) x × IsFlushedFrom flush y x
+    here : (b : Bool) → In y (cond b (flush_line flush l) l).parts
+        → (x : StorePart) × PartOf (l ∷ ls) x × IsFlushedFrom flush y x
     here true i = let r = in-map (noted_flush flush) l.parts y i in (r.0, inl r.1, inr r.2)
     here false i = (y, inl i, inl refl)
 part-flushed_from flush o n j (l ∷ ls) y (inr i) = let r = part-flushed_from flush o n (suc j) ls y i in (r.0, inr r.1, r.2)
 
-pub part-flushed : (I : Input) (flush : Flush) (a n : ℕ) (ls : List (Line StorePart)) (y : StorePart) → PartOf (flushed_lines I flush a n ls) y → (x : StorePart) × PartOf ls x × IsFlushedFrom flush y x
+pub part-flushed : (I : Input) (flush : Flush) (a n : ℕ) (ls : List (Line StorePart)) (y : StorePart)
+    → PartOf (flushed_lines I flush a n ls) y → (x : StorePart) × PartOf ls x × IsFlushedFrom flush y x
 part-flushed I flush a n ls y i = go (flushes_lines I a n) i
   where
-    go : (b : Bool) → PartOf (cond b (change_range (λ _ l. flush_line flush l) (a - I.base) n ls) ls) y → (x : StorePart) × PartOf ls x × IsFlushedFrom flush y x
+    go : (b : Bool) → PartOf (cond b (change_range (λ _ l. flush_line flush l) (a - I.base) n ls) ls) y
+        → (x : StorePart) × PartOf ls x × IsFlushedFrom flush y x
     go true i = part-flushed_from flush (a - I.base) n 0 ls y i
     go false i = (y, i, inl refl)
 
-pub part-stored_from : (part : ℕ → StorePart) (o n j : ℕ) (ls : List (Line StorePart)) (y : StorePart) → PartOf (change_from (λ j l. with_part (part j) l) o n j ls) y → PartOf ls y ⊎ ((k : ℕ) × (y ≡ part k))
+pub part-stored_from : (part : ℕ → StorePart) (o n j : ℕ) (ls : List (Line StorePart)) (y : StorePart)
+    → PartOf (change_from (λ j l. with_part (part j) l) o n j ls) y → PartOf ls y ⊎ ((k : ℕ) × (y ≡ part k))
 part-stored_from part o n j [] y i = absurd i
 part-stored_from part o n j (l ∷ ls) y (inl i) = here (has_bytes j o n) i
   where
@@ -72,5 +79,6 @@ part-stored_from part o n j (l ∷ ls) y (inr i) = go (part-stored_from part o n
     go (inl k) = inl (inr k)
     go (inr k) = inr k
 
-pub part-stored : (part : ℕ → StorePart) (o n : ℕ) (ls : List (Line StorePart)) (y : StorePart) → PartOf (stored part o n ls) y → PartOf ls y ⊎ ((k : ℕ) × (y ≡ part k))
+pub part-stored : (part : ℕ → StorePart) (o n : ℕ) (ls : List (Line StorePart)) (y : StorePart)
+    → PartOf (stored part o n ls) y → PartOf ls y ⊎ ((k : ℕ) × (y ≡ part k))
 part-stored part o n ls y i = part-stored_from part o n 0 ls y i

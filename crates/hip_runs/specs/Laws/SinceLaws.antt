@@ -50,11 +50,14 @@ module _ (P : Program) (I : Input) (n : ℕ) where
     first_more : (flush : Flush) → IsFirst P I j from n flush → IsFirst P I j from (suc n) flush
     first_more flush h = record { after = h.after; before = omega (arith, h.before); flushed = h.flushed; first = h.first; site = h.site }
 
-    flush_kept : flushes I.base j Now ≡ false → (o : Option Flush) → IsFirstFlush P I j from n o → IsFirstFlush P I j from (suc n) o
+    flush_kept : flushes I.base j Now ≡ false → (o : Option Flush) → IsFirstFlush P I j from n o
+        → IsFirstFlush P I j from (suc n) o
     flush_kept q None h = unflushed_more q h
     flush_kept q (Some flush) h = first_more flush h
 
-    flush_now : (flush : Flush) → from < n → flush.step ≡ n → top_site (run P I n).frames ≡ Some flush.site → flushes I.base j Now ≡ true → (o : Option Flush) → IsFirstFlush P I j from n o → IsFirstFlush P I j from (suc n) (earlier o flush)
+    flush_now : (flush : Flush) → from < n → flush.step ≡ n → top_site (run P I n).frames ≡ Some flush.site
+        → flushes I.base j Now ≡ true → (o : Option Flush) → IsFirstFlush P I j from n o
+        → IsFirstFlush P I j from (suc n) (earlier o flush)
     flush_now flush lt at site q None h = record {
       after = omega (arith, at);
       before = omega (arith, at);
@@ -80,7 +83,8 @@ record IsHere (P : Program) (I : Input) (n : ℕ) (flush : Flush) : Type 0 where
   site : top_site (run P I n).frames ≡ Some flush.site
 
 module _ (P : Program) (I : Input) (n j : ℕ) where
-  told_same : fences (event P I (run P I n)) ≡ false → flushes I.base j (event P I (run P I n)) ≡ false → (x : StorePart) → IsTold P I n j x → IsTold P I (suc n) j x
+  told_same : fences (event P I (run P I n)) ≡ false → flushes I.base j (event P I (run P I n)) ≡ false
+      → (x : StorePart) → IsTold P I n j x → IsTold P I (suc n) j x
   told_same q r x t = record {
     line = t.line;
     made = omega (arith, t.made);
@@ -89,7 +93,8 @@ module _ (P : Program) (I : Input) (n j : ℕ) where
     flush = flush_kept P I n j x.step r x.first_flush t.flush;
   }
 
-  told_fence : fences (event P I (run P I n)) ≡ true → flushes I.base j (event P I (run P I n)) ≡ false → (x : StorePart) → IsTold P I n j x → IsTold P I (suc n) j (noted_fence x)
+  told_fence : fences (event P I (run P I n)) ≡ true → flushes I.base j (event P I (run P I n)) ≡ false
+      → (x : StorePart) → IsTold P I n j x → IsTold P I (suc n) j (noted_fence x)
   told_fence q r x t = record {
     line = t.line;
     made = omega (arith, t.made);
@@ -98,7 +103,9 @@ module _ (P : Program) (I : Input) (n j : ℕ) where
     flush = flush_kept P I n j x.step r x.first_flush t.flush;
   }
 
-  told_flush : (flush : Flush) → IsHere P I n flush → fences (event P I (run P I n)) ≡ false → flushes I.base j (event P I (run P I n)) ≡ true → (x : StorePart) → IsTold P I n j x → IsTold P I (suc n) j (noted_flush flush x)
+  told_flush : (flush : Flush) → IsHere P I n flush → fences (event P I (run P I n)) ≡ false
+      → flushes I.base j (event P I (run P I n)) ≡ true → (x : StorePart) → IsTold P I n j x
+      → IsTold P I (suc n) j (noted_flush flush x)
   told_flush flush h q r x t = record {
     line = t.line;
     made = omega (arith, t.made);
@@ -107,7 +114,9 @@ module _ (P : Program) (I : Input) (n j : ℕ) where
     flush = flush_now P I n j x.step flush t.made h.step h.site r x.first_flush t.flush;
   }
 
-  told_persist : (flush : Flush) → IsHere P I n flush → fences (event P I (run P I n)) ≡ true → flushes I.base j (event P I (run P I n)) ≡ true → (x : StorePart) → IsTold P I n j x → IsTold P I (suc n) j (noted_fence (noted_flush flush x))
+  told_persist : (flush : Flush) → IsHere P I n flush → fences (event P I (run P I n)) ≡ true
+      → flushes I.base j (event P I (run P I n)) ≡ true → (x : StorePart) → IsTold P I n j x
+      → IsTold P I (suc n) j (noted_fence (noted_flush flush x))
   told_persist flush h q r x t = record {
     line = t.line;
     made = omega (arith, t.made);
@@ -117,7 +126,8 @@ module _ (P : Program) (I : Input) (n j : ℕ) where
   }
 
   -- a part that this step stores
-  told_new : (x : StorePart) → x.offset / 64 ≡ j → x.step ≡ n → x.fenced ≡ false → x.first_flush ≡ None → IsTold P I (suc n) j x
+  told_new : (x : StorePart) → x.offset / 64 ≡ j → x.step ≡ n → x.fenced ≡ false → x.first_flush ≡ None
+      → IsTold P I (suc n) j x
   told_new x line step fenced flush = record {
     line = line;
     made = omega (arith, step);
@@ -132,7 +142,8 @@ abbrev pub InLine : Option (Line StorePart) → StorePart → Type 0
 InLine None x = ⊥
 InLine (Some l) x = In x l.parts
 
-pub get_mapped : {A B : Type 0} (f : A → B) (xs : List A) (k : ℕ) → slice_get (map f xs) k ≡ option_map f (slice_get xs k)
+pub get_mapped : {A B : Type 0} (f : A → B) (xs : List A) (k : ℕ)
+    → slice_get (map f xs) k ≡ option_map f (slice_get xs k)
 get_mapped f [] zero = refl
 get_mapped f [] (suc k) = refl
 get_mapped f (x ∷ xs) zero = refl
@@ -143,22 +154,29 @@ line_of_part [] x i = absurd i
 line_of_part (l ∷ ls) x (inl i) = (0, i)
 line_of_part (l ∷ ls) x (inr i) = let r = line_of_part ls x i in (suc r.0, r.1)
 
-pub of_fenced : (ls : List (Line StorePart)) (j : ℕ) (y : StorePart) → InLine (slice_get (fenced_lines ls) j) y → (x : StorePart) × InLine (slice_get ls j) x × (y ≡ noted_fence x)
+pub of_fenced : (ls : List (Line StorePart)) (j : ℕ) (y : StorePart) → InLine (slice_get (fenced_lines ls) j) y
+    → (x : StorePart) × InLine (slice_get ls j) x × (y ≡ noted_fence x)
 of_fenced ls j y i = go (slice_get ls j) (subst (λ o. InLine o y) (get_mapped fence_line ls j) i)
   where
-    go : (o : Option (Line StorePart)) → InLine (option_map fence_line o) y → (x : StorePart) × InLine o x × (y ≡ noted_fence x)
+    go : (o : Option (Line StorePart)) → InLine (option_map fence_line o) y
+        → (x : StorePart) × InLine o x × (y ≡ noted_fence x)
     go None h = absurd h
     go (Some l) h = in-map noted_fence l.parts y h
 
-pub of_flushed : (I : Input) (flush : Flush) (a n : ℕ) (ls : List (Line StorePart)) (j : ℕ) (y : StorePart) → InLine (slice_get (met_lines I flush a n ls) j) y → (x : StorePart) × InLine (slice_get ls j) x × (y ≡ cond (has_bytes j (a - I.base) n) (noted_flush flush x) x)
+pub of_flushed : (I : Input) (flush : Flush) (a n : ℕ) (ls : List (Line StorePart)) (j : ℕ) (y : StorePart)
+    → InLine (slice_get (met_lines I flush a n ls) j) y
+    → (x : StorePart) × InLine (slice_get ls j) x × (y ≡ cond (has_bytes j (a - I.base) n) (noted_flush flush x) x)
 of_flushed I flush a n ls j y i = go (has_bytes j (a - I.base) n) (slice_get ls j) (subst (λ o. InLine o y) (slice_get-change_range (λ _ l. flush_line flush l) (a - I.base) n ls j) i)
   where
-    go : (b : Bool) (o : Option (Line StorePart)) → InLine (option_map (λ l. cond b (flush_line flush l) l) o) y → (x : StorePart) × InLine o x × (y ≡ cond b (noted_flush flush x) x)
+    go : (b : Bool) (o : Option (Line StorePart)) → InLine (option_map (λ l. cond b (flush_line flush l) l) o) y
+        → (x : StorePart) × InLine o x × (y ≡ cond b (noted_flush flush x) x)
     go b None h = absurd h
     go true (Some l) h = in-map (noted_flush flush) l.parts y h
     go false (Some l) h = (y, h, refl)
 
-pub of_stored : (part : ℕ → StorePart) (o n : ℕ) (ls : List (Line StorePart)) (j : ℕ) (y : StorePart) → InLine (slice_get (stored part o n ls) j) y → InLine (slice_get ls j) y ⊎ ((has_bytes j o n ≡ true) × (y ≡ part j))
+pub of_stored : (part : ℕ → StorePart) (o n : ℕ) (ls : List (Line StorePart)) (j : ℕ) (y : StorePart)
+    → InLine (slice_get (stored part o n ls) j) y
+    → InLine (slice_get ls j) y ⊎ ((has_bytes j o n ≡ true) × (y ≡ part j))
 of_stored part o n ls j y i = go (has_bytes j o n) (slice_get ls j) (subst (λ z. InLine z y) (slice_get-change_range (λ k l. with_part (part k) l) o n ls j) i)
   where
     last : {A : Type 0} → A ⊎ In y (part j ∷ []) → A ⊎ ((true ≡ true) × (y ≡ part j))
@@ -166,7 +184,8 @@ of_stored part o n ls j y i = go (has_bytes j o n) (slice_get ls j) (subst (λ z
     last (inr (inl e)) = inr (refl, e)
     last (inr (inr z)) = absurd z
 
-    go : (b : Bool) (z : Option (Line StorePart)) → InLine (option_map (λ l. cond b (with_part (part j) l) l) z) y → InLine z y ⊎ ((b ≡ true) × (y ≡ part j))
+    go : (b : Bool) (z : Option (Line StorePart)) → InLine (option_map (λ l. cond b (with_part (part j) l) l) z) y
+        → InLine z y ⊎ ((b ≡ true) × (y ≡ part j))
     go b None h = absurd h
     go true (Some l) h = last (in-append l.parts (part j ∷ []) y h)
     go false (Some l) h = inl h
@@ -178,16 +197,21 @@ both_ways true b h k = sym (h refl)
 both_ways false true h k = k refl
 both_ways false false h k = refl
 
-line_there : (base o n j : ℕ) → 0 < n → nat_le (base + 64 * (o / 64)) (base + 64 * j) && nat_lt (base + 64 * j) (base + 64 * (o / 64) + (64 * ((o + n - 1) / 64 + 1) - 64 * (o / 64))) ≡ true → has_bytes j o n ≡ true
+line_there : (base o n j : ℕ) → 0 < n
+    → nat_le (base + 64 * (o / 64)) (base + 64 * j) && nat_lt (base + 64 * j)
+    (base + 64 * (o / 64) + (64 * ((o + n - 1) / 64 + 1) - 64 * (o / 64))) ≡ true → has_bytes j o n ≡ true
 line_there base o n j lt h = grind (arith, nat_tests)
 
-there_line : (base o n j : ℕ) → 0 < n → has_bytes j o n ≡ true → nat_le (base + 64 * (o / 64)) (base + 64 * j) && nat_lt (base + 64 * j) (base + 64 * (o / 64) + (64 * ((o + n - 1) / 64 + 1) - 64 * (o / 64))) ≡ true
+there_line : (base o n j : ℕ) → 0 < n → has_bytes j o n ≡ true
+    → nat_le (base + 64 * (o / 64)) (base + 64 * j) && nat_lt (base + 64 * j)
+    (base + 64 * (o / 64) + (64 * ((o + n - 1) / 64 + 1) - 64 * (o / 64))) ≡ true
 there_line base o n j lt h = grind (arith, nat_tests)
 
 some_bytes : (n : ℕ) (b : Bool) → nat_lt 0 n && b ≡ true → 0 < n
 some_bytes n b h = grind (arith, nat_tests)
 
-pub line_met : (I : Input) (a n j : ℕ) → flushes_lines I a n ≡ true → has_line I.base j (first_line I a) (lines_size I a n) ≡ has_bytes j (a - I.base) n
+pub line_met : (I : Input) (a n j : ℕ) → flushes_lines I a n ≡ true
+    → has_line I.base j (first_line I a) (lines_size I a n) ≡ has_bytes j (a - I.base) n
 line_met I a n j h =
     let lt = some_bytes n (in_region I a n) h in
     both_ways _ _ (line_there I.base (a - I.base) n j lt) (there_line I.base (a - I.base) n j lt)
@@ -241,7 +265,8 @@ module _ (P : Program) (I : Input) (n : ℕ) where
     fence = λ q j y i. let r = of_fenced _ j y i in subst (IsTold P I (suc n) j) (sym r.2) (told_fence P I n j (ap fences q) (ap (flushes I.base j) q) r.0 (told j r.0 r.1));
   }
     where
-      by_store : (f : Frame) (fs : List Frame) → IsTop (run P I n) f fs → (a : ℕ) (bytes : List ℕ) → in_region I a (length bytes) ≡ true →
+      by_store : (f : Frame) (fs : List Frame) → IsTop (run P I n) f fs → (a : ℕ) (bytes : List ℕ)
+          → in_region I a (length bytes) ≡ true →
           {value : ℕ} → event P I (run P I n) ≡ events.Store a value (length bytes) → (j : ℕ) (x : StorePart) →
           InLine (slice_get (run P I n).lines j) x ⊎ ((has_bytes j (a - I.base) (length bytes) ≡ true) × (x ≡ part_of_store (run P I n).counts (site_of f) (levels_of (f ∷ fs)) (a - I.base) bytes j)) → IsTold P I (suc n) j x
       by_store f fs t a bytes e q j x (inl i) = told_same P I n j (ap fences q) (ap (flushes I.base j) q) x (told j x i)
@@ -251,12 +276,14 @@ module _ (P : Program) (I : Input) (n : ℕ) where
           (ap (λ (y : StorePart). y.fenced) r.1)
           (ap (λ (y : StorePart). y.first_flush) r.1)
 
-      by_flush : (f : Frame) (fs : List Frame) → IsTop (run P I n) f fs → (a m j : ℕ) (x : StorePart) → event P I (run P I n) ≡ events.Flush (first_line I a) (lines_size I a m) →
+      by_flush : (f : Frame) (fs : List Frame) → IsTop (run P I n) f fs → (a m j : ℕ) (x : StorePart)
+          → event P I (run P I n) ≡ events.Flush (first_line I a) (lines_size I a m) →
           (b : Bool) → has_line I.base j (first_line I a) (lines_size I a m) ≡ b → IsTold P I n j x → IsTold P I (suc n) j (cond b (noted_flush (flush_here (run P I n) f) x) x)
       by_flush f fs t a m j x q true e h = told_flush P I n j _ (here f fs t) (ap fences q) (ap (flushes I.base j) q ∙ e) x h
       by_flush f fs t a m j x q false e h = told_same P I n j (ap fences q) (ap (flushes I.base j) q ∙ e) x h
 
-      by_persist : (f : Frame) (fs : List Frame) → IsTop (run P I n) f fs → (a m j : ℕ) (x : StorePart) → event P I (run P I n) ≡ events.Persist (first_line I a) (lines_size I a m) →
+      by_persist : (f : Frame) (fs : List Frame) → IsTop (run P I n) f fs → (a m j : ℕ) (x : StorePart)
+          → event P I (run P I n) ≡ events.Persist (first_line I a) (lines_size I a m) →
           (b : Bool) → has_line I.base j (first_line I a) (lines_size I a m) ≡ b → IsTold P I n j x → IsTold P I (suc n) j (noted_fence (cond b (noted_flush (flush_here (run P I n) f) x) x))
       by_persist f fs t a m j x q true e h = told_persist P I n j _ (here f fs t) (ap fences q) (ap (flushes I.base j) q ∙ e) x h
       by_persist f fs t a m j x q false e h = told_fence P I n j (ap fences q) (ap (flushes I.base j) q ∙ e) x h
@@ -273,23 +300,28 @@ no_part zero j x i = i
 no_part (suc n) zero x i = i
 no_part (suc n) (suc j) x i = no_part n j x i
 
-run_told : (P : Program) (I : Input) (n j : ℕ) (x : StorePart) → InLine (slice_get (run P I n).lines j) x → IsTold P I n j x
+run_told : (P : Program) (I : Input) (n j : ℕ) (x : StorePart) → InLine (slice_get (run P I n).lines j) x
+    → IsTold P I n j x
 unfolding run
 run_told P I zero j x i = absurd (no_part _ j x i)
 run_told P I (suc n) j x i = told_next P I n (run_told P I n) j x i
 
-part_told : (P : Program) (I : Input) (n : ℕ) (x : StorePart) → PartOf (run P I n).lines x → IsTold P I n (x.offset / 64) x
+part_told : (P : Program) (I : Input) (n : ℕ) (x : StorePart) → PartOf (run P I n).lines x
+    → IsTold P I n (x.offset / 64) x
 part_told P I n x i = let r = line_of_part (run P I n).lines x i in let t = run_told P I n r.0 x r.1 in subst (λ j. IsTold P I n j x) (sym t.line) t
 
 -- a part tells that a fence met it, if one did, and only then
-pub fence_told : (P : Program) (I : Input) (n : ℕ) (x : StorePart) → PartOf (run P I n).lines x → x.fenced ≡ true → FencedSince P I x.step n
+pub fence_told : (P : Program) (I : Input) (n : ℕ) (x : StorePart) → PartOf (run P I n).lines x → x.fenced ≡ true
+    → FencedSince P I x.step n
 fence_told P I n x i e = (part_told P I n x i).fenced e
 
-pub told_by_fence : (P : Program) (I : Input) (n : ℕ) (x : StorePart) → PartOf (run P I n).lines x → FencedSince P I x.step n → x.fenced ≡ true
+pub told_by_fence : (P : Program) (I : Input) (n : ℕ) (x : StorePart) → PartOf (run P I n).lines x
+    → FencedSince P I x.step n → x.fenced ≡ true
 told_by_fence P I n x i s = (part_told P I n x i).by_fence s
 
 -- a part tells the first flush of its line since its store
-pub flush_told : (P : Program) (I : Input) (n : ℕ) (x : StorePart) → PartOf (run P I n).lines x → IsFirstFlush P I (x.offset / 64) x.step n x.first_flush
+pub flush_told : (P : Program) (I : Input) (n : ℕ) (x : StorePart) → PartOf (run P I n).lines x
+    → IsFirstFlush P I (x.offset / 64) x.step n x.first_flush
 flush_told P I n x i = (part_told P I n x i).flush
 
 -- there is one first flush

@@ -21,7 +21,8 @@ use Rattle.hip_runs.specs.Laws.Found.LooseBytes.{part_at}
 use Rattle.hip_runs.specs.Laws.Members.{in_at}
 use Rattle.hip_runs.specs.declared.event.Event.TheVariants as events
 
-flush_of : (base j : ℕ) (e : Event) (o : Option Instr) → Told e o → flushes base j e ≡ true → (is_flush_call o ≡ true) ⊎ ((is_persist_call o ≡ true) × (fences e ≡ true))
+flush_of : (base j : ℕ) (e : Event) (o : Option Instr) → Told e o → flushes base j e ≡ true
+    → (is_flush_call o ≡ true) ⊎ ((is_persist_call o ≡ true) × (fences e ≡ true))
 flush_of base j events.Quiet o t h = absurd (let z : ⊥ = cc in z)
 flush_of base j (events.Print z) o t h = absurd (let z : ⊥ = cc in z)
 flush_of base j (events.Store a v n) o t h = absurd (let z : ⊥ = cc in z)
@@ -32,10 +33,13 @@ flush_of base j (events.Assert a n) o t h = absurd (let z : ⊥ = cc in z)
 flush_of base j (events.End e) o t h = absurd (let z : ⊥ = cc in z)
 
 module _ (P : Program) (I : Input) (n : ℕ) where
-  first_of_part : (x : StorePart) (f : Flush) → PartOf (run P I n).lines x → x.first_flush ≡ Some f → IsFirst P I (x.offset / 64) x.step n f
+  first_of_part : (x : StorePart) (f : Flush) → PartOf (run P I n).lines x → x.first_flush ≡ Some f
+      → IsFirst P I (x.offset / 64) x.step n f
   first_of_part x f i e = subst (IsFirstFlush P I (x.offset / 64) x.step n) e (flush_told P I n x i)
 
-  by_site : (x : StorePart) (f : Flush) → IsFirst P I (x.offset / 64) x.step n f → (is_flush_call (instr_of P f.site) ≡ true) ⊎ ((is_persist_call (instr_of P f.site) ≡ true) × (fences (event P I (run P I f.step)) ≡ true))
+  by_site : (x : StorePart) (f : Flush) → IsFirst P I (x.offset / 64) x.step n f
+      → (is_flush_call (instr_of P f.site) ≡ true)
+      ⊎ ((is_persist_call (instr_of P f.site) ≡ true) × (fences (event P I (run P I f.step)) ≡ true))
   by_site x f h = flush_of I.base (x.offset / 64) (event P I (run P I f.step)) (instr_of P f.site) (site_told P I (run P I f.step) f.site h.site) h.flushed
 
   pub has_sites : HasSites P (run P I n)
@@ -57,7 +61,8 @@ module _ (P : Program) (I : Input) (n : ℕ) where
       either false b (inl e) = absurd (let z : ⊥ = cc in z)
       either false b (inr e) = e.0
 
-      alone : (m : ℕ) (l : Line StorePart) (k : ℕ) (x : StorePart) (f : Flush) → slice_get (run P I n).lines m ≡ Some l → slice_get l.parts k ≡ Some x → l.durable ≤ k → IsFirst P I (x.offset / 64) x.step n f →
+      alone : (m : ℕ) (l : Line StorePart) (k : ℕ) (x : StorePart) (f : Flush) → slice_get (run P I n).lines m ≡ Some l
+          → slice_get l.parts k ≡ Some x → l.durable ≤ k → IsFirst P I (x.offset / 64) x.step n f →
           (is_flush_call (instr_of P f.site) ≡ true) ⊎ ((is_persist_call (instr_of P f.site) ≡ true) × (fences (event P I (run P I f.step)) ≡ true)) → is_flush_call (instr_of P f.site) ≡ true
       alone m l k x f q g le h (inl e) = e
       alone m l k x f q g le h (inr e) =

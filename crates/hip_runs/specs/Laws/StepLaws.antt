@@ -40,9 +40,12 @@ met_lines I flush a n ls = change_range (λ _ l. flush_line flush l) (a - I.base
 -- A statement on an event and on the lines after it, at each kind of step.
 pub record Cases (I : Input) (s : State) (Q : Event → List (Line StorePart) → Type 0) : Type 0 where
   pub plain : (e : Event) → is_plain e ≡ true → Q e s.lines
-  pub store : (f : Frame) (fs : List Frame) → IsTop s f fs → (a : ℕ) (bytes : List ℕ) → in_region I a (length bytes) ≡ true →
+  pub store : (f : Frame) (fs : List Frame) → IsTop s f fs → (a : ℕ) (bytes : List ℕ)
+      → in_region I a (length bytes) ≡ true →
       bytes_of (length bytes) (little_endian bytes) ≡ bytes →
-      Q (events.Store a (little_endian bytes) (length bytes)) (stored (part_of_store s.counts (site_of f) (levels_of (f ∷ fs)) (a - I.base) bytes) (a - I.base) (length bytes) s.lines)
+      Q (events.Store a (little_endian bytes) (length bytes))
+      (stored (part_of_store s.counts (site_of f) (levels_of (f ∷ fs)) (a - I.base) bytes) (a - I.base)
+      (length bytes) s.lines)
   pub flush : (f : Frame) (fs : List Frame) → IsTop s f fs → (a n : ℕ) → flushes_lines I a n ≡ true →
       Q (events.Flush (first_line I a) (lines_size I a n)) (met_lines I (flush_here s f) a n s.lines)
   pub persist : (f : Frame) (fs : List Frame) → IsTop s f fs → (a n : ℕ) → flushes_lines I a n ≡ true →
@@ -50,29 +53,38 @@ pub record Cases (I : Input) (s : State) (Q : Event → List (Line StorePart) �
   pub fence : Q events.Fence (fenced_lines s.lines)
 
 module _ (P : Program) (I : Input) (s : State) (Q : Event → List (Line StorePart) → Type 0) (c : Cases I s Q) where
-  leave_case : (v : ℕ) (w : World) (f : Frame) (fs : List Frame) (after : Counts) → Q (event_of I fs (Returns v)) (leave v w f fs s.lines after).lines
+  leave_case : (v : ℕ) (w : World) (f : Frame) (fs : List Frame) (after : Counts)
+      → Q (event_of I fs (Returns v)) (leave v w f fs s.lines after).lines
   unfolding leave
   leave_case v w f [] after = c.plain _ refl
   leave_case v w f (g ∷ fs) after = c.plain _ refl
 
-  perform_case : (w : World) (f : Frame) (fs : List Frame) → IsTop s f fs → (after : Counts) (x : Action) → Fits P x (instr_of P (site_of f)) → Q (event_of I fs x) (perform I w f fs s.lines s.counts after x).lines
+  perform_case : (w : World) (f : Frame) (fs : List Frame) → IsTop s f fs → (after : Counts) (x : Action)
+      → Fits P x (instr_of P (site_of f)) → Q (event_of I fs x) (perform I w f fs s.lines s.counts after x).lines
   unfolding perform
   perform_case w f fs t after (Traps kind) h = c.plain _ refl
   perform_case w f fs t after (Assigns to v) h = c.plain _ refl
   perform_case w f fs t after (Allocates to a n) h = c.plain _ refl
   perform_case w f fs t after (Stores a bytes) h = go (in_region I a (length bytes)) refl
     where
-      go : (b : Bool) → in_region I a (length bytes) ≡ b → Q (cond b (events.Store a (little_endian bytes) (length bytes)) events.Quiet) (cond b (stored (part_of_store s.counts (site_of f) (levels_of (f ∷ fs)) (a - I.base) bytes) (a - I.base) (length bytes) s.lines) s.lines)
+      go : (b : Bool) → in_region I a (length bytes) ≡ b
+          → Q (cond b (events.Store a (little_endian bytes) (length bytes)) events.Quiet)
+          (cond b (stored (part_of_store s.counts (site_of f) (levels_of (f ∷ fs)) (a - I.base) bytes) (a - I.base)
+          (length bytes) s.lines) s.lines)
       go true e = c.store f fs t a bytes e h.is.1
       go false e = c.plain _ refl
   perform_case w f fs t after (Flushes a n) h = go (flushes_lines I a n) refl
     where
-      go : (b : Bool) → flushes_lines I a n ≡ b → Q (cond b (events.Flush (first_line I a) (lines_size I a n)) events.Quiet) (cond b (met_lines I (flush_here s f) a n s.lines) s.lines)
+      go : (b : Bool) → flushes_lines I a n ≡ b
+          → Q (cond b (events.Flush (first_line I a) (lines_size I a n)) events.Quiet)
+          (cond b (met_lines I (flush_here s f) a n s.lines) s.lines)
       go true e = c.flush f fs t a n e
       go false e = c.plain _ refl
   perform_case w f fs t after (Persists a n) h = go (flushes_lines I a n) refl
     where
-      go : (b : Bool) → flushes_lines I a n ≡ b → Q (cond b (events.Persist (first_line I a) (lines_size I a n)) events.Fence) (fenced_lines (cond b (met_lines I (flush_here s f) a n s.lines) s.lines))
+      go : (b : Bool) → flushes_lines I a n ≡ b
+          → Q (cond b (events.Persist (first_line I a) (lines_size I a n)) events.Fence)
+          (fenced_lines (cond b (met_lines I (flush_here s f) a n s.lines) s.lines))
       go true e = c.persist f fs t a n e
       go false e = c.fence
   perform_case w f fs t after Fences h = c.fence
@@ -83,11 +95,16 @@ module _ (P : Program) (I : Input) (s : State) (Q : Event → List (Line StorePa
   perform_case w f fs t after (Jumps b rs) h = c.plain _ refl
   perform_case w f fs t after (Returns v) h = leave_case v w f fs after
 
-  carry_case : (f : Frame) (fs : List Frame) → IsTop s f fs → (after : Counts) (d : Deed) → Fits P d.action (instr_of P (site_of f)) → Q (event_at I s.world fs d) (carry_out I s.world f fs s.lines s.counts after d).lines
+  carry_case : (f : Frame) (fs : List Frame) → IsTop s f fs → (after : Counts) (d : Deed)
+      → Fits P d.action (instr_of P (site_of f))
+      → Q (event_at I s.world fs d) (carry_out I s.world f fs s.lines s.counts after d).lines
   unfolding carry_out
   carry_case f fs t after d h = go (is_cut I s.world d)
     where
-      go : (b : Bool) → Q (cond b (events.End Cut) (event_of I fs d.action)) (cond b (stop Cut s.world (f ∷ fs) s.lines after) (perform I (cond d.turn (with_turn s.world) s.world) f fs s.lines s.counts after d.action)).lines
+      go : (b : Bool)
+          → Q (cond b (events.End Cut) (event_of I fs d.action))
+          (cond b (stop Cut s.world (f ∷ fs) s.lines after)
+          (perform I (cond d.turn (with_turn s.world) s.world) f fs s.lines s.counts after d.action)).lines
       go true = c.plain _ refl
       go false = perform_case _ f fs t after d.action h
 
@@ -96,7 +113,8 @@ module _ (P : Program) (I : Input) (s : State) (Q : Event → List (Line StorePa
   unfolding step event on_ending on_frames
   step-cases = go s.world.ending refl
     where
-      on_them : (fs : List Frame) → s.frames ≡ fs → s.world.ending ≡ None → Q (event_on_frames P I s.world fs) (on_frames P I s.world s.lines s.counts fs).lines
+      on_them : (fs : List Frame) → s.frames ≡ fs → s.world.ending ≡ None
+          → Q (event_on_frames P I s.world fs) (on_frames P I s.world s.lines s.counts fs).lines
       on_them [] q e = c.plain _ refl
       on_them (f ∷ fs) q e = carry_case f fs (record { going = e; frames = q }) _ (deed_at P I s.world f fs) (deed_fits P I s.world f fs)
 
@@ -104,7 +122,8 @@ module _ (P : Program) (I : Input) (s : State) (Q : Event → List (Line StorePa
       go (Some e) q = c.plain _ refl
       go None q = on_them s.frames refl q
 
-pub ordered-met_lines : (I : Input) (flush : Flush) (a n : ℕ) (ls : List (Line StorePart)) → AreOrdered ls → AreOrdered (met_lines I flush a n ls)
+pub ordered-met_lines : (I : Input) (flush : Flush) (a n : ℕ) (ls : List (Line StorePart)) → AreOrdered ls
+    → AreOrdered (met_lines I flush a n ls)
 ordered-met_lines I flush a n ls o = ordered-change_from (λ _ l. flush_line flush l) (a - I.base) n (λ _ l h. ordered-flushed_line (map_line (noted_flush flush) l) (ordered-map_line (noted_flush flush) l h)) 0 ls o
 
 -- ---- how many lines there are
@@ -135,12 +154,14 @@ record IsCounted (s : State) (n : ℕ) : Type 0 where
   stands : has_frame s.frames ≡ true
   steps : s.world.ending ≡ None → s.counts.steps ≡ n
 
-leave_counted : (v : ℕ) (w : World) (f : Frame) (fs : List Frame) (ls : List (Line StorePart)) (after : Counts) (n : ℕ) → after.steps ≡ n → IsCounted (leave v w f fs ls after) n
+leave_counted : (v : ℕ) (w : World) (f : Frame) (fs : List Frame) (ls : List (Line StorePart)) (after : Counts) (n : ℕ)
+    → after.steps ≡ n → IsCounted (leave v w f fs ls after) n
 unfolding leave
 leave_counted v w f [] ls after n q = record { stands = refl; steps = λ g. q }
 leave_counted v w f (g ∷ fs) ls after n q = record { stands = refl; steps = λ g. q }
 
-perform_counted : (I : Input) (w : World) (f : Frame) (fs : List Frame) (ls : List (Line StorePart)) (before after : Counts) (n : ℕ) → after.steps ≡ n → (x : Action) → IsCounted (perform I w f fs ls before after x) n
+perform_counted : (I : Input) (w : World) (f : Frame) (fs : List Frame) (ls : List (Line StorePart))
+    (before after : Counts) (n : ℕ) → after.steps ≡ n → (x : Action) → IsCounted (perform I w f fs ls before after x) n
 unfolding perform
 perform_counted I w f fs ls before after n q (Traps kind) = record { stands = refl; steps = λ g. q }
 perform_counted I w f fs ls before after n q (Assigns to v) = record { stands = refl; steps = λ g. q }
@@ -156,11 +177,14 @@ perform_counted I w f fs ls before after n q (Calls g rs to) = record { stands =
 perform_counted I w f fs ls before after n q (Jumps b rs) = record { stands = refl; steps = λ g. q }
 perform_counted I w f fs ls before after n q (Returns v) = leave_counted v w f fs ls after n q
 
-carry_counted : (I : Input) (w : World) (f : Frame) (fs : List Frame) (ls : List (Line StorePart)) (before after : Counts) (n : ℕ) → after.steps ≡ n → (d : Deed) → IsCounted (carry_out I w f fs ls before after d) n
+carry_counted : (I : Input) (w : World) (f : Frame) (fs : List Frame) (ls : List (Line StorePart))
+    (before after : Counts) (n : ℕ) → after.steps ≡ n → (d : Deed) → IsCounted (carry_out I w f fs ls before after d) n
 unfolding carry_out
 carry_counted I w f fs ls before after n q d = go (is_cut I w d)
   where
-    go : (b : Bool) → IsCounted (cond b (stop Cut w (f ∷ fs) ls after) (perform I (cond d.turn (with_turn w) w) f fs ls before after d.action)) n
+    go : (b : Bool)
+        → IsCounted (cond b (stop Cut w (f ∷ fs) ls after)
+        (perform I (cond d.turn (with_turn w) w) f fs ls before after d.action)) n
     go true = record { stands = refl; steps = λ g. q }
     go false = perform_counted I _ f fs ls before after n q d.action
 
@@ -168,7 +192,8 @@ step_counted : (P : Program) (I : Input) (s : State) (n : ℕ) → IsCounted s n
 unfolding step on_ending on_frames
 step_counted P I s n c = go s.world.ending refl
   where
-    on_them : (fs : List Frame) → s.frames ≡ fs → s.world.ending ≡ None → IsCounted (on_frames P I s.world s.lines s.counts fs) (suc n)
+    on_them : (fs : List Frame) → s.frames ≡ fs → s.world.ending ≡ None
+        → IsCounted (on_frames P I s.world s.lines s.counts fs) (suc n)
     on_them [] q e = absurd (let h : false ≡ true = sym (ap has_frame q) ∙ c.stands in let z : ⊥ = cc in z)
     on_them (f ∷ fs) q e = carry_counted I s.world f fs s.lines s.counts _ (suc n) (ap suc (c.steps e)) (deed_at P I s.world f fs)
 

@@ -57,12 +57,14 @@ module _ (o : ℕ) (bytes : List ℕ) (j : ℕ) where
   starts n b h k = omega arith
 
   -- a byte that the part covers lies in the part's line and in the store
-  held : (b : ℕ) → nat_le (start_in j o) b && nat_lt b (start_in j o + length Held) ≡ true → (start_in j o ≤ b) × (b < end_in j o (length bytes))
+  held : (b : ℕ) → nat_le (start_in j o) b && nat_lt b (start_in j o + length Held) ≡ true
+      → (start_in j o ≤ b) × (b < end_in j o (length bytes))
   held b h =
       let c = covered (start_in j o) (length Held) b h in
       (c.0, ends (length bytes) b c.0 (subst (λ k. b < start_in j o + k) length_held c.1))
 
-  holds_byte : (b : ℕ) → start_in j o ≤ b → b < end_in j o (length bytes) → nat_le (start_in j o) b && nat_lt b (start_in j o + length Held) ≡ true
+  holds_byte : (b : ℕ) → start_in j o ≤ b → b < end_in j o (length bytes)
+      → nat_le (start_in j o) b && nat_lt b (start_in j o + length Held) ≡ true
   holds_byte b h k = cover (start_in j o) (length Held) b h (subst (λ i. b < start_in j o + i) (sym length_held) (starts (length bytes) b h k))
 
   behind : (n b : ℕ) → start_in j o ≤ b → b < end_in j o n → b - start_in j o < end_in j o n - start_in j o
@@ -71,7 +73,8 @@ module _ (o : ℕ) (bytes : List ℕ) (j : ℕ) where
   sums : (b : ℕ) → start_in j o ≤ b → (start_in j o - o) + (b - start_in j o) ≡ b - o
   sums b h = omega arith
 
-  held_byte : (b : ℕ) → start_in j o ≤ b → b < end_in j o (length bytes) → slice_index Held (b - start_in j o) ≡ slice_index bytes (b - o)
+  held_byte : (b : ℕ) → start_in j o ≤ b → b < end_in j o (length bytes)
+      → slice_index Held (b - start_in j o) ≡ slice_index bytes (b - o)
   held_byte b h k =
       index_take (end_in j o (length bytes) - start_in j o) (drop (start_in j o - o) bytes) (b - start_in j o) (behind (length bytes) b h k)
       ∙ index_drop (start_in j o - o) bytes (b - start_in j o)
@@ -93,7 +96,8 @@ module _ (P : Program) (I : Input) where
   of_flush : (flush : Flush) (x : StorePart) → IsOfStore P I x → IsOfStore P I (noted_flush flush x)
   of_flush flush x s = record { addr = s.addr; bytes = s.bytes; stored = s.stored; written = s.written; site = s.site; levels = s.levels; entry = s.entry; covered = s.covered; whole = s.whole }
 
-  of_flushes : (flush : Flush) (b : Bool) (x : StorePart) → IsOfStore P I x → IsOfStore P I (cond b (noted_flush flush x) x)
+  of_flushes : (flush : Flush) (b : Bool) (x : StorePart) → IsOfStore P I x
+      → IsOfStore P I (cond b (noted_flush flush x) x)
   of_flushes flush true x s = of_flush flush x s
   of_flushes flush false x s = s
 
@@ -101,8 +105,11 @@ module _ (P : Program) (I : Input) where
   AreOf ls = (j : ℕ) (x : StorePart) → InLine (slice_get ls j) x → IsOfStore P I x
 
   module _ (n : ℕ) where
-    new : (f : Frame) (fs : List Frame) → IsTop (run P I n) f fs → (a : ℕ) (bytes : List ℕ) → I.base ≤ a → bytes_of (length bytes) (little_endian bytes) ≡ bytes → event P I (run P I n) ≡ events.Store a (little_endian bytes) (length bytes) →
-        (j : ℕ) → has_bytes j (a - I.base) (length bytes) ≡ true → IsOfStore P I (part_of_store (run P I n).counts (site_of f) (levels_of (f ∷ fs)) (a - I.base) bytes j)
+    new : (f : Frame) (fs : List Frame) → IsTop (run P I n) f fs → (a : ℕ) (bytes : List ℕ) → I.base ≤ a
+        → bytes_of (length bytes) (little_endian bytes) ≡ bytes
+        → event P I (run P I n) ≡ events.Store a (little_endian bytes) (length bytes) →
+        (j : ℕ) → has_bytes j (a - I.base) (length bytes) ≡ true
+        → IsOfStore P I (part_of_store (run P I n).counts (site_of f) (levels_of (f ∷ fs)) (a - I.base) bytes j)
     new f fs t a bytes low w q j there =
         let steps = counted-steps P I n t.going in
         let line = line_of_start (a - I.base) (length bytes) j there in
@@ -142,8 +149,13 @@ module _ (P : Program) (I : Input) where
       fence = λ q j y i. let r = of_fenced _ j y i in subst (IsOfStore P I) (sym r.2) (of_fence r.0 (old j r.0 r.1));
     }
       where
-        by_store : (f : Frame) (fs : List Frame) → IsTop (run P I n) f fs → (a : ℕ) (bytes : List ℕ) → I.base ≤ a → bytes_of (length bytes) (little_endian bytes) ≡ bytes → event P I (run P I n) ≡ events.Store a (little_endian bytes) (length bytes) → (j : ℕ) (x : StorePart) →
-            InLine (slice_get (run P I n).lines j) x ⊎ ((has_bytes j (a - I.base) (length bytes) ≡ true) × (x ≡ part_of_store (run P I n).counts (site_of f) (levels_of (f ∷ fs)) (a - I.base) bytes j)) → IsOfStore P I x
+        by_store : (f : Frame) (fs : List Frame) → IsTop (run P I n) f fs → (a : ℕ) (bytes : List ℕ) → I.base ≤ a
+            → bytes_of (length bytes) (little_endian bytes) ≡ bytes
+            → event P I (run P I n) ≡ events.Store a (little_endian bytes) (length bytes) → (j : ℕ) (x : StorePart) →
+            InLine (slice_get (run P I n).lines j) x
+            ⊎ ((has_bytes j (a - I.base) (length bytes) ≡ true)
+            × (x ≡ part_of_store (run P I n).counts (site_of f) (levels_of (f ∷ fs)) (a - I.base) bytes j))
+            → IsOfStore P I x
         by_store f fs t a bytes low w q j x (inl i) = old j x i
         by_store f fs t a bytes low w q j x (inr r) = subst (IsOfStore P I) (sym r.1) (new f fs t a bytes low w q j r.0)
 

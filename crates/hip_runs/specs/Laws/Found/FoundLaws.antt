@@ -66,7 +66,8 @@ same_mark-equivalence = record {
 }
 
 -- the items of two lists are met one list after the other
-pub met-append : {A : Type 0} (same : A → A → Bool) (xs ys zs : List A) → met same xs (ys ++ zs) ≡ met same (met same xs ys) zs
+pub met-append : {A : Type 0} (same : A → A → Bool) (xs ys zs : List A)
+    → met same xs (ys ++ zs) ≡ met same (met same xs ys) zs
 met-append same xs [] zs = refl
 met-append same xs (y ∷ ys) zs = met-append same (cond (list_any (same y) xs) xs (xs ++ y ∷ [])) ys zs
 
@@ -87,12 +88,14 @@ module _ (hit : List ℕ) (site : Site) (operand : ℕ) where
   more sum m = cond (same_site m.site site && nat_eq m.operand operand) (sum +ℤ worth_of (is_marked hit m.object)) sum
 
   -- two tests on one operand agree
-  same_test : (w : Worth) (m : Mark) → is_worth_of w m.site m.operand ≡ true → is_worth_of w site operand ≡ same_site m.site site && nat_eq m.operand operand
+  same_test : (w : Worth) (m : Mark) → is_worth_of w m.site m.operand ≡ true
+      → is_worth_of w site operand ≡ same_site m.site site && nat_eq m.operand operand
   same_test w m e =
       let p = both_true (same_site w.site m.site) _ e in
       ap₂ (λ (s : Site) (n : ℕ). same_site s site && nat_eq n operand) (same_site_equal w.site m.site p.0) (equal_true w.operand m.operand p.1)
 
-  other_test : (w : Worth) (m : Mark) → is_worth_of w m.site m.operand ≡ false → is_worth_of w site operand ≡ true → same_site m.site site && nat_eq m.operand operand ≡ false
+  other_test : (w : Worth) (m : Mark) → is_worth_of w m.site m.operand ≡ false → is_worth_of w site operand ≡ true
+      → same_site m.site site && nat_eq m.operand operand ≡ false
   other_test w m e f = go (same_site m.site site && nat_eq m.operand operand) refl
     where
       go : (b : Bool) → same_site m.site site && nat_eq m.operand operand ≡ b → b ≡ false
@@ -105,32 +108,41 @@ module _ (hit : List ℕ) (site : Site) (operand : ℕ) where
           let t : is_worth_of w m.site m.operand ≡ true = ap₂ (λ (u : Site) (k : ℕ). is_worth_of w u k) s n ∙ true_both (site_same w.site) (true_equal w.operand w.operand refl) in
           absurd (let z : false ≡ true = sym e ∙ t in let u : ⊥ = cc in u)
 
-  worth-with_mark : (ws : List Worth) (m : Mark) → worth_at (with_mark hit ws m) site operand ≡ more (worth_at ws site operand) m
+  worth-with_mark : (ws : List Worth) (m : Mark)
+      → worth_at (with_mark hit ws m) site operand ≡ more (worth_at ws site operand) m
   worth-with_mark [] m = refl
   worth-with_mark (w ∷ ws) m = go (is_worth_of w m.site m.operand) refl (worth-with_mark ws m)
     where
-      by : (b c : Bool) → b ≡ c → cond b (w.worth +ℤ worth_of (is_marked hit m.object)) (worth_at ws site operand) ≡ cond c (cond b w.worth (worth_at ws site operand) +ℤ worth_of (is_marked hit m.object)) (cond b w.worth (worth_at ws site operand))
+      by : (b c : Bool) → b ≡ c
+          → cond b (w.worth +ℤ worth_of (is_marked hit m.object))
+          (worth_at ws site operand)
+          ≡ cond c (cond b w.worth (worth_at ws site operand) +ℤ worth_of (is_marked hit m.object))
+          (cond b w.worth (worth_at ws site operand))
       by true true e = refl
       by false false e = refl
       by true false e = absurd (let z : ⊥ = cc in z)
       by false true e = absurd (let z : ⊥ = cc in z)
 
-      beside : (b : Bool) → is_worth_of w site operand ≡ b → is_worth_of w m.site m.operand ≡ false → worth_at (with_mark hit ws m) site operand ≡ more (worth_at ws site operand) m →
+      beside : (b : Bool) → is_worth_of w site operand ≡ b → is_worth_of w m.site m.operand ≡ false
+          → worth_at (with_mark hit ws m) site operand ≡ more (worth_at ws site operand) m →
           cond b w.worth (worth_at (with_mark hit ws m) site operand) ≡ more (cond b w.worth (worth_at ws site operand)) m
       beside true f e next = sym (ap (λ t. cond t (w.worth +ℤ worth_of (is_marked hit m.object)) w.worth) (other_test w m e f))
       beside false f e next = next
 
-      go : (b : Bool) → is_worth_of w m.site m.operand ≡ b → worth_at (with_mark hit ws m) site operand ≡ more (worth_at ws site operand) m →
+      go : (b : Bool) → is_worth_of w m.site m.operand ≡ b
+          → worth_at (with_mark hit ws m) site operand ≡ more (worth_at ws site operand) m →
           worth_at (cond b (record { site = w.site; operand = w.operand; worth = w.worth +ℤ worth_of (is_marked hit m.object) } ∷ ws) (w ∷ with_mark hit ws m)) site operand ≡ more (worth_at (w ∷ ws) site operand) m
       go true e next = by (is_worth_of w site operand) (same_site m.site site && nat_eq m.operand operand) (same_test w m e)
       go false e next = beside (is_worth_of w site operand) refl e next
 
-  worths-in : (ws : List Worth) (ms : List Mark) → worth_at (worths_from hit ws ms) site operand ≡ worth_in hit site operand ms (worth_at ws site operand)
+  worths-in : (ws : List Worth) (ms : List Mark)
+      → worth_at (worths_from hit ws ms) site operand ≡ worth_in hit site operand ms (worth_at ws site operand)
   worths-in ws [] = refl
   worths-in ws (m ∷ ms) = worths-in (with_mark hit ws m) ms ∙ ap (λ sum. worth_in hit site operand ms sum) (worth-with_mark ws m)
 
 -- the table gives each operand its worth
-pub worths-are : (marks : Marks) (site : Site) (operand : ℕ) → worth_at (worths marks) site operand ≡ worth marks site operand
+pub worths-are : (marks : Marks) (site : Site) (operand : ℕ)
+    → worth_at (worths marks) site operand ≡ worth marks site operand
 worths-are marks site operand = worths-in marks.hit site operand [] marks.pointed
 
 -- ---- findings
@@ -196,7 +208,8 @@ further zero n = inl (n, omega arith)
 further (suc m) zero = inr (suc m, omega arith)
 further (suc m) (suc n) = go (further m n)
   where
-    go : ((k : ℕ) × (n ≡ k + m)) ⊎ ((k : ℕ) × (m ≡ k + n)) → ((k : ℕ) × (suc n ≡ k + suc m)) ⊎ ((k : ℕ) × (suc m ≡ k + suc n))
+    go : ((k : ℕ) × (n ≡ k + m)) ⊎ ((k : ℕ) × (m ≡ k + n))
+        → ((k : ℕ) × (suc n ≡ k + suc m)) ⊎ ((k : ℕ) × (suc m ≡ k + suc n))
     go (inl h) = inl (h.0, omega (arith, h.1))
     go (inr h) = inr (h.0, omega (arith, h.1))
 

@@ -22,7 +22,9 @@ use Rattle.hip_lines.specs.Parts as bytes
 
 -- every byte that a part covers lies in the part's line
 abbrev pub AreInLines : List (Line StorePart) → Type 0
-AreInLines ls = (m : ℕ) (l : Line StorePart) (k : ℕ) (x : StorePart) → slice_get ls m ≡ Some l → slice_get l.parts k ≡ Some x → (b : ℕ) → covers x b ≡ true → b / 64 ≡ m
+AreInLines ls =
+    (m : ℕ) (l : Line StorePart) (k : ℕ) (x : StorePart) → slice_get ls m ≡ Some l → slice_get l.parts k ≡ Some x
+    → (b : ℕ) → covers x b ≡ true → b / 64 ≡ m
 
 -- ---- a byte that a part shows
 
@@ -34,14 +36,17 @@ record IsShown (o n count b : ℕ) (later : List StorePart) (c : ℕ) : Type 0 w
   high : c < o + n
   bare : list_any (λ q. covers q c) later ≡ false
 
-shown_byte : (o n count b : ℕ) (later : List StorePart) → shows o n count b later ≡ true → (c : ℕ) × IsShown o n count b later c
+shown_byte : (o n count b : ℕ) (later : List StorePart) → shows o n count b later ≡ true
+    → (c : ℕ) × IsShown o n count b later c
 shown_byte o n zero b later h = absurd (let z : ⊥ = cc in z)
 shown_byte o n (suc count) b later h = go (λ g. next (shown_byte o n count (suc b) later g)) (nat_le o b) refl (nat_lt b (o + n)) refl (list_any (λ q. covers q b) later) refl h
   where
     next : (c : ℕ) × IsShown o n count (suc b) later c → (c : ℕ) × IsShown o n (suc count) b later c
     next r = let s = r.1 in (r.0, record { from = omega (arith, s.from); to = omega (arith, s.to); low = s.low; high = s.high; bare = s.bare })
 
-    go : (shows o n count (suc b) later ≡ true → (c : ℕ) × IsShown o n (suc count) b later c) → (x : Bool) → nat_le o b ≡ x → (y : Bool) → nat_lt b (o + n) ≡ y → (z : Bool) → list_any (λ q. covers q b) later ≡ z → (x && (y && not z)) || shows o n count (suc b) later ≡ true → (c : ℕ) × IsShown o n (suc count) b later c
+    go : (shows o n count (suc b) later ≡ true → (c : ℕ) × IsShown o n (suc count) b later c) → (x : Bool)
+        → nat_le o b ≡ x → (y : Bool) → nat_lt b (o + n) ≡ y → (z : Bool) → list_any (λ q. covers q b) later ≡ z
+        → (x && (y && not z)) || shows o n count (suc b) later ≡ true → (c : ℕ) × IsShown o n (suc count) b later c
     go after true p true q false r g = (b, record { from = omega arith; to = omega arith; low = le_true _ _ p; high = lt_true _ _ q; bare = r })
     go after true p true q true r g = after g
     go after true p false q z r g = after g
@@ -50,7 +55,8 @@ shown_byte o n (suc count) b later h = go (λ g. next (shown_byte o n count (suc
 split : (b c : ℕ) → b ≤ c → (b ≡ c) ⊎ (suc b ≤ c)
 split b c h = grind arith
 
-byte_shown : (o n count b : ℕ) (later : List StorePart) (c : ℕ) → IsShown o n count b later c → shows o n count b later ≡ true
+byte_shown : (o n count b : ℕ) (later : List StorePart) (c : ℕ) → IsShown o n count b later c
+    → shows o n count b later ≡ true
 byte_shown o n zero b later c s = absurd (omega (arith, s.from, s.to))
 byte_shown o n (suc count) b later c s = go (λ t. byte_shown o n count (suc b) later c t) (split b c s.from)
   where
@@ -60,7 +66,8 @@ byte_shown o n (suc count) b later c s = go (λ t. byte_shown o n count (suc b) 
     first : (x y : Bool) → x ≡ true → x || y ≡ true
     first x y e = rw e refl
 
-    go : (IsShown o n count (suc b) later c → shows o n count (suc b) later ≡ true) → (b ≡ c) ⊎ (suc b ≤ c) → shows o n (suc count) b later ≡ true
+    go : (IsShown o n count (suc b) later c → shows o n count (suc b) later ≡ true) → (b ≡ c) ⊎ (suc b ≤ c)
+        → shows o n (suc count) b later ≡ true
     go next (inl e) = first _ _ (subst (λ a. nat_le o a && (nat_lt a (o + n) && not (list_any (λ q. covers q a) later)) ≡ true) (sym e) here)
     go next (inr lt) = or_second (nat_le o b && (nat_lt b (o + n) && not (list_any (λ q. covers q b) later))) _ (next (record { from = lt; to = omega (arith, s.to); low = s.low; high = s.high; bare = s.bare }))
 
@@ -73,17 +80,20 @@ pub record IsFound (o n made d f k : ℕ) (ps : List StorePart) (y : LoosePart) 
   pub last : is_last o n p (drop (suc i) ps) ≡ true
   pub is : y ≡ record { part = p; flushed = nat_lt (k + i) f }
 
-pub found_part : (o n made d f k : ℕ) (ps : List StorePart) (y : LoosePart) → In y (loose_from o n made d f k ps) → (i : ℕ) × (p : StorePart) × IsFound o n made d f k ps y i p
+pub found_part : (o n made d f k : ℕ) (ps : List StorePart) (y : LoosePart) → In y (loose_from o n made d f k ps)
+    → (i : ℕ) × (p : StorePart) × IsFound o n made d f k ps y i p
 found_part o n made d f k [] y h = absurd h
 found_part o n made d f k (x ∷ ps) y h = go (λ g. next (found_part o n made d f (suc k) ps y g)) (nat_eq x.step made) refl (nat_le d k) refl (is_last o n x ps) refl h
   where
-    next : (i : ℕ) × (p : StorePart) × IsFound o n made d f (suc k) ps y i p → (i : ℕ) × (p : StorePart) × IsFound o n made d f k (x ∷ ps) y i p
+    next : (i : ℕ) × (p : StorePart) × IsFound o n made d f (suc k) ps y i p
+        → (i : ℕ) × (p : StorePart) × IsFound o n made d f k (x ∷ ps) y i p
     next r =
         let s = r.2 in
         let e : suc k + r.0 ≡ k + suc r.0 = omega arith in
         (suc r.0, r.1, record { at = s.at; step = s.step; loose = omega (arith, s.loose); last = s.last; is = s.is ∙ ap (λ j. record { part = r.1; flushed = nat_lt j f }) e })
 
-    go : (In y (loose_from o n made d f (suc k) ps) → (i : ℕ) × (p : StorePart) × IsFound o n made d f k (x ∷ ps) y i p) → (a : Bool) → nat_eq x.step made ≡ a → (b : Bool) → nat_le d k ≡ b → (c : Bool) → is_last o n x ps ≡ c →
+    go : (In y (loose_from o n made d f (suc k) ps) → (i : ℕ) × (p : StorePart) × IsFound o n made d f k (x ∷ ps) y i p)
+        → (a : Bool) → nat_eq x.step made ≡ a → (b : Bool) → nat_le d k ≡ b → (c : Bool) → is_last o n x ps ≡ c →
         In y (cond (a && (b && c)) (record { part = x; flushed = nat_lt k f } ∷ loose_from o n made d f (suc k) ps) (loose_from o n made d f (suc k) ps)) → (i : ℕ) × (p : StorePart) × IsFound o n made d f k (x ∷ ps) y i p
     go after true p true q true r (inl e) =
         let z : k ≡ k + 0 = omega arith in
@@ -93,7 +103,8 @@ found_part o n made d f k (x ∷ ps) y h = go (λ g. next (found_part o n made d
     go after true p false q c r g = after g
     go after false p b q c r g = after g
 
-part_found : (o n made d f k : ℕ) (ps : List StorePart) (y : LoosePart) (i : ℕ) (p : StorePart) → IsFound o n made d f k ps y i p → In y (loose_from o n made d f k ps)
+part_found : (o n made d f k : ℕ) (ps : List StorePart) (y : LoosePart) (i : ℕ) (p : StorePart)
+    → IsFound o n made d f k ps y i p → In y (loose_from o n made d f k ps)
 part_found o n made d f k [] y i p s = absurd (let e = s.at in let z : ⊥ = cc in z)
 part_found o n made d f k (x ∷ ps) y zero p s =
     let same : x ≡ p = (let e = s.at in let z : x ≡ p = cc in z) in
@@ -105,7 +116,9 @@ part_found o n made d f k (x ∷ ps) y zero p s =
     let q : y ≡ record { part = x; flushed = nat_lt k f } = s.is ∙ ap₂ (λ (w : StorePart) (j : ℕ). record { part = w; flushed = nat_lt j f }) (sym same) z in
     go _ _ _ a b c q
   where
-    go : (a b c : Bool) → a ≡ true → b ≡ true → c ≡ true → y ≡ record { part = x; flushed = nat_lt k f } → In y (cond (a && (b && c)) (record { part = x; flushed = nat_lt k f } ∷ loose_from o n made d f (suc k) ps) (loose_from o n made d f (suc k) ps))
+    go : (a b c : Bool) → a ≡ true → b ≡ true → c ≡ true → y ≡ record { part = x; flushed = nat_lt k f }
+        → In y (cond (a && (b && c)) (record { part = x; flushed = nat_lt k f } ∷ loose_from o n made d f (suc k) ps)
+        (loose_from o n made d f (suc k) ps))
     go true true true p q r e = inl e
     go true true false p q r e = absurd (let z : ⊥ = cc in z)
     go true false c p q r e = absurd (let z : ⊥ = cc in z)
@@ -114,27 +127,35 @@ part_found o n made d f k (x ∷ ps) y (suc i) p s =
     let e : k + suc i ≡ suc k + i = omega arith in
     behind _ (part_found o n made d f (suc k) ps y i p (record { at = s.at; step = s.step; loose = omega (arith, s.loose); last = s.last; is = s.is ∙ ap (λ j. record { part = p; flushed = nat_lt j f }) e }))
   where
-    behind : (b : Bool) → In y (loose_from o n made d f (suc k) ps) → In y (cond b (record { part = x; flushed = nat_lt k f } ∷ loose_from o n made d f (suc k) ps) (loose_from o n made d f (suc k) ps))
+    behind : (b : Bool) → In y (loose_from o n made d f (suc k) ps)
+        → In y (cond b (record { part = x; flushed = nat_lt k f } ∷ loose_from o n made d f (suc k) ps)
+        (loose_from o n made d f (suc k) ps))
     behind true h = inr h
     behind false h = h
 
 -- ---- the loose bytes of a range, by their places
 
-in_bytes : (ws : List (Pending Part)) (o n : ℕ) (x : LooseByte) → In x (bytes.loose_from ws o n) → (b : ℕ) × (o ≤ b) × (b < o + n) × (bytes.loose_at ws b ≡ Some x)
+in_bytes : (ws : List (Pending Part)) (o n : ℕ) (x : LooseByte) → In x (bytes.loose_from ws o n)
+    → (b : ℕ) × (o ≤ b) × (b < o + n) × (bytes.loose_at ws b ≡ Some x)
 in_bytes ws o zero x i = absurd i
 in_bytes ws o (suc n) x i = go (λ j. in_bytes ws (suc o) n x j) (bytes.loose_at ws o) refl (in-append (option_to_list (bytes.loose_at ws o)) (bytes.loose_from ws (suc o) n) x i)
   where
-    go : (In x (bytes.loose_from ws (suc o) n) → (b : ℕ) × (suc o ≤ b) × (b < suc o + n) × (bytes.loose_at ws b ≡ Some x)) → (a : Option LooseByte) → bytes.loose_at ws o ≡ a → In x (option_to_list a) ⊎ In x (bytes.loose_from ws (suc o) n) → (b : ℕ) × (o ≤ b) × (b < o + suc n) × (bytes.loose_at ws b ≡ Some x)
+    go : (In x (bytes.loose_from ws (suc o) n) → (b : ℕ) × (suc o ≤ b) × (b < suc o + n)
+        × (bytes.loose_at ws b
+        ≡ Some x)) → (a : Option LooseByte) → bytes.loose_at ws o ≡ a → In x (option_to_list a) ⊎ In x
+        (bytes.loose_from ws (suc o) n) → (b : ℕ) × (o ≤ b) × (b < o + suc n) × (bytes.loose_at ws b ≡ Some x)
     go next a e (inr j) = let r = next j in (r.0, omega (arith, r.1), omega (arith, r.2), r.3)
     go next None e (inl j) = absurd j
     go next (Some z) e (inl (inl q)) = (o, omega arith, omega arith, e ∙ ap Some (sym q))
     go next (Some z) e (inl (inr j)) = absurd j
 
-bytes_in : (ws : List (Pending Part)) (o n : ℕ) (x : LooseByte) (b : ℕ) → o ≤ b → b < o + n → bytes.loose_at ws b ≡ Some x → In x (bytes.loose_from ws o n)
+bytes_in : (ws : List (Pending Part)) (o n : ℕ) (x : LooseByte) (b : ℕ) → o ≤ b → b < o + n
+    → bytes.loose_at ws b ≡ Some x → In x (bytes.loose_from ws o n)
 bytes_in ws o zero x b le lt e = absurd (omega (arith, le, lt))
 bytes_in ws o (suc n) x b le lt e = go (λ low. bytes_in ws (suc o) n x b low (omega (arith, lt)) e) (split o b le)
   where
-    go : (suc o ≤ b → In x (bytes.loose_from ws (suc o) n)) → (o ≡ b) ⊎ (suc o ≤ b) → In x (bytes.loose_from ws o (suc n))
+    go : (suc o ≤ b → In x (bytes.loose_from ws (suc o) n)) → (o ≡ b) ⊎ (suc o ≤ b)
+        → In x (bytes.loose_from ws o (suc n))
     go next (inl q) = append-left (option_to_list (bytes.loose_at ws o)) (bytes.loose_from ws (suc o) n) x (subst (λ (a : Option LooseByte). In x (option_to_list a)) (sym e ∙ ap (bytes.loose_at ws) (sym q)) (inl refl))
     go next (inr low) = append-right (option_to_list (bytes.loose_at ws o)) (bytes.loose_from ws (suc o) n) x (next low)
 
@@ -148,10 +169,12 @@ record IsTold (l : Line StorePart) (b : ℕ) (x : LooseByte) (k : ℕ) (p : Stor
 shift : (k d f : ℕ) → d ≤ k → nat_lt (k - d) (f - d) ≡ nat_lt k f
 shift k d f h = grind (arith, nat_tests)
 
-told_byte : (l : Line StorePart) (b : ℕ) (x : LooseByte) → bytes.loose_in (shown_line l) b ≡ Some x → (k : ℕ) × (p : StorePart) × IsTold l b x k p
+told_byte : (l : Line StorePart) (b : ℕ) (x : LooseByte) → bytes.loose_in (shown_line l) b ≡ Some x
+    → (k : ℕ) × (p : StorePart) × IsTold l b x k p
 told_byte l b x e = go (last_over bytes.part_covers b (shown_line l).parts) (last_over-finds bytes.part_covers b (shown_line l).parts) e
   where
-    go : (o : Option (ℕ × Part)) → Finds bytes.part_covers (shown_line l).parts b o → option_map (bytes.loose_by (shown_line l) b) o ≡ Some x → (k : ℕ) × (p : StorePart) × IsTold l b x k p
+    go : (o : Option (ℕ × Part)) → Finds bytes.part_covers (shown_line l).parts b o
+        → option_map (bytes.loose_by (shown_line l) b) o ≡ Some x → (k : ℕ) × (p : StorePart) × IsTold l b x k p
     go None h e = absurd (let z : ⊥ = cc in z)
     go (Some (i, q)) h e =
         let a = loose-drop bytes.part_covers (map_line shown_part l) b i q h in
@@ -161,13 +184,16 @@ told_byte l b x e = go (last_over bytes.part_covers b (shown_line l).parts) (las
         let s : nat_lt i (l.flushed - l.durable) ≡ nat_lt (l.durable + i) l.flushed = ap (λ j. nat_lt j (l.flushed - l.durable)) (sym z) ∙ shift (l.durable + i) l.durable l.flushed (omega arith) in
         (l.durable + i, r.0, record { by = r.1; is = y ∙ ap₂ (λ (t : ℕ) (u : Bool). record { offset = b; tag = t; flushed = u }) (sym (ap (λ (w : Part). w.tag) r.2)) s })
 
-byte_told : (l : Line StorePart) (b : ℕ) (k : ℕ) (p : StorePart) → IsLooseBy covers l b k p → bytes.loose_in (shown_line l) b ≡ Some (record { offset = b; tag = p.step; flushed = nat_lt k l.flushed })
+byte_told : (l : Line StorePart) (b : ℕ) (k : ℕ) (p : StorePart) → IsLooseBy covers l b k p
+    → bytes.loose_in (shown_line l) b ≡ Some (record { offset = b; tag = p.step; flushed = nat_lt k l.flushed })
 byte_told l b k p h = go (last_over bytes.part_covers b (shown_line l).parts) (last_over-finds bytes.part_covers b (shown_line l).parts)
   where
     there : IsLastOver bytes.part_covers (shown_line l).parts b (k - l.durable) (shown_part p)
     there = drop-loose bytes.part_covers (map_line shown_part l) b k (shown_part p) (loose-map_line shown_part bytes.part_covers l b k p h)
 
-    go : (o : Option (ℕ × Part)) → Finds bytes.part_covers (shown_line l).parts b o → option_map (bytes.loose_by (shown_line l) b) o ≡ Some (record { offset = b; tag = p.step; flushed = nat_lt k l.flushed })
+    go : (o : Option (ℕ × Part)) → Finds bytes.part_covers (shown_line l).parts b o
+        → option_map (bytes.loose_by (shown_line l) b) o
+        ≡ Some (record { offset = b; tag = p.step; flushed = nat_lt k l.flushed })
     go None f = absurd (let g : false ≡ true = sym (f (k - l.durable) (shown_part p) there.at) ∙ there.over in let z : ⊥ = cc in z)
     go (Some (i, q)) f =
         let e : i ≡ k - l.durable = last_over-place bytes.part_covers (shown_line l).parts b i (k - l.durable) q (shown_part p) f there in
@@ -183,7 +209,8 @@ over_true p c le lt = let a = true_le p.offset c le in let b = true_lt c (p.offs
 pub true_over : (p : StorePart) (c : ℕ) → covers p c ≡ true → (p.offset ≤ c) × (c < p.offset + length p.bytes)
 true_over p c h = go (nat_le p.offset c) refl (nat_lt c (p.offset + length p.bytes)) refl h
   where
-    go : (a : Bool) → nat_le p.offset c ≡ a → (b : Bool) → nat_lt c (p.offset + length p.bytes) ≡ b → a && b ≡ true → (p.offset ≤ c) × (c < p.offset + length p.bytes)
+    go : (a : Bool) → nat_le p.offset c ≡ a → (b : Bool) → nat_lt c (p.offset + length p.bytes) ≡ b → a && b ≡ true
+        → (p.offset ≤ c) × (c < p.offset + length p.bytes)
     go true p true q h = (le_true _ _ p, lt_true _ _ q)
     go true p false q h = absurd (let z : ⊥ = cc in z)
     go false p b q h = absurd (let z : ⊥ = cc in z)
@@ -233,7 +260,8 @@ module _ (o n made : ℕ) (ls : List (Line StorePart)) where
       to_flat (loose_in o n made) ls y r.line l r.line_at (part_found o n made l.durable l.flushed 0 l.parts y k p (record { at = h.at; step = r.step; loose = omega (arith, r.loose.not_durable); last = last; is = is }))
 
 module _ (ls : List (Line StorePart)) (inside : AreInLines ls) (o n made : ℕ) where
-  byte_for : (p : LoosePart) → In p (loose_parts o n ls made) → (b : LooseByte) × In b (bytes.loose_from (shown ls) o n) × (b.tag ≡ made) × (b.flushed ≡ p.flushed)
+  byte_for : (p : LoosePart) → In p (loose_parts o n ls made)
+      → (b : LooseByte) × In b (bytes.loose_from (shown ls) o n) × (b.tag ≡ made) × (b.flushed ≡ p.flushed)
   byte_for y i =
       let r = part_loose o n made ls y i in
       let l = r.of in
@@ -243,10 +271,13 @@ module _ (ls : List (Line StorePart)) (inside : AreInLines ls) (o n made : ℕ) 
       let there : bytes.loose_at (shown ls) c ≡ Some (record { offset = c; tag = y.part.step; flushed = nat_lt k l.flushed }) = ap (λ (w : Option (Pending Part)). option_and_then (λ x. bytes.loose_in x c) w) (get-map shown_line ls (c / 64) l line) ∙ byte_told l c k y.part r.loose in
       (record { offset = c; tag = y.part.step; flushed = nat_lt k l.flushed }, bytes_in (shown ls) o n _ c r.low r.high there, r.step, sym r.flushed)
 
-  part_for : (b : LooseByte) → In b (bytes.loose_from (shown ls) o n) → b.tag ≡ made → (p : LoosePart) × In p (loose_parts o n ls made) × (p.flushed ≡ b.flushed)
+  part_for : (b : LooseByte) → In b (bytes.loose_from (shown ls) o n) → b.tag ≡ made
+      → (p : LoosePart) × In p (loose_parts o n ls made) × (p.flushed ≡ b.flushed)
   part_for x i tag = let a = in_bytes (shown ls) o n x i in go a.0 a.1 a.2 (slice_get (shown ls) (a.0 / 64)) refl a.3
     where
-      go : (c : ℕ) → o ≤ c → c < o + n → (w : Option (Pending Part)) → slice_get (shown ls) (c / 64) ≡ w → option_and_then (λ x. bytes.loose_in x c) w ≡ Some x → (p : LoosePart) × In p (loose_parts o n ls made) × (p.flushed ≡ x.flushed)
+      go : (c : ℕ) → o ≤ c → c < o + n → (w : Option (Pending Part)) → slice_get (shown ls) (c / 64) ≡ w
+          → option_and_then (λ x. bytes.loose_in x c) w ≡ Some x
+          → (p : LoosePart) × In p (loose_parts o n ls made) × (p.flushed ≡ x.flushed)
       go c le lt None e q = absurd (let z : ⊥ = cc in z)
       go c le lt (Some w) e q =
           let m = get-of_map shown_line ls (c / 64) w e in
@@ -265,11 +296,13 @@ module _ (ls : List (Line StorePart)) (inside : AreInLines ls) (o n made : ℕ) 
 
 -- ---- parts and items at their places
 
-pub part_at : (ls : List (Line StorePart)) (m : ℕ) (l : Line StorePart) (x : StorePart) → slice_get ls m ≡ Some l → In x l.parts → PartOf ls x
+pub part_at : (ls : List (Line StorePart)) (m : ℕ) (l : Line StorePart) (x : StorePart) → slice_get ls m ≡ Some l
+    → In x l.parts → PartOf ls x
 part_at [] m l x e i = absurd (let z : ⊥ = cc in z)
 part_at (y ∷ ls) zero l x e i = inl (let z : l ≡ y = cc in subst (λ (w : Line StorePart). In x w.parts) z i)
 part_at (y ∷ ls) (suc m) l x e i = inr (part_at ls m l x e i)
 
 -- the part of a loose part is one of the lines
-pub loose_there : (o n made : ℕ) (ls : List (Line StorePart)) (p : LoosePart) → IsLoosePart o n made ls p → PartOf ls p.part
+pub loose_there : (o n made : ℕ) (ls : List (Line StorePart)) (p : LoosePart) → IsLoosePart o n made ls p
+    → PartOf ls p.part
 loose_there o n made ls p r = part_at ls r.line r.of p.part r.line_at (in_at r.of.parts r.place p.part r.loose.last_over.at)

@@ -24,7 +24,8 @@ closed_few : (standing levels : List Level) → closed_count standing levels ≤
 closed_few standing [] = omega arith
 closed_few standing (l ∷ ls) = go (is_open standing l) (closed_few standing ls)
   where
-    go : (b : Bool) → closed_count standing ls ≤ length ls → cond b (closed_count standing ls) (suc (closed_count standing ls)) ≤ suc (length ls)
+    go : (b : Bool) → closed_count standing ls ≤ length ls
+        → cond b (closed_count standing ls) (suc (closed_count standing ls)) ≤ suc (length ls)
     go true h = omega (arith, h)
     go false h = omega (arith, h)
 
@@ -38,11 +39,14 @@ later_one (Some a) (Some b) f e = go (nat_lt a.step b.step) e
     go true e = inr e
     go false e = inl e
 
-latest_of : (ps : List LoosePart) (f : Flush) → latest_flush ps ≡ Some f → (p : LoosePart) × In p ps × (p.part.first_flush ≡ Some f)
+latest_of : (ps : List LoosePart) (f : Flush) → latest_flush ps ≡ Some f
+    → (p : LoosePart) × In p ps × (p.part.first_flush ≡ Some f)
 latest_of [] f e = absurd (let z : ⊥ = cc in z)
 latest_of (p ∷ ps) f e = go (λ g. latest_of ps f g) (later_one p.part.first_flush (latest_flush ps) f e)
   where
-    go : (latest_flush ps ≡ Some f → (q : LoosePart) × In q ps × (q.part.first_flush ≡ Some f)) → (p.part.first_flush ≡ Some f) ⊎ (latest_flush ps ≡ Some f) → (q : LoosePart) × In q (p ∷ ps) × (q.part.first_flush ≡ Some f)
+    go : (latest_flush ps ≡ Some f → (q : LoosePart) × In q ps × (q.part.first_flush ≡ Some f))
+        → (p.part.first_flush ≡ Some f) ⊎ (latest_flush ps ≡ Some f)
+        → (q : LoosePart) × In q (p ∷ ps) × (q.part.first_flush ≡ Some f)
     go next (inl g) = (p, inl refl, g)
     go next (inr g) = let r = next g in (r.0, inr r.1, r.2)
 
@@ -58,7 +62,8 @@ latest_there f (Some g) = go (nat_lt f.step g.step)
 record AreKnown (P : Program) (s : State) (ps : List LoosePart) : Type 0 where
   there : (p : LoosePart) → In p ps → PartOf s.lines p.part
   flushed : (p : LoosePart) → In p ps → p.flushed ≡ true → (f : Flush) × (p.part.first_flush ≡ Some f)
-  unfenced : (p : LoosePart) (f : Flush) → In p ps → p.part.first_flush ≡ Some f → is_flush_call (instr_of P f.site) ≡ true
+  unfenced : (p : LoosePart) (f : Flush) → In p ps → p.part.first_flush ≡ Some f
+      → is_flush_call (instr_of P f.site) ≡ true
 
 module _ (P : Program) (s : State) (h : HasHistory P s) (at : HasSites P s) where
   known : (o n made : ℕ) → AreKnown P s (loose_parts o n s.lines made)
@@ -68,7 +73,8 @@ module _ (P : Program) (s : State) (h : HasHistory P s) (at : HasSites P s) wher
     unfenced = λ p f i e. let k = part_loose o n made s.lines p i in at.unfenced k.line k.of k.place p.part f k.line_at k.loose.last_over.at k.loose.not_durable e;
   }
 
-  by_formed : (check : ℕ) (p : LoosePart) (ps : List LoosePart) → AreKnown P s (p ∷ ps) → IsWellFormed P (report_by (levels_of s.frames) check p.part (p ∷ ps))
+  by_formed : (check : ℕ) (p : LoosePart) (ps : List LoosePart) → AreKnown P s (p ∷ ps)
+      → IsWellFormed P (report_by (levels_of s.frames) check p.part (p ∷ ps))
   by_formed check p ps k = record {
     flush_site = site (all_flushed (p ∷ ps)) refl;
     closed = omega (arith, closed_few (levels_of s.frames) p.part.levels, length-map p.part.levels (λ (l : Level). l.call));
@@ -93,13 +99,15 @@ module _ (P : Program) (s : State) (h : HasHistory P s) (at : HasSites P s) wher
       mapped f None = refl
       mapped f (Some a) = refl
 
-      site : (b : Bool) → all_flushed (p ∷ ps) ≡ b → is_some (flush_site_of b (p ∷ ps)) ≡ lacks_fence_alone (kind_of b p.part.fenced)
+      site : (b : Bool) → all_flushed (p ∷ ps) ≡ b
+          → is_some (flush_site_of b (p ∷ ps)) ≡ lacks_fence_alone (kind_of b p.part.fenced)
       site true e =
           let f = k.flushed p (inl refl) (in_all (λ (q : LoosePart). q.flushed) (p ∷ ps) e p (inl refl)) in
           mapped (λ (g : Flush). g.site) (latest_flush (p ∷ ps)) ∙ ap (λ o. is_some (later_flush o (latest_flush ps))) f.1 ∙ latest_there f.0 (latest_flush ps)
       site false e = sym (fenced_kind p.part.fenced)
 
-      of_site : (o : Option Flush) (t : Site) → option_map (λ (g : Flush). g.site) o ≡ Some t → (f : Flush) × (o ≡ Some f) × (f.site ≡ t)
+      of_site : (o : Option Flush) (t : Site) → option_map (λ (g : Flush). g.site) o ≡ Some t
+          → (f : Flush) × (o ≡ Some f) × (f.site ≡ t)
       of_site None t e = absurd (let z : ⊥ = cc in z)
       of_site (Some f) t e = (f, refl, let z : f.site ≡ t = cc in z)
 
@@ -110,7 +118,8 @@ module _ (P : Program) (s : State) (h : HasHistory P s) (at : HasSites P s) wher
           subst (λ (x : Site). is_flush_call (instr_of P x) ≡ true) f.2 (k.unfenced q.0 f.0 q.1 q.2)
       flush t false e = absurd (let z : ⊥ = cc in z)
 
-  of_formed : (check : ℕ) (ps : List LoosePart) → AreKnown P s ps → (r : Report) → In r (report_of (levels_of s.frames) check ps) → IsWellFormed P r
+  of_formed : (check : ℕ) (ps : List LoosePart) → AreKnown P s ps → (r : Report)
+      → In r (report_of (levels_of s.frames) check ps) → IsWellFormed P r
   of_formed check [] k r i = absurd i
   of_formed check (p ∷ ps) k r (inl e) = subst (IsWellFormed P) (sym e) (by_formed check p ps k)
   of_formed check (p ∷ ps) k r (inr i) = absurd i
@@ -126,6 +135,7 @@ unfolding reports
 reports_formed P I zero r i = absurd i
 reports_formed P I (suc n) r i = go (λ j. reports_formed P I n r j) (in-append (reports P I n) _ r i)
   where
-    go : (In r (reports P I n) → IsWellFormed P r) → In r (reports P I n) ⊎ In r (check_reports (run P I n) (next_check P I (run P I n))) → IsWellFormed P r
+    go : (In r (reports P I n) → IsWellFormed P r)
+        → In r (reports P I n) ⊎ In r (check_reports (run P I n) (next_check P I (run P I n))) → IsWellFormed P r
     go next (inl j) = next j
     go next (inr j) = check_formed P (run P I n) (has_history P I n) (has_sites P I n) (next_check P I (run P I n)) r j

@@ -16,7 +16,8 @@ use Rattle.hip_runs.specs.StoredParts.Shown.{shown_part, shown_line, shown}
 use Rattle.hip_runs.specs.Standing.{HoldsLines}
 
 -- a change of the lines, and one of what is shown of them
-shown_change : (g : ℕ → Line StorePart → Line StorePart) (h : ℕ → Pending Part → Pending Part) (o n : ℕ) → ((j : ℕ) (l : Line StorePart) → IsOrdered l → shown_line (g j l) ≡ h j (shown_line l)) →
+shown_change : (g : ℕ → Line StorePart → Line StorePart) (h : ℕ → Pending Part → Pending Part) (o n : ℕ)
+    → ((j : ℕ) (l : Line StorePart) → IsOrdered l → shown_line (g j l) ≡ h j (shown_line l)) →
     (j : ℕ) (ls : List (Line StorePart)) → AreOrdered ls → shown (change_from g o n j ls) ≡ change_from h o n j (shown ls)
 shown_change g h o n e j [] a = refl
 shown_change g h o n e j (l ∷ ls) a = ap₂ (λ w ws. w ∷ ws) (here (has_bytes j o n)) (shown_change g h o n e (suc j) ls a.1)
@@ -25,11 +26,13 @@ shown_change g h o n e j (l ∷ ls) a = ap₂ (λ w ws. w ∷ ws) (here (has_byt
     here true = e j l a.0
     here false = refl
 
-same_parts : (k : StorePart → StorePart) → ((p : StorePart) → shown_part (k p) ≡ shown_part p) → (ps : List StorePart) → map shown_part (map k ps) ≡ map shown_part ps
+same_parts : (k : StorePart → StorePart) → ((p : StorePart) → shown_part (k p) ≡ shown_part p) → (ps : List StorePart)
+    → map shown_part (map k ps) ≡ map shown_part ps
 same_parts k e [] = refl
 same_parts k e (p ∷ ps) = ap₂ (λ x xs. x ∷ xs) (e p) (same_parts k e ps)
 
-same_line : (k : StorePart → StorePart) → ((p : StorePart) → shown_part (k p) ≡ shown_part p) → (l : Line StorePart) → map_line shown_part (map_line k l) ≡ map_line shown_part l
+same_line : (k : StorePart → StorePart) → ((p : StorePart) → shown_part (k p) ≡ shown_part p) → (l : Line StorePart)
+    → map_line shown_part (map_line k l) ≡ map_line shown_part l
 same_line k e l = ap (λ ps. record { parts = ps; flushed = l.flushed; durable = l.durable }) (same_parts k e l.parts)
 
 flush_shown : (flush : Flush) (l : Line StorePart) → shown_line (flush_line flush l) ≡ pending_flushed (shown_line l)
@@ -41,10 +44,13 @@ fence_shown : (l : Line StorePart) → IsOrdered l → shown_line (fence_line l)
 fence_shown l h = ap (λ x. pending_of (fenced_line x)) (same_line noted_fence (λ p. refl) l) ∙ pending-fenced_line (map_line shown_part l) (ordered-map_line shown_part l h)
 
 -- the bytes of a part are as many as its line has of the store
-part_length : (o j : ℕ) (bytes : List ℕ) → length (take (end_in j o (length bytes) - start_in j o) (drop (start_in j o - o) bytes)) ≡ end_in j o (length bytes) - start_in j o
+part_length : (o j : ℕ) (bytes : List ℕ)
+    → length (take (end_in j o (length bytes) - start_in j o) (drop (start_in j o - o) bytes))
+    ≡ end_in j o (length bytes) - start_in j o
 part_length o j bytes = length-take-le (end_in j o (length bytes) - start_in j o) (drop (start_in j o - o) bytes) (let e = length-drop (start_in j o - o) bytes in omega (arith, e))
 
-store_shown : (counts : Counts) (site : Site) (levels : List Level) (o : ℕ) (bytes : List ℕ) (j : ℕ) (l : Line StorePart) → IsOrdered l →
+store_shown : (counts : Counts) (site : Site) (levels : List Level) (o : ℕ) (bytes : List ℕ) (j : ℕ)
+    (l : Line StorePart) → IsOrdered l →
     shown_line (with_part (part_of_store counts site levels o bytes j) l) ≡ pending_with (part_in o (length bytes) counts.steps j) (shown_line l)
 store_shown counts site levels o bytes j l h =
     ap pending_of (map_line-with_part shown_part (part_of_store counts site levels o bytes j) l)
@@ -68,14 +74,17 @@ shown-fresh (suc n) = ap (λ ws. none_pending ∷ ws) (shown-fresh n)
 -- ---- what the lines hold after a store, a flush and a fence
 
 module _ {I : Input} {ps : List (Pending Part)} {ls : List (Line StorePart)} (h : HoldsLines I ps ls) where
-  pub holds_stored : (counts : Counts) (site : Site) (levels : List Level) (o : ℕ) (bytes : List ℕ) → HoldsLines I (pending_stored o (length bytes) counts.steps ps) (stored (part_of_store counts site levels o bytes) o (length bytes) ls)
+  pub holds_stored : (counts : Counts) (site : Site) (levels : List Level) (o : ℕ) (bytes : List ℕ)
+      → HoldsLines I (pending_stored o (length bytes) counts.steps ps)
+      (stored (part_of_store counts site levels o bytes) o (length bytes) ls)
   holds_stored counts site levels o bytes = record {
     are = ap (pending_stored o (length bytes) counts.steps) h.are ∙ sym (shown_change _ _ o (length bytes) (store_shown counts site levels o bytes) 0 ls h.ordered);
     ordered = ordered-stored (part_of_store counts site levels o bytes) o (length bytes) ls h.ordered;
     whole = h.whole ∙ ap (λ n. 64 * n) (sym (length-change_from _ o (length bytes) 0 ps));
   }
 
-  pub holds_flushed : (flush : Flush) (o n : ℕ) → HoldsLines I (pending_flushed_all o n ps) (change_range (λ _ l. flush_line flush l) o n ls)
+  pub holds_flushed : (flush : Flush) (o n : ℕ)
+      → HoldsLines I (pending_flushed_all o n ps) (change_range (λ _ l. flush_line flush l) o n ls)
   holds_flushed flush o n = record {
     are = ap (pending_flushed_all o n) h.are ∙ sym (shown_change _ _ o n (λ j l x. flush_shown flush l) 0 ls h.ordered);
     ordered = ordered-change_from _ o n (λ j l x. ordered-flushed_line (map_line (noted_flush flush) l) (ordered-map_line (noted_flush flush) l x)) 0 ls h.ordered;
@@ -94,14 +103,19 @@ module _ {I : Input} {ps : List (Pending Part)} {ls : List (Line StorePart)} (h 
       HoldsLines I (cond (in_region I a (length bytes)) (pending_stored (a - I.base) (length bytes) counts.steps ps) ps) (stored_lines I counts site levels a bytes ls)
   holds_store counts site levels a bytes = go (in_region I a (length bytes))
     where
-      go : (b : Bool) → HoldsLines I (cond b (pending_stored (a - I.base) (length bytes) counts.steps ps) ps) (cond b (stored (part_of_store counts site levels (a - I.base) bytes) (a - I.base) (length bytes) ls) ls)
+      go : (b : Bool)
+          → HoldsLines I (cond b (pending_stored (a - I.base) (length bytes) counts.steps ps) ps)
+          (cond b (stored (part_of_store counts site levels (a - I.base) bytes) (a - I.base) (length bytes) ls) ls)
       go true = holds_stored counts site levels (a - I.base) bytes
       go false = h
 
   -- after the flush of a range that has bytes and may lie in the region
-  pub holds_flush : (flush : Flush) (a n : ℕ) → 0 < n → HoldsLines I (cond (in_region I a n) (pending_flushed_all (a - I.base) n ps) ps) (flushed_lines I flush a n ls)
+  pub holds_flush : (flush : Flush) (a n : ℕ) → 0 < n
+      → HoldsLines I (cond (in_region I a n) (pending_flushed_all (a - I.base) n ps) ps) (flushed_lines I flush a n ls)
   holds_flush flush a n some = subst (λ c. HoldsLines I (cond (in_region I a n) (pending_flushed_all (a - I.base) n ps) ps) (cond (c && in_region I a n) (change_range (λ _ l. flush_line flush l) (a - I.base) n ls) ls)) (sym (lt-ltb 0 n some)) (go (in_region I a n))
     where
-      go : (b : Bool) → HoldsLines I (cond b (pending_flushed_all (a - I.base) n ps) ps) (cond b (change_range (λ _ l. flush_line flush l) (a - I.base) n ls) ls)
+      go : (b : Bool)
+          → HoldsLines I (cond b (pending_flushed_all (a - I.base) n ps) ps)
+          (cond b (change_range (λ _ l. flush_line flush l) (a - I.base) n ls) ls)
       go true = holds_flushed flush (a - I.base) n
       go false = h

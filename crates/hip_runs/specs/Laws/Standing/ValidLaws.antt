@@ -57,7 +57,9 @@ in_stack w a n = within stack_start w.mark a n
 abbrev inside : Input → ℕ → ℕ → Bool
 inside I a n = within I.base (I.base + length I.image) a n
 
-valid_same : (P : Program) (I : Input) (w : World) (r : Areas) (a n : ℕ) → volatile_start + length (volatile_bytes P I.base) ≡ volatile_end P → HoldsMemory P I r w.writes w.mark → areas.are_valid r a (suc n) ≡ are_valid P I w a (suc n)
+valid_same : (P : Program) (I : Input) (w : World) (r : Areas) (a n : ℕ)
+    → volatile_start + length (volatile_bytes P I.base) ≡ volatile_end P → HoldsMemory P I r w.writes w.mark
+    → areas.are_valid r a (suc n) ≡ are_valid P I w a (suc n)
 valid_same P I w r a n v h = same_test (areas.are_valid r a (suc n)) (are_valid P I w a (suc n)) there back
   where
     volatile_is : volatile_start + length r.volatile ≡ volatile_end P
@@ -74,7 +76,8 @@ valid_same P I w r a n v h = same_test (areas.are_valid r a (suc n)) (are_valid 
     there : areas.are_valid r a (suc n) ≡ true → are_valid P I w a (suc n) ≡ true
     there e = go (are_valid-fits r n a h.laid_out e)
 
-    fits : (in_volatile P a (suc n) ≡ true) ⊎ ((in_stack w a (suc n) ≡ true) ⊎ (inside I a (suc n) ≡ true)) → FitsOne r a (suc n)
+    fits : (in_volatile P a (suc n) ≡ true) ⊎ ((in_stack w a (suc n) ≡ true) ⊎ (inside I a (suc n) ≡ true))
+        → FitsOne r a (suc n)
     fits (inl x) = let q = within_is volatile_start (volatile_end P) a (suc n) x in inl (q.0, omega (arith, q.1, volatile_is))
     fits (inr (inl x)) = let q = within_is stack_start w.mark a (suc n) x in inr (inl (q.0, omega (arith, q.1, h.mark_is)))
     fits (inr (inr x)) = let q = within_is I.base (I.base + length I.image) a (suc n) x in inr (inr (omega (arith, q.0, h.holds.base), omega (arith, q.1, region_is)))
@@ -82,7 +85,9 @@ valid_same P I w r a n v h = same_test (areas.are_valid r a (suc n)) (are_valid 
     back : are_valid P I w a (suc n) ≡ true → areas.are_valid r a (suc n) ≡ true
     back e = fits-are_valid r (suc n) a (fits (three (in_volatile P a (suc n)) (in_stack w a (suc n)) (inside I a (suc n)) e))
 
-pub valid_is : (P : Program) (I : Input) (w : World) (r : Areas) (a n : ℕ) → 0 < n → volatile_start + length (volatile_bytes P I.base) ≡ volatile_end P → HoldsMemory P I r w.writes w.mark → areas.are_valid r a n ≡ are_valid P I w a n
+pub valid_is : (P : Program) (I : Input) (w : World) (r : Areas) (a n : ℕ) → 0 < n
+    → volatile_start + length (volatile_bytes P I.base) ≡ volatile_end P → HoldsMemory P I r w.writes w.mark
+    → areas.are_valid r a n ≡ are_valid P I w a n
 valid_is P I w r a zero some v h = absurd (omega (arith, some))
 valid_is P I w r a (suc n) some v h = valid_same P I w r a n v h
 
@@ -93,17 +98,22 @@ unless_trap (Some mem_traps.Misaligned) go = Traps traps.Misaligned
 unless_trap (Some mem_traps.BadAddress) go = Traps traps.Address
 
 -- an access is refused by the memory of the code where it is in the run
-pub accessed_is : (P : Program) (I : Input) (w : World) (r : Areas) (a n align : ℕ) (go : Action) → 0 < n → volatile_start + length (volatile_bytes P I.base) ≡ volatile_end P → HoldsMemory P I r w.writes w.mark →
+pub accessed_is : (P : Program) (I : Input) (w : World) (r : Areas) (a n align : ℕ) (go : Action) → 0 < n
+    → volatile_start + length (volatile_bytes P I.base) ≡ volatile_end P → HoldsMemory P I r w.writes w.mark →
     accessed P I w a n align go ≡ unless_trap (access_trap r a n align) go
 unfolding accessed
 accessed_is P I w r a n align go some v h = ap (λ b. cond (nat_eq (a % align) 0) (cond b go (Traps traps.Address)) (Traps traps.Misaligned)) (sym (valid_is P I w r a n some v h)) ∙ by_tests (nat_eq (a % align) 0) (areas.are_valid r a n)
   where
-    by_tests : (b c : Bool) → cond b (cond c go (Traps traps.Address)) (Traps traps.Misaligned) ≡ unless_trap (cond b (cond c None (Some mem_traps.BadAddress)) (Some mem_traps.Misaligned)) go
+    by_tests : (b c : Bool)
+        → cond b (cond c go (Traps traps.Address))
+        (Traps traps.Misaligned)
+        ≡ unless_trap (cond b (cond c None (Some mem_traps.BadAddress)) (Some mem_traps.Misaligned)) go
     by_tests true true = refl
     by_tests true false = refl
     by_tests false c = refl
 
-pub memory_written : {P : Program} {I : Input} {r : Areas} {ws : List Write} {mark : ℕ} (x : Write) → HoldsMemory P I r ws mark → HoldsMemory P I (after_write x r) (ws ++ x ∷ []) mark
+pub memory_written : {P : Program} {I : Input} {r : Areas} {ws : List Write} {mark : ℕ} (x : Write)
+    → HoldsMemory P I r ws mark → HoldsMemory P I (after_write x r) (ws ++ x ∷ []) mark
 memory_written {P} {I} {r} {ws} x h = record {
   holds = holds-write x r (record { base = I.base; volatile = volatile_bytes P I.base; region = I.image; writes = ws }) h.holds;
   mark_is = mark_of-after_write x r ∙ h.mark_is;

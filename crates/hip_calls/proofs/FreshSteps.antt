@@ -1,14 +1,10 @@
 -- Fresh names depend on which names are taken, and on no more of the list.
-use Rattle.std.proofs.Common.{ℕ, zero, suc, ◌+◌, ◌-◌, ◌<◌, ◌≡◌, ◌≢◌, ◌⊎◌, ◌||◌, Bool, true, false, cond, List, [], ◌∷◌, ◌++◌, length, map, drop, get_or, append_assoc, refl, sym, ap, ◌∙◌, subst, ⊎_elim, inl, inr, arith}
+use Rattle.std.proofs.Common.{ℕ, zero, suc, ◌+◌, ◌-◌, ◌<◌, ◌≡◌, ◌≢◌, ◌||◌, Bool, true, false, cond, List, [], ◌∷◌, ◌++◌, length, map, drop, get_or, append_assoc, refl, sym, ap, ◌∙◌, arith}
 use Rattle.std.specs.Prelude.{codes, if◌then◌else◌}
 use Rattle.std.specs.Str.{bytes_eq}
 use Rattle.std.specs.List.{list_any}
-use Rattle.std.specs.Cmp.{both_ways}
-use Rattle.std.specs.Cmp.Lexicographic.{nat_list_eq_equiv}
 use Rattle.std.proofs.lemmas.List.Folds.{list_any-append}
 use Rattle.hip_ir.specs.declared.program.Program.{Program}
-use Rattle.hip_types.specs.Distinct.{met}
-use Rattle.hip_types.specs.Laws.DistinctLaws.{met-second, met-only}
 use Rattle.hip_names.specs.Names.{is_among}
 use Rattle.hip_calls.specs.Fresh.{candidate, fresh_from, fresh_name, fresh_for, names_taken, name_of, numeral}
 use Rattle.hip_calls.specs.Laws.FreshLaws.{IsFirstFree, fresh-first, fresh-free, first_alike, among_alike}

@@ -9,7 +9,8 @@ abbrev pub numeral_in : ℕ → ℕ → List ℕ
 numeral_in zero n = []
 numeral_in (suc more) n = if nat_lt n 10 then (48 + n) ∷ [] else numeral_in more (n / 10) ++ (48 + n % 10) ∷ []
 
--- A number in decimal, however long it is. (`decimal` of std stops at 64 digits, and names are to differ for all numbers.)
+-- A number in decimal, however long it is. (`decimal` of std stops at 64 digits, and names are to differ for all
+-- numbers.)
 abbrev pub numeral : ℕ → List ℕ
 numeral n = numeral_in (suc n) n
 
@@ -21,7 +22,8 @@ candidate name (suc k) = name ++ (codes ".pm" ++ numeral (suc k))
 -- the first candidate from number k on that is not taken, among so many and the one behind them
 abbrev pub fresh_from : List (List ℕ) → List ℕ → ℕ → ℕ → List ℕ
 fresh_from taken name zero k = candidate name k
-fresh_from taken name (suc more) k = cond (is_among taken (candidate name k)) (fresh_from taken name more (suc k)) (candidate name k)
+fresh_from taken name (suc more) k =
+    cond (is_among taken (candidate name k)) (fresh_from taken name more (suc k)) (candidate name k)
 
 -- one of more candidates than names are taken is free
 abbrev pub fresh_name : List (List ℕ) → List ℕ → List ℕ

@@ -17,7 +17,8 @@ pub record PassesOn (P : Program) (sites : List Site) (test : ℕ → Bool) : Ty
   pub first : (s : Site) (f : ℕ) → has_site sites s ≡ true → Has (called_at P (instr_of P s)) f → test f ≡ true
   pub onward : (f g : ℕ) → test f ≡ true → Has (called_from P f) g → test g ≡ true
 
--- The functions that calls reach from these calls: they are functions of the program, none is there twice, those that are called are
+-- The functions that calls reach from these calls: they are functions of the program, none is there twice, those that
+-- are called are
 -- there, and so is what they call; and nothing else is there.
 pub record AreReached (P : Program) (sites : List Site) (reached : List ℕ) : Type 0 where
   pub functions : (f : ℕ) → Has reached f → f < length P.functions
@@ -29,13 +30,15 @@ pub record AreReached (P : Program) (sites : List Site) (reached : List ℕ) : T
 abbrev pub CalleesAreReached : Type 0
 CalleesAreReached = (P : Program) (sites : List Site) → AreReached P sites (callees P sites)
 
--- Fresh names for copies of functions: one for each, and it is the first of `f.pm`, `f.pm1`, `f.pm2` and so on that nothing in the
+-- Fresh names for copies of functions: one for each, and it is the first of `f.pm`, `f.pm1`, `f.pm2` and so on that
+-- nothing in the
 -- program has and no earlier copy; no external function has it.
 pub record AreFresh (P : Program) (functions : List ℕ) (names : List (List ℕ)) : Type 0 where
   pub each : length names ≡ length functions
   pub distinct : IsDistinct bytes_eq names
   pub free : (k : ℕ) (name : List ℕ) → slice_get names k ≡ Some name → is_among (names_taken P) name ≡ false
-  pub first : (k f : ℕ) (name : List ℕ) → slice_get names k ≡ Some name → slice_get functions k ≡ Some f → IsFirstFree (take k names ++ names_taken P) (name_of P f) name
+  pub first : (k f : ℕ) (name : List ℕ) → slice_get names k ≡ Some name → slice_get functions k ≡ Some f
+      → IsFirstFree (take k names ++ names_taken P) (name_of P f) name
   pub no_extern : (k : ℕ) (name : List ℕ) → slice_get names k ≡ Some name → call_of name ≡ None
 
 abbrev pub FreshNamesAreFresh : Type 0

@@ -1,4 +1,5 @@
--- What a table stands for that numbers names, where a name may stand there more than once: each name has the number of its first
+-- What a table stands for that numbers names, where a name may stand there more than once: each name has the number of
+-- its first
 -- place. And its law: a table with an entry for each name in order stands for them.
 use Rattle.std.specs.Prelude.{ℕ, zero, suc, ◌+◌, ◌<◌, ◌≤◌, ◌≡◌, Bool, true, false, cond, List, [], ◌∷◌, ◌++◌, length, take, Option, Some, None, option_map, if◌then◌else◌}
 use Rattle.std.specs.Str.{bytes_eq}
@@ -17,7 +18,8 @@ entries_from n [] = []
 entries_from n (name ∷ names) = record { name = name; value = n } ∷ entries_from (suc n) names
 
 -- an entry is put behind
-pub entries-next : (n : ℕ) (names : List (List ℕ)) (k : ℕ) (name : List ℕ) → k < length names → get_or names k [] ≡ name →
+pub entries-next : (n : ℕ) (names : List (List ℕ)) (k : ℕ) (name : List ℕ) → k < length names
+    → get_or names k [] ≡ name →
     entries_from n (take k names) ++ record { name = name; value = n + k } ∷ [] ≡ entries_from n (take (k + 1) names)
 entries-next n [] k name h e = absurd (omega arith)
 entries-next n (x ∷ names) zero name h e =
@@ -30,12 +32,15 @@ entries-next n (x ∷ names) (suc k) name h e =
     ∙ ap (λ es. record { name = x; value = n } ∷ es) (entries-next (suc n) names k name (omega arith) e)
     ∙ ap (λ m. entries_from n (take m (x ∷ names))) one
 
-shifted : (b : Bool) (n : ℕ) (o : Option ℕ) → (if b then Some n else option_map (λ k. suc n + k) o) ≡ option_map (λ k. n + k) (cond b (Some 0) (option_map suc o))
+shifted : (b : Bool) (n : ℕ) (o : Option ℕ)
+    → (if b then Some n else option_map (λ k. suc n + k) o) ≡ option_map (λ k. n + k)
+    (cond b (Some 0) (option_map suc o))
 shifted true n o = let e : n ≡ n + 0 = omega arith in ap Some e
 shifted false n None = refl
 shifted false n (Some k) = let e : suc n + k ≡ n + suc k = omega arith in ap Some e
 
-found_from : (n : ℕ) (names : List (List ℕ)) (name : List ℕ) → value_of (entries_from n names) name ≡ option_map (λ k. n + k) (number_of names name)
+found_from : (n : ℕ) (names : List (List ℕ)) (name : List ℕ)
+    → value_of (entries_from n names) name ≡ option_map (λ k. n + k) (number_of names name)
 found_from n [] name = refl
 found_from n (x ∷ names) name =
     ap (λ o. if bytes_eq x name then Some n else o) (found_from (suc n) names name)
@@ -56,4 +61,7 @@ whole (x ∷ names) (suc k) h = ap (λ rest. x ∷ rest) (whole names k (omega a
 pub numbers_found : (known : List (List ℕ)) (numbers : List ℕ) (names : List (List ℕ)) (k : ℕ) → length names ≤ k →
     StandsFor known numbers (entries_from 0 (take k names)) → Numbers known numbers names
 numbers_found known numbers names k h stands =
-    record { finds = λ name. stands.finds name ∙ ap (λ ns. value_of (entries_from 0 ns) name) (whole names k h) ∙ found_from 0 names name ∙ from_zero _ }
+    record {
+      finds = λ name. stands.finds name ∙ ap (λ ns. value_of (entries_from 0 ns) name)
+          (whole names k h) ∙ found_from 0 names name ∙ from_zero _;
+    }

@@ -19,7 +19,8 @@ abbrev pub called_in : Program → Option Function → List ℕ
 called_in P None = []
 called_in P (Some f) = flat_map (λ b. flat_map (called_by P) b.body) f.blocks
 
--- the numbers of the functions that the function of a number calls, in the order of its text, whether a call is reached or not
+-- the numbers of the functions that the function of a number calls, in the order of its text, whether a call is reached
+-- or not
 abbrev pub called_from : Program → ℕ → List ℕ
 called_from P f = called_in P (slice_get P.functions f)
 
@@ -41,7 +42,8 @@ called_at P (Some i) = called_by P i
 abbrev pub first_callees : Program → List Site → List ℕ
 first_callees P sites = met nat_eq [] (flat_map (λ s. called_at P (instr_of P s)) sites)
 
--- the callees of these calls, and all functions that calls reach from them; each is gone through once, so as many steps as the
+-- the callees of these calls, and all functions that calls reach from them; each is gone through once, so as many steps
+-- as the
 -- program has functions are enough
 abbrev pub callees : Program → List Site → List ℕ
 callees P sites = reached P (length P.functions) 0 (first_callees P sites)

@@ -108,8 +108,8 @@ fn name_of(program: &Program, number: usize) -> &[u8]
     }
 }
 
-/// Names for copies of the functions of these numbers: for each in order the first of `f.pm`, `f.pm1`, `f.pm2` and so on
-/// that no global, extern or function has and no earlier copy.
+/// Names for copies of the functions of these numbers: for each in order the first of `f.pm`, `f.pm1`, `f.pm2` and so
+/// on that no global, extern or function has and no earlier copy.
 ///
 /// Where the functions differ, the time is linear in the names of the program and of the copies together.
 pub fn fresh_names(

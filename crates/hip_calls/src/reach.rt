@@ -47,7 +47,9 @@ fn add_called_in_blocks(
     functions: &FunctionTable<'_>,
     blocks: &[Block],
 ) -> Result<(), NoMemory>
-    ensures { OnOk result (seen.new.keys ≡ met nat_eq seen.old.keys (flat_map (λ b. flat_map (called_by functions.now) b.body) blocks.now)) }
+    ensures { OnOk result
+        (seen.new.keys ≡
+        met nat_eq seen.old.keys (flat_map (λ b. flat_map (called_by functions.now) b.body) blocks.now)) }
 {
     'each: for block in blocks {
         add_called_in_body(seen, functions, block.body.as_slice())?;
@@ -75,7 +77,8 @@ fn add_called_at(
     functions: &FunctionTable<'_>,
     site: Site,
 ) -> Result<(), NoMemory>
-    ensures { OnOk result (seen.new.keys ≡ met nat_eq seen.old.keys (called_at functions.now (instr_of functions.now site))) }
+    ensures { OnOk result
+        (seen.new.keys ≡ met nat_eq seen.old.keys (called_at functions.now (instr_of functions.now site))) }
 {
     match instr_at(functions.program(), site) {
         Some(instr) => add_called(seen, functions, instr),
@@ -118,8 +121,8 @@ fn add_reached(seen: &mut IndexSet<usize>, functions: &FunctionTable<'_>) -> Res
     Ok(())
 }
 
-/// The numbers of the defined functions that calls reach from the calls at these sites, their callees included, each once,
-/// in the order of first meeting by breadth. A site that is no call of a defined function adds none.
+/// The numbers of the defined functions that calls reach from the calls at these sites, their callees included, each
+/// once, in the order of first meeting by breadth. A site that is no call of a defined function adds none.
 ///
 /// Each function and each call is looked at once; the memory is linear in the number of functions.
 pub fn callees(alloc: Global, program: &Program, calls: &[Site]) -> Result<Row<usize>, NoMemory>

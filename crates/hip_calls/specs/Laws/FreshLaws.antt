@@ -37,7 +37,8 @@ unfolding number_from
 numeral-value zero n h = absurd (omega arith)
 numeral-value (suc fuel) n h = by_size (nat_lt n 10) refl (λ below. numeral-value fuel (n / 10) below)
   where
-    by_size : (b : Bool) → nat_lt n 10 ≡ b → (n / 10 < fuel → number_from 0 (numeral_in fuel (n / 10)) ≡ n / 10) → number_from 0 (if b then (48 + n) ∷ [] else numeral_in fuel (n / 10) ++ (48 + n % 10) ∷ []) ≡ n
+    by_size : (b : Bool) → nat_lt n 10 ≡ b → (n / 10 < fuel → number_from 0 (numeral_in fuel (n / 10)) ≡ n / 10)
+        → number_from 0 (if b then (48 + n) ∷ [] else numeral_in fuel (n / 10) ++ (48 + n % 10) ∷ []) ≡ n
     by_size true t rest = omega arith
     by_size false t rest =
         let large : 10 ≤ n = grind (arith, nat_tests) in
@@ -52,7 +53,9 @@ numeral_in-decimal : (fuel n : ℕ) → n < fuel → n < 10 ^ 64 → numeral_in 
 numeral_in-decimal zero n h small = absurd (omega arith)
 numeral_in-decimal (suc fuel) n h small = by_size (nat_lt n 10) refl (λ below. numeral_in-decimal fuel (n / 10) below)
   where
-    by_size : (b : Bool) → nat_lt n 10 ≡ b → (n / 10 < fuel → n / 10 < 10 ^ 64 → numeral_in fuel (n / 10) ≡ decimal (n / 10)) → (if b then (48 + n) ∷ [] else numeral_in fuel (n / 10) ++ (48 + n % 10) ∷ []) ≡ decimal n
+    by_size : (b : Bool) → nat_lt n 10 ≡ b
+        → (n / 10 < fuel → n / 10 < 10 ^ 64 → numeral_in fuel (n / 10) ≡ decimal (n / 10))
+        → (if b then (48 + n) ∷ [] else numeral_in fuel (n / 10) ++ (48 + n % 10) ∷ []) ≡ decimal n
     by_size true t rest = let below : n < 10 = grind (arith, nat_tests) in sym (decimal_digit n below)
     by_size false t rest =
         let large : 10 ≤ n = grind (arith, nat_tests) in
@@ -103,7 +106,8 @@ not_same xs ys h = by_test (bytes_eq xs ys) refl
     by_test true e = absurd (h ((bytes_eq-Decides xs ys).0 e))
     by_test false e = e
 
-apart_later : (name : List ℕ) (n i k : ℕ) → i < k → AllByRecursion (λ y. bytes_eq (candidate name i) y ≡ false) (candidates_from name n k)
+apart_later : (name : List ℕ) (n i k : ℕ) → i < k
+    → AllByRecursion (λ y. bytes_eq (candidate name i) y ≡ false) (candidates_from name n k)
 unfolding candidates_from
 apart_later name zero i k h = tt
 apart_later name (suc n) i k h = (not_same (candidate name i) (candidate name k) (λ e. let same = candidates-differ name i k e in absurd (omega arith)), apart_later name n i (suc k) (omega arith))
@@ -116,7 +120,8 @@ distinct-candidates_from name (suc n) k = (apart_later name n k (suc k) (omega a
 -- ---- a fresh name
 
 -- where the name that is found is taken, all candidates up to it are
-all_taken : (taken : List (List ℕ)) (name : List ℕ) (more k : ℕ) → is_among taken (fresh_from taken name more k) ≡ true →
+all_taken : (taken : List (List ℕ)) (name : List ℕ) (more k : ℕ)
+    → is_among taken (fresh_from taken name more k) ≡ true →
     (q : List ℕ) → list_any (bytes_eq q) (candidates_from name (suc more) k) ≡ true → list_any (bytes_eq q) taken ≡ true
 unfolding candidates_from
 all_taken taken name zero k e q h = by_test (bytes_eq q (candidate name k)) refl h
@@ -126,13 +131,19 @@ all_taken taken name zero k e q h = by_test (bytes_eq q (candidate name k)) refl
     by_test false t g = cc
 all_taken taken name (suc more) k e q h = by_free (is_among taken (candidate name k)) refl e (λ f g. all_taken taken name more (suc k) f q g)
   where
-    by_test : is_among taken (candidate name k) ≡ true → (list_any (bytes_eq q) (candidates_from name (suc more) (suc k)) ≡ true → list_any (bytes_eq q) taken ≡ true)
-        → (b : Bool) → bytes_eq q (candidate name k) ≡ b → (b || list_any (bytes_eq q) (candidates_from name (suc more) (suc k))) ≡ true → list_any (bytes_eq q) taken ≡ true
+    by_test : is_among taken (candidate name k) ≡ true
+        → (list_any (bytes_eq q) (candidates_from name (suc more) (suc k)) ≡ true → list_any (bytes_eq q) taken ≡ true)
+        → (b : Bool) → bytes_eq q (candidate name k) ≡ b
+        → (b || list_any (bytes_eq q) (candidates_from name (suc more) (suc k))) ≡ true
+        → list_any (bytes_eq q) taken ≡ true
     by_test here rest true t g = subst (λ n. is_among taken n ≡ true) (sym ((bytes_eq-Decides q (candidate name k)).0 t)) here
     by_test here rest false t g = rest g
 
-    by_free : (b : Bool) → is_among taken (candidate name k) ≡ b → is_among taken (cond b (fresh_from taken name more (suc k)) (candidate name k)) ≡ true
-        → (is_among taken (fresh_from taken name more (suc k)) ≡ true → list_any (bytes_eq q) (candidates_from name (suc more) (suc k)) ≡ true → list_any (bytes_eq q) taken ≡ true) → list_any (bytes_eq q) taken ≡ true
+    by_free : (b : Bool) → is_among taken (candidate name k) ≡ b
+        → is_among taken (cond b (fresh_from taken name more (suc k)) (candidate name k)) ≡ true
+        → (is_among taken (fresh_from taken name more (suc k)) ≡ true → list_any (bytes_eq q)
+        (candidates_from name (suc more) (suc k)) ≡ true
+        → list_any (bytes_eq q) taken ≡ true) → list_any (bytes_eq q) taken ≡ true
     by_free true here f rest = by_test here (rest f) (bytes_eq q (candidate name k)) refl h
     by_free false here f rest = cc
 
@@ -153,19 +164,30 @@ pub record IsFirstFree (taken : List (List ℕ)) (name fresh : List ℕ) : Type 
   pub free : is_among taken fresh ≡ false
   pub earlier : (j : ℕ) → j < number → is_among taken (candidate name j) ≡ true
 
-first_from : (taken : List (List ℕ)) (name : List ℕ) (more k : ℕ) → (i : ℕ) × (fresh_from taken name more k ≡ candidate name i) × ((j : ℕ) → k ≤ j → j < i → is_among taken (candidate name j) ≡ true)
+first_from : (taken : List (List ℕ)) (name : List ℕ) (more k : ℕ)
+    → (i : ℕ) × (fresh_from taken name more k ≡ candidate name i)
+    × ((j : ℕ) → k ≤ j → j < i → is_among taken (candidate name j) ≡ true)
 first_from taken name zero k = (k, refl, λ j low high. absurd (omega arith))
 first_from taken name (suc more) k = by_free (is_among taken (candidate name k)) refl (first_from taken name more (suc k))
   where
-    by_free : (b : Bool) → is_among taken (candidate name k) ≡ b → (i : ℕ) × (fresh_from taken name more (suc k) ≡ candidate name i) × ((j : ℕ) → suc k ≤ j → j < i → is_among taken (candidate name j) ≡ true)
-        → (i : ℕ) × (cond b (fresh_from taken name more (suc k)) (candidate name k) ≡ candidate name i) × ((j : ℕ) → k ≤ j → j < i → is_among taken (candidate name j) ≡ true)
+    by_free : (b : Bool) → is_among taken (candidate name k) ≡ b
+        → (i : ℕ) × (fresh_from taken name more (suc k) ≡ candidate name i)
+        × ((j : ℕ) → suc k ≤ j → j < i → is_among taken (candidate name j) ≡ true)
+        → (i : ℕ) × (cond b (fresh_from taken name more (suc k)) (candidate name k) ≡ candidate name i)
+        × ((j : ℕ) → k ≤ j → j < i → is_among taken (candidate name j) ≡ true)
     by_free true e rest = (rest.0, rest.1, λ j low high. ⊎_elim (λ same. subst (λ n. is_among taken (candidate name n) ≡ true) same e) (λ above. rest.2 j above high) (eq-or-lt_of_le low))
     by_free false e rest = (k, refl, λ j low high. absurd (omega arith))
 
 pub fresh-first : (taken : List (List ℕ)) (name : List ℕ) → IsFirstFree taken name (fresh_name taken name)
 fresh-first taken name =
     let found = first_from taken name (length taken) 0 in
-    record { number = found.0; is = found.1; free = fresh-free taken name; earlier = λ j below. found.2 j (omega arith) below }
+    record {
+      number = found.0;
+      is = found.1;
+      free = fresh-free taken name;
+      earlier = λ j below. found.2 j (omega arith)
+          below;
+    }
 
 -- ---- fresh names for a list of names
 
@@ -187,7 +209,8 @@ among_alike xs ys x q =
     moved true false c = refl
     moved false b c = refl
 
-pub first_alike : (xs ys : List (List ℕ)) (name fresh : List ℕ) → ((q : List ℕ) → is_among xs q ≡ is_among ys q) → IsFirstFree xs name fresh → IsFirstFree ys name fresh
+pub first_alike : (xs ys : List (List ℕ)) (name fresh : List ℕ) → ((q : List ℕ) → is_among xs q ≡ is_among ys q)
+    → IsFirstFree xs name fresh → IsFirstFree ys name fresh
 first_alike xs ys name fresh same f = record {
   number = f.number;
   is = f.is;
@@ -196,7 +219,8 @@ first_alike xs ys name fresh same f = record {
 }
 
 -- each is the first candidate of its name that is not taken and is no earlier one
-pub fresh_for-first : (taken names : List (List ℕ)) (k : ℕ) (fresh : List ℕ) → slice_get (fresh_for taken names) k ≡ Some fresh →
+pub fresh_for-first : (taken names : List (List ℕ)) (k : ℕ) (fresh : List ℕ)
+    → slice_get (fresh_for taken names) k ≡ Some fresh →
     (name : List ℕ) × (slice_get names k ≡ Some name) × IsFirstFree (take k (fresh_for taken names) ++ taken) name fresh
 fresh_for-first taken [] k fresh e = cc
 fresh_for-first taken (name ∷ names) zero fresh e = (name, refl, subst (IsFirstFree taken name) (same_Some _ _ e) (fresh-first taken name))
@@ -207,7 +231,8 @@ fresh_for-first taken (name ∷ names) (suc k) fresh e =
     (rest.0, rest.1, first_alike (earlier ++ first ∷ taken) (first ∷ (earlier ++ taken)) rest.0 fresh (λ q. among_alike earlier taken first q) rest.2)
 
 -- none is taken
-pub fresh_for-free : (taken names : List (List ℕ)) (k : ℕ) (fresh : List ℕ) → slice_get (fresh_for taken names) k ≡ Some fresh → is_among taken fresh ≡ false
+pub fresh_for-free : (taken names : List (List ℕ)) (k : ℕ) (fresh : List ℕ)
+    → slice_get (fresh_for taken names) k ≡ Some fresh → is_among taken fresh ≡ false
 fresh_for-free taken [] k fresh e = cc
 fresh_for-free taken (name ∷ names) zero fresh e = subst (λ n. is_among taken n ≡ false) (same_Some _ _ e) (fresh-free taken name)
 fresh_for-free taken (name ∷ names) (suc k) fresh e = (not_later _ _ (fresh_for-free (fresh_name taken name ∷ taken) names k fresh e)).1
@@ -217,7 +242,8 @@ or_second true c e = refl
 or_second false c e = e
 
 -- none is there twice
-all_apart : (first : List ℕ) (taken names : List (List ℕ)) → is_among taken first ≡ true → AllByRecursion (λ y. bytes_eq first y ≡ false) (fresh_for taken names)
+all_apart : (first : List ℕ) (taken names : List (List ℕ)) → is_among taken first ≡ true
+    → AllByRecursion (λ y. bytes_eq first y ≡ false) (fresh_for taken names)
 all_apart first taken [] e = tt
 all_apart first taken (name ∷ names) e = (
   not_same first (fresh_name taken name) (λ same. let free = fresh-free taken name in let on : is_among taken first ≡ false = ap (is_among taken) same ∙ free in cc),
@@ -258,8 +284,10 @@ not_in : (cs : List ExternCall) (name : List ℕ) → has_mark name ≡ true →
 not_in [] name marked none = refl
 not_in (c ∷ cs) name marked none = by_name (bytes_eq (row_of c).name name) refl (has_mark (row_of c).name) refl none (not_in cs name marked)
   where
-    by_name : (b : Bool) → bytes_eq (row_of c).name name ≡ b → (m : Bool) → has_mark (row_of c).name ≡ m → (not m && list_all unmarked cs) ≡ true
-        → (list_all unmarked cs ≡ true → find (λ c. bytes_eq (row_of c).name name) cs ≡ None) → cond b (Some c) (find (λ c. bytes_eq (row_of c).name name) cs) ≡ None
+    by_name : (b : Bool) → bytes_eq (row_of c).name name ≡ b → (m : Bool) → has_mark (row_of c).name ≡ m
+        → (not m && list_all unmarked cs) ≡ true
+        → (list_all unmarked cs ≡ true → find (λ c. bytes_eq (row_of c).name name) cs ≡ None)
+        → cond b (Some c) (find (λ c. bytes_eq (row_of c).name name) cs) ≡ None
     by_name true t true m n rest = cc
     by_name true t false m n rest = let same : has_mark name ≡ false = ap has_mark (sym ((bytes_eq-Decides (row_of c).name name).0 t)) ∙ m in cc
     by_name false t true m n rest = cc
@@ -273,7 +301,8 @@ table-unmarked = refl
 pub candidate-extern : (name : List ℕ) (k : ℕ) → call_of (candidate name k) ≡ None
 candidate-extern name k = not_in CALLS (candidate name k) (candidate-marked name k) table-unmarked
 
-pub fresh_for-extern : (taken names : List (List ℕ)) (k : ℕ) (fresh : List ℕ) → slice_get (fresh_for taken names) k ≡ Some fresh → call_of fresh ≡ None
+pub fresh_for-extern : (taken names : List (List ℕ)) (k : ℕ) (fresh : List ℕ)
+    → slice_get (fresh_for taken names) k ≡ Some fresh → call_of fresh ≡ None
 fresh_for-extern taken names k fresh e =
     let first = (fresh_for-first taken names k fresh e).2 in
     ap call_of first.is ∙ candidate-extern _ first.number
@@ -291,7 +320,8 @@ digit_goes_on d h =
     digit_in false true c e = refl
     digit_in a false c e = cc
 
-all_go_on : (xs ys : List ℕ) → list_all goes_on_name xs ≡ true → list_all goes_on_name ys ≡ true → list_all goes_on_name (xs ++ ys) ≡ true
+all_go_on : (xs ys : List ℕ) → list_all goes_on_name xs ≡ true → list_all goes_on_name ys ≡ true
+    → list_all goes_on_name (xs ++ ys) ≡ true
 all_go_on xs ys e f = list_all-append goes_on_name xs ys ∙ ap (λ b. b && list_all goes_on_name ys) e ∙ f
 
 digits_go_on : (fuel n : ℕ) → list_all goes_on_name (numeral_in fuel n) ≡ true
@@ -301,11 +331,13 @@ digits_go_on (suc fuel) n = by_size (nat_lt n 10) refl (digits_go_on fuel (n / 1
     one_digit : (d : ℕ) → d < 10 → list_all goes_on_name ((48 + d) ∷ []) ≡ true
     one_digit d h = ap (λ b. b && true) (digit_goes_on d h)
 
-    by_size : (b : Bool) → nat_lt n 10 ≡ b → list_all goes_on_name (numeral_in fuel (n / 10)) ≡ true → list_all goes_on_name (if b then (48 + n) ∷ [] else numeral_in fuel (n / 10) ++ (48 + n % 10) ∷ []) ≡ true
+    by_size : (b : Bool) → nat_lt n 10 ≡ b → list_all goes_on_name (numeral_in fuel (n / 10)) ≡ true
+        → list_all goes_on_name (if b then (48 + n) ∷ [] else numeral_in fuel (n / 10) ++ (48 + n % 10) ∷ []) ≡ true
     by_size true t rest = one_digit n (grind (arith, nat_tests))
     by_size false t rest = all_go_on (numeral_in fuel (n / 10)) ((48 + n % 10) ∷ []) rest (one_digit (n % 10) (omega arith))
 
-longer_name : (name more : List ℕ) → is_name name ≡ true → list_all goes_on_name more ≡ true → is_name (name ++ more) ≡ true
+longer_name : (name more : List ℕ) → is_name name ≡ true → list_all goes_on_name more ≡ true
+    → is_name (name ++ more) ≡ true
 longer_name [] more e f = cc
 longer_name (b ∷ bs) more e f = by_first (begins_name b) e
   where

@@ -1,5 +1,5 @@
 -- Steps of loops that put items into a list without repeats.
-use Rattle.std.specs.Prelude.{◌≡◌, ℕ, zero, suc, ◌+◌, ◌<◌, Bool, true, false, cond, List, [], ◌∷◌, ◌++◌, length, drop}
+use Rattle.std.specs.Prelude.{◌≡◌, ℕ, zero, suc, ◌+◌, ◌<◌, Bool, cond, List, [], ◌∷◌, ◌++◌, length, drop}
 use Rattle.std.specs.Cmp.{both_ways}
 use Rattle.std.specs.Cmp.Lexicographic.{nat_list_eq_equiv}
 use Rattle.std.specs.List.{flat_map, list_any}
@@ -15,13 +15,15 @@ module _ {A : Type 0} (same : A → A → Bool) where
   met-append xs (y ∷ ys) zs = met-append (cond (list_any (same y) xs) xs (xs ++ y ∷ [])) ys zs
 
   -- what item k gives is met, and what the items behind it give is to come
-  pub met-next : {B : Type 0} (f : B → List A) (seen : List A) (items : List B) (k : ℕ) (x : B) → k < length items → x ≡ get_or items k x →
+  pub met-next : {B : Type 0} (f : B → List A) (seen : List A) (items : List B) (k : ℕ) (x : B) → k < length items
+      → x ≡ get_or items k x →
       met same (met same seen (f x)) (flat_map f (drop (k + 1) items)) ≡ met same seen (flat_map f (drop k items))
   met-next {B} f seen items k x h e =
       sym (met-append seen (f x) (flat_map f (drop (k + 1) items)))
       ∙ ap (λ ys. met same seen ys) (ahead items k h e)
     where
-      ahead : (items : List B) (k : ℕ) → k < length items → x ≡ get_or items k x → f x ++ flat_map f (drop (k + 1) items) ≡ flat_map f (drop k items)
+      ahead : (items : List B) (k : ℕ) → k < length items → x ≡ get_or items k x
+          → f x ++ flat_map f (drop (k + 1) items) ≡ flat_map f (drop k items)
       ahead [] k h e = absurd (omega arith)
       ahead (y ∷ ys) zero h e = ap (λ z. f z ++ flat_map f ys) e
       ahead (y ∷ ys) (suc k) h e =

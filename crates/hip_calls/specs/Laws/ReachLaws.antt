@@ -1,4 +1,5 @@
--- Laws of the functions that calls can reach: the least list that has the callees of the calls and is closed under calls. Each of them
+-- Laws of the functions that calls can reach: the least list that has the callees of the calls and is closed under
+-- calls. Each of them
 -- is there once, and is the first function of its name.
 use Rattle.std.specs.Prelude.{◌≡◌, ◌≤◌, ◌||◌, ◌<◌, ℕ, zero, suc, ◌+◌, nat_eq, Bool, true, false, List, [], ◌∷◌, Option, Some, None, slice_get, option_to_list, length}
 use Rattle.std.specs.Cmp.{nat_eq_equiv}
@@ -36,17 +37,20 @@ either_of false e = cc
 has_one : (q : ℕ) → Has (q ∷ []) q
 has_one q = ap (λ b. b || false) (nat_eq_equiv.refl q)
 
-flat-has : {A : Type 0} (f : A → List ℕ) (xs : List A) (k : ℕ) (x : A) (q : ℕ) → slice_get xs k ≡ Some x → Has (f x) q → Has (flat_map f xs) q
+flat-has : {A : Type 0} (f : A → List ℕ) (xs : List A) (k : ℕ) (x : A) (q : ℕ) → slice_get xs k ≡ Some x → Has (f x) q
+    → Has (flat_map f xs) q
 flat-has f [] k x q e h = cc
 flat-has f (y ∷ xs) zero x q e h = any_front (nat_eq q) (f y) (flat_map f xs) (subst (λ z. Has (f z) q) (sym (same_Some y x e)) h)
 flat-has f (y ∷ xs) (suc k) x q e h = any_back (nat_eq q) (f y) (flat_map f xs) (flat-has f xs k x q e h)
 
-flat-all : {A : Type 0} (f : A → List ℕ) (Q : ℕ → Type 0) → (xs : List A) → ((k : ℕ) (x : A) (q : ℕ) → slice_get xs k ≡ Some x → Has (f x) q → Q q) → (q : ℕ) → Has (flat_map f xs) q → Q q
+flat-all : {A : Type 0} (f : A → List ℕ) (Q : ℕ → Type 0) → (xs : List A)
+    → ((k : ℕ) (x : A) (q : ℕ) → slice_get xs k ≡ Some x → Has (f x) q → Q q) → (q : ℕ) → Has (flat_map f xs) q → Q q
 flat-all f Q [] each q h = cc
 flat-all f Q (x ∷ xs) each q h = ⊎_elim (λ front. each 0 x q refl front) (λ back. flat-all f Q xs (λ k y r e g. each (suc k) y r e g) q back) (any_either (nat_eq q) (f x) (flat_map f xs) h)
 
 -- a call of a defined function is one of its function's
-pub called-has : (P : Program) (f b k : ℕ) (fn : Function) (block : Block) (dest : Option (List ℕ)) (ret : Option Scalar) (callee : List ℕ) (args : List Arg) (g : ℕ) →
+pub called-has : (P : Program) (f b k : ℕ) (fn : Function) (block : Block) (dest : Option (List ℕ))
+    (ret : Option Scalar) (callee : List ℕ) (args : List Arg) (g : ℕ) →
     slice_get P.functions f ≡ Some fn → slice_get fn.blocks b ≡ Some block → slice_get block.body k ≡ Some (instrs.Call dest ret callee args) → function_number P callee ≡ Some g → Has (called_from P f) g
 called-has P f b k fn block dest ret callee args g e s c n =
     subst (λ o. Has (called_in P o) g) (sym e)
@@ -90,15 +94,18 @@ extended-first : (P : Program) (seen : List ℕ) (o : Option ℕ) (q : ℕ) → 
 extended-first P seen None q h = h
 extended-first P seen (Some f) q h = met-first nat_eq_equiv q seen (called_from P f) h
 
-extended-distinct : (P : Program) (seen : List ℕ) (o : Option ℕ) → IsDistinct nat_eq seen → IsDistinct nat_eq (extended P seen o)
+extended-distinct : (P : Program) (seen : List ℕ) (o : Option ℕ) → IsDistinct nat_eq seen
+    → IsDistinct nat_eq (extended P seen o)
 extended-distinct P seen None d = d
 extended-distinct P seen (Some f) d = met-distinct nat_eq_equiv seen (called_from P f) d
 
-reached-first : (P : Program) (steps place : ℕ) (seen : List ℕ) (q : ℕ) → Has seen q → Has (reached P steps place seen) q
+reached-first : (P : Program) (steps place : ℕ) (seen : List ℕ) (q : ℕ) → Has seen q
+    → Has (reached P steps place seen) q
 reached-first P zero place seen q h = h
 reached-first P (suc steps) place seen q h = reached-first P steps (suc place) (extended P seen (slice_get seen place)) q (extended-first P seen (slice_get seen place) q h)
 
-reached-distinct : (P : Program) (steps place : ℕ) (seen : List ℕ) → IsDistinct nat_eq seen → IsDistinct nat_eq (reached P steps place seen)
+reached-distinct : (P : Program) (steps place : ℕ) (seen : List ℕ) → IsDistinct nat_eq seen
+    → IsDistinct nat_eq (reached P steps place seen)
 reached-distinct P zero place seen d = d
 reached-distinct P (suc steps) place seen d = reached-distinct P steps (suc place) (extended P seen (slice_get seen place)) (extended-distinct P seen (slice_get seen place) d)
 
@@ -106,7 +113,8 @@ reached-distinct P (suc steps) place seen d = reached-distinct P steps (suc plac
 abbrev pub IsClosed : Program → (ℕ → Type 0) → Type 0
 IsClosed P Q = (f q : ℕ) → Q f → Has (called_from P f) q → Q q
 
-reached-all : (P : Program) (Q : ℕ → Type 0) → IsClosed P Q → (steps place : ℕ) (seen : List ℕ) → ((q : ℕ) → Has seen q → Q q) → (q : ℕ) → Has (reached P steps place seen) q → Q q
+reached-all : (P : Program) (Q : ℕ → Type 0) → IsClosed P Q → (steps place : ℕ) (seen : List ℕ)
+    → ((q : ℕ) → Has seen q → Q q) → (q : ℕ) → Has (reached P steps place seen) q → Q q
 reached-all P Q closed zero place seen all q h = all q h
 reached-all P Q closed (suc steps) place seen all q h = reached-all P Q closed steps (suc place) (extended P seen (slice_get seen place)) (λ r g. at (slice_get seen place) refl r g) q h
   where
@@ -123,13 +131,15 @@ get_within [] k h = absurd (omega arith)
 get_within (x ∷ xs) zero h = (x, refl)
 get_within (x ∷ xs) (suc k) h = get_within xs k (omega arith)
 
-done_next : (P : Program) (seen : List ℕ) (place : ℕ) → IsDone P seen place → IsDone P (extended P seen (slice_get seen place)) (suc place)
+done_next : (P : Program) (seen : List ℕ) (place : ℕ) → IsDone P seen place
+    → IsDone P (extended P seen (slice_get seen place)) (suc place)
 done_next P seen place done = at (slice_get seen place) refl
   where
     at_end : (k f : ℕ) → k ≤ place → slice_get seen place ≡ None → slice_get seen k ≡ Some f → k < place
     at_end k f le e s = ⊎_elim (λ same. let t : None ≡ Some f = sym e ∙ ap (slice_get seen) (sym same) ∙ s in cc) (λ l. l) (eq-or-lt_of_le le)
 
-    met_at : (g k f q : ℕ) → slice_get seen place ≡ Some g → k ≤ place → slice_get seen k ≡ Some f → Has (called_from P f) q → Has (met nat_eq seen (called_from P g)) q
+    met_at : (g k f q : ℕ) → slice_get seen place ≡ Some g → k ≤ place → slice_get seen k ≡ Some f
+        → Has (called_from P f) q → Has (met nat_eq seen (called_from P g)) q
     met_at g k f q e le s c =
         ⊎_elim (λ same. let fg : f ≡ g = same_Some f g (sym s ∙ ap (slice_get seen) same ∙ e) in met-second nat_eq_equiv q seen (called_from P g) (subst (λ n. Has (called_from P n) q) fg c))
         (λ l. met-first nat_eq_equiv q seen (called_from P g) (done k f q l s c)) (eq-or-lt_of_le le)
@@ -143,7 +153,8 @@ done_next P seen place done = at (slice_get seen place) refl
         let same : old.0 ≡ f = same_Some old.0 f (sym there ∙ s) in
         met_at g k f q e (omega arith) (old.1 ∙ ap Some same) c
 
-reached-done : (P : Program) (steps place : ℕ) (seen : List ℕ) → IsDone P seen place → IsDone P (reached P steps place seen) (steps + place)
+reached-done : (P : Program) (steps place : ℕ) (seen : List ℕ) → IsDone P seen place
+    → IsDone P (reached P steps place seen) (steps + place)
 reached-done P zero place seen done = λ k f q below s c. done k f q (omega arith) s c
 reached-done P (suc steps) place seen done = λ k f q below s c. reached-done P steps (suc place) (extended P seen (slice_get seen place)) (done_next P seen place done) k f q (omega arith) s c
 
@@ -158,7 +169,9 @@ pub callees-distinct : (P : Program) (sites : List Site) → IsDistinct nat_eq (
 callees-distinct P sites = reached-distinct P (length P.functions) 0 _ (met-distinct nat_eq_equiv [] (flat_map (λ s. called_at P (instr_of P s)) sites) nothing-distinct)
 
 -- what holds of the callees of these calls, and is closed under calls, holds of all
-pub callees-least : (P : Program) (sites : List Site) (Q : ℕ → Type 0) → ((k : ℕ) (s : Site) (q : ℕ) → slice_get sites k ≡ Some s → Has (called_at P (instr_of P s)) q → Q q) → IsClosed P Q → (q : ℕ) → Has (callees P sites) q → Q q
+pub callees-least : (P : Program) (sites : List Site) (Q : ℕ → Type 0)
+    → ((k : ℕ) (s : Site) (q : ℕ) → slice_get sites k ≡ Some s → Has (called_at P (instr_of P s)) q → Q q)
+    → IsClosed P Q → (q : ℕ) → Has (callees P sites) q → Q q
 callees-least P sites Q first closed q h =
     reached-all P Q closed (length P.functions) 0 (met nat_eq [] (flat_map (λ s. called_at P (instr_of P s)) sites))
     (λ r g. ⊎_elim (λ none. cc) (λ new. flat-all (λ s. called_at P (instr_of P s)) Q sites (λ k s q e c. first k s q e c) r new)
@@ -176,7 +189,8 @@ pub callees-length : (P : Program) (sites : List Site) → length (callees P sit
 callees-length P sites = length-le_from_distinct_below (callees P sites) (length P.functions) (callees-distinct P sites) (λ q h. callees-within P sites q h)
 
 -- the callees of these calls are there
-pub callees-first : (P : Program) (sites : List Site) (k : ℕ) (s : Site) (q : ℕ) → slice_get sites k ≡ Some s → Has (called_at P (instr_of P s)) q → Has (callees P sites) q
+pub callees-first : (P : Program) (sites : List Site) (k : ℕ) (s : Site) (q : ℕ) → slice_get sites k ≡ Some s
+    → Has (called_at P (instr_of P s)) q → Has (callees P sites) q
 callees-first P sites k s q e h =
     reached-first P (length P.functions) 0 (met nat_eq [] (flat_map (λ s. called_at P (instr_of P s)) sites)) q
     (met-second nat_eq_equiv q [] (flat_map (λ s. called_at P (instr_of P s)) sites) (flat-has (λ s. called_at P (instr_of P s)) sites k s q e h))

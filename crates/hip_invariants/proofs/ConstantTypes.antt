@@ -26,7 +26,7 @@ use Rattle.hip_ir.specs.Words.{type_of}
 use Rattle.hip_typing.specs.Types.{same_width}
 use Rattle.hip_typing.specs.Sound.{IsSound}
 use Rattle.hip_globals.specs.Values.{Written, Piece, global_address, written_step, gep_step, item_step, const_value}
-use Rattle.hip_runs.specs.Operands.{width_of}
+use Rattle.hip_types.specs.Scalars.{width_of}
 use Rattle.hip_invariants.proofs.GlobalAddresses.{start_before_end}
 
 -- the address of a `getelementptr` in a constant

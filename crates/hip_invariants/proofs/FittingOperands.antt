@@ -1,4 +1,5 @@
--- Each value that the next step reads fits the type that its place states, so that it is the same where it is cut to its width.
+-- Each value that the next step reads fits the type that its place states, so that it is the same where it is cut to
+-- its width.
 use Rattle.std.proofs.Common.{◌≡◌, ℕ, ◌<◌, List, [], ◌∷◌, Option, Some, None, slice_get, refl, sym, ap, ap₂, ◌∙◌, subst}
 use Rattle.std.specs.Prelude.{All}
 use Rattle.std.proofs.Math.Nat.{mod-eq_of_lt}
@@ -22,7 +23,7 @@ use Rattle.hip_typing.specs.Registers.{Use, instr_uses, end_uses, phi_uses}
 use Rattle.hip_typing.specs.Sound.{IsSound, IsTyped, EndItem, OwnTypesAgree}
 use Rattle.hip_runs.specs.declared.input.Input.{Input}
 use Rattle.hip_runs.specs.Actions.{returned}
-use Rattle.hip_runs.specs.Operands.{width_of}
+use Rattle.hip_types.specs.Scalars.{width_of}
 use Rattle.hip_runs.specs.Places.{block_at, body_of, end_of, body_at, end_at}
 use Rattle.hip_runs.specs.State.{Frame}
 use Rattle.hip_runs.specs.Step.{numbered_main, main_number, run}

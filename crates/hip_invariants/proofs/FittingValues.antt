@@ -36,7 +36,8 @@ use Rattle.hip_typing.specs.Sound.{IsSound, IsBlockAt, IsTyped, EndItem, OwnType
 use Rattle.hip_externs.specs.declared.call.ExternCall.TheVariants as calls
 use Rattle.hip_runs.specs.declared.input.Input.{Input}
 use Rattle.hip_runs.specs.Actions.{truth, cast_value, edge_value, returned}
-use Rattle.hip_runs.specs.Operands.{look_up, value_of, values_of, bound, width_of}
+use Rattle.hip_runs.specs.Operands.{look_up, value_of, values_of, bound}
+use Rattle.hip_types.specs.Scalars.{width_of}
 use Rattle.hip_runs.specs.StoredParts.Parts.{In}
 use Rattle.hip_runs.specs.State.{Registers, World}
 use Rattle.hip_runs.specs.Step.{run}

@@ -1,4 +1,5 @@
--- Levels of pointers: an instance. An assignment gives each register and each function's result a level, or none; where it is
+-- Levels of pointers: an instance. An assignment gives each register and each function's result a level, or none; where
+-- it is
 -- closed under the rules, a value of level t is at most the stack's end and t times 64 MiB in every run.
 use Rattle.std.proofs.Common.{◌≡◌, ℕ, suc, ◌+◌, ◌*◌, ◌%◌, ◌^◌, ◌<◌, ◌≤◌, Bool, true, false, cond, nat_eq, nat_lt, List, [], ◌∷◌, map, Option, Some, None, slice_get, option_map, refl, sym, ap, ap₂, ◌∙◌, subst, arith, ltb-true}
 use Rattle.std.specs.Prelude.{unwrap_or}

@@ -1,4 +1,5 @@
--- The machine never gets stuck: each frame has come along a path through its function, and each register that is assigned on
+-- The machine never gets stuck: each frame has come along a path through its function, and each register that is
+-- assigned on
 -- it has a value; the next step reads no other; and it traps as unreachable only at an `unreachable`.
 use Rattle.std.proofs.Common.{◌≡◌, ◌≢◌, ◌⊎◌, ⊎_elim, inl, inr, ℕ, suc, Bool, true, false, cond, nat_eq, List, [], ◌∷◌, ◌++◌, map, take, drop, Option, Some, None, slice_get, option_map, refl, sym, ap, ◌∙◌, subst}
 use Rattle.std.specs.Prelude.{unwrap_or}

@@ -1,4 +1,5 @@
--- The stack's shape: the blocks and the marks of frames lie in order below the mark; at most 16,384 frames stand; each but the
+-- The stack's shape: the blocks and the marks of frames lie in order below the mark; at most 16,384 frames stand; each
+-- but the
 -- bottom one has the call that made it.
 use Rattle.std.proofs.Common.{◌≡◌, ℕ, zero, suc, ◌+◌, ◌≤◌, ◌<◌, Bool, true, false, cond, List, [], ◌∷◌, length, Option, Some, None, refl, sym, ap, ◌∙◌, subst, arith}
 use Rattle.hip_types.specs.Laws.LayoutLaws.{next-le}

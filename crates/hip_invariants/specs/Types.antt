@@ -17,7 +17,8 @@ use Rattle.hip_num.specs.Comparisons.{holds}
 use Rattle.hip_typing.specs.Registers.{Use, find_register, registers_of, instr_uses, end_uses, phi_uses}
 use Rattle.hip_runs.specs.declared.input.Input.{Input}
 use Rattle.hip_runs.specs.Actions.{index_value, returned}
-use Rattle.hip_runs.specs.Operands.{value_of, width_of}
+use Rattle.hip_runs.specs.Operands.{value_of}
+use Rattle.hip_types.specs.Scalars.{width_of}
 use Rattle.hip_runs.specs.Places.{block_at, code_at, end_at}
 use Rattle.hip_runs.specs.State.{Registers, Frame}
 use Rattle.hip_runs.specs.Step.{run}

@@ -16,50 +16,54 @@ ghost use Rattle.hip_invariants.specs.PointerLevels.{IsClosed, Levels, Registers
 ghost use Rattle.hip_invariants.specs.StackShape.{StackIsShaped};
 ghost use Rattle.hip_invariants.specs.Types.{AreUncut, CodeFits, OperandsFit, RegistersFit};
 
-/// A run of a sound program never gets stuck, whatever its input: a frame stands; each register that the next step reads has
-/// been assigned, and so has each in a frame below, but the one that waits for its call's result; and the run traps as
-/// unreachable only at an `unreachable`. On a valid input each value that the next step reads fits its type.
+/// A run of a sound program never gets stuck, whatever its input: a frame stands; each register that the next step
+/// reads has been assigned, and so has each in a frame below, but the one that waits for its call's result; and the
+/// run traps as unreachable only at an `unreachable`. On a valid input each value that the next step reads fits its
+/// type.
 pub fn sound_programs_never_get_stuck()
     ensures { (P : Program) → IsSound P → (I : Input) → (n : ℕ) → IsNeverStuck P I n }
 {}
 
-/// Each register of each frame has a value of the type that its function gives it: below 2^N for an integer of N bits, and
-/// below 2^64 for a pointer.
+/// Each register of each frame has a value of the type that its function gives it: below 2^N for an integer of N
+/// bits, and below 2^64 for a pointer.
 pub fn registers_fit_their_types()
     ensures { (P : Program) → IsSound P → (I : Input) → IsValid P I → (n : ℕ) → RegistersFit P (run P I n).frames }
 {}
 
-/// Each operand that the next step reads has a value of the type that its place states, and what the bottom frame returns is
-/// a number of 32 bits; so they are the same where a comparison, an index or the code of a stop cuts them to their widths.
+/// Each operand that the next step reads has a value of the type that its place states, and what the bottom frame
+/// returns is a number of 32 bits; so they are the same where a comparison, an index or the code of a stop cuts them
+/// to their widths.
 pub fn operands_fit_their_types()
-    ensures operands { (P : Program) → IsSound P → (I : Input) → IsValid P I → (n : ℕ) → (f : Frame) → (fs : List Frame) →
-        IsTop (run P I n) f fs → OperandsFit P I f }
+    ensures operands { (P : Program) → IsSound P → (I : Input) → IsValid P I → (n : ℕ) →
+        (f : Frame) → (fs : List Frame) → IsTop (run P I n) f fs → OperandsFit P I f }
     ensures code { (P : Program) → IsSound P → (I : Input) → IsValid P I → (n : ℕ) → CodeFits P I n }
     ensures uncut { AreUncut }
 {}
 
-/// Under closed levels each register of each frame has a value within its level: at most the stack's end and 64 MiB a level.
+/// Under closed levels each register of each frame has a value within its level: at most the stack's end and 64 MiB a
+/// level.
 pub fn levels_bound_registers()
     ensures { (P : Program) → IsSound P → (L : Levels) → IsClosed P L → (I : Input) → (n : ℕ) →
         RegistersAreWithin L (run P I n).frames }
 {}
 
-/// The blocks and the marks of the frames lie in order below the stack's mark, at most 16,384 frames stand, and each but the
-/// bottom one has the call that made it, so that there is one call fewer than frames.
+/// The blocks and the marks of the frames lie in order below the stack's mark, at most 16,384 frames stand, and each
+/// but the bottom one has the call that made it, so that there is one call fewer than frames.
 pub fn stack_keeps_its_shape()
     ensures { (P : Program) → (I : Input) → (n : ℕ) → StackIsShaped (run P I n) }
 {}
 
-/// At most one object contains an address: two globals have no byte in common, nor have two blocks on the stack, nor a global
-/// and a block; and the object that an address points into is the one that contains it.
+/// At most one object contains an address: two globals have no byte in common, nor have two blocks on the stack, nor
+/// a global and a block; and the object that an address points into is the one that contains it.
 pub fn objects_are_apart()
     ensures { (P : Program) → IsSound P → (I : Input) → IsValid P I → (n : ℕ) → AreApart P I.base (run P I n).frames }
 {}
 
-/// A run has at most as many steps as its limit of turns, and one more, times the longest block with its end, and at most one
-/// entry for each step behind those of its header. So both counts are numbers of 128 bits where each block's length is one of
-/// 64.
+/// A run has at most as many steps as its limit of turns, and one more, times the longest block with its end, and at
+/// most one entry for each step behind those of its header. So both counts are numbers of 128 bits where each block's
+/// length is one of 64.
 pub fn runs_are_bounded()
     ensures bounded { (P : Program) → (I : Input) → (n : ℕ) → IsBounded P I n }
-    ensures fit { (P : Program) → (I : Input) → IsSound P → IsValid P I → longest P < 2 ^ 64 → (n : ℕ) → CountsFit P I n }
+    ensures fit { (P : Program) → (I : Input) → IsSound P → IsValid P I → longest P < 2 ^ 64 →
+        (n : ℕ) → CountsFit P I n }
 {}

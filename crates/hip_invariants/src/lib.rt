@@ -1,4 +1,5 @@
-//! What every run of a program keeps: a machine never gets stuck, values fit their types, and the stack keeps its shape.
+//! What every run of a program keeps: a machine never gets stuck, values fit their types, and the stack keeps its
+//! shape.
 #![tactic(auto)]
 
 mod laws;

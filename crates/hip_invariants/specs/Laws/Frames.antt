@@ -1,4 +1,5 @@
--- What holds of every frame of every run, told once: a fact of the frame on top and a fact of a frame behind a call hold
+-- What holds of every frame of every run, told once: a fact of the frame on top and a fact of a frame behind a call
+-- hold
 -- throughout, where each action keeps them.
 use Rattle.std.proofs.Common.{◌≡◌, ℕ, zero, suc, Bool, true, false, cond, List, [], ◌∷◌, Option, Some, None, refl, subst}
 use Rattle.hip_types.specs.Numbers.{wrapped}
@@ -17,7 +18,17 @@ use Rattle.hip_invariants.specs.FrameFacts.{frames_hold}
 -- the frame that a call makes, and a frame that goes to another block
 abbrev pub called_frame : ℕ → Registers → Option (List ℕ) → ℕ → Option Level → Frame
 called_frame g registers dest mark level =
-    record { function = g; block = 0; place = 0; registers = registers; mark = mark; slots = []; dest = dest; level = level }
+    record {
+      function = g;
+      block = 0;
+      place = 0;
+      registers = registers;
+      mark = mark;
+      slots = [];
+      dest = dest;
+      level =
+          level;
+    }
 
 abbrev pub frame_in_block : ℕ → Registers → Frame → Frame
 frame_in_block b registers f = record f { block = b; place = 0; registers = registers }
@@ -51,12 +62,17 @@ module _ (Top : Frame → Type 0) (Below : ℕ → Option (List ℕ) → Frame �
       pub each : (n : ℕ) (f : Frame) (fs : List Frame) → IsTop (run P I n) f fs →
           frames_hold Top Below (main_number P) (f ∷ fs) → Keeps f (deed_at P I (run P I n).world f fs).action
 
-    leave_kept : (v : ℕ) (w : World) (f : Frame) (fs : List Frame) (ls : List (Line StorePart)) (after : Counts) → frames_hold Top Below (main_number P) (f ∷ fs) → ((g : Frame) → Below f.function f.dest g → Top (with_register f.dest v g)) → frames_hold Top Below (main_number P) (leave v w f fs ls after).frames
+    leave_kept : (v : ℕ) (w : World) (f : Frame) (fs : List Frame) (ls : List (Line StorePart)) (after : Counts)
+        → frames_hold Top Below (main_number P) (f ∷ fs)
+        → ((g : Frame) → Below f.function f.dest g → Top (with_register f.dest v g))
+        → frames_hold Top Below (main_number P) (leave v w f fs ls after).frames
     unfolding leave
     leave_kept v w f [] ls after s go = s
     leave_kept v w f (g ∷ fs) ls after s go = (go g s.1.0, s.1.1)
 
-    perform_kept : (w : World) (f : Frame) (fs : List Frame) (ls : List (Line StorePart)) (before after : Counts) → frames_hold Top Below (main_number P) (f ∷ fs) → (x : Action) → keeps f x → frames_hold Top Below (main_number P) (perform I w f fs ls before after x).frames
+    perform_kept : (w : World) (f : Frame) (fs : List Frame) (ls : List (Line StorePart)) (before after : Counts)
+        → frames_hold Top Below (main_number P) (f ∷ fs) → (x : Action) → keeps f x
+        → frames_hold Top Below (main_number P) (perform I w f fs ls before after x).frames
     unfolding perform
     perform_kept w f fs ls before after s (Traps kind) p = s
     perform_kept w f fs ls before after s (Assigns dest v) p = (p, s.1)
@@ -72,19 +88,28 @@ module _ (Top : Frame → Type 0) (Below : ℕ → Option (List ℕ) → Frame �
     perform_kept w f fs ls before after s (Jumps b registers) p = (p, s.1)
     perform_kept w f fs ls before after s (Returns v) p = leave_kept v w f fs ls after s p
 
-    carry_out_kept : (w : World) (f : Frame) (fs : List Frame) (ls : List (Line StorePart)) (before after : Counts) → frames_hold Top Below (main_number P) (f ∷ fs) → (d : Deed) → Keeps f d.action → frames_hold Top Below (main_number P) (carry_out I w f fs ls before after d).frames
+    carry_out_kept : (w : World) (f : Frame) (fs : List Frame) (ls : List (Line StorePart)) (before after : Counts)
+        → frames_hold Top Below (main_number P) (f ∷ fs) → (d : Deed) → Keeps f d.action
+        → frames_hold Top Below (main_number P) (carry_out I w f fs ls before after d).frames
     unfolding carry_out
     carry_out_kept w f fs ls before after s d p = go (is_cut I w d)
       where
-        go : (b : Bool) → frames_hold Top Below (main_number P) (cond b (stop Cut w (f ∷ fs) ls after) (perform I (cond d.turn (with_turn w) w) f fs ls before after d.action)).frames
+        go : (b : Bool)
+            → frames_hold Top Below (main_number P)
+            (cond b (stop Cut w (f ∷ fs) ls after)
+            (perform I (cond d.turn (with_turn w) w) f fs ls before after d.action)).frames
         go true = s
         go false = perform_kept (cond d.turn (with_turn w) w) f fs ls before after s d.action p.is
 
-    step_kept : (s : State) → ((f : Frame) (fs : List Frame) → IsTop s f fs → frames_hold Top Below (main_number P) (f ∷ fs) → Keeps f (deed_at P I s.world f fs).action) → frames_hold Top Below (main_number P) s.frames → frames_hold Top Below (main_number P) (step P I s).frames
+    step_kept : (s : State)
+        → ((f : Frame) (fs : List Frame) → IsTop s f fs → frames_hold Top Below (main_number P) (f ∷ fs)
+        → Keeps f (deed_at P I s.world f fs).action) → frames_hold Top Below (main_number P) s.frames → frames_hold Top
+        Below (main_number P) (step P I s).frames
     unfolding step on_ending on_frames
     step_kept s each all = go s.world.ending refl
       where
-        on_them : (fs : List Frame) → s.frames ≡ fs → s.world.ending ≡ None → frames_hold Top Below (main_number P) (on_frames P I s.world s.lines s.counts fs).frames
+        on_them : (fs : List Frame) → s.frames ≡ fs → s.world.ending ≡ None
+            → frames_hold Top Below (main_number P) (on_frames P I s.world s.lines s.counts fs).frames
         on_them [] q e = tt
         on_them (f ∷ fs) q e =
             let here : frames_hold Top Below (main_number P) (f ∷ fs) = subst (frames_hold Top Below (main_number P)) q all in

@@ -26,7 +26,8 @@ use Rattle.hip_runs.specs.declared.event.TrapKind.{TrapKind}
 use Rattle.hip_runs.specs.declared.event.TrapKind.TheVariants as traps
 use Rattle.hip_runs.specs.declared.input.Input.{Input}
 use Rattle.hip_runs.specs.Actions.{Action, Traps, Assigns, Allocates, Stores, Flushes, Persists, Fences, Asserts, Prints, Reads, Calls, in_region, are_valid, memory_of, accessed, calculated, truth, cast_value, index_values, read_value, allocated, numbered_call, entered, flushing, read_next, extern_action, call_action, instr_action}
-use Rattle.hip_runs.specs.Operands.{value_of, values_of, bound, scalar_size, width_of}
+use Rattle.hip_runs.specs.Operands.{value_of, values_of, bound, scalar_size}
+use Rattle.hip_types.specs.Scalars.{width_of}
 use Rattle.hip_runs.specs.State.{Registers, World}
 
 -- an action that gives no register a value and leaves the stack as it is
@@ -60,7 +61,8 @@ module _ (P : Program) (I : Input) (w : World) (below : ℕ) (rs : Registers) (C
   -- What an instruction may do, but for traps: the claim has to be shown of these actions.
   abbrev pub instr_cases : Instr → Type 0
   instr_cases (Binary dest op flags width a b) =
-      (r : Bits) → binary_of op (bits width (value a)) (bits width (value b)) ≡ Ok r → Claim (Assigns (Some dest) r.value)
+      (r : Bits) → binary_of op (bits width (value a)) (bits width (value b)) ≡ Ok r
+      → Claim (Assigns (Some dest) r.value)
   instr_cases (Compare dest pred ty a b) =
       let width = width_of ty in
       Claim (Assigns (Some dest) (truth (holds pred width (bits width (value a)).value (bits width (value b)).value)))
@@ -94,25 +96,32 @@ module _ (P : Program) (I : Input) (w : World) (below : ℕ) (rs : Registers) (C
     unfolding flushing
     flushing_case a n x p = cond_case (nat_eq n 0) x _ p (cond_case (are_valid P I w a n) x (Traps traps.Address) p address)
 
-    allocated_case : (dest : List ℕ) (size align : ℕ) → ((a : ℕ) → a ≡ next_multiple_of w.mark align → a + size ≤ stack_end → Claim (Allocates dest a size)) → Claim (allocated w dest size align)
+    allocated_case : (dest : List ℕ) (size align : ℕ)
+        → ((a : ℕ) → a ≡ next_multiple_of w.mark align → a + size ≤ stack_end → Claim (Allocates dest a size))
+        → Claim (allocated w dest size align)
     unfolding allocated
     allocated_case dest size align p = go (nat_le (next_multiple_of w.mark align + size) stack_end) refl
       where
-        go : (b : Bool) → nat_le (next_multiple_of w.mark align + size) stack_end ≡ b → Claim (cond b (Allocates dest (next_multiple_of w.mark align) size) (Traps traps.Stack))
+        go : (b : Bool) → nat_le (next_multiple_of w.mark align + size) stack_end ≡ b
+            → Claim (cond b (Allocates dest (next_multiple_of w.mark align) size) (Traps traps.Stack))
         go true e = p (next_multiple_of w.mark align) refl (leb-true (next_multiple_of w.mark align + size) stack_end e)
         go false e = trap traps.Stack (λ e. cc)
 
-    calculated_case : (dest : List ℕ) (r : Result Bits NumTrap) → ((b : Bits) → r ≡ Ok b → Claim (Assigns (Some dest) b.value)) → Claim (calculated dest r)
+    calculated_case : (dest : List ℕ) (r : Result Bits NumTrap)
+        → ((b : Bits) → r ≡ Ok b → Claim (Assigns (Some dest) b.value)) → Claim (calculated dest r)
     calculated_case dest (Ok b) p = p b refl
     calculated_case dest (Err num_traps.DivZero) p = trap traps.DivZero (λ e. cc)
     calculated_case dest (Err num_traps.DivOverflow) p = trap traps.DivOverflow (λ e. cc)
     calculated_case dest (Err num_traps.ShiftRange) p = trap traps.ShiftRange (λ e. cc)
 
-    read_case : (dest : Option (List ℕ)) (left : List ℤ) → ((z : ℤ) (rest : List ℤ) → left ≡ z ∷ rest → Claim (Reads dest z rest)) → Claim (read_next dest left)
+    read_case : (dest : Option (List ℕ)) (left : List ℤ)
+        → ((z : ℤ) (rest : List ℤ) → left ≡ z ∷ rest → Claim (Reads dest z rest)) → Claim (read_next dest left)
     read_case dest [] p = trap traps.InputEnd (λ e. cc)
     read_case dest (z ∷ rest) p = p z rest refl
 
-    extern_case : (x : ExternCall) (values : List ℕ) (dest : Option (List ℕ)) → (x ≡ calls.ReadI64 → (z : ℤ) (rest : List ℤ) → w.left ≡ z ∷ rest → Claim (Reads dest z rest)) → (x ≢ calls.ReadI64 → (y : Action) → leaves_registers y → Claim y) → Claim (extern_action P I w x values dest)
+    extern_case : (x : ExternCall) (values : List ℕ) (dest : Option (List ℕ))
+        → (x ≡ calls.ReadI64 → (z : ℤ) (rest : List ℤ) → w.left ≡ z ∷ rest → Claim (Reads dest z rest))
+        → (x ≢ calls.ReadI64 → (y : Action) → leaves_registers y → Claim y) → Claim (extern_action P I w x values dest)
     extern_case calls.ReadI64 values dest read still = read_case dest w.left (read refl)
     extern_case calls.PrintI64 values dest read still = still (λ e. cc) _ tt
     extern_case calls.PmAssert values dest read still = cond_case (in_region I _ _) (Asserts _ _) (Traps traps.Address) (still (λ e. cc) _ tt) address
@@ -125,8 +134,11 @@ module _ (P : Program) (I : Input) (w : World) (below : ℕ) (rs : Registers) (C
     extern_case calls.PmemPersist values dest read still = flushing_case _ _ _ (still (λ e. cc) _ tt)
     extern_case calls.PmemDrain values dest read still = still (λ e. cc) _ tt
 
-    numbered_case : (values : List ℕ) (dest : Option (List ℕ)) (o : Option ℕ) → ((h : ℕ) (fn : Function) → o ≡ Some h → slice_get P.functions h ≡ Some fn → Claim (Calls h (bound fn.params values) dest)) →
-        (((h : ℕ) (fn : Function) → o ≡ Some h → ¬ (slice_get P.functions h ≡ Some fn)) → Claim (Traps traps.Unreachable)) → Claim (numbered_call P o values dest)
+    numbered_case : (values : List ℕ) (dest : Option (List ℕ)) (o : Option ℕ)
+        → ((h : ℕ) (fn : Function) → o ≡ Some h → slice_get P.functions h ≡ Some fn
+        → Claim (Calls h (bound fn.params values) dest)) →
+        (((h : ℕ) (fn : Function) → o ≡ Some h → ¬ (slice_get P.functions h ≡ Some fn))
+        → Claim (Traps traps.Unreachable)) → Claim (numbered_call P o values dest)
     numbered_case values dest None p none = none (λ h fn e f. absurd (let z : ⊥ = cc in z))
     numbered_case values dest (Some h) p none = go (slice_get P.functions h) refl
       where
@@ -134,16 +146,22 @@ module _ (P : Program) (I : Input) (w : World) (below : ℕ) (rs : Registers) (C
         go None e = rw e (none (λ k fn q f. let same : h ≡ k = cc in let there : None ≡ Some fn = sym e ∙ ap (slice_get P.functions) same ∙ f in absurd (let z : ⊥ = cc in z)))
         go (Some fn) e = let q = p h fn refl e in rw e q
 
-    entered_case : (callee values : List ℕ) (dest : Option (List ℕ)) → ((h : ℕ) (fn : Function) → function_number P callee ≡ Some h → slice_get P.functions h ≡ Some fn → below < 16383 → Claim (Calls h (bound fn.params values) dest)) →
-        (((h : ℕ) (fn : Function) → function_number P callee ≡ Some h → ¬ (slice_get P.functions h ≡ Some fn)) → Claim (Traps traps.Unreachable)) → Claim (entered P below callee values dest)
+    entered_case : (callee values : List ℕ) (dest : Option (List ℕ))
+        → ((h : ℕ) (fn : Function) → function_number P callee ≡ Some h → slice_get P.functions h ≡ Some fn
+        → below < 16383 → Claim (Calls h (bound fn.params values) dest)) →
+        (((h : ℕ) (fn : Function) → function_number P callee ≡ Some h → ¬ (slice_get P.functions h ≡ Some fn))
+        → Claim (Traps traps.Unreachable)) → Claim (entered P below callee values dest)
     unfolding entered
     entered_case callee values dest p none = go (nat_lt below 16383) refl
       where
-        go : (b : Bool) → nat_lt below 16383 ≡ b → Claim (cond b (numbered_call P (function_number P callee) values dest) (Traps traps.Depth))
+        go : (b : Bool) → nat_lt below 16383 ≡ b
+            → Claim (cond b (numbered_call P (function_number P callee) values dest) (Traps traps.Depth))
         go true e = numbered_case values dest (function_number P callee) (λ h fn q r. p h fn q r (ltb-true below 16383 e)) none
         go false e = trap traps.Depth (λ e. cc)
 
-    call_case : (dest : Option (List ℕ)) (callee : List ℕ) (args : List Arg) → CallCases dest callee args → (o : Option ExternCall) → call_of callee ≡ o → Claim (call_action P I w below o callee (values_of P.globals I.base rs args) dest)
+    call_case : (dest : Option (List ℕ)) (callee : List ℕ) (args : List Arg) → CallCases dest callee args
+        → (o : Option ExternCall) → call_of callee ≡ o
+        → Claim (call_action P I w below o callee (values_of P.globals I.base rs args) dest)
     call_case dest callee args c None e = entered_case callee _ dest (λ h fn q r lt. c.enter h fn e q r lt) (c.missing e)
     call_case dest callee args c (Some x) e = extern_case x _ dest (λ q. c.read (e ∙ ap Some q)) (c.extern x e)
 

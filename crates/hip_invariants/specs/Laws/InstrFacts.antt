@@ -25,7 +25,8 @@ use Rattle.hip_globals.specs.Values.{element_address}
 use Rattle.hip_externs.specs.declared.call.ExternCall.TheVariants as calls
 use Rattle.hip_runs.specs.declared.input.Input.{Input}
 use Rattle.hip_runs.specs.Actions.{Action, Traps, Assigns, Allocates, Stores, Flushes, Persists, Fences, Asserts, Prints, Reads, Calls, Jumps, Returns, memory_of, truth, cast_value, index_values, read_value, instr_action, edge_value, returned}
-use Rattle.hip_runs.specs.Operands.{value_of, values_of, bound, scalar_size, width_of}
+use Rattle.hip_runs.specs.Operands.{value_of, values_of, bound, scalar_size}
+use Rattle.hip_types.specs.Scalars.{width_of}
 use Rattle.hip_runs.specs.State.{Registers, Frame, World}
 use Rattle.hip_runs.specs.Step.{run}
 use Rattle.hip_runs.specs.Laws.StepLaws.{IsTop}
@@ -36,9 +37,11 @@ module _ (Fact : ℕ → List ℕ → ℕ → Type 0) (Returned : ℕ → ℕ �
   abbrev value : Registers → Operand → ℕ
   value rs o = value_of P.globals I.base rs o
 
-  -- What has to be shown of a call: the next input number goes into a register, or a function's parameters take values and
+  -- What has to be shown of a call: the next input number goes into a register, or a function's parameters take values
+  -- and
   -- its result is waited for.
-  pub record CallFact (g : ℕ) (rs : Registers) (dest : Option (List ℕ)) (callee : List ℕ) (args : List Arg) : Type 0 where
+  pub record CallFact (g : ℕ) (rs : Registers) (dest : Option (List ℕ)) (callee : List ℕ)
+      (args : List Arg) : Type 0 where
     pub read : call_of callee ≡ Some calls.ReadI64 → (z : ℤ) → assigned_fact Fact Returned g dest (wrapped W64 z)
     pub enter : (h : ℕ) (fn : Function) → call_of callee ≡ None → function_number P callee ≡ Some h →
         slice_get P.functions h ≡ Some fn →
@@ -86,7 +89,8 @@ module _ (Fact : ℕ → List ℕ → ℕ → Type 0) (Returned : ℕ → ℕ �
     still_gives (Jumps b registers) h = absurd h
     still_gives (Returns v) h = absurd h
 
-    gives_by_case : (w : World) (below : ℕ) (rs : Registers) (i : Instr) → instr_fact g w rs i → instr_cases P I w below rs GivesOn i
+    gives_by_case : (w : World) (below : ℕ) (rs : Registers) (i : Instr) → instr_fact g w rs i
+        → instr_cases P I w below rs GivesOn i
     gives_by_case w below rs (Binary dest op flags width x y) p = λ r e. record { is = p r e }
     gives_by_case w below rs (Compare dest pred ty x y) p = record { is = p }
     gives_by_case w below rs (Select dest test ty x y) p = record { is = p }
@@ -102,10 +106,12 @@ module _ (Fact : ℕ → List ℕ → ℕ → Type 0) (Returned : ℕ → ℕ �
       missing = λ e none. record { is = tt };
     }
 
-    pub instr_gives : (w : World) (below : ℕ) (rs : Registers) (i : Instr) → InstrFact g w rs i → GivesOn (instr_action P I w below rs i)
+    pub instr_gives : (w : World) (below : ℕ) (rs : Registers) (i : Instr) → InstrFact g w rs i
+        → GivesOn (instr_action P I w below rs i)
     instr_gives w below rs i p = of_instr_action P I w below rs GivesOn (λ kind n. record { is = tt }) i (gives_by_case w below rs i p.is)
 
-  -- The fact is kept in each way in which a register gets a value, by an instruction or a phi, and of each value returned.
+  -- The fact is kept in each way in which a register gets a value, by an instruction or a phi, and of each value
+  -- returned.
   pub record KeepsFact : Type 0 where
     pub instr : (n : ℕ) (f : Frame) (fs : List Frame) (fn : Function) (block : Block) (i : Instr) →
         IsTop (run P I n) f fs → ValuesHold Fact Returned f.function f.registers →

@@ -9,10 +9,12 @@ use Rattle.hip_runs.specs.State.{Frame}
 use Rattle.hip_runs.specs.Laws.StepLaws.{has_frame}
 
 -- the function of a block that is there
-pub block_there : (P : Program) (g b : ℕ) (block : Block) → block_at P g b ≡ Some block → (fn : Function) × IsBlockAt P g b fn block
+pub block_there : (P : Program) (g b : ℕ) (block : Block) → block_at P g b ≡ Some block
+    → (fn : Function) × IsBlockAt P g b fn block
 block_there P g b block e = go (slice_get P.functions g) refl e
   where
-    go : (o : Option Function) → slice_get P.functions g ≡ o → slice_get (blocks_in o) b ≡ Some block → (fn : Function) × IsBlockAt P g b fn block
+    go : (o : Option Function) → slice_get P.functions g ≡ o → slice_get (blocks_in o) b ≡ Some block
+        → (fn : Function) × IsBlockAt P g b fn block
     go None q h = cc
     go (Some fn) q h = (fn, record { function = q; block_is = h })
 

@@ -69,7 +69,8 @@ module _ (Fact : ℕ → List ℕ → ℕ → Type 0) (Returned : ℕ → ℕ �
     pub is : gives_facts g x
 
   -- one more register
-  pub with_value : (g : ℕ) (dest : Option (List ℕ)) (v : ℕ) (rs : Registers) → assigned_fact g dest v → ValuesHold g rs → ValuesHold g (assigned dest v rs)
+  pub with_value : (g : ℕ) (dest : Option (List ℕ)) (v : ℕ) (rs : Registers) → assigned_fact g dest v → ValuesHold g rs
+      → ValuesHold g (assigned dest v rs)
   with_value g None v rs p h = h
   with_value g (Some name) v rs p h = record { all = (p, h.all) }
 
@@ -89,11 +90,13 @@ module _ (Fact : ℕ → List ℕ → ℕ → Type 0) (Returned : ℕ → ℕ �
   facts_kept f (Returns v) h p = λ g below. with_value g.function f.dest v g.registers (below.waits.for_result v p) below.hold
 
   -- the value that a register has, or 0 where it has none
-  pub fact_of_value : (g : ℕ) (rs : Registers) (name : List ℕ) → ValuesHold g rs → Fact g name 0 → Fact g name (look_up rs name)
+  pub fact_of_value : (g : ℕ) (rs : Registers) (name : List ℕ) → ValuesHold g rs → Fact g name 0
+      → Fact g name (look_up rs name)
   fact_of_value g [] name h none = none
   fact_of_value g (r ∷ rs) name h none = go (bytes_eq r.0 name) refl (fact_of_value g rs name (record { all = h.all.1 }) none)
     where
-      go : (b : Bool) → bytes_eq r.0 name ≡ b → Fact g name (look_up rs name) → Fact g name (cond b r.1 (look_up rs name))
+      go : (b : Bool) → bytes_eq r.0 name ≡ b → Fact g name (look_up rs name)
+          → Fact g name (cond b r.1 (look_up rs name))
       go true e rest = subst (λ n. Fact g n r.1) ((bytes_eq-Decides r.0 name).0 e) h.all.0
       go false e rest = rest
 
@@ -103,12 +106,14 @@ module _ (Fact : ℕ → List ℕ → ℕ → Type 0) (Returned : ℕ → ℕ �
   values_in_frames (f ∷ fs) = ValuesHold f.function f.registers × values_in_frames fs
 
   -- so each register of each frame has the fact, where 0 has it
-  pub each_told : ((g : ℕ) (name : List ℕ) → Fact g name 0) → (fs : List Frame) → values_in_frames fs → each_register Fact fs
+  pub each_told : ((g : ℕ) (name : List ℕ) → Fact g name 0) → (fs : List Frame) → values_in_frames fs
+      → each_register Fact fs
   each_told none [] h = tt
   each_told none (f ∷ fs) h = (λ name. fact_of_value f.function f.registers name h.0 (none f.function name), each_told none fs h.1)
 
   module _ (P : Program) (I : Input) where
-    -- Each way in which a register gets a value, or a value is returned: by an instruction, by a phi, and by the end of a
+    -- Each way in which a register gets a value, or a value is returned: by an instruction, by a phi, and by the end of
+    -- a
     -- block.
     pub record ActionsKeep : Type 0 where
       pub instr : (n : ℕ) (f : Frame) (fs : List Frame) (fn : Function) (block : Block) (i : Instr) →
@@ -123,25 +128,32 @@ module _ (Fact : ℕ → List ℕ → ℕ → Type 0) (Returned : ℕ → ℕ �
           Returned f.function (returned P.globals I.base f.registers arg)
 
     module _ (kept : ActionsKeep) where
-      phis_hold : (f : Frame) (c : ℕ) (fn : Function) (block : Block) (from : List ℕ) → ValuesHold f.function f.registers → IsBlockAt P f.function c fn block →
-          (ps : List Phi) → ((k : ℕ) (p : Phi) → slice_get ps k ≡ Some p → Fact f.function p.dest (edge_value P.globals I.base f.registers p.edges from)) → each_value f.function (after_phis P.globals I.base f.registers from ps)
+      phis_hold : (f : Frame) (c : ℕ) (fn : Function) (block : Block) (from : List ℕ)
+          → ValuesHold f.function f.registers → IsBlockAt P f.function c fn block →
+          (ps : List Phi)
+          → ((k : ℕ) (p : Phi)
+          → slice_get ps k ≡ Some p → Fact f.function p.dest (edge_value P.globals I.base f.registers p.edges from))
+          → each_value f.function (after_phis P.globals I.base f.registers from ps)
       phis_hold f c fn block from h at [] each = h.all
       phis_hold f c fn block from h at (p ∷ ps) each = (each 0 p refl, phis_hold f c fn block from h at ps (λ k q e. each (suc k) q e))
 
-      jump_to_gives : (f : Frame) → ValuesHold f.function f.registers → (o : Option ℕ) → GivesFacts f.function (jump_to P I f o)
+      jump_to_gives : (f : Frame) → ValuesHold f.function f.registers → (o : Option ℕ)
+          → GivesFacts f.function (jump_to P I f o)
       jump_to_gives f h None = record { is = tt }
       jump_to_gives f h (Some c) = record { is = record { all = go (block_at P f.function c) refl } }
         where
           from : List ℕ
           from = label_of (block_at P f.function f.block)
 
-          go : (o : Option Block) → block_at P f.function c ≡ o → each_value f.function (after_phis P.globals I.base f.registers from (phis_of o))
+          go : (o : Option Block) → block_at P f.function c ≡ o
+              → each_value f.function (after_phis P.globals I.base f.registers from (phis_of o))
           go None e = h.all
           go (Some block) e =
               let at = block_there P f.function c block e in
               phis_hold f c at.0 block from h at.1 block.phis (λ k p q. kept.phi f c k at.0 block p from h at.1 q)
 
-      end_gives : (f : Frame) → ValuesHold f.function f.registers → (o : Option End) → end_at P f ≡ o → GivesFacts f.function (end_action P I f o)
+      end_gives : (f : Frame) → ValuesHold f.function f.registers → (o : Option End) → end_at P f ≡ o
+          → GivesFacts f.function (end_action P I f o)
       unfolding end_action jump
       end_gives f h None e = record { is = tt }
       end_gives f h (Some (ends.Br label)) e = jump_to_gives f h _
@@ -149,17 +161,20 @@ module _ (Fact : ℕ → List ℕ → ℕ → Type 0) (Returned : ℕ → ℕ �
       end_gives f h (Some (ends.Switch width value other cases)) e = jump_to_gives f h _
       end_gives f h (Some (ends.Ret arg)) e = record { is = go (block_at P f.function f.block) refl e }
         where
-          go : (o : Option Block) → block_at P f.function f.block ≡ o → end_of o ≡ Some (ends.Ret arg) → Returned f.function (returned P.globals I.base f.registers arg)
+          go : (o : Option Block) → block_at P f.function f.block ≡ o → end_of o ≡ Some (ends.Ret arg)
+              → Returned f.function (returned P.globals I.base f.registers arg)
           go None q r = cc
           go (Some block) q r = let at = block_there P f.function f.block block q in kept.result f at.0 block arg h at.1 (let s : block.end ≡ ends.Ret arg = cc in s)
       end_gives f h (Some ends.Unreachable) e = record { is = tt }
 
-      deed_gives : (n : ℕ) (f : Frame) (fs : List Frame) → IsTop (run P I n) f fs → ValuesHold f.function f.registers → (code : List Instr) → code_at P f ≡ code →
+      deed_gives : (n : ℕ) (f : Frame) (fs : List Frame) → IsTop (run P I n) f fs → ValuesHold f.function f.registers
+          → (code : List Instr) → code_at P f ≡ code →
           GivesFacts f.function (deed_of P I (run P I n).world (length fs) f (end_at P f) code).action
       deed_gives n f fs t h [] e = end_gives f h (end_at P f) refl
       deed_gives n f fs t h (i ∷ rest) e = go (block_at P f.function f.block) refl (get_drop (body_at P f.function f.block) f.place i rest e)
         where
-          go : (o : Option Block) → block_at P f.function f.block ≡ o → slice_get (body_of o) f.place ≡ Some i → GivesFacts f.function (instr_action P I (run P I n).world (length fs) f.registers i)
+          go : (o : Option Block) → block_at P f.function f.block ≡ o → slice_get (body_of o) f.place ≡ Some i
+              → GivesFacts f.function (instr_action P I (run P I n).world (length fs) f.registers i)
           go None q r = cc
           go (Some block) q r = let at = block_there P f.function f.block block q in kept.instr n f fs at.0 block i t h at.1 r
 
@@ -169,7 +184,8 @@ module _ (Fact : ℕ → List ℕ → ℕ → Type 0) (Returned : ℕ → ℕ �
         each = λ n f fs t s. record { is = facts_kept f _ s.0 (deed_gives n f fs t s.0 (code_at P f) refl).is };
       }
 
-      values_below : (h : ℕ) (dest : Option (List ℕ)) (fs : List Frame) → below_hold on_top IsBehindCall (main_number P) h dest fs → values_in_frames fs
+      values_below : (h : ℕ) (dest : Option (List ℕ)) (fs : List Frame)
+          → below_hold on_top IsBehindCall (main_number P) h dest fs → values_in_frames fs
       values_below h dest [] u = tt
       values_below h dest (g ∷ fs) u = (u.0.hold, values_below g.function g.dest fs u.1)
 

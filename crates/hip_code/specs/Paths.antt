@@ -9,7 +9,7 @@ use Rattle.hip_ir.specs.declared.instr.Operand.TheVariants.{Fixed}
 use Rattle.hip_ir.specs.declared.program.GlobalVar.{GlobalVar}
 use Rattle.hip_globals.specs.Values.{const_value}
 use Rattle.hip_runs.specs.Actions.{index_value}
-use Rattle.hip_runs.specs.Operands.{width_of}
+use Rattle.hip_types.specs.Scalars.{width_of}
 use Rattle.hip_code.specs.Resolved.{IsOperand}
 use Rattle.hip_code.specs.declared.op.Term.{Term}
 

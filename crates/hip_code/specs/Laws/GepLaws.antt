@@ -18,7 +18,8 @@ use Rattle.hip_typing.specs.Registers.{arg_uses}
 use Rattle.hip_globals.specs.Values.{const_value, element_address}
 use Rattle.hip_runs.specs.declared.input.Input.{Input}
 use Rattle.hip_runs.specs.Actions.{index_value, index_values, instr_action}
-use Rattle.hip_runs.specs.Operands.{value_of, width_of}
+use Rattle.hip_runs.specs.Operands.{value_of}
+use Rattle.hip_types.specs.Scalars.{width_of}
 use Rattle.hip_runs.specs.State.{Registers}
 use Rattle.hip_code.specs.Frames.{are_known, HoldsFrame, names_at}
 use Rattle.hip_code.specs.Numbers.{Numbers, Tables, operand_value, is_within, entries_of, HasSpan}

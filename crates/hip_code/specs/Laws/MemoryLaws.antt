@@ -22,7 +22,8 @@ use Rattle.hip_externs.specs.declared.call.ExternCall.TheVariants as calls
 use Rattle.hip_runs.specs.declared.event.TrapKind.TheVariants as traps
 use Rattle.hip_runs.specs.declared.input.Input.{Input}
 use Rattle.hip_runs.specs.Actions.{Action, Traps, Assigns, Stores, Flushes, Persists, Asserts, Prints, accessed, allocated, call_action, extern_action, flushing, in_region, instr_action, is_flush_or_fence, memory_of, read_next}
-use Rattle.hip_runs.specs.Operands.{access_align, scalar_size, value_of, values_of, width_of}
+use Rattle.hip_runs.specs.Operands.{access_align, scalar_size, value_of, values_of}
+use Rattle.hip_types.specs.Scalars.{width_of}
 use Rattle.hip_runs.specs.State.{Registers, World}
 use Rattle.hip_code.specs.Calls.{extern_op, are_taken}
 use Rattle.hip_code.specs.Frames.{are_known, HoldsFrame, names_at}

@@ -23,7 +23,8 @@ use Rattle.hip_num.specs.declared.arithmetic.NumTrap.{NumTrap}
 use Rattle.hip_num.specs.declared.arithmetic.NumTrap.TheVariants as num_traps
 use Rattle.hip_runs.specs.declared.input.Input.{Input}
 use Rattle.hip_runs.specs.Actions.{Action, calculated, instr_action, truth, cast_value}
-use Rattle.hip_runs.specs.Operands.{value_of, width_of}
+use Rattle.hip_runs.specs.Operands.{value_of}
+use Rattle.hip_types.specs.Scalars.{width_of}
 use Rattle.hip_code.specs.Frames.{names_at}
 use Rattle.hip_code.specs.Numbers.{Numbers, Tables, operand_value, is_within}
 use Rattle.hip_code.specs.Ops.{gave}

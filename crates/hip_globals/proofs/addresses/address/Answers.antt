@@ -4,12 +4,13 @@ use Rattle.hip_ir.specs.declared.program.GlobalVar.{GlobalVar}
 use Rattle.hip_ir.specs.declared.program.Program.{Program}
 use Rattle.hip_ir.specs.Reading.{IsSpelled}
 use Rattle.hip_mem.specs.Memory.{volatile_start}
+use Rattle.hip_types.specs.declared.limits.TheConstants.{BASE_ALIGNMENT}
 use Rattle.hip_globals.specs.Addresses.{start_of, end_of, is_persistent}
 use Rattle.hip_globals.specs.Laws.AddressLaws.{spelled-divide, start_of-from, end_of-from}
 use Rattle.hip_globals.proofs.AddressLemmas.{is_persistent-at, start_of-le}
 use Rattle.hip_globals.proofs.addresses.address.Goals as goal
 
-moved_end : (P : Program) (base : ℕ) → base % 4096 ≡ 0 → IsSpelled P → end_of true base P.globals ≡ base + end_of true 0 P.globals
+moved_end : (P : Program) (base : ℕ) → base % BASE_ALIGNMENT ≡ 0 → IsSpelled P → end_of true base P.globals ≡ base + end_of true 0 P.globals
 moved_end P base page spelled =
     let none : base + 0 ≡ base = omega arith in
     sym (ap (λ n. end_of true n P.globals) none) ∙ end_of-from true base 0 P.globals page (spelled-divide P spelled)

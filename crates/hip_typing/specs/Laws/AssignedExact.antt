@@ -78,7 +78,9 @@ all-numbers Q n [] label h c e = cc
 all-numbers Q n (b ∷ bs) label h c e =
     by_test (bytes_eq label b.label) refl c h (sym (number_of-cons b.label (map (λ b. b.label) bs) label) ∙ e) (λ g d f. all-numbers Q (n + 1) bs label g d f)
   where
-    by_test : (t : Bool) → bytes_eq label b.label ≡ t → (c : ℕ) → All Q (if bytes_eq b.label label then n ∷ [] else block_numbers_from (n + 1) bs label) → cond t (Some 0) (option_map suc (number_of (map (λ b. b.label) bs) label)) ≡ Some c →
+    by_test : (t : Bool) → bytes_eq label b.label ≡ t → (c : ℕ)
+        → All Q (if bytes_eq b.label label then n ∷ [] else block_numbers_from (n + 1) bs label)
+        → cond t (Some 0) (option_map suc (number_of (map (λ b. b.label) bs) label)) ≡ Some c →
         (All Q (block_numbers_from (n + 1) bs label) → (d : ℕ) → number_of (map (λ b. b.label) bs) label ≡ Some d → Q (n + 1 + d)) → Q (n + c)
     by_test true is c h e rest =
         let there : bytes_eq b.label label ≡ true = bytes_eq-sym b.label label ∙ is in
@@ -99,10 +101,15 @@ numbers-all : (Q : ℕ → Type 0) (n : ℕ) (bs : List Block) (label : List ℕ
 numbers-all Q n [] label h = All-nil Q
 numbers-all Q n (b ∷ bs) label h = by_test (bytes_eq b.label label) refl (λ g. numbers-all Q (n + 1) bs label g)
   where
-    steps : (t : Bool) → bytes_eq b.label label ≡ t → number_of (b.label ∷ map (λ b. b.label) bs) label ≡ cond t (Some 0) (option_map suc (number_of (map (λ b. b.label) bs) label))
+    steps : (t : Bool) → bytes_eq b.label label ≡ t
+        → number_of (b.label ∷ map (λ b. b.label) bs) label ≡ cond t (Some 0)
+        (option_map suc (number_of (map (λ b. b.label) bs) label))
     steps t is = number_of-cons b.label (map (λ b. b.label) bs) label ∙ ap (λ t. cond t (Some 0) (option_map suc (number_of (map (λ b. b.label) bs) label))) (bytes_eq-sym label b.label ∙ is)
 
-    by_test : (t : Bool) → bytes_eq b.label label ≡ t → (((c : ℕ) → number_of (map (λ b. b.label) bs) label ≡ Some c → Q (n + 1 + c)) → All Q (block_numbers_from (n + 1) bs label)) → All Q (if t then n ∷ [] else block_numbers_from (n + 1) bs label)
+    by_test : (t : Bool) → bytes_eq b.label label ≡ t
+        → (((c : ℕ) → number_of (map (λ b. b.label) bs) label ≡ Some c → Q (n + 1 + c))
+        → All Q (block_numbers_from (n + 1) bs label)) → All Q (if t then n ∷ [] else block_numbers_from (n + 1) bs
+        label)
     by_test true is rest = let first : n + 0 ≡ n = omega arith in All-cons Q n [] (subst Q first (h 0 (steps true is))) (All-nil Q)
     by_test false is rest = rest (λ c e. let next : n + suc c ≡ n + 1 + c = omega arith in subst Q next (h (suc c) (steps false is ∙ ap (option_map suc) e)))
 

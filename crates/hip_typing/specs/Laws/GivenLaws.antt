@@ -81,7 +81,9 @@ function_found : (fs : List Function) (name : List ℕ) (s : Signature) → func
 function_found [] name s e = cc
 function_found (f ∷ fs) name s e = by_test (λ later. function_found fs name s later) (bytes_eq f.name name) refl e
   where
-    by_test : (function_of fs name ≡ Some s → FunctionAt fs name s) → (b : Bool) → bytes_eq f.name name ≡ b → (if b then Some (record { ret = f.ret; params = map (λ p. p.ty) f.params }) else function_of fs name) ≡ Some s → FunctionAt (f ∷ fs) name s
+    by_test : (function_of fs name ≡ Some s → FunctionAt fs name s) → (b : Bool) → bytes_eq f.name name ≡ b
+        → (if b then Some (record { ret = f.ret; params = map (λ p. p.ty) f.params }) else function_of fs name) ≡ Some s
+        → FunctionAt (f ∷ fs) name s
     by_test rest true is e =
         let same = some_is (record { ret = f.ret; params = map (λ p. p.ty) f.params }) s e in
         record {
@@ -110,7 +112,9 @@ extern_found : (es : List Extern) (name : List ℕ) (s : Signature) → All IsOf
 extern_found [] name s h e = cc
 extern_found (x ∷ xs) name s h e = by_test (λ later. extern_found xs name s (All-tail IsOfTable x xs h) later) (bytes_eq x.name name) refl e
   where
-    by_test : (extern_of xs name ≡ Some s → known_signature name ≡ Some s) → (b : Bool) → bytes_eq x.name name ≡ b → (if b then Some (record { ret = x.ret; params = x.params }) else extern_of xs name) ≡ Some s → known_signature name ≡ Some s
+    by_test : (extern_of xs name ≡ Some s → known_signature name ≡ Some s) → (b : Bool) → bytes_eq x.name name ≡ b
+        → (if b then Some (record { ret = x.ret; params = x.params }) else extern_of xs name) ≡ Some s
+        → known_signature name ≡ Some s
     by_test rest true is e = ap known_signature (sym ((bytes_eq-Decides x.name name).0 is)) ∙ All-head IsOfTable x xs h ∙ e
     by_test rest false is e = rest e
 
@@ -121,10 +125,13 @@ call_is : (P : Program) (callee : List ℕ) (ret : Option Scalar) (args : List A
     → CallsFunction P callee ret args ⊎ CallsExtern callee ret args
 call_is P callee ret args table e = by_extern (extern_of P.externs callee) refl e
   where
-    of_function : FunctionAt P.functions callee (record { ret = ret; params = map (λ a. a.ty) args }) → CallsFunction P callee ret args
+    of_function : FunctionAt P.functions callee (record { ret = ret; params = map (λ a. a.ty) args })
+        → CallsFunction P callee ret args
     of_function f = record { number = f.number; function = f.function; named = f.named; here = f.here; result = f.result; params = f.params }
 
-    by_extern : (o : Option Signature) → extern_of P.externs callee ≡ o → first_of o (function_of P.functions callee) ≡ Some (record { ret = ret; params = map (λ a. a.ty) args }) → CallsFunction P callee ret args ⊎ CallsExtern callee ret args
+    by_extern : (o : Option Signature) → extern_of P.externs callee ≡ o
+        → first_of o (function_of P.functions callee) ≡ Some (record { ret = ret; params = map (λ a. a.ty) args })
+        → CallsFunction P callee ret args ⊎ CallsExtern callee ret args
     by_extern None is e = inl (of_function (function_found P.functions callee (record { ret = ret; params = map (λ a. a.ty) args }) e))
     by_extern (Some s) is e =
         inr (record {

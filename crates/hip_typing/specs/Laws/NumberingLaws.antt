@@ -12,7 +12,8 @@ pub function_number-there : (P : Program) (name : List ℕ) (g : ℕ) → functi
     → (fn : Function) × (slice_get P.functions g ≡ Some fn) × (fn.name ≡ name)
 function_number-there P name g e = named (slice_get P.functions g) refl (sym (slice_get-map (λ f. f.name) P.functions g) ∙ number_of-there (function_names P.functions) name g e)
   where
-    named : (o : Option Function) → slice_get P.functions g ≡ o → option_map (λ f. f.name) o ≡ Some name → (fn : Function) × (slice_get P.functions g ≡ Some fn) × (fn.name ≡ name)
+    named : (o : Option Function) → slice_get P.functions g ≡ o → option_map (λ f. f.name) o ≡ Some name
+        → (fn : Function) × (slice_get P.functions g ≡ Some fn) × (fn.name ≡ name)
     named None at f = cc
     named (Some fn) at f = (fn, at, same_Some fn.name name f)
 

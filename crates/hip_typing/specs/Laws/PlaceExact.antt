@@ -218,7 +218,8 @@ cases-decides Unreachable = (λ e. tt, λ h. refl)
 entry-decides : (fn : Function) (label : List ℕ) → Decides (is_entry fn.blocks label) (label_at fn 0 ≡ Some label)
 entry-decides fn label = by_blocks fn.blocks
   where
-    by_blocks : (bs : List Block) → Decides (is_entry bs label) (option_map (λ b. b.label) (slice_get bs 0) ≡ Some label)
+    by_blocks : (bs : List Block)
+        → Decides (is_entry bs label) (option_map (λ b. b.label) (slice_get bs 0) ≡ Some label)
     by_blocks [] = (λ e. cc, λ h. cc)
     by_blocks (b ∷ bs) = (λ e. ap Some ((bytes_eq-Decides b.label label).0 e), λ h. (bytes_eq-Decides b.label label).1 (let same : b.label ≡ label = cc in same))
 
@@ -250,7 +251,8 @@ predecessor-sound (x ∷ xs) from to h = by_test (is_predecessor to x) refl (λ 
     later : IsPredecessor xs from to → IsPredecessor (x ∷ xs) from to
     later (n, b, here, label, named) = (suc n, b, here, label, named)
 
-    by_test : (p : Bool) → is_predecessor to x ≡ p → (IsAmong (predecessors xs to) from → IsPredecessor xs from to) → IsAmong (if p then x.label ∷ predecessors xs to else predecessors xs to) from → IsPredecessor (x ∷ xs) from to
+    by_test : (p : Bool) → is_predecessor to x ≡ p → (IsAmong (predecessors xs to) from → IsPredecessor xs from to)
+        → IsAmong (if p then x.label ∷ predecessors xs to else predecessors xs to) from → IsPredecessor (x ∷ xs) from to
     by_test true e rest (inl same) = (0, x, refl, same, (among-decides (end_labels x.end) to).0 e)
     by_test true e rest (inr l) = later (rest l)
     by_test false e rest l = later (rest l)
@@ -273,7 +275,8 @@ among-of_all Q (y ∷ ys) h x (inr among) = among-of_all Q ys (All-tail Q y ys h
 carry-decides : (e d : Edge) → Decides (carry_alike e d) (e.label ≡ d.label → e.value ≡ d.value)
 carry-decides e d = by_test (bytes_eq e.label d.label) refl
   where
-    by_test : (b : Bool) → bytes_eq e.label d.label ≡ b → Decides (not b || same_operand e.value d.value) (e.label ≡ d.label → e.value ≡ d.value)
+    by_test : (b : Bool) → bytes_eq e.label d.label ≡ b
+        → Decides (not b || same_operand e.value d.value) (e.label ≡ d.label → e.value ≡ d.value)
     by_test true is = (λ t same. (same_operand-decides e.value d.value).0 t, λ h. (same_operand-decides e.value d.value).1 (h ((bytes_eq-Decides e.label d.label).0 is)))
     by_test false is = (λ t same. let there : bytes_eq e.label d.label ≡ true = (bytes_eq-Decides e.label d.label).1 same in cc, λ h. refl)
 

@@ -107,7 +107,8 @@ main_there [] n g named here is = cc
 main_there (f ∷ fs) n g named here is =
     by_test (bytes_eq (codes "main") f.name) refl n here (sym (number_of-cons f.name (function_names fs) (codes "main")) ∙ named) (λ m at there. main_there fs m g at there is)
   where
-    by_test : (t : Bool) → bytes_eq (codes "main") f.name ≡ t → (n : ℕ) → slice_get (f ∷ fs) n ≡ Some g → cond t (Some 0) (option_map suc (number_of (function_names fs) (codes "main"))) ≡ Some n →
+    by_test : (t : Bool) → bytes_eq (codes "main") f.name ≡ t → (n : ℕ) → slice_get (f ∷ fs) n ≡ Some g
+        → cond t (Some 0) (option_map suc (number_of (function_names fs) (codes "main"))) ≡ Some n →
         ((m : ℕ) → number_of (function_names fs) (codes "main") ≡ Some m → slice_get fs m ≡ Some g → has_main fs ≡ true) → has_main (f ∷ fs) ≡ true
     by_test true e n here at rest =
         let there : bytes_eq f.name (codes "main") ≡ true = bytes_eq-sym f.name (codes "main") ∙ e in
@@ -138,7 +139,8 @@ main_found : (fs : List Function) → has_main fs ≡ true
 main_found [] e = cc
 main_found (f ∷ fs) e = by_test (λ later. main_found fs later) (bytes_eq f.name (codes "main")) refl e
   where
-    by_test : (has_main fs ≡ true → (n : ℕ) × (g : Function) × (number_of (function_names fs) (codes "main") ≡ Some n) × (slice_get fs n ≡ Some g) × (is_main g ≡ true)) →
+    by_test : (has_main fs ≡ true → (n : ℕ) × (g : Function) × (number_of (function_names fs) (codes "main") ≡ Some n)
+        × (slice_get fs n ≡ Some g) × (is_main g ≡ true)) →
         (b : Bool) → bytes_eq f.name (codes "main") ≡ b → (if b then is_main f else has_main fs) ≡ true →
         (n : ℕ) × (g : Function) × (number_of (function_names (f ∷ fs)) (codes "main") ≡ Some n) × (slice_get (f ∷ fs) n ≡ Some g) × (is_main g ≡ true)
     by_test rest true is e = (0, f, number_by f fs true is, refl, e)

@@ -56,16 +56,7 @@ module _ (Q : Program) where
       go : (o : Option ExternCall) → call_of callee ≡ o → is_fence o → ActsFence Q (Call dest ret callee args)
       go (Some calls.Sfence) q f = by calls.Sfence q refl (λ I w below values. refl)
       go (Some calls.Mfence) q f = by calls.Mfence q refl (λ I w below values. refl)
-      go (Some calls.ReadI64) q f = absurd f
-      go (Some calls.PrintI64) q f = absurd f
-      go (Some calls.PmAssert) q f = absurd f
-      go (Some calls.Clwb) q f = absurd f
-      go (Some calls.Clflushopt) q f = absurd f
-      go (Some calls.Clflush) q f = absurd f
-      go (Some calls.PmemFlush) q f = absurd f
-      go (Some calls.PmemPersist) q f = absurd f
-      go (Some calls.PmemDrain) q f = absurd f
-      go None q f = absurd f
+      go _ q f = absurd f
   acts_fence (Binary dest op flags width x y) h = absurd h
   acts_fence (Compare dest pred ty x y) h = absurd h
   acts_fence (Select dest test ty x y) h = absurd h

@@ -21,14 +21,14 @@ use Rattle.hip_lines.specs.Line.{has_bytes, stored, fresh_lines}
 use Rattle.hip_mem.specs.Bytes.{bytes_of, little_endian}
 use Rattle.hip_mem.specs.Laws.BytesLaws.{length-bytes_of}
 use Rattle.hip_num.specs.declared.arithmetic.NumTrap.{NumTrap}
-use Rattle.hip_externs.specs.Externs.{call_of}
+use Rattle.hip_externs.specs.Externs.{call_of, row_of}
 use Rattle.hip_typing.specs.Numbering.{function_number}
 use Rattle.hip_externs.specs.declared.call.ExternCall.{ExternCall}
 use Rattle.hip_runs.specs.declared.event.Ending.{Ending}
 use Rattle.hip_runs.specs.declared.event.Ending.TheVariants.{Stop, Trap, Cut}
 use Rattle.hip_runs.specs.declared.event.TrapKind.{TrapKind}
 use Rattle.hip_runs.specs.declared.input.Input.{Input}
-use Rattle.hip_runs.specs.Actions.{Action, Traps, Assigns, Allocates, Stores, Flushes, Persists, Fences, Asserts, Prints, Reads, Calls, Jumps, Returns, in_region, are_valid, accessed, allocated, entered, flushing, call_action, extern_action, instr_action, end_action, is_turn, is_flush_or_fence, deed_of, read_next, calculated, jump, jump_to}
+use Rattle.hip_runs.specs.Actions.{Action, Traps, Assigns, Allocates, Stores, Flushes, Persists, Fences, Asserts, Prints, Reads, Calls, Jumps, Returns, in_region, are_valid, accessed, allocated, entered, flushing, call_action, extern_action, instr_action, end_action, is_turn, is_flush_or_fence, deed_of, read_next, calculated, jump, jump_to, line_action, arg_value, flushed_size}
 use Rattle.hip_runs.specs.Operands.{value_of, values_of, assigned, bound, scalar_size, access_align}
 use Rattle.hip_runs.specs.StoredParts.Persistence.{part_of_store, stored_lines}
 use Rattle.hip_runs.specs.Places.{body_at, code_at, end_at}
@@ -53,6 +53,8 @@ use Rattle.hip_repairs.proofs.functions.Twins.{Twin, CallsTwin}
 use Rattle.hip_repairs.specs.Laws.Callable.{IsCallable}
 use Rattle.hip_ir.specs.declared.block.End.TheVariants as ends
 use Rattle.hip_externs.specs.declared.call.ExternCall.TheVariants as calls
+use Rattle.hip_externs.specs.declared.call.LineEffect.{LineEffect}
+use Rattle.hip_externs.specs.declared.call.LineEffect.TheVariants as effects
 use Rattle.hip_runs.specs.declared.event.Event.TheVariants as events
 use Rattle.hip_runs.specs.declared.event.TrapKind.TheVariants as traps
 
@@ -112,18 +114,17 @@ pub plain_calculated : (dest : List ℕ) (r : Result Bits NumTrap) → IsPlain (
 plain_calculated dest (Ok b) = record { is = tt }
 plain_calculated dest (Err t) = record { is = tt }
 
+plain_lines : (P : Program) (I : Input) (w : World) (effect : LineEffect) (a n : ℕ) → IsPlain (line_action P I w effect a n)
+plain_lines P I w effects.Nothing a n = plain_trap traps.Unreachable
+plain_lines P I w effects.Flush a n = plain_flushing P I w a n _ (record { is = tt })
+plain_lines P I w effects.Fence a n = record { is = tt }
+plain_lines P I w effects.FlushAndFence a n = plain_flushing P I w a n _ (record { is = tt })
+
 pub plain_extern : (P : Program) (I : Input) (w : World) (call : ExternCall) (values : List ℕ) (dest : Option (List ℕ)) → IsPlain (extern_action P I w call values dest)
 plain_extern P I w calls.ReadI64 values dest = plain_read dest w.left
 plain_extern P I w calls.PrintI64 values dest = record { is = tt }
 plain_extern P I w calls.PmAssert values dest = plain_cond _ _ _ (plain_asserts _ _) (plain_trap traps.Address)
-plain_extern P I w calls.Clwb values dest = plain_flushing P I w _ _ _ (record { is = tt })
-plain_extern P I w calls.Clflushopt values dest = plain_flushing P I w _ _ _ (record { is = tt })
-plain_extern P I w calls.Clflush values dest = plain_flushing P I w _ _ _ (record { is = tt })
-plain_extern P I w calls.Sfence values dest = record { is = tt }
-plain_extern P I w calls.Mfence values dest = record { is = tt }
-plain_extern P I w calls.PmemFlush values dest = plain_flushing P I w _ _ _ (record { is = tt })
-plain_extern P I w calls.PmemPersist values dest = plain_flushing P I w _ _ _ (record { is = tt })
-plain_extern P I w calls.PmemDrain values dest = record { is = tt }
+plain_extern P I w call values dest = plain_lines P I w (row_of call).effect (arg_value values 0) (flushed_size (row_of call).params values)
 
 plain_assigns : (dest : Option (List ℕ)) (v : ℕ) → IsPlain (Assigns dest v)
 plain_assigns dest v = record { is = tt }
@@ -136,16 +137,7 @@ plain_load P I w below regs dest ty addr align = plain_accessed P I w _ _ _ _ (p
 pub extern_same : (P : Program) (plan : Plan) (skip : Site → Bool) (I : Input) (w : World) (call : ExternCall) (values : List ℕ) (dest : Option (List ℕ)) → extern_action (repaired P plan skip) I w call values dest ≡ extern_action P I w call values dest
 unfolding flushing
 extern_same P plan skip I w calls.ReadI64 values dest = refl
-extern_same P plan skip I w calls.PrintI64 values dest = refl
-extern_same P plan skip I w calls.PmAssert values dest = refl
-extern_same P plan skip I w calls.Clwb values dest = refl
-extern_same P plan skip I w calls.Clflushopt values dest = refl
-extern_same P plan skip I w calls.Clflush values dest = refl
-extern_same P plan skip I w calls.Sfence values dest = refl
-extern_same P plan skip I w calls.Mfence values dest = refl
-extern_same P plan skip I w calls.PmemFlush values dest = refl
-extern_same P plan skip I w calls.PmemPersist values dest = refl
-extern_same P plan skip I w calls.PmemDrain values dest = refl
+extern_same P plan skip I w _ values dest = refl
 
 -- the event of a store into the region
 store_event : (P : Program) (I : Input) (w : World) (f : Frame) (fs : List Frame) (ls : Lines) (c : Counts) (ty : Scalar) (value addr : Operand) (align : Option ℕ) (rest : List Instr) → w.ending ≡ None → code_at P f ≡ Store ty value addr align ∷ rest →

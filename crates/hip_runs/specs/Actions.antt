@@ -170,7 +170,7 @@ abbrev pub flushed_size : List Scalar → List ℕ → ℕ
 flushed_size (addr ∷ size ∷ more) values = arg_value values 1
 flushed_size _ values = 1
 
--- What is done to the cache lines of a range, by the effect of a function on them. (Those that have none are not asked.)
+-- What is done to the cache lines of a range, by the effect of a function on them. (One that has none is not asked.)
 abbrev pub line_action : Program → Input → World → LineEffect → (addr size : ℕ) → Action
 line_action P I w effects.Nothing a n = Traps traps.Unreachable
 line_action P I w effects.Flush a n = flushing P I w a n (Flushes a n)

@@ -35,7 +35,8 @@ impl Directory {
     /// The number at a key.
     #[inline(always)]
     pub fn get(&self, key: u64) -> u32
-        ensures { result ≡ number_at self.now key }
+        ensures number { result ≡ number_at self.now key }
+        ensures room { result ≢ 0 → HasRoom self.now key }
     {
         self.entries[self.place(key)]
     }

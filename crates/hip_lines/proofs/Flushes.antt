@@ -1,33 +1,30 @@
 -- The flush of a range, line by line.
 use Rattle.std.proofs.Common.{◌≡◌, ◌≢◌, ◌⊎◌, inl, inr, ℕ, ◌+◌, ◌/◌, ◌-◌, ◌<◌, ◌≤◌, Bool, true, false, cond, nat_lt, ◌&&◌, Option, Some, None, IsSome, refl, sym, ap, ◌∙◌, subst, arith}
 use Rattle.std.proofs.lemmas.Bool.Decides.{nat_tests}
-use Rattle.std.specs.Ordering.{nat_cmp}
-use Rattle.std.specs.BTreeMap.{get, btree_map_len}
 use Rattle.hip_lines.specs.declared.queue.Queue.{Queue}
+use Rattle.hip_lines.specs.declared.queues.Queues.{Queues}
 use Rattle.hip_lines.specs.Line.{has_bytes}
 use Rattle.hip_lines.specs.Pending.{pending_flushed}
-use Rattle.hip_lines.specs.Kept.{Queues, pending_by, pending_at, AreNumbered, AreBelow, ChangesLine, FlushesLines}
+use Rattle.hip_lines.specs.Kept.{queue_at, count_of, pending_by, pending_at, AreBelow, ChangesLine, FlushesLines}
 use Rattle.hip_lines.specs.Next.{IsQueueFrom}
 
 -- the lines of the range below `next` were flushed, and `changed` says whether one of them changed
 pub record Flushed (o n next : ℕ) (changed : Bool) (old new : Queues) : Type 0 where
   pub first : o / 64 ≤ next
   pub pending : (j : ℕ) → pending_at new j ≡ cond (has_bytes j o n && nat_lt j next) (pending_flushed (pending_at old j)) (pending_at old j)
-  pub above : (j : ℕ) → next ≤ j → get nat_cmp new j ≡ get nat_cmp old j
-  pub numbered : AreNumbered new
+  pub above : (j : ℕ) → next ≤ j → queue_at new j ≡ queue_at old j
   pub below : (k : ℕ) → AreBelow k old → AreBelow k new
-  pub len : btree_map_len new ≤ btree_map_len old
-  pub changes : changed ≡ true → (j : ℕ) × (j < next) × IsSome (get nat_cmp old j) × (pending_at new j ≢ pending_at old j)
-  pub keeps : changed ≡ false → (j : ℕ) → get nat_cmp new j ≡ get nat_cmp old j
+  pub count : count_of new ≡ count_of old
+  pub changes : changed ≡ true → (j : ℕ) × (j < next) × IsSome (queue_at old j) × (pending_at new j ≢ pending_at old j)
+  pub keeps : changed ≡ false → (j : ℕ) → queue_at new j ≡ queue_at old j
 
-pub start : (o n : ℕ) (m : Queues) → AreNumbered m → Flushed o n (o / 64) false m m
-start o n m a = record {
+pub start : (o n : ℕ) (m : Queues) → Flushed o n (o / 64) false m m
+start o n m = record {
   first = omega arith;
   pending = λ j. ap (λ b. cond b (pending_flushed (pending_at m j)) (pending_at m j)) (sym (off j));
   above = λ j h. refl;
-  numbered = a;
   below = λ k b. b;
-  len = omega arith;
+  count = refl;
   changes = λ e. absurd (let z : ⊥ = cc in z);
   keeps = λ e j. refl;
 }
@@ -47,18 +44,20 @@ none_flushed b (Some q) e = absurd (let z : ⊥ = cc in z)
 here_test : (o n line : ℕ) → o / 64 ≤ line → line < (o + n - 1) / 64 + 1 → 0 < n → (has_bytes line o n && nat_lt line (line + 1)) ≡ true
 here_test o n line h k p = grind (arith, nat_tests)
 
-pub one_more : (o n next line : ℕ) (changed : Bool) (old m m' : Queues) (q : Queue) → q.line ≡ line → 0 < n → line < (o + n - 1) / 64 + 1 → Flushed o n next changed old m → IsQueueFrom m next (Some q) → ChangesLine pending_flushed line m m' → (c : Bool) → (c ≡ true → pending_at m' line ≢ pending_at m line) → (c ≡ false → (j : ℕ) → get nat_cmp m' j ≡ get nat_cmp m j) → (changed' : Bool) → changed' ≡ cond c true changed → Flushed o n (line + 1) changed' old m'
-one_more o n next line changed old m m' q ql p lt f s c b differs same changed' ce = record {
+pub one_more : (o n next line : ℕ) (changed : Bool) (old m m' : Queues) (q : Queue) → q.line ≡ line → 0 < n → Flushed o n next changed old m → IsQueueFrom m next ((o + n - 1) / 64 + 1) (Some q) → ChangesLine pending_flushed line m m' → (c : Bool) → (c ≡ true → pending_at m' line ≢ pending_at m line) → (c ≡ false → (j : ℕ) → queue_at m' j ≡ queue_at m j) → (changed' : Bool) → changed' ≡ cond c true changed → Flushed o n (line + 1) changed' old m'
+one_more o n next line changed old m m' q ql p f s c b differs same changed' ce = record {
   first = omega (arith, f.first, le);
   pending = λ j. at j (test_at o n next line j le) (three j);
   above = λ j h. c.others j (apart j h) ∙ f.above j (omega (arith, h, le));
-  numbered = c.numbered f.numbered;
   below = λ k a. c.below k (f.below k a);
-  len = omega (arith, c.len, f.len);
+  count = c.count ∙ f.count;
   changes = λ e. found b refl (sym ce ∙ e);
   keeps = λ e. kept b refl (sym ce ∙ e);
 }
   where
+    lt : line < (o + n - 1) / 64 + 1
+    lt = omega (arith, s.2, ql)
+
     le : next ≤ line
     le = omega (arith, s.1, ql)
 
@@ -74,7 +73,7 @@ one_more o n next line changed old m m' q ql p lt f s c b differs same changed' 
     at : (j : ℕ) → ((has_bytes j o n && nat_lt j next) ≡ (has_bytes j o n && nat_lt j (line + 1))) ⊎ ((next ≤ j) × (j ≤ line)) → (j ≡ line) ⊎ ((j ≢ line) × ((j < line) ⊎ (line < j))) → pending_at m' j ≡ cond (has_bytes j o n && nat_lt j (line + 1)) (pending_flushed (pending_at old j)) (pending_at old j)
     at j t (inl e) = ap (pending_at m') e ∙ c.here ∙ ap pending_flushed old_here ∙ sym (ap (λ d. cond d (pending_flushed (pending_at old line)) (pending_at old line)) (here_test o n line (omega (arith, f.first, le)) lt p)) ∙ ap (λ i. cond (has_bytes i o n && nat_lt i (line + 1)) (pending_flushed (pending_at old i)) (pending_at old i)) (sym e)
     at j (inl t) (inr x) = ap pending_by (c.others j x.0) ∙ f.pending j ∙ ap (λ d. cond d (pending_flushed (pending_at old j)) (pending_at old j)) t
-    at j (inr t) (inr x) = ap pending_by (c.others j x.0 ∙ f.above j t.0) ∙ none_flushed (has_bytes j o n && nat_lt j (line + 1)) (get nat_cmp old j) (sym (f.above j t.0) ∙ s.2 j t.0 (gap j t.1 x.0))
+    at j (inr t) (inr x) = ap pending_by (c.others j x.0 ∙ f.above j t.0) ∙ none_flushed (has_bytes j o n && nat_lt j (line + 1)) (queue_at old j) (sym (f.above j t.0) ∙ s.3 j t.0 (gap j t.1 x.0))
       where
         gap : (j : ℕ) → j ≤ line → j ≢ line → j < q.line
         gap j h ne = go (split j)
@@ -87,23 +86,22 @@ one_more o n next line changed old m m' q ql p lt f s c b differs same changed' 
             go (inr (inl l)) = omega (arith, ql, l)
             go (inr (inr l)) = absurd (omega (arith, h, l))
 
-    found : (d : Bool) → b ≡ d → cond b true changed ≡ true → (j : ℕ) × (j < line + 1) × IsSome (get nat_cmp old j) × (pending_at m' j ≢ pending_at old j)
-    found true e g = (line, omega arith, subst IsSome (sym (ap (get nat_cmp m) (sym ql) ∙ s.0) ∙ f.above line le) refl, λ z. differs e (z ∙ sym old_here))
+    found : (d : Bool) → b ≡ d → cond b true changed ≡ true → (j : ℕ) × (j < line + 1) × IsSome (queue_at old j) × (pending_at m' j ≢ pending_at old j)
+    found true e g = (line, omega arith, subst IsSome (sym (ap (queue_at m) (sym ql) ∙ s.0) ∙ f.above line le) refl, λ z. differs e (z ∙ sym old_here))
     found false e g =
         let x = f.changes (sym (ap (λ d. cond d true changed) e) ∙ g) in
         (x.0, omega (arith, x.1, le), x.2, λ z. x.3 (sym (ap pending_by (same e x.0)) ∙ z))
 
-    kept : (d : Bool) → b ≡ d → cond b true changed ≡ false → (j : ℕ) → get nat_cmp m' j ≡ get nat_cmp old j
+    kept : (d : Bool) → b ≡ d → cond b true changed ≡ false → (j : ℕ) → queue_at m' j ≡ queue_at old j
     kept true e g = absurd (let h = ap (λ d. cond d true changed) e in let z : ⊥ = cc in z)
     kept false e g = λ j. same e j ∙ f.keeps (sym (ap (λ d. cond d true changed) e) ∙ g) j
 
 -- the range is done where no queue from `next` on lies below its end
-pub done : (o n next : ℕ) (changed : Bool) (old m : Queues) → 0 < n → Flushed o n next changed old m → ((j : ℕ) → next ≤ j → j < (o + n - 1) / 64 + 1 → get nat_cmp m j ≡ None) → FlushesLines o n old m
+pub done : (o n next : ℕ) (changed : Bool) (old m : Queues) → 0 < n → Flushed o n next changed old m → ((j : ℕ) → next ≤ j → j < (o + n - 1) / 64 + 1 → queue_at m j ≡ None) → FlushesLines o n old m
 done o n next changed old m p f h = record {
   pending = λ j. at j (reach j);
-  numbered = f.numbered;
   below = f.below;
-  len = f.len;
+  count = f.count;
 }
   where
     reach : (j : ℕ) → ((has_bytes j o n && nat_lt j next) ≡ has_bytes j o n) ⊎ ((next ≤ j) × (j < (o + n - 1) / 64 + 1))
@@ -111,4 +109,4 @@ done o n next changed old m p f h = record {
 
     at : (j : ℕ) → ((has_bytes j o n && nat_lt j next) ≡ has_bytes j o n) ⊎ ((next ≤ j) × (j < (o + n - 1) / 64 + 1)) → pending_at m j ≡ cond (has_bytes j o n) (pending_flushed (pending_at old j)) (pending_at old j)
     at j (inl t) = f.pending j ∙ ap (λ d. cond d (pending_flushed (pending_at old j)) (pending_at old j)) t
-    at j (inr t) = ap pending_by (f.above j t.0) ∙ none_flushed (has_bytes j o n) (get nat_cmp old j) (sym (f.above j t.0) ∙ h j t.0 t.1)
+    at j (inr t) = ap pending_by (f.above j t.0) ∙ none_flushed (has_bytes j o n) (queue_at old j) (sym (f.above j t.0) ∙ h j t.0 t.1)

@@ -3,26 +3,20 @@ use Rattle.std.proofs.Common.{◌≡◌, ◌≢◌, ◌⊎◌, inl, inr, ℕ, �
 use Rattle.std.proofs.lemmas.Bool.Decides.{nat_tests}
 use Rattle.std.specs.List.{list_any, IsDistinct}
 use Rattle.std.specs.Ordering.{nat_cmp, eq_by_cmp}
-use Rattle.std.specs.BTreeMap.{get, is_at, IsEmpty}
-use Rattle.std.specs.Map.{lookup}
+use Rattle.std.specs.BTreeMap.{is_at}
 use Rattle.hip_lines.specs.declared.part.Part.{Part}
 use Rattle.hip_lines.specs.declared.queue.Queue.{Queue}
+use Rattle.hip_lines.specs.declared.queues.Queues.{Queues}
 use Rattle.hip_lines.specs.Line.{has_bytes}
 use Rattle.hip_lines.specs.Pending.{Pending, none_pending, pending_with, pending_flushed, pending_fenced}
 use Rattle.hip_lines.specs.Parts.{part_in, pending_stored, pending_flushed_all, pending_fenced_all, none_pending_all}
-use Rattle.hip_lines.specs.Kept.{Queues, pending_by, pending_at, HasRoomAt, HasRoomFor, AreNumbered, AreBelow, ListsFlushed, ChangesLine, FlushesLines, ChangesSome}
+use Rattle.hip_lines.specs.Kept.{queue_at, pending_by, pending_at, HasRoomAt, HasRoomFor, AreBelow, ListsFlushed, ChangesLine, FlushesLines, ChangesSome}
 use Rattle.hip_lines.specs.Views.{lines_of}
 use Rattle.hip_lines.proofs.Listed.{same_or_not, some_flushed}
 use Rattle.hip_lines.proofs.Tables.{length-table_from, table_same, table_changed, table_mapped, table_replicated, table_at}
 
-pub none-at : (m : Queues) (j : ℕ) → IsEmpty m → get nat_cmp m j ≡ None
-none-at m j h = ap (λ es. lookup (is_at (nat_cmp j)) es) h
-
-pub numbered-empty : (m : Queues) → IsEmpty m → AreNumbered m
-numbered-empty m h j q e = absurd (let n = none-at m j h in let z : ⊥ = cc in z)
-
-pub below-empty : (n : ℕ) (m : Queues) → IsEmpty m → AreBelow n m
-below-empty n m h j s = absurd (none_some (get nat_cmp m j) (none-at m j h) s)
+pub below-empty : (n : ℕ) (m : Queues) → ((j : ℕ) → queue_at m j ≡ None) → AreBelow n m
+below-empty n m h j s = absurd (none_some (queue_at m j) (h j) s)
   where
     none_some : (o : Option Queue) → o ≡ None → IsSome o → ⊥
     none_some None e s = let z : ⊥ = cc in z
@@ -42,9 +36,9 @@ pub lines-same : (n : ℕ) (m m' : Queues) → ((j : ℕ) → pending_at m' j �
 unfolding lines_of
 lines-same n m m' h = table_same (pending_at m) (pending_at m') h 0 n
 
-pub lines-empty : (n : ℕ) (m : Queues) → IsEmpty m → lines_of n m ≡ none_pending_all n
+pub lines-empty : (n : ℕ) (m : Queues) → ((j : ℕ) → queue_at m j ≡ None) → lines_of n m ≡ none_pending_all n
 unfolding lines_of none_pending_all
-lines-empty n m e = table_replicated none_pending (pending_at m) (λ j. ap (λ es. pending_by (lookup (is_at (nat_cmp j)) es)) e) 0 n
+lines-empty n m e = table_replicated none_pending (pending_at m) (λ j. ap pending_by (e j)) 0 n
 
 pub lines-stored : (o k t n : ℕ) (m m' : Queues) → ((j : ℕ) → pending_at m' j ≡ cond (has_bytes j o k) (pending_with (part_in o k t j) (pending_at m j)) (pending_at m j)) → lines_of n m' ≡ pending_stored o k t (lines_of n m)
 unfolding lines_of
@@ -104,8 +98,8 @@ pub none_distinct : IsDistinct (eq_by_cmp nat_cmp) []
 unfolding IsDistinct
 none_distinct = search rules
 
-pub none_listed-empty : (lines : List ℕ) (m : Queues) → lines ≡ [] → IsEmpty m → ListsFlushed lines m
-none_listed-empty lines m e h = subst (λ (xs : List ℕ). ListsFlushed xs m) (sym e) (record { distinct = none_distinct; listed = λ j. ap (λ es. nat_lt 0 (pending_by (lookup (is_at (nat_cmp j)) es)).flushed) (sym h) })
+pub none_listed-empty : (lines : List ℕ) (m : Queues) → lines ≡ [] → ((j : ℕ) → queue_at m j ≡ None) → ListsFlushed lines m
+none_listed-empty lines m e h = subst (λ (xs : List ℕ). ListsFlushed xs m) (sym e) (record { distinct = none_distinct; listed = λ j. ap (λ o. nat_lt 0 (pending_by o).flushed) (sym (h j)) })
 
 pub listed-fenced : (lines : List ℕ) (m m' : Queues) → lines ≡ [] → ((j : ℕ) → pending_at m' j ≡ pending_fenced (pending_at m j)) → ListsFlushed lines m'
 listed-fenced lines m m' e h = subst (λ (xs : List ℕ). ListsFlushed xs m') (sym e) (record { distinct = none_distinct; listed = λ j. none_listed-from_fenced m m' h j })
@@ -115,7 +109,7 @@ pub fence-changes : (n : ℕ) (lines : List ℕ) (m m' : Queues) → ListsFlushe
 fence-changes n [] m m' l b h p e = absurd (omega arith)
 fence-changes n (j ∷ js) m m' l b h p e =
     let f : 0 < (pending_at m j).flushed = below (pending_at m j).flushed (sym (l.listed j) ∙ first (same_or_not j j)) in
-    let s : IsSome (get nat_cmp m j) = some_flushed (get nat_cmp m j) (sym (l.listed j) ∙ first (same_or_not j j)) in
+    let s : IsSome (queue_at m j) = some_flushed (queue_at m j) (sym (l.listed j) ∙ first (same_or_not j j)) in
     omega (arith, f, ap (λ (w : Pending Part). w.flushed) (sym (p j) ∙ lines-at n j m m' (b j s) e))
   where
     below : (k : ℕ) → nat_lt 0 k ≡ true → 0 < k

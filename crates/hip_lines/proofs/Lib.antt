@@ -5,3 +5,4 @@ pub mod Tables
 pub mod Helds
 pub mod LooseRest
 pub mod Flushes
+pub mod Placed

@@ -1,18 +1,22 @@
 -- The list of the lines that hold flushed parts.
-use Rattle.std.proofs.Common.{◌≡◌, ◌≢◌, ◌⊎◌, inl, inr, ℕ, ◌+◌, ◌<◌, ◌≤◌, Bool, true, false, cond, nat_lt, ◌||◌, List, [], ◌∷◌, ◌++◌, length, take, slice_index, Option, Some, None, IsSome, refl, sym, ap, ◌∙◌, subst, arith, length-append}
+use Rattle.std.proofs.Common.{◌≡◌, ◌≢◌, ◌⊎◌, inl, inr, ℕ, zero, suc, ◌+◌, ◌-◌, ◌<◌, ◌≤◌, Bool, true, false, cond, nat_lt, ◌||◌, List, [], ◌∷◌, ◌++◌, length, take, slice_index, slice_get, Option, Some, None, IsSome, refl, sym, ap, ◌∙◌, subst, arith, length-append}
 use Rattle.std.proofs.lemmas.Grind.{common_steps}
 use Rattle.std.proofs.lemmas.Bool.Decides.{nat_tests}
 use Rattle.std.proofs.lemmas.Cmp.{eq_by_cmp_equiv, nat_cmp_total}
 use Rattle.std.proofs.lemmas.List.Folds.{list_any-append, list_any_more}
 use Rattle.std.proofs.lemmas.Map.Keys.{IsDistinct-push}
 use Rattle.std.proofs.lemmas.Map.Steps.{length-le_from_keys}
-use Rattle.std.specs.List.{list_any}
+use Rattle.std.specs.List.{list_any, IsDistinct}
+use Rattle.std.specs.Map.{lookup}
 use Rattle.std.specs.Ordering.{nat_cmp, eq_by_cmp}
-use Rattle.std.specs.BTreeMap.{get, is_at, btree_map_len}
+use Rattle.std.specs.BTreeMap.{is_at}
 use Rattle.hip_lines.specs.declared.part.Part.{Part}
+use Rattle.hip_directory.specs.Directories.{number_at}
 use Rattle.hip_lines.specs.declared.queue.Queue.{Queue}
+use Rattle.hip_lines.specs.declared.queues.Queues.{Queues}
 use Rattle.hip_lines.specs.Pending.{Pending, pending_fenced}
-use Rattle.hip_lines.specs.Kept.{Queues, pending_by, pending_at, ListsFlushed, ChangesLine}
+use Rattle.hip_lines.specs.Kept.{queue_at, count_of, pending_by, pending_at, ListsFlushed, ChangesLine}
+use Rattle.hip_lines.proofs.Placed.{has-place, there}
 
 pub same_or_not : (j k : ℕ) → ((is_at (nat_cmp j) k ≡ true) × (j ≡ k)) ⊎ ((is_at (nat_cmp j) k ≡ false) × (j ≢ k))
 same_or_not j k = grind (arith, common_steps)
@@ -21,19 +25,55 @@ pub some_flushed : (o : Option Queue) → nat_lt 0 (pending_by o).flushed ≡ tr
 some_flushed None e = absurd (let h : ⊥ = cc in h)
 some_flushed (Some q) e = refl
 
-pub length-listed : (lines : List ℕ) (m : Queues) → ListsFlushed lines m → length lines ≤ btree_map_len m
-length-listed lines m h = length-le_from_keys (eq_by_cmp_equiv nat_cmp_total) lines m.entries h.distinct (λ q e. some_flushed (get nat_cmp m q) (sym (h.listed q) ∙ e))
+-- the queues, each at its line
+abbrev by_line : List Queue → List (ℕ × Queue)
+by_line [] = []
+by_line (q ∷ qs) = (q.line, q) ∷ by_line qs
 
-pub length-listed_more : (lines : List ℕ) (m : Queues) (j : ℕ) → ListsFlushed lines m → (pending_at m j).flushed ≡ 0 → IsSome (get nat_cmp m j) → length lines < btree_map_len m
-length-listed_more lines m j h z s =
-    omega (arith, length-append lines (j ∷ []), length-le_from_keys (eq_by_cmp_equiv nat_cmp_total) (lines ++ j ∷ []) m.entries (IsDistinct-push (eq_by_cmp_equiv nat_cmp_total) lines j h.distinct (h.listed j ∙ ap (nat_lt 0) z)) has)
+length-by_line : (qs : List Queue) → length (by_line qs) ≡ length qs
+length-by_line [] = refl
+length-by_line (q ∷ qs) = ap suc (length-by_line qs)
+
+same_queue : (x y : Queue) → Some x ≡ Some y → y ≡ x
+same_queue x y e = cc
+
+found : (qs : List Queue) (k j : ℕ) (q : Queue) → slice_get qs k ≡ Some q → q.line ≡ j → IsSome (lookup (is_at (nat_cmp j)) (by_line qs))
+found [] k j q e l = absurd (let z : ⊥ = cc in z)
+found (x ∷ qs) zero j q e l = go (same_or_not j x.line)
   where
-    pick : (q : ℕ) (b : Bool) → list_any (is_at (nat_cmp q)) lines ≡ b → (b || (is_at (nat_cmp q) j || false)) ≡ true → ((is_at (nat_cmp q) j ≡ true) × (q ≡ j)) ⊎ ((is_at (nat_cmp q) j ≡ false) × (q ≢ j)) → IsSome (get nat_cmp m q)
-    pick q true a e x = some_flushed (get nat_cmp m q) (sym (h.listed q) ∙ a)
-    pick q false a e (inl x) = subst (λ k. IsSome (get nat_cmp m k)) (sym x.1) s
+    go : ((is_at (nat_cmp j) x.line ≡ true) × (j ≡ x.line)) ⊎ ((is_at (nat_cmp j) x.line ≡ false) × (j ≢ x.line)) → IsSome (lookup (is_at (nat_cmp j)) ((x.line, x) ∷ by_line qs))
+    go (inl y) = rw y.0 refl
+    go (inr y) = absurd (y.1 (sym l ∙ ap (λ (r : Queue). r.line) (same_queue x q e)))
+found (x ∷ qs) (suc k) j q e l = go (is_at (nat_cmp j) x.line) refl (found qs k j q e l)
+  where
+    go : (b : Bool) → is_at (nat_cmp j) x.line ≡ b → IsSome (lookup (is_at (nat_cmp j)) (by_line qs)) → IsSome (lookup (is_at (nat_cmp j)) ((x.line, x) ∷ by_line qs))
+    go true y h = rw y refl
+    go false y h = rw y h
+
+found_at : (m : Queues) (j : ℕ) → IsSome (queue_at m j) → IsSome (lookup (is_at (nat_cmp j)) (by_line m.queues.items))
+unfolding queue_at
+found_at m j s =
+    let t = there m.directory m.queues.items j m.placed (has-place m.directory m.queues.items j s) in
+    found m.queues.items (number_at m.directory j - 1) j t.0 t.1 t.3
+
+-- lines of which each has a queue are at most as many as there are queues
+few_lines : (lines : List ℕ) (m : Queues) → IsDistinct (eq_by_cmp nat_cmp) lines → ((q : ℕ) → list_any (eq_by_cmp nat_cmp q) lines ≡ true → IsSome (queue_at m q)) → length lines ≤ count_of m
+unfolding count_of
+few_lines lines m d h = omega (arith, length-by_line m.queues.items, length-le_from_keys (eq_by_cmp_equiv nat_cmp_total) lines (by_line m.queues.items) d (λ q e. found_at m q (h q e)))
+
+pub length-listed : (lines : List ℕ) (m : Queues) → ListsFlushed lines m → length lines ≤ count_of m
+length-listed lines m h = few_lines lines m h.distinct (λ q e. some_flushed (queue_at m q) (sym (h.listed q) ∙ e))
+
+pub length-listed_more : (lines : List ℕ) (m : Queues) (j : ℕ) → ListsFlushed lines m → (pending_at m j).flushed ≡ 0 → IsSome (queue_at m j) → length lines < count_of m
+length-listed_more lines m j h z s =
+    omega (arith, length-append lines (j ∷ []), few_lines (lines ++ j ∷ []) m (IsDistinct-push (eq_by_cmp_equiv nat_cmp_total) lines j h.distinct (h.listed j ∙ ap (nat_lt 0) z)) has)
+  where
+    pick : (q : ℕ) (b : Bool) → list_any (is_at (nat_cmp q)) lines ≡ b → (b || (is_at (nat_cmp q) j || false)) ≡ true → ((is_at (nat_cmp q) j ≡ true) × (q ≡ j)) ⊎ ((is_at (nat_cmp q) j ≡ false) × (q ≢ j)) → IsSome (queue_at m q)
+    pick q true a e x = some_flushed (queue_at m q) (sym (h.listed q) ∙ a)
+    pick q false a e (inl x) = subst (λ k. IsSome (queue_at m k)) (sym x.1) s
     pick q false a e (inr x) = absurd (let f = x.0 in let n : (is_at (nat_cmp q) j || false) ≡ false = ap (λ b. b || false) f in let w : ⊥ = cc in w)
 
-    has : (q : ℕ) → list_any (eq_by_cmp nat_cmp q) (lines ++ j ∷ []) ≡ true → IsSome (get nat_cmp m q)
+    has : (q : ℕ) → list_any (eq_by_cmp nat_cmp q) (lines ++ j ∷ []) ≡ true → IsSome (queue_at m q)
     has q e = pick q (list_any (is_at (nat_cmp q)) lines) refl (sym (list_any-append (is_at (nat_cmp q)) lines (j ∷ [])) ∙ e) (same_or_not q j)
 
 -- one more line holds flushed parts

@@ -2,24 +2,23 @@
 use Rattle.std.proofs.Common.{◌≡◌, ◌≢◌, ◌⊎◌, inl, inr, ℕ, zero, suc, ◌+◌, ◌*◌, ◌/◌, ◌-◌, ◌<◌, ◌≤◌, ◌^◌, IsSome, Bor, min, max, List, [], ◌∷◌, ◌++◌, length, Option, Some, None, option_map, option_to_list, refl, sym, ap, ap₂, ◌∙◌, slice_get, option_and_then, subst, arith}
 use Rattle.std.specs.Iterator.{MakesProgress, item_count}
 use Rattle.std.specs.Option.{option_copied}
-use Rattle.std.specs.Ordering.{nat_cmp}
-use Rattle.std.specs.BTreeMap.{get}
 use Rattle.hip_lines.specs.declared.part.Part.{Part}
 use Rattle.hip_lines.specs.declared.part.LooseByte.{LooseByte}
 use Rattle.hip_lines.specs.declared.queue.Queue.{Queue}
+use Rattle.hip_lines.specs.declared.queues.Queues.{Queues}
 use Rattle.hip_lines.specs.Loose.{last_over}
 use Rattle.hip_lines.specs.Pending.{Pending}
 use Rattle.hip_lines.specs.Parts.{part_covers, loose_by, loose_in, loose_from}
 use Rattle.hip_lines.specs.Queues.{pending_in}
-use Rattle.hip_lines.specs.Kept.{Queues, pending_by, pending_at, AreBelow}
+use Rattle.hip_lines.specs.Kept.{queue_at, pending_by, pending_at}
 use Rattle.hip_lines.specs.Views.{table_from, lines_of}
 use Rattle.hip_lines.proofs.Tables.{slice_get-table_from}
-use Rattle.hip_lines.specs.Next.{NoneLoose, IsFirstLoose, loose_of, IsQueueFrom, IsNextQueue}
+use Rattle.hip_lines.specs.Next.{NoneLoose, IsFirstLoose, loose_of, lines_to, IsQueueFrom, IsNextQueue}
 
--- how many lines the region can have from the queue's line on
-abbrev pub lines_left : Option Queue → ℕ
-lines_left None = 0
-lines_left (Some q) = 2 ^ 20 - q.line
+-- how many lines there are from the queue's line on
+abbrev pub lines_left : ℕ → Option Queue → ℕ
+lines_left to None = 0
+lines_left to (Some q) = to - q.line
 
 pub loose_in-offset : (w : Pending Part) (b : ℕ) (f : LooseByte) → loose_in w b ≡ Some f → f.offset ≡ b
 loose_in-offset w b f e = go (last_over part_covers b w.parts) e
@@ -50,21 +49,21 @@ loose_of-skip_to m at stop end h k none =
     ∙ ap (λ i. loose_of m i ((end - at) - (stop - at))) z ∙ ap (λ i. loose_of m stop i) y
 
 -- a byte of a line without a queue is not loose
-none_without : (m : Queues) (b : ℕ) → get nat_cmp m (b / 64) ≡ None → loose_in (pending_at m (b / 64)) b ≡ None
+none_without : (m : Queues) (b : ℕ) → queue_at m (b / 64) ≡ None → loose_in (pending_at m (b / 64)) b ≡ None
 none_without m b e = ap (λ o. loose_in (pending_by o) b) e
 
-in_queue : (m : Queues) (b : ℕ) (q : Queue) → get nat_cmp m q.line ≡ Some q → b / 64 ≡ q.line → pending_at m (b / 64) ≡ pending_in q
+in_queue : (m : Queues) (b : ℕ) (q : Queue) → queue_at m q.line ≡ Some q → b / 64 ≡ q.line → pending_at m (b / 64) ≡ pending_in q
 in_queue m b q e f = ap (pending_at m) f ∙ ap pending_by e
 
 -- what a search in the queue of a line says of all bytes from where it stands
-before : (m : Queues) (at stop : ℕ) (q : Queue) → IsNextQueue m at (Some q) → stop ≤ 64 * q.line + 64 → NoneLoose (pending_in q) (max at (q.line * 64)) stop → (b : ℕ) → at ≤ b → b < stop → loose_in (pending_at m (b / 64)) b ≡ None
-before m at stop q h s none b from to = go (split b)
+before : (m : Queues) (at end stop : ℕ) (q : Queue) → IsNextQueue m at (lines_to end) (Some q) → stop ≤ 64 * q.line + 64 → NoneLoose (pending_in q) (max at (q.line * 64)) stop → (b : ℕ) → at ≤ b → b < stop → loose_in (pending_at m (b / 64)) b ≡ None
+before m at end stop q h s none b from to = go (split b)
   where
     split : (b : ℕ) → (b < q.line * 64) ⊎ (q.line * 64 ≤ b)
     split b = grind arith
 
     go : (b < q.line * 64) ⊎ (q.line * 64 ≤ b) → loose_in (pending_at m (b / 64)) b ≡ None
-    go (inl lt) = none_without m b (h.2 (b / 64) (omega arith) (omega arith))
+    go (inl lt) = none_without m b (h.3 (b / 64) (omega arith) (omega arith))
     go (inr ge) = ap (λ w. loose_in w b) (in_queue m b q h.0 (omega arith)) ∙ none b (omega arith) to
 
 -- where the search in a queue begins and ends
@@ -72,7 +71,7 @@ pub record Searches (at end from stop : ℕ) (q : Queue) : Type 0 where
   pub from_is : from ≡ max at (q.line * 64)
   pub stop_is : stop ≡ min end ((q.line + 1) * 64)
 
-pub rest-found : (m : Queues) (at end from stop : ℕ) (q : Queue) (f : LooseByte) → Searches at end from stop q → IsNextQueue m at (Some q) → IsFirstLoose (pending_in q) from stop (Some f) → loose_of m at (end - at) ≡ f ∷ loose_of m (f.offset + 1) (end - (f.offset + 1))
+pub rest-found : (m : Queues) (at end from stop : ℕ) (q : Queue) (f : LooseByte) → Searches at end from stop q → IsNextQueue m at (lines_to end) (Some q) → IsFirstLoose (pending_in q) from stop (Some f) → loose_of m at (end - at) ≡ f ∷ loose_of m (f.offset + 1) (end - (f.offset + 1))
 rest-found m at end from stop q f c h s =
     let lo : at ≤ f.offset = omega (arith, c.from_is, s.0) in
     let hi : f.offset < end = omega (arith, c.stop_is, s.1) in
@@ -81,32 +80,32 @@ rest-found m at end from stop q f c h s =
     let n : end - f.offset ≡ suc (end - (f.offset + 1)) = omega arith in
     let o : suc f.offset ≡ f.offset + 1 = omega arith in
     let l : f.offset / 64 ≡ q.line = omega arith in
-    loose_of-skip_to m at f.offset end lo (omega arith) (before m at f.offset q h (omega arith) (subst (λ i. NoneLoose (pending_in q) i f.offset) c.from_is s.3))
+    loose_of-skip_to m at f.offset end lo (omega arith) (before m at end f.offset q h (omega arith) (subst (λ i. NoneLoose (pending_in q) i f.offset) c.from_is s.3))
     ∙ ap (loose_of m f.offset) n
     ∙ ap (λ w. option_to_list (loose_in w f.offset) ++ loose_of m (suc f.offset) (end - (f.offset + 1))) (in_queue m f.offset q h.0 l)
     ∙ ap (λ x. option_to_list x ++ loose_of m (suc f.offset) (end - (f.offset + 1))) s.2
     ∙ ap (λ i. f ∷ loose_of m i (end - (f.offset + 1))) o
 
-pub next_queue-found : (m : Queues) (at end from stop : ℕ) (q : Queue) (f : LooseByte) → Searches at end from stop q → IsNextQueue m at (Some q) → IsFirstLoose (pending_in q) from stop (Some f) → IsNextQueue m (f.offset + 1) (Some q)
-next_queue-found m at end from stop q f c h s = (h.0, omega (arith, c.stop_is, s.1), λ j low high. h.2 j (omega (arith, c.from_is, s.0)) high)
+pub next_queue-found : (m : Queues) (at end from stop : ℕ) (q : Queue) (f : LooseByte) → Searches at end from stop q → IsNextQueue m at (lines_to end) (Some q) → IsFirstLoose (pending_in q) from stop (Some f) → IsNextQueue m (f.offset + 1) (lines_to end) (Some q)
+next_queue-found m at end from stop q f c h s = (h.0, omega (arith, c.stop_is, s.1), h.2, λ j low high. h.3 j (omega (arith, c.from_is, s.0)) high)
 
 -- nothing was found, and the search goes on at the next line
-none_before : (m : Queues) (at end from stop : ℕ) (q : Queue) → Searches at end from stop q → IsNextQueue m at (Some q) → IsFirstLoose (pending_in q) from stop None → (b : ℕ) → at ≤ b → b < stop → loose_in (pending_at m (b / 64)) b ≡ None
-none_before m at end from stop q c h s b low high = before m at stop q h (omega (arith, c.stop_is)) (subst (λ i. NoneLoose (pending_in q) i stop) c.from_is s) b low high
+none_before : (m : Queues) (at end from stop : ℕ) (q : Queue) → Searches at end from stop q → IsNextQueue m at (lines_to end) (Some q) → IsFirstLoose (pending_in q) from stop None → (b : ℕ) → at ≤ b → b < stop → loose_in (pending_at m (b / 64)) b ≡ None
+none_before m at end from stop q c h s b low high = before m at end stop q h (omega (arith, c.stop_is)) (subst (λ i. NoneLoose (pending_in q) i stop) c.from_is s) b low high
 
-pub rest-none : (m : Queues) (at end from stop : ℕ) (q : Queue) → Searches at end from stop q → IsNextQueue m at (Some q) → IsFirstLoose (pending_in q) from stop None → stop ≢ end → loose_of m at (end - at) ≡ loose_of m stop (end - stop)
+pub rest-none : (m : Queues) (at end from stop : ℕ) (q : Queue) → Searches at end from stop q → IsNextQueue m at (lines_to end) (Some q) → IsFirstLoose (pending_in q) from stop None → stop ≢ end → loose_of m at (end - at) ≡ loose_of m stop (end - stop)
 rest-none m at end from stop q c h s ne = loose_of-skip_to m at stop end (omega (arith, c.stop_is, h.1)) (omega (arith, c.stop_is)) (none_before m at end from stop q c h s)
 
-pub next_queue-from : (m : Queues) (at end from stop : ℕ) (q : Queue) (o : Option Queue) → Searches at end from stop q → IsQueueFrom m (q.line + 1) o → stop ≢ end → IsNextQueue m stop o
-next_queue-from m at end from stop q None c h ne = λ j low. h j (omega (arith, c.stop_is))
-next_queue-from m at end from stop q (Some r) c h ne = (h.0, omega (arith, c.stop_is, h.1), λ j low high. h.2 j (omega (arith, c.stop_is)) high)
+pub next_queue-from : (m : Queues) (at end from stop : ℕ) (q : Queue) (o : Option Queue) → Searches at end from stop q → IsQueueFrom m (q.line + 1) (lines_to end) o → stop ≢ end → IsNextQueue m stop (lines_to end) o
+next_queue-from m at end from stop q None c h ne = λ j low high. h j (omega (arith, c.stop_is, low)) high
+next_queue-from m at end from stop q (Some r) c h ne = (h.0, omega (arith, c.stop_is, h.1), h.2, λ j low high. h.3 j (omega (arith, c.stop_is)) high)
 
 -- the number of lines that are left falls
-pub lines_fall : (m : Queues) (q : Queue) (o : Option Queue) → IsQueueFrom m (q.line + 1) o → AreBelow (2 ^ 20) m → get nat_cmp m q.line ≡ Some q → lines_left o < lines_left (Some q)
-lines_fall m q None h b g = omega (arith, b q.line (subst IsSome (sym g) refl))
-lines_fall m q (Some r) h b g = omega (arith, h.1, b q.line (subst IsSome (sym g) refl))
+pub lines_fall : (m : Queues) (to : ℕ) (q : Queue) (o : Option Queue) → q.line < to → IsQueueFrom m (q.line + 1) to o → lines_left to o < lines_left to (Some q)
+lines_fall m to q None lt h = omega (arith, lt)
+lines_fall m to q (Some r) lt h = omega (arith, lt, h.1)
 
-pub rest-end : (m : Queues) (at end from stop : ℕ) (q : Queue) → Searches at end from stop q → IsNextQueue m at (Some q) → IsFirstLoose (pending_in q) from stop None → stop ≡ end → loose_of m at (end - at) ≡ []
+pub rest-end : (m : Queues) (at end from stop : ℕ) (q : Queue) → Searches at end from stop q → IsNextQueue m at (lines_to end) (Some q) → IsFirstLoose (pending_in q) from stop None → stop ≡ end → loose_of m at (end - at) ≡ []
 rest-end m at end from stop q c h s e = go (split at end)
   where
     split : (a b : ℕ) → (a ≤ b) ⊎ (b < a)
@@ -116,7 +115,7 @@ rest-end m at end from stop q c h s e = go (split at end)
     go (inl le) = let z : end - end ≡ 0 = omega arith in loose_of-skip_to m at end end le (omega arith) (λ b low high. none_before m at end from stop q c h s b low (omega (arith, e, high))) ∙ ap (loose_of m end) z
     go (inr gt) = let z : end - at ≡ 0 = omega arith in ap (loose_of m at) z
 
-pub rest-no_queue : (m : Queues) (at end : ℕ) (o : Option (Bor Queue)) → IsNextQueue m at (option_copied o) → ((q : Bor Queue) → o ≡ Some q → ⊥) → loose_of m at (end - at) ≡ []
+pub rest-no_queue : (m : Queues) (at end : ℕ) (o : Option (Bor Queue)) → IsNextQueue m at (lines_to end) (option_copied o) → ((q : Bor Queue) → o ≡ Some q → ⊥) → loose_of m at (end - at) ≡ []
 rest-no_queue m at end (Some q) h n = absurd (n q refl)
 rest-no_queue m at end None h n = go (split at end)
   where
@@ -124,7 +123,7 @@ rest-no_queue m at end None h n = go (split at end)
     split a b = grind arith
 
     go : (at ≤ end) ⊎ (end < at) → loose_of m at (end - at) ≡ []
-    go (inl le) = let z : end - end ≡ 0 = omega arith in loose_of-skip_to m at end end le (omega arith) (λ b from to. none_without m b (h (b / 64) (omega arith))) ∙ ap (loose_of m end) z
+    go (inl le) = let z : end - end ≡ 0 = omega arith in loose_of-skip_to m at end end le (omega arith) (λ b from to. none_without m b (h (b / 64) (omega arith) (omega (arith, to)))) ∙ ap (loose_of m end) z
     go (inr gt) = let z : end - at ≡ 0 = omega arith in ap (loose_of m at) z
 
 -- what an iterator over a list makes of one item

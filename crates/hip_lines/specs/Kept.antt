@@ -1,16 +1,23 @@
 -- The queues of the lines that hold something, by line number.
-use Rattle.std.specs.Prelude.{◌≡◌, ◌≢◌, ℕ, ◌<◌, ◌≤◌, cond, true, nat_lt, List, Option, Some, None, IsSome}
+use Rattle.std.specs.Prelude.{◌≡◌, ◌≢◌, ℕ, ◌<◌, ◌≤◌, cond, true, nat_lt, List, length, Option, Some, None, IsSome}
 use Rattle.std.specs.List.{list_any, IsDistinct}
 use Rattle.std.specs.Ordering.{nat_cmp, eq_by_cmp}
-use Rattle.std.specs.BTreeMap.{BTreeMap, get, is_at, btree_map_len}
+use Rattle.std.specs.BTreeMap.{is_at}
 use Rattle.hip_lines.specs.Line.{has_bytes}
 use Rattle.hip_lines.specs.Pending.{Pending, none_pending, pending_flushed}
 use Rattle.hip_lines.specs.declared.part.Part.{Part}
 use Rattle.hip_lines.specs.declared.queue.Queue.{Queue}
+use Rattle.hip_lines.specs.declared.queues.Queues.{Queues}
+use Rattle.hip_lines.specs.Places.{queue_in}
 use Rattle.hip_lines.specs.Queues.{pending_in, HasRoom}
 
-abbrev pub Queues : Type 0
-Queues = BTreeMap ℕ Queue
+-- the queue of line j, if it has one
+unfoldable pub queue_at : Queues → ℕ → Option Queue
+queue_at m j = queue_in m.directory m.queues.items j
+
+-- how many queues were made
+unfoldable pub count_of : Queues → ℕ
+count_of m = length m.queues.items
 
 -- a line without a queue holds nothing
 abbrev pub pending_by : Option Queue → Pending Part
@@ -18,26 +25,23 @@ pending_by None = none_pending
 pending_by (Some q) = pending_in q
 
 abbrev pub pending_at : Queues → ℕ → Pending Part
-pending_at m j = pending_by (get nat_cmp m j)
+pending_at m j = pending_by (queue_at m j)
 
 abbrev pub HasRoomBy : Option Queue → Type 0
 HasRoomBy None = ⊥
 HasRoomBy (Some q) = HasRoom q
 
 abbrev pub HasRoomAt : Queues → ℕ → Type 0
-HasRoomAt m j = HasRoomBy (get nat_cmp m j)
+HasRoomAt m j = HasRoomBy (queue_at m j)
 
 -- room for the parts of a store, if there is one
 abbrev pub HasRoomFor : Queues → Option (ℕ × ℕ) → Type 0
 HasRoomFor m None = Unit {0}
 HasRoomFor m (Some (o, n)) = (j : ℕ) → has_bytes j o n ≡ true → HasRoomAt m j
 
--- each queue stands at its line's number
-abbrev pub AreNumbered : Queues → Type 0
-AreNumbered m = (j : ℕ) (q : Queue) → get nat_cmp m j ≡ Some q → q.line ≡ j
-
+-- the lines that have a queue lie below line n
 abbrev pub AreBelow : ℕ → Queues → Type 0
-AreBelow n m = (j : ℕ) → IsSome (get nat_cmp m j) → j < n
+AreBelow n m = (j : ℕ) → IsSome (queue_at m j) → j < n
 
 -- the list has the lines that hold flushed parts, each once
 pub record ListsFlushed (lines : List ℕ) (m : Queues) : Type 0 where
@@ -47,20 +51,26 @@ pub record ListsFlushed (lines : List ℕ) (m : Queues) : Type 0 where
 -- the line's pending parts are changed, and nothing else is
 pub record ChangesLine (change : Pending Part → Pending Part) (line : ℕ) (old new : Queues) : Type 0 where
   pub here : pending_at new line ≡ change (pending_at old line)
-  pub others : (j : ℕ) → j ≢ line → get nat_cmp new j ≡ get nat_cmp old j
-  pub numbered : AreNumbered old → AreNumbered new
+  pub others : (j : ℕ) → j ≢ line → queue_at new j ≡ queue_at old j
   pub below : (n : ℕ) → AreBelow n old → AreBelow n new
-  pub len : btree_map_len new ≤ btree_map_len old
+  pub count : count_of new ≡ count_of old
 
 -- the lines of a range are flushed, and nothing else is changed
 pub record FlushesLines (o n : ℕ) (old new : Queues) : Type 0 where
   pub pending : (j : ℕ) → pending_at new j ≡ cond (has_bytes j o n) (pending_flushed (pending_at old j)) (pending_at old j)
-  pub numbered : AreNumbered new
   pub below : (k : ℕ) → AreBelow k old → AreBelow k new
-  pub len : btree_map_len new ≤ btree_map_len old
+  pub count : count_of new ≡ count_of old
 
 -- some line's pending parts differ
 pub record ChangesSome (old new : Queues) : Type 0 where
   pub line : ℕ
-  pub there : IsSome (get nat_cmp old line)
+  pub there : IsSome (queue_at old line)
   pub differs : pending_at new line ≢ pending_at old line
+
+-- the line has an empty queue with room for a part, and nothing else is changed
+pub record GivesQueue (line : ℕ) (old new : Queues) : Type 0 where
+  pub queue : Queue
+  pub here : queue_at new line ≡ Some queue
+  pub empty : pending_in queue ≡ none_pending
+  pub room : HasRoom queue
+  pub others : (j : ℕ) → j ≢ line → queue_at new j ≡ queue_at old j

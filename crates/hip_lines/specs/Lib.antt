@@ -4,6 +4,7 @@ pub mod Image
 pub mod Pending
 pub mod Parts
 pub mod Queues
+pub mod Places
 pub mod Kept
 pub mod Views
 pub mod Next

@@ -1,13 +1,12 @@
 -- The loose bytes of a range, by the queues of its lines.
-use Rattle.std.specs.Prelude.{◌≡◌, ℕ, zero, suc, ◌+◌, ◌*◌, ◌/◌, ◌<◌, ◌≤◌, List, [], ◌++◌, Option, Some, None, option_to_list}
-use Rattle.std.specs.Ordering.{nat_cmp}
-use Rattle.std.specs.BTreeMap.{get}
+use Rattle.std.specs.Prelude.{◌≡◌, ℕ, zero, suc, ◌+◌, ◌-◌, ◌*◌, ◌/◌, ◌<◌, ◌≤◌, List, [], ◌++◌, Option, Some, None, option_to_list}
 use Rattle.hip_lines.specs.declared.part.Part.{Part}
 use Rattle.hip_lines.specs.declared.part.LooseByte.{LooseByte}
 use Rattle.hip_lines.specs.declared.queue.Queue.{Queue}
+use Rattle.hip_lines.specs.declared.queues.Queues.{Queues}
 use Rattle.hip_lines.specs.Pending.{Pending}
 use Rattle.hip_lines.specs.Parts.{loose_in}
-use Rattle.hip_lines.specs.Kept.{Queues, pending_at}
+use Rattle.hip_lines.specs.Kept.{queue_at, pending_at}
 use Rattle.hip_lines.specs.declared.TheConstants.{LINE_SIZE}
 
 -- no byte from `from` up to `to` is loose
@@ -24,16 +23,21 @@ abbrev pub loose_of : Queues → ℕ → ℕ → List LooseByte
 loose_of m o zero = []
 loose_of m o (suc n) = option_to_list (loose_in (pending_at m (o / LINE_SIZE)) o) ++ loose_of m (suc o) n
 
+-- how many lines have a byte before an offset
+abbrev pub lines_to : ℕ → ℕ
+lines_to o = (o + (LINE_SIZE - 1)) / LINE_SIZE
+
 -- no line from `from` up to `to` has a queue
 abbrev pub NoQueues : Queues → ℕ → ℕ → Type 0
-NoQueues m from to = (j : ℕ) → from ≤ j → j < to → get nat_cmp m j ≡ None
+NoQueues m from to = (j : ℕ) → from ≤ j → j < to → queue_at m j ≡ None
 
--- the first queue at a line or after it
-abbrev pub IsQueueFrom : Queues → ℕ → Option Queue → Type 0
-IsQueueFrom m line None = (j : ℕ) → line ≤ j → get nat_cmp m j ≡ None
-IsQueueFrom m line (Some q) = (get nat_cmp m q.line ≡ Some q) × (line ≤ q.line) × NoQueues m line q.line
+-- the first queue of a line from `from` up to `to`, if there is one
+abbrev pub IsQueueFrom : Queues → ℕ → ℕ → Option Queue → Type 0
+IsQueueFrom m from to None = NoQueues m from to
+IsQueueFrom m from to (Some q) = (queue_at m q.line ≡ Some q) × (from ≤ q.line) × (q.line < to) × NoQueues m from q.line
 
--- the queue of the line at whose bytes a search stands, or of the next one that has a queue
-abbrev pub IsNextQueue : Queues → ℕ → Option Queue → Type 0
-IsNextQueue m at None = (j : ℕ) → at / LINE_SIZE ≤ j → get nat_cmp m j ≡ None
-IsNextQueue m at (Some q) = (get nat_cmp m q.line ≡ Some q) × (at ≤ LINE_SIZE * q.line + LINE_SIZE) × NoQueues m (at / LINE_SIZE) q.line
+-- the queue of the line at whose bytes a search stands, or of the next one below `to` that has a queue
+abbrev pub IsNextQueue : Queues → ℕ → ℕ → Option Queue → Type 0
+IsNextQueue m at to None = NoQueues m (at / LINE_SIZE) to
+IsNextQueue m at to (Some q) =
+    (queue_at m q.line ≡ Some q) × (at ≤ LINE_SIZE * q.line + LINE_SIZE) × (q.line < to) × NoQueues m (at / LINE_SIZE) q.line

@@ -3,14 +3,11 @@ use Rattle.std.specs.Prelude.{◌-◌, ◌≤◌, ◌^◌, List}
 use Rattle.std.specs.Option.{option_copied}
 use Rattle.hip_lines.specs.declared.part.LooseByte.{LooseByte}
 use Rattle.hip_lines.specs.declared.loose.NotDurable.TheInside.{Inside}
-use Rattle.hip_lines.specs.Kept.{AreNumbered, AreBelow}
-use Rattle.hip_lines.specs.Next.{loose_of, IsNextQueue}
+use Rattle.hip_lines.specs.Next.{loose_of, lines_to, IsNextQueue}
 
 abbrev pub rest_of : Inside → List LooseByte
 rest_of n = loose_of n.queues.now n.at (n.end - n.at)
 
 pub record IsStanding (n : Inside) : Type 0 where
-  pub numbered : AreNumbered n.queues.now
-  pub below : AreBelow (2 ^ 20) n.queues.now
   pub end : n.end ≤ 2 ^ 26
-  pub queue : IsNextQueue n.queues.now n.at (option_copied n.queue)
+  pub queue : IsNextQueue n.queues.now n.at (lines_to n.end) (option_copied n.queue)

@@ -1,10 +1,10 @@
 -- What the lines of a region stand for.
 use Rattle.std.specs.Prelude.{ℕ, zero, suc, ◌≤◌, ◌^◌, List, [], ◌∷◌, vec_capacity}
-use Rattle.std.specs.BTreeMap.{btree_map_len}
 use Rattle.hip_lines.specs.Pending.{Pending}
 use Rattle.hip_lines.specs.Parts.{Held}
-use Rattle.hip_lines.specs.Kept.{Queues, pending_at, HasRoomFor, AreNumbered, AreBelow, ListsFlushed}
+use Rattle.hip_lines.specs.Kept.{count_of, pending_at, HasRoomFor, AreBelow, ListsFlushed}
 use Rattle.hip_lines.specs.declared.part.Part.{Part}
+use Rattle.hip_lines.specs.declared.queues.Queues.{Queues}
 use Rattle.hip_lines.specs.declared.lines.Lines.TheInside.{Inside}
 
 -- the values of f at the n numbers from j
@@ -20,8 +20,7 @@ held_of s = record { lines = lines_of s.count s.queues; room = s.room }
 
 pub record IsKept (s : Inside) : Type 0 where
   pub small : s.count ≤ 2 ^ 20
-  pub numbered : AreNumbered s.queues
   pub below : AreBelow s.count s.queues
   pub flushed : ListsFlushed s.flushed.items s.queues
-  pub spare : btree_map_len s.queues ≤ vec_capacity s.flushed
+  pub spare : count_of s.queues ≤ vec_capacity s.flushed
   pub room : HasRoomFor s.queues s.room

@@ -6,6 +6,7 @@ mod lines;
 mod loose;
 mod part;
 mod queue;
+mod queues;
 
 pub use lines::Lines;
 pub use loose::NotDurable;

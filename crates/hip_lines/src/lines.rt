@@ -4,19 +4,17 @@ ghost use Rattle.hip_lines.specs.Parts.{pending_stored, pending_flushed_all, pen
 use crate::LINE_SIZE;
 use crate::kept::{ensure_room, fence_in, flush_at, flush_in, make_room_in, push_in};
 use crate::loose::NotDurable;
-use crate::queue::Queue;
+use crate::queues::Queues;
 use hip_types::{LARGEST_REGION, NoMemory};
 use std::alloc::Global;
-use std::collections::BTreeMap;
 use std::marker::Model;
 
 /// The lines of a region, which contracts see as the pending parts of each and the room that was made.
 #[derive(Drop)]
 pub struct Lines {
-    alloc: Global,
     count: u64,
     // The queues of the lines that hold something, by line number.
-    queues: BTreeMap<u64, Queue>,
+    queues: Queues,
     // The lines that hold flushed parts, each once, with room for every line that has a queue.
     flushed: Vec<u64>,
     room: Option<(u64, u32)>,
@@ -44,9 +42,8 @@ impl Lines {
         ensures room { IfOk result (λ lines. lines.room ≡ None) }
     {
         Ok(Lines {
-            alloc,
             count: size / LINE_SIZE,
-            queues: BTreeMap::new(alloc),
+            queues: Queues::new(alloc)?,
             flushed: Vec::new(alloc),
             room: None,
         })
@@ -62,13 +59,7 @@ impl Lines {
         ensures err { OnErr result (self.new.room ≡ None) }
     {
         self.room = None;
-        make_room_in(
-            self.alloc,
-            &mut self.queues,
-            &mut self.flushed,
-            offset,
-            size,
-        )?;
+        make_room_in(&mut self.queues, &mut self.flushed, offset, size)?;
         self.room = Some((offset, size));
         Ok(())
     }
@@ -84,14 +75,7 @@ impl Lines {
         ensures length { length self.new.lines ≡ length self.old.lines }
         ensures ready { self.old.room ≡ Some (offset, size) → IsOk result }
     {
-        ensure_room(
-            self.alloc,
-            &mut self.queues,
-            &mut self.flushed,
-            self.room,
-            offset,
-            size,
-        )?;
+        ensure_room(&mut self.queues, &mut self.flushed, self.room, offset, size)?;
         self.room = None;
         push_in(&mut self.queues, offset, size, tag);
         Ok(())

@@ -1,19 +1,17 @@
 ghost use Rattle.std.specs.Prelude.{◌≡◌, ◌+◌, ◌≤◌, ◌^◌};
 ghost use Rattle.std.specs.Iterator.{YieldsFirst, item_count};
-ghost use Rattle.hip_lines.specs.Kept.{AreNumbered, AreBelow};
-ghost use Rattle.hip_lines.specs.Next.{loose_of};
+ghost use Rattle.hip_lines.specs.Next.{loose_of, lines_to};
 
 use crate::LINE_SIZE;
-use crate::kept::queue_from;
 use crate::part::LooseByte;
 use crate::queue::Queue;
-use std::collections::BTreeMap;
+use crate::queues::Queues;
 use std::marker::Model;
 
 /// The loose bytes of a range, ascending, which contracts see as the list of those that are left.
 #[derive(Drop)]
 pub struct NotDurable<'a> {
-    queues: &'a BTreeMap<u64, Queue>,
+    queues: &'a Queues,
     // The queue of the line in which `at` lies, or of the next line that has one.
     queue: Option<&'a Queue>,
     at: u64,
@@ -34,15 +32,13 @@ impl<'a> Model for NotDurable<'a> {
 }
 
 impl<'a> NotDurable<'a> {
-    pub(crate) fn new(queues: &'a BTreeMap<u64, Queue>, from: u64, len: u64) -> NotDurable<'a>
-        requires numbered { AreNumbered queues.now }
-        requires below { AreBelow (2 ^ 20) queues.now }
-        requires end { from + len ≤ 2 ^ 26 }
+    pub(crate) fn new(queues: &'a Queues, from: u64, len: u64) -> NotDurable<'a>
+        requires { from + len ≤ 2 ^ 26 }
         ensures { result ≡ loose_of queues.now from len }
     {
         NotDurable {
             queues,
-            queue: queue_from(queues, from / LINE_SIZE),
+            queue: queues.first_from(from / LINE_SIZE, lines_to(from + len)),
             at: from,
             end: from + len,
         }
@@ -69,10 +65,19 @@ impl<'a> Iterator for NotDurable<'a> {
                         return None;
                     }
                     self.at = stop;
-                    self.queue = queue_from(self.queues, queue.line + 1);
+                    let to = lines_to(self.end);
+                    self.queue = self.queues.first_from(queue.line + 1, to);
                 }
             }
         }
         None
     }
+}
+
+// How many lines have a byte before an offset.
+fn lines_to(offset: u64) -> u64
+    requires { offset ≤ 2 ^ 26 }
+    ensures { result ≡ lines_to offset }
+{
+    (offset + (LINE_SIZE - 1)) / LINE_SIZE
 }

@@ -38,6 +38,17 @@ impl Queue {
         }
     }
 
+    /// Begins anew with another line, and with the room that there is.
+    pub fn restart(&mut self, line: u64)
+        ensures line { self.new.line ≡ line }
+        ensures pending { pending_in self.new ≡ none_pending }
+    {
+        self.line = line;
+        self.parts.clear();
+        self.flushed = 0;
+        self.last = [0; 64];
+    }
+
     /// Makes room for one more part. The parts stay, whatever the answer.
     pub fn make_room(&mut self) -> Result<(), NoMemory>
         ensures line { self.new.line ≡ self.old.line }

@@ -2,7 +2,8 @@
 use Rattle.std.proofs.Common.{◌≡◌, ◌⊎◌, inl, inr, ℕ, zero, suc, ◌+◌, ◌-◌, ◌<◌, ◌≤◌, true, false, cond, List, [], ◌∷◌, ◌++◌, length, take, drop, slice_index, slice_range, refl, sym, ap, ◌∙◌, arith, length-append}
 use Rattle.hip_mem.specs.Memory.{write_covers, byte_written}
 use Rattle.hip_mem.specs.Laws.AreasLaws.{covered_or_not, not_written, index-append_left, index-append_right}
-use Rattle.hip_mem.specs.Pages.{Pages, page_byte}
+use Rattle.hip_mem.specs.declared.pages.Pages.{Pages}
+use Rattle.hip_mem.specs.Pages.{page_byte}
 
 -- a byte that a write covers
 pub written : (addr : ℕ) (xs : List ℕ) (a old : ℕ) → addr ≤ a → a < addr + length xs → byte_written (record { addr = addr; bytes = xs }) a old ≡ slice_index xs (a - addr)

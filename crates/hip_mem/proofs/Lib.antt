@@ -1,3 +1,5 @@
 pub mod Fills
+pub mod PageKeys
+pub mod Clears
 pub mod RamAreas
 pub mod RamCalls

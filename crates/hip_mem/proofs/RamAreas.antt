@@ -5,7 +5,8 @@ use Rattle.hip_mem.specs.Bytes.{zeros}
 use Rattle.hip_mem.specs.Areas.{IsLaidOut, mark_of, byte_in, bytes_in, area_written}
 use Rattle.hip_mem.specs.Laws.AreasLaws.{in_or_not, FitsOne}
 use Rattle.hip_mem.specs.declared.ram.Ram.TheInside.{Inside}
-use Rattle.hip_mem.specs.Pages.{Pages, page_byte, page_bytes}
+use Rattle.hip_mem.specs.declared.pages.Pages.{Pages}
+use Rattle.hip_mem.specs.Pages.{page_byte, page_bytes}
 use Rattle.hip_mem.specs.Rams.{area, areas_of, IsRam}
 
 pub length-area : (m : Pages) (start n : ℕ) → length (area m start n) ≡ n

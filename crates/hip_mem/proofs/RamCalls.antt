@@ -1,6 +1,5 @@
 -- What the calls of a `Ram` do, by its pages.
 use Rattle.std.proofs.Common.{◌≡◌, ◌⊎◌, inl, inr, ℕ, zero, suc, ◌+◌, ◌%◌, ◌-◌, ◌^◌, ◌<◌, ◌≤◌, ◌&&◌, Bool, true, false, cond, IsTrue, ◌↔◌, ◌==◌, Option, Some, None, Result, Ok, Err, OnOk, OnErr, nat_le, nat_lt, List, [], ◌∷◌, ◌++◌, length, take, slice_index, refl, sym, ap, ap₂, ◌∙◌, arith}
-use Rattle.std.proofs.lemmas.Bool.Decides.{nat_tests}
 use Rattle.std.specs.Int.{next_multiple_of}
 use Rattle.hip_mem.specs.declared.refusal.MemTrap.{MemTrap}
 use Rattle.hip_mem.specs.declared.refusal.MemTrap.TheVariants.{Misaligned, BadAddress}
@@ -10,9 +9,11 @@ use Rattle.hip_mem.specs.Laws.BytesLaws.{little_endian-take}
 use Rattle.hip_mem.specs.Areas.{Areas, mark_of, are_valid, bytes_in, access_trap, or_trap, loaded, block_address, pushed_mark, after_write, after_push, after_pop}
 use Rattle.hip_mem.specs.Laws.AreasLaws.{FitsOne, are_valid-fits, fits-are_valid, not_written}
 use Rattle.hip_mem.specs.declared.ram.Ram.TheInside.{Inside}
-use Rattle.hip_mem.specs.Pages.{Pages, page_byte, page_bytes}
+use Rattle.hip_mem.specs.declared.pages.Pages.{Pages}
+use Rattle.hip_mem.specs.Pages.{page_byte, page_bytes}
 use Rattle.hip_mem.specs.Rams.{area, areas_of, IsRam}
 use Rattle.hip_mem.proofs.Fills.{written}
+use Rattle.hip_mem.proofs.PageKeys.{in_or_out}
 use Rattle.hip_mem.proofs.RamAreas.{length-area, area-same, area-written, area-zeros, area-more, area-take, area-is, laid_out, mark-is, bytes_in-pages, fits-below}
 
 -- ---- valid bytes
@@ -94,9 +95,6 @@ areas-written w s s' b v r k h =
     (ap (area s'.pages volatile_start) v ∙ area-written w s.pages s'.pages h volatile_start s.volatile)
     (ap (λ n. area s'.pages stack_start (n - stack_start)) k ∙ area-written w s.pages s'.pages h stack_start (s.mark - stack_start))
     (ap₂ (area s'.pages) b r ∙ area-written w s.pages s'.pages h s.base s.region)
-
-in_or_out : (from a to : ℕ) → (((nat_le from a && nat_lt a to) ≡ true) × (from ≤ a) × (a < to)) ⊎ (((nat_le from a && nat_lt a to) ≡ false) × ((a < from) ⊎ (to ≤ a)))
-in_or_out from a to = grind (arith, nat_tests)
 
 -- a byte outside a cleared range, and one inside it
 cleared_outside : (m m' : Pages) (from to a : ℕ) → page_byte m' a ≡ cond (nat_le from a && nat_lt a to) 0 (page_byte m a) → (a < from) ⊎ (to ≤ a) → page_byte m' a ≡ page_byte m a

@@ -1,27 +1,35 @@
 -- The bytes that pages hold.
-use Rattle.std.specs.Prelude.{◌≡◌, ℕ, zero, suc, ◌/◌, ◌%◌, ◌<◌, ◌≤◌, List, [], ◌∷◌, slice_index, Option, Some, None, IsSome}
-use Rattle.std.specs.Ordering.{nat_cmp}
-use Rattle.std.specs.BTreeMap.{BTreeMap, get}
-use Rattle.hip_mem.specs.declared.page.Page.{Page}
+use Rattle.std.specs.Prelude.{◌≡◌, ℕ, zero, suc, ◌+◌, ◌*◌, ◌/◌, ◌%◌, ◌<◌, ◌≤◌, List, [], ◌∷◌, slice_index, Option, Some, None}
+use Rattle.hip_directory.specs.Directories.{number_at}
+use Rattle.hip_mem.specs.declared.TheConstants.{PAGE_SIZE}
+use Rattle.hip_mem.specs.declared.pages.Pages.{Pages}
+use Rattle.hip_mem.specs.Paging.{key_of}
 
-abbrev pub Pages : Type 0
-Pages = BTreeMap ℕ Page
+-- where page n lies: 0 where it was not made
+unfoldable pub place_of : Pages → ℕ → ℕ
+place_of m n = number_at m.directory (key_of m.region n)
 
--- a byte of a page; where there is no page it is 0
-abbrev pub byte_by : Option Page → ℕ → ℕ
-byte_by None i = 0
-byte_by (Some p) i = slice_index p.bytes.items i
+abbrev pub IsMade : Pages → ℕ → Type 0
+IsMade m n = 0 < place_of m n
+
+-- byte i of page n
+unfoldable pub byte_of : Pages → ℕ → ℕ → ℕ
+byte_of m n i = slice_index m.bytes.items (PAGE_SIZE * place_of m n + i)
 
 -- the byte at an address
 abbrev pub page_byte : Pages → ℕ → ℕ
-page_byte m a = byte_by (get nat_cmp m (a / 4096)) (a % 4096)
+page_byte m a = byte_of m (a / PAGE_SIZE) (a % PAGE_SIZE)
 
 -- the n bytes from address a on
 abbrev pub page_bytes : Pages → ℕ → ℕ → List ℕ
 page_bytes m a zero = []
 page_bytes m a (suc n) = page_byte m a ∷ page_bytes m (suc a) n
 
--- the first page from a number on
-abbrev pub IsFirstPage : Pages → ℕ → Option ℕ → Type 0
-IsFirstPage m from None = (j : ℕ) → from ≤ j → get nat_cmp m j ≡ None
-IsFirstPage m from (Some k) = (from ≤ k) × IsSome (get nat_cmp m k) × ((j : ℕ) → from ≤ j → j < k → get nat_cmp m j ≡ None)
+-- the pages from one up to another are zeros
+abbrev pub AreZeros : Pages → ℕ → ℕ → Type 0
+AreZeros m from to = (n i : ℕ) → from ≤ n → n < to → i < PAGE_SIZE → byte_of m n i ≡ 0
+
+-- a page from one up to another that was made, before which there are zeros, or none where all are zeros
+abbrev pub IsFirstMade : Pages → ℕ → ℕ → Option ℕ → Type 0
+IsFirstMade m from to None = AreZeros m from to
+IsFirstMade m from to (Some n) = (from ≤ n) × (n < to) × IsMade m n × AreZeros m from n

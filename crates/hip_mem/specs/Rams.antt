@@ -3,7 +3,8 @@ use Rattle.std.specs.Prelude.{◌≡◌, ℕ, ◌-◌, ◌%◌, ◌^◌, ◌≤�
 use Rattle.hip_mem.specs.declared.ram.Ram.TheInside.{Inside}
 use Rattle.hip_mem.specs.Memory.{volatile_start, stack_start, stack_end}
 use Rattle.hip_mem.specs.Areas.{Areas}
-use Rattle.hip_mem.specs.Pages.{Pages, page_bytes}
+use Rattle.hip_mem.specs.declared.pages.Pages.{Pages}
+use Rattle.hip_mem.specs.Pages.{page_bytes}
 use Rattle.hip_types.specs.declared.limits.TheConstants.{LARGEST_REGION, LARGEST_VOLATILE}
 
 -- the n bytes from an address on

@@ -1,7 +1,7 @@
 //! The volatile and persistent bytes of the machine.
 #![tactic(auto)]
 
-mod page;
+mod keys;
 mod pages;
 mod ram;
 mod refusal;
@@ -20,3 +20,9 @@ pub const STACK_SIZE: u64 = 16_777_216;
 
 /// The address behind the stack's last byte.
 pub const STACK_END: u64 = STACK_START + STACK_SIZE;
+
+/// The number of bytes of a page, at a multiple of it.
+pub const PAGE_SIZE: u64 = 4096;
+
+/// The least base that the region may have.
+pub const LOWEST_BASE: u64 = 4_294_967_296;

@@ -1,204 +1,389 @@
-//! Bytes by address, in pages that an ordered map holds by number. A byte without a page is 0.
+//! Bytes by address, in pages that are made where something is written. A byte of a page that was not made is 0.
 
-ghost use Rattle.std.specs.Prelude.{◌≡◌, ◌≢◌, ℕ, ◌+◌, ◌-◌, ◌*◌, ◌/◌, ◌%◌, ◌^◌, ◌<◌, ◌≤◌, ◌&&◌, ◌==◌, Bool, true, false, cond, nat_le, nat_lt, length, slice_index, IsSome, OnOk, OnErr, IsOk, None};
-ghost use Rattle.std.specs.Ordering.{nat_cmp};
-ghost use Rattle.std.specs.BTreeMap.{get};
+ghost use Rattle.std.specs.Prelude.{◌≡◌, ◌≢◌, ℕ, ◌+◌, ◌-◌, ◌*◌, ◌/◌, ◌%◌, ◌^◌, ◌<◌, ◌≤◌, ◌&&◌, cond, nat_le, nat_lt, length, slice_index, true, IfOk, OnOk, OnErr};
+ghost use Rattle.hip_directory.specs.Directories.{number_at};
 ghost use Rattle.hip_mem.specs.Memory.{byte_written};
-ghost use Rattle.hip_mem.specs.Pages.{byte_by, page_byte, IsFirstPage};
+ghost use Rattle.hip_mem.specs.Paging.{ArePages};
+ghost use Rattle.hip_mem.specs.declared.keys.TheConstants.{LOWEST_REGION_PAGE};
+ghost use Rattle.hip_mem.specs.declared.TheConstants.{PAGE_SIZE, STACK_START, STACK_END};
 
-use crate::page::{PAGE, Page};
+use crate::keys::{LOWEST_REGION_PAGE, STACK_PAGE, STACK_PAGES, key_of};
+use crate::{PAGE_SIZE, STACK_END, STACK_START};
+use hip_directory::Directory;
 use hip_types::NoMemory;
 use std::alloc::Global;
-use std::collections::BTreeMap;
 
-// Reads bytes of one page.
-fn read_page(pages: &BTreeMap<u64, Page>, number: u64, at: usize, into: &mut [u8])
-    requires { at + length into.old ≤ 4096 }
-    ensures len { length into.new ≡ length into.old }
-    ensures bytes { (i : ℕ) → i < length into.old → slice_index into.new i ≡ byte_by (get nat_cmp pages.now number) (at + i) }
-{
-    match pages.get(&number) {
-        Some(page) => page.read(at, into),
-        None => into.fill(0),
-    }
+/// Bytes by address.
+#[derive(Drop)]
+pub struct Pages {
+    // The number of the region's first page.
+    region: u64,
+    // Where each page lies among those that were made, by its key; 0 where it was not made.
+    directory: Directory,
+    // The pages side by side. The first is zeros, and is read where a page was not made.
+    bytes: Vec<u8>,
+    ghost above: { LOWEST_REGION_PAGE ≤ region },
+    ghost pages: { ArePages directory bytes.items },
 }
 
-/// Reads the bytes from an address on, of at most two pages.
-pub fn read(pages: &BTreeMap<u64, Page>, addr: u64, into: &mut [u8])
-    requires few { length into.old ≤ 4096 }
-    requires fits { addr + 8192 < 2 ^ 64 }
-    ensures len { length into.new ≡ length into.old }
-    ensures bytes { (i : ℕ) → i < length into.old → slice_index into.new i ≡ page_byte pages.now (addr + i) }
-{
-    let at = (addr % PAGE) as usize;
-    let len = into.len();
-    let first = len.min(PAGE as usize - at);
-    read_page(pages, addr / PAGE, at, &mut into[..first]);
-    if first < len {
-        read_page(pages, addr / PAGE + 1, 0, &mut into[first..]);
-    }
-}
+// Page by page.
+#[tactic(auto, unfolding(crate::specs::Pages::place_of, crate::specs::Pages::byte_of))]
+impl Pages {
+    ghost use Rattle.hip_mem.specs.Pages.{place_of, IsMade, byte_of, page_byte, IsFirstMade};
 
-// Writes bytes of one page, which is made where it was not there.
-fn write_page(
-    alloc: Global,
-    pages: &mut BTreeMap<u64, Page>,
-    number: u64,
-    at: usize,
-    bytes: &[u8],
-) -> Result<(), NoMemory>
-    requires { at + length bytes.now ≤ 4096 }
-    ensures ok { OnOk result ((i : ℕ) → byte_by (get nat_cmp pages.new number) i ≡ cond (nat_le at i && nat_lt i (at + length bytes.now)) (slice_index bytes.now (i - at)) (byte_by (get nat_cmp pages.old number) i)) }
-    ensures others { (j : ℕ) → j ≢ number → get nat_cmp pages.new j ≡ get nat_cmp pages.old j }
-    ensures err { OnErr result ((j : ℕ) → get nat_cmp pages.new j ≡ get nat_cmp pages.old j) }
-    ensures there { IsSome (get nat_cmp pages.old number) → IsOk result }
-{
-    match pages.get_mut(&number) {
-        Some(page) => {
-            page.write(at, bytes);
-            Ok(())
+    /// Zeros, where the region begins at a base.
+    pub fn new(alloc: Global, base: u64) -> Result<Pages, NoMemory>
+        requires { 2 ^ 32 ≤ base }
+        ensures { IfOk result (λ pages. (a : ℕ) → page_byte pages a ≡ 0) }
+    {
+        let directory = Directory::new(alloc)?;
+        let bytes = zeros(alloc)?;
+        Ok(Pages {
+            region: base / PAGE_SIZE,
+            directory,
+            bytes,
+        })
+    }
+
+    // Where the bytes of a page begin.
+    #[inline(always)]
+    fn start(&self, number: u64) -> usize
+        requires { number < 2 ^ 63 }
+        ensures value { result ≡ PAGE_SIZE * place_of self.now number }
+        ensures within { result + PAGE_SIZE ≤ length self.now.bytes.items }
+    {
+        self.directory.get(key_of(self.region, number)) as usize * PAGE_SIZE as usize
+    }
+
+    // Reads bytes of one page to the front of a slice.
+    #[inline(always)]
+    fn read_page(&self, number: u64, at: usize, into: &mut [u8], size: usize)
+        requires number { number < 2 ^ 63 }
+        requires few { size ≤ length into.old }
+        requires within { at + size ≤ PAGE_SIZE }
+        ensures len { length into.new ≡ length into.old }
+        ensures low { (i : ℕ) → i < size → slice_index into.new i ≡ byte_of self.now number (at + i) }
+        ensures high { (i : ℕ) → size ≤ i → slice_index into.new i ≡ slice_index into.old i }
+    {
+        let from = self.start(number) + at;
+        copy_front(into, self.bytes.as_slice(), from, size);
+    }
+
+    // Writes bytes of one page, which was made.
+    #[inline(always)]
+    fn write_page(&mut self, number: u64, at: usize, bytes: &[u8])
+        requires number { number < 2 ^ 63 }
+        requires made { IsMade self.old number }
+        requires within { at + length bytes.now ≤ PAGE_SIZE }
+        ensures bytes { (i : ℕ) → i < PAGE_SIZE → byte_of self.new number i ≡ cond (nat_le at i && nat_lt i (at + length bytes.now)) (slice_index bytes.now (i - at)) (byte_of self.old number i) }
+        ensures others { (n i : ℕ) → n ≢ number → i < PAGE_SIZE → byte_of self.new n i ≡ byte_of self.old n i }
+        ensures made { (n : ℕ) → place_of self.new n ≡ place_of self.old n }
+    {
+        let from = self.start(number) + at;
+        put(self.bytes.as_mut_slice(), from, bytes);
+    }
+
+    // Makes the bytes of one page zeros that lie in a range.
+    fn clear_page(&mut self, number: u64, from: usize, to: usize)
+        requires number { number < 2 ^ 63 }
+        requires made { IsMade self.old number }
+        requires forward { from ≤ to }
+        requires within { to ≤ PAGE_SIZE }
+        ensures bytes { (i : ℕ) → i < PAGE_SIZE → byte_of self.new number i ≡ cond (nat_le from i && nat_lt i to) 0 (byte_of self.old number i) }
+        ensures others { (n i : ℕ) → n ≢ number → i < PAGE_SIZE → byte_of self.new n i ≡ byte_of self.old n i }
+        ensures made { (n : ℕ) → place_of self.new n ≡ place_of self.old n }
+    {
+        let start = self.start(number);
+        erase(self.bytes.as_mut_slice(), start + from, start + to);
+    }
+
+    // Makes a page where it was not made.
+    #[inline(always)]
+    fn make_page(&mut self, number: u64) -> Result<(), NoMemory>
+        requires { number < 2 ^ 63 }
+        ensures same { (n i : ℕ) → i < PAGE_SIZE → byte_of self.new n i ≡ byte_of self.old n i }
+        ensures kept { (n : ℕ) → IsMade self.old n → IsMade self.new n }
+        ensures ok { OnOk result (IsMade self.new number) }
+    {
+        if self.start(number) != 0 {
+            return Ok(());
         }
-        None => add_page(alloc, pages, number, at, bytes),
+        self.add_page(number)
+    }
+
+    #[inline(never)]
+    fn add_page(&mut self, number: u64) -> Result<(), NoMemory>
+        requires number { number < 2 ^ 63 }
+        requires absent { place_of self.old number ≡ 0 }
+        ensures same { (n i : ℕ) → i < PAGE_SIZE → byte_of self.new n i ≡ byte_of self.old n i }
+        ensures kept { (n : ℕ) → IsMade self.old n → IsMade self.new n }
+        ensures ok { OnOk result (IsMade self.new number) }
+    {
+        append_page(
+            &mut self.directory,
+            &mut self.bytes,
+            key_of(self.region, number),
+        )
+    }
+
+    // The first page of the stack from one up to another that was made.
+    fn first_made(&self, from: u64, to: u64) -> Option<u64>
+        requires from { STACK_PAGE ≤ from }
+        requires forward { from ≤ to }
+        requires to { to ≤ STACK_PAGE + STACK_PAGES }
+        ensures { IsFirstMade self.now from to result }
+    {
+        match self.directory.first_set(from - STACK_PAGE, to - STACK_PAGE) {
+            Some(key) => Some(key + STACK_PAGE),
+            None => None,
+        }
     }
 }
 
-// Makes a page with these bytes, and zeros elsewhere.
-fn add_page(
-    alloc: Global,
-    pages: &mut BTreeMap<u64, Page>,
-    number: u64,
-    at: usize,
-    bytes: &[u8],
-) -> Result<(), NoMemory>
-    requires few { at + length bytes.now ≤ 4096 }
-    requires absent { get nat_cmp pages.old number ≡ None }
-    ensures ok { OnOk result ((i : ℕ) → byte_by (get nat_cmp pages.new number) i ≡ cond (nat_le at i && nat_lt i (at + length bytes.now)) (slice_index bytes.now (i - at)) 0) }
-    ensures made { OnOk result (IsSome (get nat_cmp pages.new number)) }
-    ensures others { (j : ℕ) → j ≢ number → get nat_cmp pages.new j ≡ get nat_cmp pages.old j }
-    ensures err { OnErr result ((j : ℕ) → get nat_cmp pages.new j ≡ get nat_cmp pages.old j) }
+// By address.
+impl Pages {
+    ghost use Rattle.hip_mem.specs.Bytes.{little_endian};
+    ghost use Rattle.hip_mem.specs.Pages.{place_of, IsMade, byte_of, page_byte, page_bytes, IsFirstMade};
+
+    /// The number of at most eight bytes, the lowest first.
+    #[inline(always)]
+    pub fn number_at(&self, addr: u64, size: usize) -> u64
+        requires few { size ≤ 8 }
+        requires fits { addr + 8192 < 2 ^ 64 }
+        ensures { result ≡ little_endian (page_bytes self.now addr size) }
+    {
+        let mut bytes = [0u8; 8];
+        self.read(addr, &mut bytes, size);
+        u64::from_le_bytes(bytes)
+    }
+
+    /// Reads bytes to the front of a slice.
+    #[inline(always)]
+    pub fn read(&self, addr: u64, into: &mut [u8], size: usize)
+        requires few { size ≤ length into.old }
+        requires small { size ≤ 8 }
+        requires fits { addr + 8192 < 2 ^ 64 }
+        ensures len { length into.new ≡ length into.old }
+        ensures low { (i : ℕ) → i < size → slice_index into.new i ≡ page_byte self.now (addr + i) }
+        ensures high { (i : ℕ) → size ≤ i → slice_index into.new i ≡ slice_index into.old i }
+    {
+        let at = (addr % PAGE_SIZE) as usize;
+        if at + size <= PAGE_SIZE as usize {
+            self.read_page(addr / PAGE_SIZE, at, into, size);
+        } else {
+            self.read_two(addr, into, size);
+        }
+    }
+
+    // Reads bytes of two pages.
+    #[inline(never)]
+    fn read_two(&self, addr: u64, into: &mut [u8], size: usize)
+        requires few { size ≤ length into.old }
+        requires small { size ≤ 8 }
+        requires two { PAGE_SIZE < addr % PAGE_SIZE + size }
+        requires fits { addr + 8192 < 2 ^ 64 }
+        ensures len { length into.new ≡ length into.old }
+        ensures low { (i : ℕ) → i < size → slice_index into.new i ≡ page_byte self.now (addr + i) }
+        ensures high { (i : ℕ) → size ≤ i → slice_index into.new i ≡ slice_index into.old i }
+    {
+        let at = (addr % PAGE_SIZE) as usize;
+        let first = PAGE_SIZE as usize - at;
+        self.read_page(addr / PAGE_SIZE, at, into, first);
+        self.read_page(addr / PAGE_SIZE + 1, 0, &mut into[first..], size - first);
+    }
+
+    /// Writes at most eight bytes from an address on: all of them or none.
+    #[inline(always)]
+    pub fn write(&mut self, addr: u64, bytes: &[u8]) -> Result<(), NoMemory>
+        requires few { length bytes.now ≤ 8 }
+        requires fits { addr + 8192 < 2 ^ 64 }
+        ensures ok { OnOk result ((a : ℕ) → page_byte self.new a ≡ byte_written (record { addr = addr; bytes = bytes.now }) a (page_byte self.old a)) }
+        ensures err { OnErr result ((a : ℕ) → page_byte self.new a ≡ page_byte self.old a) }
+    {
+        let at = (addr % PAGE_SIZE) as usize;
+        if bytes.len() > PAGE_SIZE as usize - at {
+            return self.write_two(addr, bytes);
+        }
+        self.make_page(addr / PAGE_SIZE)?;
+        self.write_page(addr / PAGE_SIZE, at, bytes);
+        Ok(())
+    }
+
+    // Writes bytes of two pages.
+    #[inline(never)]
+    fn write_two(&mut self, addr: u64, bytes: &[u8]) -> Result<(), NoMemory>
+        requires few { length bytes.now ≤ 8 }
+        requires two { PAGE_SIZE < addr % PAGE_SIZE + length bytes.now }
+        requires fits { addr + 8192 < 2 ^ 64 }
+        ensures ok { OnOk result ((a : ℕ) → page_byte self.new a ≡ byte_written (record { addr = addr; bytes = bytes.now }) a (page_byte self.old a)) }
+        ensures err { OnErr result ((a : ℕ) → page_byte self.new a ≡ page_byte self.old a) }
+    {
+        let at = (addr % PAGE_SIZE) as usize;
+        let number = addr / PAGE_SIZE;
+        self.make_page(number)?;
+        self.make_page(number + 1)?;
+        let (low, high) = bytes.split_at(PAGE_SIZE as usize - at);
+        self.write_page(number, at, low);
+        self.write_page(number + 1, 0, high);
+        Ok(())
+    }
+
+    /// Makes the bytes of a range of the stack zeros, in time of its pages that were made.
+    pub fn clear(&mut self, from: u64, to: u64)
+        requires low { STACK_START ≤ from }
+        requires forward { from ≤ to }
+        requires high { to ≤ STACK_END }
+        ensures { (a : ℕ) → page_byte self.new a ≡ cond (nat_le from a && nat_lt a to) 0 (page_byte self.old a) }
+    {
+        let end = (to + PAGE_SIZE - 1) / PAGE_SIZE;
+        let mut next = from / PAGE_SIZE;
+        while next < end {
+            let Some(number) = self.first_made(next, end) else {
+                break;
+            };
+            let start = number * PAGE_SIZE;
+            let low = from.max(start) - start;
+            let high = to.min(start + PAGE_SIZE) - start;
+            self.clear_page(number, low as usize, high as usize);
+            next = number + 1;
+        }
+    }
+
+    /// Writes bytes where there are zeros, and makes pages only for parts that are not all zeros.
+    pub fn fill(&mut self, start: u64, bytes: &[u8]) -> Result<(), NoMemory>
+        requires aligned { start % PAGE_SIZE ≡ 0 }
+        requires fits { start + length bytes.now + 8192 < 2 ^ 64 }
+        requires zeros { (a : ℕ) → start ≤ a → a < start + length bytes.now → page_byte self.old a ≡ 0 }
+        ensures { OnOk result ((a : ℕ) → page_byte self.new a ≡ byte_written (record { addr = start; bytes = bytes.now }) a (page_byte self.old a)) }
+    {
+        let mut done = 0;
+        while done < bytes.len() {
+            let end = bytes.len().min(done + PAGE_SIZE as usize);
+            self.fill_page(start + done as u64, &bytes[done..end])?;
+            done = end;
+        }
+        Ok(())
+    }
+
+    // The same for bytes from a page's start on, of one page.
+    fn fill_page(&mut self, addr: u64, bytes: &[u8]) -> Result<(), NoMemory>
+        requires aligned { addr % PAGE_SIZE ≡ 0 }
+        requires few { length bytes.now ≤ PAGE_SIZE }
+        requires zeros { (a : ℕ) → addr ≤ a → a < addr + length bytes.now → page_byte self.old a ≡ 0 }
+        ensures { OnOk result ((a : ℕ) → page_byte self.new a ≡ byte_written (record { addr = addr; bytes = bytes.now }) a (page_byte self.old a)) }
+    {
+        if is_zero(bytes) {
+            return Ok(());
+        }
+        self.make_page(addr / PAGE_SIZE)?;
+        self.write_page(addr / PAGE_SIZE, 0, bytes);
+        Ok(())
+    }
+}
+
+// Makes a page of zeros for a key that has none.
+#[tactic(auto, unfolding(crate::specs::Paging::key_of))]
+fn append_page(directory: &mut Directory, bytes: &mut Vec<u8>, key: u64) -> Result<(), NoMemory>
+    requires pages { ArePages directory.old bytes.old.items }
+    requires absent { number_at directory.old key ≡ 0 }
+    ensures pages { ArePages directory.new bytes.new.items }
+    ensures same { (k i : ℕ) → i < PAGE_SIZE → slice_index bytes.new.items (PAGE_SIZE * number_at directory.new k + i) ≡ slice_index bytes.old.items (PAGE_SIZE * number_at directory.old k + i) }
+    ensures kept { (k : ℕ) → 0 < number_at directory.old k → 0 < number_at directory.new k }
+    ensures ok { OnOk result (0 < number_at directory.new key) }
 {
-    let mut page = Page::new(alloc)?;
-    page.write(at, bytes);
-    match pages.insert(number, page) {
-        Ok(_) => Ok(()),
+    let Ok(place) = u32::try_from(bytes.len() / PAGE_SIZE as usize) else {
+        return Err(NoMemory);
+    };
+    directory.make_room(key)?;
+    append_zeros(bytes)?;
+    directory.set(key, place);
+    Ok(())
+}
+
+// A page of zeros.
+fn zeros(alloc: Global) -> Result<Vec<u8>, NoMemory>
+    ensures length { IfOk result (λ v. length v.items ≡ PAGE_SIZE) }
+    ensures zero { IfOk result (λ v. (i : ℕ) → slice_index v.items i ≡ 0) }
+{
+    let mut bytes = Vec::new(alloc);
+    append_zeros(&mut bytes)?;
+    Ok(bytes)
+}
+
+// Appends a page of zeros.
+fn append_zeros(bytes: &mut Vec<u8>) -> Result<(), NoMemory>
+    ensures same { (i : ℕ) → slice_index bytes.new.items i ≡ slice_index bytes.old.items i }
+    ensures ok { OnOk result (length bytes.new.items ≡ length bytes.old.items + PAGE_SIZE) }
+    ensures err { OnErr result (bytes.new.items ≡ bytes.old.items) }
+{
+    let len = bytes.len() + PAGE_SIZE as usize;
+    match bytes.resize(len, 0) {
+        Ok(()) => Ok(()),
         Err(_) => Err(NoMemory),
     }
 }
 
-// Makes a page of zeros where none was there.
-fn make_page(alloc: Global, pages: &mut BTreeMap<u64, Page>, number: u64) -> Result<(), NoMemory>
-    ensures bytes { (j i : ℕ) → byte_by (get nat_cmp pages.new j) i ≡ byte_by (get nat_cmp pages.old j) i }
-    ensures made { OnOk result (IsSome (get nat_cmp pages.new number)) }
+// Copies bytes to the front of a slice. The usual sizes are told apart, since a copy of a fixed size is one move.
+#[inline(always)]
+fn copy_front(into: &mut [u8], bytes: &[u8], from: usize, size: usize)
+    requires few { size ≤ length into.old }
+    requires within { from + size ≤ length bytes.now }
+    ensures len { length into.new ≡ length into.old }
+    ensures low { (i : ℕ) → i < size → slice_index into.new i ≡ slice_index bytes.now (from + i) }
+    ensures high { (i : ℕ) → size ≤ i → slice_index into.new i ≡ slice_index into.old i }
 {
-    if pages.contains_key(&number) {
-        return Ok(());
-    }
-    add_page(alloc, pages, number, 0, &[])
-}
-
-// The number of the first page from a number on.
-fn first_page(pages: &BTreeMap<u64, Page>, from: u64) -> Option<u64>
-    ensures { IsFirstPage pages.now from result }
-{
-    match pages.range(from..).next() {
-        Some((number, _)) => Some(*number),
-        None => None,
+    match size {
+        8 => copy_bytes(into, bytes, from, 8),
+        4 => copy_bytes(into, bytes, from, 4),
+        2 => copy_bytes(into, bytes, from, 2),
+        1 => copy_bytes(into, bytes, from, 1),
+        _ => copy_bytes(into, bytes, from, size),
     }
 }
 
-// Makes the bytes of one page zeros that lie in a range.
-fn clear_page(pages: &mut BTreeMap<u64, Page>, number: u64, from: usize, to: usize)
+#[inline(always)]
+fn copy_bytes(into: &mut [u8], bytes: &[u8], from: usize, size: usize)
+    requires few { size ≤ length into.old }
+    requires within { from + size ≤ length bytes.now }
+    ensures len { length into.new ≡ length into.old }
+    ensures low { (i : ℕ) → i < size → slice_index into.new i ≡ slice_index bytes.now (from + i) }
+    ensures high { (i : ℕ) → size ≤ i → slice_index into.new i ≡ slice_index into.old i }
+{
+    into[..size].copy_from_slice(&bytes[from..from + size]);
+}
+
+// Writes bytes into a larger slice; the usual sizes are told apart as in `copy_front`.
+#[inline(always)]
+fn put(area: &mut [u8], at: usize, bytes: &[u8])
+    requires { at + length bytes.now ≤ length area.old }
+    ensures len { length area.new ≡ length area.old }
+    ensures bytes { (i : ℕ) → slice_index area.new i ≡ cond (nat_le at i && nat_lt i (at + length bytes.now)) (slice_index bytes.now (i - at)) (slice_index area.old i) }
+{
+    match bytes.len() {
+        8 => put_bytes(area, at, &bytes[..8]),
+        4 => put_bytes(area, at, &bytes[..4]),
+        2 => put_bytes(area, at, &bytes[..2]),
+        1 => put_bytes(area, at, &bytes[..1]),
+        _ => put_bytes(area, at, bytes),
+    }
+}
+
+#[inline(always)]
+fn put_bytes(area: &mut [u8], at: usize, bytes: &[u8])
+    requires { at + length bytes.now ≤ length area.old }
+    ensures len { length area.new ≡ length area.old }
+    ensures bytes { (i : ℕ) → slice_index area.new i ≡ cond (nat_le at i && nat_lt i (at + length bytes.now)) (slice_index bytes.now (i - at)) (slice_index area.old i) }
+{
+    area[at..at + bytes.len()].copy_from_slice(bytes);
+}
+
+fn erase(area: &mut [u8], from: usize, to: usize)
     requires forward { from ≤ to }
-    requires within { to ≤ 4096 }
-    ensures bytes { (i : ℕ) → i < 4096 → byte_by (get nat_cmp pages.new number) i ≡ cond (nat_le from i && nat_lt i to) 0 (byte_by (get nat_cmp pages.old number) i) }
-    ensures others { (j : ℕ) → j ≢ number → get nat_cmp pages.new j ≡ get nat_cmp pages.old j }
+    requires within { to ≤ length area.old }
+    ensures len { length area.new ≡ length area.old }
+    ensures bytes { (i : ℕ) → slice_index area.new i ≡ cond (nat_le from i && nat_lt i to) 0 (slice_index area.old i) }
 {
-    if from == 0 && to == PAGE as usize {
-        pages.remove(&number);
-    } else if let Some(page) = pages.get_mut(&number) {
-        page.clear(from, to);
-    }
-}
-
-/// Writes bytes from an address on, of at most two pages: all of them or none.
-pub fn write(
-    alloc: Global,
-    pages: &mut BTreeMap<u64, Page>,
-    addr: u64,
-    bytes: &[u8],
-) -> Result<(), NoMemory>
-    requires few { length bytes.now ≤ 4096 }
-    requires fits { addr + 8192 < 2 ^ 64 }
-    ensures ok { OnOk result ((a : ℕ) → page_byte pages.new a ≡ byte_written (record { addr = addr; bytes = bytes.now }) a (page_byte pages.old a)) }
-    ensures err { OnErr result ((a : ℕ) → page_byte pages.new a ≡ page_byte pages.old a) }
-{
-    let at = (addr % PAGE) as usize;
-    if bytes.len() <= PAGE as usize - at {
-        return write_page(alloc, pages, addr / PAGE, at, bytes);
-    }
-    make_page(alloc, pages, addr / PAGE + 1)?;
-    let (low, high) = bytes.split_at(PAGE as usize - at);
-    write_page(alloc, pages, addr / PAGE, at, low)?;
-    write_page(alloc, pages, addr / PAGE + 1, 0, high)
-}
-
-/// Makes the bytes of a range zeros, in time of the pages that it has.
-pub fn clear(pages: &mut BTreeMap<u64, Page>, from: u64, to: u64)
-    requires forward { from ≤ to }
-    requires fits { to + 8192 < 2 ^ 64 }
-    ensures { (a : ℕ) → page_byte pages.new a ≡ cond (nat_le from a && nat_lt a to) 0 (page_byte pages.old a) }
-{
-    let end = (to + PAGE - 1) / PAGE;
-    let mut next = from / PAGE;
-    while let Some(number) = first_page(pages, next) {
-        if number >= end {
-            break;
-        }
-        let start = number * PAGE;
-        let low = from.max(start) - start;
-        let high = to.min(start + PAGE) - start;
-        clear_page(pages, number, low as usize, high as usize);
-        next = number + 1;
-    }
-}
-
-/// Writes bytes where there are zeros, and makes pages only for parts that are not all zeros.
-pub fn fill(
-    alloc: Global,
-    pages: &mut BTreeMap<u64, Page>,
-    start: u64,
-    bytes: &[u8],
-) -> Result<(), NoMemory>
-    requires aligned { start % 4096 ≡ 0 }
-    requires fits { start + length bytes.now + 8192 < 2 ^ 64 }
-    requires zeros { (a : ℕ) → start ≤ a → a < start + length bytes.now → page_byte pages.old a ≡ 0 }
-    ensures { OnOk result ((a : ℕ) → page_byte pages.new a ≡ byte_written (record { addr = start; bytes = bytes.now }) a (page_byte pages.old a)) }
-{
-    let mut done = 0;
-    while done < bytes.len() {
-        let end = bytes.len().min(done + PAGE as usize);
-        fill_page(alloc, pages, start + done as u64, &bytes[done..end])?;
-        done = end;
-    }
-    Ok(())
-}
-
-// The same for bytes from a page's start on, of one page.
-fn fill_page(
-    alloc: Global,
-    pages: &mut BTreeMap<u64, Page>,
-    addr: u64,
-    bytes: &[u8],
-) -> Result<(), NoMemory>
-    requires aligned { addr % 4096 ≡ 0 }
-    requires few { length bytes.now ≤ 4096 }
-    requires zeros { (a : ℕ) → addr ≤ a → a < addr + length bytes.now → page_byte pages.old a ≡ 0 }
-    ensures { OnOk result ((a : ℕ) → page_byte pages.new a ≡ byte_written (record { addr = addr; bytes = bytes.now }) a (page_byte pages.old a)) }
-{
-    if is_zero(bytes) {
-        return Ok(());
-    }
-    write_page(alloc, pages, addr / PAGE, 0, bytes)
+    area[from..to].fill(0);
 }
 
 // Whether all bytes are 0.

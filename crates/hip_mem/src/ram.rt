@@ -3,25 +3,22 @@ ghost use Rattle.hip_mem.specs.Memory.{byte_written};
 ghost use Rattle.hip_mem.specs.Bytes.{little_endian};
 ghost use Rattle.hip_mem.specs.Pages.{page_byte, page_bytes};
 
-use crate::page::Page;
-use crate::pages::{clear, fill, read, write};
+use crate::pages::Pages;
 use crate::refusal::{MemTrap, PushRefusal, StoreRefusal};
 use crate::{STACK_END, STACK_START, VOLATILE_START};
 use hip_types::{LARGEST_REGION, LARGEST_VOLATILE, NoMemory};
 use std::alloc::Global;
-use std::collections::BTreeMap;
 use std::marker::Model;
 
 /// The bytes of a machine, which contracts see as the three areas of valid bytes.
 #[derive(Drop)]
 pub struct Ram {
-    alloc: Global,
     base: u64,
     // The numbers of bytes of the volatile globals and of the region.
     volatile: u64,
     region: u64,
     mark: u64,
-    pages: BTreeMap<u64, Page>,
+    pages: Pages,
 }
 
 impl Model for Ram {
@@ -50,11 +47,10 @@ impl Ram {
         requires region { length region.now ≤ LARGEST_REGION }
         ensures { IfOk result (λ ram. ram ≡ record { base = base; volatile = volatile.now; stack = []; region = region.now }) }
     {
-        let mut pages = BTreeMap::new(alloc);
-        fill(alloc, &mut pages, VOLATILE_START, volatile)?;
-        fill(alloc, &mut pages, base, region)?;
+        let mut pages = Pages::new(alloc, base)?;
+        pages.fill(VOLATILE_START, volatile)?;
+        pages.fill(base, region)?;
         Ok(Ram {
-            alloc,
             base,
             volatile: volatile.len() as u64,
             region: region.len() as u64,
@@ -64,6 +60,7 @@ impl Ram {
     }
 
     /// The number of so many bytes, the lowest first.
+    #[inline]
     pub fn load(&self, addr: u64, size: u32, align: u32) -> Result<u64, MemTrap>
         requires some { 0 < size }
         requires few { size ≤ 8 }
@@ -72,11 +69,12 @@ impl Ram {
     {
         match self.access_trap(addr, size, align) {
             Some(trap) => Err(trap),
-            None => Ok(number_at(&self.pages, addr, size as usize)),
+            None => Ok(self.pages.number_at(addr, size as usize)),
         }
     }
 
     /// Writes the low bytes of a number, the lowest first.
+    #[inline]
     pub fn store(
         &mut self,
         addr: u64,
@@ -97,7 +95,7 @@ impl Ram {
             Some(MemTrap::BadAddress) => Err(StoreRefusal::BadAddress),
             None => {
                 let bytes = value.to_le_bytes();
-                put(self.alloc, &mut self.pages, addr, &bytes[..size as usize])
+                put(&mut self.pages, addr, &bytes[..size as usize])
             }
         }
     }
@@ -145,7 +143,7 @@ impl Ram {
         if mark > STACK_END {
             return Err(PushRefusal::StackFull);
         }
-        clear(&mut self.pages, self.mark, mark);
+        self.pages.clear(self.mark, mark);
         self.mark = mark;
         Ok(block)
     }
@@ -160,6 +158,7 @@ impl Ram {
     }
 
     // Why an access is refused, if it is.
+    #[inline(always)]
     fn access_trap(&self, addr: u64, size: u32, align: u32) -> Option<MemTrap>
         requires some { 0 < size }
         requires align { 0 < align }
@@ -174,6 +173,7 @@ impl Ram {
         None
     }
 
+    #[inline(always)]
     fn are_valid(&self, addr: u64, size: u64) -> bool
         requires { 0 < size }
         ensures { result ≡ are_valid self.now addr size }
@@ -189,48 +189,22 @@ impl Ram {
 }
 
 // Whether a range lies in an area.
+#[inline(always)]
 fn lies_in(start: u64, len: u64, addr: u64, size: u64) -> bool
     ensures { IsTrue result ↔ ((start ≤ addr) × (addr + size ≤ start + len)) }
 {
     addr >= start && addr - start <= len && size <= len - (addr - start)
 }
 
-// The number of at most eight bytes, the lowest first.
-fn number_at(pages: &BTreeMap<u64, Page>, addr: u64, size: usize) -> u64
-    requires few { size ≤ 8 }
-    requires fits { addr + 8192 < 2 ^ 64 }
-    ensures { result ≡ little_endian (page_bytes pages.now addr size) }
-{
-    let mut bytes = [0u8; 8];
-    read_low(pages, addr, &mut bytes, size);
-    u64::from_le_bytes(bytes)
-}
-
-// Reads so many bytes, and leaves the others.
-fn read_low(pages: &BTreeMap<u64, Page>, addr: u64, into: &mut [u8], size: usize)
-    requires few { size ≤ length into.old }
-    requires small { size ≤ 8 }
-    requires fits { addr + 8192 < 2 ^ 64 }
-    ensures len { length into.new ≡ length into.old }
-    ensures low { (i : ℕ) → i < size → slice_index into.new i ≡ page_byte pages.now (addr + i) }
-    ensures high { (i : ℕ) → size ≤ i → slice_index into.new i ≡ slice_index into.old i }
-{
-    read(pages, addr, &mut into[..size]);
-}
-
-fn put(
-    alloc: Global,
-    pages: &mut BTreeMap<u64, Page>,
-    addr: u64,
-    bytes: &[u8],
-) -> Result<(), StoreRefusal>
-    requires few { length bytes.now ≤ 4096 }
+#[inline(always)]
+fn put(pages: &mut Pages, addr: u64, bytes: &[u8]) -> Result<(), StoreRefusal>
+    requires few { length bytes.now ≤ 8 }
     requires fits { addr + 8192 < 2 ^ 64 }
     ensures ok { OnOk result ((a : ℕ) → page_byte pages.new a ≡ byte_written (record { addr = addr; bytes = bytes.now }) a (page_byte pages.old a)) }
     ensures err { OnErr result ((a : ℕ) → page_byte pages.new a ≡ page_byte pages.old a) }
     ensures refusal { IfErr result (λ refusal. refusal ≡ StoreRefusal.NoMemory) }
 {
-    match write(alloc, pages, addr, bytes) {
+    match pages.write(addr, bytes) {
         Ok(()) => Ok(()),
         Err(_) => Err(StoreRefusal::NoMemory),
     }

@@ -1,11 +1,16 @@
-use Rattle.std.proofs.Common.{arith, subst, sym, List, ℕ}
-use Rattle.std.proofs.lemmas.Grind.{common_steps}
-use Rattle.hip_lines.specs.Kept.{ListsFlushed}
+use Rattle.std.proofs.Common.{◌≡◌, ◌<◌, ◌∙◌, ap, arith, subst, sym, List, ℕ, length}
+use Rattle.hip_lines.specs.Kept.{pending_by, pending_at, ListsFlushed}
 use Rattle.hip_lines.proofs.Listed.{length-listed_more, listed-more}
+use Rattle.hip_lines.proofs.KeptSteps.{some-of, first-flush, flushed-some}
 use Rattle.hip_lines.proofs.kept.flush_at.Goals as goal
 
 pub push_reserved-requires : goal.push_reserved-requires
-push_reserved-requires c = omega (arith, c.args.flushed.now.ok.0, c.requires.spare, length-listed_more c.args.flushed.now.items c.args.queues.now c.args.line c.requires.listed (grind (arith, common_steps)) (grind (arith, common_steps)))
+push_reserved-requires c =
+    let none = first-flush c.args.queues.now c.args.line c.in-Some.queue.now c.in-Some.ensures c.if-is_first.true in
+    omega (arith, c.args.flushed.now.ok.0, c.requires.spare, length-listed_more c.args.flushed.now.items c.args.queues.now c.args.line c.requires.listed none (some-of c.args.queues.now c.args.line c.in-Some.queue.now c.in-Some.ensures))
 
 pub returns-then-is_first-clause-listed : goal.returns-then-is_first-clause-listed
-returns-then-is_first-clause-listed c = subst (λ (xs : List ℕ). ListsFlushed xs (c.get_mut.follows.lender c.flush.new.self)) (sym c.push_reserved.ensures.items) (listed-more c.args.flushed.now.items c.args.queues.now _ c.args.line c.requires.listed (grind (arith, common_steps)) (grind (arith, common_steps)) (λ q ne. grind (arith, common_steps)))
+returns-then-is_first-clause-listed c =
+    let none = first-flush c.args.queues.now c.args.line c.in-Some.queue.now c.in-Some.ensures c.if-is_first.true in
+    subst (λ (xs : List ℕ). ListsFlushed xs c.flush.new.self) (sym c.push_reserved.ensures.items)
+    (listed-more c.args.flushed.now.items c.args.queues.now c.flush.new.self c.args.line c.requires.listed none (flushed-some c.args.queues.now c.flush.new.self c.args.line c.in-Some.queue.now c.in-Some.ensures c.flush.ensures.here c.if-is_first.true (λ e. c.if-queue-len.false (e ∙ sym c.len.ensures))) (λ q ne. ap pending_by (c.flush.ensures.others q ne)))

@@ -17,11 +17,10 @@ loop-line-preserved c = (
     same = λ j. c.make_room_at.ensures.same j ∙ c.loop-line.invariant.0.same j;
     kept = λ j h. c.make_room_at.ensures.kept j (c.loop-line.invariant.0.kept j h);
     room = λ j from to. go j from (split j to);
-    numbered = λ h. c.make_room_at.ensures.numbered (c.loop-line.invariant.0.numbered h);
     below = λ n h b. c.make_room_at.ensures.below n (omega (arith, h)) (c.loop-line.invariant.0.below n (omega (arith, h)) b);
   },
   c.make_room_at.ensures.flushed ∙ c.loop-line.invariant.1,
-  omega (arith, c.make_room_at.ensures.len, c.loop-line.invariant.2),
+  omega (arith, c.make_room_at.ensures.count, c.loop-line.invariant.2),
   λ h. c.make_room_at.ensures.spare (c.loop-line.invariant.3 h),
 )
   where

@@ -18,10 +18,9 @@ is_nil (x ∷ xs) n b e f g = absurd (zero_not (suc (length xs)) (grind (arith, 
 pub invariant_of-self : goal.invariant_of-self
 invariant_of-self c = record {
   small = c.self.invariant.small;
-  numbered = c.fence_in.ensures.numbered c.self.invariant.numbered;
   below = c.fence_in.ensures.below c.self.inside.count c.self.invariant.below;
   flushed = listed-fenced _ c.self.inside.queues c.fence_in.new.queues c.clear.ensures.items c.fence_in.ensures.pending;
-  spare = omega (arith, c.fence_in.ensures.len, c.self.invariant.spare, c.clear.ensures.capacity);
+  spare = omega (arith, c.fence_in.ensures.count, c.self.invariant.spare, c.clear.ensures.capacity);
   room = tt;
 }
 

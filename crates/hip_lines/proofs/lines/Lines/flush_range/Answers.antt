@@ -34,9 +34,8 @@ returns-else-flush_in-clause-room c = record {
 pub invariant_of-self : goal.invariant_of-self
 invariant_of-self c = record {
   small = c.self.invariant.small;
-  numbered = c.flush_in.ensures.flushes.numbered;
   below = c.flush_in.ensures.flushes.below c.self.inside.count c.self.invariant.below;
   flushed = c.flush_in.ensures.listed;
-  spare = omega (arith, c.flush_in.ensures.flushes.len, c.flush_in.ensures.capacity, c.self.invariant.spare);
+  spare = omega (arith, c.flush_in.ensures.flushes.count, c.flush_in.ensures.capacity, c.self.invariant.spare);
   room = tt;
 }

@@ -4,8 +4,8 @@ use Rattle.hip_lines.proofs.Helds.{held-length}
 use Rattle.hip_lines.proofs.LooseRest.{loose_of-lines}
 use Rattle.hip_lines.proofs.lines.Lines.not_durable.Goals as goal
 
-pub new-requires-clause-end : goal.new-requires-clause-end
-new-requires-clause-end c = omega (arith, c.requires, c.self.invariant.small, held-length c.self.inside.count c.self.inside.queues _ (ap (λ (h : Held). h.lines) c.self.view_is))
+pub new-requires : goal.new-requires
+new-requires c = omega (arith, c.requires, c.self.invariant.small, held-length c.self.inside.count c.self.inside.queues _ (ap (λ (h : Held). h.lines) c.self.view_is))
 
 pub returns : goal.returns
 returns c =

@@ -9,7 +9,6 @@ ensure_room-requires-clause-fits c = omega (arith, c.self.invariant.small, c.req
 pub invariant_of-self : goal.invariant_of-self
 invariant_of-self c = record {
   small = c.self.invariant.small;
-  numbered = c.ensure_room.ensures.numbered c.self.invariant.numbered;
   below = c.ensure_room.ensures.below c.self.inside.count (omega (arith, c.requires.within, held-length c.self.inside.count c.self.inside.queues _ (ap (λ (h : Held). h.lines) c.self.view_is))) c.self.invariant.below;
   flushed = listed-same _ _ c.self.inside.queues c.ensure_room.new.queues c.ensure_room.ensures.flushed c.ensure_room.ensures.same c.self.invariant.flushed;
   spare = c.ensure_room.ensures.spare c.self.invariant.spare;
@@ -25,10 +24,9 @@ push_in-requires-clause-fits c = omega (arith, c.self.invariant.small, c.require
 pub invariant_of-self-2 : goal.invariant_of-self-2
 invariant_of-self-2 c = record {
   small = c.self.invariant.small;
-  numbered = c.push_in.ensures.numbered;
   below = c.push_in.ensures.below c.self.inside.count (c.ensure_room.ensures.below c.self.inside.count (omega (arith, c.requires.within, held-length c.self.inside.count c.self.inside.queues _ (ap (λ (h : Held). h.lines) c.self.view_is))) c.self.invariant.below);
   flushed = listed-stored c.args.offset c.args.size c.args.tag _ c.ensure_room.new.queues c.push_in.new.queues c.push_in.ensures.pending (listed-same _ _ c.self.inside.queues c.ensure_room.new.queues c.ensure_room.ensures.flushed c.ensure_room.ensures.same c.self.invariant.flushed);
-  spare = let s = c.ensure_room.ensures.spare c.self.invariant.spare in omega (arith, c.push_in.ensures.len, s);
+  spare = let s = c.ensure_room.ensures.spare c.self.invariant.spare in omega (arith, c.push_in.ensures.count, s);
   room = tt;
 }
 

@@ -1,0 +1,25 @@
+-- The number that a directory has at a key, which is 0 until one is set.
+use Rattle.std.specs.Prelude.{◌≡◌, ◌≢◌, ℕ, ◌/◌, ◌<◌, ◌≤◌, slice_index, Option, Some, None}
+use Rattle.hip_directory.specs.declared.directory.Directory.{Directory}
+use Rattle.hip_directory.specs.declared.TheConstants.{GROUP_SIZE}
+use Rattle.hip_directory.specs.Tables.{number_in}
+
+unfoldable pub number_at : Directory → ℕ → ℕ
+number_at d k = number_in d.groups.items d.entries.items k
+
+-- the group of the key's entry, which is not the first where one was made
+unfoldable pub group_of : Directory → ℕ → ℕ
+group_of d k = slice_index d.groups.items (k / GROUP_SIZE)
+
+-- a number can be set at the key without memory
+abbrev pub HasRoom : Directory → ℕ → Type 0
+HasRoom d k = 0 < group_of d k
+
+-- no key from `from` up to `to` has a number but 0
+abbrev pub NoneSet : Directory → ℕ → ℕ → Type 0
+NoneSet d from to = (j : ℕ) → from ≤ j → j < to → number_at d j ≡ 0
+
+-- the first key from `from` up to `to` that has a number but 0, if there is one
+abbrev pub IsFirstSet : Directory → ℕ → ℕ → Option ℕ → Type 0
+IsFirstSet d from to None = NoneSet d from to
+IsFirstSet d from to (Some k) = (from ≤ k) × (k < to) × (number_at d k ≢ 0) × NoneSet d from k

@@ -1,0 +1,14 @@
+-- A table of two levels: for each group of keys the place of its entries, and the entries, group by group.
+use Rattle.std.specs.Prelude.{◌≡◌, ◌≢◌, ℕ, ◌+◌, ◌*◌, ◌/◌, ◌%◌, ◌<◌, ◌≤◌, List, length, slice_index}
+use Rattle.hip_directory.specs.declared.TheConstants.{GROUP_SIZE}
+
+-- the entry of a key; a group that was not made is the first one
+unfoldable pub number_in : List ℕ → List ℕ → ℕ → ℕ
+number_in groups entries k = slice_index entries (GROUP_SIZE * slice_index groups (k / GROUP_SIZE) + k % GROUP_SIZE)
+
+-- the entries are whole groups of which the first is zeros, and no other is of two groups of keys
+pub record IsTable (groups entries : List ℕ) : Type 0 where
+  pub whole : length entries % GROUP_SIZE ≡ 0
+  pub within : (i : ℕ) → GROUP_SIZE * slice_index groups i + GROUP_SIZE ≤ length entries
+  pub first : (i : ℕ) → i < GROUP_SIZE → slice_index entries i ≡ 0
+  pub apart : (i j : ℕ) → i ≢ j → slice_index groups i ≢ 0 → slice_index groups i ≢ slice_index groups j

@@ -1,0 +1,6 @@
+use Rattle.hip_lines.specs.Pending.{pending_with}
+use Rattle.hip_lines.proofs.Placed.{get-read, changes-set}
+use Rattle.hip_lines.proofs.queues.push_at.Goals as goal
+
+pub returns : goal.returns
+returns c = changes-set (pending_with c.args.part) c.args.queues.now.items c.args.place c.index_mut-queue.result.now c.push.new.self c.requires.within (get-read c.args.queues.now.items c.args.place c.index_mut-queue.result.now c.requires.within c.index_mut-queue.ensures.value) c.push.ensures.line c.push.ensures.pending

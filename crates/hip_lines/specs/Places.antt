@@ -1,0 +1,48 @@
+-- Queues side by side, and the directory that says which line has which.
+use Rattle.std.specs.Prelude.{◌≡◌, ◌≢◌, ℕ, zero, suc, ◌+◌, ◌-◌, ◌<◌, ◌≤◌, List, length, Option, Some, None, slice_get}
+use Rattle.hip_directory.specs.declared.directory.Directory.{Directory}
+use Rattle.hip_directory.specs.Directories.{number_at}
+use Rattle.hip_lines.specs.declared.part.Part.{Part}
+use Rattle.hip_lines.specs.declared.queue.Queue.{Queue}
+use Rattle.hip_lines.specs.Pending.{Pending, none_pending}
+use Rattle.hip_lines.specs.Queues.{pending_in, HasRoom}
+
+-- the queue at a place, counted from 1; at 0 there is none
+abbrev pub at_place : List Queue → ℕ → Option Queue
+at_place qs zero = None
+at_place qs (suc n) = slice_get qs n
+
+-- the queue of line j, if it has one
+abbrev pub queue_in : Directory → List Queue → ℕ → Option Queue
+queue_in d qs j = at_place qs (number_at d j)
+
+-- each queue that a line has is there, and stands at its line's number
+pub record ArePlaced (d : Directory) (qs : List Queue) : Type 0 where
+  pub within : (j : ℕ) → number_at d j ≤ length qs
+  pub numbered : (j : ℕ) (q : Queue) → queue_in d qs j ≡ Some q → q.line ≡ j
+
+-- all queues but the one at a place, counted from 0, stay, and at most one is added
+pub record KeepsOthers (place : ℕ) (old new : List Queue) : Type 0 where
+  pub others : (k : ℕ) → k ≢ place → slice_get new k ≡ slice_get old k
+  pub least : length old ≤ length new
+  pub most : length new ≤ length old + 1
+
+-- the pending parts of the queue at a place, counted from 0, are changed, and nothing else is
+pub record ChangesPlace (change : Pending Part → Pending Part) (place : ℕ) (old new : List Queue) : Type 0 where
+  pub others : (k : ℕ) → k ≢ place → slice_get new k ≡ slice_get old k
+  pub count : length new ≡ length old
+  pub here : (q : Queue) → slice_get old place ≡ Some q → (r : Queue) × (slice_get new place ≡ Some r) × (r.line ≡ q.line) × (pending_in r ≡ change (pending_in q))
+
+-- at a place, counted from 0, stands an empty queue of line `number` that has room for a part
+pub record IsFreshAt (number place : ℕ) (qs : List Queue) : Type 0 where
+  pub queue : Queue
+  pub at : slice_get qs place ≡ Some queue
+  pub numbered : queue.line ≡ number
+  pub empty : pending_in queue ≡ none_pending
+  pub room : HasRoom queue
+
+-- the same at a place, counted from 1, that no line has
+pub record IsFresh (d : Directory) (number place : ℕ) (qs : List Queue) : Type 0 where
+  pub some : 0 < place
+  pub free : (j : ℕ) → number_at d j ≢ place
+  pub fresh : IsFreshAt number (place - 1) qs

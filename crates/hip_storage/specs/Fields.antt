@@ -1,5 +1,6 @@
 -- What the fields of a storage stand for.
-use Rattle.std.specs.Prelude.{◌≡◌, ℕ, ◌+◌, ◌*◌, ◌<◌, ◌^◌, length}
+use Rattle.std.specs.Prelude.{◌≡◌, ◌*◌, ◌≤◌, ◌^◌, length}
+use Rattle.hip_types.specs.declared.limits.TheConstants.{LARGEST_REGION}
 use Rattle.hip_lines.specs.declared.TheConstants.{LINE_SIZE}
 use Rattle.hip_storage.specs.Contents.{Contents}
 use Rattle.hip_storage.specs.declared.storage.Storage.TheInside.{Inside}
@@ -12,4 +13,5 @@ pub record IsKept (s : Inside) : Type 0 where
   pub base : s.base ≡ s.ram.base
   pub size : s.size ≡ length s.ram.region
   pub whole : s.size ≡ LINE_SIZE * length s.lines.lines
-  pub range : s.base + s.size < 2 ^ 64
+  pub high : s.base ≤ 2 ^ 46
+  pub small : s.size ≤ LARGEST_REGION

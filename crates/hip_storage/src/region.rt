@@ -1,11 +1,13 @@
-ghost use Rattle.std.specs.Prelude.{◌≡◌, ◌+◌, ◌-◌, ◌*◌, ◌/◌, ◌^◌, ◌<◌, ◌≤◌, length, IfErr, OnOk, OnErr, None};
+ghost use Rattle.std.specs.Prelude.{◌≡◌, ◌+◌, ◌-◌, ◌*◌, ◌/◌, ◌^◌, ◌<◌, ◌≤◌, length, IfErr, OnOk, OnErr, None, Some, option_map};
+ghost use Rattle.std.specs.Bool.{OnTrue};
+ghost use Rattle.hip_types.specs.declared.limits.TheConstants.{LARGEST_REGION};
+ghost use Rattle.hip_lines.specs.declared.TheConstants.{LINE_SIZE};
 ghost use Rattle.hip_lines.specs.Parts.{pending_stored};
 ghost use Rattle.hip_mem.specs.Areas.{access_trap, after_write};
 ghost use Rattle.hip_mem.specs.Bytes.{little_endian, bytes_of};
 ghost use Rattle.hip_runs.specs.Actions.{is_within};
 ghost use Rattle.hip_storage.specs.Calls.{IsRefusedFor};
 ghost use Rattle.hip_storage.specs.Contents.{kind_of};
-ghost use Rattle.std.specs.Prelude.{option_map};
 
 use crate::refusal::StorageRefusal;
 use hip_lines::{LINE_SIZE, Lines};
@@ -27,13 +29,15 @@ pub fn kind_of(trap: MemTrap) -> TrapKind
 #[inline(always)]
 pub fn is_inside(base: u64, size: u64, addr: u64, count: u64) -> bool
     requires { base + size < 2 ^ 64 }
-    ensures { result ≡ is_within base (base + size) addr count }
+    ensures within { result ≡ is_within base (base + size) addr count }
+    ensures bounds { OnTrue result ((base ≤ addr) × (addr + count ≤ base + size)) }
 {
     base <= addr && addr - base <= size && count <= size - (addr - base)
 }
 
 /// The number of the low bytes of a number.
 #[inline(always)]
+#[tactic(auto, using(crate::proofs::LowBytes::remainder_is))]
 pub fn low_bytes(value: u64, count: u32) -> u64
     requires few { count ≤ 8 }
     ensures { result ≡ little_endian (bytes_of count value) }
@@ -60,6 +64,8 @@ pub fn put(
     ensures allowed { OnOk result (access_trap ram.old addr count align ≡ None) }
     ensures ok { OnOk result (ram.new ≡ after_write (record { addr = addr; bytes = bytes_of count value }) ram.old) }
     ensures err { OnErr result (ram.new ≡ ram.old) }
+    ensures base { ram.new.base ≡ ram.old.base }
+    ensures region { length ram.new.region ≡ length ram.old.region }
     ensures refusal { IfErr result (λ refusal.
         IsRefusedFor (option_map kind_of (access_trap ram.old addr count align)) refusal) }
 {
@@ -99,7 +105,7 @@ pub fn first_line(base: u64, offset: u64) -> u64
 #[inline(always)]
 pub fn lines_size(offset: u64, len: u64) -> u64
     requires some { 0 < len }
-    requires range { offset + len < 2 ^ 63 }
+    requires range { offset + len ≤ LARGEST_REGION }
     ensures { result ≡ LINE_SIZE * ((offset + len - 1) / LINE_SIZE + 1) - LINE_SIZE * (offset / LINE_SIZE) }
 {
     LINE_SIZE * ((offset + len - 1) / LINE_SIZE + 1) - LINE_SIZE * (offset / LINE_SIZE)

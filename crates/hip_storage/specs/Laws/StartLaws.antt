@@ -1,5 +1,5 @@
 -- The storage before the first step of a run.
-use Rattle.std.proofs.Common.{◌≡◌, ℕ, ◌+◌, ◌*◌, ◌/◌, length, refl, sym, ap, ◌∙◌, arith}
+use Rattle.std.proofs.Common.{◌≡◌, ℕ, zero, suc, ◌+◌, ◌*◌, ◌/◌, length, refl, sym, ap, ◌∙◌, arith}
 use Rattle.hip_ir.specs.declared.program.Program.{Program}
 use Rattle.hip_globals.specs.Addresses.{volatile_end}
 use Rattle.hip_globals.specs.Initial.{volatile_bytes}
@@ -17,8 +17,14 @@ use Rattle.hip_typing.specs.Sound.{IsSound}
 use Rattle.hip_storage.specs.Contents.{initial}
 use Rattle.hip_storage.specs.Standing.{HoldsState}
 
-pub starts : (P : Program) (I : Input) → IsSound P → IsValid P I → volatile_start + length (volatile_bytes P I.base) ≡ volatile_end P → length (none_pending_all (length I.image / LINE_SIZE)) ≡ length I.image / LINE_SIZE → HoldsState P I (initial P I) (start P I)
-starts P I s v e n = record {
+length-none_pending_all : (n : ℕ) → length (none_pending_all n) ≡ n
+unfolding none_pending_all
+length-none_pending_all zero = refl
+length-none_pending_all (suc n) = ap suc (length-none_pending_all n)
+
+-- the contents before the first step of a run are those of its start
+pub starts : (P : Program) (I : Input) → IsSound P → IsValid P I → volatile_start + length (volatile_bytes P I.base) ≡ volatile_end P → HoldsState P I (initial P I) (start P I)
+starts P I s v e = record {
   volatile = e;
   memory = record {
     holds = holds-new I.base (volatile_bytes P I.base) I.image (omega (arith, e, s.sizes.volatile)) (omega (arith, v.base.low));
@@ -35,6 +41,6 @@ starts P I s v e n = record {
   lines = record {
     are = shown-fresh (length I.image / LINE_SIZE);
     ordered = ordered-fresh_lines StorePart (length I.image / LINE_SIZE);
-    whole = omega (arith, v.image, n);
+    whole = omega (arith, v.image, length-none_pending_all (length I.image / LINE_SIZE));
   };
 }

@@ -1,16 +1,15 @@
 -- What the flush of a range in the region has done.
-use Rattle.std.proofs.Common.{inl, inr, ◌≡◌, ℕ, ◌+◌, ◌-◌, ◌*◌, ◌/◌, ◌<◌, ◌≤◌, Bool, true, cond, ◌&&◌, nat_lt, List, length, None, Some, sym, ap, ap₂, ◌∙◌, lt-ltb, arith}
+use Rattle.std.proofs.Common.{inr, ◌≡◌, ℕ, ◌+◌, ◌-◌, ◌*◌, ◌/◌, ◌<◌, ◌≤◌, true, cond, ◌&&◌, List, length, None, Some, sym, ap, ap₂, ◌∙◌, lt-ltb, arith}
 use Rattle.hip_lines.specs.Parts.{pending_flushed_all, pending_fenced_all}
 use Rattle.hip_lines.specs.Pending.{Pending}
 use Rattle.hip_lines.specs.declared.TheConstants.{LINE_SIZE}
 use Rattle.hip_lines.specs.declared.part.Part.{Part}
-use Rattle.hip_mem.specs.Areas.{are_valid}
 use Rattle.hip_mem.specs.Laws.AreasLaws.{fits-are_valid}
 use Rattle.hip_runs.specs.Actions.{is_within}
 use Rattle.hip_runs.specs.declared.event.Event.TheVariants as events
 use Rattle.hip_runs.specs.declared.event.TrapKind.TheVariants as traps
 use Rattle.hip_storage.specs.Calls.{HasFlushed, HasPersisted}
-use Rattle.hip_storage.specs.Contents.{Contents, flushes_lines, first_line, lies_in_region, lines_size, range_trap}
+use Rattle.hip_storage.specs.Contents.{Contents, flushes_lines, first_line, lines_size, range_trap}
 
 -- a range in the region of the code, whose base and size are those of the contents, has bytes
 pub record IsReached (s : Contents) (base size a n : ℕ) : Type 0 where

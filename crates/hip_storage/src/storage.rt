@@ -170,7 +170,6 @@ impl Storage {
     }
 
     /// Flushes the cache lines of a range: none where it has no bytes, or lies outside the region.
-    #[inline(always)]
     pub fn flush_range(&mut self, addr: u64, size: u64) -> Result<Event, TrapKind>
         ensures ok { IfOk result (λ event. HasFlushed self.old self.new event addr size) }
         ensures err { OnErr result (self.new ≡ self.old) }
@@ -191,7 +190,6 @@ impl Storage {
     }
 
     /// Flushes the cache lines of a range as `flush_range` does, and then makes durable all that is flushed.
-    #[inline(always)]
     pub fn persist(&mut self, addr: u64, size: u64) -> Result<Event, TrapKind>
         ensures ok { IfOk result (λ event. HasPersisted self.old self.new event addr size) }
         ensures err { OnErr result (self.new ≡ self.old) }

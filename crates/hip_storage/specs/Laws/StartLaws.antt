@@ -1,5 +1,5 @@
 -- The storage before the first step of a run.
-use Rattle.std.proofs.Common.{◌≡◌, ℕ, zero, suc, ◌+◌, ◌*◌, ◌/◌, length, refl, sym, ap, ◌∙◌, arith}
+use Rattle.std.proofs.Common.{◌≡◌, ℕ, zero, suc, ◌+◌, ◌/◌, length, refl, ap, arith}
 use Rattle.hip_ir.specs.declared.program.Program.{Program}
 use Rattle.hip_globals.specs.Addresses.{volatile_end}
 use Rattle.hip_globals.specs.Initial.{volatile_bytes}

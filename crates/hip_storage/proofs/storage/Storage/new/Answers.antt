@@ -1,9 +1,5 @@
-use Rattle.std.proofs.Common.{◌≡◌, ◌+◌, ◌/◌, [], length, sym, ap, ap₂, ◌∙◌, subst, rules}
-use Rattle.hip_lines.specs.declared.TheConstants.{LINE_SIZE}
-use Rattle.hip_lines.specs.Parts.{none_pending_all}
-use Rattle.hip_mem.specs.Areas.{Areas}
+use Rattle.std.proofs.Common.{◌≡◌, ◌+◌, length, sym, ap, ◌∙◌, subst, rules}
 use Rattle.hip_mem.specs.Memory.{volatile_start}
-use Rattle.hip_globals.specs.Initial.{volatile_bytes}
 use Rattle.hip_runs.specs.Step.{start}
 use Rattle.hip_storage.specs.Contents.{Contents, initial}
 use Rattle.hip_storage.specs.Standing.{HoldsState}

@@ -1,6 +1,4 @@
-use Rattle.std.proofs.Common.{subst, sym, ◌∙◌}
-use Rattle.hip_storage.specs.Calls.{HasPersisted}
-use Rattle.hip_storage.specs.Contents.{Contents}
+use Rattle.std.proofs.Common.{sym, ◌∙◌}
 use Rattle.hip_storage.specs.Fields.{contents_of}
 use Rattle.hip_storage.proofs.Flushes.{IsReached, persists}
 use Rattle.hip_storage.proofs.storage.Storage.persist.Goals as goal

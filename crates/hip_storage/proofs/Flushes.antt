@@ -1,6 +1,6 @@
 -- What the flush of a range in the region has done.
 use Rattle.std.proofs.Common.{inr, ◌≡◌, ℕ, ◌+◌, ◌-◌, ◌*◌, ◌/◌, ◌<◌, ◌≤◌, true, cond, ◌&&◌, List, length, None, Some, sym, ap, ap₂, ◌∙◌, lt-ltb, arith}
-use Rattle.hip_lines.specs.Parts.{pending_flushed_all, pending_fenced_all}
+use Rattle.hip_lines.specs.Parts.{pending_flushed_all}
 use Rattle.hip_lines.specs.Pending.{Pending}
 use Rattle.hip_lines.specs.declared.TheConstants.{LINE_SIZE}
 use Rattle.hip_lines.specs.declared.part.Part.{Part}
@@ -8,7 +8,7 @@ use Rattle.hip_mem.specs.Laws.AreasLaws.{fits-are_valid}
 use Rattle.hip_runs.specs.Actions.{is_within}
 use Rattle.hip_runs.specs.declared.event.Event.TheVariants as events
 use Rattle.hip_runs.specs.declared.event.TrapKind.TheVariants as traps
-use Rattle.hip_storage.specs.Calls.{HasFlushed, HasPersisted}
+use Rattle.hip_storage.specs.Calls.{HasFlushed}
 use Rattle.hip_storage.specs.Contents.{Contents, flushes_lines, first_line, lines_size, range_trap}
 
 -- a range in the region of the code, whose base and size are those of the contents, has bytes
@@ -42,12 +42,4 @@ module _ {s : Contents} {base size a n : ℕ} (r : IsReached s base size a n) wh
     allowed = allowed;
     contents = ap (λ x. record { areas = s.areas; lines = x }) (lines_are ls e);
     seen = ap₂ events.Flush (first_is l f) (size_is z g) ∙ ap (λ t. cond t (events.Flush (first_line s a) (lines_size s a n)) events.Quiet) (sym reaches);
-  }
-
-  pub persists : {ls ls' : List (Pending Part)} {l z : ℕ} → ls ≡ pending_flushed_all (a - base) n s.lines → ls' ≡ pending_fenced_all ls → l ≡ base + LINE_SIZE * ((a - base) / LINE_SIZE) →
-      z ≡ LINE_SIZE * (((a - base) + n - 1) / LINE_SIZE + 1) - LINE_SIZE * ((a - base) / LINE_SIZE) → HasPersisted s (record { areas = s.areas; lines = ls' }) (events.Persist l z) a n
-  persists {ls} {ls'} {l} {z} e d f g = record {
-    allowed = allowed;
-    contents = ap (λ x. record { areas = s.areas; lines = x }) (d ∙ ap pending_fenced_all (lines_are ls e));
-    seen = ap₂ events.Persist (first_is l f) (size_is z g) ∙ ap (λ t. cond t (events.Persist (first_line s a) (lines_size s a n)) events.Fence) (sym reaches);
   }

@@ -37,7 +37,7 @@ pub record HasPersisted (old new : Contents) (event : Event) (a n : ℕ) : Type 
   pub contents : new ≡ after_fence (after_flush a n old)
   pub seen : event ≡ persist_event old a n
 
--- a trap is told exactly where it is this one
+-- a refusal is the trap of the run, or says that no memory was left
 abbrev pub IsRefusedFor : Option TrapKind → StorageRefusal → Type 0
 IsRefusedFor trap (Trap kind) = trap ≡ Some kind
 IsRefusedFor trap NoMemory = Unit {0}

@@ -104,6 +104,10 @@ store_event s a n value =
 abbrev pub flush_event : Contents → ℕ → ℕ → Event
 flush_event s a n = cond (flushes_lines s a n) (events.Flush (first_line s a) (lines_size s a n)) events.Quiet
 
--- a flush of lines with a fence behind it, and without lines the fence alone
+-- a flush of lines and a fence behind it are seen as a persist, and without lines the fence is
+abbrev pub with_fence : Event → Event
+with_fence (events.Flush line size) = events.Persist line size
+with_fence _ = events.Fence
+
 abbrev pub persist_event : Contents → ℕ → ℕ → Event
-persist_event s a n = cond (flushes_lines s a n) (events.Persist (first_line s a) (lines_size s a n)) events.Fence
+persist_event s a n = with_fence (flush_event s a n)

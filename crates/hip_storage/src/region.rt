@@ -7,12 +7,12 @@ ghost use Rattle.hip_mem.specs.Areas.{access_trap, after_write};
 ghost use Rattle.hip_mem.specs.Bytes.{little_endian, bytes_of};
 ghost use Rattle.hip_runs.specs.Actions.{is_within};
 ghost use Rattle.hip_storage.specs.Calls.{IsRefusedFor};
-ghost use Rattle.hip_storage.specs.Contents.{kind_of};
+ghost use Rattle.hip_storage.specs.Contents.{kind_of, with_fence};
 
 use crate::refusal::StorageRefusal;
 use hip_lines::{LINE_SIZE, Lines};
 use hip_mem::{MemTrap, Ram, StoreRefusal};
-use hip_runs::TrapKind;
+use hip_runs::{Event, TrapKind};
 
 /// The trap of a run that a refusal of the memory is.
 #[inline(always)]
@@ -93,7 +93,17 @@ pub fn note(lines: &mut Lines, offset: u64, count: u32, tag: u128)
     }
 }
 
-/// The address of the cache line of an offset, and how many bytes the lines of a range have.
+/// The event of a flush with a fence behind it.
+pub fn with_fence(event: Event) -> Event
+    ensures { result ≡ with_fence event }
+{
+    match event {
+        Event::Flush { line, size } => Event::Persist { line, size },
+        _ => Event::Fence,
+    }
+}
+
+/// The address of the cache line of an offset in the region.
 #[inline(always)]
 pub fn first_line(base: u64, offset: u64) -> u64
     requires { base + offset < 2 ^ 64 }
@@ -102,6 +112,7 @@ pub fn first_line(base: u64, offset: u64) -> u64
     base + LINE_SIZE * (offset / LINE_SIZE)
 }
 
+/// How many bytes the cache lines have that have a byte of a range.
 #[inline(always)]
 pub fn lines_size(offset: u64, len: u64) -> u64
     requires some { 0 < len }

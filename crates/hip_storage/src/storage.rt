@@ -5,7 +5,7 @@ ghost use Rattle.hip_runs.specs.Step.{start};
 ghost use Rattle.hip_runs.specs.Validity.{IsValid};
 
 use crate::refusal::StorageRefusal;
-use crate::region::{first_line, is_inside, kind_of, lines_size, low_bytes, note, put};
+use crate::region::{first_line, is_inside, kind_of, lines_size, low_bytes, note, put, with_fence};
 use hip_lines::{LINE_SIZE, Lines};
 use hip_mem::{PushRefusal, Ram};
 use hip_runs::{Event, Input, TrapKind};
@@ -195,20 +195,9 @@ impl Storage {
         ensures err { OnErr result (self.new ≡ self.old) }
         ensures trap { IfErr result (λ kind. range_trap self.old addr size ≡ Some kind) }
     {
-        if size > 0 && is_inside(self.base, self.size, addr, size) {
-            let offset = addr - self.base;
-            self.lines.flush_range(offset, size);
-            self.lines.fence();
-            return Ok(Event::Persist {
-                line: first_line(self.base, offset),
-                size: lines_size(offset, size),
-            });
-        }
-        if self.ram.valid_range(addr, size) {
-            self.lines.fence();
-            return Ok(Event::Fence);
-        }
-        Err(TrapKind::Address)
+        let event = self.flush_range(addr, size)?;
+        self.fence();
+        Ok(with_fence(event))
     }
 
     /// Makes durable all that is flushed.

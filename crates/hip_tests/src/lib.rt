@@ -46,6 +46,8 @@ mod sound_programs;
 #[cfg(test)]
 mod spelling;
 #[cfg(test)]
+mod storage;
+#[cfg(test)]
 mod tokens;
 #[cfg(test)]
 mod trace_entries;

@@ -1,0 +1,4 @@
+-- Laws of the definitions.
+pub mod HeaderLaws
+pub mod LineLaws
+pub mod TraceLaws

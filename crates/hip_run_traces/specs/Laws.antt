@@ -1,4 +1,5 @@
 -- Laws of the definitions.
+pub mod GivenLaws
 pub mod HeaderLaws
 pub mod LineLaws
 pub mod TraceLaws

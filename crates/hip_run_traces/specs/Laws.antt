@@ -2,4 +2,5 @@
 pub mod GivenLaws
 pub mod HeaderLaws
 pub mod LineLaws
+pub mod RangeLaws
 pub mod TraceLaws

@@ -1,8 +1,8 @@
 -- The entries of a header are those before the first step of the run on the input that it gives, and that input is valid.
-use Rattle.std.proofs.Common.{◌≡◌, ℕ, ℤ, zero, suc, ◌+◌, ◌-◌, ◌*◌, ◌/◌, ◌%◌, ◌^◌, ◌≤◌, ◌<◌, Bool, true, false, cond, ◌&&◌, List, [], ◌∷◌, ◌++◌, map, length, take, drop, Option, Some, None, nat_le, nat_lt, refl, sym, ap, ◌∙◌, subst, arith, append_assoc, length-append, FitsSigned, w64}
+use Rattle.std.proofs.Common.{◌≡◌, ℕ, ℤ, suc, ◌+◌, ◌-◌, ◌*◌, ◌/◌, ◌%◌, ◌^◌, ◌≤◌, ◌<◌, Bool, true, false, ◌&&◌, List, [], ◌∷◌, ◌++◌, map, length, Option, Some, None, nat_le, nat_lt, refl, sym, ap, ◌∙◌, subst, arith, append_assoc, length-append, FitsSigned, w64}
 use Rattle.std.specs.Prelude.{if◌then◌else◌, ◌==◌, All}
-use Rattle.std.proofs.lemmas.Bool.{eqb-true, and_parts, ltb-true}
-use Rattle.std.proofs.lemmas.List.{append-nil, length-map, take_all}
+use Rattle.std.proofs.lemmas.Bool.{eqb-true, and_parts}
+use Rattle.std.proofs.lemmas.List.{append-nil, take_all}
 use Rattle.std.proofs.lemmas.List.Elements.{All-nil, All-append, All-push, All-replicate}
 use Rattle.hip_globals.specs.Addresses.{IsBase, end_of, region_size}
 use Rattle.hip_ir.specs.declared.program.Program.{Program}
@@ -12,7 +12,7 @@ use Rattle.hip_runs.specs.Laws.Members.{le_true, lt_true}
 use Rattle.hip_runs.specs.Step.{header_entries, some_byte}
 use Rattle.hip_runs.specs.Validity.{IsInput, IsValid}
 use Rattle.hip_runs.specs.declared.input.Input.{Input}
-use Rattle.hip_run_traces.specs.Headers.{Header, Stops, Gives, valid_limit, is_base, is_empty, valid_base, is_next_line, with_number, with_line, with_entry, filled, go_on, header_from, behind_register, behind_start, header}
+use Rattle.hip_run_traces.specs.Headers.{Gives, valid_limit, is_base, is_empty, valid_base, is_next_line, with_number, with_line, with_entry, filled, go_on, header_from, behind_register, behind_start, header}
 use Rattle.hip_run_traces.specs.Laws.HeaderLaws.{told, whole_lines}
 use Rattle.hip_run_traces.specs.Laws.LineLaws.{lines_append, no_lines}
 use Rattle.hip_run_traces.specs.Laws.TraceLaws.{length-header_of}
@@ -114,10 +114,10 @@ line_more : (addr k m : ℕ) (A line : List ℕ) → length A ≡ 64 * k → len
 line_more addr k m A line len one some =
     lines_append k (m + 1) addr A (zeros (64 * m) ++ line) len
     ∙ ap (λ (es : List Entry). image_entries k addr A ++ es)
-        (lines_append m 1 (addr + 64 * k) (zeros (64 * m)) line (length-zeros (64 * m))
-        ∙ ap (λ (es : List Entry). es ++ image_entries 1 (addr + 64 * k + 64 * m) line) (no_lines m (addr + 64 * k))
-        ∙ ap (λ (l : List ℕ). (if some_byte l then Image (addr + 64 * k + 64 * m) l ∷ [] else []) ++ []) (take_all 64 line (omega (arith, one)))
-        ∙ ap (λ (b : Bool). (if b then Image (addr + 64 * k + 64 * m) line ∷ [] else []) ++ []) some)
+    (lines_append m 1 (addr + 64 * k) (zeros (64 * m)) line (length-zeros (64 * m))
+    ∙ ap (λ (es : List Entry). es ++ image_entries 1 (addr + 64 * k + 64 * m) line) (no_lines m (addr + 64 * k))
+    ∙ ap (λ (l : List ℕ). (if some_byte l then Image (addr + 64 * k + 64 * m) l ∷ [] else []) ++ []) (take_all 64 line (omega (arith, one)))
+    ∙ ap (λ (b : Bool). (if b then Image (addr + 64 * k + 64 * m) line ∷ [] else []) ++ []) some)
 
 all_zeros : (n : ℕ) → All (λ b. b < 256) (zeros n)
 unfolding zeros
@@ -139,7 +139,7 @@ takes_line P J K addr line good fits q = taken P (Image addr line) (is_next_line
         let len : length J.image ≡ 64 * (length J.image / 64) = omega (arith, lines) in
         let gaps : g ≡ 64 * (g / 64) = omega (arith, gap, from, page, lines, aligned) in
         let long : length (J.image ++ (zeros g ++ line)) ≡ length J.image + g + 64 =
-            length-append J.image (zeros g ++ line) ∙ ap (λ (j : ℕ). length J.image + j) (length-append (zeros g) line ∙ ap (λ (j : ℕ). j + length line) (length-zeros g)) ∙ omega (arith, one) in
+        length-append J.image (zeros g ++ line) ∙ ap (λ (j : ℕ). length J.image + j) (length-append (zeros g) line ∙ ap (λ (j : ℕ). j + length line) (length-zeros g)) ∙ omega (arith, one) in
         let count : length (J.image ++ (zeros g ++ line)) / 64 ≡ length J.image / 64 + (g / 64 + 1) = omega (arith, long, len, gaps) in
         let at : J.base + 64 * (length J.image / 64) + 64 * (g / 64) ≡ addr = omega (arith, from, gap, len, gaps) in
         record {
@@ -156,10 +156,10 @@ takes_line P J K addr line good fits q = taken P (Image addr line) (is_next_line
           limit = refl;
           more =
               ap (λ (es : List Entry). map (λ y. Number y) J.numbers ++ es)
-                  (ap (λ (j : ℕ). image_entries j J.base (J.image ++ (zeros g ++ line))) count
-                  ∙ ap (λ (j : ℕ). image_entries (length J.image / 64 + (g / 64 + 1)) J.base (J.image ++ (zeros j ++ line))) gaps
-                  ∙ line_more J.base (length J.image / 64) (g / 64) J.image line len one b.1
-                  ∙ ap (λ (j : ℕ). image_entries (length J.image / 64) J.base J.image ++ Image j line ∷ []) at)
+              (ap (λ (j : ℕ). image_entries j J.base (J.image ++ (zeros g ++ line))) count
+              ∙ ap (λ (j : ℕ). image_entries (length J.image / 64 + (g / 64 + 1)) J.base (J.image ++ (zeros j ++ line))) gaps
+              ∙ line_more J.base (length J.image / 64) (g / 64) J.image line len one b.1
+              ∙ ap (λ (j : ℕ). image_entries (length J.image / 64) J.base J.image ++ Image j line ∷ []) at)
               ∙ sym (append_assoc (map (λ y. Number y) J.numbers) (image_entries (length J.image / 64) J.base J.image) (Image addr line ∷ []));
         }
 
@@ -219,11 +219,11 @@ end_given P J F c h es good q = subst (λ (X : Input). IsGiven P J X c h es) inp
           split = refl;
           all =
               ap (λ (xs : List Entry). map (λ y. Number y) J.numbers ++ xs)
-                  (ap (λ (j : ℕ). image_entries j J.base (J.image ++ zeros g)) count
-                  ∙ ap (λ (j : ℕ). image_entries (length J.image / 64 + g / 64) J.base (J.image ++ zeros j)) gaps
-                  ∙ lines_append (length J.image / 64) (g / 64) J.base J.image (zeros (64 * (g / 64))) len
-                  ∙ ap (λ (xs : List Entry). image_entries (length J.image / 64) J.base J.image ++ xs) (no_lines (g / 64) (J.base + 64 * (length J.image / 64)))
-                  ∙ append-nil (image_entries (length J.image / 64) J.base J.image))
+              (ap (λ (j : ℕ). image_entries j J.base (J.image ++ zeros g)) count
+              ∙ ap (λ (j : ℕ). image_entries (length J.image / 64 + g / 64) J.base (J.image ++ zeros j)) gaps
+              ∙ lines_append (length J.image / 64) (g / 64) J.base J.image (zeros (64 * (g / 64))) len
+              ∙ ap (λ (xs : List Entry). image_entries (length J.image / 64) J.base J.image ++ xs) (no_lines (g / 64) (J.base + 64 * (length J.image / 64)))
+              ∙ append-nil (image_entries (length J.image / 64) J.base J.image))
               ∙ sym (append-nil (so_far J));
           count = omega (arith, number);
         }
@@ -272,8 +272,7 @@ base_of P (Some (Register base size)) b q = go (is_base base && (size == region_
         let both = and_parts (is_base base) (size == region_size P) k in
         let sized = eqb-true size (region_size P) both.1 in
         let p = and_parts (base % 4096 == 0) (nat_le (2 ^ 32) base && nat_le base (2 ^ 46)) both.0 in
-        let r = and_parts (nat_le (2 ^ 32) base) (nat_le base (2 ^ 46)) p.1 in
-        (
+        let r = and_parts (nat_le (2 ^ 32) base) (nat_le base (2 ^ 46)) p.1 in (
           ap (λ (x : ℕ). Some (Register x size)) same ∙ ap (λ (x : ℕ). Some (Register b x)) sized,
           subst IsBase same (record { page = eqb-true (base % 4096) 0 p.0; low = le_true (2 ^ 32) base r.0; high = le_true base (2 ^ 46) r.1 }),
         )
@@ -296,10 +295,10 @@ behind P limit base es h F few good fits q =
     let J : Input = record { base = base; image = []; numbers = []; limit = limit } in
     let r = given_from P es J F 2 h fits (record { base = good; limit = few; few = omega arith; fit = All-nil (FitsSigned w64); lines = refl; within = omega arith; bytes = All-nil (λ b. b < 256) }) q in
     let top : Start F.limit ∷ Register F.base (length F.image) ∷ so_far F ≡ Start limit ∷ Register base (region_size P) ∷ r.entries =
-        ap (λ (x : ℕ). Start x ∷ Register F.base (length F.image) ∷ so_far F) r.limit
-        ∙ ap (λ (x : ℕ). Start limit ∷ Register x (length F.image) ∷ so_far F) r.base
-        ∙ ap (λ (x : ℕ). Start limit ∷ Register base x ∷ so_far F) r.valid.image
-        ∙ ap (λ (xs : List Entry). Start limit ∷ Register base (region_size P) ∷ xs) r.all in
+    ap (λ (x : ℕ). Start x ∷ Register F.base (length F.image) ∷ so_far F) r.limit
+    ∙ ap (λ (x : ℕ). Start limit ∷ Register x (length F.image) ∷ so_far F) r.base
+    ∙ ap (λ (x : ℕ). Start limit ∷ Register base x ∷ so_far F) r.valid.image
+    ∙ ap (λ (xs : List Entry). Start limit ∷ Register base (region_size P) ∷ xs) r.all in
     let len = sym (length-header_of F) ∙ ap (λ (xs : List Entry). length xs) top in
     let number = r.count in
     record {

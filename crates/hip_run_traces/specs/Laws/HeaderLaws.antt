@@ -1,6 +1,6 @@
 -- The header of a run's trace reads back as the run's input.
-use Rattle.std.proofs.Common.{◌≡◌, ℕ, ℤ, zero, suc, ◌+◌, ◌-◌, ◌*◌, ◌/◌, ◌%◌, ◌^◌, ◌≤◌, ◌<◌, Bool, true, false, cond, ◌&&◌, List, [], ◌∷◌, ◌++◌, map, length, take, drop, Option, Some, None, nat_le, nat_lt, refl, sym, ap, ◌∙◌, subst, arith, append_assoc, length-append}
-use Rattle.std.specs.Prelude.{if◌then◌else◌, ◌==◌}
+use Rattle.std.proofs.Common.{◌≡◌, ℕ, ℤ, zero, suc, ◌+◌, ◌-◌, ◌*◌, ◌/◌, ◌%◌, ◌^◌, ◌≤◌, Bool, true, false, cond, List, [], ◌∷◌, ◌++◌, map, length, take, drop, Option, Some, None, nat_lt, refl, sym, ap, ◌∙◌, arith, append_assoc, length-append}
+use Rattle.std.specs.Prelude.{if◌then◌else◌}
 use Rattle.std.specs.Int.{next_multiple_of}
 use Rattle.std.proofs.lemmas.Bool.{eq-eqb}
 use Rattle.std.proofs.lemmas.List.{append-nil, length-drop, length-take-le, take-append-drop}
@@ -16,7 +16,7 @@ use Rattle.hip_runs.specs.declared.event.Ending.TheVariants as endings
 use Rattle.hip_runs.specs.declared.event.Event.{Event}
 use Rattle.hip_runs.specs.declared.event.Event.TheVariants as events
 use Rattle.hip_runs.specs.declared.input.Input.{Input}
-use Rattle.hip_run_traces.specs.Headers.{Header, Stops, Gives, valid_limit, is_base, valid_base, is_next_line, with_number, with_line, with_entry, filled, go_on, header_from, behind_register, behind_start, header}
+use Rattle.hip_run_traces.specs.Headers.{Gives, valid_limit, is_base, valid_base, is_next_line, with_number, with_line, with_entry, filled, go_on, header_from, behind_register, behind_start, header}
 use Rattle.hip_run_traces.specs.Laws.LineLaws.{no_byte, zeros-add}
 use Rattle.hip_run_traces.specs.Traces.{entry_of_ending, entry_of_event, entry_list, header_of, image_entries, next_entries, trace}
 use Rattle.hip_trace.specs.declared.entry.Entry.{Entry}
@@ -108,8 +108,8 @@ module _ (P : Program) (base limit : ℕ) (numbers : List ℤ) where
       go false q ih =
           let none : take 64 bytes ≡ zeros 64 = no_byte (take 64 bytes) q ∙ ap zeros (length-take-le 64 bytes (omega (arith, len))) in
           let image : zeros (g + 64) ++ drop 64 bytes ≡ zeros g ++ bytes =
-              ap (λ (zs : List ℕ). zs ++ drop 64 bytes) (zeros-add g 64) ∙ append_assoc (zeros g) (zeros 64) (drop 64 bytes)
-              ∙ ap (λ (zs : List ℕ). zeros g ++ (zs ++ drop 64 bytes)) (sym none) ∙ ap (λ (zs : List ℕ). zeros g ++ zs) (take-append-drop 64 bytes) in
+          ap (λ (zs : List ℕ). zs ++ drop 64 bytes) (zeros-add g 64) ∙ append_assoc (zeros g) (zeros 64) (drop 64 bytes)
+          ∙ ap (λ (zs : List ℕ). zeros g ++ (zs ++ drop 64 bytes)) (sym none) ∙ ap (λ (zs : List ℕ). zeros g ++ zs) (take-append-drop 64 bytes) in
           let count : c + image_lines n (drop 64 bytes) ≡ c + (0 + image_lines n (drop 64 bytes)) = omega arith in
           ih (g + 64) c A (omega (arith, at))
           ∙ ap (λ (zs : List ℕ). Gives (c + image_lines n (drop 64 bytes)) (front (A ++ zs))) image
@@ -122,13 +122,13 @@ module _ (P : Program) (base limit : ℕ) (numbers : List ℤ) where
           let zeroed = length-zeros g in
           let taken = length-take-le 64 bytes (omega (arith, len)) in
           let read : with_line P (front A) addr (take 64 bytes) ≡ Some (front (A ++ (zeros g ++ take 64 bytes))) =
-              ap (λ (t : Bool). if t then Some (front (A ++ (zeros (addr - (base + length A)) ++ take 64 bytes))) else None) next
-              ∙ ap (λ (j : ℕ). Some (front (A ++ (zeros j ++ take 64 bytes)))) gap in
+          ap (λ (t : Bool). if t then Some (front (A ++ (zeros (addr - (base + length A)) ++ take 64 bytes))) else None) next
+          ∙ ap (λ (j : ℕ). Some (front (A ++ (zeros j ++ take 64 bytes)))) gap in
           let image : (A ++ (zeros g ++ take 64 bytes)) ++ (zeros 0 ++ drop 64 bytes) ≡ A ++ (zeros g ++ bytes) =
-              append_assoc A (zeros g ++ take 64 bytes) (zeros 0 ++ drop 64 bytes)
-              ∙ ap (λ (zs : List ℕ). A ++ ((zeros g ++ take 64 bytes) ++ (zs ++ drop 64 bytes))) no_zeros
-              ∙ ap (λ (zs : List ℕ). A ++ zs) (append_assoc (zeros g) (take 64 bytes) (drop 64 bytes))
-              ∙ ap (λ (zs : List ℕ). A ++ (zeros g ++ zs)) (take-append-drop 64 bytes) in
+          append_assoc A (zeros g ++ take 64 bytes) (zeros 0 ++ drop 64 bytes)
+          ∙ ap (λ (zs : List ℕ). A ++ ((zeros g ++ take 64 bytes) ++ (zs ++ drop 64 bytes))) no_zeros
+          ∙ ap (λ (zs : List ℕ). A ++ zs) (append_assoc (zeros g) (take 64 bytes) (drop 64 bytes))
+          ∙ ap (λ (zs : List ℕ). A ++ (zeros g ++ zs)) (take-append-drop 64 bytes) in
           let count : suc c + image_lines n (drop 64 bytes) ≡ c + (1 + image_lines n (drop 64 bytes)) = omega arith in
           ap (go_on P (front A) c (λ more. header_from P more (suc c) (told (image_entries n (addr + 64) (drop 64 bytes) ++ rest)))) read
           ∙ ih 0 (suc c) (A ++ (zeros g ++ take 64 bytes)) (omega (arith, at, long, longer, zeroed, taken))

@@ -1,5 +1,5 @@
 -- The values of the entries of a trace fit the fields of their texts.
-use Rattle.std.proofs.Common.{◌≡◌, ◌⊎◌, inl, inr, ℕ, ℤ, pos, negsuc, zero, suc, ◌+◌, ◌-◌, ◌*◌, ◌/◌, ◌%◌, ◌^◌, ◌≤◌, ◌<◌, Bool, true, false, cond, ◌&&◌, List, [], ◌∷◌, ◌++◌, map, length, take, drop, Option, Some, None, Result, Ok, Err, slice_get, slice_index, nat_eq, nat_le, nat_lt, refl, sym, ap, ◌∙◌, subst, arith, rules, FitsSigned, w32, w64}
+use Rattle.std.proofs.Common.{◌≡◌, ◌⊎◌, inl, inr, ℕ, ℤ, pos, negsuc, zero, suc, ◌+◌, ◌-◌, ◌*◌, ◌/◌, ◌%◌, ◌^◌, ◌≤◌, ◌<◌, Bool, true, false, cond, List, [], ◌∷◌, ◌++◌, map, length, take, drop, Option, Some, None, Result, Ok, Err, slice_get, nat_eq, nat_le, nat_lt, refl, sym, ap, ◌∙◌, subst, arith, rules, FitsSigned, w32}
 use Rattle.std.specs.Prelude.{if◌then◌else◌, All, is_some}
 use Rattle.std.specs.Int.{next_multiple_of}
 use Rattle.std.proofs.lemmas.List.{length-drop, length-take-le}
@@ -7,7 +7,7 @@ use Rattle.std.proofs.lemmas.List.Elements.{All-nil, All-cons, All-append, All-t
 use Rattle.hip_externs.specs.Externs.{call_of}
 use Rattle.hip_externs.specs.declared.call.ExternCall.{ExternCall}
 use Rattle.hip_externs.specs.declared.call.ExternCall.TheVariants as calls
-use Rattle.hip_globals.specs.Addresses.{IsBase, end_of, region_size}
+use Rattle.hip_globals.specs.Addresses.{end_of, region_size}
 use Rattle.hip_ir.specs.declared.block.End.{End}
 use Rattle.hip_ir.specs.declared.block.End.TheVariants as ends
 use Rattle.hip_ir.specs.declared.instr.Instr.{Instr}
@@ -19,7 +19,7 @@ use Rattle.hip_mem.specs.Laws.BytesLaws.{bytes_of-below, length-bytes_of, little
 use Rattle.hip_mem.specs.Memory.{stack_end}
 use Rattle.hip_num.specs.Arithmetic.{binary_of}
 use Rattle.hip_num.specs.declared.arithmetic.NumTrap.{NumTrap}
-use Rattle.hip_types.specs.Numbers.{bits, modulus, signed, signed-low, signed-high}
+use Rattle.hip_types.specs.Numbers.{bits, signed, signed-low, signed-high}
 use Rattle.hip_types.specs.declared.number.Bits.{Bits}
 use Rattle.hip_types.specs.declared.number.Scalar.{Scalar}
 use Rattle.hip_types.specs.declared.number.Scalar.TheVariants.{Int, Ptr}
@@ -36,7 +36,6 @@ use Rattle.hip_runs.specs.StoredParts.Persistence.{flushes_lines}
 use Rattle.hip_runs.specs.Validity.{IsInput, IsValid}
 use Rattle.hip_runs.specs.declared.event.Ending.{Ending}
 use Rattle.hip_runs.specs.declared.event.Ending.TheVariants as endings
-use Rattle.hip_runs.specs.declared.event.Event.{Event}
 use Rattle.hip_runs.specs.declared.event.Event.TheVariants as events
 use Rattle.hip_runs.specs.declared.event.TrapKind.TheVariants as traps
 use Rattle.hip_runs.specs.declared.input.Input.{Input}
@@ -44,7 +43,7 @@ use Rattle.hip_run_traces.specs.Laws.GivenLaws.{FitsIfThere}
 use Rattle.hip_run_traces.specs.Laws.HeaderLaws.{whole_lines}
 use Rattle.hip_run_traces.specs.Traces.{entry_of_event, entry_list, header_of, image_entries, next_entries, trace}
 use Rattle.hip_trace.specs.Entries.{is_store_size}
-use Rattle.hip_trace.specs.Fits.{AreLines, IsLine, IsStored, ValuesFit}
+use Rattle.hip_trace.specs.Fits.{AreLines, ValuesFit}
 use Rattle.hip_trace.specs.declared.entry.Entry.{Entry}
 use Rattle.hip_trace.specs.declared.entry.Entry.TheVariants as entries
 

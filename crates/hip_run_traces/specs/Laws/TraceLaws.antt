@@ -1,13 +1,12 @@
 -- The trace of a run has as many entries as the run counts, a longer run's begins with a shorter one's, and it is one.
-use Rattle.std.proofs.Common.{◌≡◌, ◌⊎◌, inl, inr, ℕ, ℤ, zero, suc, ◌+◌, ◌-◌, ◌/◌, ◌≤◌, ◌<◌, Bool, true, false, cond, List, [], ◌∷◌, ◌++◌, map, length, take, drop, Option, Some, None, refl, sym, ap, ◌∙◌, subst, arith, append_assoc, length-append}
+use Rattle.std.proofs.Common.{◌≡◌, ◌⊎◌, inl, inr, ℕ, ℤ, zero, suc, ◌+◌, ◌/◌, Bool, true, false, cond, List, [], ◌∷◌, ◌++◌, map, length, take, drop, refl, sym, ap, ◌∙◌, subst, arith, append_assoc, length-append}
 use Rattle.std.specs.Prelude.{if◌then◌else◌}
 use Rattle.std.proofs.lemmas.List.{append-nil, length-map}
 use Rattle.hip_ir.specs.declared.program.Program.{Program}
-use Rattle.hip_runs.specs.Ends.{Ends}
 use Rattle.hip_runs.specs.Laws.EndLaws.{runs_end}
 use Rattle.hip_runs.specs.Laws.NextLaws.{counts-next, rests-ended}
 use Rattle.hip_runs.specs.State.{Counts, State}
-use Rattle.hip_runs.specs.Step.{counted, event, has_ended, has_entry, header_entries, image_lines, run, some_byte}
+use Rattle.hip_runs.specs.Step.{event, has_ended, has_entry, header_entries, image_lines, run, some_byte}
 use Rattle.hip_runs.specs.declared.event.Event.{Event}
 use Rattle.hip_runs.specs.declared.event.Event.TheVariants as events
 use Rattle.hip_runs.specs.declared.input.Input.{Input}

@@ -52,4 +52,6 @@ mod trace_entries;
 #[cfg(test)]
 mod trace_misfits;
 #[cfg(test)]
+mod traces_in_chunks;
+#[cfg(test)]
 mod trees;

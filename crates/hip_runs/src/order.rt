@@ -9,9 +9,9 @@ ghost use Rattle.hip_runs.specs.StoredParts.Parts.{PartOf};
 ghost use Rattle.hip_runs.specs.StoredParts.Since.{top_site};
 ghost use Rattle.hip_runs.specs.Sites.{HasSites};
 ghost use Rattle.hip_runs.specs.State.{StorePart, levels_of};
-ghost use Rattle.hip_runs.specs.Step.{event, run};
+ghost use Rattle.hip_runs.specs.Step.{counted, event, has_ended, run};
 ghost use Rattle.hip_runs.specs.declared.input.Input.{Input};
-ghost use Rattle.std.specs.Prelude.{◌≡◌, ℕ, suc};
+ghost use Rattle.std.specs.Prelude.{◌≡◌, ℕ, suc, true, false};
 
 /// In each line of a run the parts lie in the order of their stores' steps, each covers bytes of its line alone, and
 /// it is flushed exactly where it has a first flush.
@@ -47,4 +47,11 @@ pub fn events_tell_the_next_lines()
     ensures { (P : Program) → (I : Input) → (n : ℕ) →
         (run P I (suc n)).lines ≡ lines_after I (event P I (run P I n)) (run P I n).counts
         (top_site (run P I n).frames) (levels_of (run P I n).frames) (run P I n).lines }
+{}
+
+/// A step counts itself, and its entry in the trace where it has one; a run that has ended stays as it is.
+pub fn steps_are_counted()
+    ensures counted { (P : Program) → (I : Input) → (n : ℕ) → has_ended (run P I n) ≡ false →
+        (run P I (suc n)).counts ≡ counted (event P I (run P I n)) (run P I n).counts }
+    ensures rests { (P : Program) → (I : Input) → (n : ℕ) → has_ended (run P I n) ≡ true → run P I (suc n) ≡ run P I n }
 {}

@@ -43,3 +43,11 @@ mod spelling;
 mod storage;
 #[cfg(test)]
 mod tokens;
+#[cfg(test)]
+mod trace_entries;
+#[cfg(test)]
+mod trace_misfits;
+#[cfg(test)]
+mod traces_in_chunks;
+#[cfg(test)]
+mod trees;

@@ -367,6 +367,18 @@ fn texts_are_counted(rt: HostRuntime) -> Result<(), Fail> {
 }
 
 #[test]
+fn equal_entries(rt: HostRuntime) {
+    let flush = Entry::Flush { addr: 64, size: 64 };
+    let longer = Entry::Flush {
+        addr: 64,
+        size: 128,
+    };
+    assert!(rt; flush.same(&flush));
+    assert!(rt; !flush.same(&longer));
+    assert!(rt; !flush.same(&Entry::Fence));
+}
+
+#[test]
 fn no_room(rt: HostRuntime) -> Result<(), Fail> {
     let mut sink = MemSink::new(rt.alloc(), 3)?;
     assert!(rt; write_entry(&Entry::Cut, &mut sink).is_err());

@@ -9,9 +9,10 @@ use Rattle.hip_ir.specs.declared.program.Program.{Program}
 use Rattle.hip_ir.specs.Reading.{Reads}
 use Rattle.hip_ir.specs.Laws.TextExact.{one_program}
 use Rattle.hip_tool.specs.Input.{is_base, is_limit, region_size, IsValid}
-use Rattle.hip_tool.specs.Pieces.{spelled}
+use Rattle.hip_trace.specs.Pieces.{spelled}
 use Rattle.hip_tool.specs.OneStore.{is_one_store}
-use Rattle.hip_tool.specs.Misfit.{Header, Gives, header, behind_limit, from_base, spelled_limit, spelled_base, input_of, DiffersAt, MisfitBehind, IsMisfit, IsTraceOf}
+use Rattle.hip_tool.specs.Misfit.{Header, Gives, header, behind_limit, from_base, spelled_limit, spelled_base, input_of, MisfitBehind, IsMisfit, IsTraceOf}
+use Rattle.hip_run_traces.specs.Misfits.{DiffersAt}
 use Rattle.hip_tool.specs.Run.{trace}
 use Rattle.hip_tool.specs.Answer.{IsProgram, RefusesForm}
 use Rattle.hip_tool.specs.Reading.{RefusesText}
@@ -20,10 +21,10 @@ use Rattle.hip_typing.specs.Sound.{IsSound}
 use Rattle.hip_typing.specs.declared.fault.TypeRefusal.{TypeRefusal}
 use Rattle.hip_parse.specs.declared.error.ParseRefusal.{ParseRefusal}
 use Rattle.hip_parse.specs.declared.error.ParseRefusal.TheVariants as parse
-use Rattle.hip_tool.specs.declared.entry.Entry.{Entry}
-use Rattle.hip_tool.specs.declared.entry.Entry.TheVariants.{Start, Register, Store, Stop, Cut}
+use Rattle.hip_trace.specs.declared.entry.Entry.{Entry}
+use Rattle.hip_trace.specs.declared.entry.Entry.TheVariants.{Start, Register}
 use Rattle.hip_tool.specs.declared.input.Input.{Input}
-use Rattle.hip_tool.specs.declared.misfit.MisfitKind.{MisfitKind}
+use Rattle.hip_run_traces.specs.declared.misfit.MisfitKind.{MisfitKind}
 use Rattle.hip_tool.specs.declared.status.FileRole.TheVariants as roles
 use Rattle.hip_tool.specs.declared.status.ProgramRefusal.TheVariants as refusals
 use Rattle.hip_tool.specs.declared.status.Status.TheVariants as statuses
@@ -37,20 +38,14 @@ kept false n m e = absurd cc
 limit_is : (e : Option Entry) (limit : ℕ) → spelled_limit e ≡ Some limit → is_limit limit ≡ true
 limit_is None limit h = absurd cc
 limit_is (Some (Start n)) limit h = let k = kept (is_limit n) n limit h in subst (λ (m : ℕ). is_limit m ≡ true) k.1 k.0
-limit_is (Some (Register base size)) limit h = absurd cc
-limit_is (Some (Store addr value size)) limit h = absurd cc
-limit_is (Some (Stop code)) limit h = absurd cc
-limit_is (Some Cut) limit h = absurd cc
+limit_is (Some e) limit h = absurd cc
 
 base_is : (program : Program) (e : Option Entry) (base : ℕ) → spelled_base program e ≡ Some base → is_base base ≡ true
 base_is program None base h = absurd cc
-base_is program (Some (Start n)) base h = absurd cc
 base_is program (Some (Register b size)) base h =
     let k = kept (is_base b && eqb size (region_size program)) b base h in
     subst (λ (m : ℕ). is_base m ≡ true) k.1 (and_parts (is_base b) (eqb size (region_size program)) k.0).0
-base_is program (Some (Store addr value size)) base h = absurd cc
-base_is program (Some (Stop code)) base h = absurd cc
-base_is program (Some Cut) base h = absurd cc
+base_is program (Some e) base h = absurd cc
 
 valid_input : (program : Program) (limit base : ℕ) → is_limit limit ≡ true → is_base base ≡ true → IsValid program (input_of program limit base)
 valid_input program limit base v w = record { base = w; image = length-replicate (region_size program) 0; numbers = omega arith; limit = v }

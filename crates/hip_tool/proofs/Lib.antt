@@ -1,6 +1,3 @@
 pub mod AnswerLaws
-pub mod Spelled
-pub mod Fields
 pub mod Stops
-pub mod ReaderLaws
 pub mod ReplayLaws

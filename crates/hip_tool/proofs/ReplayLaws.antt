@@ -1,23 +1,30 @@
 -- A trace, compared with the run of its program.
 use Rattle.std.proofs.Common.{◌≡◌, ℕ, zero, suc, ◌+◌, ◌<◌, true, eqb, List, [], ◌∷◌, ◌++◌, length, map, take, slice_get, Option, Some, None, IfSome, Result, Ok, Err, refl, sym, ap, subst, ◌∙◌, arith, append_assoc}
-use Rattle.std.specs.Prelude.{option_map}
+use Rattle.std.specs.Prelude.{option_map, OnOk}
 use Rattle.std.proofs.lemmas.Bool.Decides.{nat_tests}
 use Rattle.std.proofs.lemmas.List.{append-nil}
 use Rattle.hip_io.specs.Counts.{Rose}
 use Rattle.hip_io.specs.Cabinets.{CabinetState}
 use Rattle.hip_ir.specs.declared.program.Program.{Program}
 use Rattle.hip_tool.specs.Input.{region_size, is_base, is_limit}
-use Rattle.hip_tool.specs.Pieces.{spelled}
-use Rattle.hip_tool.specs.Misfit.{Gives, header, valid_limit, valid_base, input_of, HeaderStops, DiffersAt, FirstDiffers, MisfitBehind, IsMisfit, IsTraceOf}
+use Rattle.hip_trace.specs.Pieces.{spelled}
+use Rattle.hip_tool.specs.Misfit.{Gives, header, valid_limit, valid_base, input_of, HeaderStops, MisfitBehind, IsMisfit, IsTraceOf}
 use Rattle.hip_tool.specs.Run.{trace, steps_of}
 use Rattle.hip_tool.specs.OneStore.{one_store}
-use Rattle.hip_tool.specs.ReadsEntries.{entries_left, IsReading, HasNext, HasFailed}
-use Rattle.hip_tool.specs.Replays.{IsUnspelled, Found, WantsEntry, WantsLimit, WantsBase, WantsSteps, HasReplayed, Replays}
-use Rattle.hip_tool.specs.declared.entry.Entry.{Entry}
-use Rattle.hip_tool.specs.declared.entry.Entry.TheVariants.{Start, Register}
+use Rattle.hip_trace.specs.Reads.{ReaderState, ahead, IsReading, ReadsNext, reads_from, ReadsOn}
+use Rattle.hip_trace.specs.Reads as reads
+use Rattle.hip_trace.specs.declared.refusal.Progress.{Progress}
+use Rattle.hip_trace.specs.declared.refusal.Progress.TheVariants.{Reading}
+use Rattle.hip_trace.specs.declared.refusal.TraceRefusal.{TraceRefusal}
+use Rattle.hip_trace.specs.declared.refusal.TraceRefusal.TheVariants as trace_refusals
+use Rattle.hip_run_traces.specs.Misfits.{DiffersAt, FirstDiffers}
+use Rattle.hip_tool.specs.Ahead.{seen_by}
+use Rattle.hip_tool.specs.Replays.{entries_left, HasNext, HasFailed, Wanted, Ended, IsUnspelled, Found, WantsEntry, WantsLimit, WantsBase, WantsSteps, HasReplayed, Replays}
+use Rattle.hip_trace.specs.declared.entry.Entry.{Entry}
+use Rattle.hip_trace.specs.declared.entry.Entry.TheVariants.{Start, Register}
 use Rattle.hip_tool.specs.declared.input.Input.{Input}
-use Rattle.hip_tool.specs.declared.misfit.MisfitKind.{MisfitKind}
-use Rattle.hip_tool.specs.declared.misfit.MisfitKind.TheVariants.{Differs}
+use Rattle.hip_run_traces.specs.declared.misfit.MisfitKind.{MisfitKind}
+use Rattle.hip_run_traces.specs.declared.misfit.MisfitKind.TheVariants.{Malformed, Differs, Early, Extra}
 use Rattle.hip_tool.specs.declared.replay.ReplayRefusal.{ReplayRefusal}
 use Rattle.hip_tool.specs.declared.replay.ReplayRefusal.TheVariants as refusals
 
@@ -33,6 +40,95 @@ told_next P x (Some es) (Some fs) e h = let k : es ≡ x ∷ fs = cc in subst P 
 pub told_map : (P Q : List (Option Entry) → Type 0) (a : Told) → IfSome a P → ((es : List (Option Entry)) → P es → Q es) → IfSome a Q
 told_map P Q None p h = tt
 told_map P Q (Some es) p h = h es p
+
+-- ---- what a reader reads
+
+abbrev Next : Type 0
+Next = Result (Option Entry) TraceRefusal
+
+seen_reading : (r r' : ReaderState) (s s' : CabinetState) → IsReading s s' → IsReading (seen_by r s) (seen_by r' s')
+seen_reading r r' s s' h = record {
+  stays = record { files = h.stays.files; misses = h.stays.misses; current = h.stays.current; named = h.stays.named };
+  faults = h.faults;
+}
+
+seen_failed : (r r' : ReaderState) (s s' : CabinetState) → reads.HasFailed r r' s s' → HasFailed (seen_by r s) (seen_by r' s')
+seen_failed r r' s s' h = record {
+  stays = record { files = h.stays.files; misses = h.stays.misses; current = h.stays.current; named = h.stays.named };
+  later = h.later;
+  rose = h.rose;
+}
+
+reads_on : (r r' : ReaderState) (s s' : CabinetState) (next : Next) → r.progress ≡ Reading → ReadsNext r r' s s' next → ReadsOn r r' s s' next
+reads_on r r' s s' next going h = subst (λ (p : Progress). reads_from p r r' s s' next) going h
+
+none_ahead : (P : List (Option Entry) → Type 0) (o : Option (List ℕ)) → IfSome o (λ bytes. bytes ≡ []) → P [] → IfSome (option_map (spelled true) o) P
+none_ahead P None h p = tt
+none_ahead P (Some bytes) h p = subst (λ (b : List ℕ). P (spelled true b)) (sym h) p
+
+entry_wanted : (count : ℕ) (r r' : ReaderState) (s s' : CabinetState) (next : Next) (result : Result Entry ReplayRefusal) → ReadsOn r r' s s' next → Wanted count next result → WantsEntry count (seen_by r s) (seen_by r' s') result
+entry_wanted count r r' s s' (Ok (Some e)) result h w =
+    subst (WantsEntry count (seen_by r s) (seen_by r' s')) (sym w) (record { reading = seen_reading r r' s s' h.reading; entries = h.entries })
+entry_wanted count r r' s s' (Ok None) result h w =
+    subst (WantsEntry count (seen_by r s) (seen_by r' s')) (sym w) (refl, record { reading = seen_reading r r' s s' h.reading; told = none_ahead (λ es. IsUnspelled (slice_get es 0) Early) (ahead r s) h.ended refl })
+entry_wanted count r r' s s' (Err trace_refusals.Malformed) result h w =
+    subst (WantsEntry count (seen_by r s) (seen_by r' s')) (sym w)
+    (refl, record { reading = seen_reading r r' s s' h.reading; told = told_map _ _ (entries_left (seen_by r s)) h.entries (λ es k. subst (λ (p : Option (Option Entry)). IsUnspelled p Malformed) (sym k) refl) })
+entry_wanted count r r' s s' (Err trace_refusals.ReadFault) result h w =
+    subst (WantsEntry count (seen_by r s) (seen_by r' s')) (sym w) (seen_failed r r' s s' h)
+
+pub wants_entry : (count : ℕ) (r r' : ReaderState) (s s' : CabinetState) (next : Next) (result : Result Entry ReplayRefusal) → r.progress ≡ Reading → ReadsNext r r' s s' next → Wanted count next result → WantsEntry count (seen_by r s) (seen_by r' s') result
+wants_entry count r r' s s' next result going h w = entry_wanted count r r' s s' next result (reads_on r r' s s' next going h) w
+
+entry_goes_on : (count : ℕ) (r r' : ReaderState) (s s' : CabinetState) (next : Next) (result : Result Entry ReplayRefusal) → ReadsOn r r' s s' next → Wanted count next result → OnOk result (r'.progress ≡ Reading)
+entry_goes_on count r r' s s' (Ok (Some e)) result h w = subst (λ (x : Result Entry ReplayRefusal). OnOk x (r'.progress ≡ Reading)) (sym w) h.progress
+entry_goes_on count r r' s s' (Ok None) result h w = subst (λ (x : Result Entry ReplayRefusal). OnOk x (r'.progress ≡ Reading)) (sym w) tt
+entry_goes_on count r r' s s' (Err trace_refusals.Malformed) result h w = subst (λ (x : Result Entry ReplayRefusal). OnOk x (r'.progress ≡ Reading)) (sym w) tt
+entry_goes_on count r r' s s' (Err trace_refusals.ReadFault) result h w = subst (λ (x : Result Entry ReplayRefusal). OnOk x (r'.progress ≡ Reading)) (sym w) tt
+
+pub goes_on : (count : ℕ) (r r' : ReaderState) (s s' : CabinetState) (next : Next) (result : Result Entry ReplayRefusal) → r.progress ≡ Reading → ReadsNext r r' s s' next → Wanted count next result → OnOk result (r'.progress ≡ Reading)
+goes_on count r r' s s' next result going h w = entry_goes_on count r r' s s' next result (reads_on r r' s s' next going h) w
+
+abbrev PastEnd : ℕ → MisfitKind → List (Option Entry) → Type 0
+PastEnd count kind es = (at : ℕ) × (count + 1 ≡ count + at + 1) × FirstDiffers true es [] at kind
+
+end_wanted : (count : ℕ) (r r' : ReaderState) (s s' : CabinetState) (next : Next) (result : Result (Unit {0}) ReplayRefusal) → ReadsOn r r' s s' next → Ended count next result → WantsSteps [] count (seen_by r s) (seen_by r' s') result
+end_wanted count r r' s s' (Ok (Some e)) result h w =
+    subst (WantsSteps [] count (seen_by r s) (seen_by r' s')) (sym w)
+    (record { reading = seen_reading r r' s s' h.reading; told = told_next (PastEnd count Extra) (Some e) (entries_left (seen_by r s)) (entries_left (seen_by r' s')) h.entries (λ es. (0, omega arith, record { before = refl; here = refl })) })
+end_wanted count r r' s s' (Ok None) result h w =
+    subst (WantsSteps [] count (seen_by r s) (seen_by r' s')) (sym w)
+    (record { reading = seen_reading r r' s s' h.reading; told = none_ahead (λ es. es ≡ []) (ahead r s) h.ended refl })
+end_wanted count r r' s s' (Err trace_refusals.Malformed) result h w =
+    subst (WantsSteps [] count (seen_by r s) (seen_by r' s')) (sym w)
+    (record { reading = seen_reading r r' s s' h.reading; told = told_map _ (PastEnd count Malformed) (entries_left (seen_by r s)) h.entries (λ es k. (0, omega arith, record { before = refl; here = subst (λ (p : Option (Option Entry)). DiffersAt true p None Malformed) (sym k) refl })) })
+end_wanted count r r' s s' (Err trace_refusals.ReadFault) result h w =
+    subst (WantsSteps [] count (seen_by r s) (seen_by r' s')) (sym w) (seen_failed r r' s s' h)
+
+pub wants_end : (count : ℕ) (r r' : ReaderState) (s s' : CabinetState) (next : Next) (result : Result (Unit {0}) ReplayRefusal) → r.progress ≡ Reading → ReadsNext r r' s s' next → Ended count next result → WantsSteps [] count (seen_by r s) (seen_by r' s') result
+wants_end count r r' s s' next result going h w = end_wanted count r r' s s' next result (reads_on r r' s s' next going h) w
+
+-- ---- what a new reader sees is the cabinet
+
+unseen_reading : (r r' : ReaderState) (s s' : CabinetState) → IsReading (seen_by r s) (seen_by r' s') → IsReading s s'
+unseen_reading r r' s s' h = record {
+  stays = record { files = h.stays.files; misses = h.stays.misses; current = h.stays.current; named = h.stays.named };
+  faults = h.faults;
+}
+
+unseen_told : (P : List ℕ → Type 0) (held : List ℕ) (o : Option (List ℕ)) → held ≡ [] → IfSome (option_map (λ rest. held ++ rest) o) P → IfSome o P
+unseen_told P held None e h = tt
+unseen_told P held (Some rest) e h = subst (λ (front : List ℕ). P (front ++ rest)) e h
+
+pub unseen : (program : Program) (r r' : ReaderState) (s s' : CabinetState) (result : Result Input ReplayRefusal) → r.held ≡ [] → Replays program (seen_by r s) (seen_by r' s') result → Replays program s s' result
+unseen program r r' s s' (Ok input) e h = record { reading = unseen_reading r r' s s' h.reading; told = unseen_told (λ bytes. IsTraceOf program bytes input) r.held s.rest e h.told }
+unseen program r r' s s' (Err (refusals.Misfit entry kind)) e h = record { reading = unseen_reading r r' s s' h.reading; told = unseen_told (λ bytes. IsMisfit program bytes true entry kind) r.held s.rest e h.told }
+unseen program r r' s s' (Err refusals.ReadFault) e h = record {
+  stays = record { files = h.stays.files; misses = h.stays.misses; current = h.stays.current; named = h.stays.named };
+  later = h.later;
+  rose = h.rose;
+}
+unseen program r r' s s' (Err refusals.NoMemory) e h = unseen_reading r r' s s' h
 
 -- ---- the header
 

@@ -11,7 +11,7 @@ use Rattle.hip_tool.specs.OneStore.{is_one_store}
 use Rattle.hip_tool.specs.Misfit.{IsMisfit, IsTraceOf}
 use Rattle.hip_tool.specs.Run.{reports, plan, repaired}
 use Rattle.hip_tool.specs.declared.input.Input.{Input}
-use Rattle.hip_tool.specs.declared.misfit.MisfitKind.{MisfitKind}
+use Rattle.hip_run_traces.specs.declared.misfit.MisfitKind.{MisfitKind}
 use Rattle.hip_tool.specs.declared.repair.Plan.{Plan}
 use Rattle.hip_typing.specs.Checks.{IsRefused}
 use Rattle.hip_typing.specs.Sound.{IsSound}

@@ -5,7 +5,7 @@ use Rattle.hip_ir.specs.declared.program.Program.{Program}
 use Rattle.hip_tool.specs.Input.{IsValid}
 use Rattle.hip_tool.specs.Misfit.{Gives, header}
 use Rattle.hip_tool.specs.Answer.{Cause, Repairs}
-use Rattle.hip_tool.specs.declared.entry.Entry.{Entry}
+use Rattle.hip_trace.specs.declared.entry.Entry.{Entry}
 use Rattle.hip_tool.specs.declared.input.Input.{Input}
 use Rattle.hip_tool.specs.declared.status.Status.{Status}
 use Rattle.hip_tool.specs.declared.status.Status.TheVariants.{ReadFault, NoMemory}

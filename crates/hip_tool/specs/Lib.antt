@@ -1,11 +1,8 @@
-pub mod Numbers
-pub mod Entries
-pub mod Pieces
+pub mod Ahead
 pub mod Input
 pub mod OneStore
 pub mod Run
 pub mod Misfit
-pub mod ReadsEntries
 pub mod Replays
 pub mod Reading
 pub mod Order

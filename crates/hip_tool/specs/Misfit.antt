@@ -1,14 +1,14 @@
 -- Where a trace is not the trace of a run of the program: at the first piece that differs.
-use Rattle.std.specs.Prelude.{ℕ, ◌+◌, ◌≡◌, ◌≢◌, Bool, true, List, [], ◌∷◌, map, take, slice_get, replicate, Option, Some, None, if◌then◌else◌}
+use Rattle.std.specs.Prelude.{ℕ, ◌+◌, ◌≡◌, Bool, true, List, [], ◌∷◌, map, slice_get, replicate, Option, Some, None, if◌then◌else◌}
 use Rattle.hip_ir.specs.declared.program.Program.{Program}
-use Rattle.hip_tool.specs.Pieces.{spelled}
+use Rattle.hip_run_traces.specs.Misfits.{FirstDiffers, StopsAt}
+use Rattle.hip_run_traces.specs.declared.misfit.MisfitKind.{MisfitKind}
 use Rattle.hip_tool.specs.Input.{region_size, is_base, is_limit}
 use Rattle.hip_tool.specs.Run.{trace}
-use Rattle.hip_tool.specs.declared.entry.Entry.{Entry}
-use Rattle.hip_tool.specs.declared.entry.Entry.TheVariants.{Start, Register}
 use Rattle.hip_tool.specs.declared.input.Input.{Input}
-use Rattle.hip_tool.specs.declared.misfit.MisfitKind.{MisfitKind}
-use Rattle.hip_tool.specs.declared.misfit.MisfitKind.TheVariants.{Malformed, Differs, Early, Extra}
+use Rattle.hip_trace.specs.Pieces.{spelled}
+use Rattle.hip_trace.specs.declared.entry.Entry.{Entry}
+use Rattle.hip_trace.specs.declared.entry.Entry.TheVariants.{Start, Register}
 use Rattle.std.specs.Prelude.{◌&&◌, ◌==◌}
 
 -- ---- the header: START and REGISTER, as far as they are valid
@@ -53,30 +53,6 @@ header program [] = Stops 0
 header program (e ∷ es) = behind_limit program (spelled_limit e) es
 
 -- ---- the first difference
-
--- the kind of a piece that should not be there, or should be another
-abbrev pub kind_of : Option Entry → MisfitKind → MisfitKind
-kind_of None otherwise = Malformed
-kind_of (Some e) otherwise = otherwise
-
--- At one place a piece and an entry of the run's trace differ. The end of either differs from every entry, and the
--- end of the pieces counts only where the file is whole.
-abbrev pub DiffersAt : Bool → Option (Option Entry) → Option Entry → MisfitKind → Type 0
-DiffersAt whole None None kind = ⊥
-DiffersAt whole None (Some t) kind = (whole ≡ true) × (kind ≡ Early)
-DiffersAt whole (Some piece) None kind = kind ≡ kind_of piece Extra
-DiffersAt whole (Some piece) (Some t) kind = (piece ≢ Some t) × (kind ≡ kind_of piece Differs)
-
--- the pieces before spell the run's entries, and the next one does not
-pub record FirstDiffers (whole : Bool) (es : List (Option Entry)) (ts : List Entry) (count : ℕ)
-    (kind : MisfitKind) : Type 0 where
-  pub before : take count es ≡ map (λ t. Some t) (take count ts)
-  pub here : DiffersAt whole (slice_get es count) (slice_get ts count) kind
-
--- the piece behind a header that stops is not there, or is no valid entry of a header
-abbrev pub StopsAt : Bool → Option (Option Entry) → MisfitKind → Type 0
-StopsAt whole None kind = (whole ≡ true) × (kind ≡ Early)
-StopsAt whole (Some piece) kind = kind ≡ kind_of piece Differs
 
 -- the header of the entries stops there, with this misfit
 pub record HeaderStops (program : Program) (es : List (Option Entry)) (count entry : ℕ)

@@ -1,17 +1,50 @@
 -- What replaying a trace does to a cabinet, and what it answers.
-use Rattle.std.specs.Prelude.{ℕ, ◌+◌, ◌≡◌, true, List, ◌∷◌, map, slice_get, Option, Some, None, IfSome, Result, Ok, Err}
-use Rattle.hip_io.specs.Cabinets.{CabinetState}
+use Rattle.std.specs.Prelude.{ℕ, ◌+◌, ◌≡◌, ◌≤◌, true, List, ◌∷◌, map, slice_get, Option, Some, None, IfSome, option_map, Result, Ok, Err}
+use Rattle.hip_io.specs.Cabinets.{CabinetState, StaysOpen}
 use Rattle.hip_ir.specs.declared.program.Program.{Program}
 use Rattle.hip_tool.specs.Input.{region_size, is_base, is_limit}
-use Rattle.hip_tool.specs.Misfit.{FirstDiffers, HeaderStops, IsMisfit, IsTraceOf}
-use Rattle.hip_tool.specs.ReadsEntries.{entries_left, IsReading, HasFailed, HasNext}
-use Rattle.hip_tool.specs.declared.entry.Entry.{Entry}
-use Rattle.hip_tool.specs.declared.entry.Entry.TheVariants.{Start, Register}
+use Rattle.hip_io.specs.Counts.{Rose}
+use Rattle.hip_run_traces.specs.Misfits.{FirstDiffers}
+use Rattle.hip_run_traces.specs.declared.misfit.MisfitKind.{MisfitKind}
+use Rattle.hip_run_traces.specs.declared.misfit.MisfitKind.TheVariants.{Malformed, Early, Extra}
+use Rattle.hip_tool.specs.Misfit.{HeaderStops, IsMisfit, IsTraceOf}
 use Rattle.hip_tool.specs.declared.input.Input.{Input}
-use Rattle.hip_tool.specs.declared.misfit.MisfitKind.{MisfitKind}
-use Rattle.hip_tool.specs.declared.misfit.MisfitKind.TheVariants.{Malformed, Early}
 use Rattle.hip_tool.specs.declared.replay.ReplayRefusal.{ReplayRefusal}
 use Rattle.hip_tool.specs.declared.replay.ReplayRefusal.TheVariants as refusals
+use Rattle.hip_trace.specs.Pieces.{spelled}
+use Rattle.hip_trace.specs.Reads.{IsReading}
+use Rattle.hip_trace.specs.declared.entry.Entry.{Entry}
+use Rattle.hip_trace.specs.declared.entry.Entry.TheVariants.{Start, Register}
+use Rattle.hip_trace.specs.declared.refusal.TraceRefusal.{TraceRefusal}
+use Rattle.hip_trace.specs.declared.refusal.TraceRefusal.TheVariants as trace_refusals
+
+-- what the pieces spell that are left of the file, where the cabinet tells it
+abbrev pub entries_left : CabinetState → Option (List (Option Entry))
+entries_left s = option_map (spelled true) s.rest
+
+pub record HasFailed (old new : CabinetState) : Type 0 where
+  pub stays : StaysOpen old new
+  pub later : old.faults ≤ new.faults
+  pub rose : Rose old.faults new.faults
+
+-- the first piece that was left spells the entry
+pub record HasNext (old new : CabinetState) (e : Entry) : Type 0 where
+  pub reading : IsReading old new
+  pub entries : entries_left old ≡ option_map (λ es. Some e ∷ es) (entries_left new)
+
+-- the entry that was read, behind so many, or why there is none
+abbrev pub Wanted : ℕ → Result (Option Entry) TraceRefusal → Result Entry ReplayRefusal → Type 0
+Wanted count (Ok (Some e)) result = result ≡ Ok e
+Wanted count (Ok None) result = result ≡ Err (refusals.Misfit (count + 1) Early)
+Wanted count (Err trace_refusals.Malformed) result = result ≡ Err (refusals.Misfit (count + 1) Malformed)
+Wanted count (Err trace_refusals.ReadFault) result = result ≡ Err refusals.ReadFault
+
+-- whether nothing was read, behind so many entries
+abbrev pub Ended : ℕ → Result (Option Entry) TraceRefusal → Result (Unit {0}) ReplayRefusal → Type 0
+Ended count (Ok (Some e)) result = result ≡ Err (refusals.Misfit (count + 1) Extra)
+Ended count (Ok None) result = result ≡ Ok tt
+Ended count (Err trace_refusals.Malformed) result = result ≡ Err (refusals.Misfit (count + 1) Malformed)
+Ended count (Err trace_refusals.ReadFault) result = result ≡ Err refusals.ReadFault
 
 -- no entry is spelled where one should be
 abbrev pub IsUnspelled : Option (Option Entry) → MisfitKind → Type 0

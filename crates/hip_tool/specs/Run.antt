@@ -1,6 +1,6 @@
 -- The run of a program that stores once: its trace, its report, and what is repaired. The store is the first step
 -- and the return of `main` the second. Each is a turn, and the run is cut where the turns have reached the limit.
-use Rattle.std.specs.Prelude.{ℕ, true, false, List, [], ◌∷◌, take, Option, Some, None, nat_lt, ◌==◌, if◌then◌else◌, codes}
+use Rattle.std.specs.Prelude.{ℕ, ℤ, pos, negsuc, ◌-◌, ◌^◌, true, false, List, [], ◌∷◌, take, Option, Some, None, nat_lt, ◌==◌, if◌then◌else◌, codes}
 use Rattle.hip_types.specs.declared.number.Scalar.TheVariants.{Ptr}
 use Rattle.hip_types.specs.declared.number.Scalar.TheVariants.{Int}
 use Rattle.hip_types.specs.declared.number.Width.TheVariants.{W32, W64}
@@ -16,15 +16,22 @@ use Rattle.hip_ir.specs.declared.program.Extern.{Extern}
 use Rattle.hip_ir.specs.declared.program.Function.{Function}
 use Rattle.hip_ir.specs.declared.program.Program.{Program}
 use Rattle.hip_ir.specs.declared.site.Site.{Site}
-use Rattle.hip_tool.specs.Numbers.{signed_32}
 use Rattle.hip_tool.specs.Input.{region_size}
 use Rattle.hip_tool.specs.OneStore.{OneStore, one_store}
-use Rattle.hip_tool.specs.declared.entry.Entry.{Entry}
-use Rattle.hip_tool.specs.declared.entry.Entry.TheVariants.{Start, Register, Store, Stop, Cut}
+use Rattle.hip_trace.specs.declared.entry.Entry.{Entry}
+use Rattle.hip_trace.specs.declared.entry.Entry.TheVariants.{Start, Register, Store, Stop, Cut}
 use Rattle.hip_tool.specs.declared.input.Input.{Input}
 use Rattle.hip_tool.specs.declared.report.Kind.TheVariants.{MissingBoth}
 use Rattle.hip_tool.specs.declared.report.Report.{Report}
 use Rattle.hip_tool.specs.declared.repair.Plan.{Plan}
+
+-- -n
+abbrev pub negated : ℕ → ℤ
+negated n = if n == 0 then pos 0 else negsuc (n - 1)
+
+-- a number of 32 bits, with its sign
+abbrev pub signed_32 : ℕ → ℤ
+signed_32 n = if nat_lt n (2 ^ 31) then pos n else negated (2 ^ 32 - n)
 
 -- the entries of the steps and of the ending: the global lies at the base of the region
 abbrev pub stop_entry : OneStore → ℕ → Entry

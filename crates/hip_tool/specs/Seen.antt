@@ -1,23 +1,9 @@
 -- What the code's borrowed fields are.
-use Rattle.std.specs.Prelude.{ℕ, List, [], Option, Some, None}
+use Rattle.std.specs.Prelude.{ℕ, List}
 use Rattle.std.specs.Borrow.{Bor}
 use Rattle.hip_types.specs.declared.number.Bits.{Bits}
-use Rattle.hip_tool.specs.Entries.{fields}
 use Rattle.hip_tool.specs.OneStore.{OneStore}
 use Rattle.hip_tool.specs.declared.one_store.OneStore as code
-
--- the fields of the text behind a field, if there is one
-abbrev pub behind : Option (Bor (List ℕ)) → List (List ℕ)
-behind None = []
-behind (Some text) = fields text.now
-
-abbrev pub pair_seen : Bor (List ℕ) × Bor (List ℕ) → List ℕ × List ℕ
-pair_seen p = (p.0.now, p.1.now)
-
-abbrev pub triple_seen : Bor (List ℕ) × Bor (List ℕ) × Bor (List ℕ) → List ℕ × List ℕ × List ℕ
-triple_seen p = (p.0.now, p.1.now, p.2.now)
-
--- ---- the parts of a program
 
 abbrev pub seen_store : Bits × Bor (List ℕ) → Bits × List ℕ
 seen_store p = (p.0, p.1.now)

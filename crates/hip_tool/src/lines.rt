@@ -5,10 +5,10 @@ ghost use Rattle.std.specs.Fmt.{decimal};
 ghost use Rattle.hip_io.specs.Sinks.{Writes};
 ghost use Rattle.hip_tool.specs.Lines.{line_of, role_word, kind_word, fault_words, block_text, place_text, parse_word, parse_line, text_refusal, form_refusal, program_refusal, misfit_text};
 
-use crate::misfit::MisfitKind;
 use crate::status::{FileRole, ProgramRefusal, Status};
 use hip_io::{Put, Sink, put_after};
 use hip_parse::ParseRefusal;
+use hip_run_traces::MisfitKind;
 use hip_typing::{Place, TypeFault};
 use itoa::Buffer;
 

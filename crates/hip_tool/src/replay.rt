@@ -1,40 +1,39 @@
 //! A trace, compared with the run of its program.
 
-ghost use Rattle.std.specs.Prelude.{◌≡◌, ◌+◌, ◌<◌, ◌^◌, ◌↔◌, List, [], ℕ, Option, Some, IsTrue, IfOk, length, slice_get};
-ghost use Rattle.hip_tool.specs.Numbers.{signed_32};
+ghost use Rattle.std.specs.Prelude.{◌≡◌, ◌+◌, ◌<◌, ◌^◌, ◌↔◌, List, [], ℕ, Option, Some, IsTrue, IfOk, OnOk, length, slice_get};
 ghost use Rattle.hip_tool.specs.Input.{is_base, is_limit, region_size};
 ghost use Rattle.hip_tool.specs.Misfit.{valid_limit, valid_base, input_of};
 ghost use Rattle.hip_tool.specs.OneStore.{one_store};
-ghost use Rattle.hip_tool.specs.Run.{steps_of, stop_entry};
-ghost use Rattle.hip_tool.specs.Replays.{WantsEntry, WantsLimit, WantsBase, WantsSteps, Replays};
+ghost use Rattle.hip_tool.specs.Ahead.{seen_by};
+ghost use Rattle.hip_tool.specs.Run.{signed_32, steps_of, stop_entry};
+ghost use Rattle.hip_tool.specs.Replays.{Ended, Wanted, WantsEntry, WantsLimit, WantsBase, WantsSteps, Replays};
+ghost use Rattle.hip_trace.specs.declared.refusal.Progress.TheVariants.{Reading};
 ghost use Rattle.hip_tool.specs.Seen.{seen_one_store};
 ghost use Rattle.std.specs.Prelude.{option_map};
 
-use crate::entry::Entry;
 use crate::input::Input;
-use crate::misfit::MisfitKind;
 use crate::one_store::{OneStore, one_store};
-use crate::reader::{TraceRefusal, next_entry};
 use hip_io::Cabinet;
 use hip_ir::Program;
+use hip_run_traces::MisfitKind;
+use hip_trace::{Entry, Reader, TraceRefusal};
 use hip_types::{NoMemory, Row};
 use std::alloc::Global;
 
 /// Why a trace was not replayed.
-#[derive(Clone, Copy, Debug, PartialEq, Eq)]
+#[derive(Clone, Copy, Debug)]
 pub(crate) enum ReplayRefusal {
     Misfit { entry: u128, kind: MisfitKind },
     ReadFault,
     NoMemory,
 }
 
-/// The next entry, behind so many.
-fn want_entry<C: Cabinet>(count: u64, cabinet: &mut C) -> Result<Entry, ReplayRefusal>
-    requires { IsTrue (C.state cabinet.old).is_current }
-    ensures { WantsEntry count (C.state cabinet.old) (C.state cabinet.new) result }
+/// The entry that was read, behind so many, or why there is none.
+fn wanted(count: u64, next: Result<Option<Entry>, TraceRefusal>) -> Result<Entry, ReplayRefusal>
+    ensures { Wanted count next result }
 {
     let entry = u128::from(count) + 1;
-    match next_entry(cabinet) {
+    match next {
         Ok(Some(next)) => Ok(next),
         Ok(None) => Err(ReplayRefusal::Misfit {
             entry,
@@ -46,6 +45,22 @@ fn want_entry<C: Cabinet>(count: u64, cabinet: &mut C) -> Result<Entry, ReplayRe
         }),
         Err(TraceRefusal::ReadFault) => Err(ReplayRefusal::ReadFault),
     }
+}
+
+/// The next entry, behind so many.
+fn want_entry<C: Cabinet>(
+    count: u64,
+    reader: &mut Reader,
+    cabinet: &mut C,
+) -> Result<Entry, ReplayRefusal>
+    requires current { IsTrue (C.state cabinet.old).is_current }
+    requires reading { reader.old.progress ≡ Reading }
+    ensures wants { WantsEntry count (seen_by reader.old (C.state cabinet.old)) (seen_by reader.new (C.state cabinet.new))
+        result }
+    ensures reading { OnOk result (reader.new.progress ≡ Reading) }
+{
+    let next = reader.next(cabinet);
+    wanted(count, next)
 }
 
 fn is_limit(limit: u64) -> bool
@@ -94,11 +109,13 @@ fn valid_base(program: &Program, entry: &Entry) -> Option<u64>
 }
 
 /// The limit of turns, from the first entry.
-fn read_limit<C: Cabinet>(cabinet: &mut C) -> Result<u64, ReplayRefusal>
-    requires { IsTrue (C.state cabinet.old).is_current }
-    ensures { WantsLimit (C.state cabinet.old) (C.state cabinet.new) result }
+fn read_limit<C: Cabinet>(reader: &mut Reader, cabinet: &mut C) -> Result<u64, ReplayRefusal>
+    requires current { IsTrue (C.state cabinet.old).is_current }
+    requires reading { reader.old.progress ≡ Reading }
+    ensures wants { WantsLimit (seen_by reader.old (C.state cabinet.old)) (seen_by reader.new (C.state cabinet.new)) result }
+    ensures reading { OnOk result (reader.new.progress ≡ Reading) }
 {
-    let entry = want_entry(0, cabinet)?;
+    let entry = want_entry(0, reader, cabinet)?;
     match valid_limit(&entry) {
         Some(limit) => Ok(limit),
         None => Err(ReplayRefusal::Misfit {
@@ -109,11 +126,18 @@ fn read_limit<C: Cabinet>(cabinet: &mut C) -> Result<u64, ReplayRefusal>
 }
 
 /// The base of the region, from the second entry.
-fn read_base<C: Cabinet>(program: &Program, cabinet: &mut C) -> Result<u64, ReplayRefusal>
-    requires { IsTrue (C.state cabinet.old).is_current }
-    ensures { WantsBase program.now (C.state cabinet.old) (C.state cabinet.new) result }
+fn read_base<C: Cabinet>(
+    program: &Program,
+    reader: &mut Reader,
+    cabinet: &mut C,
+) -> Result<u64, ReplayRefusal>
+    requires current { IsTrue (C.state cabinet.old).is_current }
+    requires reading { reader.old.progress ≡ Reading }
+    ensures wants { WantsBase program.now (seen_by reader.old (C.state cabinet.old))
+        (seen_by reader.new (C.state cabinet.new)) result }
+    ensures reading { OnOk result (reader.new.progress ≡ Reading) }
 {
-    let entry = want_entry(1, cabinet)?;
+    let entry = want_entry(1, reader, cabinet)?;
     match valid_base(program, &entry) {
         Some(base) => Ok(base),
         None => Err(ReplayRefusal::Misfit {
@@ -168,13 +192,12 @@ fn steps_of(alloc: Global, program: &Program, limit: u64, base: u64) -> Result<R
     Ok(steps)
 }
 
-/// The end of the file, behind so many entries.
-fn want_end<C: Cabinet>(count: u64, cabinet: &mut C) -> Result<(), ReplayRefusal>
-    requires { IsTrue (C.state cabinet.old).is_current }
-    ensures { WantsSteps [] count (C.state cabinet.old) (C.state cabinet.new) result }
+/// Whether nothing was read, behind so many entries.
+fn ended(count: u64, next: Result<Option<Entry>, TraceRefusal>) -> Result<(), ReplayRefusal>
+    ensures { Ended count next result }
 {
     let entry = u128::from(count) + 1;
-    match next_entry(cabinet) {
+    match next {
         Ok(None) => Ok(()),
         Ok(Some(_)) => Err(ReplayRefusal::Misfit {
             entry,
@@ -188,23 +211,45 @@ fn want_end<C: Cabinet>(count: u64, cabinet: &mut C) -> Result<(), ReplayRefusal
     }
 }
 
+/// The end of the file, behind so many entries.
+fn want_end<C: Cabinet>(
+    count: u64,
+    reader: &mut Reader,
+    cabinet: &mut C,
+) -> Result<(), ReplayRefusal>
+    requires current { IsTrue (C.state cabinet.old).is_current }
+    requires reading { reader.old.progress ≡ Reading }
+    ensures { WantsSteps [] count (seen_by reader.old (C.state cabinet.old)) (seen_by reader.new (C.state cabinet.new))
+        result }
+{
+    let next = reader.next(cabinet);
+    ended(count, next)
+}
+
 /// Whether an entry is the one at a place of a list.
 fn is_at(steps: &[Entry], at: usize, entry: &Entry) -> bool
     requires { at < length steps.now }
     ensures { IsTrue result ↔ (slice_get steps.now at ≡ Some entry.now) }
 {
-    steps[at] == *entry
+    steps[at].same(entry)
 }
 
 /// The entries that are left, compared with those of the run's steps, behind so many.
-fn compare<C: Cabinet>(steps: &[Entry], count: u64, cabinet: &mut C) -> Result<(), ReplayRefusal>
+fn compare<C: Cabinet>(
+    steps: &[Entry],
+    count: u64,
+    reader: &mut Reader,
+    cabinet: &mut C,
+) -> Result<(), ReplayRefusal>
     requires room { count + length steps.now < 2 ^ 64 }
     requires current { IsTrue (C.state cabinet.old).is_current }
-    ensures { WantsSteps steps.now count (C.state cabinet.old) (C.state cabinet.new) result }
+    requires reading { reader.old.progress ≡ Reading }
+    ensures { WantsSteps steps.now count (seen_by reader.old (C.state cabinet.old))
+        (seen_by reader.new (C.state cabinet.new)) result }
 {
     'each: for at in 0..steps.len() {
         let number = count + at as u64;
-        let entry = want_entry(number, cabinet)?;
+        let entry = want_entry(number, reader, cabinet)?;
         if !is_at(steps, at, &entry) {
             return Err(ReplayRefusal::Misfit {
                 entry: u128::from(number) + 1,
@@ -212,7 +257,7 @@ fn compare<C: Cabinet>(steps: &[Entry], count: u64, cabinet: &mut C) -> Result<(
             });
         }
     }
-    want_end(count + steps.len() as u64, cabinet)
+    want_end(count + steps.len() as u64, reader, cabinet)
 }
 
 /// The input that a header gives.
@@ -228,6 +273,31 @@ fn input_of(alloc: Global, program: &Program, limit: u64, base: u64) -> Result<I
     })
 }
 
+/// The input of the run whose trace is ahead of a reader, or where it is not a trace of the program.
+fn replay_ahead<C: Cabinet>(
+    alloc: Global,
+    program: &Program,
+    reader: &mut Reader,
+    cabinet: &mut C,
+) -> Result<Input, ReplayRefusal>
+    requires current { IsTrue (C.state cabinet.old).is_current }
+    requires reading { reader.old.progress ≡ Reading }
+    ensures { Replays program.now (seen_by reader.old (C.state cabinet.old)) (seen_by reader.new (C.state cabinet.new))
+        result }
+{
+    let limit = read_limit(reader, cabinet)?;
+    let base = read_base(program, reader, cabinet)?;
+    let steps = match steps_of(alloc, program, limit, base) {
+        Ok(steps) => steps,
+        Err(NoMemory) => return Err(ReplayRefusal::NoMemory),
+    };
+    compare(steps.as_slice(), 2, reader, cabinet)?;
+    match input_of(alloc, program, limit, base) {
+        Ok(input) => Ok(input),
+        Err(NoMemory) => Err(ReplayRefusal::NoMemory),
+    }
+}
+
 /// The input of the run whose trace the rest of the current file is, or where it is not a trace of the program.
 pub(crate) fn replay<C: Cabinet>(
     alloc: Global,
@@ -237,15 +307,6 @@ pub(crate) fn replay<C: Cabinet>(
     requires { IsTrue (C.state cabinet.old).is_current }
     ensures { Replays program.now (C.state cabinet.old) (C.state cabinet.new) result }
 {
-    let limit = read_limit(cabinet)?;
-    let base = read_base(program, cabinet)?;
-    let steps = match steps_of(alloc, program, limit, base) {
-        Ok(steps) => steps,
-        Err(NoMemory) => return Err(ReplayRefusal::NoMemory),
-    };
-    compare(steps.as_slice(), 2, cabinet)?;
-    match input_of(alloc, program, limit, base) {
-        Ok(input) => Ok(input),
-        Err(NoMemory) => Err(ReplayRefusal::NoMemory),
-    }
+    let mut reader = Reader::new();
+    replay_ahead(alloc, program, &mut reader, cabinet)
 }

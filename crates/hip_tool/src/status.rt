@@ -3,8 +3,8 @@
 ghost use Rattle.std.specs.Prelude.{◌≡◌};
 ghost use Rattle.hip_tool.specs.Status.{code_of};
 
-use crate::misfit::MisfitKind;
 use hip_parse::ParseRefusal;
+use hip_run_traces::MisfitKind;
 use hip_typing::TypeRefusal;
 
 /// Which of the two files.

@@ -16,7 +16,8 @@ pub struct Outcome {
     pub notes: MemSink,
 }
 
-fn file(alloc: Global, name: &str, text: &str) -> Result<NamedFile, NoMemory> {
+/// A file of that name with that text.
+pub fn file(alloc: Global, name: &str, text: &str) -> Result<NamedFile, NoMemory> {
     Ok(NamedFile {
         name: Row::from_slice(alloc, name.as_bytes())?,
         bytes: Row::from_slice(alloc, text.as_bytes())?,

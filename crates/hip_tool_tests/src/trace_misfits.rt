@@ -52,6 +52,10 @@ const OTHER_RUNS: &[Misfit] = &[
         misfit: "3: differs",
     },
     Misfit {
+        trace: "START;1000000000|REGISTER;0x100000000;0x40|STORE;0x100000000;0x5;0x8|STOP;0|FENCE",
+        misfit: "5: extra",
+    },
+    Misfit {
         trace: "START;1000000000|REGISTER;0x100000000;0x40|STORE;0x100000000;0x5;0x8|STOP;0|STOP;0",
         misfit: "5: extra",
     },

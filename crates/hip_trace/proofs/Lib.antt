@@ -1,5 +1,6 @@
 pub mod Decided
 pub mod FieldLaws
+pub mod FitLaws
 pub mod HeldLaws
 pub mod PieceLaws
 pub mod ReaderLaws

@@ -50,7 +50,7 @@ plain_parts x xs e = by (is_semicolon x) (list_any is_semicolon xs) e
     by true b e = absurd (let z : ⊥ = cc in z)
     by false b e = (refl, e)
 
-fields_plain : (f : List ℕ) → IsPlain f → fields f ≡ f ∷ []
+pub fields_plain : (f : List ℕ) → IsPlain f → fields f ≡ f ∷ []
 fields_plain [] e = refl
 fields_plain (x ∷ xs) e = let h = plain_parts x xs e in rw (h.0, fields_plain xs h.1) refl
 
@@ -69,7 +69,7 @@ fields_push (x ∷ xs) f e = go (is_semicolon x) (fields_push xs f e)
     go true ih = ap (λ (ps : List (List ℕ)). [] ∷ ps) ih
     go false ih = ap (onto_first x) ih ∙ onto_push x (fields xs) f (has_field xs)
 
-fields_with : (w : List ℕ) (fs : List (List ℕ)) → ArePlain fs → fields (with_fields w fs) ≡ fields w ++ fs
+pub fields_with : (w : List ℕ) (fs : List (List ℕ)) → ArePlain fs → fields (with_fields w fs) ≡ fields w ++ fs
 fields_with w [] h = sym (append-nil (fields w))
 fields_with w (f ∷ fs) h = fields_with (w ++ byte ";" ∷ f) fs h.1 ∙ ap (λ (ps : List (List ℕ)). ps ++ fs) (fields_push w f h.0) ∙ append_assoc (fields w) (f ∷ []) fs
 
@@ -78,7 +78,7 @@ abbrev pub total : List (List ℕ) → ℕ
 total [] = 0
 total (f ∷ fs) = length f + 1 + total fs
 
-length-with : (w : List ℕ) (fs : List (List ℕ)) → length (with_fields w fs) ≡ length w + total fs
+pub length-with : (w : List ℕ) (fs : List (List ℕ)) → length (with_fields w fs) ≡ length w + total fs
 length-with w [] = omega arith
 length-with w (f ∷ fs) = let a = length-with (w ++ byte ";" ∷ f) fs in let b = length-append w (byte ";" ∷ f) in omega (arith, a, b)
 
@@ -119,7 +119,7 @@ onto_length (suc k) base n j acc low lt = go (n / base == 0) refl j lt (λ i roo
         let h = ih i (div_below n base (base ^ suc i) (omega arith) room) in
         omega (arith, h)
 
-digits_length : (base n j : ℕ) → 2 ≤ base → n < base ^ suc j → length (digits base false n) ≤ suc j
+pub digits_length : (base n j : ℕ) → 2 ≤ base → n < base ^ suc j → length (digits base false n) ≤ suc j
 unfolding digits
 digits_length base n j low lt = let h = onto_length 64 base n j [] low lt in omega (arith, h)
 
@@ -127,7 +127,7 @@ digits_short : (base n : ℕ) (ds : List ℕ) → 2 ≤ base → IsNumeral base 
 digits_short base n [] low h e = absurd (omega (arith, h.0))
 digits_short base n (d ∷ ds) low h e = digits_length base n (length ds) low (subst (λ (x : ℕ). x < base ^ length (d ∷ ds)) e (digits_value-lt base (d ∷ ds) h.1))
 
-digits_plain : (base : ℕ) (ds : List ℕ) → base ≤ 16 → AllDigits base ds → IsPlain ds
+pub digits_plain : (base : ℕ) (ds : List ℕ) → base ≤ 16 → AllDigits base ds → IsPlain ds
 digits_plain base [] high h = refl
 digits_plain base (d ∷ ds) high h = rw (other (is_semicolon d) refl) (digits_plain base ds high h.1)
   where
@@ -185,11 +185,11 @@ minus_length text false e = omega arith
 minus_length [] true e = absurd (let z : ⊥ = cc in z)
 minus_length (c ∷ cs) true e = omega arith
 
-signed_plain : (z : ℤ) → FitsSigned w64 z → IsPlain (signed_decimal z)
+pub signed_plain : (z : ℤ) → FitsSigned w64 z → IsPlain (signed_decimal z)
 signed_plain (pos n) h = digits_plain 10 (decimal n) (omega arith) (decimal-number n (omega arith)).0.1
 signed_plain (negsuc n) h = digits_plain 10 (decimal (suc n)) (omega arith) (decimal-number (suc n) (omega arith)).0.1
 
-range_fits : (limit : ℕ) (z : ℤ) → limit ≤ 2 ^ 63 → in_range limit z ≡ true → FitsSigned w64 z
+pub range_fits : (limit : ℕ) (z : ℤ) → limit ≤ 2 ^ 63 → in_range limit z ≡ true → FitsSigned w64 z
 range_fits limit (pos n) low e = let h = ltb-true _ _ e in let k : n < 2 ^ 63 = omega (arith, h, low) in search (rules, k)
 range_fits limit (negsuc n) low e = let h = ltb-true _ _ e in let k : n < 2 ^ 63 = omega (arith, h, low) in search (rules, k)
 
@@ -223,12 +223,12 @@ none_at [] k e = refl
 none_at (x ∷ xs) zero e = (plain_parts x xs e).0
 none_at (x ∷ xs) (suc k) e = none_at xs k (plain_parts x xs e).1
 
-encoded_plain : (bytes : List ℕ) → IsPlain (encode_lower bytes)
+pub encoded_plain : (bytes : List ℕ) → IsPlain (encode_lower bytes)
 unfolding encode_with
 encoded_plain [] = refl
 encoded_plain (b ∷ bs) = rw (none_at lower_digits (b / 16) refl, none_at lower_digits (b % 16) refl) (encoded_plain bs)
 
-ok_some : (r : Result (List ℕ) FromHexError) (bytes : List ℕ) → result_ok r ≡ Some bytes → r ≡ Ok bytes
+pub ok_some : (r : Result (List ℕ) FromHexError) (bytes : List ℕ) → result_ok r ≡ Some bytes → r ≡ Ok bytes
 ok_some (Ok x) bytes e = let k : x ≡ bytes = cc in ap (λ (y : List ℕ). Ok y) k
 ok_some (Err x) bytes e = absurd (let z : ⊥ = cc in z)
 
@@ -247,7 +247,7 @@ bytes_again text bytes e =
 
 -- ---- words of traps
 
-either : {A P : Type 0} (b : Bool) (x y : Option A) (v : A) → (b ≡ true → x ≡ Some v → P) → (y ≡ Some v → P) → (if b then x else y) ≡ Some v → P
+pub either : {A P : Type 0} (b : Bool) (x y : Option A) (v : A) → (b ≡ true → x ≡ Some v → P) → (y ≡ Some v → P) → (if b then x else y) ≡ Some v → P
 either true x y v f g e = f refl e
 either false x y v f g e = g e
 
@@ -268,7 +268,7 @@ trap_text-of text kind =
     (either _ _ _ kind (kind_of text traps.Unreachable kind)
     (λ e. absurd (let z : ⊥ = cc in z))))))))))
 
-trap_word : (kind : TrapWord) → (trap_of (trap_text kind) ≡ Some kind) × IsPlain (trap_text kind)
+pub trap_word : (kind : TrapWord) → (trap_of (trap_text kind) ≡ Some kind) × IsPlain (trap_text kind)
 unfolding trap_of
 trap_word traps.DivZero = (refl, refl)
 trap_word traps.DivOverflow = (refl, refl)
@@ -280,13 +280,24 @@ trap_word traps.Depth = (refl, refl)
 trap_word traps.InputEnd = (refl, refl)
 trap_word traps.Unreachable = (refl, refl)
 
+pub trap_short : (kind : TrapWord) → length (trap_text kind) ≤ 16
+trap_short traps.DivZero = omega arith
+trap_short traps.DivOverflow = omega arith
+trap_short traps.ShiftRange = omega arith
+trap_short traps.Address = omega arith
+trap_short traps.Misaligned = omega arith
+trap_short traps.Stack = omega arith
+trap_short traps.Depth = omega arith
+trap_short traps.InputEnd = omega arith
+trap_short traps.Unreachable = omega arith
+
 -- ---- entries
 
-then_some : {A B : Type 0} (o : Option A) (f : A → Option B) (y : B) → option_and_then f o ≡ Some y → (x : A) × (o ≡ Some x) × (f x ≡ Some y)
+pub then_some : {A B : Type 0} (o : Option A) (f : A → Option B) (y : B) → option_and_then f o ≡ Some y → (x : A) × (o ≡ Some x) × (f x ≡ Some y)
 then_some None f y e = absurd (let z : ⊥ = cc in z)
 then_some (Some x) f y e = (x, refl, e)
 
-map_some : {A B : Type 0} (o : Option A) (f : A → B) (y : B) → option_map f o ≡ Some y → (x : A) × (o ≡ Some x) × (f x ≡ y)
+pub map_some : {A B : Type 0} (o : Option A) (f : A → B) (y : B) → option_map f o ≡ Some y → (x : A) × (o ≡ Some x) × (f x ≡ y)
 map_some None f y e = absurd (let z : ⊥ = cc in z)
 map_some (Some x) f y e = let k : f x ≡ y = cc in (x, refl, k)
 
@@ -393,7 +404,7 @@ assert_again fs e k =
     let shorter = h.short in
     subst (EntryAgain (codes "ASSERT") fs) n.2 (record { named = refl; again = ap (option_map (λ x. Assert x.0 x.1)) h.again; short = omega (arith, shorter); plain = h.plain })
 
-lines_same : (m n : ℕ × ℕ) → some_lines m ≡ Some n → m ≡ n
+pub lines_same : (m n : ℕ × ℕ) → some_lines m ≡ Some n → m ≡ n
 lines_same m n e = go (are_lines m.0 m.1) e
   where
     go : (b : Bool) → (if b then Some m else None) ≡ Some n → m ≡ n
@@ -422,7 +433,7 @@ persist_again fs e k =
     let shorter = h.short in
     subst (EntryAgain (codes "PERSIST") fs) n.2 (record { named = refl; again = ap (λ (o : Option (ℕ × ℕ)). option_map (λ x. Persist x.0 x.1) (option_and_then some_lines o)) h.again ∙ ap (option_map (λ x. Persist x.0 x.1)) lines; short = omega (arith, shorter); plain = h.plain })
 
-image_same : (addr : ℕ) (bytes : Option (List ℕ)) (e : Entry) → image_at addr bytes ≡ Some e → (bs : List ℕ) × (bytes ≡ Some bs) × (Image addr bs ≡ e)
+pub image_same : (addr : ℕ) (bytes : Option (List ℕ)) (e : Entry) → image_at addr bytes ≡ Some e → (bs : List ℕ) × (bytes ≡ Some bs) × (Image addr bs ≡ e)
 image_same addr bytes e k = go (addr % 64 == 0) k
   where
     go : (b : Bool) → (if b then option_map (λ bs. Image addr bs) bytes else None) ≡ Some e → (bs : List ℕ) × (bytes ≡ Some bs) × (Image addr bs ≡ e)
@@ -448,7 +459,7 @@ image_again fs e k =
       plain = (first.plain, (second.plain, tt));
     })
 
-sized_same : (addr value size : ℕ) (e : Entry) → sized_store addr value size ≡ Some e → Store addr value size ≡ e
+pub sized_same : (addr value size : ℕ) (e : Entry) → sized_store addr value size ≡ Some e → Store addr value size ≡ e
 sized_same addr value size e k = go (is_store_size size && nat_lt value (2 ^ (8 * size))) k
   where
     go : (b : Bool) → (if b then Some (Store addr value size) else None) ≡ Some e → Store addr value size ≡ e
@@ -479,7 +490,7 @@ store_again fs e k =
       plain = (first.plain, (second.plain, (third.plain, tt)));
     })
 
-alone_same : (e : Entry) (fs : List (List ℕ)) (x : Entry) → alone e fs ≡ Some x → e ≡ x
+pub alone_same : (e : Entry) (fs : List (List ℕ)) (x : Entry) → alone e fs ≡ Some x → e ≡ x
 alone_same e [] x k = cc
 alone_same e (f ∷ fs) x k = absurd (let z : ⊥ = cc in z)
 
@@ -511,7 +522,7 @@ entry_again word fs e =
     (either _ _ _ e (λ t k. worded word (codes "CUT") fs e t (cut_again fs e k))
     (λ k. absurd (let z : ⊥ = cc in z)))))))))))))
 
-word_plain : (e : Entry) → IsPlain (word_of e)
+pub word_plain : (e : Entry) → IsPlain (word_of e)
 word_plain (Start limit) = refl
 word_plain (Register base size) = refl
 word_plain (Input number) = refl
@@ -527,7 +538,7 @@ word_plain Cut = refl
 
 -- ---- texts
 
-spelled_fields : (text : List ℕ) (e : Entry) → entry_of text ≡ Some e → (length text ≤ 256) × (entry_by (fields text) ≡ Some e)
+pub spelled_fields : (text : List ℕ) (e : Entry) → entry_of text ≡ Some e → (length text ≤ 256) × (entry_by (fields text) ≡ Some e)
 unfolding entry_of
 spelled_fields text e k = go (nat_lt 256 (length text)) refl k
   where

@@ -1,4 +1,5 @@
 pub mod Entries
+pub mod Fits
 pub mod Fronts
 pub mod Laws
 pub mod Numbers

@@ -1,4 +1,4 @@
-ghost use Rattle.std.specs.Prelude.{◌≡◌};
+ghost use Rattle.std.specs.Prelude.{◌≡◌, ◌↔◌, IsTrue};
 ghost use Rattle.hip_trace.specs.Entries.{trap_text};
 
 /// The word for the reason why a run trapped.
@@ -58,5 +58,14 @@ impl TrapWord {
             TrapWord::InputEnd => b"input",
             TrapWord::Unreachable => b"unreachable",
         }
+    }
+}
+
+impl Entry {
+    /// Whether two entries are equal in kind and in all values.
+    pub fn same(&self, other: &Entry) -> bool
+        ensures { IsTrue result ↔ (self.now ≡ other.now) }
+    {
+        self == other
     }
 }

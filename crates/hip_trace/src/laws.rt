@@ -1,6 +1,10 @@
 //! Laws of the definitions that the contracts name.
 
+ghost use Rattle.std.specs.Prelude.{◌≡◌, ℕ, List, Some};
+ghost use Rattle.hip_trace.specs.Entries.{entry_of};
+ghost use Rattle.hip_trace.specs.Fits.{IsSpelled, ValuesFit};
 ghost use Rattle.hip_trace.specs.Laws.{CanonicalTextsSpell, CanonicalTextsAreShortest, ReadersEnd};
+ghost use Rattle.hip_trace.specs.declared.entry.Entry.{Entry};
 
 /// Where some text spells an entry, its canonical text spells it.
 pub fn canonical_texts_spell()
@@ -10,6 +14,13 @@ pub fn canonical_texts_spell()
 /// No text that spells an entry is shorter than its canonical text.
 pub fn canonical_texts_are_shortest()
     ensures { CanonicalTextsAreShortest }
+{}
+
+/// The entries that some text spells are those whose values fit the fields of a text, and each is spelled by its
+/// canonical text.
+pub fn entries_that_fit_are_spelled()
+    ensures spelled { (e : Entry) → ValuesFit e → IsSpelled e }
+    ensures fits { (text : List ℕ) → (e : Entry) → entry_of text ≡ Some e → ValuesFit e }
 {}
 
 /// At the file's end there is no entry and nothing is malformed.

@@ -13,7 +13,9 @@ mod spelled;
 mod write;
 
 pub use entry::{Entry, TrapWord};
-pub use laws::{canonical_texts_are_shortest, canonical_texts_spell, readers_end};
+pub use laws::{
+    canonical_texts_are_shortest, canonical_texts_spell, entries_that_fit_are_spelled, readers_end,
+};
 pub use reader::Reader;
 pub use refusal::TraceRefusal;
 pub use write::write_entry;

@@ -1,6 +1,7 @@
 -- What a step does to the cache lines and to the count of entries, from its event and what stood before it.
 use Rattle.std.proofs.Common.{◌≡◌, ◌⊎◌, inl, inr, ℕ, zero, suc, ◌+◌, ◌-◌, ◌*◌, ◌/◌, ◌<◌, ◌≤◌, Bool, true, false, cond, ◌&&◌, nat_lt, List, [], ◌∷◌, length, Option, Some, None, refl, sym, ap, ap₂, ◌∙◌, subst, arith}
 use Rattle.std.proofs.lemmas.Bool.Decides.{nat_tests}
+use Rattle.std.specs.Prelude.{is_some}
 use Rattle.hip_ir.specs.declared.program.Program.{Program}
 use Rattle.hip_lines.specs.Line.{Line, has_bytes, change_from, stored}
 use Rattle.hip_mem.specs.Bytes.{little_endian}
@@ -14,8 +15,8 @@ use Rattle.hip_runs.specs.Entry.{IsAtEntry}
 use Rattle.hip_runs.specs.StoredParts.Persistence.{part_of_store, flush_line, flushes_lines, fenced_lines}
 use Rattle.hip_runs.specs.StoredParts.Since.{top_site}
 use Rattle.hip_runs.specs.State.{Flush, StorePart, Frame, World, Counts, State, levels_of, site_of}
-use Rattle.hip_runs.specs.Step.{first_line, lines_size, stop, with_turn, leave, perform, is_cut, has_entry, counted, header_entries, carry_out, deed_at, on_frames, on_ending, step, event_on_frames, event_on_ending, event, run}
-use Rattle.hip_runs.specs.Laws.StepLaws.{Cases, IsTop, is_plain, flush_here, met_lines, step-cases}
+use Rattle.hip_runs.specs.Step.{first_line, lines_size, stop, with_turn, leave, perform, is_cut, has_entry, counted, header_entries, carry_out, deed_at, on_frames, on_ending, step, event_on_frames, event_on_ending, event, run, has_ended}
+use Rattle.hip_runs.specs.Laws.StepLaws.{Cases, IsTop, is_plain, flush_here, met_lines, step-cases, has_frame, standing-frame}
 use Rattle.std.specs.Cmp.{both_ways}
 use Rattle.hip_runs.specs.declared.event.Event.TheVariants as events
 
@@ -138,6 +139,28 @@ step_counts P I s = go s.world.ending
         ⊎ ((on_ending P I s o).counts ≡ counted (event_on_ending P I s o) s.counts)
     go (Some e) = inl refl
     go None = on_them s.frames
+
+-- a run that has ended stays as it is
+pub rests-ended : (P : Program) (I : Input) (n : ℕ) → has_ended (run P I n) ≡ true → run P I (suc n) ≡ run P I n
+unfolding run step on_ending
+rests-ended P I n h = go (run P I n).world.ending refl h
+  where
+    go : (o : Option Ending) → (run P I n).world.ending ≡ o → is_some o ≡ true → step P I (run P I n) ≡ run P I n
+    go None q e = absurd (let z : ⊥ = cc in z)
+    go (Some x) q e = ap (on_ending P I (run P I n)) q
+
+-- while the run goes on, a step counts itself, and its entry if it has one
+pub counts-next : (P : Program) (I : Input) (n : ℕ) → has_ended (run P I n) ≡ false → (run P I (suc n)).counts ≡ counted (event P I (run P I n)) (run P I n).counts
+unfolding run step event on_ending on_frames
+counts-next P I n h = go (run P I n).world.ending h
+  where
+    on_them : (s : State) (fs : List Frame) → has_frame fs ≡ true → (on_frames P I s.world s.lines s.counts fs).counts ≡ counted (event_on_frames P I s.world fs) s.counts
+    on_them s [] e = absurd (let z : ⊥ = cc in z)
+    on_them s (f ∷ fs) e = carry_counts I s.world f fs s.lines s.counts _ (deed_at P I s.world f fs)
+
+    go : (o : Option Ending) → is_some o ≡ false → (on_ending P I (run P I n) o).counts ≡ counted (event_on_ending P I (run P I n) o) (run P I n).counts
+    go None e = on_them (run P I n) (run P I n).frames (standing-frame P I n)
+    go (Some x) e = absurd (let z : ⊥ = cc in z)
 
 -- a step has at most one entry
 pub record IsRise (P : Program) (I : Input) (n : ℕ) : Type 0 where

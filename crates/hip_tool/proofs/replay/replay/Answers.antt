@@ -1,17 +1,8 @@
-use Rattle.std.proofs.Common.{◌∙◌}
-use Rattle.std.proofs.lemmas.Result.{err_from_is_err_and}
-use Rattle.hip_tool.proofs.ReplayLaws.{steps_fail_by, steps_match_by}
+use Rattle.std.proofs.Common.{ap}
+use Rattle.hip_tool.proofs.ReplayLaws.{unseen}
+use Rattle.hip_trace.specs.Reads.{ReaderState}
 use Rattle.hip_tool.proofs.replay.replay.Goals as goal
 
-pub returns-in_err-compare : goal.returns-in_err-compare
-returns-in_err-compare g c =
-    let p = err_from_is_err_and c.from_residual-in_err-compare.result c.from_residual-in_err-compare.ensures.1 in
-    rw (p.1, p.2) (steps_fail_by c.args.program.now c.in_ok-limit.limit c.in_ok-base.base c.in_ok-limit.ensures.1 c.in_ok-base.ensures.1
-    (g.C.Cabinet.state c.args.cabinet.now) (g.C.Cabinet.state c.read_limit.new.cabinet) (g.C.Cabinet.state c.read_base.new.cabinet) (g.C.Cabinet.state c.compare.new.cabinet)
-    c.in_ok-limit.ensures.0 c.in_ok-base.ensures.0 c.as_slice.result.now (c.as_slice.ensures ∙ c.in-Ok.ensures) c.in_err-compare.field-0.0 c.in_err-compare.ensures)
-
-pub returns-in-Ok-input_of : goal.returns-in-Ok-input_of
-returns-in-Ok-input_of g c =
-    rw c.in-Ok-input_of.ensures (steps_match_by c.args.program.now c.in_ok-limit.limit c.in_ok-base.base c.in_ok-limit.ensures.1 c.in_ok-base.ensures.1
-    (g.C.Cabinet.state c.args.cabinet.now) (g.C.Cabinet.state c.read_limit.new.cabinet) (g.C.Cabinet.state c.read_base.new.cabinet) (g.C.Cabinet.state c.compare.new.cabinet)
-    c.in_ok-limit.ensures.0 c.in_ok-base.ensures.0 c.as_slice.result.now (c.as_slice.ensures ∙ c.in-Ok.ensures) c.in_ok-compare.field-0 c.in_ok-compare.ensures)
+pub returns : goal.returns
+returns g c =
+    unseen c.args.program.now c.new-reader.result c.replay_ahead.new.reader (g.C.Cabinet.state c.args.cabinet.now) (g.C.Cabinet.state c.replay_ahead.new.cabinet) c.replay_ahead.result (ap (λ (r : ReaderState). r.held) c.new-reader.ensures) c.replay_ahead.ensures

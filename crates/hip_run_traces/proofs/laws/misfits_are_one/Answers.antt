@@ -1,0 +1,14 @@
+use Rattle.hip_run_traces.specs.Laws.MisfitLaws.{behind-header, no-misfit, one-misfit}
+use Rattle.hip_run_traces.proofs.laws.misfits_are_one.Goals as goal
+
+pub returns-clause-entry : goal.returns-clause-entry
+returns-clause-entry c = λ P bytes whole e e' k k' m m'. (one-misfit P bytes whole e e' k k' m m').0
+
+pub returns-clause-kind : goal.returns-clause-kind
+returns-clause-kind c = λ P bytes whole e e' k k' m m'. (one-misfit P bytes whole e e' k k' m m').1
+
+pub returns-clause-none : goal.returns-clause-none
+returns-clause-none c = no-misfit
+
+pub returns-clause-behind : goal.returns-clause-behind
+returns-clause-behind c = behind-header

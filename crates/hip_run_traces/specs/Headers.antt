@@ -1,0 +1,91 @@
+-- The header of a trace: the longest front of its pieces that is a valid START, a valid REGISTER, valid INPUT entries and
+-- then valid IMAGE entries. It gives the input of a run. (This project's own.)
+use Rattle.std.specs.Prelude.{ℕ, suc, ◌+◌, ◌-◌, ◌%◌, ◌^◌, ◌&&◌, ◌==◌, nat_le, nat_lt, Bool, true, false, ℤ, List, [], ◌∷◌, ◌++◌, length, Option, Some, None, if◌then◌else◌}
+use Rattle.hip_globals.specs.Addresses.{region_size}
+use Rattle.hip_ir.specs.declared.program.Program.{Program}
+use Rattle.hip_lines.specs.declared.TheConstants.{LINE_SIZE}
+use Rattle.hip_mem.specs.Bytes.{zeros}
+use Rattle.hip_runs.specs.Step.{some_byte}
+use Rattle.hip_runs.specs.declared.input.Input.{Input}
+use Rattle.hip_runs.specs.declared.limits.TheConstants.{MOST_NUMBERS, MOST_TURNS}
+use Rattle.hip_trace.specs.declared.entry.Entry.{Entry}
+use Rattle.hip_trace.specs.declared.entry.Entry.TheVariants.{Start, Register, Input as Number, Image}
+
+pub data Header : Type 0 where
+  -- only so many entries are valid, which is less than two
+  Stops : (entries : ℕ) → Header
+  -- so many entries are valid, and give an input
+  Gives : (entries : ℕ) → Input → Header
+
+-- ---- which entries are valid, and what they give
+
+-- the limit of turns, at most 2^40
+abbrev pub valid_limit : Option Entry → Option ℕ
+valid_limit (Some (Start limit)) = if nat_le limit MOST_TURNS then Some limit else None
+valid_limit _ = None
+
+-- a multiple of 4,096 from 2^32 to 2^46
+abbrev pub is_base : ℕ → Bool
+is_base base = (base % 4096 == 0) && (nat_le (2 ^ 32) base && nat_le base (2 ^ 46))
+
+-- the base of the region, where the size is that of the program's region
+abbrev pub valid_base : Program → Option Entry → Option ℕ
+valid_base P (Some (Register base size)) = if is_base base && (size == region_size P) then Some base else None
+valid_base P _ = None
+
+abbrev pub is_empty : List ℕ → Bool
+is_empty [] = true
+is_empty (b ∷ bs) = false
+
+-- What INPUT and IMAGE entries give is told by an input whose initial bytes go up to the last line that an IMAGE told.
+-- An INPUT stands before each IMAGE, and there are at most 1,048,576.
+abbrev pub with_number : Input → ℤ → Option Input
+with_number I number =
+    if is_empty I.image && nat_lt (length I.numbers) MOST_NUMBERS
+    then Some (record I { numbers = I.numbers ++ number ∷ [] }) else None
+
+-- An IMAGE is of a cache line of the region, behind the lines before it, and has a byte other than 0.
+abbrev pub is_next_line : Program → Input → ℕ → List ℕ → Bool
+is_next_line P I addr bytes =
+    nat_le (I.base + length I.image) addr && (nat_le (addr + LINE_SIZE) (I.base + region_size P) && some_byte bytes)
+
+-- the bytes between two lines are 0
+abbrev pub with_line : Program → Input → ℕ → List ℕ → Option Input
+with_line P I addr bytes =
+    if is_next_line P I addr bytes
+    then Some (record I { image = I.image ++ (zeros (addr - (I.base + length I.image)) ++ bytes) }) else None
+
+abbrev pub with_entry : Program → Input → Option Entry → Option Input
+with_entry P I (Some (Number number)) = with_number I number
+with_entry P I (Some (Image addr bytes)) = with_line P I addr bytes
+with_entry P I _ = None
+
+-- the bytes behind the last line are 0
+abbrev pub filled : Program → Input → Input
+filled P I = record I { image = I.image ++ zeros (region_size P - length I.image) }
+
+-- ---- the header
+
+-- Behind so many entries: the INPUT and IMAGE entries, as long as they are valid.
+abbrev pub go_on : Program → Input → ℕ → (Input → Header) → Option Input → Header
+go_on P I count rest None = Gives count (filled P I)
+go_on P I count rest (Some more) = rest more
+
+abbrev pub header_from : Program → Input → ℕ → List (Option Entry) → Header
+header_from P I count [] = Gives count (filled P I)
+header_from P I count (e ∷ es) = go_on P I count (λ more. header_from P more (suc count) es) (with_entry P I e)
+
+abbrev pub behind_register : Program → ℕ → List (Option Entry) → Option ℕ → Header
+behind_register P limit es None = Stops 1
+behind_register P limit es (Some base) =
+    header_from P (record { base = base; image = []; numbers = []; limit = limit }) 2 es
+
+abbrev pub behind_start : Program → List (Option Entry) → Option ℕ → Header
+behind_start P es None = Stops 0
+behind_start P [] (Some limit) = Stops 1
+behind_start P (e ∷ es) (Some limit) = behind_register P limit es (valid_base P e)
+
+-- the header of a trace, from what its pieces spell
+unfoldable pub header : Program → List (Option Entry) → Header
+header P [] = Stops 0
+header P (e ∷ es) = behind_start P es (valid_limit e)

@@ -1,0 +1,262 @@
+-- A trace has one misfit at most, which the first bytes decide, and none if it is the run's.
+use Rattle.std.proofs.Common.{◌≡◌, ◌⊎◌, inl, inr, ℕ, zero, suc, ◌+◌, ◌≤◌, ◌<◌, Bool, true, false, List, [], ◌∷◌, ◌++◌, length, take, slice_get, Option, Some, None, refl, sym, ap, ◌∙◌, subst, arith}
+use Rattle.std.specs.Prelude.{option_map}
+use Rattle.hip_ir.specs.declared.program.Program.{Program}
+use Rattle.hip_runs.specs.Step.{header_entries}
+use Rattle.hip_runs.specs.declared.input.Input.{Input}
+use Rattle.hip_run_traces.specs.Headers.{Header, Stops, Gives, valid_limit, valid_base, with_entry, go_on, header_from, behind_register, behind_start, header}
+use Rattle.hip_run_traces.specs.Laws.FrontLaws.{front_spelled}
+use Rattle.hip_run_traces.specs.Laws.GivenLaws.{fit_pieces, header-given}
+use Rattle.hip_run_traces.specs.Laws.HeaderLaws.{told}
+use Rattle.hip_run_traces.specs.Laws.TraceLaws.{length-header_of, one-trace, whole-front}
+use Rattle.hip_run_traces.specs.Misfits.{DiffersAt, FirstDiffers, StopsAt, DiffersFromRun, MisfitBehind, IsMisfit, IsTraceOf}
+use Rattle.hip_run_traces.specs.Traces.{header_of, trace, IsTrace}
+use Rattle.hip_run_traces.specs.declared.misfit.MisfitKind.{MisfitKind}
+use Rattle.hip_trace.specs.Pieces.{spelled}
+use Rattle.hip_trace.specs.declared.entry.Entry.{Entry}
+
+-- ---- places of lists
+
+get_front : {A : Type 0} (xs ys : List A) (k : ℕ) (x : A) → slice_get xs k ≡ Some x → slice_get (xs ++ ys) k ≡ Some x
+get_front [] ys k x e = absurd (let z : ⊥ = cc in z)
+get_front (x ∷ xs) ys zero y e = e
+get_front (x ∷ xs) ys (suc k) y e = get_front xs ys k y e
+
+get_within : {A : Type 0} (xs : List A) (k : ℕ) (x : A) → slice_get xs k ≡ Some x → k < length xs
+get_within [] k x e = absurd (let z : ⊥ = cc in z)
+get_within (x ∷ xs) zero y e = omega arith
+get_within (x ∷ xs) (suc k) y e = let h = get_within xs k y e in omega (arith, h)
+
+get_appended : {A : Type 0} (xs ys : List A) (k : ℕ) → k < length xs → slice_get (xs ++ ys) k ≡ slice_get xs k
+get_appended [] ys k lt = absurd (omega (arith, lt))
+get_appended (x ∷ xs) ys zero lt = refl
+get_appended (x ∷ xs) ys (suc k) lt = get_appended xs ys k (omega (arith, lt))
+
+take_appended : {A : Type 0} (xs ys : List A) (k : ℕ) → k ≤ length xs → take k (xs ++ ys) ≡ take k xs
+take_appended xs ys zero le = refl
+take_appended [] ys (suc k) le = absurd (omega (arith, le))
+take_appended (x ∷ xs) ys (suc k) le = ap (λ zs. x ∷ zs) (take_appended xs ys k (omega (arith, le)))
+
+get_told : (es : List Entry) (k : ℕ) → slice_get (told es) k ≡ option_map (λ e. Some e) (slice_get es k)
+get_told [] k = refl
+get_told (e ∷ es) zero = refl
+get_told (e ∷ es) (suc k) = get_told es k
+
+-- where the first entries are spelled, each of them is
+spelled_at : (ps : List (Option Entry)) (es : List Entry) (n k : ℕ) → k < n → take n ps ≡ told (take n es) → slice_get ps k ≡ option_map (λ e. Some e) (slice_get es k)
+spelled_at ps es zero k lt h = absurd (omega (arith, lt))
+spelled_at [] [] (suc n) k lt h = refl
+spelled_at [] (e ∷ es) (suc n) k lt h = absurd (let z : ⊥ = cc in z)
+spelled_at (p ∷ ps) [] (suc n) k lt h = absurd (let z : ⊥ = cc in z)
+spelled_at (p ∷ ps) (e ∷ es) (suc n) zero lt h = let z : p ≡ Some e = cc in ap (λ (o : Option Entry). Some o) z
+spelled_at (p ∷ ps) (e ∷ es) (suc n) (suc k) lt h = let z : take n ps ≡ told (take n es) = cc in spelled_at ps es n k (omega (arith, lt)) z
+
+-- ---- one difference
+
+same_differs : (whole : Bool) (o : Option Entry) (kind : MisfitKind) → DiffersAt whole (option_map (λ e. Some e) o) o kind → ⊥
+same_differs whole None kind h = h
+same_differs whole (Some e) kind h = h.0 refl
+
+one_kind : (whole : Bool) (p : Option (Option Entry)) (o : Option Entry) (k k' : MisfitKind) → DiffersAt whole p o k → DiffersAt whole p o k' → k ≡ k'
+one_kind whole None None k k' h g = absurd h
+one_kind whole None (Some e) k k' h g = h.1 ∙ sym g.1
+one_kind whole (Some p) None k k' h g = h ∙ sym g
+one_kind whole (Some p) (Some e) k k' h g = h.1 ∙ sym g.1
+
+-- no difference comes before the entries that are spelled
+not_before : (whole : Bool) (ps : List (Option Entry)) (es : List Entry) (c n : ℕ) (kind : MisfitKind) → FirstDiffers whole ps es c kind → take n ps ≡ told (take n es) → c < n → ⊥
+not_before whole ps es c n kind d h lt =
+    same_differs whole (slice_get es c) kind (subst (λ (p : Option (Option Entry)). DiffersAt whole p (slice_get es c) kind) (spelled_at ps es n c lt h) d.here)
+
+one_first : (whole : Bool) (ps : List (Option Entry)) (es : List Entry) (c c' : ℕ) (k k' : MisfitKind) → FirstDiffers whole ps es c k → FirstDiffers whole ps es c' k' → (c ≡ c') × (k ≡ k')
+one_first whole ps es c c' k k' d d' = go (three c c')
+  where
+    three : (a b : ℕ) → (a < b) ⊎ ((a ≡ b) ⊎ (b < a))
+    three a b = grind arith
+
+    go : (c < c') ⊎ ((c ≡ c') ⊎ (c' < c)) → (c ≡ c') × (k ≡ k')
+    go (inl lt) = absurd (not_before whole ps es c c' k d d'.before lt)
+    go (inr (inl e)) = (e, one_kind whole (slice_get ps c) (slice_get es c) k k' d.here (subst (λ (m : ℕ). DiffersAt whole (slice_get ps m) (slice_get es m) k') (sym e) d'.here))
+    go (inr (inr lt)) = absurd (not_before whole ps es c' c k' d' d.before lt)
+
+one_stop : (whole : Bool) (p : Option (Option Entry)) (k k' : MisfitKind) → StopsAt whole p k → StopsAt whole p k' → k ≡ k'
+one_stop whole None k k' h g = h.1 ∙ sym g.1
+one_stop whole (Some p) k k' h g = h ∙ sym g
+
+one_behind : (P : Program) (whole : Bool) (ps : List (Option Entry)) (h : Header) (e e' : ℕ) (k k' : MisfitKind) → MisfitBehind h P whole ps e k → MisfitBehind h P whole ps e' k' → (e ≡ e') × (k ≡ k')
+one_behind P whole ps (Stops c) e e' k k' m m' = (m.0 ∙ sym m'.0, one_stop whole (slice_get ps c) k k' m.1 m'.1)
+one_behind P whole ps (Gives c I) e e' k k' m m' =
+    let both = one_first whole ps m.trace m.count m'.count k k' m.differs (subst (λ (es : List Entry). FirstDiffers whole ps es m'.count k') (one-trace P I m'.trace m.trace m'.is_trace m.is_trace) m'.differs) in
+    (m.number ∙ ap (λ (n : ℕ). n + 1) both.0 ∙ sym m'.number, both.1)
+
+pub one-misfit : (P : Program) (bytes : List ℕ) (whole : Bool) (e e' : ℕ) (k k' : MisfitKind) → IsMisfit P bytes whole e k → IsMisfit P bytes whole e' k' → (e ≡ e') × (k ≡ k')
+one-misfit P bytes whole e e' k k' m m' = one_behind P whole (spelled whole bytes) (header P (spelled whole bytes)) e e' k k' m.here m'.here
+
+-- ---- a run's trace has none
+
+take_told : (n : ℕ) (es : List Entry) → take n (told es) ≡ told (take n es)
+take_told zero es = refl
+take_told (suc n) [] = refl
+take_told (suc n) (e ∷ es) = ap (λ (ps : List (Option Entry)). Some e ∷ ps) (take_told n es)
+
+pub no-misfit : (P : Program) (bytes : List ℕ) (I : Input) (e : ℕ) (kind : MisfitKind) → IsTraceOf P bytes I → IsMisfit P bytes true e kind → ⊥
+no-misfit P bytes I e kind t m =
+    let d = subst (λ (h : Header). MisfitBehind h P true (spelled true bytes) e kind) t.header_is m.here in
+    let same = one-trace P I d.trace t.trace d.is_trace t.is_trace in
+    let spells : spelled true bytes ≡ told d.trace = t.spells ∙ ap told (sym same) in
+    not_before true (spelled true bytes) d.trace d.count (suc d.count) kind d.differs (ap (take (suc d.count)) spells ∙ take_told (suc d.count) d.trace) (omega arith)
+
+-- ---- a misfit stands behind the header
+
+trace_zero : (P : Program) (I : Input) → trace P I 0 ≡ header_of I
+unfolding trace
+trace_zero P I = refl
+
+not_in : (P : Program) (whole : Bool) (ps : List (Option Entry)) (I : Input) (h e : ℕ) (kind : MisfitKind) (d : DiffersFromRun P I whole ps e kind) → h ≡ header_entries I → (rest : List (Option Entry)) → ps ≡ told (header_of I) ++ rest → (more : List Entry) → d.trace ≡ header_of I ++ more → h ≤ d.count
+not_in P whole ps I h e kind d count rest split more begins = go (order d.count h)
+  where
+    order : (a b : ℕ) → (a < b) ⊎ (b ≤ a)
+    order a b = grind arith
+
+    long : length (header_of I) ≡ h
+    long = length-header_of I ∙ sym count
+
+    told_long : (es : List Entry) → length (told es) ≡ length es
+    told_long [] = refl
+    told_long (x ∷ es) = ap suc (told_long es)
+
+    first : take h ps ≡ told (take h d.trace)
+    first =
+        let len = told_long (header_of I) in
+        ap (take h) split ∙ take_appended (told (header_of I)) rest h (omega (arith, len, long))
+        ∙ take_told h (header_of I)
+        ∙ ap told (sym (take_appended (header_of I) more h (omega (arith, long))) ∙ ap (take h) (sym begins))
+
+    go : (d.count < h) ⊎ (h ≤ d.count) → h ≤ d.count
+    go (inl lt) = absurd (not_before whole ps d.trace d.count h kind d.differs first lt)
+    go (inr le) = le
+
+-- the header's entries come before the misfit
+after_header : (P : Program) (whole : Bool) (bytes : List ℕ) (I : Input) (h e : ℕ) (kind : MisfitKind) → header P (spelled whole bytes) ≡ Gives h I → (d : DiffersFromRun P I whole (spelled whole bytes) e kind) → h ≤ d.count
+after_header P whole bytes I h e kind q d =
+    let given = header-given P (spelled whole bytes) h I (fit_pieces whole bytes) q in
+    let front = whole-front P I 0 d.trace d.is_trace in
+    not_in P whole (spelled whole bytes) I h e kind d given.count given.rest given.split front.0 (front.1 ∙ ap (λ (es : List Entry). es ++ front.0) (trace_zero P I))
+
+pub behind-header : (P : Program) (bytes : List ℕ) (whole : Bool) (I : Input) (h e : ℕ) (kind : MisfitKind) → IsMisfit P bytes whole e kind → header P (spelled whole bytes) ≡ Gives h I → h < e
+behind-header P bytes whole I h e kind m q =
+    let d = subst (λ (x : Header). MisfitBehind x P whole (spelled whole bytes) e kind) q m.here in
+    let le = after_header P whole bytes I h e kind q d in
+    let number = d.number in
+    omega (arith, le, number)
+
+-- ---- the first bytes decide
+
+no_start : (P : Program) (es : List (Option Entry)) → behind_start P es None ≡ Stops 0
+no_start P [] = refl
+no_start P (e ∷ es) = refl
+
+gives_not : (P : Program) (es : List (Option Entry)) (J : Input) (c n : ℕ) → header_from P J c es ≡ Stops n → ⊥
+gives_not P [] J c n q = let z : ⊥ = cc in z
+gives_not P (e ∷ es) J c n q = go (with_entry P J e) q (λ K. gives_not P es K (suc c) n)
+  where
+    go : (o : Option Input) → go_on P J c (λ more. header_from P more (suc c) es) o ≡ Stops n → ((K : Input) → header_from P K (suc c) es ≡ Stops n → ⊥) → ⊥
+    go None r ih = let z : ⊥ = cc in z
+    go (Some K) r ih = ih K r
+
+stops_front : (P : Program) (xs ys : List (Option Entry)) (c : ℕ) (p : Option Entry) → header P xs ≡ Stops c → slice_get xs c ≡ Some p → header P (xs ++ ys) ≡ Stops c
+unfolding header
+stops_front P [] ys c p q e = absurd (let z : ⊥ = cc in z)
+stops_front P (x ∷ xs) ys c p q e = first (valid_limit x) xs q e
+  where
+    none : (n : ℕ) → Stops 0 ≡ Stops n → 0 ≡ n
+    none n r = cc
+
+    one : (n : ℕ) → Stops 1 ≡ Stops n → 1 ≡ n
+    one n r = cc
+
+    second : (limit : ℕ) (ws : List (Option Entry)) (o : Option ℕ) → behind_register P limit ws o ≡ Stops c → behind_register P limit (ws ++ ys) o ≡ Stops c
+    second limit ws None r = r
+    second limit ws (Some base) r = absurd (gives_not P ws (record { base = base; image = []; numbers = []; limit = limit }) 2 c r)
+
+    first : (o : Option ℕ) (zs : List (Option Entry)) → behind_start P zs o ≡ Stops c → slice_get (x ∷ zs) c ≡ Some p → behind_start P (zs ++ ys) o ≡ Stops c
+    first None zs r g = no_start P (zs ++ ys) ∙ sym (no_start P zs) ∙ r
+    first (Some limit) [] r g = absurd (let same : 1 ≡ c = one c r in let there : slice_get (x ∷ []) 1 ≡ Some p = subst (λ (n : ℕ). slice_get (x ∷ []) n ≡ Some p) (sym same) g in let z : ⊥ = cc in z)
+    first (Some limit) (y ∷ ws) r g = second limit ws (valid_base P y) r
+
+from_front : (P : Program) (es ys : List (Option Entry)) (J F : Input) (c h : ℕ) → header_from P J c es ≡ Gives h F → h < c + length es → header_from P J c (es ++ ys) ≡ Gives h F
+from_front P [] ys J F c h q lt = absurd (let same : c ≡ h = cc in omega (arith, same, lt))
+from_front P (e ∷ es) ys J F c h q lt = go (with_entry P J e) q (λ K r. from_front P es ys K F (suc c) h r (omega (arith, lt)))
+  where
+    go : (o : Option Input) → go_on P J c (λ more. header_from P more (suc c) es) o ≡ Gives h F → ((K : Input) → header_from P K (suc c) es ≡ Gives h F → header_from P K (suc c) (es ++ ys) ≡ Gives h F) → go_on P J c (λ more. header_from P more (suc c) (es ++ ys)) o ≡ Gives h F
+    go None r ih = r
+    go (Some K) r ih = ih K r
+
+gives_front : (P : Program) (xs ys : List (Option Entry)) (h : ℕ) (F : Input) → header P xs ≡ Gives h F → h < length xs → header P (xs ++ ys) ≡ Gives h F
+unfolding header
+gives_front P [] ys h F q lt = absurd (let z : ⊥ = cc in z)
+gives_front P (x ∷ xs) ys h F q lt = first (valid_limit x) xs q lt
+  where
+    second : (limit : ℕ) (ws : List (Option Entry)) (o : Option ℕ) → behind_register P limit ws o ≡ Gives h F → h < 2 + length ws → behind_register P limit (ws ++ ys) o ≡ Gives h F
+    second limit ws None r less = absurd (let z : ⊥ = cc in z)
+    second limit ws (Some base) r less = from_front P ws ys (record { base = base; image = []; numbers = []; limit = limit }) F 2 h r less
+
+    first : (o : Option ℕ) (zs : List (Option Entry)) → behind_start P zs o ≡ Gives h F → h < length (x ∷ zs) → behind_start P (zs ++ ys) o ≡ Gives h F
+    first None zs r less = absurd (let same : Stops 0 ≡ Gives h F = sym (no_start P zs) ∙ r in let z : ⊥ = cc in z)
+    first (Some limit) [] r less = absurd (let z : ⊥ = cc in z)
+    first (Some limit) (y ∷ ws) r less = second limit ws (valid_base P y) r (omega (arith, less))
+
+there_differs : (w w' : Bool) (p : Option Entry) (o : Option Entry) (kind : MisfitKind) → DiffersAt w (Some p) o kind → DiffersAt w' (Some p) o kind
+there_differs w w' p None kind h = h
+there_differs w w' p (Some e) kind h = h
+
+not_there : (o : Option Entry) (kind : MisfitKind) → DiffersAt false None o kind → ⊥
+not_there None kind h = h
+not_there (Some e) kind h = let z = h.0 in absurd (let y : ⊥ = cc in y)
+
+module _ (P : Program) (front rest : List ℕ) (whole : Bool) (e : ℕ) (kind : MisfitKind) where
+  abbrev xs : List (Option Entry)
+  xs = spelled false front
+
+  stop_stays : (more : List (Option Entry)) (c : ℕ) → header P xs ≡ Stops c → e ≡ c + 1 → (p : Option (Option Entry)) → slice_get xs c ≡ p → StopsAt false p kind → MisfitBehind (header P (xs ++ more)) P whole (xs ++ more) e kind
+  stop_stays more c q number None at s = absurd (let y = s.0 in let z : ⊥ = cc in z)
+  stop_stays more c q number (Some p) at s =
+      subst (λ (h : Header). MisfitBehind h P whole (xs ++ more) e kind) (sym (stops_front P xs more c p q at))
+      (number, subst (λ (o : Option (Option Entry)). StopsAt whole o kind) (sym (get_front xs more c p at)) s)
+
+  run_stays : (more : List (Option Entry)) (h : ℕ) (I : Input) → header P xs ≡ Gives h I → (d : DiffersFromRun P I false xs e kind) → (p : Option (Option Entry)) → slice_get xs d.count ≡ p → DiffersAt false p (slice_get d.trace d.count) kind → MisfitBehind (header P (xs ++ more)) P whole (xs ++ more) e kind
+  run_stays more h I q d None at s = absurd (not_there (slice_get d.trace d.count) kind s)
+  run_stays more h I q d (Some p) at s =
+      let within = get_within xs d.count p at in
+      let le = after_header P false front I h e kind q d in
+      subst (λ (x : Header). MisfitBehind x P whole (xs ++ more) e kind) (sym (gives_front P xs more h I q (omega (arith, within, le))))
+      (record {
+        trace = d.trace;
+        is_trace = d.is_trace;
+        count = d.count;
+        number = d.number;
+        differs = record {
+          before = take_appended xs more d.count (omega (arith, within)) ∙ d.differs.before;
+          here = subst (λ (o : Option (Option Entry)). DiffersAt whole o (slice_get d.trace d.count) kind) (sym (get_front xs more d.count p at)) (there_differs false whole p (slice_get d.trace d.count) kind s);
+        };
+      })
+
+  stays : (more : List (Option Entry)) (h : Header) → header P xs ≡ h → MisfitBehind h P false xs e kind → MisfitBehind (header P (xs ++ more)) P whole (xs ++ more) e kind
+  stays more (Stops c) q m = stop_stays more c q m.0 (slice_get xs c) refl m.1
+  stays more (Gives h I) q m = run_stays more h I q m (slice_get xs m.count) refl m.differs.here
+
+  pub front-misfit : IsMisfit P front false e kind → IsMisfit P (front ++ rest) whole e kind
+  front-misfit m =
+      let f = front_spelled whole front rest in
+      record { here = subst (λ (zs : List (Option Entry)). MisfitBehind (header P zs) P whole zs e kind) (sym f.1) (stays f.0 (header P xs) refl m.here) }
+
+-- ---- step by step
+
+-- a difference before the end of the trace of some steps is one of the whole trace
+pub step-differs : (P : Program) (I : Input) (n : ℕ) (whole : Bool) (ps : List (Option Entry)) (es : List Entry) (c : ℕ) (kind : MisfitKind) → IsTrace P I es → c < length (trace P I n) → FirstDiffers whole ps (trace P I n) c kind → FirstDiffers whole ps es c kind
+step-differs P I n whole ps es c kind t lt d =
+    let f = whole-front P I n es t in
+    record {
+      before = d.before ∙ ap told (sym (ap (take c) f.1 ∙ take_appended (trace P I n) f.0 c (omega (arith, lt))));
+      here = subst (λ (o : Option Entry). DiffersAt whole (slice_get ps c) o kind) (sym (ap (λ (xs : List Entry). slice_get xs c) f.1 ∙ get_appended (trace P I n) f.0 c lt)) d.here;
+    }

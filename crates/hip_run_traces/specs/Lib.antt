@@ -1,0 +1,4 @@
+pub mod Headers
+pub mod Laws
+pub mod Misfits
+pub mod Traces

@@ -1,0 +1,60 @@
+-- Where the pieces of a trace are not the trace of a run of the program: at the first number at which they differ.
+use Rattle.std.specs.Prelude.{ℕ, ◌+◌, ◌≡◌, ◌≢◌, Bool, true, List, map, take, slice_get, Option, Some, None}
+use Rattle.hip_ir.specs.declared.program.Program.{Program}
+use Rattle.hip_run_traces.specs.Headers.{Header, Stops, Gives, header}
+use Rattle.hip_run_traces.specs.Traces.{IsTrace}
+use Rattle.hip_run_traces.specs.declared.misfit.MisfitKind.{MisfitKind}
+use Rattle.hip_run_traces.specs.declared.misfit.MisfitKind.TheVariants.{Malformed, Differs, Early, Extra}
+use Rattle.hip_runs.specs.declared.input.Input.{Input}
+use Rattle.hip_trace.specs.Pieces.{spelled}
+use Rattle.hip_trace.specs.declared.entry.Entry.{Entry}
+
+-- the kind of a piece that should not be there, or should be another
+abbrev pub kind_of : Option Entry → MisfitKind → MisfitKind
+kind_of None otherwise = Malformed
+kind_of (Some e) otherwise = otherwise
+
+-- At one number a piece and an entry of the run's trace differ. The end of either differs from every entry, and the end
+-- of the pieces counts only where the file is whole.
+abbrev pub DiffersAt : Bool → Option (Option Entry) → Option Entry → MisfitKind → Type 0
+DiffersAt whole None None kind = ⊥
+DiffersAt whole None (Some e) kind = (whole ≡ true) × (kind ≡ Early)
+DiffersAt whole (Some piece) None kind = kind ≡ kind_of piece Extra
+DiffersAt whole (Some piece) (Some e) kind = (piece ≢ Some e) × (kind ≡ kind_of piece Differs)
+
+-- So many pieces spell the first entries of the trace, and the next one does not.
+pub record FirstDiffers (whole : Bool) (pieces : List (Option Entry)) (trace : List Entry) (count : ℕ)
+    (kind : MisfitKind) : Type 0 where
+  pub before : take count pieces ≡ map (λ e. Some e) (take count trace)
+  pub here : DiffersAt whole (slice_get pieces count) (slice_get trace count) kind
+
+-- the piece behind a header of less than two entries is not there, or is no valid entry
+abbrev pub StopsAt : Bool → Option (Option Entry) → MisfitKind → Type 0
+StopsAt whole None kind = (whole ≡ true) × (kind ≡ Early)
+StopsAt whole (Some piece) kind = kind ≡ kind_of piece Differs
+
+-- The pieces differ from the trace of the run on an input.
+pub record DiffersFromRun (P : Program) (I : Input) (whole : Bool) (pieces : List (Option Entry)) (entry : ℕ)
+    (kind : MisfitKind) : Type 0 where
+  pub trace : List Entry
+  pub is_trace : IsTrace P I trace
+  pub count : ℕ
+  pub number : entry ≡ count + 1
+  pub differs : FirstDiffers whole pieces trace count kind
+
+abbrev pub MisfitBehind : Header → Program → Bool → List (Option Entry) → ℕ → MisfitKind → Type 0
+MisfitBehind (Stops count) P whole pieces entry kind = (entry ≡ count + 1) × StopsAt whole (slice_get pieces count) kind
+MisfitBehind (Gives count I) P whole pieces entry kind = DiffersFromRun P I whole pieces entry kind
+
+-- The misfit of a program and the bytes of a trace, or of a front of a trace that is not whole: the number of an entry,
+-- counted from 1, and in which way it is not the run's. (This project's own.)
+pub record IsMisfit (P : Program) (bytes : List ℕ) (whole : Bool) (entry : ℕ) (kind : MisfitKind) : Type 0 where
+  pub here : MisfitBehind (header P (spelled whole bytes)) P whole (spelled whole bytes) entry kind
+
+-- The whole file is the trace of the run on the input that its header gives.
+pub record IsTraceOf (P : Program) (bytes : List ℕ) (I : Input) : Type 0 where
+  pub entries : ℕ
+  pub header_is : header P (spelled true bytes) ≡ Gives entries I
+  pub trace : List Entry
+  pub is_trace : IsTrace P I trace
+  pub spells : spelled true bytes ≡ map (λ e. Some e) trace

@@ -1,0 +1,81 @@
+//! The laws of traces, on definitions alone.
+
+ghost use Rattle.hip_ir.specs.declared.program.Program.{Program};
+ghost use Rattle.hip_run_traces.specs.Headers.{Gives, header};
+ghost use Rattle.hip_run_traces.specs.Misfits.{FirstDiffers, IsMisfit, IsTraceOf};
+ghost use Rattle.hip_run_traces.specs.Traces.{IsTrace, header_of, trace};
+ghost use Rattle.hip_run_traces.specs.declared.misfit.MisfitKind.{MisfitKind};
+ghost use Rattle.hip_runs.specs.Step.{header_entries, run};
+ghost use Rattle.hip_runs.specs.Validity.{IsInput, IsValid};
+ghost use Rattle.hip_runs.specs.declared.input.Input.{Input};
+ghost use Rattle.hip_trace.specs.Fits.{IsSpelled, ValuesFit};
+ghost use Rattle.hip_trace.specs.Pieces.{spelled};
+ghost use Rattle.hip_trace.specs.declared.entry.Entry.{Entry};
+ghost use Rattle.hip_typing.specs.Sound.{IsSound};
+ghost use Rattle.std.specs.Prelude.{◌≡◌, ◌+◌, ◌<◌, ◌++◌, ℕ, Bool, List, Option, Some, All, length, map, true, false};
+
+/// The trace of a run's first steps has as many entries as the run counts, and the trace of more steps begins with it.
+pub fn traces_follow_the_run()
+    ensures length { (P : Program) → (I : Input) → (n : ℕ) → length (trace P I n) ≡ (run P I n).counts.entries }
+    ensures front { (P : Program) → (I : Input) → (n d : ℕ) →
+        (more : List Entry) × (trace P I (n + d) ≡ trace P I n ++ more) }
+{}
+
+/// Each run has one trace, which begins with the trace of any number of its steps.
+pub fn each_run_has_one_trace()
+    ensures there { (P : Program) → (I : Input) → (es : List Entry) × IsTrace P I es }
+    ensures one { (P : Program) → (I : Input) → (es fs : List Entry) → IsTrace P I es → IsTrace P I fs → es ≡ fs }
+    ensures front { (P : Program) → (I : Input) → (n : ℕ) → (es : List Entry) → IsTrace P I es →
+        (more : List Entry) × (es ≡ trace P I n ++ more) }
+{}
+
+/// The header of a run's trace gives back the run's input: base, initial bytes, numbers and limit.
+pub fn headers_read_back()
+    ensures { (P : Program) → (I : Input) → (n : ℕ) → IsValid P I →
+        header P (map (λ e. Some e) (trace P I n)) ≡ Gives (header_entries I) I }
+{}
+
+/// What a header gives is a valid input, and its entries are those that stand before the first step of the run on it.
+pub fn headers_give_valid_inputs()
+    ensures input { (P : Program) → (bytes : List ℕ) → (whole : Bool) → (h : ℕ) → (I : Input) →
+        header P (spelled whole bytes) ≡ Gives h I → IsInput I }
+    ensures valid { (P : Program) → (bytes : List ℕ) → (whole : Bool) → (h : ℕ) → (I : Input) →
+        header P (spelled whole bytes) ≡ Gives h I → IsValid P I }
+    ensures entries { (P : Program) → (bytes : List ℕ) → (whole : Bool) → (h : ℕ) → (I : Input) →
+        header P (spelled whole bytes) ≡ Gives h I → h ≡ header_entries I }
+    ensures front { (P : Program) → (bytes : List ℕ) → (whole : Bool) → (h : ℕ) → (I : Input) →
+        header P (spelled whole bytes) ≡ Gives h I →
+        (rest : List (Option Entry)) × (spelled whole bytes ≡ map (λ e. Some e) (header_of I) ++ rest) }
+{}
+
+/// Each entry of the trace of a sound program's run on a valid input is spelled by its canonical text.
+pub fn trace_entries_are_spelled()
+    ensures fit { (P : Program) → IsSound P → (I : Input) → IsInput I → IsValid P I → (n : ℕ) → All ValuesFit (trace P I n) }
+    ensures spelled { (P : Program) → IsSound P → (I : Input) → IsInput I → IsValid P I → (n : ℕ) →
+        All IsSpelled (trace P I n) }
+{}
+
+/// There is one misfit at most, and none where the file is the trace of a run; and it stands behind the header.
+pub fn misfits_are_one()
+    ensures entry { (P : Program) → (bytes : List ℕ) → (whole : Bool) → (e e' : ℕ) → (k k' : MisfitKind) →
+        IsMisfit P bytes whole e k → IsMisfit P bytes whole e' k' → e ≡ e' }
+    ensures kind { (P : Program) → (bytes : List ℕ) → (whole : Bool) → (e e' : ℕ) → (k k' : MisfitKind) →
+        IsMisfit P bytes whole e k → IsMisfit P bytes whole e' k' → k ≡ k' }
+    ensures none { (P : Program) → (bytes : List ℕ) → (I : Input) → (e : ℕ) → (k : MisfitKind) →
+        IsTraceOf P bytes I → IsMisfit P bytes true e k → ⊥ }
+    ensures behind { (P : Program) → (bytes : List ℕ) → (whole : Bool) → (I : Input) → (h e : ℕ) → (k : MisfitKind) →
+        IsMisfit P bytes whole e k → header P (spelled whole bytes) ≡ Gives h I → h < e }
+{}
+
+/// The misfit that the first bytes of a file show is the file's, whatever follows, and whether it is whole or not.
+pub fn first_bytes_decide_misfits()
+    ensures { (P : Program) → (front rest : List ℕ) → (whole : Bool) → (e : ℕ) → (k : MisfitKind) →
+        IsMisfit P front false e k → IsMisfit P (front ++ rest) whole e k }
+{}
+
+/// Where pieces differ from the trace of a run's first steps before that trace ends, they differ so from the run's trace.
+pub fn first_steps_decide_misfits()
+    ensures { (P : Program) → (I : Input) → (n : ℕ) → (whole : Bool) → (pieces : List (Option Entry)) →
+        (es : List Entry) → (count : ℕ) → (k : MisfitKind) → IsTrace P I es → count < length (trace P I n) →
+        FirstDiffers whole pieces (trace P I n) count k → FirstDiffers whole pieces es count k }
+{}

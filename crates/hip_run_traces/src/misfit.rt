@@ -1,0 +1,12 @@
+/// In which way an entry of a trace is not the run's.
+#[derive(Clone, Copy, Debug, PartialEq, Eq)]
+pub enum MisfitKind {
+    /// The text spells no entry, or has more than 256 bytes.
+    Malformed,
+    /// It is another entry than the run's, or breaks a rule of the header.
+    Differs,
+    /// The file has ended, and the run's trace has not.
+    Early,
+    /// The run's trace has ended, and the file has not.
+    Extra,
+}

@@ -1,0 +1,90 @@
+//! Traces that a cabinet gives in chunks of several sizes, and entries of every kind in them.
+
+ghost use Rattle.std.specs.Prelude.{◌≤◌};
+
+use crate::commands::{call, file};
+use crate::programs::ONE_STORE;
+use hip_io::MemCabinet;
+use hip_types::Row;
+use std::alloc::Global;
+use std::process::Abort;
+use std::test::Fail;
+
+/// A trace, and the exit code and the notes of `repair` of the program of one store.
+struct Replay {
+    trace: &'static str,
+    code: u8,
+    notes: &'static str,
+}
+
+const COUNTS: &str = "reports 1\nflushes 1\nfences 1\nhoists 0\nclones 0\n";
+
+const REPLAYS: &[Replay] = &[
+    Replay {
+        trace: "START;1000000000|REGISTER;0x100000000;0x40\nSTORE;0x0100000000;0x05;0x8|STOP;-0\n",
+        code: 0,
+        notes: COUNTS,
+    },
+    Replay {
+        trace: "START;1000000000|REGISTER;0x100000000;0x40|FLUSH;0x100000000;0x40|STOP;0",
+        code: 6,
+        notes: "hippo: trace entry 3: differs\n",
+    },
+    Replay {
+        trace: "START;1000000000|REGISTER;0x100000000;0x40|PERSIST;0x100000000;0x41|STOP;0",
+        code: 6,
+        notes: "hippo: trace entry 3: malformed\n",
+    },
+    Replay {
+        trace: "START;1000000000|REGISTER;0x100000000;0x40|STORE;0x100000000;0x5;0x8|TRAP;shift",
+        code: 6,
+        notes: "hippo: trace entry 4: differs\n",
+    },
+    Replay {
+        trace: "FENCE|START;5",
+        code: 6,
+        notes: "hippo: trace entry 1: differs\n",
+    },
+    Replay {
+        trace: "START;5|ASSERT;0x100000000;0x8",
+        code: 6,
+        notes: "hippo: trace entry 2: differs\n",
+    },
+];
+
+/// A program `a` and a trace `b`, given in chunks of so many bytes.
+fn in_chunks(alloc: Global, trace: &str, chunk: usize) -> Result<MemCabinet, Fail>
+    requires { 1 ≤ chunk }
+{
+    let mut files = Row::new(alloc);
+    files.push(file(alloc, "a", ONE_STORE)?)?;
+    files.push(file(alloc, "b", trace)?)?;
+    Ok(MemCabinet::new(files, chunk))
+}
+
+fn assert_replays(rt: &impl Abort, alloc: Global, chunk: usize) -> Result<(), Fail>
+    requires { 1 ≤ chunk }
+{
+    for case in REPLAYS {
+        let mut cabinet = in_chunks(alloc, case.trace, chunk)?;
+        let outcome = call(alloc, &["repair", "a", "b"], &mut cabinet, 1000)?;
+        assert_eq!(rt; outcome.code, case.code, "{}", case.trace);
+        assert_eq!(rt;
+            outcome.notes.bytes(),
+            case.notes.as_bytes(),
+            "{}",
+            case.trace
+        );
+    }
+    Ok(())
+}
+
+#[test]
+fn one_byte_at_a_time(rt: HostRuntime) -> Result<(), Fail> {
+    assert_replays(&rt, rt.alloc(), 1)
+}
+
+#[test]
+fn whole_pages(rt: HostRuntime) -> Result<(), Fail> {
+    assert_replays(&rt, rt.alloc(), 5000)
+}

@@ -1,5 +1,6 @@
 ghost use Rattle.std.specs.Prelude.{◌≡◌, ◌≤◌, ◌+◌, [], ◌∷◌, ◌++◌, cond, length, take, nat_le, nat_lt, OnOk, OnErr, Some, None};
-ghost use Rattle.hip_objects.specs.Blocks.{AreSplit, AreStacked, IsBehind, object_in, sited, slots_of};
+ghost use Rattle.hip_objects.specs.Blocks.{AreStacked, IsBehind, object_in, sited, slots_of};
+ghost use Rattle.hip_objects.specs.Order.{AreSplit};
 
 use hip_ir::Site;
 use hip_types::NoMemory;
@@ -106,7 +107,7 @@ fn site_of(block: &Block, addr: u64) -> Option<Site>
 fn count_upto(blocks: &[Block], addr: u64) -> usize
     requires { AreStacked blocks.now }
     ensures few { result ≤ length blocks.now }
-    ensures split { AreSplit blocks.now addr result }
+    ensures split { AreSplit (λ b. b.addr) blocks.now addr result }
 {
     blocks.partition_point(
         |block: &Block| -> bool

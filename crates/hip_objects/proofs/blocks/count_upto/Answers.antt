@@ -6,6 +6,6 @@ use Rattle.hip_objects.proofs.blocks.count_upto.Goals as goal
 
 pub returns-clause-split : goal.returns-clause-split
 returns-clause-split c =
-    split_by c.args.blocks.now c.args.addr c.partition_point.result
+    split_by (λ b. b.addr) (λ b. b.size) (λ b. b.site) c.args.blocks.now c.args.addr c.partition_point.result
     (IsPartitionPoint-from_clause (λ b. nat_le b.addr c.args.addr) c.args.blocks.now c.partition_point.result c.partition_point.ensures.partitioned
-    (starts-in-order c.args.blocks.now c.args.addr c.requires) (λ a r f called. search rules))
+    (starts-in-order (λ b. b.addr) (λ b. b.size) (λ b. b.site) c.args.blocks.now c.args.addr c.requires) (λ a r f called. search rules))

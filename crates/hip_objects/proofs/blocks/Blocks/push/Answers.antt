@@ -1,6 +1,6 @@
 use Rattle.std.proofs.Common.{sym, subst}
 use Rattle.hip_objects.specs.Blocks.{AreStacked, IsBehind}
-use Rattle.hip_objects.proofs.Search.{pushed}
+use Rattle.hip_objects.proofs.Stacks.{pushed}
 use Rattle.hip_objects.proofs.blocks.Blocks.push.Goals as goal
 use Rattle.hip_objects.proofs.blocks.Blocks.push.Goals.{in-Ok, in-Err}
 

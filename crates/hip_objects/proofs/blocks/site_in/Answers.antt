@@ -1,4 +1,4 @@
-use Rattle.std.proofs.Common.{◌≡◌, ◌-◌, ◌+◌, nat_lt, sym, subst, ap, ◌∙◌, arith}
+use Rattle.std.proofs.Common.{◌-◌, sym, subst, ap, ◌∙◌, arith}
 use Rattle.hip_objects.specs.Blocks.{sited}
 use Rattle.hip_objects.specs.Order.{AreSplit}
 use Rattle.hip_objects.proofs.Search.{none-of-none, last_by}

@@ -1,0 +1,79 @@
+-- The commands as clap knows them, and what clap reads of the words.
+use Rattle.std.specs.Prelude.{◌≡◌, true, List, [], ◌∷◌, Option, Some, None, Result, Ok, Err, codes}
+use Rattle.clap.specs.Words.{App, Kinds, Row, Rule, Text, fault_of, found_of, matches_of, new_app, new_rule, rows_of, with_rule}
+use Rattle.clap.specs.Simple.{on_top}
+use Rattle.clap.specs.declared.builder.action.ArgAction.TheVariants.{Append}
+use Rattle.clap.specs.declared.parser.matches.ArgMatches.{ArgMatches}
+use Rattle.hip_words.specs.declared.refusal.WordsRefusal.{WordsRefusal}
+use Rattle.hip_words.specs.declared.refusal.WordsRefusal.TheVariants as refusals
+
+-- ---- arguments
+
+-- a positional that has to be there
+abbrev pub required : Text → Rule
+required id = record (new_rule id) { required = true }
+
+-- a positional of any number of words
+abbrev pub any_number : Text → Rule
+any_number id = record (new_rule id) { action = Some Append }
+
+-- a positional of one word or more
+abbrev pub one_or_more : Text → Rule
+one_or_more id = record (new_rule id) { action = Some Append; required = true }
+
+-- an option with a value, which is this one where the option is not used
+abbrev pub with_default : Text → Text → Rule
+with_default id value = record (new_rule id) { long = Some id; defaults = value ∷ [] }
+
+abbrev pub limit : Rule
+limit = with_default (codes "limit") (codes "1000000000")
+
+abbrev pub base : Rule
+base = with_default (codes "base") (codes "4294967296")
+
+-- ---- commands
+
+-- a command with no argument, and without a flag for help
+abbrev pub bare : Text → App
+bare name = on_top (λ s. record s { disable_help_flag = true }) (new_app name)
+
+abbrev pub run_app : App
+run_app =
+    with_rule (with_rule (with_rule (bare (codes "run")) (required (codes "program"))) limit)
+    (any_number (codes "numbers"))
+
+abbrev pub record_app : App
+record_app =
+    with_rule (with_rule (with_rule (with_rule (bare (codes "record")) (required (codes "program"))) base) limit)
+    (any_number (codes "numbers"))
+
+-- `PROGRAM TRACE`
+abbrev pub files_app : Text → App
+files_app name = with_rule (with_rule (bare name) (required (codes "program"))) (required (codes "trace"))
+
+abbrev pub demo_app : App
+demo_app = with_rule (with_rule (bare (codes "demo")) (required (codes "seed"))) (required (codes "size"))
+
+abbrev pub many_app : App
+many_app = with_rule (with_rule (bare (codes "many")) (required (codes "program"))) (one_or_more (codes "traces"))
+
+abbrev pub crash_app : App
+crash_app =
+    with_rule (with_rule (with_rule (with_rule (bare (codes "crash"))
+    (required (codes "program"))) (required (codes "trace"))) (required (codes "entry")))
+    (any_number (codes "picks"))
+
+-- ---- what clap reads
+
+abbrev pub where_none : Kinds → List Row → Option (List Row)
+where_none [] rows = Some rows
+where_none (k ∷ ks) rows = None
+
+-- the arguments with their texts, where the command takes the words after the first
+unfoldable pub reads : App → List Text → Option (List Row)
+reads app words = where_none (fault_of app words) (matches_of app words)
+
+abbrev pub GivesRows : Option (List Row) → Result ArgMatches WordsRefusal → Type 0
+GivesRows given (Ok matches) = given ≡ Some (rows_of (found_of matches))
+GivesRows given (Err refusals.Usage) = given ≡ None
+GivesRows given (Err refusals.NoMemory) = Unit {0}

@@ -1,0 +1,26 @@
+-- What the definition of an order says of words that do not begin with `-`, and of bases.
+use Rattle.std.specs.Prelude.{◌≡◌, ℕ, Bool, true, not, ◌==◌, List, [], ◌∷◌, Some, codes, option_map}
+use Rattle.std.specs.List.{list_all}
+use Rattle.clap.specs.Words.{Text}
+use Rattle.hip_globals.specs.Addresses.{IsBase}
+use Rattle.hip_words.specs.Order.{files_of, is_base, numbers_of, order}
+use Rattle.hip_words.specs.declared.order.Order.TheVariants.{Run}
+
+-- the word does not begin with `-`
+abbrev pub is_plain : Text → Bool
+is_plain [] = true
+is_plain (b ∷ bs) = not (b == 45)
+
+abbrev pub FilesArePlain : Type 0
+FilesArePlain =
+    (name command program trace : Text) → is_plain program ≡ true → is_plain trace ≡ true
+    → files_of name (command ∷ program ∷ trace ∷ []) ≡ Some (program, trace)
+
+abbrev pub RunsArePlain : Type 0
+RunsArePlain =
+    (program : Text) (numbers : List Text) → is_plain program ≡ true → list_all is_plain numbers ≡ true
+    → order (codes "run" ∷ program ∷ numbers)
+    ≡ option_map (λ ns. Run program 1000000000 ns) (numbers_of numbers)
+
+abbrev pub BasesAreValid : Type 0
+BasesAreValid = (base : ℕ) → is_base base ≡ true → IsBase base

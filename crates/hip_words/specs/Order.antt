@@ -1,0 +1,152 @@
+-- The order that the words give.
+use Rattle.std.specs.Prelude.{ℕ, ℤ, ◌%◌, ◌^◌, Bool, ◌&&◌, ◌==◌, nat_le, nat_lt, List, [], ◌∷◌, Option, Some, None, if◌then◌else◌, codes, length, option_map, option_and_then, unwrap_or}
+use Rattle.std.specs.List.{after_first, before_first, position_or_len}
+use Rattle.std.specs.Str.{bytes_eq}
+use Rattle.clap.specs.Words.{Row, Text, all_of, first_of}
+use Rattle.hip_runs.specs.declared.limits.TheConstants.{MOST_NUMBERS, MOST_TURNS}
+use Rattle.hip_words.specs.declared.limits.TheConstants.{LARGEST_SIZE, MOST_TRACES, SEED_END}
+use Rattle.hip_words.specs.Commands.{crash_app, demo_app, files_app, many_app, reads, record_app, run_app}
+use Rattle.hip_words.specs.Numbers.{decimal_of, signed_of}
+use Rattle.hip_words.specs.declared.order.Order.{Order}
+use Rattle.hip_words.specs.declared.order.Order.TheVariants.{Check, Crash, Demo, Many, Record, Repair, Rerun, Run, Thin}
+use Rattle.hip_words.specs.declared.order.Pick.{Pick}
+use Rattle.hip_words.specs.declared.order.Verb.{Verb}
+use Rattle.hip_words.specs.declared.order.Verb.TheVariants as verbs
+
+-- ---- bounds
+
+abbrev pub is_limit : ℕ → Bool
+is_limit limit = nat_le limit MOST_TURNS
+
+-- a multiple of 4,096 from 2^32 to 2^46
+abbrev pub is_base : ℕ → Bool
+is_base base = (base % 4096 == 0) && (nat_le (2 ^ 32) base && nat_le base (2 ^ 46))
+
+abbrev pub is_seed : ℕ → Bool
+is_seed seed = nat_lt seed SEED_END
+
+abbrev pub is_size : ℕ → Bool
+is_size size = nat_le 1 size && nat_le size LARGEST_SIZE
+
+abbrev pub where_so : {A : Type 0} → (A → Bool) → A → Option A
+where_so test x = if test x then Some x else None
+
+-- ---- one argument
+
+-- all words of an argument
+abbrev pub texts_in : Text → List Row → List Text
+texts_in id rows = unwrap_or (all_of id rows) []
+
+-- the number that an argument's word writes
+abbrev pub decimal_in : Text → List Row → Option ℕ
+decimal_in id rows = option_and_then decimal_of (first_of id rows)
+
+-- and within bounds
+abbrev pub number_in : (ℕ → Bool) → Text → List Row → Option ℕ
+number_in test id rows = option_and_then (where_so test) (decimal_in id rows)
+
+-- what each text is read as, where each is read
+abbrev pub each : {A : Type 0} → (Text → Option A) → List Text → Option (List A)
+each read [] = Some []
+each read (t ∷ ts) = option_and_then (λ x. option_map (λ xs. x ∷ xs) (each read ts)) (read t)
+
+abbrev pub at_most : ℕ → List Text → Option (List Text)
+at_most most = where_so (λ texts. nat_le (length texts) most)
+
+abbrev pub numbers_of : List Text → Option (List ℤ)
+numbers_of texts = option_and_then (each signed_of) (at_most MOST_NUMBERS texts)
+
+abbrev pub traces_of : List Text → Option (List Text)
+traces_of = where_so (λ texts. nat_le 1 (length texts) && nat_le (length texts) MOST_TRACES)
+
+abbrev pub is_colon : ℕ → Bool
+is_colon b = b == 58
+
+abbrev pub pick_from : Option ℕ → Option ℕ → Option Pick
+pick_from (Some line) (Some upto) = Some (record { line = line; upto = upto })
+pick_from _ _ = None
+
+-- `LINE:UPTO`, cut at its first colon
+abbrev pub pick_of : Text → Option Pick
+pick_of text = if nat_lt (position_or_len is_colon text) (length text)
+    then pick_from (decimal_of (before_first is_colon text)) (decimal_of (after_first is_colon text)) else None
+
+abbrev pub picks_of : List Text → Option (List Pick)
+picks_of texts = option_and_then (each pick_of) (at_most MOST_NUMBERS texts)
+
+-- ---- the orders
+
+abbrev pub run_in : List Row → Option Order
+run_in rows =
+    option_and_then (λ program. option_and_then (λ limit. option_map (λ numbers. Run program limit numbers)
+    (numbers_of (texts_in (codes "numbers") rows)))
+    (number_in is_limit (codes "limit") rows))
+    (first_of (codes "program") rows)
+
+abbrev pub record_in : List Row → Option Order
+record_in rows =
+    option_and_then (λ program. option_and_then (λ base. option_and_then (λ limit.
+    option_map (λ numbers. Record program base limit numbers)
+    (numbers_of (texts_in (codes "numbers") rows)))
+    (number_in is_limit (codes "limit") rows))
+    (number_in is_base (codes "base") rows))
+    (first_of (codes "program") rows)
+
+abbrev pub many_in : List Row → Option Order
+many_in rows = option_and_then (λ program. option_map (λ traces. Many program traces)
+    (traces_of (texts_in (codes "traces") rows)))
+    (first_of (codes "program") rows)
+
+abbrev pub crash_in : List Row → Option Order
+crash_in rows =
+    option_and_then (λ program. option_and_then (λ trace. option_and_then (λ entry.
+    option_map (λ picks. Crash program trace entry picks)
+    (picks_of (texts_in (codes "picks") rows)))
+    (decimal_in (codes "entry") rows))
+    (first_of (codes "trace") rows))
+    (first_of (codes "program") rows)
+
+abbrev pub demo_in : List Row → Option Order
+demo_in rows = option_and_then (λ seed. option_map (λ size. Demo seed size)
+    (number_in is_size (codes "size") rows))
+    (number_in is_seed (codes "seed") rows)
+
+abbrev pub files_in : List Row → Option (Text × Text)
+files_in rows = option_and_then (λ program. option_map (λ trace. (program, trace))
+    (first_of (codes "trace") rows))
+    (first_of (codes "program") rows)
+
+-- a command that takes a program and a trace
+abbrev pub files_of : Text → List Text → Option (Text × Text)
+files_of name words = option_and_then files_in (reads (files_app name) words)
+
+-- each command's definition takes the words after the first
+abbrev pub order_by : Verb → List Text → Option Order
+order_by verbs.Run words = option_and_then run_in (reads run_app words)
+order_by verbs.Record words = option_and_then record_in (reads record_app words)
+order_by verbs.Check words = option_map (λ p. Check p.0 p.1) (files_of (codes "check") words)
+order_by verbs.Repair words = option_map (λ p. Repair p.0 p.1) (files_of (codes "repair") words)
+order_by verbs.Rerun words = option_map (λ p. Rerun p.0 p.1) (files_of (codes "rerun") words)
+order_by verbs.Demo words = option_and_then demo_in (reads demo_app words)
+order_by verbs.Many words = option_and_then many_in (reads many_app words)
+order_by verbs.Crash words = option_and_then crash_in (reads crash_app words)
+order_by verbs.Thin words = option_map (λ p. Thin p.0 p.1) (files_of (codes "thin") words)
+
+-- the command that a word names
+unfoldable pub verb_of : Text → Option Verb
+verb_of word =
+    if bytes_eq word (codes "run") then Some verbs.Run
+    else (if bytes_eq word (codes "record") then Some verbs.Record
+    else (if bytes_eq word (codes "check") then Some verbs.Check
+    else (if bytes_eq word (codes "repair") then Some verbs.Repair
+    else (if bytes_eq word (codes "rerun") then Some verbs.Rerun
+    else (if bytes_eq word (codes "demo") then Some verbs.Demo
+    else (if bytes_eq word (codes "many") then Some verbs.Many
+    else (if bytes_eq word (codes "crash") then Some verbs.Crash
+    else (if bytes_eq word (codes "thin") then Some verbs.Thin
+    else None))))))))
+
+-- the first word names the command
+unfoldable pub order : List Text → Option Order
+order [] = None
+order (word ∷ rest) = option_and_then (λ verb. order_by verb (word ∷ rest)) (verb_of word)

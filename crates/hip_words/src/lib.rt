@@ -1,0 +1,18 @@
+//! The words of a command, read with clap.
+#![tactic(auto)]
+
+mod commands;
+mod laws;
+mod limits;
+mod matches;
+mod numbers;
+mod order;
+mod readers;
+mod refusal;
+mod words;
+
+pub use laws::{bases_are_valid, files_are_plain, runs_are_plain};
+pub use limits::{LARGEST_SIZE, MOST_TRACES, SEED_END};
+pub use order::{Order, Pick};
+pub use refusal::WordsRefusal;
+pub use words::read_words;

@@ -2,7 +2,8 @@
 //! paths.
 //!
 //! A test stands in the lowest of the crates of tests that has what it calls: `hip_text_tests` for files, traces and
-//! the texts of programs, `hip_repair_tests` for calls and repairs, `hip_tool_tests` for soundness and the command.
+//! the texts of programs, `hip_run_tests` for runs, `hip_repair_tests` for calls and repairs, `hip_tool_tests` for
+//! soundness and the command.
 #![tactic(auto)]
 
 #[cfg(test)]
@@ -22,32 +23,4 @@ mod name_tables;
 #[cfg(test)]
 mod number_texts;
 #[cfg(test)]
-mod programs;
-#[cfg(test)]
-mod reached_functions;
-#[cfg(test)]
-mod read_texts;
-#[cfg(test)]
-mod refused_functions;
-#[cfg(test)]
-mod refused_programs;
-#[cfg(test)]
-mod refused_texts;
-#[cfg(test)]
-mod repairs;
-#[cfg(test)]
-mod sound_programs;
-#[cfg(test)]
-mod spelling;
-#[cfg(test)]
-mod storage;
-#[cfg(test)]
 mod tokens;
-#[cfg(test)]
-mod trace_entries;
-#[cfg(test)]
-mod trace_misfits;
-#[cfg(test)]
-mod traces_in_chunks;
-#[cfg(test)]
-mod trees;

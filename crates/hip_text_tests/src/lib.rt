@@ -16,4 +16,6 @@ mod spelling;
 #[cfg(test)]
 mod trace_entries;
 #[cfg(test)]
+mod traces_in_chunks;
+#[cfg(test)]
 mod trees;

@@ -5,6 +5,8 @@
 #[cfg(test)]
 mod answers;
 #[cfg(test)]
+mod command_words;
+#[cfg(test)]
 mod commands;
 #[cfg(test)]
 mod refused_functions;

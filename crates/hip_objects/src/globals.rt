@@ -5,7 +5,7 @@ ghost use Rattle.hip_runs.specs.Found.Objects.{global_at};
 ghost use Rattle.hip_objects.specs.Globals.{AreLaid, number_at, place_of, places_from};
 ghost use Rattle.hip_objects.specs.Order.{AreSplit};
 
-use crate::alignment::alignment;
+use hip_globals::alignment;
 use hip_ir::GlobalVar;
 use hip_mem::VOLATILE_START;
 use hip_types::{NoMemory, size};

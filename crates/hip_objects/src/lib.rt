@@ -1,7 +1,6 @@
 //! The objects of a run by their addresses: the globals of a program, and the blocks on the stack.
 #![tactic(auto)]
 
-mod alignment;
 mod blocks;
 mod globals;
 

@@ -16,6 +16,4 @@ mod spelling;
 #[cfg(test)]
 mod trace_entries;
 #[cfg(test)]
-mod traces_in_chunks;
-#[cfg(test)]
 mod trees;

@@ -16,3 +16,5 @@ mod refused_programs;
 mod sound_programs;
 #[cfg(test)]
 mod trace_misfits;
+#[cfg(test)]
+mod traces_in_chunks;

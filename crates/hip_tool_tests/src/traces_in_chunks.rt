@@ -3,7 +3,7 @@
 ghost use Rattle.std.specs.Prelude.{◌≤◌};
 
 use crate::commands::{call, file};
-use crate::programs::ONE_STORE;
+use hip_examples::ONE_STORE;
 use hip_io::MemCabinet;
 use hip_types::Row;
 use std::alloc::Global;

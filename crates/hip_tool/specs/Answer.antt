@@ -10,6 +10,7 @@ use Rattle.hip_tool.specs.Reading.{RefusesText}
 use Rattle.hip_tool.specs.OneStore.{is_one_store}
 use Rattle.hip_tool.specs.Misfit.{IsMisfit, IsTraceOf}
 use Rattle.hip_tool.specs.Run.{reports, plan, repaired}
+use Rattle.hip_tool.specs.declared.command.TheConstants.{TEXT_LIMIT}
 use Rattle.hip_tool.specs.declared.input.Input.{Input}
 use Rattle.hip_run_traces.specs.declared.misfit.MisfitKind.{MisfitKind}
 use Rattle.hip_tool.specs.declared.repair.Plan.{Plan}
@@ -26,14 +27,10 @@ use Rattle.hip_tool.specs.declared.status.Status.TheVariants as statuses
 
 -- ---- the program
 
--- how many bytes a program's text may have
-abbrev pub text_limit : ℕ
-text_limit = 16777216
-
 -- the text of the file, which is not too long
 pub record IsText (files : List NamedFile) (name text : List ℕ) : Type 0 where
   pub found : file_of files name ≡ Some text
-  pub fits : length text ≤ text_limit
+  pub fits : length text ≤ TEXT_LIMIT
 
 -- the file's text reads as the program, which is sound and which `repair` takes
 pub record IsProgram (files : List NamedFile) (name : List ℕ) (program : Program) : Type 0 where
@@ -46,7 +43,7 @@ pub record IsProgram (files : List NamedFile) (name : List ℕ) (program : Progr
 pub record IsTooLong (files : List NamedFile) (name : List ℕ) : Type 0 where
   pub text : List ℕ
   pub found : file_of files name ≡ Some text
-  pub long : text_limit < length text
+  pub long : TEXT_LIMIT < length text
 
 -- the refusal of a sound program that `repair` does not take yet
 abbrev pub not_yet : TypeRefusal

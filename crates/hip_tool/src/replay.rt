@@ -17,7 +17,7 @@ use hip_io::Cabinet;
 use hip_ir::Program;
 use hip_run_traces::MisfitKind;
 use hip_trace::{Entry, Reader, TraceRefusal};
-use hip_types::{NoMemory, Row};
+use hip_types::{BASE_ALIGNMENT, HIGHEST_BASE, LOWEST_BASE, NoMemory, Row};
 use std::alloc::Global;
 
 /// Why a trace was not replayed.
@@ -72,7 +72,7 @@ fn is_limit(limit: u64) -> bool
 fn is_base(base: u64) -> bool
     ensures { result ≡ is_base base }
 {
-    base % 4096 == 0 && base >= 1 << 32 && base <= 1 << 46
+    base % BASE_ALIGNMENT == 0 && base >= LOWEST_BASE && base <= HIGHEST_BASE
 }
 
 fn valid_limit(entry: &Entry) -> Option<u64>

@@ -26,7 +26,13 @@ impl Cabinet for FileCabinet<'_> {
     ghost use Rattle.std.specs.Prelude.{None, is_some};
 
     ghost state = { λ c. record {
-        files = None; is_current = is_some c.file; name = None; rest = None; misses = c.misses; faults = c.faults } };
+      files = None;
+      is_current = is_some c.file;
+      name = None;
+      rest = None;
+      misses = c.misses;
+      faults = c.faults;
+    } };
 
     ghost told = { λ c. tt };
 

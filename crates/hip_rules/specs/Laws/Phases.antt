@@ -144,8 +144,8 @@ module _ (F X P B : Type 0) (h : Rule F X) (rh : Reader F X) (f : X → Rule F P
       → ((ps : List P) (ts : List At) → ph n ps ts ≡ on_ok (leading_at kh rh kf rf n ts) (finish ps))
       → on_ok o (λ x m. cond (next kf m) (on_ok (rf x m) (λ p rest. ph n (ps ++ (p ∷ [])) rest)) (rR ps x m))
       ≡ on_ok (on_ok o (λ x m. cond (next kf m)
-          (on_ok (rf x m) (λ p more. on_ok (leading_at kh rh kf rf n more) (λ q rest. Ok ((p ∷ q.0, q.1), rest))))
-          (Ok (([], Some x), m)))) (finish ps)
+      (on_ok (rf x m) (λ p more. on_ok (leading_at kh rh kf rf n more) (λ q rest. Ok ((p ∷ q.0, q.1), rest))))
+      (Ok (([], Some x), m)))) (finish ps)
   led_head n ps (Ok x) h = led_behind n ps x.0 x.1 (next kf x.1) h
   led_head n ps (Err e) h = refl
 
@@ -154,9 +154,9 @@ module _ (F X P B : Type 0) (h : Rule F X) (rh : Reader F X) (f : X → Rule F P
       → cond b (on_ok (rh ts)
       (λ x m. cond (next kf m) (on_ok (rf x m) (λ p rest. ph n (ps ++ (p ∷ [])) rest)) (rR ps x m))) (rO ps ts)
       ≡ on_ok (cond b (on_ok (rh ts)
-          (λ x m. cond (next kf m)
-          (on_ok (rf x m) (λ p more. on_ok (leading_at kh rh kf rf n more) (λ q rest. Ok ((p ∷ q.0, q.1), rest))))
-          (Ok (([], Some x), m)))) (Ok (([], None), ts))) (finish ps)
+      (λ x m. cond (next kf m)
+      (on_ok (rf x m) (λ p more. on_ok (leading_at kh rh kf rf n more) (λ q rest. Ok ((p ∷ q.0, q.1), rest))))
+      (Ok (([], Some x), m)))) (Ok (([], None), ts))) (finish ps)
   led_here n ps ts true h = led_head n ps (rh ts) h
   led_here n ps ts false h = ap (λ (qs : List P). rO qs ts) (sym (append-nil ps))
 

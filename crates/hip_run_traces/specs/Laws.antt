@@ -1,4 +1,5 @@
 -- Laws of the definitions.
+pub mod DecidedLaws
 pub mod FrontLaws
 pub mod GivenLaws
 pub mod HeaderLaws

@@ -7,3 +7,4 @@ pub mod LineLaws
 pub mod MisfitLaws
 pub mod RangeLaws
 pub mod TraceLaws
+pub mod WrittenLaws

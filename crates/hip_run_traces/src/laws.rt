@@ -10,6 +10,7 @@ ghost use Rattle.hip_runs.specs.Validity.{IsInput, IsValid};
 ghost use Rattle.hip_runs.specs.declared.input.Input.{Input};
 ghost use Rattle.hip_trace.specs.Fits.{IsSpelled, ValuesFit};
 ghost use Rattle.hip_trace.specs.Pieces.{spelled};
+ghost use Rattle.hip_trace.specs.Texts.{lines_of};
 ghost use Rattle.hip_trace.specs.declared.entry.Entry.{Entry};
 ghost use Rattle.hip_typing.specs.Sound.{IsSound};
 ghost use Rattle.std.specs.Prelude.{◌≡◌, ◌+◌, ◌<◌, ◌++◌, ◌⊎◌, ℕ, Bool, List, Option, Some, All, length, map, true, false};
@@ -86,4 +87,10 @@ pub fn misfits_are_decided()
         ((I : Input) × IsTraceOf P bytes I) ⊎ ((e : ℕ) × (k : MisfitKind) × IsMisfit P bytes true e k) }
     ensures front { (P : Program) → (bytes : List ℕ) → ((e : ℕ) × (k : MisfitKind) × IsMisfit P bytes false e k)
         ⊎ ((e : ℕ) → (k : MisfitKind) → IsMisfit P bytes false e k → ⊥) }
+{}
+
+/// The text of a run's trace, a line for each entry, is the trace of the run on the same input.
+pub fn written_traces_are_read_back()
+    ensures { (P : Program) → IsSound P → (I : Input) → IsInput I → IsValid P I → (es : List Entry) → IsTrace P I es →
+        IsTraceOf P (lines_of es) I }
 {}

@@ -1,4 +1,5 @@
 -- Laws of the definitions.
+pub mod DecidedLaws
 pub mod FrontLaws
 pub mod GivenLaws
 pub mod HeaderLaws
@@ -6,3 +7,4 @@ pub mod LineLaws
 pub mod MisfitLaws
 pub mod RangeLaws
 pub mod TraceLaws
+pub mod WrittenLaws

@@ -10,9 +10,10 @@ ghost use Rattle.hip_runs.specs.Validity.{IsInput, IsValid};
 ghost use Rattle.hip_runs.specs.declared.input.Input.{Input};
 ghost use Rattle.hip_trace.specs.Fits.{IsSpelled, ValuesFit};
 ghost use Rattle.hip_trace.specs.Pieces.{spelled};
+ghost use Rattle.hip_trace.specs.Texts.{lines_of};
 ghost use Rattle.hip_trace.specs.declared.entry.Entry.{Entry};
 ghost use Rattle.hip_typing.specs.Sound.{IsSound};
-ghost use Rattle.std.specs.Prelude.{◌≡◌, ◌+◌, ◌<◌, ◌++◌, ℕ, Bool, List, Option, Some, All, length, map, true, false};
+ghost use Rattle.std.specs.Prelude.{◌≡◌, ◌+◌, ◌<◌, ◌++◌, ◌⊎◌, ℕ, Bool, List, Option, Some, All, length, map, true, false};
 
 /// The trace of a run's first steps has as many entries as the run counts, and the trace of more steps begins with it.
 pub fn traces_follow_the_run()
@@ -78,4 +79,18 @@ pub fn first_steps_decide_misfits()
     ensures { (P : Program) → (I : Input) → (n : ℕ) → (whole : Bool) → (pieces : List (Option Entry)) →
         (es : List Entry) → (count : ℕ) → (k : MisfitKind) → IsTrace P I es → count < length (trace P I n) →
         FirstDiffers whole pieces (trace P I n) count k → FirstDiffers whole pieces es count k }
+{}
+
+/// Each whole file is the trace of a run of the program or has a misfit; and a front of a file shows a misfit or none.
+pub fn misfits_are_decided()
+    ensures whole { (P : Program) → (bytes : List ℕ) →
+        ((I : Input) × IsTraceOf P bytes I) ⊎ ((e : ℕ) × (k : MisfitKind) × IsMisfit P bytes true e k) }
+    ensures front { (P : Program) → (bytes : List ℕ) → ((e : ℕ) × (k : MisfitKind) × IsMisfit P bytes false e k)
+        ⊎ ((e : ℕ) → (k : MisfitKind) → IsMisfit P bytes false e k → ⊥) }
+{}
+
+/// The text of a run's trace, a line for each entry, is the trace of the run on the same input.
+pub fn written_traces_are_read_back()
+    ensures { (P : Program) → IsSound P → (I : Input) → IsInput I → IsValid P I → (es : List Entry) → IsTrace P I es →
+        IsTraceOf P (lines_of es) I }
 {}

@@ -75,7 +75,7 @@ in_32 : (z : ℤ) → FitsSigned w32 z → in_range (2 ^ 31) z ≡ true
 in_32 (pos n) h = lt-ltb _ _ (omega arith)
 in_32 (negsuc n) h = lt-ltb _ _ (omega arith)
 
-wider : (z : ℤ) → FitsSigned w32 z → FitsSigned w64 z
+pub wider : (z : ℤ) → FitsSigned w32 z → FitsSigned w64 z
 wider (pos n) h = let k : n < 2 ^ 63 = omega arith in search (rules, k)
 wider (negsuc n) h = let k : n < 2 ^ 63 = omega arith in search (rules, k)
 
@@ -124,7 +124,7 @@ lines_test addr size h =
 sizes : (size : ℕ) → is_store_size size ≡ true → (size ≡ 1) ⊎ ((size ≡ 2) ⊎ ((size ≡ 4) ⊎ (size ≡ 8)))
 sizes size h = grind (arith, nat_tests)
 
-value_fits : (size value : ℕ) → is_store_size size ≡ true → value < 2 ^ (8 * size) → value < 2 ^ 64
+pub value_fits : (size value : ℕ) → is_store_size size ≡ true → value < 2 ^ (8 * size) → value < 2 ^ 64
 value_fits size value h less = go (sizes size h)
   where
     at : (n : ℕ) → 2 ^ (8 * n) ≤ 2 ^ 64 → size ≡ n → value < 2 ^ 64
@@ -136,7 +136,7 @@ value_fits size value h less = go (sizes size h)
     go (inr (inr (inl e))) = at 4 (omega arith) e
     go (inr (inr (inr e))) = at 8 (omega arith) e
 
-size_fits : (size : ℕ) → is_store_size size ≡ true → size < 2 ^ 64
+pub size_fits : (size : ℕ) → is_store_size size ≡ true → size < 2 ^ 64
 size_fits size h = go (sizes size h)
   where
     go : (size ≡ 1) ⊎ ((size ≡ 2) ⊎ ((size ≡ 4) ⊎ (size ≡ 8))) → size < 2 ^ 64

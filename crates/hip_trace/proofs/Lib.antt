@@ -6,3 +6,4 @@ pub mod PieceLaws
 pub mod ReaderLaws
 pub mod EndLaws
 pub mod TextLaws
+pub mod WrittenLaws

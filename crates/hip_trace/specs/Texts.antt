@@ -1,6 +1,7 @@
 -- The canonical text of an entry: numbers with the least number of digits, in lower case.
 use Rattle.std.specs.Prelude.{ℕ, List, [], ◌∷◌, ◌++◌, codes, decimal}
 use Rattle.std.specs.Fmt.{signed_decimal}
+use Rattle.std.specs.List.{flat_map}
 use Rattle.hex.specs.Hex.{encode_lower}
 use Rattle.hip_num.specs.Texts.{hexadecimal}
 use Rattle.hip_tokens.specs.Bytes.{byte}
@@ -47,3 +48,7 @@ text_of e = with_fields (word_of e) (fields_of e)
 -- what is written: a line feed ends the text
 abbrev pub line_of : Entry → List ℕ
 line_of e = text_of e ++ codes "\n"
+
+-- the text of a trace: a line for each entry
+abbrev pub lines_of : List Entry → List ℕ
+lines_of es = flat_map line_of es

@@ -1,9 +1,11 @@
 //! Laws of the definitions that the contracts name.
 
-ghost use Rattle.std.specs.Prelude.{◌≡◌, ℕ, List, Some};
+ghost use Rattle.std.specs.Prelude.{◌≡◌, ℕ, All, List, Some, map, true};
 ghost use Rattle.hip_trace.specs.Entries.{entry_of};
 ghost use Rattle.hip_trace.specs.Fits.{IsSpelled, ValuesFit};
 ghost use Rattle.hip_trace.specs.Laws.{CanonicalTextsSpell, CanonicalTextsAreShortest, ReadersEnd};
+ghost use Rattle.hip_trace.specs.Pieces.{spelled};
+ghost use Rattle.hip_trace.specs.Texts.{lines_of};
 ghost use Rattle.hip_trace.specs.declared.entry.Entry.{Entry};
 
 /// Where some text spells an entry, its canonical text spells it.
@@ -21,6 +23,11 @@ pub fn canonical_texts_are_shortest()
 pub fn entries_that_fit_are_spelled()
     ensures spelled { (e : Entry) → ValuesFit e → IsSpelled e }
     ensures fits { (text : List ℕ) → (e : Entry) → entry_of text ≡ Some e → ValuesFit e }
+{}
+
+/// Entries whose values fit are read back from the text that is written of them, a line each.
+pub fn written_entries_are_read_back()
+    ensures { (es : List Entry) → All ValuesFit es → spelled true (lines_of es) ≡ map (λ e. Some e) es }
 {}
 
 /// At the file's end there is no entry and nothing is malformed.

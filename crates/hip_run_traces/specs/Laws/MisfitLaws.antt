@@ -64,7 +64,7 @@ one_kind whole (Some p) None k k' h g = h ∙ sym g
 one_kind whole (Some p) (Some e) k k' h g = h.1 ∙ sym g.1
 
 -- no difference comes before the entries that are spelled
-not_before : (whole : Bool) (ps : List (Option Entry)) (es : List Entry) (c n : ℕ) (kind : MisfitKind) → FirstDiffers whole ps es c kind → take n ps ≡ told (take n es) → c < n → ⊥
+pub not_before : (whole : Bool) (ps : List (Option Entry)) (es : List Entry) (c n : ℕ) (kind : MisfitKind) → FirstDiffers whole ps es c kind → take n ps ≡ told (take n es) → c < n → ⊥
 not_before whole ps es c n kind d h lt =
     same_differs whole (slice_get es c) kind (subst (λ (p : Option (Option Entry)). DiffersAt whole p (slice_get es c) kind) (spelled_at ps es n c lt h) d.here)
 
@@ -210,7 +210,7 @@ there_differs : (w w' : Bool) (p : Option Entry) (o : Option Entry) (kind : Misf
 there_differs w w' p None kind h = h
 there_differs w w' p (Some e) kind h = h
 
-not_there : (o : Option Entry) (kind : MisfitKind) → DiffersAt false None o kind → ⊥
+pub not_there : (o : Option Entry) (kind : MisfitKind) → DiffersAt false None o kind → ⊥
 not_there None kind h = h
 not_there (Some e) kind h = let z = h.0 in absurd (let y : ⊥ = cc in y)
 

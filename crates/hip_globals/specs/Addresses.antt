@@ -1,6 +1,6 @@
 -- Where globals lie: volatile ones in order from 65,536, persistent ones in order from the base of the region, each at
 -- its alignment. These addresses are this project's own.
-use Rattle.std.specs.Prelude.{ℕ, zero, suc, ◌+◌, ◌%◌, ◌≡◌, ◌≤◌, ◌&&◌, nat_le, max, Bool, true, false, List, [], ◌∷◌, All, Option, Some, None, if◌then◌else◌}
+use Rattle.std.specs.Prelude.{ℕ, zero, suc, ◌+◌, ◌%◌, ◌==◌, ◌≡◌, ◌==◌, ◌≤◌, ◌&&◌, nat_le, max, Bool, true, false, List, [], ◌∷◌, All, Option, Some, None, if◌then◌else◌}
 use Rattle.std.specs.Int.{next_multiple_of}
 use Rattle.hip_types.specs.Layout.{Fits, shape}
 use Rattle.hip_types.specs.declared.limits.TheConstants.{BASE_ALIGNMENT, HIGHEST_BASE, LARGEST_REGION, LARGEST_VOLATILE, LOWEST_BASE}
@@ -20,6 +20,10 @@ pub record IsBase (base : ℕ) : Type 0 where
   pub page : base % BASE_ALIGNMENT ≡ 0
   pub low : LOWEST_BASE ≤ base
   pub high : base ≤ HIGHEST_BASE
+
+-- whether it is one
+abbrev pub is_base : ℕ → Bool
+is_base base = (base % BASE_ALIGNMENT == 0) && (nat_le LOWEST_BASE base && nat_le base HIGHEST_BASE)
 
 -- the greater of its type's alignment and its own
 abbrev with_own : Option ℕ → ℕ → ℕ

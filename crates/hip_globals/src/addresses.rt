@@ -13,6 +13,13 @@ use hip_types::{BASE_ALIGNMENT, LARGEST_REGION, LARGEST_VOLATILE, align, size};
 /// Where the last volatile global may end.
 const VOLATILE_LIMIT: u64 = VOLATILE_START + LARGEST_VOLATILE;
 
+/// Whether the region may begin at the address: a multiple of 4,096 from 2^32 to 2^46.
+pub fn is_base(base: u64) -> bool
+    ensures { result ≡ spec.is_base base }
+{
+    base % BASE_ALIGNMENT == 0 && base >= LOWEST_BASE && base <= HIGHEST_BASE
+}
+
 /// The greater of the type's alignment and the one that is written.
 pub fn alignment(global: &GlobalVar) -> u64
     requires { Fits global.now.ty }

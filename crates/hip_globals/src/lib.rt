@@ -8,7 +8,7 @@ mod initial;
 mod initial_bytes;
 mod table;
 
-pub use addresses::{address, alignment, are_within_limits, region_size};
+pub use addresses::{address, alignment, are_within_limits, is_base, region_size};
 pub use global_addresses::GlobalAddresses;
 pub use indices::index;
 pub use initial_bytes::{region_bytes, volatile_bytes};

@@ -1,7 +1,7 @@
 -- The header of a trace: the longest front of its pieces that is a valid START, a valid REGISTER, valid INPUT entries and
 -- then valid IMAGE entries. It gives the input of a run. (This project's own.)
 use Rattle.std.specs.Prelude.{ℕ, suc, ◌+◌, ◌-◌, ◌%◌, ◌^◌, ◌&&◌, ◌==◌, nat_le, nat_lt, Bool, true, false, ℤ, List, [], ◌∷◌, ◌++◌, length, Option, Some, None, if◌then◌else◌}
-use Rattle.hip_globals.specs.Addresses.{region_size}
+use Rattle.hip_globals.specs.Addresses.{is_base, region_size}
 use Rattle.hip_ir.specs.declared.program.Program.{Program}
 use Rattle.hip_lines.specs.declared.TheConstants.{LINE_SIZE}
 use Rattle.hip_mem.specs.Bytes.{zeros}
@@ -23,10 +23,6 @@ pub data Header : Type 0 where
 abbrev pub valid_limit : Option Entry → Option ℕ
 valid_limit (Some (Start limit)) = if nat_le limit MOST_TURNS then Some limit else None
 valid_limit _ = None
-
--- a multiple of 4,096 from 2^32 to 2^46
-abbrev pub is_base : ℕ → Bool
-is_base base = (base % 4096 == 0) && (nat_le (2 ^ 32) base && nat_le base (2 ^ 46))
 
 -- the base of the region, where the size is that of the program's region
 abbrev pub valid_base : Program → Option Entry → Option ℕ

@@ -2,7 +2,7 @@
 use Rattle.std.specs.Prelude.{ℕ, List, [], ◌∷◌, ◌%◌, ◌^◌, ◌≡◌, ◌≤◌, Bool, true, ◌&&◌, nat_le, ◌==◌, length}
 use Rattle.hip_ir.specs.declared.program.GlobalVar.{GlobalVar}
 use Rattle.hip_ir.specs.declared.program.Program.{Program}
-use Rattle.hip_types.specs.declared.limits.TheConstants.{BASE_ALIGNMENT, HIGHEST_BASE, LOWEST_BASE}
+use Rattle.hip_globals.specs.Addresses.{is_base}
 use Rattle.hip_tool.specs.declared.input.Input.{Input}
 
 -- How many bytes the region of persistent globals has: whole cache lines. The one global is a number of eight bytes.
@@ -12,10 +12,6 @@ region_of (global ∷ globals) = 64
 
 abbrev pub region_size : Program → ℕ
 region_size program = region_of program.globals
-
--- the base of a region, as a test
-abbrev pub is_base : ℕ → Bool
-is_base base = (base % BASE_ALIGNMENT == 0) && (nat_le LOWEST_BASE base && nat_le base HIGHEST_BASE)
 
 abbrev pub is_limit : ℕ → Bool
 is_limit limit = nat_le limit (2 ^ 40)

@@ -3,7 +3,8 @@ use Rattle.std.specs.Prelude.{ℕ, ◌+◌, ◌≡◌, Bool, true, List, [], ◌
 use Rattle.hip_ir.specs.declared.program.Program.{Program}
 use Rattle.hip_run_traces.specs.Misfits.{FirstDiffers, StopsAt}
 use Rattle.hip_run_traces.specs.declared.misfit.MisfitKind.{MisfitKind}
-use Rattle.hip_tool.specs.Input.{region_size, is_base, is_limit}
+use Rattle.hip_globals.specs.Addresses.{is_base}
+use Rattle.hip_tool.specs.Input.{region_size, is_limit}
 use Rattle.hip_tool.specs.Run.{trace}
 use Rattle.hip_tool.specs.declared.input.Input.{Input}
 use Rattle.hip_trace.specs.Pieces.{spelled}

@@ -2,7 +2,8 @@
 use Rattle.std.specs.Prelude.{ℕ, ◌+◌, ◌≡◌, ◌≤◌, true, List, ◌∷◌, map, slice_get, Option, Some, None, IfSome, option_map, Result, Ok, Err}
 use Rattle.hip_io.specs.Cabinets.{CabinetState, StaysOpen}
 use Rattle.hip_ir.specs.declared.program.Program.{Program}
-use Rattle.hip_tool.specs.Input.{region_size, is_base, is_limit}
+use Rattle.hip_globals.specs.Addresses.{is_base}
+use Rattle.hip_tool.specs.Input.{region_size, is_limit}
 use Rattle.hip_io.specs.Counts.{Rose}
 use Rattle.hip_run_traces.specs.Misfits.{FirstDiffers}
 use Rattle.hip_run_traces.specs.declared.misfit.MisfitKind.{MisfitKind}

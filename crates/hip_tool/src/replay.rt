@@ -1,7 +1,7 @@
 //! A trace, compared with the run of its program.
 
 ghost use Rattle.std.specs.Prelude.{◌≡◌, ◌+◌, ◌<◌, ◌^◌, ◌↔◌, List, [], ℕ, Option, Some, IsTrue, IfOk, OnOk, length, slice_get};
-ghost use Rattle.hip_tool.specs.Input.{is_base, is_limit, region_size};
+ghost use Rattle.hip_tool.specs.Input.{is_limit, region_size};
 ghost use Rattle.hip_tool.specs.Misfit.{valid_limit, valid_base, input_of};
 ghost use Rattle.hip_tool.specs.OneStore.{one_store};
 ghost use Rattle.hip_tool.specs.Ahead.{seen_by};
@@ -13,11 +13,12 @@ ghost use Rattle.std.specs.Prelude.{option_map};
 
 use crate::input::Input;
 use crate::one_store::{OneStore, one_store};
+use hip_globals::is_base;
 use hip_io::Cabinet;
 use hip_ir::Program;
 use hip_run_traces::MisfitKind;
 use hip_trace::{Entry, Reader, TraceRefusal};
-use hip_types::{BASE_ALIGNMENT, HIGHEST_BASE, LOWEST_BASE, NoMemory, Row};
+use hip_types::{NoMemory, Row};
 use std::alloc::Global;
 
 /// Why a trace was not replayed.
@@ -67,12 +68,6 @@ fn is_limit(limit: u64) -> bool
     ensures { result ≡ is_limit limit }
 {
     limit <= 1 << 40
-}
-
-fn is_base(base: u64) -> bool
-    ensures { result ≡ is_base base }
-{
-    base % BASE_ALIGNMENT == 0 && base >= LOWEST_BASE && base <= HIGHEST_BASE
 }
 
 fn valid_limit(entry: &Entry) -> Option<u64>

@@ -2,8 +2,7 @@
 use Rattle.std.proofs.Common.{◌≡◌, ◌&&◌, ◌^◌, ◌%◌, ◌==◌, ℕ, true, eqb-true}
 use Rattle.std.specs.Prelude.{nat_le}
 use Rattle.std.proofs.lemmas.Bool.{and_parts, leb-true}
-use Rattle.hip_globals.specs.Addresses.{IsBase}
-use Rattle.hip_words.specs.Order.{is_base}
+use Rattle.hip_globals.specs.Addresses.{IsBase, is_base}
 
 pub base_valid : (base : ℕ) → is_base base ≡ true → IsBase base
 base_valid base e =

@@ -2,8 +2,8 @@
 use Rattle.std.specs.Prelude.{◌≡◌, ℕ, Bool, true, not, ◌==◌, List, [], ◌∷◌, Some, codes, option_map}
 use Rattle.std.specs.List.{list_all}
 use Rattle.clap.specs.Words.{Text}
-use Rattle.hip_globals.specs.Addresses.{IsBase}
-use Rattle.hip_words.specs.Order.{files_of, is_base, numbers_of, order}
+use Rattle.hip_globals.specs.Addresses.{IsBase, is_base}
+use Rattle.hip_words.specs.Order.{files_of, numbers_of, order}
 use Rattle.hip_words.specs.declared.order.Order.TheVariants.{Run}
 
 -- the word does not begin with `-`

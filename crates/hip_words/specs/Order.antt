@@ -3,6 +3,7 @@ use Rattle.std.specs.Prelude.{ℕ, ℤ, ◌%◌, ◌^◌, Bool, ◌&&◌, ◌==�
 use Rattle.std.specs.List.{after_first, before_first, position_or_len}
 use Rattle.std.specs.Str.{bytes_eq}
 use Rattle.clap.specs.Words.{Row, Text, all_of, first_of}
+use Rattle.hip_globals.specs.Addresses.{is_base}
 use Rattle.hip_runs.specs.declared.limits.TheConstants.{MOST_NUMBERS, MOST_TURNS}
 use Rattle.hip_words.specs.declared.limits.TheConstants.{LARGEST_SIZE, MOST_TRACES, SEED_END}
 use Rattle.hip_words.specs.Commands.{crash_app, demo_app, files_app, many_app, reads, record_app, run_app}
@@ -17,10 +18,6 @@ use Rattle.hip_words.specs.declared.order.Verb.TheVariants as verbs
 
 abbrev pub is_limit : ℕ → Bool
 is_limit limit = nat_le limit MOST_TURNS
-
--- a multiple of 4,096 from 2^32 to 2^46
-abbrev pub is_base : ℕ → Bool
-is_base base = (base % 4096 == 0) && (nat_le (2 ^ 32) base && nat_le base (2 ^ 46))
 
 abbrev pub is_seed : ℕ → Bool
 is_seed seed = nat_lt seed SEED_END

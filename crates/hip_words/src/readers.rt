@@ -3,7 +3,8 @@ ghost use Rattle.std.specs.Prelude.{◌≡◌, map, string_bytes, codes, option_
 ghost use Rattle.clap.specs.Words.{found_of, rows_of};
 ghost use Rattle.hip_words.specs.Answers.{Answers};
 ghost use Rattle.hip_words.specs.Commands.{crash_app, demo_app, many_app, reads, record_app, run_app};
-ghost use Rattle.hip_words.specs.Order.{crash_in, decimal_in, demo_in, files_of, is_base, is_limit, is_seed, is_size, many_in, number_in, record_in, run_in};
+ghost use Rattle.hip_globals.specs.Addresses.{is_base};
+ghost use Rattle.hip_words.specs.Order.{crash_in, decimal_in, demo_in, files_of, is_limit, is_seed, is_size, many_in, number_in, record_in, run_in};
 
 use crate::commands::{
     crash_command, demo_command, files_command, many_command, record_command, run_command,
@@ -14,6 +15,7 @@ use crate::numbers::decimal_of;
 use crate::order::Order;
 use crate::refusal::WordsRefusal;
 use clap::ArgMatches;
+use hip_globals::is_base;
 use hip_runs::MOST_TURNS;
 use hip_types::Text;
 use std::alloc::Global;
@@ -40,7 +42,7 @@ fn base_in(matches: &ArgMatches<'_>) -> Result<u64, WordsRefusal>
     ensures { Answers (number_in is_base (codes "base") (rows_of (found_of matches.now))) result }
 {
     match decimal_in(matches, "base") {
-        Some(base) if base % 4096 == 0 && base >= 1 << 32 && base <= 1 << 46 => Ok(base),
+        Some(base) if is_base(base) => Ok(base),
         _ => Err(WordsRefusal::Usage),
     }
 }

@@ -4,7 +4,7 @@ use Rattle.std.specs.Prelude.{if◌then◌else◌, ◌==◌, All}
 use Rattle.std.proofs.lemmas.Bool.{eqb-true, and_parts}
 use Rattle.std.proofs.lemmas.List.{append-nil, take_all}
 use Rattle.std.proofs.lemmas.List.Elements.{All-nil, All-append, All-push, All-replicate}
-use Rattle.hip_globals.specs.Addresses.{IsBase, end_of, region_size}
+use Rattle.hip_globals.specs.Addresses.{IsBase, end_of, region_size, is_base}
 use Rattle.hip_ir.specs.declared.program.Program.{Program}
 use Rattle.hip_mem.specs.Bytes.{zeros}
 use Rattle.hip_mem.specs.Laws.BytesLaws.{length-zeros}
@@ -12,7 +12,7 @@ use Rattle.hip_runs.specs.Laws.Members.{le_true, lt_true}
 use Rattle.hip_runs.specs.Step.{header_entries, some_byte}
 use Rattle.hip_runs.specs.Validity.{IsInput, IsValid}
 use Rattle.hip_runs.specs.declared.input.Input.{Input}
-use Rattle.hip_run_traces.specs.Headers.{Gives, valid_limit, is_base, is_empty, valid_base, is_next_line, with_number, with_line, with_entry, filled, go_on, header_from, behind_register, behind_start, header}
+use Rattle.hip_run_traces.specs.Headers.{Gives, valid_limit, is_empty, valid_base, is_next_line, with_number, with_line, with_entry, filled, go_on, header_from, behind_register, behind_start, header}
 use Rattle.hip_run_traces.specs.Laws.HeaderLaws.{told, whole_lines}
 use Rattle.hip_run_traces.specs.Laws.LineLaws.{lines_append, no_lines}
 use Rattle.hip_run_traces.specs.Laws.TraceLaws.{length-header_of}

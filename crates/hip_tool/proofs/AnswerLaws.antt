@@ -8,7 +8,8 @@ use Rattle.hip_tokens.specs.Tokens.{tokens}
 use Rattle.hip_ir.specs.declared.program.Program.{Program}
 use Rattle.hip_ir.specs.Reading.{Reads}
 use Rattle.hip_ir.specs.Laws.TextExact.{one_program}
-use Rattle.hip_tool.specs.Input.{is_base, is_limit, region_size, IsValid}
+use Rattle.hip_globals.specs.Addresses.{is_base}
+use Rattle.hip_tool.specs.Input.{is_limit, region_size, IsValid}
 use Rattle.hip_trace.specs.Pieces.{spelled}
 use Rattle.hip_tool.specs.OneStore.{is_one_store}
 use Rattle.hip_tool.specs.Misfit.{Header, Gives, header, behind_limit, from_base, spelled_limit, spelled_base, input_of, MisfitBehind, IsMisfit, IsTraceOf}

@@ -6,7 +6,8 @@ use Rattle.std.proofs.lemmas.List.{append-nil}
 use Rattle.hip_io.specs.Counts.{Rose}
 use Rattle.hip_io.specs.Cabinets.{CabinetState}
 use Rattle.hip_ir.specs.declared.program.Program.{Program}
-use Rattle.hip_tool.specs.Input.{region_size, is_base, is_limit}
+use Rattle.hip_globals.specs.Addresses.{is_base}
+use Rattle.hip_tool.specs.Input.{region_size, is_limit}
 use Rattle.hip_trace.specs.Pieces.{spelled}
 use Rattle.hip_tool.specs.Misfit.{Gives, header, valid_limit, valid_base, input_of, HeaderStops, MisfitBehind, IsMisfit, IsTraceOf}
 use Rattle.hip_tool.specs.Run.{trace, steps_of}

@@ -11,6 +11,7 @@ pub mod LineOrder
 pub mod Members
 pub mod NextLaws
 pub mod OrderLaws
+pub mod OutputLaws
 pub mod PartLaws
 pub mod SinceLaws
 pub mod SiteLaws

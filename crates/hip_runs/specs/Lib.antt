@@ -9,6 +9,7 @@ pub mod Sites
 pub mod Frames
 pub mod Entry
 pub mod Ends
+pub mod Outputs
 pub mod Standing
 pub mod Found
 pub mod StoredParts

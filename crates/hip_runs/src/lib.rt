@@ -34,8 +34,9 @@ pub use loose::{
     steps_of_nothing_may_be_left_out, tags_are_steps,
 };
 pub use order::{
-    a_step_moves_the_top, calls_were_made_in_order, events_tell_the_next_lines,
-    lines_keep_their_order, states_name_what_stands_there, steps_are_counted, the_last_fence_tells,
+    a_step_moves_the_top, calls_were_made_in_order, events_tell_output_and_ending,
+    events_tell_the_next_lines, lines_keep_their_order, states_name_what_stands_there,
+    steps_are_counted, the_last_fence_tells,
 };
 pub use report::{Findings, Kind, Mark, Marks, Report};
 pub use standing::{shown_lines_follow_the_run, valid_bytes_are_those_of_the_run};

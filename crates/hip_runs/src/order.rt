@@ -4,6 +4,7 @@
 ghost use Rattle.hip_ir.specs.declared.program.Program.{Program};
 ghost use Rattle.hip_runs.specs.StoredParts.After.{lines_after};
 ghost use Rattle.hip_runs.specs.Frames.{Moves};
+ghost use Rattle.hip_runs.specs.Outputs.{ending_by, printed_by};
 ghost use Rattle.hip_runs.specs.StoredParts.Order.{HasCalls, HasOrder, is_before, last_fence};
 ghost use Rattle.hip_runs.specs.StoredParts.Parts.{PartOf};
 ghost use Rattle.hip_runs.specs.StoredParts.Since.{top_site};
@@ -11,7 +12,7 @@ ghost use Rattle.hip_runs.specs.Sites.{HasSites};
 ghost use Rattle.hip_runs.specs.State.{StorePart, levels_of};
 ghost use Rattle.hip_runs.specs.Step.{counted, event, has_ended, run};
 ghost use Rattle.hip_runs.specs.declared.input.Input.{Input};
-ghost use Rattle.std.specs.Prelude.{◌≡◌, ℕ, suc, true, false};
+ghost use Rattle.std.specs.Prelude.{◌≡◌, ◌++◌, ℕ, suc, true, false};
 
 /// In each line of a run the parts lie in the order of their stores' steps, each covers bytes of its line alone, and
 /// it is flushed exactly where it has a first flush.
@@ -54,4 +55,13 @@ pub fn steps_are_counted()
     ensures counted { (P : Program) → (I : Input) → (n : ℕ) → has_ended (run P I n) ≡ false →
         (run P I (suc n)).counts ≡ counted (event P I (run P I n)) (run P I n).counts }
     ensures rests { (P : Program) → (I : Input) → (n : ℕ) → has_ended (run P I n) ≡ true → run P I (suc n) ≡ run P I n }
+{}
+
+/// The event of a step tells what the run prints in it, which comes behind all that it printed before, and whether it
+/// ends. One that has ended prints nothing more.
+pub fn events_tell_output_and_ending()
+    ensures output { (P : Program) → (I : Input) → (n : ℕ) →
+        (run P I (suc n)).world.output ≡ (run P I n).world.output ++ printed_by (event P I (run P I n)) }
+    ensures ending { (P : Program) → (I : Input) → (n : ℕ) →
+        (run P I (suc n)).world.ending ≡ ending_by (event P I (run P I n)) }
 {}

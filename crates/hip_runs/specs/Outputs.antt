@@ -1,0 +1,15 @@
+-- What the event of a step tells of what the run printed, and of its end.
+use Rattle.std.specs.Prelude.{ℕ, List, [], ◌++◌, Option, Some, None, codes}
+use Rattle.std.specs.Fmt.{signed_decimal}
+use Rattle.hip_runs.specs.declared.event.Ending.{Ending}
+use Rattle.hip_runs.specs.declared.event.Event.{Event}
+use Rattle.hip_runs.specs.declared.event.Event.TheVariants as events
+
+-- a number is printed in signed decimal, with a line feed
+abbrev pub printed_by : Event → List ℕ
+printed_by (events.Print z) = signed_decimal z ++ codes "\n"
+printed_by _ = []
+
+abbrev pub ending_by : Event → Option Ending
+ending_by (events.End e) = Some e
+ending_by _ = None

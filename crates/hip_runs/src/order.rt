@@ -54,7 +54,8 @@ pub fn events_tell_the_next_lines()
 pub fn steps_are_counted()
     ensures counted { (P : Program) → (I : Input) → (n : ℕ) → has_ended (run P I n) ≡ false →
         (run P I (suc n)).counts ≡ counted (event P I (run P I n)) (run P I n).counts }
-    ensures rests { (P : Program) → (I : Input) → (n : ℕ) → has_ended (run P I n) ≡ true → run P I (suc n) ≡ run P I n }
+    ensures rests { (P : Program) → (I : Input) → (n : ℕ) → has_ended (run P I n) ≡ true →
+        run P I (suc n) ≡ run P I n }
 {}
 
 /// The event of a step tells what the run prints in it, which comes behind all that it printed before, and whether it

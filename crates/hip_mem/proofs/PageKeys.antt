@@ -1,6 +1,7 @@
 -- The keys of pages, and where pages lie.
-use Rattle.std.proofs.Common.{◌≡◌, ◌≢◌, ◌⊎◌, inl, inr, ℕ, ◌+◌, ◌-◌, ◌*◌, ◌<◌, ◌≤◌, ◌&&◌, Bool, true, false, cond, nat_le, nat_lt, slice_index, refl, sym, ap, subst, ◌∙◌, arith}
+use Rattle.std.proofs.Common.{◌≡◌, ◌≢◌, ◌⊎◌, inl, inr, ℕ, ◌+◌, ◌-◌, ◌*◌, ◌<◌, ◌≤◌, ◌&&◌, Bool, true, false, cond, nat_le, nat_lt, List, length, get_or, slice_set, slice_index, refl, sym, ap, subst, ◌∙◌, arith}
 use Rattle.std.proofs.lemmas.Bool.Decides.{nat_tests}
+use Rattle.std.proofs.lemmas.List.{get_or-set_same, get_or-set_other}
 use Rattle.hip_directory.specs.Directories.{number_at}
 use Rattle.hip_mem.specs.declared.pages.Pages.{Pages}
 use Rattle.hip_mem.specs.Paging.{is_among, key_of}
@@ -119,3 +120,15 @@ stack-key r n low high = go (in_or_out 65536 n 69632)
 pub stack-place : (m : Pages) (n : ℕ) → 65536 ≤ n → n < 69632 → place_of m n ≡ number_at m.directory (n - 65536)
 unfolding place_of
 stack-place m n low high = ap (number_at m.directory) (stack-key m.region n low high)
+
+-- ---- pages that may have other bytes than 0
+
+equal_or_not : (j k : ℕ) → (j ≡ k) ⊎ (j ≢ k)
+equal_or_not j k = grind arith
+
+pub marked : (flags : List Bool) (place : ℕ) (b : Bool) → place < length flags → (n : ℕ) → get_or (slice_set flags place b) n true ≡ false → ((n ≡ place) × (b ≡ false)) ⊎ ((n ≢ place) × (get_or flags n true ≡ false))
+marked flags place b lt n e = go (equal_or_not n place)
+  where
+    go : (n ≡ place) ⊎ (n ≢ place) → ((n ≡ place) × (b ≡ false)) ⊎ ((n ≢ place) × (get_or flags n true ≡ false))
+    go (inl x) = inl (x, sym (ap (λ i. get_or (slice_set flags place b) i true) x ∙ get_or-set_same flags place b true lt) ∙ e)
+    go (inr x) = inr (x, sym (get_or-set_other flags place n b true x) ∙ e)

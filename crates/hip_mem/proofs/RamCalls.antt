@@ -1,5 +1,5 @@
 -- What the calls of a `Ram` do, by its pages.
-use Rattle.std.proofs.Common.{◌≡◌, ◌⊎◌, inl, inr, ℕ, zero, suc, ◌+◌, ◌%◌, ◌-◌, ◌^◌, ◌<◌, ◌≤◌, ◌&&◌, Bool, true, false, cond, IsTrue, ◌↔◌, ◌==◌, Option, Some, None, Result, Ok, Err, OnOk, OnErr, nat_le, nat_lt, List, [], ◌∷◌, ◌++◌, length, take, slice_index, refl, sym, ap, ap₂, ◌∙◌, arith}
+use Rattle.std.proofs.Common.{◌≡◌, ◌⊎◌, inl, inr, ℕ, zero, suc, ◌+◌, ◌%◌, ◌-◌, ◌^◌, ◌<◌, ◌≤◌, ◌&&◌, Bool, true, false, cond, IsTrue, ◌↔◌, ◌==◌, Option, Some, None, SomeIff, Result, Ok, Err, OnOk, OnErr, nat_le, nat_lt, List, [], ◌∷◌, ◌++◌, length, take, slice_index, refl, sym, ap, ap₂, ◌∙◌, arith}
 use Rattle.std.specs.Int.{next_multiple_of}
 use Rattle.hip_mem.specs.declared.refusal.MemTrap.{MemTrap}
 use Rattle.hip_mem.specs.declared.refusal.MemTrap.TheVariants.{Misaligned, BadAddress}
@@ -188,3 +188,15 @@ pushed-is s r size align e h = ap (λ m. next_multiple_of m align + size) (ap ma
 
 pub block-is : (s : Inside) (r : Areas) (align : ℕ) → areas_of s ≡ r → IsRam s → block_address r align ≡ next_multiple_of s.mark align
 block-is s r align e h = ap (λ m. next_multiple_of m align) (ap mark_of (sym e) ∙ mark-is s h)
+
+-- where the next multiple is none it is too large
+pub too_large : (o : Option ℕ) (align x : ℕ) → SomeIff o ((0 < align) × (x < 2 ^ 64)) x → ((y : ℕ) → o ≡ Some y → ⊥) → 0 < align → 2 ^ 64 ≤ x
+too_large (Some y) align x h none p = absurd (none y refl)
+too_large None align x h none p = go (below x (2 ^ 64))
+  where
+    below : (m n : ℕ) → (m < n) ⊎ (n ≤ m)
+    below m n = grind arith
+
+    go : (x < 2 ^ 64) ⊎ (2 ^ 64 ≤ x) → 2 ^ 64 ≤ x
+    go (inl lt) = absurd (h (p, lt))
+    go (inr le) = le

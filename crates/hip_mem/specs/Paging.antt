@@ -1,5 +1,5 @@
 -- Pages side by side in one list of bytes, and the directory that says where each lies.
-use Rattle.std.specs.Prelude.{◌≡◌, ◌≢◌, ℕ, ◌+◌, ◌-◌, ◌*◌, ◌%◌, ◌<◌, ◌≤◌, Bool, cond, ◌&&◌, nat_le, nat_lt, List, length, slice_index}
+use Rattle.std.specs.Prelude.{◌≡◌, ◌≢◌, ℕ, ◌+◌, ◌-◌, ◌*◌, ◌%◌, ◌<◌, ◌≤◌, Bool, true, false, cond, ◌&&◌, nat_le, nat_lt, List, length, slice_index, slice_index_or}
 use Rattle.hip_directory.specs.declared.directory.Directory.{Directory}
 use Rattle.hip_directory.specs.Directories.{number_at}
 use Rattle.hip_mem.specs.declared.TheConstants.{PAGE_SIZE}
@@ -24,3 +24,7 @@ pub record ArePages (d : Directory) (bytes : List ℕ) : Type 0 where
   pub within : (k : ℕ) → PAGE_SIZE * number_at d k + PAGE_SIZE ≤ length bytes
   pub first : (i : ℕ) → i < PAGE_SIZE → slice_index bytes i ≡ 0
   pub apart : (j k : ℕ) → j ≢ k → number_at d j ≢ 0 → number_at d j ≢ number_at d k
+
+-- a page that is not noted as one that may have other bytes is zeros
+pub record AreClean (dirty : List Bool) (bytes : List ℕ) : Type 0 where
+  pub zero : (n i : ℕ) → slice_index_or dirty n true ≡ false → i < PAGE_SIZE → slice_index bytes (PAGE_SIZE * n + i) ≡ 0

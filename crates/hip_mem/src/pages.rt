@@ -1,9 +1,9 @@
 //! Bytes by address, in pages that are made where something is written. A byte of a page that was not made is 0.
 
-ghost use Rattle.std.specs.Prelude.{◌≡◌, ◌≢◌, ℕ, ◌+◌, ◌-◌, ◌*◌, ◌/◌, ◌%◌, ◌^◌, ◌<◌, ◌≤◌, ◌&&◌, cond, nat_le, nat_lt, length, slice_index, true, IfOk, OnOk, OnErr};
+ghost use Rattle.std.specs.Prelude.{◌≡◌, ◌≢◌, ℕ, ◌+◌, ◌-◌, ◌*◌, ◌/◌, ◌%◌, ◌^◌, ◌<◌, ◌≤◌, ◌&&◌, cond, nat_le, nat_lt, length, slice_index, slice_index_or, true, false, ◌⊎◌, IfOk, OnOk, OnErr};
 ghost use Rattle.hip_directory.specs.Directories.{number_at};
 ghost use Rattle.hip_mem.specs.Memory.{byte_written};
-ghost use Rattle.hip_mem.specs.Paging.{ArePages};
+ghost use Rattle.hip_mem.specs.Paging.{ArePages, AreClean};
 ghost use Rattle.hip_mem.specs.declared.keys.TheConstants.{LOWEST_REGION_PAGE};
 ghost use Rattle.hip_mem.specs.declared.TheConstants.{PAGE_SIZE, STACK_START, STACK_END};
 
@@ -22,8 +22,11 @@ pub struct Pages {
     directory: Directory,
     // The pages side by side. The first is zeros, and is read where a page was not made.
     bytes: Vec<u8>,
+    // Whether each page may have a byte that is not 0, so that a page is not cleared again before it is written.
+    dirty: Vec<bool>,
     ghost above: { LOWEST_REGION_PAGE ≤ region },
     ghost pages: { ArePages directory bytes.items },
+    ghost clean: { AreClean dirty.items bytes.items },
 }
 
 // Page by page.
@@ -42,6 +45,7 @@ impl Pages {
             region: base / PAGE_SIZE,
             directory,
             bytes,
+            dirty: Vec::new(alloc),
         })
     }
 
@@ -79,8 +83,9 @@ impl Pages {
         ensures others { (n i : ℕ) → n ≢ number → i < PAGE_SIZE → byte_of self.new n i ≡ byte_of self.old n i }
         ensures made { (n : ℕ) → place_of self.new n ≡ place_of self.old n }
     {
-        let from = self.start(number) + at;
-        put(self.bytes.as_mut_slice(), from, bytes);
+        let start = self.start(number);
+        mark(self.dirty.as_mut_slice(), start / PAGE_SIZE as usize, true);
+        put(self.bytes.as_mut_slice(), start + at, bytes);
     }
 
     // Makes the bytes of one page zeros that lie in a range.
@@ -94,7 +99,12 @@ impl Pages {
         ensures made { (n : ℕ) → place_of self.new n ≡ place_of self.old n }
     {
         let start = self.start(number);
+        let place = start / PAGE_SIZE as usize;
+        if is_clean(self.dirty.as_slice(), place) {
+            return;
+        }
         erase(self.bytes.as_mut_slice(), start + from, start + to);
+        mark(self.dirty.as_mut_slice(), place, is_part(from, to));
     }
 
     // Makes a page where it was not made.
@@ -122,6 +132,7 @@ impl Pages {
         append_page(
             &mut self.directory,
             &mut self.bytes,
+            &mut self.dirty,
             key_of(self.region, number),
         )
     }
@@ -283,10 +294,17 @@ impl Pages {
 
 // Makes a page of zeros for a key that has none.
 #[tactic(auto, unfolding(crate::specs::Paging::key_of))]
-fn append_page(directory: &mut Directory, bytes: &mut Vec<u8>, key: u64) -> Result<(), NoMemory>
+fn append_page(
+    directory: &mut Directory,
+    bytes: &mut Vec<u8>,
+    dirty: &mut Vec<bool>,
+    key: u64,
+) -> Result<(), NoMemory>
     requires pages { ArePages directory.old bytes.old.items }
+    requires clean { AreClean dirty.old.items bytes.old.items }
     requires absent { number_at directory.old key ≡ 0 }
     ensures pages { ArePages directory.new bytes.new.items }
+    ensures clean { AreClean dirty.new.items bytes.new.items }
     ensures same { (k i : ℕ) → i < PAGE_SIZE → slice_index bytes.new.items (PAGE_SIZE * number_at directory.new k + i) ≡ slice_index bytes.old.items (PAGE_SIZE * number_at directory.old k + i) }
     ensures kept { (k : ℕ) → 0 < number_at directory.old k → 0 < number_at directory.new k }
     ensures ok { OnOk result (0 < number_at directory.new key) }
@@ -294,10 +312,53 @@ fn append_page(directory: &mut Directory, bytes: &mut Vec<u8>, key: u64) -> Resu
     let Ok(place) = u32::try_from(bytes.len() / PAGE_SIZE as usize) else {
         return Err(NoMemory);
     };
+    let fresh = bytes.len() / PAGE_SIZE as usize;
     directory.make_room(key)?;
+    extend_to(dirty, fresh + 1)?;
     append_zeros(bytes)?;
     directory.set(key, place);
     Ok(())
+}
+
+// Notes of the pages up to a number that they may have other bytes than 0.
+fn extend_to(dirty: &mut Vec<bool>, len: usize) -> Result<(), NoMemory>
+    ensures { (n : ℕ) → slice_index_or dirty.new.items n true ≡ slice_index_or dirty.old.items n true }
+{
+    if len <= dirty.len() {
+        return Ok(());
+    }
+    match dirty.resize(len, true) {
+        Ok(()) => Ok(()),
+        Err(_) => Err(NoMemory),
+    }
+}
+
+// Notes whether a page may have other bytes than 0.
+#[inline(always)]
+fn mark(dirty: &mut [bool], place: usize, is_dirty: bool)
+    ensures { (n : ℕ) → slice_index_or dirty.new n true ≡ false → ((n ≡ place) × (is_dirty ≡ false)) ⊎ ((n ≢ place) × (slice_index_or dirty.old n true ≡ false)) }
+{
+    if place >= dirty.len() {
+        return;
+    }
+    dirty[place] = is_dirty;
+}
+
+// Whether a range of a page is not all of it.
+fn is_part(from: usize, to: usize) -> bool
+    ensures { result ≡ false → (from ≡ 0) × (PAGE_SIZE ≤ to) }
+{
+    from > 0 || to < PAGE_SIZE as usize
+}
+
+// Whether a page is known to have only zeros.
+fn is_clean(dirty: &[bool], place: usize) -> bool
+    ensures { result ≡ true → slice_index_or dirty.now place true ≡ false }
+{
+    match dirty.get(place) {
+        Some(is_dirty) => !*is_dirty,
+        None => false,
+    }
 }
 
 // A page of zeros.

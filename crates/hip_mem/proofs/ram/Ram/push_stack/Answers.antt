@@ -1,7 +1,11 @@
 use Rattle.std.proofs.Common.{◌∙◌, ap, sym, refl, arith}
+use Rattle.std.specs.Int.{next_multiple_of}
 use Rattle.hip_mem.specs.Areas.{after_push}
-use Rattle.hip_mem.proofs.RamCalls.{pushed-is, block-is, areas-pushed}
+use Rattle.hip_mem.proofs.RamCalls.{too_large, pushed-is, block-is, areas-pushed}
 use Rattle.hip_mem.proofs.ram.Ram.push_stack.Goals as goal
+
+pub returns-in_default-clause-full : goal.returns-in_default-clause-full
+returns-in_default-clause-full c = (λ _. omega (arith, too_large c.checked_next_multiple_of.result c.args.align (next_multiple_of c.self.inside.mark c.args.align) c.checked_next_multiple_of.ensures c.in_default.not-Some c.requires, pushed-is c.self.inside c.args.self.now c.args.size c.args.align c.self.view_is c.self.invariant), λ _. refl)
 
 pub returns-then-mark-gt-STACK_END-clause-full : goal.returns-then-mark-gt-STACK_END-clause-full
 returns-then-mark-gt-STACK_END-clause-full c =

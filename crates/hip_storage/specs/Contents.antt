@@ -84,7 +84,9 @@ after_pop mark s = record s { areas = areas.after_pop mark s.areas }
 -- each cache line that has a byte of the range is flushed; and a fence makes durable what is flushed
 abbrev pub after_flush : ℕ → ℕ → Contents → Contents
 after_flush a n s =
-    record s { lines = cond (flushes_lines (region_of s) a n) (pending_flushed_all (a - s.areas.base) n s.lines) s.lines }
+    record s {
+      lines = cond (flushes_lines (region_of s) a n) (pending_flushed_all (a - s.areas.base) n s.lines) s.lines;
+    }
 
 abbrev pub after_fence : Contents → Contents
 after_fence s = record s { lines = pending_fenced_all s.lines }

@@ -6,10 +6,12 @@ use Rattle.hip_lines.specs.declared.TheConstants.{LINE_SIZE}
 use Rattle.hip_lines.specs.declared.part.Part.{Part}
 use Rattle.hip_mem.specs.Laws.AreasLaws.{fits-are_valid}
 use Rattle.hip_runs.specs.Actions.{is_within}
+use Rattle.hip_runs.specs.Step.{first_line, lines_size}
+use Rattle.hip_runs.specs.StoredParts.Persistence.{flushes_lines}
 use Rattle.hip_runs.specs.declared.event.Event.TheVariants as events
 use Rattle.hip_runs.specs.declared.event.TrapKind.TheVariants as traps
 use Rattle.hip_storage.specs.Calls.{HasFlushed}
-use Rattle.hip_storage.specs.Contents.{Contents, flushes_lines, first_line, lines_size, range_trap}
+use Rattle.hip_storage.specs.Contents.{Contents, range_trap, region_of}
 
 -- a range in the region of the code, whose base and size are those of the contents, has bytes
 pub record IsReached (s : Contents) (base size a n : ℕ) : Type 0 where
@@ -21,19 +23,19 @@ pub record IsReached (s : Contents) (base size a n : ℕ) : Type 0 where
   pub high : a + n ≤ base + size
 
 module _ {s : Contents} {base size a n : ℕ} (r : IsReached s base size a n) where
-  reaches : flushes_lines s a n ≡ true
+  reaches : flushes_lines (region_of s) a n ≡ true
   reaches = ap₂ (λ x y. x && y) (lt-ltb 0 n r.some) (ap₂ (λ b k. is_within b (b + k) a n) (sym r.base_is) (sym r.size_is) ∙ r.within)
 
   allowed : range_trap s a n ≡ None
   allowed = ap (λ t. cond t None (Some traps.Address)) (fits-are_valid s.areas n a (inr (inr (omega (arith, r.low, r.base_is), omega (arith, r.high, r.base_is, r.size_is)))))
 
-  lines_are : (ls : List (Pending Part)) → ls ≡ pending_flushed_all (a - base) n s.lines → ls ≡ cond (flushes_lines s a n) (pending_flushed_all (a - s.areas.base) n s.lines) s.lines
+  lines_are : (ls : List (Pending Part)) → ls ≡ pending_flushed_all (a - base) n s.lines → ls ≡ cond (flushes_lines (region_of s) a n) (pending_flushed_all (a - s.areas.base) n s.lines) s.lines
   lines_are ls e = e ∙ ap (λ b. pending_flushed_all (a - b) n s.lines) r.base_is ∙ ap (λ t. cond t (pending_flushed_all (a - s.areas.base) n s.lines) s.lines) (sym reaches)
 
-  first_is : (l : ℕ) → l ≡ base + LINE_SIZE * ((a - base) / LINE_SIZE) → l ≡ first_line s a
+  first_is : (l : ℕ) → l ≡ base + LINE_SIZE * ((a - base) / LINE_SIZE) → l ≡ first_line (region_of s) a
   first_is l e = e ∙ ap (λ b. b + LINE_SIZE * ((a - b) / LINE_SIZE)) r.base_is
 
-  size_is : (z : ℕ) → z ≡ LINE_SIZE * (((a - base) + n - 1) / LINE_SIZE + 1) - LINE_SIZE * ((a - base) / LINE_SIZE) → z ≡ lines_size s a n
+  size_is : (z : ℕ) → z ≡ LINE_SIZE * (((a - base) + n - 1) / LINE_SIZE + 1) - LINE_SIZE * ((a - base) / LINE_SIZE) → z ≡ lines_size (region_of s) a n
   size_is z e = e ∙ ap (λ b. LINE_SIZE * (((a - b) + n - 1) / LINE_SIZE + 1) - LINE_SIZE * ((a - b) / LINE_SIZE)) r.base_is
 
   pub flushes : {ls : List (Pending Part)} {l z : ℕ} → ls ≡ pending_flushed_all (a - base) n s.lines → l ≡ base + LINE_SIZE * ((a - base) / LINE_SIZE) →
@@ -41,5 +43,5 @@ module _ {s : Contents} {base size a n : ℕ} (r : IsReached s base size a n) wh
   flushes {ls} {l} {z} e f g = record {
     allowed = allowed;
     contents = ap (λ x. record { areas = s.areas; lines = x }) (lines_are ls e);
-    seen = ap₂ events.Flush (first_is l f) (size_is z g) ∙ ap (λ t. cond t (events.Flush (first_line s a) (lines_size s a n)) events.Quiet) (sym reaches);
+    seen = ap₂ events.Flush (first_is l f) (size_is z g) ∙ ap (λ t. cond t (events.Flush (first_line (region_of s) a) (lines_size (region_of s) a n)) events.Quiet) (sym reaches);
   }

@@ -1,9 +1,9 @@
 -- What contracts see of the storage of a run, and what the actions of a step do to it.
-use Rattle.std.specs.Prelude.{ℕ, ◌+◌, ◌-◌, ◌*◌, ◌/◌, Bool, cond, ◌&&◌, nat_le, nat_lt, List, [], length, Option, Some, None, option_map}
+use Rattle.std.specs.Prelude.{ℕ, ◌-◌, ◌/◌, Bool, cond, nat_le, List, [], length, Option, Some, None, option_map}
 use Rattle.hip_ir.specs.declared.program.Program.{Program}
 use Rattle.hip_mem.specs.Areas as areas
 use Rattle.hip_mem.specs.Areas.{Areas, after_write, are_valid, pushed_mark}
-use Rattle.hip_mem.specs.Bytes.{little_endian, bytes_of}
+use Rattle.hip_mem.specs.Bytes.{bytes_of, little_endian}
 use Rattle.hip_mem.specs.Memory.{stack_end}
 use Rattle.hip_mem.specs.declared.refusal.MemTrap.{MemTrap}
 use Rattle.hip_mem.specs.declared.refusal.MemTrap.TheVariants as mem_traps
@@ -12,7 +12,9 @@ use Rattle.hip_lines.specs.Pending.{Pending}
 use Rattle.hip_lines.specs.declared.TheConstants.{LINE_SIZE}
 use Rattle.hip_lines.specs.declared.part.Part.{Part}
 use Rattle.hip_globals.specs.Initial.{volatile_bytes}
-use Rattle.hip_runs.specs.Actions.{is_within}
+use Rattle.hip_runs.specs.Actions.{Flushes, Persists, in_region}
+use Rattle.hip_runs.specs.Step.{event_of}
+use Rattle.hip_runs.specs.StoredParts.Persistence.{flushes_lines}
 use Rattle.hip_runs.specs.declared.event.Event.{Event}
 use Rattle.hip_runs.specs.declared.event.Event.TheVariants as events
 use Rattle.hip_runs.specs.declared.event.TrapKind.{TrapKind}
@@ -32,23 +34,15 @@ initial P I =
       lines = none_pending_all (length I.image / LINE_SIZE);
     }
 
--- ---- addresses
+-- ---- the region
+
+-- the region of the contents, as an input has it
+abbrev pub region_of : Contents → Input
+region_of s = record { base = s.areas.base; image = s.areas.region; numbers = []; limit = 0 }
 
 -- whether the n bytes from address a on lie in the region
 abbrev pub lies_in_region : Contents → ℕ → ℕ → Bool
-lies_in_region s a n = is_within s.areas.base (s.areas.base + length s.areas.region) a n
-
--- whether a flush of a range flushes lines: it has bytes, and they lie in the region
-abbrev pub flushes_lines : Contents → ℕ → ℕ → Bool
-flushes_lines s a n = nat_lt 0 n && lies_in_region s a n
-
--- the first cache line of a range in the region, and the bytes of the lines that have a byte of it
-abbrev pub first_line : Contents → ℕ → ℕ
-first_line s a = s.areas.base + LINE_SIZE * ((a - s.areas.base) / LINE_SIZE)
-
-abbrev pub lines_size : Contents → ℕ → ℕ → ℕ
-lines_size s a n =
-    LINE_SIZE * (((a - s.areas.base) + n - 1) / LINE_SIZE + 1) - LINE_SIZE * ((a - s.areas.base) / LINE_SIZE)
+lies_in_region s a n = in_region (region_of s) a n
 
 -- ---- traps
 
@@ -90,7 +84,9 @@ after_pop mark s = record s { areas = areas.after_pop mark s.areas }
 -- each cache line that has a byte of the range is flushed; and a fence makes durable what is flushed
 abbrev pub after_flush : ℕ → ℕ → Contents → Contents
 after_flush a n s =
-    record s { lines = cond (flushes_lines s a n) (pending_flushed_all (a - s.areas.base) n s.lines) s.lines }
+    record s {
+      lines = cond (flushes_lines (region_of s) a n) (pending_flushed_all (a - s.areas.base) n s.lines) s.lines;
+    }
 
 abbrev pub after_fence : Contents → Contents
 after_fence s = record s { lines = pending_fenced_all s.lines }
@@ -102,12 +98,12 @@ store_event s a n value =
     cond (lies_in_region s a n) (events.Store a (little_endian (bytes_of n value)) n) events.Quiet
 
 abbrev pub flush_event : Contents → ℕ → ℕ → Event
-flush_event s a n = cond (flushes_lines s a n) (events.Flush (first_line s a) (lines_size s a n)) events.Quiet
+flush_event s a n = event_of (region_of s) [] (Flushes a n)
+
+abbrev pub persist_event : Contents → ℕ → ℕ → Event
+persist_event s a n = event_of (region_of s) [] (Persists a n)
 
 -- a flush of lines and a fence behind it are seen as a persist, and without lines the fence is
 abbrev pub with_fence : Event → Event
 with_fence (events.Flush line size) = events.Persist line size
 with_fence _ = events.Fence
-
-abbrev pub persist_event : Contents → ℕ → ℕ → Event
-persist_event s a n = with_fence (flush_event s a n)

@@ -13,7 +13,8 @@ use Rattle.hip_runs.specs.declared.event.Event.{Event}
 use Rattle.hip_runs.specs.declared.input.Input.{Input}
 use Rattle.hip_storage.specs.Contents.{Contents}
 
--- The contents are those of a run's memory after these writes, with this stack mark, and of these cache lines.
+-- The contents are those of a run's memory after these writes, with this stack mark, and of these cache lines; and the
+-- initial bytes of the volatile globals end where the last of these does.
 pub record HoldsRun (P : Program) (I : Input) (s : Contents) (writes : List Write) (mark : ℕ)
     (ls : List (Line StorePart)) : Type 0 where
   pub volatile : volatile_start + length (volatile_bytes P I.base) ≡ volatile_end P
@@ -46,7 +47,8 @@ performed I p action =
 
 -- A step of this action comes to this one: the contents are those of the state after it, and the event is the one that
 -- is seen.
-pub record HasDone (P : Program) (I : Input) (p : Point) (s : Contents) (e : Event) (action done : Action) : Type 0 where
+pub record HasDone (P : Program) (I : Input) (p : Point) (s : Contents) (e : Event)
+    (action done : Action) : Type 0 where
   pub is : action ≡ done
   pub holds : HoldsState P I s (performed I p done)
   pub seen : e ≡ event_of I p.frames done

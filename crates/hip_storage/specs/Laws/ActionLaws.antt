@@ -20,7 +20,7 @@ use Rattle.hip_runs.specs.Laws.Standing.ShownLaws.{holds_store, holds_flushed, h
 use Rattle.hip_runs.specs.Laws.Standing.ValidLaws.{accessed_is, memory_written, unless_trap, valid_is}
 use Rattle.hip_runs.specs.Standing.{HoldsLines, HoldsMemory}
 use Rattle.hip_runs.specs.State.{Flush, Frame, StorePart, World, levels_of, site_of}
-use Rattle.hip_runs.specs.Step.{event_of, first_line, leave, lines_size, perform, with_turn}
+use Rattle.hip_runs.specs.Step.{event_of, leave, perform, with_turn}
 use Rattle.hip_runs.specs.StoredParts.Persistence.{fenced_lines, flushed_lines, stored_lines}
 use Rattle.hip_runs.specs.StoredParts.Persistence as persistence
 use Rattle.hip_runs.specs.declared.event.Ending.TheVariants.{Trap}
@@ -30,7 +30,7 @@ use Rattle.hip_runs.specs.declared.event.TrapKind.{TrapKind}
 use Rattle.hip_runs.specs.declared.event.TrapKind.TheVariants as traps
 use Rattle.hip_runs.specs.declared.input.Input.{Input}
 use Rattle.hip_storage.specs.Calls.{HasLoaded, HasStored, HasPushed, HasFlushed, HasPersisted}
-use Rattle.hip_storage.specs.Contents.{Contents, access_trap, after_fence, after_flush, after_pop, after_push, after_store, block_trap, flush_event, flushes_lines, kind_of, lies_in_region, persist_event, range_trap, store_event, with_fence}
+use Rattle.hip_storage.specs.Contents.{Contents, access_trap, after_fence, after_flush, after_pop, after_push, after_store, block_trap, flush_event, kind_of, lies_in_region, persist_event, range_trap, region_of, store_event}
 use Rattle.hip_storage.specs.Standing.{HasDone, HoldsAt, HoldsRun, HoldsState, Point, performed}
 
 -- ---- the region of the contents is that of the run
@@ -45,7 +45,7 @@ module _ {P : Program} {I : Input} {s : Contents} {ws : List Write} {mark : ℕ}
   region_is : (a n : ℕ) → lies_in_region s a n ≡ in_region I a n
   region_is a n = ap₂ (λ b k. is_within b (b + k) a n) base_is size_is
 
-  flushes_is : (a n : ℕ) → flushes_lines s a n ≡ persistence.flushes_lines I a n
+  flushes_is : (a n : ℕ) → persistence.flushes_lines (region_of s) a n ≡ persistence.flushes_lines I a n
   flushes_is a n = ap (λ t. nat_lt 0 n && t) (region_is a n)
 
   -- ---- the lines
@@ -59,7 +59,7 @@ module _ {P : Program} {I : Input} {s : Contents} {ws : List Write} {mark : ℕ}
   lines_flushed : (flush : Flush) (a n : ℕ) → HoldsLines I (after_flush a n s).lines (flushed_lines I flush a n ls)
   lines_flushed flush a n = subst (λ ps. HoldsLines I ps (flushed_lines I flush a n ls)) (sym same) (go (persistence.flushes_lines I a n))
     where
-      same : cond (flushes_lines s a n) (pending_flushed_all (a - s.areas.base) n s.lines) s.lines ≡ cond (persistence.flushes_lines I a n) (pending_flushed_all (a - I.base) n s.lines) s.lines
+      same : cond (persistence.flushes_lines (region_of s) a n) (pending_flushed_all (a - s.areas.base) n s.lines) s.lines ≡ cond (persistence.flushes_lines I a n) (pending_flushed_all (a - I.base) n s.lines) s.lines
       same = ap₂ (λ t b. cond t (pending_flushed_all (a - b) n s.lines) s.lines) (flushes_is a n) base_is
 
       go : (b : Bool) → HoldsLines I (cond b (pending_flushed_all (a - I.base) n s.lines) s.lines) (cond b (change_range (λ _ l. persistence.flush_line flush l) (a - I.base) n ls) ls)
@@ -81,11 +81,7 @@ module _ {P : Program} {I : Input} {s : Contents} {ws : List Write} {mark : ℕ}
   flush_seen a n = ap₂ (λ t b. cond t (events.Flush (b + LINE_SIZE * ((a - b) / LINE_SIZE)) (LINE_SIZE * (((a - b) + n - 1) / LINE_SIZE + 1) - LINE_SIZE * ((a - b) / LINE_SIZE))) events.Quiet) (flushes_is a n) base_is
 
   persist_seen : (a n : ℕ) → persist_event s a n ≡ event_of I [] (Persists a n)
-  persist_seen a n = ap with_fence (flush_seen a n) ∙ by_test (persistence.flushes_lines I a n)
-    where
-      by_test : (b : Bool) → with_fence (cond b (events.Flush (first_line I a) (lines_size I a n)) events.Quiet) ≡ cond b (events.Persist (first_line I a) (lines_size I a n)) events.Fence
-      by_test true = refl
-      by_test false = refl
+  persist_seen a n = ap₂ (λ t b. cond t (events.Persist (b + LINE_SIZE * ((a - b) / LINE_SIZE)) (LINE_SIZE * (((a - b) + n - 1) / LINE_SIZE + 1) - LINE_SIZE * ((a - b) / LINE_SIZE))) events.Fence) (flushes_is a n) base_is
 
   -- the stack's mark set back
   pub pop_holds : (to : ℕ) → stack_start ≤ to → to ≤ mark → HoldsRun P I (after_pop to s) ws to ls

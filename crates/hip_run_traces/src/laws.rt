@@ -1,8 +1,8 @@
 //! The laws of traces, on definitions alone.
 
 ghost use Rattle.hip_ir.specs.declared.program.Program.{Program};
-ghost use Rattle.hip_run_traces.specs.Headers.{Gives, header};
-ghost use Rattle.hip_run_traces.specs.Misfits.{FirstDiffers, IsMisfit, IsTraceOf};
+ghost use Rattle.hip_run_traces.specs.Headers.{Gives, Stops, header};
+ghost use Rattle.hip_run_traces.specs.Misfits.{DiffersAt, FirstDiffers, IsMisfit, IsTraceOf};
 ghost use Rattle.hip_run_traces.specs.Traces.{IsTrace, header_of, trace};
 ghost use Rattle.hip_run_traces.specs.declared.misfit.MisfitKind.{MisfitKind};
 ghost use Rattle.hip_runs.specs.Step.{header_entries, run};
@@ -13,7 +13,7 @@ ghost use Rattle.hip_trace.specs.Pieces.{spelled};
 ghost use Rattle.hip_trace.specs.Texts.{lines_of};
 ghost use Rattle.hip_trace.specs.declared.entry.Entry.{Entry};
 ghost use Rattle.hip_typing.specs.Sound.{IsSound};
-ghost use Rattle.std.specs.Prelude.{◌≡◌, ◌+◌, ◌<◌, ◌++◌, ◌⊎◌, ℕ, Bool, List, Option, Some, All, length, map, true, false};
+ghost use Rattle.std.specs.Prelude.{◌≡◌, ◌+◌, ◌<◌, ◌++◌, ◌⊎◌, ◌≤◌, ℕ, Bool, List, Option, Some, All, length, map, slice_get, take, true, false};
 
 /// The trace of a run's first steps has as many entries as the run counts, and the trace of more steps begins with it.
 pub fn traces_follow_the_run()
@@ -74,11 +74,26 @@ pub fn first_bytes_decide_misfits()
         IsMisfit P front false e k → IsMisfit P (front ++ rest) whole e k }
 {}
 
-/// Where pieces differ from the trace of a run's first steps before that trace ends, they differ so from the run's trace.
+/// Behind entries that the pieces spell, the first difference is the next one. Where pieces differ from the trace of a
+/// run's first steps before that trace ends, they differ so from the run's trace.
 pub fn first_steps_decide_misfits()
-    ensures { (P : Program) → (I : Input) → (n : ℕ) → (whole : Bool) → (pieces : List (Option Entry)) →
+    ensures here { (whole : Bool) → (front : List Entry) → (pieces : List (Option Entry)) → (more : List Entry) →
+        (k : MisfitKind) → DiffersAt whole (slice_get pieces 0) (slice_get more 0) k →
+        FirstDiffers whole (map (λ e. Some e) front ++ pieces) (front ++ more) (length front) k }
+    ensures longer { (P : Program) → (I : Input) → (n : ℕ) → (whole : Bool) → (pieces : List (Option Entry)) →
         (es : List Entry) → (count : ℕ) → (k : MisfitKind) → IsTrace P I es → count < length (trace P I n) →
         FirstDiffers whole pieces (trace P I n) count k → FirstDiffers whole pieces es count k }
+{}
+
+/// A front of a file shows no misfit where its pieces are all valid entries of a header that has less than two, or all
+/// spell the first entries of the run's trace.
+pub fn fronts_that_agree_show_no_misfit()
+    ensures stops { (P : Program) → (bytes : List ℕ) → (h e : ℕ) → (k : MisfitKind) →
+        header P (spelled false bytes) ≡ Stops h → length (spelled false bytes) ≤ h → IsMisfit P bytes false e k → ⊥ }
+    ensures gives { (P : Program) → (bytes : List ℕ) → (I : Input) → (h : ℕ) → (es : List Entry) → (e : ℕ) →
+        (k : MisfitKind) → header P (spelled false bytes) ≡ Gives h I → IsTrace P I es →
+        spelled false bytes ≡ map (λ x. Some x) (take (length (spelled false bytes)) es) →
+        IsMisfit P bytes false e k → ⊥ }
 {}
 
 /// Each whole file is the trace of a run of the program or has a misfit; and a front of a file shows a misfit or none.

@@ -1,10 +1,11 @@
 //! Laws of the definitions that the contracts name.
 
-ghost use Rattle.std.specs.Prelude.{◌≡◌, ℕ, All, List, Some, map, true};
+ghost use Rattle.std.specs.Prelude.{◌≡◌, ◌∷◌, ◌++◌, ℕ, All, Bool, List, Some, map, true, false};
+ghost use Rattle.std.specs.List.{list_any};
 ghost use Rattle.hip_trace.specs.Entries.{entry_of};
 ghost use Rattle.hip_trace.specs.Fits.{IsSpelled, ValuesFit};
 ghost use Rattle.hip_trace.specs.Laws.{CanonicalTextsSpell, CanonicalTextsAreShortest, ReadersEnd};
-ghost use Rattle.hip_trace.specs.Pieces.{spelled};
+ghost use Rattle.hip_trace.specs.Pieces.{is_separator, spelled};
 ghost use Rattle.hip_trace.specs.Texts.{lines_of};
 ghost use Rattle.hip_trace.specs.declared.entry.Entry.{Entry};
 
@@ -28,6 +29,13 @@ pub fn entries_that_fit_are_spelled()
 /// Entries whose values fit are read back from the text that is written of them, a line each.
 pub fn written_entries_are_read_back()
     ensures { (es : List Entry) → All ValuesFit es → spelled true (lines_of es) ≡ map (λ e. Some e) es }
+{}
+
+/// The first piece of a file, or of a front of one, is what stands before its first separator.
+pub fn pieces_are_told_one_by_one()
+    ensures { (whole : Bool) → (piece : List ℕ) → (separator : ℕ) → (rest : List ℕ) →
+        list_any is_separator piece ≡ false → is_separator separator ≡ true →
+        spelled whole (piece ++ separator ∷ rest) ≡ entry_of piece ∷ spelled whole rest }
 {}
 
 /// At the file's end there is no entry and nothing is malformed.

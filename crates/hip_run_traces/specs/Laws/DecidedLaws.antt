@@ -1,5 +1,5 @@
 -- Each file is the trace of a run or has a misfit.
-use Rattle.std.proofs.Common.{◌≡◌, ◌⊎◌, inl, inr, ℕ, ℤ, pos, negsuc, zero, suc, ◌+◌, ◌≤◌, ◌<◌, Bool, true, false, List, [], ◌∷◌, map, length, take, slice_get, Option, Some, None, nat_eq, refl, sym, ap, ◌∙◌, subst, arith}
+use Rattle.std.proofs.Common.{◌≡◌, ◌⊎◌, inl, inr, ℕ, ℤ, pos, negsuc, suc, ◌+◌, Bool, true, false, List, [], ◌∷◌, length, take, slice_get, Option, Some, None, nat_eq, refl, sym, ap, ◌∙◌, subst}
 use Rattle.std.specs.Str.{bytes_eq}
 use Rattle.std.proofs.lemmas.Slice.Eq.{bytes_eq-Decides}
 use Rattle.hip_ir.specs.declared.program.Program.{Program}
@@ -7,12 +7,12 @@ use Rattle.hip_runs.specs.Laws.Members.{equal_true, true_equal}
 use Rattle.hip_runs.specs.declared.input.Input.{Input}
 use Rattle.hip_run_traces.specs.Headers.{Header, Stops, Gives, header}
 use Rattle.hip_run_traces.specs.Laws.HeaderLaws.{told}
-use Rattle.hip_run_traces.specs.Laws.MisfitLaws.{not_before, not_there}
+use Rattle.hip_run_traces.specs.Laws.MisfitLaws.{agree-never, no_stop}
 use Rattle.hip_run_traces.specs.Laws.TraceLaws.{one-trace, whole-trace}
-use Rattle.hip_run_traces.specs.Misfits.{kind_of, DiffersAt, FirstDiffers, StopsAt, DiffersFromRun, MisfitBehind, IsMisfit, IsTraceOf}
+use Rattle.hip_run_traces.specs.Misfits.{kind_of, FirstDiffers, StopsAt, DiffersFromRun, MisfitBehind, IsMisfit, IsTraceOf}
 use Rattle.hip_run_traces.specs.Traces.{IsTrace}
 use Rattle.hip_run_traces.specs.declared.misfit.MisfitKind.{MisfitKind}
-use Rattle.hip_run_traces.specs.declared.misfit.MisfitKind.TheVariants.{Malformed, Differs, Early, Extra}
+use Rattle.hip_run_traces.specs.declared.misfit.MisfitKind.TheVariants.{Differs, Early, Extra}
 use Rattle.hip_trace.proofs.TextLaws.{trap_word}
 use Rattle.hip_trace.specs.Entries.{trap_of, trap_text}
 use Rattle.hip_trace.specs.Pieces.{spelled}
@@ -119,28 +119,6 @@ compare whole (p ∷ ps) (e ∷ es) = go (piece_same p e) (compare whole ps es)
       all = λ w. ap (λ (x : Option Entry). x ∷ ps) q ∙ ap (λ (xs : List (Option Entry)). Some e ∷ xs) (a.all w);
     })
 
-none_past : (ps : List (Option Entry)) (c : ℕ) → length ps ≤ c → slice_get ps c ≡ None
-none_past [] c le = refl
-none_past (p ∷ ps) zero le = absurd (omega (arith, le))
-none_past (p ∷ ps) (suc c) le = none_past ps c (omega (arith, le))
-
-agree_never : (ps : List (Option Entry)) (es : List Entry) (c : ℕ) (k : MisfitKind) → Agree false ps es → FirstDiffers false ps es c k → ⊥
-agree_never ps es c k a d = go (order c (length ps))
-  where
-    order : (m n : ℕ) → (m < n) ⊎ (n ≤ m)
-    order m n = grind arith
-
-    first : take (length ps) ps ≡ told (take (length ps) es)
-    first = take_whole ps ∙ a.spell
-      where
-        take_whole : (qs : List (Option Entry)) → take (length qs) qs ≡ qs
-        take_whole [] = refl
-        take_whole (q ∷ qs) = ap (λ (xs : List (Option Entry)). q ∷ xs) (take_whole qs)
-
-    go : (c < length ps) ⊎ (length ps ≤ c) → ⊥
-    go (inl lt) = not_before false ps es c (length ps) k d first lt
-    go (inr le) = not_there (slice_get es c) k (subst (λ (p : Option (Option Entry)). DiffersAt false p (slice_get es c) k) (none_past ps c le) d.here)
-
 -- ---- files
 
 abbrev SomeMisfit : Program → List ℕ → Bool → Type 0
@@ -180,10 +158,6 @@ module _ (P : Program) (bytes : List ℕ) where
       behind : (h : Header) → header P (spelled false bytes) ≡ h → (e : ℕ) (k : MisfitKind) → IsMisfit P bytes false e k → MisfitBehind h P false (spelled false bytes) e k
       behind h q e k m = subst (λ (x : Header). MisfitBehind x P false (spelled false bytes) e k) q m.here
 
-      no_stop : (o : Option (Option Entry)) (k : MisfitKind) → o ≡ None → StopsAt false o k → ⊥
-      no_stop None k q s = let y = s.0 in let z : ⊥ = cc in z
-      no_stop (Some p) k q s = let z : ⊥ = cc in z
-
       stop : (c : ℕ) → header P (spelled false bytes) ≡ Stops c → (o : Option (Option Entry)) → slice_get (spelled false bytes) c ≡ o → SomeMisfit P bytes false ⊎ NoMisfit P bytes false
       stop c q None at = inr (λ e k m. no_stop (slice_get (spelled false bytes) c) k at (behind (Stops c) q e k m).1)
       stop c q (Some p) at = inl (behind_stop false c q p at)
@@ -193,7 +167,7 @@ module _ (P : Program) (bytes : List ℕ) where
       run c I q ts t (inr a) = inr (λ e k m. never (behind (Gives c I) q e k m))
         where
           never : {e : ℕ} {k : MisfitKind} → DiffersFromRun P I false (spelled false bytes) e k → ⊥
-          never {k = k} d = agree_never (spelled false bytes) ts d.count k a (subst (λ (xs : List Entry). FirstDiffers false (spelled false bytes) xs d.count k) (one-trace P I d.trace ts d.is_trace t) d.differs)
+          never {k = k} d = agree-never (spelled false bytes) ts d.count k a.spell (subst (λ (xs : List Entry). FirstDiffers false (spelled false bytes) xs d.count k) (one-trace P I d.trace ts d.is_trace t) d.differs)
 
       go : (h : Header) → header P (spelled false bytes) ≡ h → SomeMisfit P bytes false ⊎ NoMisfit P bytes false
       go (Stops c) q = stop c q (slice_get (spelled false bytes) c) refl

@@ -64,7 +64,7 @@ one_kind whole (Some p) None k k' h g = h ∙ sym g
 one_kind whole (Some p) (Some e) k k' h g = h.1 ∙ sym g.1
 
 -- no difference comes before the entries that are spelled
-pub not_before : (whole : Bool) (ps : List (Option Entry)) (es : List Entry) (c n : ℕ) (kind : MisfitKind) → FirstDiffers whole ps es c kind → take n ps ≡ told (take n es) → c < n → ⊥
+not_before : (whole : Bool) (ps : List (Option Entry)) (es : List Entry) (c n : ℕ) (kind : MisfitKind) → FirstDiffers whole ps es c kind → take n ps ≡ told (take n es) → c < n → ⊥
 not_before whole ps es c n kind d h lt =
     same_differs whole (slice_get es c) kind (subst (λ (p : Option (Option Entry)). DiffersAt whole p (slice_get es c) kind) (spelled_at ps es n c lt h) d.here)
 
@@ -210,7 +210,7 @@ there_differs : (w w' : Bool) (p : Option Entry) (o : Option Entry) (kind : Misf
 there_differs w w' p None kind h = h
 there_differs w w' p (Some e) kind h = h
 
-pub not_there : (o : Option Entry) (kind : MisfitKind) → DiffersAt false None o kind → ⊥
+not_there : (o : Option Entry) (kind : MisfitKind) → DiffersAt false None o kind → ⊥
 not_there None kind h = h
 not_there (Some e) kind h = let z = h.0 in absurd (let y : ⊥ = cc in y)
 
@@ -260,3 +260,46 @@ step-differs P I n whole ps es c kind t lt d =
       before = d.before ∙ ap told (sym (ap (take c) f.1 ∙ take_appended (trace P I n) f.0 c (omega (arith, lt))));
       here = subst (λ (o : Option Entry). DiffersAt whole (slice_get ps c) o kind) (sym (ap (λ (xs : List Entry). slice_get xs c) f.1 ∙ get_appended (trace P I n) f.0 c lt)) d.here;
     }
+
+-- behind entries that the pieces spell, the first difference is the next one
+pub differs-behind : (whole : Bool) (front : List Entry) (ps : List (Option Entry)) (more : List Entry) (kind : MisfitKind) → DiffersAt whole (slice_get ps 0) (slice_get more 0) kind → FirstDiffers whole (told front ++ ps) (front ++ more) (length front) kind
+differs-behind whole [] ps more kind h = record { before = refl; here = h }
+differs-behind whole (e ∷ front) ps more kind h =
+    let r = differs-behind whole front ps more kind h in
+    record { before = ap (λ (xs : List (Option Entry)). Some e ∷ xs) r.before; here = r.here }
+
+-- ---- fronts without a misfit
+
+none_past : (ps : List (Option Entry)) (c : ℕ) → length ps ≤ c → slice_get ps c ≡ None
+none_past [] c le = refl
+none_past (p ∷ ps) zero le = absurd (omega (arith, le))
+none_past (p ∷ ps) (suc c) le = none_past ps c (omega (arith, le))
+
+take_whole : (ps : List (Option Entry)) → take (length ps) ps ≡ ps
+take_whole [] = refl
+take_whole (p ∷ ps) = ap (λ (xs : List (Option Entry)). p ∷ xs) (take_whole ps)
+
+-- pieces that all spell the first entries do not differ from them
+pub agree-never : (ps : List (Option Entry)) (es : List Entry) (c : ℕ) (k : MisfitKind) → ps ≡ told (take (length ps) es) → FirstDiffers false ps es c k → ⊥
+agree-never ps es c k spell d = go (order c (length ps))
+  where
+    order : (m n : ℕ) → (m < n) ⊎ (n ≤ m)
+    order m n = grind arith
+
+    go : (c < length ps) ⊎ (length ps ≤ c) → ⊥
+    go (inl lt) = not_before false ps es c (length ps) k d (take_whole ps ∙ spell) lt
+    go (inr le) = not_there (slice_get es c) k (subst (λ (p : Option (Option Entry)). DiffersAt false p (slice_get es c) k) (none_past ps c le) d.here)
+
+pub front-agrees : (P : Program) (bytes : List ℕ) (I : Input) (h : ℕ) (es : List Entry) (e : ℕ) (k : MisfitKind) → header P (spelled false bytes) ≡ Gives h I → IsTrace P I es → spelled false bytes ≡ told (take (length (spelled false bytes)) es) → IsMisfit P bytes false e k → ⊥
+front-agrees P bytes I h es e k q t spell m =
+    let d = subst (λ (x : Header). MisfitBehind x P false (spelled false bytes) e k) q m.here in
+    agree-never (spelled false bytes) es d.count k spell (subst (λ (xs : List Entry). FirstDiffers false (spelled false bytes) xs d.count k) (one-trace P I d.trace es d.is_trace t) d.differs)
+
+pub no_stop : (o : Option (Option Entry)) (k : MisfitKind) → o ≡ None → StopsAt false o k → ⊥
+no_stop None k q s = let y = s.0 in let z : ⊥ = cc in z
+no_stop (Some p) k q s = let z : ⊥ = cc in z
+
+pub front-stops : (P : Program) (bytes : List ℕ) (h e : ℕ) (k : MisfitKind) → header P (spelled false bytes) ≡ Stops h → length (spelled false bytes) ≤ h → IsMisfit P bytes false e k → ⊥
+front-stops P bytes h e k q le m =
+    let d = subst (λ (x : Header). MisfitBehind x P false (spelled false bytes) e k) q m.here in
+    no_stop (slice_get (spelled false bytes) h) k (none_past (spelled false bytes) h le) d.1

@@ -1,5 +1,5 @@
 -- The text of a run's trace is the trace of the run.
-use Rattle.std.proofs.Common.{◌≡◌, ℕ, true, List, map, Option, Some, sym, ap, ◌∙◌, subst}
+use Rattle.std.proofs.Common.{◌≡◌, true, List, sym, ap, ◌∙◌, subst}
 use Rattle.std.specs.Prelude.{All}
 use Rattle.hip_ir.specs.declared.program.Program.{Program}
 use Rattle.hip_runs.specs.Step.{header_entries}
@@ -9,7 +9,7 @@ use Rattle.hip_run_traces.specs.Headers.{header}
 use Rattle.hip_run_traces.specs.Laws.HeaderLaws.{header-trace, told}
 use Rattle.hip_run_traces.specs.Laws.RangeLaws.{trace_fits}
 use Rattle.hip_run_traces.specs.Misfits.{IsTraceOf}
-use Rattle.hip_run_traces.specs.Traces.{IsTrace, trace}
+use Rattle.hip_run_traces.specs.Traces.{IsTrace}
 use Rattle.hip_trace.proofs.WrittenLaws.{read_back}
 use Rattle.hip_trace.specs.Fits.{ValuesFit}
 use Rattle.hip_trace.specs.Pieces.{spelled}

@@ -1,5 +1,8 @@
-use Rattle.hip_run_traces.specs.Laws.MisfitLaws.{step-differs}
+use Rattle.hip_run_traces.specs.Laws.MisfitLaws.{differs-behind, step-differs}
 use Rattle.hip_run_traces.proofs.laws.first_steps_decide_misfits.Goals as goal
 
-pub returns : goal.returns
-returns c = step-differs
+pub returns-clause-here : goal.returns-clause-here
+returns-clause-here c = differs-behind
+
+pub returns-clause-longer : goal.returns-clause-longer
+returns-clause-longer c = step-differs

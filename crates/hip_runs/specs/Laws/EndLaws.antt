@@ -101,7 +101,8 @@ still_flushing : (P : Program) (I : Input) (w : World) (a n : ℕ) (x : Action) 
 unfolding flushing
 still_flushing P I w a n x p = still_cond _ _ _ p (still_cond _ _ _ p (still_trap traps.Address))
 
-still_lines : (P : Program) (I : Input) (w : World) (effect : LineEffect) (a n : ℕ) → IsStill (line_action P I w effect a n)
+still_lines : (P : Program) (I : Input) (w : World) (effect : LineEffect) (a n : ℕ)
+    → IsStill (line_action P I w effect a n)
 still_lines P I w effects.Nothing a n = still_trap traps.Unreachable
 still_lines P I w effects.Flush a n = still_flushing P I w a n _ (record { is = tt })
 still_lines P I w effects.Fence a n = record { is = tt }
@@ -111,7 +112,8 @@ still_extern : (P : Program) (I : Input) (w : World) (call : ExternCall) (values
 still_extern P I w calls.ReadI64 values dest e = absurd (let z : ⊥ = cc in z)
 still_extern P I w calls.PrintI64 values dest e = absurd (let z : ⊥ = cc in z)
 still_extern P I w calls.PmAssert values dest e = absurd (let z : ⊥ = cc in z)
-still_extern P I w call values dest e = still_lines P I w (row_of call).effect (arg_value values 0) (flushed_size (row_of call).params values)
+still_extern P I w call values dest e =
+    still_lines P I w (row_of call).effect (arg_value values 0) (flushed_size (row_of call).params values)
 
 still_instr : (P : Program) (I : Input) (w : World) (below : ℕ) (regs : Registers) (i : Instr) → is_turn i ≡ false → IsStill (instr_action P I w below regs i)
 unfolding instr_action

@@ -118,12 +118,16 @@ module _ (P : Program) (I : Input) (f : ℕ) (tables : Tables) where
   has_op lines.FlushAndFence (x ∷ []) = false
   has_op lines.FlushAndFence (x ∷ y ∷ more) = true
 
-  record Lines (w : World) (n : Numbers) (rs : Registers) (effect : LineEffect) (params : List Scalar) (a b : Operand) (args : List Arg) : Type 0 where
+  record Lines (w : World) (n : Numbers) (rs : Registers) (effect : LineEffect) (params : List Scalar) (a b : Operand)
+      (args : List Arg) : Type 0 where
     within : PersistenceWithin n (line_op effect params a b)
-    acts : persistence_action P I w n (line_op effect params a b) ≡ line_action P I w effect (arg_value (values_of P.globals I.base rs args) 0) (flushed_size params (values_of P.globals I.base rs args))
+    acts : persistence_action P I w n (line_op effect params a b)
+        ≡ line_action P I w effect (arg_value (values_of P.globals I.base rs args) 0)
+        (flushed_size params (values_of P.globals I.base rs args))
 
-  lines_of : (w : World) (slots : List ℕ) (base : ℕ) (rs : Registers) (effect : LineEffect) (params : List Scalar) (a b : Operand) (args : List Arg) →
-      HoldsFrame names slots base rs → are_known rs (arg_uses args) → are_passed P.globals I.base names tables.constants params args a b → has_op effect params ≡ true →
+  lines_of : (w : World) (slots : List ℕ) (base : ℕ) (rs : Registers) (effect : LineEffect) (params : List Scalar)
+      (a b : Operand) (args : List Arg) → HoldsFrame names slots base rs → are_known rs (arg_uses args)
+      → are_passed P.globals I.base names tables.constants params args a b → has_op effect params ≡ true →
       Lines w (numbers_at tables slots base) rs effect params a b args
   lines_of w slots base rs lines.Fence params a b args h k t some = record { within = tt; acts = refl }
   lines_of w slots base rs lines.Flush (p ∷ []) a b (x ∷ xs) h k t some =

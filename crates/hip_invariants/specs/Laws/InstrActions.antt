@@ -134,7 +134,9 @@ module _ (P : Program) (I : Input) (w : World) (below : ℕ) (rs : Registers) (C
     extern_case calls.ReadI64 values dest read still = read_case dest w.left (read refl)
     extern_case calls.PrintI64 values dest read still = still (λ e. cc) _ tt
     extern_case calls.PmAssert values dest read still = cond_case (in_region I _ _) (Asserts _ _) (Traps traps.Address) (still (λ e. cc) _ tt) address
-    extern_case call values dest read still = lines_case (row_of call).effect (arg_value values 0) (flushed_size (row_of call).params values) (λ e. cc) (still (λ e. cc))
+    extern_case call values dest read still =
+        lines_case (row_of call).effect (arg_value values 0) (flushed_size (row_of call).params values) (λ e. cc)
+        (still (λ e. cc))
 
     numbered_case : (values : List ℕ) (dest : Option (List ℕ)) (o : Option ℕ)
         → ((h : ℕ) (fn : Function) → o ≡ Some h → slice_get P.functions h ≡ Some fn

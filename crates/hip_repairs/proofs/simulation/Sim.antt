@@ -114,7 +114,8 @@ pub plain_calculated : (dest : List ℕ) (r : Result Bits NumTrap) → IsPlain (
 plain_calculated dest (Ok b) = record { is = tt }
 plain_calculated dest (Err t) = record { is = tt }
 
-plain_lines : (P : Program) (I : Input) (w : World) (effect : LineEffect) (a n : ℕ) → IsPlain (line_action P I w effect a n)
+plain_lines : (P : Program) (I : Input) (w : World) (effect : LineEffect) (a n : ℕ)
+    → IsPlain (line_action P I w effect a n)
 plain_lines P I w effects.Nothing a n = plain_trap traps.Unreachable
 plain_lines P I w effects.Flush a n = plain_flushing P I w a n _ (record { is = tt })
 plain_lines P I w effects.Fence a n = record { is = tt }
@@ -124,7 +125,8 @@ pub plain_extern : (P : Program) (I : Input) (w : World) (call : ExternCall) (va
 plain_extern P I w calls.ReadI64 values dest = plain_read dest w.left
 plain_extern P I w calls.PrintI64 values dest = record { is = tt }
 plain_extern P I w calls.PmAssert values dest = plain_cond _ _ _ (plain_asserts _ _) (plain_trap traps.Address)
-plain_extern P I w call values dest = plain_lines P I w (row_of call).effect (arg_value values 0) (flushed_size (row_of call).params values)
+plain_extern P I w call values dest =
+    plain_lines P I w (row_of call).effect (arg_value values 0) (flushed_size (row_of call).params values)
 
 plain_assigns : (dest : Option (List ℕ)) (v : ℕ) → IsPlain (Assigns dest v)
 plain_assigns dest v = record { is = tt }

@@ -29,17 +29,20 @@ is_the_site : (o : Option Site) (s : Site) → is_site o s ≡ true → o ≡ So
 is_the_site None s e = absurd (let z : ⊥ = cc in z)
 is_the_site (Some t) s e = ap Some (sym (same_site_equal s t e))
 
-flush_at : (kind : Kind) (level : ℕ) (path : List Site) (s : Site) → asks_flush kind level path s ≡ true → slice_get path 0 ≡ Some s
+flush_at : (kind : Kind) (level : ℕ) (path : List Site) (s : Site) → asks_flush kind level path s ≡ true
+    → slice_get path 0 ≡ Some s
 flush_at MissingFence level path s e = absurd (let z : ⊥ = cc in z)
 flush_at MissingFlush level path s e = is_the_site (slice_get path 0) s (both_true (nat_eq level 0) _ e).1
 flush_at MissingBoth level path s e = is_the_site (slice_get path 0) s (both_true (nat_eq level 0) _ e).1
 
-fence_at : (kind : Kind) (level : ℕ) (flush : Option Site) (path : List Site) (s : Site) → asks_fence kind level flush path s ≡ true → (flush ≡ Some s) ⊎ (asks_flush kind level path s ≡ true)
+fence_at : (kind : Kind) (level : ℕ) (flush : Option Site) (path : List Site) (s : Site)
+    → asks_fence kind level flush path s ≡ true → (flush ≡ Some s) ⊎ (asks_flush kind level path s ≡ true)
 fence_at MissingFence level flush path s e = inl (is_the_site flush s e)
 fence_at MissingFlush level flush path s e = absurd (let z : ⊥ = cc in z)
 fence_at MissingBoth level flush path s e = inr e
 
-hoist_at : (kind : Kind) (level : ℕ) (path : List Site) (s : Site) → asks_hoist kind level path s ≡ true → (k : ℕ) × (slice_get path (suc k) ≡ Some s)
+hoist_at : (kind : Kind) (level : ℕ) (path : List Site) (s : Site) → asks_hoist kind level path s ≡ true
+    → (k : ℕ) × (slice_get path (suc k) ≡ Some s)
 hoist_at MissingFence level path s e = absurd (let z : ⊥ = cc in z)
 hoist_at MissingFlush zero path s e = absurd (let z : ⊥ = cc in z)
 hoist_at MissingFlush (suc level) path s e = (level, is_the_site (slice_get path (suc level)) s e)
@@ -60,12 +63,15 @@ module _ (P : Program) (I : Input) (found : Findings) (is_found : IsFound P I fo
       let r = any_in (λ r. asks_flush r.kind (choice P found r) r.path s) found.reports (asked.flushes.asked s h) in
       (placed r.0 r.1).store s (flush_at r.0.kind (choice P found r.0) r.0.path s r.2)
 
-  fence_suits : (s : Site) → has_site (plan_for P found).fence_after s ≡ true → (is_flush_call (instr_of P s) || has_site (plan_for P found).flush_after s) ≡ true
+  fence_suits : (s : Site) → has_site (plan_for P found).fence_after s ≡ true
+      → (is_flush_call (instr_of P s) || has_site (plan_for P found).flush_after s) ≡ true
   fence_suits s h =
       let r = any_in (λ r. asks_fence r.kind (choice P found r) r.flush_site r.path s) found.reports (asked.fences.asked s h) in
       go r.0 r.1 (fence_at r.0.kind (choice P found r.0) r.0.flush_site r.0.path s r.2)
     where
-      go : (r : Report) → In r found.reports → (r.flush_site ≡ Some s) ⊎ (asks_flush r.kind (choice P found r) r.path s ≡ true) → (is_flush_call (instr_of P s) || has_site (plan_for P found).flush_after s) ≡ true
+      go : (r : Report) → In r found.reports
+          → (r.flush_site ≡ Some s) ⊎ (asks_flush r.kind (choice P found r) r.path s ≡ true)
+          → (is_flush_call (instr_of P s) || has_site (plan_for P found).flush_after s) ≡ true
       go r i (inl e) = or_first _ _ ((placed r i).flush s e)
       go r i (inr e) = or_second (is_flush_call (instr_of P s)) _ (asked.flushes.has s (asked.fences.site s h) (in_any (λ r. asks_flush r.kind (choice P found r) r.path s) found.reports r i e))
 
@@ -87,7 +93,8 @@ module _ (P : Program) (I : Input) (found : Findings) (is_found : IsFound P I fo
 
 -- ---- the union of two plans
 
-is_there : (P : Program) (s : Site) (test : Option Instr → Bool) → test None ≡ false → test (instr_of P s) ≡ true → has_site (sites_of P) s ≡ true
+is_there : (P : Program) (s : Site) (test : Option Instr → Bool) → test None ≡ false → test (instr_of P s) ≡ true
+    → has_site (sites_of P) s ≡ true
 is_there P s test none e = go (instr_of P s) refl e
   where
     go : (o : Option Instr) → instr_of P s ≡ o → test o ≡ true → has_site (sites_of P) s ≡ true
@@ -105,12 +112,14 @@ suiting_within P plan suits = record {
     flush : (s : Site) → has_site plan.flush_after s ≡ true → has_site (sites_of P) s ≡ true
     flush s h = is_there P s is_store refl (suits.flushes s h)
 
-    by : (s : Site) → (is_flush_call (instr_of P s) ≡ true) ⊎ (has_site plan.flush_after s ≡ true) → has_site (sites_of P) s ≡ true
+    by : (s : Site) → (is_flush_call (instr_of P s) ≡ true) ⊎ (has_site plan.flush_after s ≡ true)
+        → has_site (sites_of P) s ≡ true
     by s (inl e) = is_there P s is_flush_call refl e
     by s (inr e) = flush s e
 
 module _ (P : Program) (a b : Plan) where
-  in_list : (xs ys : List Site) (s : Site) → has_site (sites_of P) s ≡ true → has_site xs s || has_site ys s ≡ true → has_site (either_list P xs ys) s ≡ true
+  in_list : (xs ys : List Site) (s : Site) → has_site (sites_of P) s ≡ true → has_site xs s || has_site ys s ≡ true
+      → has_site (either_list P xs ys) s ≡ true
   in_list xs ys s h e = filtered_has (λ t. has_site xs t || has_site ys t) (sites_of P) s (has_in (sites_of P) s h) e
 
   pub has_first : IsWithin P a → Contains (union P a b) a
@@ -127,7 +136,8 @@ module _ (P : Program) (a b : Plan) where
     hoist = λ s h. in_list a.hoist b.hoist s (w.hoist s h) (or_second (has_site a.hoist s) _ h);
   }
 
-  of_list : (xs ys : List Site) (s : Site) → has_site (either_list P xs ys) s ≡ true → (has_site xs s ≡ true) ⊎ (has_site ys s ≡ true)
+  of_list : (xs ys : List Site) (s : Site) → has_site (either_list P xs ys) s ≡ true
+      → (has_site xs s ≡ true) ⊎ (has_site ys s ≡ true)
   of_list xs ys s h = either (has_site xs s) (has_site ys s) ((filtered_are P (λ t. has_site xs t || has_site ys t)).asked s h)
 
   pub union_suits : IsSuiting P a → IsSuiting P b → IsSuiting P (union P a b)
@@ -140,21 +150,27 @@ module _ (P : Program) (a b : Plan) where
     hoists_ascend = filter_ascends P (λ t. has_site a.hoist t || has_site b.hoist t);
   }
     where
-      flush : (s : Site) → (has_site a.flush_after s ≡ true) ⊎ (has_site b.flush_after s ≡ true) → is_store (instr_of P s) ≡ true
+      flush : (s : Site) → (has_site a.flush_after s ≡ true) ⊎ (has_site b.flush_after s ≡ true)
+          → is_store (instr_of P s) ≡ true
       flush s (inl h) = f.flushes s h
       flush s (inr h) = g.flushes s h
 
-      hoist : (s : Site) → (has_site a.hoist s ≡ true) ⊎ (has_site b.hoist s ≡ true) → is_defined_call P (instr_of P s) ≡ true
+      hoist : (s : Site) → (has_site a.hoist s ≡ true) ⊎ (has_site b.hoist s ≡ true)
+          → is_defined_call P (instr_of P s) ≡ true
       hoist s (inl h) = f.hoists s h
       hoist s (inr h) = g.hoists s h
 
-      behind : (s : Site) (plan : Plan) → Contains (union P a b) plan → is_flush_call (instr_of P s) || has_site plan.flush_after s ≡ true → is_flush_call (instr_of P s) || has_site (union P a b).flush_after s ≡ true
+      behind : (s : Site) (plan : Plan) → Contains (union P a b) plan
+          → is_flush_call (instr_of P s) || has_site plan.flush_after s ≡ true
+          → is_flush_call (instr_of P s) || has_site (union P a b).flush_after s ≡ true
       behind s plan c h = by (either (is_flush_call (instr_of P s)) (has_site plan.flush_after s) h)
         where
-          by : (is_flush_call (instr_of P s) ≡ true) ⊎ (has_site plan.flush_after s ≡ true) → is_flush_call (instr_of P s) || has_site (union P a b).flush_after s ≡ true
+          by : (is_flush_call (instr_of P s) ≡ true) ⊎ (has_site plan.flush_after s ≡ true)
+              → is_flush_call (instr_of P s) || has_site (union P a b).flush_after s ≡ true
           by (inl e) = or_first _ _ e
           by (inr e) = or_second (is_flush_call (instr_of P s)) _ (c.flush_after s e)
 
-      fence : (s : Site) → (has_site a.fence_after s ≡ true) ⊎ (has_site b.fence_after s ≡ true) → is_flush_call (instr_of P s) || has_site (union P a b).flush_after s ≡ true
+      fence : (s : Site) → (has_site a.fence_after s ≡ true) ⊎ (has_site b.fence_after s ≡ true)
+          → is_flush_call (instr_of P s) || has_site (union P a b).flush_after s ≡ true
       fence s (inl h) = behind s a (has_first (suiting_within P a f)) (f.fences s h)
       fence s (inr h) = behind s b (has_second (suiting_within P b g)) (g.fences s h)

@@ -64,11 +64,15 @@ functions_have f0 (z ∷ xs) (suc f) b j x y i e h g = append-right (block_sites
 pub site_in : (P : Program) (s : Site) (i : Instr) → instr_of P s ≡ Some i → In s (sites_of P)
 site_in P s i e = go (slice_get P.functions s.function) refl e
   where
-    in_block : (fn : Function) → slice_get P.functions s.function ≡ Some fn → (o : Option Block) → slice_get fn.blocks s.block ≡ o → option_and_then (λ x. slice_get x.body s.index) o ≡ Some i → In s (sites_of P)
+    in_block : (fn : Function) → slice_get P.functions s.function ≡ Some fn → (o : Option Block)
+        → slice_get fn.blocks s.block ≡ o → option_and_then (λ x. slice_get x.body s.index) o ≡ Some i
+        → In s (sites_of P)
     in_block fn h None g e = absurd (let z : ⊥ = cc in z)
     in_block fn h (Some y) g e = subst (λ n. In (record { function = n; block = s.block; index = s.index }) (sites_of P)) (let q : 0 + s.function ≡ s.function = omega arith in q) (functions_have 0 P.functions s.function s.block s.index fn y i h g e)
 
-    go : (o : Option Function) → slice_get P.functions s.function ≡ o → option_and_then (λ x. slice_get x.body s.index) (option_and_then (λ f. slice_get f.blocks s.block) o) ≡ Some i → In s (sites_of P)
+    go : (o : Option Function) → slice_get P.functions s.function ≡ o
+        → option_and_then (λ x. slice_get x.body s.index) (option_and_then (λ f. slice_get f.blocks s.block) o) ≡ Some i
+        → In s (sites_of P)
     go None h e = absurd (let z : ⊥ = cc in z)
     go (Some fn) h e = in_block fn h (slice_get fn.blocks s.block) refl e
 
@@ -78,7 +82,8 @@ in_filtered : (test : Site → Bool) (xs : List Site) (s : Site) → In s xs →
 in_filtered test [] s i e = absurd i
 in_filtered test (x ∷ xs) s i e = go (test x) refl i (λ j. in_filtered test xs s j e)
   where
-    go : (t : Bool) → test x ≡ t → In s (x ∷ xs) → (In s xs → In s (filter test xs)) → In s (cond t (x ∷ filter test xs) (filter test xs))
+    go : (t : Bool) → test x ≡ t → In s (x ∷ xs) → (In s xs → In s (filter test xs))
+        → In s (cond t (x ∷ filter test xs) (filter test xs))
     go true h (inl same) rest = inl same
     go true h (inr j) rest = inr (rest j)
     go false h (inl same) rest = absurd (let q : test x ≡ true = subst (λ (y : Site). test y ≡ true) same e in let z : ⊥ = cc in z)
@@ -88,12 +93,14 @@ pub filtered_in : (test : Site → Bool) (xs : List Site) (s : Site) → In s (f
 filtered_in test [] s i = absurd i
 filtered_in test (x ∷ xs) s i = go (test x) refl i (λ j. filtered_in test xs s j)
   where
-    go : (t : Bool) → test x ≡ t → In s (cond t (x ∷ filter test xs) (filter test xs)) → (In s (filter test xs) → In s xs × (test s ≡ true)) → In s (x ∷ xs) × (test s ≡ true)
+    go : (t : Bool) → test x ≡ t → In s (cond t (x ∷ filter test xs) (filter test xs))
+        → (In s (filter test xs) → In s xs × (test s ≡ true)) → In s (x ∷ xs) × (test s ≡ true)
     go true h (inl same) rest = (inl same, ap test same ∙ h)
     go true h (inr j) rest = let r = rest j in (inr r.0, r.1)
     go false h j rest = let r = rest j in (inr r.0, r.1)
 
-pub filtered_has : (test : Site → Bool) (xs : List Site) (s : Site) → In s xs → test s ≡ true → has_site (filter test xs) s ≡ true
+pub filtered_has : (test : Site → Bool) (xs : List Site) (s : Site) → In s xs → test s ≡ true
+    → has_site (filter test xs) s ≡ true
 filtered_has test xs s i e = in_has (filter test xs) s (in_filtered test xs s i e)
 
 pub filtered_are : (P : Program) (test : Site → Bool) → AreSites P test (filter test (sites_of P))
@@ -118,11 +125,14 @@ Before a b = (a.function < b.function) ⊎ ((a.function ≡ b.function) × ((a.b
 is_before : (a b : Site) → site_before a b ≡ true → Before a b
 is_before a b e = go (either (nat_lt a.function b.function) _ e)
   where
-    blocks : (nat_lt a.block b.block ≡ true) ⊎ ((nat_eq a.block b.block && nat_lt a.index b.index) ≡ true) → (a.block < b.block) ⊎ ((a.block ≡ b.block) × (a.index < b.index))
+    blocks : (nat_lt a.block b.block ≡ true) ⊎ ((nat_eq a.block b.block && nat_lt a.index b.index) ≡ true)
+        → (a.block < b.block) ⊎ ((a.block ≡ b.block) × (a.index < b.index))
     blocks (inl h) = inl (lt_true _ _ h)
     blocks (inr h) = let g = both_true (nat_eq a.block b.block) _ h in inr (equal_true _ _ g.0, lt_true _ _ g.1)
 
-    go : (nat_lt a.function b.function ≡ true) ⊎ ((nat_eq a.function b.function && (nat_lt a.block b.block || (nat_eq a.block b.block && nat_lt a.index b.index))) ≡ true) → Before a b
+    go : (nat_lt a.function b.function ≡ true) ⊎
+        ((nat_eq a.function b.function && (nat_lt a.block b.block || (nat_eq a.block b.block && nat_lt a.index b.index))) ≡ true)
+        → Before a b
     go (inl h) = inl (lt_true _ _ h)
     go (inr h) = let g = both_true (nat_eq a.function b.function) _ h in inr (equal_true _ _ g.0, blocks (either (nat_lt a.block b.block) _ g.1))
 
@@ -158,17 +168,20 @@ three m n = grind arith
 total : (a b : Site) → Before a b ⊎ ((a ≡ b) ⊎ Before b a)
 total a b = functions (three a.function b.function)
   where
-    indices : a.function ≡ b.function → a.block ≡ b.block → (a.index < b.index) ⊎ ((a.index ≡ b.index) ⊎ (b.index < a.index)) → Before a b ⊎ ((a ≡ b) ⊎ Before b a)
+    indices : a.function ≡ b.function → a.block ≡ b.block
+        → (a.index < b.index) ⊎ ((a.index ≡ b.index) ⊎ (b.index < a.index)) → Before a b ⊎ ((a ≡ b) ⊎ Before b a)
     indices e f (inl h) = inl (inr (e, inr (f, h)))
     indices e f (inr (inl h)) = inr (inl (site_is a b e f h))
     indices e f (inr (inr h)) = inr (inr (inr (sym e, inr (sym f, h))))
 
-    blocks : a.function ≡ b.function → (a.block < b.block) ⊎ ((a.block ≡ b.block) ⊎ (b.block < a.block)) → Before a b ⊎ ((a ≡ b) ⊎ Before b a)
+    blocks : a.function ≡ b.function → (a.block < b.block) ⊎ ((a.block ≡ b.block) ⊎ (b.block < a.block))
+        → Before a b ⊎ ((a ≡ b) ⊎ Before b a)
     blocks e (inl h) = inl (inr (e, inl h))
     blocks e (inr (inl h)) = indices e h (three a.index b.index)
     blocks e (inr (inr h)) = inr (inr (inr (sym e, inl h)))
 
-    functions : (a.function < b.function) ⊎ ((a.function ≡ b.function) ⊎ (b.function < a.function)) → Before a b ⊎ ((a ≡ b) ⊎ Before b a)
+    functions : (a.function < b.function) ⊎ ((a.function ≡ b.function) ⊎ (b.function < a.function))
+        → Before a b ⊎ ((a ≡ b) ⊎ Before b a)
     functions (inl h) = inl (inl h)
     functions (inr (inl h)) = blocks h (three a.block b.block)
     functions (inr (inr h)) = inr (inr (inl h))
@@ -180,7 +193,8 @@ strict_order = record {
   total = λ a b. told a b (total a b);
 }
   where
-    told : (a b : Site) → Before a b ⊎ ((a ≡ b) ⊎ Before b a) → (site_before a b ≡ true) ⊎ ((a ≡ b) ⊎ (site_before b a ≡ true))
+    told : (a b : Site) → Before a b ⊎ ((a ≡ b) ⊎ Before b a)
+        → (site_before a b ≡ true) ⊎ ((a ≡ b) ⊎ (site_before b a ≡ true))
     told a b (inl h) = inl (then_before a b h)
     told a b (inr (inl h)) = inr (inl h)
     told a b (inr (inr h)) = inr (inr (then_before b a h))
@@ -219,7 +233,8 @@ sorted_filter test (x ∷ xs) h = go (test x) (sorted_filter test xs h.1)
     go true r = ((λ s i. h.0 s (filtered_in test xs s i).0), r)
     go false r = r
 
-sorted_append : (xs ys : List Site) → Sorted xs → Sorted ys → ((a b : Site) → In a xs → In b ys → Before a b) → Sorted (xs ++ ys)
+sorted_append : (xs ys : List Site) → Sorted xs → Sorted ys → ((a b : Site) → In a xs → In b ys → Before a b)
+    → Sorted (xs ++ ys)
 sorted_append [] ys h g b = g
 sorted_append (x ∷ xs) ys h g b = ((λ s i. after s (in-append xs ys s i)), sorted_append xs ys h.1 g (λ a c i j. b a c (inr i) j))
   where
@@ -249,7 +264,8 @@ blocks_at : (f b : ℕ) (xs : List Block) (s : Site) → In s (block_sites f b x
 blocks_at f b [] s i = absurd i
 blocks_at f b (x ∷ xs) s i = go (in-append (body_sites f b 0 x.body) (block_sites f (suc b) xs) s i) (λ j. blocks_at f (suc b) xs s j)
   where
-    go : In s (body_sites f b 0 x.body) ⊎ In s (block_sites f (suc b) xs) → (In s (block_sites f (suc b) xs) → InBlocks f (suc b) s) → InBlocks f b s
+    go : In s (body_sites f b 0 x.body) ⊎ In s (block_sites f (suc b) xs)
+        → (In s (block_sites f (suc b) xs) → InBlocks f (suc b) s) → InBlocks f b s
     go (inl j) rest = let r = body_at f b 0 x.body s j in record { function = r.function; block = omega (arith, r.block) }
     go (inr j) rest = let r = rest j in record { function = r.function; block = omega (arith, r.block) }
 
@@ -267,7 +283,8 @@ functions_at : (f : ℕ) (xs : List Function) (s : Site) → In s (function_site
 functions_at f [] s i = absurd i
 functions_at f (x ∷ xs) s i = go (in-append (block_sites f 0 x.blocks) (function_sites (suc f) xs) s i) (λ j. functions_at (suc f) xs s j)
   where
-    go : In s (block_sites f 0 x.blocks) ⊎ In s (function_sites (suc f) xs) → (In s (function_sites (suc f) xs) → suc f ≤ s.function) → f ≤ s.function
+    go : In s (block_sites f 0 x.blocks) ⊎ In s (function_sites (suc f) xs)
+        → (In s (function_sites (suc f) xs) → suc f ≤ s.function) → f ≤ s.function
     go (inl j) rest = let r = blocks_at f 0 x.blocks s j in omega (arith, r.function)
     go (inr j) rest = omega (arith, rest j)
 
@@ -286,7 +303,8 @@ filter_ascends P test = sorted_ascends (filter test (sites_of P)) (sorted_filter
 
 -- ---- ascending lists with the same members
 
-same_sorted : (xs ys : List Site) → Sorted xs → Sorted ys → ((s : Site) → In s xs → In s ys) → ((s : Site) → In s ys → In s xs) → xs ≡ ys
+same_sorted : (xs ys : List Site) → Sorted xs → Sorted ys → ((s : Site) → In s xs → In s ys)
+    → ((s : Site) → In s ys → In s xs) → xs ≡ ys
 same_sorted [] [] h g to from = refl
 same_sorted [] (y ∷ ys) h g to from = absurd (from y (inl refl))
 same_sorted (x ∷ xs) [] h g to from = absurd (to x (inl refl))
@@ -296,19 +314,22 @@ same_sorted (x ∷ xs) (y ∷ ys) h g to from = go (total x y) (λ a b. same_sor
     not_before a b bs after (inl e) lt = never b (subst (λ z. Before z b) e lt)
     not_before a b bs after (inr i) lt = never a (before_trans a b a lt (after a i))
 
-    behind : (a b : Site) (xs bs : List Site) → a ≡ b → AllAfter a xs → ((s : Site) → In s (a ∷ xs) → In s (b ∷ bs)) → (s : Site) → In s xs → In s bs
+    behind : (a b : Site) (xs bs : List Site) → a ≡ b → AllAfter a xs → ((s : Site) → In s (a ∷ xs) → In s (b ∷ bs))
+        → (s : Site) → In s xs → In s bs
     behind a b xs bs e after all s i = by (all s (inr i))
       where
         by : In s (b ∷ bs) → In s bs
         by (inl same) = absurd (never a (subst (Before a) (same ∙ sym e) (after s i)))
         by (inr j) = j
 
-    go : Before x y ⊎ ((x ≡ y) ⊎ Before y x) → (((s : Site) → In s xs → In s ys) → ((s : Site) → In s ys → In s xs) → xs ≡ ys) → x ∷ xs ≡ y ∷ ys
+    go : Before x y ⊎ ((x ≡ y) ⊎ Before y x)
+        → (((s : Site) → In s xs → In s ys) → ((s : Site) → In s ys → In s xs) → xs ≡ ys) → x ∷ xs ≡ y ∷ ys
     go (inl lt) rest = absurd (not_before x y ys g.0 (to x (inl refl)) lt)
     go (inr (inr lt)) rest = absurd (not_before y x xs h.0 (from y (inl refl)) lt)
     go (inr (inl e)) rest = ap (λ z. z ∷ xs) e ∙ ap (λ zs. y ∷ zs) (rest (behind x y xs ys e h.0 to) (behind y x ys xs (sym e) g.0 from))
 
-pub same_members : (xs ys : List Site) → is_ascending xs ≡ true → is_ascending ys ≡ true → ((s : Site) → has_site xs s ≡ has_site ys s) → xs ≡ ys
+pub same_members : (xs ys : List Site) → is_ascending xs ≡ true → is_ascending ys ≡ true
+    → ((s : Site) → has_site xs s ≡ has_site ys s) → xs ≡ ys
 same_members xs ys h g same =
     same_sorted xs ys (ascending_sorted xs h) (ascending_sorted ys g)
     (λ s i. has_in ys s (sym (same s) ∙ in_has xs s i))

@@ -137,7 +137,8 @@ module _ (skip : Site → Bool) where
         ap₂ (λ xs ys. xs ++ ys) (not_missing _ _ _ (none_needed _))
         (ap₂ (λ xs ys. xs ++ ys) (not_missing _ _ _ (none_needed _)) (not_missing _ _ _ (none_needed _)))
 
-    no_clones : clone_functions P (clones_of P no_repairs) w (cloned P no_repairs) (fresh_names P (cloned P no_repairs)) ≡ []
+    no_clones : clone_functions P (clones_of P no_repairs) w (cloned P no_repairs)
+        (fresh_names P (cloned P no_repairs)) ≡ []
     no_clones = ap (λ ks. clone_functions P (clones_of P no_repairs) w ks (fresh_names P ks)) (none_cloned P)
 
     pub nothing_repaired : repaired P no_repairs skip ≡ P
@@ -147,5 +148,6 @@ module _ (skip : Site → Bool) where
 
 -- ---- inputs
 
-pub valid_again : (P : Program) (plan : Plan) (skip : Site → Bool) (I : Input) → IsValid P I → IsValid (repaired P plan skip) I
+pub valid_again : (P : Program) (plan : Plan) (skip : Site → Bool) (I : Input) → IsValid P I
+    → IsValid (repaired P plan skip) I
 valid_again P plan skip I v = record { base = v.base; image = v.image; numbers = v.numbers; limit = v.limit }

@@ -122,7 +122,8 @@ still_extern : (P : Program) (I : Input) (w : World) (call : ExternCall) (values
 still_extern P I w calls.ReadI64 values dest e = absurd (let z : ⊥ = cc in z)
 still_extern P I w calls.PrintI64 values dest e = absurd (let z : ⊥ = cc in z)
 still_extern P I w calls.PmAssert values dest e = absurd (let z : ⊥ = cc in z)
-still_extern P I w call values dest e = still_lines P I w (row_of call).effect (arg_value values 0) (flushed_size (row_of call).params values)
+still_extern P I w call values dest e =
+    still_lines P I w (row_of call).effect (arg_value values 0) (flushed_size (row_of call).params values)
 
 still_instr : (P : Program) (I : Input) (w : World) (below : ℕ) (regs : Registers) (i : Instr) → is_turn i ≡ false
     → IsStill (instr_action P I w below regs i)

@@ -78,7 +78,8 @@ module _ (P : Program) (I : Input) (w : World) (below : ℕ) (rs : Registers) wh
   unfolding flushing
   fits_flushing a n x o h = fits_cond (nat_eq n 0) x (cond (are_valid P I w a n) x (Traps traps.Address)) o h (fits_cond (are_valid P I w a n) x (Traps traps.Address) o h (record { is = tt {0} }))
 
-  fits_lines : (effect : LineEffect) (a n : ℕ) (o : Option Instr) → (effect ≡ effects.Flush → is_flush_call o ≡ true) → (effect ≡ effects.FlushAndFence → is_persist_call o ≡ true) → Fits P (line_action P I w effect a n) o
+  fits_lines : (effect : LineEffect) (a n : ℕ) (o : Option Instr) → (effect ≡ effects.Flush → is_flush_call o ≡ true)
+      → (effect ≡ effects.FlushAndFence → is_persist_call o ≡ true) → Fits P (line_action P I w effect a n) o
   fits_lines effects.Nothing a n o flush persist = record { is = tt {0} }
   fits_lines effects.Flush a n o flush persist = fits_flushing a n (Flushes a n) o (record { is = flush refl })
   fits_lines effects.Fence a n o flush persist = record { is = tt {0} }
@@ -132,7 +133,9 @@ module _ (P : Program) (I : Input) (w : World) (below : ℕ) (rs : Registers) wh
       go (Some calls.PmAssert) q = let vs = values_of P.globals I.base rs args in fits_cond (in_region I (arg_value vs 0) (arg_value vs 1)) (Asserts (arg_value vs 0) (arg_value vs 1)) (Traps traps.Address) _ (record { is = tt {0} }) (record { is = tt {0} })
       go (Some call) q =
           let vs = values_of P.globals I.base rs args in
-          fits_lines (row_of call).effect (arg_value vs 0) (flushed_size (row_of call).params vs) (Some (Call dest ret callee args)) (λ e. ap only_flushes q ∙ flushes_alone call e) (λ e. ap persists q ∙ flushes_and_fences call e)
+          fits_lines (row_of call).effect (arg_value vs 0) (flushed_size (row_of call).params vs)
+          (Some (Call dest ret callee args)) (λ e. ap only_flushes q ∙ flushes_alone call e)
+          (λ e. ap persists q ∙ flushes_and_fences call e)
 
 fits_jump : (P : Program) (I : Input) (f : Frame) (b : Option ℕ) (o : Option Instr) → Fits P (jump_to P I f b) o
 fits_jump P I f None o = record { is = tt {0} }

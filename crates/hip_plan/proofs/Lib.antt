@@ -1,2 +1,5 @@
+mod Calls
+mod Greatest
+mod Levels
 mod Sites
 mod Sums

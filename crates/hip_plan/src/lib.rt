@@ -1,7 +1,11 @@
 //! Scores of sites, the level at which a report is repaired, and the plan for what a run found.
 #![tactic(auto)]
 
+mod choice;
+mod scores;
 mod site_set;
 mod worths;
 
+pub use choice::choose;
+pub use scores::score;
 pub use site_set::SiteSet;

@@ -3,3 +3,4 @@ mod Greatest
 mod Levels
 mod Sites
 mod Sums
+mod Tables

@@ -4,6 +4,7 @@
 mod choice;
 mod scores;
 mod site_set;
+mod worth_table;
 mod worths;
 
 pub use choice::choose;

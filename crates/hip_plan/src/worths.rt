@@ -47,7 +47,8 @@ fn is_marked(hit: &[usize], object: Object) -> bool
     }
 }
 
-fn worth_of(is_marked: bool) -> i128
+/// What an object adds to a worth.
+pub fn worth_of(is_marked: bool) -> i128
     ensures { result ≡ spec.worth_of is_marked }
 {
     if is_marked { 1 } else { -1 }

@@ -51,7 +51,7 @@ module _ (old new : List (OperandKey × ℤ)) (hit : List ℕ) (marks : List Mar
           let m : Mark = get_or marks i d in
           ap (λ o. unwrap_or o (pos 0)) (updates (operand_key s k))
           ∙ ap (λ t. unwrap_or (cond t (Some w) (lookup (same_operand (operand_key s k)) old)) (pos 0))
-            (ap (λ x. same_operand x (operand_key s k)) at ∙ regroup (nat_eq m.site.function s.function) (nat_eq m.site.block s.block) (nat_eq m.site.index s.index) (nat_eq m.operand k))
+          (ap (λ x. same_operand x (operand_key s k)) at ∙ regroup (nat_eq m.site.function s.function) (nat_eq m.site.block s.block) (nat_eq m.site.index s.index) (nat_eq m.operand k))
           ∙ told s k (same_site m.site s && nat_eq m.operand k) refl
           ∙ sym (worth-append hit s k (take i marks) m (pos 0))
           ∙ ap (λ ms. worth_in hit s k ms (pos 0)) (sym (take_more marks i d h))

@@ -2,11 +2,13 @@
 #![tactic(auto)]
 
 mod choice;
+mod making;
 mod scores;
 mod site_set;
 mod worth_table;
 mod worths;
 
 pub use choice::choose;
+pub use making::plan;
 pub use scores::score;
 pub use site_set::SiteSet;

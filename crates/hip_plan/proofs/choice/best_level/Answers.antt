@@ -13,14 +13,14 @@ each-preserved g c =
     let h : i < c.args.closed = omega (arith, c.min-index-end.ensures) in
     let within : i < length c.args.calls.now = omega (arith, c.min-index-end.ensures) in
     elim c.if-is_better.branch [
-      then-is_better w ↦
-        taken c.args.checked.now found best c.args.closed i c.args.calls.now _ h within c.if-is_better.level c.if-is_better.best w.level-is (w.best-is ∙ c.score_by-score.ensures)
-        (ap (is_better c.each.best) w.best-is ∙ sym c.is_better.ensures ∙ w.if-is_better.true)
-        ∙ c.each.invariant
-    | else-is_better w ↦
-        ap₂ (λ (n : ℕ) (s : Option ℤ). (best_of c.args.checked.now found (record { level = n; score = s }) (i + 1 + 1) (c.args.closed - (i + 1)) (drop (i + 1) c.args.calls.now)).level) w.level-is w.best-is
-        ∙ left c.args.checked.now found best c.args.closed i c.args.calls.now _ h within c.score_by-score.result c.score_by-score.ensures (sym c.is_better.ensures ∙ w.if-is_better.false)
-        ∙ c.each.invariant
+      | then-is_better w ↦
+          taken c.args.checked.now found best c.args.closed i c.args.calls.now _ h within c.if-is_better.level c.if-is_better.best w.level-is (w.best-is ∙ c.score_by-score.ensures)
+          (ap (is_better c.each.best) w.best-is ∙ sym c.is_better.ensures ∙ w.if-is_better.true)
+          ∙ c.each.invariant
+      | else-is_better w ↦
+          ap₂ (λ (n : ℕ) (s : Option ℤ). (best_of c.args.checked.now found (record { level = n; score = s }) (i + 1 + 1) (c.args.closed - (i + 1)) (drop (i + 1) c.args.calls.now)).level) w.level-is w.best-is
+          ∙ left c.args.checked.now found best c.args.closed i c.args.calls.now _ h within c.score_by-score.result c.score_by-score.ensures (sym c.is_better.ensures ∙ w.if-is_better.false)
+          ∙ c.each.invariant
     ]
 
 pub returns : goal.returns

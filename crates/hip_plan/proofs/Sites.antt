@@ -39,7 +39,7 @@ pub cmp-is_eq : (a b : Site) → is_eq (site_cmp a b) ≡ same_site a b
 cmp-is_eq a b = simp (then-is_eq, number-is_eq) refl
 
 pub cmp-is_lt : (a b : Site) → is_lt (site_cmp a b) ≡ site_before a b
-cmp-is_lt a b = simp (then-is_lt, then-is_eq, number-is_eq, number-is_lt) refl
+cmp-is_lt a b = simp (then-is_lt, number-is_eq, number-is_lt) refl
 
 -- a set has a site exactly where its list does
 pub keys_have : (sites : List Site) (s : Site) → list_any (is_at (site_cmp s)) sites ≡ has_site sites s

@@ -28,6 +28,8 @@ mod nested_texts;
 #[cfg(test)]
 mod number_texts;
 #[cfg(test)]
+mod plans;
+#[cfg(test)]
 mod programs;
 #[cfg(test)]
 mod reached_functions;

@@ -2,8 +2,10 @@
 #![tactic(auto)]
 
 mod counts;
+mod laws;
 mod reason;
 mod union;
 
+pub use laws::unions_are_one;
 pub use reason::{Reason, Sort, reasons};
 pub use union::plan_many;

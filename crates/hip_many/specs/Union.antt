@@ -1,0 +1,18 @@
+-- The union of plans.
+use Rattle.std.specs.Prelude.{◌≡◌, Bool, true, List}
+use Rattle.std.specs.List.{list_any}
+use Rattle.hip_ir.specs.Sites.{has_site}
+use Rattle.hip_ir.specs.declared.site.Site.{Site}
+use Rattle.hip_fix.specs.Suits.{is_ascending}
+use Rattle.hip_fix.specs.declared.plan.Plan.{Plan}
+
+-- the list ascends, and has the sites that one of the plans has in its list
+pub record HasAll (sites_in : Plan → List Site) (plans : List Plan) (list : List Site) : Type 0 where
+  pub ascends : is_ascending list ≡ true
+  pub has : (s : Site) → has_site list s ≡ list_any (λ p. has_site (sites_in p) s) plans
+
+-- the union of plans, list by list
+pub record IsUnion (plans : List Plan) (plan : Plan) : Type 0 where
+  pub flush_after : HasAll (λ p. p.flush_after) plans plan.flush_after
+  pub fence_after : HasAll (λ p. p.fence_after) plans plan.fence_after
+  pub hoist : HasAll (λ p. p.hoist) plans plan.hoist

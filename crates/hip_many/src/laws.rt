@@ -1,0 +1,16 @@
+//! Laws of unions of plans.
+
+ghost use Rattle.std.specs.Prelude.{◌≡◌, List, [], ◌∷◌};
+ghost use Rattle.hip_ir.specs.declared.program.Program.{Program};
+ghost use Rattle.hip_fix.specs.Planned.{IsWithin, union};
+ghost use Rattle.hip_fix.specs.Suits.{no_repairs};
+ghost use Rattle.hip_fix.specs.declared.plan.Plan.{Plan};
+ghost use Rattle.hip_many.specs.Union.{IsUnion};
+
+/// Plans have one union. That of no plans is the empty plan, and that of two plans of a program is the union that is defined by the
+/// program's sites.
+pub fn unions_are_one()
+    ensures one { (plans : List Plan) → (a b : Plan) → IsUnion plans a → IsUnion plans b → a ≡ b }
+    ensures none { IsUnion [] no_repairs }
+    ensures two { (P : Program) → (a b : Plan) → IsWithin P a → IsWithin P b → IsUnion (a ∷ b ∷ []) (union P a b) }
+{}

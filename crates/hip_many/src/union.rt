@@ -1,0 +1,60 @@
+ghost use Rattle.std.specs.Prelude.{◌≡◌, ◌||◌, Bool, IfOk, OnOk};
+ghost use Rattle.hip_ir.specs.Sites.{has_site};
+ghost use Rattle.hip_ir.specs.declared.program.Program.{Program};
+ghost use Rattle.hip_ir.specs.declared.site.Site.{Site};
+ghost use Rattle.hip_typing.specs.Sound.{IsSound};
+ghost use Rattle.hip_runs.specs.Found.Marks.{IsFound};
+ghost use Rattle.hip_runs.specs.StoredParts.Parts.{In};
+ghost use Rattle.hip_runs.specs.Validity.{IsValid};
+ghost use Rattle.hip_runs.specs.declared.input.Input.{Input};
+ghost use Rattle.hip_runs.specs.declared.report.Findings.{Findings};
+ghost use Rattle.hip_fix.specs.Choice.{Contains, plan_for};
+ghost use Rattle.hip_fix.specs.Clean.{IsClean};
+ghost use Rattle.hip_fix.specs.Quiet.{IsQuiet};
+ghost use Rattle.hip_fix.specs.Repaired.{repaired};
+ghost use Rattle.hip_fix.specs.Suits.{IsSuiting};
+ghost use Rattle.hip_fix.specs.declared.plan.Plan.{Plan};
+ghost use Rattle.hip_many.specs.Union.{IsUnion};
+
+use hip_fix::Plan;
+use hip_ir::Site;
+use hip_plan::SiteSet;
+use hip_types::NoMemory;
+use std::alloc::Global;
+
+fn add_all(set: &mut SiteSet, sites: &[Site]) -> Result<(), NoMemory>
+    ensures { OnOk result ((s : Site) → has_site set.new s ≡ (has_site sites.now s || has_site set.old s)) }
+{
+    'each: for site in sites {
+        set.insert(*site)?;
+    }
+    Ok(())
+}
+
+/// The union of plans, list by list; of no plans it is the empty plan. It has each of them, it suits each program that all of them
+/// suit, and a program that is repaired by it is clean on the input of each run whose plan is among them.
+///
+/// Time is linear in the plans, but that sites are sorted; memory is linear in the union.
+pub fn plan_many(alloc: Global, plans: &[Plan]) -> Result<Plan, NoMemory>
+    ensures union { IfOk result (IsUnion plans.now) }
+    ensures contains { IfOk result (λ plan. (part : Plan) → In part plans.now → Contains plan part) }
+    ensures suits { IfOk result (λ plan. (P : Program) → ((part : Plan) → In part plans.now → IsSuiting P part) →
+        IsSuiting P plan) }
+    ensures clean { IfOk result (λ plan. (P : Program) → (skip : Site → Bool) → (I : Input) → (found : Findings) →
+        IsSound P → IsValid P I → IsQuiet P skip → IsFound P I found → In (plan_for P found) plans.now →
+        IsClean (repaired P plan skip) I) }
+{
+    let mut flush_after = SiteSet::new(alloc);
+    let mut fence_after = SiteSet::new(alloc);
+    let mut hoist = SiteSet::new(alloc);
+    'each: for plan in plans {
+        add_all(&mut flush_after, plan.flush_after.as_slice())?;
+        add_all(&mut fence_after, plan.fence_after.as_slice())?;
+        add_all(&mut hoist, plan.hoist.as_slice())?;
+    }
+    Ok(Plan {
+        flush_after: flush_after.to_row(alloc)?,
+        fence_after: fence_after.to_row(alloc)?,
+        hoist: hoist.to_row(alloc)?,
+    })
+}

@@ -1,0 +1,31 @@
+-- The best level so far and those of the calls that are left.
+use Rattle.std.proofs.Common.{◌≡◌, ℕ, ◌+◌, ◌-◌, ◌<◌, ◌≤◌, length, drop, min, Option, ℤ, refl, sym, ap, ap₂, ◌∙◌, arith}
+use Rattle.hip_fix.specs.Choice.{Candidate, best_of, is_better}
+use Rattle.hip_plan.proofs.Levels.{best_end, left, taken}
+use Rattle.hip_plan.proofs.choice.best_level.Goals as goal
+use Rattle.hip_plan.proofs.choice.best_level.Goals.{then-is_better, else-is_better}
+
+pub each-preserved : goal.each-preserved
+each-preserved g c =
+    let found = g.W.Worths.found c.args.worths.now in
+    let i : ℕ = c.each.index in
+    let best : Candidate = record { level = c.each.level; score = c.each.best } in
+    let h : i < c.args.closed = omega (arith, c.min-index-end.ensures) in
+    let within : i < length c.args.calls.now = omega (arith, c.min-index-end.ensures) in
+    elim c.if-is_better.branch [
+      | then-is_better w ↦
+          taken c.args.checked.now found best c.args.closed i c.args.calls.now _ h within c.if-is_better.level c.if-is_better.best w.level-is (w.best-is ∙ c.score_by-score.ensures)
+          (ap (is_better c.each.best) w.best-is ∙ sym c.is_better.ensures ∙ w.if-is_better.true)
+          ∙ c.each.invariant
+      | else-is_better w ↦
+          ap₂ (λ (n : ℕ) (s : Option ℤ). (best_of c.args.checked.now found (record { level = n; score = s }) (i + 1 + 1) (c.args.closed - (i + 1)) (drop (i + 1) c.args.calls.now)).level) w.level-is w.best-is
+          ∙ left c.args.checked.now found best c.args.closed i c.args.calls.now _ h within c.score_by-score.result c.score_by-score.ensures (sym c.is_better.ensures ∙ w.if-is_better.false)
+          ∙ c.each.invariant
+    ]
+
+pub returns : goal.returns
+returns g c =
+    let found = g.W.Worths.found c.args.worths.now in
+    let i : ℕ = c.each.index in
+    let ended : min c.args.closed (length c.args.calls.now) ≤ i = omega (arith, c.min-index-end.ensures) in
+    ap (λ (x : Candidate). x.level) (sym (best_end c.args.checked.now found (record { level = c.each.level; score = c.each.best }) c.args.closed i c.args.calls.now ended)) ∙ c.each.invariant

@@ -1,0 +1,35 @@
+-- The sites that a report asks for.
+use Rattle.std.specs.Prelude.{ℕ, zero, suc, Bool, cond, nat_eq, is_some, List, Option, Some, None, slice_get}
+use Rattle.hip_ir.specs.Sites.{instr_of}
+use Rattle.hip_ir.specs.declared.program.Program.{Program}
+use Rattle.hip_ir.specs.declared.site.Site.{Site}
+use Rattle.hip_runs.specs.declared.report.Kind.{Kind}
+use Rattle.hip_runs.specs.declared.report.Kind.TheVariants.{MissingFlush, MissingFence, MissingBoth}
+
+-- the site of the store, where a report is repaired there
+abbrev pub store_at : ℕ → List Site → Option Site
+store_at level path = cond (nat_eq level 0) (slice_get path 0) None
+
+-- the site of the call of a level
+abbrev pub call_at : ℕ → List Site → Option Site
+call_at level path = cond (nat_eq level 0) None (slice_get path level)
+
+-- the site that a report asks a flush, or a fence, behind, and the call that it asks to hoist
+abbrev pub flush_asked : Kind → ℕ → List Site → Option Site
+flush_asked MissingFence level path = None
+flush_asked MissingFlush level path = store_at level path
+flush_asked MissingBoth level path = store_at level path
+
+abbrev pub fence_asked : Kind → ℕ → Option Site → List Site → Option Site
+fence_asked MissingFence level flush path = flush
+fence_asked MissingFlush level flush path = None
+fence_asked MissingBoth level flush path = store_at level path
+
+abbrev pub hoist_asked : Kind → ℕ → List Site → Option Site
+hoist_asked MissingFence level path = None
+hoist_asked MissingFlush level path = call_at level path
+hoist_asked MissingBoth level path = call_at level path
+
+-- whether an instruction of the program stands at the site
+abbrev pub is_there : Program → Site → Bool
+is_there P s = is_some (instr_of P s)

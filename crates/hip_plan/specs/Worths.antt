@@ -1,0 +1,45 @@
+-- Worths as they are added up, and the greatest of them.
+use Rattle.std.specs.Prelude.{ℕ, ◌≡◌, Bool, true, false, cond, ◌&&◌, nat_eq, List, Option, Some, None, ℤ, pos, int_lt, unwrap_or}
+use Rattle.std.specs.Map.{lookup}
+use Rattle.hip_types.specs.declared.number.Scalar.{Scalar}
+use Rattle.hip_types.specs.declared.number.Scalar.TheVariants.{Int, Ptr}
+use Rattle.hip_ir.specs.declared.instr.Arg.{Arg}
+use Rattle.hip_ir.specs.Sites.{same_site}
+use Rattle.hip_ir.specs.declared.site.Site.{Site}
+use Rattle.hip_runs.specs.Found.Scores.{is_marked, worth_in, worth_of}
+use Rattle.hip_runs.specs.declared.report.Mark.{Mark}
+
+-- what a mark adds to the worth of an operand; nothing where it is of another operand
+abbrev pub added_by : List ℕ → Mark → Site → ℕ → ℤ
+added_by hit mark site operand =
+    cond (same_site mark.site site && nat_eq mark.operand operand) (worth_of (is_marked hit mark.object)) (pos 0)
+
+abbrev pub is_pointer : Arg → Bool
+is_pointer a = has_pointer a.ty
+  where
+    has_pointer : Scalar → Bool
+    has_pointer Ptr = true
+    has_pointer (Int w) = false
+
+-- the greater one of the greatest worth so far and a worth
+abbrev pub greatest : Option ℤ → ℤ → Option ℤ
+greatest None a = Some a
+greatest (Some b) a = Some (cond (int_lt b a) a b)
+
+-- ---- the table of worths
+
+-- function, block and index of a site, and the number of one of its pointer operands
+abbrev pub OperandKey : Type 0
+OperandKey = ℕ × ℕ × ℕ × ℕ
+
+abbrev pub same_operand : OperandKey → OperandKey → Bool
+same_operand a b = nat_eq a.0 b.0 && nat_eq a.1 b.1 && nat_eq a.2 b.2 && nat_eq a.3 b.3
+
+-- the worth that stands in the table for an operand; 0 where none does
+abbrev pub worth_among : List (OperandKey × ℤ) → OperandKey → ℤ
+worth_among entries key = unwrap_or (lookup (same_operand key) entries) (pos 0)
+
+-- the table has the worths by these marks
+pub record HasWorths (entries : List (OperandKey × ℤ)) (hit : List ℕ) (marks : List Mark) : Type 0 where
+  pub worth : (site : Site) (operand : ℕ) →
+      worth_among entries (site.function, site.block, site.index, operand) ≡ worth_in hit site operand marks (pos 0)

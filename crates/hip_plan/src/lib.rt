@@ -1,0 +1,14 @@
+//! Scores of sites, the level at which a report is repaired, and the plan for what a run found.
+#![tactic(auto)]
+
+mod choice;
+mod making;
+mod scores;
+mod site_set;
+mod worth_table;
+mod worths;
+
+pub use choice::choose;
+pub use making::plan;
+pub use scores::score;
+pub use site_set::SiteSet;

@@ -1,0 +1,94 @@
+ghost use Rattle.std.specs.Prelude.{◌≡◌, ◌&&◌, ◌||◌, IfOk, OnOk};
+ghost use Rattle.hip_ir.specs.Sites.{has_site};
+ghost use Rattle.hip_ir.specs.declared.site.Site.{Site};
+ghost use Rattle.hip_runs.specs.Found.Marks.{IsFound};
+ghost use Rattle.hip_runs.specs.declared.input.Input.{Input};
+ghost use Rattle.hip_fix.specs.Choice.{is_site, plan_for};
+ghost use Rattle.hip_fix.specs.Suits.{IsSuiting};
+ghost use Rattle.hip_plan.specs.Asked as spec;
+ghost use Rattle.hip_plan.specs.Asked.{is_there};
+
+use crate::choice::choose_by;
+use crate::site_set::SiteSet;
+use crate::worth_table::WorthTable;
+use hip_fix::Plan;
+use hip_ir::{Program, Site, instr_at};
+use hip_runs::{Findings, Kind, Report};
+use hip_types::NoMemory;
+use hip_typing::Checked;
+use std::alloc::Global;
+
+/// The store that a report asks a flush behind.
+fn flush_asked(report: &Report, level: usize) -> Option<Site>
+    ensures { result ≡ spec.flush_asked report.now.kind level report.now.path }
+{
+    match report.kind {
+        Kind::MissingFlush | Kind::MissingBoth if level == 0 => report.path.get(0).copied(),
+        _ => None,
+    }
+}
+
+/// The flush that a report asks a fence behind: one that lacks it, or the one that is put after the store.
+fn fence_asked(report: &Report, level: usize) -> Option<Site>
+    ensures { result ≡ spec.fence_asked report.now.kind level report.now.flush_site report.now.path }
+{
+    match report.kind {
+        Kind::MissingFence => report.flush_site,
+        Kind::MissingBoth if level == 0 => report.path.get(0).copied(),
+        _ => None,
+    }
+}
+
+/// The call that a report asks to hoist.
+fn hoist_asked(report: &Report, level: usize) -> Option<Site>
+    ensures { result ≡ spec.hoist_asked report.now.kind level report.now.path }
+{
+    match report.kind {
+        Kind::MissingFlush | Kind::MissingBoth if level != 0 => report.path.get(level).copied(),
+        _ => None,
+    }
+}
+
+fn is_there(program: &Program, site: Site) -> bool
+    ensures { result ≡ is_there program.now site }
+{
+    instr_at(program, site).is_some()
+}
+
+/// Puts a site in, where there is one and the program has it.
+fn add(sites: &mut SiteSet, program: &Program, site: Option<Site>) -> Result<(), NoMemory>
+    ensures { OnOk result ((s : Site) →
+        has_site sites.new s ≡ ((is_site site s && is_there program.now s) || has_site sites.old s)) }
+{
+    match site {
+        Some(site) if is_there(program, site) => sites.insert(site),
+        _ => Ok(()),
+    }
+}
+
+/// The plan for what was found: in each list the sites of the program that some report asks for, in ascending order. It suits the
+/// program where this is what a run of it found.
+///
+/// Time and memory are linear in the marks and the reports, but that sites are sorted.
+pub fn plan(alloc: Global, checked: &Checked, findings: &Findings) -> Result<Plan, NoMemory>
+    ensures is { IfOk result (λ plan. plan ≡ plan_for checked.now findings.now) }
+    ensures suits { IfOk result (λ plan. (I : Input) → IsFound checked.now I findings.now →
+        IsSuiting checked.now plan) }
+{
+    let program = checked.program();
+    let worths = WorthTable::new(alloc, findings)?;
+    let mut flush_after = SiteSet::new(alloc);
+    let mut fence_after = SiteSet::new(alloc);
+    let mut hoist = SiteSet::new(alloc);
+    'each: for report in findings.reports.as_slice() {
+        let level = choose_by(checked, &worths, report);
+        add(&mut flush_after, program, flush_asked(report, level))?;
+        add(&mut fence_after, program, fence_asked(report, level))?;
+        add(&mut hoist, program, hoist_asked(report, level))?;
+    }
+    Ok(Plan {
+        flush_after: flush_after.to_row(alloc)?,
+        fence_after: fence_after.to_row(alloc)?,
+        hoist: hoist.to_row(alloc)?,
+    })
+}

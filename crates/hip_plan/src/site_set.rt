@@ -1,0 +1,57 @@
+ghost use Rattle.std.specs.Prelude.{◌≡◌, ◌||◌, [], true, IfOk, OnOk, OnErr};
+ghost use Rattle.hip_ir.specs.Sites.{has_site, same_site};
+ghost use Rattle.hip_ir.specs.declared.site.Site.{Site};
+ghost use Rattle.hip_fix.specs.Suits.{is_ascending};
+
+use hip_ir::Site;
+use hip_types::{NoMemory, Row};
+use std::alloc::Global;
+use std::collections::BTreeSet;
+use std::marker::Model;
+
+/// A set of sites. Contracts see the ascending list of them.
+#[derive(Drop)]
+pub struct SiteSet {
+    sites: BTreeSet<Site>,
+}
+
+impl Model for SiteSet {
+    ghost use Rattle.std.specs.Prelude.{◌≡◌, List, true};
+    ghost use Rattle.hip_ir.specs.declared.site.Site.{Site};
+    ghost use Rattle.hip_fix.specs.Suits.{is_ascending};
+
+    ghost Value = { List Site };
+
+    ghost view = { λ s. s.sites.keys };
+}
+
+impl SiteSet {
+    /// A set of no sites. It takes no memory.
+    pub fn new(alloc: Global) -> SiteSet
+        ensures { result ≡ [] }
+    {
+        SiteSet {
+            sites: BTreeSet::new(alloc),
+        }
+    }
+
+    /// Puts a site in. It takes time logarithmic in the number of sites, and memory where the site is new.
+    pub fn insert(&mut self, site: Site) -> Result<(), NoMemory>
+        ensures ok { OnOk result ((s : Site) → has_site self.new s ≡ (same_site s site || has_site self.old s)) }
+        ensures err { OnErr result (self.new ≡ self.old) }
+    {
+        match self.sites.insert(site) {
+            Ok(_) => Ok(()),
+            Err(_) => Err(NoMemory),
+        }
+    }
+
+    /// The sites, in ascending order.
+    pub fn to_row(&self, alloc: Global) -> Result<Row<Site>, NoMemory>
+        ensures sites { IfOk result (λ row. row ≡ self.now) }
+        ensures ascending { is_ascending self.now ≡ true }
+    {
+        let sites: Vec<Site> = self.sites.iter().copied().collect(alloc)?;
+        Ok(Row::from_vec(sites))
+    }
+}

@@ -1,0 +1,106 @@
+ghost use Rattle.std.specs.Prelude.{◌≡◌, ℕ, nat_eq, IfOk};
+ghost use Rattle.std.specs.List.{list_any};
+ghost use Rattle.hip_runs.specs.Found.Scores.{is_marked};
+ghost use Rattle.hip_plan.specs.Worths.{HasWorths, worth_among};
+
+use crate::worths::{Worths, worth_of};
+use hip_ir::Site;
+use hip_runs::{Findings, Mark, Object};
+use hip_types::NoMemory;
+use indexmap::{IndexMap, IndexSet};
+use std::alloc::Global;
+use std::marker::Model;
+
+/// Function, block and index of a site, and the number of one of its pointer operands.
+type OperandKey = (usize, usize, usize, usize);
+
+/// What a run found, with the worth of each operand in a table. Contracts see the findings.
+#[derive(Drop)]
+pub struct WorthTable<'a> {
+    found: &'a Findings,
+    worths: IndexMap<OperandKey, i128>,
+}
+
+impl<'a> Model for WorthTable<'a> {
+    ghost use Rattle.hip_runs.specs.declared.report.Findings.{Findings};
+    ghost use Rattle.hip_plan.specs.Worths.{HasWorths};
+
+    ghost Value = { Findings };
+
+    ghost view = { λ t. t.found.now };
+
+    ghost invariant = { λ t. HasWorths t.worths.entries t.found.now.marks.hit t.found.now.marks.pointed };
+}
+
+fn key_of(site: Site, operand: usize) -> OperandKey
+    ensures { result ≡ (site.function, site.block, site.index, operand) }
+{
+    (site.function, site.block, site.index, operand)
+}
+
+/// The numbers of a list, looked up by their hashes.
+fn set_of(alloc: Global, numbers: &[usize]) -> Result<IndexSet<usize>, NoMemory>
+    ensures { IfOk result (λ set. (n : ℕ) → list_any (nat_eq n) set.keys ≡ list_any (nat_eq n) numbers.now) }
+{
+    let mut set = IndexSet::new(alloc);
+    'each: for number in numbers {
+        let _is_new = set.insert(*number)?;
+    }
+    Ok(set)
+}
+
+fn is_marked(hit: &IndexSet<usize>, object: Object) -> bool
+    ensures { result ≡ is_marked hit.now.keys object }
+{
+    match object {
+        Object::Global(global) => hit.contains(&global),
+        Object::Slot(_) => false,
+    }
+}
+
+/// The worth that stands in the table for an operand; 0 where none does.
+fn worth_among(worths: &IndexMap<OperandKey, i128>, key: OperandKey) -> i128
+    ensures { result ≡ worth_among worths.now.entries key }
+{
+    worths.get(&key).copied().unwrap_or(0)
+}
+
+/// The worths of all operands that the marks name.
+fn worths_of(
+    alloc: Global,
+    hit: &[usize],
+    pointed: &[Mark],
+) -> Result<IndexMap<OperandKey, i128>, NoMemory>
+    ensures { IfOk result (λ worths. HasWorths worths.entries hit.now pointed.now) }
+{
+    let hit = set_of(alloc, hit)?;
+    let mut worths = IndexMap::new(alloc);
+    'each: for mark in pointed {
+        let key = key_of(mark.site, mark.operand);
+        let worth = worth_among(&worths, key) + worth_of(is_marked(&hit, mark.object));
+        worths.insert(key, worth)?;
+    }
+    Ok(worths)
+}
+
+impl<'a> WorthTable<'a> {
+    /// The table of a run's marks. It takes time and memory linear in the marks.
+    pub fn new(alloc: Global, found: &'a Findings) -> Result<WorthTable<'a>, NoMemory>
+        ensures { IfOk result (λ table. table ≡ found.now) }
+    {
+        let worths = worths_of(
+            alloc,
+            found.marks.hit.as_slice(),
+            found.marks.pointed.as_slice(),
+        )?;
+        Ok(WorthTable { found, worths })
+    }
+}
+
+impl<'a> Worths for WorthTable<'a> {
+    ghost found = { λ f. f };
+
+    fn worth(&self, site: Site, operand: usize) -> i128 {
+        worth_among(&self.worths, key_of(site, operand))
+    }
+}

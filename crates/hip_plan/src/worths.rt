@@ -1,0 +1,76 @@
+ghost use Rattle.std.specs.List.{list_any};
+ghost use Rattle.std.specs.Prelude.{◌≡◌, nat_eq, pos};
+ghost use Rattle.hip_runs.specs.Found.Scores as spec;
+ghost use Rattle.hip_runs.specs.Found.Scores.{worth, worth_in};
+ghost use Rattle.hip_plan.specs.Worths.{added_by};
+ghost use Rattle.hip_runs.specs.declared.report.Findings.{Findings};
+
+use hip_ir::Site;
+use hip_runs::{Findings, Mark, Object};
+
+/// What a run found, as it is asked for the worths of operands.
+pub trait Worths {
+    ghost found: { Self → Findings };
+
+    /// The worth of that pointer operand of a site: how many marked objects it pointed into, less how many others.
+    fn worth(&self, site: Site, operand: usize) -> i128
+        ensures { result ≡ worth (found self.now).marks site operand };
+}
+
+/// Findings go through all their marks for each operand, and take no memory.
+impl Worths for Findings {
+    ghost found = { λ f. f };
+
+    fn worth(&self, site: Site, operand: usize) -> i128 {
+        worth_by(
+            self.marks.hit.as_slice(),
+            self.marks.pointed.as_slice(),
+            site,
+            operand,
+        )
+    }
+}
+
+fn is_hit(hit: &[usize], global: usize) -> bool
+    ensures { result ≡ list_any (nat_eq global) hit.now }
+{
+    hit.iter().any(|number| global == *number)
+}
+
+/// Whether the object is a persistent global that was stored into.
+fn is_marked(hit: &[usize], object: Object) -> bool
+    ensures { result ≡ spec.is_marked hit.now object }
+{
+    match object {
+        Object::Global(global) => is_hit(hit, global),
+        Object::Slot(_) => false,
+    }
+}
+
+/// What an object adds to a worth.
+pub fn worth_of(is_marked: bool) -> i128
+    ensures { result ≡ spec.worth_of is_marked }
+{
+    if is_marked { 1 } else { -1 }
+}
+
+/// What a mark adds to the worth of an operand: nothing where it is of another operand.
+fn added_by(hit: &[usize], mark: &Mark, site: Site, operand: usize) -> i128
+    ensures { result ≡ added_by hit.now mark.now site operand }
+{
+    if mark.site == site && mark.operand == operand {
+        worth_of(is_marked(hit, mark.object))
+    } else {
+        0
+    }
+}
+
+fn worth_by(hit: &[usize], pointed: &[Mark], site: Site, operand: usize) -> i128
+    ensures { result ≡ worth_in hit.now site operand pointed.now (pos 0) }
+{
+    let mut sum = 0i128;
+    'each: for mark in pointed {
+        sum += added_by(hit, mark, site, operand);
+    }
+    sum
+}

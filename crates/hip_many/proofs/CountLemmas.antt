@@ -10,8 +10,8 @@ use Rattle.std.proofs.lemmas.List.Sums.{count_by-le-length, count_by_more_no, co
 use Rattle.hip_ir.specs.Sites.{has_site, same_site}
 use Rattle.hip_ir.specs.declared.site.Site.{Site}
 use Rattle.hip_runs.specs.Laws.Found.FoundLaws.{same_site_equal}
-use Rattle.hip_fix.specs.SiteSets.{Key, same_key}
-use Rattle.hip_fix.specs.declared.plan.Plan.{Plan}
+use Rattle.hip_insertions.specs.SiteSets.{Key, same_key}
+use Rattle.hip_repairs.specs.declared.plan.Plan.{Plan}
 use Rattle.hip_many.specs.Counts.{count_at, counted, none_met}
 use Rattle.hip_many.specs.Reasons.{plans_with, sites_in}
 use Rattle.hip_many.specs.declared.counts.Count.{Count}

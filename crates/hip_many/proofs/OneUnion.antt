@@ -5,10 +5,10 @@ use Rattle.hip_ir.specs.Sites.{has_site, sites_of}
 use Rattle.hip_ir.specs.declared.program.Program.{Program}
 use Rattle.hip_ir.specs.declared.site.Site.{Site}
 use Rattle.hip_types.specs.Laws.DistinctLaws.{either}
-use Rattle.hip_fix.specs.Laws.SiteOrder.{filter_ascends, filtered_are, same_members}
-use Rattle.hip_fix.specs.Planned.{IsWithin, either_list, union}
-use Rattle.hip_fix.specs.Suits.{no_repairs}
-use Rattle.hip_fix.specs.declared.plan.Plan.{Plan}
+use Rattle.hip_repairs.specs.Laws.SiteOrder.{filter_ascends, filtered_are, same_members}
+use Rattle.hip_repairs.specs.Planned.{IsWithin, either_list, union}
+use Rattle.hip_repairs.specs.Suits.{no_repairs}
+use Rattle.hip_repairs.specs.declared.plan.Plan.{Plan}
 use Rattle.hip_many.specs.Union.{HasAll, IsUnion}
 
 same_list : (sites_in : Plan → List Site) (plans : List Plan) (xs ys : List Site) → HasAll sites_in plans xs → HasAll sites_in plans ys → xs ≡ ys

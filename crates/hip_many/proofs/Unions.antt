@@ -10,9 +10,9 @@ use Rattle.hip_types.specs.Laws.DistinctLaws.{either, or_first, or_second}
 use Rattle.hip_runs.specs.Laws.Members.{any_in, in_any}
 use Rattle.hip_runs.specs.Sites.{is_flush_call}
 use Rattle.hip_runs.specs.StoredParts.Parts.{In}
-use Rattle.hip_fix.specs.Choice.{Contains}
-use Rattle.hip_fix.specs.Suits.{IsSuiting, is_ascending}
-use Rattle.hip_fix.specs.declared.plan.Plan.{Plan}
+use Rattle.hip_repairs.specs.Choice.{Contains}
+use Rattle.hip_repairs.specs.Suits.{IsSuiting, is_ascending}
+use Rattle.hip_repairs.specs.declared.plan.Plan.{Plan}
 use Rattle.hip_many.specs.Union.{HasAll, IsUnion}
 
 -- ---- one item more

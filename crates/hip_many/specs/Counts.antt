@@ -2,7 +2,7 @@
 use Rattle.std.specs.Prelude.{ℕ, ◌+◌, ◌-◌, ◌^◌, min, cond, nat_eq, List, unwrap_or}
 use Rattle.std.specs.Map.{lookup}
 use Rattle.hip_ir.specs.declared.site.Site.{Site}
-use Rattle.hip_fix.specs.SiteSets.{Key, same_key}
+use Rattle.hip_insertions.specs.SiteSets.{Key, same_key}
 use Rattle.hip_many.specs.declared.counts.Count.{Count}
 
 abbrev pub none_met : Count

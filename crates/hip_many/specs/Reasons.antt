@@ -2,7 +2,7 @@
 use Rattle.std.specs.Prelude.{ℕ, List, ◌++◌, map, count_by}
 use Rattle.hip_ir.specs.Sites.{has_site}
 use Rattle.hip_ir.specs.declared.site.Site.{Site}
-use Rattle.hip_fix.specs.declared.plan.Plan.{Plan}
+use Rattle.hip_repairs.specs.declared.plan.Plan.{Plan}
 use Rattle.hip_many.specs.declared.reason.Reason.{Reason}
 use Rattle.hip_many.specs.declared.reason.Sort.{Sort}
 use Rattle.hip_many.specs.declared.reason.Sort.TheVariants.{Flush, Fence, Hoist}

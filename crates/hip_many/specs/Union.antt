@@ -3,8 +3,8 @@ use Rattle.std.specs.Prelude.{◌≡◌, Bool, true, List}
 use Rattle.std.specs.List.{list_any}
 use Rattle.hip_ir.specs.Sites.{has_site}
 use Rattle.hip_ir.specs.declared.site.Site.{Site}
-use Rattle.hip_fix.specs.Suits.{is_ascending}
-use Rattle.hip_fix.specs.declared.plan.Plan.{Plan}
+use Rattle.hip_repairs.specs.Suits.{is_ascending}
+use Rattle.hip_repairs.specs.declared.plan.Plan.{Plan}
 
 -- the list ascends, and has the sites that one of the plans has in its list
 pub record HasAll (sites_in : Plan → List Site) (plans : List Plan) (list : List Site) : Type 0 where

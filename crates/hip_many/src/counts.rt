@@ -6,8 +6,8 @@ ghost use Rattle.hip_many.specs.Counts.{count_at};
 ghost use Rattle.hip_many.specs.Reasons.{plans_with};
 
 use crate::reason::Sort;
-use hip_fix::Plan;
 use hip_ir::Site;
+use hip_repairs::Plan;
 use hip_types::NoMemory;
 use indexmap::IndexMap;
 use std::alloc::Global;

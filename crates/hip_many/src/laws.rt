@@ -2,9 +2,9 @@
 
 ghost use Rattle.std.specs.Prelude.{◌≡◌, List, [], ◌∷◌};
 ghost use Rattle.hip_ir.specs.declared.program.Program.{Program};
-ghost use Rattle.hip_fix.specs.Planned.{IsWithin, union};
-ghost use Rattle.hip_fix.specs.Suits.{no_repairs};
-ghost use Rattle.hip_fix.specs.declared.plan.Plan.{Plan};
+ghost use Rattle.hip_repairs.specs.Planned.{IsWithin, union};
+ghost use Rattle.hip_repairs.specs.Suits.{no_repairs};
+ghost use Rattle.hip_repairs.specs.declared.plan.Plan.{Plan};
 ghost use Rattle.hip_many.specs.Union.{IsUnion};
 
 /// Plans have one union. That of no plans is the empty plan, and that of two plans of a program is the union that is defined by the

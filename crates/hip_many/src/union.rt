@@ -8,17 +8,17 @@ ghost use Rattle.hip_runs.specs.StoredParts.Parts.{In};
 ghost use Rattle.hip_runs.specs.Validity.{IsValid};
 ghost use Rattle.hip_runs.specs.declared.input.Input.{Input};
 ghost use Rattle.hip_runs.specs.declared.report.Findings.{Findings};
-ghost use Rattle.hip_fix.specs.Choice.{Contains, plan_for};
-ghost use Rattle.hip_fix.specs.Clean.{IsClean};
-ghost use Rattle.hip_fix.specs.Quiet.{IsQuiet};
-ghost use Rattle.hip_fix.specs.Repaired.{repaired};
-ghost use Rattle.hip_fix.specs.Suits.{IsSuiting};
-ghost use Rattle.hip_fix.specs.declared.plan.Plan.{Plan};
+ghost use Rattle.hip_repairs.specs.Choice.{Contains, plan_for};
+ghost use Rattle.hip_repairs.specs.Clean.{IsClean};
+ghost use Rattle.hip_repairs.specs.Quiet.{IsQuiet};
+ghost use Rattle.hip_repairs.specs.Repaired.{repaired};
+ghost use Rattle.hip_repairs.specs.Suits.{IsSuiting};
+ghost use Rattle.hip_repairs.specs.declared.plan.Plan.{Plan};
 ghost use Rattle.hip_many.specs.Union.{IsUnion};
 
-use hip_fix::Plan;
 use hip_ir::Site;
 use hip_plan::SiteSet;
+use hip_repairs::{Plan, repairs_are_clean};
 use hip_types::NoMemory;
 use std::alloc::Global;
 
@@ -44,6 +44,7 @@ pub fn plan_many(alloc: Global, plans: &[Plan]) -> Result<Plan, NoMemory>
         IsSound P → IsValid P I → IsQuiet P skip → IsFound P I found → In (plan_for P found) plans.now →
         IsClean (repaired P plan skip) I) }
 {
+    repairs_are_clean();
     let mut flush_after = SiteSet::new(alloc);
     let mut fence_after = SiteSet::new(alloc);
     let mut hoist = SiteSet::new(alloc);

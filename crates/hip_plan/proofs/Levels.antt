@@ -8,7 +8,7 @@ use Rattle.hip_runs.specs.declared.report.Findings.{Findings}
 use Rattle.hip_runs.specs.declared.report.Kind.{Kind}
 use Rattle.hip_runs.specs.declared.report.Kind.TheVariants.{MissingFlush, MissingFence, MissingBoth}
 use Rattle.hip_runs.specs.declared.report.Report.{Report}
-use Rattle.hip_fix.specs.Choice.{Candidate, best_of, best_on, better, choice, is_better, level_for}
+use Rattle.hip_repairs.specs.Choice.{Candidate, best_of, best_on, better, choice, is_better, level_for}
 
 module _ (P : Program) (found : Findings) where
   -- one level more

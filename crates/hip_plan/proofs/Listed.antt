@@ -14,10 +14,10 @@ use Rattle.hip_runs.specs.declared.report.Findings.{Findings}
 use Rattle.hip_runs.specs.declared.report.Kind.{Kind}
 use Rattle.hip_runs.specs.declared.report.Kind.TheVariants.{MissingFlush, MissingFence, MissingBoth}
 use Rattle.hip_runs.specs.declared.report.Report.{Report}
-use Rattle.hip_fix.specs.Choice.{asks_fence, asks_flush, asks_hoist, is_site, plan_for}
-use Rattle.hip_fix.specs.Laws.SiteOrder.{filter_ascends, filtered_are, same_members}
-use Rattle.hip_fix.specs.Suits.{is_ascending}
-use Rattle.hip_fix.specs.declared.plan.Plan.{Plan}
+use Rattle.hip_repairs.specs.Choice.{asks_fence, asks_flush, asks_hoist, is_site, plan_for}
+use Rattle.hip_repairs.specs.Laws.SiteOrder.{filter_ascends, filtered_are, same_members}
+use Rattle.hip_repairs.specs.Suits.{is_ascending}
+use Rattle.hip_repairs.specs.declared.plan.Plan.{Plan}
 use Rattle.hip_plan.specs.Asked.{call_at, fence_asked, flush_asked, hoist_asked, is_there, store_at}
 use Rattle.hip_plan.proofs.Places.{sites_there}
 

@@ -10,7 +10,7 @@ use Rattle.hip_ir.specs.declared.program.Program.{Program}
 use Rattle.hip_ir.specs.declared.site.Site.{Site}
 use Rattle.hip_runs.specs.Laws.PartLaws.{in-append}
 use Rattle.hip_runs.specs.StoredParts.Parts.{In}
-use Rattle.hip_fix.specs.Laws.SiteOrder.{has_in, in_has, site_in}
+use Rattle.hip_repairs.specs.Laws.SiteOrder.{has_in, in_has, site_in}
 use Rattle.hip_plan.specs.Asked.{is_there}
 
 record InBody (k : ℕ) (body : List Instr) (s : Site) : Type 0 where

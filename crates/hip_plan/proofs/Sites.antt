@@ -12,7 +12,7 @@ use Rattle.std.specs.declared.cmp.Ordering.TheVariants.{Less, Equal, Greater}
 use Rattle.hip_ir.specs.Sites.{has_site, same_site}
 use Rattle.hip_ir.specs.contracts.site.SiteOrd.TheImpl as derived
 use Rattle.hip_ir.specs.declared.site.Site.{Site}
-use Rattle.hip_fix.specs.Suits.{is_ascending, site_before}
+use Rattle.hip_repairs.specs.Suits.{is_ascending, site_before}
 use Rattle.hip_runs.specs.Laws.Members.{true_both}
 
 -- the order that sites are compared by

@@ -1,6 +1,6 @@
 ghost use Rattle.std.specs.Prelude.{◌≡◌, ◌≤◌};
-ghost use Rattle.hip_fix.specs.Choice as spec;
-ghost use Rattle.hip_fix.specs.Choice.{best_of, choice};
+ghost use Rattle.hip_repairs.specs.Choice as spec;
+ghost use Rattle.hip_repairs.specs.Choice.{best_of, choice};
 
 use crate::scores::score_by;
 use crate::worths::Worths;

@@ -1,7 +1,7 @@
 ghost use Rattle.std.specs.Prelude.{◌≡◌, ◌||◌, [], true, IfOk, OnOk, OnErr};
 ghost use Rattle.hip_ir.specs.Sites.{has_site, same_site};
 ghost use Rattle.hip_ir.specs.declared.site.Site.{Site};
-ghost use Rattle.hip_fix.specs.Suits.{is_ascending};
+ghost use Rattle.hip_repairs.specs.Suits.{is_ascending};
 
 use hip_ir::Site;
 use hip_types::{NoMemory, Row};
@@ -18,7 +18,7 @@ pub struct SiteSet {
 impl Model for SiteSet {
     ghost use Rattle.std.specs.Prelude.{◌≡◌, List, true};
     ghost use Rattle.hip_ir.specs.declared.site.Site.{Site};
-    ghost use Rattle.hip_fix.specs.Suits.{is_ascending};
+    ghost use Rattle.hip_repairs.specs.Suits.{is_ascending};
 
     ghost Value = { List Site };
 

@@ -3,6 +3,8 @@
 #![tactic(auto)]
 
 #[cfg(test)]
+mod plans;
+#[cfg(test)]
 mod reached_functions;
 #[cfg(test)]
 mod repairs;

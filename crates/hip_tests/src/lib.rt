@@ -23,24 +23,4 @@ mod name_tables;
 #[cfg(test)]
 mod number_texts;
 #[cfg(test)]
-mod plans;
-#[cfg(test)]
-mod programs;
-#[cfg(test)]
-mod reached_functions;
-#[cfg(test)]
-mod read_texts;
-#[cfg(test)]
-mod refused_functions;
-#[cfg(test)]
-mod refused_programs;
-#[cfg(test)]
-mod refused_texts;
-#[cfg(test)]
-mod repairs;
-#[cfg(test)]
-mod sound_programs;
-#[cfg(test)]
-mod spelling;
-#[cfg(test)]
 mod tokens;

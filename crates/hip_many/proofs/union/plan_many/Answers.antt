@@ -1,6 +1,4 @@
 -- The three lists have what the plans have, and so the union is good for what each of them is.
-use Rattle.hip_typing.specs.Laws.SoundExact.{sound-passes}
-use Rattle.hip_fix.proofs.Cured.{clean}
 use Rattle.hip_many.proofs.Unions.{united, union_contains, union_suits}
 use Rattle.hip_many.proofs.union.plan_many.Goals as goal
 
@@ -19,4 +17,4 @@ returns-clause-suits c = union_suits c.args.plans.now _ (returns-clause-union c)
 
 pub returns-clause-clean : goal.returns-clause-clean
 returns-clause-clean c = λ P skip I found sound valid quiet is_found i.
-    clean P _ skip I found (sound-passes P sound) valid quiet is_found (union_contains c.args.plans.now _ (returns-clause-union c) _ i)
+    c.repairs_are_clean.ensures P _ skip I found sound valid quiet is_found (union_contains c.args.plans.now _ (returns-clause-union c) _ i)

@@ -1,5 +1,5 @@
 use Rattle.std.proofs.Common.{◌≡◌, ◌+◌, ◌-◌, drop}
-use Rattle.hip_fix.specs.Choice.{best_of}
+use Rattle.hip_repairs.specs.Choice.{best_of}
 use Rattle.hip_plan.proofs.choice.best_level.Given as goal
 
 abbrev pub invariant-each : goal.invariant-each

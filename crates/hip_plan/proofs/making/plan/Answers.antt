@@ -5,10 +5,10 @@ use Rattle.hip_ir.specs.declared.program.Program.{Program}
 use Rattle.hip_ir.specs.declared.site.Site.{Site}
 use Rattle.hip_runs.specs.declared.report.Findings.{Findings}
 use Rattle.hip_runs.specs.declared.report.Report.{Report}
-use Rattle.hip_fix.specs.Choice.{asks_fence, asks_flush, asks_hoist, choice, is_site}
-use Rattle.hip_fix.specs.Suits.{IsSuiting}
-use Rattle.hip_fix.specs.Laws.PlanLaws.{plan_suits}
-use Rattle.hip_fix.specs.declared.plan.Plan.{Plan}
+use Rattle.hip_repairs.specs.Choice.{asks_fence, asks_flush, asks_hoist, choice, is_site}
+use Rattle.hip_repairs.specs.Suits.{IsSuiting}
+use Rattle.hip_repairs.specs.Laws.PlanLaws.{plan_suits}
+use Rattle.hip_repairs.specs.declared.plan.Plan.{Plan}
 use Rattle.hip_plan.specs.Asked.{is_there}
 use Rattle.hip_plan.proofs.Listed.{asked_more, fence_is, flush_is, hoist_is, plan_is, whole}
 use Rattle.hip_plan.proofs.making.plan.Goals as goal

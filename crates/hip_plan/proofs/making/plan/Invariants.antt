@@ -1,5 +1,5 @@
 use Rattle.std.proofs.Common.{take}
-use Rattle.hip_fix.specs.Choice.{asks_fence, asks_flush, asks_hoist, choice}
+use Rattle.hip_repairs.specs.Choice.{asks_fence, asks_flush, asks_hoist, choice}
 use Rattle.hip_plan.proofs.Listed.{HasAsked, asked_by}
 use Rattle.hip_plan.proofs.making.plan.Given as goal
 

@@ -1,6 +1,6 @@
 //! Scores, levels and plans for given findings, and unions of plans.
 
-use crate::programs::{COPY, EVEN_AND_ODD, KEY_VALUE_LOG};
+use hip_examples::{COPY, EVEN_AND_ODD, KEY_VALUE_LOG};
 use hip_fix::{Plan, suits};
 use hip_ir::Site;
 use hip_many::{Reason, Sort, plan_many, reasons};

@@ -8,7 +8,9 @@ ghost use Rattle.hip_ir.specs.Reading.{IsSpelled};
 use hip_ir::{GlobalVar, Program};
 use hip_lines::LINE_SIZE;
 use hip_mem::VOLATILE_START;
-use hip_types::{BASE_ALIGNMENT, LARGEST_REGION, LARGEST_VOLATILE, align, size};
+use hip_types::{
+    BASE_ALIGNMENT, HIGHEST_BASE, LARGEST_REGION, LARGEST_VOLATILE, LOWEST_BASE, align, size,
+};
 
 /// Where the last volatile global may end.
 const VOLATILE_LIMIT: u64 = VOLATILE_START + LARGEST_VOLATILE;

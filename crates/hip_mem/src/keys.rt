@@ -3,8 +3,8 @@
 ghost use Rattle.std.specs.Prelude.{◌≡◌, ◌<◌, ◌^◌};
 ghost use Rattle.hip_mem.specs.Paging.{key_of};
 
-use crate::{LOWEST_BASE, PAGE_SIZE, STACK_SIZE, STACK_START, VOLATILE_START};
-use hip_types::{LARGEST_REGION, LARGEST_VOLATILE};
+use crate::{PAGE_SIZE, STACK_SIZE, STACK_START, VOLATILE_START};
+use hip_types::{LARGEST_REGION, LARGEST_VOLATILE, LOWEST_BASE};
 
 /// The number of the stack's first page.
 pub const STACK_PAGE: u64 = STACK_START / PAGE_SIZE;

@@ -23,6 +23,3 @@ pub const STACK_END: u64 = STACK_START + STACK_SIZE;
 
 /// The number of bytes of a page, at a multiple of it.
 pub const PAGE_SIZE: u64 = 4096;
-
-/// The least base that the region may have.
-pub const LOWEST_BASE: u64 = 4_294_967_296;

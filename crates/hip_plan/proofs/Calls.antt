@@ -1,11 +1,11 @@
 -- In a sound program a call is of a defined function exactly where it is of no external one.
-use Rattle.std.proofs.Common.{◌≡◌, ◌⊎◌, ℕ, suc, Bool, true, false, cond, List, [], ◌∷◌, ◌++◌, length, count_by, Option, Some, None, is_some, is_none, option_map, refl, sym, ap, ◌∙◌, subst, arith, inl, inr}
+use Rattle.std.proofs.Common.{◌≡◌, ◌⊎◌, ℕ, suc, Bool, true, false, cond, List, [], ◌∷◌, length, count_by, Option, Some, None, is_some, is_none, option_map, refl, sym, ap, ◌∙◌, subst, inl, inr}
 use Rattle.std.specs.Prelude.{option_and_then, slice_get}
 use Rattle.std.specs.List.{flat_map, filter}
 use Rattle.std.proofs.lemmas.List.Sums.{length-filter}
 use Rattle.hip_types.specs.declared.number.Scalar.{Scalar}
 use Rattle.hip_types.specs.declared.number.Scalar.TheVariants.{Int, Ptr}
-use Rattle.hip_externs.specs.Externs.{Signature, call_of, known_signature, signature}
+use Rattle.hip_externs.specs.Externs.{Signature, call_of, signature}
 use Rattle.hip_externs.specs.declared.call.ExternCall.{ExternCall}
 use Rattle.hip_ir.specs.Sites.{instr_of}
 use Rattle.hip_ir.specs.declared.block.Block.{Block}
@@ -21,7 +21,7 @@ use Rattle.hip_typing.specs.Laws.Decided.{all-at}
 use Rattle.hip_typing.specs.Laws.NumberingLaws.{function_number-there}
 use Rattle.hip_typing.specs.Numbering.{function_number}
 use Rattle.hip_typing.specs.Sound.{IsBlockAt, IsFree, IsSound}
-use Rattle.hip_runs.specs.Found.Marks.{pointer_arg, pointer_operands}
+use Rattle.hip_runs.specs.Found.Marks.{pointer_arg}
 use Rattle.hip_runs.specs.Found.Scores.{operands_at}
 use Rattle.hip_plan.specs.Worths.{is_pointer}
 

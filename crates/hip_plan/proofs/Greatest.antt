@@ -1,5 +1,5 @@
 -- The greatest worth, from the first operand on.
-use Rattle.std.proofs.Common.{◌≡◌, ℕ, zero, suc, ◌+◌, ◌<◌, Bool, cond, List, [], ◌∷◌, length, drop, Option, Some, None, is_some, true, IsNone, ◌↔◌, refl, sym, ap, ◌∙◌, subst, arith, ℤ, add-one}
+use Rattle.std.proofs.Common.{◌≡◌, ℕ, zero, suc, ◌+◌, ◌<◌, cond, List, [], ◌∷◌, length, drop, Option, Some, None, is_some, true, IsNone, ◌↔◌, refl, sym, ap, ◌∙◌, arith, ℤ, add-one}
 use Rattle.std.specs.Prelude.{int_lt}
 use Rattle.std.proofs.lemmas.Int.{ints}
 use Rattle.hip_ir.specs.declared.instr.Operand.{Operand}

@@ -1,5 +1,5 @@
 -- The lists of a plan have the sites that the reports ask for.
-use Rattle.std.proofs.Common.{◌≡◌, ℕ, zero, suc, ◌+◌, ◌<◌, ◌≤◌, Bool, true, false, cond, ◌&&◌, ◌||◌, nat_eq, List, [], ◌∷◌, ◌++◌, length, take, get_or, Option, Some, None, refl, sym, ap, ap₂, ◌∙◌, subst, arith}
+use Rattle.std.proofs.Common.{◌≡◌, ℕ, zero, suc, ◌+◌, ◌<◌, ◌≤◌, Bool, true, false, cond, ◌&&◌, ◌||◌, nat_eq, List, [], ◌∷◌, length, take, get_or, Option, None, refl, sym, ap, ap₂, ◌∙◌, subst, arith}
 use Rattle.std.specs.Cmp.{both_ways}
 use Rattle.std.specs.List.{filter, list_any}
 use Rattle.std.specs.Prelude.{slice_get}
@@ -17,8 +17,7 @@ use Rattle.hip_runs.specs.declared.report.Report.{Report}
 use Rattle.hip_repairs.specs.Choice.{asks_fence, asks_flush, asks_hoist, is_site, plan_for}
 use Rattle.hip_repairs.specs.Laws.SiteOrder.{filter_ascends, filtered_are, same_members}
 use Rattle.hip_repairs.specs.Suits.{is_ascending}
-use Rattle.hip_repairs.specs.declared.plan.Plan.{Plan}
-use Rattle.hip_plan.specs.Asked.{call_at, fence_asked, flush_asked, hoist_asked, is_there, store_at}
+use Rattle.hip_plan.specs.Asked.{call_at, fence_asked, flush_asked, hoist_asked, is_there}
 use Rattle.hip_plan.proofs.Places.{sites_there}
 
 -- ---- what one report asks for

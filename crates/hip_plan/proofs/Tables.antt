@@ -1,5 +1,5 @@
 -- The table of worths after one mark more.
-use Rattle.std.proofs.Common.{◌≡◌, ℕ, ◌+◌, ◌<◌, Bool, true, false, cond, ◌&&◌, nat_eq, List, [], ◌∷◌, ◌++◌, length, take, get_or, Option, Some, None, refl, sym, ap, ap₂, ◌∙◌, subst, arith, ℤ, pos, ◌+ℤ◌}
+use Rattle.std.proofs.Common.{◌≡◌, ℕ, ◌+◌, ◌<◌, Bool, true, false, cond, ◌&&◌, nat_eq, List, length, take, get_or, Some, refl, sym, ap, ap₂, ◌∙◌, subst, arith, ℤ, pos, ◌+ℤ◌}
 use Rattle.std.specs.List.{list_any}
 use Rattle.std.specs.Map.{lookup}
 use Rattle.std.specs.Prelude.{unwrap_or}
@@ -13,7 +13,7 @@ use Rattle.hip_runs.specs.Laws.Found.FoundLaws.{same_site_equal}
 use Rattle.hip_runs.specs.Laws.Members.{both_true, equal_true}
 use Rattle.hip_runs.specs.declared.event.Object.{Object}
 use Rattle.hip_runs.specs.declared.event.Object.TheVariants as objects
-use Rattle.hip_plan.specs.Worths.{HasWorths, OperandKey, added_by, same_operand, worth_among}
+use Rattle.hip_plan.specs.Worths.{HasWorths, OperandKey, same_operand, worth_among}
 use Rattle.hip_plan.proofs.Sums.{IsWithin, add-none, worth-append, worth_within}
 
 abbrev pub operand_key : Site → ℕ → OperandKey

@@ -1,5 +1,5 @@
 -- The sites that a report asks for.
-use Rattle.std.specs.Prelude.{ℕ, zero, suc, Bool, cond, nat_eq, is_some, List, Option, Some, None, slice_get}
+use Rattle.std.specs.Prelude.{ℕ, Bool, cond, nat_eq, is_some, List, Option, None, slice_get}
 use Rattle.hip_ir.specs.Sites.{instr_of}
 use Rattle.hip_ir.specs.declared.program.Program.{Program}
 use Rattle.hip_ir.specs.declared.site.Site.{Site}

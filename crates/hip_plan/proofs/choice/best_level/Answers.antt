@@ -1,5 +1,5 @@
 -- The best level so far and those of the calls that are left.
-use Rattle.std.proofs.Common.{◌≡◌, ℕ, ◌+◌, ◌-◌, ◌<◌, ◌≤◌, length, drop, min, Option, ℤ, refl, sym, ap, ap₂, ◌∙◌, arith}
+use Rattle.std.proofs.Common.{ℕ, ◌+◌, ◌-◌, ◌<◌, ◌≤◌, length, drop, min, Option, ℤ, sym, ap, ap₂, ◌∙◌, arith}
 use Rattle.hip_repairs.specs.Choice.{Candidate, best_of, is_better}
 use Rattle.hip_plan.proofs.Levels.{best_end, left, taken}
 use Rattle.hip_plan.proofs.choice.best_level.Goals as goal

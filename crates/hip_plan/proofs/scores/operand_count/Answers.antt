@@ -1,5 +1,5 @@
 -- A call has pointer operands where it is of a defined function.
-use Rattle.std.proofs.Common.{◌≡◌, ℕ, Bool, cond, is_none, count_by, List, Some, sym, ap, ap₂, ◌∙◌}
+use Rattle.std.proofs.Common.{◌≡◌, ℕ, cond, is_none, count_by, List, Some, sym, ap, ap₂, ◌∙◌}
 use Rattle.hip_externs.specs.Externs.{call_of}
 use Rattle.hip_ir.specs.Sites.{instr_of}
 use Rattle.hip_ir.specs.declared.instr.Arg.{Arg}

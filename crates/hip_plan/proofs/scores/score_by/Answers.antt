@@ -1,10 +1,10 @@
 -- The greatest worth so far and those of the operands that are left.
-use Rattle.std.proofs.Common.{◌≡◌, ℕ, ◌+◌, ◌<◌, length, drop, Option, ap, sym, ◌∙◌, subst, arith, ℤ}
+use Rattle.std.proofs.Common.{◌+◌, drop, Option, ap, ◌∙◌, arith, ℤ}
 use Rattle.std.specs.Int.{w128}
 use Rattle.std.proofs.lemmas.Int.{to_z-of_z}
 use Rattle.hip_ir.specs.Sites.{instr_of}
-use Rattle.hip_runs.specs.Found.Scores.{greatest_worth, operands_at, score}
-use Rattle.hip_plan.proofs.Greatest.{greatest-end, greatest_more, joined, joined-none}
+use Rattle.hip_runs.specs.Found.Scores.{greatest_worth, operands_at}
+use Rattle.hip_plan.proofs.Greatest.{greatest_more, joined}
 use Rattle.hip_plan.proofs.scores.score_by.Goals as goal
 
 pub each-preserved : goal.each-preserved

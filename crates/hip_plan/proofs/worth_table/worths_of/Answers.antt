@@ -1,10 +1,8 @@
 -- The table has the worths by the marks so far.
-use Rattle.std.proofs.Common.{◌≡◌, ℕ, ◌+◌, ◌<◌, ◌^◌, ◌≤◌, length, take, get_or, Bool, sym, ap, ◌∙◌, subst, arith, ℤ, pos, ◌+ℤ◌, FitsSigned, to_z, of_z}
-use Rattle.std.specs.Int.{w128}
+use Rattle.std.proofs.Common.{◌<◌, ◌^◌, sym, ap, ◌∙◌, subst, arith, ℤ, ◌+ℤ◌}
 use Rattle.std.proofs.lemmas.Int.{ints}
-use Rattle.hip_runs.specs.Found.Scores.{is_marked, worth_of}
-use Rattle.hip_runs.specs.declared.report.Mark.{Mark}
-use Rattle.hip_plan.specs.Worths.{OperandKey, worth_among}
+use Rattle.hip_runs.specs.Found.Scores.{worth_of}
+use Rattle.hip_plan.specs.Worths.{worth_among}
 use Rattle.hip_plan.proofs.Sums.{IsSmall, both_folded, sum_fits, worth_small}
 use Rattle.hip_plan.proofs.Tables.{among_within, marked_alike, one_more}
 use Rattle.hip_plan.proofs.worth_table.worths_of.Goals as goal

@@ -1,5 +1,5 @@
 -- Each mark adds at most 1.
-use Rattle.std.proofs.Common.{◌≡◌, ◌+◌, ◌<◌, drop, length, sym, ◌∙◌, subst, arith, ℤ, pos, ◌+ℤ◌, FitsSigned, to_z}
+use Rattle.std.proofs.Common.{◌≡◌, ◌+◌, drop, sym, ◌∙◌, subst, arith, ℤ, pos, ◌+ℤ◌, FitsSigned, to_z}
 use Rattle.std.specs.Int.{w128}
 use Rattle.std.proofs.lemmas.Int.{ints}
 use Rattle.hip_runs.specs.Found.Scores.{worth_in}

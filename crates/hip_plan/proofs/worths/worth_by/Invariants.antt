@@ -1,4 +1,4 @@
-use Rattle.std.proofs.Common.{◌≡◌, ◌≤◌, drop, pos, neg_ℤ, ◌≤ℤ◌}
+use Rattle.std.proofs.Common.{◌≡◌, drop, pos, neg_ℤ, ◌≤ℤ◌}
 use Rattle.hip_runs.specs.Found.Scores.{worth_in}
 use Rattle.hip_plan.proofs.worths.worth_by.Given as goal
 

@@ -1,5 +1,5 @@
 -- The set's keys are the old ones and the new one.
-use Rattle.std.proofs.Common.{◌≡◌, ◌||◌, List, ap, ◌∙◌}
+use Rattle.std.proofs.Common.{◌||◌, List, ap, ◌∙◌}
 use Rattle.hip_ir.specs.Sites.{has_site, same_site}
 use Rattle.hip_ir.specs.declared.site.Site.{Site}
 use Rattle.hip_plan.proofs.Sites.{inserted}

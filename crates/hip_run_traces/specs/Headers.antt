@@ -1,5 +1,5 @@
--- The header of a trace: the longest front of its pieces that is a valid START, a valid REGISTER, valid INPUT entries and
--- then valid IMAGE entries. It gives the input of a run. (This project's own.)
+-- The header of a trace: the longest front of its pieces that is a valid START, a valid REGISTER, valid INPUT entries
+-- and then valid IMAGE entries. It gives the input of a run. (This project's own.)
 use Rattle.std.specs.Prelude.{ℕ, suc, ◌+◌, ◌-◌, ◌%◌, ◌^◌, ◌&&◌, ◌==◌, nat_le, nat_lt, Bool, true, false, ℤ, List, [], ◌∷◌, ◌++◌, length, Option, Some, None, if◌then◌else◌}
 use Rattle.hip_globals.specs.Addresses.{is_base, region_size}
 use Rattle.hip_ir.specs.declared.program.Program.{Program}

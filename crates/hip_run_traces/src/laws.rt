@@ -3,9 +3,9 @@
 ghost use Rattle.hip_ir.specs.declared.program.Program.{Program};
 ghost use Rattle.hip_run_traces.specs.Headers.{Gives, Stops, header};
 ghost use Rattle.hip_run_traces.specs.Misfits.{DiffersAt, FirstDiffers, IsMisfit, IsTraceOf};
-ghost use Rattle.hip_run_traces.specs.Traces.{IsTrace, header_of, trace};
+ghost use Rattle.hip_run_traces.specs.Traces.{IsTrace, entry_list, entry_of_event, header_of, trace};
 ghost use Rattle.hip_run_traces.specs.declared.misfit.MisfitKind.{MisfitKind};
-ghost use Rattle.hip_runs.specs.Step.{header_entries, run};
+ghost use Rattle.hip_runs.specs.Step.{event, has_ended, header_entries, run};
 ghost use Rattle.hip_runs.specs.Validity.{IsInput, IsValid};
 ghost use Rattle.hip_runs.specs.declared.input.Input.{Input};
 ghost use Rattle.hip_trace.specs.Fits.{IsSpelled, ValuesFit};
@@ -13,13 +13,18 @@ ghost use Rattle.hip_trace.specs.Pieces.{spelled};
 ghost use Rattle.hip_trace.specs.Texts.{lines_of};
 ghost use Rattle.hip_trace.specs.declared.entry.Entry.{Entry};
 ghost use Rattle.hip_typing.specs.Sound.{IsSound};
-ghost use Rattle.std.specs.Prelude.{◌≡◌, ◌+◌, ◌<◌, ◌++◌, ◌⊎◌, ◌≤◌, ℕ, Bool, List, Option, Some, All, length, map, slice_get, take, true, false};
+ghost use Rattle.std.specs.Prelude.{◌≡◌, ◌+◌, ◌<◌, ◌++◌, ◌⊎◌, ◌≤◌, ℕ, Bool, List, Option, Some, All, length, map, slice_get, suc, take, true, false};
 
 /// The trace of a run's first steps has as many entries as the run counts, and the trace of more steps begins with it.
 pub fn traces_follow_the_run()
+    ensures header { (I : Input) → length (header_of I) ≡ header_entries I }
     ensures length { (P : Program) → (I : Input) → (n : ℕ) → length (trace P I n) ≡ (run P I n).counts.entries }
     ensures front { (P : Program) → (I : Input) → (n d : ℕ) →
         (more : List Entry) × (trace P I (n + d) ≡ trace P I n ++ more) }
+    ensures step { (P : Program) → (I : Input) → (n : ℕ) → has_ended (run P I n) ≡ false →
+        trace P I (suc n) ≡ trace P I n ++ entry_list (entry_of_event (event P I (run P I n))) }
+    ensures rests { (P : Program) → (I : Input) → (n : ℕ) → has_ended (run P I n) ≡ true →
+        trace P I (suc n) ≡ trace P I n }
 {}
 
 /// Each run has one trace, which begins with the trace of any number of its steps.
@@ -51,7 +56,8 @@ pub fn headers_give_valid_inputs()
 
 /// Each entry of the trace of a sound program's run on a valid input is spelled by its canonical text.
 pub fn trace_entries_are_spelled()
-    ensures fit { (P : Program) → IsSound P → (I : Input) → IsInput I → IsValid P I → (n : ℕ) → All ValuesFit (trace P I n) }
+    ensures fit { (P : Program) → IsSound P → (I : Input) → IsInput I → IsValid P I → (n : ℕ) →
+        All ValuesFit (trace P I n) }
     ensures spelled { (P : Program) → IsSound P → (I : Input) → IsInput I → IsValid P I → (n : ℕ) →
         All IsSpelled (trace P I n) }
 {}

@@ -12,7 +12,7 @@ use Rattle.hip_trace.specs.declared.entry.Entry.{Entry}
 use Rattle.hip_trace.specs.declared.entry.Entry.TheVariants.{Start, Register}
 use Rattle.std.specs.Prelude.{◌&&◌, ◌==◌}
 
--- ---- the header: START and REGISTER, as far as they are valid
+-- ---- the header: START and REGISTER, as far as they are valid; numbers and initial bytes are no part of it here
 
 -- how many entries the header has, where that is less than two, or the input that it gives
 pub data Header : Type 0 where

@@ -56,8 +56,8 @@ fn want_entry<C: Cabinet>(
 ) -> Result<Entry, ReplayRefusal>
     requires current { IsTrue (C.state cabinet.old).is_current }
     requires reading { reader.old.progress ≡ Reading }
-    ensures wants { WantsEntry count (seen_by reader.old (C.state cabinet.old)) (seen_by reader.new (C.state cabinet.new))
-        result }
+    ensures wants { WantsEntry count (seen_by reader.old (C.state cabinet.old))
+        (seen_by reader.new (C.state cabinet.new)) result }
     ensures reading { OnOk result (reader.new.progress ≡ Reading) }
 {
     let next = reader.next(cabinet);
@@ -107,7 +107,8 @@ fn valid_base(program: &Program, entry: &Entry) -> Option<u64>
 fn read_limit<C: Cabinet>(reader: &mut Reader, cabinet: &mut C) -> Result<u64, ReplayRefusal>
     requires current { IsTrue (C.state cabinet.old).is_current }
     requires reading { reader.old.progress ≡ Reading }
-    ensures wants { WantsLimit (seen_by reader.old (C.state cabinet.old)) (seen_by reader.new (C.state cabinet.new)) result }
+    ensures wants { WantsLimit (seen_by reader.old (C.state cabinet.old))
+        (seen_by reader.new (C.state cabinet.new)) result }
     ensures reading { OnOk result (reader.new.progress ≡ Reading) }
 {
     let entry = want_entry(0, reader, cabinet)?;

@@ -43,13 +43,16 @@ length-entry events.Fence n = omega arith
 length-entry (events.Assert a s) n = omega arith
 length-entry (events.End x) n = omega arith
 
-trace_next : (P : Program) (I : Input) (n : ℕ) → trace P I (suc n) ≡ trace P I n ++ next_entries P I (run P I n)
-unfolding trace
-trace_next P I n = refl
+-- ---- one step more
 
-trace_rests : (P : Program) (I : Input) (n : ℕ) → has_ended (run P I n) ≡ true → trace P I (suc n) ≡ trace P I n
-trace_rests P I n h =
-    trace_next P I n ∙ ap (λ (b : Bool). trace P I n ++ (if b then [] else entry_list (entry_of_event (event P I (run P I n))))) h
+pub next-trace : (P : Program) (I : Input) (n : ℕ) → trace P I (suc n) ≡ trace P I n ++ next_entries P I (run P I n)
+unfolding trace
+next-trace P I n = refl
+
+-- a run that has ended has no more entries
+pub rests-trace : (P : Program) (I : Input) (n : ℕ) → has_ended (run P I n) ≡ true → trace P I (suc n) ≡ trace P I n
+rests-trace P I n h =
+    next-trace P I n ∙ ap (λ (b : Bool). trace P I n ++ (if b then [] else entry_list (entry_of_event (event P I (run P I n))))) h
     ∙ append-nil (trace P I n)
 
 module _ (P : Program) (I : Input) where
@@ -73,7 +76,7 @@ module _ (P : Program) (I : Input) where
   front-trace n (suc d) = longer (front-trace n d)
     where
       longer : (more : List Entry) × (trace P I (n + d) ≡ trace P I n ++ more) → (more : List Entry) × (trace P I (n + suc d) ≡ trace P I n ++ more)
-      longer h = (h.0 ++ next_entries P I (run P I (n + d)), ap (trace P I) (let e : n + suc d ≡ suc (n + d) = omega arith in e) ∙ trace_next P I (n + d) ∙ ap (λ (es : List Entry). es ++ next_entries P I (run P I (n + d))) h.1 ∙ append_assoc (trace P I n) h.0 (next_entries P I (run P I (n + d))))
+      longer h = (h.0 ++ next_entries P I (run P I (n + d)), ap (trace P I) (let e : n + suc d ≡ suc (n + d) = omega arith in e) ∙ next-trace P I (n + d) ∙ ap (λ (es : List Entry). es ++ next_entries P I (run P I (n + d))) h.1 ∙ append_assoc (trace P I n) h.0 (next_entries P I (run P I (n + d))))
 
   -- ---- the whole
 
@@ -86,7 +89,7 @@ module _ (P : Program) (I : Input) where
       more k =
           let e : n + suc d ≡ suc (n + d) = omega arith in (
             subst (λ m. has_ended (run P I m) ≡ true) (sym e) (subst (λ (s : State). has_ended s ≡ true) (sym (rests-ended P I (n + d) k.0)) k.0),
-            ap (trace P I) e ∙ trace_rests P I (n + d) k.0 ∙ k.1,
+            ap (trace P I) e ∙ rests-trace P I (n + d) k.0 ∙ k.1,
           )
 
   pub whole-trace : (es : List Entry) × IsTrace P I es

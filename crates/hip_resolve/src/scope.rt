@@ -1,0 +1,57 @@
+ghost use Rattle.std.specs.Prelude.{◌≡◌, Some, IfOk};
+ghost use Rattle.hip_names.specs.Names.{IsAmong, number_of};
+ghost use Rattle.hip_resolve.specs.Grown.{grown};
+ghost use Rattle.hip_resolve.specs.Growth.{Makes};
+ghost use Rattle.hip_resolve.specs.Known.{OperandKnown};
+ghost use Rattle.hip_resolve.specs.Scopes.{Describes, StandsFor, names_of};
+
+use crate::growing::{Growing, place};
+use hip_code::Operand;
+use hip_globals::GlobalAddresses;
+use hip_ir::Program;
+use hip_names::NameSet;
+use hip_types::{Name, NoMemory};
+use std::alloc::Global;
+
+/// What the instructions of a function name.
+#[derive(Drop)]
+pub struct Scope<'a> {
+    pub alloc: Global,
+    pub program: &'a Program,
+    pub base: u64,
+    pub addresses: &'a GlobalAddresses<'a>,
+    pub number: usize,
+    pub registers: NameSet<'a>,
+}
+
+/// The slot of a register.
+pub fn slot(scope: &Scope<'_>, name: &Name) -> Result<u32, NoMemory>
+    requires scope { Describes scope.now }
+    requires known { IsAmong (names_of scope.now) name.now }
+    ensures { IfOk result (λ slot. number_of (names_of scope.now) name.now ≡ Some slot) }
+{
+    match scope.registers.number_of(name.as_slice()) {
+        Some(number) => place(number),
+        None => unreachable!(),
+    }
+}
+
+/// Where an operand's value stands: in a register's slot, or in the table of constants.
+pub fn operand(
+    scope: &Scope<'_>,
+    tables: &mut Growing,
+    operand: &hip_ir::Operand,
+) -> Result<Operand, NoMemory>
+    requires scope { Describes scope.now }
+    requires known { OperandKnown (names_of scope.now) operand.now }
+    ensures { IfOk result (λ o. Makes (grown tables.old) (grown tables.new) (λ t. StandsFor scope.now t o operand.now)) }
+{
+    match operand {
+        hip_ir::Operand::Reg(name) => Ok(Operand::Register(slot(scope, name)?)),
+        hip_ir::Operand::Fixed(value) => {
+            let number = scope.addresses.value(scope.alloc, value)?;
+            let constant = tables.constant(number)?;
+            Ok(constant)
+        }
+    }
+}

@@ -1,8 +1,14 @@
 -- Laws of tables that grow.
-use Rattle.std.proofs.Common.{◌≡◌, ℕ, zero, suc, List, [], ◌∷◌, ◌++◌, length, Some, slice_get, refl, sym, ap, ◌∙◌, subst, append_assoc}
-use Rattle.std.proofs.lemmas.List.{append-nil}
+use Rattle.std.proofs.Common.{◌≡◌, ℕ, zero, suc, ◌+◌, ◌-◌, ◌≤◌, List, take, drop, ap₂, arith, [], ◌∷◌, ◌++◌, length, Some, slice_get, refl, sym, ap, ◌∙◌, subst, append_assoc}
+use Rattle.std.specs.Prelude.{slice_range}
+use Rattle.std.proofs.lemmas.List.{append-nil, drop-append-le, length-append, length-drop, take-append-le, take_rest}
+use Rattle.std.proofs.Math.Seq.{drop-append_seam}
 use Rattle.hip_code.specs.Numbers.{Tables}
 use Rattle.hip_types.specs.Laws.DistinctLaws.{get_kept}
+use Rattle.hip_code.specs.declared.op.Gep.TheVariants as geps
+use Rattle.hip_code.specs.declared.op.Operand.{Operand}
+use Rattle.hip_code.specs.declared.op.Term.{Term}
+use Rattle.hip_resolve.specs.Far.{IsAddress}
 use Rattle.hip_resolve.specs.Growth.{Extends, Grows, Makes}
 
 pub extends_same : {A : Type 0} (xs : List A) → Extends xs xs
@@ -68,4 +74,43 @@ makes_constant t v constants e = record {
     cases = extends_same t.cases;
   };
   lasts = λ w g. get_extended (length t.constants) v g.constants (subst (λ l. slice_get l (length t.constants) ≡ Some v) (sym e) (get_last t.constants v));
+}
+
+-- ---- spans
+
+-- what stands from a place to the end, stays where it stands
+pub span_is : {A : Type 0} {xs ys : List A} (from count : ℕ) → Extends xs ys → from + count ≡ length xs → slice_range ys from (from + count) ≡ drop from xs
+span_is {A} {xs} {ys} from count e long =
+    let within : from ≤ length xs = omega arith in
+    let wide : (from + count) - from ≡ length xs - from = omega arith in
+    let as_long : length xs - from ≤ length (drop from xs) = (let l = length-drop from xs in omega (arith, l)) in
+    ap (λ (l : List A). take ((from + count) - from) (drop from l)) e.is
+    ∙ ap (λ (l : List A). take ((from + count) - from) l) (drop-append-le from xs e.rest within)
+    ∙ ap (λ n. take n (drop from xs ++ e.rest)) wide
+    ∙ take-append-le (length xs - from) (drop from xs) e.rest as_long
+    ∙ take_rest xs from
+
+pub span_within : {A : Type 0} {xs ys : List A} (from count : ℕ) → Extends xs ys → from + count ≡ length xs → from + count ≤ length ys
+span_within {A} {xs} {ys} from count e long = let l = ap length e.is in let m = length-append xs e.rest in omega (arith, l, m, long)
+
+pub makes_terms : (t : Tables) (base : Operand) (offset from count : ℕ) (terms new : List Term) → new ≡ t.terms ++ terms → from ≡ length t.terms → count ≡ length terms →
+    Makes t (record t { terms = new }) (λ w. IsAddress w base offset terms (geps.Terms base offset (record { from = from; count = count })))
+makes_terms t base offset from count terms new e f n = record {
+  grows = record {
+    constants = extends_same t.constants;
+    terms = extends_by terms e;
+    moves = extends_same t.moves;
+    edges = extends_same t.edges;
+    cases = extends_same t.cases;
+  };
+  lasts = λ w g.
+      let whole : from + count ≡ length new = (let l = ap length e in let m = length-append t.terms terms in omega (arith, l, m, f, n)) in
+      record {
+        is = (
+          refl,
+          refl,
+          span_within from count g.terms whole,
+          span_is from count g.terms whole ∙ ap₂ (λ k (l : List Term). drop k l) f e ∙ drop-append_seam t.terms terms,
+        );
+      };
 }

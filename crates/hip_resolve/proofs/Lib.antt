@@ -5,3 +5,5 @@ pub mod Fronts
 pub mod Sound
 pub mod Names
 pub mod EffectOps
+pub mod Indices
+pub mod GepOps

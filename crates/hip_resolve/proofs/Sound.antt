@@ -7,11 +7,12 @@ use Rattle.std.proofs.lemmas.Bool.Decides.{nat_tests}
 use Rattle.std.proofs.lemmas.List.Elements.{All-nil, All-cons, All-head, All-tail}
 use Rattle.std.proofs.lemmas.Option.{same_Some}
 use Rattle.hip_types.specs.Layout.{Fits}
+use Rattle.hip_types.specs.declared.ty.Ty.{Ty}
 use Rattle.hip_types.specs.declared.number.Scalar.{Scalar}
 use Rattle.hip_types.specs.declared.number.Scalar.TheVariants as scalars
 use Rattle.hip_types.specs.declared.number.Width.TheVariants.{W1, W8, W16, W32, W64}
 use Rattle.hip_ir.specs.Numbers.{is_alignment}
-use Rattle.hip_ir.specs.Spelling.{spelled_align, spelled_instr, spelled_block, spelled_function, spelled_global, not_empty, spelled_operand, spelled_phi, spelled_param}
+use Rattle.hip_ir.specs.Spelling.{spelled_align, spelled_instr, spelled_block, spelled_function, spelled_global, not_empty, spelled_operand, spelled_phi, spelled_param, spelled_type, spelled_index}
 use Rattle.hip_ir.specs.Laws.SpellingExact.{spelled_exact}
 use Rattle.hip_ir.specs.declared.block.Block.{Block}
 use Rattle.hip_ir.specs.declared.block.Phi.{Phi}
@@ -128,6 +129,10 @@ align_by s (Some n) e = least (scalar_size s) n (some_size s) (positive n (and_p
     least : (m n : ℕ) → 0 < m → 0 < n → 0 < min m n
     least m n a b = omega arith
 
+indices_spelled : (dest : List ℕ) (inbounds : Bool) (ty : Ty) (start : Operand) (indices : List Arg) → spelled_instr (Gep dest inbounds ty start indices) ≡ true → list_all spelled_index indices ≡ true
+indices_spelled dest inbounds ty start indices t =
+    (and_parts (not_empty indices) _ (and_parts (spelled_operand scalars.Ptr start) _ (and_parts (spelled_type ty) _ (and_parts _ _ t).1).1).1).1
+
 -- ---- instructions
 
 module _ (P : Program) (s : IsSound P) (f b : ℕ) (fn : Function) (block : Block) (at : IsBlockAt P f b fn block) where
@@ -169,7 +174,7 @@ module _ (P : Program) (s : IsSound P) (f b : ℕ) (fn : Function) (block : Bloc
   known_by k (Store ty value addr n) e t g a h =
       (first_use h, second_use h, align_by ty n (and_parts (spelled_operand scalars.Ptr addr) (spelled_align n) (and_parts (spelled_operand ty value) _ t).1).1)
   known_by k (Gep dest inbounds ty start indices) e t g a h =
-      (assigned_known k (Gep dest inbounds ty start indices) dest e (inl refl), first_use h, args_known names indices (later_uses h).all, All-head Fits ty _ g, a.own)
+      (assigned_known k (Gep dest inbounds ty start indices) dest e (inl refl), first_use h, args_known names indices (later_uses h).all, All-head Fits ty _ g, a.own, indices_spelled dest inbounds ty start indices t)
   known_by k (Call None ret callee args) e t g a h = (tt, args_known names args h.all, sound-calls P s f b k fn block None ret callee args at e)
   known_by k (Call (Some dest) ret callee args) e t g a h =
       (assigned_known k (Call (Some dest) ret callee args) dest e (inl refl), args_known names args h.all, sound-calls P s f b k fn block (Some dest) ret callee args at e)

@@ -1,6 +1,8 @@
 -- What the resolver has to know of a sound program's instructions.
 use Rattle.std.specs.Prelude.{ℕ, ◌≡◌, ◌<◌, ◌⊎◌, true, List, All, Option, Some, None, slice_get}
+use Rattle.std.specs.List.{list_all}
 use Rattle.hip_types.specs.Layout.{Fits}
+use Rattle.hip_ir.specs.Spelling.{spelled_index}
 use Rattle.hip_ir.specs.declared.instr.Arg.{Arg}
 use Rattle.hip_ir.specs.declared.instr.Instr.{Instr}
 use Rattle.hip_ir.specs.declared.instr.Instr.TheVariants.{Binary, Compare, Select, Cast, Alloca, Load, Store, Gep, Call}
@@ -42,6 +44,7 @@ InstrKnown P names (Store ty value addr align) =
     OperandKnown names value × OperandKnown names addr × (0 < access_align ty align)
 InstrKnown P names (Gep dest inbounds ty base indices) =
     IsAmong names dest × OperandKnown names base × ArgsKnown names indices × Fits ty × (gep_agrees indices ty ≡ true)
+    × (list_all spelled_index indices ≡ true)
 InstrKnown P names (Call dest ret callee args) =
     ResultKnown names dest × ArgsKnown names args × (CallsFunction P callee ret args ⊎ CallsExtern callee ret args)
 

@@ -4,3 +4,5 @@ pub mod Known
 pub mod Scopes
 pub mod Made
 pub mod Effects
+pub mod Far
+pub mod Fields

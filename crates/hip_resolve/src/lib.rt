@@ -2,7 +2,9 @@
 #![tactic(auto)]
 
 mod externs;
+mod gep;
 mod growing;
 mod memory;
+mod path;
 mod scope;
 mod values;

@@ -7,3 +7,4 @@ pub mod Names
 pub mod EffectOps
 pub mod Indices
 pub mod GepOps
+pub mod CallOps

@@ -1,5 +1,5 @@
 -- What a sound program gives to the resolver.
-use Rattle.std.proofs.Common.{◌≡◌, ◌⊎◌, ℕ, zero, suc, ◌<◌, ◌≤◌, Bool, true, ◌&&◌, List, [], ◌∷◌, ◌++◌, map, Option, Some, None, slice_get, refl, sym, ap, ◌∙◌, subst, inl, inr, arith}
+use Rattle.std.proofs.Common.{◌≡◌, ◌⊎◌, ℕ, zero, suc, ◌<◌, ◌≤◌, Bool, true, ◌&&◌, List, [], ◌∷◌, ◌++◌, map, Option, Some, None, slice_get, refl, sym, ap, ◌∙◌, subst, inl, inr, ⊎_elim, arith}
 use Rattle.std.specs.Prelude.{All, IsTrue, min, nat_eq, not, ◌==◌, ◌%◌}
 use Rattle.std.specs.List.{list_all, flat_map}
 use Rattle.std.proofs.lemmas.Bool.{and_parts}
@@ -24,15 +24,19 @@ use Rattle.hip_ir.specs.declared.instr.Operand.TheVariants.{Reg, Fixed}
 use Rattle.hip_ir.specs.declared.program.Function.{Function}
 use Rattle.hip_ir.specs.declared.program.Program.{Program}
 use Rattle.hip_globals.specs.Constants.{types_in}
-use Rattle.hip_names.specs.Names.{IsAmong}
-use Rattle.hip_names.specs.Laws.NameLaws.{among-left, among-right}
+use Rattle.hip_names.specs.Names.{AllDiffer, IsAmong, number_of}
+use Rattle.hip_names.specs.Laws.DifferLaws.{differ_append, differ_first, differ_second, differ_apart}
+use Rattle.hip_names.specs.Laws.NumberLaws.{number_of-first}
+use Rattle.hip_types.specs.Laws.DistinctLaws.{get_kept}
+use Rattle.hip_ir.specs.declared.program.Param.{Param}
+use Rattle.hip_names.specs.Laws.NameLaws.{among-left, among-right, among-either}
 use Rattle.hip_typing.specs.Given.{CallsAgree}
 use Rattle.hip_typing.specs.Laws.Decided.{all-at}
 use Rattle.hip_typing.specs.Laws.GivenLaws.{sound-calls}
 use Rattle.hip_typing.specs.Paths.{names_of}
 use Rattle.hip_typing.specs.Places.{gep_agrees}
 use Rattle.hip_typing.specs.Registers.{Register, Use, registers_of, parameter_registers, block_registers, body_registers, phi_registers, assigned_by, arg_uses, instr_uses, used_registers, used_types, operand_registers, uses}
-use Rattle.hip_typing.specs.Sound.{IsSound, IsBlockAt, NamesExist, TypesFit, TypesAgree, InstrItem, PhiItem, EndItem, register_names, types_of, uses_of}
+use Rattle.hip_typing.specs.Sound.{IsSound, IsBlockAt, NamesExist, TypesFit, TypesAgree, InstrItem, PhiItem, EndItem, register_names, names_in_block, names_in_function, types_of, uses_of}
 use Rattle.hip_runs.specs.Operands.{access_align, scalar_size}
 use Rattle.hip_code.specs.Frames.{names_at, names_in}
 use Rattle.hip_resolve.specs.Known.{OperandKnown, ArgsKnown, ResultKnown, InstrKnown}
@@ -186,3 +190,64 @@ module _ (P : Program) (s : IsSound P) (f b : ℕ) (fn : Function) (block : Bloc
       (known_by k i e (instr_is_spelled k i e)
       (all-at (λ i. TypesFit (InstrItem i)) block.body k i (s.types_fit f b fn block at).body e)
       (all-at (λ i. TypesAgree P fn (InstrItem i)) block.body k i (s.types_agree f b fn block at).body e) (own_known k i e))
+
+-- a function has a first block
+pub entry_block : (P : Program) → IsSound P → (f : ℕ) (fn : Function) → slice_get P.functions f ≡ Some fn → (block : Block) × (slice_get fn.blocks 0 ≡ Some block)
+entry_block P s f fn here =
+    let whole = (spelled_exact P).1 s.spelled in
+    let functions : list_all spelled_function P.functions ≡ true = (and_parts _ _ (and_parts (list_all spelled_global P.globals) _ whole).1).1 in
+    let function : spelled_function fn ≡ true = test_at spelled_function P.functions f fn functions here in
+    first_of fn.blocks (and_parts (not_empty fn.blocks) _ (and_parts (list_all spelled_param fn.params) _ (and_parts _ _ function).1).1).0
+  where
+    first_of : (bs : List Block) → not_empty bs ≡ true → (block : Block) × (slice_get bs 0 ≡ Some block)
+    first_of [] h = absurd (let q : ⊥ = cc in q)
+    first_of (b ∷ bs) h = (b, refl)
+
+-- names that stand at two places differ
+pub earlier_none : (xs : List (List ℕ)) (k j : ℕ) (x : List ℕ) → AllDiffer xs → slice_get xs k ≡ Some x → j < k → slice_get xs j ≡ Some x → ⊥
+earlier_none [] k j x d e lt f = cc
+earlier_none (y ∷ xs) zero j x d e lt f = absurd (let q : ⊥ = omega (arith, lt) in q)
+earlier_none (y ∷ xs) (suc k) zero x d e lt f = d.0 (subst (λ n. IsAmong xs n) (sym (same_Some y x f)) (there_among xs k x e))
+  where
+    there_among : (xs : List (List ℕ)) (k : ℕ) (x : List ℕ) → slice_get xs k ≡ Some x → IsAmong xs x
+    there_among [] k x e = cc
+    there_among (y ∷ xs) zero x e = inl (same_Some y x e)
+    there_among (y ∷ xs) (suc k) x e = inr (there_among xs k x e)
+earlier_none (y ∷ xs) (suc k) (suc j) x d e lt f = earlier_none xs k j x d.1 e (omega (arith, lt)) f
+
+-- the names of a function's registers differ
+registers_among : (bs : List Block) (q : List ℕ) → IsAmong (names_of (flat_map block_registers bs)) q → IsAmong (flat_map names_in_block bs) q
+registers_among [] q h = h
+registers_among (b ∷ bs) q h =
+    ⊎_elim (λ t. inr (among-left (names_of (block_registers b)) (flat_map names_in_block bs) q t))
+    (λ t. inr (among-right (names_of (block_registers b)) (flat_map names_in_block bs) q (registers_among bs q t)))
+    (among-either (names_of (block_registers b)) (names_of (flat_map block_registers bs)) q (subst (λ ns. IsAmong ns q) (names_append (block_registers b) (flat_map block_registers bs)) h))
+
+registers_differ : (bs : List Block) → AllDiffer (flat_map names_in_block bs) → AllDiffer (names_of (flat_map block_registers bs))
+registers_differ [] d = tt
+registers_differ (b ∷ bs) d =
+    subst AllDiffer (sym (names_append (block_registers b) (flat_map block_registers bs)))
+    (differ_append (names_of (block_registers b)) (names_of (flat_map block_registers bs)) (differ_first (names_of (block_registers b)) (flat_map names_in_block bs) d.1)
+    (registers_differ bs (differ_second (names_of (block_registers b)) (flat_map names_in_block bs) d.1))
+    (λ q h t. differ_apart (names_of (block_registers b)) (flat_map names_in_block bs) d.1 q h (registers_among bs q t)))
+
+pub names_differ : (P : Program) → IsSound P → (f : ℕ) (fn : Function) → slice_get P.functions f ≡ Some fn → AllDiffer (register_names fn)
+names_differ P s f fn here =
+    let d : AllDiffer (names_in_function fn) = all-at (λ fn. AllDiffer (names_in_function fn)) P.functions f fn s.inner_names_differ here in
+    subst AllDiffer (sym (names_append (parameter_registers fn) (flat_map block_registers fn.blocks)))
+    (differ_append (names_of (parameter_registers fn)) (names_of (flat_map block_registers fn.blocks)) (differ_first (names_of (parameter_registers fn)) (flat_map names_in_block fn.blocks) d)
+    (registers_differ fn.blocks (differ_second (names_of (parameter_registers fn)) (flat_map names_in_block fn.blocks) d))
+    (λ q h t. differ_apart (names_of (parameter_registers fn)) (flat_map names_in_block fn.blocks) d q h (registers_among fn.blocks q t)))
+
+-- the number of a parameter is its place
+pub param_number : (P : Program) → IsSound P → (f : ℕ) (fn : Function) → slice_get P.functions f ≡ Some fn → (k : ℕ) (p : Param) → slice_get fn.params k ≡ Some p → number_of (register_names fn) p.name ≡ Some k
+param_number P s f fn here k p e =
+    let there : slice_get (register_names fn) k ≡ Some p.name =
+    subst (λ ns. slice_get ns k ≡ Some p.name) (sym (names_append (parameter_registers fn) (flat_map block_registers fn.blocks)))
+    (get_kept (names_of (parameter_registers fn)) (names_of (flat_map block_registers fn.blocks)) k p.name (in_params fn.params k p e)) in
+    number_of-first (register_names fn) p.name k there (λ j lt t. earlier_none (register_names fn) k j p.name (names_differ P s f fn here) there lt t)
+  where
+    in_params : (ps : List Param) (k : ℕ) (p : Param) → slice_get ps k ≡ Some p → slice_get (names_of (map (λ q. record { name = q.name; ty = Some q.ty }) ps)) k ≡ Some p.name
+    in_params [] k p e = cc
+    in_params (x ∷ ps) zero p e = ap (λ (q : Param). Some q.name) (same_Some x p e)
+    in_params (x ∷ ps) (suc k) p e = in_params ps k p e

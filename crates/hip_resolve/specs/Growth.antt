@@ -19,3 +19,10 @@ pub record Grows (t u : Tables) : Type 0 where
 pub record Makes (t u : Tables) (Fact : Tables → Type 0) : Type 0 where
   pub grows : Grows t u
   pub lasts : (v : Tables) → Grows u v → Fact v
+
+-- nothing but constants is put into the tables
+pub record OnlyConstants (t u : Tables) : Type 0 where
+  pub terms : u.terms ≡ t.terms
+  pub moves : u.moves ≡ t.moves
+  pub edges : u.edges ≡ t.edges
+  pub cases : u.cases ≡ t.cases

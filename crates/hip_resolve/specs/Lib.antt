@@ -6,3 +6,4 @@ pub mod Made
 pub mod Effects
 pub mod Far
 pub mod Fields
+pub mod Passed

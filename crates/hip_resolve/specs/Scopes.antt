@@ -1,5 +1,5 @@
 -- What the code knows of a function while it is resolved.
-use Rattle.std.specs.Prelude.{ℕ, ◌≡◌, List}
+use Rattle.std.specs.Prelude.{ℕ, ◌≡◌, ◌<◌, List, length, map, Some, slice_get}
 use Rattle.hip_ir.specs.declared.instr.Instr.{Instr}
 use Rattle.hip_ir.specs.declared.block.End.{End}
 use Rattle.hip_ir.specs.declared.instr.Operand as named
@@ -7,6 +7,10 @@ use Rattle.hip_ir.specs.declared.program.Program.{Program}
 use Rattle.hip_globals.specs.AddressesSeen.{address_beside}
 use Rattle.hip_globals.specs.Values.{global_address}
 use Rattle.hip_runs.specs.declared.input.Input.{Input}
+use Rattle.hip_typing.specs.Numbering.{function_names}
+use Rattle.hip_typing.specs.Sound.{IsSound}
+use Rattle.hip_runs.specs.Places.{blocks_of}
+use Rattle.hip_code.specs.Entries.{entry}
 use Rattle.hip_code.specs.Frames.{names_at}
 use Rattle.hip_code.specs.Numbers.{Tables}
 use Rattle.hip_code.specs.Resolved.{IsOperand, Resolves, EndResolves}
@@ -21,10 +25,22 @@ program_of s = s.program.now
 abbrev pub names_of : Scope → List (List ℕ)
 names_of s = names_at s.program.now s.number
 
--- the tables of names and addresses are those of the program and of the function
+-- a number for each function
+pub record OfFunctions (P : Program) (numbers : List ℕ) (number : ℕ → ℕ) : Type 0 where
+  pub as_long : length numbers ≡ length P.functions
+  pub at : (g : ℕ) → g < length P.functions → slice_get numbers g ≡ Some (number g)
+
+-- the tables of names, addresses and places are those of the program and of the function
 pub record Describes (s : Scope) : Type 0 where
-  pub registers : s.registers ≡ names_at s.program.now s.number
+  pub sound : IsSound s.program.now
   pub addresses : address_beside s.addresses.now ≡ global_address s.program.now.globals s.base
+  pub functions : s.functions.now ≡ function_names s.program.now.functions
+  pub starts : OfFunctions s.program.now s.starts.now (λ g. entry s.program.now g 0)
+  pub sizes : OfFunctions s.program.now s.sizes.now (λ g. length (names_at s.program.now g))
+  pub registers : s.registers ≡ names_at s.program.now s.number
+  pub labels : s.labels ≡ map (λ b. b.label) (blocks_of s.program.now s.number)
+  pub as_long : length s.places ≡ length (blocks_of s.program.now s.number)
+  pub places : (b : ℕ) → b < length s.places → slice_get s.places b ≡ Some (entry s.program.now s.number b)
 
 -- the operand stands for one of the function
 abbrev pub StandsFor : Scope → Tables → Operand → named.Operand → Type 0

@@ -1,6 +1,6 @@
-ghost use Rattle.std.specs.Prelude.{◌≡◌, slice_get, length, IfOk, Some};
+ghost use Rattle.std.specs.Prelude.{◌≡◌, ◌<◌, Some, length, slice_get, IfOk, OnOk};
 ghost use Rattle.hip_resolve.specs.Grown.{grown};
-ghost use Rattle.hip_resolve.specs.Growth.{Makes};
+ghost use Rattle.hip_resolve.specs.Growth.{Makes, OnlyConstants};
 ghost use Rattle.hip_resolve.specs.Known.{IsConstant};
 
 use hip_code::{Case, Edge, Move, Operand, Term};
@@ -30,7 +30,8 @@ impl Growing {
 
     /// Puts a number into the table of constants.
     pub fn constant(&mut self, value: u64) -> Result<Operand, NoMemory>
-        ensures { IfOk result (λ o. Makes (grown self.old) (grown self.new) (λ t. IsConstant t.constants o value)) }
+        ensures stands { IfOk result (λ o. Makes (grown self.old) (grown self.new) (λ t. IsConstant t.constants o value)) }
+        ensures others { OnOk result (OnlyConstants (grown self.old) (grown self.new)) }
     {
         let place = place(self.constants.len())?;
         self.constants.push(value)?;
@@ -46,4 +47,11 @@ pub fn place(len: usize) -> Result<u32, NoMemory>
         Ok(place) => Ok(place),
         Err(_) => Err(NoMemory),
     }
+}
+
+pub fn number_at(numbers: &[u32], index: usize) -> u32
+    requires { index < length numbers.now }
+    ensures { slice_get numbers.now index ≡ Some result }
+{
+    numbers[index]
 }

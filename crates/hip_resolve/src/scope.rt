@@ -1,7 +1,7 @@
-ghost use Rattle.std.specs.Prelude.{◌≡◌, Some, IfOk};
+ghost use Rattle.std.specs.Prelude.{◌≡◌, Some, IfOk, OnOk};
 ghost use Rattle.hip_names.specs.Names.{IsAmong, number_of};
 ghost use Rattle.hip_resolve.specs.Grown.{grown};
-ghost use Rattle.hip_resolve.specs.Growth.{Makes};
+ghost use Rattle.hip_resolve.specs.Growth.{Makes, OnlyConstants};
 ghost use Rattle.hip_resolve.specs.Known.{OperandKnown};
 ghost use Rattle.hip_resolve.specs.Scopes.{Describes, StandsFor, names_of};
 
@@ -10,7 +10,7 @@ use hip_code::Operand;
 use hip_globals::GlobalAddresses;
 use hip_ir::Program;
 use hip_names::NameSet;
-use hip_types::{Name, NoMemory};
+use hip_types::{Name, NoMemory, Row};
 use std::alloc::Global;
 
 /// What the instructions of a function name.
@@ -20,8 +20,15 @@ pub struct Scope<'a> {
     pub program: &'a Program,
     pub base: u64,
     pub addresses: &'a GlobalAddresses<'a>,
+    /// The names of the functions, the places where they begin, and how many registers they have.
+    pub functions: &'a NameSet<'a>,
+    pub starts: &'a [u32],
+    pub sizes: &'a [u32],
+    /// The function's number, its registers, the labels of its blocks, and the places where these begin.
     pub number: usize,
     pub registers: NameSet<'a>,
+    pub labels: NameSet<'a>,
+    pub places: Row<u32>,
 }
 
 /// The slot of a register.
@@ -44,7 +51,8 @@ pub fn operand(
 ) -> Result<Operand, NoMemory>
     requires scope { Describes scope.now }
     requires known { OperandKnown (names_of scope.now) operand.now }
-    ensures { IfOk result (λ o. Makes (grown tables.old) (grown tables.new) (λ t. StandsFor scope.now t o operand.now)) }
+    ensures stands { IfOk result (λ o. Makes (grown tables.old) (grown tables.new) (λ t. StandsFor scope.now t o operand.now)) }
+    ensures others { OnOk result (OnlyConstants (grown tables.old) (grown tables.new)) }
 {
     match operand {
         hip_ir::Operand::Reg(name) => Ok(Operand::Register(slot(scope, name)?)),

@@ -13,7 +13,7 @@ operand-requires-clause-known c = arg_known _ c.args.args.now c.args.index _ c.r
 
 pub returns : goal.returns
 returns c =
-    makes_also c.in_ok-argument.ensures
+    makes_also c.in_ok-argument.ensures.stands
     (λ t h x e. subst (λ (a : Arg). StandsFor c.args.scope.now t c.in_ok-argument.argument a.value) (arg_same c.args.args.now c.args.index _ x c.index-args-index.is e) h)
 
 pub returns-then-index-args : goal.returns-then-index-args

@@ -8,3 +8,4 @@ pub mod EffectOps
 pub mod Indices
 pub mod GepOps
 pub mod CallOps
+pub mod EdgeOps

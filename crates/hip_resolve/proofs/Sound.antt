@@ -15,6 +15,7 @@ use Rattle.hip_ir.specs.Numbers.{is_alignment}
 use Rattle.hip_ir.specs.Spelling.{spelled_align, spelled_instr, spelled_block, spelled_function, spelled_global, not_empty, spelled_operand, spelled_phi, spelled_param, spelled_type, spelled_index}
 use Rattle.hip_ir.specs.Laws.SpellingExact.{spelled_exact}
 use Rattle.hip_ir.specs.declared.block.Block.{Block}
+use Rattle.hip_ir.specs.declared.block.Edge as named_edge
 use Rattle.hip_ir.specs.declared.block.Phi.{Phi}
 use Rattle.hip_ir.specs.declared.instr.Arg.{Arg}
 use Rattle.hip_ir.specs.declared.instr.Instr.{Instr}
@@ -32,13 +33,14 @@ use Rattle.hip_ir.specs.declared.program.Param.{Param}
 use Rattle.hip_names.specs.Laws.NameLaws.{among-left, among-right, among-either}
 use Rattle.hip_typing.specs.Given.{CallsAgree}
 use Rattle.hip_typing.specs.Laws.Decided.{all-at}
-use Rattle.hip_typing.specs.Laws.GivenLaws.{sound-calls}
+use Rattle.hip_typing.specs.Laws.GivenLaws.{sound-calls, sound-phis}
 use Rattle.hip_typing.specs.Paths.{names_of}
 use Rattle.hip_typing.specs.Places.{gep_agrees}
-use Rattle.hip_typing.specs.Registers.{Register, Use, registers_of, parameter_registers, block_registers, body_registers, phi_registers, assigned_by, arg_uses, instr_uses, used_registers, used_types, operand_registers, uses}
+use Rattle.hip_typing.specs.Registers.{Register, Use, registers_of, parameter_registers, block_registers, body_registers, phi_registers, assigned_by, arg_uses, edge_uses, end_labels, phi_uses, instr_uses, used_registers, used_types, operand_registers, uses}
 use Rattle.hip_typing.specs.Sound.{IsSound, IsBlockAt, NamesExist, TypesFit, TypesAgree, InstrItem, PhiItem, EndItem, register_names, names_in_block, names_in_function, types_of, uses_of}
 use Rattle.hip_runs.specs.Operands.{access_align, scalar_size}
 use Rattle.hip_code.specs.Frames.{names_at, names_in}
+use Rattle.hip_resolve.specs.Edged.{PhiKnown}
 use Rattle.hip_resolve.specs.Known.{OperandKnown, ArgsKnown, ResultKnown, InstrKnown}
 
 -- ---- lists
@@ -251,3 +253,33 @@ param_number P s f fn here k p e =
     in_params [] k p e = cc
     in_params (x ∷ ps) zero p e = ap (λ (q : Param). Some q.name) (same_Some x p e)
     in_params (x ∷ ps) (suc k) p e = in_params ps k p e
+
+pub among_all : (Q : List ℕ → Type 0) (xs : List (List ℕ)) (x : List ℕ) → All Q xs → IsAmong xs x → Q x
+among_all Q [] x h t = absurd t
+among_all Q (y ∷ xs) x h (inl e) = subst Q e (All-head Q y xs h)
+among_all Q (y ∷ xs) x h (inr t) = among_all Q xs x (All-tail Q y xs h) t
+
+edges_known : (names : List (List ℕ)) (ty : Scalar) (es : List named_edge.Edge) → All (λ u. OperandKnown names u.operand) (edge_uses ty es) → All (λ e. OperandKnown names e.value) es
+edges_known names ty [] h = All-nil (λ (e : named_edge.Edge). OperandKnown names e.value)
+edges_known names ty (e ∷ es) h =
+    All-cons (λ (e : named_edge.Edge). OperandKnown names e.value) e es (All-head (λ (u : Use). OperandKnown names u.operand) _ (edge_uses ty es) h)
+    (edges_known names ty es (All-tail (λ (u : Use). OperandKnown names u.operand) _ (edge_uses ty es) h))
+
+-- what is known of a phi of a block, to which the end of another leads
+pub phi_known : (P : Program) → IsSound P → (f b c : ℕ) (fn : Function) (to from : Block) → IsBlockAt P f c fn to → IsBlockAt P f b fn from → IsAmong (end_labels from.«end») to.label →
+    (k : ℕ) (p : Phi) → slice_get to.phis k ≡ Some p → PhiKnown (names_at P f) from.label p
+phi_known P s f b c fn to from at before named k p e =
+    subst (λ o. PhiKnown (names_in o) from.label p) (sym at.function)
+    (record {
+      dest = named_right (parameter_registers fn) (flat_map block_registers fn.blocks) p.dest
+          (named_in block_registers fn.blocks c to p.dest at.block_is (named_left (phi_registers to.phis) (body_registers to.body) p.dest (in_phis to.phis k p e)));
+      edges = edges_known (register_names fn) p.ty p.edges
+          (uses_known (register_names fn) (phi_uses p) (all-at (λ p. NamesExist P fn (PhiItem p)) to.phis k p (s.names_exist f c fn to at).phis e).registers
+          (all-at (λ p. TypesFit (PhiItem p)) to.phis k p (s.types_fit f c fn to at).phis e));
+      from_is = sound-phis P s f c b k fn to from p at before named e;
+    })
+  where
+    in_phis : (ps : List Phi) (k : ℕ) (p : Phi) → slice_get ps k ≡ Some p → IsAmong (names_of (phi_registers ps)) p.dest
+    in_phis [] k p e = cc
+    in_phis (x ∷ ps) zero p e = inl (ap (λ (q : Phi). q.dest) (same_Some x p e))
+    in_phis (x ∷ ps) (suc k) p e = inr (in_phis ps k p e)

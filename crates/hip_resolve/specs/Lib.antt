@@ -7,3 +7,5 @@ pub mod Effects
 pub mod Far
 pub mod Fields
 pub mod Passed
+pub mod Edged
+pub mod PhiNumbers

@@ -1,6 +1,7 @@
 -- What the code knows of a function while it is resolved.
 use Rattle.std.specs.Prelude.{ℕ, ◌≡◌, ◌<◌, List, length, map, Some, slice_get}
 use Rattle.hip_ir.specs.declared.instr.Instr.{Instr}
+use Rattle.hip_ir.specs.declared.block.Block.{Block}
 use Rattle.hip_ir.specs.declared.block.End.{End}
 use Rattle.hip_ir.specs.declared.instr.Operand as named
 use Rattle.hip_ir.specs.declared.program.Program.{Program}
@@ -9,13 +10,14 @@ use Rattle.hip_globals.specs.Values.{global_address}
 use Rattle.hip_runs.specs.declared.input.Input.{Input}
 use Rattle.hip_typing.specs.Numbering.{function_names}
 use Rattle.hip_typing.specs.Sound.{IsSound}
-use Rattle.hip_runs.specs.Places.{blocks_of}
+use Rattle.hip_runs.specs.Places.{block_at, blocks_of}
 use Rattle.hip_code.specs.Entries.{entry}
 use Rattle.hip_code.specs.Frames.{names_at}
 use Rattle.hip_code.specs.Numbers.{Tables}
 use Rattle.hip_code.specs.Resolved.{IsOperand, Resolves, EndResolves}
 use Rattle.hip_code.specs.declared.op.Op.{Op}
 use Rattle.hip_code.specs.declared.op.Operand.{Operand}
+use Rattle.hip_resolve.specs.PhiNumbers.{HasTables}
 use Rattle.hip_resolve.specs.declared.scope.Scope.{Scope}
 
 abbrev pub program_of : Scope → Program
@@ -37,10 +39,12 @@ pub record Describes (s : Scope) : Type 0 where
   pub functions : s.functions.now ≡ function_names s.program.now.functions
   pub starts : OfFunctions s.program.now s.starts.now (λ g. entry s.program.now g 0)
   pub sizes : OfFunctions s.program.now s.sizes.now (λ g. length (names_at s.program.now g))
+  pub function : slice_get s.program.now.functions s.number ≡ Some s.function.now
   pub registers : s.registers ≡ names_at s.program.now s.number
   pub labels : s.labels ≡ map (λ b. b.label) (blocks_of s.program.now s.number)
   pub as_long : length s.places ≡ length (blocks_of s.program.now s.number)
   pub places : (b : ℕ) → b < length s.places → slice_get s.places b ≡ Some (entry s.program.now s.number b)
+  pub sources : (b : ℕ) (block : Block) → block_at s.program.now s.number b ≡ Some block → HasTables s.sources b block.phis
 
 -- the operand stands for one of the function
 abbrev pub StandsFor : Scope → Tables → Operand → named.Operand → Type 0

@@ -2,10 +2,12 @@
 #![tactic(auto)]
 
 mod calls;
+mod edges;
 mod externs;
 mod gep;
 mod growing;
 mod memory;
 mod path;
+mod phis;
 mod scope;
 mod values;

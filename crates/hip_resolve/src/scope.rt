@@ -6,9 +6,10 @@ ghost use Rattle.hip_resolve.specs.Known.{OperandKnown};
 ghost use Rattle.hip_resolve.specs.Scopes.{Describes, StandsFor, names_of};
 
 use crate::growing::{Growing, place};
+use crate::phis::EdgeNumbers;
 use hip_code::Operand;
 use hip_globals::GlobalAddresses;
-use hip_ir::Program;
+use hip_ir::{Function, Program};
 use hip_names::NameSet;
 use hip_types::{Name, NoMemory, Row};
 use std::alloc::Global;
@@ -26,9 +27,12 @@ pub struct Scope<'a> {
     pub sizes: &'a [u32],
     /// The function's number, its registers, the labels of its blocks, and the places where these begin.
     pub number: usize,
+    pub function: &'a Function,
     pub registers: NameSet<'a>,
     pub labels: NameSet<'a>,
     pub places: Row<u32>,
+    /// For each phi of each block the numbers of its edges.
+    pub sources: Row<Row<EdgeNumbers<'a>>>,
 }
 
 /// The slot of a register.

@@ -1,8 +1,8 @@
 -- What the ops of calls do.
 use Rattle.std.proofs.Math.Seq.{drop-append_seam}
-use Rattle.std.proofs.Common.{drop, ap₂, ◌≡◌, ℕ, zero, suc, ◌+◌, ◌<◌, ◌≤◌, List, [], ◌∷◌, ◌++◌, length, take, map, get_or, Option, Some, None, slice_get, refl, sym, ap, ◌∙◌, subst, arith, append_assoc, add-one}
-use Rattle.std.proofs.lemmas.List.{append-nil, length-append}
-use Rattle.std.proofs.lemmas.Option.{same_Some, slice_get_within}
+use Rattle.std.proofs.Common.{◌⊎◌, inl, inr, option_map, drop, ap₂, ◌≡◌, ℕ, zero, suc, ◌+◌, ◌<◌, ◌≤◌, List, [], ◌∷◌, ◌++◌, length, take, map, get_or, Option, Some, None, slice_get, refl, sym, ap, ◌∙◌, subst, arith, append_assoc, add-one}
+use Rattle.std.proofs.lemmas.List.{append-nil, length-append, length-map}
+use Rattle.std.proofs.lemmas.Option.{same_Some, slice_get_within, slice_get-map}
 use Rattle.hip_types.specs.declared.number.Scalar.{Scalar}
 use Rattle.hip_ir.specs.declared.instr.Arg.{Arg}
 use Rattle.hip_ir.specs.declared.program.Param.{Param}
@@ -10,8 +10,14 @@ use Rattle.hip_ir.specs.declared.program.Program.{Program}
 use Rattle.hip_ir.specs.declared.instr.Operand as named
 use Rattle.hip_ir.specs.declared.instr.Instr.TheVariants as instrs
 use Rattle.hip_names.specs.Names.{number_of}
-use Rattle.hip_typing.specs.Numbering.{function_number}
-use Rattle.hip_typing.specs.Sound.{register_names}
+use Rattle.hip_names.specs.Laws.NumberLaws.{number_of-there}
+use Rattle.hip_ir.specs.declared.program.Function.{Function}
+use Rattle.hip_externs.specs.Externs.{Signature, call_of, row_of, signature}
+use Rattle.hip_externs.specs.declared.call.ExternCall.{ExternCall}
+use Rattle.hip_typing.specs.Given.{CallsExtern, CallsFunction}
+use Rattle.hip_typing.specs.Laws.Decided.{all-at}
+use Rattle.hip_typing.specs.Numbering.{function_names, function_number}
+use Rattle.hip_typing.specs.Sound.{IsFree, IsSound, register_names}
 use Rattle.hip_runs.specs.declared.input.Input.{Input}
 use Rattle.hip_runs.specs.Places.{block_at, blocks_in}
 use Rattle.hip_code.specs.Edges.{IsCall, are_arguments}
@@ -156,3 +162,31 @@ number_is s callee args number d c e = same_Some number c.number (sym e ∙ ap (
 -- the number that stands in a table of functions
 pub number_given : (P : Program) (numbers : List ℕ) (f : ℕ → ℕ) (k number found : ℕ) → k ≡ number → OfFunctions P numbers f → number < length P.functions → slice_get numbers k ≡ Some found → found ≡ f number
 number_given P numbers f k number found e o lt h = same_Some found (f number) (sym h ∙ ap (slice_get numbers) e ∙ o.at number lt)
+
+-- ---- what a call names
+
+-- no function has the name of an external function
+function_free : (P : Program) → IsSound P → (callee : List ℕ) (ret : Option Scalar) (args : List Arg) → CallsFunction P callee ret args → call_of callee ≡ None
+function_free P s callee ret args c =
+    let free : call_of c.function.name ≡ None = all-at (λ f. IsFree f.name) P.functions c.number c.function s.externs.functions c.here in
+    let there : slice_get (function_names P.functions) c.number ≡ Some callee = number_of-there (function_names P.functions) callee c.number c.named in
+    let same : Some c.function.name ≡ Some callee = sym (slice_get-map (λ (f : Function). f.name) P.functions c.number ∙ ap (option_map (λ (f : Function). f.name)) c.here) ∙ there in
+    subst (λ n. call_of n ≡ None) (same_Some c.function.name callee same) free
+
+pub calls_extern : (P : Program) → IsSound P → (callee : List ℕ) (ret : Option Scalar) (args : List Arg) (call : ExternCall) → CallsFunction P callee ret args ⊎ CallsExtern callee ret args → call_of callee ≡ Some call →
+    length args ≡ length (row_of call).params
+calls_extern P s callee ret args call (inl c) e = absurd (let none = function_free P s callee ret args c in let q : ⊥ = cc (none, e) in q)
+calls_extern P s callee ret args call (inr c) e =
+    let same : signature call ≡ c.signature = same_Some (signature call) c.signature (sym (ap (option_map signature) e) ∙ c.known) in
+    sym (length-map args (λ (a : Arg). a.ty)) ∙ ap length (sym c.params) ∙ ap (λ (x : Signature). length x.params) (sym same)
+
+pub calls_function : (P : Program) → IsSound P → (callee : List ℕ) (ret : Option Scalar) (args : List Arg) → CallsFunction P callee ret args ⊎ CallsExtern callee ret args → call_of callee ≡ None → Calls P callee args
+calls_function P s callee ret args (inl c) e = record {
+  number = c.number;
+  function = c.function;
+  named = c.named;
+  here = c.here;
+  as_long = sym (length-map c.function.params (λ (p : Param). p.ty)) ∙ ap length c.params ∙ length-map args (λ (a : Arg). a.ty);
+  free = e;
+}
+calls_function P s callee ret args (inr c) e = absurd (let none = ap (option_map signature) e in let known = c.known in let q : ⊥ = cc (none, known) in q)

@@ -9,3 +9,4 @@ pub mod Indices
 pub mod GepOps
 pub mod CallOps
 pub mod EdgeOps
+pub mod EndOps

@@ -9,3 +9,4 @@ pub mod Fields
 pub mod Passed
 pub mod Edged
 pub mod PhiNumbers
+pub mod Switched

@@ -3,6 +3,7 @@
 
 mod calls;
 mod edges;
+mod ends;
 mod externs;
 mod gep;
 mod growing;

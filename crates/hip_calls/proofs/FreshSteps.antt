@@ -5,6 +5,7 @@ use Rattle.std.specs.Str.{bytes_eq}
 use Rattle.std.specs.List.{list_any}
 use Rattle.std.specs.Cmp.{both_ways}
 use Rattle.std.specs.Cmp.Lexicographic.{nat_list_eq_equiv}
+use Rattle.std.proofs.lemmas.List.{at_drop_more}
 use Rattle.std.proofs.lemmas.List.Folds.{list_any-append}
 use Rattle.hip_ir.specs.declared.program.Program.{Program}
 use Rattle.hip_types.specs.Distinct.{met}
@@ -69,14 +70,8 @@ fresh_for-next earlier set functions P k f d alike h e =
     append_assoc earlier (x ∷ []) (fresh_for ((earlier ++ x ∷ []) ++ names_taken P) rest)
     ∙ ap (λ z. earlier ++ z ∷ fresh_for ((earlier ++ z ∷ []) ++ names_taken P) rest) same
     ∙ ap (λ ns. earlier ++ y ∷ ns) (fresh_for-alike ((earlier ++ y ∷ []) ++ names_taken P) (y ∷ (earlier ++ names_taken P)) rest (λ q. ap (λ zs. is_among zs q) (append_assoc earlier (y ∷ []) (names_taken P)) ∙ among_alike earlier (names_taken P) y q))
-    ∙ ap (λ ns. earlier ++ fresh_for (earlier ++ names_taken P) ns) (ahead functions k h e)
-  where
-    ahead : (fs : List ℕ) (k : ℕ) → k < length fs → f ≡ get_or fs k d → name_of P f ∷ map (name_of P) (drop (k + 1) fs) ≡ map (name_of P) (drop k fs)
-    ahead [] k h e = absurd (omega arith)
-    ahead (y ∷ ys) zero h e = ap (λ z. name_of P z ∷ map (name_of P) ys) e
-    ahead (y ∷ ys) (suc k) h e =
-        let one : suc k + 1 ≡ suc (k + 1) = omega arith in
-        ap (λ m. name_of P f ∷ map (name_of P) (drop m (y ∷ ys))) one ∙ ahead ys k (omega arith) e
+    ∙ ap (λ g. earlier ++ fresh_for (earlier ++ names_taken P) (name_of P g ∷ rest)) e
+    ∙ sym (at_drop_more (λ fs. earlier ++ fresh_for (earlier ++ names_taken P) (map (name_of P) fs)) functions k d h)
 
 -- a fresh name is put behind the earlier ones
 pub fresh-put : (earlier set : List (List ℕ)) (name : List ℕ) → (if list_any (bytes_eq (fresh_name (earlier ++ set) name)) earlier then earlier else earlier ++ fresh_name (earlier ++ set) name ∷ []) ≡ earlier ++ fresh_name (earlier ++ set) name ∷ []

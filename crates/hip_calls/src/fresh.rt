@@ -99,7 +99,7 @@ fn fresh_name(
 }
 
 /// The name of the function of that number; empty where there is none.
-fn name_of(program: &Program, number: usize) -> &[u8]
+pub fn name_of(program: &Program, number: usize) -> &[u8]
     ensures { result.now ≡ name_of program.now number }
 {
     match program.functions.get(number) {

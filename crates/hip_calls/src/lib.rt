@@ -6,6 +6,6 @@ mod function_table;
 mod laws;
 mod reach;
 
-pub use fresh::fresh_names;
+pub use fresh::{fresh_names, name_of};
 pub use laws::{callees_are_reached, fresh_names_are_fresh};
 pub use reach::callees;

@@ -2,28 +2,34 @@
 use Rattle.std.specs.Prelude.{ℕ, true, false, List, [], ◌∷◌, Option}
 use Rattle.hip_ir.specs.declared.instr.Arg.{Arg}
 use Rattle.hip_ir.specs.declared.program.GlobalVar.{GlobalVar}
+use Rattle.hip_types.specs.declared.number.Scalar.{Scalar}
+use Rattle.hip_externs.specs.Externs.{row_of}
 use Rattle.hip_externs.specs.declared.call.ExternCall.{ExternCall}
+use Rattle.hip_externs.specs.declared.call.LineEffect.{LineEffect}
+use Rattle.hip_externs.specs.declared.call.LineEffect.TheVariants as lines
 use Rattle.hip_externs.specs.declared.call.ExternCall.TheVariants as calls
 use Rattle.hip_code.specs.Resolved.{IsOperand}
 use Rattle.hip_code.specs.declared.op.Effect.{Effect}
 use Rattle.hip_code.specs.declared.op.Effect.TheVariants as effects
 use Rattle.hip_code.specs.declared.op.Operand.{Operand}
 use Rattle.hip_code.specs.declared.op.Outside.TheVariants.{Assert, Print, Read}
+use Rattle.hip_code.specs.declared.op.Persistence.{Persistence}
 use Rattle.hip_code.specs.declared.op.Persistence.TheVariants.{Flush, Fence, Range}
+
+-- Of a function that flushes or fences, by its effect and its parameters: the flush of an address alone is of its line,
+-- and one with a size is of a range.
+abbrev pub line_op : LineEffect → List Scalar → Operand → Operand → Persistence
+line_op lines.Flush (addr ∷ size ∷ more) a b = Range a b false
+line_op lines.Flush _ a b = Flush a
+line_op lines.FlushAndFence params a b = Range a b true
+line_op _ params a b = Fence
 
 -- of a call with a result and two arguments, of which the function may take fewer
 abbrev pub extern_op : ExternCall → Option ℕ → Operand → Operand → Effect
 extern_op calls.ReadI64 dest a b = effects.Outside (Read dest)
 extern_op calls.PrintI64 dest a b = effects.Outside (Print a)
 extern_op calls.PmAssert dest a b = effects.Outside (Assert a b)
-extern_op calls.Clwb dest a b = effects.Persistence (Flush a)
-extern_op calls.Clflushopt dest a b = effects.Persistence (Flush a)
-extern_op calls.Clflush dest a b = effects.Persistence (Flush a)
-extern_op calls.Sfence dest a b = effects.Persistence Fence
-extern_op calls.Mfence dest a b = effects.Persistence Fence
-extern_op calls.PmemFlush dest a b = effects.Persistence (Range a b false)
-extern_op calls.PmemPersist dest a b = effects.Persistence (Range a b true)
-extern_op calls.PmemDrain dest a b = effects.Persistence Fence
+extern_op call dest a b = effects.Persistence (line_op (row_of call).effect (row_of call).params a b)
 
 abbrev pub is_first : List GlobalVar → ℕ → List (List ℕ) → List ℕ → List Arg → Operand → Type 0
 is_first globals region names constants [] a = ⊥
@@ -34,16 +40,14 @@ are_both globals region names constants [] a b = ⊥
 are_both globals region names constants (x ∷ xs) a b =
     IsOperand globals region names constants a x.value × is_first globals region names constants xs b
 
+-- the operands stand for the arguments of a function with these parameters, of which it has at most two
+abbrev pub are_passed : List GlobalVar → ℕ → List (List ℕ) → List ℕ → List Scalar → List Arg → Operand → Operand →
+    Type 0
+are_passed globals region names constants [] args a b = Unit {0}
+are_passed globals region names constants (x ∷ []) args a b = is_first globals region names constants args a
+are_passed globals region names constants (x ∷ y ∷ more) args a b = are_both globals region names constants args a b
+
 -- the operands stand for the arguments that the function takes
 abbrev pub are_taken : List GlobalVar → ℕ → List (List ℕ) → List ℕ → ExternCall → List Arg → Operand → Operand → Type 0
-are_taken globals region names constants calls.ReadI64 args a b = Unit {0}
-are_taken globals region names constants calls.PrintI64 args a b = is_first globals region names constants args a
-are_taken globals region names constants calls.PmAssert args a b = are_both globals region names constants args a b
-are_taken globals region names constants calls.Clwb args a b = is_first globals region names constants args a
-are_taken globals region names constants calls.Clflushopt args a b = is_first globals region names constants args a
-are_taken globals region names constants calls.Clflush args a b = is_first globals region names constants args a
-are_taken globals region names constants calls.Sfence args a b = Unit {0}
-are_taken globals region names constants calls.Mfence args a b = Unit {0}
-are_taken globals region names constants calls.PmemFlush args a b = are_both globals region names constants args a b
-are_taken globals region names constants calls.PmemPersist args a b = are_both globals region names constants args a b
-are_taken globals region names constants calls.PmemDrain args a b = Unit {0}
+are_taken globals region names constants call args a b =
+    are_passed globals region names constants (row_of call).params args a b

@@ -23,8 +23,8 @@ use Rattle.hip_names.specs.Laws.NameLaws.{bytes_eq-sym}
 use Rattle.hip_names.specs.Names.{is_among}
 use Rattle.hip_calls.specs.Laws.MetLaws.{met-alike}
 use Rattle.hip_runs.specs.Places.{blocks_in, blocks_of}
-use Rattle.hip_fix.specs.Direct.{allocates, allocates_in, is_volatile_global, names_volatile, stores_outside, direct}
-use Rattle.hip_fix.specs.Laws.SiteOrder.{filtered_has, filtered_in, has_in, site_in}
+use Rattle.hip_repairs.specs.Direct.{allocates, allocates_in, is_volatile_global, names_volatile, stores_outside, direct}
+use Rattle.hip_repairs.specs.Laws.SiteOrder.{filtered_has, filtered_in, has_in, site_in}
 use Rattle.hip_fix.specs.DirectWalk.{volatile_names, allocated, body_allocas, alloca_names, names_one_of, stores_by, outside_in_body, outside_in_blocks, outside_in_function, outside_in_functions}
 
 -- ---- the names

@@ -17,11 +17,11 @@ use Rattle.hip_runs.specs.StoredParts.Parts.{In}
 use Rattle.hip_runs.specs.Places.{blocks_in, body_at, body_of}
 use Rattle.hip_runs.specs.Sites.{is_defined_call, is_flush_call, is_store}
 use Rattle.hip_typing.specs.Numbering.{function_number}
-use Rattle.hip_fix.specs.declared.plan.Plan.{Plan}
-use Rattle.hip_fix.specs.Laws.SiteOrder.{has_in, in_has, strict_order}
-use Rattle.hip_fix.specs.Suits.{IsSuiting, site_before, is_ascending}
+use Rattle.hip_repairs.specs.declared.plan.Plan.{Plan}
+use Rattle.hip_repairs.specs.Laws.SiteOrder.{has_in, in_has, strict_order}
+use Rattle.hip_repairs.specs.Suits.{IsSuiting, site_before, is_ascending}
 use Rattle.hip_fix.specs.SuitsTest.{ascend, begins_with, calls_defined, fences_pass, not_before, passes}
-use Rattle.hip_fix.proofs.Twins.{IsCallable}
+use Rattle.hip_repairs.specs.Laws.Callable.{IsCallable}
 
 never : {A : Type 0} (b : Bool) → b ≡ true → b ≡ false → A
 never true e f = absurd (let z : ⊥ = cc in z)

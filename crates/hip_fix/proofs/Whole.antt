@@ -13,9 +13,10 @@ use Rattle.hip_ir.specs.declared.program.Program.{Program}
 use Rattle.hip_ir.specs.declared.site.Site.{Site}
 use Rattle.hip_calls.specs.Fresh.{fresh_names, names_taken, name_of}
 use Rattle.hip_calls.specs.Laws.FreshLaws.{length-fresh_for}
-use Rattle.hip_fix.specs.declared.plan.Plan.{Plan}
-use Rattle.hip_fix.specs.Repaired.{Marked, Clone, Wanted, is_call_of, inserts, inserts_in, inserts_from, inserts_cloned, needs, repaired_by, repaired_body, repaired_functions, clone_functions, clones_of, clones_from, cloned, repaired, wanted_by, clwb_name, sfence_name, pmem_flush_name}
-use Rattle.hip_fix.specs.Walk.{declared_if, marked_blocks, marked_functions, marked_clone, marked_clones, walked}
+use Rattle.hip_repairs.specs.declared.plan.Plan.{Plan}
+use Rattle.hip_repairs.specs.Repaired.{Marked, Clone, Wanted, is_call_of, inserts, inserts_in, inserts_from, inserts_cloned, needs, repaired_by, repaired_body, repaired_functions, clone_functions, clones_of, clones_from, cloned, repaired, wanted_by, clwb_name, sfence_name, pmem_flush_name}
+use Rattle.hip_insertions.specs.Walk.{declared_if, marked_blocks, marked_functions, marked_clone, marked_clones}
+use Rattle.hip_fix.specs.Walked.{walked}
 
 module _ (name : List ℕ) (clones : List Clone) (w : Wanted) where
   inserts-append : (xs ys : List Marked) → inserts name (xs ++ ys) ≡ (inserts name xs || inserts name ys)

@@ -1,5 +1,5 @@
--- The stores whose bytes are never in the region, as one walk finds them: with the volatile globals and, for each function, the
--- registers that `alloca` assigns as sets of names.
+-- The stores whose bytes are never in the region, as one walk finds them: with the volatile globals and, for each
+-- function, the registers that `alloca` assigns as sets of names.
 use Rattle.std.specs.Prelude.{ℕ, suc, Bool, false, cond, List, [], ◌∷◌, ◌++◌}
 use Rattle.std.specs.List.{flat_map}
 use Rattle.std.specs.Str.{bytes_eq}
@@ -46,15 +46,18 @@ abbrev pub stores_by : List (List ℕ) → List (List ℕ) → Instr → Bool
 stores_by volatile registers (Store ty value addr align) = lies_by volatile registers addr
 stores_by volatile registers _ = false
 
--- the sites of such stores of a body from place k on, of blocks from number b on, of a function, and of functions from number f on
+-- the sites of such stores of a body from place k on, of blocks from number b on, of a function, and of functions from
+-- number f on
 abbrev pub outside_in_body : List (List ℕ) → List (List ℕ) → ℕ → ℕ → ℕ → List Instr → List Site
 outside_in_body volatile registers f b k [] = []
 outside_in_body volatile registers f b k (i ∷ is) =
-    cond (stores_by volatile registers i) (record { function = f; block = b; index = k } ∷ []) [] ++ outside_in_body volatile registers f b (suc k) is
+    cond (stores_by volatile registers i) (record { function = f; block = b; index = k } ∷ []) []
+    ++ outside_in_body volatile registers f b (suc k) is
 
 abbrev pub outside_in_blocks : List (List ℕ) → List (List ℕ) → ℕ → ℕ → List Block → List Site
 outside_in_blocks volatile registers f b [] = []
-outside_in_blocks volatile registers f b (x ∷ xs) = outside_in_body volatile registers f b 0 x.body ++ outside_in_blocks volatile registers f (suc b) xs
+outside_in_blocks volatile registers f b (x ∷ xs) =
+    outside_in_body volatile registers f b 0 x.body ++ outside_in_blocks volatile registers f (suc b) xs
 
 abbrev pub outside_in_function : List (List ℕ) → ℕ → Function → List Site
 outside_in_function volatile f x = outside_in_blocks volatile (met bytes_eq [] (alloca_names x.blocks)) f 0 x.blocks

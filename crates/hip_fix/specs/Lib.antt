@@ -1,16 +1,3 @@
-pub mod Suits
 pub mod SuitsTest
-pub mod SiteSets
-pub mod Walk
-pub mod Repaired
-pub mod Direct
+pub mod Walked
 pub mod DirectWalk
-pub mod Harmless
-pub mod Quiet
-pub mod Choice
-pub mod Planned
-pub mod CloneNumbers
-pub mod Clean
-pub mod Covered
-pub mod Laws
-pub mod examples

@@ -8,8 +8,8 @@ use Rattle.hip_ir.specs.declared.instr.Instr.TheVariants.{Call}
 use Rattle.hip_ir.specs.declared.program.Program.{Program}
 use Rattle.hip_ir.specs.declared.site.Site.{Site}
 use Rattle.hip_runs.specs.Sites.{is_flush_call, is_store}
-use Rattle.hip_fix.specs.Suits.{site_before, is_ascending}
-use Rattle.hip_fix.specs.declared.plan.Plan.{Plan}
+use Rattle.hip_repairs.specs.Suits.{site_before, is_ascending}
+use Rattle.hip_repairs.specs.declared.plan.Plan.{Plan}
 
 abbrev pub is_before_first : Site → List Site → Bool
 is_before_first s [] = true
@@ -32,12 +32,14 @@ calls_defined _ = false
 -- each of these sites is a flush call or among the first ones, where both lists ascend
 abbrev pub fences_pass : Program → List Site → List Site → Bool
 fences_pass P flushes [] = true
-fences_pass P flushes (s ∷ ss) = (is_flush_call (instr_of P s) || begins_with (not_before s flushes) s) && fences_pass P (not_before s flushes) ss
+fences_pass P flushes (s ∷ ss) =
+    (is_flush_call (instr_of P s) || begins_with (not_before s flushes) s) && fences_pass P (not_before s flushes) ss
 
 abbrev pub ascend : Plan → Bool
 ascend plan = is_ascending plan.flush_after && is_ascending plan.fence_after && is_ascending plan.hoist
 
 abbrev pub passes : Program → Plan → Bool
 passes P plan =
-    ascend plan && list_all (λ s. is_store (instr_of P s)) plan.flush_after && fences_pass P plan.flush_after plan.fence_after
+    ascend plan && list_all (λ s. is_store (instr_of P s)) plan.flush_after
+    && fences_pass P plan.flush_after plan.fence_after
     && list_all (λ s. calls_defined (instr_of P s)) plan.hoist

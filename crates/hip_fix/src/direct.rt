@@ -3,7 +3,7 @@ ghost use Rattle.std.specs.List.{filter};
 ghost use Rattle.std.specs.Str.{bytes_eq};
 ghost use Rattle.hip_types.specs.Distinct.{met};
 ghost use Rattle.hip_ir.specs.Sites.{sites_of};
-ghost use Rattle.hip_fix.specs.Direct.{direct};
+ghost use Rattle.hip_repairs.specs.Direct.{direct};
 ghost use Rattle.hip_fix.specs.DirectWalk as spec;
 ghost use Rattle.hip_fix.specs.DirectWalk.{alloca_names, body_allocas, outside_in_blocks, outside_in_body, outside_in_function, outside_in_functions, stores_by, volatile_names};
 
@@ -79,7 +79,8 @@ fn add_body(
     block: usize,
     body: &[Instr],
 ) -> Result<(), NoMemory>
-    ensures { OnOk result (sites.new ≡ sites.old ++ outside_in_body volatile.now allocated.now function block 0 body.now) }
+    ensures { OnOk result (sites.new
+        ≡ sites.old ++ outside_in_body volatile.now allocated.now function block 0 body.now) }
 {
     'each: for index in 0..body.len() {
         if stores_by(volatile, allocated, &body[index]) {
@@ -101,7 +102,8 @@ fn add_blocks(
     function: usize,
     blocks: &[Block],
 ) -> Result<(), NoMemory>
-    ensures { OnOk result (sites.new ≡ sites.old ++ outside_in_blocks volatile.now allocated.now function 0 blocks.now) }
+    ensures { OnOk result (sites.new
+        ≡ sites.old ++ outside_in_blocks volatile.now allocated.now function 0 blocks.now) }
 {
     'each: for block in 0..blocks.len() {
         add_body(
@@ -116,7 +118,8 @@ fn add_blocks(
     Ok(())
 }
 
-/// Adds the sites of the stores of a function whose address is a register that an `alloca` assigns, or one of these globals itself.
+/// Adds the sites of the stores of a function whose address is a register that an `alloca` assigns, or one of these
+/// globals itself.
 fn add_function(
     alloc: Global,
     sites: &mut Row<Site>,
@@ -151,7 +154,8 @@ fn add_functions(
     Ok(())
 }
 
-/// The sites of the stores whose address is a register that an `alloca` assigns, or a volatile global itself, in the program's order.
+/// The sites of the stores whose address is a register that an `alloca` assigns, or a volatile global itself, in the
+/// program's order.
 pub fn direct_stores(alloc: Global, program: &Program) -> Result<Row<Site>, NoMemory>
     ensures { IfOk result (λ sites. sites ≡ filter (direct program.now) (sites_of program.now)) }
 {

@@ -3,14 +3,14 @@ ghost use Rattle.std.specs.List.{list_all};
 ghost use Rattle.hip_ir.specs.Sites.{instr_of};
 ghost use Rattle.hip_externs.specs.Externs.{call_of};
 ghost use Rattle.hip_runs.specs.Sites.{is_flush_call, is_store, only_flushes};
-ghost use Rattle.hip_fix.specs.Suits as spec;
-ghost use Rattle.hip_fix.specs.Suits.{IsSuiting, site_before};
+ghost use Rattle.hip_repairs.specs.Suits as spec;
+ghost use Rattle.hip_repairs.specs.Suits.{IsSuiting, site_before};
 ghost use Rattle.hip_fix.specs.SuitsTest as test;
 ghost use Rattle.hip_fix.specs.SuitsTest.{begins_with, calls_defined, fences_pass};
 
-use crate::plan::Plan;
 use hip_externs::ExternCall;
 use hip_ir::{Instr, Program, Site, instr_at};
+use hip_repairs::Plan;
 use hip_typing::Checked;
 
 fn is_before(a: Site, b: Site) -> bool
@@ -152,8 +152,9 @@ fn passes(program: &Program, plan: &Plan) -> bool
         && are_calls(program, plan.hoist.as_slice())
 }
 
-/// Whether a plan suits a program: flushes are put after stores, fences after flush calls and after stores that a flush is put after, and
-/// the hoisted calls are calls of defined functions; each list is strictly ascending. It takes no memory, and time linear in the plan.
+/// Whether a plan suits a program: flushes are put after stores, fences after flush calls and after stores that a flush
+/// is put after, and the hoisted calls are calls of defined functions; each list is strictly ascending. It takes no
+/// memory, and time linear in the plan.
 pub fn suits(checked: &Checked, plan: &Plan) -> bool
     ensures { IsTrue result ↔ IsSuiting checked.now plan.now }
 {

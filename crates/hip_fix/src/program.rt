@@ -1,16 +1,13 @@
 ghost use Rattle.std.specs.Prelude.{◌≡◌, length, IfOk};
 ghost use Rattle.hip_calls.specs.Fresh.{fresh_names};
 ghost use Rattle.hip_ir.specs.Sites.{has_site};
-ghost use Rattle.hip_fix.specs.Repaired.{cloned, clones_from, repaired, wanted_by};
-ghost use Rattle.hip_fix.specs.Walk.{none_needed, walked, wanted_in};
+ghost use Rattle.hip_repairs.specs.Repaired.{cloned, clones_from, repaired, wanted_by};
+ghost use Rattle.hip_insertions.specs.Walk.{none_needed, wanted_in};
+ghost use Rattle.hip_fix.specs.Walked.{walked};
 
-use crate::body::Needed;
-use crate::clone_table::CloneTable;
-use crate::externs::declarations;
-use crate::plan::Plan;
-use crate::repair::Repair;
-use crate::sites::SiteSet;
+use hip_insertions::{CloneTable, Needed, Repair, SiteSet, declarations};
 use hip_ir::{Program, Site};
+use hip_repairs::Plan;
 use hip_types::{Name, NoMemory, Row, Structural};
 use std::alloc::Global;
 
@@ -44,7 +41,8 @@ fn walk(
     names: &[Name],
 ) -> Result<Program, NoMemory>
     requires { length names.now ≡ length originals.now }
-    ensures { IfOk result (λ p. p ≡ walked program.now repair.now.clones (wanted_in repair.now) originals.now names.now) }
+    ensures { IfOk result (λ p. p
+        ≡ walked program.now repair.now.clones (wanted_in repair.now) originals.now names.now) }
 {
     let mut needed = Needed::none();
     let mut functions = Row::new(alloc);

@@ -4,32 +4,23 @@ ghost use Rattle.hip_runs.specs.Found.Marks.{IsFound};
 ghost use Rattle.hip_runs.specs.Validity.{IsValid};
 ghost use Rattle.hip_runs.specs.declared.input.Input.{Input};
 ghost use Rattle.hip_runs.specs.declared.report.Findings.{Findings};
-ghost use Rattle.hip_fix.specs.Choice.{Contains, plan_for};
-ghost use Rattle.hip_fix.specs.Clean.{IsClean};
-ghost use Rattle.hip_fix.specs.CloneNumbers.{clone_numbers, numbered_from};
-ghost use Rattle.hip_fix.specs.Covered.{AreHoistsFenced, IsCovered};
-ghost use Rattle.hip_fix.specs.Direct.{direct};
-ghost use Rattle.hip_fix.specs.Harmless.{IsHarmless};
-ghost use Rattle.hip_fix.specs.Quiet.{IsQuiet};
-ghost use Rattle.hip_fix.specs.Repaired as spec;
+ghost use Rattle.hip_repairs.specs.Choice.{Contains, plan_for};
+ghost use Rattle.hip_repairs.specs.Clean.{IsClean};
+ghost use Rattle.hip_repairs.specs.CloneNumbers.{clone_numbers, numbered_from};
+ghost use Rattle.hip_repairs.specs.Covered.{AreHoistsFenced, IsCovered};
+ghost use Rattle.hip_repairs.specs.Direct.{direct};
+ghost use Rattle.hip_repairs.specs.Harmless.{IsHarmless};
+ghost use Rattle.hip_repairs.specs.Quiet.{IsQuiet};
+ghost use Rattle.hip_repairs.specs.Repaired as spec;
 
 use crate::direct::direct_stores;
-use crate::plan::{CloneOf, Plan};
 use crate::program::repaired_program;
 use hip_calls::{callees, fresh_names};
 use hip_ir::{Function, Site};
+use hip_repairs::{CloneOf, Plan, Repaired};
 use hip_types::{NoMemory, Row};
 use hip_typing::Checked;
 use std::alloc::Global;
-
-/// What a repair made of a program.
-#[derive(Debug, Drop)]
-pub struct Repaired {
-    /// The repaired program.
-    pub checked: Checked,
-    /// The clones in it, in the order in which calls reach their originals.
-    pub clones: Row<CloneOf>,
-}
 
 /// The clones of the functions of these numbers, which stand behind all functions.
 fn numbered(
@@ -49,8 +40,9 @@ fn numbered(
     Ok(clones)
 }
 
-/// The program repaired by a plan, where the stores of `skip` get no flush by cloning. It does no harm; and where no store of `skip`
-/// ever lies in the region, it is clean and its hoisted calls are covered. The program, the plan and `skip` stay as they are.
+/// The program repaired by a plan, where the stores of `skip` get no flush by cloning. It does no harm; and where no
+/// store of `skip` ever lies in the region, it is clean and its hoisted calls are covered. The program, the plan and
+/// `skip` stay as they are.
 ///
 /// Time and memory are linear in the program, the plan, `skip` and the clones together.
 pub fn apply_skipping(
@@ -86,8 +78,9 @@ pub fn apply_skipping(
     })
 }
 
-/// The program repaired by a plan, where no flush is put by cloning after stores whose address is a register assigned by `alloca`, or
-/// a volatile global itself: those are never in the region. It does no harm, it is clean, and its hoisted calls are covered.
+/// The program repaired by a plan, where no flush is put by cloning after stores whose address is a register assigned
+/// by `alloca`, or a volatile global itself: those are never in the region. It does no harm, it is clean, and its
+/// hoisted calls are covered.
 ///
 /// Time and memory are linear in the program, the plan and the clones together.
 pub fn apply(alloc: Global, checked: &Checked, plan: &Plan) -> Result<Repaired, NoMemory>

@@ -162,16 +162,7 @@ module _ (P : Program) where
       -- an external function that has no result assigns no register
       no_result : (x : ExternCall) → x ≢ calls.ReadI64 → (signature x).ret ≡ None
       no_result calls.ReadI64 n = absurd (n refl)
-      no_result calls.PrintI64 n = refl
-      no_result calls.PmAssert n = refl
-      no_result calls.Clwb n = refl
-      no_result calls.Clflushopt n = refl
-      no_result calls.Clflush n = refl
-      no_result calls.Sfence n = refl
-      no_result calls.Mfence n = refl
-      no_result calls.PmemFlush n = refl
-      no_result calls.PmemPersist n = refl
-      no_result calls.PmemDrain n = refl
+      no_result _ n = refl
 
       call_keeps : (below : ℕ) (dest : Option (List ℕ)) (ret : Option Scalar) (callee : List ℕ) (args : List Arg) → AssignsOnly i dest → (ret ≡ None → AssignsOnly i None) →
           CallsFunction P callee ret args ⊎ CallsExtern callee ret args → CallCases P I w below f.registers InstrKeeps dest callee args

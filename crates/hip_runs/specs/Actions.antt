@@ -25,9 +25,11 @@ use Rattle.hip_num.specs.Casts.{widened}
 use Rattle.hip_num.specs.Comparisons.{holds}
 use Rattle.hip_num.specs.declared.arithmetic.NumTrap.{NumTrap}
 use Rattle.hip_globals.specs.Addresses.{volatile_end}
-use Rattle.hip_externs.specs.Externs.{call_of, is_flush, is_fence}
+use Rattle.hip_externs.specs.Externs.{call_of, is_flush, is_fence, row_of}
 use Rattle.hip_globals.specs.Initial.{volatile_bytes}
 use Rattle.hip_externs.specs.declared.call.ExternCall.{ExternCall}
+use Rattle.hip_externs.specs.declared.call.LineEffect.{LineEffect}
+use Rattle.hip_externs.specs.declared.call.LineEffect.TheVariants as effects
 use Rattle.hip_typing.specs.Numbering.{function_number}
 use Rattle.hip_globals.specs.Values.{element_address}
 use Rattle.hip_runs.specs.declared.event.TrapKind.{TrapKind}
@@ -161,25 +163,30 @@ abbrev pub read_next : Option (List ℕ) → List ℤ → Action
 read_next dest [] = Traps traps.InputEnd
 read_next dest (z ∷ rest) = Reads dest z rest
 
--- What an external function does. The cache line instructions act on the line that has the address (Intel's manual);
--- the `pmem_` functions on the lines that have a byte of the range (libpmem); the others are this project's own.
+-- How many bytes from its address on a function with these parameters flushes. A cache line instruction takes an
+-- address and acts on the line that has it (Intel's manual); a `pmem_` function takes a size too, and acts on the lines
+-- that have a byte of the range (libpmem).
+abbrev pub flushed_size : List Scalar → List ℕ → ℕ
+flushed_size (addr ∷ size ∷ more) values = arg_value values 1
+flushed_size _ values = 1
+
+-- What is done to the cache lines of a range, by the effect of a function on them. (One that has none is not asked.)
+abbrev pub line_action : Program → Input → World → LineEffect → (addr size : ℕ) → Action
+line_action P I w effects.Nothing a n = Traps traps.Unreachable
+line_action P I w effects.Flush a n = flushing P I w a n (Flushes a n)
+line_action P I w effects.Fence a n = Fences
+line_action P I w effects.FlushAndFence a n = flushing P I w a n (Persists a n)
+
+-- What an external function does: one that flushes or fences, what its effect and its parameters in the table say. The
+-- others are this project's own.
 abbrev pub extern_action : Program → Input → World → ExternCall → List ℕ → Option (List ℕ) → Action
 extern_action P I w calls.ReadI64 values dest = read_next dest w.left
 extern_action P I w calls.PrintI64 values dest = Prints (signed W64 (arg_value values 0))
 extern_action P I w calls.PmAssert values dest =
     cond (in_region I (arg_value values 0) (arg_value values 1)) (Asserts (arg_value values 0) (arg_value values 1))
     (Traps traps.Address)
-extern_action P I w calls.Clwb values dest = flushing P I w (arg_value values 0) 1 (Flushes (arg_value values 0) 1)
-extern_action P I w calls.Clflushopt values dest =
-    flushing P I w (arg_value values 0) 1 (Flushes (arg_value values 0) 1)
-extern_action P I w calls.Clflush values dest = flushing P I w (arg_value values 0) 1 (Flushes (arg_value values 0) 1)
-extern_action P I w calls.Sfence values dest = Fences
-extern_action P I w calls.Mfence values dest = Fences
-extern_action P I w calls.PmemFlush values dest =
-    flushing P I w (arg_value values 0) (arg_value values 1) (Flushes (arg_value values 0) (arg_value values 1))
-extern_action P I w calls.PmemPersist values dest =
-    flushing P I w (arg_value values 0) (arg_value values 1) (Persists (arg_value values 0) (arg_value values 1))
-extern_action P I w calls.PmemDrain values dest = Fences
+extern_action P I w call values dest =
+    line_action P I w (row_of call).effect (arg_value values 0) (flushed_size (row_of call).params values)
 
 -- a call of an external function, or else of a defined one
 abbrev pub call_action : Program → Input → World → ℕ → Option ExternCall → List ℕ → List ℕ → Option (List ℕ) → Action

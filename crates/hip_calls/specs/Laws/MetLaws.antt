@@ -1,10 +1,11 @@
 -- Steps of loops that put items into a list without repeats.
-use Rattle.std.specs.Prelude.{◌≡◌, ℕ, zero, suc, ◌+◌, ◌<◌, Bool, true, false, cond, List, [], ◌∷◌, ◌++◌, length, drop}
+use Rattle.std.specs.Prelude.{◌≡◌, ℕ, ◌+◌, ◌<◌, Bool, true, false, cond, List, [], ◌∷◌, ◌++◌, length, drop}
 use Rattle.std.specs.Cmp.{both_ways}
 use Rattle.std.specs.Cmp.Lexicographic.{nat_list_eq_equiv}
 use Rattle.std.specs.List.{flat_map, list_any}
 use Rattle.std.specs.Str.{bytes_eq}
-use Rattle.std.proofs.Common.{get_or, refl, sym, ap, ◌∙◌, ⊎_elim, arith}
+use Rattle.std.proofs.Common.{get_or, refl, sym, ap, ◌∙◌, ⊎_elim}
+use Rattle.std.proofs.lemmas.List.{at_drop_more}
 use Rattle.hip_types.specs.Distinct.{met}
 use Rattle.hip_types.specs.Laws.DistinctLaws.{met-second, met-only}
 use Rattle.hip_names.specs.Names.{is_among}
@@ -19,14 +20,8 @@ module _ {A : Type 0} (same : A → A → Bool) where
       met same (met same seen (f x)) (flat_map f (drop (k + 1) items)) ≡ met same seen (flat_map f (drop k items))
   met-next {B} f seen items k x h e =
       sym (met-append seen (f x) (flat_map f (drop (k + 1) items)))
-      ∙ ap (λ ys. met same seen ys) (ahead items k h e)
-    where
-      ahead : (items : List B) (k : ℕ) → k < length items → x ≡ get_or items k x → f x ++ flat_map f (drop (k + 1) items) ≡ flat_map f (drop k items)
-      ahead [] k h e = absurd (omega arith)
-      ahead (y ∷ ys) zero h e = ap (λ z. f z ++ flat_map f ys) e
-      ahead (y ∷ ys) (suc k) h e =
-          let one : suc k + 1 ≡ suc (k + 1) = omega arith in
-          ap (λ m. f x ++ flat_map f (drop m (y ∷ ys))) one ∙ ahead ys k (omega arith) e
+      ∙ ap (λ y. met same seen (f y ++ flat_map f (drop (k + 1) items))) e
+      ∙ sym (at_drop_more (λ ys. met same seen (flat_map f ys)) items k x h)
 
 -- a set of names has the names that are put into it
 pub met-alike : (names : List (List ℕ)) → (q : List ℕ) → is_among (met bytes_eq [] names) q ≡ is_among names q

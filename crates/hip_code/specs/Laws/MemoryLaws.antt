@@ -15,19 +15,21 @@ use Rattle.hip_ir.specs.declared.program.Program.{Program}
 use Rattle.hip_mem.specs.Bytes.{bytes_of, little_endian}
 use Rattle.hip_mem.specs.Memory.{bytes_at}
 use Rattle.hip_names.specs.Names.{number_of}
-use Rattle.hip_externs.specs.Externs.{call_of}
+use Rattle.hip_externs.specs.Externs.{call_of, row_of}
 use Rattle.hip_typing.specs.Registers.{arg_uses}
 use Rattle.hip_externs.specs.declared.call.ExternCall.{ExternCall}
 use Rattle.hip_externs.specs.declared.call.ExternCall.TheVariants as calls
+use Rattle.hip_externs.specs.declared.call.LineEffect.{LineEffect}
+use Rattle.hip_externs.specs.declared.call.LineEffect.TheVariants as lines
 use Rattle.hip_runs.specs.declared.event.TrapKind.TheVariants as traps
 use Rattle.hip_runs.specs.declared.input.Input.{Input}
-use Rattle.hip_runs.specs.Actions.{Action, Traps, Assigns, Stores, Flushes, Persists, Asserts, Prints, accessed, allocated, call_action, extern_action, flushing, in_region, instr_action, is_flush_or_fence, memory_of, read_next}
+use Rattle.hip_runs.specs.Actions.{Action, Traps, Assigns, Stores, Flushes, Persists, Asserts, Prints, accessed, allocated, call_action, extern_action, flushing, in_region, instr_action, is_flush_or_fence, memory_of, read_next, arg_value, flushed_size, line_action}
 use Rattle.hip_runs.specs.Operands.{access_align, scalar_size, value_of, values_of, width_of}
 use Rattle.hip_runs.specs.State.{Registers, World}
-use Rattle.hip_code.specs.Calls.{extern_op, are_taken}
+use Rattle.hip_code.specs.Calls.{extern_op, are_taken, are_passed, line_op}
 use Rattle.hip_code.specs.Frames.{are_known, HoldsFrame, names_at}
 use Rattle.hip_code.specs.Numbers.{Numbers, Tables, operand_value}
-use Rattle.hip_code.specs.Ops.{IsSize, EffectWithin, effect_action, op_turn}
+use Rattle.hip_code.specs.Ops.{IsSize, EffectWithin, effect_action, op_turn, PersistenceWithin, persistence_action}
 use Rattle.hip_code.specs.Resolved.{IsOperand, is_result, effect_placed, Resolves, numbers_at}
 use Rattle.hip_code.specs.Laws.Operands.{operand_same, result_is}
 use Rattle.hip_code.specs.Laws.Slots.{slot_within, name_there, name_placed}
@@ -105,6 +107,49 @@ module _ (P : Program) (I : Input) (f : ℕ) (tables : Tables) where
 
   -- ---- external functions
 
+  -- there is an op for a function with this effect and these parameters
+  abbrev has_op : LineEffect → List Scalar → Bool
+  has_op lines.Nothing params = false
+  has_op lines.Flush [] = false
+  has_op lines.Flush (x ∷ more) = true
+  has_op lines.Fence params = true
+  has_op lines.FlushAndFence [] = false
+  has_op lines.FlushAndFence (x ∷ []) = false
+  has_op lines.FlushAndFence (x ∷ y ∷ more) = true
+
+  record Lines (w : World) (n : Numbers) (rs : Registers) (effect : LineEffect) (params : List Scalar) (a b : Operand)
+      (args : List Arg) : Type 0 where
+    within : PersistenceWithin n (line_op effect params a b)
+    acts : persistence_action P I w n (line_op effect params a b)
+        ≡ line_action P I w effect (arg_value (values_of P.globals I.base rs args) 0)
+        (flushed_size params (values_of P.globals I.base rs args))
+
+  lines_of : (w : World) (slots : List ℕ) (base : ℕ) (rs : Registers) (effect : LineEffect) (params : List Scalar)
+      (a b : Operand) (args : List Arg) → HoldsFrame names slots base rs → are_known rs (arg_uses args)
+      → are_passed P.globals I.base names tables.constants params args a b → has_op effect params ≡ true →
+      Lines w (numbers_at tables slots base) rs effect params a b args
+  lines_of w slots base rs lines.Fence params a b args h k t some = record { within = tt; acts = refl }
+  lines_of w slots base rs lines.Flush (p ∷ []) a b (x ∷ xs) h k t some =
+      let v = operand_same P.globals I.base names (numbers_at tables slots base) rs a x.value t h k.0 in
+      record { within = v.within; acts = ap (λ u. flushing P I w u 1 (Flushes u 1)) v.same }
+  lines_of w slots base rs lines.Flush (p ∷ q ∷ more) a b (x ∷ y ∷ ys) h k t some =
+      let u = operand_same P.globals I.base names (numbers_at tables slots base) rs a x.value t.0 h k.0 in
+      let v = operand_same P.globals I.base names (numbers_at tables slots base) rs b y.value t.1 h k.1.0 in
+      record { within = (u.within, v.within); acts = ap₂ (λ i j. flushing P I w i j (Flushes i j)) u.same v.same }
+  lines_of w slots base rs lines.FlushAndFence (p ∷ q ∷ more) a b (x ∷ y ∷ ys) h k t some =
+      let u = operand_same P.globals I.base names (numbers_at tables slots base) rs a x.value t.0 h k.0 in
+      let v = operand_same P.globals I.base names (numbers_at tables slots base) rs b y.value t.1 h k.1.0 in
+      record { within = (u.within, v.within); acts = ap₂ (λ i j. flushing P I w i j (Persists i j)) u.same v.same }
+  lines_of w slots base rs lines.Flush (p ∷ []) a b [] h k t some = absurd t
+  lines_of w slots base rs lines.Flush (p ∷ q ∷ more) a b [] h k t some = absurd t
+  lines_of w slots base rs lines.Flush (p ∷ q ∷ more) a b (x ∷ []) h k t some = absurd t.1
+  lines_of w slots base rs lines.FlushAndFence (p ∷ q ∷ more) a b [] h k t some = absurd t
+  lines_of w slots base rs lines.FlushAndFence (p ∷ q ∷ more) a b (x ∷ []) h k t some = absurd t.1
+  lines_of w slots base rs lines.Flush [] a b args h k t some = absurd (let z : ⊥ = cc in z)
+  lines_of w slots base rs lines.FlushAndFence [] a b args h k t some = absurd (let z : ⊥ = cc in z)
+  lines_of w slots base rs lines.FlushAndFence (p ∷ []) a b args h k t some = absurd (let z : ⊥ = cc in z)
+  lines_of w slots base rs lines.Nothing params a b args h k t some = absurd (let z : ⊥ = cc in z)
+
   record Effects (w : World) (n : Numbers) (rs : Registers) (c : ExternCall) (slot : Option ℕ) (a b : Operand) (args : List Arg) (dest : Option (List ℕ)) : Type 0 where
     within : EffectWithin n (extern_op c slot a b)
     placed : effect_placed names (extern_op c slot a b)
@@ -127,33 +172,9 @@ module _ (P : Program) (I : Input) (f : ℕ) (tables : Tables) where
       let u = operand_same P.globals I.base names (numbers_at tables slots base) rs a x.value t.0 h k.0 in
       let v = operand_same P.globals I.base names (numbers_at tables slots base) rs b y.value t.1 h k.1.0 in
       record { within = (u.within, v.within); placed = tt; turn = refl; acts = ap₂ (λ i j. cond (in_region I i j) (Asserts i j) (Traps traps.Address)) u.same v.same }
-  effects_of w slots base rs calls.Clwb slot a b [] dest h k r t = absurd t
-  effects_of w slots base rs calls.Clwb slot a b (x ∷ xs) dest h k r t =
-      let v = operand_same P.globals I.base names (numbers_at tables slots base) rs a x.value t h k.0 in
-      record { within = v.within; placed = tt; turn = refl; acts = ap (λ u. flushing P I w u 1 (Flushes u 1)) v.same }
-  effects_of w slots base rs calls.Clflushopt slot a b [] dest h k r t = absurd t
-  effects_of w slots base rs calls.Clflushopt slot a b (x ∷ xs) dest h k r t =
-      let v = operand_same P.globals I.base names (numbers_at tables slots base) rs a x.value t h k.0 in
-      record { within = v.within; placed = tt; turn = refl; acts = ap (λ u. flushing P I w u 1 (Flushes u 1)) v.same }
-  effects_of w slots base rs calls.Clflush slot a b [] dest h k r t = absurd t
-  effects_of w slots base rs calls.Clflush slot a b (x ∷ xs) dest h k r t =
-      let v = operand_same P.globals I.base names (numbers_at tables slots base) rs a x.value t h k.0 in
-      record { within = v.within; placed = tt; turn = refl; acts = ap (λ u. flushing P I w u 1 (Flushes u 1)) v.same }
-  effects_of w slots base rs calls.Sfence slot a b args dest h k r t = record { within = tt; placed = tt; turn = refl; acts = refl }
-  effects_of w slots base rs calls.Mfence slot a b args dest h k r t = record { within = tt; placed = tt; turn = refl; acts = refl }
-  effects_of w slots base rs calls.PmemFlush slot a b [] dest h k r t = absurd t
-  effects_of w slots base rs calls.PmemFlush slot a b (x ∷ []) dest h k r t = absurd t.1
-  effects_of w slots base rs calls.PmemFlush slot a b (x ∷ y ∷ ys) dest h k r t =
-      let u = operand_same P.globals I.base names (numbers_at tables slots base) rs a x.value t.0 h k.0 in
-      let v = operand_same P.globals I.base names (numbers_at tables slots base) rs b y.value t.1 h k.1.0 in
-      record { within = (u.within, v.within); placed = tt; turn = refl; acts = ap₂ (λ i j. flushing P I w i j (Flushes i j)) u.same v.same }
-  effects_of w slots base rs calls.PmemPersist slot a b [] dest h k r t = absurd t
-  effects_of w slots base rs calls.PmemPersist slot a b (x ∷ []) dest h k r t = absurd t.1
-  effects_of w slots base rs calls.PmemPersist slot a b (x ∷ y ∷ ys) dest h k r t =
-      let u = operand_same P.globals I.base names (numbers_at tables slots base) rs a x.value t.0 h k.0 in
-      let v = operand_same P.globals I.base names (numbers_at tables slots base) rs b y.value t.1 h k.1.0 in
-      record { within = (u.within, v.within); placed = tt; turn = refl; acts = ap₂ (λ i j. flushing P I w i j (Persists i j)) u.same v.same }
-  effects_of w slots base rs calls.PmemDrain slot a b args dest h k r t = record { within = tt; placed = tt; turn = refl; acts = refl }
+  effects_of w slots base rs call slot a b args dest h k r t =
+      let l = lines_of w slots base rs (row_of call).effect (row_of call).params a b args h k t refl in
+      record { within = l.within; placed = tt; turn = refl; acts = l.acts }
 
   -- a call of an external function
   pub resolves_extern : (dest : Option (List ℕ)) (slot : Option ℕ) (ret : Option Scalar) (callee : List ℕ) (args : List Arg) (c : ExternCall) (a b : Operand) →

@@ -17,15 +17,17 @@ use Rattle.hip_num.specs.Arithmetic.{binary_of}
 use Rattle.hip_num.specs.Comparisons.{holds}
 use Rattle.hip_num.specs.declared.arithmetic.NumTrap.{NumTrap}
 use Rattle.hip_num.specs.declared.arithmetic.NumTrap.TheVariants as num_traps
-use Rattle.hip_externs.specs.Externs.{call_of}
+use Rattle.hip_externs.specs.Externs.{call_of, row_of}
 use Rattle.hip_typing.specs.Numbering.{function_number}
 use Rattle.hip_globals.specs.Values.{element_address}
 use Rattle.hip_externs.specs.declared.call.ExternCall.{ExternCall}
 use Rattle.hip_externs.specs.declared.call.ExternCall.TheVariants as calls
+use Rattle.hip_externs.specs.declared.call.LineEffect.{LineEffect}
+use Rattle.hip_externs.specs.declared.call.LineEffect.TheVariants as effects
 use Rattle.hip_runs.specs.declared.event.TrapKind.{TrapKind}
 use Rattle.hip_runs.specs.declared.event.TrapKind.TheVariants as traps
 use Rattle.hip_runs.specs.declared.input.Input.{Input}
-use Rattle.hip_runs.specs.Actions.{Action, Traps, Assigns, Allocates, Stores, Flushes, Persists, Fences, Asserts, Prints, Reads, Calls, in_region, are_valid, memory_of, accessed, calculated, truth, cast_value, index_values, read_value, allocated, numbered_call, entered, flushing, read_next, extern_action, call_action, instr_action}
+use Rattle.hip_runs.specs.Actions.{Action, Traps, Assigns, Allocates, Stores, Flushes, Persists, Fences, Asserts, Prints, Reads, Calls, in_region, are_valid, memory_of, accessed, calculated, truth, cast_value, index_values, read_value, allocated, numbered_call, entered, flushing, read_next, extern_action, call_action, instr_action, line_action, arg_value, flushed_size}
 use Rattle.hip_runs.specs.Operands.{value_of, values_of, bound, scalar_size, width_of}
 use Rattle.hip_runs.specs.State.{Registers, World}
 
@@ -112,18 +114,20 @@ module _ (P : Program) (I : Input) (w : World) (below : ℕ) (rs : Registers) (C
     read_case dest [] p = trap traps.InputEnd (λ e. cc)
     read_case dest (z ∷ rest) p = p z rest refl
 
+    lines_case : (effect : LineEffect) (a n : ℕ) → effect ≢ effects.Nothing
+        → ((y : Action) → leaves_registers y → Claim y) → Claim (line_action P I w effect a n)
+    lines_case effects.Nothing a n some still = absurd (some refl)
+    lines_case effects.Flush a n some still = flushing_case a n (Flushes a n) (still _ tt)
+    lines_case effects.Fence a n some still = still _ tt
+    lines_case effects.FlushAndFence a n some still = flushing_case a n (Persists a n) (still _ tt)
+
     extern_case : (x : ExternCall) (values : List ℕ) (dest : Option (List ℕ)) → (x ≡ calls.ReadI64 → (z : ℤ) (rest : List ℤ) → w.left ≡ z ∷ rest → Claim (Reads dest z rest)) → (x ≢ calls.ReadI64 → (y : Action) → leaves_registers y → Claim y) → Claim (extern_action P I w x values dest)
     extern_case calls.ReadI64 values dest read still = read_case dest w.left (read refl)
     extern_case calls.PrintI64 values dest read still = still (λ e. cc) _ tt
     extern_case calls.PmAssert values dest read still = cond_case (in_region I _ _) (Asserts _ _) (Traps traps.Address) (still (λ e. cc) _ tt) address
-    extern_case calls.Clwb values dest read still = flushing_case _ _ _ (still (λ e. cc) _ tt)
-    extern_case calls.Clflushopt values dest read still = flushing_case _ _ _ (still (λ e. cc) _ tt)
-    extern_case calls.Clflush values dest read still = flushing_case _ _ _ (still (λ e. cc) _ tt)
-    extern_case calls.Sfence values dest read still = still (λ e. cc) _ tt
-    extern_case calls.Mfence values dest read still = still (λ e. cc) _ tt
-    extern_case calls.PmemFlush values dest read still = flushing_case _ _ _ (still (λ e. cc) _ tt)
-    extern_case calls.PmemPersist values dest read still = flushing_case _ _ _ (still (λ e. cc) _ tt)
-    extern_case calls.PmemDrain values dest read still = still (λ e. cc) _ tt
+    extern_case call values dest read still =
+        lines_case (row_of call).effect (arg_value values 0) (flushed_size (row_of call).params values) (λ e. cc)
+        (still (λ e. cc))
 
     numbered_case : (values : List ℕ) (dest : Option (List ℕ)) (o : Option ℕ) → ((h : ℕ) (fn : Function) → o ≡ Some h → slice_get P.functions h ≡ Some fn → Claim (Calls h (bound fn.params values) dest)) →
         (((h : ℕ) (fn : Function) → o ≡ Some h → ¬ (slice_get P.functions h ≡ Some fn)) → Claim (Traps traps.Unreachable)) → Claim (numbered_call P o values dest)

@@ -7,19 +7,21 @@ use Rattle.hip_ir.specs.declared.instr.Instr.TheVariants.{Binary, Compare, Selec
 use Rattle.hip_ir.specs.declared.program.Function.{Function}
 use Rattle.hip_ir.specs.declared.program.Program.{Program}
 use Rattle.hip_lines.specs.Line.{Line}
-use Rattle.hip_externs.specs.Externs.{call_of}
+use Rattle.hip_externs.specs.Externs.{call_of, row_of}
 use Rattle.hip_externs.specs.declared.call.ExternCall.{ExternCall}
 use Rattle.hip_runs.specs.declared.event.Ending.{Ending}
 use Rattle.hip_runs.specs.declared.event.Ending.TheVariants.{Cut}
 use Rattle.hip_runs.specs.declared.event.TrapKind.{TrapKind}
 use Rattle.hip_runs.specs.declared.input.Input.{Input}
-use Rattle.hip_runs.specs.Actions.{Action, Traps, Assigns, Allocates, Stores, Flushes, Persists, Fences, Asserts, Prints, Reads, Calls, Jumps, Returns, flushing, call_action, extern_action, instr_action, is_flush_or_fence, is_turn, deed_of}
+use Rattle.hip_runs.specs.Actions.{Action, Traps, Assigns, Allocates, Stores, Flushes, Persists, Fences, Asserts, Prints, Reads, Calls, Jumps, Returns, flushing, call_action, extern_action, instr_action, is_flush_or_fence, is_turn, deed_of, line_action, arg_value, flushed_size}
 use Rattle.hip_runs.specs.Ends.{longest_block, longest_in, longest, steps_left, Ends}
 use Rattle.hip_runs.specs.Operands.{values_of}
 use Rattle.hip_runs.specs.Places.{blocks_in, body_of, body_at, code_at, end_at}
 use Rattle.hip_runs.specs.State.{Registers, StorePart, Frame, World, Counts, State}
 use Rattle.hip_runs.specs.Step.{stop, with_turn, leave, perform, carry_out, on_frames, on_ending, step, event_at, counted, run, has_ended, start_frame, main_number}
 use Rattle.hip_externs.specs.declared.call.ExternCall.TheVariants as calls
+use Rattle.hip_externs.specs.declared.call.LineEffect.{LineEffect}
+use Rattle.hip_externs.specs.declared.call.LineEffect.TheVariants as effects
 use Rattle.hip_runs.specs.declared.event.TrapKind.TheVariants as traps
 
 -- ---- the longest body
@@ -95,25 +97,23 @@ still_cond false x y p q = q
 still_trap : (kind : TrapKind) → IsStill (Traps kind)
 still_trap kind = record { is = tt }
 
-still_flush : (a n : ℕ) → IsStill (Flushes a n)
-still_flush a n = record { is = tt }
-
 still_flushing : (P : Program) (I : Input) (w : World) (a n : ℕ) (x : Action) → IsStill x → IsStill (flushing P I w a n x)
 unfolding flushing
 still_flushing P I w a n x p = still_cond _ _ _ p (still_cond _ _ _ p (still_trap traps.Address))
+
+still_lines : (P : Program) (I : Input) (w : World) (effect : LineEffect) (a n : ℕ)
+    → IsStill (line_action P I w effect a n)
+still_lines P I w effects.Nothing a n = still_trap traps.Unreachable
+still_lines P I w effects.Flush a n = still_flushing P I w a n _ (record { is = tt })
+still_lines P I w effects.Fence a n = record { is = tt }
+still_lines P I w effects.FlushAndFence a n = still_flushing P I w a n _ (record { is = tt })
 
 still_extern : (P : Program) (I : Input) (w : World) (call : ExternCall) (values : List ℕ) (dest : Option (List ℕ)) → not (is_flush_or_fence (Some call)) ≡ false → IsStill (extern_action P I w call values dest)
 still_extern P I w calls.ReadI64 values dest e = absurd (let z : ⊥ = cc in z)
 still_extern P I w calls.PrintI64 values dest e = absurd (let z : ⊥ = cc in z)
 still_extern P I w calls.PmAssert values dest e = absurd (let z : ⊥ = cc in z)
-still_extern P I w calls.Clwb values dest e = still_flushing P I w _ _ _ (still_flush _ _)
-still_extern P I w calls.Clflushopt values dest e = still_flushing P I w _ _ _ (still_flush _ _)
-still_extern P I w calls.Clflush values dest e = still_flushing P I w _ _ _ (still_flush _ _)
-still_extern P I w calls.Sfence values dest e = record { is = tt }
-still_extern P I w calls.Mfence values dest e = record { is = tt }
-still_extern P I w calls.PmemFlush values dest e = still_flushing P I w _ _ _ (record { is = tt })
-still_extern P I w calls.PmemPersist values dest e = still_flushing P I w _ _ _ (record { is = tt })
-still_extern P I w calls.PmemDrain values dest e = record { is = tt }
+still_extern P I w call values dest e =
+    still_lines P I w (row_of call).effect (arg_value values 0) (flushed_size (row_of call).params values)
 
 still_instr : (P : Program) (I : Input) (w : World) (below : ℕ) (regs : Registers) (i : Instr) → is_turn i ≡ false → IsStill (instr_action P I w below regs i)
 unfolding instr_action

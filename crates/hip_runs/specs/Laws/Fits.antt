@@ -9,7 +9,7 @@ use Rattle.hip_ir.specs.declared.program.Program.{Program}
 use Rattle.hip_ir.specs.declared.site.Site.{Site}
 use Rattle.hip_num.specs.declared.arithmetic.NumTrap.{NumTrap}
 use Rattle.hip_types.specs.declared.number.Bits.{Bits}
-use Rattle.hip_externs.specs.Externs.{call_of}
+use Rattle.hip_externs.specs.Externs.{call_of, row_of}
 use Rattle.hip_externs.specs.declared.call.ExternCall.{ExternCall}
 use Rattle.hip_typing.specs.Numbering.{function_number}
 use Rattle.hip_runs.specs.declared.event.Ending.{Ending}
@@ -26,7 +26,7 @@ use Rattle.hip_runs.specs.Laws.Members.{get_drop}
 use Rattle.hip_runs.specs.Operands.{scalar_size, value_of, values_of}
 use Rattle.hip_runs.specs.declared.event.Event.{Event}
 use Rattle.hip_runs.specs.declared.input.Input.{Input}
-use Rattle.hip_runs.specs.Actions.{Action, Traps, Assigns, Allocates, Stores, Flushes, Persists, Fences, Asserts, Prints, Reads, Calls, Jumps, Returns, Deed, are_valid, arg_value, in_region, accessed, calculated, allocated, bound_call, numbered_call, entered, flushing, read_next, call_action, instr_action, jump_to, jump, end_action, deed_of}
+use Rattle.hip_runs.specs.Actions.{Action, Traps, Assigns, Allocates, Stores, Flushes, Persists, Fences, Asserts, Prints, Reads, Calls, Jumps, Returns, Deed, are_valid, arg_value, in_region, accessed, calculated, allocated, bound_call, numbered_call, entered, flushing, read_next, call_action, instr_action, jump_to, jump, end_action, deed_of, line_action, flushed_size}
 use Rattle.hip_runs.specs.StoredParts.Persistence.{flushes_lines}
 use Rattle.hip_runs.specs.Places.{body_at, code_at, end_at}
 use Rattle.hip_runs.specs.StoredParts.Since.{top_site}
@@ -35,6 +35,8 @@ use Rattle.hip_runs.specs.State.{Registers, Frame, World, State, site_of}
 use Rattle.hip_runs.specs.Step.{first_line, lines_size, event_of, is_bottom, is_cut, event_at, deed_at, event_on_frames, event_on_ending, event}
 use Rattle.hip_ir.specs.declared.block.End.TheVariants as ends
 use Rattle.hip_externs.specs.declared.call.ExternCall.TheVariants as calls
+use Rattle.hip_externs.specs.declared.call.LineEffect.{LineEffect}
+use Rattle.hip_externs.specs.declared.call.LineEffect.TheVariants as effects
 use Rattle.hip_runs.specs.declared.event.TrapKind.TheVariants as traps
 use Rattle.hip_runs.specs.declared.event.Event.TheVariants as events
 
@@ -59,6 +61,14 @@ fits_cond : {P : Program} (b : Bool) (x y : Action) (o : Option Instr) → Fits 
 fits_cond true x y o p q = p
 fits_cond false x y o p q = q
 
+flushes_alone : (c : ExternCall) → (row_of c).effect ≡ effects.Flush → only_flushes (Some c) ≡ true
+flushes_alone calls.ReadI64 e = cc
+flushes_alone _ e = cc
+
+flushes_and_fences : (c : ExternCall) → (row_of c).effect ≡ effects.FlushAndFence → persists (Some c) ≡ true
+flushes_and_fences calls.ReadI64 e = cc
+flushes_and_fences _ e = cc
+
 module _ (P : Program) (I : Input) (w : World) (below : ℕ) (rs : Registers) where
   fits_accessed : (a n align : ℕ) (x : Action) (o : Option Instr) → Fits P x o → Fits P (accessed P I w a n align x) o
   unfolding accessed
@@ -67,6 +77,13 @@ module _ (P : Program) (I : Input) (w : World) (below : ℕ) (rs : Registers) wh
   fits_flushing : (a n : ℕ) (x : Action) (o : Option Instr) → Fits P x o → Fits P (flushing P I w a n x) o
   unfolding flushing
   fits_flushing a n x o h = fits_cond (nat_eq n 0) x (cond (are_valid P I w a n) x (Traps traps.Address)) o h (fits_cond (are_valid P I w a n) x (Traps traps.Address) o h (record { is = tt {0} }))
+
+  fits_lines : (effect : LineEffect) (a n : ℕ) (o : Option Instr) → (effect ≡ effects.Flush → is_flush_call o ≡ true)
+      → (effect ≡ effects.FlushAndFence → is_persist_call o ≡ true) → Fits P (line_action P I w effect a n) o
+  fits_lines effects.Nothing a n o flush persist = record { is = tt {0} }
+  fits_lines effects.Flush a n o flush persist = fits_flushing a n (Flushes a n) o (record { is = flush refl })
+  fits_lines effects.Fence a n o flush persist = record { is = tt {0} }
+  fits_lines effects.FlushAndFence a n o flush persist = fits_flushing a n (Persists a n) o (record { is = persist refl })
 
   fits_allocated : (dest : List ℕ) (size align : ℕ) (o : Option Instr) → Fits P (allocated w dest size align) o
   unfolding allocated
@@ -109,14 +126,11 @@ module _ (P : Program) (I : Input) (w : World) (below : ℕ) (rs : Registers) wh
       go (Some calls.ReadI64) q = read w.left
       go (Some calls.PrintI64) q = record { is = tt {0} }
       go (Some calls.PmAssert) q = let vs = values_of P.globals I.base rs args in fits_cond (in_region I (arg_value vs 0) (arg_value vs 1)) (Asserts (arg_value vs 0) (arg_value vs 1)) (Traps traps.Address) _ (record { is = tt {0} }) (record { is = tt {0} })
-      go (Some calls.Clwb) q = fits_flushing _ _ _ _ (record { is = ap only_flushes q })
-      go (Some calls.Clflushopt) q = fits_flushing _ _ _ _ (record { is = ap only_flushes q })
-      go (Some calls.Clflush) q = fits_flushing _ _ _ _ (record { is = ap only_flushes q })
-      go (Some calls.Sfence) q = record { is = tt {0} }
-      go (Some calls.Mfence) q = record { is = tt {0} }
-      go (Some calls.PmemFlush) q = fits_flushing _ _ _ _ (record { is = ap only_flushes q })
-      go (Some calls.PmemPersist) q = fits_flushing _ _ _ _ (record { is = ap persists q })
-      go (Some calls.PmemDrain) q = record { is = tt {0} }
+      go (Some call) q =
+          let vs = values_of P.globals I.base rs args in
+          fits_lines (row_of call).effect (arg_value vs 0) (flushed_size (row_of call).params vs)
+          (Some (Call dest ret callee args)) (λ e. ap only_flushes q ∙ flushes_alone call e)
+          (λ e. ap persists q ∙ flushes_and_fences call e)
 
 fits_jump : (P : Program) (I : Input) (f : Frame) (b : Option ℕ) (o : Option Instr) → Fits P (jump_to P I f b) o
 fits_jump P I f None o = record { is = tt {0} }

@@ -1,5 +1,5 @@
 use Rattle.std.proofs.Common.{◌≡◌, length}
-use Rattle.hip_fix.specs.Suits as spec
+use Rattle.hip_repairs.specs.Suits as spec
 use Rattle.hip_fix.proofs.plan_check.is_ascending.Given as goal
 
 abbrev pub invariant-each : goal.invariant-each

@@ -1,18 +1,13 @@
 use Rattle.std.proofs.Common.{◌≡◌, length, sym, ap, ◌∙◌, subst}
 use Rattle.hip_ir.specs.Sites.{has_site}
 use Rattle.hip_ir.specs.declared.program.Program.{Program}
-use Rattle.hip_typing.specs.Laws.SoundExact.{sound-passes, passes-sound}
 use Rattle.hip_typing.specs.Sound.{IsSound}
 use Rattle.hip_calls.specs.Reach as reach
-use Rattle.hip_fix.specs.Clean.{IsClean}
-use Rattle.hip_fix.specs.CloneNumbers.{numbered_from}
-use Rattle.hip_fix.specs.Covered.{IsCovered}
-use Rattle.hip_fix.specs.Repaired.{repaired}
-use Rattle.hip_fix.proofs.Cured as cured
-use Rattle.hip_fix.proofs.FencedCalls as calls
-use Rattle.hip_fix.proofs.Harm as harm
-use Rattle.hip_fix.proofs.HoistsFenced.{hoists_fenced}
-use Rattle.hip_fix.proofs.SoundAgain.{passes_again}
+use Rattle.hip_repairs.specs.Clean.{IsClean}
+use Rattle.hip_repairs.specs.CloneNumbers.{numbered_from}
+use Rattle.hip_repairs.specs.Covered.{IsCovered}
+use Rattle.hip_repairs.specs.Repaired.{repaired}
+use Rattle.hip_repairs.proofs.Theorems as theorem
 use Rattle.hip_fix.proofs.repairing.apply_skipping.Goals as goal
 
 pub of_sound-requires : goal.of_sound-requires
@@ -21,22 +16,22 @@ of_sound-requires c =
     let plan = c.args.plan.now in
     let skip = has_site c.args.skip.now in
     let is : c.in_ok-repaired.repaired ≡ repaired P plan skip = c.in_ok-repaired.ensures ∙ ap (λ (p : Program). repaired p plan skip) c.program-program.ensures.is in
-    subst IsSound (sym is) (passes-sound (repaired P plan skip) (passes_again P plan skip (sound-passes P c.program-program.ensures.sound)))
+    subst IsSound (sym is) (theorem.repaired_is_sound P plan skip c.program-program.ensures.sound)
 
 pub returns : goal.returns
 returns c =
     let P = c.args.checked.now in
     let plan = c.args.plan.now in
     let skip = has_site c.args.skip.now in
-    let sound = sound-passes P c.program-program.ensures.sound in
+    let sound = c.program-program.ensures.sound in
     let is : c.of_sound.result ≡ repaired P plan skip = c.of_sound.ensures ∙ c.in_ok-repaired.ensures ∙ ap (λ (p : Program). repaired p plan skip) c.program-program.ensures.is in
     let functions : c.as_slice-3.result.now ≡ P.functions = c.as_slice-3.ensures ∙ ap (λ (p : Program). p.functions) c.program-program.ensures.is in
     let originals : c.as_slice-4.result.now ≡ reach.callees P plan.hoist = c.as_slice-4.ensures ∙ c.in_ok-originals.ensures ∙ (λ i. reach.callees (c.program-program.ensures.is i) (c.as_slice.ensures i)) in
     record {
       program = is;
       clones = c.in_ok-clones.ensures ∙ (λ i. numbered_from (length (functions i)) (originals i));
-      harmless = harm.harmless P plan skip sound;
-      clean = λ I found quiet valid is_found contains. subst (λ (p : Program). IsClean p I) (sym is) (cured.clean P plan skip I found sound valid quiet is_found contains);
-      covered = λ quiet. subst (IsCovered P) (sym is) (calls.covered P plan skip sound quiet);
-      fenced = hoists_fenced P plan skip sound;
+      harmless = theorem.repairs_do_no_harm P plan skip sound;
+      clean = λ I found quiet valid is_found contains. subst (λ (p : Program). IsClean p I) (sym is) (theorem.repairs_are_clean P plan skip I found sound valid quiet is_found contains);
+      covered = λ quiet. subst (IsCovered P) (sym is) (theorem.hoisted_calls_are_covered P plan skip sound quiet);
+      fenced = theorem.hoisted_calls_are_fenced P plan skip sound;
     }

@@ -1,5 +1,5 @@
 use Rattle.std.proofs.Common.{◌≡◌, ◌++◌, ◌+◌, drop, length}
-use Rattle.hip_fix.specs.CloneNumbers.{numbered_from}
+use Rattle.hip_repairs.specs.CloneNumbers.{numbered_from}
 use Rattle.hip_fix.proofs.repairing.numbered.Given as goal
 
 abbrev pub invariant-each : goal.invariant-each

@@ -1,5 +1,0 @@
-use Rattle.hip_fix.proofs.worked.CopyHoisted.{copy_hoisted_worked}
-use Rattle.hip_fix.proofs.examples.copy_is_hoisted.Goals as goal
-
-pub returns : goal.returns
-returns c = copy_hoisted_worked

@@ -1,5 +1,0 @@
-use Rattle.hip_fix.proofs.worked.MutualRecursion.{mutual_recursion_worked}
-use Rattle.hip_fix.proofs.examples.mutual_recursion_is_hoisted.Goals as goal
-
-pub returns : goal.returns
-returns c = mutual_recursion_worked

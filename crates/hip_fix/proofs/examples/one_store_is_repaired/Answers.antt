@@ -1,5 +1,0 @@
-use Rattle.hip_fix.proofs.worked.OneStore.{one_store_worked}
-use Rattle.hip_fix.proofs.examples.one_store_is_repaired.Goals as goal
-
-pub returns : goal.returns
-returns c = one_store_worked

@@ -1,5 +1,0 @@
-use Rattle.hip_fix.proofs.worked.OverwrittenStore.{overwritten_store_worked}
-use Rattle.hip_fix.proofs.examples.overwritten_store_is_repaired.Goals as goal
-
-pub returns : goal.returns
-returns c = overwritten_store_worked

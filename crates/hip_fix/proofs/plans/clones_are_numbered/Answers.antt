@@ -1,5 +1,0 @@
-use Rattle.hip_fix.proofs.CloneNumbers.{clone_there, cloned_there}
-use Rattle.hip_fix.proofs.plans.clones_are_numbered.Goals as goal
-
-pub returns : goal.returns
-returns c = record { clone = λ P plan skip c i. clone_there P plan skip c i; original = λ P plan f i. cloned_there P plan f i }

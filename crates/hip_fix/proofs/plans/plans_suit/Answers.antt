@@ -1,5 +1,0 @@
-use Rattle.hip_fix.proofs.plans.plans_suit.Goals as goal
-use Rattle.hip_fix.specs.Laws.PlanLaws.{plan_suits}
-
-pub returns : goal.returns
-returns c = λ P I found f. plan_suits P I found f

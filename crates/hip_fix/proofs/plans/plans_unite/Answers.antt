@@ -1,5 +1,0 @@
-use Rattle.hip_fix.proofs.plans.plans_unite.Goals as goal
-use Rattle.hip_fix.specs.Laws.PlanLaws.{has_first, has_second, suiting_within, union_suits}
-
-pub returns : goal.returns
-returns c = record { first = λ P a b w. has_first P a b w; second = λ P a b w. has_second P a b w; within = λ P plan s. suiting_within P plan s; suits = λ P a b f g. union_suits P a b f g }

@@ -1,0 +1,4 @@
+pub mod Grows
+pub mod Walks
+pub mod SiteKeys
+pub mod CloneNames

@@ -1,0 +1,2 @@
+pub mod SiteSets
+pub mod Walk

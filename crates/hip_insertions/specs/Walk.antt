@@ -1,0 +1,84 @@
+-- The repaired program as one walk makes it: what is put behind one another, and which functions the inserted calls
+-- name.
+use Rattle.std.specs.Prelude.{ℕ, suc, Bool, true, false, cond, not, ◌&&◌, ◌||◌, List, [], ◌∷◌, ◌++◌, map, Option, Some, None, slice_get}
+use Rattle.std.specs.List.{flat_map}
+use Rattle.hip_types.specs.declared.number.Scalar.{Scalar}
+use Rattle.hip_types.specs.declared.number.Scalar.TheVariants.{Int, Ptr}
+use Rattle.hip_types.specs.declared.number.Width.TheVariants.{W64}
+use Rattle.hip_ir.specs.Sites.{has_site}
+use Rattle.hip_ir.specs.declared.block.Block.{Block}
+use Rattle.hip_ir.specs.declared.instr.Instr.{Instr}
+use Rattle.hip_ir.specs.declared.program.Extern.{Extern}
+use Rattle.hip_ir.specs.declared.program.Function.{Function}
+use Rattle.hip_ir.specs.declared.program.Program.{Program}
+use Rattle.hip_ir.specs.declared.site.Site.{Site}
+use Rattle.hip_names.specs.Names.{is_among}
+use Rattle.hip_repairs.specs.Repaired.{Marked, Clone, Wanted, clwb_name, sfence_name, pmem_flush_name, renamed, inserted_behind, repaired_body, instrs_of, inserts}
+use Rattle.hip_insertions.specs.declared.body.Body.{Body}
+use Rattle.hip_insertions.specs.declared.body.Needed.{Needed}
+use Rattle.hip_insertions.specs.declared.repair.Repair.{Repair}
+
+-- where a repair inserts, as sets of sites
+abbrev pub wanted_in : Repair → Wanted
+wanted_in r =
+    record {
+      flush_after = has_site r.flush_after;
+      fence_after = has_site r.fence_after;
+      hoist = has_site r.hoist;
+      skip = has_site r.skip;
+    }
+
+-- no inserted call so far
+abbrev pub none_needed : Needed
+none_needed = record { clwb = false; sfence = false; pmem_flush = false }
+
+-- the functions that inserted calls name, once these instructions are there too
+abbrev pub noted : Needed → List Marked → Needed
+noted n ms =
+    record {
+      clwb = n.clwb || inserts clwb_name ms;
+      sfence = n.sfence || inserts sfence_name ms;
+      pmem_flush = n.pmem_flush || inserts pmem_flush_name ms;
+    }
+
+-- these instructions are put behind
+abbrev pub grown : Body → List Marked → Body
+grown body ms = record { instrs = body.instrs ++ instrs_of ms; needed = noted body.needed ms }
+
+-- the repaired instruction of a site, and what is inserted behind it
+abbrev pub repaired_at : List Clone → Wanted → Bool → Site → Instr → List Marked
+repaired_at clones w clone s i = (renamed clones i (clone || w.hoist s), false) ∷ inserted_behind w clone s i
+
+-- the repaired bodies of blocks from number b on, one behind another
+abbrev pub marked_blocks : List Clone → Wanted → Bool → ℕ → ℕ → List Block → List Marked
+marked_blocks clones w clone f b [] = []
+marked_blocks clones w clone f b (x ∷ xs) =
+    repaired_body clones w clone f b 0 x.body ++ marked_blocks clones w clone f (suc b) xs
+
+-- those of functions from number f on
+abbrev pub marked_functions : List Clone → Wanted → ℕ → List Function → List Marked
+marked_functions clones w f [] = []
+marked_functions clones w f (x ∷ xs) = marked_blocks clones w false f 0 x.blocks ++ marked_functions clones w (suc f) xs
+
+abbrev pub marked_clone : List Clone → Wanted → ℕ → Option Function → List Marked
+marked_clone clones w f None = []
+marked_clone clones w f (Some x) = marked_blocks clones w true f 0 x.blocks
+
+-- those of the clones of functions
+abbrev pub marked_clones : Program → List Clone → Wanted → List ℕ → List Marked
+marked_clones P clones w fs = flat_map (λ f. marked_clone clones w f (slice_get P.functions f)) fs
+
+-- ---- declarations
+
+-- the declaration of a function without a result, if it is wanted and absent
+abbrev pub declared_if : Bool → List Extern → List ℕ → List Scalar → List Extern
+declared_if wanted externs name params =
+    cond (wanted && not (is_among (map (λ e. e.name) externs) name))
+    (record { ret = None; name = name; params = params } ∷ []) []
+
+-- the declarations that inserted calls need and that are absent
+abbrev pub added : List Extern → Needed → List Extern
+added externs n =
+    declared_if n.clwb externs clwb_name (Ptr ∷ [])
+    ++ (declared_if n.sfence externs sfence_name []
+    ++ declared_if n.pmem_flush externs pmem_flush_name (Ptr ∷ Int W64 ∷ []))

@@ -1,0 +1,15 @@
+//! Repaired functions: the flushes and fences that are inserted into them, and their clones.
+#![tactic(auto)]
+
+mod body;
+mod clone_table;
+mod externs;
+mod insertions;
+mod repair;
+mod sites;
+
+pub use body::Needed;
+pub use clone_table::CloneTable;
+pub use externs::declarations;
+pub use repair::Repair;
+pub use sites::SiteSet;

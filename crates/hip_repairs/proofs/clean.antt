@@ -1,0 +1,6 @@
+pub mod Asked
+pub mod Kept
+pub mod KeptAlong
+pub mod Events
+pub mod Cure
+pub mod Cured

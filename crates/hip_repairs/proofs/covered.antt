@@ -1,0 +1,5 @@
+pub mod CloneFlushed
+pub mod Moves
+pub mod SinceCall
+pub mod FencedCalls
+pub mod HoistsFenced

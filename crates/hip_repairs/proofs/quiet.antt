@@ -1,0 +1,4 @@
+pub mod OutsideAddresses
+pub mod AssignedOnce
+pub mod StackRegisters
+pub mod QuietStores

@@ -1,0 +1,12 @@
+pub mod Items
+pub mod Bodies
+pub mod Declarations
+pub mod SpelledAgain
+pub mod HeadsAgain
+pub mod InnerAgain
+pub mod CalleesAgain
+pub mod Needed
+pub mod InsertedAgain
+pub mod PlacesAgain
+pub mod AssignedAgain
+pub mod SoundAgain

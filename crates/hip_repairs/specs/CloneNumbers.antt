@@ -1,0 +1,27 @@
+-- The clones of a plan, by the numbers of the functions that they are made of and of themselves.
+use Rattle.std.specs.Prelude.{◌≡◌, ℕ, suc, ◌-◌, true, List, [], ◌∷◌, length, Bool, Some, slice_get}
+use Rattle.hip_ir.specs.declared.program.Function.{Function}
+use Rattle.hip_ir.specs.declared.program.Program.{Program}
+use Rattle.hip_ir.specs.declared.site.Site.{Site}
+use Rattle.hip_calls.specs.Fresh.{fresh_names}
+use Rattle.hip_repairs.specs.declared.plan.CloneOf.{CloneOf}
+use Rattle.hip_repairs.specs.declared.plan.Plan.{Plan}
+use Rattle.hip_repairs.specs.Repaired.{wanted_by, clones_of, cloned, repaired, repaired_function}
+
+-- the functions of these numbers, and their clones from a number on
+abbrev pub numbered_from : ℕ → List ℕ → List CloneOf
+numbered_from copy [] = []
+numbered_from copy (f ∷ fs) = record { original = f; copy = copy } ∷ numbered_from (suc copy) fs
+
+-- the clones of a plan stand after all functions of the program
+abbrev pub clone_numbers : Program → Plan → List CloneOf
+clone_numbers P plan = numbered_from (length P.functions) (cloned P plan)
+
+-- In the repaired program the one function is the clone of the other, under the fresh name of its place.
+pub record IsCloneOf (P : Program) (plan : Plan) (skip : Site → Bool) (clone : CloneOf) : Type 0 where
+  pub function : Function
+  pub original : slice_get P.functions clone.original ≡ Some function
+  pub name : List ℕ
+  pub named : slice_get (fresh_names P (cloned P plan)) (clone.copy - length P.functions) ≡ Some name
+  pub copy : slice_get (repaired P plan skip).functions clone.copy
+      ≡ Some (repaired_function (clones_of P plan) (wanted_by plan skip) true clone.original name function)

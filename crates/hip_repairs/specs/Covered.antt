@@ -1,0 +1,101 @@
+-- Under a hoisted call each store is durable after the fence that follows the call.
+use Rattle.std.specs.Prelude.{◌≡◌, ◌≢◌, ℕ, suc, ◌+◌, ◌<◌, ◌≤◌, Bool, true, false, List, ◌∷◌, length, take, Option, Some, None, slice_get}
+use Rattle.hip_types.specs.declared.number.Scalar.{Scalar}
+use Rattle.hip_ir.specs.Sites.{instr_of, has_site}
+use Rattle.hip_ir.specs.declared.instr.Arg.{Arg}
+use Rattle.hip_ir.specs.declared.instr.Instr.{Instr}
+use Rattle.hip_ir.specs.declared.instr.Instr.TheVariants.{Call}
+use Rattle.hip_ir.specs.declared.program.Program.{Program}
+use Rattle.hip_ir.specs.declared.site.Site.{Site}
+use Rattle.hip_lines.specs.Line.{Line}
+use Rattle.hip_externs.specs.Externs.{call_of}
+use Rattle.hip_typing.specs.Numbering.{function_number}
+use Rattle.hip_externs.specs.declared.call.ExternCall.{ExternCall}
+use Rattle.hip_externs.specs.declared.call.ExternCall.TheVariants as calls
+use Rattle.hip_runs.specs.declared.input.Input.{Input}
+use Rattle.hip_runs.specs.Places.{body_at}
+use Rattle.hip_runs.specs.State.{Frame, StorePart, State}
+use Rattle.hip_runs.specs.Step.{run}
+use Rattle.hip_runs.specs.Validity.{IsValid}
+use Rattle.hip_repairs.specs.declared.plan.Plan.{Plan}
+use Rattle.hip_repairs.specs.Repaired.{wanted_by, clones_of, cloned, repaired, repaired_body}
+
+abbrev pub is_fence : Option ExternCall → Type 0
+is_fence (Some calls.Sfence) = Unit {0}
+is_fence (Some calls.Mfence) = Unit {0}
+is_fence _ = ⊥
+
+abbrev pub IsFenceCall : Option Instr → Type 0
+IsFenceCall (Some (Call dest ret callee args)) = is_fence (call_of callee)
+IsFenceCall _ = ⊥
+
+-- the function of that name is numbered from a number up
+abbrev pub is_numbered_from : ℕ → Option ℕ → Type 0
+is_numbered_from functions None = ⊥
+is_numbered_from functions (Some f) = functions ≤ f
+
+abbrev pub IsCallFrom : Program → ℕ → Option Instr → Type 0
+IsCallFrom Q functions (Some (Call dest ret callee args)) = is_numbered_from functions (function_number Q callee)
+IsCallFrom Q functions _ = ⊥
+
+-- The state stands at a call of `sfence` or `mfence` directly behind a call of a clone in its block; clones are
+-- numbered from a number up.
+pub record IsBehindClone (Q : Program) (functions : ℕ) (s : State) : Type 0 where
+  pub going : s.world.ending ≡ None
+  pub frame : Frame
+  pub others : List Frame
+  pub frames : s.frames ≡ frame ∷ others
+  pub at : ℕ
+  pub behind : frame.place ≡ suc at
+  pub call : IsCallFrom Q functions (slice_get (body_at Q frame.function frame.block) at)
+  pub fence : IsFenceCall (slice_get (body_at Q frame.function frame.block) (suc at))
+
+-- j is the last number below n with as many frames
+pub record IsLastBefore (Q : Program) (I : Input) (j n : ℕ) : Type 0 where
+  pub before : j < n
+  pub same : length (run Q I j).frames ≡ length (run Q I n).frames
+  pub between : (i : ℕ) → j < i → i < n → length (run Q I i).frames ≢ length (run Q I n).frames
+
+-- The state stands at a call at that place in the function and the block of a frame, with the same frames below.
+pub record IsAtCall (frame : Frame) (others : List Frame) (at : ℕ) (s : State) : Type 0 where
+  pub top : Frame
+  pub frames : s.frames ≡ top ∷ others
+  pub function : top.function ≡ frame.function
+  pub block : top.block ≡ frame.block
+  pub place : top.place ≡ at
+
+-- Wherever the run stands at a fence behind a call of a clone, there is a last state before with as many frames, which
+-- stands at that call; and each part of a store that the cache lines got from the call on is durable after the fence.
+pub record IsCovered (P Q : Program) : Type 0 where
+  pub call :
+      (I : Input) → IsValid P I → (n : ℕ) (behind : IsBehindClone Q (length P.functions) (run Q I n)) →
+      (j : ℕ) × IsLastBefore Q I j n × IsAtCall behind.frame behind.others behind.at (run Q I j)
+  pub durable :
+      (I : Input) → IsValid P I → (j n : ℕ) → IsBehindClone Q (length P.functions) (run Q I n) → IsLastBefore Q I j n →
+      (m : ℕ) (l : Line StorePart) → slice_get (run Q I (suc n)).lines m ≡ Some l →
+      (k : ℕ) (p : StorePart) → slice_get l.parts k ≡ Some p → j ≤ p.step → k < l.durable
+
+-- ---- the fence behind a hoisted call
+
+-- where the instruction at a site of the program stands in the repaired body, of its function or of the function's
+-- clone: behind the repaired body of what stands before it
+abbrev pub repaired_place : Program → Plan → (Site → Bool) → Bool → Site → ℕ
+repaired_place P plan skip clone s =
+    length (repaired_body (clones_of P plan) (wanted_by plan skip) clone s.function s.block 0
+    (take s.index (body_at P s.function s.block)))
+
+-- a call of a clone stands at that place of the block, and a fence directly behind it
+pub record IsFenced (Q : Program) (functions f b place : ℕ) : Type 0 where
+  pub call : IsCallFrom Q functions (slice_get (body_at Q f b) place)
+  pub fence : IsFenceCall (slice_get (body_at Q f b) (suc place))
+
+-- Each hoisted call of a defined function has become a call of a clone with a fence directly behind it, in its function
+-- and in the clone of its function.
+abbrev pub AreHoistsFenced : Program → Plan → (Site → Bool) → Type 0
+AreHoistsFenced P plan skip =
+    (s : Site) (dest : Option (List ℕ)) (ret : Option Scalar) (callee : List ℕ) (args : List Arg) (g : ℕ) →
+    has_site plan.hoist s ≡ true → instr_of P s ≡ Some (Call dest ret callee args) → function_number P callee ≡ Some g →
+    IsFenced (repaired P plan skip) (length P.functions) s.function s.block (repaired_place P plan skip false s)
+    × ((c : ℕ) → slice_get (cloned P plan) c ≡ Some s.function →
+    IsFenced (repaired P plan skip) (length P.functions) (length P.functions + c) s.block
+    (repaired_place P plan skip true s))

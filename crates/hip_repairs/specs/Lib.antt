@@ -1,0 +1,12 @@
+pub mod Suits
+pub mod Repaired
+pub mod Direct
+pub mod Harmless
+pub mod Quiet
+pub mod Choice
+pub mod Planned
+pub mod CloneNumbers
+pub mod Clean
+pub mod Covered
+pub mod Laws
+pub mod examples

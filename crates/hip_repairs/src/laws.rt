@@ -1,0 +1,58 @@
+//! The theorems about repairs, on definitions alone.
+
+ghost use Rattle.hip_ir.specs.declared.program.Program.{Program};
+ghost use Rattle.hip_ir.specs.declared.site.Site.{Site};
+ghost use Rattle.hip_globals.specs.Addresses.{address, region_size};
+ghost use Rattle.hip_typing.specs.Sound.{IsSound};
+ghost use Rattle.hip_runs.specs.Found.Marks.{IsFound};
+ghost use Rattle.hip_runs.specs.Validity.{IsValid};
+ghost use Rattle.hip_runs.specs.declared.input.Input.{Input};
+ghost use Rattle.hip_runs.specs.declared.report.Findings.{Findings};
+ghost use Rattle.hip_repairs.specs.Choice.{Contains, plan_for};
+ghost use Rattle.hip_repairs.specs.Clean.{IsClean};
+ghost use Rattle.hip_repairs.specs.Covered.{AreHoistsFenced, IsCovered};
+ghost use Rattle.hip_repairs.specs.Direct.{direct};
+ghost use Rattle.hip_repairs.specs.Harmless.{IsHarmless};
+ghost use Rattle.hip_repairs.specs.Quiet.{IsQuiet};
+ghost use Rattle.hip_repairs.specs.Repaired.{repaired};
+ghost use Rattle.hip_repairs.specs.declared.plan.Plan.{Plan};
+ghost use Rattle.std.specs.Prelude.{Bool, ℕ, ◌≡◌};
+
+/// A repair does no harm, by whatever plan, and whatever stores the clones do not flush.
+pub fn repairs_do_no_harm()
+    ensures { (P : Program) → (plan : Plan) → (skip : Site → Bool) → IsSound P → IsHarmless P plan skip }
+{}
+
+/// A repair by a plan that has what a run found leaves nothing to report on that run's input, where the stores that the
+/// clones do not flush never lie in the region.
+pub fn repairs_are_clean()
+    ensures { (P : Program) → (plan : Plan) → (skip : Site → Bool) → (I : Input) → (found : Findings) →
+        IsSound P → IsValid P I → IsQuiet P skip → IsFound P I found → Contains plan (plan_for P found) →
+        IsClean (repaired P plan skip) I }
+{}
+
+/// The repaired program is sound again, by whatever plan. The region's size and all addresses are what they were.
+pub fn repaired_is_sound()
+    ensures sound { (P : Program) → (plan : Plan) → (skip : Site → Bool) → IsSound P → IsSound (repaired P plan skip) }
+    ensures same_region { (P : Program) → (plan : Plan) → (skip : Site → Bool) →
+        region_size (repaired P plan skip) ≡ region_size P }
+    ensures same_addresses { (P : Program) → (plan : Plan) → (skip : Site → Bool) → (base : ℕ) → (number : ℕ) →
+        address (repaired P plan skip) base number ≡ address P base number }
+{}
+
+/// Behind a call of a clone a fence makes all durable that was stored under the call, where the stores that the
+/// clones do not flush never lie in the region.
+pub fn hoisted_calls_are_covered()
+    ensures { (P : Program) → (plan : Plan) → (skip : Site → Bool) → IsSound P → IsQuiet P skip →
+        IsCovered P (repaired P plan skip) }
+{}
+
+/// A hoisted call has become a call of a clone with a fence directly behind it.
+pub fn hoisted_calls_are_fenced()
+    ensures { (P : Program) → (plan : Plan) → (skip : Site → Bool) → IsSound P → AreHoistsFenced P plan skip }
+{}
+
+/// The stores whose address is a register assigned by `alloca`, or a volatile global itself, never lie in the region.
+pub fn direct_stores_are_quiet()
+    ensures { (P : Program) → IsSound P → IsQuiet P (direct P) }
+{}

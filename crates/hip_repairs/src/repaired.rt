@@ -1,0 +1,12 @@
+use crate::plan::CloneOf;
+use hip_types::Row;
+use hip_typing::Checked;
+
+/// What a repair made of a program.
+#[derive(Debug, Drop)]
+pub struct Repaired {
+    /// The repaired program.
+    pub checked: Checked,
+    /// The clones in it, in the order in which calls reach their originals.
+    pub clones: Row<CloneOf>,
+}

@@ -10,9 +10,8 @@ use Rattle.hip_ir.specs.declared.program.GlobalVar.{GlobalVar}
 use Rattle.hip_ir.specs.declared.program.Program.{Program}
 use Rattle.hip_externs.specs.Externs.{call_of, row_of}
 use Rattle.hip_externs.specs.declared.call.ExternCall.{ExternCall}
-use Rattle.hip_externs.specs.declared.call.ExternCall.TheVariants as calls
 use Rattle.hip_typing.specs.Laws.Decided.{all-at}
-use Rattle.hip_code.specs.Calls.{extern_op, are_taken, is_first, are_both}
+use Rattle.hip_code.specs.Calls.{extern_op, are_passed, are_taken, is_first, are_both}
 use Rattle.hip_code.specs.Frames.{names_at}
 use Rattle.hip_code.specs.Numbers.{Tables}
 use Rattle.hip_code.specs.Resolved.{IsOperand, is_result}
@@ -43,25 +42,21 @@ first_taken : (s : Scope) (t : Tables) (args : List Arg) (a : Operand) → lengt
 first_taken s t [] a lt h = absurd (let q : ⊥ = omega (arith, lt) in q)
 first_taken s t (x ∷ xs) a lt h = h x refl
 
-both_taken : (s : Scope) (t : Tables) (args : List Arg) (a b : Operand) → length args ≡ 2 → StandsForArg s t a args 0 → StandsForArg s t b args 1 → are_both s.program.now.globals s.base (names_of s) t.constants args a b
-both_taken s t [] a b lt h k = absurd (let q : ⊥ = omega (arith, lt) in q)
-both_taken s t (x ∷ []) a b lt h k = absurd (let q : ⊥ = omega (arith, lt) in q)
-both_taken s t (x ∷ y ∷ ys) a b lt h k = (h x refl, k y refl)
+both_taken : (s : Scope) (t : Tables) (args : List Arg) (a b : Operand) → 2 ≤ length args → StandsForArg s t a args 0 → StandsForArg s t b args 1 → are_both s.program.now.globals s.base (names_of s) t.constants args a b
+both_taken s t [] a b le h k = absurd (let q : ⊥ = omega (arith, le) in q)
+both_taken s t (x ∷ []) a b le h k = absurd (let q : ⊥ = omega (arith, le) in q)
+both_taken s t (x ∷ y ∷ ys) a b le h k = (h x refl, k y refl)
 
--- the operands are those that the function takes
+-- the operands are those that a function with these parameters takes
+passed : (s : Scope) (t : Tables) (params : List Scalar) (args : List Arg) (a b : Operand) → length args ≡ length params → StandsForArg s t a args 0 → StandsForArg s t b args 1 →
+    are_passed s.program.now.globals s.base (names_of s) t.constants params args a b
+passed s t [] args a b l h k = tt
+passed s t (p ∷ []) args a b l h k = first_taken s t args a l h
+passed s t (p ∷ q ∷ more) args a b l h k = both_taken s t args a b (omega (arith, l)) h k
+
 taken : (s : Scope) (t : Tables) (call : ExternCall) (args : List Arg) (a b : Operand) → length args ≡ length (row_of call).params → StandsForArg s t a args 0 → StandsForArg s t b args 1 →
     are_taken s.program.now.globals s.base (names_of s) t.constants call args a b
-taken s t calls.ReadI64 args a b l h k = tt
-taken s t calls.PrintI64 args a b l h k = first_taken s t args a l h
-taken s t calls.PmAssert args a b l h k = both_taken s t args a b l h k
-taken s t calls.Clwb args a b l h k = first_taken s t args a l h
-taken s t calls.Clflushopt args a b l h k = first_taken s t args a l h
-taken s t calls.Clflush args a b l h k = first_taken s t args a l h
-taken s t calls.Sfence args a b l h k = tt
-taken s t calls.Mfence args a b l h k = tt
-taken s t calls.PmemFlush args a b l h k = both_taken s t args a b l h k
-taken s t calls.PmemPersist args a b l h k = both_taken s t args a b l h k
-taken s t calls.PmemDrain args a b l h k = tt
+taken s t call args a b l h k = passed s t (row_of call).params args a b l h k
 
 taken_on : (globals : List GlobalVar) (base other : ℕ) (names : List (List ℕ)) (constants : List ℕ) (call : ExternCall) (args : List Arg) (a b : Operand) → other ≡ base →
     are_taken globals base names constants call args a b → are_taken globals other names constants call args a b

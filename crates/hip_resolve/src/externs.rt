@@ -13,9 +13,9 @@ ghost use Rattle.hip_resolve.specs.Scopes.{Describes, DoesHere, names_of};
 use crate::growing::Growing;
 use crate::scope::{Scope, operand, slot};
 use hip_code::{Effect, Memory, Op, Operand, Outside, Persistence};
-use hip_externs::ExternCall;
+use hip_externs::{ExternCall, LineEffect};
 use hip_ir::Arg;
-use hip_types::{Name, NoMemory};
+use hip_types::{Name, NoMemory, Scalar};
 
 /// Where the result of a call goes.
 pub fn result_slot(scope: &Scope<'_>, dest: &Option<Name>) -> Result<Option<u32>, NoMemory>
@@ -51,6 +51,29 @@ fn argument(
     Ok(argument)
 }
 
+/// What a function does to cache lines, by its effect on them and its parameters, with two arguments, of which it may
+/// take fewer.
+fn persistence(effect: LineEffect, params: &[Scalar], a: Operand, b: Operand) -> Persistence
+    ensures { result ≡ ops.line_op effect params.now a b }
+{
+    match effect {
+        LineEffect::Flush => match params {
+            [_, _, ..] => Persistence::Range {
+                addr: a,
+                size: b,
+                fence: false,
+            },
+            _ => Persistence::Flush(a),
+        },
+        LineEffect::FlushAndFence => Persistence::Range {
+            addr: a,
+            size: b,
+            fence: true,
+        },
+        LineEffect::Nothing | LineEffect::Fence => Persistence::Fence,
+    }
+}
+
 /// What a call of an external function does, with the slot of its result and two arguments, of which it may take fewer.
 fn effect(call: ExternCall, dest: Option<u32>, a: Operand, b: Operand) -> Effect
     ensures { result ≡ ops.extern_op call dest a b }
@@ -59,22 +82,10 @@ fn effect(call: ExternCall, dest: Option<u32>, a: Operand, b: Operand) -> Effect
         ExternCall::ReadI64 => Effect::Outside(Outside::Read(dest)),
         ExternCall::PrintI64 => Effect::Outside(Outside::Print(a)),
         ExternCall::PmAssert => Effect::Outside(Outside::Assert { addr: a, size: b }),
-        ExternCall::Clwb => Effect::Persistence(Persistence::Flush(a)),
-        ExternCall::Clflushopt => Effect::Persistence(Persistence::Flush(a)),
-        ExternCall::Clflush => Effect::Persistence(Persistence::Flush(a)),
-        ExternCall::Sfence => Effect::Persistence(Persistence::Fence),
-        ExternCall::Mfence => Effect::Persistence(Persistence::Fence),
-        ExternCall::PmemFlush => Effect::Persistence(Persistence::Range {
-            addr: a,
-            size: b,
-            fence: false,
-        }),
-        ExternCall::PmemPersist => Effect::Persistence(Persistence::Range {
-            addr: a,
-            size: b,
-            fence: true,
-        }),
-        ExternCall::PmemDrain => Effect::Persistence(Persistence::Fence),
+        _ => {
+            let row = call.row();
+            Effect::Persistence(persistence(row.effect, row.params, a, b))
+        }
     }
 }
 

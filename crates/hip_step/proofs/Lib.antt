@@ -1,0 +1,4 @@
+pub mod Slots
+pub mod Arms
+pub mod BranchArms
+pub mod CallArms

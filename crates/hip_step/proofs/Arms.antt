@@ -1,16 +1,12 @@
 -- What the code of an op that ends the run, gives a value or returns does to what the machine stands for.
-use Rattle.std.proofs.Common.{◌≡◌, ℕ, zero, suc, ◌+◌, ◌-◌, ◌^◌, ◌<◌, ◌≤◌, true, false, cond, length, List, [], ◌∷◌, ◌++◌, take, Option, Some, None, Result, Ok, Err, slice_set, refl, sym, ap, ◌∙◌, subst, arith, add-one}
+use Rattle.std.proofs.Common.{◌≡◌, ℕ, zero, suc, ◌+◌, ◌-◌, ◌^◌, ◌<◌, ◌≤◌, true, false, cond, length, List, [], ◌∷◌, ◌++◌, take, reverse, Option, Some, None, Result, Ok, Err, slice_set, refl, sym, ap, ◌∙◌, subst, arith, add-one}
 use Rattle.std.proofs.Math.Seq.{take-append_seam}
 use Rattle.std.proofs.lemmas.List.{same_from_push}
 use Rattle.hip_types.specs.Numbers.{bits, signed}
 use Rattle.hip_types.specs.declared.number.Width.TheVariants.{W32}
 use Rattle.hip_ir.specs.declared.program.Program.{Program}
-use Rattle.hip_globals.specs.Initial.{volatile_bytes}
 use Rattle.hip_num.specs.declared.arithmetic.NumTrap.{NumTrap}
-use Rattle.hip_mem.specs.Areas.{mark_of}
-use Rattle.hip_mem.specs.Laws.AreasLaws.{holds-pop, laid_out-apart, mark_of-after_pop, laid_out-after_pop}
-use Rattle.hip_lines.specs.Line.{Line}
-use Rattle.hip_mem.specs.Memory.{Write, stack_start}
+use Rattle.hip_mem.specs.Memory.{stack_start}
 use Rattle.hip_runs.specs.Operands.{assigned}
 use Rattle.hip_runs.specs.declared.event.Ending.{Ending}
 use Rattle.hip_runs.specs.declared.event.Ending.TheVariants.{Stop, Trap}
@@ -20,8 +16,7 @@ use Rattle.hip_runs.specs.declared.event.TrapKind.{TrapKind}
 use Rattle.hip_runs.specs.declared.event.TrapKind.TheVariants as traps_of
 use Rattle.hip_runs.specs.declared.input.Input.{Input}
 use Rattle.hip_runs.specs.Actions.{Traps, Assigns, Returns, trap_of}
-use Rattle.hip_runs.specs.Standing.{HoldsLines, HoldsMemory}
-use Rattle.hip_runs.specs.State.{Frame, StorePart}
+use Rattle.hip_runs.specs.State.{Frame, Slot}
 use Rattle.hip_runs.specs.Step.{with_turn, is_bottom, perform, leave}
 use Rattle.hip_invariants.specs.StackShape.{lie_in_order, HasShape}
 use Rattle.hip_invariants.proofs.StackShape.{lower}
@@ -41,14 +36,15 @@ use Rattle.hip_code.specs.declared.op.Op.TheVariants as ops
 use Rattle.hip_code.specs.declared.op.Value.{Value}
 use Rattle.hip_step.specs.declared.core_parts.Activation.{Activation}
 use Rattle.hip_step.specs.declared.core_parts.Core.{Core}
-use Rattle.hip_step.specs.declared.core_parts.StackBlock.{StackBlock}
 use Rattle.hip_step.specs.Acts.{Acts, Before, Does, HasNext, Moment, acted, numbers_of, seen_of}
 use Rattle.hip_step.specs.Below.{are_saved, AreSaved}
-use Rattle.hip_step.specs.Blocks.{blocks_in, blocks_of, HoldsBlocks}
-use Rattle.hip_step.specs.Contents.{Contents, after_pop}
+use Rattle.hip_step.specs.Blocks.{blocks_of, HoldsBlocks}
+use Rattle.hip_storage.specs.Contents.{after_pop}
+use Rattle.hip_storage.specs.Laws.ActionLaws.{pop_holds}
+use Rattle.hip_storage.specs.Standing.{HoldsRun}
 use Rattle.hip_step.specs.Placed.{IsPlaced, placed_at}
 use Rattle.hip_step.specs.Puts.{with_result}
-use Rattle.hip_step.specs.Stands.{IsStored, Stands, Stepped}
+use Rattle.hip_step.specs.Stands.{Stands, Stepped}
 use Rattle.hip_step.proofs.Slots.{AreKept, holds_result, kept_result, kept_set, no_frames, not_empty, saved_kept}
 
 pub counted_next : (m n k : ℕ) → m ≡ n → k ≡ suc n → m + 1 ≡ k
@@ -68,7 +64,7 @@ module _ {old : Core} {m : Moment} where
   pub stops : (new : Core) (e : Ending) → new ≡ record old { ending = Some e; taken = old.taken + 1; turns = old.turns + 1 } → Before old m →
       Stands m.program m.input new (record (with_turn m.world) { ending = Some e }) m.top m.rest m.lines m.after.steps
   stops new e is b = let s = b.stands in subst (λ (c : Core). Stands m.program m.input c (record (with_turn m.world) { ending = Some e }) m.top m.rest m.lines m.after.steps) (sym is) (record {
-    input = s.input;
+    limit = s.limit;
     turns = turn_next _ _ s.turns;
     taken = counted_next _ _ _ s.taken b.counted;
     ending = refl;
@@ -93,7 +89,7 @@ module _ {old : Core} {m : Moment} where
       let after : Frame = record m.top { place = suc m.top.place; registers = (name, v) ∷ m.top.registers } in
       record {
         stands = subst (λ (c : Core). Stands m.program m.input c (with_turn m.world) after m.rest m.lines m.after.steps) (sym is) (record {
-          input = s.input;
+          limit = s.limit;
           turns = turn_next _ _ s.turns;
           taken = counted_next _ _ _ s.taken b.counted;
           ending = s.ending;
@@ -146,7 +142,7 @@ finishes_bottom {old} {new} mid v e none still is stop = record {
       let bottom : m.rest ≡ [] = no_frames s.saved none in
       let saved = subst (λ xs. AreSaved m.program old.slots.items old.top.base old.top.dest m.top.dest m.top.level xs m.rest) (none ∙ sym still) s.saved in
       let stands = subst (λ (c : Core). Stands m.program m.input c (record (with_turn m.world) { ending = Some end }) m.top m.rest m.lines m.after.steps) (sym stop) (record {
-        input = s.input;
+        limit = s.limit;
         turns = turn_next _ _ s.turns;
         taken = counted_next _ _ _ s.taken b.counted;
         ending = refl;
@@ -163,7 +159,7 @@ finishes_bottom {old} {new} mid v e none still is stop = record {
 }
 
 -- the blocks of the frames below are left
-blocks_left : (blocks new : List StackBlock) (count : ℕ) (g : Frame) (gs : List Frame) (own : List StackBlock) → blocks ≡ blocks_of (g ∷ gs) ++ own → count ≡ length (blocks_of (g ∷ gs)) → new ≡ take count blocks → new ≡ blocks_of (g ∷ gs)
+blocks_left : (blocks new : List Slot) (count : ℕ) (g : Frame) (gs : List Frame) (own : List Slot) → blocks ≡ blocks_of (g ∷ gs) ++ own → count ≡ length (blocks_of (g ∷ gs)) → new ≡ take count blocks → new ≡ blocks_of (g ∷ gs)
 blocks_left blocks new count g gs own are below is = is ∙ ap (λ n. take n blocks) below ∙ ap (λ bs. take (length (blocks_of (g ∷ gs))) bs) are ∙ take-append_seam (blocks_of (g ∷ gs)) own
 
 -- the marks of frames lie in the stack
@@ -177,23 +173,9 @@ mark_is_low {mark} {f} {fs} h = low_mark f.mark fs h.in_order.1
 pub mark_is_high : {mark : ℕ} {f : Frame} {fs : List Frame} → HasShape mark (f ∷ fs) → f.mark ≤ mark
 mark_is_high {mark} {f} {fs} h = lower f.mark mark f.slots h.in_order.0
 
--- memory with the mark set back
-memory_popped : {P : Program} {I : Input} {x : Contents} {writes : List Write} {mark : ℕ} {ls : List (Line StorePart)} (low : ℕ) → stack_start ≤ low → low ≤ mark → IsStored P I x writes mark ls → IsStored P I (after_pop low x) writes low ls
-memory_popped {P} {I} {x} {writes} {mark} {ls} low bottom top s =
-    let h = s.memory in
-    let high : low ≤ mark_of x.areas = (let e = h.mark_is in omega (arith, e, top)) in
-    record {
-      memory = record {
-        holds = holds-pop low x.areas (record { base = I.base; volatile = volatile_bytes P I.base; region = I.image; writes = writes }) (laid_out-apart x.areas h.laid_out) bottom high h.holds;
-        mark_is = mark_of-after_pop low x.areas bottom high;
-        laid_out = laid_out-after_pop low x.areas bottom high h.laid_out;
-      };
-      lines = s.lines;
-    }
-
 pub finishes_call : {old new : Core} (mid : Core) (v : ℕ) (caller : Activation) → old.saved.items ≡ mid.saved.items ++ caller ∷ [] →
     new ≡ record old { saved = mid.saved; top = caller; slots = new.slots; blocks = new.blocks; storage = new.storage; taken = old.taken + 1; turns = old.turns + 1 } →
-    new.slots.items ≡ with_result caller.base old.top.dest v old.slots.items → new.blocks.items ≡ take old.top.blocks old.blocks.items → new.storage ≡ after_pop old.top.mark old.storage → Does old new events.Quiet true (λ m. Returns v)
+    new.slots.items ≡ with_result caller.base old.top.dest v old.slots.items → new.blocks ≡ take old.top.blocks old.blocks → new.storage ≡ after_pop old.top.mark old.storage → Does old new events.Quiet true (λ m. Returns v)
 unfolding perform leave
 finishes_call {old} {new} mid v caller popped is put cleared pop = record { does = λ m b. go m b m.rest refl }
   where
@@ -211,14 +193,14 @@ finishes_call {old} {new} mid v caller popped is put cleared pop = record { does
         let same = same_from_push a.0 mid.saved.items x caller (sym a.2 ∙ popped) in
         let is_it = is ∙ ap (λ (y : Activation). record old { saved = mid.saved; top = y; slots = new.slots; blocks = new.blocks; storage = new.storage; taken = old.taken + 1; turns = old.turns + 1 }) (sym same.1) in
         let put_it : new.slots.items ≡ with_result x.base old.top.dest v old.slots.items = put ∙ ap (λ (y : Activation). with_result y.base old.top.dest v old.slots.items) (sym same.1) in
-        let blocks = subst (λ hs. HoldsBlocks old.blocks.items old.top.blocks f.slots hs) below s.blocks in
+        let blocks = subst (λ hs. HoldsBlocks old.blocks old.top.blocks f.slots hs) below s.blocks in
         let mark : old.top.mark ≡ f.mark = s.mark in
         let low : stack_start ≤ old.top.mark = (let l = mark_is_low b.shaped in omega (arith, mark, l)) in
         let high : old.top.mark ≤ m.world.mark = (let h = mark_is_high b.shaped in omega (arith, mark, h)) in
         let after : Frame = record g { registers = assigned f.dest v g.registers } in
         let lower_kept : x.base ≤ x.base = omega arith in
         let stands = subst (λ (c : Core). Stands P m.input c (record (with_turn m.world) { mark = f.mark }) after gs m.lines m.after.steps) (sym is_it) (record {
-          input = s.input;
+          limit = s.limit;
           turns = turn_next _ _ s.turns;
           taken = counted_next _ _ _ s.taken b.counted;
           ending = s.ending;
@@ -229,8 +211,8 @@ finishes_call {old} {new} mid v caller popped is put cleared pop = record { does
           mark = kept.mark;
           saved = subst (λ xs. AreSaved P xs x.base x.dest g.dest g.level mid.saved.items gs) (sym put_it)
               (saved_kept lower_kept (kept_result x.base x.base v old.top.dest old.slots.items lower_kept) (record { are = subst (λ ys. are_saved P old.slots.items x.base x.dest g.dest g.level ys gs) same.0 a.4 }));
-          blocks = record { are = blocks_left old.blocks.items new.blocks.items old.top.blocks g gs (blocks_in f.slots) blocks.are blocks.below cleared; below = kept.blocks };
-          storage = subst (λ y. IsStored P m.input y m.world.writes f.mark m.lines) (sym pop) (subst (λ k. IsStored P m.input (after_pop old.top.mark old.storage) m.world.writes k m.lines) mark (memory_popped old.top.mark low high s.storage));
+          blocks = record { are = blocks_left old.blocks new.blocks old.top.blocks g gs (reverse f.slots) blocks.are blocks.below cleared; below = kept.blocks };
+          storage = subst (λ y. HoldsRun P m.input y m.world.writes f.mark m.lines) (sym pop) (subst (λ k. HoldsRun P m.input (after_pop old.top.mark old.storage) m.world.writes k m.lines) mark (pop_holds s.storage old.top.mark low high));
         }) in
         subst (λ hs. Stepped P m.input new events.Quiet (leave v (with_turn m.world) f hs m.lines m.after) (cond (is_bottom hs) (events.End (Stop (signed W32 (bits W32 v).value))) events.Quiet)) (sym below)
         (record { stands = stands; event = refl })

@@ -60,7 +60,7 @@ follows {code} {old} {new} {number} mid edge here made is = record {
       let begins = e.begins in
       subst (λ o. Stepped m.program m.input new events.Quiet (acted m true (edge_action names n m.top.registers o)) (seen_of m (edge_action names n m.top.registers o))) (sym here) (record {
         stands = subst (λ (c : Core). Stands m.program m.input c (with_turn m.world) after m.rest m.lines m.after.steps) (sym is) (record {
-          input = s.input;
+          limit = s.limit;
           turns = turn_next _ _ s.turns;
           taken = counted_next _ _ _ s.taken b.counted;
           ending = s.ending;
@@ -85,7 +85,7 @@ acts_branch {code} {old} {new} {e} {go} number is f = record { acts = λ m b pla
 pub keeps_scratch : {old new : Core} → new ≡ record old { values = new.values; slots = new.slots } → new.slots ≡ old.slots → Keeps old new
 keeps_scratch {old} {new} is same = record {
   keeps = λ P I w f fs ls n s. subst (λ (c : Core). Stands P I c w f fs ls n) (sym (is ∙ ap (λ xs. record old { values = new.values; slots = xs }) same)) (record {
-    input = s.input;
+    limit = s.limit;
     turns = s.turns;
     taken = s.taken;
     ending = s.ending;

@@ -1,7 +1,6 @@
 -- What the code of a call does to what the machine stands for.
 use Rattle.std.proofs.Common.{◌≡◌, OnErr, ℕ, zero, suc, ◌+◌, ◌-◌, ◌<◌, ◌≤◌, true, false, cond, nat_lt, lt-ltb, le-ltb, length, length-append, map, List, [], ◌∷◌, ◌++◌, Option, Some, None, Result, Ok, Err, slice_index, refl, sym, ap, ap₂, ◌∙◌, subst, arith, add-one, add-zero}
 use Rattle.std.proofs.lemmas.List.{append-nil}
-use Rattle.std.specs.Vec.{vec_len}
 use Rattle.hip_ir.specs.declared.program.Program.{Program}
 use Rattle.hip_mem.specs.Areas.{mark_of}
 use Rattle.hip_runs.specs.declared.event.Event.{Event}
@@ -28,7 +27,6 @@ use Rattle.hip_step.specs.declared.core_parts.Activation.{Activation}
 use Rattle.hip_step.specs.declared.core_parts.Core.{Core}
 use Rattle.hip_step.specs.Acts.{Acts, Before, Does, IsLonger, Keeps, Moment, acted, numbers_of, seen_of}
 use Rattle.hip_step.specs.Below.{AreSaved}
-use Rattle.hip_step.specs.Blocks.{blocks_in, blocks_of}
 use Rattle.hip_step.specs.Puts.{put_values}
 use Rattle.hip_step.specs.Stands.{Stands, Stepped}
 use Rattle.hip_step.proofs.Arms.{counted_next, turn_next, placed_next}
@@ -46,7 +44,7 @@ keeps_longer {old} read mid same l kept =
           let room = old.top.base + length (names_at P f.function) in
           let high : old.top.base + length (names_at P f.function) ≤ room = omega arith in
           record {
-            input = s.input;
+            limit = s.limit;
             turns = s.turns;
             taken = s.taken;
             ending = s.ending;
@@ -61,7 +59,7 @@ keeps_longer {old} read mid same l kept =
       taken = refl;
     }
 
-result_goes : (names : List (List ℕ)) (slot : Option ℕ) → result_placed names slot → is_result names slot (result_name names slot)
+pub result_goes : (names : List (List ℕ)) (slot : Option ℕ) → result_placed names slot → is_result names slot (result_name names slot)
 result_goes names None r = tt
 result_goes names (Some slot) r = r
 
@@ -80,7 +78,7 @@ pub acts_call : {code : Code} {old new : Core} {call : Call} (longer : List ℕ)
     IsLonger old.slots.items longer → old.top.base + call.frame + call.size ≤ length longer →
     mid.saved.items ≡ old.saved.items ++ record old.top { place = old.top.place + 1 } ∷ [] →
     mid.slots.items ≡ put (numbers_of code old) (old.top.base + call.frame) (entries_of call.arguments code.moves.items) longer →
-    new ≡ record old { values = mid.values; slots = mid.slots; saved = mid.saved; top = record { place = call.target; entry = call.target; base = old.top.base + call.frame; mark = mark_of old.storage.areas; blocks = vec_len old.blocks; function = call.function; block = 0; dest = call.dest }; taken = old.taken + 1; turns = old.turns + 1 } →
+    new ≡ record old { values = mid.values; slots = mid.slots; saved = mid.saved; top = record { place = call.target; entry = call.target; base = old.top.base + call.frame; mark = mark_of old.storage.areas; blocks = length old.blocks; function = call.function; block = 0; dest = call.dest }; taken = old.taken + 1; turns = old.turns + 1 } →
     Acts code old new events.Quiet (ops.Control (controls.Call call))
 unfolding perform
 acts_call {code} {old} {new} {call} longer mid few l room pushed made is = record {
@@ -109,7 +107,7 @@ acts_call {code} {old} {new} {call} longer mid few l room pushed made is = recor
       let long : base + length called ≤ length longer = omega (arith, room, size) in
       subst (λ t. Stepped P m.input new events.Quiet (acted m true (cond t (Calls call.function registers name) (Traps trap_kinds.Depth))) (seen_of m (cond t (Calls call.function registers name) (Traps trap_kinds.Depth)))) (sym shallow) (record {
         stands = subst (λ (c : Core). Stands P m.input c (with_turn m.world) callee (next m.top ∷ m.rest) m.lines m.after.steps) (sym is) (record {
-          input = s.input;
+          limit = s.limit;
           turns = turn_next _ _ s.turns;
           taken = counted_next _ _ _ s.taken b.counted;
           ending = s.ending;
@@ -134,7 +132,7 @@ acts_call {code} {old} {new} {call} longer mid few l room pushed made is = recor
               (subst (λ xs. AreSaved P xs old.top.base old.top.dest m.top.dest m.top.level old.saved.items m.rest) (sym made) (saved_kept (let z : old.top.base ≤ old.top.base = omega arith in z) changed_low s.saved)).are,
             );
           };
-          blocks = record { are = s.blocks.are ∙ sym (append-nil _); below = old.blocks.ok.0 ∙ ap length s.blocks.are };
+          blocks = record { are = s.blocks.are ∙ sym (append-nil _); below = ap length s.blocks.are };
           storage = s.storage;
         });
         event = refl;
@@ -147,11 +145,11 @@ pub acts_call_from : {code : Code} {old new : Core} {call : Call} (read : Core) 
     IsLonger read.slots.items longer → read.top.base + call.frame + call.size ≤ length longer →
     kept.saved.items ≡ read.saved.items ++ record read.top { place = read.top.place + 1 } ∷ [] →
     mid.slots.items ≡ put_values (read.top.base + call.frame) ms read.values.items longer → mid ≡ record read { slots = mid.slots; saved = kept.saved } →
-    new ≡ record mid { top = record { place = call.target; entry = call.target; base = mid.top.base + call.frame; mark = mark_of mid.storage.areas; blocks = vec_len mid.blocks; function = call.function; block = 0; dest = call.dest }; taken = mid.taken + 1; turns = mid.turns + 1 } →
+    new ≡ record mid { top = record { place = call.target; entry = call.target; base = mid.top.base + call.frame; mark = mark_of mid.storage.areas; blocks = length mid.blocks; function = call.function; block = 0; dest = call.dest }; taken = mid.taken + 1; turns = mid.turns + 1 } →
     Acts code old new events.Quiet (ops.Control (controls.Call call))
 acts_call_from {code} {old} {new} {call} read longer kept mid ms few same are values l room pushed put_in stays is =
     let n = numbers_of code old in
-    let entered = λ (k : Core). record k { top = record { place = call.target; entry = call.target; base = k.top.base + call.frame; mark = mark_of k.storage.areas; blocks = vec_len k.blocks; function = call.function; block = 0; dest = call.dest }; taken = k.taken + 1; turns = k.turns + 1 } in
+    let entered = λ (k : Core). record k { top = record { place = call.target; entry = call.target; base = k.top.base + call.frame; mark = mark_of k.storage.areas; blocks = length k.blocks; function = call.function; block = 0; dest = call.dest }; taken = k.taken + 1; turns = k.turns + 1 } in
     acts_call longer (record old { values = read.values; slots = mid.slots; saved = kept.saved }) few
     (subst (λ (k : Core). IsLonger k.slots.items longer) same l)
     (subst (λ (k : Core). k.top.base + call.frame + call.size ≤ length longer) same room)

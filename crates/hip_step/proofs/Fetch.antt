@@ -1,5 +1,7 @@
 -- The op at the machine's place is that of what comes next in the run, and a step of the machine is a step of the run.
-use Rattle.std.proofs.Common.{◌≡◌, ℕ, zero, suc, ◌+◌, ◌<◌, ◌≤◌, Bool, true, false, cond, not, ◌&&◌, nat_lt, List, [], ◌∷◌, length, drop, Some, None, slice_get, refl, sym, ap, ap₂, ◌∙◌, subst, arith, lt-ltb, le-ltb}
+use Rattle.std.proofs.Common.{◌≡◌, ℕ, zero, suc, ◌+◌, ◌<◌, ◌≤◌, Bool, true, false, cond, not, ◌&&◌, nat_lt, List, [], ◌∷◌, ◌++◌, length, drop, reverse, Some, None, slice_get, refl, sym, ap, ap₂, ◌∙◌, subst, arith, lt-ltb, le-ltb}
+use Rattle.std.proofs.lemmas.List.{reverse-append}
+use Rattle.std.proofs.lemmas.List.Elements.{All-nil, All-cons, All-same, All-append, All-weaker}
 use Rattle.std.proofs.lemmas.Option.{same_Some}
 use Rattle.hip_ir.specs.declared.instr.Instr.{Instr}
 use Rattle.hip_ir.specs.declared.program.Program.{Program}
@@ -9,10 +11,14 @@ use Rattle.hip_runs.specs.declared.event.Event.TheVariants as events
 use Rattle.hip_runs.specs.declared.input.Input.{Input}
 use Rattle.hip_runs.specs.Actions.{Action, Deed, deed_of}
 use Rattle.hip_runs.specs.Places.{body_of, body_at, end_of, code_at, end_at}
-use Rattle.hip_runs.specs.State.{Frame, State}
+use Rattle.hip_runs.specs.State.{Frame, Slot, State}
 use Rattle.hip_runs.specs.Step.{with_turn, event_of, event_at, perform, stop, is_cut, carry_out, deed_at, counted, on_frames, on_ending, step, event_on_frames, event_on_ending, event}
 use Rattle.hip_invariants.specs.NeverStuck.{ReadsAssigned}
-use Rattle.hip_invariants.specs.StackShape.{HasShape}
+use Rattle.hip_invariants.specs.StackShape.{lie_between, lie_in_order, HasShape}
+use Rattle.hip_invariants.proofs.StackShape.{lower}
+use Rattle.hip_objects.specs.Blocks.{IsBehind}
+use Rattle.hip_step.specs.Blocks.{blocks_of}
+use Rattle.hip_mem.specs.Areas.{mark_of}
 use Rattle.hip_code.specs.declared.code.Code.{Code}
 use Rattle.hip_code.specs.Entries.{StandsAt, entry}
 use Rattle.hip_code.specs.Numbers.{tables_of}
@@ -21,7 +27,7 @@ use Rattle.hip_code.specs.Resolved.{is_placed}
 use Rattle.hip_code.specs.Whole.{IsCodeOf}
 use Rattle.hip_code.specs.declared.op.Op.{Op}
 use Rattle.hip_step.specs.declared.core_parts.Core.{Core}
-use Rattle.hip_step.specs.Acts.{Acts, Before, Carries, CarriesHere, HasNext, IsLaid, IsReady, Keeps, Moment, action_here, acted, carried, numbers_of, seen_at, seen_of}
+use Rattle.hip_step.specs.Acts.{Acts, ActsOn, Before, Carries, CarriesHere, HasNext, IsLaid, IsReady, Keeps, Moment, action_here, acted, carried, numbers_of, seen_at, seen_of}
 use Rattle.hip_step.specs.Stands.{Stands, StandsOn, StandsFor, Stepped}
 use Rattle.hip_step.proofs.Arms.{counted_next, mark_is_high, mark_is_low}
 use Rattle.hip_step.proofs.Known.{all_known, phis_known}
@@ -36,37 +42,41 @@ unfolding carry_out
 uncut m new e turn x d cut =
     subst (λ b. Stepped m.program m.input new e (cond b (stop Cut m.world (m.top ∷ m.rest) m.lines m.after) (acted m turn x)) (cond b (events.End Cut) (seen_of m x))) (sym cut) d
 
-module _ {code : Code} {old new : Core} {e : Event} {o : Op} where
+module _ {I : Input} {code : Code} {old new : Core} {e : Event} {o : Op} where
+  -- what holds on any input
+  pub on_input : Acts code old new e o → ActsOn I code old new e o
+  on_input a = record { acts = λ m same b placed behind. a.acts m b placed behind }
+
   -- while the limit allows it, an op does its action in a turn
-  pub carries_turn : op_turn o ≡ true → old.turns < old.limit → Acts code old new e o → Carries code old new e o
+  pub carries_turn : op_turn o ≡ true → old.turns < old.limit → ActsOn I code old new e o → Carries I code old new e o
   carries_turn t below a = record {
-    carries = λ m b placed behind.
+    carries = λ m same b placed behind.
         let turns = b.stands.turns in
-        let limit = b.stands.input.limit in
+        let limit = b.stands.limit in
         let allowed : nat_lt m.world.turns m.input.limit ≡ true = lt-ltb _ _ (omega (arith, below, turns, limit)) in
-        uncut m new e (op_turn o) (action_here code old o m) (a.acts m b placed behind) (ap₂ (λ t n. t && not n) t allowed);
+        uncut m new e (op_turn o) (action_here code old o m) (a.acts m same b placed behind) (ap₂ (λ t n. t && not n) t allowed);
   }
 
   -- what is no turn is never cut
-  pub carries_still : op_turn o ≡ false → Acts code old new e o → Carries code old new e o
+  pub carries_still : op_turn o ≡ false → Acts code old new e o → Carries I code old new e o
   carries_still t a = record {
-    carries = λ m b placed behind.
+    carries = λ m same b placed behind.
         uncut m new e (op_turn o) (action_here code old o m) (a.acts m b placed behind) (ap (λ t. t && not (nat_lt m.world.turns m.input.limit)) t);
   }
 
 -- at the limit the run is cut
-pub carries_cut : {code : Code} {old new : Core} {e : Event} {o : Op} → op_turn o ≡ true → old.limit ≤ old.turns → e ≡ events.End Cut → new ≡ record old { ending = Some Cut; taken = old.taken + 1 } → Carries code old new e o
+pub carries_cut : {I : Input} {code : Code} {old new : Core} {e : Event} {o : Op} → op_turn o ≡ true → old.limit ≤ old.turns → e ≡ events.End Cut → new ≡ record old { ending = Some Cut; taken = old.taken + 1 } → Carries I code old new e o
 unfolding carry_out
-carries_cut {code} {old} {new} {e} {o} t above is stops = record {
-  carries = λ m b placed behind.
+carries_cut {I} {code} {old} {new} {e} {o} t above is stops = record {
+  carries = λ m same b placed behind.
       let s = b.stands in
       let turns = s.turns in
-      let limit = s.input.limit in
+      let limit = s.limit in
       let passed : nat_lt m.world.turns m.input.limit ≡ false = le-ltb _ _ (omega (arith, above, turns, limit)) in
       let x = action_here code old o m in
       let cut : is_cut m.input m.world (record { turn = op_turn o; action = x }) ≡ true = ap₂ (λ t n. t && not n) t passed in
       let stands = subst (λ (c : Core). Stands m.program m.input c (record m.world { ending = Some Cut }) m.top m.rest m.lines m.after.steps) (sym stops) (record {
-        input = s.input;
+        limit = s.limit;
         turns = s.turns;
         taken = counted_next _ _ _ s.taken b.counted;
         ending = refl;
@@ -149,6 +159,23 @@ module _ (code : Code) (c : Core) (m : Moment) (whole : IsCodeOf m.program m.inp
 
 -- ---- steps
 
+-- the blocks of frames end below the mark
+slots_behind : (low high : ℕ) (ss : List Slot) → lie_between low high ss → IsBehind high (reverse ss)
+slots_behind low high [] h = All-nil _
+slots_behind low high (x ∷ ss) h =
+    let older = slots_behind low x.addr ss h.1 in
+    let Ends : Slot → Type 0 = λ y. y.addr + y.size ≤ high in
+    All-same Ends (reverse (x ∷ ss)) (reverse ss ++ x ∷ []) (reverse-append (x ∷ []) ss)
+    (All-append Ends (reverse ss) (x ∷ []) (All-weaker (λ (y : Slot). y.addr + y.size ≤ x.addr) Ends (λ y le. let a = h.0 in omega (arith, le, a)) (reverse ss) older) (All-cons Ends x [] h.0 (All-nil Ends)))
+
+all_behind : (mark : ℕ) (f : Frame) (fs : List Frame) → lie_in_order mark (f ∷ fs) → IsBehind mark (blocks_of (f ∷ fs))
+all_behind mark f [] h = slots_behind f.mark mark f.slots h.0
+all_behind mark f (g ∷ fs) h =
+    let older = all_behind f.mark g fs h.1 in
+    let le = lower f.mark mark f.slots h.0 in
+    All-append (λ (y : Slot). y.addr + y.size ≤ mark) (blocks_of (g ∷ fs)) (reverse f.slots)
+    (All-weaker (λ (y : Slot). y.addr + y.size ≤ f.mark) (λ (y : Slot). y.addr + y.size ≤ mark) (λ y q. omega (arith, q, le)) (blocks_of (g ∷ fs)) older) (slots_behind f.mark mark f.slots h.0)
+
 laid : (c : Core) (m : Moment) → Before c m → IsLaid c
 laid c m b =
     let s = b.stands in
@@ -158,7 +185,9 @@ laid c m b =
     let now = s.storage.memory.mark_is in
     let begins = s.placed.begins in
     let stands = s.placed.stands.is in
+    let all = all_behind m.world.mark m.top m.rest b.shaped.in_order in
     record {
+      behind = subst (λ xs. IsBehind (mark_of c.storage.areas) xs) (sym s.blocks.are) (subst (λ a. IsBehind a (blocks_of (m.top ∷ m.rest))) (sym now) all);
       low = omega (arith, mark, low);
       high = omega (arith, mark, high, now);
       entry = omega (arith, begins, stands);
@@ -188,7 +217,7 @@ module _ (P : Program) (I : Input) (code : Code) (whole : IsCodeOf P I code.ops.
           record { op = a.op; here = a.here; within = a.within; laid = laid c m before }
 
   -- a step of the machine is a step of the run
-  pub stepped : (old new : Core) (e : Event) (s : State) → IsSteady P I s → StandsFor P I old s → s.world.ending ≡ None → CarriesHere code old new e → Stepped P I new e (step P I s) (event P I s)
+  pub stepped : (old new : Core) (e : Event) (s : State) → IsSteady P I s → StandsFor P I old s → s.world.ending ≡ None → CarriesHere I code old new e → Stepped P I new e (step P I s) (event P I s)
   unfolding step event on_ending on_frames moment
   stepped old new e s steady stands going c = subst (λ o. Stepped P I new e (on_ending P I s o) (event_on_ending P I s o)) (sym going) (go s.frames refl stands)
     where
@@ -198,9 +227,9 @@ module _ (P : Program) (I : Input) (code : Code) (whole : IsCodeOf P I code.ops.
           let m = moment s f fs in
           let a = fetched code old m whole x (steady.reads f fs going q) in
           let same : c.op ≡ a.op = same_Some _ _ (sym c.here ∙ a.here) in
-          let carried_out = subst (λ (o : Op). Carries code old new e o) same c.carries in
+          let carried_out = subst (λ (o : Op). Carries I code old new e o) same c.carries in
           let before : Before old m = record { going = going; counted = refl; stands = x; shaped = subst (HasShape s.world.mark) q steady.shaped } in
-          subst (λ d. Stepped P I new e (carry_out I s.world f fs s.lines s.counts m.after d) (event_at I s.world fs d)) a.deed (carried_out.carries m before a.placed a.next)
+          subst (λ d. Stepped P I new e (carry_out I s.world f fs s.lines s.counts m.after d) (event_at I s.world fs d)) a.deed (carried_out.carries m refl before a.placed a.next)
 
 -- ---- the run
 

@@ -1,34 +1,20 @@
 -- What the machine's parts stand for: a state of the run.
-use Rattle.std.specs.Prelude.{ℕ, ◌+◌, ◌≡◌, List, [], ◌∷◌, length, drop}
+use Rattle.std.specs.Prelude.{ℕ, ◌≡◌, List, [], ◌∷◌, drop}
 use Rattle.hip_ir.specs.declared.program.Program.{Program}
-use Rattle.hip_globals.specs.Addresses.{volatile_end}
-use Rattle.hip_globals.specs.Initial.{volatile_bytes}
 use Rattle.hip_lines.specs.Line.{Line}
-use Rattle.hip_mem.specs.Memory.{Write, volatile_start}
-use Rattle.hip_runs.specs.Standing.{HoldsLines, HoldsMemory}
 use Rattle.hip_runs.specs.declared.event.Event.{Event}
 use Rattle.hip_runs.specs.declared.input.Input.{Input}
 use Rattle.hip_runs.specs.State.{StorePart, Frame, World, State}
 use Rattle.hip_code.specs.Frames.{names_at, HoldsFrame}
+use Rattle.hip_storage.specs.Standing.{HoldsRun}
 use Rattle.hip_step.specs.Below.{AreSaved}
 use Rattle.hip_step.specs.Blocks.{HoldsBlocks}
 use Rattle.hip_step.specs.Placed.{placed_at}
 use Rattle.hip_step.specs.declared.core_parts.Core.{Core}
-use Rattle.hip_step.specs.Contents.{Contents}
-
--- the limit of turns is the input's, and the volatile globals have as many bytes as they take
-pub record IsOn (P : Program) (I : Input) (l : ℕ) : Type 0 where
-  pub limit : l ≡ I.limit
-  pub volatile : volatile_start + length (volatile_bytes P I.base) ≡ volatile_end P
-
--- memory and cache lines
-pub record IsStored (P : Program) (I : Input) (x : Contents) (writes : List Write) (mark : ℕ) (ls : List (Line StorePart)) : Type 0 where
-  pub memory : HoldsMemory P I x.areas writes mark
-  pub lines : HoldsLines I x.lines ls
 
 -- The parts stand for a state with a frame on top, after so many steps.
 pub record Stands (P : Program) (I : Input) (c : Core) (w : World) (f : Frame) (fs : List Frame) (ls : List (Line StorePart)) (n : ℕ) : Type 0 where
-  pub input : IsOn P I c.limit
+  pub limit : c.limit ≡ I.limit
   pub turns : c.turns ≡ w.turns
   pub taken : c.taken ≡ n
   pub ending : c.ending ≡ w.ending
@@ -37,8 +23,8 @@ pub record Stands (P : Program) (I : Input) (c : Core) (w : World) (f : Frame) (
   pub registers : HoldsFrame (names_at P f.function) c.slots.items c.top.base f.registers
   pub mark : c.top.mark ≡ f.mark
   pub saved : AreSaved P c.slots.items c.top.base c.top.dest f.dest f.level c.saved.items fs
-  pub blocks : HoldsBlocks c.blocks.items c.top.blocks f.slots fs
-  pub storage : IsStored P I c.storage w.writes w.mark ls
+  pub blocks : HoldsBlocks c.blocks c.top.blocks f.slots fs
+  pub storage : HoldsRun P I c.storage w.writes w.mark ls
 
 abbrev pub StandsOn : Program → Input → Core → World → List Frame → List (Line StorePart) → ℕ → Type 0
 StandsOn P I c w [] ls n = ⊥

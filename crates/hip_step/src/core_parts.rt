@@ -1,9 +1,10 @@
-ghost use Rattle.std.specs.Prelude.{◌≡◌, ◌+◌, ◌<◌, ◌^◌, length, slice_set, Some};
+ghost use Rattle.std.specs.Prelude.{◌≡◌, ◌+◌, ◌-◌, ◌<◌, ◌≤◌, ◌^◌, length, slice_set, Some};
 
-use crate::storage::Storage;
 use hip_code::Edge;
 use hip_ir::Site;
+use hip_objects::Blocks;
 use hip_runs::Ending;
+use hip_storage::Storage;
 
 /// A frame of a call: the place of its next op, and that of the first op of its block; where its slots begin; the
 /// stack's mark at its call, and how many blocks stood on the stack then; the numbers of its function and of its block;
@@ -20,14 +21,6 @@ pub struct Activation {
     pub dest: Option<u32>,
 }
 
-/// A block on the stack: its address and size in bytes, and the site of its `alloca`.
-#[derive(Clone, Copy, Drop)]
-pub struct StackBlock {
-    pub addr: u64,
-    pub size: u64,
-    pub site: Site,
-}
-
 /// The state of a machine: the frame on top, and those below it from the bottom one up; the slots of all frames; the
 /// blocks of all frames, the oldest first; room for the values of moves; memory and cache lines; how many input numbers
 /// were read, and the counts.
@@ -41,7 +34,7 @@ pub struct Core {
     pub slots: Vec<u64>,
     pub values: Vec<u64>,
     pub saved: Vec<Activation>,
-    pub blocks: Vec<StackBlock>,
+    pub blocks: Blocks,
     pub read: usize,
     pub storage: Storage,
 }
@@ -105,6 +98,19 @@ impl Core {
     {
         self.top.place += 1;
         self.taken += 1;
+    }
+
+    // The site of the top frame's place.
+    #[inline(always)]
+    pub fn site(&self) -> Site
+        requires { self.now.top.entry ≤ self.now.top.place }
+        ensures { result ≡ record { function = self.now.top.function; block = self.now.top.block; index = self.now.top.place - self.now.top.entry } }
+    {
+        Site {
+            function: self.top.function as usize,
+            block: self.top.block as usize,
+            index: self.top.place - self.top.entry,
+        }
     }
 
     // A slot takes a value, in a turn.

@@ -6,5 +6,6 @@ pub mod MemoryArms
 pub mod OtherArms
 pub mod Known
 pub mod Fetch
+pub mod Told
 pub mod Runs
 pub mod Start

@@ -5,4 +5,6 @@ pub mod Below
 pub mod Stands
 pub mod Acts
 pub mod Seen
+pub mod Faults
 pub mod Running
+pub mod Given

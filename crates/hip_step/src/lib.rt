@@ -9,6 +9,9 @@ mod machine;
 mod memory_steps;
 mod moves;
 mod persistence;
+mod validity;
 mod values;
 
+pub use hip_runs::{Ending, Event, Input, InputFault, Object, TrapKind};
 pub use machine::Machine;
+pub use validity::why_not;

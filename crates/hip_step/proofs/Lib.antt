@@ -7,5 +7,6 @@ pub mod OtherArms
 pub mod Known
 pub mod Fetch
 pub mod Told
+pub mod NamedPointers
 pub mod Runs
 pub mod Start

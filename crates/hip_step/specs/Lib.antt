@@ -8,3 +8,4 @@ pub mod Seen
 pub mod Faults
 pub mod Running
 pub mod Given
+pub mod Pointing

@@ -9,6 +9,7 @@ mod machine;
 mod memory_steps;
 mod moves;
 mod persistence;
+mod pointers;
 mod validity;
 mod values;
 

@@ -9,4 +9,5 @@ pub mod Fetch
 pub mod Told
 pub mod NamedPointers
 pub mod Runs
-pub mod Start
+pub mod StartStands
+pub mod Rooms

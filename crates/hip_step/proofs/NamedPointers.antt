@@ -150,7 +150,7 @@ module _ {code : Code} {c : Core} {dest : Option (List ℕ)} {ret : Option Scala
       go P I rs sound agrees (Some x) known w =
           other w ∙ nothing P I rs k ∙ ap (λ b. option_map (value_of P.globals I.base rs) (slice_get (cond b (flat_map pointer_arg args) []) k)) (sym (not_numbered P sound callee x known))
 
-got_there : {A : Type 0} (xs : List A) (k : ℕ) (d : A) → k < length xs → slice_get xs k ≡ Some (get_or xs k d)
+pub got_there : {A : Type 0} (xs : List A) (k : ℕ) (d : A) → k < length xs → slice_get xs k ≡ Some (get_or xs k d)
 got_there [] k d h = absurd (omega (arith, h))
 got_there (x ∷ xs) zero d h = refl
 got_there (x ∷ xs) (suc k) d h = got_there xs k d (omega (arith, h))

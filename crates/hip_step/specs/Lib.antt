@@ -9,3 +9,4 @@ pub mod Faults
 pub mod Running
 pub mod Given
 pub mod Pointing
+pub mod Counts

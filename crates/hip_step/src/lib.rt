@@ -10,6 +10,7 @@ mod memory_steps;
 mod moves;
 mod persistence;
 mod pointers;
+mod start;
 mod validity;
 mod values;
 

@@ -13,11 +13,13 @@ pub record IsCallOf (g : Frame) (level : Option Level) : Type 0 where
   pub index : ℕ
   pub birth : ℕ
   pub behind : g.place ≡ suc index
-  pub is : level ≡ Some (record { call = record { function = g.function; block = g.block; index = index }; birth = birth })
+  pub is : level ≡ Some (record { call = record { function = g.function; block = g.block; index = index };
+      birth = birth })
 
 -- What is kept of a frame with others below it, under slots from a base on and a frame that a call made, whose result
 -- goes to a register.
-pub record IsSaved (P : Program) (slots : List ℕ) (base : ℕ) (slot : Option ℕ) (name : Option (List ℕ)) (level : Option Level) (x : Activation) (g : Frame) (gs : List Frame) : Type 0 where
+pub record IsSaved (P : Program) (slots : List ℕ) (base : ℕ) (slot : Option ℕ) (name : Option (List ℕ))
+    (level : Option Level) (x : Activation) (g : Frame) (gs : List Frame) : Type 0 where
   pub placed : placed_at P x g
   pub registers : HoldsFrame (names_at P g.function) slots x.base g.registers
   pub apart : x.base + length (names_at P g.function) ≤ base
@@ -26,12 +28,14 @@ pub record IsSaved (P : Program) (slots : List ℕ) (base : ℕ) (slot : Option 
   pub blocks : x.blocks ≡ length (blocks_of gs)
   pub call : IsCallOf g level
 
-abbrev pub are_saved : Program → List ℕ → ℕ → Option ℕ → Option (List ℕ) → Option Level → List Activation → List Frame → Type 0
+abbrev pub are_saved : Program → List ℕ → ℕ → Option ℕ → Option (List ℕ) → Option Level → List Activation →
+    List Frame → Type 0
 are_saved P slots base slot name level saved [] = saved ≡ []
 are_saved P slots base slot name level saved (g ∷ gs) =
-    (rest : List Activation) × (x : Activation) × (saved ≡ rest ++ x ∷ []) × IsSaved P slots base slot name level x g gs
-    × are_saved P slots x.base x.dest g.dest g.level rest gs
+    (rest : List Activation) × (x : Activation) × (saved ≡ rest ++ x ∷ [])
+    × IsSaved P slots base slot name level x g gs × are_saved P slots x.base x.dest g.dest g.level rest gs
 
 -- The frames below one whose slots begin at a base, that a call made, and whose result goes to a register.
-pub record AreSaved (P : Program) (slots : List ℕ) (base : ℕ) (slot : Option ℕ) (name : Option (List ℕ)) (level : Option Level) (saved : List Activation) (fs : List Frame) : Type 0 where
+pub record AreSaved (P : Program) (slots : List ℕ) (base : ℕ) (slot : Option ℕ) (name : Option (List ℕ))
+    (level : Option Level) (saved : List Activation) (fs : List Frame) : Type 0 where
   pub are : are_saved P slots base slot name level saved fs

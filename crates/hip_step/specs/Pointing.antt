@@ -44,6 +44,7 @@ call_agrees P _ = Unit {0}
 
 -- The value of the pointer operand of that number, where the op at the machine's place tells its instruction's operands.
 pub record TellsPointer (code : Code) (c : Core) (i : Instr) (k : ℕ) (o : Option ℕ) : Type 0 where
-  pub tells : (P : Program) (I : Input) (rs : Registers) (op : Op) → IsSound P → slice_get code.ops.items c.top.place ≡ Some op →
+  pub tells : (P : Program) (I : Input) (rs : Registers) (op : Op) → IsSound P →
+      slice_get code.ops.items c.top.place ≡ Some op →
       NamesOperands P I (numbers_of code c) rs op i → call_agrees P i →
       o ≡ option_map (value_of P.globals I.base rs) (slice_get (pointer_operands P i) k)

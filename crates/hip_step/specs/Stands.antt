@@ -13,7 +13,8 @@ use Rattle.hip_step.specs.Placed.{placed_at}
 use Rattle.hip_step.specs.declared.core_parts.Core.{Core}
 
 -- The parts stand for a state with a frame on top, after so many steps.
-pub record Stands (P : Program) (I : Input) (c : Core) (w : World) (f : Frame) (fs : List Frame) (ls : List (Line StorePart)) (n : ℕ) : Type 0 where
+pub record Stands (P : Program) (I : Input) (c : Core) (w : World) (f : Frame) (fs : List Frame)
+    (ls : List (Line StorePart)) (n : ℕ) : Type 0 where
   pub limit : c.limit ≡ I.limit
   pub turns : c.turns ≡ w.turns
   pub taken : c.taken ≡ n

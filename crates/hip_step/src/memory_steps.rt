@@ -64,7 +64,8 @@ fn store(
     requires turns { core.old.turns + 1 < 2 ^ 64 }
     requires place { core.old.top.place + 1 < 2 ^ 64 }
     requires within { MemoryWithin (numbers_of code.now core.old) (memories.Store size align value addr) }
-    ensures ok { IfOk result (λ e. Acts code.now core.old core.new e (ops.Memory (memories.Store size align value addr))) }
+    ensures ok { IfOk result (λ e. Acts code.now core.old core.new e (ops.Memory
+        (memories.Store size align value addr))) }
     ensures taken { OnOk result (core.new.taken ≡ core.old.taken + 1) }
     ensures err { OnErr result (Keeps core.old core.new) }
 {
@@ -87,7 +88,9 @@ fn keep_block(core: &mut Core, mark: u64, addr: u64, size: u32) -> Result<(), No
     requires entry { core.old.top.entry ≤ core.old.top.place }
     requires low { stack_start ≤ mark }
     requires high { mark ≤ mark_of core.old.storage.areas }
-    ensures ok { OnOk result (core.new ≡ record core.old { blocks = core.old.blocks ++ record { addr = addr; size = size; site = record { function = core.old.top.function; block = core.old.top.block; index = core.old.top.place - core.old.top.entry } } ∷ [] }) }
+    ensures ok { OnOk result (core.new ≡ record core.old { blocks = core.old.blocks ++ record { addr = addr;
+        size = size; site = record { function = core.old.top.function; block = core.old.top.block;
+        index = core.old.top.place - core.old.top.entry } } ∷ [] }) }
     ensures err { OnErr result (core.new ≡ record core.old { storage = after_pop mark core.old.storage }) }
 {
     let site = core.site();
@@ -113,7 +116,8 @@ fn alloca(core: &mut Core, dest: u32, size: u32, align: u32) -> Result<Event, No
     requires slot { core.old.top.base + dest < length core.old.slots.items }
     requires align { 0 < align }
     requires laid { IsLaid core.old }
-    ensures ok { IfOk result (λ e. (code : Code) → Acts code core.old core.new e (ops.Memory (memories.Effect (effects.Alloca dest size align)))) }
+    ensures ok { IfOk result (λ e. (code : Code) → Acts code core.old core.new e (ops.Memory (memories.Effect
+        (effects.Alloca dest size align)))) }
     ensures taken { OnOk result (core.new.taken ≡ core.old.taken + 1) }
     ensures err { OnErr result (Keeps core.old core.new) }
 {
@@ -154,8 +158,11 @@ fn take_number(core: &mut Core, dest: Option<u32>, number: i64) -> Event
     requires read { core.old.read + 1 < 2 ^ 64 }
     requires slot { (slot : ℕ) → dest ≡ Some slot → core.old.top.base + slot < length core.old.slots.items }
     ensures event { result ≡ Event.Quiet }
-    ensures others { core.new ≡ record core.old { slots = core.new.slots; read = core.old.read + 1; top = record core.old.top { place = core.old.top.place + 1 }; taken = core.old.taken + 1; turns = core.old.turns + 1 } }
-    ensures slots { core.new.slots.items ≡ with_result core.old.top.base dest (wrapped W64 number) core.old.slots.items }
+    ensures others { core.new ≡ record core.old { slots = core.new.slots; read = core.old.read + 1; top = record core.old.top
+        { place = core.old.top.place + 1 }; taken = core.old.taken + 1;
+        turns = core.old.turns + 1 } }
+    ensures slots { core.new.slots.items ≡ with_result core.old.top.base dest
+        (wrapped W64 number) core.old.slots.items }
 {
     let value = as_unsigned(number);
     put_result(core.slots.as_mut_slice(), core.top.base, dest, value);
@@ -178,7 +185,8 @@ fn read_number(core: &mut Core, input: &Input, dest: Option<u32>) -> Event
     requires turns { core.old.turns + 1 < 2 ^ 64 }
     requires place { core.old.top.place + 1 < 2 ^ 64 }
     requires slot { (slot : ℕ) → dest ≡ Some slot → core.old.top.base + slot < length core.old.slots.items }
-    ensures acts { (code : Code) → ActsOn input.now code core.old core.new result (ops.Memory (memories.Effect (effects.Outside (outsides.Read dest)))) }
+    ensures acts { (code : Code) → ActsOn input.now code core.old core.new result (ops.Memory (memories.Effect
+        (effects.Outside (outsides.Read dest)))) }
     ensures taken { core.new.taken ≡ core.old.taken + 1 }
 {
     let numbers = input.numbers.as_slice();
@@ -195,7 +203,8 @@ fn assert_range(core: &mut Core, addr: u64, size: u64) -> Event
     requires taken { core.old.taken + 1 < 2 ^ 128 }
     requires turns { core.old.turns + 1 < 2 ^ 64 }
     requires place { core.old.top.place + 1 < 2 ^ 64 }
-    ensures does { DoesNext core.old core.new result true (λ m. cond (in_region m.input addr size) (Asserts addr size) (Traps traps.Address)) }
+    ensures does { DoesNext core.old core.new result true (λ m. cond (in_region m.input addr size)
+        (Asserts addr size) (Traps traps.Address)) }
     ensures taken { core.new.taken ≡ core.old.taken + 1 }
 {
     if core.storage.is_in_region(addr, size) {
@@ -224,7 +233,8 @@ fn outside(core: &mut Core, code: &Code, input: &Input, outside: Outside) -> Eve
     requires turns { core.old.turns + 1 < 2 ^ 64 }
     requires place { core.old.top.place + 1 < 2 ^ 64 }
     requires within { OutsideWithin (numbers_of code.now core.old) outside }
-    ensures acts { ActsOn input.now code.now core.old core.new result (ops.Memory (memories.Effect (effects.Outside outside))) }
+    ensures acts { ActsOn input.now code.now core.old core.new result (ops.Memory (memories.Effect
+        (effects.Outside outside))) }
     ensures taken { core.new.taken ≡ core.old.taken + 1 }
 {
     match outside {
@@ -252,7 +262,8 @@ fn step_effect(
     requires place { core.old.top.place + 1 < 2 ^ 64 }
     requires within { EffectWithin (numbers_of code.now core.old) effect }
     requires laid { IsLaid core.old }
-    ensures ok { IfOk result (λ e. Carries input.now code.now core.old core.new e (ops.Memory (memories.Effect effect))) }
+    ensures ok { IfOk result (λ e. Carries input.now code.now core.old core.new e (ops.Memory
+        (memories.Effect effect))) }
     ensures taken { OnOk result (core.new.taken ≡ core.old.taken + 1) }
     ensures err { OnErr result (Keeps core.old core.new) }
 {

@@ -26,7 +26,8 @@ fn halt(core: &mut Core, kind: TrapKind) -> Event
 fn flush(core: &mut Core, addr: u64) -> Event
     requires taken { core.old.taken + 1 < 2 ^ 128 }
     requires place { core.old.top.place + 1 < 2 ^ 64 }
-    ensures does { DoesNext core.old core.new result false (λ m. flushing m.program m.input m.world addr 1 (Flushes addr 1)) }
+    ensures does { DoesNext core.old core.new result false (λ m. flushing m.program m.input m.world addr 1
+        (Flushes addr 1)) }
     ensures taken { core.new.taken ≡ core.old.taken + 1 }
 {
     match core.storage.flush(addr) {
@@ -42,7 +43,8 @@ fn flush(core: &mut Core, addr: u64) -> Event
 fn flush_range(core: &mut Core, addr: u64, size: u64) -> Event
     requires taken { core.old.taken + 1 < 2 ^ 128 }
     requires place { core.old.top.place + 1 < 2 ^ 64 }
-    ensures does { DoesNext core.old core.new result false (λ m. flushing m.program m.input m.world addr size (Flushes addr size)) }
+    ensures does { DoesNext core.old core.new result false (λ m. flushing m.program m.input m.world addr size
+        (Flushes addr size)) }
     ensures taken { core.new.taken ≡ core.old.taken + 1 }
 {
     match core.storage.flush_range(addr, size) {
@@ -58,7 +60,8 @@ fn flush_range(core: &mut Core, addr: u64, size: u64) -> Event
 fn persist(core: &mut Core, addr: u64, size: u64) -> Event
     requires taken { core.old.taken + 1 < 2 ^ 128 }
     requires place { core.old.top.place + 1 < 2 ^ 64 }
-    ensures does { DoesNext core.old core.new result false (λ m. flushing m.program m.input m.world addr size (Persists addr size)) }
+    ensures does { DoesNext core.old core.new result false (λ m. flushing m.program m.input m.world addr size
+        (Persists addr size)) }
     ensures taken { core.new.taken ≡ core.old.taken + 1 }
 {
     match core.storage.persist(addr, size) {
@@ -86,7 +89,8 @@ fn fence(core: &mut Core) -> Event
 fn range(core: &mut Core, addr: u64, size: u64, fence: bool) -> Event
     requires taken { core.old.taken + 1 < 2 ^ 128 }
     requires place { core.old.top.place + 1 < 2 ^ 64 }
-    ensures does { DoesNext core.old core.new result false (λ m. flushing m.program m.input m.world addr size (cond fence (Persists addr size) (Flushes addr size))) }
+    ensures does { DoesNext core.old core.new result false (λ m. flushing m.program m.input m.world addr size
+        (cond fence (Persists addr size) (Flushes addr size))) }
     ensures taken { core.new.taken ≡ core.old.taken + 1 }
 {
     if fence {
@@ -101,7 +105,8 @@ pub fn persistence(core: &mut Core, code: &Code, persistence: Persistence) -> Ev
     requires taken { core.old.taken + 1 < 2 ^ 128 }
     requires place { core.old.top.place + 1 < 2 ^ 64 }
     requires within { PersistenceWithin (numbers_of code.now core.old) persistence }
-    ensures acts { Acts code.now core.old core.new result (ops.Memory (memories.Effect (effects.Persistence persistence))) }
+    ensures acts { Acts code.now core.old core.new result (ops.Memory (memories.Effect
+        (effects.Persistence persistence))) }
     ensures taken { core.new.taken ≡ core.old.taken + 1 }
 {
     match persistence {

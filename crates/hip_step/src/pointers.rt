@@ -24,7 +24,8 @@ fn is_pointer(ty: Scalar) -> bool
 
 // The place of the pointer of that number among the arguments.
 fn pointer_argument(args: &[Arg], operand: usize) -> Option<usize>
-    ensures { MatchOption result (slice_get (flat_map pointer_arg args.now) operand ≡ None) (λ j. IsPointerArg args.now operand j) }
+    ensures { MatchOption result (slice_get (flat_map pointer_arg args.now) operand ≡ None)
+        (λ j. IsPointerArg args.now operand j) }
 {
     let mut left = operand;
     'looking: for place in 0..args.len() {
@@ -72,7 +73,8 @@ fn address_of(core: &Core, code: &Code, op: Op) -> Option<u64>
 // The value of the argument of that number of an op that calls.
 fn argument_of(core: &Core, code: &Code, op: Op, place: usize) -> Option<u64>
     requires { OpWithin (numbers_of code.now core.now) op }
-    ensures calls { (vs : List ℕ) → calls_with (numbers_of code.now core.now) vs op → result ≡ slice_get vs place }
+    ensures calls { (vs : List ℕ) → calls_with (numbers_of code.now core.now) vs op →
+        result ≡ slice_get vs place }
     ensures other { is_memory op → result ≡ None }
 {
     match op {

@@ -1,0 +1,31 @@
+-- The blocks on the stack, by their addresses.
+use Rattle.std.specs.Prelude.{ℕ, ◌+◌, ◌≤◌, List, Option, Some, None, All, map, reverse}
+use Rattle.hip_ir.specs.declared.site.Site.{Site}
+use Rattle.hip_runs.specs.State.{Slot}
+use Rattle.hip_runs.specs.Found.Objects.{slot_in}
+use Rattle.hip_runs.specs.declared.event.Object.{Object}
+use Rattle.hip_runs.specs.declared.event.Object.TheVariants as objects
+use Rattle.hip_objects.specs.Order.{AreInOrder}
+use Rattle.hip_objects.specs.declared.blocks.Block.{Block}
+
+abbrev pub slot_of : Block → Slot
+slot_of b = record { addr = b.addr; size = b.size; site = b.site }
+
+abbrev pub slots_of : List Block → List Slot
+slots_of bs = map slot_of bs
+
+-- each block ends before a newer one begins
+abbrev pub AreStacked : List Block → Type 0
+AreStacked bs = AreInOrder (λ b. b.addr) (λ b. b.size) bs
+
+-- all these blocks end at an address or before it
+abbrev pub IsBehind : ℕ → List Slot → Type 0
+IsBehind a xs = All (λ x. x.addr + x.size ≤ a) xs
+
+-- the block, of these from the newest one on, that has the byte at an address; they stand from the oldest one on
+abbrev pub object_in : List Slot → ℕ → Option Object
+object_in xs a = slot_in (reverse xs) a
+
+abbrev pub sited : Option Site → Option Object
+sited None = None
+sited (Some site) = Some (objects.Slot site)

@@ -1,0 +1,46 @@
+-- The globals of a program, by their addresses.
+use Rattle.std.specs.Prelude.{ℕ, suc, ◌+◌, Bool, cond, nat_lt, List, [], ◌∷◌, Option}
+use Rattle.hip_types.specs.Layout.{shape}
+use Rattle.hip_ir.specs.declared.program.GlobalVar.{GlobalVar}
+use Rattle.hip_globals.specs.Addresses.{global_start, same}
+use Rattle.hip_objects.specs.Order.{AreInOrder, first_at}
+use Rattle.hip_objects.specs.declared.globals.GlobalTable.TheInside.{Inside}
+use Rattle.hip_objects.specs.declared.globals.Place.{Place}
+
+-- where a global lies that is laid from a place on, with its number
+abbrev pub place_of : ℕ → GlobalVar → ℕ → Place
+place_of at g number = record { start = global_start at g; size = (shape g.ty).size; number = number }
+
+-- Where those of these globals lie that are persistent, or that are not, laid from a place on; the first of these
+-- globals has number n.
+abbrev pub places_from : Bool → ℕ → ℕ → List GlobalVar → List Place
+places_from persistent at n [] = []
+places_from persistent at n (g ∷ gs) =
+    cond (same g.persistent persistent)
+    (place_of at g n ∷ places_from persistent (global_start at g + (shape g.ty).size) (suc n) gs)
+    (places_from persistent at (suc n) gs)
+
+-- each global ends before a later one begins
+abbrev pub AreLaid : List Place → Type 0
+AreLaid ps = AreInOrder (λ p. p.start) (λ p. p.size) ps
+
+-- the number of the first one that has the byte at an address
+abbrev pub number_at : ℕ → List Place → Option ℕ
+number_at a ps = first_at (λ p. p.start) (λ p. p.size) (λ p. p.number) a ps
+
+-- the base of the region, and where the volatile globals and the persistent ones lie
+pub record Laid : Type 0 where
+  pub base : ℕ
+  pub volatile : List Place
+  pub persistent : List Place
+
+-- the persistent ones lie from the base on, the volatile ones before it
+abbrev pub global_in : Laid → ℕ → Option ℕ
+global_in l a = cond (nat_lt a l.base) (number_at a l.volatile) (number_at a l.persistent)
+
+abbrev pub laid_of : Inside → Laid
+laid_of t = record { base = t.base; volatile = t.volatile.items; persistent = t.persistent.items }
+
+pub record IsTable (t : Inside) : Type 0 where
+  pub volatile : AreLaid t.volatile.items
+  pub persistent : AreLaid t.persistent.items

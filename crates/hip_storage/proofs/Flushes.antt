@@ -1,0 +1,54 @@
+-- What the flush of a range in the region has done.
+use Rattle.std.proofs.Common.{inl, inr, ◌≡◌, ℕ, ◌+◌, ◌-◌, ◌*◌, ◌/◌, ◌<◌, ◌≤◌, Bool, true, cond, ◌&&◌, nat_lt, List, length, None, Some, sym, ap, ap₂, ◌∙◌, lt-ltb, arith}
+use Rattle.hip_lines.specs.Parts.{pending_flushed_all, pending_fenced_all}
+use Rattle.hip_lines.specs.Pending.{Pending}
+use Rattle.hip_lines.specs.declared.TheConstants.{LINE_SIZE}
+use Rattle.hip_lines.specs.declared.part.Part.{Part}
+use Rattle.hip_mem.specs.Areas.{are_valid}
+use Rattle.hip_mem.specs.Laws.AreasLaws.{fits-are_valid}
+use Rattle.hip_runs.specs.Actions.{is_within}
+use Rattle.hip_runs.specs.declared.event.Event.TheVariants as events
+use Rattle.hip_runs.specs.declared.event.TrapKind.TheVariants as traps
+use Rattle.hip_storage.specs.Calls.{HasFlushed, HasPersisted}
+use Rattle.hip_storage.specs.Contents.{Contents, flushes_lines, first_line, lies_in_region, lines_size, range_trap}
+
+-- a range in the region of the code, whose base and size are those of the contents, has bytes
+pub record IsReached (s : Contents) (base size a n : ℕ) : Type 0 where
+  pub base_is : base ≡ s.areas.base
+  pub size_is : size ≡ length s.areas.region
+  pub some : 0 < n
+  pub within : is_within base (base + size) a n ≡ true
+  pub low : base ≤ a
+  pub high : a + n ≤ base + size
+
+module _ {s : Contents} {base size a n : ℕ} (r : IsReached s base size a n) where
+  reaches : flushes_lines s a n ≡ true
+  reaches = ap₂ (λ x y. x && y) (lt-ltb 0 n r.some) (ap₂ (λ b k. is_within b (b + k) a n) (sym r.base_is) (sym r.size_is) ∙ r.within)
+
+  allowed : range_trap s a n ≡ None
+  allowed = ap (λ t. cond t None (Some traps.Address)) (fits-are_valid s.areas n a (inr (inr (omega (arith, r.low, r.base_is), omega (arith, r.high, r.base_is, r.size_is)))))
+
+  lines_are : (ls : List (Pending Part)) → ls ≡ pending_flushed_all (a - base) n s.lines → ls ≡ cond (flushes_lines s a n) (pending_flushed_all (a - s.areas.base) n s.lines) s.lines
+  lines_are ls e = e ∙ ap (λ b. pending_flushed_all (a - b) n s.lines) r.base_is ∙ ap (λ t. cond t (pending_flushed_all (a - s.areas.base) n s.lines) s.lines) (sym reaches)
+
+  first_is : (l : ℕ) → l ≡ base + LINE_SIZE * ((a - base) / LINE_SIZE) → l ≡ first_line s a
+  first_is l e = e ∙ ap (λ b. b + LINE_SIZE * ((a - b) / LINE_SIZE)) r.base_is
+
+  size_is : (z : ℕ) → z ≡ LINE_SIZE * (((a - base) + n - 1) / LINE_SIZE + 1) - LINE_SIZE * ((a - base) / LINE_SIZE) → z ≡ lines_size s a n
+  size_is z e = e ∙ ap (λ b. LINE_SIZE * (((a - b) + n - 1) / LINE_SIZE + 1) - LINE_SIZE * ((a - b) / LINE_SIZE)) r.base_is
+
+  pub flushes : {ls : List (Pending Part)} {l z : ℕ} → ls ≡ pending_flushed_all (a - base) n s.lines → l ≡ base + LINE_SIZE * ((a - base) / LINE_SIZE) →
+      z ≡ LINE_SIZE * (((a - base) + n - 1) / LINE_SIZE + 1) - LINE_SIZE * ((a - base) / LINE_SIZE) → HasFlushed s (record { areas = s.areas; lines = ls }) (events.Flush l z) a n
+  flushes {ls} {l} {z} e f g = record {
+    allowed = allowed;
+    contents = ap (λ x. record { areas = s.areas; lines = x }) (lines_are ls e);
+    seen = ap₂ events.Flush (first_is l f) (size_is z g) ∙ ap (λ t. cond t (events.Flush (first_line s a) (lines_size s a n)) events.Quiet) (sym reaches);
+  }
+
+  pub persists : {ls ls' : List (Pending Part)} {l z : ℕ} → ls ≡ pending_flushed_all (a - base) n s.lines → ls' ≡ pending_fenced_all ls → l ≡ base + LINE_SIZE * ((a - base) / LINE_SIZE) →
+      z ≡ LINE_SIZE * (((a - base) + n - 1) / LINE_SIZE + 1) - LINE_SIZE * ((a - base) / LINE_SIZE) → HasPersisted s (record { areas = s.areas; lines = ls' }) (events.Persist l z) a n
+  persists {ls} {ls'} {l} {z} e d f g = record {
+    allowed = allowed;
+    contents = ap (λ x. record { areas = s.areas; lines = x }) (d ∙ ap pending_fenced_all (lines_are ls e));
+    seen = ap₂ events.Persist (first_is l f) (size_is z g) ∙ ap (λ t. cond t (events.Persist (first_line s a) (lines_size s a n)) events.Fence) (sym reaches);
+  }

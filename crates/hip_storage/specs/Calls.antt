@@ -1,0 +1,43 @@
+-- What the calls of a storage have done where they were not refused, and what a refusal says.
+use Rattle.std.specs.Prelude.{◌≡◌, ℕ, Option, Some, None}
+use Rattle.hip_mem.specs.Areas.{bytes_in, block_address}
+use Rattle.hip_mem.specs.Bytes.{little_endian}
+use Rattle.hip_runs.specs.declared.event.Event.{Event}
+use Rattle.hip_runs.specs.declared.event.TrapKind.{TrapKind}
+use Rattle.hip_storage.specs.Contents.{Contents, access_trap, block_trap, range_trap, after_store, after_push, after_flush, after_fence, store_event, flush_event, persist_event}
+use Rattle.hip_storage.specs.declared.refusal.StorageRefusal.{StorageRefusal}
+use Rattle.hip_storage.specs.declared.refusal.StorageRefusal.TheVariants.{Trap, NoMemory}
+
+-- the number of the n bytes from address a on, the lowest first, was loaded
+pub record HasLoaded (s : Contents) (a n align value : ℕ) : Type 0 where
+  pub allowed : access_trap s a n align ≡ None
+  pub loaded : value ≡ little_endian (bytes_in s.areas a n)
+
+-- the low n bytes of a number were stored, and their parts have the tag
+pub record HasStored (old new : Contents) (event : Event) (a n align value tag : ℕ) : Type 0 where
+  pub allowed : access_trap old a n align ≡ None
+  pub contents : new ≡ after_store a n value tag old
+  pub seen : event ≡ store_event old a n value
+
+-- a block of so many bytes was made on the stack
+pub record HasPushed (old new : Contents) (block size align : ℕ) : Type 0 where
+  pub allowed : block_trap old size align ≡ None
+  pub contents : new ≡ after_push size align old
+  pub address : block ≡ block_address old.areas align
+
+-- the cache lines of a range were flushed
+pub record HasFlushed (old new : Contents) (event : Event) (a n : ℕ) : Type 0 where
+  pub allowed : range_trap old a n ≡ None
+  pub contents : new ≡ after_flush a n old
+  pub seen : event ≡ flush_event old a n
+
+-- the cache lines of a range were flushed, and a fence came
+pub record HasPersisted (old new : Contents) (event : Event) (a n : ℕ) : Type 0 where
+  pub allowed : range_trap old a n ≡ None
+  pub contents : new ≡ after_fence (after_flush a n old)
+  pub seen : event ≡ persist_event old a n
+
+-- a trap is told exactly where it is this one
+abbrev pub IsRefusedFor : Option TrapKind → StorageRefusal → Type 0
+IsRefusedFor trap (Trap kind) = trap ≡ Some kind
+IsRefusedFor trap NoMemory = Unit {0}

@@ -1,0 +1,52 @@
+-- What the storage of a run stands for: its memory and its cache lines.
+use Rattle.std.specs.Prelude.{◌≡◌, ℕ, Bool, cond, ◌+◌, List, length}
+use Rattle.hip_ir.specs.declared.program.Program.{Program}
+use Rattle.hip_globals.specs.Addresses.{volatile_end}
+use Rattle.hip_globals.specs.Initial.{volatile_bytes}
+use Rattle.hip_lines.specs.Line.{Line}
+use Rattle.hip_mem.specs.Memory.{Write, volatile_start}
+use Rattle.hip_runs.specs.Actions.{Action}
+use Rattle.hip_runs.specs.Standing.{HoldsMemory, HoldsLines}
+use Rattle.hip_runs.specs.State.{Counts, Frame, State, StorePart, World}
+use Rattle.hip_runs.specs.Step.{event_of, perform, with_turn}
+use Rattle.hip_runs.specs.declared.event.Event.{Event}
+use Rattle.hip_runs.specs.declared.input.Input.{Input}
+use Rattle.hip_storage.specs.Contents.{Contents}
+
+-- The contents are those of a run's memory after these writes, with this stack mark, and of these cache lines.
+pub record HoldsRun (P : Program) (I : Input) (s : Contents) (writes : List Write) (mark : ℕ)
+    (ls : List (Line StorePart)) : Type 0 where
+  pub volatile : volatile_start + length (volatile_bytes P I.base) ≡ volatile_end P
+  pub memory : HoldsMemory P I s.areas writes mark
+  pub lines : HoldsLines I s.lines ls
+
+-- the contents are those of a state
+abbrev pub HoldsState : Program → Input → Contents → State → Type 0
+HoldsState P I s t = HoldsRun P I s t.world.writes t.world.mark t.lines
+
+-- What a step begins with: the world, the top frame and those below, the cache lines, and the counts before it and
+-- after it; and whether it is a turn.
+pub record Point : Type 0 where
+  pub world : World
+  pub frame : Frame
+  pub frames : List Frame
+  pub lines : List (Line StorePart)
+  pub before : Counts
+  pub after : Counts
+  pub turn : Bool
+
+-- the contents are those of the state that a step begins with
+abbrev pub HoldsAt : Program → Input → Contents → Point → Type 0
+HoldsAt P I s p = HoldsRun P I s p.world.writes p.world.mark p.lines
+
+-- the state after an action
+abbrev pub performed : Input → Point → Action → State
+performed I p action =
+    perform I (cond p.turn (with_turn p.world) p.world) p.frame p.frames p.lines p.before p.after action
+
+-- A step of this action comes to this one: the contents are those of the state after it, and the event is the one that
+-- is seen.
+pub record HasDone (P : Program) (I : Input) (p : Point) (s : Contents) (e : Event) (action done : Action) : Type 0 where
+  pub is : action ≡ done
+  pub holds : HoldsState P I s (performed I p done)
+  pub seen : e ≡ event_of I p.frames done

@@ -1,0 +1,14 @@
+//! The memory and the cache lines of a run, with one call for each action of a step on them.
+#![tactic(auto)]
+
+mod laws;
+mod refusal;
+mod region;
+mod storage;
+
+pub use laws::{
+    asserts_are_those_of_the_run, blocks_are_those_of_the_run, flushes_are_those_of_the_run,
+    loads_are_those_of_the_run, stores_are_those_of_the_run,
+};
+pub use refusal::StorageRefusal;
+pub use storage::Storage;

@@ -1,0 +1,240 @@
+ghost use Rattle.std.specs.Prelude.{◌≡◌, ◌*◌, ◌/◌, ◌<◌, ◌≤◌, [], length, IfOk, IfErr, OnErr};
+ghost use Rattle.hip_mem.specs.Areas.{IsLaidOut, mark_of};
+ghost use Rattle.hip_mem.specs.Memory.{stack_start};
+ghost use Rattle.hip_runs.specs.Step.{start};
+ghost use Rattle.hip_runs.specs.Validity.{IsValid};
+
+use crate::refusal::StorageRefusal;
+use crate::region::{first_line, is_inside, kind_of, lines_size, low_bytes, note, put};
+use hip_lines::{LINE_SIZE, Lines};
+use hip_mem::{PushRefusal, Ram};
+use hip_runs::{Event, Input, TrapKind};
+use hip_types::NoMemory;
+use hip_typing::Checked;
+use std::alloc::Global;
+use std::marker::Model;
+
+/// The memory of a run and the cache lines of its region, which contracts see as the bytes that are valid and the
+/// pending parts of each line.
+#[derive(Drop)]
+pub struct Storage {
+    // Where the region begins, and how many bytes it has.
+    base: u64,
+    size: u64,
+    ram: Ram,
+    lines: Lines,
+}
+
+impl Model for Storage {
+    ghost use Rattle.hip_storage.specs.Contents.{Contents};
+
+    ghost Value = { Contents };
+
+    ghost use Rattle.hip_storage.specs.Fields.{contents_of, IsKept};
+
+    ghost view = { contents_of };
+
+    ghost invariant = { IsKept };
+}
+
+impl Storage {
+    ghost use Rattle.hip_storage.specs.Calls.{HasLoaded, HasStored, HasPushed, HasFlushed, HasPersisted, IsRefusedFor};
+    ghost use Rattle.hip_storage.specs.Contents.{initial, lies_in_region, access_trap, block_trap, range_trap, after_pop, after_fence};
+    ghost use Rattle.hip_storage.specs.Standing.{HoldsState};
+
+    /// The storage before the first step of a run. The time is that of the initial bytes.
+    pub fn new(alloc: Global, checked: &Checked, input: &Input) -> Result<Storage, NoMemory>
+        requires { IsValid checked.now input.now }
+        ensures initial { IfOk result (λ storage. storage ≡ initial checked.now input.now) }
+        ensures starts { IfOk result (λ storage.
+            HoldsState checked.now input.now storage (start checked.now input.now)) }
+    {
+        let _program = checked.program();
+        let volatile = checked.volatile_bytes(alloc, input.base)?;
+        let region = input.image.as_slice();
+        let ram = Ram::new(alloc, input.base, volatile.as_slice(), region)?;
+        let size = region.len() as u64;
+        let lines = Lines::new(alloc, size)?;
+        Ok(Storage {
+            base: input.base,
+            size,
+            ram,
+            lines,
+        })
+    }
+
+    /// The number of so many bytes, the lowest first.
+    #[inline(always)]
+    pub fn load(&self, addr: u64, size: u32, align: u32) -> Result<u64, TrapKind>
+        requires some { 0 < size }
+        requires few { size ≤ 8 }
+        requires align { 0 < align }
+        ensures ok { IfOk result (λ value. HasLoaded self.now addr size align value) }
+        ensures trap { IfErr result (λ kind. access_trap self.now addr size align ≡ Some kind) }
+    {
+        match self.ram.load(addr, size, align) {
+            Ok(value) => Ok(value),
+            Err(trap) => Err(kind_of(trap)),
+        }
+    }
+
+    /// Stores the low bytes of a number, the lowest first, and notes its parts in the region under a tag, which is the
+    /// number of steps before it. Room for the parts is made before the memory is written.
+    #[inline(always)]
+    pub fn store(
+        &mut self,
+        addr: u64,
+        size: u32,
+        align: u32,
+        value: u64,
+        tag: u128,
+    ) -> Result<Event, StorageRefusal>
+        requires some { 0 < size }
+        requires few { size ≤ 8 }
+        requires align { 0 < align }
+        ensures ok { IfOk result (λ event. HasStored self.old self.new event addr size align value tag) }
+        ensures err { OnErr result (self.new ≡ self.old) }
+        ensures refusal { IfErr result (λ refusal. IsRefusedFor (access_trap self.old addr size align) refusal) }
+    {
+        if !is_inside(self.base, self.size, addr, size as u64) {
+            put(&mut self.ram, addr, size, align, value)?;
+            return Ok(Event::Quiet);
+        }
+        let offset = addr - self.base;
+        if self.lines.make_room(offset, size).is_err() {
+            return Err(StorageRefusal::NoMemory);
+        }
+        put(&mut self.ram, addr, size, align, value)?;
+        note(&mut self.lines, offset, size, tag);
+        Ok(Event::Store {
+            addr,
+            value: low_bytes(value, size),
+            size,
+        })
+    }
+
+    /// A block of so many bytes on the stack, at the next multiple of its alignment: its address. The bytes from the
+    /// old mark on are zeros.
+    #[inline(always)]
+    pub fn push(&mut self, size: u64, align: u64) -> Result<u64, StorageRefusal>
+        requires { 0 < align }
+        ensures ok { IfOk result (λ block. HasPushed self.old self.new block size align) }
+        ensures err { OnErr result (self.new ≡ self.old) }
+        ensures refusal { IfErr result (λ refusal. IsRefusedFor (block_trap self.old size align) refusal) }
+    {
+        match self.ram.push_stack(size, align) {
+            Ok(block) => Ok(block),
+            Err(PushRefusal::StackFull) => Err(StorageRefusal::Trap(TrapKind::Stack)),
+            Err(PushRefusal::NoMemory) => Err(StorageRefusal::NoMemory),
+        }
+    }
+
+    /// The end of the stack's blocks.
+    #[inline(always)]
+    pub fn mark(&self) -> u64
+        ensures mark { result ≡ mark_of self.now.areas }
+        ensures laid_out { IsLaidOut self.now.areas }
+    {
+        self.ram.mark()
+    }
+
+    /// Sets the mark back, from the stack's start to the current one.
+    #[inline(always)]
+    pub fn pop(&mut self, mark: u64)
+        requires low { stack_start ≤ mark }
+        requires high { mark ≤ mark_of self.old.areas }
+        ensures { self.new ≡ after_pop mark self.old }
+    {
+        self.ram.pop_stack(mark);
+    }
+
+    /// Flushes the cache line of an address: none where it lies outside the region.
+    #[inline(always)]
+    pub fn flush(&mut self, addr: u64) -> Result<Event, TrapKind>
+        ensures ok { IfOk result (λ event. HasFlushed self.old self.new event addr 1) }
+        ensures err { OnErr result (self.new ≡ self.old) }
+        ensures trap { IfErr result (λ kind. range_trap self.old addr 1 ≡ Some kind) }
+    {
+        if is_inside(self.base, self.size, addr, 1) {
+            let offset = addr - self.base;
+            self.lines.flush(offset);
+            return Ok(Event::Flush {
+                line: first_line(self.base, offset),
+                size: LINE_SIZE,
+            });
+        }
+        if self.ram.valid(addr) {
+            return Ok(Event::Quiet);
+        }
+        Err(TrapKind::Address)
+    }
+
+    /// Flushes the cache lines of a range: none where it has no bytes, or lies outside the region.
+    #[inline(always)]
+    pub fn flush_range(&mut self, addr: u64, size: u64) -> Result<Event, TrapKind>
+        ensures ok { IfOk result (λ event. HasFlushed self.old self.new event addr size) }
+        ensures err { OnErr result (self.new ≡ self.old) }
+        ensures trap { IfErr result (λ kind. range_trap self.old addr size ≡ Some kind) }
+    {
+        if size > 0 && is_inside(self.base, self.size, addr, size) {
+            let offset = addr - self.base;
+            self.lines.flush_range(offset, size);
+            return Ok(Event::Flush {
+                line: first_line(self.base, offset),
+                size: lines_size(offset, size),
+            });
+        }
+        if self.ram.valid_range(addr, size) {
+            return Ok(Event::Quiet);
+        }
+        Err(TrapKind::Address)
+    }
+
+    /// Flushes the cache lines of a range as `flush_range` does, and then makes durable all that is flushed.
+    #[inline(always)]
+    pub fn persist(&mut self, addr: u64, size: u64) -> Result<Event, TrapKind>
+        ensures ok { IfOk result (λ event. HasPersisted self.old self.new event addr size) }
+        ensures err { OnErr result (self.new ≡ self.old) }
+        ensures trap { IfErr result (λ kind. range_trap self.old addr size ≡ Some kind) }
+    {
+        if size > 0 && is_inside(self.base, self.size, addr, size) {
+            let offset = addr - self.base;
+            self.lines.flush_range(offset, size);
+            self.lines.fence();
+            return Ok(Event::Persist {
+                line: first_line(self.base, offset),
+                size: lines_size(offset, size),
+            });
+        }
+        if self.ram.valid_range(addr, size) {
+            self.lines.fence();
+            return Ok(Event::Fence);
+        }
+        Err(TrapKind::Address)
+    }
+
+    /// Makes durable all that is flushed.
+    #[inline(always)]
+    pub fn fence(&mut self)
+        ensures { self.new ≡ after_fence self.old }
+    {
+        self.lines.fence();
+    }
+
+    /// Whether a range lies in the region.
+    #[inline(always)]
+    pub fn is_in_region(&self, addr: u64, size: u64) -> bool
+        ensures { result ≡ lies_in_region self.now addr size }
+    {
+        is_inside(self.base, self.size, addr, size)
+    }
+
+    /// The cache lines of the region.
+    #[inline(always)]
+    pub fn lines(&self) -> &Lines
+        ensures lines { result.now.lines ≡ self.now.lines }
+        ensures whole { length self.now.areas.region ≡ LINE_SIZE * length self.now.lines }
+    {
+        &self.lines
+    }
+}

@@ -7,6 +7,7 @@ mod ends;
 mod externs;
 mod gep;
 mod growing;
+mod instrs;
 mod memory;
 mod path;
 mod phis;

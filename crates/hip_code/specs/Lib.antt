@@ -4,6 +4,7 @@ pub mod Frames
 pub mod Entries
 pub mod Moves
 pub mod Ops
+pub mod Named
 pub mod Resolved
 pub mod Translated
 pub mod Paths

@@ -1,14 +1,28 @@
--- The ops that comparisons and changes of type become.
-use Rattle.std.specs.Prelude.{true, false}
+-- The ops that arithmetic, comparisons and changes of type become.
+use Rattle.std.specs.Prelude.{Bool, true, false}
+use Rattle.hip_types.specs.declared.number.BinaryOp.{BinaryOp}
+use Rattle.hip_types.specs.declared.number.BinaryOp.TheVariants as binaries
 use Rattle.hip_types.specs.declared.number.CastOp.{CastOp}
 use Rattle.hip_types.specs.declared.number.CastOp.TheVariants as casts
 use Rattle.hip_types.specs.declared.number.Pred.{Pred}
 use Rattle.hip_types.specs.declared.number.Pred.TheVariants as preds
 use Rattle.hip_types.specs.declared.number.Width.{Width}
+use Rattle.hip_code.specs.declared.op.BitOp.TheVariants as bit_ops
+use Rattle.hip_code.specs.declared.op.Comparison.{Comparison}
 use Rattle.hip_code.specs.declared.op.Comparison.TheVariants.{Equal, Less, SignedLess}
+use Rattle.hip_code.specs.declared.op.IntegerOp.{IntegerOp}
+use Rattle.hip_code.specs.declared.op.IntegerOp.TheVariants as integers
 use Rattle.hip_code.specs.declared.op.Operand.{Operand}
+use Rattle.hip_code.specs.declared.op.Other.TheVariants as others
 use Rattle.hip_code.specs.declared.op.Rest.{Rest}
-use Rattle.hip_code.specs.declared.op.Rest.TheVariants.{Compare, Cast}
+use Rattle.hip_code.specs.declared.op.Rest.TheVariants.{Compare, Cast, Other}
+use Rattle.hip_code.specs.declared.op.ShiftOp.TheVariants as shifts
+use Rattle.hip_code.specs.declared.op.SumOp.TheVariants as sums
+use Rattle.hip_code.specs.declared.op.Value.{Value}
+use Rattle.hip_code.specs.declared.op.Value.TheVariants as values
+
+abbrev pub compares : Comparison → Bool → Width → Operand → Operand → Rest
+compares test negated w a b = Compare test negated w a b
 
 -- a is greater than b where b is less than a, and at least b where it is not less
 abbrev pub compare_op : Pred → Width → Operand → Operand → Rest
@@ -30,3 +44,25 @@ cast_op casts.Zext from to a = Cast false from to a
 cast_op casts.Trunc from to a = Cast false from to a
 cast_op casts.Ptrtoint from to a = Cast false from to a
 cast_op casts.Inttoptr from to a = Cast false from to a
+
+abbrev pub integer_value : IntegerOp → Width → Operand → Operand → Value
+integer_value op w a b = values.Integer op w a b
+
+abbrev pub division_value : Bool → Bool → Width → Operand → Operand → Value
+division_value signed rest w a b = values.Rest (Other (others.Divide (record { signed = signed; rest = rest }) w a b))
+
+-- divisions have an op of their own
+abbrev pub binary_value : BinaryOp → Width → Operand → Operand → Value
+binary_value binaries.Add w a b = integer_value (integers.Sum sums.Add) w a b
+binary_value binaries.Sub w a b = integer_value (integers.Sum sums.Sub) w a b
+binary_value binaries.Mul w a b = integer_value (integers.Sum sums.Mul) w a b
+binary_value binaries.And w a b = integer_value (integers.Bit bit_ops.And) w a b
+binary_value binaries.Or w a b = integer_value (integers.Bit bit_ops.Or) w a b
+binary_value binaries.Xor w a b = integer_value (integers.Bit bit_ops.Xor) w a b
+binary_value binaries.Shl w a b = integer_value (integers.Shift shifts.Shl) w a b
+binary_value binaries.Lshr w a b = integer_value (integers.Shift shifts.Lshr) w a b
+binary_value binaries.Ashr w a b = integer_value (integers.Shift shifts.Ashr) w a b
+binary_value binaries.Udiv w a b = division_value false false w a b
+binary_value binaries.Sdiv w a b = division_value true false w a b
+binary_value binaries.Urem w a b = division_value false true w a b
+binary_value binaries.Srem w a b = division_value true true w a b

@@ -134,7 +134,7 @@ slot_in_both a (x ∷ xs) ys = go (contains x.addr x.size a) (slot_in_both a xs 
     go true rest = refl
     go false rest = rest
 
-slot_at_all : (a : ℕ) (fs : List Frame) → slot_at fs a ≡ slot_in (slots_of fs) a
+pub slot_at_all : (a : ℕ) (fs : List Frame) → slot_at fs a ≡ slot_in (slots_of fs) a
 slot_at_all a [] = refl
 slot_at_all a (f ∷ fs) = ap (or_else (slot_in f.slots a)) (slot_at_all a fs) ∙ sym (slot_in_both a f.slots (slots_of fs))
 

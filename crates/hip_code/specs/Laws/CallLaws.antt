@@ -1,22 +1,26 @@
 -- The law of calls of defined functions.
 use Rattle.std.specs.Prelude.{ℕ, ◌+◌, ◌-◌, ◌≤◌, ◌≡◌, Bool, true, false, cond, not, nat_lt, List, [], ◌∷◌, length, Option, Some, None, slice_get}
-use Rattle.std.proofs.Common.{refl, sym, ap, ap₂, ◌∙◌, subst}
+use Rattle.std.proofs.Common.{refl, sym, ap, ap₂, ◌∙◌, subst, arith}
+use Rattle.std.proofs.lemmas.List.{length-map}
+use Rattle.std.proofs.lemmas.Option.{same_Some}
 use Rattle.hip_types.specs.declared.number.Scalar.{Scalar}
 use Rattle.hip_ir.specs.declared.instr.Arg.{Arg}
 use Rattle.hip_ir.specs.declared.instr.Instr.TheVariants as instrs
+use Rattle.hip_ir.specs.declared.program.Function.{Function}
 use Rattle.hip_ir.specs.declared.program.Program.{Program}
 use Rattle.hip_externs.specs.Externs.{call_of}
 use Rattle.hip_runs.specs.declared.event.TrapKind.TheVariants as traps
 use Rattle.hip_runs.specs.declared.input.Input.{Input}
 use Rattle.hip_runs.specs.declared.limits.TheConstants.{MOST_FRAMES}
 use Rattle.hip_runs.specs.Actions.{Calls, Traps, bound_call, call_action, entered, instr_action, is_flush_or_fence, numbered_call}
-use Rattle.hip_runs.specs.Operands.{bound, values_of}
+use Rattle.hip_runs.specs.Operands.{bound, value_of, values_of}
 use Rattle.hip_code.specs.Edges.{IsCall}
 use Rattle.hip_code.specs.Frames.{names_at}
 use Rattle.hip_code.specs.Moves.{moved}
+use Rattle.hip_code.specs.Named.{IsCallWith, passes_or_effects}
 use Rattle.hip_code.specs.Numbers.{Tables, entries_of}
 use Rattle.hip_code.specs.Resolved.{Resolves, numbers_at}
-use Rattle.hip_code.specs.Laws.MoveLaws.{arguments_are, arguments_move}
+use Rattle.hip_code.specs.Laws.MoveLaws.{arguments_are, arguments_move, arguments_pass}
 use Rattle.hip_code.specs.Laws.Operands.{result_is}
 use Rattle.hip_code.specs.declared.op.Call.{Call}
 use Rattle.hip_code.specs.declared.op.Control.TheVariants as controls
@@ -45,4 +49,20 @@ module _ (P : Program) (I : Input) (f : ℕ) (tables : Tables) where
               ∙ ap (λ o. cond (nat_lt below (MOST_FRAMES - 1)) (numbered_call P o vs dest) (Traps traps.Depth)) c.numbered
               ∙ ap (λ o. cond (nat_lt below (MOST_FRAMES - 1)) (bound_call o call.function vs dest) (Traps traps.Depth)) c.here);
         };
+    names = λ slots base rs h k.
+        let n = numbers_at tables slots base in
+        let names = names_at P f in
+        let called = names_at P call.function in
+        let ms = entries_of call.arguments tables.moves in
+        let vs = values_of P.globals I.base rs args in
+        let with : IsCallWith P n callee vs call = record {
+          numbered = c.numbered;
+          passed = λ g there few.
+              let same : g ≡ c.function = same_Some _ _ (sym there ∙ c.here) in
+              let long = length-map args (λ (x : Arg). value_of P.globals I.base rs x.value) in
+              let counts = ap (λ (x : Function). length x.params) same in
+              let within : length args ≤ length c.function.params = omega (arith, few, long, counts) in
+              arguments_pass P.globals I.base names called n rs h ms c.function.params args c.arguments k.all within;
+        } in
+        record { is = subst (λ o. passes_or_effects P n o callee vs (ops.Control (controls.Call call))) (sym defined) with };
   }

@@ -29,6 +29,7 @@ use Rattle.hip_types.specs.Scalars.{width_of}
 use Rattle.hip_runs.specs.State.{Registers, World}
 use Rattle.hip_code.specs.Calls.{extern_op, are_taken, are_passed, line_op}
 use Rattle.hip_code.specs.Frames.{are_known, HoldsFrame, names_at}
+use Rattle.hip_code.specs.Named.{passes_or_effects}
 use Rattle.hip_code.specs.Numbers.{Numbers, Tables, operand_value}
 use Rattle.hip_code.specs.Ops.{IsSize, EffectWithin, effect_action, op_turn, PersistenceWithin, persistence_action}
 use Rattle.hip_code.specs.Resolved.{IsOperand, is_result, effect_placed, Resolves, numbers_at}
@@ -74,6 +75,7 @@ module _ (P : Program) (I : Input) (f : ℕ) (tables : Tables) where
           turn = refl;
           acts = ap₂ (λ to at. load to at (widths.bytes_of (width_of ty))) (name_there names name dest d) addr.same ∙ ap (load name (value_of P.globals I.base rs x)) (size_is ty);
         };
+    names = λ slots base rs h k. record { is = tt };
   }
 
   pub resolves_store : (ty : Scalar) (align : Option ℕ) (v a : Operand) (x y : named.Operand) →
@@ -91,6 +93,7 @@ module _ (P : Program) (I : Input) (f : ℕ) (tables : Tables) where
           turn = refl;
           acts = ap₂ (λ b c. accessed P I w b (scalar_size ty) (access_align ty align) (Stores b (bytes_of (scalar_size ty) c))) addr.same value.same;
         };
+    names = λ slots base rs h k. record { is = (operand_same P.globals I.base names (numbers_at tables slots base) rs a y q h k.all.1.0).same };
   }
 
   pub resolves_alloca : (name : List ℕ) (dest : ℕ) (ty : Ty) (written : Option ℕ) (size align : ℕ) →
@@ -104,6 +107,7 @@ module _ (P : Program) (I : Input) (f : ℕ) (tables : Tables) where
       turn = refl;
       acts = ap (λ to. allocated w to size align) (name_there names name dest d) ∙ ap₂ (allocated w name) s a;
     };
+    names = λ slots base rs h k. record { is = tt };
   }
 
   -- ---- external functions
@@ -191,4 +195,5 @@ module _ (P : Program) (I : Input) (f : ℕ) (tables : Tables) where
           turn = e.turn ∙ ap (λ o. not (is_flush_or_fence o)) (sym is);
           acts = e.acts ∙ ap (λ o. call_action P I w below o callee (values_of P.globals I.base rs args) dest) (sym is);
         };
+    names = λ slots base rs h k. record { is = subst (λ o. passes_or_effects P (numbers_at tables slots base) o callee (values_of P.globals I.base rs args) (ops.Memory (memories.Effect (extern_op c slot a b)))) (sym is) tt };
   }

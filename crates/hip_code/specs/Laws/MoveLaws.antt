@@ -1,5 +1,5 @@
 -- The laws of moves: those of phis at an edge, and those of arguments at a call.
-use Rattle.std.specs.Prelude.{ℕ, ◌+◌, ◌<◌, ◌≡◌, Bool, true, false, cond, List, [], ◌∷◌, length, Option, Some, None, slice_get}
+use Rattle.std.specs.Prelude.{ℕ, ◌+◌, ◌<◌, ◌≤◌, ◌≡◌, Bool, true, false, cond, List, [], ◌∷◌, length, map, Option, Some, None, slice_get}
 use Rattle.std.specs.Str.{bytes_eq}
 use Rattle.std.proofs.Common.{zero, suc, refl, sym, ap, ap₂, ◌∙◌, subst, arith}
 use Rattle.std.proofs.lemmas.Slice.Eq.{bytes_eq-Decides}
@@ -133,6 +133,17 @@ module _ (globals : List GlobalVar) (region : ℕ) (names called : List (List �
   arguments_are size (m ∷ ms) (p ∷ ps) (x ∷ xs) s a =
       more_are n 0 size called m ms (operand_within globals region names n rs m.value x.value a.1 h) (omega (arith, s, slot_within called p.name m.dest a.0))
       (name_placed called p.name m.dest a.0) (arguments_are size ms ps xs s a.2)
+
+  -- the moves take the arguments' values, where there is a parameter for each
+  pub arguments_pass : (ms : List Move) (ps : List Param) (args : List Arg) → are_arguments globals region names called n.tables.constants ms ps args → are_known rs (arg_uses args) → length args ≤ length ps →
+      map (λ m. operand_value n m.value) ms ≡ values_of globals region rs args
+  arguments_pass [] ps [] a k few = refl
+  arguments_pass [] [] (x ∷ xs) a k few = absurd (omega (arith, few))
+  arguments_pass [] (p ∷ ps) (x ∷ xs) a k few = absurd a
+  arguments_pass (m ∷ ms) [] args a k few = absurd a
+  arguments_pass (m ∷ ms) (p ∷ ps) [] a k few = absurd a
+  arguments_pass (m ∷ ms) (p ∷ ps) (x ∷ xs) a k few =
+      ap₂ (λ v vs. v ∷ vs) (operand_same globals region names n rs m.value x.value a.1 h k.0).same (arguments_pass ms ps xs a.2 k.1 (omega (arith, few)))
 
   -- the moves give each parameter its argument
   pub arguments_move : (ms : List Move) (ps : List Param) (args : List Arg) → are_arguments globals region names called n.tables.constants ms ps args → are_known rs (arg_uses args) →

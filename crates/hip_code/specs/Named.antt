@@ -1,0 +1,57 @@
+-- What an op tells of the operands of its instruction: where a store goes, and what a call passes.
+use Rattle.std.specs.Prelude.{ℕ, ◌≤◌, ◌≡◌, List, length, map, Option, Some, None, slice_get}
+use Rattle.hip_externs.specs.Externs.{call_of}
+use Rattle.hip_externs.specs.declared.call.ExternCall.{ExternCall}
+use Rattle.hip_ir.specs.declared.instr.Instr.{Instr}
+use Rattle.hip_ir.specs.declared.instr.Instr.TheVariants as instrs
+use Rattle.hip_ir.specs.declared.program.Function.{Function}
+use Rattle.hip_ir.specs.declared.program.Program.{Program}
+use Rattle.hip_typing.specs.Numbering.{function_number}
+use Rattle.hip_runs.specs.declared.input.Input.{Input}
+use Rattle.hip_runs.specs.Operands.{value_of, values_of}
+use Rattle.hip_runs.specs.State.{Registers}
+use Rattle.hip_code.specs.Numbers.{Numbers, operand_value, entries_of}
+use Rattle.hip_code.specs.declared.op.Call.{Call}
+use Rattle.hip_code.specs.declared.op.Control.TheVariants as controls
+use Rattle.hip_code.specs.declared.op.Memory.TheVariants as memories
+use Rattle.hip_code.specs.declared.op.Op.{Op}
+use Rattle.hip_code.specs.declared.op.Op.TheVariants as ops
+
+-- the op stores at an address
+abbrev pub stores_at : Numbers → ℕ → Op → Type 0
+stores_at n a (ops.Memory (memories.Store size align value addr)) = operand_value n addr ≡ a
+stores_at n a _ = ⊥
+
+-- the values that a call moves into the slots of its callee
+abbrev pub values_passed : Numbers → Call → List ℕ
+values_passed n call = map (λ m. operand_value n m.value) (entries_of call.arguments n.tables.moves)
+
+-- The call is one of that function, and passes these values where it takes as many.
+pub record IsCallWith (P : Program) (n : Numbers) (callee : List ℕ) (values : List ℕ) (call : Call) : Type 0 where
+  pub numbered : function_number P callee ≡ Some call.function
+  pub passed : (g : Function) → slice_get P.functions call.function ≡ Some g → length values ≤ length g.params →
+      values_passed n call ≡ values
+
+abbrev pub passes : Program → Numbers → List ℕ → List ℕ → Op → Type 0
+passes P n callee values (ops.Control (controls.Call call)) = IsCallWith P n callee values call
+passes P n callee values _ = ⊥
+
+-- the op is none of control
+abbrev pub is_memory : Op → Type 0
+is_memory (ops.Memory memory) = Unit {0}
+is_memory _ = ⊥
+
+-- a call of a function of the program passes its arguments; one of an external function is none of control
+abbrev pub passes_or_effects : Program → Numbers → Option ExternCall → List ℕ → List ℕ → Op → Type 0
+passes_or_effects P n None callee values o = passes P n callee values o
+passes_or_effects P n (Some call) callee values o = is_memory o
+
+abbrev pub names_operands : Program → Input → Numbers → Registers → Op → Instr → Type 0
+names_operands P I n rs o (instrs.Store ty value addr align) = stores_at n (value_of P.globals I.base rs addr) o
+names_operands P I n rs o (instrs.Call dest ret callee args) =
+    passes_or_effects P n (call_of callee) callee (values_of P.globals I.base rs args) o
+names_operands P I n rs o _ = Unit {0}
+
+-- The op tells the operands of its instruction: a store's address, and the values of a call's arguments.
+pub record NamesOperands (P : Program) (I : Input) (n : Numbers) (rs : Registers) (o : Op) (i : Instr) : Type 0 where
+  pub is : names_operands P I n rs o i

@@ -1,0 +1,55 @@
+-- What the ops of `getelementptr` do.
+use Rattle.std.proofs.Common.{◌≡◌, ℕ, ◌<◌, ◌%◌, ◌^◌, Bool, List, [], ◌∷◌, length, get_or, arith, Some, refl, sym, ap, ◌∙◌, subst}
+use Rattle.std.proofs.Math.Nat.{mod-eq_of_lt}
+use Rattle.hip_types.specs.declared.ty.Ty.{Ty}
+use Rattle.hip_ir.specs.declared.instr.Arg.{Arg}
+use Rattle.hip_ir.specs.declared.instr.Instr.TheVariants as instrs
+use Rattle.hip_ir.specs.declared.instr.Operand as named
+use Rattle.hip_names.specs.Names.{number_of}
+use Rattle.hip_runs.specs.declared.input.Input.{Input}
+use Rattle.hip_code.specs.Numbers.{Tables}
+use Rattle.hip_code.specs.Paths.{IsGep}
+use Rattle.hip_code.specs.Laws.GepLaws.{resolves_fixed, resolves_scaled, resolves_terms}
+use Rattle.hip_code.specs.declared.op.Gep.{Gep}
+use Rattle.hip_code.specs.declared.op.Gep.TheVariants as geps
+use Rattle.hip_code.specs.declared.op.Op.TheVariants as ops
+use Rattle.hip_code.specs.declared.op.Operand.{Operand}
+use Rattle.hip_code.specs.declared.op.Term.{Term}
+use Rattle.hip_code.specs.declared.op.Value.TheVariants as values
+use Rattle.hip_resolve.specs.Far.{IsAddress, Leads}
+use Rattle.hip_resolve.specs.Scopes.{DoesHere, StandsFor, names_of}
+use Rattle.hip_resolve.specs.declared.path.Path.{Path}
+use Rattle.hip_resolve.specs.declared.scope.Scope.{Scope}
+use Rattle.hip_resolve.proofs.ValueOps.{on_base}
+
+module _ (s : Scope) (t : Tables) (name : List ℕ) (dest : ℕ) (ty : Ty) (x : named.Operand) (args : List Arg) (path : Path) (base : Operand) (inbounds : Bool) where
+  offset_is : path.offset < 2 ^ 64 → (l : Leads s ty args path) → path.offset ≡ l.whole % 2 ^ 64
+  offset_is small l = sym (mod-eq_of_lt small) ∙ l.offset
+
+  -- the indices lead as far on each input whose region begins at the base
+  led : (l : Leads s ty args path) (terms : List Term) → path.terms ≡ terms → (I : Input) → I.base ≡ s.base → IsGep s.program.now.globals I.base (names_of s) t.constants ty args l.whole terms
+  led l terms e I q =
+      subst (λ ts. IsGep s.program.now.globals I.base (names_of s) t.constants ty args l.whole ts) e
+      (subst (λ r. IsGep s.program.now.globals r (names_of s) t.constants ty args l.whole path.terms) (sym q) (l.is t.constants))
+
+  pub does_gep : (gep : Gep) → number_of (names_of s) name ≡ Some dest → StandsFor s t base x → path.offset < 2 ^ 64 → Leads s ty args path → IsAddress t base path.offset path.terms gep →
+      DoesHere s t (ops.Value dest (values.Gep gep)) (instrs.Gep name inbounds ty x args)
+  does_gep (geps.Fixed b o) d h small l a = record {
+    on = λ I q. resolves_fixed s.program.now I s.number t name dest b x ty args inbounds o l.whole d (on_base q (subst (λ z. StandsFor s t z x) (sym a.is.0) h)) (led l [] a.is.2 I q) (a.is.1 ∙ offset_is small l);
+  }
+  does_gep (geps.Scaled b index width scale o) d h small l a = record {
+    on = λ I q.
+        resolves_scaled s.program.now I s.number t name dest b x ty args inbounds o l.whole (record { index = index; width = width; scale = scale }) d
+        (on_base q (subst (λ z. StandsFor s t z x) (sym a.is.0) h)) (led l _ a.is.2 I q) (a.is.1 ∙ offset_is small l);
+  }
+  does_gep (geps.Terms b o span) d h small l a = record {
+    on = λ I q.
+        resolves_terms s.program.now I s.number t name dest b x ty args inbounds o l.whole span d (on_base q (subst (λ z. StandsFor s t z x) (sym a.is.0) h)) a.is.2
+        (led l _ (sym a.is.3) I q) (a.is.1 ∙ offset_is small l);
+  }
+
+-- one term alone
+pub one_term : (xs : List Term) (x : Term) → length xs ≡ 1 → x ≡ get_or xs 0 x → xs ≡ x ∷ []
+one_term [] x l e = absurd (omega arith)
+one_term (y ∷ []) x l e = ap (λ z. z ∷ []) (sym e)
+one_term (y ∷ z ∷ ys) x l e = absurd (omega arith)

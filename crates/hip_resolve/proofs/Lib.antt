@@ -1,0 +1,12 @@
+pub mod Growth
+pub mod ValueOps
+pub mod Places
+pub mod Fronts
+pub mod Sound
+pub mod Names
+pub mod EffectOps
+pub mod Indices
+pub mod GepOps
+pub mod CallOps
+pub mod EdgeOps
+pub mod EndOps

@@ -1,0 +1,28 @@
+-- Tables of a resolved program that grow at their ends, and facts of them that last.
+use Rattle.std.specs.Prelude.{◌≡◌, List, ◌++◌}
+use Rattle.hip_code.specs.Numbers.{Tables}
+
+-- the second list is the first one with more behind it
+pub record Extends {A : Type 0} (xs ys : List A) : Type 0 where
+  pub rest : List A
+  pub is : ys ≡ xs ++ rest
+
+-- each table is as it was, with more behind it
+pub record Grows (t u : Tables) : Type 0 where
+  pub constants : Extends t.constants u.constants
+  pub terms : Extends t.terms u.terms
+  pub moves : Extends t.moves u.moves
+  pub edges : Extends t.edges u.edges
+  pub cases : Extends t.cases u.cases
+
+-- The tables grow from the first to the second, of which a fact holds, and of all that these grow to.
+pub record Makes (t u : Tables) (Fact : Tables → Type 0) : Type 0 where
+  pub grows : Grows t u
+  pub lasts : (v : Tables) → Grows u v → Fact v
+
+-- nothing but constants is put into the tables
+pub record OnlyConstants (t u : Tables) : Type 0 where
+  pub terms : u.terms ≡ t.terms
+  pub moves : u.moves ≡ t.moves
+  pub edges : u.edges ≡ t.edges
+  pub cases : u.cases ≡ t.cases

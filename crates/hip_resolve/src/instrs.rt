@@ -1,0 +1,141 @@
+ghost use Rattle.std.specs.Prelude.{◌⊎◌, Option, IfOk};
+ghost use Rattle.hip_types.specs.declared.number.Scalar.{Scalar};
+ghost use Rattle.hip_ir.specs.declared.instr.Instr.TheVariants as instrs;
+ghost use Rattle.hip_typing.specs.Given.{CallsExtern, CallsFunction};
+ghost use Rattle.hip_resolve.specs.Grown.{grown};
+ghost use Rattle.hip_resolve.specs.Growth.{Makes};
+ghost use Rattle.hip_resolve.specs.Known.{ArgsKnown, InstrKnown, ResultKnown};
+ghost use Rattle.hip_resolve.specs.Scopes.{Describes, DoesHere, names_of};
+
+use crate::calls::call;
+use crate::externs::extern_call;
+use crate::gep::gep;
+use crate::growing::Growing;
+use crate::memory::{alloca, load, store};
+use crate::scope::Scope;
+use crate::values::{binary, cast, compare, select};
+use hip_code::Op;
+use hip_externs::ExternCall;
+use hip_ir::{Arg, Instr};
+use hip_types::{Name, NoMemory};
+
+/// A call of an external function, or else of one of the program.
+fn any_call(
+    scope: &Scope<'_>,
+    tables: &mut Growing,
+    dest: &Option<Name>,
+    callee: &Name,
+    args: &[Arg],
+) -> Result<Op, NoMemory>
+    requires scope { Describes scope.now }
+    requires dest { ResultKnown (names_of scope.now) dest.now }
+    requires known { ArgsKnown (names_of scope.now) args.now }
+    requires callee { (ret : Option Scalar) × (CallsFunction scope.now.program.now callee.now ret args.now ⊎ CallsExtern callee.now ret args.now) }
+    ensures { IfOk result (λ o. Makes (grown tables.old) (grown tables.new)
+        (λ t. (ret : Option Scalar) → DoesHere scope.now t o (instrs.Call dest.now ret callee.now args.now))) }
+{
+    match ExternCall::named(callee.as_slice()) {
+        Some(named) => {
+            let op = extern_call(scope, tables, dest, callee, named, args)?;
+            Ok(op)
+        }
+        None => {
+            let op = call(scope, tables, dest, callee, args)?;
+            Ok(op)
+        }
+    }
+}
+
+/// The op of an instruction.
+pub fn instr_op(scope: &Scope<'_>, tables: &mut Growing, instr: &Instr) -> Result<Op, NoMemory>
+    requires scope { Describes scope.now }
+    requires known { InstrKnown scope.now.program.now (names_of scope.now) instr.now }
+    ensures { IfOk result (λ o. Makes (grown tables.old) (grown tables.new) (λ t. DoesHere scope.now t o instr.now)) }
+{
+    match instr {
+        Instr::Binary {
+            dest,
+            op,
+            width,
+            a,
+            b,
+            ..
+        } => {
+            let made = binary(scope, tables, dest, *op, *width, a, b)?;
+            Ok(made)
+        }
+        Instr::Compare {
+            dest,
+            pred,
+            ty,
+            a,
+            b,
+        } => {
+            let made = compare(scope, tables, dest, *pred, *ty, a, b)?;
+            Ok(made)
+        }
+        Instr::Select {
+            dest,
+            cond,
+            a,
+            b,
+            ..
+        } => {
+            let made = select(scope, tables, dest, cond, a, b)?;
+            Ok(made)
+        }
+        Instr::Cast {
+            dest,
+            op,
+            from,
+            a,
+            to,
+        } => {
+            let made = cast(scope, tables, dest, *op, *from, a, *to)?;
+            Ok(made)
+        }
+        Instr::Alloca { dest, ty, .. } => {
+            let made = alloca(scope, dest, ty)?;
+            Ok(made)
+        }
+        Instr::Load {
+            dest,
+            ty,
+            addr,
+            align,
+        } => {
+            let made = load(scope, tables, dest, *ty, addr, *align)?;
+            Ok(made)
+        }
+        Instr::Store {
+            ty,
+            value,
+            addr,
+            align,
+        } => {
+            let made = store(scope, tables, *ty, value, addr, *align)?;
+            Ok(made)
+        }
+        Instr::Gep {
+            dest,
+            ty,
+            base,
+            indices,
+            ..
+        } => {
+            let chosen = indices.as_slice();
+            let made = gep(scope, tables, dest, ty, base, chosen)?;
+            Ok(made)
+        }
+        Instr::Call {
+            dest,
+            callee,
+            args,
+            ..
+        } => {
+            let given = args.as_slice();
+            let made = any_call(scope, tables, dest, callee, given)?;
+            Ok(made)
+        }
+    }
+}

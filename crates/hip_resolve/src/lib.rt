@@ -1,0 +1,15 @@
+//! The code of a checked program: names, labels, callees, sizes and offsets become numbers.
+#![tactic(auto)]
+
+mod calls;
+mod edges;
+mod ends;
+mod externs;
+mod gep;
+mod growing;
+mod instrs;
+mod memory;
+mod path;
+mod phis;
+mod scope;
+mod values;

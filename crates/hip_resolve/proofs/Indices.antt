@@ -35,7 +35,7 @@ use Rattle.hip_typing.specs.Constants.{goes_in}
 use Rattle.hip_typing.specs.Laws.TypeLaws.{same_width-equal}
 use Rattle.hip_typing.specs.Places.{args_enter, entered_by, gep_agrees, literal_field, named_field}
 use Rattle.hip_runs.specs.Actions.{index_value}
-use Rattle.hip_runs.specs.Operands.{width_of}
+use Rattle.hip_types.specs.Scalars.{width_of}
 use Rattle.hip_code.specs.Paths.{IsFixed, IsScaled, IsGep, is_path, is_gep}
 use Rattle.hip_code.specs.Resolved.{IsOperand}
 use Rattle.hip_code.specs.declared.op.Operand.TheVariants.{Register}

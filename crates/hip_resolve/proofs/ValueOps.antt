@@ -18,7 +18,8 @@ use Rattle.hip_globals.specs.Values.{const_value}
 use Rattle.hip_ir.specs.declared.program.GlobalVar.{GlobalVar}
 use Rattle.hip_ir.specs.declared.program.Program.{Program}
 use Rattle.hip_names.specs.Names.{number_of}
-use Rattle.hip_runs.specs.Operands.{access_align, scalar_size, width_of}
+use Rattle.hip_runs.specs.Operands.{access_align, scalar_size}
+use Rattle.hip_types.specs.Scalars.{width_of}
 use Rattle.hip_code.specs.Frames.{names_at}
 use Rattle.hip_code.specs.Numbers.{Tables}
 use Rattle.hip_code.specs.Resolved.{IsOperand, Resolves}

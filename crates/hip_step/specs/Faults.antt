@@ -1,15 +1,11 @@
 -- Why an input is not valid for a program.
-use Rattle.std.specs.Prelude.{ℕ, ◌%◌, ◌^◌, ◌&&◌, Bool, cond, nat_eq, nat_le, length, Option, Some, None}
+use Rattle.std.specs.Prelude.{cond, nat_eq, nat_le, length, Option, Some, None}
 use Rattle.hip_ir.specs.declared.program.Program.{Program}
-use Rattle.hip_globals.specs.Addresses.{region_size}
+use Rattle.hip_globals.specs.Addresses.{is_base, region_size}
 use Rattle.hip_runs.specs.declared.input.Input.{Input}
 use Rattle.hip_runs.specs.declared.input.InputFault.{InputFault}
 use Rattle.hip_runs.specs.declared.input.InputFault.TheVariants.{BadBase, BadImage, TooManyNumbers, BadLimit}
 use Rattle.hip_runs.specs.declared.limits.TheConstants.{MOST_NUMBERS, MOST_TURNS}
-
--- a multiple of 4,096 from 2^32 to 2^46
-abbrev pub is_base : ℕ → Bool
-is_base base = nat_eq (base % 4096) 0 && (nat_le (2 ^ 32) base && nat_le base (2 ^ 46))
 
 -- the first of the rules that the input breaks, in their order
 abbrev pub first_fault : Program → Input → Option InputFault

@@ -1,7 +1,8 @@
 ghost use Rattle.std.specs.Prelude.{◌≡◌, ◌↔◌, None};
 ghost use Rattle.hip_runs.specs.Validity.{IsValid};
-ghost use Rattle.hip_step.specs.Faults.{first_fault, is_base};
+ghost use Rattle.hip_step.specs.Faults.{first_fault};
 
+use hip_globals::is_base;
 use hip_runs::{Input, InputFault, MOST_NUMBERS, MOST_TURNS};
 use hip_typing::Checked;
 
@@ -23,10 +24,4 @@ pub fn why_not(checked: &Checked, input: &Input) -> Option<InputFault>
         return Some(InputFault::BadLimit);
     }
     None
-}
-
-fn is_base(base: u64) -> bool
-    ensures { result ≡ is_base base }
-{
-    base % 4096 == 0 && base >= 1 << 32 && base <= 1 << 46
 }

@@ -248,7 +248,7 @@ edge_new s t u source number target label lead new n = record {
 pub block_here : (s : Scope) → Describes s → (b : ℕ) (block : Block) → block_at s.program.now s.number b ≡ Some block → slice_get s.function.now.blocks b ≡ Some block
 block_here s d b block h = subst (λ o. slice_get (blocks_in o) b ≡ Some block) d.function h
 
-is_at : (s : Scope) → Describes s → (b : ℕ) (block : Block) → block_at s.program.now s.number b ≡ Some block → IsBlockAt s.program.now s.number b s.function.now block
+pub is_at : (s : Scope) → Describes s → (b : ℕ) (block : Block) → block_at s.program.now s.number b ≡ Some block → IsBlockAt s.program.now s.number b s.function.now block
 is_at s d b block h = record { function = d.function; block_is = block_here s d b block h }
 
 -- the label that an end names is that of a block

@@ -14,6 +14,7 @@ use hip_ir::Block;
 use hip_types::{Name, NoMemory, Row};
 
 /// A block, its number, and the number of the first edge that leads from it.
+#[derive(Drop)]
 pub struct Source<'a> {
     pub block: &'a Block,
     pub number: usize,

@@ -11,5 +11,6 @@ mod instrs;
 mod memory;
 mod path;
 mod phis;
+mod program;
 mod scope;
 mod values;

@@ -1,4 +1,4 @@
-use Rattle.std.proofs.Common.{◌≡◌, ◌∷◌, [], List, length, sym, ap, subst, arith}
+use Rattle.std.proofs.Common.{◌∷◌, [], List, length, sym, ap, subst, arith}
 use Rattle.std.proofs.lemmas.List.{length-append}
 use Rattle.hip_code.specs.declared.op.Op.{Op}
 use Rattle.hip_resolve.specs.Grown.{grown}

@@ -10,3 +10,4 @@ pub mod GepOps
 pub mod CallOps
 pub mod EdgeOps
 pub mod EndOps
+pub mod Scoped

@@ -10,3 +10,4 @@ pub mod Passed
 pub mod Edged
 pub mod PhiNumbers
 pub mod Switched
+pub mod Listed

@@ -9,8 +9,13 @@ mod gep;
 mod growing;
 mod instrs;
 mod memory;
+mod name_sets;
 mod path;
 mod phis;
 mod program;
+mod resolve;
 mod scope;
+mod scopes;
 mod values;
+
+pub use resolve::resolve;

@@ -16,7 +16,7 @@ use hip_ir::{Arg, End, Operand};
 use hip_types::{Name, NoMemory, Row};
 
 pub fn branch(
-    scope: &Scope<'_>,
+    scope: &Scope<'_, '_>,
     tables: &mut Growing,
     made: &mut Row<u32>,
     source: &Source<'_>,
@@ -35,7 +35,7 @@ pub fn branch(
 }
 
 pub fn branch_on(
-    scope: &Scope<'_>,
+    scope: &Scope<'_, '_>,
     tables: &mut Growing,
     made: &mut Row<u32>,
     source: &Source<'_>,
@@ -59,7 +59,7 @@ pub fn branch_on(
 }
 
 fn cases_of(
-    scope: &Scope<'_>,
+    scope: &Scope<'_, '_>,
     tables: &mut Growing,
     made: &mut Row<u32>,
     source: &Source<'_>,
@@ -83,7 +83,7 @@ fn cases_of(
 }
 
 pub fn switch(
-    scope: &Scope<'_>,
+    scope: &Scope<'_, '_>,
     tables: &mut Growing,
     made: &mut Row<u32>,
     source: &Source<'_>,
@@ -113,7 +113,7 @@ pub fn switch(
 }
 
 pub fn give_back(
-    scope: &Scope<'_>,
+    scope: &Scope<'_, '_>,
     tables: &mut Growing,
     source: &Source<'_>,
     arg: &Arg,
@@ -128,7 +128,7 @@ pub fn give_back(
 }
 
 fn return_op(
-    scope: &Scope<'_>,
+    scope: &Scope<'_, '_>,
     tables: &mut Growing,
     source: &Source<'_>,
     value: &Option<Arg>,
@@ -149,7 +149,7 @@ fn return_op(
 
 /// The op of the end of a block.
 pub fn end_op(
-    scope: &Scope<'_>,
+    scope: &Scope<'_, '_>,
     tables: &mut Growing,
     made: &mut Row<u32>,
     source: &Source<'_>,

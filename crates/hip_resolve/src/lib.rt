@@ -13,9 +13,9 @@ mod name_sets;
 mod path;
 mod phis;
 mod program;
-mod resolve;
+mod resolving;
 mod scope;
 mod scopes;
 mod values;
 
-pub use resolve::resolve;
+pub use resolving::resolve;

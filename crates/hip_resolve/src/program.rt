@@ -23,7 +23,7 @@ fn zeros(alloc: Global, count: usize) -> Result<Row<u32>, NoMemory>
 
 /// Puts the ops of a block's instructions behind the others.
 fn body_ops(
-    scope: &Scope<'_>,
+    scope: &Scope<'_, '_>,
     tables: &mut Growing,
     ops: &mut Row<Op>,
     number: usize,
@@ -48,7 +48,7 @@ fn body_ops(
 
 /// Puts the ops of a block behind the others.
 fn block_ops(
-    scope: &Scope<'_>,
+    scope: &Scope<'_, '_>,
     tables: &mut Growing,
     ops: &mut Row<Op>,
     made: &mut Row<u32>,
@@ -77,7 +77,7 @@ fn block_ops(
 
 /// Puts the ops of a function behind those of the functions before it.
 pub fn resolve_function(
-    scope: &Scope<'_>,
+    scope: &Scope<'_, '_>,
     tables: &mut Growing,
     ops: &mut Row<Op>,
 ) -> Result<(), NoMemory>

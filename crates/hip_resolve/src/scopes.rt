@@ -118,16 +118,16 @@ fn phi_sources(alloc: Global, blocks: &[Block]) -> Result<Row<Row<EdgeNumbers<'_
 /// What the instructions of the function of a number name.
 ///
 /// It takes time and memory linear in the function's text.
-pub fn scope_of<'a>(
+pub fn scope_of<'p, 'a>(
     alloc: Global,
-    program: &'a Program,
+    program: &'p Program,
     base: u64,
-    addresses: &'a GlobalAddresses<'a>,
-    functions: &'a NameSet<'a>,
+    addresses: &'a GlobalAddresses<'p>,
+    functions: &'a NameSet<'p>,
     starts: &'a [u32],
     sizes: &'a [u32],
     number: usize,
-) -> Result<Scope<'a>, NoMemory>
+) -> Result<Scope<'p, 'a>, NoMemory>
     requires sound { IsSound program.now }
     requires addresses { address_beside addresses.now ≡ global_address program.now.globals base }
     requires functions { functions.now ≡ function_names program.now.functions }

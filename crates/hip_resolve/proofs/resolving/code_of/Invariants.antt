@@ -2,10 +2,10 @@ use Rattle.std.proofs.Common.{◌≡◌, length}
 use Rattle.hip_code.specs.Entries.{entry}
 use Rattle.hip_resolve.specs.Grown.{grown}
 use Rattle.hip_resolve.specs.Made.{IsFront}
-use Rattle.hip_resolve.proofs.resolve.resolve.Given as goal
+use Rattle.hip_resolve.proofs.resolving.code_of.Given as goal
 
 abbrev pub invariant-functions : goal.invariant-functions
 invariant-functions l = record {
-  front : IsFront l.checked l.base l.ops (grown l.tables);
-  place : length l.ops ≡ entry l.checked l.number 0;
+  front : IsFront l.program l.base l.ops (grown l.tables);
+  place : length l.ops ≡ entry l.program l.number 0;
 }

@@ -1,4 +1,4 @@
-use Rattle.std.proofs.Common.{◌≡◌, ◌+◌, ◌≤◌, length}
+use Rattle.std.proofs.Common.{◌≡◌, ◌+◌}
 use Rattle.hip_code.specs.Entries.{entry_in}
 use Rattle.hip_resolve.proofs.scopes.behind_all.Given as goal
 

@@ -1,6 +1,6 @@
 -- The names, places and tables of a function, as loops collect them.
-use Rattle.std.proofs.Common.{◌≡◌, ◌⊎◌, ℕ, zero, suc, ◌+◌, ◌<◌, ◌≤◌, Bool, true, false, cond, List, [], ◌∷◌, ◌++◌, length, map, get_or, Option, Some, None, slice_get, append_assoc, refl, sym, ap, ◌∙◌, subst, inl, inr, ⊎_elim, arith, eq-or-lt_of_le}
-use Rattle.std.specs.List.{flat_map, list_any}
+use Rattle.std.proofs.Common.{◌≡◌, ℕ, zero, suc, ◌+◌, ◌<◌, ◌≤◌, Bool, true, false, cond, List, [], ◌∷◌, ◌++◌, length, map, get_or, Some, None, slice_get, append_assoc, refl, sym, ap, ◌∙◌, subst, inl, inr, ⊎_elim, arith, eq-or-lt_of_le}
+use Rattle.std.specs.List.{flat_map}
 use Rattle.std.specs.Str.{bytes_eq}
 use Rattle.std.proofs.lemmas.List.{append-nil, length-append, map-append}
 use Rattle.hip_types.specs.Distinct.{met}
@@ -187,14 +187,10 @@ registers_differ_in P s = record { at = names_differ P s }
 
 pub starts_are : (P : Program) (fs : List Function) (xs : List ℕ) → fs ≡ P.functions → Lists xs (length fs) (λ g. entry_of fs g 0) → OfFunctions P xs (λ g. entry P g 0)
 unfolding entry
-starts_are P fs xs e h =
-    let l : Lists xs (length P.functions) (λ g. entry_of P.functions g 0) = subst (λ gs. Lists xs (length gs) (λ g. entry_of gs g 0)) e h in
-    record { as_long = l.as_long; at = l.at }
+starts_are P fs xs e h = subst (λ gs. Lists xs (length gs) (λ g. entry_of gs g 0)) e h
 
 pub sizes_are : (P : Program) (fs : List Function) (xs : List ℕ) → fs ≡ P.functions → Lists xs (length fs) (λ g. length (names_in (slice_get fs g))) → OfFunctions P xs (λ g. length (names_at P g))
-sizes_are P fs xs e h =
-    let l : Lists xs (length P.functions) (λ g. length (names_in (slice_get P.functions g))) = subst (λ gs. Lists xs (length gs) (λ g. length (names_in (slice_get gs g)))) e h in
-    record { as_long = l.as_long; at = l.at }
+sizes_are P fs xs e h = subst (λ gs. Lists xs (length gs) (λ g. length (names_in (slice_get gs g)))) e h
 
 -- ---- a function of it
 

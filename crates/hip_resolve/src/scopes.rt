@@ -19,21 +19,21 @@ use hip_names::NameSet;
 use hip_types::{NoMemory, Row};
 use std::alloc::Global;
 
-/// The place behind a block that begins at a place.
-fn behind(start: u32, block: &Block) -> Result<u32, NoMemory>
+/// The place after a block that begins at a place.
+fn place_after(start: u32, block: &Block) -> Result<u32, NoMemory>
     ensures { IfOk result (λ next. next ≡ start + suc (length block.now.body)) }
 {
     let len = place(block.body.len())?;
     place(start as usize + len as usize + 1)
 }
 
-/// The place behind blocks the first of which begins at a place.
-fn behind_all(start: u32, blocks: &[Block]) -> Result<u32, NoMemory>
+/// The place after blocks the first of which begins at a place.
+fn place_after_all(start: u32, blocks: &[Block]) -> Result<u32, NoMemory>
     ensures { IfOk result (λ next. next ≡ start + entry_in blocks.now (length blocks.now)) }
 {
     let mut next = start;
     'each: for index in 0..blocks.len() {
-        next = behind(next, &blocks[index])?;
+        next = place_after(next, &blocks[index])?;
     }
     Ok(next)
 }
@@ -45,12 +45,12 @@ fn starts_of(alloc: Global, functions: &[Function]) -> Result<Row<u32>, NoMemory
     let mut next = 0;
     'each: for index in 0..functions.len() {
         starts.push(next)?;
-        next = behind_all(next, functions[index].blocks.as_slice())?;
+        next = place_after_all(next, functions[index].blocks.as_slice())?;
     }
     Ok(starts)
 }
 
-/// The places where the functions begin. Where one is 2^32 or more, there is no memory.
+/// The places where the functions begin. Where the code ends at 2^32 or later, there is no memory.
 pub fn starts(alloc: Global, program: &Program) -> Result<Row<u32>, NoMemory>
     ensures { IfOk result (λ starts. OfFunctions program.now starts (λ g. entry program.now g 0)) }
 {
@@ -80,7 +80,7 @@ fn sizes_of(alloc: Global, functions: &[Function]) -> Result<Row<u32>, NoMemory>
     Ok(sizes)
 }
 
-/// How many registers the functions have.
+/// How many registers the functions have. Where there are 2^32 or more, there is no memory.
 pub fn sizes(alloc: Global, program: &Program) -> Result<Row<u32>, NoMemory>
     requires { IsSound program.now }
     ensures { IfOk result (λ sizes. OfFunctions program.now sizes (λ g. length (names_at program.now g))) }
@@ -97,7 +97,7 @@ fn block_places(alloc: Global, start: u32, blocks: &[Block]) -> Result<Row<u32>,
     let mut next = start;
     'each: for index in 0..blocks.len() {
         places.push(next)?;
-        next = behind(next, &blocks[index])?;
+        next = place_after(next, &blocks[index])?;
     }
     Ok(places)
 }

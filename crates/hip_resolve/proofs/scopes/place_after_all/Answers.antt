@@ -1,6 +1,6 @@
 use Rattle.std.proofs.Common.{◌∙◌}
 use Rattle.hip_resolve.proofs.Scoped.{entry_first, entry_next}
-use Rattle.hip_resolve.proofs.scopes.behind_all.Goals as goal
+use Rattle.hip_resolve.proofs.scopes.place_after_all.Goals as goal
 
 pub each-init : goal.each-init
 each-init c = entry_first c.args.blocks.now c.args.start

@@ -1,5 +1,5 @@
 -- What the code of an op that ends the run, gives a value or returns does to what the machine stands for.
-use Rattle.std.proofs.Common.{◌≡◌, ℕ, zero, suc, ◌+◌, ◌-◌, ◌^◌, ◌<◌, ◌≤◌, true, false, cond, length, List, [], ◌∷◌, ◌++◌, take, reverse, Option, Some, None, Result, Ok, Err, slice_set, refl, sym, ap, ◌∙◌, subst, arith, add-one}
+use Rattle.std.proofs.Common.{◌≡◌, ℕ, suc, ◌+◌, ◌≤◌, true, cond, length, List, [], ◌∷◌, ◌++◌, take, reverse, Some, Ok, Err, slice_set, refl, sym, ap, ◌∙◌, subst, arith, add-one}
 use Rattle.std.proofs.Math.Seq.{take-append_seam}
 use Rattle.std.proofs.lemmas.List.{same_from_push}
 use Rattle.hip_types.specs.Numbers.{bits, signed}
@@ -14,7 +14,6 @@ use Rattle.hip_runs.specs.declared.event.Event.{Event}
 use Rattle.hip_runs.specs.declared.event.Event.TheVariants as events
 use Rattle.hip_runs.specs.declared.event.TrapKind.{TrapKind}
 use Rattle.hip_runs.specs.declared.event.TrapKind.TheVariants as traps_of
-use Rattle.hip_runs.specs.declared.input.Input.{Input}
 use Rattle.hip_runs.specs.Actions.{Traps, Assigns, Returns, trap_of}
 use Rattle.hip_runs.specs.State.{Frame, Slot}
 use Rattle.hip_runs.specs.Step.{with_turn, is_bottom, perform, leave}
@@ -42,10 +41,10 @@ use Rattle.hip_step.specs.Blocks.{blocks_of, HoldsBlocks}
 use Rattle.hip_storage.specs.Contents.{after_pop}
 use Rattle.hip_storage.specs.Laws.ActionLaws.{pop_holds}
 use Rattle.hip_storage.specs.Standing.{HoldsRun}
-use Rattle.hip_step.specs.Placed.{IsPlaced, placed_at}
+use Rattle.hip_step.specs.Placed.{IsPlaced}
 use Rattle.hip_step.specs.Puts.{with_result}
 use Rattle.hip_step.specs.Stands.{Stands, Stepped}
-use Rattle.hip_step.proofs.Slots.{AreKept, holds_result, kept_result, kept_set, no_frames, not_empty, saved_kept}
+use Rattle.hip_step.proofs.Slots.{holds_result, kept_result, kept_set, no_frames, not_empty, saved_kept}
 
 pub counted_next : (m n k : ℕ) → m ≡ n → k ≡ suc n → m + 1 ≡ k
 counted_next m n k e f = omega arith

@@ -1,17 +1,15 @@
 -- What the code of a branch does to what the machine stands for.
-use Rattle.std.proofs.Common.{◌≡◌, ℕ, zero, suc, ◌+◌, ◌<◌, ◌≤◌, Bool, true, false, cond, nat_eq, length, List, [], ◌∷◌, Some, None, slice_get, refl, sym, ap, ap₂, ◌∙◌, subst, arith, add-zero}
+use Rattle.std.proofs.Common.{◌≡◌, ℕ, suc, ◌+◌, ◌≤◌, Bool, true, false, cond, nat_eq, length, List, [], ◌∷◌, Some, slice_get, refl, sym, ap, ◌∙◌, subst, arith, add-zero}
 use Rattle.std.proofs.lemmas.Option.{same_Some}
 use Rattle.hip_runs.specs.declared.event.Event.{Event}
 use Rattle.hip_runs.specs.declared.event.Event.TheVariants as events
-use Rattle.hip_runs.specs.Actions.{Jumps}
 use Rattle.hip_runs.specs.State.{Frame}
 use Rattle.hip_runs.specs.Step.{with_turn, perform}
-use Rattle.hip_code.specs.Entries.{StandsAt, entry}
+use Rattle.hip_code.specs.Entries.{entry}
 use Rattle.hip_code.specs.Frames.{names_at, HoldsFrame}
 use Rattle.hip_code.specs.Moves.{moved, put, AreRead, AreWritten}
 use Rattle.hip_code.specs.Numbers.{Numbers, entries_of, HasSpan}
 use Rattle.hip_code.specs.Ops.{CasesWithin, EdgeWithin, case_edge, edge_action, edge_taken}
-use Rattle.hip_code.specs.Resolved.{GoPlaced}
 use Rattle.hip_code.specs.Laws.MoveLaws.{holds_moved}
 use Rattle.hip_code.specs.declared.code.Code.{Code}
 use Rattle.hip_code.specs.declared.op.Case.{Case}
@@ -20,7 +18,7 @@ use Rattle.hip_code.specs.declared.op.Edge.{Edge}
 use Rattle.hip_code.specs.declared.op.Go.{Go}
 use Rattle.hip_code.specs.declared.op.Op.TheVariants as ops
 use Rattle.hip_step.specs.declared.core_parts.Core.{Core}
-use Rattle.hip_step.specs.Acts.{Acts, Before, Follows, Keeps, Moment, acted, numbers_of, seen_of}
+use Rattle.hip_step.specs.Acts.{Acts, Follows, Keeps, acted, numbers_of, seen_of}
 use Rattle.hip_step.specs.Below.{AreSaved}
 use Rattle.hip_step.specs.Stands.{Stands, Stepped}
 use Rattle.hip_step.proofs.Arms.{counted_next, turn_next}

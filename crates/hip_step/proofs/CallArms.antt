@@ -1,7 +1,6 @@
 -- What the code of a call does to what the machine stands for.
-use Rattle.std.proofs.Common.{◌≡◌, OnErr, ℕ, zero, suc, ◌+◌, ◌-◌, ◌<◌, ◌≤◌, true, false, cond, nat_lt, lt-ltb, le-ltb, length, length-append, map, List, [], ◌∷◌, ◌++◌, Option, Some, None, Result, Ok, Err, slice_index, refl, sym, ap, ap₂, ◌∙◌, subst, arith, add-one, add-zero}
+use Rattle.std.proofs.Common.{◌≡◌, OnErr, ℕ, ◌+◌, ◌-◌, ◌<◌, ◌≤◌, true, false, cond, nat_lt, lt-ltb, le-ltb, length, map, List, [], ◌∷◌, ◌++◌, Option, Some, None, Result, Ok, Err, refl, sym, ap, ap₂, ◌∙◌, subst, arith, add-zero}
 use Rattle.std.proofs.lemmas.List.{append-nil}
-use Rattle.hip_ir.specs.declared.program.Program.{Program}
 use Rattle.hip_mem.specs.Areas.{mark_of}
 use Rattle.hip_runs.specs.declared.event.Event.{Event}
 use Rattle.hip_runs.specs.declared.event.Event.TheVariants as events
@@ -10,11 +9,10 @@ use Rattle.hip_runs.specs.declared.limits.TheConstants.{MOST_FRAMES}
 use Rattle.hip_runs.specs.Actions.{Calls, Traps}
 use Rattle.hip_runs.specs.State.{Frame, Level, site_of}
 use Rattle.hip_runs.specs.Step.{next, with_turn, perform}
-use Rattle.hip_code.specs.Entries.{StandsAt, entry}
 use Rattle.hip_code.specs.Frames.{names_at, HoldsFrame}
 use Rattle.hip_code.specs.Moves.{moved, put}
 use Rattle.hip_code.specs.Numbers.{entries_of, operand_value}
-use Rattle.hip_code.specs.Ops.{enter_action, result_name}
+use Rattle.hip_code.specs.Ops.{result_name}
 use Rattle.hip_code.specs.Resolved.{is_result, result_placed}
 use Rattle.hip_code.specs.Laws.MoveLaws.{holds_moved}
 use Rattle.hip_code.specs.Laws.Slots.{holds_none}
@@ -23,14 +21,13 @@ use Rattle.hip_code.specs.declared.op.Call.{Call}
 use Rattle.hip_code.specs.declared.op.Control.TheVariants as controls
 use Rattle.hip_code.specs.declared.op.Move.{Move}
 use Rattle.hip_code.specs.declared.op.Op.TheVariants as ops
-use Rattle.hip_step.specs.declared.core_parts.Activation.{Activation}
 use Rattle.hip_step.specs.declared.core_parts.Core.{Core}
-use Rattle.hip_step.specs.Acts.{Acts, Before, Does, IsLonger, Keeps, Moment, acted, numbers_of, seen_of}
+use Rattle.hip_step.specs.Acts.{Acts, Does, IsLonger, Keeps, acted, numbers_of, seen_of}
 use Rattle.hip_step.specs.Below.{AreSaved}
 use Rattle.hip_step.specs.Puts.{put_values}
 use Rattle.hip_step.specs.Stands.{Stands, Stepped}
 use Rattle.hip_step.proofs.Arms.{counted_next, turn_next, placed_next}
-use Rattle.hip_step.proofs.Slots.{AreKept, holds_kept, kept_longer, kept_put, kept_then, put_is, saved_kept, saved_length}
+use Rattle.hip_step.proofs.Slots.{holds_kept, kept_longer, kept_put, kept_then, put_is, saved_kept, saved_length}
 
 -- longer slots hold the same state, whatever is kept for moves
 pub keeps_longer : {old : Core} (read mid : Core) → read ≡ record old { values = read.values } → IsLonger read.slots.items mid.slots.items → mid.saved.items ≡ read.saved.items → Keeps old (record read { slots = mid.slots; saved = mid.saved })

@@ -12,7 +12,7 @@ use Rattle.hip_runs.specs.declared.input.Input.{Input}
 use Rattle.hip_runs.specs.Actions.{Action, Deed, deed_of}
 use Rattle.hip_runs.specs.Places.{body_of, body_at, end_of, code_at, end_at}
 use Rattle.hip_runs.specs.State.{Frame, Slot, State}
-use Rattle.hip_runs.specs.Step.{with_turn, event_of, event_at, perform, stop, is_cut, carry_out, deed_at, counted, on_frames, on_ending, step, event_on_frames, event_on_ending, event}
+use Rattle.hip_runs.specs.Step.{event_at, stop, is_cut, carry_out, deed_at, counted, on_frames, on_ending, step, event_on_frames, event_on_ending, event}
 use Rattle.hip_invariants.specs.NeverStuck.{ReadsAssigned}
 use Rattle.hip_invariants.specs.StackShape.{lie_between, lie_in_order, HasShape}
 use Rattle.hip_invariants.proofs.StackShape.{lower}

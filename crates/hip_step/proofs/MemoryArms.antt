@@ -1,10 +1,9 @@
 -- What the code of an op on memory, on cache lines or on the outside does to what the machine stands for.
-use Rattle.std.proofs.Common.{◌≡◌, ◌⊎◌, inl, inr, ℕ, zero, suc, ◌+◌, ◌-◌, ◌%◌, ◌<◌, ◌≤◌, Bool, true, false, cond, length, List, [], ◌∷◌, ◌++◌, drop, reverse, take, Option, Some, None, slice_set, ℤ, refl, sym, ap, ap₂, ◌∙◌, subst, arith, append_assoc}
+use Rattle.std.proofs.Common.{◌≡◌, inl, inr, ℕ, suc, ◌+◌, ◌-◌, ◌%◌, ◌<◌, ◌≤◌, Bool, true, false, cond, length, List, [], ◌∷◌, ◌++◌, drop, reverse, Option, Some, slice_set, ℤ, refl, sym, ap, ap₂, ◌∙◌, subst, arith, append_assoc}
 use Rattle.std.proofs.lemmas.List.{reverse-append, take_at}
 use Rattle.std.proofs.lemmas.List.Elements.{All-weaker}
-use Rattle.hip_ir.specs.declared.program.Program.{Program}
 use Rattle.hip_ir.specs.declared.site.Site.{Site}
-use Rattle.hip_types.specs.Numbers.{modulus, signed}
+use Rattle.hip_types.specs.Numbers.{modulus}
 use Rattle.hip_types.specs.Widths.{bytes_of}
 use Rattle.hip_types.specs.declared.number.Width.{Width}
 use Rattle.hip_types.specs.declared.number.Width.TheVariants.{W1, W8, W16, W32, W64}
@@ -14,9 +13,9 @@ use Rattle.hip_mem.specs.Bytes.{little_endian}
 use Rattle.hip_mem.specs.Bytes as bytes
 use Rattle.hip_mem.specs.Laws.AreasLaws.{mark-le-block, mark_of-after_push}
 use Rattle.hip_mem.specs.Memory.{bytes_at, stack_start}
-use Rattle.hip_runs.specs.Actions.{Action, Traps, Assigns, Allocates, Stores, Flushes, Persists, Fences, Asserts, Prints, Reads, Calls, Jumps, Returns, accessed, allocated, memory_of}
+use Rattle.hip_runs.specs.Actions.{Action, Traps, Assigns, Allocates, Stores, Flushes, Persists, Fences, Asserts, Prints, Reads, Calls, Jumps, Returns, accessed, memory_of}
 use Rattle.hip_runs.specs.State.{Frame, Slot, StorePart, World, levels_of, site_of}
-use Rattle.hip_runs.specs.Step.{next, perform, with_block, with_bytes, with_output, with_slot, with_turn}
+use Rattle.hip_runs.specs.Step.{next, perform, with_block, with_bytes, with_turn}
 use Rattle.hip_runs.specs.StoredParts.Persistence.{fenced_lines, flushed_lines, stored_lines}
 use Rattle.hip_runs.specs.declared.event.Ending.{Ending}
 use Rattle.hip_runs.specs.declared.event.Ending.TheVariants.{Trap}
@@ -35,13 +34,13 @@ use Rattle.hip_code.specs.Numbers.{operand_value}
 use Rattle.hip_code.specs.Ops.{IsSize}
 use Rattle.hip_objects.specs.Blocks.{IsBehind}
 use Rattle.hip_storage.specs.Calls.{HasLoaded, HasPushed, HasStored}
-use Rattle.hip_storage.specs.Contents.{Contents, access_trap, after_pop, after_push, block_trap}
+use Rattle.hip_storage.specs.Contents.{Contents, access_trap, after_pop, block_trap}
 use Rattle.hip_storage.specs.Laws.ActionLaws.{access_refused, block_refused, load_done, push_done, store_done}
 use Rattle.hip_storage.specs.Standing.{HasDone, HoldsRun, Point}
 use Rattle.hip_step.specs.declared.core_parts.Core.{Core}
 use Rattle.hip_step.specs.Acts.{Acts, Before, Does, DoesNext, HasNext, Keeps, Moment, acted, numbers_of, seen_of}
 use Rattle.hip_step.specs.Below.{AreSaved}
-use Rattle.hip_step.specs.Blocks.{blocks_of, HoldsBlocks}
+use Rattle.hip_step.specs.Blocks.{blocks_of}
 use Rattle.hip_step.specs.Stands.{Stands, Stepped}
 use Rattle.hip_step.proofs.Arms.{assigns, counted_next, placed_next, turn_next}
 use Rattle.hip_step.proofs.Slots.{kept_set, saved_kept}

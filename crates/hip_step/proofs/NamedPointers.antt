@@ -1,5 +1,5 @@
 -- The pointer operands of an instruction, as its op tells them.
-use Rattle.std.proofs.Common.{◌≡◌, ◌⊎◌, inl, inr, ℕ, zero, suc, ◌+◌, ◌<◌, ◌≤◌, Bool, true, false, cond, List, [], ◌∷◌, ◌++◌, length, drop, map, get_or, Option, Some, None, is_some, option_map, slice_get, refl, sym, ap, ap₂, ◌∙◌, subst, arith, add-one, drop-cons}
+use Rattle.std.proofs.Common.{◌≡◌, ◌⊎◌, inl, inr, ℕ, zero, suc, ◌+◌, ◌<◌, Bool, true, false, cond, List, [], ◌∷◌, ◌++◌, length, drop, get_or, Option, Some, None, is_some, option_map, slice_get, refl, sym, ap, ap₂, ◌∙◌, subst, arith, add-one, drop-cons}
 use Rattle.std.specs.List.{flat_map}
 use Rattle.std.proofs.lemmas.List.{length-map}
 use Rattle.std.proofs.lemmas.Option.{same_Some, slice_get-map}
@@ -8,8 +8,7 @@ use Rattle.hip_externs.specs.declared.call.ExternCall.{ExternCall}
 use Rattle.hip_types.specs.declared.number.Scalar.{Scalar}
 use Rattle.hip_types.specs.declared.number.Scalar.TheVariants.{Int, Ptr}
 use Rattle.hip_ir.specs.declared.instr.Arg.{Arg}
-use Rattle.hip_ir.specs.declared.instr.Instr.{Instr}
-use Rattle.hip_ir.specs.declared.instr.Instr.TheVariants.{Binary, Compare, Select, Cast, Alloca, Load, Store, Gep, Call}
+use Rattle.hip_ir.specs.declared.instr.Instr.TheVariants.{Store, Call}
 use Rattle.hip_ir.specs.declared.instr.Operand.{Operand}
 use Rattle.hip_ir.specs.declared.program.Function.{Function}
 use Rattle.hip_ir.specs.declared.program.Program.{Program}
@@ -24,15 +23,14 @@ use Rattle.hip_runs.specs.Operands.{value_of, values_of}
 use Rattle.hip_runs.specs.State.{Registers}
 use Rattle.hip_code.specs.declared.code.Code.{Code}
 use Rattle.hip_code.specs.declared.op.Call as op_call
-use Rattle.hip_code.specs.declared.op.Control.{Control}
 use Rattle.hip_code.specs.declared.op.Control.TheVariants as controls
 use Rattle.hip_code.specs.declared.op.Op.{Op}
 use Rattle.hip_code.specs.declared.op.Op.TheVariants as ops
-use Rattle.hip_code.specs.Named.{IsCallWith, NamesOperands, is_memory, passes, passes_or_effects, stores_at}
+use Rattle.hip_code.specs.Named.{IsCallWith, is_memory, passes, passes_or_effects, stores_at}
 use Rattle.hip_code.specs.Numbers.{Numbers}
 use Rattle.hip_step.specs.declared.core_parts.Core.{Core}
 use Rattle.hip_step.specs.Acts.{numbers_of}
-use Rattle.hip_step.specs.Pointing.{IsPointerArg, TellsPointer, call_agrees, calls_with, is_pointer}
+use Rattle.hip_step.specs.Pointing.{IsPointerArg, TellsPointer, calls_with, is_pointer}
 
 -- ---- the pointers among arguments
 

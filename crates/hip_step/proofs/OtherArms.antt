@@ -1,15 +1,14 @@
 -- What the code of an op on cache lines or on the outside does to what the machine stands for.
-use Rattle.std.proofs.Common.{◌≡◌, ℕ, zero, suc, ◌+◌, ◌%◌, ◌^◌, ◌<◌, ◌≤◌, Bool, true, false, cond, length, List, [], ◌∷◌, drop, get_or, Option, Some, None, ℤ, refl, sym, ap, ◌∙◌, subst, arith, add-one, drop-cons}
+use Rattle.std.proofs.Common.{◌≡◌, ℕ, zero, suc, ◌+◌, ◌^◌, ◌<◌, ◌≤◌, Bool, true, false, cond, length, List, [], ◌∷◌, drop, get_or, Option, Some, ℤ, refl, sym, ap, ◌∙◌, subst, arith, add-one, drop-cons}
 use Rattle.std.specs.Prelude.{pos, negsuc, FitsSigned}
 use Rattle.std.specs.Int.{cast_unsigned, w64}
 use Rattle.std.proofs.Math.Nat.{mod-eq_of_lt}
-use Rattle.hip_ir.specs.declared.program.Program.{Program}
-use Rattle.hip_types.specs.Numbers.{modulus, signed, wrapped}
+use Rattle.hip_types.specs.Numbers.{signed, wrapped}
 use Rattle.hip_types.specs.declared.number.Width.TheVariants.{W64}
-use Rattle.hip_runs.specs.Actions.{Action, Traps, Assigns, Flushes, Persists, Fences, Asserts, Prints, Reads, flushing, in_region, read_next}
+use Rattle.hip_runs.specs.Actions.{Action, Traps, Flushes, Persists, Fences, Asserts, Prints, flushing, in_region, read_next}
 use Rattle.hip_runs.specs.Operands.{assigned}
-use Rattle.hip_runs.specs.State.{Frame, World}
-use Rattle.hip_runs.specs.Step.{next, perform, with_left, with_output, with_turn}
+use Rattle.hip_runs.specs.State.{Frame}
+use Rattle.hip_runs.specs.Step.{perform, with_left, with_output, with_turn}
 use Rattle.hip_runs.specs.declared.event.Ending.TheVariants.{Trap}
 use Rattle.hip_runs.specs.declared.event.Event.{Event}
 use Rattle.hip_runs.specs.declared.event.Event.TheVariants as events
@@ -26,12 +25,11 @@ use Rattle.hip_code.specs.declared.op.Persistence.TheVariants as persistences
 use Rattle.hip_code.specs.Frames.{names_at, HoldsFrame}
 use Rattle.hip_code.specs.Numbers.{operand_value}
 use Rattle.hip_code.specs.Ops.{result_name}
-use Rattle.hip_code.specs.Resolved.{is_result, result_placed}
 use Rattle.hip_storage.specs.Calls.{HasFlushed, HasPersisted}
 use Rattle.hip_storage.specs.Contents.{Contents, after_fence, lies_in_region, range_trap}
 use Rattle.hip_storage.specs.Laws.ActionLaws.{assert_done, assert_refused, fence_done, flush_done, persist_done, range_refused}
 use Rattle.hip_step.specs.declared.core_parts.Core.{Core}
-use Rattle.hip_step.specs.Acts.{Acts, ActsOn, Before, Does, DoesNext, HasNext, Moment, acted, numbers_of, seen_of}
+use Rattle.hip_step.specs.Acts.{Acts, ActsOn, Does, DoesNext, acted, numbers_of, seen_of}
 use Rattle.hip_step.specs.Below.{AreSaved}
 use Rattle.hip_step.specs.Puts.{with_result}
 use Rattle.hip_step.specs.Stands.{Stands, Stepped}

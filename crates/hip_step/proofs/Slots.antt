@@ -5,7 +5,7 @@ use Rattle.hip_ir.specs.declared.program.Program.{Program}
 use Rattle.hip_runs.specs.Operands.{assigned}
 use Rattle.hip_runs.specs.State.{Level, Registers, Frame}
 use Rattle.hip_code.specs.Frames.{names_at, HoldsFrame}
-use Rattle.hip_code.specs.Moves.{put, AreWritten}
+use Rattle.hip_code.specs.Moves.{put}
 use Rattle.hip_code.specs.Numbers.{Numbers, operand_value}
 use Rattle.hip_code.specs.Resolved.{is_result}
 use Rattle.hip_code.specs.Laws.Slots.{holds_assigned, slot_within}

@@ -13,8 +13,10 @@ pub record IsCallOf (g : Frame) (level : Option Level) : Type 0 where
   pub index : ℕ
   pub birth : ℕ
   pub behind : g.place ≡ suc index
-  pub is : level ≡ Some (record { call = record { function = g.function; block = g.block; index = index };
-      birth = birth })
+  pub is : level ≡ Some (record {
+    call = record { function = g.function; block = g.block; index = index };
+    birth = birth;
+  })
 
 -- What is kept of a frame with others below it, under slots from a base on and a frame that a call made, whose result
 -- goes to a register.

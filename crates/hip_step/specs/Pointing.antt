@@ -1,5 +1,5 @@
 -- The pointer operands of the instruction at a machine's place, as its op tells them.
-use Rattle.std.specs.Prelude.{ℕ, ◌⊎◌, ◌≡◌, Bool, true, false, List, [], Option, Some, None, option_map, slice_get}
+use Rattle.std.specs.Prelude.{ℕ, ◌⊎◌, ◌≡◌, Bool, true, false, List, Option, Some, option_map, slice_get}
 use Rattle.std.specs.List.{flat_map}
 use Rattle.hip_types.specs.declared.number.Scalar.{Scalar}
 use Rattle.hip_types.specs.declared.number.Scalar.TheVariants.{Int, Ptr}
@@ -17,7 +17,7 @@ use Rattle.hip_code.specs.declared.code.Code.{Code}
 use Rattle.hip_code.specs.declared.op.Control.TheVariants as controls
 use Rattle.hip_code.specs.declared.op.Op.{Op}
 use Rattle.hip_code.specs.declared.op.Op.TheVariants as ops
-use Rattle.hip_code.specs.Named.{NamesOperands, is_memory, values_passed}
+use Rattle.hip_code.specs.Named.{NamesOperands, values_passed}
 use Rattle.hip_code.specs.Numbers.{Numbers}
 use Rattle.hip_step.specs.declared.core_parts.Core.{Core}
 use Rattle.hip_step.specs.Acts.{numbers_of}

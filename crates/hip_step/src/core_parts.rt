@@ -55,8 +55,11 @@ impl Core {
     pub fn stop(&mut self, ending: Ending)
         requires taken { self.old.taken + 1 < 2 ^ 128 }
         requires turns { self.old.turns + 1 < 2 ^ 64 }
-        ensures { self.new ≡ record self.old { ending = Some ending; taken = self.old.taken + 1;
-            turns = self.old.turns + 1 } }
+        ensures { self.new ≡ record self.old {
+          ending = Some ending;
+          taken = self.old.taken + 1;
+          turns = self.old.turns + 1;
+        } }
     {
         self.ending = Some(ending);
         self.taken += 1;
@@ -68,8 +71,15 @@ impl Core {
     pub fn go(&mut self, edge: Edge)
         requires taken { self.old.taken + 1 < 2 ^ 128 }
         requires turns { self.old.turns + 1 < 2 ^ 64 }
-        ensures { self.new ≡ record self.old { top = record self.old.top { place = edge.target; entry = edge.target;
-            block = edge.block }; taken = self.old.taken + 1; turns = self.old.turns + 1 } }
+        ensures { self.new ≡ record self.old {
+          top = record self.old.top {
+            place = edge.target;
+            entry = edge.target;
+            block = edge.block;
+          };
+          taken = self.old.taken + 1;
+          turns = self.old.turns + 1;
+        } }
     {
         self.top.place = edge.target as usize;
         self.top.entry = edge.target as usize;
@@ -84,8 +94,11 @@ impl Core {
         requires taken { self.old.taken + 1 < 2 ^ 128 }
         requires turns { self.old.turns + 1 < 2 ^ 64 }
         requires place { self.old.top.place + 1 < 2 ^ 64 }
-        ensures { self.new ≡ record self.old { top = record self.old.top { place = self.old.top.place + 1 };
-            taken = self.old.taken + 1; turns = self.old.turns + 1 } }
+        ensures { self.new ≡ record self.old {
+          top = record self.old.top { place = self.old.top.place + 1 };
+          taken = self.old.taken + 1;
+          turns = self.old.turns + 1;
+        } }
     {
         self.top.place += 1;
         self.taken += 1;
@@ -97,8 +110,10 @@ impl Core {
     pub fn move_on(&mut self)
         requires taken { self.old.taken + 1 < 2 ^ 128 }
         requires place { self.old.top.place + 1 < 2 ^ 64 }
-        ensures { self.new ≡ record self.old { top = record self.old.top { place = self.old.top.place + 1 };
-            taken = self.old.taken + 1 } }
+        ensures { self.new ≡ record self.old {
+          top = record self.old.top { place = self.old.top.place + 1 };
+          taken = self.old.taken + 1;
+        } }
     {
         self.top.place += 1;
         self.taken += 1;
@@ -108,8 +123,11 @@ impl Core {
     #[inline(always)]
     pub fn site(&self) -> Site
         requires { self.now.top.entry ≤ self.now.top.place }
-        ensures { result ≡ record { function = self.now.top.function; block = self.now.top.block;
-            index = self.now.top.place - self.now.top.entry } }
+        ensures { result ≡ record {
+          function = self.now.top.function;
+          block = self.now.top.block;
+          index = self.now.top.place - self.now.top.entry;
+        } }
     {
         Site {
             function: self.top.function as usize,
@@ -125,9 +143,13 @@ impl Core {
         requires turns { self.old.turns + 1 < 2 ^ 64 }
         requires place { self.old.top.place + 1 < 2 ^ 64 }
         requires slot { self.old.top.base + slot < length self.old.slots.items }
-        ensures others { self.new ≡ record self.old { slots = self.new.slots; top = record self.old.top
-            { place = self.old.top.place + 1 }; taken = self.old.taken + 1;
-            turns = self.old.turns + 1 } }
+        ensures others { self.new ≡ record self.old {
+          slots = self.new.slots;
+          top = record self.old.top
+              { place = self.old.top.place + 1 };
+          taken = self.old.taken + 1;
+          turns = self.old.turns + 1;
+        } }
         ensures slots { self.new.slots.items ≡ slice_set self.old.slots.items (self.old.top.base + slot) value }
     {
         self.slots[self.top.base + slot as usize] = value;

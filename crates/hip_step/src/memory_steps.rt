@@ -88,9 +88,17 @@ fn keep_block(core: &mut Core, mark: u64, addr: u64, size: u32) -> Result<(), No
     requires entry { core.old.top.entry ≤ core.old.top.place }
     requires low { stack_start ≤ mark }
     requires high { mark ≤ mark_of core.old.storage.areas }
-    ensures ok { OnOk result (core.new ≡ record core.old { blocks = core.old.blocks ++ record { addr = addr;
-        size = size; site = record { function = core.old.top.function; block = core.old.top.block;
-        index = core.old.top.place - core.old.top.entry } } ∷ [] }) }
+    ensures ok { OnOk result (core.new ≡ record core.old {
+      blocks = core.old.blocks ++ record {
+        addr = addr;
+        size = size;
+        site = record {
+          function = core.old.top.function;
+          block = core.old.top.block;
+          index = core.old.top.place - core.old.top.entry;
+        };
+      } ∷ [];
+    }) }
     ensures err { OnErr result (core.new ≡ record core.old { storage = after_pop mark core.old.storage }) }
 {
     let site = core.site();
@@ -158,9 +166,14 @@ fn take_number(core: &mut Core, dest: Option<u32>, number: i64) -> Event
     requires read { core.old.read + 1 < 2 ^ 64 }
     requires slot { (slot : ℕ) → dest ≡ Some slot → core.old.top.base + slot < length core.old.slots.items }
     ensures event { result ≡ Event.Quiet }
-    ensures others { core.new ≡ record core.old { slots = core.new.slots; read = core.old.read + 1; top = record core.old.top
-        { place = core.old.top.place + 1 }; taken = core.old.taken + 1;
-        turns = core.old.turns + 1 } }
+    ensures others { core.new ≡ record core.old {
+      slots = core.new.slots;
+      read = core.old.read + 1;
+      top = record core.old.top
+          { place = core.old.top.place + 1 };
+      taken = core.old.taken + 1;
+      turns = core.old.turns + 1;
+    } }
     ensures slots { core.new.slots.items ≡ with_result core.old.top.base dest
         (wrapped W64 number) core.old.slots.items }
 {

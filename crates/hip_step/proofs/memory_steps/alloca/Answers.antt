@@ -5,8 +5,7 @@ use Rattle.hip_step.specs.Acts.{Keeps}
 use Rattle.hip_step.specs.declared.core_parts.Core.{Core}
 use Rattle.hip_step.proofs.CallArms.{on_err}
 use Rattle.hip_step.proofs.MemoryArms.{acts_alloca, acts_alloca_trap, behind_block, keeps_storage, mark_rises, taken_back}
-use Rattle.std.proofs.Common.{◌≤◌, arith}
-use Rattle.hip_mem.specs.Areas.{mark_of}
+use Rattle.std.proofs.Common.{arith}
 use Rattle.hip_step.proofs.memory_steps.alloca.Goals as goal
 
 pub keep_block-requires-clause-behind : goal.keep_block-requires-clause-behind

@@ -1,4 +1,4 @@
-use Rattle.std.proofs.Common.{ap, refl}
+use Rattle.std.proofs.Common.{ap}
 use Rattle.hip_types.specs.declared.number.Bits.{Bits}
 use Rattle.hip_step.proofs.MemoryArms.{acts_load, acts_load_trap, width_few, width_some}
 use Rattle.std.proofs.Common.{◌<◌, ◌≤◌, sym, subst}

@@ -1,4 +1,4 @@
-use Rattle.std.proofs.Common.{◌<◌, ◌≤◌, subst}
+use Rattle.std.proofs.Common.{subst}
 use Rattle.hip_storage.specs.Calls.{IsRefusedFor}
 use Rattle.hip_storage.specs.Contents.{access_trap}
 use Rattle.hip_step.proofs.MemoryArms.{acts_store, acts_store_trap}

@@ -1,13 +1,12 @@
 -- What the ops of calls do.
 use Rattle.std.proofs.Math.Seq.{drop-append_seam}
-use Rattle.std.proofs.Common.{◌⊎◌, inl, inr, option_map, drop, ap₂, ◌≡◌, ℕ, zero, suc, ◌+◌, ◌<◌, ◌≤◌, List, [], ◌∷◌, ◌++◌, length, take, map, get_or, Option, Some, None, slice_get, refl, sym, ap, ◌∙◌, subst, arith, append_assoc, add-one}
+use Rattle.std.proofs.Common.{◌⊎◌, inl, inr, option_map, drop, ap₂, ◌≡◌, ℕ, zero, suc, ◌+◌, ◌<◌, ◌≤◌, List, [], ◌∷◌, ◌++◌, length, take, get_or, Option, Some, None, slice_get, refl, sym, ap, ◌∙◌, subst, arith, append_assoc, add-one}
 use Rattle.std.proofs.lemmas.List.{append-nil, length-append, length-map}
-use Rattle.std.proofs.lemmas.Option.{same_Some, slice_get_within, slice_get-map}
+use Rattle.std.proofs.lemmas.Option.{same_Some, slice_get-map}
 use Rattle.hip_types.specs.declared.number.Scalar.{Scalar}
 use Rattle.hip_ir.specs.declared.instr.Arg.{Arg}
 use Rattle.hip_ir.specs.declared.program.Param.{Param}
 use Rattle.hip_ir.specs.declared.program.Program.{Program}
-use Rattle.hip_ir.specs.declared.instr.Operand as named
 use Rattle.hip_ir.specs.declared.instr.Instr.TheVariants as instrs
 use Rattle.hip_names.specs.Names.{number_of}
 use Rattle.hip_names.specs.Laws.NumberLaws.{number_of-there}
@@ -16,7 +15,7 @@ use Rattle.hip_externs.specs.Externs.{Signature, call_of, row_of, signature}
 use Rattle.hip_externs.specs.declared.call.ExternCall.{ExternCall}
 use Rattle.hip_typing.specs.Given.{CallsExtern, CallsFunction}
 use Rattle.hip_typing.specs.Laws.Decided.{all-at}
-use Rattle.hip_typing.specs.Numbering.{function_names, function_number}
+use Rattle.hip_typing.specs.Numbering.{function_names}
 use Rattle.hip_typing.specs.Sound.{IsFree, IsSound, register_names}
 use Rattle.hip_runs.specs.declared.input.Input.{Input}
 use Rattle.hip_runs.specs.Places.{block_at, blocks_in}
@@ -31,12 +30,12 @@ use Rattle.hip_code.specs.declared.op.Control.TheVariants as controls
 use Rattle.hip_code.specs.declared.op.Op.TheVariants as ops
 use Rattle.hip_code.specs.declared.op.Move.{Move}
 use Rattle.hip_code.specs.declared.op.Operand.{Operand}
-use Rattle.hip_resolve.specs.Growth.{Grows, Makes, OnlyConstants, Extends}
+use Rattle.hip_resolve.specs.Growth.{Grows, Makes, OnlyConstants}
 use Rattle.hip_resolve.specs.Passed.{are_passed, Calls, Passes}
 use Rattle.hip_resolve.specs.Scopes.{Describes, DoesHere, OfFunctions, StandsFor, names_of}
 use Rattle.hip_resolve.specs.declared.scope.Scope.{Scope}
 use Rattle.hip_resolve.proofs.Sound.{entry_block, param_number}
-use Rattle.hip_resolve.proofs.Growth.{span_is, span_within, extends_same, extends_by, grows_same, grows_on, makes_same}
+use Rattle.hip_resolve.proofs.Growth.{span_is, span_within, extends_same, extends_by, grows_on, makes_same}
 
 pub passes_none : (s : Scope) (t : Tables) → Passes s t t []
 passes_none s t = record { moves = []; are = sym (append-nil t.moves); makes = makes_same t (λ v. Unit {0}) (λ v. tt) }

@@ -1,15 +1,13 @@
 -- Edges and the moves of phis.
-use Rattle.std.proofs.Common.{◌≡◌, ◌⊎◌, ℕ, zero, suc, ◌+◌, ◌<◌, ◌≤◌, Bool, true, false, cond, List, [], ◌∷◌, ◌++◌, length, take, drop, map, get_or, option_map, ap₂, Option, Some, None, slice_get, refl, sym, ap, ◌∙◌, subst, inl, inr, ⊎_elim, arith, append_assoc, add-one, eq-or-lt_of_le}
-use Rattle.std.specs.Prelude.{All, slice_range}
+use Rattle.std.proofs.Common.{◌≡◌, ℕ, zero, suc, ◌+◌, ◌<◌, ◌≤◌, cond, List, [], ◌∷◌, ◌++◌, length, take, drop, map, get_or, option_map, ap₂, Option, Some, None, slice_get, refl, sym, ap, ◌∙◌, subst, ⊎_elim, arith, append_assoc, add-one, eq-or-lt_of_le}
+use Rattle.std.specs.Prelude.{slice_range}
 use Rattle.std.proofs.Math.ListN.{get_or-append}
 use Rattle.std.proofs.Math.Seq.{drop-append_seam}
-use Rattle.std.specs.Str.{bytes_eq}
 use Rattle.std.proofs.lemmas.List.{append-nil, length-append}
 use Rattle.std.proofs.lemmas.Option.{same_Some, slice_get_within, slice_get-get_or, slice_get-map, get_or_from_slice_get}
 use Rattle.hip_ir.specs.declared.block.Block.{Block}
 use Rattle.hip_ir.specs.declared.block.Edge as named_edge
 use Rattle.hip_ir.specs.declared.block.Phi.{Phi}
-use Rattle.hip_ir.specs.declared.instr.Operand as named
 use Rattle.hip_ir.specs.declared.program.GlobalVar.{GlobalVar}
 use Rattle.hip_names.specs.Laws.NameLaws.{bytes_eq-sym}
 use Rattle.hip_names.specs.Laws.NumberLaws.{number_cases, number_of-there}
@@ -28,8 +26,8 @@ use Rattle.hip_runs.specs.Places.{block_at, block_number, blocks_in, blocks_of, 
 use Rattle.hip_typing.specs.Registers.{end_labels}
 use Rattle.hip_typing.specs.Sound.{IsBlockAt, label_names}
 use Rattle.hip_code.specs.declared.op.Operand.{Operand}
-use Rattle.hip_resolve.specs.Edged.{Earlier, HasEdge, IsSource, IsTarget, LeadFrom, Leads, LeadsTo, Moves, NewEdge, PhiKnown, PhisKnown, moves_of}
-use Rattle.hip_resolve.specs.PhiNumbers.{HasNumbers, NumbersPhis}
+use Rattle.hip_resolve.specs.Edged.{Earlier, HasEdge, IsSource, IsTarget, LeadFrom, Leads, Moves, NewEdge, PhiKnown, moves_of}
+use Rattle.hip_resolve.specs.PhiNumbers.{HasNumbers}
 use Rattle.hip_resolve.specs.Growth.{Grows, Makes, OnlyConstants}
 use Rattle.hip_resolve.specs.Known.{OperandKnown}
 use Rattle.hip_resolve.specs.Scopes.{Describes, names_of}
@@ -248,7 +246,7 @@ edge_new s t u source number target label lead new n = record {
 pub block_here : (s : Scope) → Describes s → (b : ℕ) (block : Block) → block_at s.program.now s.number b ≡ Some block → slice_get s.function.now.blocks b ≡ Some block
 block_here s d b block h = subst (λ o. slice_get (blocks_in o) b ≡ Some block) d.function h
 
-is_at : (s : Scope) → Describes s → (b : ℕ) (block : Block) → block_at s.program.now s.number b ≡ Some block → IsBlockAt s.program.now s.number b s.function.now block
+pub is_at : (s : Scope) → Describes s → (b : ℕ) (block : Block) → block_at s.program.now s.number b ≡ Some block → IsBlockAt s.program.now s.number b s.function.now block
 is_at s d b block h = record { function = d.function; block_is = block_here s d b block h }
 
 -- the label that an end names is that of a block

@@ -1,31 +1,25 @@
 -- What the ops of external functions do.
-use Rattle.std.proofs.Common.{◌≡◌, ℕ, zero, suc, ◌<◌, ◌≤◌, List, [], ◌∷◌, length, Option, Some, None, slice_get, refl, sym, ap, ◌∙◌, subst, arith}
-use Rattle.std.specs.Prelude.{All}
-use Rattle.std.proofs.lemmas.Option.{same_Some, slice_get-get_or, slice_get_within, get_or_from_slice_get}
+use Rattle.std.proofs.Common.{◌≡◌, ℕ, ◌<◌, ◌≤◌, List, [], ◌∷◌, length, Option, Some, slice_get, refl, sym, ◌∙◌, subst, arith}
+use Rattle.std.proofs.lemmas.Option.{slice_get-get_or, slice_get_within, get_or_from_slice_get}
 use Rattle.std.specs.Prelude.{get_or}
 use Rattle.hip_types.specs.declared.number.Scalar.{Scalar}
 use Rattle.hip_ir.specs.declared.instr.Arg.{Arg}
 use Rattle.hip_ir.specs.declared.instr.Instr.TheVariants as instrs
 use Rattle.hip_ir.specs.declared.program.GlobalVar.{GlobalVar}
-use Rattle.hip_ir.specs.declared.program.Program.{Program}
 use Rattle.hip_externs.specs.Externs.{call_of, row_of}
 use Rattle.hip_externs.specs.declared.call.ExternCall.{ExternCall}
 use Rattle.hip_typing.specs.Laws.Decided.{all-at}
 use Rattle.hip_code.specs.Calls.{extern_op, are_passed, are_taken, is_first, are_both}
-use Rattle.hip_code.specs.Frames.{names_at}
 use Rattle.hip_code.specs.Numbers.{Tables}
-use Rattle.hip_code.specs.Resolved.{IsOperand, is_result}
+use Rattle.hip_code.specs.Resolved.{is_result}
 use Rattle.hip_code.specs.Laws.MemoryLaws.{resolves_extern}
-use Rattle.hip_code.specs.declared.op.Effect.{Effect}
 use Rattle.hip_code.specs.declared.op.Memory.TheVariants as memories
 use Rattle.hip_code.specs.declared.op.Op.TheVariants as ops
 use Rattle.hip_code.specs.declared.op.Operand.{Operand}
-use Rattle.hip_code.specs.declared.op.Operand.TheVariants.{Register}
 use Rattle.hip_resolve.specs.Effects.{StandsForArg}
 use Rattle.hip_resolve.specs.Known.{ArgsKnown, OperandKnown}
 use Rattle.hip_resolve.specs.Scopes.{Does, names_of}
 use Rattle.hip_resolve.specs.declared.scope.Scope.{Scope}
-use Rattle.hip_resolve.proofs.ValueOps.{on_base}
 
 -- an argument that is there
 pub arg_known : (names : List (List ℕ)) (args : List Arg) (k : ℕ) (x : Arg) → ArgsKnown names args → k < length args → x ≡ get_or args k x → OperandKnown names x.value

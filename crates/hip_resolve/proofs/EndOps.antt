@@ -1,5 +1,5 @@
 -- What the ops of ends do.
-use Rattle.std.proofs.Common.{◌≡◌, ℕ, zero, suc, ◌+◌, ◌<◌, ◌≤◌, List, [], ◌∷◌, ◌++◌, length, take, drop, map, get_or, Option, Some, None, slice_get, refl, sym, ap, ap₂, ◌∙◌, subst, inl, inr, arith, append_assoc, add-one}
+use Rattle.std.proofs.Common.{◌≡◌, ℕ, zero, suc, ◌+◌, ◌<◌, ◌≤◌, List, [], ◌∷◌, ◌++◌, length, take, drop, map, get_or, Some, slice_get, refl, sym, ap, ap₂, ◌∙◌, subst, inl, inr, arith, append_assoc, add-one}
 use Rattle.std.specs.Prelude.{slice_range}
 use Rattle.std.proofs.lemmas.List.{append-nil, length-append}
 use Rattle.std.proofs.lemmas.Option.{slice_get_within}
@@ -15,24 +15,22 @@ use Rattle.hip_runs.specs.declared.input.Input.{Input}
 use Rattle.hip_runs.specs.Places.{block_at, label_of, phis_of}
 use Rattle.hip_code.specs.Edges.{IsEdge, are_cases, are_moves}
 use Rattle.hip_code.specs.Entries.{StandsAt}
-use Rattle.hip_code.specs.Frames.{names_at}
 use Rattle.hip_code.specs.Laws.EndLaws.{resolves_br, resolves_cond, resolves_return, resolves_switch}
 use Rattle.hip_code.specs.Numbers.{Tables, entries_of}
 use Rattle.hip_code.specs.declared.op.Case.{Case}
 use Rattle.hip_code.specs.declared.op.Control.TheVariants as controls
-use Rattle.hip_code.specs.declared.op.Edge.{Edge}
 use Rattle.hip_code.specs.declared.op.Exit.TheVariants as exits
 use Rattle.hip_code.specs.declared.op.Go.TheVariants as goes
 use Rattle.hip_code.specs.declared.op.Op.{Op}
 use Rattle.hip_code.specs.declared.op.Op.TheVariants as ops
 use Rattle.hip_code.specs.declared.op.Operand.{Operand}
-use Rattle.hip_resolve.specs.Edged.{HasEdge, LeadFrom, Leads, LeadsTo}
-use Rattle.hip_resolve.specs.Growth.{Grows, Makes, OnlyConstants}
+use Rattle.hip_resolve.specs.Edged.{HasEdge, LeadFrom, LeadsTo}
+use Rattle.hip_resolve.specs.Growth.{Grows, Makes}
 use Rattle.hip_resolve.specs.Scopes.{Ends, StandsFor, names_of}
 use Rattle.hip_resolve.specs.Switched.{EndsHere, HasCases, are_cases_of}
 use Rattle.hip_resolve.specs.declared.edges.Source.{Source}
 use Rattle.hip_resolve.specs.declared.scope.Scope.{Scope}
-use Rattle.hip_resolve.proofs.Growth.{extends_by, extends_same, grows_on, grows_same, makes_also, makes_both, makes_same, span_is, span_within}
+use Rattle.hip_resolve.proofs.Growth.{extends_by, extends_same, grows_on, makes_also, makes_both, makes_same, span_is, span_within}
 use Rattle.hip_resolve.proofs.ValueOps.{on_base}
 
 -- ---- edges from a block

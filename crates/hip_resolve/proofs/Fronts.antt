@@ -1,10 +1,9 @@
 -- One op more.
-use Rattle.std.proofs.Common.{◌≡◌, ◌⊎◌, ℕ, ◌+◌, ◌<◌, ◌≤◌, true, List, [], ◌∷◌, ◌++◌, length, Some, slice_get, refl, sym, ap, ◌∙◌, subst, arith, inl, inr, ⊎_elim, eq-or-lt_of_le}
+use Rattle.std.proofs.Common.{◌≡◌, ◌⊎◌, ℕ, ◌+◌, ◌<◌, true, List, [], ◌∷◌, ◌++◌, length, Some, slice_get, sym, ap, ◌∙◌, subst, arith, ⊎_elim, eq-or-lt_of_le}
 use Rattle.std.proofs.lemmas.List.{length-append}
 use Rattle.std.proofs.lemmas.Option.{same_Some, slice_get_within}
 use Rattle.hip_types.specs.Laws.DistinctLaws.{get_kept}
 use Rattle.hip_ir.specs.declared.block.Block.{Block}
-use Rattle.hip_ir.specs.declared.block.End.{End}
 use Rattle.hip_ir.specs.declared.instr.Instr.{Instr}
 use Rattle.hip_ir.specs.declared.program.Program.{Program}
 use Rattle.hip_runs.specs.Places.{block_at}
@@ -12,7 +11,7 @@ use Rattle.hip_runs.specs.declared.input.Input.{Input}
 use Rattle.hip_code.specs.Entries.{entry}
 use Rattle.hip_code.specs.Numbers.{Tables}
 use Rattle.hip_code.specs.Ops.{is_end}
-use Rattle.hip_code.specs.Whole.{HasOp, HasEnd, IsCodeOf}
+use Rattle.hip_code.specs.Whole.{IsCodeOf}
 use Rattle.hip_code.specs.declared.op.Op.{Op}
 use Rattle.hip_resolve.specs.Growth.{Grows}
 use Rattle.hip_resolve.specs.Made.{HasMade, HasMadeEnd, IsFront}

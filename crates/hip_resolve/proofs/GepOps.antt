@@ -1,5 +1,5 @@
 -- What the ops of `getelementptr` do.
-use Rattle.std.proofs.Common.{◌≡◌, ℕ, ◌<◌, ◌%◌, ◌^◌, Bool, List, [], ◌∷◌, length, get_or, arith, Some, refl, sym, ap, ◌∙◌, subst}
+use Rattle.std.proofs.Common.{◌≡◌, ℕ, ◌<◌, ◌%◌, ◌^◌, Bool, List, [], ◌∷◌, length, get_or, arith, Some, sym, ap, ◌∙◌, subst}
 use Rattle.std.proofs.Math.Nat.{mod-eq_of_lt}
 use Rattle.hip_types.specs.declared.ty.Ty.{Ty}
 use Rattle.hip_ir.specs.declared.instr.Arg.{Arg}

@@ -1,12 +1,12 @@
 -- How far the indices of a `getelementptr` lead.
-use Rattle.std.proofs.Common.{◌≡◌, ◌⊎◌, ℕ, zero, suc, ◌+◌, ◌*◌, ◌%◌, ◌^◌, ◌<◌, ◌≤◌, Bool, true, ◌&&◌, List, [], ◌∷◌, ◌++◌, length, drop, get_or, Option, Some, None, slice_get, option_map, refl, sym, ap, ap₂, ◌∙◌, subst, inl, inr, arith, rules, append_assoc, add-one}
-use Rattle.std.specs.Prelude.{IsSome, All}
+use Rattle.std.proofs.Common.{◌≡◌, ℕ, zero, suc, ◌+◌, ◌*◌, ◌%◌, ◌^◌, ◌<◌, ◌≤◌, true, List, [], ◌∷◌, ◌++◌, length, drop, get_or, Option, Some, None, slice_get, option_map, refl, sym, ap, ◌∙◌, subst, inl, inr, arith, rules, append_assoc, add-one}
+use Rattle.std.specs.Prelude.{IsSome}
 use Rattle.std.specs.List.{list_all}
 use Rattle.std.proofs.lemmas.Bool.{and_parts}
 use Rattle.std.proofs.lemmas.List.{append-nil}
-use Rattle.std.proofs.lemmas.Option.{same_Some, slice_get_within, get_or_from_slice_get}
-use Rattle.std.proofs.Math.Nat.{add-mod-mod, mod-add-mod, mod-eq_of_lt}
-use Rattle.hip_types.specs.Layout.{Fits, IsStructWith, Part, enter_level, level_is_struct_with, offset_in, offset_in_level, offset_of, size_of}
+use Rattle.std.proofs.lemmas.Option.{slice_get_within, get_or_from_slice_get}
+use Rattle.std.proofs.Math.Nat.{add-mod-mod, mod-add-mod}
+use Rattle.hip_types.specs.Layout.{Fits, IsStructWith, enter_level, level_is_struct_with, offset_in, offset_in_level, offset_of, size_of}
 use Rattle.hip_types.specs.Numbers.{bits, bits-value, signed, wrapped}
 use Rattle.hip_types.specs.declared.number.Bits.{Bits}
 use Rattle.hip_types.specs.declared.number.Scalar.{Scalar}
@@ -36,11 +36,11 @@ use Rattle.hip_typing.specs.Laws.TypeLaws.{same_width-equal}
 use Rattle.hip_typing.specs.Places.{args_enter, entered_by, gep_agrees, literal_field, named_field}
 use Rattle.hip_runs.specs.Actions.{index_value}
 use Rattle.hip_types.specs.Scalars.{width_of}
-use Rattle.hip_code.specs.Paths.{IsFixed, IsScaled, IsGep, is_path, is_gep}
+use Rattle.hip_code.specs.Paths.{IsGep, is_gep}
 use Rattle.hip_code.specs.Resolved.{IsOperand}
 use Rattle.hip_code.specs.declared.op.Operand.TheVariants.{Register}
 use Rattle.hip_code.specs.declared.op.Term.{Term}
-use Rattle.hip_resolve.specs.Far.{GoesOn, Steps, Enters, Reaches, Leads, is_over, leads}
+use Rattle.hip_resolve.specs.Far.{Steps, Enters, Reaches, Leads, is_over, leads}
 use Rattle.hip_resolve.specs.Fields.{IsField, IsLiteral}
 use Rattle.hip_resolve.specs.Scopes.{names_of}
 use Rattle.hip_resolve.specs.declared.path.Path.{Path}

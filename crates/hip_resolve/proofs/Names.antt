@@ -1,5 +1,5 @@
 -- Names and their numbers.
-use Rattle.std.proofs.Common.{◌≡◌, ◌⊎◌, ℕ, zero, suc, List, [], ◌∷◌, Some, None, slice_get, refl, sym, ap, ◌∙◌, inl, inr}
+use Rattle.std.proofs.Common.{◌≡◌, ℕ, suc, List, [], ◌∷◌, Some, None, slice_get, ap, inl, inr}
 use Rattle.hip_names.specs.Names.{IsAmong, number_of}
 use Rattle.hip_names.specs.Laws.NumberLaws.{number_of-known}
 

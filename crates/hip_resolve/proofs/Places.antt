@@ -1,5 +1,5 @@
 -- Places of code are all different, and follow one another.
-use Rattle.std.proofs.Common.{◌≡◌, ◌⊎◌, ℕ, zero, suc, ◌+◌, ◌<◌, ◌≤◌, List, [], ◌∷◌, length, Option, Some, None, slice_get, refl, sym, ap, ◌∙◌, subst, arith, zero-add}
+use Rattle.std.proofs.Common.{◌≡◌, ℕ, zero, suc, ◌+◌, ◌<◌, ◌≤◌, List, [], ◌∷◌, length, Some, slice_get, refl, ap, arith}
 use Rattle.std.proofs.lemmas.Option.{same_Some}
 use Rattle.hip_ir.specs.declared.block.Block.{Block}
 use Rattle.hip_ir.specs.declared.program.Function.{Function}
@@ -25,7 +25,7 @@ within_blocks [] b k x h m = cc
 within_blocks (z ∷ bs) zero k x h m = let s = body_same z x h in omega (arith, m, s)
 within_blocks (z ∷ bs) (suc b) k x h m = let r = within_blocks bs b k x h m in omega (arith, r)
 
-first_block : (bs : List Block) → entry_in bs 0 ≡ 0
+pub first_block : (bs : List Block) → entry_in bs 0 ≡ 0
 first_block [] = refl
 first_block (z ∷ bs) = refl
 
@@ -55,13 +55,13 @@ within_functions [] f b k x h m = cc
 within_functions (z ∷ fs) zero b k x h m = let w = within_blocks z.blocks b k x h m in omega (arith, w)
 within_functions (z ∷ fs) (suc f) b k x h m = let r = within_functions fs f b k x h m in omega (arith, r)
 
-at_function : (fs : List Function) (f b : ℕ) (x : Function) → slice_get fs f ≡ Some x → entry_of fs f b ≡ entry_of fs f 0 + entry_in x.blocks b
+pub at_function : (fs : List Function) (f b : ℕ) (x : Function) → slice_get fs f ≡ Some x → entry_of fs f b ≡ entry_of fs f 0 + entry_in x.blocks b
 at_function [] f b x h = cc
 at_function (z ∷ fs) zero b x h =
     let s : entry_in z.blocks b ≡ entry_in x.blocks b = ap (λ (f : Function). entry_in f.blocks b) (same_Some z x h) in let f = first_block z.blocks in omega (arith, s, f)
 at_function (z ∷ fs) (suc f) b x h = let r = at_function fs f b x h in omega (arith, r)
 
-next_of : (fs : List Function) (f : ℕ) (x : Function) → slice_get fs f ≡ Some x → entry_of fs (suc f) 0 ≡ entry_of fs f (length x.blocks)
+pub next_of : (fs : List Function) (f : ℕ) (x : Function) → slice_get fs f ≡ Some x → entry_of fs (suc f) 0 ≡ entry_of fs f (length x.blocks)
 next_of [] f x h = cc
 next_of (z ∷ fs) zero x h =
     let s : entry_in z.blocks (length z.blocks) ≡ entry_in x.blocks (length x.blocks) = ap (λ (f : Function). entry_in f.blocks (length f.blocks)) (same_Some z x h) in

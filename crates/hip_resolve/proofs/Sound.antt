@@ -1,9 +1,8 @@
 -- What a sound program gives to the resolver.
-use Rattle.std.proofs.Common.{◌≡◌, ◌⊎◌, ℕ, zero, suc, ◌<◌, ◌≤◌, Bool, true, ◌&&◌, List, [], ◌∷◌, ◌++◌, map, Option, Some, None, slice_get, refl, sym, ap, ◌∙◌, subst, inl, inr, ⊎_elim, arith}
-use Rattle.std.specs.Prelude.{All, IsTrue, min, nat_eq, not, ◌==◌, ◌%◌}
+use Rattle.std.proofs.Common.{◌≡◌, ℕ, zero, suc, ◌<◌, Bool, true, List, [], ◌∷◌, ◌++◌, map, Option, Some, None, slice_get, refl, sym, ap, subst, inl, inr, ⊎_elim, arith}
+use Rattle.std.specs.Prelude.{All, min, not, ◌==◌, ◌%◌}
 use Rattle.std.specs.List.{list_all, flat_map}
 use Rattle.std.proofs.lemmas.Bool.{and_parts}
-use Rattle.std.proofs.lemmas.Bool.Decides.{nat_tests}
 use Rattle.std.proofs.lemmas.List.Elements.{All-nil, All-cons, All-head, All-tail}
 use Rattle.std.proofs.lemmas.Option.{same_Some}
 use Rattle.hip_types.specs.Layout.{Fits}
@@ -11,11 +10,12 @@ use Rattle.hip_types.specs.declared.ty.Ty.{Ty}
 use Rattle.hip_types.specs.declared.number.Scalar.{Scalar}
 use Rattle.hip_types.specs.declared.number.Scalar.TheVariants as scalars
 use Rattle.hip_types.specs.declared.number.Width.TheVariants.{W1, W8, W16, W32, W64}
-use Rattle.hip_ir.specs.Numbers.{is_alignment}
 use Rattle.hip_ir.specs.Spelling.{spelled_align, spelled_instr, spelled_block, spelled_function, spelled_global, not_empty, spelled_operand, spelled_phi, spelled_param, spelled_type, spelled_index}
 use Rattle.hip_ir.specs.Laws.SpellingExact.{spelled_exact}
 use Rattle.hip_ir.specs.declared.block.Block.{Block}
 use Rattle.hip_ir.specs.declared.block.Edge as named_edge
+use Rattle.hip_ir.specs.declared.block.End.{End}
+use Rattle.hip_ir.specs.declared.block.End.TheVariants as ends
 use Rattle.hip_ir.specs.declared.block.Phi.{Phi}
 use Rattle.hip_ir.specs.declared.instr.Arg.{Arg}
 use Rattle.hip_ir.specs.declared.instr.Instr.{Instr}
@@ -31,17 +31,16 @@ use Rattle.hip_names.specs.Laws.NumberLaws.{number_of-first}
 use Rattle.hip_types.specs.Laws.DistinctLaws.{get_kept}
 use Rattle.hip_ir.specs.declared.program.Param.{Param}
 use Rattle.hip_names.specs.Laws.NameLaws.{among-left, among-right, among-either}
-use Rattle.hip_typing.specs.Given.{CallsAgree}
 use Rattle.hip_typing.specs.Laws.Decided.{all-at}
 use Rattle.hip_typing.specs.Laws.GivenLaws.{sound-calls, sound-phis}
 use Rattle.hip_typing.specs.Paths.{names_of}
-use Rattle.hip_typing.specs.Places.{gep_agrees}
-use Rattle.hip_typing.specs.Registers.{Register, Use, registers_of, parameter_registers, block_registers, body_registers, phi_registers, assigned_by, arg_uses, edge_uses, end_labels, phi_uses, instr_uses, used_registers, used_types, operand_registers, uses}
-use Rattle.hip_typing.specs.Sound.{IsSound, IsBlockAt, NamesExist, TypesFit, TypesAgree, InstrItem, PhiItem, EndItem, register_names, names_in_block, names_in_function, types_of, uses_of}
+use Rattle.hip_typing.specs.Registers.{Register, Use, parameter_registers, block_registers, body_registers, phi_registers, assigned_by, arg_uses, edge_uses, end_labels, phi_uses, instr_uses, used_registers, used_types, operand_registers, uses, end_uses}
+use Rattle.hip_typing.specs.Sound.{IsSound, IsBlockAt, NamesExist, TypesFit, TypesAgree, InstrItem, PhiItem, register_names, names_in_block, names_in_function, types_of}
 use Rattle.hip_runs.specs.Operands.{access_align, scalar_size}
 use Rattle.hip_code.specs.Frames.{names_at, names_in}
 use Rattle.hip_resolve.specs.Edged.{PhiKnown}
-use Rattle.hip_resolve.specs.Known.{OperandKnown, ArgsKnown, ResultKnown, InstrKnown}
+use Rattle.hip_resolve.specs.Known.{OperandKnown, ArgsKnown, InstrKnown}
+use Rattle.hip_resolve.specs.Switched.{EndKnown}
 
 -- ---- lists
 
@@ -108,6 +107,14 @@ later_uses {names} {u} {us} h = record { all = All-tail (λ (u : Use). OperandKn
 
 second_use : {names : List (List ℕ)} {u v : Use} {us : List Use} → UsesKnown names (u ∷ v ∷ us) → OperandKnown names v.operand
 second_use h = first_use (later_uses h)
+
+end_by : (names : List (List ℕ)) (e : End) → UsesKnown names (end_uses e) → EndKnown names e
+end_by names (ends.Br label) h = tt
+end_by names (ends.CondBr x first second) h = first_use h
+end_by names (ends.Switch width x other cases) h = first_use h
+end_by names (ends.Ret None) h = tt
+end_by names (ends.Ret (Some arg)) h = first_use h
+end_by names ends.Unreachable h = tt
 
 -- ---- alignments
 
@@ -192,6 +199,14 @@ module _ (P : Program) (s : IsSound P) (f b : ℕ) (fn : Function) (block : Bloc
       (known_by k i e (instr_is_spelled k i e)
       (all-at (λ i. TypesFit (InstrItem i)) block.body k i (s.types_fit f b fn block at).body e)
       (all-at (λ i. TypesAgree P fn (InstrItem i)) block.body k i (s.types_agree f b fn block at).body e) (own_known k i e))
+
+  -- and of the end
+  pub end_known : EndKnown (names_at P f) block.«end»
+  end_known =
+      let named = (s.names_exist f b fn block at).last in
+      let fit : All Fits (used_types (end_uses block.«end»)) = (s.types_fit f b fn block at).last in
+      let all : UsesKnown names (end_uses block.«end») = record { all = uses_known names (end_uses block.«end») named.registers fit } in
+      subst (λ o. EndKnown (names_in o) block.«end») (sym at.function) (end_by names block.«end» all)
 
 -- a function has a first block
 pub entry_block : (P : Program) → IsSound P → (f : ℕ) (fn : Function) → slice_get P.functions f ≡ Some fn → (block : Block) × (slice_get fn.blocks 0 ≡ Some block)

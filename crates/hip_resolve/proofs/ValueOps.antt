@@ -7,7 +7,7 @@ use Rattle.hip_types.specs.declared.number.Pred.{Pred}
 use Rattle.hip_types.specs.declared.number.Scalar.{Scalar}
 use Rattle.hip_types.specs.declared.number.Width.{Width}
 use Rattle.hip_types.specs.declared.ty.Ty.{Ty}
-use Rattle.hip_types.specs.Layout.{shape, Fits}
+use Rattle.hip_types.specs.Layout.{shape}
 use Rattle.hip_types.specs.Laws.LayoutLaws.{align_of-alignment, alignment-low, alignment-high}
 use Rattle.hip_ir.specs.declared.instr.Flags.{Flags}
 use Rattle.hip_ir.specs.declared.instr.Instr.TheVariants as instrs
@@ -22,7 +22,7 @@ use Rattle.hip_runs.specs.Operands.{access_align, scalar_size}
 use Rattle.hip_types.specs.Scalars.{width_of}
 use Rattle.hip_code.specs.Frames.{names_at}
 use Rattle.hip_code.specs.Numbers.{Tables}
-use Rattle.hip_code.specs.Resolved.{IsOperand, Resolves}
+use Rattle.hip_code.specs.Resolved.{IsOperand}
 use Rattle.hip_code.specs.Translated.{binary_value, compare_op, cast_op}
 use Rattle.hip_code.specs.Laws.ValueLaws.{resolves_binary, resolves_division, resolves_compare, resolves_select, resolves_cast}
 use Rattle.hip_code.specs.Laws.MemoryLaws.{resolves_load, resolves_store, resolves_alloca}

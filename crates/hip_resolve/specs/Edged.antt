@@ -1,11 +1,10 @@
 -- The edges between blocks, and the moves of phis along them.
 use Rattle.std.specs.Prelude.{ℕ, ◌≡◌, ◌≤◌, List, [], ◌∷◌, ◌++◌, All, Some, length, map, slice_get}
 use Rattle.hip_ir.specs.declared.block.Block.{Block}
-use Rattle.hip_ir.specs.declared.block.Edge as named_edge
 use Rattle.hip_ir.specs.declared.block.Phi.{Phi}
 use Rattle.hip_names.specs.Names.{IsAmong}
 use Rattle.hip_runs.specs.Places.{block_at, block_number, blocks_of, label_of, phis_of}
-use Rattle.hip_code.specs.Edges.{IsMove, are_moves}
+use Rattle.hip_code.specs.Edges.{are_moves}
 use Rattle.hip_code.specs.Entries.{StandsAt}
 use Rattle.hip_code.specs.Numbers.{Tables, entries_of, HasSpan}
 use Rattle.hip_code.specs.declared.op.Edge.{Edge}

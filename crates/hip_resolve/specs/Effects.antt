@@ -1,12 +1,9 @@
 -- The arguments of calls.
-use Rattle.std.specs.Prelude.{ℕ, ◌≡◌, List, Option, Some, slice_get}
+use Rattle.std.specs.Prelude.{ℕ, ◌≡◌, List, Some, slice_get}
 use Rattle.hip_ir.specs.declared.instr.Arg.{Arg}
-use Rattle.hip_externs.specs.declared.call.ExternCall.{ExternCall}
-use Rattle.hip_code.specs.Calls.{extern_op, are_taken}
 use Rattle.hip_code.specs.Numbers.{Tables}
-use Rattle.hip_code.specs.declared.op.Effect.{Effect}
 use Rattle.hip_code.specs.declared.op.Operand.{Operand}
-use Rattle.hip_resolve.specs.Scopes.{StandsFor, names_of}
+use Rattle.hip_resolve.specs.Scopes.{StandsFor}
 use Rattle.hip_resolve.specs.declared.scope.Scope.{Scope}
 
 -- the operand stands for the argument at that place

@@ -10,3 +10,5 @@ pub mod Passed
 pub mod Edged
 pub mod PhiNumbers
 pub mod Switched
+pub mod Listed
+pub mod Resolving

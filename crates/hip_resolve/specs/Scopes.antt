@@ -17,6 +17,7 @@ use Rattle.hip_code.specs.Numbers.{Tables}
 use Rattle.hip_code.specs.Resolved.{IsOperand, Resolves, EndResolves}
 use Rattle.hip_code.specs.declared.op.Op.{Op}
 use Rattle.hip_code.specs.declared.op.Operand.{Operand}
+use Rattle.hip_resolve.specs.Listed.{Lists}
 use Rattle.hip_resolve.specs.PhiNumbers.{HasTables}
 use Rattle.hip_resolve.specs.declared.scope.Scope.{Scope}
 
@@ -28,9 +29,8 @@ abbrev pub names_of : Scope → List (List ℕ)
 names_of s = names_at s.program.now s.number
 
 -- a number for each function
-pub record OfFunctions (P : Program) (numbers : List ℕ) (number : ℕ → ℕ) : Type 0 where
-  pub as_long : length numbers ≡ length P.functions
-  pub at : (g : ℕ) → g < length P.functions → slice_get numbers g ≡ Some (number g)
+abbrev pub OfFunctions : Program → List ℕ → (ℕ → ℕ) → Type 0
+OfFunctions P numbers number = Lists numbers (length P.functions) number
 
 -- the tables of names, addresses and places are those of the program and of the function
 pub record Describes (s : Scope) : Type 0 where

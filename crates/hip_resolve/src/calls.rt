@@ -15,7 +15,7 @@ use hip_ir::Arg;
 use hip_types::{Name, NoMemory};
 
 /// Moves of arguments into the slots of parameters, which are the first ones of the callee.
-fn arguments(scope: &Scope<'_>, tables: &mut Growing, args: &[Arg]) -> Result<(), NoMemory>
+fn arguments(scope: &Scope<'_, '_>, tables: &mut Growing, args: &[Arg]) -> Result<(), NoMemory>
     requires scope { Describes scope.now }
     requires known { ArgsKnown (names_of scope.now) args.now }
     ensures { IfOk result (λ _. Passes scope.now (grown tables.old) (grown tables.new) args.now) }
@@ -31,7 +31,7 @@ fn arguments(scope: &Scope<'_>, tables: &mut Growing, args: &[Arg]) -> Result<()
 
 /// A call of a function of the program.
 pub fn call(
-    scope: &Scope<'_>,
+    scope: &Scope<'_, '_>,
     tables: &mut Growing,
     dest: &Option<Name>,
     callee: &Name,

@@ -14,6 +14,7 @@ use hip_ir::Block;
 use hip_types::{Name, NoMemory, Row};
 
 /// A block, its number, and the number of the first edge that leads from it.
+#[derive(Drop)]
 pub struct Source<'a> {
     pub block: &'a Block,
     pub number: usize,
@@ -36,7 +37,7 @@ fn earlier(tables: &Growing, made: &Row<u32>, first: usize, target: usize) -> Op
 
 /// Makes an edge to the block of that number, with the moves of its phis.
 fn new_edge(
-    scope: &Scope<'_>,
+    scope: &Scope<'_, '_>,
     tables: &mut Growing,
     source: &Source<'_>,
     target: usize,
@@ -76,7 +77,7 @@ fn new_edge(
 
 /// The edge from a block to the one with a label. There is one edge from one block to another, however often it is named.
 pub fn edge(
-    scope: &Scope<'_>,
+    scope: &Scope<'_, '_>,
     tables: &mut Growing,
     made: &mut Row<u32>,
     source: &Source<'_>,

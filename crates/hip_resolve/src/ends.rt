@@ -12,11 +12,11 @@ use crate::edges::{Source, edge};
 use crate::growing::{Growing, place};
 use crate::scope::{Scope, operand};
 use hip_code::{Case, Control, Exit, Go, Op, Span};
-use hip_ir::{Arg, Operand};
+use hip_ir::{Arg, End, Operand};
 use hip_types::{Name, NoMemory, Row};
 
 pub fn branch(
-    scope: &Scope<'_>,
+    scope: &Scope<'_, '_>,
     tables: &mut Growing,
     made: &mut Row<u32>,
     source: &Source<'_>,
@@ -35,7 +35,7 @@ pub fn branch(
 }
 
 pub fn branch_on(
-    scope: &Scope<'_>,
+    scope: &Scope<'_, '_>,
     tables: &mut Growing,
     made: &mut Row<u32>,
     source: &Source<'_>,
@@ -59,7 +59,7 @@ pub fn branch_on(
 }
 
 fn cases_of(
-    scope: &Scope<'_>,
+    scope: &Scope<'_, '_>,
     tables: &mut Growing,
     made: &mut Row<u32>,
     source: &Source<'_>,
@@ -83,7 +83,7 @@ fn cases_of(
 }
 
 pub fn switch(
-    scope: &Scope<'_>,
+    scope: &Scope<'_, '_>,
     tables: &mut Growing,
     made: &mut Row<u32>,
     source: &Source<'_>,
@@ -113,7 +113,7 @@ pub fn switch(
 }
 
 pub fn give_back(
-    scope: &Scope<'_>,
+    scope: &Scope<'_, '_>,
     tables: &mut Growing,
     source: &Source<'_>,
     arg: &Arg,
@@ -125,4 +125,65 @@ pub fn give_back(
 {
     let value = operand(scope, tables, &arg.value)?;
     Ok(Op::Control(Control::Exit(Exit::Value(value))))
+}
+
+fn return_op(
+    scope: &Scope<'_, '_>,
+    tables: &mut Growing,
+    source: &Source<'_>,
+    value: &Option<Arg>,
+) -> Result<Op, NoMemory>
+    requires scope { Describes scope.now }
+    requires source { IsSource scope.now source.now }
+    requires last { source.now.block.now.«end» ≡ ends.Ret value.now }
+    ensures { IfOk result (λ o. EndsHere scope.now (grown tables.old) (grown tables.new) source.now o) }
+{
+    match value {
+        Some(arg) => {
+            let op = give_back(scope, tables, source, arg)?;
+            Ok(op)
+        }
+        None => Ok(Op::Control(Control::Exit(Exit::Nothing))),
+    }
+}
+
+/// The op of the end of a block.
+pub fn end_op(
+    scope: &Scope<'_, '_>,
+    tables: &mut Growing,
+    made: &mut Row<u32>,
+    source: &Source<'_>,
+) -> Result<Op, NoMemory>
+    requires scope { Describes scope.now }
+    requires source { IsSource scope.now source.now }
+    requires lead { LeadFrom scope.now source.now.number source.now.first (grown tables.old) }
+    requires as_long { length made.old ≡ length (blocks_of scope.now.program.now scope.now.number) }
+    ensures op { IfOk result (λ o. EndsHere scope.now (grown tables.old) (grown tables.new) source.now o) }
+    ensures as_long { length made.new ≡ length made.old }
+{
+    match &source.block.end {
+        End::Br { label } => {
+            let op = branch(scope, tables, made, source, label)?;
+            Ok(op)
+        }
+        End::CondBr { cond, yes, no } => {
+            let op = branch_on(scope, tables, made, source, cond, yes, no)?;
+            Ok(op)
+        }
+        End::Switch {
+            value,
+            other,
+            cases,
+            ..
+        } => {
+            let listed = cases.as_slice();
+            let op = switch(scope, tables, made, source, value, other, listed)?;
+            Ok(op)
+        }
+        End::Ret(value) => {
+            let op = return_op(scope, tables, source, value)?;
+            Ok(op)
+        }
+        End::Unreachable => Ok(Op::Control(Control::Exit(Exit::Unreachable))),
+    }
 }

@@ -18,7 +18,7 @@ use hip_ir::Arg;
 use hip_types::{Name, NoMemory, Scalar};
 
 /// Where the result of a call goes.
-pub fn result_slot(scope: &Scope<'_>, dest: &Option<Name>) -> Result<Option<u32>, NoMemory>
+pub fn result_slot(scope: &Scope<'_, '_>, dest: &Option<Name>) -> Result<Option<u32>, NoMemory>
     requires scope { Describes scope.now }
     requires known { ResultKnown (names_of scope.now) dest.now }
     ensures { IfOk result (λ slot. is_result (names_of scope.now) slot dest.now) }
@@ -34,7 +34,7 @@ pub fn result_slot(scope: &Scope<'_>, dest: &Option<Name>) -> Result<Option<u32>
 
 /// The operand of the argument of that number. Where there is none, the function takes none, and any operand does.
 fn argument(
-    scope: &Scope<'_>,
+    scope: &Scope<'_, '_>,
     tables: &mut Growing,
     args: &[Arg],
     index: usize,
@@ -90,7 +90,7 @@ fn effect(call: ExternCall, dest: Option<u32>, a: Operand, b: Operand) -> Effect
 }
 
 pub fn extern_call(
-    scope: &Scope<'_>,
+    scope: &Scope<'_, '_>,
     tables: &mut Growing,
     dest: &Option<Name>,
     callee: &Name,

@@ -65,7 +65,7 @@ fn address(
 }
 
 pub fn gep(
-    scope: &Scope<'_>,
+    scope: &Scope<'_, '_>,
     tables: &mut Growing,
     dest: &Name,
     ty: &Ty,

@@ -21,7 +21,7 @@ use hip_types::{Name, NoMemory};
 
 /// A call of an external function, or else of one of the program.
 fn any_call(
-    scope: &Scope<'_>,
+    scope: &Scope<'_, '_>,
     tables: &mut Growing,
     dest: &Option<Name>,
     callee: &Name,
@@ -47,7 +47,7 @@ fn any_call(
 }
 
 /// The op of an instruction.
-pub fn instr_op(scope: &Scope<'_>, tables: &mut Growing, instr: &Instr) -> Result<Op, NoMemory>
+pub fn instr_op(scope: &Scope<'_, '_>, tables: &mut Growing, instr: &Instr) -> Result<Op, NoMemory>
     requires scope { Describes scope.now }
     requires known { InstrKnown scope.now.program.now (names_of scope.now) instr.now }
     ensures { IfOk result (λ o. Makes (grown tables.old) (grown tables.new) (λ t. DoesHere scope.now t o instr.now)) }

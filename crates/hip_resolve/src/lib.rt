@@ -9,7 +9,13 @@ mod gep;
 mod growing;
 mod instrs;
 mod memory;
+mod name_sets;
 mod path;
 mod phis;
+mod program;
+mod resolving;
 mod scope;
+mod scopes;
 mod values;
+
+pub use resolving::resolve;

@@ -39,7 +39,7 @@ fn access_align(ty: Scalar, written: Option<u64>) -> u32
 }
 
 pub fn load(
-    scope: &Scope<'_>,
+    scope: &Scope<'_, '_>,
     tables: &mut Growing,
     dest: &Name,
     ty: Scalar,
@@ -64,7 +64,7 @@ pub fn load(
 }
 
 pub fn store(
-    scope: &Scope<'_>,
+    scope: &Scope<'_, '_>,
     tables: &mut Growing,
     ty: Scalar,
     value: &hip_ir::Operand,
@@ -103,7 +103,7 @@ fn small_align(ty: &Ty) -> u32
     align(ty) as u32
 }
 
-pub fn alloca(scope: &Scope<'_>, dest: &Name, ty: &Ty) -> Result<Op, NoMemory>
+pub fn alloca(scope: &Scope<'_, '_>, dest: &Name, ty: &Ty) -> Result<Op, NoMemory>
     requires scope { Describes scope.now }
     requires dest { IsAmong (names_of scope.now) dest.now }
     requires fits { Fits ty.now }

@@ -28,7 +28,7 @@ pub struct Path {
 }
 
 /// The number of a constant index, sign-extended to 64 bits.
-fn literal(scope: &Scope<'_>, arg: &Arg, value: &Const) -> Result<u64, NoMemory>
+fn literal(scope: &Scope<'_, '_>, arg: &Arg, value: &Const) -> Result<u64, NoMemory>
     requires scope { Describes scope.now }
     requires known { OperandKnown (names_of scope.now) (operands.Fixed value.now) }
     ensures { IfOk result (λ n. n ≡ index_value arg.now.ty (const_value scope.now.program.now.globals scope.now.base value.now)) }
@@ -38,7 +38,7 @@ fn literal(scope: &Scope<'_>, arg: &Arg, value: &Const) -> Result<u64, NoMemory>
 }
 
 /// Goes over so many values of a size.
-fn step_over(scope: &Scope<'_>, path: &mut Path, arg: &Arg, size: u32) -> Result<(), NoMemory>
+fn step_over(scope: &Scope<'_, '_>, path: &mut Path, arg: &Arg, size: u32) -> Result<(), NoMemory>
     requires scope { Describes scope.now }
     requires known { OperandKnown (names_of scope.now) arg.now.value }
     ensures { IfOk result (λ _. Steps scope.now arg.now size path.old path.new) }
@@ -81,7 +81,7 @@ fn field_number(fields: &[Ty], arg: &Arg) -> usize
 
 /// Enters an element of an array or a field of a struct.
 fn enter<'t>(
-    scope: &Scope<'_>,
+    scope: &Scope<'_, '_>,
     path: &mut Path,
     part: &'t Ty,
     arg: &Arg,
@@ -117,7 +117,7 @@ fn enter<'t>(
 }
 
 /// How far the indices of a `getelementptr` lead.
-pub fn path_of(scope: &Scope<'_>, ty: &Ty, indices: &[Arg]) -> Result<Path, NoMemory>
+pub fn path_of(scope: &Scope<'_, '_>, ty: &Ty, indices: &[Arg]) -> Result<Path, NoMemory>
     requires scope { Describes scope.now }
     requires known { ArgsKnown (names_of scope.now) indices.now }
     requires spelled { list_all spelled_index indices.now ≡ true }

@@ -43,7 +43,7 @@ pub fn numbers_of_phis(alloc: Global, phis: &[Phi]) -> Result<Row<EdgeNumbers<'_
 
 /// What a phi moves where control comes from the block with a label.
 fn phi_move(
-    scope: &Scope<'_>,
+    scope: &Scope<'_, '_>,
     tables: &mut Growing,
     from: &Name,
     phi: &Phi,
@@ -72,7 +72,7 @@ fn phi_move(
 
 /// What the phis of a block move where control comes from the block with a label.
 pub fn phi_moves(
-    scope: &Scope<'_>,
+    scope: &Scope<'_, '_>,
     tables: &mut Growing,
     from: &Name,
     phis: &[Phi],

@@ -16,27 +16,27 @@ use std::alloc::Global;
 
 /// What the instructions of a function name.
 #[derive(Drop)]
-pub struct Scope<'a> {
+pub struct Scope<'p, 'a> {
     pub alloc: Global,
-    pub program: &'a Program,
+    pub program: &'p Program,
     pub base: u64,
-    pub addresses: &'a GlobalAddresses<'a>,
+    pub addresses: &'a GlobalAddresses<'p>,
     /// The names of the functions, the places where they begin, and how many registers they have.
-    pub functions: &'a NameSet<'a>,
+    pub functions: &'a NameSet<'p>,
     pub starts: &'a [u32],
     pub sizes: &'a [u32],
     /// The function's number, its registers, the labels of its blocks, and the places where these begin.
     pub number: usize,
-    pub function: &'a Function,
-    pub registers: NameSet<'a>,
-    pub labels: NameSet<'a>,
+    pub function: &'p Function,
+    pub registers: NameSet<'p>,
+    pub labels: NameSet<'p>,
     pub places: Row<u32>,
     /// For each phi of each block the numbers of its edges.
-    pub sources: Row<Row<EdgeNumbers<'a>>>,
+    pub sources: Row<Row<EdgeNumbers<'p>>>,
 }
 
 /// The slot of a register.
-pub fn slot(scope: &Scope<'_>, name: &Name) -> Result<u32, NoMemory>
+pub fn slot(scope: &Scope<'_, '_>, name: &Name) -> Result<u32, NoMemory>
     requires scope { Describes scope.now }
     requires known { IsAmong (names_of scope.now) name.now }
     ensures { IfOk result (λ slot. number_of (names_of scope.now) name.now ≡ Some slot) }
@@ -49,7 +49,7 @@ pub fn slot(scope: &Scope<'_>, name: &Name) -> Result<u32, NoMemory>
 
 /// Where an operand's value stands: in a register's slot, or in the table of constants.
 pub fn operand(
-    scope: &Scope<'_>,
+    scope: &Scope<'_, '_>,
     tables: &mut Growing,
     operand: &hip_ir::Operand,
 ) -> Result<Operand, NoMemory>

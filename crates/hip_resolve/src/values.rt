@@ -108,7 +108,7 @@ fn conversion(op: CastOp, from: Width, to: Width, a: Operand) -> Rest
 }
 
 pub fn binary(
-    scope: &Scope<'_>,
+    scope: &Scope<'_, '_>,
     tables: &mut Growing,
     dest: &Name,
     op: BinaryOp,
@@ -131,7 +131,7 @@ pub fn binary(
 }
 
 pub fn compare(
-    scope: &Scope<'_>,
+    scope: &Scope<'_, '_>,
     tables: &mut Growing,
     dest: &Name,
     pred: Pred,
@@ -154,7 +154,7 @@ pub fn compare(
 }
 
 pub fn select(
-    scope: &Scope<'_>,
+    scope: &Scope<'_, '_>,
     tables: &mut Growing,
     dest: &Name,
     test: &hip_ir::Operand,
@@ -178,7 +178,7 @@ pub fn select(
 }
 
 pub fn cast(
-    scope: &Scope<'_>,
+    scope: &Scope<'_, '_>,
     tables: &mut Growing,
     dest: &Name,
     op: CastOp,

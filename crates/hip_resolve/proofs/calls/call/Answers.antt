@@ -28,8 +28,8 @@ pub returns : goal.returns
 returns c =
     let num = number_is c.args.scope.now c.args.callee.now c.args.args.now c.in-Some.number c.requires.scope c.requires.calls (ap (number_of c.args.scope.now.functions.now) (sym c.as_slice.ensures) ∙ sym c.number_of.ensures ∙ c.in-Some.is) in
     let lt = slice_get_within _ c.requires.calls.number c.requires.calls.function c.requires.calls.here in
-    let target = number_given _ _ _ c.in-Some.number c.requires.calls.number _ num c.requires.scope.starts lt c.number_at-target.ensures in
-    let size = number_given _ _ _ c.in-Some.number c.requires.calls.number _ num c.requires.scope.sizes lt c.number_at-size.ensures in
+    let target = number_given c.args.scope.now.program.now _ _ c.in-Some.number c.requires.calls.number _ num c.requires.scope.starts lt c.number_at-target.ensures in
+    let size = number_given c.args.scope.now.program.now _ _ c.in-Some.number c.requires.calls.number _ num c.requires.scope.sizes lt c.number_at-size.ensures in
     record {
       grows = c.in_ok-arguments.ensures.makes.grows;
       lasts = λ v g ret.

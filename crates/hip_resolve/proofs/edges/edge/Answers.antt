@@ -1,6 +1,5 @@
-use Rattle.std.proofs.Common.{◌≡◌, Some, sym, ap, ◌∙◌}
+use Rattle.std.proofs.Common.{sym, ap, ◌∙◌}
 use Rattle.hip_names.specs.Names.{number_of}
-use Rattle.hip_runs.specs.Places.{block_number, blocks_of}
 use Rattle.hip_resolve.proofs.EdgeOps.{label_known, is_target, edge_new}
 use Rattle.hip_resolve.proofs.Names.{known_numbered}
 use Rattle.hip_resolve.proofs.edges.edge.Goals as goal

@@ -3,7 +3,7 @@ use Rattle.std.specs.Option.{option_copied}
 use Rattle.std.proofs.lemmas.Option.{same_Some, slice_get_within}
 use Rattle.hip_ir.specs.declared.block.Phi.{Phi}
 use Rattle.hip_names.specs.declared.table.NameTable.{NameTable}
-use Rattle.hip_runs.specs.Places.{block_at, blocks_of}
+use Rattle.hip_runs.specs.Places.{blocks_of}
 use Rattle.hip_resolve.specs.Edged.{Moves}
 use Rattle.hip_resolve.specs.Grown.{grown}
 use Rattle.hip_resolve.specs.PhiNumbers.{NumbersPhis}

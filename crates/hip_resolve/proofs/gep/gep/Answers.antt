@@ -1,4 +1,4 @@
-use Rattle.std.proofs.Common.{subst, sym}
+use Rattle.std.proofs.Common.{subst}
 use Rattle.hip_resolve.specs.Far.{IsAddress}
 use Rattle.hip_resolve.proofs.GepOps.{does_gep}
 use Rattle.hip_resolve.proofs.Growth.{makes_also, makes_both}

@@ -1,4 +1,4 @@
-use Rattle.std.proofs.Common.{ap, ◌∙◌, ◌++◌}
+use Rattle.std.proofs.Common.{◌∙◌}
 use Rattle.hip_resolve.proofs.Growth.{makes_terms}
 use Rattle.hip_resolve.proofs.gep.with_terms.Goals as goal
 

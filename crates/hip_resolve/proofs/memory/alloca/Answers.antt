@@ -1,4 +1,3 @@
-use Rattle.hip_resolve.proofs.Growth.{makes_also, makes_both}
 use Rattle.hip_resolve.proofs.ValueOps.{does_alloca}
 use Rattle.hip_resolve.proofs.memory.alloca.Goals as goal
 

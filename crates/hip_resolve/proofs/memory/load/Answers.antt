@@ -1,4 +1,4 @@
-use Rattle.hip_resolve.proofs.Growth.{makes_also, makes_both}
+use Rattle.hip_resolve.proofs.Growth.{makes_also}
 use Rattle.hip_resolve.proofs.ValueOps.{does_load}
 use Rattle.hip_resolve.proofs.memory.load.Goals as goal
 

@@ -2,7 +2,6 @@ use Rattle.std.proofs.Common.{◌≡◌, ◌+◌, ◌%◌, ◌^◌, Some, None, 
 use Rattle.std.specs.Option.{option_copied}
 use Rattle.hip_types.specs.declared.ty.Ty.TheViews.{Array}
 use Rattle.hip_resolve.specs.Fields.{IsField}
-use Rattle.hip_resolve.specs.Far.{Enters}
 use Rattle.hip_resolve.proofs.Indices.{struct_field, enters_array, enters_field, field_there, struct_with, field_fits, entered_field}
 use Rattle.hip_resolve.proofs.path.enter.Goals as goal
 

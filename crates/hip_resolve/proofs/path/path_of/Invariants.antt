@@ -1,4 +1,4 @@
-use Rattle.std.proofs.Common.{◌≡◌, ◌<◌, ◌≤◌, true, length, drop}
+use Rattle.std.proofs.Common.{◌≡◌, ◌≤◌, true, drop}
 use Rattle.hip_types.specs.Layout.{Fits}
 use Rattle.hip_typing.specs.Places.{args_enter}
 use Rattle.hip_resolve.specs.Far.{Reaches}

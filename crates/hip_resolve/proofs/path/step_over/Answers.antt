@@ -1,4 +1,4 @@
-use Rattle.std.proofs.Common.{◌*◌, ◌+◌, ◌%◌, ◌^◌, refl, ap, ◌∙◌}
+use Rattle.std.proofs.Common.{◌*◌, ◌+◌, ◌%◌, ◌^◌, refl, ap}
 use Rattle.hip_resolve.proofs.Indices.{steps_fixed, steps_scaled}
 use Rattle.hip_resolve.proofs.path.step_over.Goals as goal
 

@@ -1,7 +1,6 @@
-use Rattle.std.proofs.Common.{◌≡◌, ◌∷◌, [], length, map, ap, ◌∙◌, arith, subst}
+use Rattle.std.proofs.Common.{◌∷◌, [], length, map, ap, arith, subst}
 use Rattle.std.proofs.lemmas.List.{length-append}
 use Rattle.std.proofs.lemmas.Option.{slice_get_within}
-use Rattle.hip_names.specs.declared.table.NameTable.{NameTable}
 use Rattle.hip_calls.specs.Numbered.{Numbers}
 use Rattle.hip_resolve.proofs.EdgeOps.{numbers_on}
 use Rattle.hip_resolve.proofs.phis.numbers_of_phis.Goals as goal

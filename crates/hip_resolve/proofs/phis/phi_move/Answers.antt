@@ -1,8 +1,8 @@
-use Rattle.std.proofs.Common.{◌≡◌, Some, None, map, slice_get, sym, ap, ◌∙◌}
+use Rattle.std.proofs.Common.{◌≡◌, Some, map, slice_get, sym, ap, ◌∙◌}
 use Rattle.std.specs.Option.{option_copied}
 use Rattle.hip_names.specs.Names.{number_of}
 use Rattle.hip_names.specs.Tables.{value_beside}
-use Rattle.hip_resolve.proofs.EdgeOps.{edge_numbered, edge_there, edge_known, is_move}
+use Rattle.hip_resolve.proofs.EdgeOps.{edge_numbered, is_move}
 use Rattle.hip_resolve.proofs.Growth.{makes_also}
 use Rattle.hip_resolve.proofs.phis.phi_move.Goals as goal
 

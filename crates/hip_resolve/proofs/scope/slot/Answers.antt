@@ -1,4 +1,4 @@
-use Rattle.std.proofs.Common.{◌≡◌, sym, ap, ◌∙◌}
+use Rattle.std.proofs.Common.{sym, ap, ◌∙◌}
 use Rattle.hip_names.specs.Names.{number_of}
 use Rattle.hip_resolve.proofs.Names.{known_numbered}
 use Rattle.hip_resolve.proofs.scope.slot.Goals as goal

@@ -1,4 +1,4 @@
-use Rattle.hip_resolve.proofs.Growth.{makes_also, makes_both}
+use Rattle.hip_resolve.proofs.Growth.{makes_also}
 use Rattle.hip_resolve.proofs.ValueOps.{does_cast}
 use Rattle.hip_resolve.proofs.values.cast.Goals as goal
 

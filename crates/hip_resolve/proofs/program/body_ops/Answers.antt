@@ -1,0 +1,28 @@
+use Rattle.std.proofs.Common.{◌≡◌, ◌∷◌, [], List, Some, length, slice_get, refl, sym, ap, subst, arith}
+use Rattle.std.proofs.lemmas.List.{length-append}
+use Rattle.std.proofs.lemmas.Option.{slice_get_read}
+use Rattle.hip_ir.specs.declared.instr.Instr.{Instr}
+use Rattle.hip_code.specs.declared.op.Op.{Op}
+use Rattle.hip_resolve.specs.Grown.{grown}
+use Rattle.hip_resolve.specs.Made.{IsFront}
+use Rattle.hip_resolve.proofs.BlockOps.{known_at}
+use Rattle.hip_resolve.proofs.Fronts.{front_grows, front_op}
+use Rattle.hip_resolve.proofs.program.body_ops.Goals as goal
+
+pub instr_op-requires-clause-known : goal.instr_op-requires-clause-known
+instr_op-requires-clause-known c =
+    known_at c.args.scope.now c.requires.scope c.args.number c.args.block.now c.requires.block c.translating.index c.index-body-index.result
+    (subst (λ (xs : List Instr). slice_get xs c.translating.index ≡ Some c.index-body-index.result) c.as_slice-body.ensures (slice_get_read _ _ _ _ refl c.translating-test.true c.index-body-index.is))
+
+pub translating-preserved : goal.translating-preserved
+translating-preserved c =
+    let P = c.args.scope.now.program.now in
+    let base = c.args.scope.now.base in
+    let made = c.in_ok-op.ensures in
+    let here = subst (λ (xs : List Instr). slice_get xs c.translating.index ≡ Some c.index-body-index.result) c.as_slice-body.ensures (slice_get_read _ _ _ _ refl c.translating-test.true c.index-body-index.is) in
+    let front = front_grows P base c.translating.ops _ _ c.translating.invariant.front made.grows in
+    record {
+      front = subst (λ (xs : List Op). IsFront P base xs (grown c.instr_op.new.tables)) (sym c.in_ok-push.ensures.ok)
+          (front_op P base c.translating.ops (grown c.instr_op.new.tables) c.in_ok-op.op c.args.scope.now.number c.args.number c.translating.index c.args.block.now c.index-body-index.result front c.requires.block here c.translating.invariant.place made.lasts);
+      place = (let l = ap length c.in_ok-push.ensures.ok in let m = length-append c.translating.ops (c.in_ok-op.op ∷ []) in let p = c.translating.invariant.place in omega (arith, l, m, p));
+    }

@@ -1,0 +1,12 @@
+use Rattle.std.proofs.Common.{◌≡◌, ◌+◌, length}
+use Rattle.hip_code.specs.Entries.{entry}
+use Rattle.hip_resolve.specs.Grown.{grown}
+use Rattle.hip_resolve.specs.Made.{IsFront}
+use Rattle.hip_resolve.proofs.program.body_ops.Given as goal
+
+pub record Invariant (l : goal.Live-translating) : Type 0 where
+  pub front : IsFront l.scope.program.now l.scope.base l.ops (grown l.tables)
+  pub place : length l.ops ≡ entry l.scope.program.now l.scope.number l.number + l.index
+
+abbrev pub invariant-translating : goal.invariant-translating
+invariant-translating l = Invariant l

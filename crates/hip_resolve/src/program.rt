@@ -1,0 +1,97 @@
+ghost use Rattle.std.specs.Prelude.{◌≡◌, ◌+◌, Some, length, suc, IfOk};
+ghost use Rattle.hip_code.specs.Entries.{entry};
+ghost use Rattle.hip_runs.specs.Places.{block_at, blocks_of};
+ghost use Rattle.hip_resolve.specs.Grown.{grown};
+ghost use Rattle.hip_resolve.specs.Made.{IsFront};
+ghost use Rattle.hip_resolve.specs.Scopes.{Describes};
+
+use crate::edges::Source;
+use crate::ends::end_op;
+use crate::growing::Growing;
+use crate::instrs::instr_op;
+use crate::scope::Scope;
+use hip_code::Op;
+use hip_ir::Block;
+use hip_types::{NoMemory, Row};
+use std::alloc::Global;
+
+fn zeros(alloc: Global, count: usize) -> Result<Row<u32>, NoMemory>
+    ensures { IfOk result (λ row. length row ≡ count) }
+{
+    Ok(Row::from_vec(vec![in alloc; 0u32; count]?))
+}
+
+/// Puts the ops of a block's instructions behind the others.
+fn body_ops(
+    scope: &Scope<'_, '_>,
+    tables: &mut Growing,
+    ops: &mut Row<Op>,
+    number: usize,
+    block: &Block,
+) -> Result<(), NoMemory>
+    requires scope { Describes scope.now }
+    requires block { block_at scope.now.program.now scope.now.number number ≡ Some block.now }
+    requires front { IsFront scope.now.program.now scope.now.base ops.old (grown tables.old) }
+    requires place { length ops.old ≡ entry scope.now.program.now scope.now.number number }
+    ensures front { IfOk result (λ _. IsFront scope.now.program.now scope.now.base ops.new (grown tables.new)) }
+    ensures place { IfOk result (λ _.
+        length ops.new ≡ entry scope.now.program.now scope.now.number number + length block.now.body) }
+{
+    let body = block.body.as_slice();
+    'translating: for index in 0..body.len() {
+        let instr = &body[index];
+        let op = instr_op(scope, tables, instr)?;
+        ops.push(op)?;
+    }
+    Ok(())
+}
+
+/// Puts the ops of a block behind the others.
+fn block_ops(
+    scope: &Scope<'_, '_>,
+    tables: &mut Growing,
+    ops: &mut Row<Op>,
+    made: &mut Row<u32>,
+    number: usize,
+    block: &Block,
+) -> Result<(), NoMemory>
+    requires scope { Describes scope.now }
+    requires block { block_at scope.now.program.now scope.now.number number ≡ Some block.now }
+    requires as_long { length made.old ≡ length (blocks_of scope.now.program.now scope.now.number) }
+    requires front { IsFront scope.now.program.now scope.now.base ops.old (grown tables.old) }
+    requires place { length ops.old ≡ entry scope.now.program.now scope.now.number number }
+    ensures front { IfOk result (λ _. IsFront scope.now.program.now scope.now.base ops.new (grown tables.new)) }
+    ensures place { IfOk result (λ _. length ops.new ≡ entry scope.now.program.now scope.now.number (number + 1)) }
+    ensures as_long { length made.new ≡ length made.old }
+{
+    body_ops(scope, tables, ops, number, block)?;
+    let source = Source {
+        block,
+        number,
+        first: tables.edges.len(),
+    };
+    let op = end_op(scope, tables, made, &source)?;
+    ops.push(op)?;
+    Ok(())
+}
+
+/// Puts the ops of a function behind those of the functions before it.
+pub fn resolve_function(
+    scope: &Scope<'_, '_>,
+    tables: &mut Growing,
+    ops: &mut Row<Op>,
+) -> Result<(), NoMemory>
+    requires scope { Describes scope.now }
+    requires front { IsFront scope.now.program.now scope.now.base ops.old (grown tables.old) }
+    requires place { length ops.old ≡ entry scope.now.program.now scope.now.number 0 }
+    ensures front { IfOk result (λ _. IsFront scope.now.program.now scope.now.base ops.new (grown tables.new)) }
+    ensures place { IfOk result (λ _. length ops.new ≡ entry scope.now.program.now (suc scope.now.number) 0) }
+{
+    let blocks = scope.function.blocks.as_slice();
+    let mut made = zeros(scope.alloc, blocks.len())?;
+    'resolving: for number in 0..blocks.len() {
+        let block = &blocks[number];
+        block_ops(scope, tables, ops, &mut made, number, block)?;
+    }
+    Ok(())
+}

@@ -1,8 +1,9 @@
--- What the definition of an order says of words that do not begin with `-`, and of bases.
-use Rattle.std.specs.Prelude.{◌≡◌, ℕ, Bool, true, not, ◌==◌, List, [], ◌∷◌, Some, codes, option_map}
+-- What the definition of an order says of words that do not begin with `-`, of bases, and of the input of a run.
+use Rattle.std.specs.Prelude.{◌≡◌, ◌≤◌, ℕ, ℤ, Bool, true, not, ◌==◌, List, [], ◌∷◌, Some, codes, length, option_map}
 use Rattle.std.specs.List.{list_all}
 use Rattle.clap.specs.Words.{Text}
 use Rattle.hip_globals.specs.Addresses.{IsBase, is_base}
+use Rattle.hip_runs.specs.declared.limits.TheConstants.{MOST_NUMBERS, MOST_TURNS}
 use Rattle.hip_words.specs.Order.{files_of, numbers_of, order}
 use Rattle.hip_words.specs.declared.order.Order.TheVariants.{Run}
 
@@ -24,3 +25,9 @@ RunsArePlain =
 
 abbrev pub BasesAreValid : Type 0
 BasesAreValid = (base : ℕ) → is_base base ≡ true → IsBase base
+
+-- a run has at most 2^40 turns and 1,048,576 numbers
+abbrev pub RunsAreValid : Type 0
+RunsAreValid =
+    (words : List Text) (program : Text) (limit : ℕ) (numbers : List ℤ) → order words ≡ Some (Run program limit numbers)
+    → (limit ≤ MOST_TURNS) × (length numbers ≤ MOST_NUMBERS)

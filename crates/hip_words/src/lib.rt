@@ -11,7 +11,7 @@ mod readers;
 mod refusal;
 mod words;
 
-pub use laws::{bases_are_valid, files_are_plain, runs_are_plain};
+pub use laws::{bases_are_valid, files_are_plain, runs_are_plain, runs_are_valid};
 pub use limits::{LARGEST_SIZE, MOST_TRACES, SEED_END};
 pub use order::{Order, Pick};
 pub use refusal::WordsRefusal;

@@ -3,11 +3,12 @@ use Rattle.std.proofs.Common.{◌≡◌, ◌≤◌, ℕ, suc, Bool, true, false,
 use Rattle.std.specs.Prelude.{ℤ, codes, nat_le, option_and_then}
 use Rattle.std.proofs.lemmas.Bool.{leb-true}
 use Rattle.clap.specs.Words.{Row, Text, first_of}
+use Rattle.hip_globals.specs.Addresses.{is_base}
 use Rattle.hip_runs.specs.declared.limits.TheConstants.{MOST_NUMBERS, MOST_TURNS}
 use Rattle.hip_words.specs.Commands.{crash_app, demo_app, many_app, reads, record_app, run_app}
 use Rattle.hip_words.specs.Laws.{RunsAreValid}
 use Rattle.hip_words.specs.Numbers.{signed_of}
-use Rattle.hip_words.specs.Order.{crash_in, decimal_in, demo_in, each, files_of, is_base, is_limit, is_seed, is_size, many_in, number_in, numbers_of, order, order_by, picks_of, record_in, run_in, texts_in, traces_of, verb_of, where_so}
+use Rattle.hip_words.specs.Order.{crash_in, decimal_in, demo_in, each, files_of, is_limit, is_seed, is_size, many_in, number_in, numbers_of, order, order_by, picks_of, record_in, run_in, texts_in, traces_of, verb_of, where_so}
 use Rattle.hip_words.specs.declared.order.Order.{Order}
 use Rattle.hip_words.specs.declared.order.Order.TheVariants.{Check, Crash, Demo, Many, Record, Repair, Rerun, Run, Thin}
 use Rattle.hip_words.specs.declared.order.Verb.{Verb}

@@ -2,7 +2,7 @@ ghost use Rattle.std.specs.Prelude.{◌≡◌, IfOk};
 ghost use Rattle.hip_ir.specs.declared.instr.Flags.{Flags};
 ghost use Rattle.hip_ir.specs.declared.instr.Instr.TheVariants as instrs;
 ghost use Rattle.hip_names.specs.Names.{IsAmong};
-ghost use Rattle.hip_runs.specs.Operands as spec;
+ghost use Rattle.hip_types.specs.Scalars.{width_of as the_width};
 ghost use Rattle.hip_code.specs.Translated as ops;
 ghost use Rattle.hip_resolve.specs.Grown.{grown};
 ghost use Rattle.hip_resolve.specs.Growth.{Makes};
@@ -18,7 +18,7 @@ use hip_types::{BinaryOp, CastOp, Name, NoMemory, Pred, Scalar, Width};
 
 /// The width of the number that a value is; a pointer is a number of 64 bits.
 pub fn width_of(ty: Scalar) -> Width
-    ensures { result ≡ spec.width_of ty }
+    ensures { result ≡ the_width ty }
 {
     match ty {
         Scalar::Int(width) => width,

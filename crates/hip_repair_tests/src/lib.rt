@@ -3,8 +3,6 @@
 #![tactic(auto)]
 
 #[cfg(test)]
-mod plans;
-#[cfg(test)]
 mod reached_functions;
 #[cfg(test)]
 mod repairs;

@@ -3,7 +3,7 @@
 use hip_io::MemSink;
 use hip_parse::parse;
 use hip_replay::print_run;
-use hip_step::{Ending, Input, TrapKind};
+use hip_step::{Ending, Input, TrapKind, why_not};
 use hip_types::Row;
 use hip_typing::{Checked, check};
 use std::alloc::Global;
@@ -43,15 +43,24 @@ fn input(alloc: Global, checked: &Checked, run: &Run) -> Result<Input, Fail> {
     })
 }
 
+/// Asserts what a program prints and how its run ends.
+fn assert_run(rt: &impl Abort, alloc: Global, run: &Run) -> Result<(), Fail> {
+    let checked = checked(rt, alloc, run.program);
+    let input = input(alloc, &checked, run)?;
+    let mut out = MemSink::new(alloc, 1_000)?;
+    if let Some(_fault) = why_not(&checked, &input) {
+        return Err(Fail::new(run.name));
+    }
+    let ending = print_run(alloc, &checked, &input, &mut out);
+    assert!(rt; ending == Ok(run.ending), "{}", run.name);
+    assert!(rt; out.bytes() == run.printed.as_bytes(), "{}", run.name);
+    Ok(())
+}
+
 /// Asserts what each program prints and how its run ends.
 fn assert_runs(rt: &impl Abort, alloc: Global, runs: &[Run]) -> Result<(), Fail> {
     for run in runs {
-        let checked = checked(rt, alloc, run.program);
-        let input = input(alloc, &checked, run)?;
-        let mut out = MemSink::new(alloc, 1_000)?;
-        let ending = print_run(alloc, &checked, &input, &mut out);
-        assert!(rt; ending == Ok(run.ending), "{}", run.name);
-        assert!(rt; out.bytes() == run.printed.as_bytes(), "{}", run.name);
+        assert_run(rt, alloc, run)?;
     }
     Ok(())
 }

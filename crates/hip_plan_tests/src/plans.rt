@@ -280,19 +280,17 @@ fn log_marks() -> [Mark; 8] {
     ]
 }
 
+/// The report of a store that is made for `FILL` by the call at that place of the function between.
+fn filled(alloc: Global, entry: u128, kind: Kind, index: usize) -> Result<Report, Fail> {
+    report(alloc, (entry, 243), kind, &[site(1, 0, index), FILL], 1)
+}
+
 /// The reports of the run of `KEY_VALUE_LOG`, in the order of their stores.
 fn logged(alloc: Global) -> Result<Row<Report>, Fail> {
     let mut reports = Row::new(alloc);
     for turn in 0..39u128 {
-        for (entry, index) in [(7, 1), (8, 3)] {
-            reports.push(report(
-                alloc,
-                (entry + 6 * turn, 243),
-                Kind::MissingFlush,
-                &[site(1, 0, index), FILL],
-                1,
-            )?)?;
-        }
+        reports.push(filled(alloc, 7 + 6 * turn, Kind::MissingFlush, 1)?)?;
+        reports.push(filled(alloc, 8 + 6 * turn, Kind::MissingFlush, 3)?)?;
     }
     reports.push(report(alloc, (237, 243), Kind::MissingFlush, &[COUNT_STORE], 0)?)?;
     reports.push(Report {
@@ -303,10 +301,8 @@ fn logged(alloc: Global) -> Result<Row<Report>, Fail> {
         path: Row::from_slice(alloc, &[site(0, 0, 2), site(2, 1, 5)])?,
         closed: 1,
     })?;
-    for (entry, index) in [(241, 1), (242, 3)] {
-        let path = [site(1, 0, index), FILL];
-        reports.push(report(alloc, (entry, 243), Kind::MissingBoth, &path, 1)?)?;
-    }
+    reports.push(filled(alloc, 241, Kind::MissingBoth, 1)?)?;
+    reports.push(filled(alloc, 242, Kind::MissingBoth, 3)?)?;
     Ok(reports)
 }
 

@@ -1,0 +1,31 @@
+-- The kinds of the groups of a generated program, by the sample generator of pseudo-random numbers of the C standard
+-- (ISO C, "rand") modulo 2 ^ 31.
+use Rattle.std.specs.Prelude.{ℕ, zero, suc, ◌+◌, ◌*◌, ◌/◌, ◌%◌, ◌==◌, if◌then◌else◌}
+use Rattle.hip_gen.specs.declared.kinds.Kind.{Kind}
+use Rattle.hip_gen.specs.declared.kinds.Kind.TheVariants.{Store, FlushedStore, PersistentCall, VolatileCall}
+use Rattle.hip_gen.specs.declared.limits.TheConstants.{SEED_END}
+
+-- the number that is drawn after another one
+abbrev pub next_draw : ℕ → ℕ
+next_draw draw = (1103515245 * draw + 12345) % SEED_END
+
+-- the number that is drawn after so many others, the seed being the first
+abbrev pub draw : ℕ → ℕ → ℕ
+draw seed zero = seed
+draw seed (suc n) = next_draw (draw seed n)
+
+-- the kind of that number, of four
+abbrev pub kind_numbered : ℕ → Kind
+kind_numbered n =
+    if n == 0 then Store
+    else (if n == 1 then FlushedStore
+    else (if n == 2 then PersistentCall
+    else VolatileCall))
+
+-- the two lowest bits of what is left of a draw without its sixteen lowest ones
+abbrev pub kind_by : ℕ → Kind
+kind_by draw = kind_numbered (draw / 65536 % 4)
+
+-- the kind of the group of that number
+abbrev pub kind : ℕ → ℕ → Kind
+kind seed group = kind_by (draw seed (suc group))

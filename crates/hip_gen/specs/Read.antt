@@ -1,0 +1,14 @@
+-- What a generated text is to the reader and to the checker.
+use Rattle.std.specs.Prelude.{ℕ, ◌≡◌}
+use Rattle.hip_ir.specs.Reading.{Reads}
+use Rattle.hip_ir.specs.Show.{show}
+use Rattle.hip_typing.specs.Sound.{IsSound}
+use Rattle.hip_gen.specs.Generated.{generated_program}
+use Rattle.hip_gen.specs.Lines.{generated_text}
+
+-- The text for a seed and a size is the canonical text of the generated program and is read as it, and that program is
+-- sound.
+pub record IsReadAsSound (seed size : ℕ) : Type 0 where
+  pub canonical : generated_text seed size ≡ show (generated_program seed size)
+  pub reads : Reads (generated_text seed size) (generated_program seed size)
+  pub sound : IsSound (generated_program seed size)

@@ -1,12 +1,14 @@
--- Where the order is a run, its limit and its numbers are within bounds.
-use Rattle.std.proofs.Common.{◌≡◌, ◌≤◌, ℕ, suc, Bool, true, false, cond, List, [], ◌∷◌, length, Option, Some, None, IfSome, option_map, refl, ap, subst, arith}
-use Rattle.std.specs.Prelude.{ℤ, codes, nat_le, option_and_then}
-use Rattle.std.proofs.lemmas.Bool.{leb-true}
+-- The numbers of an order are within bounds.
+use Rattle.std.proofs.Common.{◌≡◌, ◌<◌, ◌≤◌, ℕ, suc, Bool, true, false, cond, List, [], ◌∷◌, length, Option, Some, None, IfSome, option_map, refl, ap, subst, arith}
+use Rattle.std.specs.Prelude.{codes, nat_le, option_and_then}
+use Rattle.std.proofs.lemmas.Bool.{and_parts, leb-true, ltb-true}
 use Rattle.clap.specs.Words.{Row, Text, first_of}
-use Rattle.hip_globals.specs.Addresses.{is_base}
+use Rattle.hip_gen.specs.declared.limits.TheConstants.{LARGEST_SIZE, SEED_END}
+use Rattle.hip_globals.specs.Addresses.{IsBase, is_base}
 use Rattle.hip_runs.specs.declared.limits.TheConstants.{MOST_NUMBERS, MOST_TURNS}
 use Rattle.hip_words.specs.Commands.{crash_app, demo_app, many_app, reads, record_app, run_app}
-use Rattle.hip_words.specs.Laws.{RunsAreValid}
+use Rattle.hip_words.proofs.Bases.{base_valid}
+use Rattle.hip_words.specs.Laws.{DemosAreValid, RecordsAreValid, RunsAreValid}
 use Rattle.hip_words.specs.Numbers.{signed_of}
 use Rattle.hip_words.specs.Order.{crash_in, decimal_in, demo_in, each, files_of, is_limit, is_seed, is_size, many_in, number_in, numbers_of, order, order_by, picks_of, record_in, run_in, texts_in, traces_of, verb_of, where_so}
 use Rattle.hip_words.specs.declared.order.Order.{Order}
@@ -17,6 +19,9 @@ use Rattle.hip_words.specs.declared.order.Verb.TheVariants as verbs
 abbrev within : Option Order → Type 0
 within None = Unit {0}
 within (Some (Run program limit numbers)) = (limit ≤ MOST_TURNS) × (length numbers ≤ MOST_NUMBERS)
+within (Some (Record program base limit numbers)) =
+    IsBase base × (limit ≤ MOST_TURNS) × (length numbers ≤ MOST_NUMBERS)
+within (Some (Demo seed size)) = (seed < SEED_END) × (1 ≤ size) × (size ≤ LARGEST_SIZE)
 within (Some _) = Unit {0}
 
 record IsWithin (o : Option Order) : Type 0 where
@@ -44,13 +49,28 @@ any_made o f k = made (λ _. Unit {0}) o f (always o) (λ x u. k x)
 
 -- ---- the limit and the numbers
 
-limit_within : (o : Option ℕ) → IfSome (option_and_then (where_so is_limit) o) (λ l. l ≤ MOST_TURNS)
-limit_within None = tt
-limit_within (Some l) = go (is_limit l) refl
+-- what passes a test has what the test decides
+passed : (P : ℕ → Type 0) (test : ℕ → Bool) (o : Option ℕ) → ((n : ℕ) → test n ≡ true → P n) → IfSome (option_and_then (where_so test) o) P
+passed P test None h = tt
+passed P test (Some n) h = go (test n) refl
   where
-    go : (b : Bool) → is_limit l ≡ b → IfSome (cond b (Some l) None) (λ n. n ≤ MOST_TURNS)
-    go true e = leb-true _ _ e
+    go : (b : Bool) → test n ≡ b → IfSome (cond b (Some n) None) P
+    go true e = h n e
     go false e = tt
+
+limit_within : (o : Option ℕ) → IfSome (option_and_then (where_so is_limit) o) (λ l. l ≤ MOST_TURNS)
+limit_within o = passed (λ l. l ≤ MOST_TURNS) is_limit o (λ l e. leb-true _ _ e)
+
+base_within : (o : Option ℕ) → IfSome (option_and_then (where_so is_base) o) IsBase
+base_within o = passed IsBase is_base o base_valid
+
+seed_within : (o : Option ℕ) → IfSome (option_and_then (where_so is_seed) o) (λ seed. seed < SEED_END)
+seed_within o = passed (λ seed. seed < SEED_END) is_seed o (λ seed e. ltb-true seed SEED_END e)
+
+size_within : (o : Option ℕ) → IfSome (option_and_then (where_so is_size) o) (λ size. (1 ≤ size) × (size ≤ LARGEST_SIZE))
+size_within o =
+    passed (λ size. (1 ≤ size) × (size ≤ LARGEST_SIZE)) is_size o
+    (λ size e. let both = and_parts (nat_le 1 size) (nat_le size LARGEST_SIZE) e in (leb-true 1 size both.0, leb-true size LARGEST_SIZE both.1))
 
 one_more : {A : Type 0} (o : Option A) (os : Option (List A)) (n : ℕ) → IfSome os (λ xs. length xs ≡ n) → IfSome (option_and_then (λ x. option_map (λ xs. x ∷ xs) os) o) (λ xs. length xs ≡ suc n)
 one_more None os n h = tt
@@ -84,9 +104,10 @@ run_within rows =
 record_within : (rows : List Row) → IsWithin (record_in rows)
 record_within rows =
     any_given (first_of (codes "program") rows) _ (λ program.
-    any_given (number_in is_base (codes "base") rows) _ (λ base.
-    any_given (number_in is_limit (codes "limit") rows) _ (λ limit.
-    any_made (numbers_of (texts_in (codes "numbers") rows)) (λ numbers. Record program base limit numbers) (λ numbers. record { bounds = tt }))))
+    given IsBase (number_in is_base (codes "base") rows) _ (base_within (decimal_in (codes "base") rows)) (λ base b.
+    given (λ l. l ≤ MOST_TURNS) (number_in is_limit (codes "limit") rows) _ (limit_within (decimal_in (codes "limit") rows)) (λ limit l.
+    made (λ ns. length ns ≤ MOST_NUMBERS) (numbers_of (texts_in (codes "numbers") rows)) (λ numbers. Record program base limit numbers) (numbers_within (texts_in (codes "numbers") rows)) (λ numbers n.
+    record { bounds = (b, l, n) }))))
 
 many_within : (rows : List Row) → IsWithin (many_in rows)
 many_within rows =
@@ -102,8 +123,9 @@ crash_within rows =
 
 demo_within : (rows : List Row) → IsWithin (demo_in rows)
 demo_within rows =
-    any_given (number_in is_seed (codes "seed") rows) _ (λ seed.
-    any_made (number_in is_size (codes "size") rows) (λ size. Demo seed size) (λ size. record { bounds = tt }))
+    given (λ seed. seed < SEED_END) (number_in is_seed (codes "seed") rows) _ (seed_within (decimal_in (codes "seed") rows)) (λ seed s.
+    made (λ size. (1 ≤ size) × (size ≤ LARGEST_SIZE)) (number_in is_size (codes "size") rows) (λ size. Demo seed size) (size_within (decimal_in (codes "size") rows)) (λ size z.
+    record { bounds = (s, z.0, z.1) }))
 
 by_within : (verb : Verb) (words : List Text) → IsWithin (order_by verb words)
 by_within verbs.Run words = any_given (reads run_app words) run_in run_within
@@ -123,3 +145,9 @@ order_within (word ∷ rest) = any_given (verb_of word) (λ verb. order_by verb 
 
 pub runs_valid : RunsAreValid
 runs_valid words program limit numbers e = subst within e (order_within words).bounds
+
+pub records_valid : RecordsAreValid
+records_valid words program base limit numbers e = subst within e (order_within words).bounds
+
+pub demos_valid : DemosAreValid
+demos_valid words seed size e = subst within e (order_within words).bounds

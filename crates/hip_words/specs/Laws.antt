@@ -1,11 +1,13 @@
--- What the definition of an order says of words that do not begin with `-`, of bases, and of the input of a run.
-use Rattle.std.specs.Prelude.{◌≡◌, ◌≤◌, ℕ, ℤ, Bool, true, not, ◌==◌, List, [], ◌∷◌, Some, codes, length, option_map}
+-- What the definition of an order says of words that do not begin with `-`, of bases, of the inputs of runs, and of
+-- generated programs.
+use Rattle.std.specs.Prelude.{◌≡◌, ◌<◌, ◌≤◌, ℕ, ℤ, Bool, true, not, ◌==◌, List, [], ◌∷◌, Some, codes, length, option_map}
 use Rattle.std.specs.List.{list_all}
 use Rattle.clap.specs.Words.{Text}
+use Rattle.hip_gen.specs.declared.limits.TheConstants.{LARGEST_SIZE, SEED_END}
 use Rattle.hip_globals.specs.Addresses.{IsBase, is_base}
 use Rattle.hip_runs.specs.declared.limits.TheConstants.{MOST_NUMBERS, MOST_TURNS}
 use Rattle.hip_words.specs.Order.{files_of, numbers_of, order}
-use Rattle.hip_words.specs.declared.order.Order.TheVariants.{Run}
+use Rattle.hip_words.specs.declared.order.Order.TheVariants.{Demo, Record, Run}
 
 -- the word does not begin with `-`
 abbrev pub is_plain : Text → Bool
@@ -31,3 +33,16 @@ abbrev pub RunsAreValid : Type 0
 RunsAreValid =
     (words : List Text) (program : Text) (limit : ℕ) (numbers : List ℤ) → order words ≡ Some (Run program limit numbers)
     → (limit ≤ MOST_TURNS) × (length numbers ≤ MOST_NUMBERS)
+
+-- so has one that is recorded, and its base is one
+abbrev pub RecordsAreValid : Type 0
+RecordsAreValid =
+    (words : List Text) (program : Text) (base limit : ℕ) (numbers : List ℤ)
+    → order words ≡ Some (Record program base limit numbers)
+    → IsBase base × (limit ≤ MOST_TURNS) × (length numbers ≤ MOST_NUMBERS)
+
+-- a program is generated for a seed and a size that one may have
+abbrev pub DemosAreValid : Type 0
+DemosAreValid =
+    (words : List Text) (seed size : ℕ) → order words ≡ Some (Demo seed size)
+    → (seed < SEED_END) × (1 ≤ size) × (size ≤ LARGEST_SIZE)

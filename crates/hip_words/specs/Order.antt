@@ -1,11 +1,12 @@
 -- The order that the words give.
-use Rattle.std.specs.Prelude.{ℕ, ℤ, ◌%◌, ◌^◌, Bool, ◌&&◌, ◌==◌, nat_le, nat_lt, List, [], ◌∷◌, Option, Some, None, if◌then◌else◌, codes, length, option_map, option_and_then, unwrap_or}
+use Rattle.std.specs.Prelude.{ℕ, ℤ, Bool, ◌&&◌, ◌==◌, nat_le, nat_lt, List, [], ◌∷◌, Option, Some, None, if◌then◌else◌, codes, length, option_map, option_and_then, unwrap_or}
 use Rattle.std.specs.List.{after_first, before_first, position_or_len}
 use Rattle.std.specs.Str.{bytes_eq}
 use Rattle.clap.specs.Words.{Row, Text, all_of, first_of}
+use Rattle.hip_gen.specs.declared.limits.TheConstants.{LARGEST_SIZE, SEED_END}
 use Rattle.hip_globals.specs.Addresses.{is_base}
 use Rattle.hip_runs.specs.declared.limits.TheConstants.{MOST_NUMBERS, MOST_TURNS}
-use Rattle.hip_words.specs.declared.limits.TheConstants.{LARGEST_SIZE, MOST_TRACES, SEED_END}
+use Rattle.hip_words.specs.declared.limits.TheConstants.{MOST_TRACES}
 use Rattle.hip_words.specs.Commands.{crash_app, demo_app, files_app, many_app, reads, record_app, run_app}
 use Rattle.hip_words.specs.Numbers.{decimal_of, signed_of}
 use Rattle.hip_words.specs.declared.order.Order.{Order}

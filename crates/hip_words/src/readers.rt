@@ -9,12 +9,12 @@ ghost use Rattle.hip_words.specs.Order.{crash_in, decimal_in, demo_in, files_of,
 use crate::commands::{
     crash_command, demo_command, files_command, many_command, record_command, run_command,
 };
-use crate::limits::{LARGEST_SIZE, SEED_END};
 use crate::matches::{first_text, numbers_in, parse, picks_in, text_of, traces_in};
 use crate::numbers::decimal_of;
 use crate::order::Order;
 use crate::refusal::WordsRefusal;
 use clap::ArgMatches;
+use hip_gen::{LARGEST_SIZE, SEED_END};
 use hip_globals::is_base;
 use hip_runs::MOST_TURNS;
 use hip_types::Text;

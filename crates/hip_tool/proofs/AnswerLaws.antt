@@ -1,34 +1,31 @@
 -- The files give one answer.
 use Rattle.std.proofs.Common.{◌≡◌, ℕ, zero, suc, Bool, true, false, cond, ◌&&◌, eqb, List, [], ◌∷◌, length, map, slice_get, Option, Some, None, inl, inr, refl, sym, ap, subst, ◌∙◌, arith}
+use Rattle.std.specs.Prelude.{◌⊎◌, IfSome}
 use Rattle.std.proofs.lemmas.List.{length-replicate}
 use Rattle.std.proofs.lemmas.Bool.{and_parts}
-use Rattle.hip_io.specs.Cabinets.{file_of}
-use Rattle.hip_io.specs.declared.cabinet.NamedFile.{NamedFile}
-use Rattle.hip_tokens.specs.Tokens.{tokens}
-use Rattle.hip_ir.specs.declared.program.Program.{Program}
-use Rattle.hip_ir.specs.Reading.{Reads}
-use Rattle.hip_ir.specs.Laws.TextExact.{one_program}
+use Rattle.hip_answers.specs.Answers.{Answer}
+use Rattle.hip_answers.specs.declared.status.Status.{Status}
+use Rattle.hip_answers.specs.declared.status.Status.TheVariants.{ReadFault}
 use Rattle.hip_globals.specs.Addresses.{is_base}
-use Rattle.hip_tool.specs.Input.{is_limit, region_size, IsValid}
-use Rattle.hip_trace.specs.Pieces.{spelled}
-use Rattle.hip_tool.specs.OneStore.{is_one_store}
-use Rattle.hip_tool.specs.Misfit.{Header, Gives, header, behind_limit, from_base, spelled_limit, spelled_base, input_of, MisfitBehind, IsMisfit, IsTraceOf}
+use Rattle.hip_io.specs.Cabinets.{CabinetState, file_of}
+use Rattle.hip_io.specs.declared.cabinet.NamedFile.{NamedFile}
+use Rattle.hip_ir.specs.declared.program.Program.{Program}
+use Rattle.hip_loading.specs.Laws.{LoadsOne}
+use Rattle.hip_loading.specs.Loading.{HasNoProgram, IsProgramOf}
 use Rattle.hip_run_traces.specs.Misfits.{DiffersAt}
+use Rattle.hip_run_traces.specs.declared.misfit.MisfitKind.{MisfitKind}
+use Rattle.hip_tool.specs.Answer.{HasNoTrace, IsTraceFile, RepairAnswers, Repairs}
+use Rattle.hip_tool.specs.Input.{is_limit, region_size, IsValid}
+use Rattle.hip_tool.specs.Laws.{HeadersAreValid}
+use Rattle.hip_tool.specs.Misfit.{Header, Gives, header, behind_limit, from_base, spelled_limit, spelled_base, input_of, MisfitBehind, IsMisfit, IsTraceOf}
+use Rattle.hip_tool.specs.OneStore.{is_one_store}
 use Rattle.hip_tool.specs.Run.{trace}
-use Rattle.hip_tool.specs.Answer.{IsProgram, RefusesForm}
-use Rattle.hip_tool.specs.Reading.{RefusesText}
-use Rattle.hip_tool.specs.Laws.{HeadersAreValid, RepairsExclude, RepairsAreOne}
-use Rattle.hip_typing.specs.Sound.{IsSound}
-use Rattle.hip_typing.specs.declared.fault.TypeRefusal.{TypeRefusal}
-use Rattle.hip_parse.specs.declared.error.ParseRefusal.{ParseRefusal}
-use Rattle.hip_parse.specs.declared.error.ParseRefusal.TheVariants as parse
+use Rattle.hip_tool.specs.declared.input.Input.{Input}
+use Rattle.hip_tool.specs.declared.refusal.TraceRefusal.{TraceRefusal}
+use Rattle.hip_tool.specs.declared.refusal.TraceRefusal.TheVariants as traces
+use Rattle.hip_trace.specs.Pieces.{spelled}
 use Rattle.hip_trace.specs.declared.entry.Entry.{Entry}
 use Rattle.hip_trace.specs.declared.entry.Entry.TheVariants.{Start, Register}
-use Rattle.hip_tool.specs.declared.input.Input.{Input}
-use Rattle.hip_run_traces.specs.declared.misfit.MisfitKind.{MisfitKind}
-use Rattle.hip_tool.specs.declared.status.FileRole.TheVariants as roles
-use Rattle.hip_tool.specs.declared.status.ProgramRefusal.TheVariants as refusals
-use Rattle.hip_tool.specs.declared.status.Status.TheVariants as statuses
 
 -- ---- the header's input
 
@@ -73,11 +70,6 @@ same_bytes a b o p q = let k : Some a ≡ Some b = sym p ∙ q in cc
 not_there : (a : List ℕ) (o : Option (List ℕ)) → o ≡ Some a → o ≡ None → ⊥
 not_there a o p q = let k : Some a ≡ None = sym p ∙ q in cc
 
-same_program : (files : List NamedFile) (name : List ℕ) (p q : Program) → IsProgram files name p → IsProgram files name q → p ≡ q
-same_program files name p q a b =
-    let text = same_bytes b.text a.text (file_of files name) b.is_text.found a.is_text.found in
-    one_program (tokens a.text) p q a.reads (subst (λ (t : List ℕ). Reads t q) text b.reads)
-
 no_difference : (ts : List Entry) (n : ℕ) (kind : MisfitKind) → DiffersAt true (slice_get (map (λ t. Some t) ts) n) (slice_get ts n) kind → ⊥
 no_difference [] n kind h = h
 no_difference (t ∷ ts) zero kind h = h.0 refl
@@ -95,47 +87,46 @@ same_input program q bytes b input i e f t u =
     let k : Gives input ≡ Gives i = sym t.input_is ∙ there ∙ u.input_is in
     cc
 
-pub repairs_are_one : RepairsAreOne
-repairs_are_one files p t out notes out' notes' r s =
-    let e = same_program files p r.program s.program r.is_program s.is_program in
-    let f = same_bytes r.is_trace.bytes s.is_trace.bytes (file_of files t) r.is_trace.found s.is_trace.found in
-    let i = same_input r.program s.program r.is_trace.bytes s.is_trace.bytes r.input s.input e f r.is_trace.trace s.is_trace.trace in
-    let a = r.out_is in let b = s.out_is in let c = r.notes_is in let d = s.notes_is in
-    ((cc), (cc))
+same_answer : (a b : Answer) → a.status ≡ b.status → a.out ≡ b.out → a.notes ≡ b.notes → a ≡ b
+same_answer a b s o n = made s o n
+  where
+    made : {s t : Status} {o p n m : List ℕ} → s ≡ t → o ≡ p → n ≡ m → ◌≡◌ {A = Answer} (record { status = s; out = o; notes = n }) (record { status = t; out = p; notes = m })
+    made e f g = cc
 
-refused_is_unread : (text : List ℕ) (why : ParseRefusal) (program : Program) → RefusesText text why → Reads text program → ⊥
-refused_is_unread text (parse.Syntax line) program h r = h.unread program r
-refused_is_unread text (parse.Unsupported line) program h r = h.unread program r
-refused_is_unread text (parse.Range line) program h r = h.unread program r
-refused_is_unread text (parse.TooDeep line) program h r = h.unread program r
-refused_is_unread text parse.NoMemory program h r = h
+-- a trace that is told is one, so there is no misfit
+traced_is_traced : (files : List NamedFile) (t : List ℕ) (P Q : Program) (input : Input) (why : TraceRefusal) → P ≡ Q → IsTraceFile files t P input → HasNoTrace (Some files) t Q why → ⊥
+traced_is_traced files t P Q input traces.Missing same traced h = not_there traced.bytes (file_of files t) traced.found h
+traced_is_traced files t P Q input (traces.Misfit entry kind) same traced h =
+    let bytes = same_bytes h.bytes traced.bytes (file_of files t) h.found traced.found in
+    no_misfit P traced.bytes input entry kind traced.trace
+    (subst (λ (b : List ℕ). IsMisfit P b true entry kind) bytes (subst (λ (q : Program). IsMisfit q h.bytes true entry kind) (sym same) h.misfit))
 
-is_taken : {files : List NamedFile} {name : List ℕ} (p q : Program) (why : TypeRefusal) → p ≡ q → RefusesForm p why → IsProgram files name q → ⊥
-is_taken p q why same (inl refused) taken = refused.unsound (subst IsSound (sym same) taken.sound)
-is_taken p q why same (inr later) taken = let k : false ≡ true = sym later.other ∙ ap is_one_store same ∙ taken.taken in cc
+one_input : (files : List NamedFile) (t : List ℕ) (P Q : Program) (i j : Input) → P ≡ Q → IsTraceFile files t P i → IsTraceFile files t Q j → i ≡ j
+one_input files t P Q i j same p q =
+    same_input P Q p.bytes q.bytes i j same (same_bytes p.bytes q.bytes (file_of files t) p.found q.found) p.trace q.trace
 
-pub repairs_exclude : RepairsExclude
-repairs_exclude files p t out notes (statuses.Missing roles.Program) r h = absurd (not_there r.is_program.text (file_of files p) r.is_program.is_text.found h)
-repairs_exclude files p t out notes (statuses.Missing roles.Trace) r h = absurd (not_there r.is_trace.bytes (file_of files t) r.is_trace.found h.2)
-repairs_exclude files p t out notes statuses.TooLarge r h =
-    absurd (let same = ap length (same_bytes h.text r.is_program.text (file_of files p) h.found r.is_program.is_text.found) in omega (arith, same, h.long, r.is_program.is_text.fits))
-repairs_exclude files p t out notes (statuses.BadProgram (refusals.Text why)) r h =
-    let same = same_bytes h.text r.is_program.text (file_of files p) h.is_text.found r.is_program.is_text.found in
-    absurd (refused_is_unread r.is_program.text why r.program (subst (λ (x : List ℕ). RefusesText x why) same h.refused) r.is_program.reads)
-repairs_exclude files p t out notes (statuses.BadProgram (refusals.Form why)) r h =
-    let same = same_bytes h.text r.is_program.text (file_of files p) h.is_text.found r.is_program.is_text.found in
-    let f = h.refused in
-    let one = one_program (tokens r.is_program.text) f.0 r.program (subst (λ (x : List ℕ). Reads x f.0) same f.1) r.is_program.reads in
-    absurd (is_taken f.0 r.program why one f.2 r.is_program)
-repairs_exclude files p t out notes (statuses.Misfit entry kind) r h =
-    let e = same_program files p h.0 r.program h.1 r.is_program in
-    let f = same_bytes h.2.bytes r.is_trace.bytes (file_of files t) h.2.found r.is_trace.found in
-    absurd (no_misfit r.program r.is_trace.bytes r.input entry kind r.is_trace.trace
-    (subst (λ (b : List ℕ). IsMisfit r.program b true entry kind) f (subst (λ (q : Program). IsMisfit q h.2.bytes true entry kind) e h.2.misfit)))
-repairs_exclude files p t out notes statuses.ReadFault r h = inl refl
-repairs_exclude files p t out notes statuses.NoMemory r h = inr refl
-repairs_exclude files p t out notes statuses.Done r h = absurd h
-repairs_exclude files p t out notes statuses.Usage r h = absurd h
-repairs_exclude files p t out notes statuses.WriteFault r h = absurd h
-repairs_exclude files p t out notes (statuses.Trapped kind) r h = absurd h
-repairs_exclude files p t out notes statuses.Cut r h = absurd h
+module _ (one : (files : List NamedFile) (name : List ℕ) → LoadsOne files name) (files : List NamedFile) (p t : List ℕ) where
+  same_program : (f g : Option (List NamedFile)) (P Q : Program) → f ≡ Some files → g ≡ Some files → IsProgramOf f p P → IsProgramOf g p Q → P ≡ Q
+  same_program f g P Q e h a b =
+      (one files p).programs P Q (subst (λ x. IsProgramOf x p P) e a) (subst (λ x. IsProgramOf x p Q) h b)
+
+  pub one_repair : (old new other other_new : CabinetState) (a b : Answer) → old.files ≡ Some files → other.files ≡ Some files → Repairs old new p t a → RepairAnswers other other_new p t b → (b.status ≡ ReadFault) ⊎ (b ≡ a)
+  one_repair old new other other_new a b e h r (inl (inl u)) =
+      absurd ((one files p).excluded r.program u.why (subst (λ x. IsProgramOf x p r.program) e r.loaded) (subst (λ x. HasNoProgram x p u.why) h u.cause))
+  one_repair old new other other_new a b e h r (inl (inr u)) = inl (ap (λ (x : Answer). x.status) u.is)
+  one_repair old new other other_new a b e h r (inr (inl u)) =
+      let same = same_program old.files other.files r.program u.program e h r.loaded u.loaded in
+      absurd (let k : true ≡ false = sym r.taken ∙ ap is_one_store same ∙ u.other in let z : ⊥ = cc in z)
+  one_repair old new other other_new a b e h r (inr (inr (inl u))) =
+      let same = same_program old.files other.files r.program u.program e h r.loaded u.loaded in
+      absurd (traced_is_traced files t r.program u.program r.input u.why same
+      (subst (λ x. IfSome x (λ fs. IsTraceFile fs t r.program r.input)) e r.traced)
+      (subst (λ x. HasNoTrace x t u.program u.why) h u.cause))
+  one_repair old new other other_new a b e h r (inr (inr (inr u))) =
+      let same = same_program old.files other.files r.program u.program e h r.loaded u.loaded in
+      let i = one_input files t r.program u.program r.input u.input same
+      (subst (λ x. IfSome x (λ fs. IsTraceFile fs t r.program r.input)) e r.traced)
+      (subst (λ x. IfSome x (λ fs. IsTraceFile fs t u.program u.input)) h u.traced) in
+      let s1 = u.status_is in let s2 = r.status_is in let o1 = u.out_is in let o2 = r.out_is in
+      let n1 = u.notes_is in let n2 = r.notes_is in
+      inr (same_answer b a (cc) (cc) (cc))

@@ -1,3 +1,3 @@
 pub mod AnswerLaws
-pub mod Stops
 pub mod ReplayLaws
+pub mod Stages

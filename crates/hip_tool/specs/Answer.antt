@@ -1,86 +1,35 @@
--- What a command answers: a status, a text for the output and a text for the notes.
-use Rattle.std.specs.Prelude.{ℕ, ◌≡◌, ◌≤◌, ◌<◌, true, false, List, ◌++◌, length, Some, None, codes, ◌⊎◌}
+-- The answers of `repair`.
+use Rattle.std.specs.Prelude.{ℕ, ◌≡◌, Bool, true, false, List, ◌++◌, length, Option, Some, None, IfSome, Result, Ok, Err, codes, ◌⊎◌}
 use Rattle.std.specs.Fmt.{decimal}
-use Rattle.hip_io.specs.Cabinets.{file_of}
+use Rattle.hip_answers.specs.Answers.{Answer, refusal}
+use Rattle.hip_answers.specs.Programs.{LacksProgram}
+use Rattle.hip_answers.specs.declared.status.FileRole.TheVariants as roles
+use Rattle.hip_answers.specs.declared.status.Status.{Status}
+use Rattle.hip_answers.specs.declared.status.Status.TheVariants as statuses
+use Rattle.hip_io.specs.Cabinets.{CabinetState, file_of}
 use Rattle.hip_io.specs.declared.cabinet.NamedFile.{NamedFile}
-use Rattle.hip_ir.specs.declared.program.Program.{Program}
-use Rattle.hip_ir.specs.Reading.{Reads}
 use Rattle.hip_ir.specs.Show.{show}
-use Rattle.hip_tool.specs.Reading.{RefusesText}
-use Rattle.hip_tool.specs.OneStore.{is_one_store}
-use Rattle.hip_tool.specs.Misfit.{IsMisfit, IsTraceOf}
-use Rattle.hip_tool.specs.Run.{reports, plan, repaired}
-use Rattle.hip_tool.specs.declared.command.TheConstants.{TEXT_LIMIT}
-use Rattle.hip_tool.specs.declared.input.Input.{Input}
+use Rattle.hip_ir.specs.declared.program.Program.{Program}
+use Rattle.hip_loading.specs.Loading.{IsProgramOf}
+use Rattle.hip_loading.specs.Outside.{HasMet}
+use Rattle.hip_loading.specs.declared.failure.Failure.{Failure}
+use Rattle.hip_loading.specs.declared.failure.Failure.TheVariants as failures
+use Rattle.hip_loading.specs.declared.refusal.ProgramRefusal.TheVariants as refusals
 use Rattle.hip_run_traces.specs.declared.misfit.MisfitKind.{MisfitKind}
+use Rattle.hip_tool.specs.Misfit.{IsMisfit, IsTraceOf}
+use Rattle.hip_tool.specs.OneStore.{is_one_store}
+use Rattle.hip_tool.specs.Run.{reports, plan, repaired}
+use Rattle.hip_tool.specs.declared.command.Found.{Found}
+use Rattle.hip_tool.specs.declared.input.Input.{Input}
+use Rattle.hip_tool.specs.declared.refusal.TraceRefusal.{TraceRefusal}
+use Rattle.hip_tool.specs.declared.refusal.TraceRefusal.TheVariants as traces
 use Rattle.hip_tool.specs.declared.repair.Plan.{Plan}
-use Rattle.hip_typing.specs.Checks.{IsRefused}
-use Rattle.hip_typing.specs.Sound.{IsSound}
-use Rattle.hip_typing.specs.declared.fault.TypeFault.TheVariants as faults
 use Rattle.hip_typing.specs.declared.fault.Place.TheVariants as places
-use Rattle.hip_typing.specs.declared.fault.TypeRefusal.{TypeRefusal}
-use Rattle.hip_tool.specs.declared.status.FileRole.TheVariants as roles
-use Rattle.hip_tool.specs.declared.status.ProgramRefusal.{ProgramRefusal}
-use Rattle.hip_tool.specs.declared.status.ProgramRefusal.TheVariants as refusals
-use Rattle.hip_tool.specs.declared.status.Status.{Status}
-use Rattle.hip_tool.specs.declared.status.Status.TheVariants as statuses
-
--- ---- the program
-
--- the text of the file, which is not too long
-pub record IsText (files : List NamedFile) (name text : List ℕ) : Type 0 where
-  pub found : file_of files name ≡ Some text
-  pub fits : length text ≤ TEXT_LIMIT
-
--- the file's text reads as the program, which is sound and which `repair` takes
-pub record IsProgram (files : List NamedFile) (name : List ℕ) (program : Program) : Type 0 where
-  pub text : List ℕ
-  pub is_text : IsText files name text
-  pub reads : Reads text program
-  pub sound : IsSound program
-  pub taken : is_one_store program ≡ true
-
-pub record IsTooLong (files : List NamedFile) (name : List ℕ) : Type 0 where
-  pub text : List ℕ
-  pub found : file_of files name ≡ Some text
-  pub long : TEXT_LIMIT < length text
+use Rattle.hip_typing.specs.declared.fault.TypeFault.TheVariants as faults
 
 -- the refusal of a sound program that `repair` does not take yet
-abbrev pub not_yet : TypeRefusal
-not_yet = record { fault = faults.BadShape; place = places.Whole }
-
-pub record IsNotYet (program : Program) (why : TypeRefusal) : Type 0 where
-  pub sound : IsSound program
-  pub other : is_one_store program ≡ false
-  pub refusal : why ≡ not_yet
-
--- a program that is read is refused for the first rule of soundness that it breaks, or because it is not taken yet
-abbrev pub RefusesForm : Program → TypeRefusal → Type 0
-RefusesForm program why = IsRefused program why ⊎ IsNotYet program why
-
-abbrev pub RefusesProgram : List ℕ → ProgramRefusal → Type 0
-RefusesProgram text (refusals.Text why) = RefusesText text why
-RefusesProgram text (refusals.Form why) = (program : Program) × Reads text program × RefusesForm program why
-
-pub record IsBadProgram (files : List NamedFile) (name : List ℕ) (why : ProgramRefusal) : Type 0 where
-  pub text : List ℕ
-  pub is_text : IsText files name text
-  pub refused : RefusesProgram text why
-
--- why there is no program in the file
-abbrev pub ProgramCause : List NamedFile → List ℕ → Status → Type 0
-ProgramCause files name (statuses.Missing roles.Program) = file_of files name ≡ None
-ProgramCause files name (statuses.Missing roles.Trace) = ⊥
-ProgramCause files name statuses.TooLarge = IsTooLong files name
-ProgramCause files name (statuses.BadProgram why) = IsBadProgram files name why
-ProgramCause files name statuses.ReadFault = Unit {0}
-ProgramCause files name statuses.NoMemory = Unit {0}
-ProgramCause files name statuses.Done = ⊥
-ProgramCause files name statuses.Usage = ⊥
-ProgramCause files name statuses.WriteFault = ⊥
-ProgramCause files name (statuses.Misfit entry kind) = ⊥
-ProgramCause files name (statuses.Trapped kind) = ⊥
-ProgramCause files name statuses.Cut = ⊥
+abbrev pub not_yet : Status
+not_yet = statuses.BadProgram (refusals.Form (record { fault = faults.BadShape; place = places.Whole }))
 
 -- ---- the trace
 
@@ -97,42 +46,33 @@ pub record IsMisfitFile (files : List NamedFile) (name : List ℕ) (program : Pr
   pub misfit : IsMisfit program bytes true entry kind
 
 -- why the file is no trace of the program
-abbrev pub TraceCause : List NamedFile → List ℕ → Program → Status → Type 0
-TraceCause files name program (statuses.Missing roles.Program) = ⊥
-TraceCause files name program (statuses.Missing roles.Trace) = file_of files name ≡ None
-TraceCause files name program (statuses.Misfit entry kind) = IsMisfitFile files name program entry kind
-TraceCause files name program statuses.ReadFault = Unit {0}
-TraceCause files name program statuses.NoMemory = Unit {0}
-TraceCause files name program statuses.Done = ⊥
-TraceCause files name program statuses.Usage = ⊥
-TraceCause files name program statuses.WriteFault = ⊥
-TraceCause files name program (statuses.BadProgram why) = ⊥
-TraceCause files name program statuses.TooLarge = ⊥
-TraceCause files name program (statuses.Trapped kind) = ⊥
-TraceCause files name program statuses.Cut = ⊥
+abbrev pub HasNoTrace : Option (List NamedFile) → List ℕ → Program → TraceRefusal → Type 0
+HasNoTrace files name program traces.Missing = IfSome files (λ fs. file_of fs name ≡ None)
+HasNoTrace files name program (traces.Misfit entry kind) =
+    IfSome files (λ fs. IsMisfitFile fs name program entry kind)
+
+abbrev pub is_missing : TraceRefusal → Bool
+is_missing traces.Missing = true
+is_missing (traces.Misfit entry kind) = false
+
+abbrev pub LoadsTrace : Program → List ℕ → CabinetState → CabinetState → Result Input (Failure TraceRefusal) → Type 0
+LoadsTrace program name old new (Ok input) =
+    HasMet false false old new × IfSome old.files (λ fs. IsTraceFile fs name program input)
+LoadsTrace program name old new (Err (failures.Refused why)) =
+    HasMet (is_missing why) false old new × HasNoTrace old.files name program why
+LoadsTrace program name old new (Err failures.ReadFault) = HasMet false true old new
+LoadsTrace program name old new (Err failures.NoMemory) = HasMet false false old new
+
+abbrev pub status_of_refusal : TraceRefusal → Status
+status_of_refusal traces.Missing = statuses.Missing roles.Trace
+status_of_refusal (traces.Misfit entry kind) = statuses.Misfit entry kind
+
+abbrev pub status_of_trace : Failure TraceRefusal → Status
+status_of_trace (failures.Refused why) = status_of_refusal why
+status_of_trace failures.ReadFault = statuses.ReadFault
+status_of_trace failures.NoMemory = statuses.NoMemory
 
 -- ---- `repair`
-
--- why `repair` is not carried out: the program is looked at first, and then the trace
-abbrev pub Cause : List NamedFile → List ℕ → List ℕ → Status → Type 0
-Cause files program_name trace_name (statuses.Missing roles.Trace) =
-    (program : Program) × IsProgram files program_name program
-    × TraceCause files trace_name program (statuses.Missing roles.Trace)
-Cause files program_name trace_name (statuses.Misfit entry kind) =
-    (program : Program) × IsProgram files program_name program
-    × TraceCause files trace_name program (statuses.Misfit entry kind)
-Cause files program_name trace_name (statuses.Missing roles.Program) =
-    ProgramCause files program_name (statuses.Missing roles.Program)
-Cause files program_name trace_name statuses.TooLarge = ProgramCause files program_name statuses.TooLarge
-Cause files program_name trace_name (statuses.BadProgram why) =
-    ProgramCause files program_name (statuses.BadProgram why)
-Cause files program_name trace_name statuses.ReadFault = Unit {0}
-Cause files program_name trace_name statuses.NoMemory = Unit {0}
-Cause files program_name trace_name statuses.Done = ⊥
-Cause files program_name trace_name statuses.Usage = ⊥
-Cause files program_name trace_name statuses.WriteFault = ⊥
-Cause files program_name trace_name (statuses.Trapped kind) = ⊥
-Cause files program_name trace_name statuses.Cut = ⊥
 
 -- `reports 1`, on a line
 abbrev pub count_line : List ℕ → ℕ → List ℕ
@@ -145,11 +85,43 @@ counts_text found p =
     ++ count_line (codes "fences ") (length p.fence_after) ++ count_line (codes "hoists ") (length p.hoist)
     ++ count_line (codes "clones ") 0
 
--- The repair of a program for a run: the canonical text of the repaired program, and the counts.
-pub record Repairs (files : List NamedFile) (program_name trace_name out notes : List ℕ) : Type 0 where
+-- The program is sound, and is none that is repaired so far.
+pub record IsNotYet (old new : CabinetState) (name : List ℕ) (answer : Answer) : Type 0 where
   pub program : Program
-  pub is_program : IsProgram files program_name program
+  pub loaded : IsProgramOf old.files name program
+  pub other : is_one_store program ≡ false
+  pub met : HasMet false false old new
+  pub is : answer ≡ refusal not_yet
+
+-- The file is not the trace of a run of the program, and the answer says why.
+pub record IsUntraced (old new : CabinetState) (program_name trace_name : List ℕ) (answer : Answer) : Type 0 where
+  pub program : Program
+  pub loaded : IsProgramOf old.files program_name program
+  pub taken : is_one_store program ≡ true
+  pub why : TraceRefusal
+  pub met : HasMet (is_missing why) false old new
+  pub cause : HasNoTrace old.files trace_name program why
+  pub is : answer ≡ refusal (status_of_refusal why)
+
+-- The repair of a program for a run: the canonical text of the repaired program, and the counts.
+pub record Repairs (old new : CabinetState) (program_name trace_name : List ℕ) (answer : Answer) : Type 0 where
+  pub program : Program
+  pub loaded : IsProgramOf old.files program_name program
+  pub taken : is_one_store program ≡ true
   pub input : Input
-  pub is_trace : IsTraceFile files trace_name program input
-  pub out_is : out ≡ show (repaired program (plan (reports input)))
-  pub notes_is : notes ≡ counts_text (length (reports input)) (plan (reports input))
+  pub traced : IfSome old.files (λ fs. IsTraceFile fs trace_name program input)
+  pub met : HasMet false false old new
+  pub status_is : answer.status ≡ statuses.Done
+  pub out_is : answer.out ≡ show (repaired program (plan (reports input)))
+  pub notes_is : answer.notes ≡ counts_text (length (reports input)) (plan (reports input))
+
+abbrev pub RepairAnswers : CabinetState → CabinetState → List ℕ → List ℕ → Answer → Type 0
+RepairAnswers old new program_name trace_name answer =
+    LacksProgram old new program_name answer
+    ⊎ (IsNotYet old new program_name answer
+    ⊎ (IsUntraced old new program_name trace_name answer ⊎ Repairs old new program_name trace_name answer))
+
+pub record IsFoundFor (program : Program) (input : Input) (found : Found) : Type 0 where
+  pub program_is : found.program ≡ repaired program (plan (reports input))
+  pub reports_are : found.reports ≡ length (reports input)
+  pub plan_is : found.plan ≡ plan (reports input)

@@ -4,10 +4,6 @@ pub mod OneStore
 pub mod Run
 pub mod Misfit
 pub mod Replays
-pub mod Reading
-pub mod Order
-pub mod Status
-pub mod Lines
 pub mod Answer
 pub mod Call
 pub mod Laws

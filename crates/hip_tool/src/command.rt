@@ -1,35 +1,29 @@
-//! The commands.
+//! `repair`: the repaired program, for a trace of one of its runs.
 
-ghost use Rattle.std.specs.Prelude.{◌≡◌, ℕ, List, ◌++◌, true, Some, IfOk, map, length, option_map, string_bytes, codes};
-ghost use Rattle.std.specs.Fmt.{decimal};
+ghost use Rattle.std.specs.Prelude.{◌≡◌, false, true, Some, IfOk};
+ghost use Rattle.hip_answers.specs.Answers.{HasAnswered, sinks};
 ghost use Rattle.hip_io.specs.Sinks.{Writes};
 ghost use Rattle.hip_ir.specs.Show.{show};
+ghost use Rattle.hip_tool.specs.Answer.{IsFoundFor, LoadsTrace, RepairAnswers, count_line, counts_text, not_yet, status_of_trace};
 ghost use Rattle.hip_tool.specs.OneStore.{one_store, is_one_store};
-ghost use Rattle.hip_tool.specs.Order.{order};
 ghost use Rattle.hip_tool.specs.Run.{repaired};
-ghost use Rattle.hip_tool.specs.Answer.{count_line, counts_text};
-ghost use Rattle.hip_tool.specs.Call.{TakesProgram, ReadsProgram, LoadsProgram, LoadsTrace, IsFoundFor, Finds, PutsLine, PutsTexts, HasAnswered};
 ghost use Rattle.hip_tool.specs.Seen.{seen_one_store};
 
 use crate::input::Input;
-use crate::lines::{put_line, put_number};
 use crate::one_store::{OneStore, is_one_store, one_store};
 use crate::plan::plan;
+use crate::refusal::TraceRefusal;
 use crate::repair::{Plan, apply};
 use crate::replay::{ReplayRefusal, replay};
 use crate::report::reports;
-use crate::status::{FileRole, ProgramRefusal, Status};
-use crate::words::{Order, WordsRefusal, read_words};
-use hip_io::{Cabinet, Fetched, Put, ReadRefusal, Sink, WriteFault, put_after, read_all};
+use hip_answers::{FileRole, Status, finish, put_number, refuse, status_of_failure};
+use hip_io::{Cabinet, Fetched, Put, Sink, WriteFault, put_after};
 use hip_ir::Program;
-use hip_parse::{ParseRefusal, parse};
+use hip_loading::{Failure, ProgramRefusal, load_program};
 use hip_types::NoMemory;
-use hip_typing::{Checked, Place, TypeFault, TypeRefusal, check};
+use hip_typing::{Place, TypeFault, TypeRefusal};
 use hip_write::write;
 use std::alloc::Global;
-
-/// How many bytes a program's text may have.
-const TEXT_LIMIT: u64 = 16_777_216;
 
 /// What is to be written: the repaired program, how many reports there are, and the plan.
 #[derive(Debug, Drop)]
@@ -39,81 +33,52 @@ pub(crate) struct Found {
     pub(crate) plan: Plan,
 }
 
-/// The program, where it is sound and `repair` takes it.
-fn take_program(alloc: Global, program: Program) -> Result<Checked, Status>
-    ensures { TakesProgram program result }
-{
-    let refusal = match check(alloc, program) {
-        Ok(checked) => {
-            if is_one_store(checked.program()) {
-                return Ok(checked);
-            }
-            TypeRefusal {
-                fault: TypeFault::BadShape,
-                place: Place::Whole,
-            }
-        }
-        Err(
-            TypeRefusal {
-                fault: TypeFault::NoMemory,
-                ..
-            },
-        ) => return Err(Status::NoMemory),
-        Err(refusal) => refusal,
-    };
-    Err(Status::BadProgram {
-        refusal: ProgramRefusal::Form(refusal),
-    })
-}
-
-/// The sound program that a text reads as.
-fn read_program(alloc: Global, text: &[u8]) -> Result<Checked, Status>
-    ensures { ReadsProgram text.now result }
-{
-    match parse(alloc, text) {
-        Ok(program) => take_program(alloc, program),
-        Err(ParseRefusal::NoMemory) => Err(Status::NoMemory),
-        Err(refusal) => Err(Status::BadProgram {
-            refusal: ProgramRefusal::Text(refusal),
-        }),
-    }
-}
-
-/// The program in a file.
-fn load_program<C: Cabinet>(alloc: Global, cabinet: &mut C, name: &str) -> Result<Checked, Status>
-    ensures { LoadsProgram name.now (C.state cabinet.old) (C.state cabinet.new) result }
-{
-    match read_all(alloc, cabinet, name, TEXT_LIMIT) {
-        Ok(text) => read_program(alloc, text.as_slice()),
-        Err(ReadRefusal::Missing) => Err(Status::Missing {
-            file: FileRole::Program,
-        }),
-        Err(ReadRefusal::ReadFault) => Err(Status::ReadFault),
-        Err(ReadRefusal::TooLarge) => Err(Status::TooLarge),
-        Err(ReadRefusal::NoMemory) => Err(Status::NoMemory),
-    }
-}
-
 /// The input of the run whose trace a file has.
 fn load_trace<C: Cabinet>(
     alloc: Global,
     program: &Program,
     cabinet: &mut C,
     name: &str,
-) -> Result<Input, Status>
+) -> Result<Input, Failure<TraceRefusal>>
     ensures { LoadsTrace program.now name.now (C.state cabinet.old) (C.state cabinet.new) result }
 {
     match cabinet.fetch(name) {
         Fetched::Ready => match replay(alloc, program, cabinet) {
             Ok(input) => Ok(input),
-            Err(ReplayRefusal::Misfit { entry, kind }) => Err(Status::Misfit { entry, kind }),
-            Err(ReplayRefusal::ReadFault) => Err(Status::ReadFault),
-            Err(ReplayRefusal::NoMemory) => Err(Status::NoMemory),
+            Err(ReplayRefusal::Misfit { entry, kind }) => Err(Failure::Refused(
+                TraceRefusal::Misfit { entry, kind },
+            )),
+            Err(ReplayRefusal::ReadFault) => Err(Failure::ReadFault),
+            Err(ReplayRefusal::NoMemory) => Err(Failure::NoMemory),
         },
-        Fetched::Missing => Err(Status::Missing {
+        Fetched::Missing => Err(Failure::Refused(TraceRefusal::Missing)),
+        Fetched::Failed => Err(Failure::ReadFault),
+    }
+}
+
+/// The status of a trace that is not loaded.
+fn status_of_trace(failure: Failure<TraceRefusal>) -> Status
+    ensures { result ≡ status_of_trace failure }
+{
+    match failure {
+        Failure::Refused(TraceRefusal::Missing) => Status::Missing {
             file: FileRole::Trace,
+        },
+        Failure::Refused(TraceRefusal::Misfit { entry, kind }) => Status::Misfit { entry, kind },
+        Failure::ReadFault => Status::ReadFault,
+        Failure::NoMemory => Status::NoMemory,
+    }
+}
+
+/// The refusal of a sound program that is not repaired yet.
+fn not_yet() -> Status
+    ensures { result ≡ not_yet }
+{
+    Status::BadProgram {
+        refusal: ProgramRefusal::Form(TypeRefusal {
+            fault: TypeFault::BadShape,
+            place: Place::Whole,
         }),
-        Fetched::Failed => Err(Status::ReadFault),
     }
 }
 
@@ -150,44 +115,6 @@ fn plan_for(alloc: Global, program: &Program, input: &Input) -> Result<Found, No
     })
 }
 
-/// What the files of a `repair` give.
-fn find_repair<C: Cabinet>(
-    alloc: Global,
-    cabinet: &mut C,
-    program_name: &str,
-    trace_name: &str,
-) -> Result<Found, Status>
-    ensures { Finds (Some (Order.Repair program_name.now trace_name.now))
-        (C.state cabinet.old) (C.state cabinet.new) result }
-{
-    let checked = match load_program(alloc, cabinet, program_name) {
-        Ok(checked) => checked,
-        Err(status) => return Err(status),
-    };
-    let program = checked.program();
-    let input = match load_trace(alloc, program, cabinet, trace_name) {
-        Ok(input) => input,
-        Err(status) => return Err(status),
-    };
-    match plan_for(alloc, program, &input) {
-        Ok(found) => Ok(found),
-        Err(NoMemory) => Err(Status::NoMemory),
-    }
-}
-
-/// What the words and the files give, before anything is written.
-fn find<C: Cabinet>(alloc: Global, words: &[String], cabinet: &mut C) -> Result<Found, Status>
-    ensures { Finds (order (map string_bytes words.now)) (C.state cabinet.old) (C.state cabinet.new) result }
-{
-    match read_words(alloc, words) {
-        Ok(Order::Repair { program, trace }) => {
-            find_repair(alloc, cabinet, program.as_str(), trace.as_str())
-        }
-        Err(WordsRefusal::Usage) => Err(Status::Usage),
-        Err(WordsRefusal::NoMemory) => Err(Status::NoMemory),
-    }
-}
-
 /// A word with a count, on a line.
 fn put_count<S: Sink>(before: Put, out: &mut S, word: &[u8], n: usize) -> Put
     ensures { Writes before result (S.state out.old) (S.state out.new) (count_line word.now n) }
@@ -207,22 +134,6 @@ fn put_counts<S: Sink>(out: &mut S, reports: usize, plan: &Plan) -> Put
     put_count(put, out, b"clones ", 0)
 }
 
-/// The line of a write fault, after a text was cut short.
-fn cut_short<N: Sink>(notes: &mut N) -> Status
-    ensures status { result ≡ Status.WriteFault }
-    ensures line { PutsLine Status.WriteFault (N.state notes.old) (N.state notes.new) }
-{
-    put_status(notes, &Status::WriteFault);
-    Status::WriteFault
-}
-
-/// The line of a status, as far as it can be written.
-fn put_status<N: Sink>(notes: &mut N, status: &Status)
-    ensures { PutsLine status.now (N.state notes.old) (N.state notes.new) }
-{
-    let _put = put_line(notes, status);
-}
-
 /// The canonical text of the program.
 fn put_program<S: Sink>(out: &mut S, program: &Program) -> Put
     ensures { Writes Put.Done result (S.state out.old) (S.state out.new) (show program.now) }
@@ -233,37 +144,40 @@ fn put_program<S: Sink>(out: &mut S, program: &Program) -> Put
     }
 }
 
-/// Both texts, the program's first.
-fn put_texts<S: Sink, N: Sink>(found: &Found, out: &mut S, notes: &mut N) -> Status
-    ensures { PutsTexts (S.state out.old) (S.state out.new) (N.state notes.old) (N.state notes.new)
-        (show found.now.program) (counts_text found.now.reports found.now.plan) result }
-{
-    match put_program(out, &found.program) {
-        Put::Done => match put_counts(notes, found.reports, &found.plan) {
-            Put::Done => Status::Done,
-            Put::Failed => cut_short(notes),
-        },
-        Put::Failed => cut_short(notes),
-    }
-}
-
-/// Carries out the command that the words give. The words come without the program's name. All memory that it needs
-/// is taken before the first byte is written.
-pub fn hippo<C: Cabinet, S: Sink, N: Sink>(
+/// Repairs the program of a file for the run whose trace another has. All memory that it needs is taken before the
+/// first byte is written.
+pub(crate) fn repair_file<C: Cabinet, S: Sink, N: Sink>(
     alloc: Global,
-    words: &[String],
+    program: &str,
+    trace: &str,
     cabinet: &mut C,
     out: &mut S,
     notes: &mut N,
 ) -> Status
-    ensures { HasAnswered (order (map string_bytes words.now)) (C.state cabinet.old) (C.state cabinet.new)
-        (S.state out.old) (S.state out.new) (N.state notes.old) (N.state notes.new) result }
+    ensures { HasAnswered (RepairAnswers (C.state cabinet.old) (C.state cabinet.new) program.now trace.now) false
+        (C.state cabinet.old) (C.state cabinet.new)
+        (sinks (S.state out.old) (S.state out.new) (N.state notes.old) (N.state notes.new)) result }
 {
-    match find(alloc, words, cabinet) {
-        Ok(found) => put_texts(&found, out, notes),
-        Err(status) => {
-            put_status(notes, &status);
-            status
+    let checked = match load_program(alloc, cabinet, program) {
+        Ok(checked) => checked,
+        Err(failure) => return refuse(notes, status_of_failure(failure)),
+    };
+    if !is_one_store(checked.program()) {
+        return refuse(notes, not_yet());
+    }
+    let input = match load_trace(alloc, checked.program(), cabinet, trace) {
+        Ok(input) => input,
+        Err(failure) => return refuse(notes, status_of_trace(failure)),
+    };
+    let found = match plan_for(alloc, checked.program(), &input) {
+        Ok(found) => found,
+        Err(NoMemory) => return refuse(notes, Status::NoMemory),
+    };
+    match put_program(out, &found.program) {
+        Put::Done => {
+            let tried = put_counts(notes, found.reports, &found.plan);
+            finish(notes, tried, Status::Done)
         }
+        Put::Failed => refuse(notes, Status::WriteFault),
     }
 }

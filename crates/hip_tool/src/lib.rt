@@ -1,20 +1,21 @@
 //! The commands of hippo.
 #![tactic(auto)]
 
+mod call;
 mod command;
 mod input;
 mod laws;
-mod lines;
 mod one_store;
 mod plan;
+mod refusal;
 mod repair;
 mod replay;
 mod report;
-mod status;
-mod words;
 
-pub use command::hippo;
+pub use call::hippo;
+pub use hip_answers::{FileRole, Status};
+pub use hip_loading::ProgramRefusal;
 pub use hip_run_traces::MisfitKind;
-pub use laws::{headers_are_valid, repairs_are_one, repairs_exclude_refusals};
-pub use status::{FileRole, ProgramRefusal, Status, TrapKind};
-pub use words::{Order, WordsRefusal, read_words};
+pub use hip_runs::TrapKind;
+pub use hip_words::{Order, WordsRefusal, read_words};
+pub use laws::{headers_are_valid, repairs_are_one};

@@ -1,15 +1,18 @@
 //! What `hippo` answers to words, files and faults of files.
 
-use crate::commands::{assert_outcome, call, files, owned_words, repair};
+use crate::commands::{assert_outcome, call, files, repair};
 use hip_examples::{ONE_STORE, ONE_STORE_REPAIRED, ONE_STORE_TRACE};
 use hip_io::{FailAt, FailingCabinet, MemCabinet, NamedFile};
-use hip_tool::{Order, Status, read_words};
+use hip_tool::Status;
 use hip_types::Row;
 use std::test::Fail;
 
 const COUNTS: &str = "reports 1\nflushes 1\nfences 1\nhoists 0\nclones 0\n";
 
-const USAGE: &str = "hippo: usage\nusage: hippo repair PROGRAM TRACE\n";
+const USAGE: &str = "hippo: usage
+usage: hippo run PROGRAM [--limit N] [NUMBERS...]
+       hippo repair PROGRAM TRACE
+";
 
 #[test]
 fn one_store(rt: HostRuntime) -> Result<(), Fail> {
@@ -47,6 +50,21 @@ const BAD_WORDS: &[Words] = &[
         notes: USAGE,
     },
     Words {
+        words: &["run", "a", "--limit", "x"],
+        code: 1,
+        notes: USAGE,
+    },
+    Words {
+        words: &["run", "--help"],
+        code: 1,
+        notes: USAGE,
+    },
+    Words {
+        words: &["demo", "1", "0"],
+        code: 1,
+        notes: USAGE,
+    },
+    Words {
         words: &["repair", "c", "b"],
         code: 2,
         notes: "hippo: no file: program\n",
@@ -66,19 +84,6 @@ fn usage_and_missing_files(rt: HostRuntime) -> Result<(), Fail> {
         assert_outcome(&rt, &outcome, case.code, "", case.notes, case.notes);
     }
     Ok(())
-}
-
-#[test]
-fn words_of_repair(rt: HostRuntime) -> Result<(), Fail> {
-    let words = owned_words(rt.alloc(), &["repair", "a", "b"])?;
-    match read_words(rt.alloc(), words.as_slice()) {
-        Ok(Order::Repair { program, trace }) => {
-            assert_eq!(rt; program.as_str(), "a");
-            assert_eq!(rt; trace.as_str(), "b");
-            Ok(())
-        }
-        Err(_) => Err(Fail::new("refused")),
-    }
 }
 
 #[test]

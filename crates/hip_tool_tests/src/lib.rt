@@ -13,6 +13,8 @@ mod refused_functions;
 #[cfg(test)]
 mod refused_programs;
 #[cfg(test)]
+mod run_commands;
+#[cfg(test)]
 mod sound_programs;
 #[cfg(test)]
 mod trace_misfits;

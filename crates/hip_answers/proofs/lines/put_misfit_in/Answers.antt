@@ -1,0 +1,6 @@
+use Rattle.hip_io.specs.Laws.SinkLaws.{and_then}
+use Rattle.hip_answers.proofs.lines.put_misfit_in.Goals as goal
+
+pub returns : goal.returns
+returns g c =
+    and_then (and_then (and_then (and_then (and_then (and_then c.put_after-put.ensures (rw c.from.ensures at c.put_number-put.ensures)) c.put_after-put-2.ensures) c.put_number-put-2.ensures) c.put_after-put-3.ensures) c.put_after-put-4.ensures) c.put_after.ensures

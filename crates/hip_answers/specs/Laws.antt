@@ -1,0 +1,94 @@
+-- How the answer of a call follows from what was met and written.
+use Rattle.std.specs.Prelude.{ℕ, ◌≡◌, Bool, true, false, List, Err}
+use Rattle.std.proofs.Common.{inl, inr, refl, sym, subst}
+use Rattle.hip_answers.specs.Answers.{Answer, CarriedOut, Finishes, HasAnswered, HasBegun, PutsLine, Refused, Sinks, answered, outcome_of, refusal}
+use Rattle.hip_answers.specs.Programs.{LacksProgram}
+use Rattle.hip_answers.specs.Statuses.{status_of_failure}
+use Rattle.hip_answers.specs.declared.status.Status.{Status}
+use Rattle.hip_answers.specs.declared.status.Status.TheVariants as statuses
+use Rattle.hip_io.specs.Cabinets.{CabinetState}
+use Rattle.hip_io.specs.Sinks.{AppendsAll, AppendsPrefix, HasPut, SinkState}
+use Rattle.hip_io.specs.declared.sink.Put.{Put}
+use Rattle.hip_io.specs.declared.sink.Put.TheVariants as puts
+use Rattle.hip_loading.specs.Loading.{Loads}
+use Rattle.hip_loading.specs.Outside.{HasMet}
+use Rattle.hip_loading.specs.declared.failure.Failure.{Failure}
+use Rattle.hip_loading.specs.declared.failure.Failure.TheVariants as failures
+use Rattle.hip_loading.specs.declared.refusal.LoadRefusal.TheVariants as loads
+
+-- ---- refusals
+
+pub refused : {table : Answer → Type 0} {begins : Bool} {old new : CabinetState} (s : Sinks) (status : Status)
+    → outcome_of status ≡ Refused → table (refusal status) → s.out_new ≡ s.out → PutsLine status s.notes s.notes_new
+    → HasAnswered table begins old new s status
+refused {table} {begins} {old} {new} s status e row kept line = record {
+  how = subst (λ o. answered o table begins old new s status) (sym e) (row, record { out = kept; notes = line });
+}
+
+-- no memory, before anything was written
+pub ran_out : {table : Answer → Type 0} {begins : Bool} {old new : CabinetState} (s : Sinks) → HasMet false false old new
+    → s.out_new ≡ s.out → PutsLine statuses.NoMemory s.notes s.notes_new
+    → HasAnswered table begins old new s statuses.NoMemory
+ran_out s met kept line = record { how = record { met = met; out = inl kept; line = line } }
+
+-- no memory, while the text for out was being made
+pub ran_out_later : {table : Answer → Type 0} {old new : CabinetState} (s : Sinks) → HasMet false false old new
+    → HasBegun true table s → PutsLine statuses.NoMemory s.notes s.notes_new
+    → HasAnswered table true old new s statuses.NoMemory
+ran_out_later s met begun line = record { how = record { met = met; out = inr begun; line = line } }
+
+-- ---- texts
+
+pub cut_out : {table : Answer → Type 0} {begins : Bool} {old new : CabinetState} (s : Sinks) (answer : Answer)
+    → table answer → outcome_of answer.status ≡ CarriedOut → AppendsPrefix s.out s.out_new answer.out
+    → PutsLine statuses.WriteFault s.notes s.notes_new → HasAnswered table begins old new s statuses.WriteFault
+cut_out s answer row carried out line = record {
+  how = record {
+    answer = answer;
+    is = row;
+    carried_out = carried;
+    written = inl (record { out = out; notes = line });
+  };
+}
+
+-- the text for out is written whole, and that for notes was tried
+pub finished : {table : Answer → Type 0} {begins : Bool} {old new : CabinetState} (s : Sinks) (answer : Answer)
+    (tried : Put) (mid : SinkState) (result : Status) → table answer → outcome_of answer.status ≡ CarriedOut
+    → AppendsAll s.out s.out_new answer.out → HasPut s.notes mid answer.notes tried
+    → Finishes tried answer.status mid s.notes_new result → HasAnswered table begins old new s result
+finished {table} {begins} {old} {new} s answer puts.Done mid result row carried out notes f =
+    let whole : AppendsAll s.notes s.notes_new answer.notes =
+    subst (λ n. AppendsAll s.notes n answer.notes) (sym f.1) notes in
+    subst (λ x. HasAnswered table begins old new s x) (sym f.0) (record {
+      how = subst (λ o. answered o table begins old new s answer.status) (sym carried) (record {
+        answer = answer;
+        is = row;
+        status_is = refl;
+        written = record { out = out; notes = whole };
+      });
+    })
+finished {table} {begins} {old} {new} s answer puts.Failed mid result row carried out notes f =
+    subst (λ x. HasAnswered table begins old new s x) (sym f.0) (record {
+      how = record {
+        answer = answer;
+        is = row;
+        carried_out = carried;
+        written = inr (record { out = out; cut = mid; notes = notes; line = f.1 });
+      };
+    })
+
+-- ---- programs
+
+pub unloaded : {table : Answer → Type 0} {begins : Bool} {old new : CabinetState} (s : Sinks) (name : List ℕ)
+    (failure : Failure _) → ((a : Answer) → LacksProgram old new name a → table a) → Loads name old new (Err failure)
+    → s.out_new ≡ s.out → PutsLine (status_of_failure failure) s.notes s.notes_new
+    → HasAnswered table begins old new s (status_of_failure failure)
+unloaded s name (failures.Refused loads.Missing) rows h kept line =
+    refused s _ refl (rows _ (inl (record { why = loads.Missing; met = h.0; cause = h.1; is = refl }))) kept line
+unloaded s name (failures.Refused loads.TooLarge) rows h kept line =
+    refused s _ refl (rows _ (inl (record { why = loads.TooLarge; met = h.0; cause = h.1; is = refl }))) kept line
+unloaded s name (failures.Refused (loads.Bad why)) rows h kept line =
+    refused s _ refl (rows _ (inl (record { why = loads.Bad why; met = h.0; cause = h.1; is = refl }))) kept line
+unloaded s name failures.ReadFault rows h kept line =
+    refused s _ refl (rows _ (inr (record { met = h; is = refl }))) kept line
+unloaded s name failures.NoMemory rows h kept line = ran_out s h kept line

@@ -1,0 +1,6 @@
+pub mod Answers
+pub mod Endings
+pub mod Laws
+pub mod Lines
+pub mod Programs
+pub mod Statuses

@@ -1,0 +1,24 @@
+-- What a command answers where there is no program for it.
+use Rattle.std.specs.Prelude.{ℕ, ◌≡◌, true, false, List, ◌⊎◌}
+use Rattle.hip_answers.specs.Answers.{Answer, refusal}
+use Rattle.hip_answers.specs.Statuses.{status_of_refusal}
+use Rattle.hip_answers.specs.declared.status.Status.TheVariants as statuses
+use Rattle.hip_io.specs.Cabinets.{CabinetState}
+use Rattle.hip_loading.specs.Loading.{HasNoProgram, is_missing}
+use Rattle.hip_loading.specs.Outside.{HasMet}
+use Rattle.hip_loading.specs.declared.refusal.LoadRefusal.{LoadRefusal}
+
+-- There is no program in the file, and the answer says why.
+pub record IsUnloaded (old new : CabinetState) (name : List ℕ) (answer : Answer) : Type 0 where
+  pub why : LoadRefusal
+  pub met : HasMet (is_missing why) false old new
+  pub cause : HasNoProgram old.files name why
+  pub is : answer ≡ refusal (status_of_refusal why)
+
+-- A file could not be read.
+pub record IsUnread (old new : CabinetState) (answer : Answer) : Type 0 where
+  pub met : HasMet false true old new
+  pub is : answer ≡ refusal statuses.ReadFault
+
+abbrev pub LacksProgram : CabinetState → CabinetState → List ℕ → Answer → Type 0
+LacksProgram old new name answer = IsUnloaded old new name answer ⊎ IsUnread old new answer

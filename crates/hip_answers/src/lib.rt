@@ -1,0 +1,13 @@
+//! What came of a command: its status, the line of each refusal, and what is written in which case.
+#![tactic(auto)]
+
+mod closing;
+mod endings;
+mod lines;
+mod status;
+mod texts;
+
+pub use closing::{finish, refuse};
+pub use endings::{put_ending, status_of_ending};
+pub use status::{FileRole, Status, status_of_failure};
+pub use texts::put_number;

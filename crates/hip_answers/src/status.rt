@@ -1,0 +1,99 @@
+ghost use Rattle.std.specs.Prelude.{◌≡◌};
+ghost use Rattle.hip_answers.specs.Statuses.{code_of, status_of_failure};
+
+use hip_loading::{Failure, LoadRefusal, ProgramRefusal};
+use hip_run_traces::MisfitKind;
+use hip_runs::TrapKind;
+
+/// Which file.
+#[derive(Clone, Copy, Debug, PartialEq, Eq)]
+pub enum FileRole {
+    Program,
+    Trace,
+    /// One of many traces, numbered from 1.
+    Number(u64),
+}
+
+/// What came of a command.
+#[derive(Debug, Drop)]
+pub enum Status {
+    /// It was carried out.
+    Done,
+    /// The words are no command.
+    Usage,
+    /// There is no such file.
+    Missing {
+        file: FileRole,
+    },
+    /// A file could not be read.
+    ReadFault,
+    /// A text could not be written.
+    WriteFault,
+    /// The program's text is not read, or the program is not sound.
+    BadProgram {
+        refusal: ProgramRefusal,
+    },
+    /// The trace is not one of a run of the program, first at this entry, numbered from 1.
+    Misfit {
+        entry: u128,
+        kind: MisfitKind,
+    },
+    /// No memory was left.
+    NoMemory,
+    /// The program's text has more than 16,777,216 bytes.
+    TooLarge,
+    /// The run trapped.
+    Trapped {
+        kind: TrapKind,
+    },
+    /// The run was cut at its limit of turns.
+    Cut,
+    /// One of many traces, numbered from 1, is not one of a run of the program, first at this entry.
+    MisfitIn {
+        trace: u64,
+        entry: u128,
+        kind: MisfitKind,
+    },
+    /// The trace has no entry of the number that was asked for; it has so many.
+    NoEntry {
+        entries: u128,
+    },
+}
+
+impl Status {
+    /// The exit status of the program.
+    pub fn code(&self) -> u8
+        ensures { result ≡ code_of self.now }
+    {
+        match self {
+            Status::Done => 0,
+            Status::Usage => 1,
+            Status::Missing { .. } => 2,
+            Status::ReadFault => 3,
+            Status::WriteFault => 4,
+            Status::BadProgram { .. } => 5,
+            Status::Misfit { .. } => 6,
+            Status::NoMemory => 7,
+            Status::TooLarge => 8,
+            Status::Trapped { .. } => 9,
+            Status::Cut => 10,
+            Status::MisfitIn { .. } => 11,
+            Status::NoEntry { .. } => 12,
+        }
+    }
+}
+
+/// The status of a program that is not loaded.
+pub fn status_of_failure(failure: Failure<LoadRefusal>) -> Status
+    ensures { result ≡ status_of_failure failure }
+{
+    match failure {
+        Failure::Refused(LoadRefusal::Missing) => Status::Missing {
+            file: FileRole::Program,
+        },
+        Failure::Refused(LoadRefusal::TooLarge) => Status::TooLarge,
+        Failure::Refused(LoadRefusal::Bad(refusal)) => Status::BadProgram { refusal },
+        Failure::ReadFault => Status::ReadFault,
+        Failure::NoMemory => Status::NoMemory,
+    }
+}

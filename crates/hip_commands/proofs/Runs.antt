@@ -1,0 +1,67 @@
+-- What a run has printed, as an answer of `run`.
+use Rattle.std.proofs.Common.{◌≡◌, ℕ, ℤ, true, false, List, ◌++◌, refl, subst, inr}
+use Rattle.hip_answers.specs.Answers.{Answer, CarriedOut, Finishes, HasAnswered, PutsLine, Sinks, WritesFront, outcome_of}
+use Rattle.hip_answers.specs.Endings.{ending_line, status_of_ending}
+use Rattle.hip_answers.specs.Laws.{cut_out, finished, ran_out_later}
+use Rattle.hip_answers.specs.declared.status.Status.{Status}
+use Rattle.hip_answers.specs.declared.status.Status.TheVariants as statuses
+use Rattle.hip_commands.specs.FirstInput.{first_input}
+use Rattle.hip_commands.specs.Run.{RunAnswers}
+use Rattle.hip_io.specs.Cabinets.{CabinetState}
+use Rattle.hip_io.specs.Sinks.{SinkState, Writes}
+use Rattle.hip_io.specs.declared.sink.Put.{Put}
+use Rattle.hip_io.specs.declared.sink.Put.TheVariants as puts
+use Rattle.hip_ir.specs.declared.program.Program.{Program}
+use Rattle.hip_loading.specs.Loading.{IsProgramOf}
+use Rattle.hip_loading.specs.Outside.{HasMet}
+use Rattle.hip_replay.specs.Printing.{HasFailed, HasPrinted, HasStopped, IsPrinted}
+use Rattle.hip_runs.specs.declared.event.Ending.{Ending}
+use Rattle.hip_runs.specs.declared.event.Ending.TheVariants as endings
+use Rattle.hip_runs.specs.declared.input.Input.{Input}
+use Rattle.hip_types.specs.declared.limits.TheConstants.{LOWEST_BASE}
+
+-- every ending is one of a command that was carried out
+pub is_carried_out : (ending : Ending) → outcome_of (status_of_ending ending) ≡ CarriedOut
+is_carried_out (endings.Stop code) = refl
+is_carried_out (endings.Trap kind) = refl
+is_carried_out endings.Cut = refl
+
+-- the answer of a run that prints the text and ends so
+abbrev answer_of : List ℕ → Ending → Answer
+answer_of text ending = record { status = status_of_ending ending; out = text; notes = ending_line ending }
+
+module _ {old new : CabinetState} {name : List ℕ} {limit : ℕ} {numbers : List ℤ} (P : Program) (I : Input)
+    (s : Sinks) (met : HasMet false false old new) (loaded : IsProgramOf old.files name P)
+    (input : I ≡ first_input P LOWEST_BASE limit numbers) where
+  row : (text : List ℕ) (ending : Ending) → IsPrinted P I text ending
+      → RunAnswers old new name limit numbers (answer_of text ending)
+  row text ending printed = inr (record {
+    program = P;
+    loaded = loaded;
+    met = met;
+    ending = ending;
+    printed = subst (λ (i : Input). IsPrinted P i text ending) input printed;
+    status_is = refl;
+    notes_is = refl;
+  })
+
+  pub has_run : (ending : Ending) (status : Status) (tried : Put) (mid : SinkState) (result : Status)
+      → HasPrinted P I s.out s.out_new ending → status ≡ status_of_ending ending
+      → Writes puts.Done tried s.notes mid (ending_line ending) → Finishes tried status mid s.notes_new result
+      → HasAnswered (RunAnswers old new name limit numbers) true old new s result
+  has_run ending status tried mid result p same notes f =
+      finished s (answer_of p.text ending) tried mid result (row p.text ending p.printed) (is_carried_out ending)
+      p.written notes.how (subst (λ (x : Status). Finishes tried x mid s.notes_new result) same f)
+
+  pub was_cut : HasFailed P I s.out s.out_new → PutsLine statuses.WriteFault s.notes s.notes_new
+      → HasAnswered (RunAnswers old new name limit numbers) true old new s statuses.WriteFault
+  was_cut p line =
+      cut_out s (answer_of p.text p.ending) (row p.text p.ending p.printed) (is_carried_out p.ending) p.written line
+
+  pub ran_out : HasStopped P I s.out s.out_new → PutsLine statuses.NoMemory s.notes s.notes_new
+      → HasAnswered (RunAnswers old new name limit numbers) true old new s statuses.NoMemory
+  ran_out p line =
+      let text = p.front ++ p.missing in
+      let front : WritesFront s (answer_of text p.ending) =
+      record { front = p.front; missing = p.missing; parts = refl; written = p.written } in
+      ran_out_later s met (answer_of text p.ending, row text p.ending p.printed, front) line

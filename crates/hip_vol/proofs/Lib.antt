@@ -1,0 +1,13 @@
+pub mod LevelOrder
+pub mod LeastLevels
+pub mod RuleMembers
+pub mod KnownLevels
+pub mod LevelBounds
+pub mod LowQuiet
+pub mod DirectLow
+pub mod Rising
+pub mod VariableLemmas
+pub mod TableLemmas
+pub mod ConstantLevels
+pub mod LowSites
+pub mod Fitting

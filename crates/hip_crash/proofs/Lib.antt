@@ -1,0 +1,13 @@
+pub mod Bytes
+pub mod Placed
+pub mod Walks
+pub mod Stores
+pub mod Holding
+pub mod FewParts
+pub mod Steps
+pub mod Logged
+pub mod ImageLines
+pub mod Reading
+pub mod LineBounds
+pub mod PickLaws
+pub mod Picking

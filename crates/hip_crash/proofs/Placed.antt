@@ -1,0 +1,225 @@
+-- Kept lines by their places.
+use Rattle.std.proofs.Common.{◌≡◌, ◌≢◌, ◌⊎◌, inl, inr, ℕ, zero, suc, ◌+◌, ◌-◌, ◌<◌, ◌≤◌, ◌==◌, true, false, cond, Result, Ok, Err, OnOk, OnErr, List, [], ◌∷◌, ◌++◌, length, slice_get, slice_set, get_or, Option, Some, None, IsSome, option_map, refl, sym, ap, ◌∙◌, subst, arith}
+use Rattle.std.proofs.lemmas.Bool.Decides.{nat_tests}
+use Rattle.std.proofs.lemmas.List.{length-set}
+use Rattle.std.proofs.lemmas.Option.{slice_get-get_or}
+use Rattle.hip_directory.specs.declared.directory.Directory.{Directory}
+use Rattle.hip_directory.specs.Directories.{number_at}
+use Rattle.hip_crash.specs.Kept.{Kept, kept_in}
+use Rattle.hip_crash.specs.KeptLines.{line_at, kept_at, ChangesLine, GivesLine}
+use Rattle.hip_crash.specs.Places.{at_place, line_in, ArePlaced, ChangesPlace}
+use Rattle.hip_crash.specs.declared.kept_line.KeptLine.{KeptLine}
+use Rattle.hip_crash.specs.declared.kept_lines.KeptLines.{KeptLines}
+
+pub equal_or_not : (j k : ℕ) → (((j == k) ≡ true) × (j ≡ k)) ⊎ (((j == k) ≡ false) × (j ≢ k))
+equal_or_not j k = grind (arith, nat_tests)
+
+some_same : {A : Type 0} (x y : A) → Some x ≡ Some y → x ≡ y
+some_same x y e = cc
+
+-- ---- lists
+
+pub get-set_same : {A : Type 0} (xs : List A) (i : ℕ) (x : A) → i < length xs → slice_get (slice_set xs i x) i ≡ Some x
+get-set_same [] i x h = absurd (omega arith)
+get-set_same (y ∷ xs) zero x h = refl
+get-set_same (y ∷ xs) (suc i) x h = get-set_same xs i x (omega arith)
+
+pub get-set_other : {A : Type 0} (xs : List A) (i k : ℕ) (x : A) → k ≢ i → slice_get (slice_set xs i x) k ≡ slice_get xs k
+get-set_other [] i k x ne = refl
+get-set_other (y ∷ xs) zero zero x ne = absurd (ne refl)
+get-set_other (y ∷ xs) zero (suc k) x ne = refl
+get-set_other (y ∷ xs) (suc i) zero x ne = refl
+get-set_other (y ∷ xs) (suc i) (suc k) x ne = get-set_other xs i k x (λ e. ne (ap suc e))
+
+get-there : {A : Type 0} (xs : List A) (i : ℕ) → i < length xs → (x : A) × (slice_get xs i ≡ Some x)
+get-there [] i h = absurd (omega arith)
+get-there (y ∷ xs) zero h = (y, refl)
+get-there (y ∷ xs) (suc i) h = get-there xs i (omega arith)
+
+get-push_other : {A : Type 0} (xs : List A) (k : ℕ) (x : A) → k ≢ length xs → slice_get (xs ++ x ∷ []) k ≡ slice_get xs k
+get-push_other [] zero x ne = absurd (ne refl)
+get-push_other [] (suc k) x ne = refl
+get-push_other (y ∷ xs) zero x ne = refl
+get-push_other (y ∷ xs) (suc k) x ne = get-push_other xs k x (λ e. ne (ap suc e))
+
+get-push_end : {A : Type 0} (xs : List A) (x : A) → slice_get (xs ++ x ∷ []) (length xs) ≡ Some x
+get-push_end [] x = refl
+get-push_end (y ∷ xs) x = get-push_end xs x
+
+length-push : {A : Type 0} (xs : List A) (x : A) → length (xs ++ x ∷ []) ≡ length xs + 1
+length-push [] x = refl
+length-push (y ∷ xs) x = omega (arith, length-push xs x)
+
+-- the item that was read
+pub get-read : {A : Type 0} (xs : List A) (i : ℕ) (x : A) → i < length xs → x ≡ get_or xs i x → slice_get xs i ≡ Some x
+get-read xs i x h e = slice_get-get_or xs i x h ∙ ap (λ y. Some y) (sym e)
+
+pub changes-set : (f : Kept → Kept) (xs : List KeptLine) (place : ℕ) (x y : KeptLine) → place < length xs → slice_get xs place ≡ Some x → y.line ≡ x.line → kept_in y ≡ f (kept_in x) → ChangesPlace f place xs (slice_set xs place y)
+changes-set f xs place x y lt e l p = record {
+  others = λ k ne. get-set_other xs place k y ne;
+  count = length-set xs place y;
+  here = λ x' e'. let s : x ≡ x' = some_same x x' (sym e ∙ e') in (y, get-set_same xs place y lt, l ∙ ap (λ (z : KeptLine). z.line) s, p ∙ ap (λ (z : KeptLine). f (kept_in z)) s);
+}
+
+pub on_ok_map : {A E P Q : Type 0} (r : Result A E) → (P → Q) → OnOk r P → OnOk r Q
+on_ok_map (Ok x) f p = f p
+on_ok_map (Err e) f p = tt
+
+pub on_err_map : {A E P Q : Type 0} (r : Result A E) → (P → Q) → OnErr r P → OnErr r Q
+on_err_map (Ok x) f p = tt
+on_err_map (Err e) f p = f p
+
+-- ---- the kept line of a cache line
+
+at-counted : (xs : List KeptLine) (n : ℕ) → 0 < n → at_place xs n ≡ slice_get xs (n - 1)
+at-counted xs zero h = absurd (omega arith)
+at-counted xs (suc n) h = ap (slice_get xs) (let e : n ≡ suc n - 1 = omega arith in e)
+
+at-same : (xs xs' : List KeptLine) (n : ℕ) → ((k : ℕ) → suc k ≡ n → slice_get xs' k ≡ slice_get xs k) → at_place xs' n ≡ at_place xs n
+at-same xs xs' zero h = refl
+at-same xs xs' (suc n) h = h n refl
+
+pub has-place : (d : Directory) (xs : List KeptLine) (j : ℕ) → IsSome (line_in d xs j) → 0 < number_at d j
+has-place d xs j s = go (number_at d j) refl s
+  where
+    go : (n : ℕ) → number_at d j ≡ n → IsSome (at_place xs n) → 0 < number_at d j
+    go zero e s = absurd (let z : ⊥ = cc in z)
+    go (suc n) e s = omega (arith, e)
+
+there : (d : Directory) (xs : List KeptLine) (j : ℕ) → ArePlaced d xs → 0 < number_at d j → (x : KeptLine) × (slice_get xs (number_at d j - 1) ≡ Some x) × (line_in d xs j ≡ Some x) × (x.line ≡ j)
+there d xs j h p =
+    let g = get-there xs (number_at d j - 1) (omega (arith, p, h.within j)) in
+    let e : line_in d xs j ≡ Some g.0 = at-counted xs (number_at d j) p ∙ g.1 in
+    (g.0, g.1, e, h.numbered j g.0 e)
+
+pub some-place : (m : KeptLines) (j : ℕ) → IsSome (line_at m j) → 0 < number_at m.directory j
+unfolding line_at
+some-place m j s = has-place m.directory m.lines.items j s
+
+-- the kept line at a place is that of the cache line
+pub at-place : (m : KeptLines) (j : ℕ) (x : KeptLine) → 0 < number_at m.directory j → slice_get m.lines.items (number_at m.directory j - 1) ≡ Some x → (line_at m j ≡ Some x) × (x.line ≡ j)
+unfolding line_at
+at-place m j x p e =
+    let f : line_in m.directory m.lines.items j ≡ Some x = at-counted m.lines.items (number_at m.directory j) p ∙ e in
+    (f, m.placed.numbered j x f)
+
+-- what is kept at one place is changed
+module _ (f : Kept → Kept) (d : Directory) (xs xs' : List KeptLine) (line : ℕ) (h : ArePlaced d xs) (p : 0 < number_at d line) (c : ChangesPlace f (number_at d line - 1) xs xs') where
+  other-place : (j : ℕ) → j ≢ line → number_at d j ≢ number_at d line
+  other-place j ne e =
+      let t = there d xs line h p in
+      ne (sym (h.numbered j t.0 (ap (at_place xs) e ∙ t.2)) ∙ t.3)
+
+  other-line : (j : ℕ) → j ≢ line → line_in d xs' j ≡ line_in d xs j
+  other-line j ne = at-same xs xs' (number_at d j) (λ k e. c.others k (λ z. other-place j ne (omega (arith, e, z, p))))
+
+  changed-line : (y : KeptLine) × (line_in d xs' line ≡ Some y) × (y.line ≡ line) × (Some (kept_in y) ≡ option_map f (option_map kept_in (line_in d xs line)))
+  changed-line =
+      let t = there d xs line h p in
+      let x = c.here t.0 t.1 in
+      (x.0, at-counted xs' (number_at d line) p ∙ x.1, x.2 ∙ t.3, ap (λ k. Some k) x.3 ∙ ap (λ o. option_map f (option_map kept_in o)) (sym t.2))
+
+  pub placed-changed : ArePlaced d xs'
+  placed-changed = record { within = λ j. omega (arith, c.count, h.within j); numbered = λ j x e. go j x e (equal_or_not j line) }
+    where
+      go : (j : ℕ) (x : KeptLine) → line_in d xs' j ≡ Some x → (((j == line) ≡ true) × (j ≡ line)) ⊎ (((j == line) ≡ false) × (j ≢ line)) → x.line ≡ j
+      go j x e (inl s) =
+          let r = changed-line in
+          ap (λ (y : KeptLine). y.line) (some_same x r.0 (sym e ∙ ap (λ i. line_in d xs' i) s.1 ∙ r.1)) ∙ r.2 ∙ sym s.1
+      go j x e (inr s) = h.numbered j x (sym (other-line j s.1) ∙ e)
+
+pub changes-line : (f : Kept → Kept) (m m' : KeptLines) (line : ℕ) → m'.directory ≡ m.directory → 0 < number_at m.directory line → ChangesPlace f (number_at m.directory line - 1) m.lines.items m'.lines.items → ChangesLine f line m m'
+unfolding line_at
+changes-line f m m' line d p c = record {
+  here = ap (λ x. option_map kept_in (line_in x m'.lines.items line)) d ∙ ap (option_map kept_in) r.1 ∙ r.3;
+  others = λ j ne. ap (option_map kept_in) (others j ne);
+}
+  where
+    r : (y : KeptLine) × (line_in m.directory m'.lines.items line ≡ Some y) × (y.line ≡ line) × (Some (kept_in y) ≡ option_map f (option_map kept_in (line_in m.directory m.lines.items line)))
+    r = changed-line f m.directory m.lines.items m'.lines.items line m.placed p c
+
+    others : (j : ℕ) → j ≢ line → line_in m'.directory m'.lines.items j ≡ line_in m.directory m.lines.items j
+    others j ne = ap (λ x. line_in x m'.lines.items j) d ∙ other-line f m.directory m.lines.items m'.lines.items line m.placed p c j ne
+
+-- what is changed by nothing is the same
+pub changes-nothing : (m m' : KeptLines) (line : ℕ) → ChangesLine (λ k. k) line m m' → (j : ℕ) → kept_at m' j ≡ kept_at m j
+changes-nothing m m' line c j = go (equal_or_not j line)
+  where
+    same : (o : Option Kept) → option_map (λ k. k) o ≡ o
+    same None = refl
+    same (Some k) = refl
+
+    go : (((j == line) ≡ true) × (j ≡ line)) ⊎ (((j == line) ≡ false) × (j ≢ line)) → kept_at m' j ≡ kept_at m j
+    go (inl s) = ap (kept_at m') s.1 ∙ c.here ∙ same (kept_at m line) ∙ ap (kept_at m) (sym s.1)
+    go (inr s) = c.others j s.1
+
+-- a cache line of which nothing is kept
+pub changes-none : (f : Kept → Kept) (m m' : KeptLines) (line : ℕ) → m' ≡ m → number_at m.directory line ≡ 0 → ChangesLine f line m m'
+unfolding line_at
+changes-none f m m' line e z = record {
+  here = ap (λ x. kept_at x line) e ∙ ap (λ n. option_map kept_in (at_place m.lines.items n)) z ∙ ap (λ n. option_map f (option_map kept_in (at_place m.lines.items n))) (sym z);
+  others = λ j ne. ap (λ x. kept_at x j) e;
+}
+
+-- ---- a line is added
+
+module _ (d d' : Directory) (xs : List KeptLine) (line : ℕ) (x : KeptLine) (h : ArePlaced d xs) (l : x.line ≡ line)
+    (s : (j : ℕ) → number_at d' j ≡ cond (j == line) (length xs + 1) (number_at d j)) where
+  given : (j : ℕ) → ((j ≡ line) × (number_at d' j ≡ length xs + 1)) ⊎ ((j ≢ line) × (number_at d' j ≡ number_at d j))
+  given j = go (equal_or_not j line)
+    where
+      go : (((j == line) ≡ true) × (j ≡ line)) ⊎ (((j == line) ≡ false) × (j ≢ line)) → ((j ≡ line) × (number_at d' j ≡ length xs + 1)) ⊎ ((j ≢ line) × (number_at d' j ≡ number_at d j))
+      go (inl t) = inl (t.1, s j ∙ ap (λ b. cond b (length xs + 1) (number_at d j)) t.0)
+      go (inr t) = inr (t.1, s j ∙ ap (λ b. cond b (length xs + 1) (number_at d j)) t.0)
+
+  here_by : (j : ℕ) → number_at d' j ≡ length xs + 1 → line_in d' (xs ++ x ∷ []) j ≡ Some x
+  here_by j e = ap (at_place (xs ++ x ∷ [])) e ∙ at-counted (xs ++ x ∷ []) (length xs + 1) (omega arith) ∙ ap (slice_get (xs ++ x ∷ [])) (let z : length xs + 1 - 1 ≡ length xs = omega arith in z) ∙ get-push_end xs x
+
+  other_by : (j : ℕ) → number_at d' j ≡ number_at d j → line_in d' (xs ++ x ∷ []) j ≡ line_in d xs j
+  other_by j e = ap (at_place (xs ++ x ∷ [])) e ∙ at-same xs (xs ++ x ∷ []) (number_at d j) (λ k q. get-push_other xs k x (λ z. absurd (omega (arith, z, q, h.within j))))
+
+  pub added-here : line_in d' (xs ++ x ∷ []) line ≡ Some x
+  added-here = go (given line)
+    where
+      go : ((line ≡ line) × (number_at d' line ≡ length xs + 1)) ⊎ ((line ≢ line) × (number_at d' line ≡ number_at d line)) → line_in d' (xs ++ x ∷ []) line ≡ Some x
+      go (inl t) = here_by line t.1
+      go (inr t) = absurd (t.0 refl)
+
+  pub added-other : (j : ℕ) → j ≢ line → line_in d' (xs ++ x ∷ []) j ≡ line_in d xs j
+  added-other j ne = go (given j)
+    where
+      go : ((j ≡ line) × (number_at d' j ≡ length xs + 1)) ⊎ ((j ≢ line) × (number_at d' j ≡ number_at d j)) → line_in d' (xs ++ x ∷ []) j ≡ line_in d xs j
+      go (inl t) = absurd (ne t.0)
+      go (inr t) = other_by j t.1
+
+  pub placed-added : ArePlaced d' (xs ++ x ∷ [])
+  placed-added = record { within = λ j. within j (given j); numbered = λ j y e. numbered j y e (given j) }
+    where
+      within : (j : ℕ) → ((j ≡ line) × (number_at d' j ≡ length xs + 1)) ⊎ ((j ≢ line) × (number_at d' j ≡ number_at d j)) → number_at d' j ≤ length (xs ++ x ∷ [])
+      within j (inl t) = omega (arith, t.1, length-push xs x)
+      within j (inr t) = omega (arith, t.1, h.within j, length-push xs x)
+
+      numbered : (j : ℕ) (y : KeptLine) → line_in d' (xs ++ x ∷ []) j ≡ Some y → ((j ≡ line) × (number_at d' j ≡ length xs + 1)) ⊎ ((j ≢ line) × (number_at d' j ≡ number_at d j)) → y.line ≡ j
+      numbered j y e (inl t) = ap (λ (z : KeptLine). z.line) (some_same y x (sym e ∙ here_by j t.1)) ∙ l ∙ sym t.0
+      numbered j y e (inr t) = h.numbered j y (sym (other_by j t.1) ∙ e)
+
+pub placed-same : (d d' : Directory) (xs : List KeptLine) → ((j : ℕ) → number_at d' j ≡ number_at d j) → ArePlaced d xs → ArePlaced d' xs
+placed-same d d' xs s h = record { within = λ j. omega (arith, s j, h.within j); numbered = λ j x e. h.numbered j x (sym (ap (at_place xs) (s j)) ∙ e) }
+
+pub gives-line : (m m' : KeptLines) (d : Directory) (line : ℕ) (x : KeptLine) (k : Kept) → kept_in x ≡ k → ((j : ℕ) → number_at d j ≡ number_at m.directory j)
+    → ((j : ℕ) → number_at m'.directory j ≡ cond (j == line) (length m.lines.items + 1) (number_at d j)) → x.line ≡ line → m'.lines.items ≡ m.lines.items ++ x ∷ []
+    → GivesLine k line m m'
+unfolding line_at
+gives-line m m' d line x k q same s l e = record {
+  here = ap (λ xs. option_map kept_in (line_in m'.directory xs line)) e ∙ ap (option_map kept_in) (added-here d m'.directory m.lines.items line x placed l s) ∙ ap (λ y. Some y) q;
+  others = λ j ne. ap (λ xs. option_map kept_in (line_in m'.directory xs j)) e ∙ ap (option_map kept_in) (added-other d m'.directory m.lines.items line x placed l s j ne ∙ ap (at_place m.lines.items) (same j));
+}
+  where
+    placed : ArePlaced d m.lines.items
+    placed = placed-same m.directory d m.lines.items same m.placed
+
+-- whatever the answer was
+pub placed-either : {A E : Type 0} (r : Result A E) (f g : Kept → Kept) (d : Directory) (xs xs' : List KeptLine) (line n : ℕ) → ArePlaced d xs → 0 < number_at d line → n ≡ number_at d line
+    → OnOk r (ChangesPlace f (n - 1) xs xs') → OnErr r (ChangesPlace g (n - 1) xs xs') → ArePlaced d xs'
+placed-either (Ok a) f g d xs xs' line n h p e o w = placed-changed f d xs xs' line h p (subst (λ i. ChangesPlace f (i - 1) xs xs') e o)
+placed-either (Err a) f g d xs xs' line n h p e o w = placed-changed g d xs xs' line h p (subst (λ i. ChangesPlace g (i - 1) xs xs') e w)

@@ -1,0 +1,32 @@
+-- What is kept of a cache line: its bytes behind the durable stores, how many these are, the later ones in order, and
+-- how many of those are flushed.
+use Rattle.std.specs.Prelude.{ℕ, ◌+◌, ◌*◌, List, [], ◌∷◌, ◌++◌, length, drop, take}
+use Rattle.hip_lines.specs.declared.TheConstants.{LINE_SIZE}
+use Rattle.hip_crash.specs.Values.{bytes_after}
+use Rattle.hip_crash.specs.declared.kept_line.KeptLine.{KeptLine}
+use Rattle.hip_crash.specs.declared.values.StoredValue.{StoredValue}
+
+pub record Kept : Type 0 where
+  pub bytes : List ℕ
+  pub least : ℕ
+  pub later : List StoredValue
+  pub flushed : ℕ
+
+abbrev pub kept_in : KeptLine → Kept
+kept_in x = record { bytes = x.bytes; least = x.least; later = x.later.items; flushed = x.flushed }
+
+abbrev pub with_store : StoredValue → Kept → Kept
+with_store v k = record k { later = k.later ++ v ∷ [] }
+
+abbrev pub with_flush : Kept → Kept
+with_flush k = record k { flushed = length k.later }
+
+-- the flushed stores of line j are durable now
+abbrev pub with_fence : ℕ → Kept → Kept
+with_fence j k =
+    record {
+      bytes = bytes_after (take k.flushed k.later) (LINE_SIZE * j) k.bytes;
+      least = k.least + k.flushed;
+      later = drop k.flushed k.later;
+      flushed = 0;
+    }

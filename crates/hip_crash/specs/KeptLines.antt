@@ -1,0 +1,48 @@
+-- What is kept of the cache lines into which something was stored, by their numbers.
+use Rattle.std.specs.Prelude.{◌≡◌, ◌≢◌, ℕ, ◌<◌, ◌≤◌, Bool, true, false, ◌&&◌, nat_eq, not, List, length, Option, Some, None, option_map}
+use Rattle.std.specs.List.{list_any}
+use Rattle.hip_crash.specs.Kept.{Kept, kept_in}
+use Rattle.hip_crash.specs.Places.{line_in}
+use Rattle.hip_crash.specs.declared.kept_line.KeptLine.{KeptLine}
+use Rattle.hip_crash.specs.declared.kept_lines.KeptLines.{KeptLines}
+
+unfoldable pub line_at : KeptLines → ℕ → Option KeptLine
+line_at m j = line_in m.directory m.lines.items j
+
+-- what is kept of cache line j, if something is
+abbrev pub kept_at : KeptLines → ℕ → Option Kept
+kept_at m j = option_map kept_in (line_at m j)
+
+-- what is kept of one cache line is changed, and nothing else is
+pub record ChangesLine (change : Kept → Kept) (line : ℕ) (old new : KeptLines) : Type 0 where
+  pub here : kept_at new line ≡ option_map change (kept_at old line)
+  pub others : (j : ℕ) → j ≢ line → kept_at new j ≡ kept_at old j
+
+-- this is kept of one cache line now, of which nothing was, and nothing else is changed
+pub record GivesLine (kept : Kept) (line : ℕ) (old new : KeptLines) : Type 0 where
+  pub here : kept_at new line ≡ Some kept
+  pub others : (j : ℕ) → j ≢ line → kept_at new j ≡ kept_at old j
+
+-- nothing is kept of the cache lines from one up to another
+abbrev pub NoneKept : KeptLines → ℕ → ℕ → Type 0
+NoneKept m from to = (j : ℕ) → from ≤ j → j < to → line_at m j ≡ None
+
+-- the first of the cache lines from one up to another of which something is kept, if there is one
+abbrev pub IsFirstKept : KeptLines → ℕ → ℕ → Option KeptLine → Type 0
+IsFirstKept m from to None = NoneKept m from to
+IsFirstKept m from to (Some x) =
+    (line_at m x.line ≡ Some x) × (from ≤ x.line) × (x.line < to) × NoneKept m from x.line
+
+-- how many stores are flushed
+abbrev pub flushed_in : Option Kept → ℕ
+flushed_in None = 0
+flushed_in (Some k) = k.flushed
+
+-- the list has each line that holds flushed stores
+abbrev pub AreListed : List ℕ → KeptLines → Type 0
+AreListed lines m = (j : ℕ) → 0 < flushed_in (kept_at m j) → list_any (nat_eq j) lines ≡ true
+
+-- whether there are stores of which none is flushed
+abbrev pub is_unflushed : Option Kept → Bool
+is_unflushed None = false
+is_unflushed (Some k) = nat_eq k.flushed 0 && not (nat_eq (length k.later) 0)

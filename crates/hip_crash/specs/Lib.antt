@@ -1,0 +1,13 @@
+pub mod Picks
+pub mod Numbers
+pub mod Values
+pub mod Kept
+pub mod Places
+pub mod KeptLines
+pub mod Now
+pub mod Waiting
+pub mod Region
+pub mod Views
+pub mod Noting
+pub mod Holding
+pub mod Logging

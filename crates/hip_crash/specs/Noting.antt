@@ -1,0 +1,22 @@
+-- What a step's event does to what is kept of the region.
+use Rattle.std.specs.Prelude.{ℕ, ◌+◌, ◌-◌, ◌≤◌, cond, List, length}
+use Rattle.hip_lines.specs.Line.{has_bytes}
+use Rattle.hip_runs.specs.declared.event.Event.{Event}
+use Rattle.hip_runs.specs.declared.event.Event.TheVariants as events
+use Rattle.hip_crash.specs.Kept.{Kept, with_store, with_flush, with_fence}
+
+-- line j of a region at a base, after a step with this event
+abbrev pub noted : ℕ → Event → ℕ → Kept → Kept
+noted base (events.Store a v n) j k =
+    cond (has_bytes j (a - base) n) (with_store (record { offset = a - base; value = v; size = n }) k) k
+noted base (events.Flush line size) j k = cond (has_bytes j (line - base) size) (with_flush k) k
+noted base (events.Persist line size) j k = with_fence j (cond (has_bytes j (line - base) size) (with_flush k) k)
+noted base events.Fence j k = with_fence j k
+noted base _ j k = k
+
+-- what the event names lies in the region
+abbrev pub IsWithin : ℕ → List ℕ → Event → Type 0
+IsWithin base image (events.Store a v n) = (base ≤ a) × ((a - base) + n ≤ length image)
+IsWithin base image (events.Flush line size) = (base ≤ line) × ((line - base) + size ≤ length image)
+IsWithin base image (events.Persist line size) = (base ≤ line) × ((line - base) + size ≤ length image)
+IsWithin base image _ = Unit {0}

@@ -1,0 +1,17 @@
+-- What stands of a cache line, where its initial bytes stand for those of which nothing is kept.
+use Rattle.std.specs.Prelude.{ℕ, ◌*◌, List, [], drop, take, Option, Some, None}
+use Rattle.hip_lines.specs.declared.TheConstants.{LINE_SIZE}
+use Rattle.hip_crash.specs.Kept.{Kept}
+use Rattle.hip_crash.specs.KeptLines.{kept_at}
+use Rattle.hip_crash.specs.declared.kept_lines.KeptLines.{KeptLines}
+
+-- line j, into which nothing was stored, of a region with these initial bytes
+abbrev pub fresh : List ℕ → ℕ → Kept
+fresh image j = record { bytes = take LINE_SIZE (drop (LINE_SIZE * j) image); least = 0; later = []; flushed = 0 }
+
+abbrev pub kept_or_fresh : List ℕ → ℕ → Option Kept → Kept
+kept_or_fresh image j None = fresh image j
+kept_or_fresh image j (Some k) = k
+
+abbrev pub now_at : KeptLines → List ℕ → ℕ → Kept
+now_at m image j = kept_or_fresh image j (kept_at m j)

@@ -1,0 +1,27 @@
+-- The numbers of lines that picks give, as they are looked up and found.
+use Rattle.std.specs.Prelude.{◌≡◌, ℕ, ◌<◌, ◌≤◌, List, length, Option, Some, None, slice_get}
+use Rattle.hip_lines.specs.Image.{IsLineImageAt}
+use Rattle.hip_lines.specs.Line.{Line}
+use Rattle.hip_runs.specs.Crash.{byte_of, covers}
+use Rattle.hip_runs.specs.State.{State, StorePart}
+use Rattle.hip_runs.specs.declared.input.Input.{Input}
+use Rattle.hip_crash.specs.Picks.{number_for}
+use Rattle.hip_crash.specs.declared.pick.Bounds.{Bounds}
+use Rattle.hip_crash.specs.declared.pick.Pick.{Pick}
+
+-- for each of so many lines the number that picks give it, if they do
+pub record AreNumbers (count : ℕ) (picks : List Pick) (numbers : List (Option ℕ)) : Type 0 where
+  pub many : length numbers ≡ count
+  pub are : (j : ℕ) → j < count → slice_get numbers j ≡ Some (number_for picks j)
+
+pub record IsBetween (bounds : Bounds) (upto : ℕ) : Type 0 where
+  pub least : bounds.least ≤ upto
+  pub most : upto ≤ bounds.most
+
+-- so many first parts an image has in line j, if it is a crash image there
+abbrev pub IsNumberIn : Input → State → List ℕ → ℕ → Line StorePart → Option ℕ → Type 0
+IsNumberIn I s image j l None = (q : ℕ) → IsLineImageAt covers byte_of I.image image j l q → ⊥
+IsNumberIn I s image j l (Some q) = IsLineImageAt covers byte_of I.image image j l q
+
+pub record IsNumberOf (I : Input) (s : State) (image : List ℕ) (j : ℕ) (number : Option ℕ) : Type 0 where
+  pub is : (l : Line StorePart) → slice_get s.lines j ≡ Some l → IsNumberIn I s image j l number

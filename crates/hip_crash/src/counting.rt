@@ -1,0 +1,88 @@
+//! How many entries a run's trace has: those of its header, and of each step.
+
+ghost use Rattle.std.specs.Prelude.{◌≡◌, ◌/◌, length, is_some};
+ghost use Rattle.hip_lines.specs.declared.TheConstants.{LINE_SIZE};
+ghost use Rattle.hip_runs.specs.Ends.{longest, longest_block};
+ghost use Rattle.hip_runs.specs.Outputs.{ending_by};
+ghost use Rattle.hip_runs.specs.Step.{has_entry, header_entries, image_lines, some_byte};
+
+use hip_ir::{Block, Program};
+use hip_lines::LINE_SIZE;
+use hip_step::{Event, Input};
+
+/// How many entries stand before a run's first step, in time of the initial bytes.
+pub fn count_header(input: &Input) -> u128
+    ensures { result ≡ header_entries input.now }
+{
+    let lines = count_lines(input.image.as_slice());
+    2 + input.numbers.len() as u128 + lines as u128
+}
+
+// How many lines have an initial byte other than 0.
+fn count_lines(image: &[u8]) -> u64
+    ensures { result ≡ image_lines (length image.now / LINE_SIZE) image.now }
+{
+    let mut count = 0;
+    'lines: for line in 0..image.len() / LINE_SIZE as usize {
+        let start = line * LINE_SIZE as usize;
+        if has_byte(&image[start..start + LINE_SIZE as usize]) {
+            count += 1;
+        }
+    }
+    count
+}
+
+// Whether a byte is not 0.
+fn has_byte(bytes: &[u8]) -> bool
+    ensures { result ≡ some_byte bytes.now }
+{
+    for byte in bytes {
+        if *byte != 0 {
+            return true;
+        }
+    }
+    false
+}
+
+/// Whether a step with this event has an entry.
+#[inline(always)]
+pub fn is_counted(event: Event) -> bool
+    ensures { result ≡ has_entry event }
+{
+    match event {
+        Event::Quiet | Event::Print(_) => false,
+        _ => true,
+    }
+}
+
+/// Whether a run ends in a step with this event.
+#[inline(always)]
+pub fn is_end(event: Event) -> bool
+    ensures { result ≡ is_some (ending_by event) }
+{
+    match event {
+        Event::End(_) => true,
+        _ => false,
+    }
+}
+
+/// The length of the longest body of a program's blocks, which bounds how many steps a run has.
+pub fn longest_body(program: &Program) -> usize
+    ensures { result ≡ longest program.now }
+{
+    let mut most = 0;
+    for function in program.functions.as_slice() {
+        most = longest_of(function.blocks.as_slice()).max(most);
+    }
+    most
+}
+
+fn longest_of(blocks: &[Block]) -> usize
+    ensures { result ≡ longest_block blocks.now }
+{
+    let mut most = 0;
+    for block in blocks {
+        most = block.body.len().max(most);
+    }
+    most
+}

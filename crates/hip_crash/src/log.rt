@@ -1,0 +1,281 @@
+//! A log of what a crash may leave in the region.
+
+ghost use Rattle.std.specs.Prelude.{◌≡◌, ◌-◌, ◌*◌, ◌<◌, ◌≤◌, ℕ, [], List, None, drop, length, take, true, IfErr, IfOk, IsOk, MatchOption, OnErr, OnOk};
+ghost use Rattle.hip_runs.specs.Step.{event, has_ended};
+ghost use Rattle.hip_runs.specs.Validity.{IsValid};
+ghost use Rattle.hip_crash.specs.Numbers.{AreNumbers, IsBetween, IsNumberOf};
+ghost use Rattle.hip_crash.specs.Picks.{ArePicksOf, IsRefusal, bounds_of, failure, first_failure, number_for, number_or, picked, range_failure};
+ghost use Rattle.hip_crash.specs.declared.pick.Pick.{Pick};
+ghost use Rattle.hip_lines.specs.declared.TheConstants.{LINE_SIZE};
+ghost use Rattle.hip_runs.specs.Crash.{IsCrashImage, crash_image};
+ghost use Rattle.hip_step.specs.Seen.{after_step, state_of};
+
+use crate::changes::line_bytes;
+use crate::counting::{count_header, is_counted, is_end, longest_body};
+use crate::noting::note;
+use crate::pick::{Bounds, Pick, PickRefusal};
+use crate::region_log::RegionLog;
+use hip_lines::LINE_SIZE;
+use hip_step::{Event, Input, Machine};
+use hip_types::{NoMemory, Row};
+use hip_typing::Checked;
+use std::alloc::Global;
+use std::marker::Model;
+
+/// What a crash may leave in the region at each step of a run, which contracts see as the run of its program on its input,
+/// and how many steps of it were noted. It keeps of each cache line that was stored into its bytes behind the durable
+/// stores and the later stores.
+#[derive(Drop)]
+pub struct CrashLog<'a> {
+    checked: &'a Checked,
+    input: &'a Input,
+    taken: u128,
+    entries: u128,
+    ended: bool,
+    region: RegionLog,
+}
+
+impl<'a> Model for CrashLog<'a> {
+    ghost use Rattle.hip_ir.specs.contracts.program.Program as programs;
+    ghost use Rattle.hip_step.specs.Seen.{Seen};
+    ghost use Rattle.std.specs.Coded.{codes};
+
+    ghost Value = { Seen };
+
+    ghost coded = { Prim.hlevel (codes, programs.the_row.coded) };
+
+    ghost use Rattle.hip_crash.specs.Logging.{view_of, IsLogging};
+
+    ghost view = { view_of };
+
+    ghost invariant = { IsLogging };
+}
+
+impl<'a> CrashLog<'a> {
+    /// A log of the first state of a run, in time of the initial bytes and the program's blocks.
+    pub fn new(
+        alloc: Global,
+        checked: &'a Checked,
+        input: &'a Input,
+    ) -> Result<CrashLog<'a>, NoMemory>
+        requires { IsValid checked.now input.now }
+        ensures { IfOk result (λ log. log ≡ record { program = checked.now; input = input.now; taken = 0 }) }
+    {
+        // No body is longer than a number of 64 bits tells, so that the counts are numbers of 128 bits.
+        let _longest = longest_body(checked.program());
+        let region = RegionLog::new(alloc)?;
+        let entries = count_header(input);
+        Ok(CrashLog {
+            checked,
+            input,
+            taken: 0,
+            entries,
+            ended: false,
+            region,
+        })
+    }
+
+    /// Takes the next step of the machine whose steps it noted so far, and notes it. After want of memory neither has
+    /// changed.
+    #[inline(always)]
+    pub fn advance(&mut self, machine: &mut Machine<'_>) -> Result<Event, NoMemory>
+        requires { self.old ≡ machine.old }
+        ensures ok { OnOk result (self.new ≡ after_step self.old) }
+        ensures machine { OnOk result (machine.new ≡ after_step machine.old) }
+        ensures event { IfOk result (λ e. e ≡ event machine.old.program machine.old.input (state_of machine.old)) }
+        ensures err { OnErr result (self.new ≡ self.old) }
+        ensures err_machine { OnErr result (machine.new ≡ machine.old) }
+        ensures ended { has_ended (state_of self.old) ≡ true → IsOk result }
+    {
+        if self.ended {
+            return machine.step();
+        }
+        self.region.take_up(self.input.image.as_slice())?;
+        let event = machine.step()?;
+        note(&mut self.region, self.input.base, event);
+        self.taken += 1;
+        if is_counted(event) {
+            self.entries += 1;
+        }
+        self.ended = is_end(event);
+        Ok(event)
+    }
+
+    /// How many entries the run's trace has so far, those of its header among them.
+    pub fn entries(&self) -> u128
+        ensures { result ≡ (state_of self.now).counts.entries }
+    {
+        self.entries
+    }
+
+    /// From how many first parts of its stores to how many a crash may leave in a line of the region.
+    pub fn bounds(&self, line: u64) -> Bounds
+        requires { LINE_SIZE * line < length self.now.input.image }
+        ensures { result ≡ bounds_of (state_of self.now) line }
+    {
+        let _ = &self.checked;
+        self.line_bounds(line)
+    }
+
+    /// The image that picks give, where a line that is not named keeps its durable stores alone; or how the first of the
+    /// picks fails that does. It takes memory of the region's size.
+    pub fn pick_image(&self, alloc: Global, picks: &[Pick]) -> Result<Row<u8>, PickRefusal>
+        ensures image { IfOk result (λ image. image
+            ≡ crash_image self.now.input (state_of self.now) (picked (state_of self.now) picks.now)) }
+        ensures is { IfOk result (λ image. IsCrashImage self.now.input (state_of self.now) image) }
+        ensures valid { IfOk result (λ image. IsValid self.now.program (record self.now.input { image = image })) }
+        ensures fit { OnOk result (first_failure (state_of self.now) picks.now ≡ None) }
+        ensures refused { IfErr result (λ refusal. IsRefusal (state_of self.now) picks.now refusal) }
+    {
+        let _ = &self.checked;
+        let numbers = self.numbers_of(alloc, picks)?;
+        let mut image = Row::new(alloc);
+        'lines: for line in 0..self.count() {
+            let number = number_in(numbers.as_slice(), line as usize);
+            let bytes = self.bytes_at(line, number);
+            match image.extend_from_slice(&bytes) {
+                Ok(()) => {}
+                Err(_) => return Err(PickRefusal::NoMemory),
+            }
+        }
+        Ok(image)
+    }
+
+    /// The picks of each line, ascending, that give an image, in one pass over it. None exactly where it is no crash image.
+    pub fn find_picks(&self, alloc: Global, image: &[u8]) -> Result<Option<Row<Pick>>, NoMemory>
+        requires { length image.now ≡ length self.now.input.image }
+        ensures { IfOk result (λ found. MatchOption found (¬ IsCrashImage self.now.input (state_of self.now) image.now)
+            (λ picks. ArePicksOf self.now.input (state_of self.now) picks image.now)) }
+    {
+        let _ = &self.checked;
+        let mut picks = Row::new(alloc);
+        'lines: for line in 0..self.count() {
+            match self.number_of(line, image) {
+                Some(upto) => picks.push(Pick { line, upto })?,
+                None => return Ok(None),
+            }
+        }
+        Ok(Some(picks))
+    }
+
+    // The bounds of a line.
+    fn line_bounds(&self, line: u64) -> Bounds
+        requires { line < length (state_of self.now).lines }
+        ensures { result ≡ bounds_of (state_of self.now) line }
+    {
+        let view = self.region.view(self.input.image.as_slice(), line);
+        Bounds {
+            least: view.least,
+            most: view.most(),
+        }
+    }
+
+    // How many lines the region has.
+    fn count(&self) -> u64
+        ensures { result ≡ length (state_of self.now).lines }
+    {
+        self.input.image.len() as u64 / LINE_SIZE
+    }
+
+    // The numbers that picks give the lines, or how the first of them fails that does.
+    fn numbers_of(&self, alloc: Global, picks: &[Pick]) -> Result<Vec<Option<u64>>, PickRefusal>
+        ensures numbers { IfOk result (λ numbers. AreNumbers (length (state_of self.now).lines) picks.now numbers.items) }
+        ensures fit { OnOk result (first_failure (state_of self.now) picks.now ≡ None) }
+        ensures refused { IfErr result (λ refusal. IsRefusal (state_of self.now) picks.now refusal) }
+    {
+        let mut numbers = match no_numbers(alloc, self.count() as usize) {
+            Ok(numbers) => numbers,
+            Err(_) => return Err(PickRefusal::NoMemory),
+        };
+        'picks: for place in 0..picks.len() {
+            let pick = picks[place];
+            match self.failure_of(numbers.as_slice(), place + 1, pick) {
+                Some(refusal) => return Err(refusal),
+                None => numbers[pick.line as usize] = Some(pick.upto),
+            }
+        }
+        Ok(numbers)
+    }
+
+    // How a pick fails behind earlier ones, which gave the lines these numbers.
+    fn failure_of(&self, numbers: &[Option<u64>], at: usize, pick: Pick) -> Option<PickRefusal>
+        requires { length numbers.now ≡ length (state_of self.now).lines }
+        ensures { (earlier : List Pick) → AreNumbers (length (state_of self.now).lines) earlier numbers.now →
+            result ≡ failure (state_of self.now) earlier at pick }
+    {
+        match numbers.get(pick.line as usize) {
+            None => Some(PickRefusal::NoLine { at }),
+            Some(Some(_)) => Some(PickRefusal::Repeated { at }),
+            Some(None) => range_failure(self.line_bounds(pick.line), at, pick.upto),
+        }
+    }
+
+    // The bytes that an image has in a line, by the number of its first parts.
+    fn bytes_at(&self, line: u64, number: Option<u64>) -> [u8; LINE_SIZE as usize]
+        requires line { line < length (state_of self.now).lines }
+        requires within { IsBetween (bounds_of (state_of self.now) line) (number_or (bounds_of (state_of self.now) line).least number) }
+        ensures { (pick : ℕ → ℕ) → pick line ≡ number_or (bounds_of (state_of self.now) line).least number →
+            result ≡ take LINE_SIZE (drop (LINE_SIZE * line) (crash_image self.now.input (state_of self.now) pick)) }
+    {
+        let view = self.region.view(self.input.image.as_slice(), line);
+        view.bytes_after(line * LINE_SIZE, behind(view.least, number))
+    }
+
+    // How many first parts an image has of a line, if it is a crash image there.
+    fn number_of(&self, line: u64, image: &[u8]) -> Option<u64>
+        requires line { line < length (state_of self.now).lines }
+        requires whole { length image.now ≡ length self.now.input.image }
+        ensures { IsNumberOf self.now.input (state_of self.now) image.now line result }
+    {
+        let view = self.region.view(self.input.image.as_slice(), line);
+        match view.find(line * LINE_SIZE, &line_bytes(image, line)) {
+            Some(count) => Some(view.least + count as u64),
+            None => None,
+        }
+    }
+}
+
+// No number for any of so many lines.
+fn no_numbers(alloc: Global, count: usize) -> Result<Vec<Option<u64>>, NoMemory>
+    ensures { IfOk result (λ numbers. AreNumbers count [] numbers.items) }
+{
+    let mut numbers = Vec::new(alloc);
+    match numbers.resize(count, None) {
+        Ok(()) => Ok(numbers),
+        Err(_) => Err(NoMemory),
+    }
+}
+
+// The number for a line, if it has one.
+fn number_in(numbers: &[Option<u64>], line: usize) -> Option<u64>
+    requires { line < length numbers.now }
+    ensures { (count : ℕ) → (picks : List Pick) → AreNumbers count picks numbers.now → line < count →
+        result ≡ number_for picks line }
+{
+    numbers[line]
+}
+
+// How many stores behind the durable ones a number stands for.
+fn behind(least: u64, number: Option<u64>) -> usize
+    requires { least ≤ number_or least number }
+    ensures { result ≡ number_or least number - least }
+{
+    match number {
+        Some(upto) => (upto - least) as usize,
+        None => 0,
+    }
+}
+
+// How a number for a line fails.
+fn range_failure(bounds: Bounds, at: usize, upto: u64) -> Option<PickRefusal>
+    ensures { result ≡ range_failure at bounds upto }
+{
+    if upto < bounds.least || bounds.most < upto {
+        return Some(PickRefusal::OutOfRange {
+            at,
+            least: bounds.least,
+            most: bounds.most,
+        });
+    }
+    None
+}

@@ -1,0 +1,35 @@
+//! What a step's event does to what is kept of the region.
+
+ghost use Rattle.std.specs.Prelude.{◌≡◌, ◌<◌, ◌^◌, ℕ, List, length};
+ghost use Rattle.hip_crash.specs.Noting.{IsWithin, noted};
+ghost use Rattle.hip_crash.specs.Region.{seen_at};
+ghost use Rattle.hip_crash.specs.Waiting.{WaitsWithin};
+ghost use Rattle.hip_crash.specs.declared.waiting.Waiting.TheVariants as waits;
+
+use crate::region_log::RegionLog;
+use crate::values::StoredValue;
+use hip_step::Event;
+
+/// Notes the event of a step in what is kept of a region at a base; it takes no memory.
+#[inline(always)]
+pub fn note(log: &mut RegionLog, base: u64, event: Event)
+    requires idle { log.old.waiting ≡ waits.Nothing }
+    requires within { (image : List ℕ) × IsWithin base image event × (length image < 2 ^ 40) }
+    ensures seen { (image : List ℕ) → (j : ℕ) → seen_at log.new image j ≡ noted base event j (seen_at log.old image j) }
+    ensures within { (image : List ℕ) → IsWithin base image event → WaitsWithin log.new.waiting image }
+{
+    if let Event::Quiet = event {
+        return;
+    }
+    match event {
+        Event::Store { addr, value, size } => log.note_store(StoredValue {
+            offset: addr - base,
+            value,
+            size,
+        }),
+        Event::Flush { line, size } => log.note_flush(line - base, size),
+        Event::Persist { line, size } => log.note_persist(line - base, size),
+        Event::Fence => log.note_fence(),
+        _ => {}
+    }
+}

@@ -1,0 +1,11 @@
+use crate::values::StoredValue;
+
+/// What came last, and is not taken up into the kept lines yet, since that takes memory.
+#[derive(Clone, Copy, Drop)]
+pub enum Waiting {
+    Nothing,
+    /// The parts of a store in the lines from one on.
+    Store { stored: StoredValue, from: u64 },
+    /// A flush of the lines that have a byte of a range.
+    Flush { offset: u64, len: u64 },
+}

@@ -1,0 +1,397 @@
+//! Images that are picked and found at entries of traces.
+
+ghost use Rattle.std.specs.Prelude.{◌≡◌, IfOk};
+ghost use Rattle.hip_runs.specs.Validity.{IsValid};
+
+use hip_crash::{Bounds, CrashLog, Pick, PickRefusal};
+use hip_parse::parse;
+use hip_step::{Input, Machine, why_not};
+use hip_types::Row;
+use hip_typing::{Checked, check};
+use std::alloc::Global;
+use std::process::Abort;
+use std::test::Fail;
+
+/// Where the region begins.
+const BASE: u64 = 4_294_967_296;
+
+/// How many steps a run of these programs has at most.
+const MOST_STEPS: u64 = 40;
+
+/// Two stores to one number, of which none is flushed.
+const TWO_STORES: &str = "@x = global i64 0, section \".pm\"
+define i32 @main() {
+entry:
+  store i64 5, ptr @x
+  store i64 6, ptr @x
+  ret i32 0
+}
+";
+
+/// A store in two lines, the second of which is then made durable.
+const TWO_LINES: &str = "@a = global [16 x i64] zeroinitializer, section \".pm\"
+declare void @llvm.x86.clwb(ptr)
+declare void @llvm.x86.sse.sfence()
+define i32 @main() {
+entry:
+  %p = getelementptr i8, ptr @a, i64 60
+  store i64 578437695752307201, ptr %p, align 1
+  %q = getelementptr i8, ptr @a, i64 64
+  call void @llvm.x86.clwb(ptr %q)
+  call void @llvm.x86.sse.sfence()
+  ret i32 0
+}
+";
+
+/// Stores of which the first is flushed, and those of another line that are persisted with one call.
+const FLUSHED: &str =
+    "@a = global [16 x i64] [i64 1, i64 0, i64 0, i64 0, i64 0, i64 0, i64 0, i64 0, i64 0, i64 0, i64 0, i64 0, i64 0, i64 0, i64 0, i64 0], section \".pm\"
+declare void @llvm.x86.clwb(ptr)
+declare void @llvm.x86.sse.sfence()
+declare void @pmem_persist(ptr, i64)
+define i32 @main() {
+entry:
+  %q = getelementptr i64, ptr @a, i64 8
+  store i64 5, ptr @a
+  call void @llvm.x86.clwb(ptr @a)
+  store i64 6, ptr @a
+  store i64 7, ptr %q
+  store i64 8, ptr %q
+  call void @llvm.x86.sse.sfence()
+  call void @pmem_persist(ptr %q, i64 8)
+  ret i32 0
+}
+";
+
+/// The picks of an image at an entry of a run's trace, and its bytes other than 0 or how the picks fail.
+struct Picked {
+    name: &'static str,
+    program: &'static str,
+    entry: u128,
+    picks: &'static [Pick],
+    answer: Result<&'static [(usize, u8)], PickRefusal>,
+}
+
+/// The bounds of a line at an entry of a run's trace.
+struct Bounded {
+    name: &'static str,
+    program: &'static str,
+    entry: u128,
+    line: u64,
+    bounds: Bounds,
+}
+
+const PICKED: &[Picked] = &[
+    Picked {
+        name: "nothing of two stores",
+        program: TWO_STORES,
+        entry: 4,
+        picks: &[],
+        answer: Ok(&[]),
+    },
+    Picked {
+        name: "the first of two stores",
+        program: TWO_STORES,
+        entry: 4,
+        picks: &[Pick { line: 0, upto: 1 }],
+        answer: Ok(&[(0, 5)]),
+    },
+    Picked {
+        name: "both stores",
+        program: TWO_STORES,
+        entry: 4,
+        picks: &[Pick { line: 0, upto: 2 }],
+        answer: Ok(&[(0, 6)]),
+    },
+    Picked {
+        name: "both stores at the last entry",
+        program: TWO_STORES,
+        entry: 5,
+        picks: &[Pick { line: 0, upto: 2 }],
+        answer: Ok(&[(0, 6)]),
+    },
+    Picked {
+        name: "an entry of the header",
+        program: TWO_STORES,
+        entry: 1,
+        picks: &[Pick { line: 0, upto: 0 }],
+        answer: Ok(&[]),
+    },
+    Picked {
+        name: "a number above the bounds",
+        program: TWO_STORES,
+        entry: 3,
+        picks: &[Pick { line: 0, upto: 2 }],
+        answer: Err(PickRefusal::OutOfRange {
+            at: 1,
+            least: 0,
+            most: 1,
+        }),
+    },
+    Picked {
+        name: "a line that is named twice, before its number",
+        program: TWO_STORES,
+        entry: 4,
+        picks: &[Pick { line: 0, upto: 2 }, Pick { line: 0, upto: 9 }],
+        answer: Err(PickRefusal::Repeated { at: 2 }),
+    },
+    Picked {
+        name: "a line outside the region",
+        program: TWO_STORES,
+        entry: 4,
+        picks: &[Pick { line: 1, upto: 0 }],
+        answer: Err(PickRefusal::NoLine { at: 1 }),
+    },
+    Picked {
+        name: "the first pick that fails",
+        program: TWO_STORES,
+        entry: 4,
+        picks: &[Pick { line: 0, upto: 3 }, Pick { line: 1, upto: 0 }],
+        answer: Err(PickRefusal::OutOfRange {
+            at: 1,
+            least: 0,
+            most: 2,
+        }),
+    },
+    Picked {
+        name: "the first part of a store in two lines",
+        program: TWO_LINES,
+        entry: 3,
+        picks: &[Pick { line: 0, upto: 1 }],
+        answer: Ok(&[(60, 1), (61, 2), (62, 3), (63, 4)]),
+    },
+    Picked {
+        name: "the second part of a store in two lines",
+        program: TWO_LINES,
+        entry: 3,
+        picks: &[Pick { line: 1, upto: 1 }, Pick { line: 0, upto: 0 }],
+        answer: Ok(&[(64, 5), (65, 6), (66, 7), (67, 8)]),
+    },
+    Picked {
+        name: "a part that is durable",
+        program: TWO_LINES,
+        entry: 5,
+        picks: &[],
+        answer: Ok(&[(64, 5), (65, 6), (66, 7), (67, 8)]),
+    },
+    Picked {
+        name: "a part that is durable, left out",
+        program: TWO_LINES,
+        entry: 5,
+        picks: &[Pick { line: 0, upto: 1 }, Pick { line: 1, upto: 0 }],
+        answer: Err(PickRefusal::OutOfRange {
+            at: 2,
+            least: 1,
+            most: 1,
+        }),
+    },
+    Picked {
+        name: "initial bytes under a store in another line",
+        program: FLUSHED,
+        entry: 7,
+        picks: &[Pick { line: 1, upto: 1 }],
+        answer: Ok(&[(0, 1), (64, 7)]),
+    },
+    Picked {
+        name: "a durable store and those of another line",
+        program: FLUSHED,
+        entry: 9,
+        picks: &[Pick { line: 1, upto: 2 }],
+        answer: Ok(&[(0, 5), (64, 8)]),
+    },
+    Picked {
+        name: "stores that are persisted",
+        program: FLUSHED,
+        entry: 10,
+        picks: &[Pick { line: 0, upto: 2 }],
+        answer: Ok(&[(0, 6), (64, 8)]),
+    },
+];
+
+const BOUNDED: &[Bounded] = &[
+    Bounded {
+        name: "the first state",
+        program: FLUSHED,
+        entry: 3,
+        line: 0,
+        bounds: Bounds { least: 0, most: 0 },
+    },
+    Bounded {
+        name: "a flush leaves the bounds",
+        program: FLUSHED,
+        entry: 5,
+        line: 0,
+        bounds: Bounds { least: 0, most: 1 },
+    },
+    Bounded {
+        name: "stores that wait",
+        program: FLUSHED,
+        entry: 8,
+        line: 1,
+        bounds: Bounds { least: 0, most: 2 },
+    },
+    Bounded {
+        name: "a fence makes flushed stores durable",
+        program: FLUSHED,
+        entry: 9,
+        line: 0,
+        bounds: Bounds { least: 1, most: 2 },
+    },
+    Bounded {
+        name: "a flush with a fence behind it",
+        program: FLUSHED,
+        entry: 10,
+        line: 1,
+        bounds: Bounds { least: 2, most: 2 },
+    },
+];
+
+/// The program of a text that is sound.
+fn checked(rt: &impl Abort, alloc: Global, text: &str) -> Checked {
+    let program = parse(alloc, text.as_bytes()).expect(rt, "the text is read");
+    check(alloc, program).expect(rt, "the program is sound")
+}
+
+/// The input of a program's run from its initial bytes.
+fn input(alloc: Global, checked: &Checked, name: &str) -> Result<Input, Fail>
+    ensures { IfOk result (λ input. IsValid checked.now input) }
+{
+    let image = checked.region_bytes(alloc, BASE)?;
+    let input = Input {
+        base: BASE,
+        image,
+        numbers: Row::new(alloc),
+        limit: 100,
+    };
+    if let Some(_fault) = why_not(checked, &input) {
+        return Err(Fail::new(name));
+    }
+    Ok(input)
+}
+
+/// A log that has noted the run up to an entry of its trace.
+fn log_at<'a>(
+    alloc: Global,
+    checked: &'a Checked,
+    input: &'a Input,
+    entry: u128,
+) -> Result<CrashLog<'a>, Fail>
+    requires { IsValid checked.now input.now }
+    ensures { IfOk result (λ log. log.input ≡ input.now) }
+{
+    let mut log = CrashLog::new(alloc, checked, input)?;
+    let mut machine = Machine::new(alloc, checked, input)?;
+    'steps: for _step in 0..MOST_STEPS {
+        if log.entries() < entry {
+            log.advance(&mut machine)?;
+        }
+    }
+    Ok(log)
+}
+
+/// Asserts that an image has these bytes, and zeros elsewhere.
+fn assert_bytes(rt: &impl Abort, image: &[u8], bytes: &[(usize, u8)], name: &str) {
+    let mut count: usize = 0;
+    for byte in image {
+        if *byte != 0 {
+            count = count.saturating_add(1);
+        }
+    }
+    assert!(rt; count == bytes.len(), "{name}");
+    for (place, byte) in bytes {
+        assert!(rt; image.get(*place) == Some(byte), "{name}");
+    }
+}
+
+/// Asserts that an image is found, by picks that give it.
+fn assert_found(
+    rt: &impl Abort,
+    alloc: Global,
+    log: &CrashLog,
+    input: &Input,
+    image: &[u8],
+    name: &str,
+) -> Result<(), Fail>
+    requires { log.now.input ≡ input.now }
+{
+    if image.len() != input.image.len() {
+        return Err(Fail::new(name));
+    }
+    match log.find_picks(alloc, image)? {
+        Some(picks) => {
+            assert!(rt; picks.len() == image.len() / 64, "{name}");
+            match log.pick_image(alloc, picks.as_slice()) {
+                Ok(again) => assert!(rt; again.as_slice() == image, "{name}"),
+                Err(_) => return Err(Fail::new(name)),
+            }
+        }
+        None => return Err(Fail::new(name)),
+    }
+    Ok(())
+}
+
+fn assert_picked(rt: &impl Abort, alloc: Global, picked: &Picked) -> Result<(), Fail> {
+    let checked = checked(rt, alloc, picked.program);
+    let input = input(alloc, &checked, picked.name)?;
+    let log = log_at(alloc, &checked, &input, picked.entry)?;
+    match (log.pick_image(alloc, picked.picks), picked.answer) {
+        (Ok(image), Ok(bytes)) => {
+            assert_bytes(rt, image.as_slice(), bytes, picked.name);
+            assert_found(rt, alloc, &log, &input, image.as_slice(), picked.name)
+        }
+        (Err(refusal), Err(wanted)) => {
+            assert!(rt; refusal == wanted, "{}", picked.name);
+            Ok(())
+        }
+        _ => Err(Fail::new(picked.name)),
+    }
+}
+
+fn assert_bounded(rt: &impl Abort, alloc: Global, bounded: &Bounded) -> Result<(), Fail> {
+    let checked = checked(rt, alloc, bounded.program);
+    let input = input(alloc, &checked, bounded.name)?;
+    let log = log_at(alloc, &checked, &input, bounded.entry)?;
+    if bounded.line >= input.image.len() as u64 / 64 {
+        return Err(Fail::new(bounded.name));
+    }
+    assert!(rt;
+        log.bounds(bounded.line) == bounded.bounds,
+        "{}",
+        bounded.name
+    );
+    Ok(())
+}
+
+#[test]
+fn images_are_picked_and_found_again(rt: HostRuntime) -> Result<(), Fail> {
+    for picked in PICKED {
+        assert_picked(&rt, rt.alloc(), picked)?;
+    }
+    Ok(())
+}
+
+#[test]
+fn lines_have_bounds(rt: HostRuntime) -> Result<(), Fail> {
+    for bounded in BOUNDED {
+        assert_bounded(&rt, rt.alloc(), bounded)?;
+    }
+    Ok(())
+}
+
+#[test]
+fn what_no_crash_leaves_is_not_found(rt: HostRuntime) -> Result<(), Fail> {
+    let alloc = rt.alloc();
+    let checked = checked(&rt, alloc, TWO_STORES);
+    let input = input(alloc, &checked, "two stores")?;
+    let log = log_at(alloc, &checked, &input, 4)?;
+    let mut image = Row::new(alloc);
+    image.push(7)?;
+    for _place in 1..input.image.len() {
+        image.push(0)?;
+    }
+    if image.len() != input.image.len() {
+        return Err(Fail::new("the region's size"));
+    }
+    assert!(rt; log.find_picks(alloc, image.as_slice())?.is_none());
+    Ok(())
+}

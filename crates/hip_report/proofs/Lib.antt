@@ -1,0 +1,17 @@
+pub mod Assembled
+pub mod Blank
+pub mod CallSteps
+pub mod Clamped
+pub mod ClosedCalls
+pub mod Groups
+pub mod LatestFlushes
+pub mod LoosePlaces
+pub mod LooseSteps
+pub mod MarksAhead
+pub mod NoteLists
+pub mod Ranges
+pub mod Rooms
+pub mod Reporting
+pub mod Searches
+pub mod Steps
+pub mod Telling

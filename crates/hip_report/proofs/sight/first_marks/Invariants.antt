@@ -1,0 +1,7 @@
+use Rattle.std.proofs.Common.{◌≡◌}
+use Rattle.hip_step.specs.Seen.{state_of}
+use Rattle.hip_report.specs.Sights.{marks_to}
+use Rattle.hip_report.proofs.sight.first_marks.Given as goal
+
+abbrev pub invariant-operands : goal.invariant-operands
+invariant-operands l = l.marks ≡ marks_to l.machine.program l.machine.input (state_of l.machine) l.site l.operand

@@ -1,0 +1,108 @@
+use Rattle.std.proofs.Common.{◌≡◌, suc, ◌-◌, ◌*◌, ◌<◌, ◌^◌, List, length, sym, ap, ◌∙◌, subst, arith}
+use Rattle.std.proofs.lemmas.List.{length-map}
+use Rattle.hip_globals.specs.Addresses.{region_size}
+use Rattle.hip_runs.specs.Laws.CrashLaws.{same_size}
+use Rattle.hip_runs.specs.Laws.StepLaws.{standing-frame}
+use Rattle.hip_runs.specs.Step.{event, run}
+use Rattle.hip_runs.specs.StoredParts.Shown.{shown}
+use Rattle.hip_runs.specs.declared.event.Event.{Event}
+use Rattle.hip_runs.specs.declared.input.Input.{Input}
+use Rattle.hip_runs.specs.declared.report.Mark.{Mark}
+use Rattle.std.specs.Prelude.{map}
+use Rattle.hip_types.specs.Distinct.{met}
+use Rattle.hip_runs.specs.Found.Marks.{same_mark, unless_ended}
+use Rattle.hip_report.specs.MarkKeys.{mark_of}
+use Rattle.hip_report.specs.Sights.{marks_ahead}
+use Rattle.hip_step.specs.Seen.{next_site}
+use Rattle.hip_lines.specs.Parts.{loose_from}
+use Rattle.hip_lines.specs.Pending.{Pending as Waiting}
+use Rattle.hip_lines.specs.declared.part.Part.{Part}
+use Rattle.hip_report.specs.Noted.{AreNoted, EndsBelow, IsForgotten}
+use Rattle.hip_report.specs.declared.notes.Notes.{Notes}
+use Rattle.hip_report.proofs.Assembled.{Did, assembled, did_at, ends_below, few_at, first_frame, forgotten}
+use Rattle.hip_report.proofs.ClosedCalls.{length_births}
+use Rattle.hip_report.proofs.NoteLists.{more_flushes, more_stores}
+use Rattle.hip_report.proofs.Rooms.{Lies, event_lies}
+use Rattle.hip_report.proofs.step.note_event.Goals as goal
+
+pub step_check-requires-clause-region : goal.step_check-requires-clause-region
+step_check-requires-clause-region c =
+    let m = c.args.machine.now in
+    let is : c.region_size-region.result ≡ length m.input.image = c.region_size-region.ensures ∙ ap region_size c.checked-checked.ensures ∙ sym c.input.ensures.valid.image in
+    is ∙ same_size m.program m.input m.taken c.input.ensures.valid ∙ ap (λ k. 64 * k) (sym (ap length c.lines-lines.ensures ∙ length-map _ _))
+
+pub step_check-requires-clause-stores : goal.step_check-requires-clause-stores
+step_check-requires-clause-stores c =
+    let m = c.args.machine.now in
+    let n = m.taken - 1 in
+    let h = c.requires.noted in
+    let few : n < 2 ^ 127 = few_at m.program m.input n c.args.notes.now h (c.runs_are_bounded.ensures.bounded m.program m.input n) c.input.ensures.valid.limit c.requires.short in
+    more_stores 0 n (2 ^ 128) _ (omega (arith, few)) h.pending.stores
+
+pub step_check-requires-clause-flushes : goal.step_check-requires-clause-flushes
+step_check-requires-clause-flushes c j l e =
+    let m = c.args.machine.now in
+    let n = m.taken - 1 in
+    let h = c.requires.noted in
+    let few : n < 2 ^ 127 = few_at m.program m.input n c.args.notes.now h (c.runs_are_bounded.ensures.bounded m.program m.input n) c.input.ensures.valid.limit c.requires.short in
+    more_flushes 0 n (2 ^ 128) _ (omega (arith, few)) (h.pending.flushes j l e)
+
+pub step_lines-requires : goal.step_lines-requires
+step_lines-requires c =
+    let m = c.args.machine.now in
+    let n = m.taken - 1 in
+    let size = same_size m.program m.input n c.input.ensures.valid in
+    let small : length m.input.image < 2 ^ 64 = (let a = c.input.ensures.valid.image in let b = c.program-program.ensures.sound.sizes.region in let k = ap region_size c.checked-checked.ensures in omega (arith, a, b, k)) in
+    let lies : Lies m.input c.args.seen = subst (λ (e : Event). Lies m.input e) (sym c.requires.event) (event_lies m.program m.input (run m.program m.input n)) in
+    subst (λ (i : Input). EndsBelow i.base c.args.seen) (sym c.input.ensures.is) (ends_below m.input _ c.args.seen lies size small)
+
+pub step_calls-requires : goal.step_calls-requires
+step_calls-requires c =
+    let h = c.requires.noted in
+    let r1 = c.in_ok-step_check.ensures.rest in
+    let r2 = c.in_ok-step_lines.ensures.rest in
+    ap (λ (x : Notes). length x.births.items) r2 ∙ ap (λ (x : Notes). length x.births.items) r1
+    ∙ ap length h.births ∙ length_births _ ∙ sym (ap length h.calls)
+    ∙ sym (ap (λ (x : Notes). length x.calls.value) r1) ∙ sym (ap (λ (x : Notes). length x.calls.value) r2)
+
+pub returns-clause-noted : goal.returns-clause-noted
+returns-clause-noted c =
+    let m = c.args.machine.now in
+    let n = m.taken - 1 in
+    let P = m.program in
+    let I = m.input in
+    let s = run P I n in
+    let next : suc n ≡ m.taken = (let t = c.requires.taken in omega (arith, t)) in
+    let region : c.region_size-region.result ≡ length I.image = c.region_size-region.ensures ∙ ap region_size c.checked-checked.ensures ∙ sym c.input.ensures.valid.image in
+    let base : c.input.result.now.base ≡ I.base = ap (λ (i : Input). i.base) c.input.ensures.is in
+    let did : Did P I c.args.notes.now c.step_check.new.notes c.step_lines.new.notes c.step_calls.new.notes c.step_marks.new.notes c.step_hit.new.notes c.step_counts.new.notes c.lines-lines.result.now.lines c.input.result.now.base c.region_size-region.result c.args.seen c.args.sight.now.site c.args.sight.now.depth c.depth.result c.args.sight.now.marks = record {
+      told = c.in_ok-step_check.ensures.told;
+      r1 = c.in_ok-step_check.ensures.rest;
+      follows = c.in_ok-step_lines.ensures.follows;
+      r2 = c.in_ok-step_lines.ensures.rest;
+      calls = c.in_ok-step_calls.ensures.calls;
+      births = c.in_ok-step_calls.ensures.births;
+      r3 = c.in_ok-step_calls.ensures.rest;
+      marks = c.in_ok-step_marks.ensures.marks ∙ ap (λ (ms : List Mark). met same_mark (map mark_of c.step_calls.new.notes.marks.keys) (unless_ended c.args.seen ms)) c.as_slice.ensures;
+      r4 = c.in_ok-step_marks.ensures.rest;
+      hits = c.in_ok-step_hit.ensures.hit;
+      r5 = c.in_ok-step_hit.ensures.rest;
+      r6 = c.step_counts.ensures;
+    } in
+    let at = did_at P I c.args.notes.now c.step_check.new.notes c.step_lines.new.notes c.step_calls.new.notes c.step_marks.new.notes c.step_hit.new.notes c.step_counts.new.notes c.input.result.now.base c.region_size-region.result
+    c.lines-lines.result.now.lines (shown (run P I (suc n)).lines) (c.lines-lines.ensures ∙ ap (λ i. shown (run P I i).lines) (sym next))
+    c.args.seen (event P I s) c.requires.event c.args.sight.now.site (next_site P s) c.requires.site c.args.sight.now.depth (length s.frames) c.requires.depth
+    c.depth.result (length (run P I (suc n)).frames) (c.depth.ensures ∙ ap (λ i. length (run P I i).frames) (sym next)) c.args.sight.now.marks (marks_ahead P I s) c.requires.marks did in
+    let top = first_frame s.frames (standing-frame P I n) in
+    let noted : AreNoted P I m.taken c.step_counts.new.notes = subst (λ i. AreNoted P I i c.step_counts.new.notes) next
+    (assembled P I n c.requires.going c.args.notes.now c.step_check.new.notes c.step_lines.new.notes c.step_calls.new.notes c.step_marks.new.notes c.step_hit.new.notes c.step_counts.new.notes c.requires.noted c.input.result.now.base c.region_size-region.result base region (c.stack_keeps_its_shape.ensures P I n).is.calls top.0 top.1 top.2 at) in
+    let size : c.region_size-region.result ≡ 64 * length (run P I m.taken).lines = region ∙ same_size P I m.taken c.input.ensures.valid in
+    forgotten P I m.taken c.region_size-region.result c.step_counts.new.notes c.step_forget.new.notes noted size
+    (subst (λ (ws : List (Waiting Part)). IsForgotten (loose_from ws 0 c.region_size-region.result) c.step_counts.new.notes.pending c.step_forget.new.notes.pending) c.lines-lines.ensures c.step_forget.ensures.kept)
+    c.step_forget.ensures.rest
+
+pub step_forget-requires : goal.step_forget-requires
+step_forget-requires c =
+    let m = c.args.machine.now in
+    let is : c.region_size-region.result ≡ length m.input.image = c.region_size-region.ensures ∙ ap region_size c.checked-checked.ensures ∙ sym c.input.ensures.valid.image in
+    is ∙ same_size m.program m.input m.taken c.input.ensures.valid ∙ ap (λ k. 64 * k) (sym (ap length c.lines-lines.ensures ∙ length-map _ _))

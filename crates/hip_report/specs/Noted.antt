@@ -1,0 +1,126 @@
+-- What a tracker notes of a run.
+use Rattle.std.specs.Prelude.{◌≡◌, ◌⊎◌, ℕ, ◌+◌, ◌-◌, ◌≤◌, ◌<◌, ◌^◌, cond, List, [], ◌∷◌, ◌++◌, map, nat_lt, length, take, drop, Option, Some, None, option_map}
+use Rattle.hip_ir.specs.declared.program.Program.{Program}
+use Rattle.hip_ir.specs.declared.site.Site.{Site}
+use Rattle.std.specs.BTreeMap as tree
+use Rattle.std.specs.BTreeMap.{BTreeMap}
+use Rattle.std.specs.Ordering.{nat_cmp}
+use Rattle.hip_lines.specs.Line.{has_bytes}
+use Rattle.hip_lines.specs.Parts.{loose_from}
+use Rattle.hip_lines.specs.Pending.{Pending as Waiting}
+use Rattle.hip_lines.specs.declared.part.LooseByte.{LooseByte}
+use Rattle.hip_lines.specs.declared.part.Part.{Part}
+use Rattle.hip_runs.specs.Found.Marks.{hit, pointed}
+use Rattle.hip_runs.specs.Found.Reports.{Range, reports}
+use Rattle.hip_runs.specs.declared.event.Ending.TheVariants.{Stop}
+use Rattle.hip_runs.specs.declared.report.Report.{Report}
+use Rattle.hip_runs.specs.State.{Level, levels_of}
+use Rattle.hip_runs.specs.Step.{header_entries, run}
+use Rattle.hip_runs.specs.StoredParts.Order.{last_fence}
+use Rattle.hip_runs.specs.declared.event.Event.{Event}
+use Rattle.hip_runs.specs.declared.event.Event.TheVariants as events
+use Rattle.hip_runs.specs.declared.input.Input.{Input}
+use Rattle.hip_report.specs.CallPaths.{births_of}
+use Rattle.hip_report.specs.Checking.{group_from, reports_told}
+use Rattle.hip_report.specs.declared.checks.Group.{Group}
+use Rattle.hip_report.specs.MarkKeys.{mark_of}
+use Rattle.hip_report.specs.Pending.{lines_of, with_flush, with_store}
+use Rattle.hip_report.specs.Standing.{Tells}
+use Rattle.hip_report.specs.declared.notes.Notes.{Notes}
+use Rattle.hip_report.specs.declared.pending.Pending.{Pending}
+use Rattle.hip_report.specs.declared.pending.LineNote.{LineNote}
+use Rattle.hip_report.specs.declared.pending.StoreNote.{StoreNote}
+
+-- The notes after n steps of a run: its counts, calls and last fence, what is kept of pending stores, marks and reports.
+-- What has the number of an entry in it is so where the header's entries were counted right.
+pub record AreNoted (P : Program) (I : Input) (n : ℕ) (c : Notes) : Type 0 where
+  pub steps : c.steps ≡ n
+  pub counted : (run P I n).counts.steps ≡ n
+  pub entries : c.header ≡ header_entries I → c.entries ≡ (run P I n).counts.entries
+  pub few : c.entries ≤ c.header + n
+  pub header : c.header ≤ 2 ^ 64
+  pub fence : c.fence ≡ last_fence P I n
+  pub calls : c.calls.value ≡ levels_of (run P I n).frames
+  pub births : c.births.items ≡ births_of (levels_of (run P I n).frames)
+  pub pending : Tells P I n c.header c.pending.stores.items (lines_of c.pending.lines)
+  pub marks : map mark_of c.marks.keys ≡ pointed P I n
+  pub hit : c.hit.keys ≡ hit P I n
+  pub reports : c.header ≡ header_entries I → c.reports ≡ reports P I n
+
+-- ---- what an event does to what is kept of pending stores
+
+-- the lines that have one of so many bytes at an offset are changed
+abbrev pub ChangeLines : (Option LineNote → Option LineNote) → ℕ → ℕ → Pending → Pending → Type 0
+ChangeLines to o n old new = (j : ℕ)
+    → lines_of new.lines j ≡ cond (has_bytes j o n) (to (lines_of old.lines j)) (lines_of old.lines j)
+
+abbrev pub StaySame : Pending → Pending → Type 0
+StaySame old new = (new.stores.items ≡ old.stores.items) × ((j : ℕ) → lines_of new.lines j ≡ lines_of old.lines j)
+
+-- a note of a store by a step at a site, with this entry and under these calls
+pub record IsNoteOf (step entry : ℕ) (site : Site) (calls : List Level) (note : StoreNote) : Type 0 where
+  pub tag : note.tag ≡ step
+  pub entry_is : note.entry ≡ entry
+  pub site_is : note.site ≡ site
+  pub calls_are : note.calls.value ≡ calls
+
+abbrev pub StoredAt : Option Site → ℕ → ℕ → List Level → ℕ → ℕ → Pending → Pending → Type 0
+StoredAt None step entry calls o m old new = Unit {0}
+StoredAt (Some site) step entry calls o m old new =
+    ((note : StoreNote) × IsNoteOf step entry site calls note × (new.stores.items ≡ old.stores.items ++ note ∷ []))
+    × ChangeLines (λ l. Some (with_store l)) o m old new
+
+abbrev pub FlushedAt : Option Site → ℕ → ℕ → ℕ → Pending → Pending → Type 0
+FlushedAt None step o n old new = Unit {0}
+FlushedAt (Some site) step o n old new =
+    (new.stores.items ≡ old.stores.items)
+    × ChangeLines (option_map (with_flush (record { step = step; site = site }))) o n old new
+
+abbrev pub Follows : Event → Option Site → ℕ → ℕ → ℕ → List Level → Pending → Pending → Type 0
+Follows (events.Store a v m) site base step entry calls old new = StoredAt site step entry calls (a - base) m old new
+Follows (events.Flush line size) site base step entry calls old new = FlushedAt site step (line - base) size old new
+Follows _ site base step entry calls old new = StaySame old new
+
+-- a store or a flush behind a base ends below 2^64
+abbrev pub EndsBelow : ℕ → Event → Type 0
+EndsBelow base (events.Store a v m) = (a - base) + m < 2 ^ 64
+EndsBelow base (events.Flush line size) = (line - base) + size < 2 ^ 64
+EndsBelow base _ = Unit {0}
+
+-- ---- what an event does to the calls
+
+-- the calls, where so many frames stood before a step at a site and stand after it
+abbrev pub calls_after : ℕ → ℕ → ℕ → Option Site → List Level → List Level
+calls_after before after step None ls = cond (nat_lt after before) (drop 1 ls) ls
+calls_after before after step (Some site) ls =
+    cond (nat_lt before after) (record { call = site; birth = step } ∷ ls) (cond (nat_lt after before) (drop 1 ls) ls)
+
+-- and their births, the outermost one first
+abbrev pub births_after : ℕ → ℕ → ℕ → Option Site → List ℕ → List ℕ
+births_after before after step None bs = cond (nat_lt after before) (take (length bs - 1) bs) bs
+births_after before after step (Some site) bs =
+    cond (nat_lt before after) (bs ++ step ∷ []) (cond (nat_lt after before) (take (length bs - 1) bs) bs)
+
+-- ---- what an event checks
+
+abbrev pub range_of : ℕ → ℕ → Event → Option Range
+range_of base region (events.Assert a n) = Some (record { offset = a - base; size = n })
+range_of base region (events.End (Stop code)) = Some (record { offset = 0; size = region })
+range_of base region _ = None
+
+-- the reports behind others, of a check of a range if there is one
+abbrev pub Reported : Option Range → List ℕ → ℕ → Option ℕ → Pending → List (Waiting Part) → List Report
+    → List Report → Type 0
+Reported None births entry fence p lines old new = new ≡ old
+Reported (Some r) births entry fence p lines old new =
+    (groups : BTreeMap ℕ Group) × tree.IsOrdered nat_cmp groups
+    × ((tag : ℕ)
+    → tree.get nat_cmp groups tag ≡ group_from (lines_of p.lines) tag None (loose_from lines r.offset r.size))
+    × (new ≡ old ++ reports_told births entry fence p.stores.items groups.entries)
+
+-- ---- what is let go
+
+-- All stays, or, where no byte is loose, nothing does.
+abbrev pub IsForgotten : List LooseByte → Pending → Pending → Type 0
+IsForgotten bytes old new =
+    (new ≡ old) ⊎ ((bytes ≡ []) × (new.stores.items ≡ []) × ((j : ℕ) → lines_of new.lines j ≡ None))

@@ -1,0 +1,28 @@
+-- What is seen of a machine before a step.
+use Rattle.std.specs.Prelude.{ℕ, zero, suc, cond, List, [], ◌++◌, Option, Some, None}
+use Rattle.hip_ir.specs.declared.program.Program.{Program}
+use Rattle.hip_ir.specs.declared.site.Site.{Site}
+use Rattle.hip_runs.specs.Found.Marks.{frame_marks, mark_of}
+use Rattle.hip_runs.specs.Found.Objects.{object_at}
+use Rattle.hip_runs.specs.State.{State}
+use Rattle.hip_runs.specs.Step.{has_ended}
+use Rattle.hip_runs.specs.declared.input.Input.{Input}
+use Rattle.hip_runs.specs.declared.report.Mark.{Mark}
+use Rattle.hip_step.specs.Seen.{pointer_of}
+
+-- the marks of the next step, if it is taken
+abbrev pub marks_ahead : Program → Input → State → List Mark
+marks_ahead P I s = cond (has_ended s) [] (frame_marks P I s.frames)
+
+-- the mark of one pointer operand of the next instruction
+abbrev pub mark_by : Program → Input → State → Site → ℕ → Option ℕ → List Mark
+mark_by P I s site k None = []
+mark_by P I s site k (Some a) = mark_of site k (object_at P I.base s.frames a)
+
+abbrev pub mark_at : Program → Input → State → Site → ℕ → List Mark
+mark_at P I s site k = mark_by P I s site k (pointer_of P I s k)
+
+-- those of the first operands
+abbrev pub marks_to : Program → Input → State → Site → ℕ → List Mark
+marks_to P I s site zero = []
+marks_to P I s site (suc k) = marks_to P I s site k ++ mark_at P I s site k

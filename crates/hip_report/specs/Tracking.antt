@@ -1,0 +1,53 @@
+-- What is seen of a tracker.
+use Rattle.std.specs.Prelude.{◌≡◌, ◌⊎◌, ℕ, ◌<◌, ◌^◌, Bool, true, false, Option, Some, None}
+use Rattle.hip_ir.specs.declared.program.Program.{Program}
+use Rattle.hip_runs.specs.Ends.{longest}
+use Rattle.hip_runs.specs.declared.input.Input.{Input}
+use Rattle.hip_step.specs.Seen.{Seen}
+use Rattle.hip_report.specs.Noted.{AreNoted}
+use Rattle.hip_report.specs.declared.notes.Notes.{Notes}
+use Rattle.hip_report.specs.declared.tracker.Source.{Source}
+use Rattle.hip_report.specs.declared.tracker.Tracker.TheInside.{Inside}
+
+-- The number of entries before the first step, the machine as it was when its last step was noted, if one was, and
+-- whether memory was wanting.
+pub record Tracked : Type 0 where
+  pub header : ℕ
+  pub noted : Option Seen
+  pub failed : Bool
+
+-- each step that a machine took was noted, where this was noted last
+abbrev pub notes_all : Option Seen → Seen → Type 0
+notes_all None m = m.taken ≡ 0
+notes_all (Some s) m = s ≡ m
+
+-- A tracker that noted every step of a machine so far, and has found memory.
+pub record HasNoted (t : Tracked) (m : Seen) : Type 0 where
+  pub working : t.failed ≡ false
+  pub all : notes_all t.noted m
+
+-- One that has noted no step of any machine yet, or every step of a machine, or that found no memory.
+abbrev pub MayAdvance : Tracked → Seen → Type 0
+MayAdvance t m = (t.failed ≡ true) ⊎ HasNoted t m
+
+-- ---- the inside
+
+abbrev pub seen_in : Option Source → ℕ → Option Seen
+seen_in None n = None
+seen_in (Some s) n = Some (record { program = s.checked.now; input = s.input.now; taken = n })
+
+abbrev pub tracked_of : Inside → Tracked
+tracked_of t = record { header = t.notes.header; noted = seen_in t.source t.notes.steps; failed = t.failed }
+
+-- the notes are those of the run that was noted, or of any run's first state
+abbrev pub NotesOf : Option Source → Notes → Type 0
+NotesOf None c = (P : Program) → (I : Input) → AreNoted P I 0 c
+NotesOf (Some s) c = AreNoted s.checked.now s.input.now c.steps c × (longest s.checked.now < 2 ^ 64)
+
+-- the source is that of a machine
+abbrev pub IsSource : Option Source → Seen → Type 0
+IsSource None m = ⊥
+IsSource (Some s) m = (s.checked.now ≡ m.program) × (s.input.now ≡ m.input)
+
+pub record IsTracking (t : Inside) : Type 0 where
+  pub notes : t.failed ≡ false → NotesOf t.source t.notes

@@ -1,0 +1,211 @@
+ghost use Rattle.std.specs.Prelude.{◌≡◌, ℕ, ◌+◌, ◌-◌, ◌*◌, ◌≤◌, ◌<◌, ◌^◌, ◌++◌, ◌∷◌, [], Some, None, cond, length, map, IfOk, OnOk};
+ghost use Rattle.hip_lines.specs.Parts.{loose_from};
+ghost use Rattle.hip_types.specs.Distinct.{met};
+ghost use Rattle.hip_runs.specs.Found.Marks.{same_mark};
+ghost use Rattle.hip_report.specs.MarkKeys.{mark_of};
+ghost use Rattle.hip_report.specs.declared.pending.LineNote.{LineNote as Line};
+ghost use Rattle.hip_report.specs.Noted.{EndsBelow, FlushedAt, Follows, Reported, StoredAt, births_after, calls_after, range_of};
+ghost use Rattle.hip_report.specs.Pending.{FlushesAscend, StoresAscend, lines_of};
+
+use crate::call_path::CallPath;
+use crate::checks::{Check, check_range};
+use crate::marks::{MarkKey, meet_mark};
+use crate::notes::{forget_birth, note_flush, note_store};
+use crate::pending::{FlushNote, Pending, StoreNote};
+use hip_ir::Site;
+use hip_lines::{LINE_SIZE, Lines};
+use hip_runs::{Ending, Event, Mark, Report};
+use hip_types::{NoMemory, Row};
+use indexmap::IndexSet;
+use std::alloc::Global;
+use std::rc::Rc;
+
+/// Where a run stands before a step: the site, the number of steps, and that of the entry that the step may have.
+#[derive(Clone, Copy)]
+pub struct Moment {
+    pub site: Option<Site>,
+    pub step: u128,
+    pub entry: u128,
+}
+
+/// Notes what a step with this event does to pending stores, in a region from a base on.
+pub fn note_lines(
+    alloc: Global,
+    pending: &mut Pending,
+    event: Event,
+    moment: Moment,
+    base: u64,
+    calls: &Rc<CallPath>,
+) -> Result<(), NoMemory>
+    requires { EndsBelow base event }
+    ensures { OnOk result
+        (Follows event moment.site base moment.step moment.entry calls.now.value pending.old pending.new) }
+{
+    match event {
+        Event::Store { addr, size, .. } => {
+            store_at(
+                alloc,
+                pending,
+                moment,
+                calls,
+                addr.saturating_sub(base),
+                size as u64,
+            )
+        }
+        Event::Flush { line, size } => flush_at(pending, moment, line.saturating_sub(base), size),
+        _ => Ok(()),
+    }
+}
+
+fn store_at(
+    alloc: Global,
+    pending: &mut Pending,
+    moment: Moment,
+    calls: &Rc<CallPath>,
+    offset: u64,
+    size: u64,
+) -> Result<(), NoMemory>
+    requires { offset + size < 2 ^ 64 }
+    ensures { OnOk result
+        (StoredAt moment.site moment.step moment.entry calls.now.value offset size pending.old pending.new) }
+{
+    let Some(site) = moment.site else {
+        return Ok(());
+    };
+    let note = StoreNote {
+        tag: moment.step,
+        entry: moment.entry,
+        site,
+        calls: CallPath::shared(calls)?,
+    };
+    note_store(alloc, pending, note, offset, size)
+}
+
+fn flush_at(pending: &mut Pending, moment: Moment, offset: u64, size: u64) -> Result<(), NoMemory>
+    requires { offset + size < 2 ^ 64 }
+    ensures { OnOk result (FlushedAt moment.site moment.step offset size pending.old pending.new) }
+{
+    let Some(site) = moment.site else {
+        return Ok(());
+    };
+    let flush = FlushNote {
+        step: moment.step,
+        site,
+    };
+    note_flush(pending, flush, offset, size)
+}
+
+/// Notes the calls after a step, by how many frames stood before it and stand after it.
+pub fn note_calls(
+    alloc: Global,
+    calls: &mut Rc<CallPath>,
+    births: &mut Vec<u128>,
+    moment: Moment,
+    before: usize,
+    after: usize,
+) -> Result<(), NoMemory>
+    requires { length births.old.items ≡ length calls.old.value }
+    ensures calls { OnOk result (calls.new.value ≡ calls_after before after moment.step moment.site calls.old.value) }
+    ensures births { OnOk result (births.new.items
+        ≡ births_after before after moment.step moment.site births.old.items) }
+{
+    if before < after {
+        return match moment.site {
+            Some(site) => note_call(alloc, calls, births, site, moment.step),
+            None => Ok(()),
+        };
+    }
+    if after < before {
+        *calls = CallPath::outside(calls)?;
+        forget_birth(births);
+    }
+    Ok(())
+}
+
+fn note_call(
+    alloc: Global,
+    calls: &mut Rc<CallPath>,
+    births: &mut Vec<u128>,
+    site: Site,
+    step: u128,
+) -> Result<(), NoMemory>
+    requires { length births.old.items ≡ length calls.old.value }
+    ensures calls { OnOk result (calls.new.value ≡ record { call = site; birth = step } ∷ calls.old.value) }
+    ensures births { OnOk result (births.new.items ≡ births.old.items ++ step ∷ []) }
+{
+    let outer = CallPath::shared(calls)?;
+    *calls = CallPath::inside(alloc, site, step, births.len(), outer)?;
+    match births.push(step) {
+        Ok(()) => Ok(()),
+        Err(_) => Err(NoMemory),
+    }
+}
+
+/// Notes the marks of a step that was taken.
+pub fn note_marks(marks: &mut IndexSet<MarkKey>, ahead: &[Mark]) -> Result<(), NoMemory>
+    ensures { OnOk result (map mark_of marks.new.keys ≡ met same_mark (map mark_of marks.old.keys) ahead.now) }
+{
+    'each: for mark in ahead {
+        meet_mark(marks, *mark)?;
+    }
+    Ok(())
+}
+
+/// Puts the reports of what a step with this event checks behind others.
+pub fn note_check(
+    alloc: Global,
+    pending: &Pending,
+    check: &Check<'_>,
+    lines: &Lines,
+    event: Event,
+    base: u64,
+    region: u64,
+    reports: &mut Row<Report>,
+) -> Result<(), NoMemory>
+    requires region { region ≡ LINE_SIZE * length lines.now.lines }
+    requires stores { StoresAscend 0 (2 ^ 128) pending.now.stores.items }
+    requires flushes { (j : ℕ) → (l : Line) → lines_of pending.now.lines j ≡ Some l
+        → FlushesAscend 0 (2 ^ 128) l.flushes }
+    ensures { OnOk result (Reported
+        (range_of base region event) check.now.births.now check.now.entry check.now.fence pending.now lines.now.lines reports.old reports.new) }
+{
+    match event {
+        Event::Assert { addr, size } => check_within(
+            alloc,
+            pending,
+            check,
+            lines,
+            addr.saturating_sub(base),
+            size,
+            region,
+            reports,
+        ),
+        Event::End(Ending::Stop(_)) => {
+            check_within(alloc, pending, check, lines, 0, region, region, reports)
+        }
+        _ => Ok(()),
+    }
+}
+
+// The reports of a check of a range, of which what lies in the region counts.
+fn check_within(
+    alloc: Global,
+    pending: &Pending,
+    check: &Check<'_>,
+    lines: &Lines,
+    offset: u64,
+    size: u64,
+    region: u64,
+    reports: &mut Row<Report>,
+) -> Result<(), NoMemory>
+    requires region { region ≡ LINE_SIZE * length lines.now.lines }
+    requires stores { StoresAscend 0 (2 ^ 128) pending.now.stores.items }
+    requires flushes { (j : ℕ) → (l : Line) → lines_of pending.now.lines j ≡ Some l
+        → FlushesAscend 0 (2 ^ 128) l.flushes }
+    ensures { OnOk result (Reported (Some
+        (record { offset = offset; size = size })) check.now.births.now check.now.entry check.now.fence pending.now lines.now.lines reports.old reports.new) }
+{
+    let from = offset.min(region);
+    let count = size.min(region - from);
+    check_range(alloc, pending, check, lines, from, count, reports)
+}

@@ -1,0 +1,16 @@
+//! What runs find: a tracker that notes each step of a machine, and gives the reports and marks of the run.
+#![tactic(auto)]
+
+mod call_path;
+mod checks;
+mod events;
+mod lengths;
+mod marks;
+mod notes;
+mod pending;
+mod sight;
+mod step;
+mod tracker;
+
+pub use hip_runs::{Findings, Kind, Mark, Marks, Report};
+pub use tracker::Tracker;

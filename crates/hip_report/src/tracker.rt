@@ -1,0 +1,156 @@
+ghost use Rattle.std.specs.Prelude.{◌≡◌, ◌⊎◌, ◌≤◌, ◌<◌, ◌^◌, Some, None, true, false, IfOk, OnErr, OnOk, IsErr};
+ghost use Rattle.hip_runs.specs.Ends.{longest};
+ghost use Rattle.hip_runs.specs.Found.Marks.{IsFound};
+ghost use Rattle.hip_runs.specs.Step.{event, has_ended, header_entries};
+ghost use Rattle.hip_step.specs.Seen.{after_step, state_of};
+ghost use Rattle.hip_report.specs.Noted.{AreNoted};
+ghost use Rattle.hip_report.specs.Tracking.{HasNoted, IsSource, MayAdvance, NotesOf, notes_all, seen_in};
+
+use crate::lengths::longest;
+use crate::marks::{globals_of, marks_of};
+use crate::notes::Notes;
+use crate::step::note_step;
+use hip_runs::{Event, Findings, Input, Marks};
+use hip_step::Machine;
+use hip_types::NoMemory;
+use hip_typing::Checked;
+use std::alloc::Global;
+use std::marker::Model;
+
+/// The program and the input of the run that is noted.
+#[derive(Clone, Copy)]
+pub struct Source<'a> {
+    pub checked: &'a Checked,
+    pub input: &'a Input,
+}
+
+/// A tracker of one run, which contracts see as the machine whose steps it noted, the number of entries before the first
+/// step, and whether memory was wanting. It keeps the stores that may still be reported, and shares the calls that they
+/// have in common.
+#[derive(Drop)]
+pub struct Tracker<'a> {
+    alloc: Global,
+    source: Option<Source<'a>>,
+    notes: Notes,
+    failed: bool,
+}
+
+impl<'a> Model for Tracker<'a> {
+    ghost use Rattle.hip_ir.specs.contracts.program.Program as programs;
+    ghost use Rattle.hip_report.specs.Tracking.{Tracked};
+    ghost use Rattle.std.specs.Coded.{codes};
+
+    ghost Value = { Tracked };
+
+    ghost coded = { Prim.hlevel (codes, programs.the_row.coded) };
+
+    ghost use Rattle.hip_report.specs.Tracking.{tracked_of, IsTracking};
+
+    ghost view = { tracked_of };
+
+    ghost invariant = { IsTracking };
+}
+
+impl<'a> Tracker<'a> {
+    /// A tracker that has noted nothing, of a run whose trace has so many entries before the first step.
+    pub fn new(alloc: Global, header: u128) -> Result<Tracker<'a>, NoMemory>
+        requires { header ≤ 2 ^ 64 }
+        ensures { IfOk result (λ t. t ≡ record { header = header; noted = None; failed = false }) }
+    {
+        Ok(Tracker {
+            alloc,
+            source: None,
+            notes: Notes::new(alloc, header)?,
+            failed: false,
+        })
+    }
+
+    /// Takes the machine's step and notes it. After want of memory the machine is as before or has taken the step, and from
+    /// then on the tracker answers want of memory and leaves machines as they are.
+    #[inline(always)]
+    pub fn advance(&mut self, machine: &mut Machine<'a>) -> Result<Event, NoMemory>
+        requires { MayAdvance self.old machine.old }
+        ensures event { IfOk result (λ e. e ≡ event machine.old.program machine.old.input (state_of machine.old)) }
+        ensures machine { OnOk result (machine.new ≡ after_step machine.old) }
+        ensures noted { OnOk result (self.new
+            ≡ record { header = self.old.header; noted = Some machine.new; failed = false }) }
+        ensures err { OnErr result ((machine.new ≡ machine.old) ⊎ (machine.new ≡ after_step machine.old)) }
+        ensures failed { OnErr result (self.new.failed ≡ true) }
+        ensures repeats { self.old.failed ≡ true → IsErr result × (machine.new ≡ machine.old) }
+    {
+        if self.failed {
+            return Err(NoMemory);
+        }
+        match advance_in(self.alloc, &mut self.source, &mut self.notes, machine) {
+            Ok(event) => Ok(event),
+            Err(_) => {
+                self.failed = true;
+                Err(NoMemory)
+            }
+        }
+    }
+
+    /// The findings of the run, where every step of the machine was noted, it has ended, and the header's entries are those
+    /// of the run's trace.
+    pub fn close(self, machine: &Machine<'a>) -> Result<Findings, NoMemory>
+        requires noted { HasNoted self machine.now }
+        requires ended { has_ended (state_of machine.now) ≡ true }
+        requires header { self.header ≡ header_entries machine.now.input }
+        ensures { IfOk result (λ found. IsFound machine.now.program machine.now.input found) }
+    {
+        let Tracker { alloc, notes, .. } = self;
+        let Notes {
+            marks,
+            hit,
+            reports,
+            ..
+        } = notes;
+        let pointed = marks_of(alloc, &marks)?;
+        let hit = globals_of(alloc, &hit)?;
+        Ok(Findings {
+            reports,
+            marks: Marks { pointed, hit },
+        })
+    }
+}
+
+// Takes a machine's program and input, where nothing was noted yet.
+fn begin<'a>(source: &mut Option<Source<'a>>, notes: &Notes, machine: &Machine<'a>)
+    requires notes { NotesOf source.old notes.now }
+    requires all { notes_all (seen_in source.old notes.now.steps) machine.now }
+    ensures noted { AreNoted machine.now.program machine.now.input machine.now.taken notes.now }
+    ensures short { longest machine.now.program < 2 ^ 64 }
+    ensures source { IsSource source.new machine.now }
+{
+    match source {
+        Some(_) => {}
+        None => {
+            let checked = machine.checked();
+            let _most = longest(checked.program());
+            *source = Some(Source {
+                checked,
+                input: machine.input(),
+            });
+        }
+    }
+}
+
+// Takes a machine's step and notes it.
+fn advance_in<'a>(
+    alloc: Global,
+    source: &mut Option<Source<'a>>,
+    notes: &mut Notes,
+    machine: &mut Machine<'a>,
+) -> Result<Event, NoMemory>
+    requires notes { NotesOf source.old notes.old }
+    requires all { notes_all (seen_in source.old notes.old.steps) machine.old }
+    ensures event { IfOk result (λ e. e ≡ event machine.old.program machine.old.input (state_of machine.old)) }
+    ensures ok { OnOk result (machine.new ≡ after_step machine.old) }
+    ensures noted { OnOk result (NotesOf source.new notes.new) }
+    ensures seen { OnOk result (seen_in source.new notes.new.steps ≡ Some machine.new) }
+    ensures header { OnOk result (notes.new.header ≡ notes.old.header) }
+    ensures err { OnErr result ((machine.new ≡ machine.old) ⊎ (machine.new ≡ after_step machine.old)) }
+{
+    begin(source, notes, machine);
+    note_step(alloc, notes, machine)
+}

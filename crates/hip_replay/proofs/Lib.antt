@@ -1,1 +1,6 @@
+pub mod Followed
+pub mod Going
+pub mod Noted
 pub mod Outputs
+pub mod Rooms
+pub mod TraceTexts

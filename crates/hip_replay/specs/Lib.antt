@@ -1,1 +1,4 @@
+pub mod Noting
 pub mod Printing
+pub mod Recording
+pub mod Replaying

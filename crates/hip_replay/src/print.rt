@@ -1,13 +1,14 @@
 ghost use Rattle.std.specs.Prelude.{◌≡◌, ◌++◌, codes};
 ghost use Rattle.std.specs.Fmt.{signed_decimal};
 ghost use Rattle.hip_io.specs.Sinks.{HasPut};
-ghost use Rattle.hip_runs.specs.Outputs.{ending_by, printed_by};
+ghost use Rattle.hip_runs.specs.Outputs.{printed_by};
 ghost use Rattle.hip_runs.specs.Validity.{IsValid};
 ghost use Rattle.hip_replay.specs.Printing.{Prints};
 
 use crate::refusal::RecordRefusal;
 use hip_invariants::runs_are_bounded;
 use hip_io::{Put, Sink};
+use hip_lockstep::ending_of;
 use hip_num::decimal_into;
 use hip_runs::{events_tell_output_and_ending, runs_end};
 use hip_step::{Ending, Event, Input, Machine};
@@ -45,17 +46,6 @@ pub fn print_run<S: Sink>(
                 Put::Failed => return Err(RecordRefusal::WriteFault),
             },
         }
-    }
-}
-
-// How the run has ended in a step with this event, if it has.
-#[inline(always)]
-fn ending_of(event: Event) -> Option<Ending>
-    ensures { result ≡ ending_by event }
-{
-    match event {
-        Event::End(ending) => Some(ending),
-        _ => None,
     }
 }
 

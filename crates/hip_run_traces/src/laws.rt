@@ -102,6 +102,13 @@ pub fn fronts_that_agree_show_no_misfit()
         IsMisfit P bytes false e k → ⊥ }
 {}
 
+/// A front of a file shows no misfit where its pieces are the first of those that spell the entries of a run's steps.
+pub fn fronts_of_traces_show_no_misfit()
+    ensures { (P : Program) → (I : Input) → (n : ℕ) → (bytes : List ℕ) → (more : List (Option Entry)) → (e : ℕ) →
+        (k : MisfitKind) → IsValid P I → map (λ x. Some x) (trace P I n) ≡ spelled false bytes ++ more →
+        IsMisfit P bytes false e k → ⊥ }
+{}
+
 /// Each whole file is the trace of a run of the program or has a misfit; and a front of a file shows a misfit or none.
 pub fn misfits_are_decided()
     ensures whole { (P : Program) → (bytes : List ℕ) →

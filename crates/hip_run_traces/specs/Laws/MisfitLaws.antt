@@ -1,14 +1,16 @@
 -- A trace has one misfit at most, which the first bytes decide, and none if it is the run's.
-use Rattle.std.proofs.Common.{◌≡◌, ◌⊎◌, inl, inr, ℕ, zero, suc, ◌+◌, ◌≤◌, ◌<◌, Bool, true, false, List, [], ◌∷◌, ◌++◌, length, take, slice_get, Option, Some, None, refl, sym, ap, ◌∙◌, subst, arith}
+use Rattle.std.proofs.Common.{◌≡◌, ◌⊎◌, inl, inr, ℕ, zero, suc, ◌+◌, ◌≤◌, ◌<◌, Bool, true, false, List, [], ◌∷◌, ◌++◌, length, take, slice_get, Option, Some, None, refl, sym, ap, ◌∙◌, subst, arith, append_assoc, length-append}
 use Rattle.std.specs.Prelude.{option_map}
+use Rattle.std.proofs.lemmas.List.{append-nil}
 use Rattle.hip_ir.specs.declared.program.Program.{Program}
 use Rattle.hip_runs.specs.Step.{header_entries}
+use Rattle.hip_runs.specs.Validity.{IsValid}
 use Rattle.hip_runs.specs.declared.input.Input.{Input}
 use Rattle.hip_run_traces.specs.Headers.{Header, Stops, Gives, valid_limit, valid_base, with_entry, go_on, header_from, behind_register, behind_start, header}
 use Rattle.hip_run_traces.specs.Laws.FrontLaws.{front_spelled}
 use Rattle.hip_run_traces.specs.Laws.GivenLaws.{fit_pieces, header-given}
-use Rattle.hip_run_traces.specs.Laws.HeaderLaws.{told}
-use Rattle.hip_run_traces.specs.Laws.TraceLaws.{length-header_of, one-trace, whole-front}
+use Rattle.hip_run_traces.specs.Laws.HeaderLaws.{header-trace, told}
+use Rattle.hip_run_traces.specs.Laws.TraceLaws.{length-header_of, one-trace, whole-front, whole-trace}
 use Rattle.hip_run_traces.specs.Misfits.{DiffersAt, FirstDiffers, StopsAt, DiffersFromRun, MisfitBehind, IsMisfit, IsTraceOf}
 use Rattle.hip_run_traces.specs.Traces.{header_of, trace, IsTrace}
 use Rattle.hip_run_traces.specs.declared.misfit.MisfitKind.{MisfitKind}
@@ -303,3 +305,79 @@ pub front-stops : (P : Program) (bytes : List ℕ) (h e : ℕ) (k : MisfitKind) 
 front-stops P bytes h e k q le m =
     let d = subst (λ (x : Header). MisfitBehind x P false (spelled false bytes) e k) q m.here in
     no_stop (slice_get (spelled false bytes) h) k (none_past (spelled false bytes) h le) d.1
+
+-- ---- fronts of a run's trace
+
+take_length : {A : Type 0} (xs ys : List A) → take (length xs) (xs ++ ys) ≡ xs
+take_length [] ys = refl
+take_length (x ∷ xs) ys = ap (λ zs. x ∷ zs) (take_length xs ys)
+
+told_append : (es fs : List Entry) → told (es ++ fs) ≡ told es ++ told fs
+told_append [] fs = refl
+told_append (e ∷ es) fs = ap (λ (ps : List (Option Entry)). Some e ∷ ps) (told_append es fs)
+
+-- where pieces are the first of those that spell the entries, they spell the first entries
+first_told : (xs more : List (Option Entry)) (front es : List Entry) → told front ≡ xs ++ more → (rest : List Entry) → es ≡ front ++ rest → xs ≡ told (take (length xs) es)
+first_told xs more front es split rest begins =
+    let whole : told es ≡ xs ++ (more ++ told rest) = ap told begins ∙ told_append front rest ∙ ap (λ (ps : List (Option Entry)). ps ++ told rest) split ∙ append_assoc xs more (told rest) in
+    sym (sym (take_told (length xs) es) ∙ ap (take (length xs)) whole ∙ take_length xs (more ++ told rest))
+
+module _ (P : Program) (I : Input) (n : ℕ) (bytes : List ℕ) (more : List (Option Entry)) (e : ℕ) (k : MisfitKind) (valid : IsValid P I) (split : told (trace P I n) ≡ spelled false bytes ++ more) (m : IsMisfit P bytes false e k) where
+  whole_header : header P (spelled false bytes ++ more) ≡ Gives (header_entries I) I
+  whole_header = ap (header P) (sym split) ∙ header-trace P I valid n
+
+  stops_never : (c : ℕ) → header P (spelled false bytes) ≡ Stops c → (o : Option (Option Entry)) → slice_get (spelled false bytes) c ≡ o → ⊥
+  stops_never c q None at =
+      let d = subst (λ (x : Header). MisfitBehind x P false (spelled false bytes) e k) q m.here in
+      no_stop (slice_get (spelled false bytes) c) k at d.1
+  stops_never c q (Some p) at =
+      let same : Stops c ≡ Gives (header_entries I) I = sym (stops_front P (spelled false bytes) more c p q at) ∙ whole_header in
+      let z : ⊥ = cc in z
+
+  -- the header ends before the pieces do
+  ends_before : (h : ℕ) (F : Input) → header P (spelled false bytes) ≡ Gives h F → h < length (spelled false bytes) → ⊥
+  ends_before h F q lt =
+      let same : Gives h F ≡ Gives (header_entries I) I = sym (gives_front P (spelled false bytes) more h F q lt) ∙ whole_header in
+      let input : F ≡ I = cc in
+      let whole = whole-trace P I in
+      let front = whole-front P I n whole.0 whole.1 in
+      front-agrees P bytes F h whole.0 e k q (subst (λ (J : Input). IsTrace P J whole.0) (sym input) whole.1)
+      (first_told (spelled false bytes) more (trace P I n) whole.0 split front.0 front.1) m
+
+  -- all pieces are of the header
+  ends_later : (h : ℕ) (F : Input) → header P (spelled false bytes) ≡ Gives h F → length (spelled false bytes) ≤ h → ⊥
+  ends_later h F q le =
+      let given = header-given P (spelled false bytes) h F (fit_pieces false bytes) q in
+      let whole = whole-trace P F in
+      let front = whole-front P F 0 whole.0 whole.1 in
+      let both = ap length given.split ∙ length-append (told (header_of F)) given.rest in
+      let long = told_long (header_of F) in
+      let header = length-header_of F in
+      let count = given.count in
+      let empty : given.rest ≡ [] = nothing given.rest (omega (arith, both, long, header, count, le)) in
+      front-agrees P bytes F h whole.0 e k q whole.1
+      (first_told (spelled false bytes) [] (header_of F) whole.0
+      (sym (append-nil (spelled false bytes) ∙ given.split ∙ ap (λ (ps : List (Option Entry)). told (header_of F) ++ ps) empty ∙ append-nil (told (header_of F))))
+      front.0 (front.1 ∙ ap (λ (es : List Entry). es ++ front.0) (trace_zero P F))) m
+    where
+      nothing : (ps : List (Option Entry)) → length ps ≡ 0 → ps ≡ []
+      nothing [] z = refl
+      nothing (p ∷ ps) z = absurd (omega (arith, z))
+
+      told_long : (es : List Entry) → length (told es) ≡ length es
+      told_long [] = refl
+      told_long (x ∷ es) = ap suc (told_long es)
+
+  pub run-front : ⊥
+  run-front = go (header P (spelled false bytes)) refl
+    where
+      order : (a b : ℕ) → (a < b) ⊎ (b ≤ a)
+      order a b = grind arith
+
+      by : (h : ℕ) (F : Input) → header P (spelled false bytes) ≡ Gives h F → (h < length (spelled false bytes)) ⊎ (length (spelled false bytes) ≤ h) → ⊥
+      by h F q (inl lt) = ends_before h F q lt
+      by h F q (inr le) = ends_later h F q le
+
+      go : (x : Header) → header P (spelled false bytes) ≡ x → ⊥
+      go (Stops c) q = stops_never c q (slice_get (spelled false bytes) c) refl
+      go (Gives h F) q = by h F q (order h (length (spelled false bytes)))

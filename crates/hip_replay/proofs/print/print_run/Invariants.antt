@@ -1,4 +1,5 @@
-use Rattle.hip_replay.proofs.Outputs.{IsPrinting, steps_ahead}
+use Rattle.hip_replay.proofs.Going.{steps_ahead}
+use Rattle.hip_replay.proofs.Outputs.{IsPrinting}
 use Rattle.hip_replay.proofs.print.print_run.Given as goal
 
 abbrev pub invariant-steps : goal.invariant-steps

@@ -1,0 +1,5 @@
+pub mod Headers
+pub mod Meets
+pub mod Openings
+pub mod Readings
+pub mod RunSteps

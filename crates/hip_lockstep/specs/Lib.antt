@@ -1,0 +1,6 @@
+pub mod Giving
+pub mod InStep
+pub mod Nexts
+pub mod Opening
+pub mod Reading
+pub mod Refusals

@@ -1,0 +1,48 @@
+-- What reading one more entry of a trace answers.
+use Rattle.std.specs.Prelude.{◌≡◌, ◌+◌, ℕ, Option, Some, None, Result, Ok, Err}
+use Rattle.hip_io.specs.Cabinets.{CabinetState}
+use Rattle.hip_run_traces.specs.declared.misfit.MisfitKind.TheVariants.{Malformed, Differs, Early, Extra}
+use Rattle.hip_trace.specs.Reads.{ReaderState, HasNext, HasNone, HasMalformed, HasFailed}
+use Rattle.hip_trace.specs.declared.entry.Entry.{Entry}
+use Rattle.hip_trace.specs.declared.refusal.TraceRefusal.{TraceRefusal}
+use Rattle.hip_trace.specs.declared.refusal.TraceRefusal.TheVariants as unread
+use Rattle.hip_lockstep.specs.declared.refusal.ReplayRefusal.{ReplayRefusal}
+use Rattle.hip_lockstep.specs.declared.refusal.ReplayRefusal.TheVariants as refusals
+
+-- the entry that was read, behind so many, or why there is none
+abbrev pub FindsEntry : ℕ → Result (Option Entry) TraceRefusal → Result Entry ReplayRefusal → Type 0
+FindsEntry count (Ok (Some e)) result = result ≡ Ok e
+FindsEntry count (Ok None) result = result ≡ Err (refusals.Misfit (count + 1) Early)
+FindsEntry count (Err unread.Malformed) result = result ≡ Err (refusals.Misfit (count + 1) Malformed)
+FindsEntry count (Err unread.ReadFault) result = result ≡ Err refusals.ReadFault
+
+-- whether nothing was read, behind so many entries
+abbrev pub EndsHere : ℕ → Result (Option Entry) TraceRefusal → Result (Unit {0}) ReplayRefusal → Type 0
+EndsHere count (Ok (Some e)) result = result ≡ Err (refusals.Misfit (count + 1) Extra)
+EndsHere count (Ok None) result = result ≡ Ok tt
+EndsHere count (Err unread.Malformed) result = result ≡ Err (refusals.Misfit (count + 1) Malformed)
+EndsHere count (Err unread.ReadFault) result = result ≡ Err refusals.ReadFault
+
+-- an entry behind so many, or the cause why there is none
+abbrev pub ReadsEntry : ℕ → ReaderState → ReaderState → CabinetState → CabinetState → Result Entry ReplayRefusal → Type 0
+ReadsEntry count r r' s s' (Ok e) = HasNext r r' s s' e
+ReadsEntry count r r' s s' (Err (refusals.Misfit entry Early)) = (entry ≡ count + 1) × HasNone r r' s s'
+ReadsEntry count r r' s s' (Err (refusals.Misfit entry Malformed)) = (entry ≡ count + 1) × HasMalformed r r' s s'
+ReadsEntry count r r' s s' (Err (refusals.Misfit entry Differs)) = ⊥
+ReadsEntry count r r' s s' (Err (refusals.Misfit entry Extra)) = ⊥
+ReadsEntry count r r' s s' (Err refusals.ReadFault) = HasFailed r r' s s'
+ReadsEntry count r r' s s' (Err refusals.NoMemory) = ⊥
+
+-- some entry was read where the file should have ended
+abbrev pub HasMore : ReaderState → ReaderState → CabinetState → CabinetState → Type 0
+HasMore r r' s s' = (e : Entry) × HasNext r r' s s' e
+
+-- the file's end behind so many entries, or the cause why it is not there
+abbrev pub ReadsEnd : ℕ → ReaderState → ReaderState → CabinetState → CabinetState → Result (Unit {0}) ReplayRefusal → Type 0
+ReadsEnd count r r' s s' (Ok _) = HasNone r r' s s'
+ReadsEnd count r r' s s' (Err (refusals.Misfit entry Extra)) = (entry ≡ count + 1) × HasMore r r' s s'
+ReadsEnd count r r' s s' (Err (refusals.Misfit entry Malformed)) = (entry ≡ count + 1) × HasMalformed r r' s s'
+ReadsEnd count r r' s s' (Err (refusals.Misfit entry Differs)) = ⊥
+ReadsEnd count r r' s s' (Err (refusals.Misfit entry Early)) = ⊥
+ReadsEnd count r r' s s' (Err refusals.ReadFault) = HasFailed r r' s s'
+ReadsEnd count r r' s s' (Err refusals.NoMemory) = ⊥

@@ -1,0 +1,133 @@
+//! What the entries of a header give, so far.
+
+ghost use Rattle.std.specs.Prelude.{◌≡◌, ◌+◌, ◌-◌, ◌≤◌, ◌++◌, ◌&&◌, IfOk, OnOk, length, nat_le};
+ghost use Rattle.hip_globals.specs.Addresses.{region_size};
+ghost use Rattle.hip_mem.specs.Bytes.{zeros};
+ghost use Rattle.hip_lockstep.specs.Giving.{TakesEntry, TakesLine, TakesNumber, input_of};
+
+use crate::header::some_byte;
+use hip_runs::{Input, MOST_NUMBERS};
+use hip_trace::Entry;
+use hip_types::{NoMemory, Row};
+use hip_typing::Checked;
+
+/// The input that START, REGISTER, INPUT and IMAGE entries give, whose initial bytes go up to the last IMAGE's.
+#[derive(Drop)]
+pub(crate) struct Given {
+    pub base: u64,
+    pub limit: u64,
+    pub numbers: Row<i64>,
+    pub image: Vec<u8>,
+}
+
+impl Given {
+    // Takes what a valid INPUT or IMAGE gives, and answers whether the entry is one. The size is that of the region.
+    pub(crate) fn take(
+        &mut self,
+        checked: &Checked,
+        size: u64,
+        entry: &Entry,
+    ) -> Result<bool, NoMemory>
+        requires { size ≡ region_size checked.now }
+        ensures { TakesEntry checked.now entry.now (input_of self.old) (input_of self.new) result }
+    {
+        match entry {
+            Entry::Input { number } => self.take_number(*number),
+            Entry::Image { addr, bytes } => self.take_line(checked, size, *addr, bytes),
+            _ => Ok(false),
+        }
+    }
+
+    fn take_number(&mut self, number: i64) -> Result<bool, NoMemory>
+        ensures { TakesNumber number (input_of self.old) (input_of self.new) result }
+    {
+        if !self.image.is_empty() || self.numbers.len() as u64 >= MOST_NUMBERS {
+            return Ok(false);
+        }
+        match self.numbers.push(number) {
+            Ok(()) => Ok(true),
+            Err(_) => Err(NoMemory),
+        }
+    }
+
+    fn take_line(
+        &mut self,
+        checked: &Checked,
+        size: u64,
+        addr: u64,
+        bytes: &[u8; 64],
+    ) -> Result<bool, NoMemory>
+        requires { size ≡ region_size checked.now }
+        ensures { TakesLine checked.now addr bytes.now (input_of self.old) (input_of self.new) result }
+    {
+        let offset = match addr.checked_sub(self.base) {
+            Some(offset) => offset,
+            None => return Ok(false),
+        };
+        if !has_line(self.image.len() as u64, size, offset) || !some_byte(bytes.as_slice()) {
+            return Ok(false);
+        }
+        match put_line(&mut self.image, offset as usize, bytes.as_slice()) {
+            Ok(()) => Ok(true),
+            Err(_) => Err(NoMemory),
+        }
+    }
+
+    // The input, in which the bytes behind the last line are 0.
+    pub(crate) fn fill(self, size: u64) -> Result<Input, NoMemory>
+        requires { length self.image.items ≤ size }
+        ensures { IfOk result (λ i. i ≡ record (input_of self) {
+          image = self.image.items ++ zeros (size - length self.image.items);
+        }) }
+    {
+        let Given {
+            base,
+            limit,
+            numbers,
+            mut image,
+        } = self;
+        match lengthen(&mut image, size as usize) {
+            Ok(()) => Ok(Input {
+                base,
+                image: Row::from_vec(image),
+                numbers,
+                limit,
+            }),
+            Err(_) => Err(NoMemory),
+        }
+    }
+}
+
+// Whether a cache line at an offset lies behind the first bytes of a region.
+fn has_line(held: u64, size: u64, offset: u64) -> bool
+    ensures { result ≡ nat_le held offset && nat_le (offset + 64) size }
+{
+    held <= offset && 64 <= size && offset <= size - 64
+}
+
+// Puts bytes of 0 at the end, up to a length.
+fn lengthen(image: &mut Vec<u8>, len: usize) -> Result<(), NoMemory>
+    requires { length image.old.items ≤ len }
+    ensures { OnOk result (image.new.items ≡ image.old.items ++ zeros (len - length image.old.items)) }
+{
+    match image.resize(len, 0) {
+        Ok(()) => Ok(()),
+        Err(_) => Err(NoMemory),
+    }
+}
+
+// Puts a cache line at an offset behind the bytes, with bytes of 0 between.
+fn put_line(image: &mut Vec<u8>, offset: usize, line: &[u8]) -> Result<(), NoMemory>
+    requires { length image.old.items ≤ offset }
+    ensures { OnOk result
+        (image.new.items ≡ image.old.items ++ (zeros (offset - length image.old.items) ++ line.now)) }
+{
+    match lengthen(image, offset) {
+        Ok(()) => {}
+        Err(_) => return Err(NoMemory),
+    }
+    match image.extend_from_slice(line) {
+        Ok(()) => Ok(()),
+        Err(_) => Err(NoMemory),
+    }
+}

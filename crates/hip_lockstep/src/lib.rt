@@ -1,0 +1,19 @@
+//! The trace of a run beside the run: entries that are written as the steps are taken, and entries that are read one by
+//! one and compared with those of the steps.
+#![tactic(auto)]
+
+mod bodies;
+mod entries;
+mod given;
+mod header;
+mod next;
+mod opening;
+mod refusal;
+mod steps;
+
+pub use bodies::longest;
+pub use entries::{ending_of, put_entry};
+pub use header::put_header;
+pub use opening::{Begun, read_header};
+pub use refusal::ReplayRefusal;
+pub use steps::Lockstep;

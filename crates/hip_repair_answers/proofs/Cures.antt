@@ -1,0 +1,30 @@
+-- What the repair for a run does.
+use Rattle.hip_ir.specs.declared.program.Program.{Program}
+use Rattle.hip_repair_answers.specs.Cured.{IsCured}
+use Rattle.hip_repairs.proofs.Theorems as theorem
+use Rattle.hip_repairs.specs.Choice.{Contains, plan_for}
+use Rattle.hip_repairs.specs.Direct.{direct}
+use Rattle.hip_repairs.specs.declared.plan.Plan.{Plan}
+use Rattle.hip_runs.specs.Found.Marks.{IsFound}
+use Rattle.hip_runs.specs.Validity.{IsValid}
+use Rattle.hip_runs.specs.declared.input.Input.{Input}
+use Rattle.hip_runs.specs.declared.report.Findings.{Findings}
+use Rattle.hip_typing.specs.Sound.{IsSound}
+
+itself : (plan : Plan) → Contains plan plan
+itself plan = record { flush_after = λ s h. h; fence_after = λ s h. h; hoist = λ s h. h }
+
+pub cures : (P : Program) (I : Input) (found : Findings) → IsSound P → IsValid P I → IsFound P I found
+    → IsCured P I found
+cures P I found sound valid is =
+    let plan = plan_for P found in
+    let quiet = theorem.direct_stores_are_quiet P sound in
+    let again = theorem.repaired_is_sound P plan (direct P) sound in
+    record {
+      harmless = theorem.repairs_do_no_harm P plan (direct P) sound;
+      clean = theorem.repairs_are_clean P plan (direct P) I found sound valid quiet is (itself plan);
+      covered = theorem.hoisted_calls_are_covered P plan (direct P) sound quiet;
+      fenced = theorem.hoisted_calls_are_fenced P plan (direct P) sound;
+      sound = again;
+      reads = again.spelled;
+    }

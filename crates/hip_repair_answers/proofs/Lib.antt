@@ -1,0 +1,3 @@
+pub mod Cures
+pub mod OneAnswer
+pub mod Repairs

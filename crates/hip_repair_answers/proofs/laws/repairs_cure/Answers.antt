@@ -1,0 +1,5 @@
+use Rattle.hip_repair_answers.proofs.Cures.{cures}
+use Rattle.hip_repair_answers.proofs.laws.repairs_cure.Goals as goal
+
+pub returns : goal.returns
+returns c = cures

@@ -1,0 +1,85 @@
+-- The answers of `check`, `repair` and `rerun`.
+use Rattle.std.specs.Prelude.{ℕ, ◌≡◌, ◌⊎◌, false, List, [], length, IfSome}
+use Rattle.hip_answers.specs.Answers.{Answer}
+use Rattle.hip_answers.specs.Programs.{IsUnloaded}
+use Rattle.hip_answers.specs.declared.status.Status.TheVariants.{Done}
+use Rattle.hip_io.specs.Cabinets.{CabinetState}
+use Rattle.hip_ir.specs.Show.{show}
+use Rattle.hip_ir.specs.declared.program.Program.{Program}
+use Rattle.hip_loading.specs.Loading.{IsProgramOf}
+use Rattle.hip_loading.specs.Outside.{HasMet}
+use Rattle.hip_repair_answers.specs.Cured.{IsCured, repaired_for}
+use Rattle.hip_repair_answers.specs.TraceFiles.{IsProgramUnread, IsTraceFile, LacksTrace}
+use Rattle.hip_repairs.specs.Choice.{plan_for}
+use Rattle.hip_repairs.specs.CloneNumbers.{clone_numbers}
+use Rattle.hip_report_lines.specs.Counts.{check_counts, repair_counts, rerun_counts}
+use Rattle.hip_report_lines.specs.Reports.{report_lines}
+use Rattle.hip_run_traces.specs.Traces.{IsTrace}
+use Rattle.hip_runs.specs.Found.Marks.{IsFound}
+use Rattle.hip_runs.specs.Validity.{IsValid}
+use Rattle.hip_runs.specs.declared.input.Input.{Input}
+use Rattle.hip_runs.specs.declared.report.Findings.{Findings}
+use Rattle.hip_trace.specs.Texts.{lines_of}
+use Rattle.hip_trace.specs.declared.entry.Entry.{Entry}
+
+-- ---- a run of the program
+
+-- The one file has the program, and the other is the trace of its run on the input, which found this. What the answer
+-- has is given by the program, the input and what was found.
+pub record HasRunOf (Texts : Program → Input → Findings → Answer → Type 0) (old new : CabinetState)
+    (program_name trace_name : List ℕ) (answer : Answer) : Type 0 where
+  pub program : Program
+  pub loaded : IsProgramOf old.files program_name program
+  pub input : Input
+  pub traced : IfSome old.files (λ fs. IsTraceFile fs trace_name program input)
+  pub valid : IsValid program input
+  pub found : Findings
+  pub found_is : IsFound program input found
+  pub met : HasMet false false old new
+  pub texts : Texts program input found answer
+
+-- the answers of a command that is given a program and a trace: no program, no trace of a run of it, or a run
+abbrev pub TraceAnswers : (Program → Input → Findings → Answer → Type 0) → CabinetState → CabinetState → List ℕ
+    → List ℕ → Answer → Type 0
+TraceAnswers Texts old new program_name trace_name answer =
+    IsUnloaded old new program_name answer
+    ⊎ (IsProgramUnread old new program_name answer
+    ⊎ (LacksTrace old new program_name trace_name answer ⊎ HasRunOf Texts old new program_name trace_name answer))
+
+-- ---- the commands
+
+-- out has a line for each report of the run, and notes how many there are
+pub record HasChecked (P : Program) (I : Input) (found : Findings) (answer : Answer) : Type 0 where
+  pub status_is : answer.status ≡ Done
+  pub out_is : answer.out ≡ report_lines P found.reports
+  pub notes_is : answer.notes ≡ check_counts (length found.reports)
+
+-- Out has the canonical text of the repaired program, and notes how many reports, flushes, fences, hoisted calls and
+-- clones there are. The repaired program does no harm, is clean on the trace's input and has its hoisted calls covered.
+pub record HasRepaired (P : Program) (I : Input) (found : Findings) (answer : Answer) : Type 0 where
+  pub status_is : answer.status ≡ Done
+  pub out_is : answer.out ≡ show (repaired_for P found)
+  pub notes_is : answer.notes
+      ≡ repair_counts (length found.reports) (plan_for P found) (length (clone_numbers P (plan_for P found)))
+  pub cured : IsCured P I found
+
+-- out has the trace of the repaired program's run on the same input, a line for each entry, and notes how many reports
+-- there are of the program's run and of the repaired program's
+pub record HasRerun (P : Program) (I : Input) (found : Findings) (answer : Answer) : Type 0 where
+  pub trace : List Entry
+  pub is_trace : IsTrace (repaired_for P found) I trace
+  pub after : Findings
+  pub after_is : IsFound (repaired_for P found) I after
+  pub none_left : after.reports ≡ []
+  pub status_is : answer.status ≡ Done
+  pub out_is : answer.out ≡ lines_of trace
+  pub notes_is : answer.notes ≡ rerun_counts (length found.reports) (length after.reports)
+
+abbrev pub CheckAnswers : CabinetState → CabinetState → List ℕ → List ℕ → Answer → Type 0
+CheckAnswers = TraceAnswers HasChecked
+
+abbrev pub RepairAnswers : CabinetState → CabinetState → List ℕ → List ℕ → Answer → Type 0
+RepairAnswers = TraceAnswers HasRepaired
+
+abbrev pub RerunAnswers : CabinetState → CabinetState → List ℕ → List ℕ → Answer → Type 0
+RerunAnswers = TraceAnswers HasRerun

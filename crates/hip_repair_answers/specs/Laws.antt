@@ -1,0 +1,101 @@
+-- What the definitions of the answers imply.
+use Rattle.std.specs.Prelude.{ℕ, ◌≡◌, ◌≢◌, ◌≤◌, ◌⊎◌, true, false, List, [], length, Some}
+use Rattle.hip_answers.specs.Answers.{Answer}
+use Rattle.hip_answers.specs.declared.status.Status.{Status}
+use Rattle.hip_answers.specs.declared.status.Status.TheVariants as statuses
+use Rattle.hip_io.specs.Cabinets.{CabinetState, file_of}
+use Rattle.hip_io.specs.declared.cabinet.NamedFile.{NamedFile}
+use Rattle.hip_ir.specs.Show.{show}
+use Rattle.hip_ir.specs.declared.program.Program.{Program}
+use Rattle.hip_loading.specs.Laws.{without_path}
+use Rattle.hip_loading.specs.Loading.{IsProgramOf}
+use Rattle.hip_loading.specs.Outside.{HasMet}
+use Rattle.hip_loading.specs.declared.program.TheConstants.{TEXT_LIMIT}
+use Rattle.hip_loading.specs.declared.refusal.ProgramRefusal.TheVariants as refusals
+use Rattle.hip_repair_answers.specs.Answers.{HasRepaired, HasRunOf, TraceAnswers}
+use Rattle.hip_repair_answers.specs.Cured.{repaired_for}
+use Rattle.hip_repair_answers.specs.TraceFiles.{IsTraceFile, ShowsNoMisfit}
+use Rattle.hip_repairs.specs.Suits.{no_repairs}
+use Rattle.hip_report_lines.specs.Counts.{repair_counts}
+use Rattle.hip_run_traces.specs.Misfits.{IsTraceOf}
+use Rattle.hip_run_traces.specs.Traces.{IsTrace}
+use Rattle.hip_runs.specs.Found.Marks.{IsFound}
+use Rattle.hip_runs.specs.Validity.{IsInput, IsValid}
+use Rattle.hip_runs.specs.declared.input.Input.{Input}
+use Rattle.hip_runs.specs.declared.report.Findings.{Findings}
+use Rattle.hip_trace.specs.Texts.{lines_of}
+use Rattle.hip_trace.specs.declared.entry.Entry.{Entry}
+use Rattle.hip_typing.specs.Sound.{IsSound}
+
+-- ---- one answer
+
+-- the status, but for the path that shows a register without an assignment: one path or another may show it
+abbrev pub pathless : Status → Status
+pathless (statuses.BadProgram (refusals.Form why)) =
+    statuses.BadProgram (refusals.Form (record { fault = without_path why.fault; place = why.place }))
+pathless status = status
+
+pub record IsSameAnswer (a b : Answer) : Type 0 where
+  pub status : pathless a.status ≡ pathless b.status
+  pub out : a.out ≡ b.out
+  pub notes : a.notes ≡ b.notes
+
+-- where the files are told, two answers on them are the same, unless one of them is a read fault
+abbrev pub GivesOne : (Program → Input → Findings → Answer → Type 0) → Type 0
+GivesOne Texts =
+    (files : List NamedFile) → (old new other other_new : CabinetState) → (p t : List ℕ) → (a b : Answer)
+    → old.files ≡ Some files → other.files ≡ Some files → TraceAnswers Texts old new p t a
+    → TraceAnswers Texts other other_new p t b
+    → (a.status ≡ statuses.ReadFault) ⊎ ((b.status ≡ statuses.ReadFault) ⊎ IsSameAnswer a b)
+
+-- where the one file has a program and the other is the trace of a run of it, and nothing is missing and nothing fails,
+-- there is an answer by which the command is carried out
+abbrev pub AnswersRuns : (Program → Input → Findings → Answer → Type 0) → Type 0
+AnswersRuns Texts =
+    (files : List NamedFile) → (old new : CabinetState) → (p t : List ℕ) → (P : Program) → (I : Input)
+    → old.files ≡ Some files → IsProgramOf (Some files) p P → IsTraceFile files t P I → HasMet false false old new
+    → (a : Answer) × (a.status ≡ statuses.Done) × TraceAnswers Texts old new p t a
+
+-- where the trace's file is current after a read fault, and is not the program's, its bytes that were taken show no misfit
+abbrev pub FaultsHideNone : (Program → Input → Findings → Answer → Type 0) → Type 0
+FaultsHideNone Texts =
+    (files : List NamedFile) → (old new : CabinetState) → (p t : List ℕ) → (P : Program) → (a : Answer)
+    → old.files ≡ Some files → IsProgramOf (Some files) p P → new.is_current ≡ true → new.name ≡ Some t → p ≢ t
+    → a.status ≡ statuses.ReadFault → TraceAnswers Texts old new p t a → ShowsNoMisfit files t P new.rest
+
+-- ---- `repair`
+
+-- what `repair` writes to the notes where there is nothing to repair: five zeros
+abbrev pub no_counts : List ℕ
+no_counts = repair_counts 0 no_repairs 0
+
+-- where the run reports nothing, `repair` gives the program's canonical text and five zeros
+abbrev pub NothingToRepair : Type 0
+NothingToRepair =
+    (P : Program) → (I : Input) → (found : Findings) → (a : Answer) → found.reports ≡ [] → HasRepaired P I found a
+    → (a.out ≡ show P) × (a.notes ≡ no_counts)
+
+-- One file has the text of the program that is repaired for a run, of at most 16,777,216 bytes, and another has the
+-- trace of the repaired program's run on the same input.
+pub record AreRepairedFiles (files : List NamedFile) (p t : List ℕ) (P : Program) (I : Input) (found : Findings) :
+    Type 0 where
+  pub text : file_of files p ≡ Some (show (repaired_for P found))
+  pub fits : length (show (repaired_for P found)) ≤ TEXT_LIMIT
+  pub trace : List Entry
+  pub is_trace : IsTrace (repaired_for P found) I trace
+  pub lines : file_of files t ≡ Some (lines_of trace)
+
+-- A second repair changes nothing: on these files `repair` answers with the same text and five zeros.
+abbrev pub SecondRepair : Type 0
+SecondRepair =
+    (P : Program) → (I : Input) → (found : Findings) → IsSound P → IsInput I → IsValid P I → IsFound P I found
+    → (files : List NamedFile) → (p t : List ℕ) → AreRepairedFiles files p t P I found
+    → (old new : CabinetState) → old.files ≡ Some files → HasMet false false old new
+    → HasRunOf HasRepaired old new p t
+    (record { status = statuses.Done; out = show (repaired_for P found); notes = no_counts })
+
+-- the repaired program's run has its trace read back: the second file has no misfit
+abbrev pub RerunsAreTraces : Type 0
+RerunsAreTraces =
+    (P : Program) → (I : Input) → (found : Findings) → IsSound P → IsInput I → IsValid P I → (es : List Entry)
+    → IsTrace (repaired_for P found) I es → IsTraceOf (repaired_for P found) (lines_of es) I

@@ -1,0 +1,4 @@
+pub mod Answers
+pub mod Cured
+pub mod Laws
+pub mod TraceFiles

@@ -1,0 +1,11 @@
+//! What `check`, `repair` and `rerun` answer, and what their answers promise.
+#![tactic(auto)]
+
+mod laws;
+mod refusal;
+
+pub use laws::{
+    answers_are_one, faults_hide_no_misfit, nothing_to_repair, repairs_cure, reruns_are_traces,
+    runs_are_answered, second_repair,
+};
+pub use refusal::{TraceRefusal, status_of_trace};

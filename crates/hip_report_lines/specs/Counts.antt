@@ -1,0 +1,25 @@
+-- The lines of counts that the commands write to the notes.
+use Rattle.std.specs.Prelude.{ℕ, List, ◌++◌, codes, length}
+use Rattle.std.specs.Fmt.{decimal}
+use Rattle.hip_repairs.specs.declared.plan.Plan.{Plan}
+
+-- a word, a blank and a number
+abbrev pub count_line : List ℕ → ℕ → List ℕ
+count_line word n = word ++ codes " " ++ decimal n ++ codes "\n"
+
+-- of `check`: how many reports there are
+abbrev pub check_counts : ℕ → List ℕ
+check_counts reports = count_line (codes "reports") reports
+
+-- of `repair`: how many reports there are, how long the plan's lists are, and how many clones there are
+abbrev pub repair_counts : ℕ → Plan → ℕ → List ℕ
+repair_counts reports plan clones =
+    count_line (codes "reports") reports
+    ++ count_line (codes "flushes") (length plan.flush_after)
+    ++ count_line (codes "fences") (length plan.fence_after)
+    ++ count_line (codes "hoists") (length plan.hoist)
+    ++ count_line (codes "clones") clones
+
+-- of `rerun`: how many reports there are of the program's run, and how many of the repaired program's
+abbrev pub rerun_counts : ℕ → ℕ → List ℕ
+rerun_counts before after = count_line (codes "before") before ++ count_line (codes "after") after

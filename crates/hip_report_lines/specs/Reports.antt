@@ -1,0 +1,59 @@
+-- The line of a report.
+use Rattle.std.specs.Prelude.{ℕ, List, [], ◌∷◌, ◌++◌, codes, Option, Some, None, slice_get}
+use Rattle.std.specs.Fmt.{decimal}
+use Rattle.std.specs.List.{flat_map}
+use Rattle.hip_ir.specs.Sites.{block_of}
+use Rattle.hip_ir.specs.declared.block.Block.{Block}
+use Rattle.hip_ir.specs.declared.program.Function.{Function}
+use Rattle.hip_ir.specs.declared.program.Program.{Program}
+use Rattle.hip_ir.specs.declared.site.Site.{Site}
+use Rattle.hip_runs.specs.declared.report.Kind.{Kind}
+use Rattle.hip_runs.specs.declared.report.Kind.TheVariants.{MissingFlush, MissingFence, MissingBoth}
+use Rattle.hip_runs.specs.declared.report.Report.{Report}
+
+-- ---- sites
+
+-- no name for a function or a block that is not there
+abbrev pub function_name : Option Function → List ℕ
+function_name None = []
+function_name (Some f) = f.name
+
+abbrev pub block_label : Option Block → List ℕ
+block_label None = []
+block_label (Some b) = b.label
+
+-- `@function:label:index`
+abbrev pub site_text : Program → Site → List ℕ
+site_text P s =
+    codes "@" ++ function_name (slice_get P.functions s.function) ++ codes ":"
+    ++ block_label (block_of P s.function s.block) ++ codes ":" ++ decimal s.index
+
+-- ---- reports
+
+abbrev pub kind_word : Kind → List ℕ
+kind_word MissingFlush = codes "flush"
+kind_word MissingFence = codes "fence"
+kind_word MissingBoth = codes "both"
+
+-- the flush that lacks a fence, where the report names one
+abbrev pub flush_text : Program → Option Site → List ℕ
+flush_text P None = []
+flush_text P (Some s) = codes " flush " ++ site_text P s
+
+-- a blank and a site, for each site of the path
+abbrev pub path_text : Program → List Site → List ℕ
+path_text P sites = flat_map (λ s. codes " " ++ site_text P s) sites
+
+abbrev pub numbered : List ℕ → ℕ → List ℕ
+numbered words n = words ++ decimal n
+
+-- `report KIND entry E check C closed N path S S S`; where a fence alone is missing, `flush S` stands before `path`
+abbrev pub report_line : Program → Report → List ℕ
+report_line P r =
+    codes "report " ++ kind_word r.kind ++ numbered (codes " entry ") r.entry
+    ++ numbered (codes " check ") r.check_entry ++ numbered (codes " closed ") r.closed ++ flush_text P r.flush_site
+    ++ codes " path" ++ path_text P r.path ++ codes "\n"
+
+-- a line for each report, in their order
+abbrev pub report_lines : Program → List Report → List ℕ
+report_lines P reports = flat_map (report_line P) reports

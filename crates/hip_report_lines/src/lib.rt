@@ -1,0 +1,10 @@
+//! The lines of reports, and the lines of counts that go to the notes.
+#![tactic(auto)]
+
+mod counts;
+mod reports;
+mod sites;
+
+pub use counts::{put_check_counts, put_count, put_repair_counts, put_rerun_counts};
+pub use reports::{put_reports, write_report};
+pub use sites::put_site;

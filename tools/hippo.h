@@ -1,0 +1,22 @@
+// The external functions that hippo knows, and the mark of persistent data. Flushes and fences of one cache line are
+// those of <immintrin.h>: _mm_clwb, _mm_clflushopt, _mm_clflush, _mm_sfence, _mm_mfence.
+#ifndef HIPPO_H
+#define HIPPO_H
+
+#include <immintrin.h>
+#include <stddef.h>
+
+// Put before the definition of a global, it lies in the persistent region. `used` keeps clang from taking away a global
+// whose stores no one reads, or from cutting it to pieces.
+#define PERSISTENT __attribute__((section(".pm"), used))
+
+long long read_i64(void);                                  // the next number of the run's input
+void print_i64(long long number);                          // the number in decimal, and a line feed
+void pm_assert(const void *from, unsigned long long size); // these bytes have to be durable here
+
+// Those of libpmem.
+void pmem_flush(const void *from, size_t size);
+void pmem_persist(const void *from, size_t size);
+void pmem_drain(void);
+
+#endif

@@ -24,11 +24,13 @@ pub entries-next : (n : ℕ) (names : List (List ℕ)) (k : ℕ) (name : List �
 entries-next n [] k name h e = absurd (omega arith)
 entries-next n (x ∷ names) zero name h e =
     let same : n + 0 ≡ n = omega arith in
-    ap (λ (m : ℕ). record { name = name; value = m } ∷ []) same ∙ ap (λ (y : List ℕ). record { name = y; value = n } ∷ []) (sym e)
+    ap (λ (m : ℕ). record { name = name; value = m } ∷ []) same
+    ∙ ap (λ (y : List ℕ). record { name = y; value = n } ∷ []) (sym e)
 entries-next n (x ∷ names) (suc k) name h e =
     let one : suc (k + 1) ≡ suc k + 1 = omega arith in
     let on : n + suc k ≡ suc n + k = omega arith in
-    ap (λ m. record { name = x; value = n } ∷ (entries_from (suc n) (take k names) ++ record { name = name; value = m } ∷ [])) on
+    ap (λ m. record { name = x; value = n } ∷ (entries_from (suc n) (take k names) ++ record { name = name; value = m }
+    ∷ [])) on
     ∙ ap (λ es. record { name = x; value = n } ∷ es) (entries-next (suc n) names k name (omega arith) e)
     ∙ ap (λ m. entries_from n (take m (x ∷ names))) one
 

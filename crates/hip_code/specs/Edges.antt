@@ -30,7 +30,8 @@ edge_from [] from = None
 edge_from (e ∷ es) from = cond (bytes_eq e.label from) (Some e.value) (edge_from es from)
 
 -- a move is a phi's for control from a label
-pub record IsMove (globals : List GlobalVar) (region : ℕ) (names : List (List ℕ)) (constants from : List ℕ) (m : Move) (p : Phi) : Type 0 where
+pub record IsMove (globals : List GlobalVar) (region : ℕ) (names : List (List ℕ)) (constants from : List ℕ) (m : Move)
+    (p : Phi) : Type 0 where
   pub operand : named.Operand
   pub edge : edge_from p.edges from ≡ Some operand
   pub dest : number_of names p.dest ≡ Some m.dest
@@ -45,7 +46,8 @@ are_moves globals region names constants from [] (p ∷ ps) = ⊥
 are_moves globals region names constants from (m ∷ ms) [] = ⊥
 
 -- the moves are those of arguments, one for each parameter, into slots of the function that is called
-abbrev pub are_arguments : List GlobalVar → ℕ → List (List ℕ) → List (List ℕ) → List ℕ → List Move → List Param → List Arg → Type 0
+abbrev pub are_arguments : List GlobalVar → ℕ → List (List ℕ) → List (List ℕ) → List ℕ → List Move → List Param
+    → List Arg → Type 0
 are_arguments globals region names called constants [] [] args = Unit {0}
 are_arguments globals region names called constants [] (p ∷ ps) [] = Unit {0}
 are_arguments globals region names called constants [] (p ∷ ps) (x ∷ xs) = ⊥
@@ -62,7 +64,8 @@ pub record IsEdge (P : Program) (I : Input) (f b : ℕ) (tables : Tables) (numbe
   pub numbered : block_number (blocks_of P f) label ≡ Some edge.block
   pub begins : StandsAt P edge.target f edge.block 0
   pub span : HasSpan edge.moves tables.moves
-  pub moves : are_moves P.globals I.base (names_at P f) tables.constants (label_of (block_at P f b)) (entries_of edge.moves tables.moves) (phis_of (block_at P f edge.block))
+  pub moves : are_moves P.globals I.base (names_at P f) tables.constants (label_of (block_at P f b))
+      (entries_of edge.moves tables.moves) (phis_of (block_at P f edge.block))
 
 -- the cases of a switch, one for each
 abbrev pub are_cases : Program → Input → ℕ → ℕ → Tables → List Case → List named_case.Case → Type 0
@@ -73,7 +76,8 @@ are_cases P I f b tables [] (d ∷ ds) = ⊥
 are_cases P I f b tables (c ∷ cs) [] = ⊥
 
 -- the call is one of a defined function
-pub record IsCall (P : Program) (I : Input) (f : ℕ) (tables : Tables) (call : Call) (callee : List ℕ) (args : List Arg) (dest : Option (List ℕ)) : Type 0 where
+pub record IsCall (P : Program) (I : Input) (f : ℕ) (tables : Tables) (call : Call) (callee : List ℕ) (args : List Arg)
+    (dest : Option (List ℕ)) : Type 0 where
   pub function : Function
   pub numbered : function_number P callee ≡ Some call.function
   pub here : slice_get P.functions call.function ≡ Some function
@@ -81,5 +85,6 @@ pub record IsCall (P : Program) (I : Input) (f : ℕ) (tables : Tables) (call : 
   pub frame : call.frame ≡ length (names_at P f)
   pub size : call.size ≡ length (names_at P call.function)
   pub span : HasSpan call.arguments tables.moves
-  pub arguments : are_arguments P.globals I.base (names_at P f) (names_at P call.function) tables.constants (entries_of call.arguments tables.moves) function.params args
+  pub arguments : are_arguments P.globals I.base (names_at P f) (names_at P call.function) tables.constants
+      (entries_of call.arguments tables.moves) function.params args
   pub result : is_result (names_at P f) call.dest dest

@@ -20,7 +20,8 @@ pub record IsFixed (globals : List GlobalVar) (region : ℕ) (a : Arg) (index : 
   pub index_is : index_value a.ty (const_value globals region value) ≡ index
 
 -- an index times a scale
-pub record IsScaled (globals : List GlobalVar) (region : ℕ) (names : List (List ℕ)) (constants : List ℕ) (a : Arg) (size : ℕ) (t : Term) : Type 0 where
+pub record IsScaled (globals : List GlobalVar) (region : ℕ) (names : List (List ℕ)) (constants : List ℕ) (a : Arg)
+    (size : ℕ) (t : Term) : Type 0 where
   pub index : IsOperand globals region names constants t.index a.value
   pub width : t.width ≡ width_of a.ty
   pub scale : t.scale ≡ size
@@ -29,19 +30,25 @@ pub record IsScaled (globals : List GlobalVar) (region : ℕ) (names : List (Lis
 abbrev pub is_path : List GlobalVar → ℕ → List (List ℕ) → List ℕ → Ty → List Arg → ℕ → List Term → Type 0
 is_path globals region names constants t [] offset terms = (offset ≡ 0) × (terms ≡ [])
 is_path globals region names constants t (a ∷ rest_args) offset terms =
-    ((index : ℕ) × (p : Part) × (rest : ℕ) × IsFixed globals region a index × (enter t index ≡ Some p) × (offset ≡ p.offset + rest)
+    ((index : ℕ) × (p : Part) × (rest : ℕ) × IsFixed globals region a index × (enter t index ≡ Some p)
+    × (offset ≡ p.offset + rest)
     × is_path globals region names constants p.ty rest_args rest terms)
-    ⊎ ((n : ℕ) × (e : Ty) × (term : Term) × (rest : List Term) × IsScaled globals region names constants a (size_of e) term
-    × (out-Ty t ≡ Ty-F.Array n e) × (terms ≡ term ∷ rest) × is_path globals region names constants e rest_args offset rest)
+    ⊎ ((n : ℕ) × (e : Ty) × (term : Term) × (rest : List Term)
+    × IsScaled globals region names constants a (size_of e) term
+    × (out-Ty t ≡ Ty-F.Array n e) × (terms ≡ term ∷ rest)
+    × is_path globals region names constants e rest_args offset rest)
 
 -- the first index steps over whole values of the type
 abbrev pub is_gep : List GlobalVar → ℕ → List (List ℕ) → List ℕ → Ty → List Arg → ℕ → List Term → Type 0
 is_gep globals region names constants t [] offset terms = (offset ≡ 0) × (terms ≡ [])
 is_gep globals region names constants t (a ∷ rest_args) offset terms =
-    ((index : ℕ) × (rest : ℕ) × IsFixed globals region a index × (offset ≡ index * size_of t + rest) × is_path globals region names constants t rest_args rest terms)
-    ⊎ ((term : Term) × (rest : List Term) × IsScaled globals region names constants a (size_of t) term × (terms ≡ term ∷ rest)
+    ((index : ℕ) × (rest : ℕ) × IsFixed globals region a index × (offset ≡ index * size_of t + rest)
+    × is_path globals region names constants t rest_args rest terms)
+    ⊎ ((term : Term) × (rest : List Term) × IsScaled globals region names constants a (size_of t) term
+    × (terms ≡ term ∷ rest)
     × is_path globals region names constants t rest_args offset rest)
 
 -- the indices of a `getelementptr` of a type add this to its base
-pub record IsGep (globals : List GlobalVar) (region : ℕ) (names : List (List ℕ)) (constants : List ℕ) (t : Ty) (args : List Arg) (offset : ℕ) (terms : List Term) : Type 0 where
+pub record IsGep (globals : List GlobalVar) (region : ℕ) (names : List (List ℕ)) (constants : List ℕ) (t : Ty)
+    (args : List Arg) (offset : ℕ) (terms : List Term) : Type 0 where
   pub is : is_gep globals region names constants t args offset terms

@@ -60,8 +60,8 @@ pub enum Comparison {
     SignedLess,
 }
 
-/// An address that is worked out from a base, modulo 2^64. Scales and offsets are in bytes, and an index is sign-extended
-/// to 64 bits from its width.
+/// An address that is worked out from a base, modulo 2^64. Scales and offsets are in bytes, and an index is
+/// sign-extended to 64 bits from its width.
 #[derive(Clone, Copy)]
 pub enum Gep {
     /// The base and an offset.
@@ -141,7 +141,8 @@ pub enum Other {
     },
 }
 
-/// An op on memory, on cache lines or on the outside. Sizes and alignments are in bytes; `dest` is the slot of a result.
+/// An op on memory, on cache lines or on the outside. Sizes and alignments are in bytes; `dest` is the slot of a
+/// result.
 #[derive(Clone, Copy)]
 pub enum Memory {
     Load {
@@ -189,8 +190,8 @@ pub enum Outside {
     Read(Option<u32>),
 }
 
-/// What an edge moves into a slot, a phi's operand for the block that control comes from; or what a call moves into the slot
-/// of a parameter.
+/// What an edge moves into a slot, a phi's operand for the block that control comes from; or what a call moves into the
+/// slot of a parameter.
 #[derive(Clone, Copy)]
 pub struct Move {
     pub dest: u32,

@@ -46,7 +46,8 @@ pub fn push_in(
 ) -> Result<(), NoMemory>
     requires low { line < 2 ^ 32 }
     requires within { LINE_SIZE * line + LINE_SIZE ≤ length image.now }
-    requires few { (now_at lines.old image.now line).least + length (now_at lines.old image.now line).later + 1 < 2 ^ 63 }
+    requires few { (now_at lines.old image.now line).least + length (now_at lines.old image.now line).later + 1 < 2
+        ^ 63 }
     ensures ok { OnOk result ((j : ℕ) → now_at lines.new image.now j
         ≡ cond (j == line) (with_store stored (now_at lines.old image.now j)) (now_at lines.old image.now j)) }
     ensures err { OnErr result ((j : ℕ) → now_at lines.new image.now j ≡ now_at lines.old image.now j) }
@@ -121,7 +122,8 @@ fn is_to_be_listed(lines: &KeptLines, line: u64) -> bool
 
 // Puts a line to the others.
 fn list(flushed: &mut Vec<u64>, line: u64) -> Result<(), NoMemory>
-    ensures kept { (j : ℕ) → list_any (nat_eq j) flushed.old.items ≡ true → list_any (nat_eq j) flushed.new.items ≡ true }
+    ensures kept { (j : ℕ) → list_any (nat_eq j) flushed.old.items ≡ true
+        → list_any (nat_eq j) flushed.new.items ≡ true }
     ensures ok { OnOk result (list_any (nat_eq line) flushed.new.items ≡ true) }
 {
     match flushed.push(line) {

@@ -100,7 +100,8 @@ pub fn put_front(
     }
 }
 
-// Takes so many values away from the front, and lets room go that is more than a few values and those that are left need.
+// Takes so many values away from the front, and lets room go that is more than a few values and those that are left
+// need.
 fn drop_front(values: &mut Vec<StoredValue>, count: usize)
     requires { count ≤ length values.old.items }
     ensures { values.new.items ≡ drop count values.old.items }

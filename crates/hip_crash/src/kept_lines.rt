@@ -68,7 +68,8 @@ impl KeptLines {
     pub fn add(&mut self, line: u64, bytes: [u8; LINE_SIZE as usize]) -> Result<(), NoMemory>
         requires none { line_at self.old line ≡ None }
         requires low { line < 2 ^ 32 }
-        ensures ok { OnOk result (GivesLine (record { bytes = bytes; least = 0; later = []; flushed = 0 }) line self.old self.new) }
+        ensures ok { OnOk result (GivesLine (record { bytes = bytes; least = 0; later = []; flushed = 0 }) line self.old
+            self.new) }
         ensures err { OnErr result ((j : ℕ) → line_at self.new j ≡ line_at self.old j) }
     {
         self.directory.make_room(line)?;
@@ -127,7 +128,8 @@ fn append(lines: &mut Vec<KeptLine>, line: KeptLine) -> Result<(), NoMemory>
 
 fn push_at(lines: &mut Vec<KeptLine>, place: usize, stored: StoredValue) -> Result<(), NoMemory>
     requires within { place < length lines.old.items }
-    requires few { (x : KeptLine) → slice_get lines.old.items place ≡ Some x → x.least + length x.later.items + 1 < 2 ^ 63 }
+    requires few { (x : KeptLine) → slice_get lines.old.items place ≡ Some x
+        → x.least + length x.later.items + 1 < 2 ^ 63 }
     ensures ok { OnOk result (ChangesPlace (with_store stored) place lines.old.items lines.new.items) }
     ensures err { OnErr result (ChangesPlace (λ k. k) place lines.old.items lines.new.items) }
 {

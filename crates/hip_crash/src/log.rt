@@ -22,9 +22,9 @@ use hip_typing::Checked;
 use std::alloc::Global;
 use std::marker::Model;
 
-/// What a crash may leave in the region at each step of a run, which contracts see as the run of its program on its input,
-/// and how many steps of it were noted. It keeps of each cache line that was stored into its bytes behind the durable
-/// stores and the later stores.
+/// What a crash may leave in the region at each step of a run, which contracts see as the run of its program on its
+/// input, and how many steps of it were noted. It keeps of each cache line that was stored into its bytes behind the
+/// durable stores and the later stores.
 #[derive(Drop)]
 pub struct CrashLog<'a> {
     checked: &'a Checked,
@@ -117,8 +117,8 @@ impl<'a> CrashLog<'a> {
         self.line_bounds(line)
     }
 
-    /// The image that picks give, where a line that is not named keeps its durable stores alone; or how the first of the
-    /// picks fails that does. It takes memory of the region's size.
+    /// The image that picks give, where a line that is not named keeps its durable stores alone; or how the first of
+    /// the picks fails that does. It takes memory of the region's size.
     pub fn pick_image(&self, alloc: Global, picks: &[Pick]) -> Result<Row<u8>, PickRefusal>
         ensures image { IfOk result (λ image. image
             ≡ crash_image self.now.input (state_of self.now) (picked (state_of self.now) picks.now)) }
@@ -141,7 +141,8 @@ impl<'a> CrashLog<'a> {
         Ok(image)
     }
 
-    /// The picks of each line, ascending, that give an image, in one pass over it. None exactly where it is no crash image.
+    /// The picks of each line, ascending, that give an image, in one pass over it. None exactly where it is no crash
+    /// image.
     pub fn find_picks(&self, alloc: Global, image: &[u8]) -> Result<Option<Row<Pick>>, NoMemory>
         requires { length image.now ≡ length self.now.input.image }
         ensures { IfOk result (λ found. MatchOption found (¬ IsCrashImage self.now.input (state_of self.now) image.now)
@@ -179,7 +180,8 @@ impl<'a> CrashLog<'a> {
 
     // The numbers that picks give the lines, or how the first of them fails that does.
     fn numbers_of(&self, alloc: Global, picks: &[Pick]) -> Result<Vec<Option<u64>>, PickRefusal>
-        ensures numbers { IfOk result (λ numbers. AreNumbers (length (state_of self.now).lines) picks.now numbers.items) }
+        ensures numbers { IfOk result (λ numbers. AreNumbers
+            (length (state_of self.now).lines) picks.now numbers.items) }
         ensures fit { OnOk result (first_failure (state_of self.now) picks.now ≡ None) }
         ensures refused { IfErr result (λ refusal. IsRefusal (state_of self.now) picks.now refusal) }
     {
@@ -213,7 +215,8 @@ impl<'a> CrashLog<'a> {
     // The bytes that an image has in a line, by the number of its first parts.
     fn bytes_at(&self, line: u64, number: Option<u64>) -> [u8; LINE_SIZE as usize]
         requires line { line < length (state_of self.now).lines }
-        requires within { IsBetween (bounds_of (state_of self.now) line) (number_or (bounds_of (state_of self.now) line).least number) }
+        requires within { IsBetween (bounds_of (state_of self.now) line)
+            (number_or (bounds_of (state_of self.now) line).least number) }
         ensures { (pick : ℕ → ℕ) → pick line ≡ number_or (bounds_of (state_of self.now) line).least number →
             result ≡ take LINE_SIZE (drop (LINE_SIZE * line) (crash_image self.now.input (state_of self.now) pick)) }
     {

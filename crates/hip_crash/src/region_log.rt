@@ -128,7 +128,8 @@ impl RegionLog {
         requires { self.old.waiting ≡ waits.Nothing }
         ensures waiting { self.new.waiting ≡ waits.Store stored 0 }
         ensures seen { (image : List ℕ) → (j : ℕ) → seen_at self.new image j
-            ≡ cond (has_bytes j stored.offset stored.size) (with_store stored (seen_at self.old image j)) (seen_at self.old image j) }
+            ≡ cond (has_bytes j stored.offset stored.size) (with_store stored (seen_at self.old image j))
+            (seen_at self.old image j) }
     {
         self.waiting = Waiting::Store { stored, from: 0 };
     }
@@ -162,7 +163,8 @@ impl RegionLog {
         requires fits { offset + len < 2 ^ 40 }
         ensures waiting { self.new.waiting ≡ waits.Nothing }
         ensures seen { (image : List ℕ) → (j : ℕ) → seen_at self.new image j
-            ≡ with_fence j (cond (has_bytes j offset len) (with_flush (seen_at self.old image j)) (seen_at self.old image j)) }
+            ≡ with_fence j (cond (has_bytes j offset len) (with_flush (seen_at self.old image j))
+            (seen_at self.old image j)) }
     {
         persist_in(&mut self.lines, offset, len);
         self.note_fence();

@@ -8,7 +8,8 @@ use crate::kept_line::put_front;
 use crate::values::{StoredValue, put_value};
 use hip_lines::LINE_SIZE;
 
-/// The bytes of a line behind its durable stores, how many these are, and the later ones, of which the last may stand apart.
+/// The bytes of a line behind its durable stores, how many these are, and the later ones, of which the last may stand
+/// apart.
 #[derive(Drop)]
 pub struct LineView<'a> {
     pub bytes: [u8; LINE_SIZE as usize],
@@ -42,12 +43,15 @@ impl<'a> LineView<'a> {
         bytes
     }
 
-    /// After how many of the later stores the line's bytes, whose first one has this offset, are these, if they ever are.
+    /// After how many of the later stores the line's bytes, whose first one has this offset, are these, if they ever
+    /// are.
     pub fn find(&self, start: u64, wanted: &[u8]) -> Option<usize>
         requires start { start < 2 ^ 40 }
         ensures { MatchOption result
-            ((q : ℕ) → q ≤ length (later_in self.now) → bytes_after (take q (later_in self.now)) start self.now.bytes ≢ wanted.now)
-            (λ q. (q ≤ length (later_in self.now)) × (bytes_after (take q (later_in self.now)) start self.now.bytes ≡ wanted.now)) }
+            ((q : ℕ) → q ≤ length (later_in self.now)
+            → bytes_after (take q (later_in self.now)) start self.now.bytes ≢ wanted.now)
+            (λ q. (q ≤ length (later_in self.now))
+            × (bytes_after (take q (later_in self.now)) start self.now.bytes ≡ wanted.now)) }
     {
         let mut bytes = self.bytes;
         'stores: for place in 0..self.later.len() {

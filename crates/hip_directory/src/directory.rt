@@ -6,8 +6,8 @@ use crate::GROUP_SIZE;
 use hip_types::NoMemory;
 use std::alloc::Global;
 
-/// A number for each key, which is 0 until one is set. It takes memory for the groups of keys that room was made for, and
-/// four bytes for each group below the last of them.
+/// A number for each key, which is 0 until one is set. It takes memory for the groups of keys that room was made for,
+/// and four bytes for each group below the last of them.
 #[derive(Drop)]
 pub struct Directory {
     // For each group of keys where its entries lie, counted in groups; 0 where none were made.
@@ -121,7 +121,8 @@ fn add_group(groups: &mut Vec<u32>, entries: &mut Vec<u32>, at: usize) -> Result
     requires table { IsTable groups.old.items entries.old.items }
     requires none { slice_index groups.old.items at ≡ 0 }
     ensures table { IsTable groups.new.items entries.new.items }
-    ensures same { (j : ℕ) → number_in groups.new.items entries.new.items j ≡ number_in groups.old.items entries.old.items j }
+    ensures same { (j : ℕ) → number_in groups.new.items entries.new.items j
+        ≡ number_in groups.old.items entries.old.items j }
     ensures kept { (j : ℕ) → 0 < slice_index groups.old.items j → 0 < slice_index groups.new.items j }
     ensures ok { OnOk result (0 < slice_index groups.new.items at) }
 {

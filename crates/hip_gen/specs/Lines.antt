@@ -31,7 +31,8 @@ flush_line element = codes "  call void @llvm.x86.clwb(ptr " ++ (element ++ code
 
 -- `call void @put(ptr ELEMENT, i64 VALUE)`
 abbrev pub put_line : List ℕ → ℕ → List ℕ
-put_line element value = codes "  call void @put(ptr " ++ (element ++ (codes ", i64 " ++ (decimal value ++ codes ")\n")))
+put_line element value =
+    codes "  call void @put(ptr " ++ (element ++ (codes ", i64 " ++ (decimal value ++ codes ")\n")))
 
 -- the lines of a group, by its kind
 abbrev pub group_lines : ℕ → ℕ → Kind → List ℕ

@@ -14,13 +14,15 @@ module _ {P : Type 0} (covers : P → ℕ → Bool) (value : P → ℕ → ℕ) 
   pub record IsLineImageAt (first r : List ℕ) (j : ℕ) (l : Line P) (q : ℕ) : Type 0 where
     pub least : l.durable ≤ q
     pub most : q ≤ length l.parts
-    pub bytes : (b : ℕ) → LINE_SIZE * j ≤ b → b < LINE_SIZE * j + LINE_SIZE → slice_index r b ≡ byte_after (take q l.parts) b (slice_index first b)
+    pub bytes : (b : ℕ) → LINE_SIZE * j ≤ b → b < LINE_SIZE * j + LINE_SIZE
+        → slice_index r b ≡ byte_after (take q l.parts) b (slice_index first b)
 
   -- in line j the content r is one that a crash may leave
   abbrev pub IsLineImage : List ℕ → List ℕ → ℕ → Line P → Type 0
   IsLineImage first r j l = (q : ℕ) × IsLineImageAt first r j l q
 
-  -- a crash leaves, for each line by itself, the initial bytes changed by some first parts of its list, all durable ones among them
+  -- a crash leaves, for each line by itself, the initial bytes changed by some first parts of its list, all durable
+  -- ones among them
   pub record IsImage (first : List ℕ) (ls : List (Line P)) (r : List ℕ) : Type 0 where
     pub whole : length r ≡ length first
     pub lines : (j : ℕ) (l : Line P) → slice_get ls j ≡ Some l → IsLineImage first r j l
@@ -33,7 +35,9 @@ module _ {P : Type 0} (covers : P → ℕ → Bool) (value : P → ℕ → ℕ) 
   -- the content that a pick gives, from byte b on: in each line that many of its parts
   abbrev pub image_from : List (Line P) → (ℕ → ℕ) → ℕ → List ℕ → List ℕ
   image_from ls pick b [] = []
-  image_from ls pick b (x ∷ xs) = byte_after (take (pick (b / LINE_SIZE)) (parts_of (slice_get ls (b / LINE_SIZE)))) b x ∷ image_from ls pick (suc b) xs
+  image_from ls pick b (x ∷ xs) =
+      byte_after (take (pick (b / LINE_SIZE)) (parts_of (slice_get ls (b / LINE_SIZE)))) b x
+      ∷ image_from ls pick (suc b) xs
 
   abbrev pub image_of : List (Line P) → (ℕ → ℕ) → List ℕ → List ℕ
   image_of ls pick first = image_from ls pick 0 first

@@ -57,7 +57,8 @@ pub record ChangesLine (change : Pending Part → Pending Part) (line : ℕ) (ol
 
 -- the lines of a range are flushed, and nothing else is changed
 pub record FlushesLines (o n : ℕ) (old new : Queues) : Type 0 where
-  pub pending : (j : ℕ) → pending_at new j ≡ cond (has_bytes j o n) (pending_flushed (pending_at old j)) (pending_at old j)
+  pub pending : (j : ℕ) → pending_at new j ≡ cond (has_bytes j o n) (pending_flushed (pending_at old j))
+      (pending_at old j)
   pub below : (k : ℕ) → AreBelow k old → AreBelow k new
   pub count : count_of new ≡ count_of old
 

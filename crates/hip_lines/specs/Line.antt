@@ -1,10 +1,10 @@
 -- Cache lines of a persistent region.
 --
--- A line is 64 bytes at a multiple of 64. A part of a store is its bytes in one line. Each line keeps its parts in the order
--- of their stores, a flushed number and a durable number. A store appends each of its parts to that part's line, a flush
--- sets the flushed number of a line to the length of its list, and a fence sets the durable number of every line to its
--- flushed number. After Intel's Software Developer's Manual: CLWB and CLFLUSHOPT act on the line that contains the address,
--- are ordered after older stores to that line, and need a later fence.
+-- A line is 64 bytes at a multiple of 64. A part of a store is its bytes in one line. Each line keeps its parts in the
+-- order of their stores, a flushed number and a durable number. A store appends each of its parts to that part's line,
+-- a flush sets the flushed number of a line to the length of its list, and a fence sets the durable number of every
+-- line to its flushed number. After Intel's Software Developer's Manual: CLWB and CLFLUSHOPT act on the line that
+-- contains the address, are ordered after older stores to that line, and need a later fence.
 use Rattle.std.specs.Prelude.{ℕ, suc, ◌+◌, ◌*◌, ◌≤◌, Bool, cond, nat_lt, min, max, List, [], ◌∷◌, ◌++◌, length, map, replicate}
 use Rattle.hip_lines.specs.declared.TheConstants.{LINE_SIZE}
 

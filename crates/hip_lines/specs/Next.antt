@@ -16,7 +16,8 @@ NoneLoose w from to = (b : ℕ) → from ≤ b → b < to → loose_in w b ≡ N
 -- the first loose byte from `from` up to `to`, if there is one
 abbrev pub IsFirstLoose : Pending Part → ℕ → ℕ → Option LooseByte → Type 0
 IsFirstLoose w from to None = NoneLoose w from to
-IsFirstLoose w from to (Some f) = (from ≤ f.offset) × (f.offset < to) × (loose_in w f.offset ≡ Some f) × NoneLoose w from f.offset
+IsFirstLoose w from to (Some f) =
+    (from ≤ f.offset) × (f.offset < to) × (loose_in w f.offset ≡ Some f) × NoneLoose w from f.offset
 
 -- the loose bytes of the n bytes from offset o, ascending
 abbrev pub loose_of : Queues → ℕ → ℕ → List LooseByte
@@ -40,4 +41,5 @@ IsQueueFrom m from to (Some q) = (queue_at m q.line ≡ Some q) × (from ≤ q.l
 abbrev pub IsNextQueue : Queues → ℕ → ℕ → Option Queue → Type 0
 IsNextQueue m at to None = NoQueues m (at / LINE_SIZE) to
 IsNextQueue m at to (Some q) =
-    (queue_at m q.line ≡ Some q) × (at ≤ LINE_SIZE * q.line + LINE_SIZE) × (q.line < to) × NoQueues m (at / LINE_SIZE) q.line
+    (queue_at m q.line ≡ Some q) × (at ≤ LINE_SIZE * q.line + LINE_SIZE) × (q.line < to)
+    × NoQueues m (at / LINE_SIZE) q.line

@@ -1,4 +1,5 @@
--- What is kept of a line where durable parts are let go: the parts from the durable number on, and how many of these are flushed.
+-- What is kept of a line where durable parts are let go: the parts from the durable number on, and how many of these
+-- are flushed.
 use Rattle.std.specs.Prelude.{ℕ, ◌-◌, List, [], ◌∷◌, ◌++◌, length, drop}
 use Rattle.hip_lines.specs.Line.{Line}
 

@@ -31,7 +31,8 @@ pub record KeepsOthers (place : ℕ) (old new : List Queue) : Type 0 where
 pub record ChangesPlace (change : Pending Part → Pending Part) (place : ℕ) (old new : List Queue) : Type 0 where
   pub others : (k : ℕ) → k ≢ place → slice_get new k ≡ slice_get old k
   pub count : length new ≡ length old
-  pub here : (q : Queue) → slice_get old place ≡ Some q → (r : Queue) × (slice_get new place ≡ Some r) × (r.line ≡ q.line) × (pending_in r ≡ change (pending_in q))
+  pub here : (q : Queue) → slice_get old place ≡ Some q → (r : Queue) × (slice_get new place ≡ Some r)
+      × (r.line ≡ q.line) × (pending_in r ≡ change (pending_in q))
 
 -- at a place, counted from 0, stands an empty queue of line `number` that has room for a part
 pub record IsFreshAt (number place : ℕ) (qs : List Queue) : Type 0 where

@@ -110,7 +110,9 @@ pub fn push_in(queues: &mut Queues, offset: u64, size: u32, tag: u128)
     requires some { 0 < size }
     requires fits { offset + size < 2 ^ 64 - LINE_SIZE }
     requires room { HasRoomFor queues.old (Some (offset, size)) }
-    ensures pending { (j : ℕ) → pending_at queues.new j ≡ cond (has_bytes j offset size) (pending_with (part_in offset size tag j) (pending_at queues.old j)) (pending_at queues.old j) }
+    ensures pending { (j : ℕ) → pending_at queues.new j
+        ≡ cond (has_bytes j offset size) (pending_with (part_in offset size tag j) (pending_at queues.old j))
+        (pending_at queues.old j) }
     ensures below { (n : ℕ) → AreBelow n queues.old → AreBelow n queues.new }
     ensures count { count_of queues.new ≡ count_of queues.old }
 {

@@ -133,7 +133,8 @@ fn set_marks(marks: &mut [u32], from: usize, to: usize, mark: u32)
     requires forward { from ≤ to }
     requires within { to ≤ length marks.old }
     ensures len { length marks.new ≡ length marks.old }
-    ensures marks { (i : ℕ) → slice_index marks.new i ≡ cond (nat_le from i && nat_lt i to) mark (slice_index marks.old i) }
+    ensures marks { (i : ℕ) → slice_index marks.new i
+        ≡ cond (nat_le from i && nat_lt i to) mark (slice_index marks.old i) }
 {
     for i in from..to {
         marks[i] = mark;

@@ -153,7 +153,8 @@ impl Queues {
 fn make_room_at(queues: &mut Vec<Queue>, place: usize) -> Result<(), NoMemory>
     requires { place < length queues.old.items }
     ensures changes { ChangesPlace (λ w. w) place queues.old.items queues.new.items }
-    ensures kept { (q r : Queue) → slice_get queues.old.items place ≡ Some q → slice_get queues.new.items place ≡ Some r → HasRoom q → HasRoom r }
+    ensures kept { (q r : Queue) → slice_get queues.old.items place ≡ Some q → slice_get queues.new.items place ≡ Some r
+        → HasRoom q → HasRoom r }
     ensures ok { OnOk result ((r : Queue) → slice_get queues.new.items place ≡ Some r → HasRoom r) }
 {
     let queue = &mut queues[place];
@@ -164,7 +165,8 @@ fn push_at(queues: &mut Vec<Queue>, place: usize, part: Part)
     requires within { place < length queues.old.items }
     requires room { (q : Queue) → slice_get queues.old.items place ≡ Some q → HasRoom q }
     requires first { (q : Queue) → slice_get queues.old.items place ≡ Some q → part.offset / LINE_SIZE ≡ q.line }
-    requires last { (q : Queue) → slice_get queues.old.items place ≡ Some q → part.offset + part.size ≤ LINE_SIZE * q.line + LINE_SIZE }
+    requires last { (q : Queue) → slice_get queues.old.items place ≡ Some q
+        → part.offset + part.size ≤ LINE_SIZE * q.line + LINE_SIZE }
     ensures { ChangesPlace (pending_with part) place queues.old.items queues.new.items }
 {
     let queue = &mut queues[place];
@@ -255,7 +257,8 @@ fn append(
     line: u64,
 ) -> Result<u32, NoMemory>
     ensures kept { KeepsOthers (length queues.old.items) queues.old.items queues.new.items }
-    ensures ok { IfOk result (λ p. (p ≡ length queues.old.items + 1) × IsFreshAt line (length queues.old.items) queues.new.items) }
+    ensures ok { IfOk result (λ p. (p ≡ length queues.old.items + 1)
+        × IsFreshAt line (length queues.old.items) queues.new.items) }
 {
     let count = queues.len() + 1;
     if count > u32::MAX as usize {

@@ -65,7 +65,8 @@ abbrev pub ReadsBase : Program → CabinetState → ReaderState → CabinetState
 ReadsBase P start r s limit (Ok base) = HasBase P start r s limit base
 ReadsBase P start r s limit (Err refusal) = Refuses P r start s refusal
 
-abbrev pub ReadsValues : Program → CabinetState → ReaderState → CabinetState → Input → Result Lockstep ReplayRefusal → Type 0
+abbrev pub ReadsValues : Program → CabinetState → ReaderState → CabinetState → Input → Result Lockstep ReplayRefusal
+    → Type 0
 ReadsValues P start r s given (Ok behind) = HasAllGiven P start r s given behind
 ReadsValues P start r s given (Err refusal) = Refuses P r start s refusal
 

@@ -31,7 +31,8 @@ pub record IsRead (bytes : List ℕ) (entries : List Entry) (ahead : Option (Lis
   pub spells : StopsAtSeparator text entries ⊎ StopsAtEnd text entries left
 
 -- A reader has read these entries since a cabinet stood in a state, and nothing failed.
-pub record HasReadEntries (start : CabinetState) (r : ReaderState) (s : CabinetState) (entries : List Entry) : Type 0 where
+pub record HasReadEntries (start : CabinetState) (r : ReaderState) (s : CabinetState)
+    (entries : List Entry) : Type 0 where
   pub reading : IsReading start s
   pub progress : r.progress ≡ Reading
   pub count : r.count ≡ length entries

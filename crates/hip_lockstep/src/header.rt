@@ -12,8 +12,8 @@ use hip_io::{Sink, WriteFault};
 use hip_runs::Input;
 use hip_trace::{Entry, write_entry};
 
-/// Writes START and REGISTER, an INPUT for each number, and an IMAGE for each cache line of the initial region that has a
-/// byte other than 0, and answers how many entries these are.
+/// Writes START and REGISTER, an INPUT for each number, and an IMAGE for each cache line of the initial region that has
+/// a byte other than 0, and answers how many entries these are.
 pub fn put_header<S: Sink>(input: &Input, out: &mut S) -> Result<u128, WriteFault>
     requires { input.now.base + length input.now.image < 2 ^ 64 }
     ensures wrote { Wrote (S.state out.old) (S.state out.new) (lines_of (header_of input.now)) result }
@@ -35,7 +35,8 @@ pub fn put_header<S: Sink>(input: &Input, out: &mut S) -> Result<u128, WriteFaul
 
 fn put_start<S: Sink>(input: &Input, out: &mut S) -> Result<(), WriteFault>
     ensures { Wrote (S.state out.old) (S.state out.new)
-        (lines_of (entries.Start input.now.limit ∷ entries.Register input.now.base (length input.now.image) ∷ [])) result }
+        (lines_of (entries.Start input.now.limit ∷ entries.Register input.now.base (length input.now.image) ∷ []))
+        result }
 {
     match write_entry(&Entry::Start { limit: input.limit }, out) {
         Ok(()) => {}

@@ -21,8 +21,9 @@ pub struct Lockstep {
 }
 
 impl Lockstep {
-    /// Compares the entry of the next step, which has this event, with the one that was read, and reads the next one; a step
-    /// without an entry reads nothing. Where the step ends the run, the file is to end too, and the ending is answered.
+    /// Compares the entry of the next step, which has this event, with the one that was read, and reads the next one; a
+    /// step without an entry reads nothing. Where the step ends the run, the file is to end too, and the ending is
+    /// answered.
     #[inline(always)]
     pub fn meet<C: Cabinet>(
         &mut self,
@@ -33,7 +34,8 @@ impl Lockstep {
         requires room { self.old.entries + 2 < 2 ^ 128 }
         requires current { IsTrue (C.state cabinet.old).is_current }
         requires reading { reader.old.progress ≡ Reading }
-        ensures meets { Meets event self.old self.new reader.old reader.new (C.state cabinet.old) (C.state cabinet.new) result }
+        ensures meets { Meets event self.old self.new reader.old reader.new (C.state cabinet.old)
+            (C.state cabinet.new) result }
         ensures current { IsTrue (C.state cabinet.new).is_current }
     {
         match entry_of_event(event) {
@@ -54,7 +56,8 @@ impl Lockstep {
         requires room { self.old.entries + 2 < 2 ^ 128 }
         requires current { IsTrue (C.state cabinet.old).is_current }
         requires reading { reader.old.progress ≡ Reading }
-        ensures meets { Meets event self.old self.new reader.old reader.new (C.state cabinet.old) (C.state cabinet.new) result }
+        ensures meets { Meets event self.old self.new reader.old reader.new (C.state cabinet.old)
+            (C.state cabinet.new) result }
         ensures current { IsTrue (C.state cabinet.new).is_current }
     {
         if !made.same(&self.next) {

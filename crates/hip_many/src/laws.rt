@@ -7,8 +7,8 @@ ghost use Rattle.hip_repairs.specs.Suits.{no_repairs};
 ghost use Rattle.hip_repairs.specs.declared.plan.Plan.{Plan};
 ghost use Rattle.hip_many.specs.Union.{IsUnion};
 
-/// Plans have one union. That of no plans is the empty plan, and that of two plans of a program is the union that is defined by the
-/// program's sites.
+/// Plans have one union. That of no plans is the empty plan, and that of two plans of a program is the union that is
+/// defined by the program's sites.
 pub fn unions_are_one()
     ensures one { (plans : List Plan) → (a b : Plan) → IsUnion plans a → IsUnion plans b → a ≡ b }
     ensures none { IsUnion [] no_repairs }

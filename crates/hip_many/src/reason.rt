@@ -63,8 +63,8 @@ fn add_reasons(
     Ok(())
 }
 
-/// A reason for each site of a plan that is the union of others: for those of `flush_after`, then of `fence_after`, then of
-/// `hoist`. It holds of any plan.
+/// A reason for each site of a plan that is the union of others: for those of `flush_after`, then of `fence_after`,
+/// then of `hoist`. It holds of any plan.
 ///
 /// Time and memory are linear in the plans.
 pub fn reasons(alloc: Global, plans: &[Plan], plan: &Plan) -> Result<Row<Reason>, NoMemory>

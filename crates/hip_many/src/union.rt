@@ -31,8 +31,8 @@ fn add_all(set: &mut SiteSet, sites: &[Site]) -> Result<(), NoMemory>
     Ok(())
 }
 
-/// The union of plans, list by list; of no plans it is the empty plan. It has each of them, it suits each program that all of them
-/// suit, and a program that is repaired by it is clean on the input of each run whose plan is among them.
+/// The union of plans, list by list; of no plans it is the empty plan. It has each of them, it suits each program that
+/// all of them suit, and a program that is repaired by it is clean on the input of each run whose plan is among them.
 ///
 /// Time is linear in the plans, but that sites are sorted; memory is linear in the union.
 pub fn plan_many(alloc: Global, plans: &[Plan]) -> Result<Plan, NoMemory>

@@ -38,7 +38,9 @@ are_valid r a (suc n) = is_valid r a && are_valid r (suc a) n
 
 -- the byte at a valid address
 abbrev pub byte_in : Areas → ℕ → ℕ
-byte_in r a = cond (is_in volatile_start r.volatile a) (slice_index r.volatile (a - volatile_start)) (cond (is_in stack_start r.stack a) (slice_index r.stack (a - stack_start)) (slice_index r.region (a - r.base)))
+byte_in r a =
+    cond (is_in volatile_start r.volatile a) (slice_index r.volatile (a - volatile_start))
+    (cond (is_in stack_start r.stack a) (slice_index r.stack (a - stack_start)) (slice_index r.region (a - r.base)))
 
 abbrev pub bytes_in : Areas → ℕ → ℕ → List ℕ
 bytes_in r a zero = []
@@ -62,7 +64,13 @@ area_written w start [] = []
 area_written w start (x ∷ xs) = byte_written w start x ∷ area_written w (suc start) xs
 
 abbrev pub after_write : Write → Areas → Areas
-after_write w r = record { base = r.base; volatile = area_written w volatile_start r.volatile; stack = area_written w stack_start r.stack; region = area_written w r.base r.region }
+after_write w r =
+    record {
+      base = r.base;
+      volatile = area_written w volatile_start r.volatile;
+      stack = area_written w stack_start r.stack;
+      region = area_written w r.base r.region;
+    }
 
 -- the address of a new stack block of an alignment, and the mark after it
 abbrev pub block_address : Areas → ℕ → ℕ
@@ -73,10 +81,12 @@ pushed_mark r size align = block_address r align + size
 
 -- the bytes up to a new mark are zeros
 abbrev pub after_push : ℕ → Areas → Areas
-after_push mark r = record { base = r.base; volatile = r.volatile; stack = r.stack ++ zeros (mark - mark_of r); region = r.region }
+after_push mark r =
+    record { base = r.base; volatile = r.volatile; stack = r.stack ++ zeros (mark - mark_of r); region = r.region }
 
 abbrev pub after_pop : ℕ → Areas → Areas
-after_pop mark r = record { base = r.base; volatile = r.volatile; stack = take (mark - stack_start) r.stack; region = r.region }
+after_pop mark r =
+    record { base = r.base; volatile = r.volatile; stack = take (mark - stack_start) r.stack; region = r.region }
 
 -- the areas hold a memory's bytes
 pub record Holds (r : Areas) (m : Memory) : Type 0 where

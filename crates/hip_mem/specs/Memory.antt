@@ -42,7 +42,9 @@ abbrev pub is_in : ℕ → List ℕ → ℕ → Bool
 is_in start xs a = nat_le start a && nat_lt a (start + length xs)
 
 abbrev pub initial_byte : Memory → ℕ → ℕ
-initial_byte m a = cond (is_in volatile_start m.volatile a) (slice_index m.volatile (a - volatile_start)) (cond (is_in m.base m.region a) (slice_index m.region (a - m.base)) 0)
+initial_byte m a =
+    cond (is_in volatile_start m.volatile a) (slice_index m.volatile (a - volatile_start))
+    (cond (is_in m.base m.region a) (slice_index m.region (a - m.base)) 0)
 
 abbrev pub byte_at : Memory → ℕ → ℕ
 byte_at m a = byte_from m.writes a (initial_byte m a)

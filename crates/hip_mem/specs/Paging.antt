@@ -9,8 +9,8 @@ use Rattle.hip_mem.specs.declared.keys.TheConstants.{STACK_PAGE, STACK_PAGES, VO
 abbrev pub is_among : ℕ → ℕ → ℕ → Bool
 is_among start count n = nat_le start n && nat_lt n (start + count)
 
--- the key of page n, where the region begins with page `region`: the stack's pages come first, then those of the volatile
--- globals, those of the region, and all others
+-- the key of page n, where the region begins with page `region`: the stack's pages come first, then those of the
+-- volatile globals, those of the region, and all others
 unfoldable pub key_of : ℕ → ℕ → ℕ
 key_of region n =
     cond (is_among STACK_PAGE STACK_PAGES n) (n - STACK_PAGE)

@@ -12,7 +12,13 @@ unfoldable pub area : Pages → ℕ → ℕ → List ℕ
 area m start n = page_bytes m start n
 
 abbrev pub areas_of : Inside → Areas
-areas_of s = record { base = s.base; volatile = area s.pages volatile_start s.volatile; stack = area s.pages stack_start (s.mark - stack_start); region = area s.pages s.base s.region }
+areas_of s =
+    record {
+      base = s.base;
+      volatile = area s.pages volatile_start s.volatile;
+      stack = area s.pages stack_start (s.mark - stack_start);
+      region = area s.pages s.base s.region;
+    }
 
 pub record IsRam (s : Inside) : Type 0 where
   pub low : 2 ^ 32 ≤ s.base

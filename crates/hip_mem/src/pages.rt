@@ -79,7 +79,9 @@ impl Pages {
         requires number { number < 2 ^ 63 }
         requires made { IsMade self.old number }
         requires within { at + length bytes.now ≤ PAGE_SIZE }
-        ensures bytes { (i : ℕ) → i < PAGE_SIZE → byte_of self.new number i ≡ cond (nat_le at i && nat_lt i (at + length bytes.now)) (slice_index bytes.now (i - at)) (byte_of self.old number i) }
+        ensures bytes { (i : ℕ) → i < PAGE_SIZE → byte_of self.new number i
+            ≡ cond (nat_le at i && nat_lt i (at + length bytes.now)) (slice_index bytes.now (i - at))
+            (byte_of self.old number i) }
         ensures others { (n i : ℕ) → n ≢ number → i < PAGE_SIZE → byte_of self.new n i ≡ byte_of self.old n i }
         ensures made { (n : ℕ) → place_of self.new n ≡ place_of self.old n }
     {
@@ -94,7 +96,8 @@ impl Pages {
         requires made { IsMade self.old number }
         requires forward { from ≤ to }
         requires within { to ≤ PAGE_SIZE }
-        ensures bytes { (i : ℕ) → i < PAGE_SIZE → byte_of self.new number i ≡ cond (nat_le from i && nat_lt i to) 0 (byte_of self.old number i) }
+        ensures bytes { (i : ℕ) → i < PAGE_SIZE → byte_of self.new number i
+            ≡ cond (nat_le from i && nat_lt i to) 0 (byte_of self.old number i) }
         ensures others { (n i : ℕ) → n ≢ number → i < PAGE_SIZE → byte_of self.new n i ≡ byte_of self.old n i }
         ensures made { (n : ℕ) → place_of self.new n ≡ place_of self.old n }
     {
@@ -208,7 +211,8 @@ impl Pages {
     pub fn write(&mut self, addr: u64, bytes: &[u8]) -> Result<(), NoMemory>
         requires few { length bytes.now ≤ 8 }
         requires fits { addr + 8192 < 2 ^ 64 }
-        ensures ok { OnOk result ((a : ℕ) → page_byte self.new a ≡ byte_written (record { addr = addr; bytes = bytes.now }) a (page_byte self.old a)) }
+        ensures ok { OnOk result ((a : ℕ) → page_byte self.new a
+            ≡ byte_written (record { addr = addr; bytes = bytes.now }) a (page_byte self.old a)) }
         ensures err { OnErr result ((a : ℕ) → page_byte self.new a ≡ page_byte self.old a) }
     {
         let at = (addr % PAGE_SIZE) as usize;
@@ -226,7 +230,8 @@ impl Pages {
         requires few { length bytes.now ≤ 8 }
         requires two { PAGE_SIZE < addr % PAGE_SIZE + length bytes.now }
         requires fits { addr + 8192 < 2 ^ 64 }
-        ensures ok { OnOk result ((a : ℕ) → page_byte self.new a ≡ byte_written (record { addr = addr; bytes = bytes.now }) a (page_byte self.old a)) }
+        ensures ok { OnOk result ((a : ℕ) → page_byte self.new a
+            ≡ byte_written (record { addr = addr; bytes = bytes.now }) a (page_byte self.old a)) }
         ensures err { OnErr result ((a : ℕ) → page_byte self.new a ≡ page_byte self.old a) }
     {
         let at = (addr % PAGE_SIZE) as usize;
@@ -265,7 +270,8 @@ impl Pages {
         requires aligned { start % PAGE_SIZE ≡ 0 }
         requires fits { start + length bytes.now + 8192 < 2 ^ 64 }
         requires zeros { (a : ℕ) → start ≤ a → a < start + length bytes.now → page_byte self.old a ≡ 0 }
-        ensures { OnOk result ((a : ℕ) → page_byte self.new a ≡ byte_written (record { addr = start; bytes = bytes.now }) a (page_byte self.old a)) }
+        ensures { OnOk result ((a : ℕ) → page_byte self.new a
+            ≡ byte_written (record { addr = start; bytes = bytes.now }) a (page_byte self.old a)) }
     {
         let mut done = 0;
         while done < bytes.len() {
@@ -281,7 +287,8 @@ impl Pages {
         requires aligned { addr % PAGE_SIZE ≡ 0 }
         requires few { length bytes.now ≤ PAGE_SIZE }
         requires zeros { (a : ℕ) → addr ≤ a → a < addr + length bytes.now → page_byte self.old a ≡ 0 }
-        ensures { OnOk result ((a : ℕ) → page_byte self.new a ≡ byte_written (record { addr = addr; bytes = bytes.now }) a (page_byte self.old a)) }
+        ensures { OnOk result ((a : ℕ) → page_byte self.new a
+            ≡ byte_written (record { addr = addr; bytes = bytes.now }) a (page_byte self.old a)) }
     {
         if is_zero(bytes) {
             return Ok(());
@@ -305,7 +312,8 @@ fn append_page(
     requires absent { number_at directory.old key ≡ 0 }
     ensures pages { ArePages directory.new bytes.new.items }
     ensures clean { AreClean dirty.new.items bytes.new.items }
-    ensures same { (k i : ℕ) → i < PAGE_SIZE → slice_index bytes.new.items (PAGE_SIZE * number_at directory.new k + i) ≡ slice_index bytes.old.items (PAGE_SIZE * number_at directory.old k + i) }
+    ensures same { (k i : ℕ) → i < PAGE_SIZE → slice_index bytes.new.items (PAGE_SIZE * number_at directory.new k + i)
+        ≡ slice_index bytes.old.items (PAGE_SIZE * number_at directory.old k + i) }
     ensures kept { (k : ℕ) → 0 < number_at directory.old k → 0 < number_at directory.new k }
     ensures ok { OnOk result (0 < number_at directory.new key) }
 {
@@ -336,7 +344,8 @@ fn extend_to(dirty: &mut Vec<bool>, len: usize) -> Result<(), NoMemory>
 // Notes whether a page may have other bytes than 0.
 #[inline(always)]
 fn mark(dirty: &mut [bool], place: usize, is_dirty: bool)
-    ensures { (n : ℕ) → slice_index_or dirty.new n true ≡ false → ((n ≡ place) × (is_dirty ≡ false)) ⊎ ((n ≢ place) × (slice_index_or dirty.old n true ≡ false)) }
+    ensures { (n : ℕ) → slice_index_or dirty.new n true ≡ false → ((n ≡ place) × (is_dirty ≡ false))
+        ⊎ ((n ≢ place) × (slice_index_or dirty.old n true ≡ false)) }
 {
     if place >= dirty.len() {
         return;
@@ -418,7 +427,9 @@ fn copy_bytes(into: &mut [u8], bytes: &[u8], from: usize, size: usize)
 fn put(area: &mut [u8], at: usize, bytes: &[u8])
     requires { at + length bytes.now ≤ length area.old }
     ensures len { length area.new ≡ length area.old }
-    ensures bytes { (i : ℕ) → slice_index area.new i ≡ cond (nat_le at i && nat_lt i (at + length bytes.now)) (slice_index bytes.now (i - at)) (slice_index area.old i) }
+    ensures bytes { (i : ℕ) → slice_index area.new i
+        ≡ cond (nat_le at i && nat_lt i (at + length bytes.now)) (slice_index bytes.now (i - at))
+        (slice_index area.old i) }
 {
     match bytes.len() {
         8 => put_bytes(area, at, &bytes[..8]),
@@ -433,7 +444,9 @@ fn put(area: &mut [u8], at: usize, bytes: &[u8])
 fn put_bytes(area: &mut [u8], at: usize, bytes: &[u8])
     requires { at + length bytes.now ≤ length area.old }
     ensures len { length area.new ≡ length area.old }
-    ensures bytes { (i : ℕ) → slice_index area.new i ≡ cond (nat_le at i && nat_lt i (at + length bytes.now)) (slice_index bytes.now (i - at)) (slice_index area.old i) }
+    ensures bytes { (i : ℕ) → slice_index area.new i
+        ≡ cond (nat_le at i && nat_lt i (at + length bytes.now)) (slice_index bytes.now (i - at))
+        (slice_index area.old i) }
 {
     area[at..at + bytes.len()].copy_from_slice(bytes);
 }

@@ -45,7 +45,12 @@ impl Ram {
         requires aligned { base % 4096 ≡ 0 }
         requires volatile { length volatile.now ≤ LARGEST_VOLATILE }
         requires region { length region.now ≤ LARGEST_REGION }
-        ensures { IfOk result (λ ram. ram ≡ record { base = base; volatile = volatile.now; stack = []; region = region.now }) }
+        ensures { IfOk result (λ ram. ram ≡ record {
+          base = base;
+          volatile = volatile.now;
+          stack = [];
+          region = region.now;
+        }) }
     {
         let mut pages = Pages::new(alloc, base)?;
         pages.fill(VOLATILE_START, volatile)?;
@@ -85,10 +90,13 @@ impl Ram {
         requires some { 0 < size }
         requires few { size ≤ 8 }
         requires align { 0 < align }
-        ensures ok { OnOk result ((access_trap self.old addr size align ≡ None) × (self.new ≡ after_write (record { addr = addr; bytes = bytes_of size value }) self.old)) }
+        ensures ok { OnOk result ((access_trap self.old addr size align ≡ None)
+            × (self.new ≡ after_write (record { addr = addr; bytes = bytes_of size value }) self.old)) }
         ensures err { OnErr result (self.new ≡ self.old) }
-        ensures misaligned { (result ≡ Err StoreRefusal.Misaligned) ↔ (access_trap self.old addr size align ≡ Some MemTrap.Misaligned) }
-        ensures bad_address { (result ≡ Err StoreRefusal.BadAddress) ↔ (access_trap self.old addr size align ≡ Some MemTrap.BadAddress) }
+        ensures misaligned { (result ≡ Err StoreRefusal.Misaligned) ↔
+            (access_trap self.old addr size align ≡ Some MemTrap.Misaligned) }
+        ensures bad_address { (result ≡ Err StoreRefusal.BadAddress) ↔
+            (access_trap self.old addr size align ≡ Some MemTrap.BadAddress) }
     {
         match self.access_trap(addr, size, align) {
             Some(MemTrap::Misaligned) => Err(StoreRefusal::Misaligned),
@@ -107,8 +115,8 @@ impl Ram {
         self.are_valid(addr, 1)
     }
 
-    /// Whether the `len` bytes from the address on are all valid; of no bytes it is true at any address. A range does not wrap:
-    /// what would lie past the last address is not valid.
+    /// Whether the `len` bytes from the address on are all valid; of no bytes it is true at any address. A range does
+    /// not wrap: what would lie past the last address is not valid.
     pub fn valid_range(&self, addr: u64, len: u64) -> bool
         ensures { result ≡ are_valid self.now addr len }
     {
@@ -126,7 +134,8 @@ impl Ram {
         self.mark
     }
 
-    /// A block of so many bytes at the next multiple of an alignment: its address. The bytes from the old mark on are zeros.
+    /// A block of so many bytes at the next multiple of an alignment: its address. The bytes from the old mark on are
+    /// zeros.
     pub fn push_stack(&mut self, size: u64, align: u64) -> Result<u64, PushRefusal>
         requires { 0 < align }
         ensures full { (result ≡ Err PushRefusal.StackFull) ↔ (stack_end < pushed_mark self.old size align) }
@@ -200,7 +209,8 @@ fn lies_in(start: u64, len: u64, addr: u64, size: u64) -> bool
 fn put(pages: &mut Pages, addr: u64, bytes: &[u8]) -> Result<(), StoreRefusal>
     requires few { length bytes.now ≤ 8 }
     requires fits { addr + 8192 < 2 ^ 64 }
-    ensures ok { OnOk result ((a : ℕ) → page_byte pages.new a ≡ byte_written (record { addr = addr; bytes = bytes.now }) a (page_byte pages.old a)) }
+    ensures ok { OnOk result ((a : ℕ) → page_byte pages.new a
+        ≡ byte_written (record { addr = addr; bytes = bytes.now }) a (page_byte pages.old a)) }
     ensures err { OnErr result ((a : ℕ) → page_byte pages.new a ≡ page_byte pages.old a) }
     ensures refusal { IfErr result (λ refusal. refusal ≡ StoreRefusal.NoMemory) }
 {

@@ -79,7 +79,8 @@ impl Blocks {
     }
 }
 
-// The site of the block that has the byte at the address: of those that begin there or before, the newest one alone may.
+// The site of the block that has the byte at the address: of those that begin there or before, the newest one alone
+// may.
 fn site_in(blocks: &[Block], addr: u64) -> Option<Site>
     requires { AreStacked blocks.now }
     ensures { sited result ≡ object_in (slots_of blocks.now) addr }

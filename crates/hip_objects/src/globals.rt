@@ -115,7 +115,8 @@ fn lay(places: &mut Vec<Place>, at: u64, global: &GlobalVar, number: usize) -> R
     }
 }
 
-// The number of the global that has the byte at the address: of those that begin there or before, the last one alone may.
+// The number of the global that has the byte at the address: of those that begin there or before, the last one alone
+// may.
 fn number_in(places: &[Place], addr: u64) -> Option<usize>
     requires { AreLaid places.now }
     ensures { result ≡ number_at addr places.now }

@@ -66,8 +66,8 @@ pub fn choose_by<W: Worths>(checked: &Checked, worths: &W, report: &Report) -> u
     }
 }
 
-/// The level at which a report is repaired: of the store, which is level 0, and the calls that had returned, the one with the
-/// greatest score, and the innermost one where scores are equal. It is 0 where a fence alone is missing.
+/// The level at which a report is repaired: of the store, which is level 0, and the calls that had returned, the one
+/// with the greatest score, and the innermost one where scores are equal. It is 0 where a fence alone is missing.
 ///
 /// It takes no memory, and goes through all marks once for each pointer operand of the sites that it looks at.
 pub fn choose(checked: &Checked, findings: &Findings, report: &Report) -> usize

@@ -66,8 +66,8 @@ fn add(sites: &mut SiteSet, program: &Program, site: Option<Site>) -> Result<(),
     }
 }
 
-/// The plan for what was found: in each list the sites of the program that some report asks for, in ascending order. It suits the
-/// program where this is what a run of it found.
+/// The plan for what was found: in each list the sites of the program that some report asks for, in ascending order. It
+/// suits the program where this is what a run of it found.
 ///
 /// Time and memory are linear in the marks and the reports, but that sites are sorted.
 pub fn plan(alloc: Global, checked: &Checked, findings: &Findings) -> Result<Plan, NoMemory>

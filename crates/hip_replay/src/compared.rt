@@ -35,9 +35,9 @@ pub(crate) struct Followed {
     pub entries: u128,
 }
 
-/// Compares the rest of the current file with the trace of the run on the input that its header gives: one entry is read
-/// for each that the run makes, and at most one behind the run's end. Memory is taken by the input and the machine alone,
-/// whatever the number of entries.
+/// Compares the rest of the current file with the trace of the run on the input that its header gives: one entry is
+/// read for each that the run makes, and at most one behind the run's end. Memory is taken by the input and the machine
+/// alone, whatever the number of entries.
 pub fn replay<C: Cabinet>(
     alloc: Global,
     checked: &Checked,

@@ -15,8 +15,8 @@ use hip_step::{Ending, Event, Input, Machine};
 use hip_typing::Checked;
 use std::alloc::Global;
 
-/// Runs a program on an input, and writes what it prints: each number in signed decimal with a line feed. The numbers go
-/// out as they are printed, so that after a refusal out has the front of the run's text. Memory is taken by the
+/// Runs a program on an input, and writes what it prints: each number in signed decimal with a line feed. The numbers
+/// go out as they are printed, so that after a refusal out has the front of the run's text. Memory is taken by the
 /// machine alone.
 pub fn print_run<S: Sink>(
     alloc: Global,

@@ -27,9 +27,9 @@ pub struct Recorded {
     pub findings: Findings,
 }
 
-/// Runs a program on an input, and writes the trace of the run, a line for each entry. The entries go out as the steps are
-/// taken, so that after a refusal out has the front of the trace. Memory is taken by the machine and the tracker alone,
-/// whatever the number of entries.
+/// Runs a program on an input, and writes the trace of the run, a line for each entry. The entries go out as the steps
+/// are taken, so that after a refusal out has the front of the trace. Memory is taken by the machine and the tracker
+/// alone, whatever the number of entries.
 pub fn record_run<S: Sink>(
     alloc: Global,
     checked: &Checked,

@@ -31,8 +31,8 @@ use Rattle.hip_report.specs.declared.pending.Pending.{Pending}
 use Rattle.hip_report.specs.declared.pending.LineNote.{LineNote}
 use Rattle.hip_report.specs.declared.pending.StoreNote.{StoreNote}
 
--- The notes after n steps of a run: its counts, calls and last fence, what is kept of pending stores, marks and reports.
--- What has the number of an entry in it is so where the header's entries were counted right.
+-- The notes after n steps of a run: its counts, calls and last fence, what is kept of pending stores, marks and
+-- reports. What has the number of an entry in it is so where the header's entries were counted right.
 pub record AreNoted (P : Program) (I : Input) (n : ℕ) (c : Notes) : Type 0 where
   pub steps : c.steps ≡ n
   pub counted : (run P I n).counts.steps ≡ n

@@ -7,8 +7,8 @@ use std::alloc::Global;
 use std::marker::Model;
 use std::rc::Rc;
 
-/// The calls that a frame stands in, from its own outward, which contracts see as the list of them. The frames that stand
-/// and the stores that were made in them share the calls that they have in common.
+/// The calls that a frame stands in, from its own outward, which contracts see as the list of them. The frames that
+/// stand and the stores that were made in them share the calls that they have in common.
 #[cycle(call_path)]
 pub struct CallPath {
     link: Link,
@@ -121,8 +121,8 @@ impl CallPath {
         }
     }
 
-    /// Puts the sites of the calls behind others, and says how many of the calls have returned where those that stand have
-    /// these births, the outermost one first.
+    /// Puts the sites of the calls behind others, and says how many of the calls have returned where those that stand
+    /// have these births, the outermost one first.
     pub fn copy_out(&self, births: &[u128], sites: &mut Row<Site>) -> Result<usize, NoMemory>
         ensures sites { OnOk result (sites.new ≡ sites.old ++ map (λ l. l.call) self.now) }
         ensures closed { IfOk result (λ closed. closed ≡ closed_by births.now self.now) }

@@ -53,7 +53,8 @@ pub fn check_range(
         → tree.get nat_cmp groups tag ≡ group_from (lines_of pending.now.lines) tag None
         (loose_from lines.now.lines offset size))
         × (reports.new
-        ≡ reports.old ++ reports_told check.now.births.now check.now.entry check.now.fence pending.now.stores.items groups.entries)) }
+        ≡ reports.old ++ reports_told check.now.births.now check.now.entry check.now.fence pending.now.stores.items
+        groups.entries)) }
 {
     let groups = groups_of(alloc, &pending.lines, lines, offset, size)?;
     report_groups(alloc, pending, check, &groups, reports)
@@ -144,7 +145,8 @@ fn report_groups(
 ) -> Result<(), NoMemory>
     requires { StoresAscend 0 (2 ^ 128) pending.now.stores.items }
     ensures told { OnOk result (reports.new
-        ≡ reports.old ++ reports_told check.now.births.now check.now.entry check.now.fence pending.now.stores.items groups.now.entries) }
+        ≡ reports.old ++ reports_told check.now.births.now check.now.entry check.now.fence pending.now.stores.items
+        groups.now.entries) }
     ensures ordered { tree.IsOrdered nat_cmp groups.now }
 {
     'each: for (tag, group) in groups.iter() {

@@ -167,7 +167,8 @@ pub fn note_check(
     requires flushes { (j : ℕ) → (l : Line) → lines_of pending.now.lines j ≡ Some l
         → FlushesAscend 0 (2 ^ 128) l.flushes }
     ensures { OnOk result (Reported
-        (range_of base region event) check.now.births.now check.now.entry check.now.fence pending.now lines.now.lines reports.old reports.new) }
+        (range_of base region event) check.now.births.now check.now.entry check.now.fence pending.now lines.now.lines
+        reports.old reports.new) }
 {
     match event {
         Event::Assert { addr, size } => check_within(
@@ -203,7 +204,8 @@ fn check_within(
     requires flushes { (j : ℕ) → (l : Line) → lines_of pending.now.lines j ≡ Some l
         → FlushesAscend 0 (2 ^ 128) l.flushes }
     ensures { OnOk result (Reported (Some
-        (record { offset = offset; size = size })) check.now.births.now check.now.entry check.now.fence pending.now lines.now.lines reports.old reports.new) }
+        (record { offset = offset; size = size })) check.now.births.now check.now.entry check.now.fence pending.now
+        lines.now.lines reports.old reports.new) }
 {
     let from = offset.min(region);
     let count = size.min(region - from);

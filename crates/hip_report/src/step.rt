@@ -41,7 +41,8 @@ fn step_check(
     requires flushes { (j : ℕ) → (l : Line) → lines_of notes.old.pending.lines j ≡ Some l
         → FlushesAscend 0 (2 ^ 128) l.flushes }
     ensures told { OnOk result (Reported
-        (range_of base region event) notes.old.births.items entry notes.old.fence notes.old.pending lines.now.lines notes.old.reports notes.new.reports) }
+        (range_of base region event) notes.old.births.items entry notes.old.fence notes.old.pending lines.now.lines
+        notes.old.reports notes.new.reports) }
     ensures rest { OnOk result (notes.new ≡ record notes.old { reports = notes.new.reports }) }
 {
     let check = Check {
@@ -71,7 +72,8 @@ fn step_lines(
 ) -> Result<(), NoMemory>
     requires { EndsBelow base event }
     ensures follows { OnOk result
-        (Follows event moment.site base moment.step moment.entry notes.old.calls.value notes.old.pending notes.new.pending) }
+        (Follows event moment.site base moment.step moment.entry notes.old.calls.value notes.old.pending
+        notes.new.pending) }
     ensures rest { OnOk result (notes.new ≡ record notes.old { pending = notes.new.pending }) }
 {
     note_lines(alloc, &mut notes.pending, event, moment, base, &notes.calls)

@@ -24,9 +24,9 @@ pub struct Source<'a> {
     pub input: &'a Input,
 }
 
-/// A tracker of one run, which contracts see as the machine whose steps it noted, the number of entries before the first
-/// step, and whether memory was wanting. It keeps the stores that may still be reported, and shares the calls that they
-/// have in common.
+/// A tracker of one run, which contracts see as the machine whose steps it noted, the number of entries before the
+/// first step, and whether memory was wanting. It keeps the stores that may still be reported, and shares the calls
+/// that they have in common.
 #[derive(Drop)]
 pub struct Tracker<'a> {
     alloc: Global,
@@ -65,8 +65,8 @@ impl<'a> Tracker<'a> {
         })
     }
 
-    /// Takes the machine's step and notes it. After want of memory the machine is as before or has taken the step, and from
-    /// then on the tracker answers want of memory and leaves machines as they are.
+    /// Takes the machine's step and notes it. After want of memory the machine is as before or has taken the step, and
+    /// from then on the tracker answers want of memory and leaves machines as they are.
     #[inline(always)]
     pub fn advance(&mut self, machine: &mut Machine<'a>) -> Result<Event, NoMemory>
         requires { MayAdvance self.old machine.old }
@@ -90,8 +90,8 @@ impl<'a> Tracker<'a> {
         }
     }
 
-    /// The findings of the run, where every step of the machine was noted, it has ended, and the header's entries are those
-    /// of the run's trace.
+    /// The findings of the run, where every step of the machine was noted, it has ended, and the header's entries are
+    /// those of the run's trace.
     pub fn close(self, machine: &Machine<'a>) -> Result<Findings, NoMemory>
         requires noted { HasNoted self machine.now }
         requires ended { has_ended (state_of machine.now) ≡ true }

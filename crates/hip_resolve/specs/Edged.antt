@@ -47,7 +47,8 @@ pub record Leads (s : Scope) (t : Tables) (b number target : ℕ) : Type 0 where
 
 -- each edge from a number on leads from the block
 pub record LeadFrom (s : Scope) (b first : ℕ) (t : Tables) : Type 0 where
-  pub at : (k : ℕ) (e : Edge) → first ≤ k → slice_get t.edges k ≡ Some e → (u : Tables) → Grows t u → Leads s u b k e.block
+  pub at : (k : ℕ) (e : Edge) → first ≤ k → slice_get t.edges k ≡ Some e → (u : Tables) → Grows t u
+      → Leads s u b k e.block
 
 -- the edge of that number leads to the block with a label
 pub record LeadsTo (s : Scope) (t : Tables) (b number : ℕ) (label : List ℕ) : Type 0 where

@@ -44,7 +44,8 @@ pub record Describes (s : Scope) : Type 0 where
   pub labels : s.labels ≡ map (λ b. b.label) (blocks_of s.program.now s.number)
   pub as_long : length s.places ≡ length (blocks_of s.program.now s.number)
   pub places : (b : ℕ) → b < length s.places → slice_get s.places b ≡ Some (entry s.program.now s.number b)
-  pub sources : (b : ℕ) (block : Block) → block_at s.program.now s.number b ≡ Some block → HasTables s.sources b block.phis
+  pub sources : (b : ℕ) (block : Block) → block_at s.program.now s.number b ≡ Some block
+      → HasTables s.sources b block.phis
 
 -- the operand stands for one of the function
 abbrev pub StandsFor : Scope → Tables → Operand → named.Operand → Type 0

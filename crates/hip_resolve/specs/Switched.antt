@@ -35,7 +35,8 @@ abbrev pub are_cases_of : Scope → Tables → ℕ → List Case → List named_
 are_cases_of s t b [] [] = Unit {0}
 are_cases_of s t b [] (d ∷ ds) = ⊥
 are_cases_of s t b (c ∷ cs) [] = ⊥
-are_cases_of s t b (c ∷ cs) (d ∷ ds) = (c.value ≡ d.value.value) × LeadsTo s t b c.edge d.label × are_cases_of s t b cs ds
+are_cases_of s t b (c ∷ cs) (d ∷ ds) =
+    (c.value ≡ d.value.value) × LeadsTo s t b c.edge d.label × are_cases_of s t b cs ds
 
 -- cases are put into the table
 pub record HasCases (s : Scope) (t u : Tables) (source : Source) (ds : List named_case.Case) : Type 0 where

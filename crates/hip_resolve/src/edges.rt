@@ -21,8 +21,8 @@ pub struct Source<'a> {
     pub first: usize,
 }
 
-/// The edge to a block that is there already, if the table by blocks names one: what it names counts only where it is an
-/// edge from the source to that block.
+/// The edge to a block that is there already, if the table by blocks names one: what it names counts only where it is
+/// an edge from the source to that block.
 fn earlier(tables: &Growing, made: &Row<u32>, first: usize, target: usize) -> Option<u32>
     ensures { MatchOption result (Unit {0}) (λ number. Earlier (grown tables.now) first target number) }
 {
@@ -45,7 +45,8 @@ fn new_edge(
     requires scope { Describes scope.now }
     requires source { IsSource scope.now source.now }
     requires target { IsTarget scope.now source.now target }
-    ensures { IfOk result (λ number. NewEdge scope.now (grown tables.old) (grown tables.new) source.now.number number target) }
+    ensures { IfOk result (λ number. NewEdge scope.now (grown tables.old)
+        (grown tables.new) source.now.number number target) }
 {
     let to = match scope.function.blocks.get(target) {
         Some(block) => block,
@@ -75,7 +76,8 @@ fn new_edge(
     Ok(number)
 }
 
-/// The edge from a block to the one with a label. There is one edge from one block to another, however often it is named.
+/// The edge from a block to the one with a label. There is one edge from one block to another, however often it is
+/// named.
 pub fn edge(
     scope: &Scope<'_, '_>,
     tables: &mut Growing,
@@ -88,7 +90,8 @@ pub fn edge(
     requires lead { LeadFrom scope.now source.now.number source.now.first (grown tables.old) }
     requires named { IsAmong (end_labels source.now.block.now.«end») label.now }
     requires as_long { length made.old ≡ length (blocks_of scope.now.program.now scope.now.number) }
-    ensures edge { IfOk result (λ number. HasEdge scope.now (grown tables.old) (grown tables.new) source.now number label.now) }
+    ensures edge { IfOk result (λ number. HasEdge scope.now (grown tables.old)
+        (grown tables.new) source.now number label.now) }
     ensures as_long { length made.new ≡ length made.old }
 {
     let target = match scope.labels.number_of(label.as_slice()) {

@@ -41,7 +41,8 @@ fn argument(
 ) -> Result<Operand, NoMemory>
     requires scope { Describes scope.now }
     requires known { ArgsKnown (names_of scope.now) args.now }
-    ensures { IfOk result (λ o. Makes (grown tables.old) (grown tables.new) (λ t. StandsForArg scope.now t o args.now index)) }
+    ensures { IfOk result (λ o. Makes (grown tables.old) (grown tables.new)
+        (λ t. StandsForArg scope.now t o args.now index)) }
 {
     if index >= args.len() {
         return Ok(Operand::Register(0));

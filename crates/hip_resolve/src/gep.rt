@@ -25,7 +25,8 @@ fn with_terms(
     offset: u64,
     terms: &[Term],
 ) -> Result<Gep, NoMemory>
-    ensures { IfOk result (λ gep. Makes (grown tables.old) (grown tables.new) (λ t. IsAddress t base offset terms.now gep)) }
+    ensures { IfOk result (λ gep. Makes (grown tables.old) (grown tables.new)
+        (λ t. IsAddress t base offset terms.now gep)) }
 {
     let from = place(tables.terms.len())?;
     let count = place(terms.len())?;
@@ -44,7 +45,8 @@ fn address(
     offset: u64,
     terms: &[Term],
 ) -> Result<Gep, NoMemory>
-    ensures address { IfOk result (λ gep. Makes (grown tables.old) (grown tables.new) (λ t. IsAddress t base offset terms.now gep)) }
+    ensures address { IfOk result (λ gep. Makes (grown tables.old) (grown tables.new)
+        (λ t. IsAddress t base offset terms.now gep)) }
     ensures small { offset < 2 ^ 64 }
 {
     if terms.is_empty() {

@@ -30,7 +30,8 @@ impl Growing {
 
     /// Puts a number into the table of constants.
     pub fn constant(&mut self, value: u64) -> Result<Operand, NoMemory>
-        ensures stands { IfOk result (λ o. Makes (grown self.old) (grown self.new) (λ t. IsConstant t.constants o value)) }
+        ensures stands { IfOk result (λ o. Makes (grown self.old) (grown self.new)
+            (λ t. IsConstant t.constants o value)) }
         ensures others { OnOk result (OnlyConstants (grown self.old) (grown self.new)) }
     {
         let place = place(self.constants.len())?;

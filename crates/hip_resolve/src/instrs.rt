@@ -30,7 +30,8 @@ fn any_call(
     requires scope { Describes scope.now }
     requires dest { ResultKnown (names_of scope.now) dest.now }
     requires known { ArgsKnown (names_of scope.now) args.now }
-    requires callee { (ret : Option Scalar) × (CallsFunction scope.now.program.now callee.now ret args.now ⊎ CallsExtern callee.now ret args.now) }
+    requires callee { (ret : Option Scalar) × (CallsFunction scope.now.program.now callee.now ret args.now
+        ⊎ CallsExtern callee.now ret args.now) }
     ensures { IfOk result (λ o. Makes (grown tables.old) (grown tables.new)
         (λ t. (ret : Option Scalar) → DoesHere scope.now t o (instrs.Call dest.now ret callee.now args.now))) }
 {

@@ -107,7 +107,8 @@ pub fn alloca(scope: &Scope<'_, '_>, dest: &Name, ty: &Ty) -> Result<Op, NoMemor
     requires scope { Describes scope.now }
     requires dest { IsAmong (names_of scope.now) dest.now }
     requires fits { Fits ty.now }
-    ensures { IfOk result (λ o. (t : Tables) (written : Option ℕ) → DoesHere scope.now t o (instrs.Alloca dest.now ty.now written)) }
+    ensures { IfOk result (λ o. (t : Tables) (written : Option ℕ)
+        → DoesHere scope.now t o (instrs.Alloca dest.now ty.now written)) }
 {
     let dest = slot(scope, dest)?;
     Ok(Op::Memory(Memory::Effect(Effect::Alloca {

@@ -31,7 +31,8 @@ pub struct Path {
 fn literal(scope: &Scope<'_, '_>, arg: &Arg, value: &Const) -> Result<u64, NoMemory>
     requires scope { Describes scope.now }
     requires known { OperandKnown (names_of scope.now) (operands.Fixed value.now) }
-    ensures { IfOk result (λ n. n ≡ index_value arg.now.ty (const_value scope.now.program.now.globals scope.now.base value.now)) }
+    ensures { IfOk result (λ n. n ≡ index_value arg.now.ty
+        (const_value scope.now.program.now.globals scope.now.base value.now)) }
 {
     let number = scope.addresses.value(scope.alloc, value)?;
     Ok(extend(width_of(arg.ty), number))

@@ -53,7 +53,8 @@ fn phi_move(
     requires known { PhiKnown (names_of scope.now) from.now phi.now }
     requires numbers { Numbers numbers.now.names numbers.now.values (map (λ e. e.label) phi.now.edges) }
     ensures moves { IfOk result (λ m. Makes (grown tables.old) (grown tables.new)
-        (λ t. IsMove scope.now.program.now.globals scope.now.base (names_of scope.now) t.constants from.now m phi.now)) }
+        (λ t. IsMove scope.now.program.now.globals scope.now.base
+        (names_of scope.now) t.constants from.now m phi.now)) }
     ensures others { OnOk result (OnlyConstants (grown tables.old) (grown tables.new)) }
 {
     let number = match numbers.get(from.as_slice()) {

@@ -23,8 +23,9 @@ use hip_types::{NoMemory, Row};
 use hip_typing::Checked;
 use std::alloc::Global;
 
-/// The code of a checked program, where the region begins at a base: constants are numbers in it, and names are slots and
-/// places. Time and memory are linear in the program's text. From 2^32 ops, or entries of a table, on there is no memory.
+/// The code of a checked program, where the region begins at a base: constants are numbers in it, and names are slots
+/// and places. Time and memory are linear in the program's text. From 2^32 ops, or entries of a table, on there is no
+/// memory.
 pub fn resolve(alloc: Global, checked: &Checked, base: u64) -> Result<Code, NoMemory>
     requires { IsBase base }
     ensures { IfOk result (λ code. IsResolved checked.now base code) }

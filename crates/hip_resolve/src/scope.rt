@@ -55,7 +55,8 @@ pub fn operand(
 ) -> Result<Operand, NoMemory>
     requires scope { Describes scope.now }
     requires known { OperandKnown (names_of scope.now) operand.now }
-    ensures stands { IfOk result (λ o. Makes (grown tables.old) (grown tables.new) (λ t. StandsFor scope.now t o operand.now)) }
+    ensures stands { IfOk result (λ o. Makes (grown tables.old) (grown tables.new)
+        (λ t. StandsFor scope.now t o operand.now)) }
     ensures others { OnOk result (OnlyConstants (grown tables.old) (grown tables.new)) }
 {
     match operand {

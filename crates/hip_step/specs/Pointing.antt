@@ -42,7 +42,8 @@ abbrev pub call_agrees : Program → Instr → Type 0
 call_agrees P (Call dest ret callee args) = CallsFunction P callee ret args ⊎ CallsExtern callee ret args
 call_agrees P _ = Unit {0}
 
--- The value of the pointer operand of that number, where the op at the machine's place tells its instruction's operands.
+-- The value of the pointer operand of that number, where the op at the machine's place tells its instruction's
+-- operands.
 pub record TellsPointer (code : Code) (c : Core) (i : Instr) (k : ℕ) (o : Option ℕ) : Type 0 where
   pub tells : (P : Program) (I : Input) (rs : Registers) (op : Op) → IsSound P →
       slice_get code.ops.items c.top.place ≡ Some op →

@@ -23,7 +23,8 @@ pub cut_token : (line b : ℕ) (bs : List ℕ) (t : Tok) (n : ℕ) → is_blank 
     → piece t n ≡ piece_at b bs → cut line 0 (b ∷ bs) ≡ (record { tok = t; line = line }) ∷ cut line 0 (drop n bs)
 unfolding cut
 cut_token line b bs t n blank comment e =
-    let step : cut line 0 (b ∷ bs) ≡ (record { tok = (piece_at b bs).tok; line = line }) ∷ cut line (piece_at b bs).more bs = rw (blank, comment) refl in
+    let step : cut line 0 (b ∷ bs) ≡ (record { tok = (piece_at b bs).tok; line = line })
+    ∷ cut line (piece_at b bs).more bs = rw (blank, comment) refl in
     let token : (piece_at b bs).tok ≡ t = ap (λ (p : Piece). p.tok) (sym e) in
     let len : (piece_at b bs).more ≡ n = ap (λ (p : Piece). p.more) (sym e) in
     step ∙ rw (token, len) (ap (λ (ts : List At). (record { tok = t; line = line }) ∷ ts) (cut_inside line n bs))
@@ -35,4 +36,5 @@ after_comment line b all rest after n whole semi len back = rw (whole, semi, bac
 pub at_token : (line b : ℕ) (all rest after : List ℕ) (t : Tok) (n : ℕ) → all ≡ b ∷ rest → is_blank b ≡ false
     → eqb b 59 ≡ false → piece t n ≡ piece_at b rest → after ≡ drop n rest
     → cut line 0 all ≡ (record { tok = t; line = line }) ∷ cut line 0 after
-at_token line b all rest after t n whole blank comment e back = rw (whole, back) (cut_token line b rest t n blank comment e)
+at_token line b all rest after t n whole blank comment e back =
+    rw (whole, back) (cut_token line b rest t n blank comment e)

@@ -50,25 +50,34 @@ by_test false p q h k = k refl
 word_formed : (b : ℕ) (bs : List ℕ) → begins_name b ≡ true → IsFormed (word_piece b bs)
 unfolding word_piece
 word_formed b bs e =
-    by_test (eqb (slice_index bs (prefix_len goes_on_name bs)) 58) (piece (Label (b ∷ take (prefix_len goes_on_name bs) bs)) (prefix_len goes_on_name bs + 1)) (piece (Word (b ∷ take (prefix_len goes_on_name bs) bs)) (prefix_len goes_on_name bs))
+    by_test (eqb (slice_index bs (prefix_len goes_on_name bs)) 58)
+    (piece (Label (b ∷ take (prefix_len goes_on_name bs) bs)) (prefix_len goes_on_name bs + 1))
+    (piece (Word (b ∷ take (prefix_len goes_on_name bs) bs)) (prefix_len goes_on_name bs))
     (λ _. record { formed = name_of b bs e }) (λ _. record { formed = refl })
 
 minus_formed : (bs : List ℕ) → IsFormed (minus_piece bs)
 unfolding minus_piece number_piece
-minus_formed bs = by_test (eqb (prefix_len is_digit bs) 0) (piece (Odd 45) 0) (number_piece 45 bs) (λ _. record { formed = refl }) (λ _. record { formed = refl })
+minus_formed bs =
+    by_test (eqb (prefix_len is_digit bs) 0) (piece (Odd 45) 0) (number_piece 45 bs) (λ _. record { formed = refl })
+    (λ _. record { formed = refl })
 
 local_formed : (bs : List ℕ) → IsFormed (local_piece bs)
 unfolding local_piece
-local_formed bs = by_test (name_here bs) (piece (Local (take (prefix_len goes_on_name bs) bs)) (prefix_len goes_on_name bs)) (piece (Odd 37) 0) (λ e. record { formed = name_front bs e }) (λ _. record { formed = refl })
+local_formed bs =
+    by_test (name_here bs) (piece (Local (take (prefix_len goes_on_name bs) bs)) (prefix_len goes_on_name bs))
+    (piece (Odd 37) 0) (λ e. record { formed = name_front bs e }) (λ _. record { formed = refl })
 
 global_formed : (bs : List ℕ) → IsFormed (global_piece bs)
 unfolding global_piece
-global_formed bs = by_test (name_here bs) (piece (Global (take (prefix_len goes_on_name bs) bs)) (prefix_len goes_on_name bs)) (piece (Odd 64) 0) (λ e. record { formed = name_front bs e }) (λ _. record { formed = refl })
+global_formed bs =
+    by_test (name_here bs) (piece (Global (take (prefix_len goes_on_name bs) bs)) (prefix_len goes_on_name bs))
+    (piece (Odd 64) 0) (λ e. record { formed = name_front bs e }) (λ _. record { formed = refl })
 
 string_formed : (bs : List ℕ) → IsFormed (string_piece bs)
 unfolding string_piece
 string_formed bs =
-    by_test (eqb (slice_index bs (prefix_len in_string bs)) 34) (piece (Str (take (prefix_len in_string bs) bs)) (prefix_len in_string bs + 1)) (piece (Odd 34) 0)
+    by_test (eqb (slice_index bs (prefix_len in_string bs)) 34)
+    (piece (Str (take (prefix_len in_string bs) bs)) (prefix_len in_string bs + 1)) (piece (Odd 34) 0)
     (λ _. record { formed = refl }) (λ _. record { formed = refl })
 
 piece_formed : (b : ℕ) (bs : List ℕ) → IsFormed (piece_at b bs)
@@ -92,8 +101,10 @@ cut_formed : (line inside : ℕ) (bs : List ℕ) → AreFormed (cut line inside 
 unfolding cut
 cut_formed line inside [] = tt
 cut_formed line (suc inside) (b ∷ bs) = cut_formed line inside bs
-cut_formed line zero (b ∷ bs) = by_tests (is_blank b) (eqb b 59) _ _ _ (record { tok = (piece_at b bs).tok; line = line })
-    (cut_formed (line_after line b) 0 bs) (cut_formed line (prefix_len in_comment bs) bs) (piece_formed b bs).formed (cut_formed line (piece_at b bs).more bs)
+cut_formed line zero (b ∷ bs) =
+    by_tests (is_blank b) (eqb b 59) _ _ _ (record { tok = (piece_at b bs).tok; line = line })
+    (cut_formed (line_after line b) 0 bs) (cut_formed line (prefix_len in_comment bs) bs) (piece_formed b bs).formed
+    (cut_formed line (piece_at b bs).more bs)
 
 -- the tokens of a text
 pub tokens_formed : (text : List ℕ) → AreFormed (tokens text)

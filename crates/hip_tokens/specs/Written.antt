@@ -28,7 +28,9 @@ prefix_ends : (p : ℕ → Bool) (xs ys : List ℕ) → list_all p xs ≡ true �
     → prefix_len p (xs ++ ys) ≡ length xs
 prefix_ends p [] [] a h = refl
 prefix_ends p [] (y ∷ ys) a h = rw (not_is (p y) h) refl
-prefix_ends p (x ∷ xs) ys a h = rw ((and_parts (p x) (list_all p xs) a).0, prefix_ends p xs ys ((and_parts (p x) (list_all p xs) a).1) h) (omega arith)
+prefix_ends p (x ∷ xs) ys a h =
+    rw ((and_parts (p x) (list_all p xs) a).0, prefix_ends p xs ys ((and_parts (p x) (list_all p xs) a).1) h)
+    (omega arith)
 
 ends_name : (rest : List ℕ) → ends_word rest ≡ true → begins_without goes_on_name rest ≡ true
 ends_name [] e = refl
@@ -39,7 +41,8 @@ no_digit y e = grind (arith, nat_tests)
 
 ends_number : (rest : List ℕ) → ends_word rest ≡ true → begins_without is_digit rest ≡ true
 ends_number [] e = refl
-ends_number (y ∷ ys) e = rw (no_digit y (not_is (goes_on_name y) ((and_parts (not (goes_on_name y)) (not (y == 58)) e).0))) refl
+ends_number (y ∷ ys) e =
+    rw (no_digit y (not_is (goes_on_name y) ((and_parts (not (goes_on_name y)) (not (y == 58)) e).0))) refl
 
 no_colon : (bs rest : List ℕ) → ends_word rest ≡ true → eqb (slice_index (bs ++ rest) (length bs)) 58 ≡ false
 no_colon [] [] e = refl
@@ -58,7 +61,11 @@ digit_first d e = (grind (arith, nat_tests), grind (arith, nat_tests), grind (ar
 
 all_go_on : (name : List ℕ) → is_name name ≡ true → list_all goes_on_name name ≡ true
 all_go_on [] p = refl
-all_go_on (b ∷ bs) p = rw ((and_parts (begins_name b) (list_all goes_on_name bs) p).0, (and_parts (begins_name b) (list_all goes_on_name bs) p).1) refl
+all_go_on (b ∷ bs) p =
+    rw (
+      (and_parts (begins_name b) (list_all goes_on_name bs) p).0,
+      (and_parts (begins_name b) (list_all goes_on_name bs) p).1,
+    ) refl
 
 begins_here : (name rest : List ℕ) → is_name name ≡ true → name_here (name ++ rest) ≡ true
 begins_here [] rest p = absurd cc
@@ -76,8 +83,11 @@ word_cut line [] rest p e = absurd cc
 word_cut line (b ∷ bs) rest p e =
     let first = (and_parts (begins_name b) (list_all goes_on_name bs) p).0 in
     let o = name_first b first in
-    let len = prefix_ends goes_on_name bs rest ((and_parts (begins_name b) (list_all goes_on_name bs) p).1) (ends_name rest e) in
-    let token : piece (Word (b ∷ bs)) (length bs) ≡ piece_at b (bs ++ rest) = rw (first, len, no_colon bs rest e, take_at bs rest (length bs) refl) refl in
+    let len =
+    prefix_ends goes_on_name bs rest ((and_parts (begins_name b) (list_all goes_on_name bs) p).1) (ends_name rest e)
+    in
+    let token : piece (Word (b ∷ bs)) (length bs) ≡ piece_at b (bs ++ rest) =
+    rw (first, len, no_colon bs rest e, take_at bs rest (length bs) refl) refl in
     cut_token line b (bs ++ rest) (Word (b ∷ bs)) (length bs) o.0 o.1 token ∙ rw (drop_at bs rest (length bs) refl) refl
 
 -- a name before `:`
@@ -88,33 +98,48 @@ label_cut line [] rest p = absurd cc
 label_cut line (b ∷ bs) rest p =
     let first = (and_parts (begins_name b) (list_all goes_on_name bs) p).0 in
     let o = name_first b first in
-    let len = prefix_ends goes_on_name bs (58 ∷ rest) ((and_parts (begins_name b) (list_all goes_on_name bs) p).1) refl in
-    let token : piece (Label (b ∷ bs)) (length bs + 1) ≡ piece_at b (bs ++ 58 ∷ rest) = rw (first, len, colon bs rest, take_at bs (58 ∷ rest) (length bs) refl) refl in
+    let len =
+    prefix_ends goes_on_name bs (58 ∷ rest) ((and_parts (begins_name b) (list_all goes_on_name bs) p).1) refl in
+    let token : piece (Label (b ∷ bs)) (length bs + 1) ≡ piece_at b (bs ++ 58 ∷ rest) =
+    rw (first, len, colon bs rest, take_at bs (58 ∷ rest) (length bs) refl) refl in
     cut_token line b (bs ++ 58 ∷ rest) (Label (b ∷ bs)) (length bs + 1) o.0 o.1 token ∙ rw (behind_colon bs rest) refl
   where
     behind_colon : (xs ys : List ℕ) → drop (length xs + 1) (xs ++ 58 ∷ ys) ≡ ys
     behind_colon [] ys = refl
-    behind_colon (x ∷ xs) ys = let e : suc (length xs) + 1 ≡ suc (length xs + 1) = omega arith in rw e (behind_colon xs ys)
+    behind_colon (x ∷ xs) ys =
+        let e : suc (length xs) + 1 ≡ suc (length xs + 1) = omega arith in rw e (behind_colon xs ys)
 
 local_piece_is : (name rest : List ℕ) → is_name name ≡ true → begins_without goes_on_name rest ≡ true
     → piece (Local name) (length name) ≡ piece_at 37 (name ++ rest)
 unfolding piece_at local_piece
-local_piece_is name rest p h = rw (begins_here name rest p, prefix_ends goes_on_name name rest (all_go_on name p) h, take_at name rest (length name) refl) refl
+local_piece_is name rest p h =
+    rw (
+      begins_here name rest p,
+      prefix_ends goes_on_name name rest (all_go_on name p) h,
+      take_at name rest (length name) refl,
+    ) refl
 
 pub local_cut : (line : ℕ) (name rest : List ℕ) → is_name name ≡ true → ends_word rest ≡ true
     → cut line 0 (37 ∷ (name ++ rest)) ≡ at_line line (Local name) ∷ cut line 0 rest
 local_cut line name rest p e =
-    cut_token line 37 (name ++ rest) (Local name) (length name) refl refl (local_piece_is name rest p (ends_name rest e)) ∙ rw (drop_at name rest (length name) refl) refl
+    cut_token line 37 (name ++ rest) (Local name) (length name) refl refl
+    (local_piece_is name rest p (ends_name rest e)) ∙ rw (drop_at name rest (length name) refl) refl
 
 global_piece_is : (name rest : List ℕ) → is_name name ≡ true → begins_without goes_on_name rest ≡ true
     → piece (Global name) (length name) ≡ piece_at 64 (name ++ rest)
 unfolding piece_at global_piece
-global_piece_is name rest p h = rw (begins_here name rest p, prefix_ends goes_on_name name rest (all_go_on name p) h, take_at name rest (length name) refl) refl
+global_piece_is name rest p h =
+    rw (
+      begins_here name rest p,
+      prefix_ends goes_on_name name rest (all_go_on name p) h,
+      take_at name rest (length name) refl,
+    ) refl
 
 pub global_cut : (line : ℕ) (name rest : List ℕ) → is_name name ≡ true → ends_word rest ≡ true
     → cut line 0 (64 ∷ (name ++ rest)) ≡ at_line line (Global name) ∷ cut line 0 rest
 global_cut line name rest p e =
-    cut_token line 64 (name ++ rest) (Global name) (length name) refl refl (global_piece_is name rest p (ends_name rest e)) ∙ rw (drop_at name rest (length name) refl) refl
+    cut_token line 64 (name ++ rest) (Global name) (length name) refl refl
+    (global_piece_is name rest p (ends_name rest e)) ∙ rw (drop_at name rest (length name) refl) refl
 
 -- ---- numbers
 
@@ -126,7 +151,8 @@ digits_cut line (d ∷ ds) rest p e =
     let first = (and_parts (is_digit d) (list_all is_digit ds) p).0 in
     let o = digit_first d first in
     let len = prefix_ends is_digit ds rest ((and_parts (is_digit d) (list_all is_digit ds) p).1) (ends_number rest e) in
-    let token : piece (Num (d ∷ ds)) (length ds) ≡ piece_at d (ds ++ rest) = rw (o.2, first, len, take_at ds rest (length ds) refl) refl in
+    let token : piece (Num (d ∷ ds)) (length ds) ≡ piece_at d (ds ++ rest) =
+    rw (o.2, first, len, take_at ds rest (length ds) refl) refl in
     cut_token line d (ds ++ rest) (Num (d ∷ ds)) (length ds) o.0 o.1 token ∙ rw (drop_at ds rest (length ds) refl) refl
 
 all_digits : (ds : List ℕ) → are_digits ds ≡ true → list_all is_digit ds ≡ true
@@ -142,15 +168,26 @@ pub minus_cut : (line : ℕ) (ds rest : List ℕ) → are_digits ds ≡ true →
 unfolding piece_at number_piece minus_piece
 minus_cut line ds rest p e =
     let len = prefix_ends is_digit ds rest (all_digits ds p) (ends_number rest e) in
-    let token : piece (Num (45 ∷ ds)) (length ds) ≡ piece_at 45 (ds ++ rest) = rw (len, some_digits ds p, take_at ds rest (length ds) refl) refl in
-    cut_token line 45 (ds ++ rest) (Num (45 ∷ ds)) (length ds) refl refl token ∙ rw (drop_at ds rest (length ds) refl) refl
+    let token : piece (Num (45 ∷ ds)) (length ds) ≡ piece_at 45 (ds ++ rest) =
+    rw (len, some_digits ds p, take_at ds rest (length ds) refl) refl in
+    cut_token line 45 (ds ++ rest) (Num (45 ∷ ds)) (length ds) refl refl token
+    ∙ rw (drop_at ds rest (length ds) refl) refl
 
 -- ---- marks
 
 mark_first : (b : ℕ) → is_mark b ≡ true
     → (is_blank b ≡ false) × (eqb b 59 ≡ false) × (begins_name b ≡ false) × (is_digit b ≡ false) × (eqb b 45 ≡ false)
     × (eqb b 37 ≡ false) × (eqb b 64 ≡ false) × (eqb b 34 ≡ false)
-mark_first b e = (grind (arith, nat_tests), grind (arith, nat_tests), grind (arith, nat_tests), grind (arith, nat_tests), grind (arith, nat_tests), grind (arith, nat_tests), grind (arith, nat_tests), grind (arith, nat_tests))
+mark_first b e = (
+  grind (arith, nat_tests),
+  grind (arith, nat_tests),
+  grind (arith, nat_tests),
+  grind (arith, nat_tests),
+  grind (arith, nat_tests),
+  grind (arith, nat_tests),
+  grind (arith, nat_tests),
+  grind (arith, nat_tests),
+)
 
 pub mark_cut : (line b : ℕ) (rest : List ℕ) → is_mark b ≡ true
     → cut line 0 (b ∷ rest) ≡ at_line line (Mark b) ∷ cut line 0 rest

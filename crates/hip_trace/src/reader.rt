@@ -48,9 +48,9 @@ impl Reader {
         self.count
     }
 
-    /// The entry that the next piece of the file spells, or None at the file's end. After a refusal or None it answers the
-    /// same again and leaves the cabinet alone. It takes bytes only where those that it holds have no separator and are at
-    /// most 256.
+    /// The entry that the next piece of the file spells, or None at the file's end. After a refusal or None it answers
+    /// the same again and leaves the cabinet alone. It takes bytes only where those that it holds have no separator and
+    /// are at most 256.
     pub fn next<C: Cabinet>(&mut self, cabinet: &mut C) -> Result<Option<Entry>, TraceRefusal>
         requires { IsTrue (C.state cabinet.old).is_current }
         ensures reads { ReadsNext self.old self.new (C.state cabinet.old) (C.state cabinet.new) result }

@@ -68,7 +68,9 @@ signed-high w n h k = grind (arith, ints)
 
 -- reading with a sign loses nothing
 pub wrapped-signed : (w : Width) (n : ℕ) → n < modulus w → wrapped w (signed w n) ≡ n
-wrapped-signed w n h = ⊎_elim (λ low. rw (signed-low w n low) (mod-eq_of_lt h)) (λ high. rw (signed-high w n high h) (from_above w n h)) (cases_lt n (sign_of w))
+wrapped-signed w n h =
+    ⊎_elim (λ low. rw (signed-low w n low) (mod-eq_of_lt h)) (λ high. rw (signed-high w n high h) (from_above w n h))
+    (cases_lt n (sign_of w))
   where
     from_above : (v : Width) (m : ℕ) → m < modulus v → modulus v - 1 - (modulus v - 1 - m) % modulus v ≡ m
     from_above v m k =

@@ -1,5 +1,5 @@
--- What a function declares, in the order of its text: its parameters, and block by block the label, the registers of the
--- phis and those of the body. What is made of each declaration is an argument, so that there is one walk.
+-- What a function declares, in the order of its text: its parameters, and block by block the label, the registers of
+-- the phis and those of the body. What is made of each declaration is an argument, so that there is one walk.
 use Rattle.std.specs.Prelude.{ℕ, List, ◌∷◌, ◌++◌, map}
 use Rattle.hip_ir.specs.declared.block.Block.{Block}
 use Rattle.hip_ir.specs.declared.block.Phi.{Phi}

@@ -47,7 +47,8 @@ pub fn text_of(alloc: Global, matches: &ArgMatches<'_>, id: &str) -> Result<Text
 
 /// All texts of an argument.
 fn all_texts<'m, 'a: 'm>(matches: &'m ArgMatches<'a>, id: &str) -> Option<&'m [&'a str]>
-    ensures { option_map (λ texts. map (λ text. text.now) texts.now) result ≡ all_of id.now (rows_of (found_of matches.now)) }
+    ensures { option_map (λ texts. map (λ text. text.now) texts.now) result
+        ≡ all_of id.now (rows_of (found_of matches.now)) }
 {
     matches.get_raw(id)
 }

@@ -46,7 +46,8 @@ numeral-value (suc fuel) n h = by_size (nat_lt n 10) refl (λ below. numeral-val
         number_from-push 0 (numeral_in fuel (n / 10)) (48 + n % 10) ∙ omega arith
 
 numeral-differs : (i j : ℕ) → numeral i ≡ numeral j → i ≡ j
-numeral-differs i j e = sym (numeral-value (suc i) i (omega arith)) ∙ ap (number_from 0) e ∙ numeral-value (suc j) j (omega arith)
+numeral-differs i j e =
+    sym (numeral-value (suc i) i (omega arith)) ∙ ap (number_from 0) e ∙ numeral-value (suc j) j (omega arith)
 
 -- it is the text that `decimal` gives, as far as that goes
 numeral_in-decimal : (fuel n : ℕ) → n < fuel → n < 10 ^ 64 → numeral_in fuel n ≡ decimal n
@@ -87,7 +88,8 @@ candidates-differ name (suc i) zero e =
     let long : length (codes ".pm" ++ numeral (suc i)) ≡ length (codes ".pm") = ap length (same_rest name _ _ e) in
     let some = numeral-length (suc i) in
     absurd (omega arith)
-candidates-differ name (suc i) (suc j) e = numeral-differs (suc i) (suc j) (same_rest (codes ".pm") _ _ (same_rest name _ _ e))
+candidates-differ name (suc i) (suc j) e =
+    numeral-differs (suc i) (suc j) (same_rest (codes ".pm") _ _ (same_rest name _ _ e))
 
 -- so many candidates from number k on
 candidates_from : List ℕ → ℕ → ℕ → List (List ℕ)
@@ -110,12 +112,17 @@ apart_later : (name : List ℕ) (n i k : ℕ) → i < k
     → AllByRecursion (λ y. bytes_eq (candidate name i) y ≡ false) (candidates_from name n k)
 unfolding candidates_from
 apart_later name zero i k h = tt
-apart_later name (suc n) i k h = (not_same (candidate name i) (candidate name k) (λ e. let same = candidates-differ name i k e in absurd (omega arith)), apart_later name n i (suc k) (omega arith))
+apart_later name (suc n) i k h = (
+  not_same (candidate name i) (candidate name k)
+      (λ e. let same = candidates-differ name i k e in absurd (omega arith)),
+  apart_later name n i (suc k) (omega arith),
+)
 
 distinct-candidates_from : (name : List ℕ) (n k : ℕ) → IsDistinct bytes_eq (candidates_from name n k)
 unfolding candidates_from IsDistinct
 distinct-candidates_from name zero k = tt
-distinct-candidates_from name (suc n) k = (apart_later name n k (suc k) (omega arith), distinct-candidates_from name n (suc k))
+distinct-candidates_from name (suc n) k =
+    (apart_later name n k (suc k) (omega arith), distinct-candidates_from name n (suc k))
 
 -- ---- a fresh name
 
@@ -129,14 +136,16 @@ all_taken taken name zero k e q h = by_test (bytes_eq q (candidate name k)) refl
     by_test : (b : Bool) → bytes_eq q (candidate name k) ≡ b → (b || false) ≡ true → list_any (bytes_eq q) taken ≡ true
     by_test true t g = subst (λ n. is_among taken n ≡ true) (sym ((bytes_eq-Decides q (candidate name k)).0 t)) e
     by_test false t g = cc
-all_taken taken name (suc more) k e q h = by_free (is_among taken (candidate name k)) refl e (λ f g. all_taken taken name more (suc k) f q g)
+all_taken taken name (suc more) k e q h =
+    by_free (is_among taken (candidate name k)) refl e (λ f g. all_taken taken name more (suc k) f q g)
   where
     by_test : is_among taken (candidate name k) ≡ true
         → (list_any (bytes_eq q) (candidates_from name (suc more) (suc k)) ≡ true → list_any (bytes_eq q) taken ≡ true)
         → (b : Bool) → bytes_eq q (candidate name k) ≡ b
         → (b || list_any (bytes_eq q) (candidates_from name (suc more) (suc k))) ≡ true
         → list_any (bytes_eq q) taken ≡ true
-    by_test here rest true t g = subst (λ n. is_among taken n ≡ true) (sym ((bytes_eq-Decides q (candidate name k)).0 t)) here
+    by_test here rest true t g =
+        subst (λ n. is_among taken n ≡ true) (sym ((bytes_eq-Decides q (candidate name k)).0 t)) here
     by_test here rest false t g = rest g
 
     by_free : (b : Bool) → is_among taken (candidate name k) ≡ b
@@ -153,7 +162,9 @@ fresh-free taken name = by_test (is_among taken (fresh_name taken name)) refl
   where
     by_test : (b : Bool) → is_among taken (fresh_name taken name) ≡ b → is_among taken (fresh_name taken name) ≡ false
     by_test true e =
-        let count = length-le_from_is_member nat_list_eq_equiv (candidates_from name (suc (length taken)) 0) taken (distinct-candidates_from name (suc (length taken)) 0) (all_taken taken name (length taken) 0 e) in
+        let count =
+        length-le_from_is_member nat_list_eq_equiv (candidates_from name (suc (length taken)) 0) taken
+        (distinct-candidates_from name (suc (length taken)) 0) (all_taken taken name (length taken) 0 e) in
         absurd (omega (arith, length-candidates_from name (suc (length taken)) 0))
     by_test false e = e
 
@@ -168,14 +179,20 @@ first_from : (taken : List (List ℕ)) (name : List ℕ) (more k : ℕ)
     → (i : ℕ) × (fresh_from taken name more k ≡ candidate name i)
     × ((j : ℕ) → k ≤ j → j < i → is_among taken (candidate name j) ≡ true)
 first_from taken name zero k = (k, refl, λ j low high. absurd (omega arith))
-first_from taken name (suc more) k = by_free (is_among taken (candidate name k)) refl (first_from taken name more (suc k))
+first_from taken name (suc more) k =
+    by_free (is_among taken (candidate name k)) refl (first_from taken name more (suc k))
   where
     by_free : (b : Bool) → is_among taken (candidate name k) ≡ b
         → (i : ℕ) × (fresh_from taken name more (suc k) ≡ candidate name i)
         × ((j : ℕ) → suc k ≤ j → j < i → is_among taken (candidate name j) ≡ true)
         → (i : ℕ) × (cond b (fresh_from taken name more (suc k)) (candidate name k) ≡ candidate name i)
         × ((j : ℕ) → k ≤ j → j < i → is_among taken (candidate name j) ≡ true)
-    by_free true e rest = (rest.0, rest.1, λ j low high. ⊎_elim (λ same. subst (λ n. is_among taken (candidate name n) ≡ true) same e) (λ above. rest.2 j above high) (eq-or-lt_of_le low))
+    by_free true e rest = (
+      rest.0,
+      rest.1,
+      λ j low high. ⊎_elim (λ same. subst (λ n. is_among taken (candidate name n) ≡ true) same e)
+          (λ above. rest.2 j above high) (eq-or-lt_of_le low),
+    )
     by_free false e rest = (k, refl, λ j low high. absurd (omega arith))
 
 pub fresh-first : (taken : List (List ℕ)) (name : List ℕ) → IsFirstFree taken name (fresh_name taken name)
@@ -202,7 +219,8 @@ not_later false c e = (refl, e)
 pub among_alike : (xs ys : List (List ℕ)) (x q : List ℕ) → is_among (xs ++ x ∷ ys) q ≡ is_among (x ∷ (xs ++ ys)) q
 among_alike xs ys x q =
     list_any-append (bytes_eq q) xs (x ∷ ys)
-    ∙ moved (list_any (bytes_eq q) xs) (bytes_eq q x) (list_any (bytes_eq q) ys) ∙ ap (λ b. bytes_eq q x || b) (sym (list_any-append (bytes_eq q) xs ys))
+    ∙ moved (list_any (bytes_eq q) xs) (bytes_eq q x) (list_any (bytes_eq q) ys)
+    ∙ ap (λ b. bytes_eq q x || b) (sym (list_any-append (bytes_eq q) xs ys))
   where
     moved : (a b c : Bool) → (a || (b || c)) ≡ (b || (a || c))
     moved true true c = refl
@@ -223,19 +241,26 @@ pub fresh_for-first : (taken names : List (List ℕ)) (k : ℕ) (fresh : List �
     → slice_get (fresh_for taken names) k ≡ Some fresh →
     (name : List ℕ) × (slice_get names k ≡ Some name) × IsFirstFree (take k (fresh_for taken names) ++ taken) name fresh
 fresh_for-first taken [] k fresh e = cc
-fresh_for-first taken (name ∷ names) zero fresh e = (name, refl, subst (IsFirstFree taken name) (same_Some _ _ e) (fresh-first taken name))
+fresh_for-first taken (name ∷ names) zero fresh e =
+    (name, refl, subst (IsFirstFree taken name) (same_Some _ _ e) (fresh-first taken name))
 fresh_for-first taken (name ∷ names) (suc k) fresh e =
     let first = fresh_name taken name in
     let earlier = take k (fresh_for (first ∷ taken) names) in
-    let rest = fresh_for-first (first ∷ taken) names k fresh e in
-    (rest.0, rest.1, first_alike (earlier ++ first ∷ taken) (first ∷ (earlier ++ taken)) rest.0 fresh (λ q. among_alike earlier taken first q) rest.2)
+    let rest = fresh_for-first (first ∷ taken) names k fresh e in (
+      rest.0,
+      rest.1,
+      first_alike (earlier ++ first ∷ taken) (first ∷ (earlier ++ taken)) rest.0 fresh
+          (λ q. among_alike earlier taken first q) rest.2,
+    )
 
 -- none is taken
 pub fresh_for-free : (taken names : List (List ℕ)) (k : ℕ) (fresh : List ℕ)
     → slice_get (fresh_for taken names) k ≡ Some fresh → is_among taken fresh ≡ false
 fresh_for-free taken [] k fresh e = cc
-fresh_for-free taken (name ∷ names) zero fresh e = subst (λ n. is_among taken n ≡ false) (same_Some _ _ e) (fresh-free taken name)
-fresh_for-free taken (name ∷ names) (suc k) fresh e = (not_later _ _ (fresh_for-free (fresh_name taken name ∷ taken) names k fresh e)).1
+fresh_for-free taken (name ∷ names) zero fresh e =
+    subst (λ n. is_among taken n ≡ false) (same_Some _ _ e) (fresh-free taken name)
+fresh_for-free taken (name ∷ names) (suc k) fresh e =
+    (not_later _ _ (fresh_for-free (fresh_name taken name ∷ taken) names k fresh e)).1
 
 or_second : (b c : Bool) → c ≡ true → (b || c) ≡ true
 or_second true c e = refl
@@ -246,14 +271,20 @@ all_apart : (first : List ℕ) (taken names : List (List ℕ)) → is_among take
     → AllByRecursion (λ y. bytes_eq first y ≡ false) (fresh_for taken names)
 all_apart first taken [] e = tt
 all_apart first taken (name ∷ names) e = (
-  not_same first (fresh_name taken name) (λ same. let free = fresh-free taken name in let on : is_among taken first ≡ false = ap (is_among taken) same ∙ free in cc),
-  all_apart first (fresh_name taken name ∷ taken) names (or_second (bytes_eq first (fresh_name taken name)) (is_among taken first) e),
+  not_same first (fresh_name taken name) (λ same. let free = fresh-free taken name in
+      let on : is_among taken first ≡ false = ap (is_among taken) same ∙ free in cc),
+  all_apart first (fresh_name taken name ∷ taken) names
+      (or_second (bytes_eq first (fresh_name taken name)) (is_among taken first) e),
 )
 
 pub fresh_for-distinct : (taken names : List (List ℕ)) → IsDistinct bytes_eq (fresh_for taken names)
 unfolding IsDistinct
 fresh_for-distinct taken [] = tt
-fresh_for-distinct taken (name ∷ names) = (all_apart (fresh_name taken name) (fresh_name taken name ∷ taken) names (ap (λ b. b || is_among taken (fresh_name taken name)) (nat_list_eq_equiv.refl (fresh_name taken name))), fresh_for-distinct (fresh_name taken name ∷ taken) names)
+fresh_for-distinct taken (name ∷ names) = (
+  all_apart (fresh_name taken name) (fresh_name taken name ∷ taken) names
+      (ap (λ b. b || is_among taken (fresh_name taken name)) (nat_list_eq_equiv.refl (fresh_name taken name))),
+  fresh_for-distinct (fresh_name taken name ∷ taken) names,
+)
 
 -- ---- no external function has such a name
 
@@ -270,7 +301,9 @@ has_mark (a ∷ rest) = begins_marked (a ∷ rest) || has_mark rest
 marked_at : (name rest : List ℕ) → has_mark (name ++ (codes ".pm" ++ rest)) ≡ true
 unfolding has_mark begins_marked
 marked_at [] rest = refl
-marked_at (a ∷ name) rest = or_second (begins_marked (a ∷ (name ++ (codes ".pm" ++ rest)))) (has_mark (name ++ (codes ".pm" ++ rest))) (marked_at name rest)
+marked_at (a ∷ name) rest =
+    or_second (begins_marked (a ∷ (name ++ (codes ".pm" ++ rest)))) (has_mark (name ++ (codes ".pm" ++ rest)))
+    (marked_at name rest)
 
 candidate-marked : (name : List ℕ) (k : ℕ) → has_mark (candidate name k) ≡ true
 candidate-marked name zero = marked_at name []
@@ -282,14 +315,16 @@ unmarked c = not (has_mark (row_of c).name)
 not_in : (cs : List ExternCall) (name : List ℕ) → has_mark name ≡ true → list_all unmarked cs ≡ true →
     find (λ c. bytes_eq (row_of c).name name) cs ≡ None
 not_in [] name marked none = refl
-not_in (c ∷ cs) name marked none = by_name (bytes_eq (row_of c).name name) refl (has_mark (row_of c).name) refl none (not_in cs name marked)
+not_in (c ∷ cs) name marked none =
+    by_name (bytes_eq (row_of c).name name) refl (has_mark (row_of c).name) refl none (not_in cs name marked)
   where
     by_name : (b : Bool) → bytes_eq (row_of c).name name ≡ b → (m : Bool) → has_mark (row_of c).name ≡ m
         → (not m && list_all unmarked cs) ≡ true
         → (list_all unmarked cs ≡ true → find (λ c. bytes_eq (row_of c).name name) cs ≡ None)
         → cond b (Some c) (find (λ c. bytes_eq (row_of c).name name) cs) ≡ None
     by_name true t true m n rest = cc
-    by_name true t false m n rest = let same : has_mark name ≡ false = ap has_mark (sym ((bytes_eq-Decides (row_of c).name name).0 t)) ∙ m in cc
+    by_name true t false m n rest =
+        let same : has_mark name ≡ false = ap has_mark (sym ((bytes_eq-Decides (row_of c).name name).0 t)) ∙ m in cc
     by_name false t true m n rest = cc
     by_name false t false m n rest = rest n
 
@@ -334,7 +369,8 @@ digits_go_on (suc fuel) n = by_size (nat_lt n 10) refl (digits_go_on fuel (n / 1
     by_size : (b : Bool) → nat_lt n 10 ≡ b → list_all goes_on_name (numeral_in fuel (n / 10)) ≡ true
         → list_all goes_on_name (if b then (48 + n) ∷ [] else numeral_in fuel (n / 10) ++ (48 + n % 10) ∷ []) ≡ true
     by_size true t rest = one_digit n (grind (arith, nat_tests))
-    by_size false t rest = all_go_on (numeral_in fuel (n / 10)) ((48 + n % 10) ∷ []) rest (one_digit (n % 10) (omega arith))
+    by_size false t rest =
+        all_go_on (numeral_in fuel (n / 10)) ((48 + n % 10) ∷ []) rest (one_digit (n % 10) (omega arith))
 
 longer_name : (name more : List ℕ) → is_name name ≡ true → list_all goes_on_name more ≡ true
     → is_name (name ++ more) ≡ true

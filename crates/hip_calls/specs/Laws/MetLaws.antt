@@ -27,4 +27,5 @@ module _ {A : Type 0} (same : A → A → Bool) where
 -- a set of names has the names that are put into it
 pub met-alike : (names : List (List ℕ)) → (q : List ℕ) → is_among (met bytes_eq [] names) q ≡ is_among names q
 met-alike names q =
-    both_ways _ _ (λ e. ⊎_elim (λ none. cc) (λ there. there) (met-only nat_list_eq_equiv q [] names e)) (λ e. met-second nat_list_eq_equiv q [] names e)
+    both_ways _ _ (λ e. ⊎_elim (λ none. cc) (λ there. there) (met-only nat_list_eq_equiv q [] names e))
+    (λ e. met-second nat_list_eq_equiv q [] names e)

@@ -27,7 +27,8 @@ use Rattle.hip_code.specs.declared.op.Control.TheVariants as controls
 use Rattle.hip_code.specs.declared.op.Op.TheVariants as ops
 
 module _ (P : Program) (I : Input) (f : ℕ) (tables : Tables) where
-  pub resolves_call : (dest : Option (List ℕ)) (ret : Option Scalar) (callee : List ℕ) (args : List Arg) (call : Call) → call_of callee ≡ None → IsCall P I f tables call callee args dest →
+  pub resolves_call : (dest : Option (List ℕ)) (ret : Option Scalar) (callee : List ℕ) (args : List Arg) (call : Call)
+      → call_of callee ≡ None → IsCall P I f tables call callee args dest →
       Resolves P I f tables (ops.Control (controls.Call call)) (instrs.Call dest ret callee args)
   unfolding instr_action entered
   resolves_call dest ret callee args call defined c = record {
@@ -38,16 +39,28 @@ module _ (P : Program) (I : Input) (f : ℕ) (tables : Tables) where
         let ms = entries_of call.arguments tables.moves in
         let vs = values_of P.globals I.base rs args in
         let r = result_is names n rs call.dest dest h c.result in
-        let m = arguments_are P.globals I.base names called n rs h call.size ms c.function.params args c.size c.arguments in
+        let m =
+        arguments_are P.globals I.base names called n rs h call.size ms c.function.params args c.size c.arguments in
         let moves = arguments_move P.globals I.base names called n rs h ms c.function.params args c.arguments k.all in
         record {
-          within = record { frame = subst (λ s. base + s ≤ length slots) (sym c.frame) h.room; span = c.span; read = m.read; written = m.written };
-          placed = record { begins = c.begins; frame = c.frame; size = c.size; arguments = m.placed; result = r.placed };
+          within =
+              record {
+                frame = subst (λ s. base + s ≤ length slots) (sym c.frame) h.room;
+                span = c.span;
+                read = m.read;
+                written = m.written;
+              };
+          placed =
+              record { begins = c.begins; frame = c.frame; size = c.size; arguments = m.placed; result = r.placed };
           turn = ap (λ o. not (is_flush_or_fence o)) (sym defined);
-          acts = ap₂ (λ xs to. cond (nat_lt below (MOST_FRAMES - 1)) (Calls call.function xs to) (Traps traps.Depth)) moves r.name_is
+          acts =
+              ap₂ (λ xs to. cond (nat_lt below (MOST_FRAMES - 1)) (Calls call.function xs to) (Traps traps.Depth)) moves
+              r.name_is
               ∙ sym (ap (λ o. call_action P I w below o callee vs dest) defined
-              ∙ ap (λ o. cond (nat_lt below (MOST_FRAMES - 1)) (numbered_call P o vs dest) (Traps traps.Depth)) c.numbered
-              ∙ ap (λ o. cond (nat_lt below (MOST_FRAMES - 1)) (bound_call o call.function vs dest) (Traps traps.Depth)) c.here);
+              ∙ ap (λ o. cond (nat_lt below (MOST_FRAMES - 1)) (numbered_call P o vs dest) (Traps traps.Depth))
+              c.numbered
+              ∙ ap (λ o. cond (nat_lt below (MOST_FRAMES - 1)) (bound_call o call.function vs dest) (Traps traps.Depth))
+              c.here);
         };
     names = λ slots base rs h k.
         let n = numbers_at tables slots base in
@@ -64,5 +77,8 @@ module _ (P : Program) (I : Input) (f : ℕ) (tables : Tables) where
               let within : length args ≤ length c.function.params = omega (arith, few, long, counts) in
               arguments_pass P.globals I.base names called n rs h ms c.function.params args c.arguments k.all within;
         } in
-        record { is = subst (λ o. passes_or_effects P n o callee vs (ops.Control (controls.Call call))) (sym defined) with };
+        record {
+          is = subst (λ o. passes_or_effects P n o callee vs (ops.Control (controls.Call call)))
+              (sym defined) with;
+        };
   }

@@ -41,37 +41,53 @@ module _ (P : Program) (I : Input) (f b : ℕ) (tables : Tables) where
 
   -- ---- edges
 
-  edge_within : (slots : List ℕ) (base : ℕ) (rs : Registers) (number : ℕ) (label : List ℕ) → HoldsFrame names slots base rs → IsEdge P I f b tables number label → EdgeWithin (numbers_at tables slots base) number
+  edge_within : (slots : List ℕ) (base : ℕ) (rs : Registers) (number : ℕ) (label : List ℕ)
+      → HoldsFrame names slots base rs → IsEdge P I f b tables number label
+      → EdgeWithin (numbers_at tables slots base) number
   edge_within slots base rs number label h e =
-      let m = phis_are P.globals I.base names (numbers_at tables slots base) rs h (label_of (block_at P f b)) (entries_of e.edge.moves tables.moves) (phis_of (block_at P f e.edge.block)) e.moves in
+      let m =
+      phis_are P.globals I.base names (numbers_at tables slots base) rs h (label_of (block_at P f b))
+      (entries_of e.edge.moves tables.moves) (phis_of (block_at P f e.edge.block)) e.moves in
       record { edge = e.edge; here = e.here; span = e.span; read = m.read; written = m.written }
 
-  edge_placed : (slots : List ℕ) (base : ℕ) (rs : Registers) (number : ℕ) (label : List ℕ) → HoldsFrame names slots base rs → IsEdge P I f b tables number label → GoPlaced P f (numbers_at tables slots base) number
+  edge_placed : (slots : List ℕ) (base : ℕ) (rs : Registers) (number : ℕ) (label : List ℕ)
+      → HoldsFrame names slots base rs → IsEdge P I f b tables number label
+      → GoPlaced P f (numbers_at tables slots base) number
   edge_placed slots base rs number label h e = record { placed = there }
     where
       there : (x : Edge) → slice_get tables.edges number ≡ Some x → EdgePlaced P f tables.moves x
       there x q =
           let same : e.edge ≡ x = (let t : Some e.edge ≡ Some x = sym e.here ∙ q in cc) in
-          let m = phis_are P.globals I.base names (numbers_at tables slots base) rs h (label_of (block_at P f b)) (entries_of e.edge.moves tables.moves) (phis_of (block_at P f e.edge.block)) e.moves in
+          let m =
+          phis_are P.globals I.base names (numbers_at tables slots base) rs h (label_of (block_at P f b))
+          (entries_of e.edge.moves tables.moves) (phis_of (block_at P f e.edge.block)) e.moves in
           subst (EdgePlaced P f tables.moves) same (record { begins = e.begins; moved = m.placed })
 
-  edge_acts : (g : Frame) (slots : List ℕ) (base : ℕ) (number : ℕ) (label : List ℕ) → g.function ≡ f → g.block ≡ b → HoldsFrame names slots base g.registers → KnowsPhis P f b g.registers → IsEdge P I f b tables number label →
+  edge_acts : (g : Frame) (slots : List ℕ) (base : ℕ) (number : ℕ) (label : List ℕ) → g.function ≡ f → g.block ≡ b
+      → HoldsFrame names slots base g.registers → KnowsPhis P f b g.registers → IsEdge P I f b tables number label →
       edge_action names (numbers_at tables slots base) g.registers (slice_get tables.edges number) ≡ jump P I g label
   unfolding jump
   edge_acts g slots base number label at_f at_b h known e =
       let n = numbers_at tables slots base in
       let phis_here : phis_of (block_at P f e.edge.block) ≡ e.begins.block.phis = ap phis_of e.begins.here in
-      let moves = phis_move P.globals I.base names n g.registers h (label_of (block_at P f b)) (entries_of e.edge.moves tables.moves) (phis_of (block_at P f e.edge.block)) e.moves
-      (λ j k p x s t l. known.phis e.edge.block j k e.begins.block p x e.begins.here (subst (λ ps. slice_get ps j ≡ Some p) phis_here s) t l) in
+      let moves =
+      phis_move P.globals I.base names n g.registers h (label_of (block_at P f b))
+      (entries_of e.edge.moves tables.moves) (phis_of (block_at P f e.edge.block)) e.moves
+      (λ j k p x s t l. known.phis e.edge.block j k e.begins.block p x e.begins.here
+      (subst (λ ps. slice_get ps j ≡ Some p) phis_here s) t l) in
       ap (edge_action names n g.registers) e.here
       ∙ ap (Jumps e.edge.block) moves
       ∙ sym (ap (jump_to P I g) (ap (λ x. block_number (blocks_of P x) label) at_f ∙ e.numbered)
-      ∙ ap₂ (λ x y. Jumps e.edge.block (after_phis P.globals I.base g.registers (label_of (block_at P x y)) (phis_of (block_at P x e.edge.block)))) at_f at_b)
+      ∙ ap₂ (λ x y. Jumps e.edge.block (after_phis P.globals I.base g.registers (label_of (block_at P x y))
+      (phis_of (block_at P x e.edge.block)))) at_f at_b)
 
   -- a branch that takes the edge to a label
-  branches : (w : World) (below : ℕ) (g : Frame) (slots : List ℕ) (base : ℕ) (go : Go) (label : List ℕ) → g.function ≡ f → g.block ≡ b → HoldsFrame names slots base g.registers → KnowsPhis P f b g.registers →
-      GoWithin (numbers_at tables slots base) go → IsEdge P I f b tables (edge_taken (numbers_at tables slots base) go) label →
-      Acting P I w below f (numbers_at tables slots base) g.registers (ops.Control (controls.Go go)) true (jump P I g label)
+  branches : (w : World) (below : ℕ) (g : Frame) (slots : List ℕ) (base : ℕ) (go : Go) (label : List ℕ) → g.function ≡ f
+      → g.block ≡ b → HoldsFrame names slots base g.registers → KnowsPhis P f b g.registers →
+      GoWithin (numbers_at tables slots base) go
+      → IsEdge P I f b tables (edge_taken (numbers_at tables slots base) go) label →
+      Acting P I w below f (numbers_at tables slots base) g.registers (ops.Control (controls.Go go)) true
+      (jump P I g label)
   branches w below g slots base go label at_f at_b h known within e = record {
     within = within;
     placed = edge_placed slots base g.registers (edge_taken (numbers_at tables slots base) go) label h e;
@@ -79,17 +95,22 @@ module _ (P : Program) (I : Input) (f b : ℕ) (tables : Tables) where
     acts = edge_acts g slots base (edge_taken (numbers_at tables slots base) go) label at_f at_b h known e;
   }
 
-  pub resolves_br : (number : ℕ) (label : List ℕ) → IsEdge P I f b tables number label → EndResolves P I f b tables (ops.Control (controls.Go (goes.Br number))) (ends.Br label)
+  pub resolves_br : (number : ℕ) (label : List ℕ) → IsEdge P I f b tables number label
+      → EndResolves P I f b tables (ops.Control (controls.Go (goes.Br number))) (ends.Br label)
   unfolding end_action
   resolves_br number label e = record {
-    acts = λ w below g slots base at_f at_b h k known. branches w below g slots base (goes.Br number) label at_f at_b h known (edge_within slots base g.registers number label h e) e;
+    acts =
+        λ w below g slots base at_f at_b h k known. branches w below g slots base
+        (goes.Br number) label at_f at_b h known (edge_within slots base g.registers number label h e) e;
   }
 
-  chosen : (x : Bool) (one other : ℕ) (first second : List ℕ) → IsEdge P I f b tables one first → IsEdge P I f b tables other second → IsEdge P I f b tables (cond x one other) (cond x first second)
+  chosen : (x : Bool) (one other : ℕ) (first second : List ℕ) → IsEdge P I f b tables one first
+      → IsEdge P I f b tables other second → IsEdge P I f b tables (cond x one other) (cond x first second)
   chosen true one other first second p q = p
   chosen false one other first second p q = q
 
-  pub resolves_cond : (t : Operand) (x : named.Operand) (one other : ℕ) (first second : List ℕ) → stands_for t x → IsEdge P I f b tables one first → IsEdge P I f b tables other second →
+  pub resolves_cond : (t : Operand) (x : named.Operand) (one other : ℕ) (first second : List ℕ) → stands_for t x
+      → IsEdge P I f b tables one first → IsEdge P I f b tables other second →
       EndResolves P I f b tables (ops.Control (controls.Go (goes.Cond t one other))) (ends.CondBr x first second)
   unfolding end_action
   resolves_cond t x one other first second o p q = record {
@@ -97,30 +118,45 @@ module _ (P : Program) (I : Input) (f b : ℕ) (tables : Tables) where
         let n = numbers_at tables slots base in
         let test = operand_same P.globals I.base names n g.registers t x o h k.all.0 in
         let v = value_of P.globals I.base g.registers x in
-        branches w below g slots base (goes.Cond t one other) (cond (nat_eq v 1) first second) at_f at_b h known
-        (test.within, edge_within slots base g.registers one first h p, edge_within slots base g.registers other second h q)
-        (subst (λ u. IsEdge P I f b tables (cond (nat_eq u 1) one other) (cond (nat_eq v 1) first second)) (sym test.same) (chosen (nat_eq v 1) one other first second p q));
+        branches w below g slots base (goes.Cond t one other) (cond (nat_eq v 1) first second) at_f at_b h known (
+          test.within,
+          edge_within slots base g.registers one first h p,
+          edge_within slots base g.registers other second h q,
+        )
+        (subst (λ u. IsEdge P I f b tables (cond (nat_eq u 1) one other) (cond (nat_eq v 1) first second))
+        (sym test.same) (chosen (nat_eq v 1) one other first second p q));
   }
 
-  case_taken : (v : ℕ) (cs : List Case) (ds : List named_case.Case) (other : ℕ) (label : List ℕ) → are_cases P I f b tables cs ds → IsEdge P I f b tables other label → IsEdge P I f b tables (case_edge v cs other) (case_label v ds label)
+  case_taken : (v : ℕ) (cs : List Case) (ds : List named_case.Case) (other : ℕ) (label : List ℕ)
+      → are_cases P I f b tables cs ds → IsEdge P I f b tables other label
+      → IsEdge P I f b tables (case_edge v cs other) (case_label v ds label)
   case_taken v [] [] other label a e = e
   case_taken v [] (d ∷ ds) other label a e = absurd a
   case_taken v (c ∷ cs) [] other label a e = absurd a
   case_taken v (c ∷ cs) (d ∷ ds) other label a e =
-      subst (λ u. IsEdge P I f b tables (cond (nat_eq u v) c.edge (case_edge v cs other)) (cond (nat_eq d.value.value v) d.label (case_label v ds label))) (sym a.0)
-      (chosen (nat_eq d.value.value v) c.edge (case_edge v cs other) d.label (case_label v ds label) a.1 (case_taken v cs ds other label a.2 e))
+      subst (λ u. IsEdge P I f b tables (cond (nat_eq u v) c.edge (case_edge v cs other))
+      (cond (nat_eq d.value.value v) d.label (case_label v ds label))) (sym a.0)
+      (chosen (nat_eq d.value.value v) c.edge (case_edge v cs other) d.label (case_label v ds label) a.1
+      (case_taken v cs ds other label a.2 e))
 
-  cases_within : (slots : List ℕ) (base : ℕ) (rs : Registers) (cs : List Case) (ds : List named_case.Case) → HoldsFrame names slots base rs → are_cases P I f b tables cs ds → CasesWithin (numbers_at tables slots base) cs
+  cases_within : (slots : List ℕ) (base : ℕ) (rs : Registers) (cs : List Case) (ds : List named_case.Case)
+      → HoldsFrame names slots base rs → are_cases P I f b tables cs ds → CasesWithin (numbers_at tables slots base) cs
   cases_within slots base rs [] ds h a = record { at = λ k c e. absurd (let z : ⊥ = cc in z) }
   cases_within slots base rs (c ∷ cs) [] h a = absurd a
-  cases_within slots base rs (c ∷ cs) (d ∷ ds) h a = let later = cases_within slots base rs cs ds h a.2 in record { at = λ k x e. at later k x e }
+  cases_within slots base rs (c ∷ cs) (d ∷ ds) h a =
+      let later = cases_within slots base rs cs ds h a.2 in record { at = λ k x e. at later k x e }
     where
-      at : CasesWithin (numbers_at tables slots base) cs → (k : ℕ) (x : Case) → slice_get (c ∷ cs) k ≡ Some x → EdgeWithin (numbers_at tables slots base) x.edge
-      at later zero x e = let same : c ≡ x = cc in subst (λ (y : Case). EdgeWithin (numbers_at tables slots base) y.edge) same (edge_within slots base rs c.edge d.label h a.1)
+      at : CasesWithin (numbers_at tables slots base) cs → (k : ℕ) (x : Case) → slice_get (c ∷ cs) k ≡ Some x
+          → EdgeWithin (numbers_at tables slots base) x.edge
+      at later zero x e =
+          let same : c ≡ x = cc in subst (λ (y : Case). EdgeWithin (numbers_at tables slots base) y.edge) same
+          (edge_within slots base rs c.edge d.label h a.1)
       at later (suc k) x e = later.at k x e
 
-  pub resolves_switch : (width : Width) (t : Operand) (x : named.Operand) (cases : Span) (ds : List named_case.Case) (other : ℕ) (label : List ℕ) →
-      stands_for t x → HasSpan cases tables.cases → are_cases P I f b tables (entries_of cases tables.cases) ds → IsEdge P I f b tables other label →
+  pub resolves_switch : (width : Width) (t : Operand) (x : named.Operand) (cases : Span) (ds : List named_case.Case)
+      (other : ℕ) (label : List ℕ) →
+      stands_for t x → HasSpan cases tables.cases → are_cases P I f b tables (entries_of cases tables.cases) ds
+      → IsEdge P I f b tables other label →
       EndResolves P I f b tables (ops.Control (controls.Go (goes.Switch t cases other))) (ends.Switch width x label ds)
   unfolding end_action
   resolves_switch width t x cases ds other label o room a e = record {
@@ -128,14 +164,21 @@ module _ (P : Program) (I : Input) (f b : ℕ) (tables : Tables) where
         let n = numbers_at tables slots base in
         let test = operand_same P.globals I.base names n g.registers t x o h k.all.0 in
         let v = value_of P.globals I.base g.registers x in
-        branches w below g slots base (goes.Switch t cases other) (case_label v ds label) at_f at_b h known
-        (test.within, room, cases_within slots base g.registers (entries_of cases tables.cases) ds h a, edge_within slots base g.registers other label h e)
-        (subst (λ u. IsEdge P I f b tables (case_edge u (entries_of cases tables.cases) other) (case_label v ds label)) (sym test.same) (case_taken v (entries_of cases tables.cases) ds other label a e));
+        branches w below g slots base (goes.Switch t cases other) (case_label v ds label) at_f at_b h known (
+          test.within,
+          room,
+          cases_within slots base g.registers (entries_of cases tables.cases) ds h a,
+          edge_within slots base g.registers other label h e,
+        )
+        (subst (λ u. IsEdge P I f b tables (case_edge u (entries_of cases tables.cases) other) (case_label v ds label))
+        (sym test.same) (case_taken v (entries_of cases tables.cases) ds other label a e));
   }
 
   -- ---- returns
 
-  pub resolves_return : (ty : Scalar) (a : Operand) (x : named.Operand) → stands_for a x → EndResolves P I f b tables (ops.Control (controls.Exit (exits.Value a))) (ends.Ret (Some (record { ty = ty; value = x })))
+  pub resolves_return : (ty : Scalar) (a : Operand) (x : named.Operand) → stands_for a x
+      → EndResolves P I f b tables (ops.Control (controls.Exit (exits.Value a)))
+      (ends.Ret (Some (record { ty = ty; value = x })))
   unfolding end_action
   resolves_return ty a x p = record {
     acts = λ w below g slots base at_f at_b h k known.
@@ -145,8 +188,16 @@ module _ (P : Program) (I : Input) (f b : ℕ) (tables : Tables) where
 
   pub resolves_return_nothing : EndResolves P I f b tables (ops.Control (controls.Exit exits.Nothing)) (ends.Ret None)
   unfolding end_action
-  resolves_return_nothing = record { acts = λ w below g slots base at_f at_b h k known. record { within = tt; placed = tt; turn = refl; acts = refl } }
+  resolves_return_nothing =
+      record {
+        acts = λ w below g slots base at_f at_b h k known.
+            record { within = tt; placed = tt; turn = refl; acts = refl };
+      }
 
   pub resolves_unreachable : EndResolves P I f b tables (ops.Control (controls.Exit exits.Unreachable)) ends.Unreachable
   unfolding end_action
-  resolves_unreachable = record { acts = λ w below g slots base at_f at_b h k known. record { within = tt; placed = tt; turn = refl; acts = refl } }
+  resolves_unreachable =
+      record {
+        acts = λ w below g slots base at_f at_b h k known.
+            record { within = tt; placed = tt; turn = refl; acts = refl };
+      }

@@ -49,22 +49,28 @@ pub record Comes (n : Numbers) (t : Ty) (indices : List ℕ) (offset : ℕ) (ter
   pub offset_is : part.offset ≡ offset + sum_of n terms
   pub within : TermsWithin n terms
 
-module _ (globals : List GlobalVar) (region : ℕ) (names : List (List ℕ)) (n : Numbers) (rs : Registers) (h : HoldsFrame names n.slots n.base rs) where
+module _ (globals : List GlobalVar) (region : ℕ) (names : List (List ℕ)) (n : Numbers) (rs : Registers)
+    (h : HoldsFrame names n.slots n.base rs) where
   abbrev indices_of : List Arg → List ℕ
   indices_of args = index_values globals region rs args
 
   -- an index that a register holds
-  scaled : (a : Arg) (size : ℕ) (t : Term) → IsScaled globals region names n.tables.constants a size t → are_known rs (arg_uses (a ∷ [])) →
+  scaled : (a : Arg) (size : ℕ) (t : Term) → IsScaled globals region names n.tables.constants a size t
+      → are_known rs (arg_uses (a ∷ [])) →
       term_value n t ≡ index_value a.ty (value_of globals region rs a.value) * size
   scaled a size t s k =
       ap₂ (λ c (w : Width). c * extended w (operand_value n t.index)) s.scale s.width
-      ∙ ap (λ v. size * extended (width_of a.ty) v) (operand_same globals region names n rs t.index a.value s.index h k.0).same
+      ∙ ap (λ v. size * extended (width_of a.ty) v)
+      (operand_same globals region names n rs t.index a.value s.index h k.0).same
       ∙ mul_comm size (index_value a.ty (value_of globals region rs a.value))
 
-  fixed : (a : Arg) (index : ℕ) → IsFixed globals region a index → index_value a.ty (value_of globals region rs a.value) ≡ index
+  fixed : (a : Arg) (index : ℕ) → IsFixed globals region a index
+      → index_value a.ty (value_of globals region rs a.value) ≡ index
   fixed a index x = ap (λ o. index_value a.ty (value_of globals region rs o)) x.is ∙ x.index_is
 
-  path_comes : (rest_args : List Arg) (t : Ty) (offset : ℕ) (terms : List Term) → is_path globals region names n.tables.constants t rest_args offset terms → are_known rs (arg_uses rest_args) → Comes n t (indices_of rest_args) offset terms
+  path_comes : (rest_args : List Arg) (t : Ty) (offset : ℕ) (terms : List Term)
+      → is_path globals region names n.tables.constants t rest_args offset terms → are_known rs (arg_uses rest_args)
+      → Comes n t (indices_of rest_args) offset terms
   path_comes [] t offset terms p k = record {
     part = record { offset = 0; ty = t };
     there = refl;
@@ -73,10 +79,13 @@ module _ (globals : List GlobalVar) (region : ℕ) (names : List (List ℕ)) (n 
   }
   path_comes (a ∷ rest_args) t offset terms (inl p) k =
       let c = path_comes rest_args p.1.ty p.2 terms p.6 k.1 in
-      let first : enter t (index_value a.ty (value_of globals region rs a.value)) ≡ Some p.1 = ap (enter t) (fixed a p.0 p.3) ∙ p.4 in
+      let first : enter t (index_value a.ty (value_of globals region rs a.value)) ≡ Some p.1 =
+      ap (enter t) (fixed a p.0 p.3) ∙ p.4 in
       record {
         part = record { offset = p.1.offset + c.part.offset; ty = c.part.ty };
-        there = ap (option_and_then (λ q. further q.offset (part_at (indices_of rest_args) q.ty))) first ∙ ap (further p.1.offset) c.there;
+        there =
+            ap (option_and_then (λ q. further q.offset (part_at (indices_of rest_args) q.ty))) first
+            ∙ ap (further p.1.offset) c.there;
         offset_is = (let e = p.5 in let d = c.offset_is in omega (arith, e, d));
         within = c.within;
       }
@@ -86,9 +95,15 @@ module _ (globals : List GlobalVar) (region : ℕ) (names : List (List ℕ)) (n 
       let first : enter t i ≡ Some (record { offset = i * size_of p.1; ty = p.1 }) = ap (enter_level i) p.5 in
       record {
         part = record { offset = i * size_of p.1 + c.part.offset; ty = c.part.ty };
-        there = ap (option_and_then (λ q. further q.offset (part_at (indices_of rest_args) q.ty))) first ∙ ap (further (i * size_of p.1)) c.there;
-        offset_is = (let e = ap (sum_of n) p.6 in let d = c.offset_is in let s = scaled a (size_of p.1) p.2 p.4 (k.0, tt) in omega (arith, e, d, s));
-        within = subst (TermsWithin n) (sym p.6) (terms_more n p.2 p.3 (operand_within globals region names n rs p.2.index a.value p.4.index h) c.within);
+        there =
+            ap (option_and_then (λ q. further q.offset (part_at (indices_of rest_args) q.ty))) first
+            ∙ ap (further (i * size_of p.1)) c.there;
+        offset_is =
+            (let e = ap (sum_of n) p.6 in let d = c.offset_is in let s = scaled a (size_of p.1) p.2 p.4 (k.0, tt) in
+            omega (arith, e, d, s));
+        within =
+            subst (TermsWithin n) (sym p.6) (terms_more n p.2 p.3
+            (operand_within globals region names n rs p.2.index a.value p.4.index h) c.within);
       }
 
   pub record Far (t : Ty) (args : List Arg) (offset : ℕ) (terms : List Term) : Type 0 where
@@ -96,10 +111,13 @@ module _ (globals : List GlobalVar) (region : ℕ) (names : List (List ℕ)) (n 
     pub within : TermsWithin n terms
 
   -- the offset of all indices
-  pub gep_far : (args : List Arg) (t : Ty) (offset : ℕ) (terms : List Term) → IsGep globals region names n.tables.constants t args offset terms → are_known rs (arg_uses args) → Far t args offset terms
+  pub gep_far : (args : List Arg) (t : Ty) (offset : ℕ) (terms : List Term)
+      → IsGep globals region names n.tables.constants t args offset terms → are_known rs (arg_uses args)
+      → Far t args offset terms
   gep_far args t offset terms g k = go args g.is k
     where
-      go : (rest_args : List Arg) → is_gep globals region names n.tables.constants t rest_args offset terms → are_known rs (arg_uses rest_args) → Far t rest_args offset terms
+      go : (rest_args : List Arg) → is_gep globals region names n.tables.constants t rest_args offset terms
+          → are_known rs (arg_uses rest_args) → Far t rest_args offset terms
       go [] p k = record {
         far = ap₂ (λ o s. (o + s) % 2 ^ 64) (sym p.0) (ap (sum_of n) (sym p.1));
         within = subst (TermsWithin n) (sym p.1) (record { at = λ j x e. absurd (let z : ⊥ = cc in z) });
@@ -108,25 +126,34 @@ module _ (globals : List GlobalVar) (region : ℕ) (names : List (List ℕ)) (n 
           let c = path_comes rest_args t p.1 terms p.4 k.1 in
           let i = index_value a.ty (value_of globals region rs a.value) in
           let sum : i * size_of t + c.part.offset ≡ offset + sum_of n terms =
-          (let e = p.3 in let d = c.offset_is in let s : i * size_of t ≡ p.0 * size_of t = ap (λ j. j * size_of t) (fixed a p.0 p.2) in omega (arith, e, d, s)) in
+          (let e = p.3 in let d = c.offset_is in let s : i * size_of t ≡ p.0
+          * size_of t = ap (λ j. j * size_of t) (fixed a p.0 p.2) in omega (arith, e, d, s)) in
           record {
-            far = ap (λ o. unwrap_or (option_map (λ q. (i * size_of t + q.offset) % 2 ^ 64) o) 0) c.there ∙ ap (λ m. m % 2 ^ 64) sum;
+            far =
+                ap (λ o. unwrap_or (option_map (λ q. (i * size_of t + q.offset) % 2 ^ 64) o) 0) c.there
+                ∙ ap (λ m. m % 2 ^ 64) sum;
             within = c.within;
           }
       go (a ∷ rest_args) (inr p) k =
           let c = path_comes rest_args t offset p.1 p.4 k.1 in
           let i = index_value a.ty (value_of globals region rs a.value) in
           let sum : i * size_of t + c.part.offset ≡ offset + sum_of n terms =
-          (let e = ap (sum_of n) p.3 in let d = c.offset_is in let s = scaled a (size_of t) p.0 p.2 (k.0, tt) in omega (arith, e, d, s)) in
+          (let e = ap (sum_of n) p.3 in let d = c.offset_is in let s = scaled a (size_of t) p.0 p.2 (k.0, tt) in
+          omega (arith, e, d, s)) in
           record {
-            far = ap (λ o. unwrap_or (option_map (λ q. (i * size_of t + q.offset) % 2 ^ 64) o) 0) c.there ∙ ap (λ m. m % 2 ^ 64) sum;
-            within = subst (TermsWithin n) (sym p.3) (terms_more n p.0 p.1 (operand_within globals region names n rs p.0.index a.value p.2.index h) c.within);
+            far =
+                ap (λ o. unwrap_or (option_map (λ q. (i * size_of t + q.offset) % 2 ^ 64) o) 0) c.there
+                ∙ ap (λ m. m % 2 ^ 64) sum;
+            within =
+                subst (TermsWithin n) (sym p.3) (terms_more n p.0 p.1
+                (operand_within globals region names n rs p.0.index a.value p.2.index h) c.within);
           }
 
 -- an offset may be cut to 64 bits at each step
 cut_far : (b o m s : ℕ) → o ≡ m % 2 ^ 64 → (b + (o + s)) % 2 ^ 64 ≡ (b + (m + s) % 2 ^ 64) % 2 ^ 64
 cut_far b o m s e =
-    sym (add-mod-mod b (o + s) (2 ^ 64)) ∙ ap (λ x. (b + x) % 2 ^ 64) (ap (λ x. (x + s) % 2 ^ 64) e ∙ mod-add-mod m (2 ^ 64) s)
+    sym (add-mod-mod b (o + s) (2 ^ 64)) ∙ ap (λ x. (b + x) % 2 ^ 64)
+    (ap (λ x. (x + s) % 2 ^ 64) e ∙ mod-add-mod m (2 ^ 64) s)
 
 module _ (P : Program) (I : Input) (f : ℕ) (tables : Tables) where
   abbrev names_here : List (List ℕ)
@@ -136,8 +163,10 @@ module _ (P : Program) (I : Input) (f : ℕ) (tables : Tables) where
   stands_for o x = IsOperand P.globals I.base (names_at P f) tables.constants o x
 
   -- with constant indices alone
-  pub resolves_fixed : (name : List ℕ) (dest : ℕ) (base : Operand) (x : named.Operand) (ty : Ty) (args : List Arg) (inbounds : Bool) (offset whole : ℕ) →
-      number_of names_here name ≡ Some dest → stands_for base x → IsGep P.globals I.base names_here tables.constants ty args whole [] → offset ≡ whole % 2 ^ 64 →
+  pub resolves_fixed : (name : List ℕ) (dest : ℕ) (base : Operand) (x : named.Operand) (ty : Ty) (args : List Arg)
+      (inbounds : Bool) (offset whole : ℕ) →
+      number_of names_here name ≡ Some dest → stands_for base x
+      → IsGep P.globals I.base names_here tables.constants ty args whole [] → offset ≡ whole % 2 ^ 64 →
       Resolves P I f tables (ops.Value dest (values.Gep (geps.Fixed base offset))) (instrs.Gep name inbounds ty x args)
   unfolding instr_action
   resolves_fixed name dest base x ty args inbounds offset whole d p g e = record {
@@ -145,24 +174,31 @@ module _ (P : Program) (I : Input) (f : ℕ) (tables : Tables) where
         let n = numbers_at tables slots at in
         let start = operand_same P.globals I.base names_here n rs base x p h k.all.0 in
         let far = gep_far P.globals I.base names_here n rs h args ty whole [] g k.all.1 in
-        gives P I w below f n rs name dest (values.Gep (geps.Fixed base offset)) (Ok (element_address (value_of P.globals I.base rs x) ty (index_values P.globals I.base rs args))) d h
+        gives P I w below f n rs name dest (values.Gep (geps.Fixed base offset))
+        (Ok (element_address (value_of P.globals I.base rs x) ty (index_values P.globals I.base rs args))) d h
         start.within
-        (ap Ok (ap (λ u. (u + offset) % 2 ^ 64) start.same ∙ ap (λ u. (value_of P.globals I.base rs x + u) % 2 ^ 64) (sym (add-zero offset)) ∙ cut_far (value_of P.globals I.base rs x) offset whole 0 e
+        (ap Ok (ap (λ u. (u + offset) % 2 ^ 64) start.same
+        ∙ ap (λ u. (value_of P.globals I.base rs x + u) % 2 ^ 64) (sym (add-zero offset))
+        ∙ cut_far (value_of P.globals I.base rs x) offset whole 0 e
         ∙ ap (λ u. (value_of P.globals I.base rs x + u) % 2 ^ 64) (sym far.far)));
     names = λ slots base rs h k. record { is = tt };
   }
 
   -- with one index that is no constant
-  pub resolves_scaled : (name : List ℕ) (dest : ℕ) (base : Operand) (x : named.Operand) (ty : Ty) (args : List Arg) (inbounds : Bool) (offset whole : ℕ) (term : Term) →
-      number_of names_here name ≡ Some dest → stands_for base x → IsGep P.globals I.base names_here tables.constants ty args whole (term ∷ []) → offset ≡ whole % 2 ^ 64 →
-      Resolves P I f tables (ops.Value dest (values.Gep (geps.Scaled base term.index term.width term.scale offset))) (instrs.Gep name inbounds ty x args)
+  pub resolves_scaled : (name : List ℕ) (dest : ℕ) (base : Operand) (x : named.Operand) (ty : Ty) (args : List Arg)
+      (inbounds : Bool) (offset whole : ℕ) (term : Term) →
+      number_of names_here name ≡ Some dest → stands_for base x
+      → IsGep P.globals I.base names_here tables.constants ty args whole (term ∷ []) → offset ≡ whole % 2 ^ 64 →
+      Resolves P I f tables (ops.Value dest (values.Gep (geps.Scaled base term.index term.width term.scale offset)))
+      (instrs.Gep name inbounds ty x args)
   unfolding instr_action
   resolves_scaled name dest base x ty args inbounds offset whole term d p g e = record {
     acts = λ w below slots at rs h k.
         let n = numbers_at tables slots at in
         let start = operand_same P.globals I.base names_here n rs base x p h k.all.0 in
         let far = gep_far P.globals I.base names_here n rs h args ty whole (term ∷ []) g k.all.1 in
-        gives P I w below f n rs name dest (values.Gep (geps.Scaled base term.index term.width term.scale offset)) (Ok (element_address (value_of P.globals I.base rs x) ty (index_values P.globals I.base rs args))) d h
+        gives P I w below f n rs name dest (values.Gep (geps.Scaled base term.index term.width term.scale offset))
+        (Ok (element_address (value_of P.globals I.base rs x) ty (index_values P.globals I.base rs args))) d h
         (start.within, far.within.at 0 term refl)
         (ap Ok (ap (λ u. (u + (offset + term_value n term)) % 2 ^ 64) start.same
         ∙ ap (λ u. (value_of P.globals I.base rs x + (offset + u)) % 2 ^ 64) (sym (add-zero (term_value n term)))
@@ -172,17 +208,21 @@ module _ (P : Program) (I : Input) (f : ℕ) (tables : Tables) where
   }
 
   -- with any indices
-  pub resolves_terms : (name : List ℕ) (dest : ℕ) (base : Operand) (x : named.Operand) (ty : Ty) (args : List Arg) (inbounds : Bool) (offset whole : ℕ) (span : Span) →
+  pub resolves_terms : (name : List ℕ) (dest : ℕ) (base : Operand) (x : named.Operand) (ty : Ty) (args : List Arg)
+      (inbounds : Bool) (offset whole : ℕ) (span : Span) →
       number_of names_here name ≡ Some dest → stands_for base x → HasSpan span tables.terms →
-      IsGep P.globals I.base names_here tables.constants ty args whole (entries_of span tables.terms) → offset ≡ whole % 2 ^ 64 →
-      Resolves P I f tables (ops.Value dest (values.Gep (geps.Terms base offset span))) (instrs.Gep name inbounds ty x args)
+      IsGep P.globals I.base names_here tables.constants ty args whole (entries_of span tables.terms)
+      → offset ≡ whole % 2 ^ 64 →
+      Resolves P I f tables (ops.Value dest (values.Gep (geps.Terms base offset span)))
+      (instrs.Gep name inbounds ty x args)
   unfolding instr_action
   resolves_terms name dest base x ty args inbounds offset whole span d p room g e = record {
     acts = λ w below slots at rs h k.
         let n = numbers_at tables slots at in
         let start = operand_same P.globals I.base names_here n rs base x p h k.all.0 in
         let far = gep_far P.globals I.base names_here n rs h args ty whole (entries_of span tables.terms) g k.all.1 in
-        gives P I w below f n rs name dest (values.Gep (geps.Terms base offset span)) (Ok (element_address (value_of P.globals I.base rs x) ty (index_values P.globals I.base rs args))) d h
+        gives P I w below f n rs name dest (values.Gep (geps.Terms base offset span))
+        (Ok (element_address (value_of P.globals I.base rs x) ty (index_values P.globals I.base rs args))) d h
         (start.within, room, far.within)
         (ap Ok (ap (λ u. (u + (offset + sum_of n (entries_of span tables.terms))) % 2 ^ 64) start.same
         ∙ cut_far (value_of P.globals I.base rs x) offset whole (sum_of n (entries_of span tables.terms)) e

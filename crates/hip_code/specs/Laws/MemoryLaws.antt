@@ -61,26 +61,31 @@ module _ (P : Program) (I : Input) (f : ℕ) (tables : Tables) where
 
   pub resolves_load : (name : List ℕ) (dest : ℕ) (ty : Scalar) (align : Option ℕ) (a : Operand) (x : named.Operand) →
       0 < access_align ty align → number_of names name ≡ Some dest → stands_for a x →
-      Resolves P I f tables (ops.Memory (memories.Load dest (width_of ty) (access_align ty align) a)) (instrs.Load name ty x align)
+      Resolves P I f tables (ops.Memory (memories.Load dest (width_of ty) (access_align ty align) a))
+      (instrs.Load name ty x align)
   unfolding instr_action
   resolves_load name dest ty align a x some d p = record {
     acts = λ w below slots base rs h k.
         let n = numbers_at tables slots base in
         let addr = operand_same P.globals I.base names n rs a x p h k.all.0 in
         let load : List ℕ → ℕ → ℕ → Action =
-        λ to at size. accessed P I w at size (access_align ty align) (Assigns (Some to) (little_endian (bytes_at (memory_of P I w) at size) % modulus (width_of ty))) in
+        λ to at size. accessed P I w at size (access_align ty align)
+        (Assigns (Some to) (little_endian (bytes_at (memory_of P I w) at size) % modulus (width_of ty))) in
         record {
           within = (omega (arith, h.room, slot_within names name dest d), addr.within, some);
           placed = name_placed names name dest d;
           turn = refl;
-          acts = ap₂ (λ to at. load to at (widths.bytes_of (width_of ty))) (name_there names name dest d) addr.same ∙ ap (load name (value_of P.globals I.base rs x)) (size_is ty);
+          acts =
+              ap₂ (λ to at. load to at (widths.bytes_of (width_of ty))) (name_there names name dest d) addr.same
+              ∙ ap (load name (value_of P.globals I.base rs x)) (size_is ty);
         };
     names = λ slots base rs h k. record { is = tt };
   }
 
   pub resolves_store : (ty : Scalar) (align : Option ℕ) (v a : Operand) (x y : named.Operand) →
       0 < access_align ty align → stands_for v x → stands_for a y →
-      Resolves P I f tables (ops.Memory (memories.Store (scalar_size ty) (access_align ty align) v a)) (instrs.Store ty x y align)
+      Resolves P I f tables (ops.Memory (memories.Store (scalar_size ty) (access_align ty align) v a))
+      (instrs.Store ty x y align)
   unfolding instr_action
   resolves_store ty align v a x y some p q = record {
     acts = λ w below slots base rs h k.
@@ -91,14 +96,21 @@ module _ (P : Program) (I : Input) (f : ℕ) (tables : Tables) where
           within = (value.within, addr.within, sizes ty, some);
           placed = tt;
           turn = refl;
-          acts = ap₂ (λ b c. accessed P I w b (scalar_size ty) (access_align ty align) (Stores b (bytes_of (scalar_size ty) c))) addr.same value.same;
+          acts =
+              ap₂ (λ b c. accessed P I w b (scalar_size ty) (access_align ty align)
+              (Stores b (bytes_of (scalar_size ty) c))) addr.same value.same;
         };
-    names = λ slots base rs h k. record { is = (operand_same P.globals I.base names (numbers_at tables slots base) rs a y q h k.all.1.0).same };
+    names =
+        λ slots base rs h k. record {
+          is = (operand_same P.globals I.base names
+              (numbers_at tables slots base) rs a y q h k.all.1.0).same;
+        };
   }
 
   pub resolves_alloca : (name : List ℕ) (dest : ℕ) (ty : Ty) (written : Option ℕ) (size align : ℕ) →
       size ≡ (shape ty).size → align ≡ (shape ty).align → 0 < align → align ≤ 8 → number_of names name ≡ Some dest →
-      Resolves P I f tables (ops.Memory (memories.Effect (effects.Alloca dest size align))) (instrs.Alloca name ty written)
+      Resolves P I f tables (ops.Memory (memories.Effect (effects.Alloca dest size align)))
+      (instrs.Alloca name ty written)
   unfolding instr_action
   resolves_alloca name dest ty written size align s a some most d = record {
     acts = λ w below slots base rs h k. record {
@@ -155,14 +167,18 @@ module _ (P : Program) (I : Input) (f : ℕ) (tables : Tables) where
   lines_of w slots base rs lines.FlushAndFence (p ∷ []) a b args h k t some = absurd (let z : ⊥ = cc in z)
   lines_of w slots base rs lines.Nothing params a b args h k t some = absurd (let z : ⊥ = cc in z)
 
-  record Effects (w : World) (n : Numbers) (rs : Registers) (c : ExternCall) (slot : Option ℕ) (a b : Operand) (args : List Arg) (dest : Option (List ℕ)) : Type 0 where
+  record Effects (w : World) (n : Numbers) (rs : Registers) (c : ExternCall) (slot : Option ℕ) (a b : Operand)
+      (args : List Arg) (dest : Option (List ℕ)) : Type 0 where
     within : EffectWithin n (extern_op c slot a b)
     placed : effect_placed names (extern_op c slot a b)
     turn : op_turn (ops.Memory (memories.Effect (extern_op c slot a b))) ≡ not (is_flush_or_fence (Some c))
-    acts : effect_action P I w names n (extern_op c slot a b) ≡ extern_action P I w c (values_of P.globals I.base rs args) dest
+    acts : effect_action P I w names n (extern_op c slot a b)
+        ≡ extern_action P I w c (values_of P.globals I.base rs args) dest
 
-  effects_of : (w : World) (slots : List ℕ) (base : ℕ) (rs : Registers) (c : ExternCall) (slot : Option ℕ) (a b : Operand) (args : List Arg) (dest : Option (List ℕ)) →
-      HoldsFrame names slots base rs → are_known rs (arg_uses args) → is_result names slot dest → are_taken P.globals I.base names tables.constants c args a b →
+  effects_of : (w : World) (slots : List ℕ) (base : ℕ) (rs : Registers) (c : ExternCall) (slot : Option ℕ)
+      (a b : Operand) (args : List Arg) (dest : Option (List ℕ)) →
+      HoldsFrame names slots base rs → are_known rs (arg_uses args) → is_result names slot dest
+      → are_taken P.globals I.base names tables.constants c args a b →
       Effects w (numbers_at tables slots base) rs c slot a b args dest
   effects_of w slots base rs calls.ReadI64 slot a b args dest h k r t =
       let x = result_is names (numbers_at tables slots base) rs slot dest h r in
@@ -176,14 +192,21 @@ module _ (P : Program) (I : Input) (f : ℕ) (tables : Tables) where
   effects_of w slots base rs calls.PmAssert slot a b (x ∷ y ∷ ys) dest h k r t =
       let u = operand_same P.globals I.base names (numbers_at tables slots base) rs a x.value t.0 h k.0 in
       let v = operand_same P.globals I.base names (numbers_at tables slots base) rs b y.value t.1 h k.1.0 in
-      record { within = (u.within, v.within); placed = tt; turn = refl; acts = ap₂ (λ i j. cond (in_region I i j) (Asserts i j) (Traps traps.Address)) u.same v.same }
+      record {
+        within = (u.within, v.within);
+        placed = tt;
+        turn = refl;
+        acts = ap₂ (λ i j. cond (in_region I i j) (Asserts i j) (Traps traps.Address)) u.same v.same;
+      }
   effects_of w slots base rs call slot a b args dest h k r t =
       let l = lines_of w slots base rs (row_of call).effect (row_of call).params a b args h k t refl in
       record { within = l.within; placed = tt; turn = refl; acts = l.acts }
 
   -- a call of an external function
-  pub resolves_extern : (dest : Option (List ℕ)) (slot : Option ℕ) (ret : Option Scalar) (callee : List ℕ) (args : List Arg) (c : ExternCall) (a b : Operand) →
-      call_of callee ≡ Some c → is_result names slot dest → are_taken P.globals I.base names tables.constants c args a b →
+  pub resolves_extern : (dest : Option (List ℕ)) (slot : Option ℕ) (ret : Option Scalar) (callee : List ℕ)
+      (args : List Arg) (c : ExternCall) (a b : Operand) →
+      call_of callee ≡ Some c → is_result names slot dest → are_taken P.globals I.base names tables.constants c args a b
+      →
       Resolves P I f tables (ops.Memory (memories.Effect (extern_op c slot a b))) (instrs.Call dest ret callee args)
   unfolding instr_action
   resolves_extern dest slot ret callee args c a b is r t = record {
@@ -195,5 +218,10 @@ module _ (P : Program) (I : Input) (f : ℕ) (tables : Tables) where
           turn = e.turn ∙ ap (λ o. not (is_flush_or_fence o)) (sym is);
           acts = e.acts ∙ ap (λ o. call_action P I w below o callee (values_of P.globals I.base rs args) dest) (sym is);
         };
-    names = λ slots base rs h k. record { is = subst (λ o. passes_or_effects P (numbers_at tables slots base) o callee (values_of P.globals I.base rs args) (ops.Memory (memories.Effect (extern_op c slot a b)))) (sym is) tt };
+    names =
+        λ slots base rs h k. record {
+          is = subst
+              (λ o. passes_or_effects P (numbers_at tables slots base) o callee (values_of P.globals I.base rs args)
+              (ops.Memory (memories.Effect (extern_op c slot a b)))) (sym is) tt;
+        };
   }

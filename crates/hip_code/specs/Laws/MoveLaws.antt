@@ -38,7 +38,8 @@ read_more n m ms h r = record { at = go }
 written_none : (base size : ℕ) → AreWritten base size []
 written_none base size = record { at = λ k m e. absurd (let z : ⊥ = cc in z) }
 
-written_more : (base size : ℕ) (m : Move) (ms : List Move) → base + m.dest < size → AreWritten base size ms → AreWritten base size (m ∷ ms)
+written_more : (base size : ℕ) (m : Move) (ms : List Move) → base + m.dest < size → AreWritten base size ms
+    → AreWritten base size (m ∷ ms)
 written_more base size m ms h r = record { at = go }
   where
     go : (k : ℕ) (x : Move) → slice_get (m ∷ ms) k ≡ Some x → base + x.dest < size
@@ -48,7 +49,8 @@ written_more base size m ms h r = record { at = go }
 placed_none : (names : List (List ℕ)) → MovesPlaced names []
 placed_none names = record { at = λ k m e. absurd (let z : ⊥ = cc in z) }
 
-placed_more : (names : List (List ℕ)) (m : Move) (ms : List Move) → IsSlot names m.dest → MovesPlaced names ms → MovesPlaced names (m ∷ ms)
+placed_more : (names : List (List ℕ)) (m : Move) (ms : List Move) → IsSlot names m.dest → MovesPlaced names ms
+    → MovesPlaced names (m ∷ ms)
 placed_more names m ms h r = record { at = go }
   where
     go : (k : ℕ) (x : Move) → slice_get (m ∷ ms) k ≡ Some x → IsSlot names x.dest
@@ -64,78 +66,107 @@ pub record MovesAre (n : Numbers) (base size : ℕ) (names : List (List ℕ)) (m
 none_are : (n : Numbers) (base size : ℕ) (names : List (List ℕ)) → MovesAre n base size names []
 none_are n base size names = record { read = read_none n; written = written_none base size; placed = placed_none names }
 
-more_are : (n : Numbers) (base size : ℕ) (names : List (List ℕ)) (m : Move) (ms : List Move) → is_within n m.value → base + m.dest < size → IsSlot names m.dest → MovesAre n base size names ms → MovesAre n base size names (m ∷ ms)
+more_are : (n : Numbers) (base size : ℕ) (names : List (List ℕ)) (m : Move) (ms : List Move) → is_within n m.value
+    → base + m.dest < size → IsSlot names m.dest → MovesAre n base size names ms → MovesAre n base size names (m ∷ ms)
 more_are n base size names m ms r w p rest =
-    record { read = read_more n m ms r rest.read; written = written_more base size m ms w rest.written; placed = placed_more names m ms p rest.placed }
+    record {
+      read = read_more n m ms r rest.read;
+      written = written_more base size m ms w rest.written;
+      placed = placed_more names m ms p rest.placed;
+    }
 
 -- the slots from a base on hold the registers after moves
-pub holds_moved : (n : Numbers) (base : ℕ) (names : List (List ℕ)) (slots : List ℕ) (rs : Registers) (ms : List Move) → MovesPlaced names ms → HoldsFrame names slots base rs →
+pub holds_moved : (n : Numbers) (base : ℕ) (names : List (List ℕ)) (slots : List ℕ) (rs : Registers) (ms : List Move)
+    → MovesPlaced names ms → HoldsFrame names slots base rs →
     HoldsFrame names (put n base ms slots) base (moved names n ms rs)
 holds_moved n base names slots rs [] p h = h
 holds_moved n base names slots rs (m ∷ ms) p h =
-    holds_assigned names (put n base ms slots) base (moved names n ms rs) (name_at names m.dest) m.dest (operand_value n m.value) (p.at 0 m refl)
+    holds_assigned names (put n base ms slots) base (moved names n ms rs) (name_at names m.dest) m.dest
+    (operand_value n m.value) (p.at 0 m refl)
     (holds_moved n base names slots rs ms (record { at = λ k x e. p.at (suc k) x e }) h)
 
 -- ---- phis
 
 abbrev value_from : List GlobalVar → ℕ → Registers → List Edge → List ℕ → ℕ
 value_from globals base rs [] from = 0
-value_from globals base rs (e ∷ es) from = cond (bytes_eq e.label from) (value_of globals base rs e.value) (value_from globals base rs es from)
+value_from globals base rs (e ∷ es) from =
+    cond (bytes_eq e.label from) (value_of globals base rs e.value) (value_from globals base rs es from)
 
-from_edge : (globals : List GlobalVar) (region : ℕ) (rs : Registers) (from : List ℕ) (es : List Edge) (x : named.Operand) → edge_from es from ≡ Some x → value_of globals region rs x ≡ value_from globals region rs es from
+from_edge : (globals : List GlobalVar) (region : ℕ) (rs : Registers) (from : List ℕ) (es : List Edge)
+    (x : named.Operand) → edge_from es from ≡ Some x
+    → value_of globals region rs x ≡ value_from globals region rs es from
 from_edge globals region rs from [] x e = cc
 from_edge globals region rs from (d ∷ es) x e = go (bytes_eq d.label from) e (from_edge globals region rs from es x)
   where
-    go : (b : Bool) → cond b (Some d.value) (edge_from es from) ≡ Some x → (edge_from es from ≡ Some x → value_of globals region rs x ≡ value_from globals region rs es from) →
-        value_of globals region rs x ≡ cond b (value_of globals region rs d.value) (value_from globals region rs es from)
+    go : (b : Bool) → cond b (Some d.value) (edge_from es from) ≡ Some x
+        → (edge_from es from ≡ Some x → value_of globals region rs x ≡ value_from globals region rs es from) →
+        value_of globals region rs x ≡ cond b (value_of globals region rs d.value)
+        (value_from globals region rs es from)
     go true q rest = let same : d.value ≡ x = cc in ap (value_of globals region rs) (sym same)
     go false q rest = rest q
 
 -- the operand of an edge is one for control from its label
-known_edge : (rs : Registers) (from : List ℕ) (es : List Edge) (x : named.Operand) → ((k : ℕ) (e : Edge) → slice_get es k ≡ Some e → e.label ≡ from → IsKnown rs e.value) → edge_from es from ≡ Some x → IsKnown rs x
+known_edge : (rs : Registers) (from : List ℕ) (es : List Edge) (x : named.Operand)
+    → ((k : ℕ) (e : Edge) → slice_get es k ≡ Some e → e.label ≡ from → IsKnown rs e.value) → edge_from es from ≡ Some x
+    → IsKnown rs x
 known_edge rs from [] x all e = absurd (let z : ⊥ = cc in z)
-known_edge rs from (d ∷ es) x all e = go (bytes_eq d.label from) refl e (λ q. known_edge rs from es x (λ k c s l. all (suc k) c s l) q)
+known_edge rs from (d ∷ es) x all e =
+    go (bytes_eq d.label from) refl e (λ q. known_edge rs from es x (λ k c s l. all (suc k) c s l) q)
   where
-    go : (b : Bool) → bytes_eq d.label from ≡ b → cond b (Some d.value) (edge_from es from) ≡ Some x → (edge_from es from ≡ Some x → IsKnown rs x) → IsKnown rs x
-    go true t q later = let same : d.value ≡ x = cc in subst (IsKnown rs) same (all 0 d refl ((bytes_eq-Decides d.label from).0 t))
+    go : (b : Bool) → bytes_eq d.label from ≡ b → cond b (Some d.value) (edge_from es from) ≡ Some x
+        → (edge_from es from ≡ Some x → IsKnown rs x) → IsKnown rs x
+    go true t q later =
+        let same : d.value ≡ x = cc in subst (IsKnown rs) same (all 0 d refl ((bytes_eq-Decides d.label from).0 t))
     go false t q later = later q
 
-module _ (globals : List GlobalVar) (region : ℕ) (names : List (List ℕ)) (n : Numbers) (rs : Registers) (h : HoldsFrame names n.slots n.base rs) (from : List ℕ) where
+module _ (globals : List GlobalVar) (region : ℕ) (names : List (List ℕ)) (n : Numbers) (rs : Registers)
+    (h : HoldsFrame names n.slots n.base rs) (from : List ℕ) where
   -- what the moves of an edge need is there
-  pub phis_are : (ms : List Move) (ps : List Phi) → are_moves globals region names n.tables.constants from ms ps → MovesAre n n.base (length n.slots) names ms
+  pub phis_are : (ms : List Move) (ps : List Phi) → are_moves globals region names n.tables.constants from ms ps
+      → MovesAre n n.base (length n.slots) names ms
   phis_are [] [] a = none_are n n.base (length n.slots) names
   phis_are [] (p ∷ ps) a = absurd a
   phis_are (m ∷ ms) [] a = absurd a
   phis_are (m ∷ ms) (p ∷ ps) a =
-      more_are n n.base (length n.slots) names m ms (operand_within globals region names n rs m.value a.0.operand a.0.value h) (omega (arith, h.room, slot_within names p.dest m.dest a.0.dest))
+      more_are n n.base (length n.slots) names m ms
+      (operand_within globals region names n rs m.value a.0.operand a.0.value h)
+      (omega (arith, h.room, slot_within names p.dest m.dest a.0.dest))
       (name_placed names p.dest m.dest a.0.dest) (phis_are ms ps a.1)
 
   -- the moves give what the phis give
   pub phis_move : (ms : List Move) (ps : List Phi) → are_moves globals region names n.tables.constants from ms ps →
-      ((j k : ℕ) (p : Phi) (e : Edge) → slice_get ps j ≡ Some p → slice_get p.edges k ≡ Some e → e.label ≡ from → IsKnown rs e.value) →
+      ((j k : ℕ) (p : Phi) (e : Edge) → slice_get ps j ≡ Some p → slice_get p.edges k ≡ Some e → e.label ≡ from
+      → IsKnown rs e.value) →
       moved names n ms rs ≡ after_phis globals region rs from ps
   phis_move [] [] a known = refl
   phis_move [] (p ∷ ps) a known = absurd a
   phis_move (m ∷ ms) [] a known = absurd a
   phis_move (m ∷ ms) (p ∷ ps) a known =
-      let k : IsKnown rs a.0.operand = known_edge rs from p.edges a.0.operand (λ i e s l. known 0 i p e refl s l) a.0.edge in
+      let k : IsKnown rs a.0.operand =
+      known_edge rs from p.edges a.0.operand (λ i e s l. known 0 i p e refl s l) a.0.edge in
       let v = operand_same globals region names n rs m.value a.0.operand a.0.value h k in
-      ap₂ (λ r rest. r ∷ rest) (ap₂ (λ x y. (x, y)) (name_there names p.dest m.dest a.0.dest) (v.same ∙ from_edge globals region rs from p.edges a.0.operand a.0.edge))
+      ap₂ (λ r rest. r ∷ rest) (ap₂ (λ x y. (x, y)) (name_there names p.dest m.dest a.0.dest)
+      (v.same ∙ from_edge globals region rs from p.edges a.0.operand a.0.edge))
       (phis_move ms ps a.1 (λ j i q e s t l. known (suc j) i q e s t l))
 
 -- ---- arguments
 
-module _ (globals : List GlobalVar) (region : ℕ) (names called : List (List ℕ)) (n : Numbers) (rs : Registers) (h : HoldsFrame names n.slots n.base rs) where
-  pub arguments_are : (size : ℕ) (ms : List Move) (ps : List Param) (args : List Arg) → size ≡ length called → are_arguments globals region names called n.tables.constants ms ps args → MovesAre n 0 size called ms
+module _ (globals : List GlobalVar) (region : ℕ) (names called : List (List ℕ)) (n : Numbers) (rs : Registers)
+    (h : HoldsFrame names n.slots n.base rs) where
+  pub arguments_are : (size : ℕ) (ms : List Move) (ps : List Param) (args : List Arg) → size ≡ length called
+      → are_arguments globals region names called n.tables.constants ms ps args → MovesAre n 0 size called ms
   arguments_are size [] ps args s a = none_are n 0 size called
   arguments_are size (m ∷ ms) [] args s a = absurd a
   arguments_are size (m ∷ ms) (p ∷ ps) [] s a = absurd a
   arguments_are size (m ∷ ms) (p ∷ ps) (x ∷ xs) s a =
-      more_are n 0 size called m ms (operand_within globals region names n rs m.value x.value a.1 h) (omega (arith, s, slot_within called p.name m.dest a.0))
+      more_are n 0 size called m ms (operand_within globals region names n rs m.value x.value a.1 h)
+      (omega (arith, s, slot_within called p.name m.dest a.0))
       (name_placed called p.name m.dest a.0) (arguments_are size ms ps xs s a.2)
 
   -- the moves take the arguments' values, where there is a parameter for each
-  pub arguments_pass : (ms : List Move) (ps : List Param) (args : List Arg) → are_arguments globals region names called n.tables.constants ms ps args → are_known rs (arg_uses args) → length args ≤ length ps →
+  pub arguments_pass : (ms : List Move) (ps : List Param) (args : List Arg)
+      → are_arguments globals region names called n.tables.constants ms ps args → are_known rs (arg_uses args)
+      → length args ≤ length ps →
       map (λ m. operand_value n m.value) ms ≡ values_of globals region rs args
   arguments_pass [] ps [] a k few = refl
   arguments_pass [] [] (x ∷ xs) a k few = absurd (omega (arith, few))
@@ -143,10 +174,12 @@ module _ (globals : List GlobalVar) (region : ℕ) (names called : List (List �
   arguments_pass (m ∷ ms) [] args a k few = absurd a
   arguments_pass (m ∷ ms) (p ∷ ps) [] a k few = absurd a
   arguments_pass (m ∷ ms) (p ∷ ps) (x ∷ xs) a k few =
-      ap₂ (λ v vs. v ∷ vs) (operand_same globals region names n rs m.value x.value a.1 h k.0).same (arguments_pass ms ps xs a.2 k.1 (omega (arith, few)))
+      ap₂ (λ v vs. v ∷ vs) (operand_same globals region names n rs m.value x.value a.1 h k.0).same
+      (arguments_pass ms ps xs a.2 k.1 (omega (arith, few)))
 
   -- the moves give each parameter its argument
-  pub arguments_move : (ms : List Move) (ps : List Param) (args : List Arg) → are_arguments globals region names called n.tables.constants ms ps args → are_known rs (arg_uses args) →
+  pub arguments_move : (ms : List Move) (ps : List Param) (args : List Arg)
+      → are_arguments globals region names called n.tables.constants ms ps args → are_known rs (arg_uses args) →
       moved called n ms [] ≡ bound ps (values_of globals region rs args)
   arguments_move [] [] args a k = refl
   arguments_move [] (p ∷ ps) [] a k = refl
@@ -155,4 +188,5 @@ module _ (globals : List GlobalVar) (region : ℕ) (names called : List (List �
   arguments_move (m ∷ ms) (p ∷ ps) [] a k = absurd a
   arguments_move (m ∷ ms) (p ∷ ps) (x ∷ xs) a k =
       let v = operand_same globals region names n rs m.value x.value a.1 h k.0 in
-      ap₂ (λ r rest. r ∷ rest) (ap₂ (λ i j. (i, j)) (name_there called p.name m.dest a.0) v.same) (arguments_move ms ps xs a.2 k.1)
+      ap₂ (λ r rest. r ∷ rest) (ap₂ (λ i j. (i, j)) (name_there called p.name m.dest a.0) v.same)
+      (arguments_move ms ps xs a.2 k.1)

@@ -23,10 +23,13 @@ use Rattle.hip_code.specs.declared.op.Operand.TheVariants.{Register, Constant}
 use Rattle.hip_code.specs.declared.op.Value.{Value}
 
 -- what a resolved operand names is there
-pub operand_within : (globals : List GlobalVar) (region : ℕ) (names : List (List ℕ)) (n : Numbers) (rs : Registers) (o : Operand) (x : named.Operand) →
+pub operand_within : (globals : List GlobalVar) (region : ℕ) (names : List (List ℕ)) (n : Numbers) (rs : Registers)
+    (o : Operand) (x : named.Operand) →
     IsOperand globals region names n.tables.constants o x → HoldsFrame names n.slots n.base rs → is_within n o
-operand_within globals region names n rs (Register slot) (Reg name) r h = omega (arith, h.room, slot_within names name slot r.is)
-operand_within globals region names n rs (Constant place) (Fixed value) r h = slice_get_within n.tables.constants place _ r.is
+operand_within globals region names n rs (Register slot) (Reg name) r h =
+    omega (arith, h.room, slot_within names name slot r.is)
+operand_within globals region names n rs (Constant place) (Fixed value) r h =
+    slice_get_within n.tables.constants place _ r.is
 operand_within globals region names n rs (Register slot) (Fixed value) r h = absurd r.is
 operand_within globals region names n rs (Constant place) (Reg name) r h = absurd r.is
 
@@ -35,18 +38,25 @@ pub record SameValue (n : Numbers) (o : Operand) (v : ℕ) : Type 0 where
   pub same : operand_value n o ≡ v
 
 -- a resolved operand has the operand's value
-pub operand_same : (globals : List GlobalVar) (region : ℕ) (names : List (List ℕ)) (n : Numbers) (rs : Registers) (o : Operand) (x : named.Operand) →
-    IsOperand globals region names n.tables.constants o x → HoldsFrame names n.slots n.base rs → IsKnown rs x → SameValue n o (value_of globals region rs x)
+pub operand_same : (globals : List GlobalVar) (region : ℕ) (names : List (List ℕ)) (n : Numbers) (rs : Registers)
+    (o : Operand) (x : named.Operand) →
+    IsOperand globals region names n.tables.constants o x → HoldsFrame names n.slots n.base rs → IsKnown rs x
+    → SameValue n o (value_of globals region rs x)
 operand_same globals region names n rs (Register slot) (Reg name) r h k =
     record { within = omega (arith, h.room, slot_within names name slot r.is); same = h.holds name slot r.is k }
 operand_same globals region names n rs (Constant place) (Fixed value) r h k =
-    record { within = slice_get_within n.tables.constants place _ r.is; same = get_or_from_slice_get n.tables.constants place _ 0 r.is }
+    record {
+      within = slice_get_within n.tables.constants place _ r.is;
+      same = get_or_from_slice_get n.tables.constants place _ 0 r.is;
+    }
 operand_same globals region names n rs (Register slot) (Fixed value) r h k = absurd r.is
 operand_same globals region names n rs (Constant place) (Reg name) r h k = absurd r.is
 
 -- an op gives a result to a register
-pub gives : (P : Program) (I : Input) (w : World) (below f : ℕ) (n : Numbers) (rs : Registers) (name : List ℕ) (dest : ℕ) (value : Value) (r : Result ℕ NumTrap) →
-    number_of (names_at P f) name ≡ Some dest → HoldsFrame (names_at P f) n.slots n.base rs → ReadsWithin n value → value_result n value ≡ r →
+pub gives : (P : Program) (I : Input) (w : World) (below f : ℕ) (n : Numbers) (rs : Registers) (name : List ℕ)
+    (dest : ℕ) (value : Value) (r : Result ℕ NumTrap) →
+    number_of (names_at P f) name ≡ Some dest → HoldsFrame (names_at P f) n.slots n.base rs → ReadsWithin n value
+    → value_result n value ≡ r →
     Acting P I w below f n rs (ops.Value dest value) true (gave name r)
 gives P I w below f n rs name dest value r d h reads e = record {
   within = (reads, omega (arith, h.room, slot_within (names_at P f) name dest d));
@@ -61,9 +71,14 @@ pub record ResultIs (names : List (List ℕ)) (n : Numbers) (slot : Option ℕ) 
   pub there : HasResult n slot
 
 -- a result goes to the slot of a register, or nowhere
-pub result_is : (names : List (List ℕ)) (n : Numbers) (rs : Registers) (slot : Option ℕ) (name : Option (List ℕ)) → HoldsFrame names n.slots n.base rs → is_result names slot name → ResultIs names n slot name
+pub result_is : (names : List (List ℕ)) (n : Numbers) (rs : Registers) (slot : Option ℕ) (name : Option (List ℕ))
+    → HoldsFrame names n.slots n.base rs → is_result names slot name → ResultIs names n slot name
 result_is names n rs None None h r = record { name_is = refl; placed = tt; there = tt }
 result_is names n rs (Some slot) (Some name) h r =
-    record { name_is = ap Some (name_there names name slot r); placed = name_placed names name slot r; there = omega (arith, h.room, slot_within names name slot r) }
+    record {
+      name_is = ap Some (name_there names name slot r);
+      placed = name_placed names name slot r;
+      there = omega (arith, h.room, slot_within names name slot r);
+    }
 result_is names n rs None (Some name) h r = absurd r
 result_is names n rs (Some slot) None h r = absurd r

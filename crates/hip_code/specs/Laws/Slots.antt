@@ -12,43 +12,54 @@ use Rattle.hip_code.specs.Frames.{is_assigned, HoldsFrame}
 use Rattle.hip_code.specs.Moves.{name_at}
 
 -- a slot of one name
-pub slot_within : (names : List (List ℕ)) (name : List ℕ) (slot : ℕ) → number_of names name ≡ Some slot → slot < length names
+pub slot_within : (names : List (List ℕ)) (name : List ℕ) (slot : ℕ) → number_of names name ≡ Some slot
+    → slot < length names
 slot_within names name slot e = slice_get_within names slot name (number_of-there names name slot e)
 
 -- the name of a slot is the one whose slot it is
-pub name_there : (names : List (List ℕ)) (name : List ℕ) (slot : ℕ) → number_of names name ≡ Some slot → name_at names slot ≡ name
+pub name_there : (names : List (List ℕ)) (name : List ℕ) (slot : ℕ) → number_of names name ≡ Some slot
+    → name_at names slot ≡ name
 name_there names name slot e = ap (λ o. unwrap_or o []) (number_of-there names name slot e)
 
-pub name_placed : (names : List (List ℕ)) (name : List ℕ) (slot : ℕ) → number_of names name ≡ Some slot → number_of names (name_at names slot) ≡ Some slot
+pub name_placed : (names : List (List ℕ)) (name : List ℕ) (slot : ℕ) → number_of names name ≡ Some slot
+    → number_of names (name_at names slot) ≡ Some slot
 name_placed names name slot e = subst (λ x. number_of names x ≡ Some slot) (sym (name_there names name slot e)) e
 
 -- two names of one slot are one
-one_name : (names : List (List ℕ)) (x y : List ℕ) (slot : ℕ) → number_of names x ≡ Some slot → number_of names y ≡ Some slot → x ≡ y
+one_name : (names : List (List ℕ)) (x y : List ℕ) (slot : ℕ) → number_of names x ≡ Some slot
+    → number_of names y ≡ Some slot → x ≡ y
 one_name names x y slot e f = sym (name_there names x slot e) ∙ name_there names y slot f
 
 -- a register takes a value, and its slot too
 pub holds_assigned : (names : List (List ℕ)) (slots : List ℕ) (base : ℕ) (rs : Registers) (name : List ℕ) (slot v : ℕ) →
-    number_of names name ≡ Some slot → HoldsFrame names slots base rs → HoldsFrame names (slice_set slots (base + slot) v) base (assigned (Some name) v rs)
-holds_assigned names slots base rs name slot v e h = record { room = subst (λ n. base + length names ≤ n) (sym (length-set slots (base + slot) v)) h.room; holds = here }
+    number_of names name ≡ Some slot → HoldsFrame names slots base rs
+    → HoldsFrame names (slice_set slots (base + slot) v) base (assigned (Some name) v rs)
+holds_assigned names slots base rs name slot v e h =
+    record { room = subst (λ n. base + length names ≤ n) (sym (length-set slots (base + slot) v)) h.room; holds = here }
   where
     other : (x : List ℕ) (k : ℕ) → number_of names x ≡ Some k → bytes_eq name x ≡ false → k ≡ slot → ⊥
     other x k n t same =
         let q : name ≡ x = one_name names name x slot e (n ∙ ap Some same) in
         let yes = (bytes_eq-Decides name x).1 q in let z : ⊥ = cc in z
 
-    at_name : (b : Bool) (x : List ℕ) (k : ℕ) → bytes_eq name x ≡ b → number_of names x ≡ Some k → cond b true (is_assigned rs x) ≡ true → slice_index (slice_set slots (base + slot) v) (base + k) ≡ cond b v (look_up rs x)
+    at_name : (b : Bool) (x : List ℕ) (k : ℕ) → bytes_eq name x ≡ b → number_of names x ≡ Some k
+        → cond b true (is_assigned rs x) ≡ true → slice_index (slice_set slots (base + slot) v) (base + k)
+        ≡ cond b v (look_up rs x)
     at_name true x k t n a =
         let q : name ≡ x = (bytes_eq-Decides name x).0 t in
         let same : slot ≡ k = same_Some slot k (sym e ∙ subst (λ y. number_of names y ≡ Some k) (sym q) n) in
         let below : base + slot < length slots = omega (arith, h.room, slot_within names name slot e) in
-        subst (λ j. slice_index (slice_set slots (base + slot) v) (base + j) ≡ v) same (get_or-set_same slots (base + slot) v 0 below)
+        subst (λ j. slice_index (slice_set slots (base + slot) v) (base + j) ≡ v) same
+        (get_or-set_same slots (base + slot) v 0 below)
     at_name false x k t n a =
         let apart : base + k ≡ base + slot → ⊥ = λ z. other x k n t (omega (arith, z)) in
         get_or-set_other slots (base + slot) (base + k) v 0 apart ∙ h.holds x k n a
 
-    here : (x : List ℕ) (k : ℕ) → number_of names x ≡ Some k → is_assigned (assigned (Some name) v rs) x ≡ true → slice_index (slice_set slots (base + slot) v) (base + k) ≡ look_up (assigned (Some name) v rs) x
+    here : (x : List ℕ) (k : ℕ) → number_of names x ≡ Some k → is_assigned (assigned (Some name) v rs) x ≡ true
+        → slice_index (slice_set slots (base + slot) v) (base + k) ≡ look_up (assigned (Some name) v rs) x
     here x k n a = at_name (bytes_eq name x) x k refl n a
 
 -- no register has a value
-pub holds_none : (names : List (List ℕ)) (slots : List ℕ) (base : ℕ) → base + length names ≤ length slots → HoldsFrame names slots base []
+pub holds_none : (names : List (List ℕ)) (slots : List ℕ) (base : ℕ) → base + length names ≤ length slots
+    → HoldsFrame names slots base []
 holds_none names slots base room = record { room = room; holds = λ name slot e a. absurd (let z : ⊥ = cc in z) }

@@ -56,19 +56,28 @@ signed_at_least (pos a) (negsuc b) = refl
 signed_at_least (negsuc a) (pos b) = refl
 signed_at_least (negsuc a) (negsuc b) = at_least b a
 
-compare_gives : (p : Pred) (n : Numbers) (w : Width) (a b : Operand) → rest_result n (compare_op p w a b) ≡ Ok (truth (holds p w (bits w (operand_value n a)).value (bits w (operand_value n b)).value))
+compare_gives : (p : Pred) (n : Numbers) (w : Width) (a b : Operand)
+    → rest_result n (compare_op p w a b) ≡ Ok
+    (truth (holds p w (bits w (operand_value n a)).value (bits w (operand_value n b)).value))
 compare_gives preds.Eq n w a b = refl
 compare_gives preds.Ne n w a b = refl
 compare_gives preds.Ugt n w a b = refl
-compare_gives preds.Uge n w a b = ap (λ t. Ok (truth t)) (at_least (bits w (operand_value n a)).value (bits w (operand_value n b)).value)
+compare_gives preds.Uge n w a b =
+    ap (λ t. Ok (truth t)) (at_least (bits w (operand_value n a)).value (bits w (operand_value n b)).value)
 compare_gives preds.Ult n w a b = refl
-compare_gives preds.Ule n w a b = ap (λ t. Ok (truth t)) (at_least (bits w (operand_value n b)).value (bits w (operand_value n a)).value)
+compare_gives preds.Ule n w a b =
+    ap (λ t. Ok (truth t)) (at_least (bits w (operand_value n b)).value (bits w (operand_value n a)).value)
 compare_gives preds.Sgt n w a b = refl
-compare_gives preds.Sge n w a b = ap (λ t. Ok (truth t)) (signed_at_least (signed w (bits w (operand_value n a)).value) (signed w (bits w (operand_value n b)).value))
+compare_gives preds.Sge n w a b =
+    ap (λ t. Ok (truth t)) (signed_at_least (signed w (bits w (operand_value n a)).value)
+    (signed w (bits w (operand_value n b)).value))
 compare_gives preds.Slt n w a b = refl
-compare_gives preds.Sle n w a b = ap (λ t. Ok (truth t)) (signed_at_least (signed w (bits w (operand_value n b)).value) (signed w (bits w (operand_value n a)).value))
+compare_gives preds.Sle n w a b =
+    ap (λ t. Ok (truth t)) (signed_at_least (signed w (bits w (operand_value n b)).value)
+    (signed w (bits w (operand_value n a)).value))
 
-compare_within : (p : Pred) (n : Numbers) (w : Width) (a b : Operand) → is_within n a → is_within n b → RestWithin n (compare_op p w a b)
+compare_within : (p : Pred) (n : Numbers) (w : Width) (a b : Operand) → is_within n a → is_within n b
+    → RestWithin n (compare_op p w a b)
 compare_within preds.Eq n w a b h k = (h, k)
 compare_within preds.Ne n w a b h k = (h, k)
 compare_within preds.Ugt n w a b h k = (k, h)
@@ -95,14 +104,17 @@ wrapped_cut W16 (negsuc n) = omega arith
 wrapped_cut W32 (negsuc n) = omega arith
 wrapped_cut W64 (negsuc n) = refl
 
-cast_gives : (op : CastOp) (n : Numbers) (from to : Scalar) (a : Operand) → rest_result n (cast_op op (width_of from) (width_of to) a) ≡ Ok (cast_value op from to (operand_value n a))
-cast_gives casts.Sext n from to a = ap Ok (wrapped_cut (width_of to) (signed (width_of from) (bits (width_of from) (operand_value n a)).value))
+cast_gives : (op : CastOp) (n : Numbers) (from to : Scalar) (a : Operand)
+    → rest_result n (cast_op op (width_of from) (width_of to) a) ≡ Ok (cast_value op from to (operand_value n a))
+cast_gives casts.Sext n from to a =
+    ap Ok (wrapped_cut (width_of to) (signed (width_of from) (bits (width_of from) (operand_value n a)).value))
 cast_gives casts.Zext n from to a = refl
 cast_gives casts.Trunc n from to a = refl
 cast_gives casts.Ptrtoint n from to a = refl
 cast_gives casts.Inttoptr n from to a = refl
 
-cast_within : (op : CastOp) (n : Numbers) (from to : Width) (a : Operand) → is_within n a → RestWithin n (cast_op op from to a)
+cast_within : (op : CastOp) (n : Numbers) (from to : Width) (a : Operand) → is_within n a
+    → RestWithin n (cast_op op from to a)
 cast_within casts.Sext n from to a h = h
 cast_within casts.Zext n from to a h = h
 cast_within casts.Trunc n from to a h = h
@@ -118,7 +130,8 @@ module _ (P : Program) (I : Input) (f : ℕ) (tables : Tables) where
   abbrev stands_for : Operand → named.Operand → Type 0
   stands_for o x = IsOperand P.globals I.base (names_at P f) tables.constants o x
 
-  pub resolves_binary : (name : List ℕ) (dest : ℕ) (op : IntegerOp) (named_op : BinaryOp) (flags : Flags) (width : Width) (a b : Operand) (x y : named.Operand) →
+  pub resolves_binary : (name : List ℕ) (dest : ℕ) (op : IntegerOp) (named_op : BinaryOp) (flags : Flags)
+      (width : Width) (a b : Operand) (x y : named.Operand) →
       operation_of op ≡ named_op → number_of names name ≡ Some dest → stands_for a x → stands_for b y →
       Resolves P I f tables (ops.Value dest (values.Integer op width a b)) (instrs.Binary name named_op flags width x y)
   unfolding instr_action
@@ -128,14 +141,18 @@ module _ (P : Program) (I : Input) (f : ℕ) (tables : Tables) where
         let left = operand_same P.globals I.base names n rs a x p h k.all.0 in
         let right = operand_same P.globals I.base names n rs b y q h k.all.1.0 in
         subst (Acting P I w below f n rs (ops.Value dest (values.Integer op width a b)) true)
-        (ap (gave name) (ap number_in (ap₂ (operated (operation_of op) width) left.same right.same ∙ ap (λ o. operated o width (value_of P.globals I.base rs x) (value_of P.globals I.base rs y)) is)) ∙ gave_calculated name _)
+        (ap (gave name) (ap number_in (ap₂ (operated (operation_of op) width) left.same right.same
+        ∙ ap (λ o. operated o width (value_of P.globals I.base rs x) (value_of P.globals I.base rs y)) is))
+        ∙ gave_calculated name _)
         (gives P I w below f n rs name dest (values.Integer op width a b) _ d h (left.within, right.within) refl);
     names = λ slots base rs h k. record { is = tt };
   }
 
-  pub resolves_division : (name : List ℕ) (dest : ℕ) (op : DivisionOp) (named_op : BinaryOp) (flags : Flags) (width : Width) (a b : Operand) (x y : named.Operand) →
+  pub resolves_division : (name : List ℕ) (dest : ℕ) (op : DivisionOp) (named_op : BinaryOp) (flags : Flags)
+      (width : Width) (a b : Operand) (x y : named.Operand) →
       division_of op ≡ named_op → number_of names name ≡ Some dest → stands_for a x → stands_for b y →
-      Resolves P I f tables (ops.Value dest (values.Rest (rests.Other (others.Divide op width a b)))) (instrs.Binary name named_op flags width x y)
+      Resolves P I f tables (ops.Value dest (values.Rest (rests.Other (others.Divide op width a b))))
+      (instrs.Binary name named_op flags width x y)
   unfolding instr_action
   resolves_division name dest op named_op flags width a b x y is d p q = record {
     acts = λ w below slots base rs h k.
@@ -143,29 +160,37 @@ module _ (P : Program) (I : Input) (f : ℕ) (tables : Tables) where
         let left = operand_same P.globals I.base names n rs a x p h k.all.0 in
         let right = operand_same P.globals I.base names n rs b y q h k.all.1.0 in
         subst (Acting P I w below f n rs (ops.Value dest (values.Rest (rests.Other (others.Divide op width a b)))) true)
-        (ap (gave name) (ap number_in (ap₂ (operated (division_of op) width) left.same right.same ∙ ap (λ o. operated o width (value_of P.globals I.base rs x) (value_of P.globals I.base rs y)) is)) ∙ gave_calculated name _)
-        (gives P I w below f n rs name dest (values.Rest (rests.Other (others.Divide op width a b))) _ d h (left.within, right.within) refl);
+        (ap (gave name) (ap number_in (ap₂ (operated (division_of op) width) left.same right.same
+        ∙ ap (λ o. operated o width (value_of P.globals I.base rs x) (value_of P.globals I.base rs y)) is))
+        ∙ gave_calculated name _)
+        (gives P I w below f n rs name dest (values.Rest (rests.Other (others.Divide op width a b))) _ d h
+        (left.within, right.within) refl);
     names = λ slots base rs h k. record { is = tt };
   }
 
   pub resolves_compare : (name : List ℕ) (dest : ℕ) (pred : Pred) (ty : Scalar) (a b : Operand) (x y : named.Operand) →
       number_of names name ≡ Some dest → stands_for a x → stands_for b y →
-      Resolves P I f tables (ops.Value dest (values.Rest (compare_op pred (width_of ty) a b))) (instrs.Compare name pred ty x y)
+      Resolves P I f tables (ops.Value dest (values.Rest (compare_op pred (width_of ty) a b)))
+      (instrs.Compare name pred ty x y)
   unfolding instr_action
   resolves_compare name dest pred ty a b x y d p q = record {
     acts = λ w below slots base rs h k.
         let n = numbers_at tables slots base in
         let left = operand_same P.globals I.base names n rs a x p h k.all.0 in
         let right = operand_same P.globals I.base names n rs b y q h k.all.1.0 in
-        gives P I w below f n rs name dest (values.Rest (compare_op pred (width_of ty) a b)) (Ok (truth (compared pred (width_of ty) (value_of P.globals I.base rs x) (value_of P.globals I.base rs y)))) d h
+        gives P I w below f n rs name dest (values.Rest (compare_op pred (width_of ty) a b))
+        (Ok (truth (compared pred (width_of ty) (value_of P.globals I.base rs x) (value_of P.globals I.base rs y))))
+        d h
         (compare_within pred n (width_of ty) a b left.within right.within)
-        (compare_gives pred n (width_of ty) a b ∙ ap₂ (λ u v. Ok (truth (compared pred (width_of ty) u v))) left.same right.same);
+        (compare_gives pred n (width_of ty) a b ∙ ap₂
+        (λ u v. Ok (truth (compared pred (width_of ty) u v))) left.same right.same);
     names = λ slots base rs h k. record { is = tt };
   }
 
   pub resolves_select : (name : List ℕ) (dest : ℕ) (ty : Scalar) (t a b : Operand) (z x y : named.Operand) →
       number_of names name ≡ Some dest → stands_for t z → stands_for a x → stands_for b y →
-      Resolves P I f tables (ops.Value dest (values.Rest (rests.Other (others.Select t a b)))) (instrs.Select name z ty x y)
+      Resolves P I f tables (ops.Value dest (values.Rest (rests.Other (others.Select t a b))))
+      (instrs.Select name z ty x y)
   unfolding instr_action
   resolves_select name dest ty t a b z x y d o p q = record {
     acts = λ w below slots base rs h k.
@@ -174,7 +199,8 @@ module _ (P : Program) (I : Input) (f : ℕ) (tables : Tables) where
         let left = operand_same P.globals I.base names n rs a x p h k.all.1.0 in
         let right = operand_same P.globals I.base names n rs b y q h k.all.1.1.0 in
         gives P I w below f n rs name dest (values.Rest (rests.Other (others.Select t a b)))
-        (Ok (cond (nat_eq (value_of P.globals I.base rs z) 1) (value_of P.globals I.base rs x) (value_of P.globals I.base rs y))) d h
+        (Ok (cond (nat_eq (value_of P.globals I.base rs z) 1) (value_of P.globals I.base rs x)
+        (value_of P.globals I.base rs y))) d h
         (test.within, left.within, right.within)
         (ap (λ u. Ok (cond (nat_eq u 1) (operand_value n a) (operand_value n b))) test.same
         ∙ ap₂ (λ u v. Ok (cond (nat_eq (value_of P.globals I.base rs z) 1) u v)) left.same right.same);
@@ -183,13 +209,15 @@ module _ (P : Program) (I : Input) (f : ℕ) (tables : Tables) where
 
   pub resolves_cast : (name : List ℕ) (dest : ℕ) (op : CastOp) (from to : Scalar) (a : Operand) (x : named.Operand) →
       number_of names name ≡ Some dest → stands_for a x →
-      Resolves P I f tables (ops.Value dest (values.Rest (cast_op op (width_of from) (width_of to) a))) (instrs.Cast name op from x to)
+      Resolves P I f tables (ops.Value dest (values.Rest (cast_op op (width_of from) (width_of to) a)))
+      (instrs.Cast name op from x to)
   unfolding instr_action
   resolves_cast name dest op from to a x d p = record {
     acts = λ w below slots base rs h k.
         let n = numbers_at tables slots base in
         let value = operand_same P.globals I.base names n rs a x p h k.all.0 in
-        gives P I w below f n rs name dest (values.Rest (cast_op op (width_of from) (width_of to) a)) (Ok (cast_value op from to (value_of P.globals I.base rs x))) d h
+        gives P I w below f n rs name dest (values.Rest (cast_op op (width_of from) (width_of to) a))
+        (Ok (cast_value op from to (value_of P.globals I.base rs x))) d h
         (cast_within op n (width_of from) (width_of to) a value.within)
         (cast_gives op n from to a ∙ ap (λ v. Ok (cast_value op from to v)) value.same);
     names = λ slots base rs h k. record { is = tt };

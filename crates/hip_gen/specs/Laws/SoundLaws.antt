@@ -81,15 +81,25 @@ zero_types : types_in consts.Zero ≡ []
 zero_types = ap types_in (sym consts.rolls-Zero) ∙ fold-roll-Const _ _ _ _ _ _ Const-F.Zero
 
 zero_shape : (t : Ty) → has_shape consts.Zero t ≡ true
-zero_shape t = ap (λ (c : Const). has_shape c t) (sym consts.rolls-Zero) ∙ ap (λ (f : Ty → Bool). f t) (fold-roll-Const _ _ _ _ _ _ Const-F.Zero)
+zero_shape t =
+    ap (λ (c : Const). has_shape c t) (sym consts.rolls-Zero)
+    ∙ ap (λ (f : Ty → Bool). f t) (fold-roll-Const _ _ _ _ _ _ Const-F.Zero)
 
 int64_shape : (n : ℕ) → has_shape (consts.Int (bits W64 n)) (types.Int W64) ≡ true
 int64_shape n =
-    rw (sym (consts.rolls-Int (bits W64 n)), fold-roll-Const _ _ _ _ _ _ (Const-F.Int (bits W64 n)), out-Ty-Int W64) refl
+    rw (
+      sym (consts.rolls-Int (bits W64 n)),
+      fold-roll-Const _ _ _ _ _ _ (Const-F.Int (bits W64 n)),
+      out-Ty-Int W64,
+    ) refl
 
 int32_shape : (n : ℕ) → has_shape (consts.Int (bits W32 n)) (types.Int W32) ≡ true
 int32_shape n =
-    rw (sym (consts.rolls-Int (bits W32 n)), fold-roll-Const _ _ _ _ _ _ (Const-F.Int (bits W32 n)), out-Ty-Int W32) refl
+    rw (
+      sym (consts.rolls-Int (bits W32 n)),
+      fold-roll-Const _ _ _ _ _ _ (Const-F.Int (bits W32 n)),
+      out-Ty-Int W32,
+    ) refl
 
 address_names : (name : List ℕ) → names_in (consts.Address name) ≡ name ∷ []
 address_names name = ap names_in (sym (consts.rolls-Address name)) ∙ fold-roll-Const _ _ _ _ _ _ (Const-F.Address name)
@@ -102,10 +112,14 @@ address_shape name =
     rw (sym (consts.rolls-Address name), fold-roll-Const _ _ _ _ _ _ (Const-F.Address name), out-Ty-Ptr) refl
 
 gep_names-is : (gep : ConstGep) → names_in (consts.Gep gep) ≡ names_in gep.base
-gep_names-is gep = ap names_in (sym (consts.rolls-Gep gep)) ∙ fold-roll-Const _ _ _ _ _ _ (Const-F.Gep gep) ∙ fold_out-ConstGep _ _ _ _ _ _ gep
+gep_names-is gep =
+    ap names_in (sym (consts.rolls-Gep gep)) ∙ fold-roll-Const _ _ _ _ _ _ (Const-F.Gep gep)
+    ∙ fold_out-ConstGep _ _ _ _ _ _ gep
 
 gep_types-are : (gep : ConstGep) → types_in (consts.Gep gep) ≡ gep.ty ∷ types_in gep.base
-gep_types-are gep = ap types_in (sym (consts.rolls-Gep gep)) ∙ fold-roll-Const _ _ _ _ _ _ (Const-F.Gep gep) ∙ fold_out-ConstGep _ _ _ _ _ _ gep
+gep_types-are gep =
+    ap types_in (sym (consts.rolls-Gep gep)) ∙ fold-roll-Const _ _ _ _ _ _ (Const-F.Gep gep)
+    ∙ fold_out-ConstGep _ _ _ _ _ _ gep
 
 gep_shape-is : (gep : ConstGep) → has_shape (consts.Gep gep) types.Ptr ≡ gep_is_sound gep
 gep_shape-is gep =
@@ -127,12 +141,21 @@ record IsElement (c : Const) : Type 0 where
   points : has_shape c types.Ptr ≡ true
 
 abbrev gep_of : List ℕ → ℕ → ℕ → ConstGep
-gep_of name length index = record { inbounds = false; ty = array_of length; base = consts.Address name; indices = bits W64 0 ∷ bits W64 index ∷ [] }
+gep_of name length index =
+    record {
+      inbounds = false;
+      ty = array_of length;
+      base = consts.Address name;
+      indices = bits W64 0 ∷ bits W64 index ∷ [];
+    }
 
 element_shape : (name : List ℕ) (length index : ℕ) → gep_is_sound (gep_of name length index) ≡ true
-element_shape name length index = fold_out-ConstGep _ _ _ _ _ _ (gep_of name length index) ∙ rw (address_shape name, out-Ty-Array length (types.Int W64)) refl
+element_shape name length index =
+    fold_out-ConstGep _ _ _ _ _ _ (gep_of name length index)
+    ∙ rw (address_shape name, out-Ty-Array length (types.Int W64)) refl
 
-element_is : (name : List ℕ) (length index : ℕ) → is_among arrays name ≡ true → length ≤ LARGEST_SIZE → IsElement (element name length index)
+element_is : (name : List ℕ) (length index : ℕ) → is_among arrays name ≡ true → length ≤ LARGEST_SIZE
+    → IsElement (element name length index)
 element_is name length index known small = record {
   name = name;
   ty = array_of length;
@@ -146,13 +169,16 @@ element_is name length index known small = record {
 -- ---- instructions of the groups
 
 -- what holds of the instructions of each group holds of all
-all_groups : (Q : Instr → Type 0) (seed size : ℕ) → ((group : ℕ) (k : Kind) → All Q (group_instrs size group k)) → (n : ℕ) → All Q (instrs_before seed size n)
+all_groups : (Q : Instr → Type 0) (seed size : ℕ) → ((group : ℕ) (k : Kind) → All Q (group_instrs size group k))
+    → (n : ℕ) → All Q (instrs_before seed size n)
 all_groups Q seed size h zero = All-nil Q
 all_groups Q seed size h (suc n) =
-    All-append Q (instrs_before seed size n) (group_instrs size n (kind seed n)) (all_groups Q seed size h n) (h n (kind seed n))
+    All-append Q (instrs_before seed size n) (group_instrs size n (kind seed n)) (all_groups Q seed size h n)
+    (h n (kind seed n))
 
 -- what holds of the three instructions that there are holds of those of each group
-each_group : (Q : Instr → Type 0) (size : ℕ) → size ≤ LARGEST_SIZE → ((c : Const) (value : ℕ) → IsElement c → Q (store c value))
+each_group : (Q : Instr → Type 0) (size : ℕ) → size ≤ LARGEST_SIZE
+    → ((c : Const) (value : ℕ) → IsElement c → Q (store c value))
     → ((c : Const) → IsElement c → Q (flush c)) → ((c : Const) (value : ℕ) → IsElement c → Q (put c value))
     → (group : ℕ) (k : Kind) → All Q (group_instrs size group k)
 each_group Q size small stores flushes puts group k = by_kind k
@@ -172,12 +198,15 @@ each_group Q size small stores flushes puts group k = by_kind k
     by_kind : (k : Kind) → All Q (group_instrs size group k)
     by_kind kinds.Store = All-cons Q (store (persistent_element size group) (group + 1)) [] stored (All-nil Q)
     by_kind kinds.FlushedStore =
-        All-cons Q (store (persistent_element size group) (group + 1)) (flush (persistent_element size group) ∷ []) stored
+        All-cons Q (store (persistent_element size group) (group + 1))
+        (flush (persistent_element size group) ∷ []) stored
         (All-cons Q (flush (persistent_element size group)) [] flushed (All-nil Q))
     by_kind kinds.PersistentCall =
-        All-cons Q (put (persistent_element size group) (group + 1)) [] (puts (persistent_element size group) (group + 1) data_is) (All-nil Q)
+        All-cons Q (put (persistent_element size group) (group + 1)) []
+        (puts (persistent_element size group) (group + 1) data_is) (All-nil Q)
     by_kind kinds.VolatileCall =
-        All-cons Q (put (volatile_element group) (group + 1)) [] (puts (volatile_element group) (group + 1) temp_is) (All-nil Q)
+        All-cons Q (put (volatile_element group) (group + 1)) [] (puts (volatile_element group) (group + 1) temp_is)
+        (All-nil Q)
 
 -- they assign no register
 group_assigns_none : (size group : ℕ) (k : Kind) → body_registers (group_instrs size group k) ≡ []
@@ -199,7 +228,8 @@ UsesNone i = used_registers (instr_uses i) ≡ []
 -- ---- places
 
 one_fits : (c : Const) → IsElement c → All Fits (types_in c ++ [])
-one_fits c e = subst (λ (ts : List Ty). All Fits (ts ++ [])) (sym e.written) (All-cons Fits e.ty [] e.fits (All-nil Fits))
+one_fits c e =
+    subst (λ (ts : List Ty). All Fits (ts ++ [])) (sym e.written) (All-cons Fits e.ty [] e.fits (All-nil Fits))
 
 module _ (size : ℕ) (small : size ≤ LARGEST_SIZE) (body : List Instr) where
   abbrev P : Program
@@ -243,14 +273,19 @@ module _ (size : ℕ) (small : size ≤ LARGEST_SIZE) (body : List Instr) where
 
   -- ---- the rules, one after another
 
-  zeroed_holds : (n : ℕ) (name : List ℕ) (length : ℕ) (persistent : Bool) → length ≤ LARGEST_SIZE → (global_check arrays n (zeroed_array name length persistent)).Holds
+  zeroed_holds : (n : ℕ) (name : List ℕ) (length : ℕ) (persistent : Bool) → length ≤ LARGEST_SIZE
+      → (global_check arrays n (zeroed_array name length persistent)).Holds
   zeroed_holds n name length persistent fits = (
-    subst (λ (ts : List Ty). All Fits (array_of length ∷ ts)) (sym zero_types) (All-cons Fits (array_of length) [] (array_fits length fits) (All-nil Fits)),
+    subst (λ (ts : List Ty). All Fits (array_of length ∷ ts)) (sym zero_types)
+        (All-cons Fits (array_of length) [] (array_fits length fits) (All-nil Fits)),
     (zero_shape (array_of length), rw zero_names refl),
   )
 
   globals_hold : (globals_check P).Holds
-  globals_hold = (zeroed_holds 0 (codes "data") size true small, (zeroed_holds 1 (codes "temp") VOLATILE_LENGTH false (omega arith), tt))
+  globals_hold = (
+    zeroed_holds 0 (codes "data") size true small,
+    (zeroed_holds 1 (codes "temp") VOLATILE_LENGTH false (omega arith), tt),
+  )
 
   region_is : region_size P ≡ next_multiple_of (next_multiple_of 0 8 + size * 8) LINE_SIZE
   region_is = ap (λ (t : Shape). next_multiple_of (next_multiple_of 0 t.align + t.size) LINE_SIZE) (array_shape size)
@@ -261,20 +296,31 @@ module _ (size : ℕ) (small : size ≤ LARGEST_SIZE) (body : List Instr) where
   sizes_hold : (sizes_check P).Holds
   sizes_hold =
       both_true
-      (ap (λ (n : ℕ). nat_le n LARGEST_REGION) region_is ∙ le-leb (next_multiple_of (next_multiple_of 0 8 + size * 8) LINE_SIZE) LARGEST_REGION (omega arith))
+      (ap (λ (n : ℕ). nat_le n LARGEST_REGION) region_is
+      ∙ le-leb (next_multiple_of (next_multiple_of 0 8 + size * 8) LINE_SIZE) LARGEST_REGION (omega arith))
       (ap (λ (n : ℕ). nat_le n (volatile_start + LARGEST_VOLATILE)) volatile_is)
 
   names_differ : body_registers body ≡ [] → AllDiffer (names_in_function (define_main body))
   names_differ none = rw none ((λ h. h), tt)
 
   registers_hold : body_registers body ≡ [] → (registers_check P).Holds
-  registers_hold none = ((differ_after-exact [] (inner_names 0 define_put)).sound refl, (inner-whole 1 (define_main body) (names_differ none), tt))
+  registers_hold none = (
+    (differ_after-exact [] (inner_names 0 define_put)).sound refl,
+    (inner-whole 1 (define_main body) (names_differ none), tt),
+  )
 
   main_holds : All IsChecked body → (block_check s 1 0 (main_block body)).Holds
-  main_holds checked = (tt, (each-whole (instr_at s 1 0) IsChecked body (λ n i h. h (places.Body (site 1 0 n))) checked, end_holds (places.End 1 0)))
+  main_holds checked = (
+    tt,
+    (
+      each-whole (instr_at s 1 0) IsChecked body (λ n i h. h (places.Body (site 1 0 n))) checked,
+      end_holds (places.End 1 0),
+    ),
+  )
 
   put_function_holds : (function_check P 0 define_put).Holds
-  put_function_holds = (each_from-exact 0 _ define_put.blocks (λ n block. block-exact (scope_of P define_put) 0 n block)).sound refl
+  put_function_holds =
+      (each_from-exact 0 _ define_put.blocks (λ n block. block-exact (scope_of P define_put) 0 n block)).sound refl
 
   places_hold : All IsChecked body → (places_check P).Holds
   places_hold checked = (put_function_holds, ((main_holds checked, tt), tt))
@@ -286,19 +332,24 @@ module _ (size : ℕ) (small : size ≤ LARGEST_SIZE) (body : List Instr) where
   put_assigned : AllAssigned define_put 0
   put_assigned =
       All-cons (UseIsAssigned define_put) (used (codes "v")) (used (codes "p") ∷ []) (λ path u. u.none (inr (inl refl)))
-      (All-cons (UseIsAssigned define_put) (used (codes "p")) [] (λ path u. u.none (inl refl)) (All-nil (UseIsAssigned define_put)))
+      (All-cons (UseIsAssigned define_put) (used (codes "p")) [] (λ path u. u.none (inl refl))
+      (All-nil (UseIsAssigned define_put)))
 
-  main_uses : All UsesNone body → (b : ℕ) (block : Block) → slice_get (define_main body).blocks b ≡ Some block → UsesAreAssigned (define_main body) b block
-  main_uses none zero block at = subst (λ (x : Block). UsesAreAssigned (define_main body) 0 x) (same_Some _ _ at) (record {
-    phis = All-nil _;
-    body = λ i instr here. rw (all-at UsesNone body i instr none here) (All-nil _);
-    last = All-nil _;
-  })
+  main_uses : All UsesNone body → (b : ℕ) (block : Block) → slice_get (define_main body).blocks b ≡ Some block
+      → UsesAreAssigned (define_main body) b block
+  main_uses none zero block at =
+      subst (λ (x : Block). UsesAreAssigned (define_main body) 0 x) (same_Some _ _ at) (record {
+        phis = All-nil _;
+        body = λ i instr here. rw (all-at UsesNone body i instr none here) (All-nil _);
+        last = All-nil _;
+      })
   main_uses none (suc b) block at = cc
 
   assigned_hold : All UsesNone body → (f : ℕ) (fn : Function) → slice_get P.functions f ≡ Some fn → AllAssigned fn f
   assigned_hold none zero fn at = subst (λ (g : Function). AllAssigned g 0) (same_Some _ _ at) put_assigned
-  assigned_hold none (suc zero) fn at = subst (λ (g : Function). AllAssigned g 1) (same_Some _ _ at) (assigned-whole (define_main body) 1 (main_uses none))
+  assigned_hold none (suc zero) fn at =
+      subst (λ (g : Function). AllAssigned g 1) (same_Some _ _ at)
+      (assigned-whole (define_main body) 1 (main_uses none))
   assigned_hold none (suc (suc f)) fn at = cc
 
 -- ---- soundness
@@ -306,8 +357,13 @@ module _ (size : ℕ) (small : size ≤ LARGEST_SIZE) (body : List Instr) where
 pub generated_is_sound : (seed size : ℕ) → size ≤ LARGEST_SIZE → IsSound (generated_program seed size)
 generated_is_sound seed size small =
     let body : List Instr = instrs_before seed size size in
-    let checked : All (IsChecked size small body) body = all_groups (IsChecked size small body) seed size (each_group (IsChecked size small body) size small (store_holds size small body) (flush_holds size small body) (put_holds size small body)) size in
-    let none : All UsesNone body = all_groups UsesNone seed size (each_group UsesNone size small (λ c value e. refl) (λ c e. refl) (λ c value e. refl)) size in
+    let checked : All (IsChecked size small body) body =
+    all_groups (IsChecked size small body) seed size
+    (each_group (IsChecked size small body) size small (store_holds size small body) (flush_holds size small body)
+    (put_holds size small body)) size in
+    let none : All UsesNone body =
+    all_groups UsesNone seed size (each_group UsesNone size small (λ c value e. refl) (λ c e. refl)
+    (λ c value e. refl)) size in
     passes-sound (generated_program seed size) (record {
       spelled = generated_is_spelled seed size small;
       names = (differ_after-exact [] (declarations (generated_program seed size))).sound refl;
@@ -324,6 +380,8 @@ generated_is_sound seed size small =
 pub generated_texts_are_read : (seed size : ℕ) → size ≤ LARGEST_SIZE → IsReadAsSound seed size
 generated_texts_are_read seed size small = record {
   canonical = generated_text-is seed size small;
-  reads = subst (λ (text : List ℕ). Reads text (generated_program seed size)) (sym (generated_text-is seed size small)) (generated_is_spelled seed size small);
+  reads =
+      subst (λ (text : List ℕ). Reads text (generated_program seed size)) (sym (generated_text-is seed size small))
+      (generated_is_spelled seed size small);
   sound = generated_is_sound seed size small;
 }

@@ -34,14 +34,25 @@ zero_spelled n = rw (out-Ty-Array n (types.Int W64), out-Const-Zero) refl
 number_spelled : (n : ℕ) → spelled_int W64 (out-Const (consts.Int (bits W64 n))) ≡ true
 number_spelled n = rw (out-Const-Int (bits W64 n)) refl
 
-address_spelled : (depth : ℕ) (name : List ℕ) → is_name name ≡ true → spelled_pointer_within (suc depth) (consts.Address name) ≡ true
+address_spelled : (depth : ℕ) (name : List ℕ) → is_name name ≡ true
+    → spelled_pointer_within (suc depth) (consts.Address name) ≡ true
 unfolding spelled_pointer_within
 address_spelled depth name h = rw (out-Const-Address name, h) refl
 
-element_spelled : (name : List ℕ) (length index : ℕ) → is_name name ≡ true → length ≤ LARGEST_COUNT → spelled_pointer (element name length index) ≡ true
+element_spelled : (name : List ℕ) (length index : ℕ) → is_name name ≡ true → length ≤ LARGEST_COUNT
+    → spelled_pointer (element name length index) ≡ true
 unfolding spelled_pointer_within
 element_spelled name length index h small =
-    rw (out-Const-Gep (record { inbounds = false; ty = array_of length; base = consts.Address name; indices = bits W64 0 ∷ bits W64 index ∷ [] }), array_spelled length small, address_spelled 30 name h) refl
+    rw (
+      out-Const-Gep (record {
+        inbounds = false;
+        ty = array_of length;
+        base = consts.Address name;
+        indices = bits W64 0 ∷ bits W64 index ∷ [];
+      }),
+      array_spelled length small,
+      address_spelled 30 name h,
+    ) refl
 
 -- ---- instructions
 
@@ -60,12 +71,19 @@ persistent_spelled size group h = element_spelled (codes "data") size group refl
 volatile_spelled : (group : ℕ) → spelled_pointer (volatile_element group) ≡ true
 volatile_spelled group = element_spelled (codes "temp") VOLATILE_LENGTH (group % VOLATILE_LENGTH) refl (omega arith)
 
-group_spelled : (size group : ℕ) (k : Kind) → size ≤ LARGEST_SIZE → list_all spelled_instr (group_instrs size group k) ≡ true
-group_spelled size group kinds.Store h = rw (store_spelled (persistent_element size group) (group + 1) (persistent_spelled size group h)) refl
+group_spelled : (size group : ℕ) (k : Kind) → size ≤ LARGEST_SIZE
+    → list_all spelled_instr (group_instrs size group k) ≡ true
+group_spelled size group kinds.Store h =
+    rw (store_spelled (persistent_element size group) (group + 1) (persistent_spelled size group h)) refl
 group_spelled size group kinds.FlushedStore h =
-    rw (store_spelled (persistent_element size group) (group + 1) (persistent_spelled size group h), flush_spelled (persistent_element size group) (persistent_spelled size group h)) refl
-group_spelled size group kinds.PersistentCall h = rw (put_spelled (persistent_element size group) (group + 1) (persistent_spelled size group h)) refl
-group_spelled size group kinds.VolatileCall h = rw (put_spelled (volatile_element group) (group + 1) (volatile_spelled group)) refl
+    rw (
+      store_spelled (persistent_element size group) (group + 1) (persistent_spelled size group h),
+      flush_spelled (persistent_element size group) (persistent_spelled size group h),
+    ) refl
+group_spelled size group kinds.PersistentCall h =
+    rw (put_spelled (persistent_element size group) (group + 1) (persistent_spelled size group h)) refl
+group_spelled size group kinds.VolatileCall h =
+    rw (put_spelled (volatile_element group) (group + 1) (volatile_spelled group)) refl
 
 groups_spelled : (seed size n : ℕ) → size ≤ LARGEST_SIZE → list_all spelled_instr (instrs_before seed size n) ≡ true
 groups_spelled seed size zero h = refl
@@ -78,13 +96,21 @@ groups_spelled seed size (suc n) h =
 block_spelled : (body : List Instr) → list_all spelled_instr body ≡ true → spelled_block (main_block body) ≡ true
 block_spelled body h = rw (h, out-Const-Int (bits W32 0)) refl
 
-global_spelled : (name : List ℕ) (length : ℕ) (persistent : Bool) → is_name name ≡ true → length ≤ LARGEST_COUNT → spelled_global (zeroed_array name length persistent) ≡ true
+global_spelled : (name : List ℕ) (length : ℕ) (persistent : Bool) → is_name name ≡ true → length ≤ LARGEST_COUNT
+    → spelled_global (zeroed_array name length persistent) ≡ true
 global_spelled name length persistent h small = rw (h, array_spelled length small, zero_spelled length) refl
 
-program_spelled : (size : ℕ) (body : List Instr) → size ≤ LARGEST_SIZE → list_all spelled_instr body ≡ true → spelled_program (program_of size body) ≡ true
+program_spelled : (size : ℕ) (body : List Instr) → size ≤ LARGEST_SIZE → list_all spelled_instr body ≡ true
+    → spelled_program (program_of size body) ≡ true
 program_spelled size body small h =
-    rw (global_spelled (codes "data") size true refl (omega arith), global_spelled (codes "temp") VOLATILE_LENGTH false refl (omega arith), block_spelled body h) refl
+    rw (
+      global_spelled (codes "data") size true refl (omega arith),
+      global_spelled (codes "temp") VOLATILE_LENGTH false refl (omega arith),
+      block_spelled body h,
+    ) refl
 
 -- the generated program is spelled
 pub generated_is_spelled : (seed size : ℕ) → size ≤ LARGEST_SIZE → IsSpelled (generated_program seed size)
-generated_is_spelled seed size h = (spelled_exact (generated_program seed size)).0 (program_spelled size (instrs_before seed size size) h (groups_spelled seed size size h))
+generated_is_spelled seed size h =
+    (spelled_exact (generated_program seed size)).0
+    (program_spelled size (instrs_before seed size size) h (groups_spelled seed size size h))

@@ -37,7 +37,9 @@ greater_divides m n p q = go (one_of m n)
 align_divides : (g : GlobalVar) (written : Option ℕ) → g.align ≡ written → spelled_align written ≡ true
     → LARGEST_ALIGNMENT % global_align g ≡ 0
 align_divides g None is e = rw is (divides_page (align_of g.ty) (align_of-alignment g.ty))
-align_divides g (Some n) is e = rw is (greater_divides n (align_of g.ty) (written_divides n e) (divides_page (align_of g.ty) (align_of-alignment g.ty)))
+align_divides g (Some n) is e =
+    rw is (greater_divides n (align_of g.ty) (written_divides n e)
+    (divides_page (align_of g.ty) (align_of-alignment g.ty)))
 
 -- the alignment of each global divides a page
 abbrev pub AllDivide : List GlobalVar → Type 0
@@ -48,7 +50,9 @@ all_divide : (gs : List GlobalVar) → list_all spelled_global gs ≡ true → A
 all_divide [] e = tt
 all_divide (g ∷ gs) e =
     let both = and_parts (spelled_global g) (list_all spelled_global gs) e in
-    let align = (and_parts (spelled_const g.ty g.init) (spelled_align g.align) (and_parts (spelled_type g.ty) _ (and_parts (is_name g.name) _ both.0).1).1).1 in
+    let align =
+    (and_parts (spelled_const g.ty g.init) (spelled_align g.align)
+    (and_parts (spelled_type g.ty) _ (and_parts (is_name g.name) _ both.0).1).1).1 in
     (align_divides g g.align refl align, all_divide gs both.1)
 
 pub spelled-divide : (P : Program) → IsSpelled P → AllDivide P.globals
@@ -70,16 +74,20 @@ page_of_base base a page divides =
 next_from : (base x a : ℕ) → base % a ≡ 0 → next_multiple_of (base + x) a ≡ base + next_multiple_of x a
 next_from base x a e =
     let rest = rest_of_sum base x a e in
-    ap (λ r. base + x + (a - r) % a) rest ∙ (let assoc : base + x + (a - x % a) % a ≡ base + (x + (a - x % a) % a) = omega arith in assoc)
+    ap (λ r. base + x + (a - r) % a) rest ∙ (let assoc : base + x + (a - x % a) % a ≡ base
+    + (x + (a - x % a) % a) = omega arith in assoc)
 
 start_from : (base at : ℕ) (g : GlobalVar) → base % BASE_ALIGNMENT ≡ 0 → LARGEST_ALIGNMENT % global_align g ≡ 0
     → global_start (base + at) g ≡ base + global_start at g
 start_from base at g page divides = next_from base at (global_align g) (page_of_base base (global_align g) page divides)
 
 after : (b : Bool) (base at : ℕ) (g : GlobalVar) → base % BASE_ALIGNMENT ≡ 0 → LARGEST_ALIGNMENT % global_align g ≡ 0 →
-    (if b then global_start (base + at) g + size_of g.ty else base + at) ≡ base + (if b then global_start at g + size_of g.ty else at)
+    (if b then global_start (base + at) g + size_of g.ty else base + at) ≡ base
+    + (if b then global_start at g + size_of g.ty else at)
 after true base at g page divides =
-    ap (λ n. n + size_of g.ty) (start_from base at g page divides) ∙ (let assoc : base + global_start at g + size_of g.ty ≡ base + (global_start at g + size_of g.ty) = omega arith in assoc)
+    ap (λ n. n + size_of g.ty) (start_from base at g page divides)
+    ∙ (let assoc : base + global_start at g + size_of g.ty ≡ base + (global_start at g + size_of g.ty) = omega arith
+    in assoc)
 after false base at g page divides = refl
 
 -- what lies from a base on lies from 0 on, moved by the base
@@ -89,14 +97,16 @@ start_of-from persistent base at [] number page all = refl
 start_of-from persistent base at (g ∷ gs) zero page all = start_from base at g page all.0
 start_of-from persistent base at (g ∷ gs) (suc number) page all =
     ap (λ n. start_of persistent n gs number) (after (same g.persistent persistent) base at g page all.0)
-    ∙ start_of-from persistent base (if same g.persistent persistent then global_start at g + size_of g.ty else at) gs number page all.1
+    ∙ start_of-from persistent base (if same g.persistent persistent then global_start at g
+    + size_of g.ty else at) gs number page all.1
 
 pub end_of-from : (persistent : Bool) (base at : ℕ) (gs : List GlobalVar) → base % BASE_ALIGNMENT ≡ 0 → AllDivide gs
     → end_of persistent (base + at) gs ≡ base + end_of persistent at gs
 end_of-from persistent base at [] page all = refl
 end_of-from persistent base at (g ∷ gs) page all =
     ap (λ n. end_of persistent n gs) (after (same g.persistent persistent) base at g page all.0)
-    ∙ end_of-from persistent base (if same g.persistent persistent then global_start at g + size_of g.ty else at) gs page all.1
+    ∙ end_of-from persistent base (if same g.persistent persistent then global_start at g
+    + size_of g.ty else at) gs page all.1
 
 -- ---- types
 

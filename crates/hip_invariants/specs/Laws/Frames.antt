@@ -112,8 +112,11 @@ module _ (Top : Frame → Type 0) (Below : ℕ → Option (List ℕ) → Frame �
             → frames_hold Top Below (main_number P) (on_frames P I s.world s.lines s.counts fs).frames
         on_them [] q e = tt
         on_them (f ∷ fs) q e =
-            let here : frames_hold Top Below (main_number P) (f ∷ fs) = subst (frames_hold Top Below (main_number P)) q all in
-            carry_out_kept s.world f fs s.lines s.counts (counted (event_at I s.world fs (deed_at P I s.world f fs)) s.counts) here (deed_at P I s.world f fs) (each f fs (record { going = e; frames = q }) here)
+            let here : frames_hold Top Below (main_number P) (f ∷ fs) =
+            subst (frames_hold Top Below (main_number P)) q all in
+            carry_out_kept s.world f fs s.lines s.counts
+            (counted (event_at I s.world fs (deed_at P I s.world f fs)) s.counts) here (deed_at P I s.world f fs)
+            (each f fs (record { going = e; frames = q }) here)
 
         go : (o : Option Ending) → s.world.ending ≡ o → frames_hold Top Below (main_number P) (on_ending P I s o).frames
         go (Some e) q = all

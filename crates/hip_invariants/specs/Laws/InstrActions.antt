@@ -92,11 +92,14 @@ module _ (P : Program) (I : Input) (w : World) (below : ℕ) (rs : Registers) (C
 
     accessed_case : (a n align : ℕ) (x : Action) → Claim x → Claim (accessed P I w a n align x)
     unfolding accessed
-    accessed_case a n align x p = cond_case (nat_eq (a % align) 0) _ (Traps traps.Misaligned) (cond_case (are_valid P I w a n) x (Traps traps.Address) p address) (trap traps.Misaligned (λ e. cc))
+    accessed_case a n align x p =
+        cond_case (nat_eq (a % align) 0) _ (Traps traps.Misaligned)
+        (cond_case (are_valid P I w a n) x (Traps traps.Address) p address) (trap traps.Misaligned (λ e. cc))
 
     flushing_case : (a n : ℕ) (x : Action) → Claim x → Claim (flushing P I w a n x)
     unfolding flushing
-    flushing_case a n x p = cond_case (nat_eq n 0) x _ p (cond_case (are_valid P I w a n) x (Traps traps.Address) p address)
+    flushing_case a n x p =
+        cond_case (nat_eq n 0) x _ p (cond_case (are_valid P I w a n) x (Traps traps.Address) p address)
 
     allocated_case : (dest : List ℕ) (size align : ℕ)
         → ((a : ℕ) → a ≡ next_multiple_of w.mark align → a + size ≤ stack_end → Claim (Allocates dest a size))
@@ -133,7 +136,8 @@ module _ (P : Program) (I : Input) (w : World) (below : ℕ) (rs : Registers) (C
         → (x ≢ calls.ReadI64 → (y : Action) → leaves_registers y → Claim y) → Claim (extern_action P I w x values dest)
     extern_case calls.ReadI64 values dest read still = read_case dest w.left (read refl)
     extern_case calls.PrintI64 values dest read still = still (λ e. cc) _ tt
-    extern_case calls.PmAssert values dest read still = cond_case (in_region I _ _) (Asserts _ _) (Traps traps.Address) (still (λ e. cc) _ tt) address
+    extern_case calls.PmAssert values dest read still =
+        cond_case (in_region I _ _) (Asserts _ _) (Traps traps.Address) (still (λ e. cc) _ tt) address
     extern_case call values dest read still =
         lines_case (row_of call).effect (arg_value values 0) (flushed_size (row_of call).params values) (λ e. cc)
         (still (λ e. cc))
@@ -147,7 +151,9 @@ module _ (P : Program) (I : Input) (w : World) (below : ℕ) (rs : Registers) (C
     numbered_case values dest (Some h) p none = go (slice_get P.functions h) refl
       where
         go : (o : Option Function) → slice_get P.functions h ≡ o → Claim (numbered_call P (Some h) values dest)
-        go None e = rw e (none (λ k fn q f. let same : h ≡ k = cc in let there : None ≡ Some fn = sym e ∙ ap (slice_get P.functions) same ∙ f in absurd (let z : ⊥ = cc in z)))
+        go None e =
+            rw e (none (λ k fn q f. let same : h ≡ k = cc in let there : None ≡ Some fn = sym e
+            ∙ ap (slice_get P.functions) same ∙ f in absurd (let z : ⊥ = cc in z)))
         go (Some fn) e = let q = p h fn refl e in rw e q
 
     entered_case : (callee values : List ℕ) (dest : Option (List ℕ))
@@ -160,13 +166,15 @@ module _ (P : Program) (I : Input) (w : World) (below : ℕ) (rs : Registers) (C
       where
         go : (b : Bool) → nat_lt below 16383 ≡ b
             → Claim (cond b (numbered_call P (function_number P callee) values dest) (Traps traps.Depth))
-        go true e = numbered_case values dest (function_number P callee) (λ h fn q r. p h fn q r (ltb-true below 16383 e)) none
+        go true e =
+            numbered_case values dest (function_number P callee) (λ h fn q r. p h fn q r (ltb-true below 16383 e)) none
         go false e = trap traps.Depth (λ e. cc)
 
     call_case : (dest : Option (List ℕ)) (callee : List ℕ) (args : List Arg) → CallCases dest callee args
         → (o : Option ExternCall) → call_of callee ≡ o
         → Claim (call_action P I w below o callee (values_of P.globals I.base rs args) dest)
-    call_case dest callee args c None e = entered_case callee _ dest (λ h fn q r lt. c.enter h fn e q r lt) (c.missing e)
+    call_case dest callee args c None e =
+        entered_case callee _ dest (λ h fn q r lt. c.enter h fn e q r lt) (c.missing e)
     call_case dest callee args c (Some x) e = extern_case x _ dest (λ q. c.read (e ∙ ap Some q)) (c.extern x e)
 
     pub of_instr_action : (i : Instr) → instr_cases i → Claim (instr_action P I w below rs i)

@@ -108,7 +108,8 @@ module _ (Fact : ℕ → List ℕ → ℕ → Type 0) (Returned : ℕ → ℕ �
 
     pub instr_gives : (w : World) (below : ℕ) (rs : Registers) (i : Instr) → InstrFact g w rs i
         → GivesOn (instr_action P I w below rs i)
-    instr_gives w below rs i p = of_instr_action P I w below rs GivesOn (λ kind n. record { is = tt }) i (gives_by_case w below rs i p.is)
+    instr_gives w below rs i p =
+        of_instr_action P I w below rs GivesOn (λ kind n. record { is = tt }) i (gives_by_case w below rs i p.is)
 
   -- The fact is kept in each way in which a register gets a value, by an instruction or a phi, and of each value
   -- returned.
@@ -130,4 +131,9 @@ module _ (Fact : ℕ → List ℕ → ℕ → Type 0) (Returned : ℕ → ℕ �
   pub fact_holds : KeepsFact → (n : ℕ) → values_in_frames Fact Returned (run P I n).frames
   fact_holds each n =
       actions_keep_facts Fact Returned P I
-      (record { instr = λ m f fs fn block i t h at e. instr_gives f.function (run P I m).world (length fs) f.registers i (each.instr m f fs fn block i t h at e); phi = each.phi; result = each.result }) n
+      (record {
+        instr = λ m f fs fn block i t h at e. instr_gives f.function (run P I m).world (length fs) f.registers i
+            (each.instr m f fs fn block i t h at e);
+        phi = each.phi;
+        result = each.result;
+      }) n

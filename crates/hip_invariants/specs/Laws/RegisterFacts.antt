@@ -87,13 +87,15 @@ module _ (Fact : ℕ → List ℕ → ℕ → Type 0) (Returned : ℕ → ℕ �
   facts_kept f (Reads dest z rest) h p = with_value f.function dest (wrapped W64 z) f.registers p h
   facts_kept f (Calls g rs dest) h p = (λ mark level. p.0, record { hold = h; waits = p.1 })
   facts_kept f (Jumps b rs) h p = p
-  facts_kept f (Returns v) h p = λ g below. with_value g.function f.dest v g.registers (below.waits.for_result v p) below.hold
+  facts_kept f (Returns v) h p =
+      λ g below. with_value g.function f.dest v g.registers (below.waits.for_result v p) below.hold
 
   -- the value that a register has, or 0 where it has none
   pub fact_of_value : (g : ℕ) (rs : Registers) (name : List ℕ) → ValuesHold g rs → Fact g name 0
       → Fact g name (look_up rs name)
   fact_of_value g [] name h none = none
-  fact_of_value g (r ∷ rs) name h none = go (bytes_eq r.0 name) refl (fact_of_value g rs name (record { all = h.all.1 }) none)
+  fact_of_value g (r ∷ rs) name h none =
+      go (bytes_eq r.0 name) refl (fact_of_value g rs name (record { all = h.all.1 }) none)
     where
       go : (b : Bool) → bytes_eq r.0 name ≡ b → Fact g name (look_up rs name)
           → Fact g name (cond b r.1 (look_up rs name))
@@ -109,7 +111,8 @@ module _ (Fact : ℕ → List ℕ → ℕ → Type 0) (Returned : ℕ → ℕ �
   pub each_told : ((g : ℕ) (name : List ℕ) → Fact g name 0) → (fs : List Frame) → values_in_frames fs
       → each_register Fact fs
   each_told none [] h = tt
-  each_told none (f ∷ fs) h = (λ name. fact_of_value f.function f.registers name h.0 (none f.function name), each_told none fs h.1)
+  each_told none (f ∷ fs) h =
+      (λ name. fact_of_value f.function f.registers name h.0 (none f.function name), each_told none fs h.1)
 
   module _ (P : Program) (I : Input) where
     -- Each way in which a register gets a value, or a value is returned: by an instruction, by a phi, and by the end of
@@ -135,7 +138,8 @@ module _ (Fact : ℕ → List ℕ → ℕ → Type 0) (Returned : ℕ → ℕ �
           → slice_get ps k ≡ Some p → Fact f.function p.dest (edge_value P.globals I.base f.registers p.edges from))
           → each_value f.function (after_phis P.globals I.base f.registers from ps)
       phis_hold f c fn block from h at [] each = h.all
-      phis_hold f c fn block from h at (p ∷ ps) each = (each 0 p refl, phis_hold f c fn block from h at ps (λ k q e. each (suc k) q e))
+      phis_hold f c fn block from h at (p ∷ ps) each =
+          (each 0 p refl, phis_hold f c fn block from h at ps (λ k q e. each (suc k) q e))
 
       jump_to_gives : (f : Frame) → ValuesHold f.function f.registers → (o : Option ℕ)
           → GivesFacts f.function (jump_to P I f o)
@@ -164,19 +168,23 @@ module _ (Fact : ℕ → List ℕ → ℕ → Type 0) (Returned : ℕ → ℕ �
           go : (o : Option Block) → block_at P f.function f.block ≡ o → end_of o ≡ Some (ends.Ret arg)
               → Returned f.function (returned P.globals I.base f.registers arg)
           go None q r = cc
-          go (Some block) q r = let at = block_there P f.function f.block block q in kept.result f at.0 block arg h at.1 (let s : block.end ≡ ends.Ret arg = cc in s)
+          go (Some block) q r =
+              let at = block_there P f.function f.block block q in
+              kept.result f at.0 block arg h at.1 (let s : block.end ≡ ends.Ret arg = cc in s)
       end_gives f h (Some ends.Unreachable) e = record { is = tt }
 
       deed_gives : (n : ℕ) (f : Frame) (fs : List Frame) → IsTop (run P I n) f fs → ValuesHold f.function f.registers
           → (code : List Instr) → code_at P f ≡ code →
           GivesFacts f.function (deed_of P I (run P I n).world (length fs) f (end_at P f) code).action
       deed_gives n f fs t h [] e = end_gives f h (end_at P f) refl
-      deed_gives n f fs t h (i ∷ rest) e = go (block_at P f.function f.block) refl (get_drop (body_at P f.function f.block) f.place i rest e)
+      deed_gives n f fs t h (i ∷ rest) e =
+          go (block_at P f.function f.block) refl (get_drop (body_at P f.function f.block) f.place i rest e)
         where
           go : (o : Option Block) → block_at P f.function f.block ≡ o → slice_get (body_of o) f.place ≡ Some i
               → GivesFacts f.function (instr_action P I (run P I n).world (length fs) f.registers i)
           go None q r = cc
-          go (Some block) q r = let at = block_there P f.function f.block block q in kept.instr n f fs at.0 block i t h at.1 r
+          go (Some block) q r =
+              let at = block_there P f.function f.block block q in kept.instr n f fs at.0 block i t h at.1 r
 
       facts_invariant : IsInvariant on_top IsBehindCall P I
       facts_invariant = record {

@@ -89,7 +89,8 @@ pub entry_apart : {A B : Type 0} (f : List ℕ → Option A) (w : List ℕ) (x :
 entry_apart f w x g h p (Word t) e = by_test (bytes_eq t w) refl
   where
     by_test : (b : Bool) → bytes_eq t w ≡ b → is_there (cond b (Some x) (g t)) ≡ false
-    by_test true k = absurd (let same = (bytes_eq-Decides t w).0 k in let none : is_there (f t) ≡ false = rw same h in cc)
+    by_test true k =
+        absurd (let same = (bytes_eq-Decides t w).0 k in let none : is_there (f t) ≡ false = rw same h in cc)
     by_test false k = p (Word t) e
 entry_apart f w x g h p (Label t) e = refl
 entry_apart f w x g h p (Global t) e = refl

@@ -40,18 +40,23 @@ assigned_read = token_begins a_local _ _ _ not_local (λ name. link _ _ _ (λ _.
 
 pub edge_read : (s : Scalar) → IsRead (edge s) (is_mark 91) never
 unfolding edge
-edge_read s = begins _ _ _ (λ _. part_link _ _ _ (operand_read s).exact (λ value. link _ _ _ (λ _. link _ _ _ (λ label. link _ _ _ (λ _. gives_exact _ _)))))
+edge_read s =
+    begins _ _ _ (λ _. part_link _ _ _ (operand_read s).exact
+    (λ value. link _ _ _ (λ _. link _ _ _ (λ label. link _ _ _ (λ _. gives_exact _ _)))))
 
 pub phi_read : (dest : List ℕ) → IsRead (phi dest) (is_word (codes "phi")) comma
 unfolding phi
-phi_read dest = begins _ _ _ (λ _. link _ _ _ (λ s. maps_exact (separated comma (edge s)) _ comma (separated_read (edge s) comma (is_mark 91) (edge_read s)).exact))
+phi_read dest =
+    begins _ _ _ (λ _. link _ _ _ (λ s. maps_exact (separated comma (edge s)) _ comma
+    (separated_read (edge s) comma (is_mark 91) (edge_read s)).exact))
 
 -- ---- instructions, each of which may be followed by any token but perhaps a comma
 
 -- a test is apart from a word and from what comes after it
 from_word : {A : Type 0} (f : List ℕ → Option A) (w : List ℕ) (d : Tok → Bool) → is_word_of f (Word w) ≡ false
     → Apart (is_word_of f) d → Apart (is_word_of f) (joined (is_word w) d)
-from_word f w d h p = apart_joined (is_word_of f) (is_word w) d (apart_sym (is_word w) (is_word_of f) (word_apart w (is_word_of f) h)) p
+from_word f w d h p =
+    apart_joined (is_word_of f) (is_word w) d (apart_sym (is_word w) (is_word_of f) (word_apart w (is_word_of f) h)) p
 
 no_width : (op : BinaryOp) → list_all (λ f. not (is_there (width_word (flag_text f)))) (flags_after op) ≡ true
 no_width op = by_kind (may_wrap op) (may_be_exact op)
@@ -64,70 +69,108 @@ no_width op = by_kind (may_wrap op) (may_be_exact op)
     by_kind false false = refl
 
 flag_apart : (op : BinaryOp) → Apart (is_word_of (flag_word op)) (is_word_of width_word)
-flag_apart op = apart_sym (is_word_of width_word) (is_word_of (flag_word op)) (table_apart width_word flag_text (flags_after op) (no_width op))
+flag_apart op =
+    apart_sym (is_word_of width_word) (is_word_of (flag_word op))
+    (table_apart width_word flag_text (flags_after op) (no_width op))
 
 flags_exact : (op : BinaryOp) → Exact (flags op) (is_word_of (flag_word op))
 unfolding flags
-flags_exact op = maps_exact (repeated (is_word_of (flag_word op)) (token (a_word_of (flag_word op)))) _ _ (repeated_same _ _ (token_read (a_word_of (flag_word op)) _ never (not_word_of (flag_word op))))
+flags_exact op =
+    maps_exact (repeated (is_word_of (flag_word op)) (token (a_word_of (flag_word op)))) _ _
+    (repeated_same _ _ (token_read (a_word_of (flag_word op)) _ never (not_word_of (flag_word op))))
 
 binary_read : (dest : List ℕ) → IsRead (binary dest) (is_word_of binary_word) comma
 unfolding binary
-binary_read dest = token_begins (a_word_of binary_word) _ _ _ (not_word_of binary_word) (λ op. next_exact (flags op) _ _ (is_word_of width_word) comma (flags_exact op)
-    (λ set. token_begins (a_word_of width_word) _ _ _ (not_word_of width_word) (λ w. part_link _ _ _ (operand_read (scalars.Int w)).exact (λ a. link _ _ _ (λ _. part_link _ _ _ (operand_read (scalars.Int w)).exact (λ b. gives_exact _ _)))))
+binary_read dest =
+    token_begins (a_word_of binary_word) _ _ _ (not_word_of binary_word)
+    (λ op. next_exact (flags op) _ _ (is_word_of width_word) comma (flags_exact op)
+    (λ set. token_begins (a_word_of width_word) _ _ _ (not_word_of width_word)
+    (λ w. part_link _ _ _ (operand_read (scalars.Int w)).exact
+    (λ a. link _ _ _ (λ _. part_link _ _ _ (operand_read (scalars.Int w)).exact (λ b. gives_exact _ _)))))
     (flag_apart op))
 
 compare_read : (dest : List ℕ) → IsRead (compare dest) (is_word (codes "icmp")) comma
 unfolding compare
-compare_read dest = begins _ _ _ (λ _. link _ _ _ (λ pred. link _ _ _ (λ s. part_link _ _ _ (operand_read s).exact (λ a. link _ _ _ (λ _. part_link _ _ _ (operand_read s).exact (λ b. gives_exact _ _))))))
+compare_read dest =
+    begins _ _ _ (λ _. link _ _ _ (λ pred. link _ _ _
+    (λ s. part_link _ _ _ (operand_read s).exact
+    (λ a. link _ _ _ (λ _. part_link _ _ _ (operand_read s).exact (λ b. gives_exact _ _))))))
 
 select_read : (dest : List ℕ) → IsRead (select dest) (is_word (codes "select")) comma
 unfolding select
-select_read dest = begins _ _ _ (λ _. link _ _ _ (λ _. part_link _ _ _ (operand_read (scalars.Int W1)).exact (λ cond. link _ _ _ (λ _. link _ _ _ (λ s. part_link _ _ _ (operand_read s).exact (λ a. link _ _ _ (λ _. link _ _ _ (λ _.
+select_read dest =
+    begins _ _ _ (λ _. link _ _ _ (λ _. part_link _ _ _ (operand_read (scalars.Int W1)).exact
+    (λ cond. link _ _ _ (λ _. link _ _ _ (λ s. part_link _ _ _ (operand_read s).exact
+    (λ a. link _ _ _ (λ _. link _ _ _ (λ _.
     part_link _ _ _ (operand_read s).exact (λ b. gives_exact _ _)))))))))
 
 int_cast_read : (dest : List ℕ) → IsRead (int_cast dest) (is_word_of int_cast_word) comma
 unfolding int_cast
-int_cast_read dest = token_begins (a_word_of int_cast_word) _ _ _ (not_word_of int_cast_word) (λ op. link _ _ _ (λ w. part_link _ _ _ (operand_read (scalars.Int w)).exact (λ a. link _ _ _ (λ _. link _ _ _ (λ v. gives_exact _ _)))))
+int_cast_read dest =
+    token_begins (a_word_of int_cast_word) _ _ _ (not_word_of int_cast_word)
+    (λ op. link _ _ _ (λ w. part_link _ _ _ (operand_read (scalars.Int w)).exact
+    (λ a. link _ _ _ (λ _. link _ _ _ (λ v. gives_exact _ _)))))
 
 ptrtoint_read : (dest : List ℕ) → IsRead (ptrtoint dest) (is_word (codes "ptrtoint")) comma
 unfolding ptrtoint
-ptrtoint_read dest = begins _ _ _ (λ _. link _ _ _ (λ _. part_link _ _ _ (operand_read scalars.Ptr).exact (λ a. link _ _ _ (λ _. link _ _ _ (λ w. gives_exact _ _)))))
+ptrtoint_read dest =
+    begins _ _ _ (λ _. link _ _ _ (λ _. part_link _ _ _ (operand_read scalars.Ptr).exact
+    (λ a. link _ _ _ (λ _. link _ _ _ (λ w. gives_exact _ _)))))
 
 inttoptr_read : (dest : List ℕ) → IsRead (inttoptr dest) (is_word (codes "inttoptr")) comma
 unfolding inttoptr
-inttoptr_read dest = begins _ _ _ (λ _. link _ _ _ (λ w. part_link _ _ _ (operand_read (scalars.Int w)).exact (λ a. link _ _ _ (λ _. link _ _ _ (λ _. gives_exact _ _)))))
+inttoptr_read dest =
+    begins _ _ _ (λ _. link _ _ _ (λ w. part_link _ _ _ (operand_read (scalars.Int w)).exact
+    (λ a. link _ _ _ (λ _. link _ _ _ (λ _. gives_exact _ _)))))
 
 alloca_read : (dest : List ℕ) → IsRead (alloca dest) (is_word (codes "alloca")) comma
 unfolding alloca
-alloca_read dest = begins _ _ _ (λ _. part_link _ _ _ (type_read 32).exact (λ ty. maps_exact maybe_align _ comma maybe_align_exact))
+alloca_read dest =
+    begins _ _ _ (λ _. part_link _ _ _ (type_read 32).exact (λ ty. maps_exact maybe_align _ comma maybe_align_exact))
 
 load_read : (dest : List ℕ) → IsRead (load dest) (is_word (codes "load")) comma
 unfolding load
-load_read dest = begins _ _ _ (λ _. link _ _ _ (λ s. link _ _ _ (λ _. link _ _ _ (λ _. part_link _ _ _ (operand_read scalars.Ptr).exact (λ addr. maps_exact maybe_align _ comma maybe_align_exact)))))
+load_read dest =
+    begins _ _ _ (λ _. link _ _ _ (λ s. link _ _ _
+    (λ _. link _ _ _ (λ _. part_link _ _ _ (operand_read scalars.Ptr).exact
+    (λ addr. maps_exact maybe_align _ comma maybe_align_exact)))))
 
 store_read : IsRead store (is_word (codes "store")) comma
 unfolding store
-store_read = begins _ _ _ (λ _. link _ _ _ (λ s. part_link _ _ _ (operand_read s).exact (λ value. link _ _ _ (λ _. link _ _ _ (λ _. part_link _ _ _ (operand_read scalars.Ptr).exact (λ addr. maps_exact maybe_align _ comma maybe_align_exact))))))
+store_read =
+    begins _ _ _ (λ _. link _ _ _ (λ s. part_link _ _ _ (operand_read s).exact
+    (λ value. link _ _ _ (λ _. link _ _ _ (λ _. part_link _ _ _ (operand_read scalars.Ptr).exact
+    (λ addr. maps_exact maybe_align _ comma maybe_align_exact))))))
 
 gep_read : (dest : List ℕ) → IsRead (gep dest) (is_word (codes "getelementptr")) comma
 unfolding gep
-gep_read dest = begins _ _ _ (λ _. next_exact (maybe_word (codes "inbounds")) _ _ begins_type comma (maybe_word_exact (codes "inbounds"))
-    (λ inbounds. then_read type _ begins_type comma (type_read 32) (λ ty. link _ _ _ (λ _. link _ _ _ (λ _. part_link _ _ _ (operand_read scalars.Ptr).exact (λ base. link _ _ _ (λ _.
-    maps_exact (separated comma index) _ comma (separated_read index comma (is_word_of width_word) index_read).exact))))))
+gep_read dest =
+    begins _ _ _ (λ _. next_exact (maybe_word (codes "inbounds")) _ _ begins_type comma
+    (maybe_word_exact (codes "inbounds"))
+    (λ inbounds. then_read type _ begins_type comma (type_read 32)
+    (λ ty. link _ _ _ (λ _. link _ _ _ (λ _. part_link _ _ _ (operand_read scalars.Ptr).exact
+    (λ base. link _ _ _ (λ _.
+    maps_exact (separated comma index) _ comma
+    (separated_read index comma (is_word_of width_word) index_read).exact))))))
     (word_apart (codes "inbounds") begins_type refl))
 
 plain_call_read : (dest : Option (List ℕ)) → IsRead (plain_call dest) (is_word (codes "call")) comma
 unfolding plain_call
 plain_call_read dest = begins _ _ _ (λ _. link _ _ _ (λ result. link _ _ _ (λ callee. link _ _ _ (λ _.
-    maps_exact (listed comma (is_mark 41) arg) _ comma (closed_exact _ comma (listed_read arg comma (is_mark 41) (is_word_of scalar_word) arg_read (mark_apart 44 (is_mark 41) refl) (mark_apart 41 (is_word_of scalar_word) refl)).exact)))))
+    maps_exact (listed comma (is_mark 41) arg) _ comma
+    (closed_exact _ comma (listed_read arg comma (is_mark 41) (is_word_of scalar_word) arg_read
+    (mark_apart 44 (is_mark 41) refl) (mark_apart 41 (is_word_of scalar_word) refl)).exact)))))
 
 abbrev pub begins_call : Tok → Bool
 begins_call = joined (is_word (codes "tail")) (is_word (codes "call"))
 
 call_read : (dest : Option (List ℕ)) → IsRead (call dest) begins_call comma
 unfolding call
-call_read dest = optional_then_read Fault (Unit {0}) Instr (word (codes "tail")) (λ _. plain_call dest) (is_word (codes "tail")) (is_word (codes "call")) comma
-    (passing_read (is_word (codes "tail")) never) (λ _. plain_call_read dest) (word_apart (codes "tail") (is_word (codes "call")) refl)
+call_read dest =
+    optional_then_read Fault (Unit {0}) Instr (word (codes "tail")) (λ _. plain_call dest) (is_word (codes "tail"))
+    (is_word (codes "call")) comma
+    (passing_read (is_word (codes "tail")) never) (λ _. plain_call_read dest)
+    (word_apart (codes "tail") (is_word (codes "call")) refl)
 
 -- ---- any instruction
 
@@ -138,8 +181,11 @@ begins_memory =
 
 memory_read : (dest : List ℕ) → IsRead (memory_instr dest) begins_memory comma
 unfolding memory_instr
-memory_read dest = either_read _ _ _ _ comma (alloca_read dest) (either_read _ _ _ _ comma (load_read dest) (either_read _ _ _ _ comma (gep_read dest) (call_read (Some dest))
-    (word_apart (codes "getelementptr") _ refl)) (word_apart (codes "load") _ refl)) (word_apart (codes "alloca") _ refl)
+memory_read dest =
+    either_read _ _ _ _ comma (alloca_read dest)
+    (either_read _ _ _ _ comma (load_read dest) (either_read _ _ _ _ comma (gep_read dest) (call_read (Some dest))
+    (word_apart (codes "getelementptr") _ refl)) (word_apart (codes "load") _ refl))
+    (word_apart (codes "alloca") _ refl)
 
 abbrev pub begins_cast : Tok → Bool
 begins_cast =
@@ -151,13 +197,19 @@ memory_apart : {A : Type 0} (f : List ℕ → Option A) → is_word_of f (Word (
     → is_word_of f (Word (codes "load")) ≡ false → is_word_of f (Word (codes "getelementptr")) ≡ false
     → is_word_of f (Word (codes "tail")) ≡ false → is_word_of f (Word (codes "call")) ≡ false
     → Apart (is_word_of f) begins_memory
-memory_apart f a b c d e = from_word f _ _ a (from_word f _ _ b (from_word f _ _ c (from_word f _ _ d (apart_sym (is_word (codes "call")) (is_word_of f) (word_apart (codes "call") (is_word_of f) e)))))
+memory_apart f a b c d e =
+    from_word f _ _ a (from_word f _ _ b (from_word f _ _ c
+    (from_word f _ _ d (apart_sym (is_word (codes "call")) (is_word_of f)
+    (word_apart (codes "call") (is_word_of f) e)))))
 
 cast_read : (dest : List ℕ) → IsRead (cast_instr dest) begins_cast comma
 unfolding cast_instr
-cast_read dest = either_read _ _ _ _ comma (int_cast_read dest) (either_read _ _ _ _ comma (ptrtoint_read dest) (either_read _ _ _ _ comma (inttoptr_read dest) (memory_read dest)
+cast_read dest =
+    either_read _ _ _ _ comma (int_cast_read dest)
+    (either_read _ _ _ _ comma (ptrtoint_read dest) (either_read _ _ _ _ comma (inttoptr_read dest) (memory_read dest)
     (word_apart (codes "inttoptr") _ refl)) (word_apart (codes "ptrtoint") _ refl))
-    (from_word int_cast_word _ _ refl (from_word int_cast_word _ _ refl (memory_apart int_cast_word refl refl refl refl refl)))
+    (from_word int_cast_word _ _ refl (from_word int_cast_word _ _ refl
+    (memory_apart int_cast_word refl refl refl refl refl)))
 
 abbrev pub begins_value : Tok → Bool
 begins_value =
@@ -168,17 +220,23 @@ binary_no_cast = table_apart binary_word cast_text int_casts refl
 
 binary_apart : Apart (is_word_of binary_word)
     (joined (is_word (codes "icmp")) (joined (is_word (codes "select")) begins_cast))
-binary_apart = from_word binary_word _ _ refl (from_word binary_word _ _ refl (apart_joined (is_word_of binary_word) (is_word_of int_cast_word) _ binary_no_cast
-    (from_word binary_word _ _ refl (from_word binary_word _ _ refl (memory_apart binary_word refl refl refl refl refl)))))
+binary_apart =
+    from_word binary_word _ _ refl (from_word binary_word _ _ refl
+    (apart_joined (is_word_of binary_word) (is_word_of int_cast_word) _ binary_no_cast
+    (from_word binary_word _ _ refl (from_word binary_word _ _ refl
+    (memory_apart binary_word refl refl refl refl refl)))))
 
 pub value_read : (dest : List ℕ) → IsRead (value_instr dest) begins_value comma
 unfolding value_instr
-value_read dest = either_read _ _ _ _ comma (binary_read dest) (either_read _ _ _ _ comma (compare_read dest) (either_read _ _ _ _ comma (select_read dest) (cast_read dest)
+value_read dest =
+    either_read _ _ _ _ comma (binary_read dest)
+    (either_read _ _ _ _ comma (compare_read dest) (either_read _ _ _ _ comma (select_read dest) (cast_read dest)
     (word_apart (codes "select") _ refl)) (word_apart (codes "icmp") _ refl)) binary_apart
 
 pub effect_read : IsRead effect_instr begins_effect comma
 unfolding effect_instr
-effect_read = either_read store (call None) _ _ comma store_read (call_read None) (word_apart (codes "store") begins_call refl)
+effect_read =
+    either_read store (call None) _ _ comma store_read (call_read None) (word_apart (codes "store") begins_call refl)
 
 assigning_read : IsRead assigning_instr is_local comma
 unfolding assigning_instr
@@ -186,7 +244,9 @@ assigning_read = then_read assigned _ is_local comma assigned_read (λ dest. (va
 
 pub instr_read : IsRead instr begins_instr comma
 unfolding instr
-instr_read = either_read assigning_instr effect_instr is_local begins_effect comma assigning_read effect_read (local_apart begins_effect (λ n. refl))
+instr_read =
+    either_read assigning_instr effect_instr is_local begins_effect comma assigning_read effect_read
+    (local_apart begins_effect (λ n. refl))
 
 -- ---- ends of blocks
 
@@ -196,24 +256,36 @@ target_exact = link _ _ _ (λ _. token_exact a_local never)
 
 jump_read : IsRead jump (is_word (codes "label")) never
 unfolding jump target
-jump_read = maps_read (word (codes "label") >>= λ _. token a_local) _ (is_word (codes "label")) never (begins _ _ _ (λ _. token_exact a_local never))
+jump_read =
+    maps_read (word (codes "label") >>= λ _. token a_local) _ (is_word (codes "label")) never
+    (begins _ _ _ (λ _. token_exact a_local never))
 
 branch_read : IsRead branch (is_word (codes "i1")) never
 unfolding branch
-branch_read = begins _ _ _ (λ _. part_link _ _ _ (operand_read (scalars.Int W1)).exact (λ cond. link _ _ _ (λ _. part_link _ _ _ target_exact (λ yes_label. link _ _ _ (λ _. part_link _ _ _ target_exact (λ no_label. gives_exact _ _))))))
+branch_read =
+    begins _ _ _ (λ _. part_link _ _ _ (operand_read (scalars.Int W1)).exact
+    (λ cond. link _ _ _ (λ _. part_link _ _ _ target_exact
+    (λ yes_label. link _ _ _ (λ _. part_link _ _ _ target_exact (λ no_label. gives_exact _ _))))))
 
 br_read : IsRead br (is_word (codes "br")) never
 unfolding br
-br_read = begins _ _ _ (λ _. (either_read jump branch _ _ never jump_read branch_read (word_apart (codes "label") (is_word (codes "i1")) refl)).exact)
+br_read =
+    begins _ _ _ (λ _. (either_read jump branch _ _ never jump_read branch_read
+    (word_apart (codes "label") (is_word (codes "i1")) refl)).exact)
 
 pub case_read : (w : Width) → IsRead (case w) (is_width w) never
 unfolding case
-case_read w = begins _ _ _ (λ _. link _ _ _ (λ value. link _ _ _ (λ _. part_link _ _ _ target_exact (λ label. gives_exact _ _))))
+case_read w =
+    begins _ _ _ (λ _. link _ _ _ (λ value. link _ _ _ (λ _. part_link _ _ _ target_exact (λ label. gives_exact _ _))))
 
 switch_read : IsRead switch (is_word (codes "switch")) never
 unfolding switch
-switch_read = begins _ _ _ (λ _. link _ _ _ (λ w. part_link _ _ _ (operand_read (scalars.Int w)).exact (λ value. link _ _ _ (λ _. part_link _ _ _ target_exact (λ other. link _ _ _ (λ _.
-    next_exact (repeated (is_width w) (case w)) _ (is_width w) (is_mark 93) never (repeated_same (case w) (is_width w) (case_read w)) (λ cases. begins _ _ _ (λ _. gives_exact _ _)) (word_apart (width_text w) (is_mark 93) refl)))))))
+switch_read =
+    begins _ _ _ (λ _. link _ _ _ (λ w. part_link _ _ _ (operand_read (scalars.Int w)).exact
+    (λ value. link _ _ _ (λ _. part_link _ _ _ target_exact (λ other. link _ _ _ (λ _.
+    next_exact (repeated (is_width w) (case w)) _ (is_width w) (is_mark 93) never
+    (repeated_same (case w) (is_width w) (case_read w)) (λ cases. begins _ _ _ (λ _. gives_exact _ _))
+    (word_apart (width_text w) (is_mark 93) refl)))))))
 
 ret_void_read : IsRead ret_void (is_word (codes "void")) never
 unfolding ret_void
@@ -225,7 +297,9 @@ ret_arg_read = maps_read arg _ _ _ arg_read
 
 ret_end_read : IsRead ret_end (is_word (codes "ret")) never
 unfolding ret_end
-ret_end_read = begins _ _ _ (λ _. (either_read ret_void ret_arg _ _ never ret_void_read ret_arg_read (word_apart (codes "void") (is_word_of scalar_word) refl)).exact)
+ret_end_read =
+    begins _ _ _ (λ _. (either_read ret_void ret_arg _ _ never ret_void_read ret_arg_read
+    (word_apart (codes "void") (is_word_of scalar_word) refl)).exact)
 
 unreachable_read : IsRead unreachable (is_word (codes "unreachable")) never
 unfolding unreachable
@@ -238,7 +312,9 @@ begins_end =
 
 pub end_read : IsRead end begins_end never
 unfolding end
-end_read = either_read br _ _ _ never br_read (either_read switch _ _ _ never switch_read (either_read ret_end unreachable _ _ never ret_end_read unreachable_read
+end_read =
+    either_read br _ _ _ never br_read (either_read switch _ _ _ never switch_read
+    (either_read ret_end unreachable _ _ never ret_end_read unreachable_read
     (word_apart (codes "ret") _ refl)) (word_apart (codes "switch") _ refl)) (word_apart (codes "br") _ refl)
 
 -- ---- blocks
@@ -252,40 +328,60 @@ comma_apart : Apart comma begins_instr
 comma_apart = mark_apart 44 begins_instr refl
 
 effect_apart : Apart begins_effect begins_end
-effect_apart = joined_apart (is_word (codes "store")) begins_call begins_end (word_apart (codes "store") begins_end refl)
-    (joined_apart (is_word (codes "tail")) (is_word (codes "call")) begins_end (word_apart (codes "tail") begins_end refl) (word_apart (codes "call") begins_end refl))
+effect_apart =
+    joined_apart (is_word (codes "store")) begins_call begins_end (word_apart (codes "store") begins_end refl)
+    (joined_apart (is_word (codes "tail")) (is_word (codes "call")) begins_end
+    (word_apart (codes "tail") begins_end refl) (word_apart (codes "call") begins_end refl))
 
 instr_apart : Apart (joined begins_instr comma) begins_end
-instr_apart = joined_apart begins_instr comma begins_end (joined_apart is_local begins_effect begins_end (local_apart begins_end (λ n. refl)) effect_apart) (mark_apart 44 begins_end refl)
+instr_apart =
+    joined_apart begins_instr comma begins_end
+    (joined_apart is_local begins_effect begins_end (local_apart begins_end (λ n. refl)) effect_apart)
+    (mark_apart 44 begins_end refl)
 
 after_first_read : (label : List ℕ) (phis : List Phi) (first : Instr)
     → IsRead (after_first label phis first) (joined begins_instr begins_end) never
 unfolding after_first
-after_first_read label phis first = repeated_then_read Fault Instr Block instr (λ body. closing label phis (first ∷ body)) begins_instr comma begins_end never instr_read comma_apart (λ body. closing_read label phis (first ∷ body)) instr_apart
+after_first_read label phis first =
+    repeated_then_read Fault Instr Block instr
+    (λ body. closing label phis (first ∷ body)) begins_instr comma begins_end never instr_read comma_apart
+    (λ body. closing_read label phis (first ∷ body)) instr_apart
 
 after_name_read : (label : List ℕ) (phis : List Phi) (dest : List ℕ)
     → IsRead (after_name label phis dest) begins_value never
 unfolding after_name
-after_name_read label phis dest = next_read (value_instr dest) _ begins_value comma (joined begins_instr begins_end) never (value_read dest) (λ first. after_first_read label phis first) (mark_apart 44 (joined begins_instr begins_end) refl)
+after_name_read label phis dest =
+    next_read (value_instr dest) _ begins_value comma (joined begins_instr begins_end) never (value_read dest)
+    (λ first. after_first_read label phis first) (mark_apart 44 (joined begins_instr begins_end) refl)
 
 from_effect_read : (label : List ℕ) (phis : List Phi) → IsRead (from_effect label phis) begins_effect never
 unfolding from_effect
-from_effect_read label phis = next_read effect_instr _ begins_effect comma (joined begins_instr begins_end) never effect_read (λ first. after_first_read label phis first) (mark_apart 44 (joined begins_instr begins_end) refl)
+from_effect_read label phis =
+    next_read effect_instr _ begins_effect comma (joined begins_instr begins_end) never effect_read
+    (λ first. after_first_read label phis first) (mark_apart 44 (joined begins_instr begins_end) refl)
 
 after_phis_read : (label : List ℕ) (phis : List Phi)
     → IsRead (after_phis label phis) (joined begins_effect begins_end) never
 unfolding after_phis
-after_phis_read label phis = either_read _ _ begins_effect begins_end never (from_effect_read label phis) (closing_read label phis []) effect_apart
+after_phis_read label phis =
+    either_read _ _ begins_effect begins_end never (from_effect_read label phis)
+    (closing_read label phis []) effect_apart
 
 block_parts : (label : List ℕ) (phis : List Phi)
     → IsSame (both assigned.rule (λ dest. (after_name label phis dest).rule) or (after_phis label phis).rule)
     (instrs_and_end label phis).rule
 unfolding after_name after_phis from_effect after_first instrs_and_end instr assigning_instr
-block_parts label phis = head_or_other assigned.rule (λ dest. (value_instr dest).rule) effect_instr.rule (λ body. (closing label phis body).rule)
+block_parts label phis =
+    head_or_other assigned.rule (λ dest. (value_instr dest).rule) effect_instr.rule
+    (λ body. (closing label phis body).rule)
 
 pub block_read : IsRead block is_label never
 unfolding block
-block_read = token_begins a_label is_label _ never not_label (λ label. phased_exact assigned phi (after_name label) (after_phis label) (instrs_and_end label) is_local (is_word (codes "phi")) comma begins_value (joined begins_effect begins_end) never
+block_read =
+    token_begins a_label is_label _ never not_label
+    (λ label. phased_exact assigned phi (after_name label) (after_phis label) (instrs_and_end label) is_local
+    (is_word (codes "phi")) comma begins_value (joined begins_effect begins_end) never
     assigned_read phi_read (after_name_read label) (after_phis_read label)
-    (local_apart (joined begins_effect begins_end) (λ n. refl)) (word_apart (codes "phi") begins_value refl) (mark_apart 44 is_local refl) (mark_apart 44 (joined begins_effect begins_end) refl)
+    (local_apart (joined begins_effect begins_end) (λ n. refl)) (word_apart (codes "phi") begins_value refl)
+    (mark_apart 44 is_local refl) (mark_apart 44 (joined begins_effect begins_end) refl)
     (block_parts label))

@@ -22,7 +22,9 @@ use Rattle.hip_ir.specs.Laws.Apart.{mark_apart, word_apart, local_apart, not_loc
 -- [ word ]
 pub maybe_word_exact : (w : List ℕ) → Exact (maybe_word w) (is_word w)
 unfolding maybe_word
-maybe_word_exact w = maps_exact (optional (is_word w) (word w)) is_there (is_word w) (optional_same (word w) (is_word w) (passing_read (is_word w) never))
+maybe_word_exact w =
+    maps_exact (optional (is_word w) (word w)) is_there (is_word w)
+    (optional_same (word w) (is_word w) (passing_read (is_word w) never))
 
 -- ---- types
 
@@ -34,24 +36,31 @@ too_deep_read b = token_read (too_deep b) (is_mark b) never (λ t e. rw e refl)
 
 array_type_read : (element : Part Fault Ty) → Exact element never → IsRead (array_type element) (is_mark 91) never
 unfolding array_type
-array_type_read element p = begins _ _ _ (λ _. link _ _ _ (λ count. link _ _ _ (λ _. part_link _ _ _ p (λ ty. link _ _ _ (λ _. gives_exact _ _)))))
+array_type_read element p =
+    begins _ _ _ (λ _. link _ _ _ (λ count. link _ _ _
+    (λ _. part_link _ _ _ p (λ ty. link _ _ _ (λ _. gives_exact _ _)))))
 
 struct_type_read : (field : Part Fault Ty) → IsRead field begins_type never
     → IsRead (struct_type field) (is_mark 123) never
 unfolding struct_type
-struct_type_read field p = begins _ _ _ (λ _. maps_exact _ _ never (listed_read field comma (is_mark 125) begins_type p (mark_apart 44 (is_mark 125) refl) (mark_apart 125 begins_type refl)).exact)
+struct_type_read field p =
+    begins _ _ _ (λ _. maps_exact _ _ never (listed_read field comma (is_mark 125) begins_type p
+    (mark_apart 44 (is_mark 125) refl) (mark_apart 125 begins_type refl)).exact)
 
 type_by_read : (array struct : Part Fault Ty) → IsRead array (is_mark 91) never → IsRead struct (is_mark 123) never
     → IsRead (type_by array struct) begins_type never
 unfolding type_by
 type_by_read array struct p q = either_read array _ (is_mark 91) _ never p
-    (either_read struct _ (is_mark 123) _ never q (token_read (a_word_of type_word) (is_word_of type_word) never (not_word_of type_word)) (mark_apart 123 _ refl))
+    (either_read struct _ (is_mark 123) _ never q
+    (token_read (a_word_of type_word) (is_word_of type_word) never (not_word_of type_word)) (mark_apart 123 _ refl))
     (mark_apart 91 _ refl)
 
 pub type_read : (n : ℕ) → IsRead (type_within n) begins_type never
 unfolding type_within
 type_read zero = type_by_read _ _ (too_deep_read 91) (too_deep_read 123)
-type_read (suc n) = type_by_read _ _ (array_type_read (type_within n) (type_read n).exact) (struct_type_read (type_within n) (type_read n))
+type_read (suc n) =
+    type_by_read _ _ (array_type_read (type_within n) (type_read n).exact)
+    (struct_type_read (type_within n) (type_read n))
 
 -- ---- constants
 
@@ -76,7 +85,8 @@ int_const_read w = token_read (an_int_const w) begins_int_const never (not_int_c
 
 pub literal_index_read : IsRead literal_index (is_word_of width_word) never
 unfolding literal_index
-literal_index_read = token_begins (a_word_of width_word) _ _ _ (not_word_of width_word) (λ w. token_exact (a_literal w) never)
+literal_index_read =
+    token_begins (a_word_of width_word) _ _ _ (not_word_of width_word) (λ w. token_exact (a_literal w) never)
 
 abbrev pub is_pointer_word : List ℕ → Bool
 is_pointer_word t = bytes_eq t (codes "null") || bytes_eq t (codes "zeroinitializer")
@@ -105,13 +115,19 @@ not_pointer (Odd b) e = refl
 gep_const_read : (inside : Bool → Part Fault Const) → ((inbounds : Bool) → IsRead (inside inbounds) (is_mark 40) never)
     → IsRead (gep_const inside) (is_word (codes "getelementptr")) never
 unfolding gep_const
-gep_const_read inside p = begins _ _ _ (λ _. next_exact _ _ (is_word (codes "inbounds")) (is_mark 40) never (maybe_word_exact (codes "inbounds")) p (word_apart (codes "inbounds") (is_mark 40) refl))
+gep_const_read inside p =
+    begins _ _ _ (λ _. next_exact _ _ (is_word (codes "inbounds")) (is_mark 40) never
+    (maybe_word_exact (codes "inbounds")) p (word_apart (codes "inbounds") (is_mark 40) refl))
 
 gep_inside_read : (base : Part Fault Const) (inbounds : Bool) → Exact base never
     → IsRead (gep_inside base inbounds) (is_mark 40) never
 unfolding gep_inside
-gep_inside_read base inbounds p = begins _ _ _ (λ _. part_link _ _ _ (type_read 32).exact (λ ty. link _ _ _ (λ _. link _ _ _ (λ _. part_link _ _ _ p (λ from. link _ _ _ (λ _.
-    next_exact _ _ comma (is_mark 41) never (separated_read literal_index comma (is_word_of width_word) literal_index_read).exact (λ indices. begins _ _ _ (λ _. gives_exact _ _)) (mark_apart 44 (is_mark 41) refl)))))))
+gep_inside_read base inbounds p =
+    begins _ _ _ (λ _. part_link _ _ _ (type_read 32).exact
+    (λ ty. link _ _ _ (λ _. link _ _ _ (λ _. part_link _ _ _ p (λ from. link _ _ _ (λ _.
+    next_exact _ _ comma (is_mark 41) never (separated_read literal_index comma
+    (is_word_of width_word) literal_index_read).exact (λ indices. begins _ _ _ (λ _. gives_exact _ _))
+    (mark_apart 44 (is_mark 41) refl)))))))
 
 -- `getelementptr`, `null`, `zeroinitializer` or a GLOBAL
 abbrev pub begins_pointer_const : Tok → Bool
@@ -120,12 +136,15 @@ begins_pointer_const = joined (is_word (codes "getelementptr")) begins_pointer
 pointer_by_read : (inside : Bool → Part Fault Const) → ((inbounds : Bool) → IsRead (inside inbounds) (is_mark 40) never)
     → IsRead (pointer_by inside) begins_pointer_const never
 unfolding pointer_by
-pointer_by_read inside p = either_read _ _ _ begins_pointer never (gep_const_read inside p) (token_read a_pointer begins_pointer never not_pointer) (word_apart (codes "getelementptr") begins_pointer refl)
+pointer_by_read inside p =
+    either_read _ _ _ begins_pointer never (gep_const_read inside p)
+    (token_read a_pointer begins_pointer never not_pointer) (word_apart (codes "getelementptr") begins_pointer refl)
 
 pub pointer_read : (n : ℕ) → IsRead (pointer_within n) begins_pointer_const never
 unfolding pointer_within
 pointer_read zero = pointer_by_read _ (λ inbounds. too_deep_read 40)
-pointer_read (suc n) = pointer_by_read _ (λ inbounds. gep_inside_read (pointer_within n) inbounds (pointer_read n).exact)
+pointer_read (suc n) =
+    pointer_by_read _ (λ inbounds. gep_inside_read (pointer_within n) inbounds (pointer_read n).exact)
 
 not_zero : (t : Tok) → is_word (codes "zeroinitializer") t ≡ false → zero_const t ≡ No
 not_zero t e = rw e refl
@@ -136,13 +155,16 @@ zero_read = token_read zero_const _ never not_zero
 pub typed_const_read : (value : Ty → Part Fault Const) → ((ty : Ty) → Exact (value ty) never)
     → IsRead (typed_const value) begins_type never
 unfolding typed_const
-typed_const_read value p = then_read type _ begins_type never (type_read 32) (λ ty. maps_exact (value ty) _ never (p ty))
+typed_const_read value p =
+    then_read type _ begins_type never (type_read 32) (λ ty. maps_exact (value ty) _ never (p ty))
 
 const_list_read : (open_mark close_mark : ℕ) (value : Ty → Part Fault Const) → ((ty : Ty) → Exact (value ty) never)
     → Apart comma (is_mark close_mark) → Apart (is_mark close_mark) begins_type
     → IsRead (const_list open_mark close_mark value) (is_mark open_mark) never
 unfolding const_list
-const_list_read open_mark close_mark value p a b = begins _ _ _ (λ _. (listed_read (typed_const value) comma (is_mark close_mark) begins_type (typed_const_read value p) a b).exact)
+const_list_read open_mark close_mark value p a b =
+    begins _ _ _ (λ _. (listed_read (typed_const value) comma (is_mark close_mark) begins_type
+    (typed_const_read value p) a b).exact)
 
 array_const_read : (items : Part Fault (List TypedConst)) → IsRead items (is_mark 91) never
     → IsRead (array_const items) (is_mark 91) never
@@ -159,15 +181,21 @@ const_by_exact : (elements fields : Part Fault (List TypedConst)) (L : Ty-F Ty) 
 unfolding const_by
 const_by_exact elements fields (Ty-F.Int w) p q = (int_const_read w).exact
 const_by_exact elements fields Ty-F.Ptr p q = (pointer_read 32).exact
-const_by_exact elements fields (Ty-F.Array n e) p q = (either_read _ _ _ _ never (array_const_read elements p) zero_read (mark_apart 91 (is_word (codes "zeroinitializer")) refl)).exact
-const_by_exact elements fields (Ty-F.Struct fs) p q = (either_read _ _ _ _ never (struct_const_read fields q) zero_read (mark_apart 123 (is_word (codes "zeroinitializer")) refl)).exact
+const_by_exact elements fields (Ty-F.Array n e) p q =
+    (either_read _ _ _ _ never (array_const_read elements p) zero_read
+    (mark_apart 91 (is_word (codes "zeroinitializer")) refl)).exact
+const_by_exact elements fields (Ty-F.Struct fs) p q =
+    (either_read _ _ _ _ never (struct_const_read fields q) zero_read
+    (mark_apart 123 (is_word (codes "zeroinitializer")) refl)).exact
 
 pub const_exact : (n : ℕ) (ty : Ty) → Exact (const_within n ty) never
 unfolding const_within
 const_exact zero ty = const_by_exact _ _ (out-Ty ty) (too_deep_read 91) (too_deep_read 123)
 const_exact (suc n) ty = const_by_exact _ _ (out-Ty ty)
-    (const_list_read 91 93 (const_within n) (const_exact n) (mark_apart 44 (is_mark 93) refl) (mark_apart 93 begins_type refl))
-    (const_list_read 123 125 (const_within n) (const_exact n) (mark_apart 44 (is_mark 125) refl) (mark_apart 125 begins_type refl))
+    (const_list_read 91 93 (const_within n) (const_exact n) (mark_apart 44 (is_mark 93) refl)
+    (mark_apart 93 begins_type refl))
+    (const_list_read 123 125 (const_within n) (const_exact n) (mark_apart 44 (is_mark 125) refl)
+    (mark_apart 125 begins_type refl))
 
 -- ---- operands
 
@@ -216,12 +244,18 @@ begins_operand = joined is_local begins_const
 
 pub operand_read : (s : Scalar) → IsRead (operand s) begins_operand never
 unfolding operand
-operand_read s = either_read register (fixed_operand s) is_local begins_const never register_read (fixed_operand_read s) (local_apart begins_const (λ n. refl))
+operand_read s =
+    either_read register (fixed_operand s) is_local begins_const never register_read (fixed_operand_read s)
+    (local_apart begins_const (λ n. refl))
 
 pub arg_read : IsRead arg (is_word_of scalar_word) never
 unfolding arg
-arg_read = token_begins (a_word_of scalar_word) _ _ _ (not_word_of scalar_word) (λ s. maps_exact (operand s) _ never (operand_read s).exact)
+arg_read =
+    token_begins (a_word_of scalar_word) _ _ _ (not_word_of scalar_word)
+    (λ s. maps_exact (operand s) _ never (operand_read s).exact)
 
 pub index_read : IsRead index (is_word_of width_word) never
 unfolding index
-index_read = token_begins (a_word_of width_word) _ _ _ (not_word_of width_word) (λ w. maps_exact (operand (scalars.Int w)) _ never (operand_read (scalars.Int w)).exact)
+index_read =
+    token_begins (a_word_of width_word) _ _ _ (not_word_of width_word)
+    (λ w. maps_exact (operand (scalars.Int w)) _ never (operand_read (scalars.Int w)).exact)

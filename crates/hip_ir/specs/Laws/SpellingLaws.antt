@@ -70,7 +70,8 @@ pub table_is : {A : Type 0} (test : A → Bool) (text : A → List ℕ) (xs : Li
 table_is test text [] t a h e = absurd cc
 table_is test text (x ∷ xs) t a h e =
     let p = and_parts (test x) (list_all test xs) h in
-    entry_is (λ z. test z ≡ true) (bytes_eq t (text x)) x (written_as text xs t) a p.0 (λ k. table_is test text xs t a p.1 k) e
+    entry_is (λ z. test z ≡ true) (bytes_eq t (text x)) x (written_as text xs t) a p.0
+    (λ k. table_is test text xs t a p.1 k) e
 
 below_is : (limit m n : ℕ) (b : Bool) → nat_lt m limit ≡ b → or_range (if b then Some m else None) ≡ Yes n
     → nat_lt n limit ≡ true
@@ -107,7 +108,10 @@ in_range_is w (Some n) b e = subst (λ z. of_width w z ≡ true) (yes_is (bits w
 in_range_is w None b e = absurd cc
 
 truth_is : (w : Width) (t : List ℕ) (b : Bits) → or_no (truth_word w t) ≡ Yes b → of_width w b ≡ true
-truth_is W1 t b e = entry_is (λ z. of_width W1 z ≡ true) (bytes_eq t (codes "true")) (bits W1 1) _ b refl (λ k. entry_is (λ z. of_width W1 z ≡ true) (bytes_eq t (codes "false")) (bits W1 0) _ b refl (λ j. no_entry (λ z. of_width W1 z ≡ true) b j) k) e
+truth_is W1 t b e =
+    entry_is (λ z. of_width W1 z ≡ true) (bytes_eq t (codes "true")) (bits W1 1) _ b refl
+    (λ k. entry_is (λ z. of_width W1 z ≡ true) (bytes_eq t (codes "false")) (bits W1 0) _ b refl
+    (λ j. no_entry (λ z. of_width W1 z ≡ true) b j) k) e
 truth_is W8 t b e = absurd cc
 truth_is W16 t b e = absurd cc
 truth_is W32 t b e = absurd cc
@@ -121,14 +125,17 @@ literal_is w t b f e = absurd cc
 int_const_by : (w : Width) (z : Bool) (v : Verdict Fault Bits) (c : Const)
     → ((b : Bits) → v ≡ Yes b → of_width w b ≡ true) → (if z then Yes consts.Zero else as_const v) ≡ Yes c
     → spelled_int w (out-Const c) ≡ true
-int_const_by w true v c h e = subst (λ z. spelled_int w (out-Const z) ≡ true) (yes_is consts.Zero c e) (rw out-Const-Zero refl)
-int_const_by w false (Yes b) c h e = subst (λ z. spelled_int w (out-Const z) ≡ true) (yes_is (consts.Int b) c e) (rw (out-Const-Int b) (h b refl))
+int_const_by w true v c h e =
+    subst (λ z. spelled_int w (out-Const z) ≡ true) (yes_is consts.Zero c e) (rw out-Const-Zero refl)
+int_const_by w false (Yes b) c h e =
+    subst (λ z. spelled_int w (out-Const z) ≡ true) (yes_is (consts.Int b) c e) (rw (out-Const-Int b) (h b refl))
 int_const_by w false (Because why) c h e = absurd cc
 int_const_by w false No c h e = absurd cc
 
 int_const_is : (w : Width) (t : Tok) (c : Const) → is_formed t ≡ true → an_int_const w t ≡ Yes c
     → spelled_int w (out-Const c) ≡ true
-int_const_is w t c f e = int_const_by w (is_word (codes "zeroinitializer") t) (a_literal w t) c (λ b k. literal_is w t b f k) e
+int_const_is w t c f e =
+    int_const_by w (is_word (codes "zeroinitializer") t) (a_literal w t) c (λ b k. literal_is w t b f k) e
 
 -- `zeroinitializer` alone
 zero_by : (b : Bool) (c : Const) (Q : Const → Type 0) → Q consts.Zero
@@ -146,8 +153,12 @@ simple_by false z c Q p q e = zero_by z c Q q e
 
 simple_is : (g : ConstGep → Bool) (t : Tok) (c : Const) → is_formed t ≡ true → a_pointer t ≡ Yes c
     → spelled_pointer_level g (out-Const c) ≡ true
-simple_is g (Word t) c f e = simple_by (bytes_eq t (codes "null")) (bytes_eq t (codes "zeroinitializer")) c (λ z. spelled_pointer_level g (out-Const z) ≡ true) (rw out-Const-Null refl) (rw out-Const-Zero refl) e
-simple_is g (Global t) c f e = subst (λ z. spelled_pointer_level g (out-Const z) ≡ true) (yes_is (consts.Address t) c e) (rw (out-Const-Address t) f)
+simple_is g (Word t) c f e =
+    simple_by (bytes_eq t (codes "null")) (bytes_eq t (codes "zeroinitializer")) c
+    (λ z. spelled_pointer_level g (out-Const z) ≡ true) (rw out-Const-Null refl) (rw out-Const-Zero refl) e
+simple_is g (Global t) c f e =
+    subst (λ z. spelled_pointer_level g (out-Const z) ≡ true) (yes_is (consts.Address t) c e)
+    (rw (out-Const-Address t) f)
 simple_is g t c f e = absurd cc
 
 -- what opens a level too many derives nothing
@@ -176,24 +187,33 @@ type_word_by n None ty e = absurd cc
 array_type_yields : (n : ℕ) → Yields (type_within n) (λ t. spelled_type_within n t ≡ true)
     → Yields (array_type (type_within n)) (λ t. spelled_type_within (suc n) t ≡ true)
 unfolding array_type spelled_type_within
-array_type_yields n p = after_token _ _ _ (λ _. then_yields _ _ _ _ (token_yields a_count (λ c. nat_lt c 67108865 ≡ true) count_is) (λ count c. after_token _ _ _ (λ _. then_yields _ _ _ _ p (λ ty t. after_token _ _ _ (λ _.
+array_type_yields n p =
+    after_token _ _ _ (λ _. then_yields _ _ _ _ (token_yields a_count (λ c. nat_lt c 67108865 ≡ true) count_is)
+    (λ count c. after_token _ _ _ (λ _. then_yields _ _ _ _ p (λ ty t. after_token _ _ _ (λ _.
     gives_yields _ _ (rw (out-Ty-Array count ty) (both_true c t)))))))
 
 struct_type_yields : (n : ℕ) → Yields (type_within n) (λ t. spelled_type_within n t ≡ true)
     → Yields (struct_type (type_within n)) (λ t. spelled_type_within (suc n) t ≡ true)
 unfolding struct_type spelled_type_within
-struct_type_yields n p = after_token _ _ _ (λ _. then_yields _ _ _ _ (listed_yields comma (is_mark 125) (type_within n) (spelled_type_within n) p) (λ fields h. gives_yields _ _ (rw (out-Ty-Struct fields) h)))
+struct_type_yields n p =
+    after_token _ _ _ (λ _. then_yields _ _ _ _
+    (listed_yields comma (is_mark 125) (type_within n) (spelled_type_within n) p)
+    (λ fields h. gives_yields _ _ (rw (out-Ty-Struct fields) h)))
 
 type_by_yields : (n : ℕ) (array struct : Part Fault Ty) → Yields array (λ t. spelled_type_within n t ≡ true)
     → Yields struct (λ t. spelled_type_within n t ≡ true)
     → Yields (type_by array struct) (λ t. spelled_type_within n t ≡ true)
 unfolding type_by
-type_by_yields n array struct p q = either_yields _ array _ _ p (either_yields _ struct _ _ q (token_yields (a_word_of type_word) _ (word_is type_word (λ t. spelled_type_within n t ≡ true) (λ t ty e. type_word_by n (scalar_word t) ty e))))
+type_by_yields n array struct p q =
+    either_yields _ array _ _ p (either_yields _ struct _ _ q
+    (token_yields (a_word_of type_word) _ (word_is type_word (λ t. spelled_type_within n t ≡ true)
+    (λ t ty e. type_word_by n (scalar_word t) ty e))))
 
 pub type_yields : (n : ℕ) → Yields (type_within n) (λ t. spelled_type_within n t ≡ true)
 unfolding type_within
 type_yields zero = type_by_yields zero _ _ (deep_yields 91 _) (deep_yields 123 _)
-type_yields (suc n) = type_by_yields (suc n) _ _ (array_type_yields n (type_yields n)) (struct_type_yields n (type_yields n))
+type_yields (suc n) =
+    type_by_yields (suc n) _ _ (array_type_yields n (type_yields n)) (struct_type_yields n (type_yields n))
 
 -- ---- constants
 
@@ -204,18 +224,25 @@ literal_index_yields = after_token _ _ _ (λ w. token_yields (a_literal w) _ (λ
 gep_inside_yields : (n : ℕ) (inbounds : Bool) → Yields (pointer_within n) (λ c. spelled_pointer_within n c ≡ true)
     → Yields (gep_inside (pointer_within n) inbounds) (λ c. spelled_pointer_within (suc n) c ≡ true)
 unfolding gep_inside spelled_pointer_within
-gep_inside_yields n inbounds p = after_token _ _ _ (λ _. then_yields _ _ _ _ (type_yields 32) (λ ty t. after_token _ _ _ (λ _. after_token _ _ _ (λ _. then_yields _ _ _ _ p (λ from b. after_token _ _ _ (λ _.
-    then_yields _ _ _ _ (separated_yields comma literal_index (λ i. true) (λ is. not_empty is ≡ true) literal_index_yields (λ x xs h. refl)) (λ indices i. after_token _ _ _ (λ _.
-    gives_yields _ _ (rw (out-Const-Gep (record { inbounds = inbounds; ty = ty; base = from; indices = indices })) (both_true t (both_true b i)))))))))))
+gep_inside_yields n inbounds p =
+    after_token _ _ _ (λ _. then_yields _ _ _ _ (type_yields 32)
+    (λ ty t. after_token _ _ _ (λ _. after_token _ _ _ (λ _. then_yields _ _ _ _ p (λ from b. after_token _ _ _ (λ _.
+    then_yields _ _ _ _ (separated_yields comma literal_index (λ i. true)
+    (λ is. not_empty is ≡ true) literal_index_yields (λ x xs h. refl)) (λ indices i. after_token _ _ _ (λ _.
+    gives_yields _ _ (rw (out-Const-Gep (record { inbounds = inbounds; ty = ty; base = from; indices = indices }))
+    (both_true t (both_true b i)))))))))))
 
 pub maybe_word_yields : (w : List ℕ) → Yields (maybe_word w) (λ b. Unit {0})
 unfolding maybe_word
-maybe_word_yields w = then_yields _ _ _ _ (optional_yields _ _ (λ u. Unit {0}) (λ o. Unit {0}) (token_yields _ _ (λ t a f e. tt)) tt (λ a h. tt)) (λ found h. gives_yields _ _ tt)
+maybe_word_yields w =
+    then_yields _ _ _ _ (optional_yields _ _ (λ u. Unit {0}) (λ o. Unit {0}) (token_yields _ _ (λ t a f e. tt)) tt
+    (λ a h. tt)) (λ found h. gives_yields _ _ tt)
 
 gep_const_yields : (inside : Bool → Part Fault Const) (Q : Const → Type 0)
     → ((inbounds : Bool) → Yields (inside inbounds) Q) → Yields (gep_const inside) Q
 unfolding gep_const
-gep_const_yields inside Q p = after_token _ _ _ (λ _. then_yields _ _ _ _ (maybe_word_yields (codes "inbounds")) (λ inbounds h. p inbounds))
+gep_const_yields inside Q p =
+    after_token _ _ _ (λ _. then_yields _ _ _ _ (maybe_word_yields (codes "inbounds")) (λ inbounds h. p inbounds))
 
 pointer_by_yields : (inside : Bool → Part Fault Const) (Q : Const → Type 0)
     → ((inbounds : Bool) → Yields (inside inbounds) Q) → Yields (token a_pointer) Q → Yields (pointer_by inside) Q
@@ -230,19 +257,23 @@ simple_yields (suc n) = token_yields a_pointer _ (simple_is _)
 pub pointer_yields : (n : ℕ) → Yields (pointer_within n) (λ c. spelled_pointer_within n c ≡ true)
 unfolding pointer_within
 pointer_yields zero = pointer_by_yields _ _ (λ inbounds. deep_yields 40 _) (simple_yields zero)
-pointer_yields (suc n) = pointer_by_yields _ _ (λ inbounds. gep_inside_yields n inbounds (pointer_yields n)) (simple_yields (suc n))
+pointer_yields (suc n) =
+    pointer_by_yields _ _ (λ inbounds. gep_inside_yields n inbounds (pointer_yields n)) (simple_yields (suc n))
 
 typed_const_yields : (value : Ty → Part Fault Const) (test : Ty → Const → Bool)
     → ((ty : Ty) → Yields (value ty) (λ c. test ty c ≡ true))
     → Yields (typed_const value) (λ item. spelled_item test item ≡ true)
 unfolding typed_const
-typed_const_yields value test p = then_yields _ _ _ _ (type_yields 32) (λ ty t. then_yields _ _ _ _ (p ty) (λ c h. gives_yields _ _ (both_true t h)))
+typed_const_yields value test p =
+    then_yields _ _ _ _ (type_yields 32) (λ ty t. then_yields _ _ _ _ (p ty) (λ c h. gives_yields _ _ (both_true t h)))
 
 const_list_yields : (open_mark close_mark : ℕ) (value : Ty → Part Fault Const) (test : Ty → Const → Bool)
     → ((ty : Ty) → Yields (value ty) (λ c. test ty c ≡ true))
     → Yields (const_list open_mark close_mark value) (λ items. list_all (spelled_item test) items ≡ true)
 unfolding const_list
-const_list_yields open_mark close_mark value test p = after_token _ _ _ (λ _. listed_yields comma (is_mark close_mark) (typed_const value) (spelled_item test) (typed_const_yields value test p))
+const_list_yields open_mark close_mark value test p =
+    after_token _ _ _ (λ _. listed_yields comma (is_mark close_mark) (typed_const value) (spelled_item test)
+    (typed_const_yields value test p))
 
 array_const_yields : (items : Part Fault (List TypedConst)) (inner : List TypedConst → Bool)
     → Yields items (λ xs. inner xs ≡ true) → Yields (array_const items) (λ c. spelled_array inner (out-Const c) ≡ true)
@@ -261,13 +292,19 @@ const_by_yields : (elements fields : Part Fault (List TypedConst)) (inner : List
 unfolding const_by
 const_by_yields elements fields inner (Ty-F.Int w) p q = token_yields (an_int_const w) _ (int_const_is w)
 const_by_yields elements fields inner Ty-F.Ptr p q = pointer_yields 32
-const_by_yields elements fields inner (Ty-F.Array n e) p q = either_yields _ _ _ _ (array_const_yields elements inner p) (token_yields zero_const _ (zero_is (λ c. spelled_array inner (out-Const c) ≡ true) (rw out-Const-Zero refl)))
-const_by_yields elements fields inner (Ty-F.Struct fs) p q = either_yields _ _ _ _ (struct_const_yields fields inner q) (token_yields zero_const _ (zero_is (λ c. spelled_struct inner (out-Const c) ≡ true) (rw out-Const-Zero refl)))
+const_by_yields elements fields inner (Ty-F.Array n e) p q =
+    either_yields _ _ _ _ (array_const_yields elements inner p)
+    (token_yields zero_const _ (zero_is (λ c. spelled_array inner (out-Const c) ≡ true) (rw out-Const-Zero refl)))
+const_by_yields elements fields inner (Ty-F.Struct fs) p q =
+    either_yields _ _ _ _ (struct_const_yields fields inner q)
+    (token_yields zero_const _ (zero_is (λ c. spelled_struct inner (out-Const c) ≡ true) (rw out-Const-Zero refl)))
 
 pub const_yields : (n : ℕ) (ty : Ty) → Yields (const_within n ty) (λ c. spelled_const_within n ty c ≡ true)
 unfolding const_within spelled_const_within
 const_yields zero ty = const_by_yields _ _ (λ items. false) (out-Ty ty) (deep_yields 91 _) (deep_yields 123 _)
-const_yields (suc n) ty = const_by_yields _ _ _ (out-Ty ty) (const_list_yields 91 93 (const_within n) (spelled_const_within n) (const_yields n)) (const_list_yields 123 125 (const_within n) (spelled_const_within n) (const_yields n))
+const_yields (suc n) ty =
+    const_by_yields _ _ _ (out-Ty ty) (const_list_yields 91 93 (const_within n) (spelled_const_within n)
+    (const_yields n)) (const_list_yields 123 125 (const_within n) (spelled_const_within n) (const_yields n))
 
 -- ---- operands
 
@@ -294,4 +331,6 @@ arg_yields = after_token _ _ _ (λ s. then_yields _ _ _ _ (operand_yields s) (λ
 
 pub index_yields : Yields index (λ a. spelled_index a ≡ true)
 unfolding index
-index_yields = after_token _ _ _ (λ w. then_yields _ _ _ _ (operand_yields (scalars.Int w)) (λ value h. gives_yields _ _ (both_true refl h)))
+index_yields =
+    after_token _ _ _ (λ w. then_yields _ _ _ _ (operand_yields (scalars.Int w))
+    (λ value h. gives_yields _ _ (both_true refl h)))

@@ -51,23 +51,33 @@ only_align_read = begins _ _ _ (λ _. link _ _ _ (λ n. gives_exact _ _))
 
 placement_read : IsRead placement comma comma
 unfolding placement
-placement_read = begins _ _ _ (λ _. (either_read section only_align _ _ comma section_read only_align_read (word_apart (codes "section") (is_word (codes "align")) refl)).exact)
+placement_read =
+    begins _ _ _ (λ _. (either_read section only_align _ _ comma section_read only_align_read
+    (word_apart (codes "section") (is_word (codes "align")) refl)).exact)
 
 place_exact : Exact place (joined comma comma)
 unfolding place
-place_exact = maps_exact (optional comma placement) _ (joined comma comma) (optional_exact placement comma comma placement_read)
+place_exact =
+    maps_exact (optional comma placement) _ (joined comma comma) (optional_exact placement comma comma placement_read)
 
 linkage_read : (f : List ℕ → Option (Unit {0})) → IsRead (token (a_word_of f)) (is_word_of f) never
 linkage_read f = token_read (a_word_of f) (is_word_of f) never (not_word_of f)
 
 fixed_apart : Apart (is_word_of linkage_word) (is_word_of fixed_word)
-fixed_apart = entry_apart linkage_word (codes "global") _ _ refl (entry_apart linkage_word (codes "constant") _ _ refl (no_entry_apart Bool linkage_word))
+fixed_apart =
+    entry_apart linkage_word (codes "global") _ _ refl
+    (entry_apart linkage_word (codes "constant") _ _ refl (no_entry_apart Bool linkage_word))
 
 global_read : IsRead global is_global goes_on_item
 unfolding global
-global_read = widens global is_global (joined comma comma) goes_on_item twice (token_begins a_global is_global _ _ not_global (λ name. link _ _ _ (λ _.
-    next_exact linkages _ (is_word_of linkage_word) (is_word_of fixed_word) (joined comma comma) (skipped_same _ _ (linkage_read linkage_word))
-    (λ _. token_begins (a_word_of fixed_word) _ _ _ (not_word_of fixed_word) (λ fixed. part_link _ _ _ (type_read 32).exact (λ ty. part_link _ _ _ (const_exact 32 ty) (λ init. maps_exact place _ (joined comma comma) place_exact))))
+global_read =
+    widens global is_global (joined comma comma) goes_on_item twice
+    (token_begins a_global is_global _ _ not_global (λ name. link _ _ _ (λ _.
+    next_exact linkages _ (is_word_of linkage_word) (is_word_of fixed_word) (joined comma comma)
+    (skipped_same _ _ (linkage_read linkage_word))
+    (λ _. token_begins (a_word_of fixed_word) _ _ _ (not_word_of fixed_word)
+    (λ fixed. part_link _ _ _ (type_read 32).exact
+    (λ ty. part_link _ _ _ (const_exact 32 ty) (λ init. maps_exact place _ (joined comma comma) place_exact))))
     fixed_apart)))
   where
     twice : (t : Tok) → joined comma comma t ≡ true → goes_on_item t ≡ true
@@ -80,36 +90,50 @@ global_read = widens global is_global (joined comma comma) goes_on_item twice (t
 -- ---- externs and functions
 
 maybe_unnamed_exact : Exact maybe_unnamed (is_word_of unnamed_word)
-maybe_unnamed_exact = optional_same (token (a_word_of unnamed_word)) (is_word_of unnamed_word) (linkage_read unnamed_word)
+maybe_unnamed_exact =
+    optional_same (token (a_word_of unnamed_word)) (is_word_of unnamed_word) (linkage_read unnamed_word)
 
 pub scalar_read : IsRead scalar (is_word_of scalar_word) never
 scalar_read = token_read (a_word_of scalar_word) _ never (not_word_of scalar_word)
 
 extern_read : IsRead extern_item (is_word (codes "declare")) goes_on_item
 unfolding extern_item
-extern_read = widens extern_item _ (is_word_of unnamed_word) goes_on_item unnamed_goes_on (begins _ _ _ (λ _. link _ _ _ (λ result. link _ _ _ (λ name. link _ _ _ (λ _.
-    part_link _ _ _ (listed_read scalar comma (is_mark 41) (is_word_of scalar_word) scalar_read (mark_apart 44 (is_mark 41) refl) (mark_apart 41 (is_word_of scalar_word) refl)).exact
+extern_read =
+    widens extern_item _ (is_word_of unnamed_word) goes_on_item unnamed_goes_on
+    (begins _ _ _ (λ _. link _ _ _ (λ result. link _ _ _ (λ name. link _ _ _ (λ _.
+    part_link _ _ _ (listed_read scalar comma (is_mark 41) (is_word_of scalar_word) scalar_read
+    (mark_apart 44 (is_mark 41) refl) (mark_apart 41 (is_word_of scalar_word) refl)).exact
     (λ params. maps_exact maybe_unnamed _ (is_word_of unnamed_word) maybe_unnamed_exact))))))
 
 pub param_read : IsRead param (is_word_of scalar_word) never
 unfolding param
-param_read = token_begins (a_word_of scalar_word) _ _ _ (not_word_of scalar_word) (λ s. link _ _ _ (λ name. gives_exact _ _))
+param_read =
+    token_begins (a_word_of scalar_word) _ _ _ (not_word_of scalar_word) (λ s. link _ _ _ (λ name. gives_exact _ _))
 
 blocks_read : IsRead blocks is_label is_label
 unfolding blocks
-blocks_read = then_read block _ is_label is_label block_read (λ first. maps_exact (repeated is_label block) _ is_label (repeated_same block is_label block_read))
+blocks_read =
+    then_read block _ is_label is_label block_read
+    (λ first. maps_exact (repeated is_label block) _ is_label (repeated_same block is_label block_read))
 
 link_apart : Apart (is_word_of link_word) (is_word_of ret_word)
 link_apart = apart_sym (is_word_of ret_word) (is_word_of link_word)
-    (entry_apart ret_word (codes "private") _ _ refl (entry_apart ret_word (codes "internal") _ _ refl (entry_apart ret_word (codes "dso_local") _ _ refl (no_entry_apart (Unit {0}) ret_word))))
+    (entry_apart ret_word (codes "private") _ _ refl
+    (entry_apart ret_word (codes "internal") _ _ refl
+    (entry_apart ret_word (codes "dso_local") _ _ refl (no_entry_apart (Unit {0}) ret_word))))
 
 function_read : IsRead function (is_word (codes "define")) goes_on_item
 unfolding function
-function_read = begins _ _ _ (λ _. next_exact links _ (is_word_of link_word) (is_word_of ret_word) goes_on_item (skipped_same _ _ (linkage_read link_word))
-    (λ _. token_begins (a_word_of ret_word) (is_word_of ret_word) _ _ (not_word_of ret_word) (λ result. link _ _ _ (λ name. link _ _ _ (λ _.
-    part_link _ _ _ (listed_read param comma (is_mark 41) (is_word_of scalar_word) param_read (mark_apart 44 (is_mark 41) refl) (mark_apart 41 (is_word_of scalar_word) refl)).exact
+function_read =
+    begins _ _ _ (λ _. next_exact links _ (is_word_of link_word) (is_word_of ret_word) goes_on_item
+    (skipped_same _ _ (linkage_read link_word))
+    (λ _. token_begins (a_word_of ret_word) (is_word_of ret_word) _ _ (not_word_of ret_word)
+    (λ result. link _ _ _ (λ name. link _ _ _ (λ _.
+    part_link _ _ _ (listed_read param comma (is_mark 41) (is_word_of scalar_word) param_read
+    (mark_apart 44 (is_mark 41) refl) (mark_apart 41 (is_word_of scalar_word) refl)).exact
     (λ params. next_exact maybe_unnamed _ (is_word_of unnamed_word) (is_mark 123) goes_on_item maybe_unnamed_exact
-    (λ _. begins _ _ _ (λ _. next_exact blocks _ is_label (is_mark 125) goes_on_item blocks_read.exact (λ body. begins _ _ _ (λ _. gives_exact _ _)) (label_apart (is_mark 125) (λ n. refl))))
+    (λ _. begins _ _ _ (λ _. next_exact blocks _ is_label (is_mark 125) goes_on_item blocks_read.exact
+    (λ body. begins _ _ _ (λ _. gives_exact _ _)) (label_apart (is_mark 125) (λ n. refl))))
     (words_apart unnamed_word (is_mark 123) (λ t. refl)))))))
     link_apart)
 
@@ -117,26 +141,37 @@ function_read = begins _ _ _ (λ _. next_exact links _ (is_word_of link_word) (i
 
 pub item_read : IsRead item begins_item goes_on_item
 unfolding item
-item_read = either_read global _ _ _ goes_on_item global_read (either_read extern_item _ _ _ goes_on_item extern_read (either_read function _ _ _ goes_on_item function_read
+item_read =
+    either_read global _ _ _ goes_on_item global_read
+    (either_read extern_item _ _ _ goes_on_item extern_read (either_read function _ _ _ goes_on_item function_read
     (either_read source_filename target_item _ _ goes_on_item source_filename_read target_item_read
-    (word_apart (codes "source_filename") _ refl)) (word_apart (codes "define") _ refl)) (word_apart (codes "declare") _ refl)) (global_apart _ (λ n. refl))
+    (word_apart (codes "source_filename") _ refl)) (word_apart (codes "define") _ refl))
+    (word_apart (codes "declare") _ refl)) (global_apart _ (λ n. refl))
 
 item_apart : Apart goes_on_item begins_item
 item_apart = joined_apart comma (is_word_of unnamed_word) begins_item (mark_apart 44 begins_item refl) unnamed_apart
   where
     unnamed_apart : Apart (is_word_of unnamed_word) begins_item
-    unnamed_apart = apart_joined (is_word_of unnamed_word) is_global _ (words_apart unnamed_word is_global (λ t. refl)) (from (codes "declare") _ refl (from (codes "define") _ refl (from (codes "source_filename") _ refl
-        (apart_sym (is_word (codes "target")) (is_word_of unnamed_word) (word_apart (codes "target") (is_word_of unnamed_word) refl)))))
+    unnamed_apart =
+        apart_joined (is_word_of unnamed_word) is_global _ (words_apart unnamed_word is_global (λ t. refl))
+        (from (codes "declare") _ refl (from (codes "define") _ refl (from (codes "source_filename") _ refl
+        (apart_sym (is_word (codes "target")) (is_word_of unnamed_word)
+        (word_apart (codes "target") (is_word_of unnamed_word) refl)))))
       where
-        from : (w : List ℕ) (d : Tok → Bool) → is_word_of unnamed_word (Word w) ≡ false → Apart (is_word_of unnamed_word) d → Apart (is_word_of unnamed_word) (joined (is_word w) d)
-        from w d h p = apart_joined (is_word_of unnamed_word) (is_word w) d (apart_sym (is_word w) (is_word_of unnamed_word) (word_apart w (is_word_of unnamed_word) h)) p
+        from : (w : List ℕ) (d : Tok → Bool) → is_word_of unnamed_word (Word w) ≡ false
+            → Apart (is_word_of unnamed_word) d → Apart (is_word_of unnamed_word) (joined (is_word w) d)
+        from w d h p =
+            apart_joined (is_word_of unnamed_word) (is_word w) d
+            (apart_sym (is_word w) (is_word_of unnamed_word) (word_apart w (is_word_of unnamed_word) h)) p
 
 abbrev pub goes_on_text : Tok → Bool
 goes_on_text = joined begins_item goes_on_item
 
 pub text_exact : Exact text goes_on_text
 unfolding text
-text_exact = maps_exact (repeated begins_item item) _ goes_on_text (repeated_exact item begins_item goes_on_item item_read item_apart)
+text_exact =
+    maps_exact (repeated begins_item item) _ goes_on_text
+    (repeated_exact item begins_item goes_on_item item_read item_apart)
 
 -- ---- whole texts
 
@@ -211,7 +246,8 @@ none_next e = absurd cc
 
 taken : (ts : List At) (program : Program) (o : Outcome Fault Program) → Exactly text.rule goes_on_text ts o
     → text.rule.Derives ts program [] → on_ok o ended ≡ Ok (program, [])
-taken ts program (Ok x) r t = elim (r.only program [] t) [ inl e ↦ ended_is program x.0 x.1 e.0 e.1 | inr g ↦ none_next g ]
+taken ts program (Ok x) r t =
+    elim (r.only program [] t) [ inl e ↦ ended_is program x.0 x.1 e.0 e.1 | inr g ↦ none_next g ]
 taken ts program (Err e) r t = none_next (r.only program [] t)
 
 pub derived_is : (ts : List At) (program : Program) → text.rule.Derives ts program [] → whole_text ts ≡ Ok (program, [])
@@ -224,11 +260,14 @@ ok_is x y e = cc
 -- what is read is all that is derived
 pub only_is : (ts : List At) (found program : Program) (rest : List At) → whole_text ts ≡ Ok (found, rest)
     → text.rule.Derives ts program [] → found ≡ program
-only_is ts found program rest e t = let q : ◌≡◌ {A = Outcome Fault Program} (Ok (found, rest)) (Ok (program, [])) = sym e ∙ derived_is ts program t in ap (λ (p : Program × List At). p.0) (ok_is (found, rest) (program, []) q)
+only_is ts found program rest e t =
+    let q : ◌≡◌ {A = Outcome Fault Program} (Ok (found, rest)) (Ok (program, [])) =
+    sym e ∙ derived_is ts program t in ap (λ (p : Program × List At). p.0) (ok_is (found, rest) (program, []) q)
 
 pub never_derived : (ts : List At) (why : Option Fault) (rest : List At) (program : Program)
     → whole_text ts ≡ Err (why, rest) → text.rule.Derives ts program [] → ⊥
-never_derived ts why rest program e t = let q : ◌≡◌ {A = Outcome Fault Program} (Err (why, rest)) (Ok (program, [])) = sym e ∙ derived_is ts program t in cc
+never_derived ts why rest program e t =
+    let q : ◌≡◌ {A = Outcome Fault Program} (Err (why, rest)) (Ok (program, [])) = sym e ∙ derived_is ts program t in cc
 
 -- the tokens of a text derive one program at most
 pub one_program : (ts : List At) (p q : Program) → text.rule.Derives ts p [] → text.rule.Derives ts q [] → p ≡ q

@@ -35,8 +35,11 @@ edge_is : (s : Scalar) (e : Edge) → spelled_edge s e ≡ true → IsTextOf end
 unfolding edge
 edge_is s e h =
     let p = and_parts (spelled_operand s e.value) (is_name e.label) h in
-    anywhere_text ends_word (mark_then _ _ 91 refl refl (blank_text 32 refl (then_text _ (operand_is s e.value p.0) (mark_then _ _ 44 refl refl (blank_text 32 refl
-    (then_text _ (local_text _ e.label p.1 refl) (blank_text 32 refl (last_text _ (mark_text _ 93 refl refl) (nothing_text anything))) (λ rest h. refl)))) (λ rest h. refl))))
+    anywhere_text ends_word (mark_then _ _ 91 refl refl
+    (blank_text 32 refl (then_text _ (operand_is s e.value p.0) (mark_then _ _ 44 refl refl (blank_text 32 refl
+    (then_text _ (local_text _ e.label p.1 refl)
+    (blank_text 32 refl (last_text _ (mark_text _ 93 refl refl) (nothing_text anything))) (λ rest h. refl))))
+    (λ rest h. refl))))
 
 phi_by : (dest : List ℕ) (s : Scalar) (edges : List Edge) → is_name dest ≡ true → not_empty edges ≡ true
     → list_all (spelled_edge s) edges ≡ true
@@ -45,8 +48,11 @@ phi_by : (dest : List ℕ) (s : Scalar) (edges : List Edge) → is_name dest ≡
     (record { dest = dest; ty = s; edges = edges })
 unfolding phi
 phi_by dest s [] n some h = absurd cc
-phi_by dest s (e ∷ es) n some h = then_text _ (assigned_is dest n) (word_then _ _ (codes "phi") refl refl (then_text _ (scalar_is s) (blank_text 32 refl
-    (last_text _ (separated_are (edge s) edge_text (spelled_edge s) (edge_is s) e es h) (nothing_text anything))) (λ rest h. refl))) (λ rest h. refl)
+phi_by dest s (e ∷ es) n some h =
+    then_text _ (assigned_is dest n) (word_then _ _ (codes "phi") refl refl
+    (then_text _ (scalar_is s) (blank_text 32 refl
+    (last_text _ (separated_are (edge s) edge_text (spelled_edge s) (edge_is s) e es h) (nothing_text anything)))
+    (λ rest h. refl))) (λ rest h. refl)
 
 phi_is : (p : Phi) → spelled_phi p ≡ true → IsTextOf ends_word (both assigned.rule (λ x. (phi x).rule)) (phi_text p) p
 phi_is p h =
@@ -66,16 +72,23 @@ branch_is : (cond : Operand) (yes_label no_label : List ℕ) → spelled_operand
     (operand_text cond ++ (codes ", label %" ++ (yes_label ++ (codes ", label %" ++ no_label))))) (ends.CondBr cond
     yes_label no_label)
 unfolding branch
-branch_is cond yes_label no_label e f g = word_then _ _ (codes "i1") refl refl (then_text _ (operand_is (scalars.Int W1) cond e) (mark_then _ _ 44 refl refl (blank_text 32 refl
-    (then_text _ (target_is yes_label f) (mark_then _ _ 44 refl refl (blank_text 32 refl (last_text _ (target_is no_label g) (nothing_text anything)))) (λ rest h. refl)))) (λ rest h. refl))
+branch_is cond yes_label no_label e f g =
+    word_then _ _ (codes "i1") refl refl (then_text _ (operand_is (scalars.Int W1) cond e)
+    (mark_then _ _ 44 refl refl (blank_text 32 refl
+    (then_text _ (target_is yes_label f) (mark_then _ _ 44 refl refl
+    (blank_text 32 refl (last_text _ (target_is no_label g) (nothing_text anything)))) (λ rest h. refl))))
+    (λ rest h. refl))
 
 own_case : (c : Case) → is_name c.label ≡ true → IsTextOf anything (case c.value.width).rule (case_text c) c
 unfolding case
 own_case c e =
     let behind : List ℕ = codes ", label %" ++ (c.label ++ codes " ") in
     rw (append_assoc (width_text c.value.width) (codes " " ++ literal_text c.value) behind)
-    (then_text _ (width_is c.value.width) (blank_text 32 refl (then_text _ (literal_is c.value.width c.value (own_width c.value.width)) (mark_then _ _ 44 refl refl (blank_text 32 refl
-    (last_text _ (blank_behind 32 refl (λ rest h. refl) (target_is c.label e)) (nothing_text anything)))) (λ rest h. refl))) (λ rest h. refl))
+    (then_text _ (width_is c.value.width) (blank_text 32 refl
+    (then_text _ (literal_is c.value.width c.value (own_width c.value.width))
+    (mark_then _ _ 44 refl refl (blank_text 32 refl
+    (last_text _ (blank_behind 32 refl (λ rest h. refl) (target_is c.label e)) (nothing_text anything))))
+    (λ rest h. refl))) (λ rest h. refl))
 
 case_is : (w : Width) (c : Case) → spelled_case w c ≡ true → IsTextOf anything (case w).rule (case_text c) c
 case_is w c e =
@@ -91,14 +104,20 @@ switch_is : (w : Width) (value : Operand) (other : List ℕ) (cases : List Case)
     (codes ", label %" ++ (other ++ (codes " [ " ++ (flat_map case_text cases ++ codes "]")))))))) (ends.Switch w value
     other cases)
 unfolding switch
-switch_is w value other cases e f g = word_then _ _ (codes "switch") refl refl (then_text _ (int_is w) (blank_text 32 refl (then_text _ (operand_is (scalars.Int w) value e) (mark_then _ _ 44 refl refl (blank_text 32 refl
+switch_is w value other cases e f g =
+    word_then _ _ (codes "switch") refl refl (then_text _ (int_is w)
+    (blank_text 32 refl (then_text _ (operand_is (scalars.Int w) value e)
+    (mark_then _ _ 44 refl refl (blank_text 32 refl
     (then_text _ (target_is other f) (blank_text 32 refl (mark_then _ _ 91 refl refl (blank_text 32 refl
-    (then_text _ (many_texts (case w).rule case_text anything (spelled_case w) (case_is w) (λ c rest. refl) cases g) (last_text _ (mark_text _ 93 refl refl) (nothing_text anything)) (λ rest h. refl)))))
+    (then_text _ (many_texts (case w).rule case_text anything (spelled_case w) (case_is w) (λ c rest. refl) cases g)
+    (last_text _ (mark_text _ 93 refl refl) (nothing_text anything)) (λ rest h. refl)))))
     (λ rest h. refl)))) (λ rest h. refl))) (λ rest h. refl))
 
 end_is : (e : End) → spelled_end e ≡ true → IsTextOf ends_word end.rule (end_text e) e
 unfolding end br jump ret_end ret_void ret_arg unreachable
-end_is (ends.Br label) h = left_text _ (word_then _ _ (codes "br") refl refl (left_text _ (last_text _ (target_is label h) (nothing_text anything))))
+end_is (ends.Br label) h =
+    left_text _ (word_then _ _ (codes "br") refl refl
+    (left_text _ (last_text _ (target_is label h) (nothing_text anything))))
 end_is (ends.CondBr cond yes_label no_label) h =
     let p = and_parts (spelled_operand (scalars.Int W1) cond) (is_name yes_label && is_name no_label) h in
     let q = and_parts (is_name yes_label) (is_name no_label) p.1 in
@@ -107,9 +126,15 @@ end_is (ends.Switch w value other cases) h =
     let p = and_parts (spelled_operand (scalars.Int w) value) (is_name other && list_all (spelled_case w) cases) h in
     let q = and_parts (is_name other) (list_all (spelled_case w) cases) p.1 in
     right_text _ (left_text _ (anywhere_text ends_word (switch_is w value other cases p.0 q.0 q.1)))
-end_is (ends.Ret None) h = right_text _ (right_text _ (left_text _ (word_then _ _ (codes "ret") refl refl (left_text _ (last_text _ (word_text _ (codes "void") refl refl) (nothing_text anything))))))
-end_is (ends.Ret (Some arg)) h = right_text _ (right_text _ (left_text _ (word_then _ _ (codes "ret") refl refl (right_text _ (last_text _ (arg_is arg h) (nothing_text anything))))))
-end_is ends.Unreachable h = right_text _ (right_text _ (right_text _ (last_text _ (word_text _ (codes "unreachable") refl refl) (nothing_text anything))))
+end_is (ends.Ret None) h =
+    right_text _ (right_text _ (left_text _ (word_then _ _ (codes "ret") refl refl
+    (left_text _ (last_text _ (word_text _ (codes "void") refl refl) (nothing_text anything))))))
+end_is (ends.Ret (Some arg)) h =
+    right_text _ (right_text _ (left_text _ (word_then _ _ (codes "ret") refl refl
+    (right_text _ (last_text _ (arg_is arg h) (nothing_text anything))))))
+end_is ends.Unreachable h =
+    right_text _ (right_text _ (right_text _ (last_text _ (word_text _ (codes "unreachable") refl refl)
+    (nothing_text anything))))
 
 -- ---- blocks
 
@@ -136,13 +161,18 @@ block_by : (label : List ℕ) (phis : List Phi) (body : List Instr) (last : End)
     })
 unfolding block instrs_and_end closing
 block_by label phis body last n e f g =
-    label_then _ _ label n refl (blank_text 10 refl (then_text _ (many_texts (both assigned.rule (λ x. (phi x).rule)) phi_line anything spelled_phi (λ p h. line_is (phi_is p h)) (λ p rest. refl) phis e)
-    (then_text _ (many_texts instr.rule instr_line anything spelled_instr (λ i h. line_is (instr_is i h)) (λ i rest. refl) body f)
+    label_then _ _ label n refl (blank_text 10 refl
+    (then_text _ (many_texts (both assigned.rule (λ x. (phi x).rule)) phi_line anything spelled_phi
+    (λ p h. line_is (phi_is p h)) (λ p rest. refl) phis e)
+    (then_text _ (many_texts instr.rule instr_line anything spelled_instr (λ i h. line_is (instr_is i h))
+    (λ i rest. refl) body f)
     (last_text _ (line_is (end_is last g)) (nothing_text anything)) (λ rest h. refl)) (λ rest h. refl)))
 
 pub block_is : (b : Block) → spelled_block b ≡ true → IsTextOf anything block.rule (block_text b) b
 block_is b h =
-    let p = and_parts (is_name b.label) (list_all spelled_phi b.phis && (list_all spelled_instr b.body && spelled_end b.end)) h in
+    let p =
+    and_parts (is_name b.label) (list_all spelled_phi b.phis
+    && (list_all spelled_instr b.body && spelled_end b.end)) h in
     let q = and_parts (list_all spelled_phi b.phis) (list_all spelled_instr b.body && spelled_end b.end) p.1 in
     let r = and_parts (list_all spelled_instr b.body) (spelled_end b.end) q.1 in
     block_by b.label b.phis b.body b.end p.0 q.0 r.0 r.1

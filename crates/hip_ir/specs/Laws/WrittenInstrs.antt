@@ -40,7 +40,9 @@ use Rattle.hip_ir.specs.Laws.WrittenConsts.{inbounds_then, operand_is, arg_is, i
 pub align_is : (n : Option ℕ) → spelled_align n ≡ true → IsTextOf ends_word maybe_align.rule (align_text n) n
 unfolding align
 align_is None e = none_text _ ends_word
-align_is (Some n) e = some_text (mark_then _ _ 44 refl refl (blank_text 32 refl (word_then _ _ (codes "align") refl refl (alignment_text n e))))
+align_is (Some n) e =
+    some_text (mark_then _ _ 44 refl refl (blank_text 32 refl
+    (word_then _ _ (codes "align") refl refl (alignment_text n e))))
 
 pub align_leaves : (n : Option ℕ) → Leaves ends_word (align_text n) ends_word
 align_leaves None rest e = e
@@ -78,7 +80,10 @@ pred_is preds.Sle = word_text _ _ refl refl
 -- `%x = `
 pub assigned_is : (dest : List ℕ) → is_name dest ≡ true → IsTextOf anything assigned.rule (assigned_text dest) dest
 unfolding assigned
-assigned_is dest e = then_text _ (local_text _ dest e refl) (blank_text 32 refl (last_text _ (blank_behind 32 refl (λ rest h. refl) (mark_text _ 61 refl refl)) (nothing_text anything))) (λ rest h. refl)
+assigned_is dest e =
+    then_text _ (local_text _ dest e refl) (blank_text 32 refl
+    (last_text _ (blank_behind 32 refl (λ rest h. refl) (mark_text _ 61 refl refl)) (nothing_text anything)))
+    (λ rest h. refl)
 
 -- ---- flags
 
@@ -137,18 +142,27 @@ flags_by : (op : BinaryOp) (nuw nsw exact : Bool) → (may_wrap op || not (nuw |
     (record { nuw = nuw; nsw = nsw; exact = exact })
 unfolding flags
 flags_by op false false false e f = last_text _ (no_flag_is op) (nothing_text anything)
-flags_by op true false false e f = last_text _ (more_text (nuw_is op (or_false (may_wrap op) e)) (no_flag_is op) (λ rest h. refl)) (nothing_text anything)
-flags_by op false true false e f = last_text _ (more_text (nsw_is op (or_false (may_wrap op) e)) (no_flag_is op) (λ rest h. refl)) (nothing_text anything)
+flags_by op true false false e f =
+    last_text _ (more_text (nuw_is op (or_false (may_wrap op) e)) (no_flag_is op) (λ rest h. refl))
+    (nothing_text anything)
+flags_by op false true false e f =
+    last_text _ (more_text (nsw_is op (or_false (may_wrap op) e)) (no_flag_is op) (λ rest h. refl))
+    (nothing_text anything)
 flags_by op true true false e f =
     let w = or_false (may_wrap op) e in
-    last_text _ (more_text (nuw_is op w) (more_text (nsw_is op w) (no_flag_is op) (λ rest h. refl)) (λ rest h. refl)) (nothing_text anything)
-flags_by op false false true e f = last_text _ (more_text (exact_flag_is op (or_false (may_be_exact op) f)) (no_flag_is op) (λ rest h. refl)) (nothing_text anything)
+    last_text _ (more_text (nuw_is op w) (more_text (nsw_is op w) (no_flag_is op) (λ rest h. refl)) (λ rest h. refl))
+    (nothing_text anything)
+flags_by op false false true e f =
+    last_text _ (more_text (exact_flag_is op (or_false (may_be_exact op) f)) (no_flag_is op) (λ rest h. refl))
+    (nothing_text anything)
 flags_by op true nsw true e f = absurd (exact_wraps op (or_false (may_wrap op) e) (or_false (may_be_exact op) f))
 flags_by op false true true e f = absurd (exact_wraps op (or_false (may_wrap op) e) (or_false (may_be_exact op) f))
 
 flags_are : (op : BinaryOp) (set : Flags) → spelled_flags op set ≡ true
     → IsTextOf anything (flags op).rule (flags_text set) set
-flags_are op set e = let p = and_parts (may_wrap op || not (set.nuw || set.nsw)) (may_be_exact op || not set.exact) e in flags_by op set.nuw set.nsw set.exact p.0 p.1
+flags_are op set e =
+    let p = and_parts (may_wrap op || not (set.nuw || set.nsw)) (may_be_exact op || not set.exact) e in
+    flags_by op set.nuw set.nsw set.exact p.0 p.1
 
 -- ---- arithmetic, comparison and choice
 
@@ -161,16 +175,25 @@ binary_instr_is : (dest : List ℕ) (op : BinaryOp) (set : Flags) (w : Width) (a
     (codes " " ++ (flags_text set ++ (width_text w ++ (codes " " ++ two_operands a b))))) (instrs.Binary dest op set w
     a b)
 unfolding binary
-binary_instr_is dest op set w a b e f g = then_text _ (binary_is op) (blank_text 32 refl (then_text _ (flags_are op set e) (then_text _ (int_is w) (blank_text 32 refl
-    (then_text _ (operand_is (scalars.Int w) a f) (mark_then _ _ 44 refl refl (blank_text 32 refl (last_text _ (operand_is (scalars.Int w) b g) (nothing_text anything)))) (λ rest h. refl))) (λ rest h. refl)) (λ rest h. refl))) (λ rest h. refl)
+binary_instr_is dest op set w a b e f g =
+    then_text _ (binary_is op) (blank_text 32 refl
+    (then_text _ (flags_are op set e) (then_text _ (int_is w) (blank_text 32 refl
+    (then_text _ (operand_is (scalars.Int w) a f)
+    (mark_then _ _ 44 refl refl (blank_text 32 refl
+    (last_text _ (operand_is (scalars.Int w) b g) (nothing_text anything)))) (λ rest h. refl))) (λ rest h. refl))
+    (λ rest h. refl))) (λ rest h. refl)
 
 compare_is : (dest : List ℕ) (p : Pred) (s : Scalar) (a b : Operand) → spelled_operand s a ≡ true
     → spelled_operand s b ≡ true
     → IsTextOf ends_word (compare dest).rule (codes "icmp " ++
     (pred_text p ++ (codes " " ++ (scalar_text s ++ (codes " " ++ two_operands a b))))) (instrs.Compare dest p s a b)
 unfolding compare
-compare_is dest p s a b f g = word_then _ _ (codes "icmp") refl refl (then_text _ (pred_is p) (blank_text 32 refl (then_text _ (scalar_is s) (blank_text 32 refl
-    (then_text _ (operand_is s a f) (mark_then _ _ 44 refl refl (blank_text 32 refl (last_text _ (operand_is s b g) (nothing_text anything)))) (λ rest h. refl))) (λ rest h. refl))) (λ rest h. refl))
+compare_is dest p s a b f g =
+    word_then _ _ (codes "icmp") refl refl (then_text _ (pred_is p)
+    (blank_text 32 refl (then_text _ (scalar_is s) (blank_text 32 refl
+    (then_text _ (operand_is s a f) (mark_then _ _ 44 refl refl
+    (blank_text 32 refl (last_text _ (operand_is s b g) (nothing_text anything)))) (λ rest h. refl)))
+    (λ rest h. refl))) (λ rest h. refl))
 
 select_is : (dest : List ℕ) (cond : Operand) (s : Scalar) (a b : Operand) → spelled_operand (scalars.Int W1) cond ≡ true
     → spelled_operand s a ≡ true → spelled_operand s b ≡ true
@@ -181,9 +204,13 @@ select_is : (dest : List ℕ) (cond : Operand) (s : Scalar) (a b : Operand) → 
     (codes " " ++ (operand_text a ++ (codes ", " ++ (scalar_text s ++ (codes " " ++ operand_text b)))))))))
     (instrs.Select dest cond s a b)
 unfolding select
-select_is dest cond s a b e f g = word_then _ _ (codes "select") refl refl (word_then _ _ (codes "i1") refl refl (then_text _ (operand_is (scalars.Int W1) cond e) (mark_then _ _ 44 refl refl (blank_text 32 refl
-    (then_text _ (scalar_is s) (blank_text 32 refl (then_text _ (operand_is s a f) (mark_then _ _ 44 refl refl (blank_text 32 refl
-    (then_text _ (same_scalar_is s) (blank_text 32 refl (last_text _ (operand_is s b g) (nothing_text anything))) (λ rest h. refl)))) (λ rest h. refl))) (λ rest h. refl)))) (λ rest h. refl)))
+select_is dest cond s a b e f g =
+    word_then _ _ (codes "select") refl refl (word_then _ _ (codes "i1") refl refl
+    (then_text _ (operand_is (scalars.Int W1) cond e) (mark_then _ _ 44 refl refl (blank_text 32 refl
+    (then_text _ (scalar_is s) (blank_text 32 refl
+    (then_text _ (operand_is s a f) (mark_then _ _ 44 refl refl (blank_text 32 refl
+    (then_text _ (same_scalar_is s) (blank_text 32 refl (last_text _ (operand_is s b g) (nothing_text anything)))
+    (λ rest h. refl)))) (λ rest h. refl))) (λ rest h. refl)))) (λ rest h. refl)))
 
 -- ---- casts
 
@@ -196,32 +223,45 @@ int_cast_is : (dest : List ℕ) (op : CastOp) (word : List ℕ) (w v : Width) (a
     → IsTextOf ends_word (int_cast dest).rule (cast_form word (scalars.Int w) a (scalars.Int v))
     (instrs.Cast dest op (scalars.Int w) a (scalars.Int v))
 unfolding int_cast
-int_cast_is dest op word w v a n e f = word_then _ _ word n e (then_text _ (int_is w) (blank_text 32 refl (then_text _ (operand_is (scalars.Int w) a f)
-    (blank_text 32 refl (word_then _ _ (codes "to") refl refl (last_text _ (int_is v) (nothing_text anything)))) (λ rest h. refl))) (λ rest h. refl))
+int_cast_is dest op word w v a n e f =
+    word_then _ _ word n e (then_text _ (int_is w) (blank_text 32 refl (then_text _ (operand_is (scalars.Int w) a f)
+    (blank_text 32 refl (word_then _ _ (codes "to") refl refl (last_text _ (int_is v) (nothing_text anything))))
+    (λ rest h. refl))) (λ rest h. refl))
 
 ptrtoint_is : (dest : List ℕ) (v : Width) (a : Operand) → spelled_operand scalars.Ptr a ≡ true
     → IsTextOf ends_word (ptrtoint dest).rule (cast_form (cast_text casts.Ptrtoint) scalars.Ptr a (scalars.Int v))
     (instrs.Cast dest casts.Ptrtoint scalars.Ptr a (scalars.Int v))
 unfolding ptrtoint
-ptrtoint_is dest v a f = word_then _ _ (cast_text casts.Ptrtoint) refl refl (word_then _ _ (codes "ptr") refl refl (then_text _ (operand_is scalars.Ptr a f)
-    (blank_text 32 refl (word_then _ _ (codes "to") refl refl (last_text _ (int_is v) (nothing_text anything)))) (λ rest h. refl)))
+ptrtoint_is dest v a f =
+    word_then _ _ (cast_text casts.Ptrtoint) refl refl
+    (word_then _ _ (codes "ptr") refl refl (then_text _ (operand_is scalars.Ptr a f)
+    (blank_text 32 refl (word_then _ _ (codes "to") refl refl (last_text _ (int_is v) (nothing_text anything))))
+    (λ rest h. refl)))
 
 inttoptr_is : (dest : List ℕ) (w : Width) (a : Operand) → spelled_operand (scalars.Int w) a ≡ true
     → IsTextOf ends_word (inttoptr dest).rule (cast_form (cast_text casts.Inttoptr) (scalars.Int w) a scalars.Ptr)
     (instrs.Cast dest casts.Inttoptr (scalars.Int w) a scalars.Ptr)
 unfolding inttoptr
-inttoptr_is dest w a f = word_then _ _ (cast_text casts.Inttoptr) refl refl (then_text _ (int_is w) (blank_text 32 refl (then_text _ (operand_is (scalars.Int w) a f)
-    (blank_text 32 refl (word_then _ _ (codes "to") refl refl (last_text _ (word_text _ (codes "ptr") refl refl) (nothing_text anything)))) (λ rest h. refl))) (λ rest h. refl))
+inttoptr_is dest w a f =
+    word_then _ _ (cast_text casts.Inttoptr) refl refl
+    (then_text _ (int_is w) (blank_text 32 refl (then_text _ (operand_is (scalars.Int w) a f)
+    (blank_text 32 refl (word_then _ _ (codes "to") refl refl
+    (last_text _ (word_text _ (codes "ptr") refl refl) (nothing_text anything)))) (λ rest h. refl)))
+    (λ rest h. refl))
 
 cast_is : (dest : List ℕ) (op : CastOp) (from : Scalar) (a : Operand) (to : Scalar) → spelled_cast op from to ≡ true
     → spelled_operand from a ≡ true
     → IsTextOf ends_word (cast_instr dest).rule (cast_form (cast_text op) from a to) (instrs.Cast dest op from a to)
 unfolding cast_instr
-cast_is dest casts.Zext (scalars.Int w) a (scalars.Int v) e f = left_text _ (int_cast_is dest casts.Zext (cast_text casts.Zext) w v a refl refl f)
-cast_is dest casts.Sext (scalars.Int w) a (scalars.Int v) e f = left_text _ (int_cast_is dest casts.Sext (cast_text casts.Sext) w v a refl refl f)
-cast_is dest casts.Trunc (scalars.Int w) a (scalars.Int v) e f = left_text _ (int_cast_is dest casts.Trunc (cast_text casts.Trunc) w v a refl refl f)
+cast_is dest casts.Zext (scalars.Int w) a (scalars.Int v) e f =
+    left_text _ (int_cast_is dest casts.Zext (cast_text casts.Zext) w v a refl refl f)
+cast_is dest casts.Sext (scalars.Int w) a (scalars.Int v) e f =
+    left_text _ (int_cast_is dest casts.Sext (cast_text casts.Sext) w v a refl refl f)
+cast_is dest casts.Trunc (scalars.Int w) a (scalars.Int v) e f =
+    left_text _ (int_cast_is dest casts.Trunc (cast_text casts.Trunc) w v a refl refl f)
 cast_is dest casts.Ptrtoint scalars.Ptr a (scalars.Int v) e f = right_text _ (left_text _ (ptrtoint_is dest v a f))
-cast_is dest casts.Inttoptr (scalars.Int w) a scalars.Ptr e f = right_text _ (right_text _ (left_text _ (inttoptr_is dest w a f)))
+cast_is dest casts.Inttoptr (scalars.Int w) a scalars.Ptr e f =
+    right_text _ (right_text _ (left_text _ (inttoptr_is dest w a f)))
 cast_is dest casts.Zext scalars.Ptr a to e f = absurd cc
 cast_is dest casts.Zext (scalars.Int w) a scalars.Ptr e f = absurd cc
 cast_is dest casts.Sext scalars.Ptr a to e f = absurd cc
@@ -239,15 +279,20 @@ alloca_is : (dest : List ℕ) (ty : Ty) (n : Option ℕ) → spelled_type ty ≡
     → IsTextOf ends_word (alloca dest).rule (codes "alloca " ++ (type_text ty ++ align_text n))
     (instrs.Alloca dest ty n)
 unfolding alloca
-alloca_is dest ty n e f = word_then _ _ (codes "alloca") refl refl (then_text _ (type_is 32 ty e) (last_text _ (align_is n f) (nothing_text anything)) (align_leaves n))
+alloca_is dest ty n e f =
+    word_then _ _ (codes "alloca") refl refl (then_text _ (type_is 32 ty e)
+    (last_text _ (align_is n f) (nothing_text anything)) (align_leaves n))
 
 load_is : (dest : List ℕ) (s : Scalar) (addr : Operand) (n : Option ℕ) → spelled_operand scalars.Ptr addr ≡ true
     → spelled_align n ≡ true
     → IsTextOf ends_word (load dest).rule (codes "load " ++
     (scalar_text s ++ (codes ", ptr " ++ (operand_text addr ++ align_text n)))) (instrs.Load dest s addr n)
 unfolding load
-load_is dest s addr n e f = word_then _ _ (codes "load") refl refl (then_text _ (scalar_is s) (mark_then _ _ 44 refl refl (blank_text 32 refl (word_then _ _ (codes "ptr") refl refl
-    (then_text _ (operand_is scalars.Ptr addr e) (last_text _ (align_is n f) (nothing_text anything)) (align_leaves n))))) (λ rest h. refl))
+load_is dest s addr n e f =
+    word_then _ _ (codes "load") refl refl (then_text _ (scalar_is s)
+    (mark_then _ _ 44 refl refl (blank_text 32 refl (word_then _ _ (codes "ptr") refl refl
+    (then_text _ (operand_is scalars.Ptr addr e) (last_text _ (align_is n f) (nothing_text anything))
+    (align_leaves n))))) (λ rest h. refl))
 
 store_is : (s : Scalar) (value addr : Operand) (n : Option ℕ) → spelled_operand s value ≡ true
     → spelled_operand scalars.Ptr addr ≡ true → spelled_align n ≡ true
@@ -255,8 +300,12 @@ store_is : (s : Scalar) (value addr : Operand) (n : Option ℕ) → spelled_oper
     (scalar_text s ++ (codes " " ++ (operand_text value ++ (codes ", ptr " ++ (operand_text addr ++ align_text n))))))
     (instrs.Store s value addr n)
 unfolding store
-store_is s value addr n e f g = word_then _ _ (codes "store") refl refl (then_text _ (scalar_is s) (blank_text 32 refl (then_text _ (operand_is s value e) (mark_then _ _ 44 refl refl (blank_text 32 refl (word_then _ _ (codes "ptr") refl refl
-    (then_text _ (operand_is scalars.Ptr addr f) (last_text _ (align_is n g) (nothing_text anything)) (align_leaves n))))) (λ rest h. refl))) (λ rest h. refl))
+store_is s value addr n e f g =
+    word_then _ _ (codes "store") refl refl (then_text _ (scalar_is s)
+    (blank_text 32 refl (then_text _ (operand_is s value e)
+    (mark_then _ _ 44 refl refl (blank_text 32 refl (word_then _ _ (codes "ptr") refl refl
+    (then_text _ (operand_is scalars.Ptr addr f) (last_text _ (align_is n g) (nothing_text anything))
+    (align_leaves n))))) (λ rest h. refl))) (λ rest h. refl))
 
 gep_is : (dest : List ℕ) (inbounds : Bool) (ty : Ty) (base : Operand) (indices : List Arg) → spelled_type ty ≡ true
     → spelled_operand scalars.Ptr base ≡ true → not_empty indices ≡ true → list_all spelled_index indices ≡ true
@@ -266,16 +315,26 @@ gep_is : (dest : List ℕ) (inbounds : Bool) (ty : Ty) (base : Operand) (indices
     inbounds ty base indices)
 unfolding gep
 gep_is dest inbounds ty base [] e f some g = absurd cc
-gep_is dest inbounds ty base (i ∷ is) e f some g = word_then _ _ (codes "getelementptr") refl refl (inbounds_then _ ends_word _ _ inbounds (then_text _ (type_is 32 ty e) (mark_then _ _ 44 refl refl (blank_text 32 refl (word_then _ _ (codes "ptr") refl refl
-    (then_text _ (operand_is scalars.Ptr base f) (mark_then _ _ 44 refl refl (blank_text 32 refl (last_text _ (separated_are index arg_text spelled_index index_is i is g) (nothing_text anything)))) (λ rest h. refl))))) (λ rest h. refl)))
+gep_is dest inbounds ty base (i ∷ is) e f some g =
+    word_then _ _ (codes "getelementptr") refl refl
+    (inbounds_then _ ends_word _ _ inbounds (then_text _ (type_is 32 ty e)
+    (mark_then _ _ 44 refl refl (blank_text 32 refl (word_then _ _ (codes "ptr") refl refl
+    (then_text _ (operand_is scalars.Ptr base f)
+    (mark_then _ _ 44 refl refl (blank_text 32 refl
+    (last_text _ (separated_are index arg_text spelled_index index_is i is g) (nothing_text anything))))
+    (λ rest h. refl))))) (λ rest h. refl)))
 
 call_is : (dest : Option (List ℕ)) (ret : Option Scalar) (callee : List ℕ) (args : List Arg) → is_name callee ≡ true
     → list_all spelled_arg args ≡ true
     → IsTextOf anything (call dest).rule (codes "call " ++
     (ret_text ret ++ (codes " @" ++ (callee ++ parenthesized (map arg_text args))))) (instrs.Call dest ret callee args)
 unfolding call plain_call
-call_is dest ret callee args e f = then_text _ {s = []} (none_text _ anything) (word_then _ _ (codes "call") refl refl (then_text _ (ret_is ret) (blank_text 32 refl (then_text _ (global_text _ callee e refl) (mark_then _ _ 40 refl refl
-    (last_text _ (listed_are arg arg_text spelled_arg arg_is 41 (codes ")") (mark_text _ 41 refl refl) (λ rest h. refl) args f) (nothing_text anything))) (λ rest h. refl))) (λ rest h. refl))) (λ rest h. refl)
+call_is dest ret callee args e f =
+    then_text _ {s = []} (none_text _ anything)
+    (word_then _ _ (codes "call") refl refl (then_text _ (ret_is ret)
+    (blank_text 32 refl (then_text _ (global_text _ callee e refl) (mark_then _ _ 40 refl refl
+    (last_text _ (listed_are arg arg_text spelled_arg arg_is 41 (codes ")") (mark_text _ 41 refl refl)
+    (λ rest h. refl) args f) (nothing_text anything))) (λ rest h. refl))) (λ rest h. refl))) (λ rest h. refl)
 
 -- ---- all instructions
 
@@ -297,8 +356,11 @@ as_memory dest text i p = as_cast dest text i (right_text _ (right_text _ (right
 pub instr_is : (i : Instr) → spelled_instr i ≡ true → IsTextOf ends_word instr.rule (instr_text i) i
 unfolding value_instr memory_instr instr effect_instr
 instr_is (instrs.Binary dest op set w a b) e =
-    let p = and_parts (is_name dest) (spelled_flags op set && (spelled_operand (scalars.Int w) a && spelled_operand (scalars.Int w) b)) e in
-    let q = and_parts (spelled_flags op set) (spelled_operand (scalars.Int w) a && spelled_operand (scalars.Int w) b) p.1 in
+    let p =
+    and_parts (is_name dest) (spelled_flags op set
+    && (spelled_operand (scalars.Int w) a && spelled_operand (scalars.Int w) b)) e in
+    let q =
+    and_parts (spelled_flags op set) (spelled_operand (scalars.Int w) a && spelled_operand (scalars.Int w) b) p.1 in
     let r = and_parts (spelled_operand (scalars.Int w) a) (spelled_operand (scalars.Int w) b) q.1 in
     behind_register dest _ _ p.0 (left_text _ (binary_instr_is dest op set w a b q.0 r.0 r.1))
 instr_is (instrs.Compare dest pred s a b) e =
@@ -306,7 +368,9 @@ instr_is (instrs.Compare dest pred s a b) e =
     let q = and_parts (spelled_operand s a) (spelled_operand s b) p.1 in
     behind_register dest _ _ p.0 (right_text _ (left_text _ (compare_is dest pred s a b q.0 q.1)))
 instr_is (instrs.Select dest cond s a b) e =
-    let p = and_parts (is_name dest) (spelled_operand (scalars.Int W1) cond && (spelled_operand s a && spelled_operand s b)) e in
+    let p =
+    and_parts (is_name dest) (spelled_operand (scalars.Int W1) cond
+    && (spelled_operand s a && spelled_operand s b)) e in
     let q = and_parts (spelled_operand (scalars.Int W1) cond) (spelled_operand s a && spelled_operand s b) p.1 in
     let r = and_parts (spelled_operand s a) (spelled_operand s b) q.1 in
     behind_register dest _ _ p.0 (right_text _ (right_text _ (left_text _ (select_is dest cond s a b q.0 r.0 r.1))))
@@ -327,15 +391,22 @@ instr_is (instrs.Store s value addr n) e =
     let q = and_parts (spelled_operand scalars.Ptr addr) (spelled_align n) p.1 in
     right_text _ (left_text _ (store_is s value addr n p.0 q.0 q.1))
 instr_is (instrs.Gep dest inbounds ty base indices) e =
-    let p = and_parts (is_name dest) (spelled_type ty && (spelled_operand scalars.Ptr base && (not_empty indices && list_all spelled_index indices))) e in
-    let q = and_parts (spelled_type ty) (spelled_operand scalars.Ptr base && (not_empty indices && list_all spelled_index indices)) p.1 in
+    let p =
+    and_parts (is_name dest) (spelled_type ty
+    && (spelled_operand scalars.Ptr base && (not_empty indices && list_all spelled_index indices))) e in
+    let q =
+    and_parts (spelled_type ty) (spelled_operand scalars.Ptr base
+    && (not_empty indices && list_all spelled_index indices)) p.1 in
     let r = and_parts (spelled_operand scalars.Ptr base) (not_empty indices && list_all spelled_index indices) q.1 in
     let s = and_parts (not_empty indices) (list_all spelled_index indices) r.1 in
-    behind_register dest _ _ p.0 (as_memory dest _ _ (right_text _ (right_text _ (left_text _ (gep_is dest inbounds ty base indices q.0 r.0 s.0 s.1)))))
+    behind_register dest _ _ p.0 (as_memory dest _ _
+    (right_text _ (right_text _ (left_text _ (gep_is dest inbounds ty base indices q.0 r.0 s.0 s.1)))))
 instr_is (instrs.Call None ret callee args) e =
     let p = and_parts (is_name callee) (list_all spelled_arg args) e in
     right_text _ (right_text _ (anywhere_text ends_word (call_is None ret callee args p.0 p.1)))
 instr_is (instrs.Call (Some dest) ret callee args) e =
     let p = and_parts (is_name dest) (is_name callee && list_all spelled_arg args) e in
     let q = and_parts (is_name callee) (list_all spelled_arg args) p.1 in
-    behind_register dest _ _ p.0 (as_memory dest _ _ (right_text _ (right_text _ (right_text _ (anywhere_text ends_word (call_is (Some dest) ret callee args q.0 q.1))))))
+    behind_register dest _ _ p.0 (as_memory dest _ _
+    (right_text _ (right_text _ (right_text _
+    (anywhere_text ends_word (call_is (Some dest) ret callee args q.0 q.1))))))

@@ -25,7 +25,9 @@ module _ {A : Type 0} (l : Part Fault A) (text : A → List ℕ) (test : A → B
 
   others_are : (xs : List A) → list_all test xs ≡ true
       → IsTextOf ends_word (many (one_more_by comma l).rule) (after_commas (map text xs)) xs
-  others_are xs e = rw (← after_commas_are xs) (many_texts (one_more_by comma l).rule behind_comma ends_word test one_more_is (λ x rest. refl) xs e)
+  others_are xs e =
+      rw (← after_commas_are xs) (many_texts (one_more_by comma l).rule behind_comma ends_word test one_more_is
+      (λ x rest. refl) xs e)
 
   commas_leave : (xs : List A) → Leaves ends_word (after_commas (map text xs)) ends_word
   commas_leave [] rest e = e
@@ -34,7 +36,9 @@ module _ {A : Type 0} (l : Part Fault A) (text : A → List ℕ) (test : A → B
   pub separated_are : (x : A) (xs : List A) → list_all test (x ∷ xs) ≡ true
       → IsTextOf ends_word (separated comma l).rule (commas (map text (x ∷ xs))) (x ∷ xs)
   unfolding separated
-  separated_are x xs e = let p = and_parts (test x) (list_all test xs) e in then_text _ (each x p.0) (last_text _ (others_are xs p.1) (nothing_text anything)) (commas_leave xs)
+  separated_are x xs e =
+      let p = and_parts (test x) (list_all test xs) e in
+      then_text _ (each x p.0) (last_text _ (others_are xs p.1) (nothing_text anything)) (commas_leave xs)
 
   -- up to a closing mark
   module _ (mark : ℕ) (closing : List ℕ)
@@ -46,7 +50,8 @@ module _ {A : Type 0} (l : Part Fault A) (text : A → List ℕ) (test : A → B
     pub some_listed : Leaves ends_word closing anything → (x : A) (xs : List A) → list_all test (x ∷ xs) ≡ true
         → IsTextOf anything (listed comma (is_mark mark) l).rule (commas (map text (x ∷ xs)) ++ closing) (x ∷ xs)
     unfolding listed some_up_to
-    some_listed leaves x xs e = right_text _ (then_text _ (separated_are x xs e) (last_text _ close (nothing_text anything)) leaves)
+    some_listed leaves x xs e =
+        right_text _ (then_text _ (separated_are x xs e) (last_text _ close (nothing_text anything)) leaves)
 
     pub listed_are : Leaves ends_word closing anything → (xs : List A) → list_all test xs ≡ true
         → IsTextOf anything (listed comma (is_mark mark) l).rule (commas (map text xs) ++ closing) xs

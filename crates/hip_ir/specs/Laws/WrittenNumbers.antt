@@ -37,7 +37,8 @@ digits_push n d (e ∷ ds) = digits_push (10 * n + (e - 48)) d ds
 
 all_push : (p : ℕ → Bool) (d : ℕ) (ds : List ℕ) → list_all p ds ≡ true → p d ≡ true → list_all p (ds ++ d ∷ []) ≡ true
 all_push p d [] a h = rw h refl
-all_push p d (e ∷ ds) a h = rw ((and_parts (p e) (list_all p ds) a).0, all_push p d ds ((and_parts (p e) (list_all p ds) a).1) h) refl
+all_push p d (e ∷ ds) a h =
+    rw ((and_parts (p e) (list_all p ds) a).0, all_push p d ds ((and_parts (p e) (list_all p ds) a).1) h) refl
 
 is_glyph : (n : ℕ) → n < 10 → is_digit (48 + n) ≡ true
 is_glyph n h = grind (arith, nat_tests)
@@ -97,7 +98,8 @@ alignment_again : (n : ℕ) (ds : List ℕ) → is_alignment n ≡ true → IsPl
 alignment_again n ds e p = rw (p.unsigned, p.value, e) refl
 
 pub alignment_text : (n : ℕ) → is_alignment n ≡ true → IsTextOf ends_word (one an_alignment) (decimal n) n
-alignment_text n e = let p = decimal_plain n (alignment_lt n e) in digits_text _ (decimal n) p.digits (alignment_again n (decimal n) e p)
+alignment_text n e =
+    let p = decimal_plain n (alignment_lt n e) in digits_text _ (decimal n) p.digits (alignment_again n (decimal n) e p)
 
 -- ---- literals
 
@@ -144,13 +146,23 @@ signed_literal w n lt = by_sign (nat_lt n (2 ^ (bits_of w - 1))) refl
     by_sign : (b : Bool) → nat_lt n (2 ^ (bits_of w - 1)) ≡ b → IsLiteral w (signed_text (bits_of w) n) (bits w n)
     by_sign true e =
         let p = decimal_plain n (below_all w n lt) in
-        rw e (record { tok = Num (decimal n); cuts = λ line rest h. digits_cut line (decimal n) rest p.digits h; value = plain_again w n (decimal n) lt p; other = refl })
+        rw e (record {
+          tok = Num (decimal n);
+          cuts = λ line rest h. digits_cut line (decimal n) rest p.digits h;
+          value = plain_again w n (decimal n) lt p;
+          other = refl;
+        })
     by_sign false e =
         let m : ℕ = 2 ^ bits_of w - n in
         let le : 2 ^ (bits_of w - 1) ≤ n = ltb-false n (2 ^ (bits_of w - 1)) e in
         let half = modulus_is w in
         let p = decimal_plain m (below_all w m (omega arith)) in
-        rw e (record { tok = Num (45 ∷ decimal m); cuts = λ line rest h. minus_cut line (decimal m) rest p.digits h; value = minus_again w n m (decimal m) lt le refl p; other = refl })
+        rw e (record {
+          tok = Num (45 ∷ decimal m);
+          cuts = λ line rest h. minus_cut line (decimal m) rest p.digits h;
+          value = minus_again w n m (decimal m) lt le refl p;
+          other = refl;
+        })
 
 number_literal : (w : Width) (n : ℕ) → n < 2 ^ bits_of w → IsLiteral w (number_text w n) (bits w n)
 number_literal W1 n lt = truth_literal n lt

@@ -46,13 +46,23 @@ section_name = token_text _ (Str (codes ".pm")) (λ line rest e. refl) refl
 place_is : (persistent : Bool) (n : Option ℕ) → spelled_align n ≡ true
     → IsTextOf ends_word place.rule (section_text persistent ++ align_text n) (persistent, n)
 unfolding place placement section only_align
-place_is true n e = last_text _ (some_text (mark_then _ _ 44 refl refl (blank_text 32 refl (left_text _ (word_then _ _ (codes "section") refl refl (then_text _ section_name (last_text _ (align_is n e) (nothing_text anything)) (λ rest h. refl))))))) (nothing_text anything)
+place_is true n e =
+    last_text _ (some_text (mark_then _ _ 44 refl refl
+    (blank_text 32 refl (left_text _ (word_then _ _ (codes "section") refl refl
+    (then_text _ section_name (last_text _ (align_is n e) (nothing_text anything)) (λ rest h. refl)))))))
+    (nothing_text anything)
 place_is false None e = last_text _ (none_text _ ends_word) (nothing_text anything)
-place_is false (Some n) e = last_text _ (some_text (mark_then _ _ 44 refl refl (blank_text 32 refl (right_text _ (word_then _ _ (codes "align") refl refl (last_text _ (alignment_text n e) (nothing_text anything))))))) (nothing_text anything)
+place_is false (Some n) e =
+    last_text _ (some_text (mark_then _ _ 44 refl refl
+    (blank_text 32 refl (right_text _ (word_then _ _ (codes "align") refl refl
+    (last_text _ (alignment_text n e) (nothing_text anything))))))) (nothing_text anything)
 
 place_line : (persistent : Bool) (n : Option ℕ) → spelled_align n ≡ true
     → IsTextOf anything place.rule (section_text persistent ++ (align_text n ++ codes "\n")) (persistent, n)
-place_line persistent n e = subst (λ s. IsTextOf anything place.rule s (persistent, n)) (append_assoc (section_text persistent) (align_text n) (codes "\n")) (blank_behind 10 refl (λ rest h. refl) (place_is persistent n e))
+place_line persistent n e =
+    subst (λ s. IsTextOf anything place.rule s (persistent, n))
+    (append_assoc (section_text persistent) (align_text n) (codes "\n"))
+    (blank_behind 10 refl (λ rest h. refl) (place_is persistent n e))
 
 place_leaves : (persistent : Bool) (n : Option ℕ)
     → Leaves ends_word (section_text persistent ++ (align_text n ++ codes "\n")) anything
@@ -75,8 +85,13 @@ global_is g h =
     let p = and_parts (is_name g.name) (spelled_type g.ty && (spelled_const g.ty g.init && spelled_align g.align)) h in
     let q = and_parts (spelled_type g.ty) (spelled_const g.ty g.init && spelled_align g.align) p.1 in
     let r = and_parts (spelled_const g.ty g.init) (spelled_align g.align) q.1 in
-    then_text _ (global_text _ g.name p.0 refl) (blank_text 32 refl (mark_then _ _ 61 refl refl (blank_text 32 refl (then_text _ {s = []} no_linkages (fixed_is g.fixed _ _ _
-    (then_text _ (type_is 32 g.ty q.0) (blank_text 32 refl (then_text _ (const_is 32 g.ty g.init r.0) (last_text _ (place_line g.persistent g.align r.1) (nothing_text anything)) (place_leaves g.persistent g.align)))
+    then_text _ (global_text _ g.name p.0 refl)
+    (blank_text 32 refl (mark_then _ _ 61 refl refl
+    (blank_text 32 refl (then_text _ {s = []} no_linkages (fixed_is g.fixed _ _ _
+    (then_text _ (type_is 32 g.ty q.0) (blank_text 32 refl
+    (then_text _ (const_is 32 g.ty g.init r.0)
+    (last_text _ (place_line g.persistent g.align r.1) (nothing_text anything))
+    (place_leaves g.persistent g.align)))
     (λ rest h. refl))) (λ rest h. refl))))) (λ rest h. refl)
 
 -- ---- externs and functions
@@ -86,13 +101,20 @@ scalar_listed s e = scalar_is s
 
 extern_is : (e : Extern) → spelled_extern e ≡ true → IsTextOf anything extern_item.rule (extern_text e) (ExternItem e)
 unfolding extern_item
-extern_is e h = word_then _ _ (codes "declare") refl refl (then_text _ (ret_is e.ret) (blank_text 32 refl (then_text _ (global_text _ e.name h refl) (mark_then _ _ 40 refl refl
-    (then_text _ (listed_are scalar scalar_text (λ s. true) scalar_listed 41 (codes ")") (mark_text _ 41 refl refl) (λ rest h. refl) e.params (all_pass e.params))
-    (blank_text 10 refl (last_text _ (none_text _ anything) (nothing_text anything))) (λ rest h. refl))) (λ rest h. refl))) (λ rest h. refl))
+extern_is e h =
+    word_then _ _ (codes "declare") refl refl
+    (then_text _ (ret_is e.ret) (blank_text 32 refl
+    (then_text _ (global_text _ e.name h refl) (mark_then _ _ 40 refl refl
+    (then_text _ (listed_are scalar scalar_text (λ s. true) scalar_listed 41 (codes ")") (mark_text _ 41 refl refl)
+    (λ rest h. refl) e.params (all_pass e.params))
+    (blank_text 10 refl (last_text _ (none_text _ anything) (nothing_text anything))) (λ rest h. refl)))
+    (λ rest h. refl))) (λ rest h. refl))
 
 param_is : (p : Param) → spelled_param p ≡ true → IsTextOf ends_word param.rule (param_text p) p
 unfolding param
-param_is p e = then_text _ (scalar_is p.ty) (blank_text 32 refl (last_text _ (local_text _ p.name e refl) (nothing_text anything))) (λ rest h. refl)
+param_is p e =
+    then_text _ (scalar_is p.ty) (blank_text 32 refl (last_text _ (local_text _ p.name e refl) (nothing_text anything)))
+    (λ rest h. refl)
 
 blocks_are : (bs : List Block) → not_empty bs ≡ true → list_all spelled_block bs ≡ true
     → IsTextOf anything blocks.rule (flat_map block_text bs) bs
@@ -100,19 +122,28 @@ unfolding blocks
 blocks_are [] some h = absurd cc
 blocks_are (b ∷ bs) some h =
     let p = and_parts (spelled_block b) (list_all spelled_block bs) h in
-    then_text _ (block_is b p.0) (last_text _ (many_texts block.rule block_text anything spelled_block block_is (λ b rest. refl) bs p.1) (nothing_text anything)) (λ rest h. refl)
+    then_text _ (block_is b p.0) (last_text _
+    (many_texts block.rule block_text anything spelled_block block_is (λ b rest. refl) bs p.1)
+    (nothing_text anything)) (λ rest h. refl)
 
 function_is : (f : Function) → spelled_function f ≡ true
     → IsTextOf anything function.rule (function_text f) (FunctionItem f)
 unfolding function
 function_is f h =
-    let p = and_parts (is_name f.name) (list_all spelled_param f.params && (not_empty f.blocks && list_all spelled_block f.blocks)) h in
+    let p =
+    and_parts (is_name f.name) (list_all spelled_param f.params
+    && (not_empty f.blocks && list_all spelled_block f.blocks)) h in
     let q = and_parts (list_all spelled_param f.params) (not_empty f.blocks && list_all spelled_block f.blocks) p.1 in
     let r = and_parts (not_empty f.blocks) (list_all spelled_block f.blocks) q.1 in
-    word_then _ _ (codes "define") refl refl (then_text _ {s = []} no_links (then_text _ (ret_is f.ret) (blank_text 32 refl (then_text _ (global_text _ f.name p.0 refl) (mark_then _ _ 40 refl refl
-    (then_text _ (listed_are param param_text spelled_param param_is 41 (codes ")") (mark_text _ 41 refl refl) (λ rest h. refl) f.params q.0)
-    (then_text _ {s = []} (none_text _ anything) (blank_text 32 refl (mark_then _ _ 123 refl refl (blank_text 10 refl (then_text _ (blocks_are f.blocks r.0 r.1)
-    (last_text _ (blank_behind 10 refl (λ rest h. refl) (mark_text _ 125 refl refl)) (nothing_text anything)) (λ rest h. refl))))) (λ rest h. refl)) (λ rest h. refl))) (λ rest h. refl))) (λ rest h. refl)) (λ rest h. refl))
+    word_then _ _ (codes "define") refl refl (then_text _ {s = []} no_links
+    (then_text _ (ret_is f.ret) (blank_text 32 refl
+    (then_text _ (global_text _ f.name p.0 refl) (mark_then _ _ 40 refl refl
+    (then_text _ (listed_are param param_text spelled_param param_is 41 (codes ")") (mark_text _ 41 refl refl)
+    (λ rest h. refl) f.params q.0)
+    (then_text _ {s = []} (none_text _ anything)
+    (blank_text 32 refl (mark_then _ _ 123 refl refl (blank_text 10 refl (then_text _ (blocks_are f.blocks r.0 r.1)
+    (last_text _ (blank_behind 10 refl (λ rest h. refl) (mark_text _ 125 refl refl)) (nothing_text anything))
+    (λ rest h. refl))))) (λ rest h. refl)) (λ rest h. refl))) (λ rest h. refl))) (λ rest h. refl)) (λ rest h. refl))
 
 -- ---- texts
 
@@ -136,11 +167,16 @@ items_of p = map GlobalItem p.globals ++ (map ExternItem p.externs ++ map Functi
 
 items_are : (p : Program) → spelled_program p ≡ true → IsTextOf anything (many item.rule) (show p) (items_of p)
 items_are p h =
-    let q = and_parts (list_all spelled_global p.globals) (list_all spelled_extern p.externs && list_all spelled_function p.functions) h in
+    let q =
+    and_parts (list_all spelled_global p.globals)
+    (list_all spelled_extern p.externs && list_all spelled_function p.functions) h in
     let r = and_parts (list_all spelled_extern p.externs) (list_all spelled_function p.functions) q.1 in
-    joined_texts item.rule (mapped_texts item.rule global_item_text GlobalItem anything spelled_global global_listed (λ g rest. refl) p.globals q.0)
-    (joined_texts item.rule (mapped_texts item.rule extern_text ExternItem anything spelled_extern extern_listed (λ e rest. refl) p.externs r.0)
-    (mapped_texts item.rule function_text FunctionItem anything spelled_function function_listed (λ f rest. refl) p.functions r.1) (λ rest h. refl)) (λ rest h. refl)
+    joined_texts item.rule (mapped_texts item.rule global_item_text GlobalItem anything spelled_global global_listed
+    (λ g rest. refl) p.globals q.0)
+    (joined_texts item.rule (mapped_texts item.rule extern_text ExternItem anything spelled_extern extern_listed
+    (λ e rest. refl) p.externs r.0)
+    (mapped_texts item.rule function_text FunctionItem anything spelled_function function_listed
+    (λ f rest. refl) p.functions r.1) (λ rest h. refl)) (λ rest h. refl)
 
 -- each goes to the end of its list
 functions_taken : (gs : List GlobalVar) (es : List Extern) (fs ms : List Function)
@@ -164,7 +200,9 @@ globals_taken gs (h ∷ hs) ns ms = rw (← append_assoc gs (h ∷ []) hs) (glob
 
 text_is : (p : Program) → spelled_program p ≡ true → IsTextOf anything text.rule (show p) p
 unfolding text
-text_is p h = subst (IsTextOf anything text.rule (show p)) (globals_taken [] p.globals p.externs p.functions) (last_text _ (items_are p h) (nothing_text anything))
+text_is p h =
+    subst (IsTextOf anything text.rule (show p)) (globals_taken [] p.globals p.externs p.functions)
+    (last_text _ (items_are p h) (nothing_text anything))
 
 end_of_tokens : (line : ℕ) → cut line 0 [] ≡ []
 unfolding cut
@@ -174,4 +212,5 @@ end_of_tokens line = refl
 pub spelled_is_read : (p : Program) → spelled_program p ≡ true → IsSpelled p
 spelled_is_read p h =
     let q = (text_is p h).derives 1 [] refl in
-    subst (λ (ts : List At). text.rule.Derives (tokens (show p)) p ts) (end_of_tokens q.0) (subst (λ (s : List ℕ). text.rule.Derives (tokens s) p (cut q.0 0 [])) (append-nil (show p)) q.1)
+    subst (λ (ts : List At). text.rule.Derives (tokens (show p)) p ts) (end_of_tokens q.0)
+    (subst (λ (s : List ℕ). text.rule.Derives (tokens s) p (cut q.0 0 [])) (append-nil (show p)) q.1)

@@ -80,7 +80,8 @@ text_by_level t = ap type_text (sym (roll-out-Ty t)) ∙ fold-roll-Ty (List ℕ)
 
 by_level : (l : Rule Fault Ty) (t : Ty) → IsTextOf ends_word l (level_text (out-Ty t)) (roll-Ty (out-Ty t))
     → IsTextOf ends_word l (type_text t) t
-by_level l t p = rw (text_by_level t) (subst (λ (u : Ty). IsTextOf ends_word l (level_text (out-Ty t)) u) (roll-out-Ty t) p)
+by_level l t p =
+    rw (text_by_level t) (subst (λ (u : Ty). IsTextOf ends_word l (level_text (out-Ty t)) u) (roll-out-Ty t) p)
 
 scalar_by : (array struct : Part Fault Ty) (s : Scalar)
     → IsTextOf ends_word (type_by array struct).rule (scalar_text s) (type_of s)
@@ -101,21 +102,31 @@ module _ (p : Part Fault Ty) (test : Ty → Bool)
       (types.Array n t)
   unfolding array_type
   array_is n t e f = mark_then _ _ 91 refl refl (then_text _ (count_text n e)
-      (blank_text 32 refl (word_then _ _ (codes "x") refl refl (then_text _ (each t f) (last_text _ (mark_text _ 93 refl refl) (nothing_text anything)) (λ rest h. refl)))) (λ rest h. refl))
+      (blank_text 32 refl (word_then _ _ (codes "x") refl refl
+      (then_text _ (each t f) (last_text _ (mark_text _ 93 refl refl) (nothing_text anything)) (λ rest h. refl))))
+      (λ rest h. refl))
 
   struct_is : (fs : List Ty) → list_all test fs ≡ true
       → IsTextOf anything (struct_type p).rule (braced (map type_text fs)) (types.Struct fs)
   unfolding struct_type
-  struct_is [] e = mark_then _ _ 123 refl refl (last_text _ (none_listed p type_text test each 125 (codes "}") (mark_text _ 125 refl refl)) (nothing_text anything))
-  struct_is (t ∷ ts) e = mark_then _ _ 123 refl refl (blank_text 32 refl (last_text _ (some_listed p type_text test each 125 (codes " }") (blank_text 32 refl (mark_text _ 125 refl refl)) (λ rest h. refl) t ts e) (nothing_text anything)))
+  struct_is [] e =
+      mark_then _ _ 123 refl refl (last_text _
+      (none_listed p type_text test each 125 (codes "}") (mark_text _ 125 refl refl)) (nothing_text anything))
+  struct_is (t ∷ ts) e =
+      mark_then _ _ 123 refl refl (blank_text 32 refl
+      (last_text _ (some_listed p type_text test each 125 (codes " }") (blank_text 32 refl (mark_text _ 125 refl refl))
+      (λ rest h. refl) t ts e) (nothing_text anything)))
 
   level_is : (level : Ty-F Ty) → spelled_level test level ≡ true
       → IsTextOf ends_word (type_by (array_type p) (struct_type p)).rule (level_text level) (roll-Ty level)
   unfolding type_by
   level_is (Ty-F.Int w) e = rw (rolls-Int w) (right_text _ (right_text _ (scalar_type_is (scalars.Int w))))
   level_is Ty-F.Ptr e = rw rolls-Ptr (right_text _ (right_text _ (scalar_type_is scalars.Ptr)))
-  level_is (Ty-F.Array n t) e = rw (rolls-Array n t) (left_text _ (anywhere_text ends_word (array_is n t ((and_parts (nat_lt n 67108865) (test t) e).0) ((and_parts (nat_lt n 67108865) (test t) e).1))))
-  level_is (Ty-F.Struct fs) e = rw (rolls-Struct fs) (right_text _ (left_text _ (anywhere_text ends_word (struct_is fs e))))
+  level_is (Ty-F.Array n t) e =
+      rw (rolls-Array n t) (left_text _ (anywhere_text ends_word
+      (array_is n t ((and_parts (nat_lt n 67108865) (test t) e).0) ((and_parts (nat_lt n 67108865) (test t) e).1))))
+  level_is (Ty-F.Struct fs) e =
+      rw (rolls-Struct fs) (right_text _ (left_text _ (anywhere_text ends_word (struct_is fs e))))
 
 pub type_is : (n : ℕ) (t : Ty) → spelled_type_within n t ≡ true
     → IsTextOf ends_word (type_within n).rule (type_text t) t

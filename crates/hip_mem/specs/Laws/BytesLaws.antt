@@ -36,7 +36,8 @@ bytes_of-below (suc n) v zero = omega arith
 bytes_of-below (suc n) v (suc i) = bytes_of-below n (v / 256) i
 
 -- bytes are the low bytes of their number
-pub bytes_of-little_endian : (bs : List ℕ) → ((i : ℕ) → slice_index bs i < 256) → bytes_of (length bs) (little_endian bs) ≡ bs
+pub bytes_of-little_endian : (bs : List ℕ) → ((i : ℕ) → slice_index bs i < 256)
+    → bytes_of (length bs) (little_endian bs) ≡ bs
 bytes_of-little_endian [] h = refl
 bytes_of-little_endian (b ∷ bs) h =
     let low : b < 256 = h 0 in
@@ -52,7 +53,8 @@ little_endian-below (b ∷ bs) h =
     omega (arith, e, low, power (length bs))
 
 -- zeros above do not count
-pub little_endian-take : (n : ℕ) (bs : List ℕ) → ((i : ℕ) → n ≤ i → slice_index bs i ≡ 0) → little_endian bs ≡ little_endian (take n bs)
+pub little_endian-take : (n : ℕ) (bs : List ℕ) → ((i : ℕ) → n ≤ i → slice_index bs i ≡ 0)
+    → little_endian bs ≡ little_endian (take n bs)
 little_endian-take n [] h = ap little_endian (sym (take-nil n))
   where
     take-nil : (n : ℕ) → take {A = ℕ} n [] ≡ []
@@ -62,7 +64,8 @@ little_endian-take zero (b ∷ bs) h =
     let z : b ≡ 0 = h 0 (omega arith) in
     let e : little_endian bs ≡ 0 = little_endian-take zero bs (λ i le. h (suc i) (omega arith)) in
     omega arith
-little_endian-take (suc n) (b ∷ bs) h = ap (λ x. b + 256 * x) (little_endian-take n bs (λ i le. h (suc i) (omega arith)))
+little_endian-take (suc n) (b ∷ bs) h =
+    ap (λ x. b + 256 * x) (little_endian-take n bs (λ i le. h (suc i) (omega arith)))
 
 -- ---- the standard library's bytes
 
@@ -72,7 +75,9 @@ byte_at-div (suc i) v = refl
 
 pub bytes_low_first-bytes_of : (k i v : ℕ) → bytes_low_first i k v ≡ bytes_of k (v / 256 ^ i)
 bytes_low_first-bytes_of zero i v = refl
-bytes_low_first-bytes_of (suc k) i v = ap₂ (λ x xs. x ∷ xs) (byte_at-div i v) (bytes_low_first-bytes_of k (suc i) v ∙ ap (bytes_of k) (ap (λ d. v / d) (pow-suc 256 i) ∙ sym (div-div-eq-div-mul v (256 ^ i) 256)))
+bytes_low_first-bytes_of (suc k) i v =
+    ap₂ (λ x xs. x ∷ xs) (byte_at-div i v) (bytes_low_first-bytes_of k (suc i) v
+    ∙ ap (bytes_of k) (ap (λ d. v / d) (pow-suc 256 i) ∙ sym (div-div-eq-div-mul v (256 ^ i) 256)))
 
 pub to_le_bytes-bytes_of : (v : ℕ) → to_le_bytes w64 v ≡ bytes_of 8 v
 to_le_bytes-bytes_of v = bytes_low_first-bytes_of 8 0 v ∙ ap (bytes_of 8) (let e : v / 256 ^ 0 ≡ v = omega arith in e)
@@ -82,7 +87,8 @@ take-bytes_of zero m v h = refl
 take-bytes_of (suc n) zero v h = absurd (omega arith)
 take-bytes_of (suc n) (suc m) v h = ap (λ xs. v % 256 ∷ xs) (take-bytes_of n m (v / 256) (omega arith))
 
-from_eight : (a b c d e f g h : ℕ) → from_le_bytes w64 (a ∷ b ∷ c ∷ d ∷ e ∷ f ∷ g ∷ h ∷ []) ≡ little_endian (a ∷ b ∷ c ∷ d ∷ e ∷ f ∷ g ∷ h ∷ [])
+from_eight : (a b c d e f g h : ℕ) → from_le_bytes w64 (a ∷ b ∷ c ∷ d ∷ e ∷ f ∷ g ∷ h ∷ [])
+    ≡ little_endian (a ∷ b ∷ c ∷ d ∷ e ∷ f ∷ g ∷ h ∷ [])
 from_eight a b c d e f g h = omega arith
 
 pub from_le_bytes-little_endian : (bs : List ℕ) → length bs ≡ 8 → from_le_bytes w64 bs ≡ little_endian bs

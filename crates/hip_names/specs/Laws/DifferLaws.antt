@@ -13,7 +13,8 @@ Apart xs ys = (q : List ℕ) → IsAmong xs q → ¬ IsAmong ys q
 
 pub differ_append : (xs ys : List (List ℕ)) → AllDiffer xs → AllDiffer ys → Apart xs ys → AllDiffer (xs ++ ys)
 differ_append [] ys d e a = e
-differ_append (x ∷ xs) ys d e a = (λ t. ⊎_elim d.0 (a x (inl refl)) (among-either xs ys x t), differ_append xs ys d.1 e (λ q h. a q (inr h)))
+differ_append (x ∷ xs) ys d e a =
+    (λ t. ⊎_elim d.0 (a x (inl refl)) (among-either xs ys x t), differ_append xs ys d.1 e (λ q h. a q (inr h)))
 
 pub differ_first : (xs ys : List (List ℕ)) → AllDiffer (xs ++ ys) → AllDiffer xs
 differ_first [] ys d = tt

@@ -9,13 +9,15 @@ use Rattle.hip_names.specs.Names.{IsAmong, is_among}
 
 pub bytes_eq-sym : (xs ys : List ℕ) → bytes_eq xs ys ≡ bytes_eq ys xs
 bytes_eq-sym xs ys =
-    both_ways _ _ (λ e. (bytes_eq-Decides ys xs).1 (sym ((bytes_eq-Decides xs ys).0 e))) (λ e. (bytes_eq-Decides xs ys).1 (sym ((bytes_eq-Decides ys xs).0 e)))
+    both_ways _ _ (λ e. (bytes_eq-Decides ys xs).1 (sym ((bytes_eq-Decides xs ys).0 e)))
+    (λ e. (bytes_eq-Decides xs ys).1 (sym ((bytes_eq-Decides ys xs).0 e)))
 
 pub among-sound : (xs : List (List ℕ)) (name : List ℕ) → is_among xs name ≡ true → IsAmong xs name
 among-sound [] name e = cc
 among-sound (x ∷ xs) name e = first_or_later (bytes_eq name x) refl (λ f. among-sound xs name f) e
   where
-    first_or_later : (b : Bool) → bytes_eq name x ≡ b → (is_among xs name ≡ true → IsAmong xs name) → (b || is_among xs name) ≡ true → IsAmong (x ∷ xs) name
+    first_or_later : (b : Bool) → bytes_eq name x ≡ b → (is_among xs name ≡ true → IsAmong xs name)
+        → (b || is_among xs name) ≡ true → IsAmong (x ∷ xs) name
     first_or_later true same later f = inl (sym ((bytes_eq-Decides name x).0 same))
     first_or_later false same later f = inr (later f)
 

@@ -9,7 +9,8 @@ use Rattle.std.proofs.lemmas.Slice.Eq.{bytes_eq-Decides}
 use Rattle.hip_names.specs.Names.{number_of}
 
 placed : (b : Bool) (p n : ℕ) →
-    cond (nat_lt (cond (not b) (1 + p) 0) (suc n)) (Some (cond (not b) (1 + p) 0)) None ≡ cond b (Some 0) (option_map suc (cond (nat_lt p n) (Some p) None))
+    cond (nat_lt (cond (not b) (1 + p) 0) (suc n)) (Some (cond (not b) (1 + p) 0)) None
+    ≡ cond b (Some 0) (option_map suc (cond (nat_lt p n) (Some p) None))
 placed true p n = grind (arith, nat_tests)
 placed false p n = behind (nat_lt p n) (nat_lt (1 + p) (suc n)) (grind (arith, nat_tests))
   where
@@ -37,12 +38,15 @@ pub number_cases : (x : List ℕ) (xs : List (List ℕ)) (name : List ℕ) (k : 
     → IsHere x name k ⊎ IsLater x xs name k
 number_cases x xs name k e = by_first (bytes_eq name x) refl
   where
-    behind : (o : Option ℕ) → number_of xs name ≡ o → bytes_eq name x ≡ false → option_map suc o ≡ Some k → IsHere x name k ⊎ IsLater x xs name k
+    behind : (o : Option ℕ) → number_of xs name ≡ o → bytes_eq name x ≡ false → option_map suc o ≡ Some k
+        → IsHere x name k ⊎ IsLater x xs name k
     behind None n t f = cc
     behind (Some j) n t f = inr (j, t, n, cc)
 
     by_first : (b : Bool) → bytes_eq name x ≡ b → IsHere x name k ⊎ IsLater x xs name k
-    by_first true t = let s : Some 0 ≡ Some k = sym (at_first true name x xs t) ∙ e in inl (cc, sym ((bytes_eq-Decides name x).0 t), t)
+    by_first true t =
+        let s : Some 0 ≡ Some k = sym (at_first true name x xs t) ∙ e in
+        inl (cc, sym ((bytes_eq-Decides name x).0 t), t)
     by_first false t = behind (number_of xs name) refl t (sym (at_first false name x xs t) ∙ e)
 
 number_later : (x : List ℕ) (xs : List (List ℕ)) (name : List ℕ) (k : ℕ) → bytes_eq name x ≡ false
@@ -55,34 +59,41 @@ pub number_of-there : (xs : List (List ℕ)) (name : List ℕ) (k : ℕ) → num
 number_of-there [] name k e = cc
 number_of-there (x ∷ xs) name k e =
     ⊎_elim (λ h. subst (λ n. slice_get (x ∷ xs) n ≡ Some name) (sym h.0) (ap Some h.1))
-    (λ l. subst (λ n. slice_get (x ∷ xs) n ≡ Some name) (sym l.3) (number_of-there xs name l.0 l.2)) (number_cases x xs name k e)
+    (λ l. subst (λ n. slice_get (x ∷ xs) n ≡ Some name) (sym l.3) (number_of-there xs name l.0 l.2))
+    (number_cases x xs name k e)
 
 -- it stands at no earlier place
 pub number_of-least : (xs : List (List ℕ)) (name : List ℕ) (k j : ℕ) → number_of xs name ≡ Some k
     → slice_get xs j ≡ Some name → k ≤ j
 number_of-least [] name k j e f = cc
-number_of-least (x ∷ xs) name k zero e f = ⊎_elim (λ h. omega (arith, h.0)) (λ l. absurd (other (same_Some x name f) l.1)) (number_cases x xs name k e)
+number_of-least (x ∷ xs) name k zero e f =
+    ⊎_elim (λ h. omega (arith, h.0)) (λ l. absurd (other (same_Some x name f) l.1)) (number_cases x xs name k e)
   where
     other : x ≡ name → bytes_eq name x ≡ false → ⊥
     other same t = let yes = (bytes_eq-Decides name x).1 (sym same) in cc
-number_of-least (x ∷ xs) name k (suc j) e f = ⊎_elim (λ h. omega (arith, h.0)) (λ l. let rest = number_of-least xs name l.0 j l.2 f in omega (arith, l.3)) (number_cases x xs name k e)
+number_of-least (x ∷ xs) name k (suc j) e f =
+    ⊎_elim (λ h. omega (arith, h.0)) (λ l. let rest = number_of-least xs name l.0 j l.2 f in omega (arith, l.3))
+    (number_cases x xs name k e)
 
 -- names that are put behind a list leave the numbers of its names as they are
 pub number_of-front : (xs ys : List (List ℕ)) (name : List ℕ) (k : ℕ) → number_of xs name ≡ Some k
     → number_of (xs ++ ys) name ≡ Some k
 number_of-front [] ys name k e = cc
 number_of-front (x ∷ xs) ys name k e =
-    ⊎_elim (λ h. at_first true name x (xs ++ ys) h.2 ∙ ap Some (sym h.0)) (λ l. number_later x (xs ++ ys) name l.0 l.1 (number_of-front xs ys name l.0 l.2) ∙ ap Some (sym l.3))
+    ⊎_elim (λ h. at_first true name x (xs ++ ys) h.2 ∙ ap Some (sym h.0))
+    (λ l. number_later x (xs ++ ys) name l.0 l.1 (number_of-front xs ys name l.0 l.2) ∙ ap Some (sym l.3))
     (number_cases x xs name k e)
 
 -- a name that stands in the list has a number
 pub number_of-known : (xs : List (List ℕ)) (name : List ℕ) (k : ℕ) → slice_get xs k ≡ Some name
     → (j : ℕ) × (number_of xs name ≡ Some j)
 number_of-known [] name k e = cc
-number_of-known (x ∷ xs) name zero e = (0, at_first true name x xs ((bytes_eq-Decides name x).1 (sym (same_Some x name e))))
+number_of-known (x ∷ xs) name zero e =
+    (0, at_first true name x xs ((bytes_eq-Decides name x).1 (sym (same_Some x name e))))
 number_of-known (x ∷ xs) name (suc k) e = by_first (bytes_eq name x) refl (number_of-known xs name k e)
   where
-    by_first : (b : Bool) → bytes_eq name x ≡ b → (j : ℕ) × (number_of xs name ≡ Some j) → (j : ℕ) × (number_of (x ∷ xs) name ≡ Some j)
+    by_first : (b : Bool) → bytes_eq name x ≡ b → (j : ℕ) × (number_of xs name ≡ Some j) → (j : ℕ)
+        × (number_of (x ∷ xs) name ≡ Some j)
     by_first true t rest = (0, at_first true name x xs t)
     by_first false t rest = (suc rest.0, number_later x xs name rest.0 t rest.1)
 
@@ -102,7 +113,8 @@ pub number_of-behind : (xs ys : List (List ℕ)) (name : List ℕ) (k : ℕ) →
 number_of-behind [] ys name k e none = e ∙ ap Some (sym (zero-add k))
 number_of-behind (x ∷ xs) ys name k e none =
     at_first false name x (xs ++ ys) (other (bytes_eq name x) refl)
-    ∙ ap (option_map suc) (number_of-behind xs ys name k e (λ j f. none (suc j) f)) ∙ ap Some (sym (suc-add (length xs) k))
+    ∙ ap (option_map suc) (number_of-behind xs ys name k e (λ j f. none (suc j) f))
+    ∙ ap Some (sym (suc-add (length xs) k))
   where
     other : (b : Bool) → bytes_eq name x ≡ b → bytes_eq name x ≡ false
     other true t = absurd (none 0 (ap Some (sym ((bytes_eq-Decides name x).0 t))))
@@ -114,7 +126,8 @@ pub number_of-append : (xs ys : List (List ℕ)) (name : List ℕ) (k : ℕ) →
 number_of-append [] ys name k e = inl (omega arith)
 number_of-append (x ∷ xs) ys name k e =
     ⊎_elim (λ h. inr (at_first true name x xs h.2 ∙ ap Some (sym h.0)))
-    (λ l. ⊎_elim (λ far. inl (omega (arith, l.3, far))) (λ near. inr (number_later x xs name l.0 l.1 near ∙ ap Some (sym l.3))) (number_of-append xs ys name l.0 l.2))
+    (λ l. ⊎_elim (λ far. inl (omega (arith, l.3, far)))
+    (λ near. inr (number_later x xs name l.0 l.1 near ∙ ap Some (sym l.3))) (number_of-append xs ys name l.0 l.2))
     (number_cases x (xs ++ ys) name k e)
 
 -- ---- functions

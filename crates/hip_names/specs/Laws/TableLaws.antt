@@ -25,10 +25,13 @@ module _ {V : Type 0} where
   shifted false at v vs = refl
 
   at_place : (b : Bool) (at len : ℕ) (v : V) (vs : List V) →
-      option_and_then (slice_get (v ∷ vs)) (cond (nat_lt (cond (not b) (1 + at) 0) (suc len)) (Some (cond (not b) (1 + at) 0)) None) ≡
+      option_and_then (slice_get (v ∷ vs)) (cond (nat_lt (cond (not b) (1 + at) 0) (suc len))
+      (Some (cond (not b) (1 + at) 0)) None) ≡
       (if b then Some v else option_and_then (slice_get vs) (cond (nat_lt at len) (Some at) None))
   at_place true at len v vs = let e : nat_lt 0 (suc len) ≡ true = grind (arith, nat_tests) in rw e refl
-  at_place false at len v vs = let e : nat_lt (1 + at) (suc len) ≡ nat_lt at len = grind (arith, nat_tests) in rw e (shifted (nat_lt at len) at v vs)
+  at_place false at len v vs =
+      let e : nat_lt (1 + at) (suc len) ≡ nat_lt at len =
+      grind (arith, nat_tests) in rw e (shifted (nat_lt at len) at v vs)
 
   pub beside-cons : (n : List ℕ) (ns : List (List ℕ)) (v : V) (vs : List V) (name : List ℕ)
       → value_beside (n ∷ ns) (v ∷ vs) name ≡ (if bytes_eq name n then Some v else value_beside ns vs name)
@@ -54,7 +57,8 @@ module _ {V : Type 0} where
       → value_of (es ++ e ∷ []) name ≡ or_later (value_of es name) (at_name (bytes_eq e.name name) e.value)
   of-push [] e name = refl
   of-push (x ∷ es) e name =
-      ap (λ o. if bytes_eq x.name name then Some x.value else o) (of-push es e name) ∙ later_if (bytes_eq x.name name) x.value (value_of es name) (at_name (bytes_eq e.name name) e.value)
+      ap (λ o. if bytes_eq x.name name then Some x.value else o) (of-push es e name)
+      ∙ later_if (bytes_eq x.name name) x.value (value_of es name) (at_name (bytes_eq e.name name) e.value)
 
   -- a new name is added
   pub entry_added : (ns : List (List ℕ)) (vs : List V) (es : List (Entry V)) (n : List ℕ) (v : V) → StandsFor ns vs es
@@ -63,7 +67,8 @@ module _ {V : Type 0} where
     as_long = omega (arith, s.as_long, length-append ns (n ∷ []), length-append vs (v ∷ []));
     finds = λ name.
         beside-push ns vs n v name s.as_long ∙ ap (λ o. or_later o (at_name (bytes_eq name n) v)) (s.finds name)
-        ∙ ap (λ b. or_later (value_of es name) (at_name b v)) (bytes_eq-sym name n) ∙ sym (of-push es (record { name = n; value = v }) name);
+        ∙ ap (λ b. or_later (value_of es name) (at_name b v)) (bytes_eq-sym name n)
+        ∙ sym (of-push es (record { name = n; value = v }) name);
   }
 
   -- a name that is there has a value
@@ -71,9 +76,12 @@ module _ {V : Type 0} where
       → value_beside ns vs name ≡ None → ⊥
   has_value [] vs name e there none = cc
   has_value (n ∷ ns) [] name e there none = omega arith
-  has_value (n ∷ ns) (v ∷ vs) name e there none = found (bytes_eq name n) (λ t o. has_value ns vs name (omega arith) t o) there (sym (beside-cons n ns v vs name) ∙ none)
+  has_value (n ∷ ns) (v ∷ vs) name e there none =
+      found (bytes_eq name n) (λ t o. has_value ns vs name (omega arith) t o) there
+      (sym (beside-cons n ns v vs name) ∙ none)
     where
-      found : (b : Bool) → (is_among ns name ≡ true → value_beside ns vs name ≡ None → ⊥) → (b || is_among ns name) ≡ true → (if b then Some v else value_beside ns vs name) ≡ None → ⊥
+      found : (b : Bool) → (is_among ns name ≡ true → value_beside ns vs name ≡ None → ⊥)
+          → (b || is_among ns name) ≡ true → (if b then Some v else value_beside ns vs name) ≡ None → ⊥
       found true rest t o = cc
       found false rest t o = rest t o
 
@@ -86,7 +94,9 @@ module _ {V : Type 0} where
       → StandsFor ns vs es → StandsFor ns vs (es ++ record { name = n; value = v } ∷ [])
   entry_kept ns vs es n v there s = record {
     as_long = s.as_long;
-    finds = λ name. s.finds name ∙ sym (kept (value_of es name) (at_name (bytes_eq n name) v) (other name (bytes_eq n name) refl)) ∙ sym (of-push es (record { name = n; value = v }) name);
+    finds =
+        λ name. s.finds name ∙ sym (kept (value_of es name) (at_name (bytes_eq n name) v)
+        (other name (bytes_eq n name) refl)) ∙ sym (of-push es (record { name = n; value = v }) name);
   }
     where
       other : (name : List ℕ) (b : Bool) → bytes_eq n name ≡ b → value_of es name ≡ None → at_name b v ≡ None

@@ -56,5 +56,7 @@ signed_decimal-number (pos n) h =
       subst (λ (ds : List ℕ). IsNumeral 10 ds) (sym (signed_digits-numeral (decimal n) numeral)) numeral,
       subst (λ (z : ℤ). FitsSigned w64 z) (sym (signed_decimal-value (pos n) h)) h,
     )
-signed_decimal-number (negsuc n) h =
-    ((decimal-number (suc n) (omega arith)).0, subst (λ (z : ℤ). FitsSigned w64 z) (sym (signed_decimal-value (negsuc n) h)) h)
+signed_decimal-number (negsuc n) h = (
+  (decimal-number (suc n) (omega arith)).0,
+  subst (λ (z : ℤ). FitsSigned w64 z) (sym (signed_decimal-value (negsuc n) h)) h,
+)

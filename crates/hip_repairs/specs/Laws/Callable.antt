@@ -46,7 +46,9 @@ number_behind f fs name h = by_first (bytes_eq name f.name) refl
     whole : (b : Bool) → bytes_eq name f.name ≡ b
         → number_of (function_names (f ∷ fs)) name ≡ cond b (Some 0)
         (option_map suc (number_of (function_names fs) name))
-    whole b e = number_of-cons f.name (function_names fs) name ∙ ap (λ t. cond t (Some 0) (option_map suc (number_of (function_names fs) name))) e
+    whole b e =
+        number_of-cons f.name (function_names fs) name
+        ∙ ap (λ t. cond t (Some 0) (option_map suc (number_of (function_names fs) name))) e
 
     by_first : (b : Bool) → bytes_eq name f.name ≡ b → HasNumber (f ∷ fs) name
     by_first true e = (0, whole true e)
@@ -54,7 +56,8 @@ number_behind f fs name h = by_first (bytes_eq name f.name) refl
 
 number_first : (f : Function) (fs : List Function) (name : List ℕ) → bytes_eq f.name name ≡ true
     → HasNumber (f ∷ fs) name
-number_first f fs name e = number_of-known (function_names (f ∷ fs)) name 0 (ap Some ((bytes_eq-Decides f.name name).0 e))
+number_first f fs name e =
+    number_of-known (function_names (f ∷ fs)) name 0 (ap Some ((bytes_eq-Decides f.name name).0 e))
 
 main_number_of : (fs : List Function) → has_main fs ≡ true → HasNumber fs (codes "main")
 main_number_of [] h = cc
@@ -72,7 +75,8 @@ pub extern_at : (es : List Extern) (name : List ℕ) (s : Signature) → extern_
 extern_at [] name s h = cc
 extern_at (e ∷ es) name s h = by_first (bytes_eq e.name name) refl h (extern_at es name s)
   where
-    by_first : (b : Bool) → bytes_eq e.name name ≡ b → (if b then Some (record { ret = e.ret; params = e.params }) else extern_of es name) ≡ Some s
+    by_first : (b : Bool) → bytes_eq e.name name ≡ b
+        → (if b then Some (record { ret = e.ret; params = e.params }) else extern_of es name) ≡ Some s
         → (extern_of es name ≡ Some s → (k : ℕ) × (x : Extern) × (slice_get es k ≡ Some x) × (x.name ≡ name))
         → (k : ℕ) × (x : Extern) × (slice_get (e ∷ es) k ≡ Some x) × (x.name ≡ name)
     by_first true t g rest = (0, e, refl, (bytes_eq-Decides e.name name).0 t)
@@ -83,7 +87,8 @@ pub function_at : (fs : List Function) (name : List ℕ) (s : Signature) → fun
 function_at [] name s h = cc
 function_at (f ∷ fs) name s h = by_first (bytes_eq f.name name) refl h (function_at fs name s)
   where
-    by_first : (b : Bool) → bytes_eq f.name name ≡ b → (if b then Some (record { ret = f.ret; params = map (λ p. p.ty) f.params }) else function_of fs name) ≡ Some s
+    by_first : (b : Bool) → bytes_eq f.name name ≡ b
+        → (if b then Some (record { ret = f.ret; params = map (λ p. p.ty) f.params }) else function_of fs name) ≡ Some s
         → (function_of fs name ≡ Some s → HasNumber fs name) → HasNumber (f ∷ fs) name
     by_first true t g rest = number_first f fs name t
     by_first false t g rest = number_behind f fs name (rest g)
@@ -99,7 +104,9 @@ of_table e name same h = by_call (call_of e.name) (ap call_of (sym same)) h
     by_call (Some c) f g = (c, f)
 
 abbrev pub IsInstrAt : Program → (f b k : ℕ) → Instr → Type 0
-IsInstrAt P f b k i = (fn : Function) × (block : Block) × (slice_get P.functions f ≡ Some fn) × (slice_get fn.blocks b ≡ Some block) × (slice_get block.body k ≡ Some i)
+IsInstrAt P f b k i =
+    (fn : Function) × (block : Block) × (slice_get P.functions f ≡ Some fn) × (slice_get fn.blocks b ≡ Some block)
+    × (slice_get block.body k ≡ Some i)
 
 pub instr_place : (P : Program) (f b k : ℕ) (i : Instr) → slice_get (body_at P f b) k ≡ Some i → IsInstrAt P f b k i
 instr_place P f b k i h = in_function (slice_get P.functions f) refl h
@@ -137,8 +144,10 @@ pub instr_checked : (P : Program) → (places_check P).Holds → (f b k : ℕ) (
     → slice_get P.functions f ≡ Some fn → slice_get fn.blocks b ≡ Some block → slice_get block.body k ≡ Some i →
     (instr_check (scope_of P fn) i (places.Body (record { function = f; block = b; index = k }))).Holds
 instr_checked P h f b k i fn block e g c =
-    holds-at (λ k instr. instr_check (scope_of P fn) instr (places.Body (record { function = f; block = b; index = k }))) block.body k i
-    (holds-at (block_check (scope_of P fn) f) fn.blocks b block (holds-at (λ f fn. each (block_check (scope_of P fn) f) fn.blocks) P.functions f fn h e) g).1.0 c
+    holds-at (λ k instr. instr_check (scope_of P fn) instr
+    (places.Body (record { function = f; block = b; index = k }))) block.body k i
+    (holds-at (block_check (scope_of P fn) f) fn.blocks b block
+    (holds-at (λ f fn. each (block_check (scope_of P fn) f) fn.blocks) P.functions f fn h e) g).1.0 c
 
 pub callable_of : (P : Program) → Passes P → IsCallable P
 callable_of P sound =
@@ -148,10 +157,12 @@ callable_of P sound =
       main = main.1;
       calls = λ f b k dest ret callee args c.
           let at = instr_place P f b k (Call dest ret callee args) c in
-          callee_there P callee sound.externs (and_parts _ _ (instr_checked P sound.places f b k (Call dest ret callee args) at.0 at.1 at.2 at.3 at.4).0).1;
+          callee_there P callee sound.externs (and_parts _ _
+          (instr_checked P sound.places f b k (Call dest ret callee args) at.0 at.1 at.2 at.3 at.4).0).1;
       free = λ callee g e.
           let there = function_number-there P callee g e in
-          none_of (call_of callee) (subst (λ name. is_none (call_of name) ≡ true) there.2 (holds-at free_function P.functions g there.0 sound.externs.1.1 there.1));
+          none_of (call_of callee) (subst (λ name. is_none (call_of name) ≡ true) there.2
+          (holds-at free_function P.functions g there.0 sound.externs.1.1 there.1));
     }
   where
     none_of : (o : Option ExternCall) → is_none o ≡ true → o ≡ None

@@ -66,14 +66,19 @@ module _ (P : Program) (I : Input) (found : Findings) (is_found : IsFound P I fo
   fence_suits : (s : Site) → has_site (plan_for P found).fence_after s ≡ true
       → (is_flush_call (instr_of P s) || has_site (plan_for P found).flush_after s) ≡ true
   fence_suits s h =
-      let r = any_in (λ r. asks_fence r.kind (choice P found r) r.flush_site r.path s) found.reports (asked.fences.asked s h) in
+      let r =
+      any_in (λ r. asks_fence r.kind (choice P found r) r.flush_site r.path s) found.reports
+      (asked.fences.asked s h) in
       go r.0 r.1 (fence_at r.0.kind (choice P found r.0) r.0.flush_site r.0.path s r.2)
     where
       go : (r : Report) → In r found.reports
           → (r.flush_site ≡ Some s) ⊎ (asks_flush r.kind (choice P found r) r.path s ≡ true)
           → (is_flush_call (instr_of P s) || has_site (plan_for P found).flush_after s) ≡ true
       go r i (inl e) = or_first _ _ ((placed r i).flush s e)
-      go r i (inr e) = or_second (is_flush_call (instr_of P s)) _ (asked.flushes.has s (asked.fences.site s h) (in_any (λ r. asks_flush r.kind (choice P found r) r.path s) found.reports r i e))
+      go r i (inr e) =
+          or_second (is_flush_call (instr_of P s)) _
+          (asked.flushes.has s (asked.fences.site s h)
+          (in_any (λ r. asks_flush r.kind (choice P found r) r.path s) found.reports r i e))
 
   hoist_suits : (s : Site) → has_site (plan_for P found).hoist s ≡ true → is_defined_call P (instr_of P s) ≡ true
   hoist_suits s h =
@@ -131,14 +136,17 @@ module _ (P : Program) (a b : Plan) where
 
   pub has_second : IsWithin P b → Contains (union P a b) b
   has_second w = record {
-    flush_after = λ s h. in_list a.flush_after b.flush_after s (w.flush_after s h) (or_second (has_site a.flush_after s) _ h);
-    fence_after = λ s h. in_list a.fence_after b.fence_after s (w.fence_after s h) (or_second (has_site a.fence_after s) _ h);
+    flush_after =
+        λ s h. in_list a.flush_after b.flush_after s (w.flush_after s h) (or_second (has_site a.flush_after s) _ h);
+    fence_after =
+        λ s h. in_list a.fence_after b.fence_after s (w.fence_after s h) (or_second (has_site a.fence_after s) _ h);
     hoist = λ s h. in_list a.hoist b.hoist s (w.hoist s h) (or_second (has_site a.hoist s) _ h);
   }
 
   of_list : (xs ys : List Site) (s : Site) → has_site (either_list P xs ys) s ≡ true
       → (has_site xs s ≡ true) ⊎ (has_site ys s ≡ true)
-  of_list xs ys s h = either (has_site xs s) (has_site ys s) ((filtered_are P (λ t. has_site xs t || has_site ys t)).asked s h)
+  of_list xs ys s h =
+      either (has_site xs s) (has_site ys s) ((filtered_are P (λ t. has_site xs t || has_site ys t)).asked s h)
 
   pub union_suits : IsSuiting P a → IsSuiting P b → IsSuiting P (union P a b)
   union_suits f g = record {

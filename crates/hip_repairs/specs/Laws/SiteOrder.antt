@@ -23,7 +23,8 @@ site f b k = record { function = f; block = b; index = k }
 
 site_is : (a b : Site) → a.function ≡ b.function → a.block ≡ b.block → a.index ≡ b.index → a ≡ b
 unfolding site
-site_is a b e f g = ap (λ n. site n a.block a.index) e ∙ ap (λ n. site b.function n a.index) f ∙ ap (λ n. site b.function b.block n) g
+site_is a b e f g =
+    ap (λ n. site n a.block a.index) e ∙ ap (λ n. site b.function n a.index) f ∙ ap (λ n. site b.function b.block n) g
 
 pub has_in : (xs : List Site) (s : Site) → has_site xs s ≡ true → In s xs
 has_in [] s e = absurd (let z : ⊥ = cc in z)
@@ -40,25 +41,45 @@ in_has (x ∷ xs) s (inr i) = or_second (same_site s x) _ (in_has xs s i)
 
 -- ---- the sites of a program
 
-body_has : (f b k : ℕ) (is : List Instr) (j : ℕ) (i : Instr) → slice_get is j ≡ Some i → In (record { function = f; block = b; index = k + j }) (body_sites f b k is)
+body_has : (f b k : ℕ) (is : List Instr) (j : ℕ) (i : Instr) → slice_get is j ≡ Some i
+    → In (record { function = f; block = b; index = k + j }) (body_sites f b k is)
 body_has f b k [] j i e = absurd (let z : ⊥ = cc in z)
-body_has f b k (x ∷ is) zero i e = inl (ap (λ n. record { function = f; block = b; index = n }) (let q : k + 0 ≡ k = omega arith in q))
-body_has f b k (x ∷ is) (suc j) i e = inr (subst (λ n. In (record { function = f; block = b; index = n }) (body_sites f b (suc k) is)) (let q : suc k + j ≡ k + suc j = omega arith in q) (body_has f b (suc k) is j i e))
+body_has f b k (x ∷ is) zero i e =
+    inl (ap (λ n. record { function = f; block = b; index = n }) (let q : k + 0 ≡ k = omega arith in q))
+body_has f b k (x ∷ is) (suc j) i e =
+    inr (subst (λ n. In (record { function = f; block = b; index = n }) (body_sites f b (suc k) is))
+    (let q : suc k + j ≡ k + suc j = omega arith in q) (body_has f b (suc k) is j i e))
 
-blocks_have : (f b0 : ℕ) (xs : List Block) (b j : ℕ) (x : Block) (i : Instr) → slice_get xs b ≡ Some x → slice_get x.body j ≡ Some i → In (record { function = f; block = b0 + b; index = j }) (block_sites f b0 xs)
+blocks_have : (f b0 : ℕ) (xs : List Block) (b j : ℕ) (x : Block) (i : Instr) → slice_get xs b ≡ Some x
+    → slice_get x.body j ≡ Some i → In (record { function = f; block = b0 + b; index = j }) (block_sites f b0 xs)
 blocks_have f b0 [] b j x i e h = absurd (let z : ⊥ = cc in z)
 blocks_have f b0 (y ∷ xs) zero j x i e h =
     let q : b0 ≡ b0 + 0 = omega arith in
     let same : x ≡ y = cc in
-    append-left _ _ _ (subst (λ n. In (record { function = f; block = n; index = j }) (body_sites f b0 0 y.body)) q (subst (λ n. In (record { function = f; block = b0; index = n }) (body_sites f b0 0 y.body)) (let z : 0 + j ≡ j = omega arith in z) (body_has f b0 0 y.body j i (subst (λ (z : Block). slice_get z.body j ≡ Some i) same h))))
-blocks_have f b0 (y ∷ xs) (suc b) j x i e h = append-right (body_sites f b0 0 y.body) _ _ (subst (λ n. In (record { function = f; block = n; index = j }) (block_sites f (suc b0) xs)) (let q : suc b0 + b ≡ b0 + suc b = omega arith in q) (blocks_have f (suc b0) xs b j x i e h))
+    append-left _ _ _ (subst (λ n. In (record { function = f; block = n; index = j }) (body_sites f b0 0 y.body)) q
+    (subst (λ n. In (record { function = f; block = b0; index = n }) (body_sites f b0 0 y.body))
+    (let z : 0 + j ≡ j = omega arith in z) (body_has f b0 0 y.body j i
+    (subst (λ (z : Block). slice_get z.body j ≡ Some i) same h))))
+blocks_have f b0 (y ∷ xs) (suc b) j x i e h =
+    append-right (body_sites f b0 0 y.body) _ _
+    (subst (λ n. In (record { function = f; block = n; index = j }) (block_sites f (suc b0) xs))
+    (let q : suc b0 + b ≡ b0 + suc b = omega arith in q) (blocks_have f (suc b0) xs b j x i e h))
 
-functions_have : (f0 : ℕ) (xs : List Function) (f b j : ℕ) (x : Function) (y : Block) (i : Instr) → slice_get xs f ≡ Some x → slice_get x.blocks b ≡ Some y → slice_get y.body j ≡ Some i → In (record { function = f0 + f; block = b; index = j }) (function_sites f0 xs)
+functions_have : (f0 : ℕ) (xs : List Function) (f b j : ℕ) (x : Function) (y : Block) (i : Instr)
+    → slice_get xs f ≡ Some x → slice_get x.blocks b ≡ Some y → slice_get y.body j ≡ Some i
+    → In (record { function = f0 + f; block = b; index = j }) (function_sites f0 xs)
 functions_have f0 [] f b j x y i e h g = absurd (let z : ⊥ = cc in z)
 functions_have f0 (z ∷ xs) zero b j x y i e h g =
     let same : x ≡ z = cc in
-    append-left _ _ _ (subst (λ n. In (record { function = n; block = b; index = j }) (block_sites f0 0 z.blocks)) (let q : f0 ≡ f0 + 0 = omega arith in q) (subst (λ n. In (record { function = f0; block = n; index = j }) (block_sites f0 0 z.blocks)) (let q : 0 + b ≡ b = omega arith in q) (blocks_have f0 0 z.blocks b j y i (subst (λ (u : Function). slice_get u.blocks b ≡ Some y) same h) g)))
-functions_have f0 (z ∷ xs) (suc f) b j x y i e h g = append-right (block_sites f0 0 z.blocks) _ _ (subst (λ n. In (record { function = n; block = b; index = j }) (function_sites (suc f0) xs)) (let q : suc f0 + f ≡ f0 + suc f = omega arith in q) (functions_have (suc f0) xs f b j x y i e h g))
+    append-left _ _ _ (subst (λ n. In (record { function = n; block = b; index = j }) (block_sites f0 0 z.blocks))
+    (let q : f0 ≡ f0 + 0 = omega arith in q)
+    (subst (λ n. In (record { function = f0; block = n; index = j }) (block_sites f0 0 z.blocks))
+    (let q : 0 + b ≡ b = omega arith in q) (blocks_have f0 0 z.blocks b j y i
+    (subst (λ (u : Function). slice_get u.blocks b ≡ Some y) same h) g)))
+functions_have f0 (z ∷ xs) (suc f) b j x y i e h g =
+    append-right (block_sites f0 0 z.blocks) _ _
+    (subst (λ n. In (record { function = n; block = b; index = j }) (function_sites (suc f0) xs))
+    (let q : suc f0 + f ≡ f0 + suc f = omega arith in q) (functions_have (suc f0) xs f b j x y i e h g))
 
 -- the site of an instruction is one of the program's
 pub site_in : (P : Program) (s : Site) (i : Instr) → instr_of P s ≡ Some i → In s (sites_of P)
@@ -68,7 +89,10 @@ site_in P s i e = go (slice_get P.functions s.function) refl e
         → slice_get fn.blocks s.block ≡ o → option_and_then (λ x. slice_get x.body s.index) o ≡ Some i
         → In s (sites_of P)
     in_block fn h None g e = absurd (let z : ⊥ = cc in z)
-    in_block fn h (Some y) g e = subst (λ n. In (record { function = n; block = s.block; index = s.index }) (sites_of P)) (let q : 0 + s.function ≡ s.function = omega arith in q) (functions_have 0 P.functions s.function s.block s.index fn y i h g e)
+    in_block fn h (Some y) g e =
+        subst (λ n. In (record { function = n; block = s.block; index = s.index }) (sites_of P))
+        (let q : 0 + s.function ≡ s.function = omega arith in q)
+        (functions_have 0 P.functions s.function s.block s.index fn y i h g e)
 
     go : (o : Option Function) → slice_get P.functions s.function ≡ o
         → option_and_then (λ x. slice_get x.body s.index) (option_and_then (λ f. slice_get f.blocks s.block) o) ≡ Some i
@@ -86,7 +110,8 @@ in_filtered test (x ∷ xs) s i e = go (test x) refl i (λ j. in_filtered test x
         → In s (cond t (x ∷ filter test xs) (filter test xs))
     go true h (inl same) rest = inl same
     go true h (inr j) rest = inr (rest j)
-    go false h (inl same) rest = absurd (let q : test x ≡ true = subst (λ (y : Site). test y ≡ true) same e in let z : ⊥ = cc in z)
+    go false h (inl same) rest =
+        absurd (let q : test x ≡ true = subst (λ (y : Site). test y ≡ true) same e in let z : ⊥ = cc in z)
     go false h (inr j) rest = rest j
 
 pub filtered_in : (test : Site → Bool) (xs : List Site) (s : Site) → In s (filter test xs) → In s xs × (test s ≡ true)
@@ -120,7 +145,9 @@ plan_asked P found = record {
 -- ---- the order
 
 abbrev Before : Site → Site → Type 0
-Before a b = (a.function < b.function) ⊎ ((a.function ≡ b.function) × ((a.block < b.block) ⊎ ((a.block ≡ b.block) × (a.index < b.index))))
+Before a b =
+    (a.function < b.function) ⊎ ((a.function ≡ b.function)
+    × ((a.block < b.block) ⊎ ((a.block ≡ b.block) × (a.index < b.index))))
 
 is_before : (a b : Site) → site_before a b ≡ true → Before a b
 is_before a b e = go (either (nat_lt a.function b.function) _ e)
@@ -131,15 +158,21 @@ is_before a b e = go (either (nat_lt a.function b.function) _ e)
     blocks (inr h) = let g = both_true (nat_eq a.block b.block) _ h in inr (equal_true _ _ g.0, lt_true _ _ g.1)
 
     go : (nat_lt a.function b.function ≡ true) ⊎
-        ((nat_eq a.function b.function && (nat_lt a.block b.block || (nat_eq a.block b.block && nat_lt a.index b.index))) ≡ true)
+        ((nat_eq a.function b.function && (nat_lt a.block b.block
+        || (nat_eq a.block b.block && nat_lt a.index b.index))) ≡ true)
         → Before a b
     go (inl h) = inl (lt_true _ _ h)
-    go (inr h) = let g = both_true (nat_eq a.function b.function) _ h in inr (equal_true _ _ g.0, blocks (either (nat_lt a.block b.block) _ g.1))
+    go (inr h) =
+        let g = both_true (nat_eq a.function b.function) _ h in
+        inr (equal_true _ _ g.0, blocks (either (nat_lt a.block b.block) _ g.1))
 
 then_before : (a b : Site) → Before a b → site_before a b ≡ true
 then_before a b (inl h) = or_first _ _ (true_lt _ _ h)
-then_before a b (inr (e, inl h)) = or_second (nat_lt a.function b.function) _ (true_both (true_equal _ _ e) (or_first _ _ (true_lt _ _ h)))
-then_before a b (inr (e, inr (f, h))) = or_second (nat_lt a.function b.function) _ (true_both (true_equal _ _ e) (or_second (nat_lt a.block b.block) _ (true_both (true_equal _ _ f) (true_lt _ _ h))))
+then_before a b (inr (e, inl h)) =
+    or_second (nat_lt a.function b.function) _ (true_both (true_equal _ _ e) (or_first _ _ (true_lt _ _ h)))
+then_before a b (inr (e, inr (f, h))) =
+    or_second (nat_lt a.function b.function) _
+    (true_both (true_equal _ _ e) (or_second (nat_lt a.block b.block) _ (true_both (true_equal _ _ f) (true_lt _ _ h))))
 
 never : (a : Site) → Before a a → ⊥
 never a (inl h) = omega (arith, h)
@@ -216,7 +249,8 @@ sorted_ascends (a ∷ b ∷ rest) h = true_both (then_before a b (h.0 b (inl ref
 ascending_sorted : (xs : List Site) → is_ascending xs ≡ true → Sorted xs
 ascending_sorted [] e = tt
 ascending_sorted (a ∷ []) e = ((λ s i. absurd i), tt)
-ascending_sorted (a ∷ b ∷ rest) e = go (both_true (site_before a b) _ e).0 (ascending_sorted (b ∷ rest) (both_true (site_before a b) _ e).1)
+ascending_sorted (a ∷ b ∷ rest) e =
+    go (both_true (site_before a b) _ e).0 (ascending_sorted (b ∷ rest) (both_true (site_before a b) _ e).1)
   where
     go : site_before a b ≡ true → Sorted (b ∷ rest) → Sorted (a ∷ b ∷ rest)
     go h r = (after, r)
@@ -236,7 +270,8 @@ sorted_filter test (x ∷ xs) h = go (test x) (sorted_filter test xs h.1)
 sorted_append : (xs ys : List Site) → Sorted xs → Sorted ys → ((a b : Site) → In a xs → In b ys → Before a b)
     → Sorted (xs ++ ys)
 sorted_append [] ys h g b = g
-sorted_append (x ∷ xs) ys h g b = ((λ s i. after s (in-append xs ys s i)), sorted_append xs ys h.1 g (λ a c i j. b a c (inr i) j))
+sorted_append (x ∷ xs) ys h g b =
+    ((λ s i. after s (in-append xs ys s i)), sorted_append xs ys h.1 g (λ a c i j. b a c (inr i) j))
   where
     after : (s : Site) → In s xs ⊎ In s ys → Before x s
     after s (inl i) = h.0 s i
@@ -249,12 +284,25 @@ record InBody (f b k : ℕ) (s : Site) : Type 0 where
 
 body_at : (f b k : ℕ) (is : List Instr) (s : Site) → In s (body_sites f b k is) → InBody f b k s
 body_at f b k [] s i = absurd i
-body_at f b k (x ∷ is) s (inl e) = record { function = ap (λ (y : Site). y.function) e; block = ap (λ (y : Site). y.block) e; index = let q : s.index ≡ k = ap (λ (y : Site). y.index) e in omega arith }
-body_at f b k (x ∷ is) s (inr i) = let r = body_at f b (suc k) is s i in record { function = r.function; block = r.block; index = omega (arith, r.index) }
+body_at f b k (x ∷ is) s (inl e) =
+    record {
+      function = ap (λ (y : Site). y.function) e;
+      block = ap (λ (y : Site). y.block) e;
+      index = let q : s.index ≡ k = ap (λ (y : Site). y.index) e in omega arith;
+    }
+body_at f b k (x ∷ is) s (inr i) =
+    let r = body_at f b (suc k) is s i in record {
+      function = r.function;
+      block = r.block;
+      index = omega (arith, r.index);
+    }
 
 sorted_body : (f b k : ℕ) (is : List Instr) → Sorted (body_sites f b k is)
 sorted_body f b k [] = tt
-sorted_body f b k (x ∷ is) = ((λ s i. let r = body_at f b (suc k) is s i in inr (sym r.function, inr (sym r.block, omega (arith, r.index)))), sorted_body f b (suc k) is)
+sorted_body f b k (x ∷ is) = (
+  (λ s i. let r = body_at f b (suc k) is s i in inr (sym r.function, inr (sym r.block, omega (arith, r.index)))),
+  sorted_body f b (suc k) is,
+)
 
 record InBlocks (f b : ℕ) (s : Site) : Type 0 where
   function : s.function ≡ f
@@ -262,16 +310,20 @@ record InBlocks (f b : ℕ) (s : Site) : Type 0 where
 
 blocks_at : (f b : ℕ) (xs : List Block) (s : Site) → In s (block_sites f b xs) → InBlocks f b s
 blocks_at f b [] s i = absurd i
-blocks_at f b (x ∷ xs) s i = go (in-append (body_sites f b 0 x.body) (block_sites f (suc b) xs) s i) (λ j. blocks_at f (suc b) xs s j)
+blocks_at f b (x ∷ xs) s i =
+    go (in-append (body_sites f b 0 x.body) (block_sites f (suc b) xs) s i) (λ j. blocks_at f (suc b) xs s j)
   where
     go : In s (body_sites f b 0 x.body) ⊎ In s (block_sites f (suc b) xs)
         → (In s (block_sites f (suc b) xs) → InBlocks f (suc b) s) → InBlocks f b s
-    go (inl j) rest = let r = body_at f b 0 x.body s j in record { function = r.function; block = omega (arith, r.block) }
+    go (inl j) rest =
+        let r = body_at f b 0 x.body s j in record { function = r.function; block = omega (arith, r.block) }
     go (inr j) rest = let r = rest j in record { function = r.function; block = omega (arith, r.block) }
 
 sorted_blocks : (f b : ℕ) (xs : List Block) → Sorted (block_sites f b xs)
 sorted_blocks f b [] = tt
-sorted_blocks f b (x ∷ xs) = sorted_append (body_sites f b 0 x.body) (block_sites f (suc b) xs) (sorted_body f b 0 x.body) (sorted_blocks f (suc b) xs) apart_here
+sorted_blocks f b (x ∷ xs) =
+    sorted_append (body_sites f b 0 x.body) (block_sites f (suc b) xs) (sorted_body f b 0 x.body)
+    (sorted_blocks f (suc b) xs) apart_here
   where
     apart_here : (s t : Site) → In s (body_sites f b 0 x.body) → In t (block_sites f (suc b) xs) → Before s t
     apart_here s t i j =
@@ -281,7 +333,8 @@ sorted_blocks f b (x ∷ xs) = sorted_append (body_sites f b 0 x.body) (block_si
 
 functions_at : (f : ℕ) (xs : List Function) (s : Site) → In s (function_sites f xs) → f ≤ s.function
 functions_at f [] s i = absurd i
-functions_at f (x ∷ xs) s i = go (in-append (block_sites f 0 x.blocks) (function_sites (suc f) xs) s i) (λ j. functions_at (suc f) xs s j)
+functions_at f (x ∷ xs) s i =
+    go (in-append (block_sites f 0 x.blocks) (function_sites (suc f) xs) s i) (λ j. functions_at (suc f) xs s j)
   where
     go : In s (block_sites f 0 x.blocks) ⊎ In s (function_sites (suc f) xs)
         → (In s (function_sites (suc f) xs) → suc f ≤ s.function) → f ≤ s.function
@@ -290,7 +343,9 @@ functions_at f (x ∷ xs) s i = go (in-append (block_sites f 0 x.blocks) (functi
 
 sorted_functions : (f : ℕ) (xs : List Function) → Sorted (function_sites f xs)
 sorted_functions f [] = tt
-sorted_functions f (x ∷ xs) = sorted_append (block_sites f 0 x.blocks) (function_sites (suc f) xs) (sorted_blocks f 0 x.blocks) (sorted_functions (suc f) xs) apart_here
+sorted_functions f (x ∷ xs) =
+    sorted_append (block_sites f 0 x.blocks) (function_sites (suc f) xs) (sorted_blocks f 0 x.blocks)
+    (sorted_functions (suc f) xs) apart_here
   where
     apart_here : (s t : Site) → In s (block_sites f 0 x.blocks) → In t (function_sites (suc f) xs) → Before s t
     apart_here s t i j =
@@ -299,7 +354,8 @@ sorted_functions f (x ∷ xs) = sorted_append (block_sites f 0 x.blocks) (functi
         inl (omega (arith, q.function, r))
 
 pub filter_ascends : (P : Program) (test : Site → Bool) → is_ascending (filter test (sites_of P)) ≡ true
-filter_ascends P test = sorted_ascends (filter test (sites_of P)) (sorted_filter test (sites_of P) (sorted_functions 0 P.functions))
+filter_ascends P test =
+    sorted_ascends (filter test (sites_of P)) (sorted_filter test (sites_of P) (sorted_functions 0 P.functions))
 
 -- ---- ascending lists with the same members
 
@@ -326,7 +382,8 @@ same_sorted (x ∷ xs) (y ∷ ys) h g to from = go (total x y) (λ a b. same_sor
         → (((s : Site) → In s xs → In s ys) → ((s : Site) → In s ys → In s xs) → xs ≡ ys) → x ∷ xs ≡ y ∷ ys
     go (inl lt) rest = absurd (not_before x y ys g.0 (to x (inl refl)) lt)
     go (inr (inr lt)) rest = absurd (not_before y x xs h.0 (from y (inl refl)) lt)
-    go (inr (inl e)) rest = ap (λ z. z ∷ xs) e ∙ ap (λ zs. y ∷ zs) (rest (behind x y xs ys e h.0 to) (behind y x ys xs (sym e) g.0 from))
+    go (inr (inl e)) rest =
+        ap (λ z. z ∷ xs) e ∙ ap (λ zs. y ∷ zs) (rest (behind x y xs ys e h.0 to) (behind y x ys xs (sym e) g.0 from))
 
 pub same_members : (xs ys : List Site) → is_ascending xs ≡ true → is_ascending ys ≡ true
     → ((s : Site) → has_site xs s ≡ has_site ys s) → xs ≡ ys

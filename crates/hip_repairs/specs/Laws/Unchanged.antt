@@ -32,8 +32,10 @@ plan_of a b c = record { flush_after = a; fence_after = b; hoist = c }
 pub nothing_planned : (P : Program) (found : Findings) → found.reports ≡ [] → plan_for P found ≡ no_repairs
 unfolding plan_of
 nothing_planned P found e =
-    ap (λ xs. plan_of xs (filter (wants_fence P found) (sites_of P)) (filter (wants_hoist P found) (sites_of P))) (none_pass (wants_flush P found) (λ s. ap (list_any _) e) (sites_of P))
-    ∙ ap (λ xs. plan_of [] xs (filter (wants_hoist P found) (sites_of P))) (none_pass (wants_fence P found) (λ s. ap (list_any _) e) (sites_of P))
+    ap (λ xs. plan_of xs (filter (wants_fence P found) (sites_of P)) (filter (wants_hoist P found) (sites_of P)))
+    (none_pass (wants_flush P found) (λ s. ap (list_any _) e) (sites_of P))
+    ∙ ap (λ xs. plan_of [] xs (filter (wants_hoist P found) (sites_of P)))
+    (none_pass (wants_fence P found) (λ s. ap (list_any _) e) (sites_of P))
     ∙ ap (λ xs. plan_of [] [] xs) (none_pass (wants_hoist P found) (λ s. ap (list_any _) e) (sites_of P))
 
 -- ---- no repairs
@@ -96,14 +98,16 @@ module _ (skip : Site → Bool) where
     same_body : (f b k : ℕ) (is : List Instr) → repaired_body clones w false f b k is ≡ plain is
     same_body f b k [] = refl
     same_body f b k (i ∷ is) =
-        ap (λ ms. (renamed clones i false, false) ∷ (ms ++ repaired_body clones w false f b (suc k) is)) (nothing_behind (record { function = f; block = b; index = k }) i)
+        ap (λ ms. (renamed clones i false, false) ∷ (ms ++ repaired_body clones w false f b (suc k) is))
+        (nothing_behind (record { function = f; block = b; index = k }) i)
         ∙ ap (λ j. (j, false) ∷ repaired_body clones w false f b (suc k) is) (same_name clones i)
         ∙ ap (λ ms. (i, false) ∷ ms) (same_body f b (suc k) is)
 
     same_blocks : (f b : ℕ) (xs : List Block) → repaired_blocks clones w false f b xs ≡ xs
     same_blocks f b [] = refl
     same_blocks f b (x ∷ xs) =
-        ap (λ is. block_with x is ∷ repaired_blocks clones w false f (suc b) xs) (ap instrs_of (same_body f b 0 x.body) ∙ instrs_plain x.body)
+        ap (λ is. block_with x is ∷ repaired_blocks clones w false f (suc b) xs)
+        (ap instrs_of (same_body f b 0 x.body) ∙ instrs_plain x.body)
         ∙ ap (λ ys. x ∷ ys) (same_blocks f (suc b) xs)
 
     same_functions : (f : ℕ) (xs : List Function) → repaired_functions clones w f xs ≡ xs
@@ -115,18 +119,22 @@ module _ (skip : Site → Bool) where
     none_in : (name : List ℕ) (f b : ℕ) (xs : List Block) → inserts_in name clones w false f b xs ≡ false
     none_in name f b [] = refl
     none_in name f b (x ∷ xs) =
-        ap (λ t. t || inserts_in name clones w false f (suc b) xs) (ap (inserts name) (same_body f b 0 x.body) ∙ plain_inserts name x.body)
+        ap (λ t. t || inserts_in name clones w false f (suc b) xs)
+        (ap (inserts name) (same_body f b 0 x.body) ∙ plain_inserts name x.body)
         ∙ none_in name f (suc b) xs
 
     none_from : (name : List ℕ) (f : ℕ) (xs : List Function) → inserts_from name clones w f xs ≡ false
     none_from name f [] = refl
-    none_from name f (x ∷ xs) = ap (λ t. t || inserts_from name clones w (suc f) xs) (none_in name f 0 x.blocks) ∙ none_from name (suc f) xs
+    none_from name f (x ∷ xs) =
+        ap (λ t. t || inserts_from name clones w (suc f) xs) (none_in name f 0 x.blocks) ∙ none_from name (suc f) xs
 
   module _ (P : Program) where
     none_needed : (name : List ℕ) → needs P no_repairs w name ≡ false
     none_needed name =
-        ap (λ t. t || list_any (λ f. inserts_cloned name P (clones_of P no_repairs) w f (slice_get P.functions f)) (cloned P no_repairs)) (none_from (clones_of P no_repairs) name 0 P.functions)
-        ∙ ap (list_any (λ f. inserts_cloned name P (clones_of P no_repairs) w f (slice_get P.functions f))) (none_cloned P)
+        ap (λ t. t || list_any (λ f. inserts_cloned name P (clones_of P no_repairs) w f (slice_get P.functions f))
+        (cloned P no_repairs)) (none_from (clones_of P no_repairs) name 0 P.functions)
+        ∙ ap (list_any (λ f. inserts_cloned name P (clones_of P no_repairs) w f (slice_get P.functions f)))
+        (none_cloned P)
 
     not_missing : (t c : Bool) (x : Extern) → t ≡ false → cond (t && not c) (x ∷ []) [] ≡ []
     not_missing false c x e = refl
@@ -143,8 +151,11 @@ module _ (skip : Site → Bool) where
 
     pub nothing_repaired : repaired P no_repairs skip ≡ P
     nothing_repaired =
-        ap (λ es. program_with P es (repaired P no_repairs skip).functions) (ap (λ es. P.externs ++ es) none_added ∙ append-nil P.externs)
-        ∙ ap (λ fs. program_with P P.externs fs) (ap₂ (λ xs ys. xs ++ ys) (same_functions (clones_of P no_repairs) 0 P.functions) no_clones ∙ append-nil P.functions)
+        ap (λ es. program_with P es (repaired P no_repairs skip).functions)
+        (ap (λ es. P.externs ++ es) none_added ∙ append-nil P.externs)
+        ∙ ap (λ fs. program_with P P.externs fs)
+        (ap₂ (λ xs ys. xs ++ ys) (same_functions (clones_of P no_repairs) 0 P.functions) no_clones
+        ∙ append-nil P.functions)
 
 -- ---- inputs
 

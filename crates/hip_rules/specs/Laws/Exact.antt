@@ -163,14 +163,29 @@ one_judged {F} {A} p t ts (Yes x) e = record {
 one_judged {F} {A} p t ts (Because why) e = record {
   front = inl refl;
   only = λ b m h. absurd (let k = verdicts p t h.0 ts m (Because why) (Yes b) e h.1 h.2 in cc);
-  last = λ m h. elim h [ inl k ↦ rw k (omega arith) | inr k ↦ absurd (let q = verdicts p t k.0 ts m (Because why) (Yes k.1) e k.2 k.3 in cc) ];
-  refused = λ w m h. (h.0, ap (λ (x : F). Some x) (sym (because_is {A = A} w why (verdicts p t h.1 ts h.2 (Because why) (Because w) e h.3 h.4))));
+  last =
+      λ m h. elim h [
+        | inl k ↦ rw k (omega arith)
+        | inr k
+            ↦ absurd (let q = verdicts p t k.0 ts m (Because why) (Yes k.1) e k.2 k.3 in cc)
+      ];
+  refused =
+      λ w m h. (
+        h.0,
+        ap (λ (x : F). Some x) (sym
+            (because_is {A = A} w why (verdicts p t h.1 ts h.2 (Because why) (Because w) e h.3 h.4))),
+      );
   reason = λ w k. (refl, t, ts, refl, e ∙ ap (λ (x : F). Because x) (some_is why w k));
 }
 one_judged p t ts No e = record {
   front = inl refl;
   only = λ b m h. absurd (let k = verdicts p t h.0 ts m No (Yes b) e h.1 h.2 in cc);
-  last = λ m h. elim h [ inl k ↦ rw k (omega arith) | inr k ↦ absurd (let q = verdicts p t k.0 ts m No (Yes k.1) e k.2 k.3 in cc) ];
+  last =
+      λ m h. elim h [
+        | inl k ↦ rw k (omega arith)
+        | inr k
+            ↦ absurd (let q = verdicts p t k.0 ts m No (Yes k.1) e k.2 k.3 in cc)
+      ];
   refused = λ w m h. absurd (let k = verdicts p t h.1 ts h.2 No (Because w) e h.3 h.4 in cc);
   reason = λ w k. absurd cc;
 }
@@ -192,7 +207,8 @@ one_between : {F A : Type 0} (p : Tok → Verdict F A) (t : At) (x : A) (m at w 
     → t ∷ m ≡ w ++ at → Later at m → (one p).Front (t ∷ m) at
 unfolding one
 one_between p t x m at [] e split q = inl (sym split)
-one_between p t x m at (u ∷ w) e split q = let same = later_antisym m at (w, cc) q in inr (t, x, ap (λ (z : List At). t ∷ z) (sym same), e)
+one_between p t x m at (u ∷ w) e split q =
+    let same = later_antisym m at (w, cc) q in inr (t, x, ap (λ (z : List At). t ∷ z) (sym same), e)
 
 one_closed : {F A : Type 0} (p : Tok → Verdict F A) → ClosedFronts (one p)
 unfolding one
@@ -202,7 +218,15 @@ one_closed p ts m at h a b = elim h [
 ]
 
 pub one_exact : {F A : Type 0} (p : Tok → Verdict F A) → IsExact (one p) (one_at p) never
-one_exact p = record { empty = one_empty p; whole = one_whole p; within = one_within p; later = one_later p; closed = one_closed p; reads = one_reads p }
+one_exact p =
+    record {
+      empty = one_empty p;
+      whole = one_whole p;
+      within = one_within p;
+      later = one_later p;
+      closed = one_closed p;
+      reads = one_reads p;
+    }
 
 -- ---- nothing
 
@@ -245,7 +269,8 @@ module _ (F A B : Type 0) (l : Rule F A) (f : A → Rule F B) (c d : Tok → Boo
       | inl t ↦ let k = p.last w t in omega arith
       | inr t ↦ elim (p.only t.0 t.1 t.2) [
         | inl e ↦ q.last w (moved (λ u v. (f u).Front v w) t.0 x t.1 m e t.3)
-        | inr g ↦ let here = (absent t.0 t.1 g).front w t.3 in let k = p.last t.1 (l_whole ts t.0 t.1 t.2) in rw here (omega arith)
+        | inr g ↦ let here =
+            (absent t.0 t.1 g).front w t.3 in let k = p.last t.1 (l_whole ts t.0 t.1 t.2) in rw here (omega arith)
       ]
     ];
     unrefused = λ why w t. elim t [
@@ -266,7 +291,8 @@ module _ (F A B : Type 0) (l : Rule F A) (f : A → Rule F B) (c d : Tok → Boo
       | inl t ↦ let k = p.last w t in omega arith
       | inr t ↦ elim (p.only t.0 t.1 t.2) [
         | inl e ↦ q.last w (moved (λ u v. (f u).Front v w) t.0 x t.1 m e t.3)
-        | inr g ↦ let here = (absent t.0 t.1 g).front w t.3 in let k = p.last t.1 (l_whole ts t.0 t.1 t.2) in rw here (omega arith)
+        | inr g ↦ let here =
+            (absent t.0 t.1 g).front w t.3 in let k = p.last t.1 (l_whole ts t.0 t.1 t.2) in rw here (omega arith)
       ]
     ];
     refused = λ why w t. elim t [
@@ -286,7 +312,8 @@ module _ (F A B : Type 0) (l : Rule F A) (f : A → Rule F B) (c d : Tok → Boo
     only = λ b w t. absurd ((absent t.0 t.1 (p.only t.0 t.1 t.2)).derives b w t.3);
     last = λ w t. elim t [
       | inl t ↦ p.last w t
-      | inr t ↦ let here = (absent t.0 t.1 (p.only t.0 t.1 t.2)).front w t.3 in let k = p.last t.1 (l_whole ts t.0 t.1 t.2) in rw here k
+      | inr t ↦ let here =
+          (absent t.0 t.1 (p.only t.0 t.1 t.2)).front w t.3 in let k = p.last t.1 (l_whole ts t.0 t.1 t.2) in rw here k
     ];
     refused = λ why w t. elim t [
       | inl t ↦ p.refused why w t
@@ -324,7 +351,12 @@ pub both_within : {F A B : Type 0} (l : Rule F A) (f : A → Rule F B)
     → ((a : A) (ts rest : List At) → (f a).Front ts rest → length rest ≤ length ts) → (ts rest : List At)
     → (both l f).Front ts rest → length rest ≤ length ts
 unfolding both
-both_within l f w p q ts rest t = elim t [ inl t ↦ p ts rest t | inr t ↦ let a = p ts t.1 (w ts t.0 t.1 t.2) in let b = q t.0 t.1 rest t.3 in omega arith ]
+both_within l f w p q ts rest t =
+    elim t [
+      | inl t ↦ p ts rest t
+      | inr t ↦ let a = p ts t.1 (w ts t.0 t.1 t.2) in let b = q t.0 t.1 rest t.3 in
+          omega arith
+    ]
 
 pub both_later : {F A B : Type 0} (l : Rule F A) (f : A → Rule F B)
     → ((ts : List At) (a : A) (rest : List At) → l.Derives ts a rest → l.Front ts rest)
@@ -332,7 +364,8 @@ pub both_later : {F A B : Type 0} (l : Rule F A) (f : A → Rule F B)
     → ((a : A) (ts rest : List At) → (f a).Front ts rest → Later ts rest) → (ts rest : List At)
     → (both l f).Front ts rest → Later ts rest
 unfolding both
-both_later l f w p q ts rest t = elim t [ inl t ↦ p ts rest t | inr t ↦ later_trans ts t.1 rest (p ts t.1 (w ts t.0 t.1 t.2)) (q t.0 t.1 rest t.3) ]
+both_later l f w p q ts rest t =
+    elim t [ inl t ↦ p ts rest t | inr t ↦ later_trans ts t.1 rest (p ts t.1 (w ts t.0 t.1 t.2)) (q t.0 t.1 rest t.3) ]
 
 pub both_closed : {F A B : Type 0} (l : Rule F A) (f : A → Rule F B)
     → ((ts : List At) (a : A) (rest : List At) → l.Derives ts a rest → l.Front ts rest)
@@ -357,7 +390,8 @@ both_exact {F} {A} {B} l f r s c d p q absent = record {
   within = both_within l f p.whole p.within (λ a. (q a).within);
   later = both_later l f p.whole p.later (λ a. (q a).later);
   closed = both_closed l f p.whole p.later p.closed (λ a. (q a).closed);
-  reads = λ ts. both_step F A B l f c d p.whole (λ a. (q a).empty) absent s (λ a m. (q a).reads m) ts (r ts) (p.reads ts);
+  reads =
+      λ ts. both_step F A B l f c d p.whole (λ a. (q a).empty) absent s (λ a m. (q a).reads m) ts (r ts) (p.reads ts);
 }
 
 -- a first part that never goes on
@@ -382,7 +416,12 @@ pub mapped : {F A B : Type 0} (l : Rule F A) (g : A → B) (c : Tok → Bool)
 unfolding both done
 mapped l g c w ts (Ok x) p = record {
   derives = (x.0, x.1, p.derives, (refl, refl));
-  only = λ b m t. elim (p.only t.0 t.1 t.2) [ inl e ↦ inl (let d = t.3 in d.1 ∙ ap g e.0, let d = t.3 in d.0 ∙ e.1) | inr q ↦ inr (let d = t.3 in rw d.0 q) ];
+  only =
+      λ b m t. elim (p.only t.0 t.1 t.2) [
+        | inl e ↦ inl (let d = t.3 in d.1 ∙ ap g e.0, let d = t.3 in d.0 ∙ e.1)
+        | inr q
+            ↦ inr (let d = t.3 in rw d.0 q)
+      ];
   last = λ m t. elim t [ inl u ↦ p.last m u | inr u ↦ rw u.3 (p.last u.1 (w ts u.0 u.1 u.2)) ];
   unrefused = λ why m t. elim t [ inl u ↦ p.unrefused why m u | inr u ↦ u.3 ];
 }
@@ -505,7 +544,15 @@ widened l c d ts (Err e) h p = record {
 
 pub exact_widens : {F A : Type 0} (l : Rule F A) (r : Reader F A) (c d : Tok → Bool)
     → ((m : List At) → next c m ≡ true → next d m ≡ true) → IsExact l r c → IsExact l r d
-exact_widens l r c d h p = record { empty = p.empty; whole = p.whole; within = p.within; later = p.later; closed = p.closed; reads = λ ts. widened l c d ts (r ts) h (p.reads ts) }
+exact_widens l r c d h p =
+    record {
+      empty = p.empty;
+      whole = p.whole;
+      within = p.within;
+      later = p.later;
+      closed = p.closed;
+      reads = λ ts. widened l c d ts (r ts) h (p.reads ts);
+    }
 
 -- ---- any number of parts
 
@@ -531,7 +578,8 @@ module _ (F A : Type 0) (l : Rule F A) (r : Reader F A) (k c : Tok → Bool) (p 
 
   all_within : (xs : List A) (ts m rest : List At) → AllDerive l ts xs m → l.Front m rest → length rest ≤ length ts
   all_within [] ts m rest t f = let k = p.within m rest f in let e = ap length t in omega arith
-  all_within (x ∷ xs) ts m rest t f = let k = all_within xs t.0 m rest t.2 f in let j = takes_some ts x t.0 t.1 in omega arith
+  all_within (x ∷ xs) ts m rest t f =
+      let k = all_within xs t.0 m rest t.2 f in let j = takes_some ts x t.0 t.1 in omega arith
 
   many_within : (ts rest : List At) → (many l).Front ts rest → length rest ≤ length ts
   unfolding many
@@ -539,7 +587,8 @@ module _ (F A : Type 0) (l : Rule F A) (r : Reader F A) (k c : Tok → Bool) (p 
 
   all_later : (xs : List A) (ts m rest : List At) → AllDerive l ts xs m → l.Front m rest → Later ts rest
   all_later [] ts m rest t f = subst (λ z. Later z rest) t (p.later m rest f)
-  all_later (x ∷ xs) ts m rest t f = later_trans ts t.0 rest (p.later ts t.0 (p.whole ts x t.0 t.1)) (all_later xs t.0 m rest t.2 f)
+  all_later (x ∷ xs) ts m rest t f =
+      later_trans ts t.0 rest (p.later ts t.0 (p.whole ts x t.0 t.1)) (all_later xs t.0 m rest t.2 f)
 
   many_later : (ts rest : List At) → (many l).Front ts rest → Later ts rest
   unfolding many
@@ -567,8 +616,11 @@ module _ (F A : Type 0) (l : Rule F A) (r : Reader F A) (k c : Tok → Bool) (p 
   many_none ts q = record {
     derives = refl;
     only = λ b m t. inl (none_is ts q b m t);
-    last = λ m t. let here = (none_is ts q t.0 t.1 t.2).1 in rw (q.front m (subst (λ u. l.Front u m) here t.3)) (omega arith);
-    unrefused = λ why m t. let here = (none_is ts q t.0 t.1 t.2).1 in q.refused why m (subst (λ u. l.Refuses why u m) here t.3);
+    last =
+        λ m t. let here = (none_is ts q t.0 t.1 t.2).1 in
+        rw (q.front m (subst (λ u. l.Front u m) here t.3)) (omega arith);
+    unrefused =
+        λ why m t. let here = (none_is ts q t.0 t.1 t.2).1 in q.refused why m (subst (λ u. l.Refuses why u m) here t.3);
   }
 
   -- where another first part ends, nothing more is
@@ -592,14 +644,23 @@ module _ (F A : Type 0) (l : Rule F A) (r : Reader F A) (k c : Tok → Bool) (p 
         → (b : List A) (w : List At) → AllDerive l ts b w → ((b ≡ x ∷ xs) × (w ≡ rest)) ⊎ (next kc w ≡ true)
     more_only xs rest h [] w t = inr (rw t (next_left k c ts begins))
     more_only xs rest h (y ∷ ys) w t = elim (first.only y t.0 t.1) [
-      | inl e ↦ elim (h ys w (subst (λ u. AllDerive l u ys w) e.1 t.2)) [ inl q ↦ (let a = e.0 in let b = q.0 in inl (cc, q.1)) | inr g ↦ inr g ]
+      | inl e ↦ elim (h ys w (subst (λ u. AllDerive l u ys w) e.1 t.2)) [
+        | inl q
+            ↦ (let a = e.0 in let b = q.0 in inl (cc, q.1))
+        | inr g ↦ inr g
+      ]
       | inr g ↦ inr (ended_next t.0 g ys w t.2)
     ]
 
     more_refused : ((b : List A) (w : List At) → AllDerive l m b w → next kc w ≡ true) → (b : List A) (w : List At)
         → AllDerive l ts b w → next kc w ≡ true
     more_refused h [] w t = rw t (next_left k c ts begins)
-    more_refused h (y ∷ ys) w t = elim (first.only y t.0 t.1) [ inl e ↦ h ys w (subst (λ u. AllDerive l u ys w) e.1 t.2) | inr g ↦ ended_next t.0 g ys w t.2 ]
+    more_refused h (y ∷ ys) w t =
+        elim (first.only y t.0 t.1) [
+          | inl e ↦ h ys w (subst (λ u. AllDerive l u ys w) e.1 t.2)
+          | inr g
+              ↦ ended_next t.0 g ys w t.2
+        ]
 
     more_last : (n : ℕ) → n ≤ length m
         → ((ys : List A) (m' w : List At) → AllDerive l m ys m' → l.Front m' w → n ≤ length w)
@@ -625,14 +686,21 @@ module _ (F A : Type 0) (l : Rule F A) (r : Reader F A) (k c : Tok → Bool) (p 
     many_more (Ok y) q = record {
       derives = (m, first.derives, q.derives);
       only = more_only y.0 y.1 q.only;
-      last = λ w t. more_last (length y.1) (q.last m ([], m, refl, p.empty m)) (λ ys m' v a b. q.last v (ys, m', a, b)) t.0 t.1 w t.2 t.3;
-      unrefused = λ why w t. more_refuses why (λ v. ⊥) (λ ys m' v a b. q.unrefused why v (ys, m', a, b)) t.0 t.1 w t.2 t.3;
+      last =
+          λ w t. more_last (length y.1) (q.last m ([], m, refl, p.empty m))
+          (λ ys m' v a b. q.last v (ys, m', a, b)) t.0 t.1 w t.2 t.3;
+      unrefused =
+          λ why w t. more_refuses why (λ v. ⊥) (λ ys m' v a b. q.unrefused why v (ys, m', a, b)) t.0 t.1 w t.2 t.3;
     }
     many_more (Err e) q = record {
       front = (x ∷ q.front.0, q.front.1, (m, first.derives, q.front.2), q.front.3);
       only = more_refused q.only;
-      last = λ w t. more_last (length e.1) (q.last m ([], m, refl, p.empty m)) (λ ys m' v a b. q.last v (ys, m', a, b)) t.0 t.1 w t.2 t.3;
-      refused = λ why w t. more_refuses why (λ v. (v ≡ e.1) × (e.0 ≡ Some why)) (λ ys m' v a b. q.refused why v (ys, m', a, b)) t.0 t.1 w t.2 t.3;
+      last =
+          λ w t. more_last (length e.1) (q.last m ([], m, refl, p.empty m))
+          (λ ys m' v a b. q.last v (ys, m', a, b)) t.0 t.1 w t.2 t.3;
+      refused =
+          λ why w t. more_refuses why (λ v. (v ≡ e.1) × (e.0 ≡ Some why))
+          (λ ys m' v a b. q.refused why v (ys, m', a, b)) t.0 t.1 w t.2 t.3;
       reason = λ w g. let s = q.reason w g in (x ∷ s.0, s.1, (m, first.derives, s.2), s.3);
     }
 
@@ -643,7 +711,8 @@ module _ (F A : Type 0) (l : Rule F A) (r : Reader F A) (k c : Tok → Bool) (p 
 
     first_last : (ys : List A) (m w : List At) → AllDerive l ts ys m → l.Front m w → length e.1 ≤ length w
     first_last [] m w t f = q.last w (subst (λ u. l.Front u w) t f)
-    first_last (y ∷ ys) m w t f = rw (ended_front t.0 (q.only y t.0 t.1) ys m w t.2 f) (q.last t.0 (p.whole ts y t.0 t.1))
+    first_last (y ∷ ys) m w t f =
+        rw (ended_front t.0 (q.only y t.0 t.1) ys m w t.2 f) (q.last t.0 (p.whole ts y t.0 t.1))
 
     first_refuses : (why : F) (ys : List A) (m w : List At) → AllDerive l ts ys m → l.Refuses why m w
         → (w ≡ e.1) × (e.0 ≡ Some why)
@@ -664,7 +733,9 @@ module _ (F A : Type 0) (l : Rule F A) (r : Reader F A) (k c : Tok → Bool) (p 
       → ((m : List At) → length m ≤ n → Exactly (many l) kc m (times_at k r n m)) → length ts ≤ suc n → next k ts ≡ true
       → Exactly l c ts o
       → Exactly (many l) kc ts (on_ok o (λ x more. on_ok (times_at k r n more) (λ xs rest. Ok (x ∷ xs, rest))))
-  many_first n ts (Ok x) others le begins q = many_more ts x.0 x.1 q begins (times_at k r n x.1) (others x.1 (let h = takes_some ts x.0 x.1 q.derives in omega arith))
+  many_first n ts (Ok x) others le begins q =
+      many_more ts x.0 x.1 q begins (times_at k r n x.1)
+      (others x.1 (let h = takes_some ts x.0 x.1 q.derives in omega arith))
   many_first n ts (Err e) others le begins q = first_rejected ts e q begins
 
   many_next : (n : ℕ) (ts : List At) (b : Bool) → next k ts ≡ b
@@ -681,7 +752,15 @@ module _ (F A : Type 0) (l : Rule F A) (r : Reader F A) (k c : Tok → Bool) (p 
   many_reads (suc n) ts le = many_next n ts (next k ts) refl (many_reads n) le
 
   pub many_exact : IsExact (many l) (many_at k r) (joined k c)
-  many_exact = record { empty = many_empty; whole = many_whole; within = many_within; later = many_later; closed = many_closed; reads = λ ts. many_reads (length ts) ts (omega arith) }
+  many_exact =
+      record {
+        empty = many_empty;
+        whole = many_whole;
+        within = many_within;
+        later = many_later;
+        closed = many_closed;
+        reads = λ ts. many_reads (length ts) ts (omega arith);
+      }
 
 -- ---- a part or nothing
 
@@ -694,7 +773,11 @@ module _ (F A : Type 0) (l : Rule F A) (r : Reader F A) (k c : Tok → Bool) (p 
     derives = inr (x.0, refl, q.derives);
     only = λ b m t. elim t [
       | inl t ↦ inr (rw t.0 (next_left k c ts begins))
-      | inr t ↦ elim (q.only t.0 m t.2) [ inl e ↦ inl (t.1 ∙ ap (λ (a : A). Some a) e.0, e.1) | inr g ↦ inr (next_right k c m g) ]
+      | inr t ↦ elim (q.only t.0 m t.2) [
+        | inl e ↦ inl (t.1 ∙ ap (λ (a : A). Some a) e.0, e.1)
+        | inr g
+            ↦ inr (next_right k c m g)
+      ]
     ];
     last = λ m t. elim t [ inl t ↦ rw t (p.within ts x.1 (p.whole ts x.0 x.1 q.derives)) | inr t ↦ q.last m t ];
     unrefused = q.unrefused;
@@ -736,14 +819,27 @@ module _ (F A : Type 0) (l : Rule F A) (r : Reader F A) (k c : Tok → Bool) (p 
 
   perhaps_closed : ClosedFronts (perhaps l)
   unfolding perhaps
-  perhaps_closed ts m at t a b = elim t [ inl t ↦ inl (later_antisym ts at a (subst (λ z. Later at z) t b)) | inr t ↦ inr (p.closed ts m at t a b) ]
+  perhaps_closed ts m at t a b =
+      elim t [
+        | inl t ↦ inl (later_antisym ts at a (subst (λ z. Later at z) t b))
+        | inr t
+            ↦ inr (p.closed ts m at t a b)
+      ]
 
   perhaps_empty : (ts : List At) → (perhaps l).Front ts ts
   unfolding perhaps
   perhaps_empty ts = inl refl
 
   pub perhaps_exact : IsExact (perhaps l) (perhaps_at k r) (joined k c)
-  perhaps_exact = record { empty = perhaps_empty; whole = perhaps_whole; within = perhaps_within; later = perhaps_later; closed = perhaps_closed; reads = λ ts. perhaps_next ts (next k ts) refl }
+  perhaps_exact =
+      record {
+        empty = perhaps_empty;
+        whole = perhaps_whole;
+        within = perhaps_within;
+        later = perhaps_later;
+        closed = perhaps_closed;
+        reads = λ ts. perhaps_next ts (next k ts) refl;
+      }
 
 -- ---- where nothing of a rule is
 

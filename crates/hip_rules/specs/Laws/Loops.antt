@@ -46,12 +46,16 @@ module _ (F A : Type 0) (k : Tok → Bool) (r : Reader F A) (some : TakesSome r)
   fuel zero (suc m) (t ∷ ts) p q = absurd (omega arith)
   fuel (suc n) zero [] p q = refl
   fuel (suc n) zero (t ∷ ts) p q = absurd (omega arith)
-  fuel (suc n) (suc m) ts p q = ap (λ (o : Outcome F (List A)). cond (next k ts) o (Ok ([], ts))) (same_step n m ts (r ts) refl p q (λ more a b. fuel n m more a b))
+  fuel (suc n) (suc m) ts p q =
+      ap (λ (o : Outcome F (List A)). cond (next k ts) o (Ok ([], ts)))
+      (same_step n m ts (r ts) refl p q (λ more a b. fuel n m more a b))
 
   opened : (ts : List At) → next k ts ≡ true → many_at k r ts ≡ step (length ts) (r ts)
   unfolding times_at
   opened [] e = absurd cc
-  opened (t ∷ ts) e = rw e (same_step (length ts) (suc (length ts)) (t ∷ ts) (r (t ∷ ts)) refl (omega arith) (omega arith) (λ more a b. fuel (length ts) (suc (length ts)) more a b))
+  opened (t ∷ ts) e =
+      rw e (same_step (length ts) (suc (length ts)) (t ∷ ts) (r (t ∷ ts)) refl (omega arith) (omega arith)
+      (λ more a b. fuel (length ts) (suc (length ts)) more a b))
 
   pub closed : (ts : List At) → next k ts ≡ false → many_at k r ts ≡ Ok ([], ts)
   unfolding times_at
@@ -62,7 +66,8 @@ module _ (F A : Type 0) (k : Tok → Bool) (r : Reader F A) (some : TakesSome r)
       → many_at k r ts ≡ onto x (many_at k r after)
   one_more ts x after e h =
       let lt = some ts (x, after) h in
-      let same : times_at k r (length ts) after ≡ many_at k r after = fuel (length ts) (length after) after (omega arith) (omega arith) in
+      let same : times_at k r (length ts) after ≡ many_at k r after =
+      fuel (length ts) (length after) after (omega arith) (omega arith) in
       opened ts e ∙ ap (step (length ts)) h ∙ ap (onto x) same
 
   pub refused : (ts : List At) (f : Option F × List At) → next k ts ≡ true → r ts ≡ Err f → many_at k r ts ≡ Err f
@@ -85,7 +90,8 @@ module _ (F A : Type 0) (k : Tok → Bool) (r : Reader F A) (some : TakesSome r)
   pub goes_on : (front : List A) (ts : List At) (x : A) (after : List At) (total : Outcome F (List A))
       → next k ts ≡ true → r ts ≡ Ok (x, after) → with_front front (many_at k r ts) ≡ total
       → with_front (front ++ x ∷ []) (many_at k r after) ≡ total
-  goes_on front ts x after total e h so_far = sym (regroup front x (many_at k r after)) ∙ ap (with_front front) (sym (one_more ts x after e h)) ∙ so_far
+  goes_on front ts x after total e h so_far =
+      sym (regroup front x (many_at k r after)) ∙ ap (with_front front) (sym (one_more ts x after e h)) ∙ so_far
 
   pub fails : (front : List A) (ts : List At) (f : Option F × List At) (total : Outcome F (List A)) → next k ts ≡ true
       → r ts ≡ Err f → with_front front (many_at k r ts) ≡ total → total ≡ Err f
@@ -93,7 +99,8 @@ module _ (F A : Type 0) (k : Tok → Bool) (r : Reader F A) (some : TakesSome r)
 
   pub is_done : (front : List A) (ts : List At) (total : Outcome F (List A)) → next k ts ≡ false
       → with_front front (many_at k r ts) ≡ total → total ≡ Ok (front, ts)
-  is_done front ts total e so_far = sym so_far ∙ ap (with_front front) (closed ts e) ∙ ap (λ (xs : List A). Ok (xs, ts)) (append-nil front)
+  is_done front ts total e so_far =
+      sym so_far ∙ ap (with_front front) (closed ts e) ∙ ap (λ (xs : List A). Ok (xs, ts)) (append-nil front)
 
   -- ---- a loop that takes up each part into a value
 
@@ -106,7 +113,8 @@ module _ (F A : Type 0) (k : Tok → Bool) (r : Reader F A) (some : TakesSome r)
     pub takes_up : (s : S) (ts : List At) (x : A) (after : List At) (total : Outcome F S) → next k ts ≡ true
         → r ts ≡ Ok (x, after) → taken_up take_up s (many_at k r ts) ≡ total
         → taken_up take_up (take_up s x) (many_at k r after) ≡ total
-    takes_up s ts x after total e h so_far = sym (shifted s x (many_at k r after)) ∙ ap (taken_up take_up s) (sym (one_more ts x after e h)) ∙ so_far
+    takes_up s ts x after total e h so_far =
+        sym (shifted s x (many_at k r after)) ∙ ap (taken_up take_up s) (sym (one_more ts x after e h)) ∙ so_far
 
     pub fails_up : (s : S) (ts : List At) (f : Option F × List At) (total : Outcome F S) → next k ts ≡ true
         → r ts ≡ Err f → taken_up take_up s (many_at k r ts) ≡ total → total ≡ Err f
@@ -139,7 +147,9 @@ module _ (F X P : Type 0) (kh : Tok → Bool) (rh : Reader F X) (kf : Tok → Bo
   same_head : (n m : ℕ) (ts : List At) (o : Outcome F X) → rh ts ≡ o → length ts ≤ suc n → length ts ≤ suc m
       → ((more : List At) → length more ≤ n → length more ≤ m → leading_at kh rh kf rf n more
       ≡ leading_at kh rh kf rf m more) → on_ok o (led_behind n) ≡ on_ok o (led_behind m)
-  same_head n m ts (Ok x) e a b h = let lt = some ts x e in ap (λ (o : Outcome F (List P × Option X)). cond (next kf x.1) o (Ok (([], Some x.0), x.1))) (same_part n m x.0 x.1 (rf x.0 x.1) refl (omega arith) (omega arith) h)
+  same_head n m ts (Ok x) e a b h =
+      let lt = some ts x e in ap (λ (o : Outcome F (List P × Option X)). cond (next kf x.1) o
+      (Ok (([], Some x.0), x.1))) (same_part n m x.0 x.1 (rf x.0 x.1) refl (omega arith) (omega arith) h)
   same_head n m ts (Err f) e a b h = refl
 
   leading_fuel : (n m : ℕ) (ts : List At) → length ts ≤ n → length ts ≤ m
@@ -150,13 +160,17 @@ module _ (F X P : Type 0) (kh : Tok → Bool) (rh : Reader F X) (kf : Tok → Bo
   leading_fuel zero (suc m) (t ∷ ts) a b = absurd (omega arith)
   leading_fuel (suc n) zero [] a b = refl
   leading_fuel (suc n) zero (t ∷ ts) a b = absurd (omega arith)
-  leading_fuel (suc n) (suc m) ts a b = ap (λ (o : Outcome F (List P × Option X)). cond (next kh ts) o (Ok (([], None), ts))) (same_head n m ts (rh ts) refl a b (λ more c d. leading_fuel n m more c d))
+  leading_fuel (suc n) (suc m) ts a b =
+      ap (λ (o : Outcome F (List P × Option X)). cond (next kh ts) o (Ok (([], None), ts)))
+      (same_head n m ts (rh ts) refl a b (λ more c d. leading_fuel n m more c d))
 
   leaders_opened : (ts : List At) → next kh ts ≡ true
       → leaders_at kh rh kf rf ts ≡ on_ok (rh ts) (led_behind (length ts))
   unfolding leading_at
   leaders_opened [] e = absurd cc
-  leaders_opened (t ∷ ts) e = rw e (same_head (length ts) (suc (length ts)) (t ∷ ts) (rh (t ∷ ts)) refl (omega arith) (omega arith) (λ more a b. leading_fuel (length ts) (suc (length ts)) more a b))
+  leaders_opened (t ∷ ts) e =
+      rw e (same_head (length ts) (suc (length ts)) (t ∷ ts) (rh (t ∷ ts)) refl (omega arith) (omega arith)
+      (λ more a b. leading_fuel (length ts) (suc (length ts)) more a b))
 
   leaders_closed : (ts : List At) → next kh ts ≡ false → leaders_at kh rh kf rf ts ≡ Ok (([], None), ts)
   unfolding leading_at
@@ -168,7 +182,8 @@ module _ (F X P : Type 0) (kh : Tok → Bool) (rh : Reader F X) (kf : Tok → Bo
   one_leader ts x m p after e h g q =
       let lt = some ts (x, m) h in
       let le = within x m (p, after) q in
-      let same : leading_at kh rh kf rf (length ts) after ≡ leaders_at kh rh kf rf after = leading_fuel (length ts) (length after) after (omega arith) (omega arith) in
+      let same : leading_at kh rh kf rf (length ts) after ≡ leaders_at kh rh kf rf after =
+      leading_fuel (length ts) (length after) after (omega arith) (omega arith) in
       leaders_opened ts e ∙ rw (h, g, q) (ap (led p) same)
 
   head_alone : (ts : List At) (x : X) (m : List At) → next kh ts ≡ true → rh ts ≡ Ok (x, m) → next kf m ≡ false
@@ -200,16 +215,22 @@ module _ (F X P : Type 0) (kh : Tok → Bool) (rh : Reader F X) (kf : Tok → Bo
       → rf x m ≡ Ok (p, after)
       → with_leaders front (leaders_at kh rh kf rf ts) ≡ total
       → with_leaders (front ++ p ∷ []) (leaders_at kh rh kf rf after) ≡ total
-  leader_goes_on front ts x m p after total e h g q so_far = sym (led_regroup front p (leaders_at kh rh kf rf after)) ∙ ap (with_leaders front) (sym (one_leader ts x m p after e h g q)) ∙ so_far
+  leader_goes_on front ts x m p after total e h g q so_far =
+      sym (led_regroup front p (leaders_at kh rh kf rf after))
+      ∙ ap (with_leaders front) (sym (one_leader ts x m p after e h g q)) ∙ so_far
 
   pub leader_ends_at : (front : List P) (ts : List At) (x : X) (m : List At) (total : Outcome F (List P × Option X))
       → next kh ts ≡ true → rh ts ≡ Ok (x, m) → next kf m ≡ false
       → with_leaders front (leaders_at kh rh kf rf ts) ≡ total → total ≡ Ok ((front, Some x), m)
-  leader_ends_at front ts x m total e h g so_far = sym so_far ∙ ap (with_leaders front) (head_alone ts x m e h g) ∙ ap (λ (xs : List P). Ok ((xs, Some x), m)) (append-nil front)
+  leader_ends_at front ts x m total e h g so_far =
+      sym so_far ∙ ap (with_leaders front) (head_alone ts x m e h g)
+      ∙ ap (λ (xs : List P). Ok ((xs, Some x), m)) (append-nil front)
 
   pub leaders_end : (front : List P) (ts : List At) (total : Outcome F (List P × Option X)) → next kh ts ≡ false
       → with_leaders front (leaders_at kh rh kf rf ts) ≡ total → total ≡ Ok ((front, None), ts)
-  leaders_end front ts total e so_far = sym so_far ∙ ap (with_leaders front) (leaders_closed ts e) ∙ ap (λ (xs : List P). Ok ((xs, None), ts)) (append-nil front)
+  leaders_end front ts total e so_far =
+      sym so_far ∙ ap (with_leaders front) (leaders_closed ts e)
+      ∙ ap (λ (xs : List P). Ok ((xs, None), ts)) (append-nil front)
 
   pub leader_head_fails : (front : List P) (ts : List At) (f : Option F × List At)
       (total : Outcome F (List P × Option X)) → next kh ts ≡ true → rh ts ≡ Err f
@@ -220,4 +241,5 @@ module _ (F X P : Type 0) (kh : Tok → Bool) (rh : Reader F X) (kf : Tok → Bo
       (total : Outcome F (List P × Option X)) → next kh ts ≡ true → rh ts ≡ Ok (x, m) → next kf m ≡ true
       → rf x m ≡ Err f
       → with_leaders front (leaders_at kh rh kf rf ts) ≡ total → total ≡ Err f
-  leader_part_fails front ts x m f total e h g q so_far = sym so_far ∙ ap (with_leaders front) (part_refused ts x m f e h g q)
+  leader_part_fails front ts x m f total e h g q so_far =
+      sym so_far ∙ ap (with_leaders front) (part_refused ts x m f e h g q)

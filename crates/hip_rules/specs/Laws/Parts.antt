@@ -44,13 +44,15 @@ apart_absent p first follow c r a ts e = r.absent ts (apart_next c first a ts e)
 
 pub widens : {F A : Type 0} (p : Part F A) (first c d : Tok → Bool) → ((t : Tok) → c t ≡ true → d t ≡ true)
     → IsRead p first c → IsRead p first d
-widens p first c d h r = record { exact = exact_widens p.rule p.read c d (next_widens c d h) r.exact; absent = r.absent; some = r.some }
+widens p first c d h r =
+    record { exact = exact_widens p.rule p.read c d (next_widens c d h) r.exact; absent = r.absent; some = r.some }
 
 never_passes : (d : Tok → Bool) (t : Tok) → never t ≡ true → d t ≡ true
 never_passes d t e = absurd cc
 
 pub gives_exact : {F A : Type 0} (a : A) (follow : Tok → Bool) → Exact {F = F} {A = A} (gives a) follow
-gives_exact {F} {A} a follow = exact_widens _ _ never follow (next_widens never follow (never_passes follow)) (done_exact {F = F} a)
+gives_exact {F} {A} a follow =
+    exact_widens _ _ never follow (next_widens never follow (never_passes follow)) (done_exact {F = F} a)
 
 one_takes_some : {F A : Type 0} (p : Tok → Verdict F A) (ts : List At) (a : A) (rest : List At)
     → (one p).Derives ts a rest → length rest < length ts
@@ -95,7 +97,9 @@ then_read l f first d p q = record {
 -- a part that may go on, and then one that takes a token at least
 pub next_exact : {F A B : Type 0} (l : Part F A) (f : A → Part F B) (c second d : Tok → Bool) → Exact l c
     → ((a : A) → IsRead (f a) second d) → Apart c second → Exact (l >>= f) d
-next_exact l f c second d p q apart = both_exact l.rule (λ a. (f a).rule) l.read (λ a. (f a).read) c d p (λ a. (q a).exact) (λ a m g. apart_absent (f a) second d c (q a) apart m g)
+next_exact l f c second d p q apart =
+    both_exact l.rule (λ a. (f a).rule) l.read (λ a. (f a).read) c d p (λ a. (q a).exact)
+    (λ a m g. apart_absent (f a) second d c (q a) apart m g)
 
 pub next_read : {F A B : Type 0} (l : Part F A) (f : A → Part F B) (first c second d : Tok → Bool) → IsRead l first c
     → ((a : A) → IsRead (f a) second d) → Apart c second → IsRead (l >>= f) first d
@@ -113,11 +117,13 @@ maps_exact {F} {A} {B} l g c p = record {
   whole = both_whole l.rule (λ a. done (g a)) (λ a. (gives_exact {F = F} (g a) never).whole);
   within = both_within l.rule (λ a. done (g a)) p.whole p.within (λ a. (gives_exact {F = F} (g a) never).within);
   later = both_later l.rule (λ a. done (g a)) p.whole p.later (λ a. (gives_exact {F = F} (g a) never).later);
-  closed = both_closed l.rule (λ a. done (g a)) p.whole p.later p.closed (λ a. (gives_exact {F = F} (g a) never).closed);
+  closed =
+      both_closed l.rule (λ a. done (g a)) p.whole p.later p.closed (λ a. (gives_exact {F = F} (g a) never).closed);
   reads = λ ts. maps ts (l.read ts) (p.reads ts);
 }
   where
-    maps : (ts : List At) (o : Outcome F A) → Exactly l.rule c ts o → Exactly (both l.rule (λ a. done (g a))) c ts (on_ok o (λ x rest. Ok (g x, rest)))
+    maps : (ts : List At) (o : Outcome F A) → Exactly l.rule c ts o
+        → Exactly (both l.rule (λ a. done (g a))) c ts (on_ok o (λ x rest. Ok (g x, rest)))
     maps ts o q = mapped l.rule g c p.whole ts o q
 
 pub maps_read : {F A B : Type 0} (l : Part F A) (g : A → B) (first c : Tok → Bool) → IsRead l first c
@@ -125,7 +131,9 @@ pub maps_read : {F A B : Type 0} (l : Part F A) (g : A → B) (first c : Tok →
 maps_read {F} l g first c p = record {
   exact = maps_exact l g c p.exact;
   absent = λ ts e. both_absent l.rule (λ a. done (g a)) ts (p.absent ts e);
-  some = both_takes_some l.rule (λ a. done (g a)) p.some (λ a. derives_within (gives (g a)) never (gives_exact {F = F} (g a) never));
+  some =
+      both_takes_some l.rule (λ a. done (g a)) p.some
+      (λ a. derives_within (gives (g a)) never (gives_exact {F = F} (g a) never));
 }
 
 -- ---- one case or the other, any number, and none
@@ -133,14 +141,19 @@ maps_read {F} l g first c p = record {
 pub either_read : {F A : Type 0} (l m : Part F A) (k second c : Tok → Bool) → IsRead l k c → IsRead m second c
     → Apart k second → IsRead (either k l m) (joined k second) c
 either_read l m k second c p q apart = record {
-  exact = or_exact l.rule m.rule l.read m.read c k p.exact q.exact (λ ts e. apart_absent m second c k q apart ts e) p.absent;
-  absent = λ ts e. or_absent l.rule m.rule ts (p.absent ts (next_not_left k second ts e)) (q.absent ts (next_not_right k second ts e));
+  exact =
+      or_exact l.rule m.rule l.read m.read c k p.exact q.exact
+      (λ ts e. apart_absent m second c k q apart ts e) p.absent;
+  absent =
+      λ ts e. or_absent l.rule m.rule ts (p.absent ts (next_not_left k second ts e))
+      (q.absent ts (next_not_right k second ts e));
   some = or_takes_some l.rule m.rule p.some q.some;
 }
 
 pub repeated_exact : {F A : Type 0} (l : Part F A) (k c : Tok → Bool) → IsRead l k c → Apart c k
     → Exact (repeated k l) (joined k c)
-repeated_exact {F} {A} l k c p apart = many_exact F A l.rule l.read k c p.exact p.absent (λ ts e. apart_absent l k c c p apart ts e) p.some
+repeated_exact {F} {A} l k c p apart =
+    many_exact F A l.rule l.read k c p.exact p.absent (λ ts e. apart_absent l k c c p apart ts e) p.some
 
 pub optional_exact : {F A : Type 0} (l : Part F A) (k c : Tok → Bool) → IsRead l k c → Exact (optional k l) (joined k c)
 optional_exact {F} {A} l k c p = perhaps_exact F A l.rule l.read k c p.exact p.absent
@@ -155,25 +168,45 @@ module _ (F A B : Type 0) (l : Part F A) (f : Option A → Part F B) (k second d
       let here = p.absent ts (next_not_left k second ts e) in
       let after = next_not_right k second ts e in
       record {
-        derives = λ b m t. elim t.2 [ inl u ↦ ((q t.0).absent ts after).derives b m (subst (λ z. (f t.0).rule.Derives z b m) u.0 t.3) | inr u ↦ here.derives u.0 t.1 u.2 ];
+        derives =
+            λ b m t. elim t.2 [
+              | inl u ↦ ((q t.0).absent ts after).derives b m
+                  (subst (λ z. (f t.0).rule.Derives z b m) u.0 t.3)
+              | inr u ↦ here.derives u.0 t.1 u.2
+            ];
         front = λ m t. elim t [
           | inl u ↦ elim u [ inl v ↦ v | inr v ↦ here.front m v ]
-          | inr u ↦ elim u.2 [ inl v ↦ ((q u.0).absent ts after).front m (subst (λ z. (f u.0).rule.Front z m) v.0 u.3) | inr v ↦ absurd (here.derives v.0 u.1 v.2) ]
+          | inr u ↦ elim u.2 [
+            | inl v ↦ ((q u.0).absent ts after).front m
+                (subst (λ z. (f u.0).rule.Front z m) v.0 u.3)
+            | inr v ↦ absurd (here.derives v.0 u.1 v.2)
+          ]
         ];
         refused = λ why m t. elim t [
           | inl u ↦ here.refused why m u
-          | inr u ↦ elim u.2 [ inl v ↦ ((q u.0).absent ts after).refused why m (subst (λ z. (f u.0).rule.Refuses why z m) v.0 u.3) | inr v ↦ here.derives v.0 u.1 v.2 ]
+          | inr u ↦ elim u.2 [
+            | inl v ↦ ((q u.0).absent ts after).refused why m
+                (subst (λ z. (f u.0).rule.Refuses why z m) v.0 u.3)
+            | inr v ↦ here.derives v.0 u.1 v.2
+          ]
         ];
       }
 
   optional_some : (ts : List At) (b : B) (rest : List At) → (both (perhaps l.rule) (λ o. (f o).rule)).Derives ts b rest
       → length rest < length ts
   unfolding both perhaps
-  optional_some ts b rest t = let j = (q t.0).some t.1 b rest t.3 in elim t.2 [ inl u ↦ let e = ap length u.0 in omega arith | inr u ↦ let i = p.some ts u.0 t.1 u.2 in omega arith ]
+  optional_some ts b rest t =
+      let j = (q t.0).some t.1 b rest t.3 in elim t.2 [
+        | inl u ↦ let e = ap length u.0 in
+            omega arith
+        | inr u ↦ let i = p.some ts u.0 t.1 u.2 in omega arith
+      ]
 
   pub optional_then_read : IsRead (optional k l >>= f) (joined k second) d
   optional_then_read = record {
-    exact = next_exact (optional k l) f (joined k never) second d (optional_exact l k never p) q (joined_apart k never second apart (never_apart second));
+    exact =
+        next_exact (optional k l) f (joined k never) second d (optional_exact l k never p) q
+        (joined_apart k never second apart (never_apart second));
     absent = optional_absent;
     some = optional_some;
   }
@@ -195,12 +228,16 @@ one_more_read {F} l k first c p = then_read (passing {F = F} k) (λ _. l) k c (p
 -- any number more, behind a separator each
 pub more_exact : {F A : Type 0} (l : Part F A) (k first : Tok → Bool) → IsRead l first never
     → Exact (repeated k (one_more_by k l)) k
-more_exact l k first p = exact_widens _ _ (joined k never) k (next_widens (joined k never) k (by_never k)) (repeated_exact (one_more_by k l) k never (one_more_read l k first never p) (never_apart k))
+more_exact l k first p =
+    exact_widens _ _ (joined k never) k (next_widens (joined k never) k (by_never k))
+    (repeated_exact (one_more_by k l) k never (one_more_read l k first never p) (never_apart k))
 
 pub separated_read : {F A : Type 0} (l : Part F A) (k first : Tok → Bool) → IsRead l first never
     → IsRead (separated k l) first k
 unfolding separated
-separated_read {F} {A} l k first p = then_read l (λ x. repeated k (one_more_by k l) >>= λ others. gives (x ∷ others)) first k p (λ x. maps_exact (repeated k (one_more_by k l)) (λ (others : List A). x ∷ others) k (more_exact l k first p))
+separated_read {F} {A} l k first p =
+    then_read l (λ x. repeated k (one_more_by k l) >>= λ others. gives (x ∷ others)) first k p
+    (λ x. maps_exact (repeated k (one_more_by k l)) (λ (others : List A). x ∷ others) k (more_exact l k first p))
 
 none_read : {F A : Type 0} (close : Tok → Bool) → IsRead (none_up_to {F = F} {A = A} close) close never
 unfolding none_up_to
@@ -209,12 +246,17 @@ none_read {F} {A} close = maps_read (passing {F = F} close) (λ _. []) close nev
 some_read : {F A : Type 0} (l : Part F A) (k close first : Tok → Bool) → IsRead l first never → Apart k close
     → IsRead (some_up_to k close l) first never
 unfolding some_up_to
-some_read {F} {A} l k close first p apart = next_read (separated k l) (λ items. passing close >>= λ _. gives items) first k close never (separated_read l k first p) (λ items. maps_read (passing {F = F} close) (λ _. items) close never (passing_read close never)) apart
+some_read {F} {A} l k close first p apart =
+    next_read (separated k l) (λ items. passing close >>= λ _. gives items) first k close never
+    (separated_read l k first p) (λ items. maps_read (passing {F = F} close) (λ _. items) close never
+    (passing_read close never)) apart
 
 pub listed_read : {F A : Type 0} (l : Part F A) (k close first : Tok → Bool) → IsRead l first never → Apart k close
     → Apart close first → IsRead (listed k close l) (joined close first) never
 unfolding listed
-listed_read l k close first p apart begins = either_read (none_up_to close) (some_up_to k close l) close first never (none_read close) (some_read l k close first p apart) begins
+listed_read l k close first p apart begins =
+    either_read (none_up_to close) (some_up_to k close l) close first never (none_read close)
+    (some_read l k close first p apart) begins
 
 -- ---- what is read is derived
 
@@ -244,7 +286,9 @@ pub phased_exact : {F X P B : Type 0} (head : Part F X) (part : X → Part F P) 
     → ((ps : List P) → IsSame (both head.rule (λ x. (after_head ps x).rule) or (no_head ps).rule) (following ps).rule)
     → Exact (phased kh head kf part after_head no_head following) d
 phased_exact {F} {X} {P} {B} head part after_head no_head following kh kf c after none d p q r s a1 a2 a3 a4 same =
-    phases_exact F X P B head.rule head.read (λ x. (part x).rule) (λ x. (part x).read) (λ ps. (following ps).rule) (λ ps x. (after_head ps x).rule) (λ ps x. (after_head ps x).read) (λ ps. (no_head ps).rule) (λ ps. (no_head ps).read) kh kf c d
+    phases_exact F X P B head.rule head.read (λ x. (part x).rule) (λ x. (part x).read) (λ ps. (following ps).rule)
+    (λ ps x. (after_head ps x).rule) (λ ps x. (after_head ps x).read) (λ ps. (no_head ps).rule)
+    (λ ps. (no_head ps).read) kh kf c d
     p.exact (λ x. (q x).exact) (λ ps x. (r ps x).exact) (λ ps. (s ps).exact) p.some p.absent
     (λ ps ts e. apart_absent (no_head ps) none d kh (s ps) a1 ts e)
     (λ ps x ts e. apart_absent (after_head ps x) after d kf (r ps x) a2 ts e)
@@ -280,10 +324,13 @@ closed_exact p d q = exact_widens p.rule p.read never d (next_widens never d (ne
 
 -- an optional part whose own follow set is within its first tokens
 pub optional_same : {F A : Type 0} (l : Part F A) (k : Tok → Bool) → IsRead l k never → Exact (optional k l) k
-optional_same l k p = exact_widens _ _ (joined k never) k (next_widens (joined k never) k (by_never k)) (optional_exact l k never p)
+optional_same l k p =
+    exact_widens _ _ (joined k never) k (next_widens (joined k never) k (by_never k)) (optional_exact l k never p)
 
 pub repeated_same : {F A : Type 0} (l : Part F A) (k : Tok → Bool) → IsRead l k never → Exact (repeated k l) k
-repeated_same l k p = exact_widens _ _ (joined k never) k (next_widens (joined k never) k (by_never k)) (repeated_exact l k never p (never_apart k))
+repeated_same l k p =
+    exact_widens _ _ (joined k never) k (next_widens (joined k never) k (by_never k))
+    (repeated_exact l k never p (never_apart k))
 
 pub apart_sym : (c d : Tok → Bool) → Apart c d → Apart d c
 apart_sym c d p t e = by_right (c t) refl
@@ -303,7 +350,8 @@ next_not_wide first wide h (t ∷ ts) e = h t.tok e
 
 pub begins_by : {F A : Type 0} (p : Part F A) (first wide c : Tok → Bool)
     → ((t : Tok) → wide t ≡ false → first t ≡ false) → IsRead p first c → IsRead p wide c
-begins_by p first wide c h r = record { exact = r.exact; absent = λ ts e. r.absent ts (next_not_wide first wide h ts e); some = r.some }
+begins_by p first wide c h r =
+    record { exact = r.exact; absent = λ ts e. r.absent ts (next_not_wide first wide h ts e); some = r.some }
 
 -- any number of parts, and then one that takes a token at least
 module _ (F A B : Type 0) (l : Part F A) (f : List A → Part F B) (k c second d : Tok → Bool) (p : IsRead l k c)
@@ -320,14 +368,18 @@ module _ (F A B : Type 0) (l : Part F A) (f : List A → Part F B) (k c second d
       let here = p.absent ts (next_not_left k second ts e) in
       let after = next_not_right k second ts e in
       record {
-        derives = λ b m t. ((q t.0).absent ts after).derives b m (subst (λ z. (f t.0).rule.Derives z b m) (nothing_repeated ts here t.0 t.1 t.2) t.3);
+        derives =
+            λ b m t. ((q t.0).absent ts after).derives b m
+            (subst (λ z. (f t.0).rule.Derives z b m) (nothing_repeated ts here t.0 t.1 t.2) t.3);
         front = λ m t. elim t [
           | inl u ↦ here.front m (subst (λ z. l.rule.Front z m) (nothing_repeated ts here u.0 u.1 u.2) u.3)
-          | inr u ↦ ((q u.0).absent ts after).front m (subst (λ z. (f u.0).rule.Front z m) (nothing_repeated ts here u.0 u.1 u.2) u.3)
+          | inr u ↦ ((q u.0).absent ts after).front m
+              (subst (λ z. (f u.0).rule.Front z m) (nothing_repeated ts here u.0 u.1 u.2) u.3)
         ];
         refused = λ why m t. elim t [
           | inl u ↦ here.refused why m (subst (λ z. l.rule.Refuses why z m) (nothing_repeated ts here u.0 u.1 u.2) u.3)
-          | inr u ↦ ((q u.0).absent ts after).refused why m (subst (λ z. (f u.0).rule.Refuses why z m) (nothing_repeated ts here u.0 u.1 u.2) u.3)
+          | inr u ↦ ((q u.0).absent ts after).refused why m
+              (subst (λ z. (f u.0).rule.Refuses why z m) (nothing_repeated ts here u.0 u.1 u.2) u.3)
         ];
       }
 

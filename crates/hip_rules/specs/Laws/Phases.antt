@@ -32,13 +32,16 @@ module _ (F X P B : Type 0) (h : Rule F X) (rh : Reader F X) (f : X → Rule F P
   factored_phases ps = both h (λ x. both (f x) (λ p. phases (ps ++ (p ∷ []))) or R ps x) or O ps
 
   pushed : (ps : List P) (p : P) (more : List P) → IsSame (T (ps ++ (p ∷ more))) (T ((ps ++ (p ∷ [])) ++ more))
-  pushed ps p more = subst (λ (qs : List P). IsSame (T (ps ++ (p ∷ more))) (T qs)) (sym (append_assoc ps (p ∷ []) more)) (same_refl (T (ps ++ (p ∷ more))))
+  pushed ps p more =
+      subst (λ (qs : List P). IsSame (T (ps ++ (p ∷ more))) (T qs)) (sym (append_assoc ps (p ∷ []) more))
+      (same_refl (T (ps ++ (p ∷ more))))
 
   -- one step of the phases
   first_part : (ps : List P)
       → IsSame (both (both h f) (λ p. phases (ps ++ (p ∷ []))))
       (both (both h f) (λ p. both (many (both h f)) (λ more. T (ps ++ (p ∷ more)))))
-  first_part ps = both_same (both h f) _ _ (λ p. both_same (many (both h f)) _ _ (λ more. same_sym _ _ (pushed ps p more)))
+  first_part ps =
+      both_same (both h f) _ _ (λ p. both_same (many (both h f)) _ _ (λ more. same_sym _ _ (pushed ps p more)))
 
   ended_part : (ps : List P) → IsSame (both h (R ps) or O ps) (T (ps ++ []))
   ended_part ps = subst (λ (qs : List P). IsSame (both h (R ps) or O ps) (T qs)) (sym (append-nil ps)) (T_is ps)
@@ -46,17 +49,23 @@ module _ (F X P B : Type 0) (h : Rule F X) (rh : Reader F X) (f : X → Rule F P
   phases_are : (ps : List P) → IsSame (factored_phases ps) (phases ps)
   phases_are ps =
       let G : X → Rule F B = λ x. both (f x) (λ p. phases (ps ++ (p ∷ []))) in
-      let one : IsSame (factored_phases ps) ((both h G or both h (R ps)) or O ps) = or_same _ _ _ _ (factored h G (R ps)) (same_refl (O ps)) in
+      let one : IsSame (factored_phases ps) ((both h G or both h (R ps)) or O ps) =
+      or_same _ _ _ _ (factored h G (R ps)) (same_refl (O ps)) in
       let two : IsSame ((both h G or both h (R ps)) or O ps) (both h G or (both h (R ps) or O ps)) = or_assoc _ _ _ in
       let three : IsSame (both h G or (both h (R ps) or O ps)) (unrolled F P B (both h f) (λ more. T (ps ++ more))) =
-      or_rolled (both h G) (both (both h f) (λ p. both (many (both h f)) (λ more. T (ps ++ (p ∷ more))))) (both h (R ps) or O ps) (T (ps ++ [])) (same_trans _ _ _ (same_sym _ _ (both_assoc h f (λ p. phases (ps ++ (p ∷ []))))) (first_part ps)) (ended_part ps) in
-      same_trans _ _ _ one (same_trans _ _ _ two (same_trans _ _ _ three (many_unrolls F P B (both h f) (λ more. T (ps ++ more)))))
+      or_rolled (both h G) (both (both h f) (λ p. both (many (both h f)) (λ more. T (ps ++ (p ∷ more)))))
+      (both h (R ps) or O ps) (T (ps ++ [])) (same_trans _ _ _
+      (same_sym _ _ (both_assoc h f (λ p. phases (ps ++ (p ∷ []))))) (first_part ps)) (ended_part ps) in
+      same_trans _ _ _ one (same_trans _ _ _ two
+      (same_trans _ _ _ three (many_unrolls F P B (both h f) (λ more. T (ps ++ more)))))
     where
       or_rolled : (a b u e : Rule F B) → IsSame a b → IsSame u e → IsSame (a or u) (b or e)
       or_rolled a b u e s r = or_same a u b e s r
 
   phases_absent : (ps : List P) (ts : List At) → next c ts ≡ true → IsAbsent (phases ps) ts
-  phases_absent ps ts g = same_absent (factored_phases ps) (phases ps) ts (phases_are ps) (or_absent _ (O ps) ts (both_absent h _ ts (h_absent ts (c_head ts g))) (c_absent ps ts g))
+  phases_absent ps ts g =
+      same_absent (factored_phases ps) (phases ps) ts (phases_are ps)
+      (or_absent _ (O ps) ts (both_absent h _ ts (h_absent ts (c_head ts g))) (c_absent ps ts g))
 
   ph : ℕ → List P → Reader F B
   ph zero ps ts = rO ps ts
@@ -83,13 +92,19 @@ module _ (F X P B : Type 0) (h : Rule F X) (rh : Reader F X) (f : X → Rule F P
       → Exactly (phases (ps ++ (p ∷ []))) d rest (ph n (ps ++ (p ∷ [])) rest)) → length m ≤ n
       → Exactly (goes ps x) d m (cond b (on_ok (rf x m) (λ p rest. ph n (ps ++ (p ∷ [])) rest)) (rR ps x m))
   behind n ps x m true e others le = or_left (both (f x) (λ p. phases (ps ++ (p ∷ [])))) (R ps x) d m _
-      (both_where F P B (f x) (λ p. phases (ps ++ (p ∷ []))) c d (f_exact x).whole (λ p. phases_empty (ps ++ (p ∷ []))) (λ p w g. phases_absent (ps ++ (p ∷ [])) w g) (λ p rest. ph n (ps ++ (p ∷ [])) rest) m (rf x m)
-      (λ p rest t. others p rest (let k = (f_exact x).within m rest ((f_exact x).whole m p rest t) in omega arith)) ((f_exact x).reads m))
+      (both_where F P B (f x) (λ p. phases (ps ++ (p ∷ []))) c d (f_exact x).whole (λ p. phases_empty (ps ++ (p ∷ [])))
+      (λ p w g. phases_absent (ps ++ (p ∷ [])) w g) (λ p rest. ph n (ps ++ (p ∷ [])) rest) m (rf x m)
+      (λ p rest t. others p rest (let k = (f_exact x).within m rest ((f_exact x).whole m p rest t) in omega arith))
+      ((f_exact x).reads m))
       (R_absent ps x m e) (both_empty (f x) _ (f_exact x).empty m)
-  behind n ps x m false e others le = or_right (both (f x) (λ p. phases (ps ++ (p ∷ [])))) (R ps x) d m (rR ps x m) ((R_exact ps x).reads m) (both_absent (f x) _ m (f_absent x m e)) ((R_exact ps x).empty m)
+  behind n ps x m false e others le =
+      or_right (both (f x) (λ p. phases (ps ++ (p ∷ [])))) (R ps x) d m (rR ps x m) ((R_exact ps x).reads m)
+      (both_absent (f x) _ m (f_absent x m e)) ((R_exact ps x).empty m)
 
   closing : (ps : List P) (ts : List At) → next kh ts ≡ false → Exactly (factored_phases ps) d ts (rO ps ts)
-  closing ps ts e = or_right (both h (goes ps)) (O ps) d ts (rO ps ts) ((O_exact ps).reads ts) (both_absent h (goes ps) ts (h_absent ts e)) ((O_exact ps).empty ts)
+  closing ps ts e =
+      or_right (both h (goes ps)) (O ps) d ts (rO ps ts) ((O_exact ps).reads ts)
+      (both_absent h (goes ps) ts (h_absent ts e)) ((O_exact ps).empty ts)
 
   opening : (n : ℕ) (ps : List P) (ts : List At) (b : Bool) → next kh ts ≡ b
       → ((p : P) (rest : List At) → length rest ≤ n
@@ -97,16 +112,20 @@ module _ (F X P B : Type 0) (h : Rule F X) (rh : Reader F X) (f : X → Rule F P
       → Exactly (factored_phases ps) d ts (cond b (on_ok (rh ts)
       (λ x m. cond (next kf m) (on_ok (rf x m) (λ p rest. ph n (ps ++ (p ∷ [])) rest)) (rR ps x m))) (rO ps ts))
   opening n ps ts true e others le = or_left (both h (goes ps)) (O ps) d ts _
-      (both_where F X B h (goes ps) never d h_exact.whole (goes_empty ps) (λ x w g. absurd (never_next w g)) (λ x m. cond (next kf m) (on_ok (rf x m) (λ p rest. ph n (ps ++ (p ∷ [])) rest)) (rR ps x m)) ts (rh ts)
+      (both_where F X B h (goes ps) never d h_exact.whole (goes_empty ps) (λ x w g. absurd (never_next w g))
+      (λ x m. cond (next kf m) (on_ok (rf x m) (λ p rest. ph n (ps ++ (p ∷ [])) rest)) (rR ps x m)) ts (rh ts)
       (λ x m t. behind n ps x m (next kf m) refl others (let k = h_some ts x m t in omega arith)) (h_exact.reads ts))
       (O_absent ps ts e) (both_empty h (goes ps) h_exact.empty ts)
   opening n ps ts false e others le = closing ps ts e
 
   phases_read : (n : ℕ) (ps : List P) (ts : List At) → length ts ≤ n → Exactly (phases ps) d ts (ph n ps ts)
   unfolding ph
-  phases_read zero ps [] le = same_exactly (factored_phases ps) (phases ps) d [] (rO ps []) (phases_are ps) (closing ps [] refl)
+  phases_read zero ps [] le =
+      same_exactly (factored_phases ps) (phases ps) d [] (rO ps []) (phases_are ps) (closing ps [] refl)
   phases_read zero ps (t ∷ ts) le = absurd (omega arith)
-  phases_read (suc n) ps ts le = same_exactly (factored_phases ps) (phases ps) d ts _ (phases_are ps) (opening n ps ts (next kh ts) refl (λ p rest k. phases_read n (ps ++ (p ∷ [])) rest k) le)
+  phases_read (suc n) ps ts le =
+      same_exactly (factored_phases ps) (phases ps) d ts _ (phases_are ps)
+      (opening n ps ts (next kh ts) refl (λ p rest k. phases_read n (ps ++ (p ∷ [])) rest k) le)
 
   -- ---- the leading parts first, and then what their end asks for
 
@@ -169,22 +188,39 @@ module _ (F X P B : Type 0) (h : Rule F X) (rh : Reader F X) (f : X → Rule F P
   phased_read ts = on_ok (leaders_at kh rh kf rf ts) (finish [])
 
   T_exact : (ps : List P) → (r : Reader F B) × IsExact (T ps) r d
-  T_exact ps = (_, same_exact _ (T ps) _ d (T_is ps) (or_exact (both h (R ps)) (O ps) _ (rO ps) d kh (then_exact h (R ps) rh (rR ps) d h_exact (R_exact ps)) (O_exact ps) (O_absent ps) (λ ts e. both_absent h (R ps) ts (h_absent ts e))))
+  T_exact ps = (
+    _,
+    same_exact _ (T ps) _ d (T_is ps) (or_exact (both h (R ps)) (O ps) _ (rO ps) d kh
+        (then_exact h (R ps) rh (rR ps) d h_exact (R_exact ps)) (O_exact ps) (O_absent ps)
+        (λ ts e. both_absent h (R ps) ts (h_absent ts e))),
+  )
 
   part_takes_some : (ts : List At) (a : P) (rest : List At) → (both h f).Derives ts a rest → length rest < length ts
   unfolding both
-  part_takes_some ts a rest t = let k = h_some ts t.0 t.1 t.2 in let j = (f_exact t.0).within t.1 rest ((f_exact t.0).whole t.1 a rest t.3) in omega arith
+  part_takes_some ts a rest t =
+      let k = h_some ts t.0 t.1 t.2 in let j =
+      (f_exact t.0).within t.1 rest ((f_exact t.0).whole t.1 a rest t.3) in omega arith
 
   parts_exact : (r : Reader F (List P)) × IsExact (many (both h f)) r (joined kh c)
-  parts_exact = (_, many_exact F P (both h f) _ kh c (then_exact h f rh rf c h_exact f_exact) (λ ts e. both_absent h f ts (h_absent ts e)) (λ ts g. both_absent h f ts (h_absent ts (c_head ts g))) part_takes_some)
+  parts_exact = (
+    _,
+    many_exact F P (both h f) _ kh c (then_exact h f rh rf c h_exact f_exact)
+        (λ ts e. both_absent h f ts (h_absent ts e))
+        (λ ts g. both_absent h f ts (h_absent ts (c_head ts g))) part_takes_some,
+  )
 
   -- the reading of phases is exact
   pub phases_exact : IsExact (both (many (both h f)) T) phased_read d
   phases_exact = record {
     empty = both_empty (many (both h f)) T (parts_exact.1).empty;
     whole = both_whole (many (both h f)) T (λ ps. ((T_exact ps).1).whole);
-    within = both_within (many (both h f)) T (parts_exact.1).whole (parts_exact.1).within (λ ps. ((T_exact ps).1).within);
+    within =
+        both_within (many (both h f)) T (parts_exact.1).whole (parts_exact.1).within (λ ps. ((T_exact ps).1).within);
     later = both_later (many (both h f)) T (parts_exact.1).whole (parts_exact.1).later (λ ps. ((T_exact ps).1).later);
-    closed = both_closed (many (both h f)) T (parts_exact.1).whole (parts_exact.1).later (parts_exact.1).closed (λ ps. ((T_exact ps).1).closed);
-    reads = λ ts. subst (λ (o : Outcome F B). Exactly (both (many (both h f)) T) d ts o) (ph_is (length ts) [] ts) (phases_read (length ts) [] ts (omega arith));
+    closed =
+        both_closed (many (both h f)) T (parts_exact.1).whole (parts_exact.1).later (parts_exact.1).closed
+        (λ ps. ((T_exact ps).1).closed);
+    reads =
+        λ ts. subst (λ (o : Outcome F B). Exactly (both (many (both h f)) T) d ts o) (ph_is (length ts) [] ts)
+        (phases_read (length ts) [] ts (omega arith));
   }

@@ -47,17 +47,53 @@ unfolding both ◌or◌
 factored l f g = record {
   derives = λ ts a rest t. elim t.3 [ inl u ↦ inl (t.0, t.1, t.2, u) | inr u ↦ inr (t.0, t.1, t.2, u) ];
   derives_back = λ ts a rest t. elim t [ inl t ↦ (t.0, t.1, t.2, inl t.3) | inr t ↦ (t.0, t.1, t.2, inr t.3) ];
-  front = λ ts rest t. elim t [ inl t ↦ inl (inl t) | inr t ↦ elim t.3 [ inl u ↦ inl (inr (t.0, t.1, t.2, u)) | inr u ↦ inr (inr (t.0, t.1, t.2, u)) ] ];
-  front_back = λ ts rest t. elim t [ inl t ↦ elim t [ inl u ↦ inl u | inr u ↦ inr (u.0, u.1, u.2, inl u.3) ] | inr t ↦ elim t [ inl u ↦ inl u | inr u ↦ inr (u.0, u.1, u.2, inr u.3) ] ];
-  refuses = λ w ts rest t. elim t [ inl t ↦ inl (inl t) | inr t ↦ elim t.3 [ inl u ↦ inl (inr (t.0, t.1, t.2, u)) | inr u ↦ inr (inr (t.0, t.1, t.2, u)) ] ];
-  refuses_back = λ w ts rest t. elim t [ inl t ↦ elim t [ inl u ↦ inl u | inr u ↦ inr (u.0, u.1, u.2, inl u.3) ] | inr t ↦ elim t [ inl u ↦ inl u | inr u ↦ inr (u.0, u.1, u.2, inr u.3) ] ];
+  front =
+      λ ts rest t. elim t [
+        | inl t ↦ inl (inl t)
+        | inr t
+            ↦ elim t.3 [ inl u ↦ inl (inr (t.0, t.1, t.2, u)) | inr u ↦ inr (inr (t.0, t.1, t.2, u)) ]
+      ];
+  front_back =
+      λ ts rest t. elim t [
+        | inl t ↦ elim t [ inl u ↦ inl u | inr u ↦ inr (u.0, u.1, u.2, inl u.3) ]
+        | inr t
+            ↦ elim t [ inl u ↦ inl u | inr u ↦ inr (u.0, u.1, u.2, inr u.3) ]
+      ];
+  refuses =
+      λ w ts rest t. elim t [
+        | inl t ↦ inl (inl t)
+        | inr t
+            ↦ elim t.3 [ inl u ↦ inl (inr (t.0, t.1, t.2, u)) | inr u ↦ inr (inr (t.0, t.1, t.2, u)) ]
+      ];
+  refuses_back =
+      λ w ts rest t. elim t [
+        | inl t ↦ elim t [ inl u ↦ inl u | inr u ↦ inr (u.0, u.1, u.2, inl u.3) ]
+        | inr t
+            ↦ elim t [ inl u ↦ inl u | inr u ↦ inr (u.0, u.1, u.2, inr u.3) ]
+      ];
 }
 
 pub same_refl : {F A : Type 0} (l : Rule F A) → IsSame l l
-same_refl l = record { derives = λ ts a rest t. t; derives_back = λ ts a rest t. t; front = λ ts rest t. t; front_back = λ ts rest t. t; refuses = λ w ts rest t. t; refuses_back = λ w ts rest t. t }
+same_refl l =
+    record {
+      derives = λ ts a rest t. t;
+      derives_back = λ ts a rest t. t;
+      front = λ ts rest t. t;
+      front_back = λ ts rest t. t;
+      refuses = λ w ts rest t. t;
+      refuses_back = λ w ts rest t. t;
+    }
 
 pub same_sym : {F A : Type 0} (l m : Rule F A) → IsSame l m → IsSame m l
-same_sym l m s = record { derives = s.derives_back; derives_back = s.derives; front = s.front_back; front_back = s.front; refuses = s.refuses_back; refuses_back = s.refuses }
+same_sym l m s =
+    record {
+      derives = s.derives_back;
+      derives_back = s.derives;
+      front = s.front_back;
+      front_back = s.front;
+      refuses = s.refuses_back;
+      refuses_back = s.refuses;
+    }
 
 pub same_trans : {F A : Type 0} (l m n : Rule F A) → IsSame l m → IsSame m n → IsSame l n
 same_trans l m n s r = record {
@@ -73,11 +109,13 @@ pub or_same : {F A : Type 0} (l m n k : Rule F A) → IsSame l n → IsSame m k 
 unfolding ◌or◌
 or_same l m n k s r = record {
   derives = λ ts a rest t. elim t [ inl t ↦ inl (s.derives ts a rest t) | inr t ↦ inr (r.derives ts a rest t) ];
-  derives_back = λ ts a rest t. elim t [ inl t ↦ inl (s.derives_back ts a rest t) | inr t ↦ inr (r.derives_back ts a rest t) ];
+  derives_back =
+      λ ts a rest t. elim t [ inl t ↦ inl (s.derives_back ts a rest t) | inr t ↦ inr (r.derives_back ts a rest t) ];
   front = λ ts rest t. elim t [ inl t ↦ inl (s.front ts rest t) | inr t ↦ inr (r.front ts rest t) ];
   front_back = λ ts rest t. elim t [ inl t ↦ inl (s.front_back ts rest t) | inr t ↦ inr (r.front_back ts rest t) ];
   refuses = λ w ts rest t. elim t [ inl t ↦ inl (s.refuses w ts rest t) | inr t ↦ inr (r.refuses w ts rest t) ];
-  refuses_back = λ w ts rest t. elim t [ inl t ↦ inl (s.refuses_back w ts rest t) | inr t ↦ inr (r.refuses_back w ts rest t) ];
+  refuses_back =
+      λ w ts rest t. elim t [ inl t ↦ inl (s.refuses_back w ts rest t) | inr t ↦ inr (r.refuses_back w ts rest t) ];
 }
 
 pub or_assoc : {F A : Type 0} (l m n : Rule F A) → IsSame ((l or m) or n) (l or (m or n))
@@ -97,10 +135,30 @@ unfolding both
 both_assoc l f g = record {
   derives = λ ts c rest t. let u = t.2 in (u.0, u.1, u.2, (t.0, t.1, u.3, t.3));
   derives_back = λ ts c rest t. let u = t.3 in (u.0, u.1, (t.0, t.1, t.2, u.2), u.3);
-  front = λ ts rest t. elim t [ inl t ↦ elim t [ inl u ↦ inl u | inr u ↦ inr (u.0, u.1, u.2, inl u.3) ] | inr t ↦ let u = t.2 in inr (u.0, u.1, u.2, inr (t.0, t.1, u.3, t.3)) ];
-  front_back = λ ts rest t. elim t [ inl t ↦ inl (inl t) | inr t ↦ elim t.3 [ inl u ↦ inl (inr (t.0, t.1, t.2, u)) | inr u ↦ inr (u.0, u.1, (t.0, t.1, t.2, u.2), u.3) ] ];
-  refuses = λ w ts rest t. elim t [ inl t ↦ elim t [ inl u ↦ inl u | inr u ↦ inr (u.0, u.1, u.2, inl u.3) ] | inr t ↦ let u = t.2 in inr (u.0, u.1, u.2, inr (t.0, t.1, u.3, t.3)) ];
-  refuses_back = λ w ts rest t. elim t [ inl t ↦ inl (inl t) | inr t ↦ elim t.3 [ inl u ↦ inl (inr (t.0, t.1, t.2, u)) | inr u ↦ inr (u.0, u.1, (t.0, t.1, t.2, u.2), u.3) ] ];
+  front =
+      λ ts rest t. elim t [
+        | inl t ↦ elim t [ inl u ↦ inl u | inr u ↦ inr (u.0, u.1, u.2, inl u.3) ]
+        | inr t
+            ↦ let u = t.2 in inr (u.0, u.1, u.2, inr (t.0, t.1, u.3, t.3))
+      ];
+  front_back =
+      λ ts rest t. elim t [
+        | inl t ↦ inl (inl t)
+        | inr t
+            ↦ elim t.3 [ inl u ↦ inl (inr (t.0, t.1, t.2, u)) | inr u ↦ inr (u.0, u.1, (t.0, t.1, t.2, u.2), u.3) ]
+      ];
+  refuses =
+      λ w ts rest t. elim t [
+        | inl t ↦ elim t [ inl u ↦ inl u | inr u ↦ inr (u.0, u.1, u.2, inl u.3) ]
+        | inr t
+            ↦ let u = t.2 in inr (u.0, u.1, u.2, inr (t.0, t.1, u.3, t.3))
+      ];
+  refuses_back =
+      λ w ts rest t. elim t [
+        | inl t ↦ inl (inl t)
+        | inr t
+            ↦ elim t.3 [ inl u ↦ inl (inr (t.0, t.1, t.2, u)) | inr u ↦ inr (u.0, u.1, (t.0, t.1, t.2, u.2), u.3) ]
+      ];
 }
 
 pub both_over_or : {F A B : Type 0} (l m : Rule F A) (f : A → Rule F B)
@@ -109,10 +167,30 @@ unfolding both ◌or◌
 both_over_or l m f = record {
   derives = λ ts b rest t. elim t.2 [ inl u ↦ inl (t.0, t.1, u, t.3) | inr u ↦ inr (t.0, t.1, u, t.3) ];
   derives_back = λ ts b rest t. elim t [ inl t ↦ (t.0, t.1, inl t.2, t.3) | inr t ↦ (t.0, t.1, inr t.2, t.3) ];
-  front = λ ts rest t. elim t [ inl t ↦ elim t [ inl u ↦ inl (inl u) | inr u ↦ inr (inl u) ] | inr t ↦ elim t.2 [ inl u ↦ inl (inr (t.0, t.1, u, t.3)) | inr u ↦ inr (inr (t.0, t.1, u, t.3)) ] ];
-  front_back = λ ts rest t. elim t [ inl t ↦ elim t [ inl u ↦ inl (inl u) | inr u ↦ inr (u.0, u.1, inl u.2, u.3) ] | inr t ↦ elim t [ inl u ↦ inl (inr u) | inr u ↦ inr (u.0, u.1, inr u.2, u.3) ] ];
-  refuses = λ w ts rest t. elim t [ inl t ↦ elim t [ inl u ↦ inl (inl u) | inr u ↦ inr (inl u) ] | inr t ↦ elim t.2 [ inl u ↦ inl (inr (t.0, t.1, u, t.3)) | inr u ↦ inr (inr (t.0, t.1, u, t.3)) ] ];
-  refuses_back = λ w ts rest t. elim t [ inl t ↦ elim t [ inl u ↦ inl (inl u) | inr u ↦ inr (u.0, u.1, inl u.2, u.3) ] | inr t ↦ elim t [ inl u ↦ inl (inr u) | inr u ↦ inr (u.0, u.1, inr u.2, u.3) ] ];
+  front =
+      λ ts rest t. elim t [
+        | inl t ↦ elim t [ inl u ↦ inl (inl u) | inr u ↦ inr (inl u) ]
+        | inr t
+            ↦ elim t.2 [ inl u ↦ inl (inr (t.0, t.1, u, t.3)) | inr u ↦ inr (inr (t.0, t.1, u, t.3)) ]
+      ];
+  front_back =
+      λ ts rest t. elim t [
+        | inl t ↦ elim t [ inl u ↦ inl (inl u) | inr u ↦ inr (u.0, u.1, inl u.2, u.3) ]
+        | inr t
+            ↦ elim t [ inl u ↦ inl (inr u) | inr u ↦ inr (u.0, u.1, inr u.2, u.3) ]
+      ];
+  refuses =
+      λ w ts rest t. elim t [
+        | inl t ↦ elim t [ inl u ↦ inl (inl u) | inr u ↦ inr (inl u) ]
+        | inr t
+            ↦ elim t.2 [ inl u ↦ inl (inr (t.0, t.1, u, t.3)) | inr u ↦ inr (inr (t.0, t.1, u, t.3)) ]
+      ];
+  refuses_back =
+      λ w ts rest t. elim t [
+        | inl t ↦ elim t [ inl u ↦ inl (inl u) | inr u ↦ inr (u.0, u.1, inl u.2, u.3) ]
+        | inr t
+            ↦ elim t [ inl u ↦ inl (inr u) | inr u ↦ inr (u.0, u.1, inr u.2, u.3) ]
+      ];
 }
 
 pub both_same : {F A B : Type 0} (l : Rule F A) (f g : A → Rule F B) → ((a : A) → IsSame (f a) (g a))
@@ -124,7 +202,8 @@ both_same l f g s = record {
   front = λ ts rest t. elim t [ inl t ↦ inl t | inr t ↦ inr (t.0, t.1, t.2, (s t.0).front t.1 rest t.3) ];
   front_back = λ ts rest t. elim t [ inl t ↦ inl t | inr t ↦ inr (t.0, t.1, t.2, (s t.0).front_back t.1 rest t.3) ];
   refuses = λ w ts rest t. elim t [ inl t ↦ inl t | inr t ↦ inr (t.0, t.1, t.2, (s t.0).refuses w t.1 rest t.3) ];
-  refuses_back = λ w ts rest t. elim t [ inl t ↦ inl t | inr t ↦ inr (t.0, t.1, t.2, (s t.0).refuses_back w t.1 rest t.3) ];
+  refuses_back =
+      λ w ts rest t. elim t [ inl t ↦ inl t | inr t ↦ inr (t.0, t.1, t.2, (s t.0).refuses_back w t.1 rest t.3) ];
 }
 
 pub same_absent : {F A : Type 0} (l m : Rule F A) (ts : List At) → IsSame l m → IsAbsent l ts → IsAbsent m ts
@@ -173,18 +252,49 @@ module _ (F A B : Type 0) (l : Rule F A) (k : List A → Rule F B) where
   pub many_unrolls : IsSame unrolled (both (many l) k)
   unfolding both many ◌or◌
   many_unrolls = record {
-    derives = λ ts b rest t. elim t [ inl t ↦ let r = t.3 in (t.0 ∷ r.0, r.1, (t.1, t.2, r.2), r.3) | inr t ↦ ([], ts, refl, t) ];
+    derives =
+        λ ts b rest t. elim t [
+          | inl t ↦ let r = t.3 in
+              (t.0 ∷ r.0, r.1, (t.1, t.2, r.2), r.3)
+          | inr t ↦ ([], ts, refl, t)
+        ];
     derives_back = λ ts b rest t. unroll_derives ts t.0 t.1 b rest t.2 t.3;
     front = λ ts rest t. elim t [
-      | inl t ↦ elim t [ inl u ↦ inl ([], ts, refl, u) | inr u ↦ elim u.3 [ inl r ↦ inl (u.0 ∷ r.0, r.1, (u.1, u.2, r.2), r.3) | inr r ↦ inr (u.0 ∷ r.0, r.1, (u.1, u.2, r.2), r.3) ] ]
+      | inl t ↦ elim t [
+        | inl u ↦ inl ([], ts, refl, u)
+        | inr u
+            ↦ elim u.3 [
+              | inl r ↦ inl (u.0 ∷ r.0, r.1, (u.1, u.2, r.2), r.3)
+              | inr r
+                  ↦ inr (u.0 ∷ r.0, r.1, (u.1, u.2, r.2), r.3)
+            ]
+      ]
       | inr t ↦ inr ([], ts, refl, t)
     ];
-    front_back = λ ts rest t. elim t [ inl u ↦ unroll_front ts u.0 u.1 rest u.2 u.3 | inr u ↦ unroll_end ts u.0 u.1 rest u.2 u.3 ];
+    front_back =
+        λ ts rest t. elim t [
+          | inl u ↦ unroll_front ts u.0 u.1 rest u.2 u.3
+          | inr u
+              ↦ unroll_end ts u.0 u.1 rest u.2 u.3
+        ];
     refuses = λ w ts rest t. elim t [
-      | inl t ↦ elim t [ inl u ↦ inl ([], ts, refl, u) | inr u ↦ elim u.3 [ inl r ↦ inl (u.0 ∷ r.0, r.1, (u.1, u.2, r.2), r.3) | inr r ↦ inr (u.0 ∷ r.0, r.1, (u.1, u.2, r.2), r.3) ] ]
+      | inl t ↦ elim t [
+        | inl u ↦ inl ([], ts, refl, u)
+        | inr u
+            ↦ elim u.3 [
+              | inl r ↦ inl (u.0 ∷ r.0, r.1, (u.1, u.2, r.2), r.3)
+              | inr r
+                  ↦ inr (u.0 ∷ r.0, r.1, (u.1, u.2, r.2), r.3)
+            ]
+      ]
       | inr t ↦ inr ([], ts, refl, t)
     ];
-    refuses_back = λ w ts rest t. elim t [ inl u ↦ unroll_stop w ts u.0 u.1 rest u.2 u.3 | inr u ↦ unroll_end_stop w ts u.0 u.1 rest u.2 u.3 ];
+    refuses_back =
+        λ w ts rest t. elim t [
+          | inl u ↦ unroll_stop w ts u.0 u.1 rest u.2 u.3
+          | inr u
+              ↦ unroll_end_stop w ts u.0 u.1 rest u.2 u.3
+        ];
   }
 
 -- Where a repeated part has two cases, of which one begins by a head, what is repeated and then closed is the first
@@ -195,8 +305,12 @@ pub head_or_other : {F X A B : Type 0} (h : Rule F X) (f : X → Rule F A) (e : 
     (λ is. k (i ∷ is))) or k [])) (both (many (both h f or e)) k)
 head_or_other {F} {X} {A} {B} h f e k =
     let G : A → Rule F B = λ i. both (many (both h f or e)) (λ is. k (i ∷ is)) in
-    let one : IsSame (both h (λ x. both (f x) G) or (both e G or k [])) ((both h (λ x. both (f x) G) or both e G) or k []) = same_sym _ _ (or_assoc (both h (λ x. both (f x) G)) (both e G) (k [])) in
+    let one : IsSame (both h (λ x. both (f x) G) or (both e G or k []))
+    ((both h (λ x. both (f x) G) or both e G) or k []) =
+    same_sym _ _ (or_assoc (both h (λ x. both (f x) G)) (both e G) (k [])) in
     let two : IsSame (both h (λ x. both (f x) G) or both e G) (both (both h f or e) G) =
-    same_trans _ _ _ (or_same _ _ _ _ (same_sym _ _ (both_assoc h f G)) (same_refl (both e G))) (same_sym _ _ (both_over_or (both h f) e G)) in
-    let three : IsSame ((both h (λ x. both (f x) G) or both e G) or k []) (both (both h f or e) G or k []) = or_same _ _ _ _ two (same_refl (k [])) in
+    same_trans _ _ _ (or_same _ _ _ _ (same_sym _ _ (both_assoc h f G)) (same_refl (both e G)))
+    (same_sym _ _ (both_over_or (both h f) e G)) in
+    let three : IsSame ((both h (λ x. both (f x) G) or both e G) or k []) (both (both h f or e) G or k []) =
+    or_same _ _ _ _ two (same_refl (k [])) in
     same_trans _ _ _ one (same_trans _ _ _ three (many_unrolls F A B (both h f or e) k))

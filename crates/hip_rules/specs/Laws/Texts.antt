@@ -32,7 +32,11 @@ nothing_text c = record { derives = λ line rest e. (line, (refl, refl)) }
 
 pub blank_text : {F A : Type 0} {l : Rule F A} {c : List ℕ → Bool} {t : List ℕ} {x : A} (b : ℕ) → is_blank b ≡ true
     → IsTextOf c l t x → IsTextOf c l (b ∷ t) x
-blank_text {l = l} {t = t} {x = x} b blank p = record { derives = λ line rest e. let q = p.derives (line_after line b) rest e in (q.0, rw (cut_blank line b (t ++ rest) blank) q.1) }
+blank_text {l = l} {t = t} {x = x} b blank p =
+    record {
+      derives = λ line rest e. let q = p.derives (line_after line b) rest e in
+          (q.0, rw (cut_blank line b (t ++ rest) blank) q.1);
+    }
 
 -- a separator behind it
 pub blank_behind : {F A : Type 0} {l : Rule F A} {c : List ℕ → Bool} {s : List ℕ} {x : A} (b : ℕ) → is_blank b ≡ true
@@ -113,8 +117,11 @@ pub label_then : {F A B : Type 0} (p : Tok → Verdict F A) (f : A → Rule F B)
 unfolding both one
 label_then p f {t = t} {x = x} w n e q = record {
   derives = λ line rest h.
-      let second = q.derives line rest h in
-      (second.0, rw (append_assoc w (58 ∷ t) rest) (x, cut line 0 (t ++ rest), (at_line line (Label w), label_cut line w (t ++ rest) n, e), second.1));
+      let second = q.derives line rest h in (
+        second.0,
+        rw (append_assoc w (58 ∷ t) rest)
+            (x, cut line 0 (t ++ rest), (at_line line (Label w), label_cut line w (t ++ rest) n, e), second.1),
+      );
 }
 
 -- ---- cases
@@ -164,12 +171,15 @@ module _ {F X A : Type 0} (l : Rule F A) (text : X → List ℕ) (value : X → 
 
   pub mapped_texts : (xs : List X) → list_all test xs ≡ true → IsTextOf c (many l) (flat_map text xs) (map value xs)
   mapped_texts [] e = no_more_text l c
-  mapped_texts (x ∷ xs) e = let passes = and_parts (test x) (list_all test xs) e in more_text (each x passes.0) (mapped_texts xs passes.1) (texts_leave xs)
+  mapped_texts (x ∷ xs) e =
+      let passes = and_parts (test x) (list_all test xs) e in
+      more_text (each x passes.0) (mapped_texts xs passes.1) (texts_leave xs)
 
 pub many_texts : {F A : Type 0} (l : Rule F A) (text : A → List ℕ) (c : List ℕ → Bool) (test : A → Bool)
     → ((x : A) → test x ≡ true → IsTextOf c l (text x) x) → ((x : A) (rest : List ℕ) → c (text x ++ rest) ≡ true)
     → (xs : List A) → list_all test xs ≡ true → IsTextOf c (many l) (flat_map text xs) xs
-many_texts l text c test each leaves xs e = subst (IsTextOf c (many l) (flat_map text xs)) (map-id xs) (mapped_texts l text (λ x. x) c test each leaves xs e)
+many_texts l text c test each leaves xs e =
+    subst (IsTextOf c (many l) (flat_map text xs)) (map-id xs) (mapped_texts l text (λ x. x) c test each leaves xs e)
 
 all_derive_both : {F A : Type 0} (l : Rule F A) (xs ys : List A) (ts m rest : List At) → AllDerive l ts xs m
     → AllDerive l m ys rest → AllDerive l ts (xs ++ ys) rest
@@ -182,6 +192,9 @@ unfolding many
 joined_texts l {s = s} {t = t} {xs = xs} {ys = ys} p q leaves = record {
   derives = λ line rest e.
       let first = p.derives line (t ++ rest) (leaves rest e) in
-      let second = q.derives first.0 rest e in
-      (second.0, rw (append_assoc s t rest) (all_derive_both l xs ys (cut line 0 (s ++ (t ++ rest))) (cut first.0 0 (t ++ rest)) (cut second.0 0 rest) first.1 second.1));
+      let second = q.derives first.0 rest e in (
+        second.0,
+        rw (append_assoc s t rest) (all_derive_both l xs ys (cut line 0 (s ++ (t ++ rest)))
+            (cut first.0 0 (t ++ rest)) (cut second.0 0 rest) first.1 second.1),
+      );
 }

@@ -39,7 +39,9 @@ all_yield : {F A : Type 0} (l : Rule F A) (test : A → Bool) → RuleYields l (
     → (ts : List At) (xs : List A) (rest : List At) → AreFormed ts → AllDerive l ts xs rest
     → (list_all test xs ≡ true) × AreFormed rest
 all_yield l test p ts [] rest f d = (refl, subst AreFormed (sym d) f)
-all_yield l test p ts (x ∷ xs) rest f d = let first = p ts x d.0 f d.1 in let others = all_yield l test p d.0 xs rest first.1 d.2 in (both_true first.0 others.0, others.1)
+all_yield l test p ts (x ∷ xs) rest f d =
+    let first = p ts x d.0 f d.1 in let others =
+    all_yield l test p d.0 xs rest first.1 d.2 in (both_true first.0 others.0, others.1)
 
 many_yields : {F A : Type 0} (l : Rule F A) (test : A → Bool) → RuleYields l (λ a. test a ≡ true)
     → RuleYields (many l) (λ xs. list_all test xs ≡ true)
@@ -98,12 +100,17 @@ pub separated_yields : {F A : Type 0} (k : Tok → Bool) (l : Part F A) (test : 
     → Yields l (λ a. test a ≡ true) → ((x : A) (xs : List A) → list_all test (x ∷ xs) ≡ true → Q (x ∷ xs))
     → Yields (separated k l) Q
 unfolding separated
-separated_yields k l test Q p h = then_yields l _ _ Q p (λ first e. then_yields (repeated k (one_more_by k l)) _ _ Q (repeated_yields k (one_more_by k l) test (one_more_yields k l _ p)) (λ others es. gives_yields (first ∷ others) Q (h first others (both_true e es))))
+separated_yields k l test Q p h =
+    then_yields l _ _ Q p (λ first e. then_yields (repeated k (one_more_by k l)) _ _ Q
+    (repeated_yields k (one_more_by k l) test (one_more_yields k l _ p))
+    (λ others es. gives_yields (first ∷ others) Q (h first others (both_true e es))))
 
 some_yield : {F A : Type 0} (k close : Tok → Bool) (l : Part F A) (test : A → Bool) → Yields l (λ a. test a ≡ true)
     → Yields (some_up_to k close l) (λ xs. list_all test xs ≡ true)
 unfolding some_up_to
-some_yield k close l test p = then_yields (separated k l) _ (λ xs. list_all test xs ≡ true) _ (separated_yields k l test _ p (λ x xs e. e)) (λ items e. after_token _ _ _ (λ _. gives_yields items _ e))
+some_yield k close l test p =
+    then_yields (separated k l) _ (λ xs. list_all test xs ≡ true) _ (separated_yields k l test _ p (λ x xs e. e))
+    (λ items e. after_token _ _ _ (λ _. gives_yields items _ e))
 
 none_yield : {F A : Type 0} (close : Tok → Bool) (test : A → Bool)
     → Yields {F = F} (none_up_to close) (λ xs. list_all test xs ≡ true)
@@ -113,11 +120,15 @@ none_yield close test = after_token _ _ _ (λ _. gives_yields [] _ refl)
 pub listed_yields : {F A : Type 0} (k close : Tok → Bool) (l : Part F A) (test : A → Bool)
     → Yields l (λ a. test a ≡ true) → Yields (listed k close l) (λ xs. list_all test xs ≡ true)
 unfolding listed
-listed_yields k close l test p = either_yields close (none_up_to close) (some_up_to k close l) _ (none_yield close test) (some_yield k close l test p)
+listed_yields k close l test p =
+    either_yields close (none_up_to close) (some_up_to k close l) _ (none_yield close test)
+    (some_yield k close l test p)
 
 pub skipped_yields : {F A : Type 0} (k : Tok → Bool) (l : Part F A) → Yields l Any → Yields (skipped k l) Any
 unfolding skipped
-skipped_yields k l p = then_yields (repeated k l) _ _ Any (repeated_yields k l (λ a. true) (record { yields = λ ts a rest f d. (refl, (p.yields ts a rest f d).1) })) (λ _ h. gives_yields tt Any tt)
+skipped_yields k l p =
+    then_yields (repeated k l) _ _ Any (repeated_yields k l (λ a. true)
+    (record { yields = λ ts a rest f d. (refl, (p.yields ts a rest f d).1) })) (λ _ h. gives_yields tt Any tt)
 
 -- behind parts of one kind, each of which has a head
 pub phased_yields : {F X P B : Type 0} (kh : Tok → Bool) (head : Part F X) (kf : Tok → Bool) (part : X → Part F P)
@@ -127,7 +138,10 @@ pub phased_yields : {F X P B : Type 0} (kh : Tok → Bool) (head : Part F X) (kf
     → ((ps : List P) → list_all test ps ≡ true → Yields (following ps) Q)
     → Yields (phased kh head kf part after_head no_head following) Q
 phased_yields {F} {X} {P} kh head kf part after_head no_head following R test Q p q r = record {
-  yields = both_yields (many (both head.rule (λ x. (part x).rule))) (λ ps. (following ps).rule) (λ ps. list_all test ps ≡ true) Q
-      (many_yields (both head.rule (λ x. (part x).rule)) test (both_yields head.rule (λ x. (part x).rule) R (λ a. test a ≡ true) p.yields (λ x h. (q x h).yields)))
+  yields =
+      both_yields (many (both head.rule (λ x. (part x).rule))) (λ ps. (following ps).rule)
+      (λ ps. list_all test ps ≡ true) Q
+      (many_yields (both head.rule (λ x. (part x).rule)) test
+      (both_yields head.rule (λ x. (part x).rule) R (λ a. test a ≡ true) p.yields (λ x h. (q x h).yields)))
       (λ ps h. (r ps h).yields);
 }

@@ -53,10 +53,13 @@ word_same : (a b : TrapWord) → Same a b
 word_same a b = by (bytes_same (trap_text a) (trap_text b))
   where
     by : Same (trap_text a) (trap_text b) → Same a b
-    by (inl e) = let same : Some a ≡ Some b = sym (trap_word a).0 ∙ ap trap_of e ∙ (trap_word b).0 in inl (let k : a ≡ b = cc in k)
+    by (inl e) =
+        let same : Some a ≡ Some b = sym (trap_word a).0 ∙ ap trap_of e ∙ (trap_word b).0 in
+        inl (let k : a ≡ b = cc in k)
     by (inr n) = inr (λ e. n (ap trap_text e))
 
-both_same : {A B : Type 0} (f : A → B → Entry) (a a' : A) (b b' : B) → (f a b ≡ f a' b' → (a ≡ a') × (b ≡ b')) → Same a a' → Same b b' → Same (f a b) (f a' b')
+both_same : {A B : Type 0} (f : A → B → Entry) (a a' : A) (b b' : B) → (f a b ≡ f a' b' → (a ≡ a') × (b ≡ b'))
+    → Same a a' → Same b b' → Same (f a b) (f a' b')
 both_same f a a' b b' parts (inl e) (inl d) = inl (ap (λ x. f x b) e ∙ ap (λ y. f a' y) d)
 both_same f a a' b b' parts (inl e) (inr n) = inr (λ q. n (parts q).1)
 both_same f a a' b b' parts (inr n) other = inr (λ q. n (parts q).0)
@@ -66,21 +69,32 @@ one_same f a a' part (inl e) = inl (ap f e)
 one_same f a a' part (inr n) = inr (λ q. n (part q))
 
 store_same : (a v s a' v' s' : ℕ) → Same a a' → Same v v' → Same s s' → Same (Store a v s) (Store a' v' s')
-store_same a v s a' v' s' (inl e) (inl d) (inl c) = inl (ap (λ x. Store x v s) e ∙ ap (λ x. Store a' x s) d ∙ ap (λ x. Store a' v' x) c)
+store_same a v s a' v' s' (inl e) (inl d) (inl c) =
+    inl (ap (λ x. Store x v s) e ∙ ap (λ x. Store a' x s) d ∙ ap (λ x. Store a' v' x) c)
 store_same a v s a' v' s' (inl e) (inl d) (inr n) = inr (λ q. n (let k : s ≡ s' = cc in k))
 store_same a v s a' v' s' (inl e) (inr n) other = inr (λ q. n (let k : v ≡ v' = cc in k))
 store_same a v s a' v' s' (inr n) other more = inr (λ q. n (let k : a ≡ a' = cc in k))
 
 entry_same : (x y : Entry) → Same x y
 entry_same (Start a) (Start b) = one_same (λ l. Start l) a b (λ q. let k : a ≡ b = cc in k) (nat_same a b)
-entry_same (Register a s) (Register b t) = both_same (λ x y. Register x y) a b s t (λ q. (let k : a ≡ b = cc in k, let k : s ≡ t = cc in k)) (nat_same a b) (nat_same s t)
+entry_same (Register a s) (Register b t) =
+    both_same (λ x y. Register x y) a b s t (λ q. (let k : a ≡ b = cc in k, let k : s ≡ t = cc in k)) (nat_same a b)
+    (nat_same s t)
 entry_same (Number a) (Number b) = one_same (λ z. Number z) a b (λ q. let k : a ≡ b = cc in k) (int_same a b)
-entry_same (Image a s) (Image b t) = both_same (λ x y. Image x y) a b s t (λ q. (let k : a ≡ b = cc in k, let k : s ≡ t = cc in k)) (nat_same a b) (bytes_same s t)
+entry_same (Image a s) (Image b t) =
+    both_same (λ x y. Image x y) a b s t (λ q. (let k : a ≡ b = cc in k, let k : s ≡ t = cc in k)) (nat_same a b)
+    (bytes_same s t)
 entry_same (Store a v s) (Store b w t) = store_same a v s b w t (nat_same a b) (nat_same v w) (nat_same s t)
-entry_same (Flush a s) (Flush b t) = both_same (λ x y. Flush x y) a b s t (λ q. (let k : a ≡ b = cc in k, let k : s ≡ t = cc in k)) (nat_same a b) (nat_same s t)
+entry_same (Flush a s) (Flush b t) =
+    both_same (λ x y. Flush x y) a b s t (λ q. (let k : a ≡ b = cc in k, let k : s ≡ t = cc in k)) (nat_same a b)
+    (nat_same s t)
 entry_same Fence Fence = inl refl
-entry_same (Persist a s) (Persist b t) = both_same (λ x y. Persist x y) a b s t (λ q. (let k : a ≡ b = cc in k, let k : s ≡ t = cc in k)) (nat_same a b) (nat_same s t)
-entry_same (Assert a s) (Assert b t) = both_same (λ x y. Assert x y) a b s t (λ q. (let k : a ≡ b = cc in k, let k : s ≡ t = cc in k)) (nat_same a b) (nat_same s t)
+entry_same (Persist a s) (Persist b t) =
+    both_same (λ x y. Persist x y) a b s t (λ q. (let k : a ≡ b = cc in k, let k : s ≡ t = cc in k)) (nat_same a b)
+    (nat_same s t)
+entry_same (Assert a s) (Assert b t) =
+    both_same (λ x y. Assert x y) a b s t (λ q. (let k : a ≡ b = cc in k, let k : s ≡ t = cc in k)) (nat_same a b)
+    (nat_same s t)
 entry_same (Stop a) (Stop b) = one_same (λ z. Stop z) a b (λ q. let k : a ≡ b = cc in k) (int_same a b)
 entry_same (Trap a) (Trap b) = one_same (λ w. Trap w) a b (λ q. let k : a ≡ b = cc in k) (word_same a b)
 entry_same Cut Cut = inl refl
@@ -113,7 +127,16 @@ compare whole (p ∷ ps) (e ∷ es) = go (piece_same p e) (compare whole ps es)
   where
     go : Same p (Some e) → Compared whole ps es → Compared whole (p ∷ ps) (e ∷ es)
     go (inr n) rest = inl (0, kind_of p Differs, record { before = refl; here = (n, refl) })
-    go (inl q) (inl d) = inl (suc d.0, d.1, record { before = ap (λ (x : Option Entry). x ∷ take d.0 ps) q ∙ ap (λ (xs : List (Option Entry)). Some e ∷ xs) d.2.before; here = d.2.here })
+    go (inl q) (inl d) =
+        inl (
+          suc d.0,
+          d.1,
+          record {
+            before = ap (λ (x : Option Entry). x ∷ take d.0 ps) q
+                ∙ ap (λ (xs : List (Option Entry)). Some e ∷ xs) d.2.before;
+            here = d.2.here;
+          },
+        )
     go (inl q) (inr a) = inr (record {
       spell = ap (λ (x : Option Entry). x ∷ ps) q ∙ ap (λ (xs : List (Option Entry)). Some e ∷ xs) a.spell;
       all = λ w. ap (λ (x : Option Entry). x ∷ ps) q ∙ ap (λ (xs : List (Option Entry)). Some e ∷ xs) (a.all w);
@@ -128,46 +151,77 @@ abbrev NoMisfit : Program → List ℕ → Bool → Type 0
 NoMisfit P bytes whole = (e : ℕ) (k : MisfitKind) → IsMisfit P bytes whole e k → ⊥
 
 module _ (P : Program) (bytes : List ℕ) where
-  made : (whole : Bool) (e : ℕ) (k : MisfitKind) (h : Header) → header P (spelled whole bytes) ≡ h → MisfitBehind h P whole (spelled whole bytes) e k → IsMisfit P bytes whole e k
-  made whole e k h q m = record { here = subst (λ (x : Header). MisfitBehind x P whole (spelled whole bytes) e k) (sym q) m }
+  made : (whole : Bool) (e : ℕ) (k : MisfitKind) (h : Header) → header P (spelled whole bytes) ≡ h
+      → MisfitBehind h P whole (spelled whole bytes) e k → IsMisfit P bytes whole e k
+  made whole e k h q m =
+      record { here = subst (λ (x : Header). MisfitBehind x P whole (spelled whole bytes) e k) (sym q) m }
 
-  behind_run : (whole : Bool) (c : ℕ) (I : Input) → header P (spelled whole bytes) ≡ Gives c I → (ts : List Entry) → IsTrace P I ts → (d : (n : ℕ) × (k : MisfitKind) × FirstDiffers whole (spelled whole bytes) ts n k) → SomeMisfit P bytes whole
-  behind_run whole c I q ts t d = (d.0 + 1, d.1, made whole (d.0 + 1) d.1 (Gives c I) q (record { trace = ts; is_trace = t; count = d.0; number = refl; differs = d.2 }))
+  behind_run : (whole : Bool) (c : ℕ) (I : Input) → header P (spelled whole bytes) ≡ Gives c I → (ts : List Entry)
+      → IsTrace P I ts → (d : (n : ℕ) × (k : MisfitKind) × FirstDiffers whole (spelled whole bytes) ts n k)
+      → SomeMisfit P bytes whole
+  behind_run whole c I q ts t d = (
+    d.0 + 1,
+    d.1,
+    made whole (d.0 + 1) d.1 (Gives c I) q
+        (record { trace = ts; is_trace = t; count = d.0; number = refl; differs = d.2 }),
+  )
 
-  behind_stop : (whole : Bool) (c : ℕ) → header P (spelled whole bytes) ≡ Stops c → (p : Option Entry) → slice_get (spelled whole bytes) c ≡ Some p → SomeMisfit P bytes whole
-  behind_stop whole c q p at = (c + 1, kind_of p Differs, made whole (c + 1) (kind_of p Differs) (Stops c) q (refl, subst (λ (o : Option (Option Entry)). StopsAt whole o (kind_of p Differs)) (sym at) refl))
+  behind_stop : (whole : Bool) (c : ℕ) → header P (spelled whole bytes) ≡ Stops c → (p : Option Entry)
+      → slice_get (spelled whole bytes) c ≡ Some p → SomeMisfit P bytes whole
+  behind_stop whole c q p at = (
+    c + 1,
+    kind_of p Differs,
+    made whole (c + 1) (kind_of p Differs) (Stops c) q
+        (refl, subst (λ (o : Option (Option Entry)). StopsAt whole o (kind_of p Differs)) (sym at) refl),
+  )
 
   pub whole-decided : ((I : Input) × IsTraceOf P bytes I) ⊎ SomeMisfit P bytes true
   whole-decided = go (header P (spelled true bytes)) refl
     where
-      stop : (c : ℕ) → header P (spelled true bytes) ≡ Stops c → (o : Option (Option Entry)) → slice_get (spelled true bytes) c ≡ o → ((I : Input) × IsTraceOf P bytes I) ⊎ SomeMisfit P bytes true
-      stop c q None at = inr (c + 1, Early, made true (c + 1) Early (Stops c) q (refl, subst (λ (o : Option (Option Entry)). StopsAt true o Early) (sym at) (refl, refl)))
+      stop : (c : ℕ) → header P (spelled true bytes) ≡ Stops c → (o : Option (Option Entry))
+          → slice_get (spelled true bytes) c ≡ o → ((I : Input) × IsTraceOf P bytes I) ⊎ SomeMisfit P bytes true
+      stop c q None at =
+          inr (
+            c + 1,
+            Early,
+            made true (c + 1) Early (Stops c) q
+                (refl, subst (λ (o : Option (Option Entry)). StopsAt true o Early) (sym at) (refl, refl)),
+          )
       stop c q (Some p) at = inr (behind_stop true c q p at)
 
-      run : (c : ℕ) (I : Input) → header P (spelled true bytes) ≡ Gives c I → (ts : List Entry) → IsTrace P I ts → Compared true (spelled true bytes) ts → ((I : Input) × IsTraceOf P bytes I) ⊎ SomeMisfit P bytes true
+      run : (c : ℕ) (I : Input) → header P (spelled true bytes) ≡ Gives c I → (ts : List Entry) → IsTrace P I ts
+          → Compared true (spelled true bytes) ts → ((I : Input) × IsTraceOf P bytes I) ⊎ SomeMisfit P bytes true
       run c I q ts t (inl d) = inr (behind_run true c I q ts t d)
-      run c I q ts t (inr a) = inl (I, record { entries = c; header_is = q; trace = ts; is_trace = t; spells = a.all refl })
+      run c I q ts t (inr a) =
+          inl (I, record { entries = c; header_is = q; trace = ts; is_trace = t; spells = a.all refl })
 
-      go : (h : Header) → header P (spelled true bytes) ≡ h → ((I : Input) × IsTraceOf P bytes I) ⊎ SomeMisfit P bytes true
+      go : (h : Header) → header P (spelled true bytes) ≡ h → ((I : Input) × IsTraceOf P bytes I)
+          ⊎ SomeMisfit P bytes true
       go (Stops c) q = stop c q (slice_get (spelled true bytes) c) refl
       go (Gives c I) q = let w = whole-trace P I in run c I q w.0 w.1 (compare true (spelled true bytes) w.0)
 
   pub front-decided : SomeMisfit P bytes false ⊎ NoMisfit P bytes false
   front-decided = go (header P (spelled false bytes)) refl
     where
-      behind : (h : Header) → header P (spelled false bytes) ≡ h → (e : ℕ) (k : MisfitKind) → IsMisfit P bytes false e k → MisfitBehind h P false (spelled false bytes) e k
+      behind : (h : Header) → header P (spelled false bytes) ≡ h → (e : ℕ) (k : MisfitKind) → IsMisfit P bytes false e k
+          → MisfitBehind h P false (spelled false bytes) e k
       behind h q e k m = subst (λ (x : Header). MisfitBehind x P false (spelled false bytes) e k) q m.here
 
-      stop : (c : ℕ) → header P (spelled false bytes) ≡ Stops c → (o : Option (Option Entry)) → slice_get (spelled false bytes) c ≡ o → SomeMisfit P bytes false ⊎ NoMisfit P bytes false
+      stop : (c : ℕ) → header P (spelled false bytes) ≡ Stops c → (o : Option (Option Entry))
+          → slice_get (spelled false bytes) c ≡ o → SomeMisfit P bytes false ⊎ NoMisfit P bytes false
       stop c q None at = inr (λ e k m. no_stop (slice_get (spelled false bytes) c) k at (behind (Stops c) q e k m).1)
       stop c q (Some p) at = inl (behind_stop false c q p at)
 
-      run : (c : ℕ) (I : Input) → header P (spelled false bytes) ≡ Gives c I → (ts : List Entry) → IsTrace P I ts → Compared false (spelled false bytes) ts → SomeMisfit P bytes false ⊎ NoMisfit P bytes false
+      run : (c : ℕ) (I : Input) → header P (spelled false bytes) ≡ Gives c I → (ts : List Entry) → IsTrace P I ts
+          → Compared false (spelled false bytes) ts → SomeMisfit P bytes false ⊎ NoMisfit P bytes false
       run c I q ts t (inl d) = inl (behind_run false c I q ts t d)
       run c I q ts t (inr a) = inr (λ e k m. never (behind (Gives c I) q e k m))
         where
           never : {e : ℕ} {k : MisfitKind} → DiffersFromRun P I false (spelled false bytes) e k → ⊥
-          never {k = k} d = agree-never (spelled false bytes) ts d.count k a.spell (subst (λ (xs : List Entry). FirstDiffers false (spelled false bytes) xs d.count k) (one-trace P I d.trace ts d.is_trace t) d.differs)
+          never {k = k} d =
+              agree-never (spelled false bytes) ts d.count k a.spell
+              (subst (λ (xs : List Entry). FirstDiffers false (spelled false bytes) xs d.count k)
+              (one-trace P I d.trace ts d.is_trace t) d.differs)
 
       go : (h : Header) → header P (spelled false bytes) ≡ h → SomeMisfit P bytes false ⊎ NoMisfit P bytes false
       go (Stops c) q = stop c q (slice_get (spelled false bytes) c) refl

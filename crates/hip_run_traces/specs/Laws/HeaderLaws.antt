@@ -54,7 +54,8 @@ ends_append : (P : Program) (es fs : List Entry) → EndsHeader P es → EndsHea
 ends_append P [] fs h k = k
 ends_append P (e ∷ es) fs h k = record { is = h.is }
 
-ends_there : (P : Program) (J : Input) (c : ℕ) (es : List Entry) → EndsHeader P es → header_from P J c (told es) ≡ Gives c (filled P J)
+ends_there : (P : Program) (J : Input) (c : ℕ) (es : List Entry) → EndsHeader P es
+    → header_from P J c (told es) ≡ Gives c (filled P J)
 ends_there P J c [] h = refl
 ends_there P J c (e ∷ es) h = ap (go_on P J c (λ more. header_from P more (suc c) (told es))) (h.is J)
 
@@ -72,7 +73,9 @@ steps_of P I (suc n) =
     record {
       steps = before.steps ++ next_entries P I (run P I n);
       ends = ends_append P before.steps (next_entries P I (run P I n)) before.ends (next (has_ended (run P I n)));
-      split = ap (λ (es : List Entry). es ++ next_entries P I (run P I n)) before.split ∙ append_assoc (header_of I) before.steps (next_entries P I (run P I n));
+      split =
+          ap (λ (es : List Entry). es ++ next_entries P I (run P I n)) before.split
+          ∙ append_assoc (header_of I) before.steps (next_entries P I (run P I n));
     }
   where
     next : (b : Bool) → EndsHeader P (if b then [] else entry_list (entry_of_event (event P I (run P I n))))
@@ -92,7 +95,10 @@ module _ (P : Program) (base limit : ℕ) (numbers : List ℤ) where
   abbrev front : List ℕ → Input
   front image = record { base = base; image = image; numbers = numbers; limit = limit }
 
-  lines_read : (n addr g c : ℕ) (A bytes : List ℕ) (rest : List Entry) → EndsHeader P rest → length bytes ≡ 64 * n → base + region_size P ≡ addr + 64 * n → addr ≡ base + length A + g → header_from P (front A) c (told (image_entries n addr bytes ++ rest)) ≡ Gives (c + image_lines n bytes) (front (A ++ (zeros g ++ bytes)))
+  lines_read : (n addr g c : ℕ) (A bytes : List ℕ) (rest : List Entry) → EndsHeader P rest → length bytes ≡ 64 * n
+      → base + region_size P ≡ addr + 64 * n → addr ≡ base + length A + g
+      → header_from P (front A) c (told (image_entries n addr bytes ++ rest))
+      ≡ Gives (c + image_lines n bytes) (front (A ++ (zeros g ++ bytes)))
   lines_read zero addr g c A [] rest ends len fits at =
       let m : region_size P - length A ≡ g = omega (arith, fits, at) in
       let same : c ≡ c + 0 = omega arith in
@@ -102,27 +108,39 @@ module _ (P : Program) (base limit : ℕ) (numbers : List ℤ) where
       ∙ ap (λ (j : ℕ). Gives j (front (A ++ (zeros g ++ [])))) same
   lines_read zero addr g c A (b ∷ bytes) rest ends len fits at = absurd (omega (arith, len))
   lines_read (suc n) addr g c A bytes rest ends len fits at = go (some_byte (take 64 bytes)) refl
-      (let d = length-drop 64 bytes in λ more count image. lines_read n (addr + 64) more count image (drop 64 bytes) rest ends (omega (arith, d, len)) (omega (arith, fits)))
+      (let d = length-drop 64 bytes in λ more count image. lines_read n (addr + 64) more count image
+      (drop 64 bytes) rest ends (omega (arith, d, len)) (omega (arith, fits)))
     where
-      go : (b : Bool) → some_byte (take 64 bytes) ≡ b → ((more count : ℕ) (image : List ℕ) → addr + 64 ≡ base + length image + more → header_from P (front image) count (told (image_entries n (addr + 64) (drop 64 bytes) ++ rest)) ≡ Gives (count + image_lines n (drop 64 bytes)) (front (image ++ (zeros more ++ drop 64 bytes)))) → header_from P (front A) c (told (((if b then Image addr (take 64 bytes) ∷ [] else []) ++ image_entries n (addr + 64) (drop 64 bytes)) ++ rest)) ≡ Gives (c + (cond b 1 0 + image_lines n (drop 64 bytes))) (front (A ++ (zeros g ++ bytes)))
+      go : (b : Bool) → some_byte (take 64 bytes) ≡ b
+          → ((more count : ℕ) (image : List ℕ) → addr + 64 ≡ base + length image + more
+          → header_from P (front image) count (told (image_entries n (addr + 64) (drop 64 bytes) ++ rest))
+          ≡ Gives (count + image_lines n (drop 64 bytes)) (front (image ++ (zeros more ++ drop 64 bytes))))
+          → header_from P (front A) c (told (((if b then Image addr (take 64 bytes) ∷ [] else [])
+          ++ image_entries n (addr + 64) (drop 64 bytes)) ++ rest))
+          ≡ Gives (c + (cond b 1 0 + image_lines n (drop 64 bytes))) (front (A ++ (zeros g ++ bytes)))
       go false q ih =
-          let none : take 64 bytes ≡ zeros 64 = no_byte (take 64 bytes) q ∙ ap zeros (length-take-le 64 bytes (omega (arith, len))) in
+          let none : take 64 bytes ≡ zeros 64 =
+          no_byte (take 64 bytes) q ∙ ap zeros (length-take-le 64 bytes (omega (arith, len))) in
           let image : zeros (g + 64) ++ drop 64 bytes ≡ zeros g ++ bytes =
           ap (λ (zs : List ℕ). zs ++ drop 64 bytes) (zeros-add g 64) ∙ append_assoc (zeros g) (zeros 64) (drop 64 bytes)
-          ∙ ap (λ (zs : List ℕ). zeros g ++ (zs ++ drop 64 bytes)) (sym none) ∙ ap (λ (zs : List ℕ). zeros g ++ zs) (take-append-drop 64 bytes) in
+          ∙ ap (λ (zs : List ℕ). zeros g ++ (zs ++ drop 64 bytes)) (sym none)
+          ∙ ap (λ (zs : List ℕ). zeros g ++ zs) (take-append-drop 64 bytes) in
           let count : c + image_lines n (drop 64 bytes) ≡ c + (0 + image_lines n (drop 64 bytes)) = omega arith in
           ih (g + 64) c A (omega (arith, at))
           ∙ ap (λ (zs : List ℕ). Gives (c + image_lines n (drop 64 bytes)) (front (A ++ zs))) image
           ∙ ap (λ (j : ℕ). Gives j (front (A ++ (zeros g ++ bytes)))) count
       go true q ih =
-          let next : is_next_line P (front A) addr (take 64 bytes) ≡ true = true_both (true_le (base + length A) addr (omega (arith, at))) (true_both (true_le (addr + 64) (base + region_size P) (omega (arith, fits))) q) in
+          let next : is_next_line P (front A) addr (take 64 bytes) ≡ true =
+          true_both (true_le (base + length A) addr (omega (arith, at)))
+          (true_both (true_le (addr + 64) (base + region_size P) (omega (arith, fits))) q) in
           let gap : addr - (base + length A) ≡ g = omega (arith, at) in
           let long = length-append A (zeros g ++ take 64 bytes) in
           let longer = length-append (zeros g) (take 64 bytes) in
           let zeroed = length-zeros g in
           let taken = length-take-le 64 bytes (omega (arith, len)) in
           let read : with_line P (front A) addr (take 64 bytes) ≡ Some (front (A ++ (zeros g ++ take 64 bytes))) =
-          ap (λ (t : Bool). if t then Some (front (A ++ (zeros (addr - (base + length A)) ++ take 64 bytes))) else None) next
+          ap (λ (t : Bool). if t then Some (front (A ++ (zeros (addr - (base + length A)) ++ take 64 bytes))) else None)
+          next
           ∙ ap (λ (j : ℕ). Some (front (A ++ (zeros j ++ take 64 bytes)))) gap in
           let image : (A ++ (zeros g ++ take 64 bytes)) ++ (zeros 0 ++ drop 64 bytes) ≡ A ++ (zeros g ++ bytes) =
           append_assoc A (zeros g ++ take 64 bytes) (zeros 0 ++ drop 64 bytes)
@@ -130,7 +148,8 @@ module _ (P : Program) (base limit : ℕ) (numbers : List ℤ) where
           ∙ ap (λ (zs : List ℕ). A ++ zs) (append_assoc (zeros g) (take 64 bytes) (drop 64 bytes))
           ∙ ap (λ (zs : List ℕ). A ++ (zeros g ++ zs)) (take-append-drop 64 bytes) in
           let count : suc c + image_lines n (drop 64 bytes) ≡ c + (1 + image_lines n (drop 64 bytes)) = omega arith in
-          ap (go_on P (front A) c (λ more. header_from P more (suc c) (told (image_entries n (addr + 64) (drop 64 bytes) ++ rest)))) read
+          ap (go_on P (front A) c (λ more. header_from P more (suc c)
+          (told (image_entries n (addr + 64) (drop 64 bytes) ++ rest)))) read
           ∙ ih 0 (suc c) (A ++ (zeros g ++ take 64 bytes)) (omega (arith, at, long, longer, zeroed, taken))
           ∙ ap (λ (zs : List ℕ). Gives (suc c + image_lines n (drop 64 bytes)) (front zs)) image
           ∙ ap (λ (j : ℕ). Gives j (front (A ++ (zeros g ++ bytes)))) count
@@ -141,13 +160,17 @@ module _ (P : Program) (base limit : ℕ) where
   abbrev numbered : List ℤ → Input
   numbered ns = record { base = base; image = []; numbers = ns; limit = limit }
 
-  numbers_read : (zs ns : List ℤ) (c : ℕ) (es : List Entry) → length ns + length zs ≤ 1048576 → header_from P (numbered ns) c (told (map (λ z. Number z) zs ++ es)) ≡ header_from P (numbered (ns ++ zs)) (c + length zs) (told es)
+  numbers_read : (zs ns : List ℤ) (c : ℕ) (es : List Entry) → length ns + length zs ≤ 1048576
+      → header_from P (numbered ns) c (told (map (λ z. Number z) zs ++ es))
+      ≡ header_from P (numbered (ns ++ zs)) (c + length zs) (told es)
   numbers_read [] ns c es few =
       let same : c ≡ c + 0 = omega arith in
-      ap (λ (ms : List ℤ). header_from P (numbered ms) c (told es)) (sym (append-nil ns)) ∙ ap (λ (j : ℕ). header_from P (numbered (ns ++ [])) j (told es)) same
+      ap (λ (ms : List ℤ). header_from P (numbered ms) c (told es)) (sym (append-nil ns))
+      ∙ ap (λ (j : ℕ). header_from P (numbered (ns ++ [])) j (told es)) same
   numbers_read (z ∷ zs) ns c es few =
       let room : nat_lt (length ns) 1048576 ≡ true = true_lt (length ns) 1048576 (omega (arith, few)) in
-      let read : with_number (numbered ns) z ≡ Some (numbered (ns ++ z ∷ [])) = ap (λ (t : Bool). if t then Some (numbered (ns ++ z ∷ [])) else None) room in
+      let read : with_number (numbered ns) z ≡ Some (numbered (ns ++ z ∷ [])) =
+      ap (λ (t : Bool). if t then Some (numbered (ns ++ z ∷ [])) else None) room in
       let long = length-append ns (z ∷ []) in
       let count : suc c + length zs ≡ c + length (z ∷ zs) = omega arith in
       ap (go_on P (numbered ns) c (λ more. header_from P more (suc c) (told (map (λ y. Number y) zs ++ es)))) read
@@ -159,25 +182,38 @@ module _ (P : Program) (base limit : ℕ) where
 
 module _ (P : Program) (I : Input) (valid : IsValid P I) where
   base_passes : is_base I.base ≡ true
-  base_passes = true_both (eq-eqb (I.base % 4096) 0 valid.base.page) (true_both (true_le (2 ^ 32) I.base valid.base.low) (true_le I.base (2 ^ 46) valid.base.high))
+  base_passes =
+      true_both (eq-eqb (I.base % 4096) 0 valid.base.page)
+      (true_both (true_le (2 ^ 32) I.base valid.base.low) (true_le I.base (2 ^ 46) valid.base.high))
 
   limit_read : valid_limit (Some (Start I.limit)) ≡ Some I.limit
   limit_read = ap (λ (t : Bool). if t then Some I.limit else None) (true_le I.limit 1099511627776 valid.limit)
 
   base_read : valid_base P (Some (Register I.base (length I.image))) ≡ Some I.base
-  base_read = ap (λ (t : Bool). if t then Some I.base else None) (true_both base_passes (eq-eqb (length I.image) (region_size P) valid.image))
+  base_read =
+      ap (λ (t : Bool). if t then Some I.base else None)
+      (true_both base_passes (eq-eqb (length I.image) (region_size P) valid.image))
 
-  read_back : (rest : List Entry) → EndsHeader P rest → header P (told (header_of I ++ rest)) ≡ Gives (header_entries I) I
+  read_back : (rest : List Entry) → EndsHeader P rest
+      → header P (told (header_of I ++ rest)) ≡ Gives (header_entries I) I
   unfolding header header_of
   read_back rest ends =
       let whole : length I.image % 64 ≡ 0 = ap (λ n. n % 64) valid.image ∙ whole_lines (end_of true 0 P.globals) in
       let len : length I.image ≡ 64 * (length I.image / 64) = omega (arith, whole) in
-      ap (behind_start P (told (Register I.base (length I.image) ∷ ((map (λ z. Number z) I.numbers ++ image_entries (length I.image / 64) I.base I.image) ++ rest)))) limit_read
-      ∙ ap (behind_register P I.limit (told ((map (λ z. Number z) I.numbers ++ image_entries (length I.image / 64) I.base I.image) ++ rest))) base_read
-      ∙ ap (λ (es : List Entry). header_from P (numbered P I.base I.limit []) 2 (told es)) (append_assoc (map (λ z. Number z) I.numbers) (image_entries (length I.image / 64) I.base I.image) rest)
-      ∙ numbers_read P I.base I.limit I.numbers [] 2 (image_entries (length I.image / 64) I.base I.image ++ rest) (omega (arith, valid.numbers))
-      ∙ lines_read P I.base I.limit I.numbers (length I.image / 64) I.base 0 (2 + length I.numbers) [] I.image rest ends len (let same = valid.image in omega (arith, same, len)) (omega arith)
+      ap (behind_start P (told (Register I.base (length I.image)
+      ∷ ((map (λ z. Number z) I.numbers ++ image_entries (length I.image / 64) I.base I.image) ++ rest))))
+      limit_read
+      ∙ ap (behind_register P I.limit (told ((map (λ z. Number z) I.numbers
+      ++ image_entries (length I.image / 64) I.base I.image) ++ rest))) base_read
+      ∙ ap (λ (es : List Entry). header_from P (numbered P I.base I.limit []) 2 (told es))
+      (append_assoc (map (λ z. Number z) I.numbers) (image_entries (length I.image / 64) I.base I.image) rest)
+      ∙ numbers_read P I.base I.limit I.numbers [] 2 (image_entries (length I.image / 64) I.base I.image ++ rest)
+      (omega (arith, valid.numbers))
+      ∙ lines_read P I.base I.limit I.numbers (length I.image / 64) I.base 0
+      (2 + length I.numbers) [] I.image rest ends len (let same = valid.image in omega (arith, same, len))
+      (omega arith)
       ∙ ap (λ (zs : List ℕ). Gives (header_entries I) (front P I.base I.limit I.numbers (zs ++ I.image))) no_zeros
 
   pub header-trace : (n : ℕ) → header P (told (trace P I n)) ≡ Gives (header_entries I) I
-  header-trace n = let h = steps_of P I n in ap (λ (es : List Entry). header P (told es)) h.split ∙ read_back h.steps h.ends
+  header-trace n =
+      let h = steps_of P I n in ap (λ (es : List Entry). header P (told es)) h.split ∙ read_back h.steps h.ends

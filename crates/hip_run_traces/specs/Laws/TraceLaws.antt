@@ -16,20 +16,25 @@ use Rattle.hip_trace.specs.declared.entry.Entry.TheVariants as entries
 
 -- ---- the length
 
-one_line : (b : Bool) (e : Entry) (es : List Entry) (m : ℕ) → length es ≡ m → length ((if b then e ∷ [] else []) ++ es) ≡ cond b 1 0 + m
+one_line : (b : Bool) (e : Entry) (es : List Entry) (m : ℕ) → length es ≡ m
+    → length ((if b then e ∷ [] else []) ++ es) ≡ cond b 1 0 + m
 one_line true e es m h = omega (arith, h)
 one_line false e es m h = omega (arith, h)
 
 pub length-image_entries : (n addr : ℕ) (bytes : List ℕ) → length (image_entries n addr bytes) ≡ image_lines n bytes
 length-image_entries zero addr bytes = refl
 length-image_entries (suc n) addr bytes =
-    one_line (some_byte (take 64 bytes)) (entries.Image addr (take 64 bytes)) (image_entries n (addr + 64) (drop 64 bytes)) (image_lines n (drop 64 bytes)) (length-image_entries n (addr + 64) (drop 64 bytes))
+    one_line (some_byte (take 64 bytes)) (entries.Image addr (take 64 bytes))
+    (image_entries n (addr + 64) (drop 64 bytes)) (image_lines n (drop 64 bytes))
+    (length-image_entries n (addr + 64) (drop 64 bytes))
 
 pub length-header_of : (I : Input) → length (header_of I) ≡ header_entries I
 unfolding header_of
 length-header_of I =
     let lines = length-image_entries (length I.image / 64) I.base I.image in
-    let both = length-append (map (λ (z : ℤ). entries.Input z) I.numbers) (image_entries (length I.image / 64) I.base I.image) in
+    let both =
+    length-append (map (λ (z : ℤ). entries.Input z) I.numbers) (image_entries (length I.image / 64) I.base I.image)
+    in
     let numbers = length-map I.numbers (λ (z : ℤ). entries.Input z) in
     omega (arith, lines, both, numbers)
 
@@ -52,7 +57,8 @@ next-trace P I n = refl
 -- a run that has ended has no more entries
 pub rests-trace : (P : Program) (I : Input) (n : ℕ) → has_ended (run P I n) ≡ true → trace P I (suc n) ≡ trace P I n
 rests-trace P I n h =
-    next-trace P I n ∙ ap (λ (b : Bool). trace P I n ++ (if b then [] else entry_list (entry_of_event (event P I (run P I n))))) h
+    next-trace P I n ∙ ap (λ (b : Bool). trace P I n
+    ++ (if b then [] else entry_list (entry_of_event (event P I (run P I n))))) h
     ∙ append-nil (trace P I n)
 
 module _ (P : Program) (I : Input) where
@@ -61,8 +67,11 @@ module _ (P : Program) (I : Input) where
   length-trace zero = length-header_of I
   length-trace (suc n) = go (has_ended (run P I n)) refl (length-trace n)
     where
-      go : (b : Bool) → has_ended (run P I n) ≡ b → length (trace P I n) ≡ (run P I n).counts.entries → length (trace P I n ++ (if b then [] else entry_list (entry_of_event (event P I (run P I n))))) ≡ (run P I (suc n)).counts.entries
-      go true q h = ap length (append-nil (trace P I n)) ∙ h ∙ sym (ap (λ (s : State). s.counts.entries) (rests-ended P I n q))
+      go : (b : Bool) → has_ended (run P I n) ≡ b → length (trace P I n) ≡ (run P I n).counts.entries
+          → length (trace P I n ++ (if b then [] else entry_list (entry_of_event (event P I (run P I n)))))
+          ≡ (run P I (suc n)).counts.entries
+      go true q h =
+          ap length (append-nil (trace P I n)) ∙ h ∙ sym (ap (λ (s : State). s.counts.entries) (rests-ended P I n q))
       go false q h =
           length-append (trace P I n) (entry_list (entry_of_event (event P I (run P I n))))
           ∙ ap (λ (m : ℕ). m + length (entry_list (entry_of_event (event P I (run P I n))))) h
@@ -75,20 +84,30 @@ module _ (P : Program) (I : Input) where
   front-trace n zero = ([], ap (trace P I) (let e : n + 0 ≡ n = omega arith in e) ∙ sym (append-nil (trace P I n)))
   front-trace n (suc d) = longer (front-trace n d)
     where
-      longer : (more : List Entry) × (trace P I (n + d) ≡ trace P I n ++ more) → (more : List Entry) × (trace P I (n + suc d) ≡ trace P I n ++ more)
-      longer h = (h.0 ++ next_entries P I (run P I (n + d)), ap (trace P I) (let e : n + suc d ≡ suc (n + d) = omega arith in e) ∙ next-trace P I (n + d) ∙ ap (λ (es : List Entry). es ++ next_entries P I (run P I (n + d))) h.1 ∙ append_assoc (trace P I n) h.0 (next_entries P I (run P I (n + d))))
+      longer : (more : List Entry) × (trace P I (n + d) ≡ trace P I n ++ more) → (more : List Entry)
+          × (trace P I (n + suc d) ≡ trace P I n ++ more)
+      longer h = (
+        h.0 ++ next_entries P I (run P I (n + d)),
+        ap (trace P I) (let e : n + suc d ≡ suc (n + d) = omega arith in e) ∙ next-trace P I (n + d)
+            ∙ ap (λ (es : List Entry). es ++ next_entries P I (run P I (n + d))) h.1
+            ∙ append_assoc (trace P I n) h.0 (next_entries P I (run P I (n + d))),
+      )
 
   -- ---- the whole
 
   -- behind the end nothing more comes
-  rests : (n d : ℕ) → has_ended (run P I n) ≡ true → (has_ended (run P I (n + d)) ≡ true) × (trace P I (n + d) ≡ trace P I n)
-  rests n zero h = let e : n + 0 ≡ n = omega arith in (subst (λ m. has_ended (run P I m) ≡ true) (sym e) h, ap (trace P I) e)
+  rests : (n d : ℕ) → has_ended (run P I n) ≡ true → (has_ended (run P I (n + d)) ≡ true)
+      × (trace P I (n + d) ≡ trace P I n)
+  rests n zero h =
+      let e : n + 0 ≡ n = omega arith in (subst (λ m. has_ended (run P I m) ≡ true) (sym e) h, ap (trace P I) e)
   rests n (suc d) h = more (rests n d h)
     where
-      more : (has_ended (run P I (n + d)) ≡ true) × (trace P I (n + d) ≡ trace P I n) → (has_ended (run P I (n + suc d)) ≡ true) × (trace P I (n + suc d) ≡ trace P I n)
+      more : (has_ended (run P I (n + d)) ≡ true) × (trace P I (n + d) ≡ trace P I n)
+          → (has_ended (run P I (n + suc d)) ≡ true) × (trace P I (n + suc d) ≡ trace P I n)
       more k =
           let e : n + suc d ≡ suc (n + d) = omega arith in (
-            subst (λ m. has_ended (run P I m) ≡ true) (sym e) (subst (λ (s : State). has_ended s ≡ true) (sym (rests-ended P I (n + d) k.0)) k.0),
+            subst (λ m. has_ended (run P I m) ≡ true) (sym e)
+                (subst (λ (s : State). has_ended s ≡ true) (sym (rests-ended P I (n + d) k.0)) k.0),
             ap (trace P I) e ∙ rests-trace P I (n + d) k.0 ∙ k.1,
           )
 
@@ -104,7 +123,8 @@ module _ (P : Program) (I : Input) where
       order (suc a) zero = inr (suc a, omega arith)
       order (suc a) (suc b) = later (order a b)
         where
-          later : ((d : ℕ) × (b ≡ a + d)) ⊎ ((d : ℕ) × (a ≡ b + d)) → ((d : ℕ) × (suc b ≡ suc a + d)) ⊎ ((d : ℕ) × (suc a ≡ suc b + d))
+          later : ((d : ℕ) × (b ≡ a + d)) ⊎ ((d : ℕ) × (a ≡ b + d)) → ((d : ℕ) × (suc b ≡ suc a + d))
+              ⊎ ((d : ℕ) × (suc a ≡ suc b + d))
           later (inl x) = let e = x.1 in inl (x.0, omega (arith, e))
           later (inr x) = let e = x.1 in inr (x.0, omega (arith, e))
 
@@ -122,5 +142,6 @@ module _ (P : Program) (I : Input) where
       ended_later : (m d : ℕ) → has_ended (run P I m) ≡ true → trace P I (d + m) ≡ trace P I m
       ended_later m d k = let e : d + m ≡ m + d = omega arith in ap (trace P I) e ∙ (rests m d k).1
 
-      go : (more : List Entry) × (trace P I (n + h.steps) ≡ trace P I n ++ more) → trace P I (n + h.steps) ≡ trace P I h.steps → (more : List Entry) × (es ≡ trace P I n ++ more)
+      go : (more : List Entry) × (trace P I (n + h.steps) ≡ trace P I n ++ more)
+          → trace P I (n + h.steps) ≡ trace P I h.steps → (more : List Entry) × (es ≡ trace P I n ++ more)
       go f e = (f.0, h.are ∙ sym e ∙ f.1)

@@ -17,7 +17,8 @@ use Rattle.hip_trace.specs.Texts.{lines_of}
 use Rattle.hip_trace.specs.declared.entry.Entry.{Entry}
 use Rattle.hip_typing.specs.Sound.{IsSound}
 
-pub written-trace : (P : Program) → IsSound P → (I : Input) → IsInput I → IsValid P I → (es : List Entry) → IsTrace P I es → IsTraceOf P (lines_of es) I
+pub written-trace : (P : Program) → IsSound P → (I : Input) → IsInput I → IsValid P I → (es : List Entry)
+    → IsTrace P I es → IsTraceOf P (lines_of es) I
 written-trace P sound I input valid es t =
     let fits = subst (All ValuesFit) (sym t.are) (trace_fits P I sound valid input t.steps) in
     let spells : spelled true (lines_of es) ≡ told es = read_back es fits in

@@ -27,24 +27,35 @@ module _ (P : Program) (s : State) where
       → s.frames ≡ f ∷ fs → after.steps ≡ suc s.counts.steps → Moves P s (leave v w f fs ls after)
   unfolding leave
   leave_moves v w f [] ls after q c = stays f f [] q refl (same_call f) c
-  leave_moves v w f (g ∷ fs) ls after q c = returns f g _ fs q refl (record { function = refl; mark = refl; dest = refl; level = refl }) c
+  leave_moves v w f (g ∷ fs) ls after q c =
+      returns f g _ fs q refl (record { function = refl; mark = refl; dest = refl; level = refl }) c
 
   perform_moves : (I : Input) (w : World) (f : Frame) (fs : List Frame) (ls : List (Line StorePart)) (after : Counts)
       → s.frames ≡ f ∷ fs → after.steps ≡ suc s.counts.steps → (x : Action) → Fits P x (instr_of P (site_of f))
       → Moves P s (perform I w f fs ls s.counts after x)
   unfolding perform
   perform_moves I w f fs ls after q c (Traps kind) h = stays f f fs q refl (same_call f) c
-  perform_moves I w f fs ls after q c (Assigns to v) h = stays f _ fs q refl (record { function = refl; mark = refl; dest = refl; level = refl }) c
-  perform_moves I w f fs ls after q c (Allocates to a n) h = stays f _ fs q refl (record { function = refl; mark = refl; dest = refl; level = refl }) c
-  perform_moves I w f fs ls after q c (Stores a bytes) h = stays f _ fs q refl (record { function = refl; mark = refl; dest = refl; level = refl }) c
-  perform_moves I w f fs ls after q c (Flushes a n) h = stays f _ fs q refl (record { function = refl; mark = refl; dest = refl; level = refl }) c
-  perform_moves I w f fs ls after q c (Persists a n) h = stays f _ fs q refl (record { function = refl; mark = refl; dest = refl; level = refl }) c
-  perform_moves I w f fs ls after q c Fences h = stays f _ fs q refl (record { function = refl; mark = refl; dest = refl; level = refl }) c
-  perform_moves I w f fs ls after q c (Asserts a n) h = stays f _ fs q refl (record { function = refl; mark = refl; dest = refl; level = refl }) c
-  perform_moves I w f fs ls after q c (Prints z) h = stays f _ fs q refl (record { function = refl; mark = refl; dest = refl; level = refl }) c
-  perform_moves I w f fs ls after q c (Reads to z rest) h = stays f _ fs q refl (record { function = refl; mark = refl; dest = refl; level = refl }) c
+  perform_moves I w f fs ls after q c (Assigns to v) h =
+      stays f _ fs q refl (record { function = refl; mark = refl; dest = refl; level = refl }) c
+  perform_moves I w f fs ls after q c (Allocates to a n) h =
+      stays f _ fs q refl (record { function = refl; mark = refl; dest = refl; level = refl }) c
+  perform_moves I w f fs ls after q c (Stores a bytes) h =
+      stays f _ fs q refl (record { function = refl; mark = refl; dest = refl; level = refl }) c
+  perform_moves I w f fs ls after q c (Flushes a n) h =
+      stays f _ fs q refl (record { function = refl; mark = refl; dest = refl; level = refl }) c
+  perform_moves I w f fs ls after q c (Persists a n) h =
+      stays f _ fs q refl (record { function = refl; mark = refl; dest = refl; level = refl }) c
+  perform_moves I w f fs ls after q c Fences h =
+      stays f _ fs q refl (record { function = refl; mark = refl; dest = refl; level = refl }) c
+  perform_moves I w f fs ls after q c (Asserts a n) h =
+      stays f _ fs q refl (record { function = refl; mark = refl; dest = refl; level = refl }) c
+  perform_moves I w f fs ls after q c (Prints z) h =
+      stays f _ fs q refl (record { function = refl; mark = refl; dest = refl; level = refl }) c
+  perform_moves I w f fs ls after q c (Reads to z rest) h =
+      stays f _ fs q refl (record { function = refl; mark = refl; dest = refl; level = refl }) c
   perform_moves I w f fs ls after q c (Calls g rs to) h = calls f _ fs q refl h.is refl c
-  perform_moves I w f fs ls after q c (Jumps b rs) h = stays f _ fs q refl (record { function = refl; mark = refl; dest = refl; level = refl }) c
+  perform_moves I w f fs ls after q c (Jumps b rs) h =
+      stays f _ fs q refl (record { function = refl; mark = refl; dest = refl; level = refl }) c
   perform_moves I w f fs ls after q c (Returns v) h = leave_moves v w f fs ls after q c
 
   carry_moves : (I : Input) (f : Frame) (fs : List Frame) (after : Counts) → s.frames ≡ f ∷ fs
@@ -65,7 +76,9 @@ unfolding step on_ending on_frames
 step_moves P I s = go s.world.ending
   where
     on_them : (fs : List Frame) → s.frames ≡ fs → Moves P s (on_frames P I s.world s.lines s.counts fs)
-    on_them [] q = rests (ap (λ (fs : List Frame). record { world = s.world; frames = fs; lines = s.lines; counts = s.counts }) (sym q))
+    on_them [] q =
+        rests (ap (λ (fs : List Frame). record { world = s.world; frames = fs; lines = s.lines; counts = s.counts })
+        (sym q))
     on_them (f ∷ fs) q = carry_moves P s I f fs _ q refl (deed_at P I s.world f fs) (deed_fits P I s.world f fs)
 
     go : (o : Option Ending) → Moves P s (on_ending P I s o)
@@ -80,7 +93,9 @@ run_moves P I n = step_moves P I (run P I n)
 
 steps_next : (P : Program) (s s' : State) → Moves P s s'
     → (s.counts.steps ≤ s'.counts.steps) × (s'.counts.steps ≤ suc s.counts.steps)
-steps_next P s s' (rests e) = let q : s'.counts.steps ≡ s.counts.steps = ap (λ (t : State). t.counts.steps) e in (omega (arith, q), omega (arith, q))
+steps_next P s s' (rests e) =
+    let q : s'.counts.steps ≡ s.counts.steps =
+    ap (λ (t : State). t.counts.steps) e in (omega (arith, q), omega (arith, q))
 steps_next P s s' (stays f f' fs p q k c) = (omega (arith, c), omega (arith, c))
 steps_next P s s' (calls f g fs p q d l c) = (omega (arith, c), omega (arith, c))
 steps_next P s s' (returns f g g' fs p q k c) = (omega (arith, c), omega (arith, c))
@@ -88,7 +103,8 @@ steps_next P s s' (returns f g g' fs p q k c) = (omega (arith, c), omega (arith,
 pub steps_few : (P : Program) (I : Input) (n : ℕ) → (run P I n).counts.steps ≤ n
 unfolding run
 steps_few P I zero = omega arith
-steps_few P I (suc n) = omega (arith, steps_few P I n, (steps_next P (run P I n) (step P I (run P I n)) (step_moves P I (run P I n))).1)
+steps_few P I (suc n) =
+    omega (arith, steps_few P I n, (steps_next P (run P I n) (step P I (run P I n)) (step_moves P I (run P I n))).1)
 
 -- ---- calls
 
@@ -120,8 +136,10 @@ module _ (P : Program) where
   defined_next : (s s' : State) → Moves P s s' → Defined s.frames → Defined s'.frames
   defined_next s s' (rests e) h = subst (λ (t : State). Defined t.frames) (sym e) h
   defined_next s s' (stays f f' fs p q k c) h = subst Defined (sym q) (same_calls f f' fs k (subst Defined p h))
-  defined_next s s' (calls f g fs p q d l c) h = subst Defined (sym q) (with_call g.level _ (levels_of (f ∷ fs)) l (ap is_some d) (subst Defined p h))
-  defined_next s s' (returns f g g' fs p q k c) h = subst Defined (sym q) (same_calls g g' fs k (behind f.level (levels_of (g ∷ fs)) (subst Defined p h)))
+  defined_next s s' (calls f g fs p q d l c) h =
+      subst Defined (sym q) (with_call g.level _ (levels_of (f ∷ fs)) l (ap is_some d) (subst Defined p h))
+  defined_next s s' (returns f g g' fs p q k c) h =
+      subst Defined (sym q) (same_calls g g' fs k (behind f.level (levels_of (g ∷ fs)) (subst Defined p h)))
 
   run_defined : (I : Input) (n : ℕ) → Defined (run P I n).frames
   unfolding run
@@ -143,5 +161,7 @@ has_calls P I n = record {
   born = calls_descend P I n;
   births = λ x i.
       let o = (part-of_store P I n x i).levels in
-      subst (λ ls. AreDescending ls x.step) (sym o) (later (levels_of (run P I x.step).frames) (run P I x.step).counts.steps x.step (steps_few P I x.step) (calls_descend P I x.step));
+      subst (λ ls. AreDescending ls x.step) (sym o)
+      (later (levels_of (run P I x.step).frames) (run P I x.step).counts.steps x.step (steps_few P I x.step)
+      (calls_descend P I x.step));
 }

@@ -38,8 +38,11 @@ pub image-choice : (P : Program) (I : Input) (n : ℕ) (content : List ℕ) → 
     → IsCrashImage I (run P I n) content
     → (pick : ℕ → ℕ) × IsCrashPick (run P I n) pick × (crash_image I (run P I n) pick ≡ content)
 image-choice P I n content v h =
-    let ls = (run P I n).lines in
-    (pick_of covers byte_of I.image content ls h, pick_of-pick covers byte_of I.image content ls h, sym (image-image_of covers byte_of I.image content ls h (same_size P I n v)))
+    let ls = (run P I n).lines in (
+      pick_of covers byte_of I.image content ls h,
+      pick_of-pick covers byte_of I.image content ls h,
+      sym (image-image_of covers byte_of I.image content ls h (same_size P I n v)),
+    )
 
 -- ---- which steps take images away, and which add some
 
@@ -62,7 +65,8 @@ take_map f (suc q) (x ∷ xs) = ap (λ ys. f x ∷ ys) (take_map f q xs)
 
 front_same : (f : StorePart → StorePart) → IsSame f → (q : ℕ) (xs : List StorePart) (b first : ℕ)
     → byte_after covers byte_of (take q (map f xs)) b first ≡ byte_after covers byte_of (take q xs) b first
-front_same f h q xs b first = ap (λ ys. byte_after covers byte_of ys b first) (take_map f q xs) ∙ byte_same f h (take q xs) b first
+front_same f h q xs b first =
+    ap (λ ys. byte_after covers byte_of ys b first) (take_map f q xs) ∙ byte_same f h (take q xs) b first
 
 module _ (first content : List ℕ) (j : ℕ) where
   abbrev At : Line StorePart → Type 0
@@ -76,7 +80,9 @@ module _ (first content : List ℕ) (j : ℕ) where
     record {
       least = omega (arith, d, h.1.least);
       most = omega (arith, h.1.most, ap length e, length-map l.parts f);
-      bytes = λ b from to. h.1.bytes b from to ∙ ap (λ xs. byte_after covers byte_of (take h.0 xs) b (slice_index first b)) e ∙ front_same f s h.0 l.parts b (slice_index first b);
+      bytes =
+          λ b from to. h.1.bytes b from to ∙ ap (λ xs. byte_after covers byte_of (take h.0 xs) b (slice_index first b))
+          e ∙ front_same f s h.0 l.parts b (slice_index first b);
     },
   )
 
@@ -87,7 +93,10 @@ module _ (first content : List ℕ) (j : ℕ) where
     record {
       least = omega (arith, d, h.1.least);
       most = omega (arith, h.1.most, ap length e, length-map l.parts f);
-      bytes = λ b from to. h.1.bytes b from to ∙ sym (ap (λ xs. byte_after covers byte_of (take h.0 xs) b (slice_index first b)) e ∙ front_same f s h.0 l.parts b (slice_index first b));
+      bytes =
+          λ b from to. h.1.bytes b from to ∙ sym (ap
+          (λ xs. byte_after covers byte_of (take h.0 xs) b (slice_index first b)) e
+          ∙ front_same f s h.0 l.parts b (slice_index first b));
     },
   )
 
@@ -119,7 +128,10 @@ module _ (I : Input) (ls : List (Line StorePart)) where
   fewer_flushed flush a n content h = record { whole = h.whole; lines = at }
     where
       at : (j : ℕ) (l : Line StorePart) → slice_get ls j ≡ Some l → IsLineImage covers byte_of I.image content j l
-      at j l e = go (has_bytes j (a - I.base) n) (h.lines j _ (slice_get-change_range _ (a - I.base) n ls j ∙ ap (option_map (λ x. cond (has_bytes j (a - I.base) n) (flush_line flush x) x)) e))
+      at j l e =
+          go (has_bytes j (a - I.base) n) (h.lines j _
+          (slice_get-change_range _ (a - I.base) n ls j
+          ∙ ap (option_map (λ x. cond (has_bytes j (a - I.base) n) (flush_line flush x) x)) e))
         where
           go : (t : Bool) → IsLineImage covers byte_of I.image content j (cond t (flush_line flush l) l)
               → IsLineImage covers byte_of I.image content j l
@@ -127,7 +139,12 @@ module _ (I : Input) (ls : List (Line StorePart)) where
           go false i = i
 
   fewer_fenced : AreOrdered ls → OnlyOf (fenced_lines ls)
-  fewer_fenced o content h = record { whole = h.whole; lines = λ j l e. unfenced I.image content j l (ordered-at ls j l o e) (h.lines j (fence_line l) (get-map fence_line ls j l e)) }
+  fewer_fenced o content h =
+      record {
+        whole = h.whole;
+        lines = λ j l e. unfenced I.image content j l (ordered-at ls j l o e)
+            (h.lines j (fence_line l) (get-map fence_line ls j l e));
+      }
 
   all_flushed : (flush : Flush) (a n : ℕ) → AllOf (met_lines I flush a n ls)
   all_flushed flush a n content h = record { whole = h.whole; lines = at }
@@ -135,8 +152,11 @@ module _ (I : Input) (ls : List (Line StorePart)) where
       at : (j : ℕ) (l : Line StorePart) → slice_get (met_lines I flush a n ls) j ≡ Some l
           → IsLineImage covers byte_of I.image content j l
       at j l e =
-          let b = some_before _ (slice_get ls j) l (sym (slice_get-change_range (λ _ x. flush_line flush x) (a - I.base) n ls j) ∙ e) in
-          subst (IsLineImage covers byte_of I.image content j) b.2 (go (has_bytes j (a - I.base) n) b.0 (h.lines j b.0 b.1))
+          let b =
+          some_before _ (slice_get ls j) l (sym (slice_get-change_range (λ _ x. flush_line flush x)
+          (a - I.base) n ls j) ∙ e) in
+          subst (IsLineImage covers byte_of I.image content j) b.2
+          (go (has_bytes j (a - I.base) n) b.0 (h.lines j b.0 b.1))
         where
           go : (t : Bool) (x : Line StorePart) → IsLineImage covers byte_of I.image content j x
               → IsLineImage covers byte_of I.image content j (cond t (flush_line flush x) x)
@@ -149,7 +169,9 @@ module _ (I : Input) (ls : List (Line StorePart)) where
       at : (j : ℕ) (l : Line StorePart) → slice_get (stored part o n ls) j ≡ Some l
           → IsLineImage covers byte_of I.image content j l
       at j l e =
-          let b = some_before _ (slice_get ls j) l (sym (slice_get-change_range (λ k x. with_part (part k) x) o n ls j) ∙ e) in
+          let b =
+          some_before _ (slice_get ls j) l (sym (slice_get-change_range (λ k x. with_part (part k) x) o n ls j) ∙ e)
+          in
           subst (IsLineImage covers byte_of I.image content j) b.2 (go (has_bytes j o n) b.0 (h.lines j b.0 b.1))
         where
           go : (t : Bool) (x : Line StorePart) → IsLineImage covers byte_of I.image content j x
@@ -162,7 +184,9 @@ fewer I s o = record {
   plain = λ e p q content h. h;
   store = λ f fs t a bytes e w q. absurd (let z : ⊥ = cc in z);
   flush = λ f fs t a n e q. fewer_flushed I s.lines _ a n;
-  persist = λ f fs t a n e q content h. fewer_flushed I s.lines _ a n content (fewer_fenced I _ (ordered-met_lines I _ a n s.lines o) content h);
+  persist =
+      λ f fs t a n e q content h. fewer_flushed I s.lines _ a n content
+      (fewer_fenced I _ (ordered-met_lines I _ a n s.lines o) content h);
   fence = λ q. fewer_fenced I s.lines o;
 }
 

@@ -40,23 +40,30 @@ AreFenced ls = (m k : ℕ) (x : StorePart) → IsDurableIn (slice_get ls m) k x 
 
 flush_kept : (I : Input) (flush : Flush) (a n : ℕ) (ls : List (Line StorePart)) → AreFenced ls
     → AreFenced (met_lines I flush a n ls)
-flush_kept I flush a n ls h m k x d = go (has_bytes m (a - I.base) n) (slice_get ls m) (λ y. h m k y) (subst (λ o. IsDurableIn o k x) (slice_get-change_range (λ _ l. flush_line flush l) (a - I.base) n ls m) d)
+flush_kept I flush a n ls h m k x d =
+    go (has_bytes m (a - I.base) n) (slice_get ls m) (λ y. h m k y)
+    (subst (λ o. IsDurableIn o k x) (slice_get-change_range (λ _ l. flush_line flush l) (a - I.base) n ls m) d)
   where
     go : (b : Bool) (o : Option (Line StorePart)) → ((y : StorePart) → IsDurableIn o k y → y.fenced ≡ true)
         → IsDurableIn (option_map (λ l. cond b (flush_line flush l) l) o) k x → x.fenced ≡ true
     go b None h d = absurd d
-    go true (Some l) h d = let r = get-of_map (noted_flush flush) l.parts k x d.0 in sym (ap (λ (y : StorePart). y.fenced) r.2) ∙ h r.0 (r.1, d.1)
+    go true (Some l) h d =
+        let r = get-of_map (noted_flush flush) l.parts k x d.0 in sym (ap (λ (y : StorePart). y.fenced) r.2)
+        ∙ h r.0 (r.1, d.1)
     go false (Some l) h d = h x d
 
 store_kept : (part : ℕ → StorePart) (o n : ℕ) (ls : List (Line StorePart)) → AreOrdered ls → AreFenced ls
     → AreFenced (stored part o n ls)
-store_kept part o n ls a h m k x d = go (has_bytes m o n) (slice_get ls m) (λ l e. ordered-at ls m l a e) (h m k x) (subst (λ o. IsDurableIn o k x) (slice_get-change_range (λ j l. with_part (part j) l) o n ls m) d)
+store_kept part o n ls a h m k x d =
+    go (has_bytes m o n) (slice_get ls m) (λ l e. ordered-at ls m l a e) (h m k x)
+    (subst (λ o. IsDurableIn o k x) (slice_get-change_range (λ j l. with_part (part j) l) o n ls m) d)
   where
     go : (b : Bool) (o : Option (Line StorePart)) → ((l : Line StorePart) → o ≡ Some l → IsOrdered l)
         → (IsDurableIn o k x → x.fenced ≡ true) → IsDurableIn (option_map (λ l. cond b (with_part (part m) l) l) o) k x
         → x.fenced ≡ true
     go b None a h d = absurd d
-    go true (Some l) a h d = let r = a l refl in h (get_front l.parts (part m) x k d.0 (omega (arith, d.1, r.durable, r.flushed)), d.1)
+    go true (Some l) a h d =
+        let r = a l refl in h (get_front l.parts (part m) x k d.0 (omega (arith, d.1, r.durable, r.flushed)), d.1)
     go false (Some l) a h d = h d
 
 fenced_cases : (I : Input) (s : State) → AreOrdered s.lines → AreFenced s.lines → Cases I s (λ e ls. AreFenced ls)
@@ -77,7 +84,9 @@ fresh_fenced (suc n) (suc m) k x d = fresh_fenced n m k x d
 run_fenced : (P : Program) (I : Input) (n : ℕ) → AreFenced (run P I n).lines
 unfolding run
 run_fenced P I zero = fresh_fenced _
-run_fenced P I (suc n) = step-cases P I (run P I n) (λ e ls. AreFenced ls) (fenced_cases I (run P I n) (lines_ordered P I n) (run_fenced P I n))
+run_fenced P I (suc n) =
+    step-cases P I (run P I n) (λ e ls. AreFenced ls)
+    (fenced_cases I (run P I n) (lines_ordered P I n) (run_fenced P I n))
 
 -- ---- and they stay
 
@@ -88,7 +97,8 @@ record IsSettled (x : StorePart) : Type 0 where
   fenced : x.fenced ≡ true
 
 flush_same : (flush : Flush) (x : StorePart) → IsSettled x → noted_flush flush x ≡ x
-flush_same flush x s = ap (λ (o : Option Flush). record x { first_flush = o }) (ap (λ o. earlier o flush) s.flushed ∙ sym s.flushed)
+flush_same flush x s =
+    ap (λ (o : Option Flush). record x { first_flush = o }) (ap (λ o. earlier o flush) s.flushed ∙ sym s.flushed)
 
 fence_same : (x : StorePart) → IsSettled x → noted_fence x ≡ x
 fence_same x s = ap (λ (b : Bool). record x { fenced = b }) (sym s.fenced)
@@ -99,7 +109,9 @@ module _ (m k : ℕ) (x : StorePart) where
 
   stays_flushed : (I : Input) (flush : Flush) (a n : ℕ) (ls : List (Line StorePart)) → IsSettled x
       → Stays ls (met_lines I flush a n ls)
-  stays_flushed I flush a n ls s d = subst (λ o. IsDurableIn o k x) (sym (slice_get-change_range (λ _ l. flush_line flush l) (a - I.base) n ls m)) (go (has_bytes m (a - I.base) n) (slice_get ls m) d)
+  stays_flushed I flush a n ls s d =
+      subst (λ o. IsDurableIn o k x) (sym (slice_get-change_range (λ _ l. flush_line flush l) (a - I.base) n ls m))
+      (go (has_bytes m (a - I.base) n) (slice_get ls m) d)
     where
       go : (b : Bool) (o : Option (Line StorePart)) → IsDurableIn o k x
           → IsDurableIn (option_map (λ l. cond b (flush_line flush l) l) o) k x
@@ -108,15 +120,20 @@ module _ (m k : ℕ) (x : StorePart) where
       go false (Some l) d = d
 
   stays_fenced : (ls : List (Line StorePart)) → AreOrdered ls → IsSettled x → Stays ls (fenced_lines ls)
-  stays_fenced ls a s d = subst (λ o. IsDurableIn o k x) (sym (get_mapped fence_line ls m)) (go (slice_get ls m) (λ l e. ordered-at ls m l a e) d)
+  stays_fenced ls a s d =
+      subst (λ o. IsDurableIn o k x) (sym (get_mapped fence_line ls m))
+      (go (slice_get ls m) (λ l e. ordered-at ls m l a e) d)
     where
       go : (o : Option (Line StorePart)) → ((l : Line StorePart) → o ≡ Some l → IsOrdered l) → IsDurableIn o k x
           → IsDurableIn (option_map fence_line o) k x
       go None a d = absurd d
-      go (Some l) a d = (get-map noted_fence l.parts k x d.0 ∙ ap Some (fence_same x s), omega (arith, d.1, (a l refl).durable))
+      go (Some l) a d =
+          (get-map noted_fence l.parts k x d.0 ∙ ap Some (fence_same x s), omega (arith, d.1, (a l refl).durable))
 
   stays_stored : (part : ℕ → StorePart) (o n : ℕ) (ls : List (Line StorePart)) → Stays ls (stored part o n ls)
-  stays_stored part o n ls d = subst (λ z. IsDurableIn z k x) (sym (slice_get-change_range (λ j l. with_part (part j) l) o n ls m)) (go (has_bytes m o n) (slice_get ls m) d)
+  stays_stored part o n ls d =
+      subst (λ z. IsDurableIn z k x) (sym (slice_get-change_range (λ j l. with_part (part j) l) o n ls m))
+      (go (has_bytes m o n) (slice_get ls m) d)
     where
       go : (b : Bool) (z : Option (Line StorePart)) → IsDurableIn z k x
           → IsDurableIn (option_map (λ l. cond b (with_part (part m) l) l) z) k x
@@ -129,7 +146,9 @@ module _ (m k : ℕ) (x : StorePart) where
     plain = λ e p d. d;
     store = λ f fs t addr bytes e w. stays_stored _ (addr - I.base) (length bytes) s.lines;
     flush = λ f fs t addr n e. stays_flushed I _ addr n s.lines h;
-    persist = λ f fs t addr n e d. stays_fenced _ (ordered-met_lines I _ addr n s.lines a) h (stays_flushed I _ addr n s.lines h d);
+    persist =
+        λ f fs t addr n e d. stays_fenced _ (ordered-met_lines I _ addr n s.lines a) h
+        (stays_flushed I _ addr n s.lines h d);
     fence = stays_fenced s.lines a h;
   }
 
@@ -146,9 +165,13 @@ module _ (m k : ℕ) (x : StorePart) where
 
   next : (P : Program) (I : Input) (n : ℕ) → IsDurableAt (run P I n) m k x → IsDurableAt (run P I (suc n)) m k x
   unfolding run
-  next P I n d = step-cases P I (run P I n) (λ e ls. Stays (run P I n).lines ls) (stays_cases I (run P I n) (lines_ordered P I n) (settled P I n d)) d
+  next P I n d =
+      step-cases P I (run P I n) (λ e ls. Stays (run P I n).lines ls)
+      (stays_cases I (run P I n) (lines_ordered P I n) (settled P I n d)) d
 
 pub durable_stays : (P : Program) (I : Input) (n d m k : ℕ) (x : StorePart) → IsDurableAt (run P I n) m k x
     → IsDurableAt (run P I (n + d)) m k x
 durable_stays P I n zero m k x h = let e : n ≡ n + zero = omega arith in subst (λ i. IsDurableAt (run P I i) m k x) e h
-durable_stays P I n (suc d) m k x h = let e : suc (n + d) ≡ n + suc d = omega arith in subst (λ i. IsDurableAt (run P I i) m k x) e (next m k x P I (n + d) (durable_stays P I n d m k x h))
+durable_stays P I n (suc d) m k x h =
+    let e : suc (n + d) ≡ n + suc d = omega arith in
+    subst (λ i. IsDurableAt (run P I i) m k x) e (next m k x P I (n + d) (durable_stays P I n d m k x h))

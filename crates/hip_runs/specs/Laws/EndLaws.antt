@@ -43,7 +43,8 @@ drop_short (suc k) [] = omega arith
 drop_short (suc k) (x ∷ xs) = omega (arith, drop_short k xs)
 
 pub code_short : (P : Program) (f : Frame) → length (code_at P f) ≤ longest P
-code_short P f = omega (arith, drop_short f.place (body_at P f.function f.block), body_short P.functions f.function f.block)
+code_short P f =
+    omega (arith, drop_short f.place (body_at P f.function f.block), body_short P.functions f.function f.block)
 
 pub drop_next : {A : Type 0} (xs : List A) (k : ℕ) (x : A) (ys : List A) → drop k xs ≡ x ∷ ys → drop (suc k) xs ≡ ys
 drop_next [] zero x ys e = cc
@@ -179,7 +180,8 @@ step_goes : (P : Program) (I : Input) (s : State) (f : Frame) (fs : List Frame) 
 unfolding step on_ending on_frames
 step_goes P I s f fs going frames =
     subst (λ o. Goes P I s.world.turns (length (code_at P f)) (on_ending P I s o)) (sym going)
-    (subst (λ gs. Goes P I s.world.turns (length (code_at P f)) (on_frames P I s.world s.lines s.counts gs)) (sym frames) (go (code_at P f) refl))
+    (subst (λ gs. Goes P I s.world.turns (length (code_at P f)) (on_frames P I s.world s.lines s.counts gs))
+    (sym frames) (go (code_at P f) refl))
   where
     go : (code : List Instr) → code_at P f ≡ code
         → Goes P I s.world.turns (length code)
@@ -187,7 +189,12 @@ step_goes P I s f fs going frames =
         (counted (event_at I s.world fs (deed_of P I s.world (length fs) f (end_at P f) code)) s.counts)
         (deed_of P I s.world (length fs) f (end_at P f) code))
     go [] e = deed_goes P I 0 s.world f fs s.lines s.counts _ true _ (λ z. absurd (let n : ⊥ = cc in n))
-    go (i ∷ rest) e = deed_goes P I (length (i ∷ rest)) s.world f fs s.lines s.counts _ (is_turn i) _ (λ z. ((still_instr P I s.world (length fs) f.registers i z).is, ap (λ xs. suc (length xs)) (drop_next (body_at P f.function f.block) f.place i rest e)))
+    go (i ∷ rest) e =
+        deed_goes P I (length (i ∷ rest)) s.world f fs s.lines s.counts _ (is_turn i) _
+        (λ z. (
+          (still_instr P I s.world (length fs) f.registers i z).is,
+          ap (λ xs. suc (length xs)) (drop_next (body_at P f.function f.block) f.place i rest e),
+        ))
 
 -- ---- the end
 
@@ -209,7 +216,8 @@ module _ (P : Program) (I : Input) where
   goes_on m turns left s k at lt rest (ended h) = (k, subst (λ (x : State). has_ended x ≡ true) (sym at) h)
   goes_on m turns left s k at lt rest (turned g gs frames t below) =
       rest g gs frames (subst (λ (n : ℕ). steps_left P I n (length (code_at P g)) < m) (sym t)
-      (less_turned ((I.limit - turns) * suc (longest P)) ((I.limit - suc turns) * suc (longest P)) left (length (code_at P g)) (longest P) m lt (more_turns I.limit turns (longest P) below) (code_short P g)))
+      (less_turned ((I.limit - turns) * suc (longest P)) ((I.limit - suc turns) * suc (longest P)) left
+      (length (code_at P g)) (longest P) m lt (more_turns I.limit turns (longest P) below) (code_short P g)))
   goes_on m turns left s k at lt rest (moved g gs frames t l) =
       rest g gs frames (subst (λ (n : ℕ). steps_left P I n (length (code_at P g)) < m) (sym t)
       (less_moved ((I.limit - turns) * suc (longest P)) left (length (code_at P g)) m lt l))
@@ -228,9 +236,13 @@ module _ (P : Program) (I : Input) where
           → ((g : Frame) (gs : List Frame) → (run P I (suc n)).frames ≡ g ∷ gs
           → steps_left P I (run P I (suc n)).world.turns (length (code_at P g)) < m → Ends P I) → Ends P I
       go (Some x) e rest = (n, ap is_some e)
-      go None e rest = goes_on m (run P I n).world.turns (length (code_at P f)) (run P I (suc n)) (suc n) refl lt rest (next_goes n f fs e frames)
+      go None e rest =
+          goes_on m (run P I n).world.turns (length (code_at P f)) (run P I (suc n)) (suc n) refl lt rest
+          (next_goes n f fs e frames)
 
   -- every run ends
   pub runs_end : Ends P I
   unfolding run
-  runs_end = ends_within (suc (steps_left P I 0 (length (code_at P (start_frame (main_number P)))))) 0 (start_frame (main_number P)) [] refl (omega arith)
+  runs_end =
+      ends_within (suc (steps_left P I 0 (length (code_at P (start_frame (main_number P)))))) 0
+      (start_frame (main_number P)) [] refl (omega arith)

@@ -72,22 +72,30 @@ flushes_and_fences _ e = cc
 module _ (P : Program) (I : Input) (w : World) (below : ℕ) (rs : Registers) where
   fits_accessed : (a n align : ℕ) (x : Action) (o : Option Instr) → Fits P x o → Fits P (accessed P I w a n align x) o
   unfolding accessed
-  fits_accessed a n align x o h = fits_cond (nat_eq (a % align) 0) (cond (are_valid P I w a n) x (Traps traps.Address)) (Traps traps.Misaligned) o (fits_cond (are_valid P I w a n) x (Traps traps.Address) o h (record { is = tt {0} })) (record { is = tt {0} })
+  fits_accessed a n align x o h =
+      fits_cond (nat_eq (a % align) 0) (cond (are_valid P I w a n) x (Traps traps.Address)) (Traps traps.Misaligned) o
+      (fits_cond (are_valid P I w a n) x (Traps traps.Address) o h (record { is = tt {0} })) (record { is = tt {0} })
 
   fits_flushing : (a n : ℕ) (x : Action) (o : Option Instr) → Fits P x o → Fits P (flushing P I w a n x) o
   unfolding flushing
-  fits_flushing a n x o h = fits_cond (nat_eq n 0) x (cond (are_valid P I w a n) x (Traps traps.Address)) o h (fits_cond (are_valid P I w a n) x (Traps traps.Address) o h (record { is = tt {0} }))
+  fits_flushing a n x o h =
+      fits_cond (nat_eq n 0) x (cond (are_valid P I w a n) x (Traps traps.Address)) o h
+      (fits_cond (are_valid P I w a n) x (Traps traps.Address) o h (record { is = tt {0} }))
 
   fits_lines : (effect : LineEffect) (a n : ℕ) (o : Option Instr) → (effect ≡ effects.Flush → is_flush_call o ≡ true)
       → (effect ≡ effects.FlushAndFence → is_persist_call o ≡ true) → Fits P (line_action P I w effect a n) o
   fits_lines effects.Nothing a n o flush persist = record { is = tt {0} }
   fits_lines effects.Flush a n o flush persist = fits_flushing a n (Flushes a n) o (record { is = flush refl })
   fits_lines effects.Fence a n o flush persist = record { is = tt {0} }
-  fits_lines effects.FlushAndFence a n o flush persist = fits_flushing a n (Persists a n) o (record { is = persist refl })
+  fits_lines effects.FlushAndFence a n o flush persist =
+      fits_flushing a n (Persists a n) o (record { is = persist refl })
 
   fits_allocated : (dest : List ℕ) (size align : ℕ) (o : Option Instr) → Fits P (allocated w dest size align) o
   unfolding allocated
-  fits_allocated dest size align o = fits_cond (nat_le (next_multiple_of w.mark align + size) stack_end) (Allocates dest (next_multiple_of w.mark align) size) (Traps traps.Stack) o (record { is = tt {0} }) (record { is = tt {0} })
+  fits_allocated dest size align o =
+      fits_cond (nat_le (next_multiple_of w.mark align + size) stack_end)
+      (Allocates dest (next_multiple_of w.mark align) size) (Traps traps.Stack) o (record { is = tt {0} })
+      (record { is = tt {0} })
 
   fits_bound : (f : Option Function) (g : ℕ) (values : List ℕ) (dest : Option (List ℕ)) (o : Option Instr)
       → called_number P o ≡ Some g → Fits P (bound_call f g values dest) o
@@ -102,7 +110,9 @@ module _ (P : Program) (I : Input) (w : World) (below : ℕ) (rs : Registers) wh
   fits_entered : (callee values : List ℕ) (dest : Option (List ℕ)) (o : Option Instr)
       → called_number P o ≡ function_number P callee → Fits P (entered P below callee values dest) o
   unfolding entered
-  fits_entered callee values dest o h = fits_cond (nat_lt below 16383) (numbered_call P (function_number P callee) values dest) (Traps traps.Depth) o (fits_numbered (function_number P callee) values dest o h) (record { is = tt {0} })
+  fits_entered callee values dest o h =
+      fits_cond (nat_lt below 16383) (numbered_call P (function_number P callee) values dest) (Traps traps.Depth) o
+      (fits_numbered (function_number P callee) values dest o h) (record { is = tt {0} })
 
   fits_calculated : (dest : List ℕ) (r : Result Bits NumTrap) (o : Option Instr) → Fits P (calculated dest r) o
   fits_calculated dest (Ok b) o = record { is = tt {0} }
@@ -110,13 +120,16 @@ module _ (P : Program) (I : Input) (w : World) (below : ℕ) (rs : Registers) wh
 
   fits_instr : (i : Instr) → Fits P (instr_action P I w below rs i) (Some i)
   unfolding instr_action
-  fits_instr (Binary dest op flags width a b) = fits_calculated dest (binary_of op (bits width (value_of P.globals I.base rs a)) (bits width (value_of P.globals I.base rs b))) _
+  fits_instr (Binary dest op flags width a b) =
+      fits_calculated dest (binary_of op (bits width (value_of P.globals I.base rs a))
+      (bits width (value_of P.globals I.base rs b))) _
   fits_instr (Compare dest pred ty a b) = record { is = tt {0} }
   fits_instr (Select dest test ty a b) = record { is = tt {0} }
   fits_instr (Cast dest op from a to) = record { is = tt {0} }
   fits_instr (Alloca dest ty align) = fits_allocated dest _ _ _
   fits_instr (Load dest ty addr align) = fits_accessed _ _ _ _ _ (record { is = tt {0} })
-  fits_instr (Store ty value addr align) = fits_accessed _ _ _ _ _ (record { is = (refl, written (scalar_size ty) (value_of P.globals I.base rs value)) })
+  fits_instr (Store ty value addr align) =
+      fits_accessed _ _ _ _ _ (record { is = (refl, written (scalar_size ty) (value_of P.globals I.base rs value)) })
   fits_instr (Gep dest inbounds ty base indices) = record { is = tt {0} }
   fits_instr (Call dest ret callee args) = go (call_of callee) refl
     where
@@ -130,7 +143,10 @@ module _ (P : Program) (I : Input) (w : World) (below : ℕ) (rs : Registers) wh
       go None q = fits_entered callee (values_of P.globals I.base rs args) dest _ refl
       go (Some calls.ReadI64) q = read w.left
       go (Some calls.PrintI64) q = record { is = tt {0} }
-      go (Some calls.PmAssert) q = let vs = values_of P.globals I.base rs args in fits_cond (in_region I (arg_value vs 0) (arg_value vs 1)) (Asserts (arg_value vs 0) (arg_value vs 1)) (Traps traps.Address) _ (record { is = tt {0} }) (record { is = tt {0} })
+      go (Some calls.PmAssert) q =
+          let vs = values_of P.globals I.base rs args in
+          fits_cond (in_region I (arg_value vs 0) (arg_value vs 1)) (Asserts (arg_value vs 0) (arg_value vs 1))
+          (Traps traps.Address) _ (record { is = tt {0} }) (record { is = tt {0} })
       go (Some call) q =
           let vs = values_of P.globals I.base rs args in
           fits_lines (row_of call).effect (arg_value vs 0) (flushed_size (row_of call).params vs)
@@ -171,20 +187,30 @@ event_told : (P : Program) (I : Input) (fs : List Frame) (x : Action) (o : Optio
 event_told P I fs (Traps kind) o h = record { is = tt {0} }
 event_told P I fs (Assigns to v) o h = record { is = tt {0} }
 event_told P I fs (Allocates to a n) o h = record { is = tt {0} }
-event_told P I fs (Stores a bytes) o h = told_cond (in_region I a (length bytes)) (events.Store a (little_endian bytes) (length bytes)) events.Quiet o (record { is = h.is.0 }) (record { is = tt {0} })
-event_told P I fs (Flushes a n) o h = told_cond (flushes_lines I a n) (events.Flush (first_line I a) (lines_size I a n)) events.Quiet o (record { is = h.is }) (record { is = tt {0} })
-event_told P I fs (Persists a n) o h = told_cond (flushes_lines I a n) (events.Persist (first_line I a) (lines_size I a n)) events.Fence o (record { is = h.is }) (record { is = tt {0} })
+event_told P I fs (Stores a bytes) o h =
+    told_cond (in_region I a (length bytes)) (events.Store a (little_endian bytes) (length bytes)) events.Quiet o
+    (record { is = h.is.0 }) (record { is = tt {0} })
+event_told P I fs (Flushes a n) o h =
+    told_cond (flushes_lines I a n) (events.Flush (first_line I a) (lines_size I a n)) events.Quiet o
+    (record { is = h.is }) (record { is = tt {0} })
+event_told P I fs (Persists a n) o h =
+    told_cond (flushes_lines I a n) (events.Persist (first_line I a) (lines_size I a n)) events.Fence o
+    (record { is = h.is }) (record { is = tt {0} })
 event_told P I fs Fences o h = record { is = tt {0} }
 event_told P I fs (Asserts a n) o h = record { is = tt {0} }
 event_told P I fs (Prints z) o h = record { is = tt {0} }
 event_told P I fs (Reads to z rest) o h = record { is = tt {0} }
 event_told P I fs (Calls g rs to) o h = record { is = tt {0} }
 event_told P I fs (Jumps b rs) o h = record { is = tt {0} }
-event_told P I fs (Returns v) o h = told_cond (is_bottom fs) (events.End (Stop (signed W32 (bits W32 v).value))) events.Quiet o (record { is = tt {0} }) (record { is = tt {0} })
+event_told P I fs (Returns v) o h =
+    told_cond (is_bottom fs) (events.End (Stop (signed W32 (bits W32 v).value))) events.Quiet o (record { is = tt {0} })
+    (record { is = tt {0} })
 
 at_told : (P : Program) (I : Input) (w : World) (fs : List Frame) (d : Deed) (o : Option Instr) → Fits P d.action o
     → Told (event_at I w fs d) o
-at_told P I w fs d o h = told_cond (is_cut I w d) (events.End Cut) (event_of I fs d.action) o (record { is = tt {0} }) (event_told P I fs d.action o h)
+at_told P I w fs d o h =
+    told_cond (is_cut I w d) (events.End Cut) (event_of I fs d.action) o (record { is = tt {0} })
+    (event_told P I fs d.action o h)
 
 -- what the top frame does next fits the instruction at which it stands
 pub deed_fits : (P : Program) (I : Input) (w : World) (f : Frame) (fs : List Frame)
@@ -195,8 +221,10 @@ deed_fits P I w f fs = by_code (code_at P f) refl
         → Fits P (deed_of P I w (length fs) f (end_at P f) code).action (instr_of P (site_of f))
     by_code [] q = fits_end P I f (end_at P f) _
     by_code (i ∷ rest) q =
-        let at : instr_of P (site_of f) ≡ Some i = instr_at_place P f.function f.block f.place ∙ get_drop (body_at P f.function f.block) f.place i rest q in
-        subst (Fits P (instr_action P I w (length fs) f.registers i)) (sym at) (fits_instr P I w (length fs) f.registers i)
+        let at : instr_of P (site_of f) ≡ Some i =
+        instr_at_place P f.function f.block f.place ∙ get_drop (body_at P f.function f.block) f.place i rest q in
+        subst (Fits P (instr_action P I w (length fs) f.registers i)) (sym at)
+        (fits_instr P I w (length fs) f.registers i)
 
 -- and so does the event that is seen of it
 pub site_told : (P : Program) (I : Input) (s : State) (t : Site) → top_site s.frames ≡ Some t
@@ -206,7 +234,10 @@ site_told P I s t e = go s.world.ending
   where
     on_them : (fs : List Frame) → top_site fs ≡ Some t → Told (event_on_frames P I s.world fs) (instr_of P t)
     on_them [] q = record { is = tt {0} }
-    on_them (f ∷ fs) q = let same : site_of f ≡ t = cc in subst (λ u. Told (event_at I s.world fs (deed_at P I s.world f fs)) (instr_of P u)) same (at_told P I s.world fs (deed_at P I s.world f fs) (instr_of P (site_of f)) (deed_fits P I s.world f fs))
+    on_them (f ∷ fs) q =
+        let same : site_of f ≡ t = cc in subst (λ u. Told (event_at I s.world fs (deed_at P I s.world f fs))
+        (instr_of P u)) same (at_told P I s.world fs (deed_at P I s.world f fs) (instr_of P (site_of f))
+        (deed_fits P I s.world f fs))
 
     go : (o : Option Ending) → Told (event_on_ending P I s o) (instr_of P t)
     go (Some x) = record { is = tt {0} }

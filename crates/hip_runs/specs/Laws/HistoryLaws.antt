@@ -98,7 +98,8 @@ module _ (P : Program) where
     above = call ∷ s.above;
     are = s.are;
     outermost = ap (λ ls. call ∷ ls) s.outermost;
-    returned = λ v i. not_new v (born v (subst (In v) (sym s.are) (append-left s.closed s.open_ones v i))) (s.returned v i);
+    returned =
+        λ v i. not_new v (born v (subst (In v) (sym s.are) (append-left s.closed s.open_ones v i))) (s.returned v i);
   }
     where
       not_new : (v : Level) → v.birth < call.birth → is_open up v ≡ false → is_open (call ∷ up) v ≡ false
@@ -145,7 +146,8 @@ module _ (P : Program) where
         where
           by : In v s.closed ⊎ In v (l ∷ []) → is_open up v ≡ false
           by (inl j) = not_open l v up (s.returned v j)
-          by (inr (inl e)) = subst (λ (x : Level). is_open up x ≡ false) (sym e) (closed_there up l.birth down l (omega arith))
+          by (inr (inl e)) =
+              subst (λ (x : Level). is_open up x ≡ false) (sym e) (closed_there up l.birth down l (omega arith))
           by (inr (inr z)) = absurd z
 
       head : (x y : Level) (xs ys : List Level) → x ∷ xs ≡ y ∷ ys → (x ≡ y) × (xs ≡ ys)
@@ -210,17 +212,42 @@ module _ (P : Program) where
   fence : (up : List Level) (ls : List (Line StorePart)) (n : ℕ) → IsKept P up ls n → IsKept P up (fenced_lines ls) n
   fence up ls n k = record {
     made = λ x i. let r = part-fenced ls x i in subst (λ (y : StorePart). y.step < n) (sym r.2) (k.made r.0 r.1);
-    flush_made = λ x f i e. let r = part-fenced ls x i in k.flush_made r.0 f r.1 (sym (ap (λ (y : StorePart). y.first_flush) r.2) ∙ e);
-    site = λ x y i j e. let r = part-fenced ls x i in let q = part-fenced ls y j in ap (λ (z : StorePart). z.site) r.2 ∙ k.site r.0 q.0 r.1 q.1 (sym (ap (λ (z : StorePart). z.step) r.2) ∙ e ∙ ap (λ (z : StorePart). z.step) q.2) ∙ sym (ap (λ (z : StorePart). z.site) q.2);
-    levels = λ x y i j e. let r = part-fenced ls x i in let q = part-fenced ls y j in ap (λ (z : StorePart). z.levels) r.2 ∙ k.levels r.0 q.0 r.1 q.1 (sym (ap (λ (z : StorePart). z.step) r.2) ∙ e ∙ ap (λ (z : StorePart). z.step) q.2) ∙ sym (ap (λ (z : StorePart). z.levels) q.2);
-    entry = λ x y i j e. let r = part-fenced ls x i in let q = part-fenced ls y j in ap (λ (z : StorePart). z.entry) r.2 ∙ k.entry r.0 q.0 r.1 q.1 (sym (ap (λ (z : StorePart). z.step) r.2) ∙ e ∙ ap (λ (z : StorePart). z.step) q.2) ∙ sym (ap (λ (z : StorePart). z.entry) q.2);
-    fenced = λ x y i j e. let r = part-fenced ls x i in let q = part-fenced ls y j in ap (λ (z : StorePart). z.fenced) r.2 ∙ sym (ap (λ (z : StorePart). z.fenced) q.2);
+    flush_made =
+        λ x f i e. let r = part-fenced ls x i in
+        k.flush_made r.0 f r.1 (sym (ap (λ (y : StorePart). y.first_flush) r.2) ∙ e);
+    site =
+        λ x y i j e. let r = part-fenced ls x i in let q =
+        part-fenced ls y j in ap (λ (z : StorePart). z.site) r.2
+        ∙ k.site r.0 q.0 r.1 q.1 (sym (ap (λ (z : StorePart). z.step) r.2) ∙ e ∙ ap (λ (z : StorePart). z.step) q.2)
+        ∙ sym (ap (λ (z : StorePart). z.site) q.2);
+    levels =
+        λ x y i j e. let r = part-fenced ls x i in let q =
+        part-fenced ls y j in ap (λ (z : StorePart). z.levels) r.2
+        ∙ k.levels r.0 q.0 r.1 q.1 (sym (ap (λ (z : StorePart). z.step) r.2) ∙ e ∙ ap (λ (z : StorePart). z.step) q.2)
+        ∙ sym (ap (λ (z : StorePart). z.levels) q.2);
+    entry =
+        λ x y i j e. let r = part-fenced ls x i in let q =
+        part-fenced ls y j in ap (λ (z : StorePart). z.entry) r.2
+        ∙ k.entry r.0 q.0 r.1 q.1 (sym (ap (λ (z : StorePart). z.step) r.2) ∙ e ∙ ap (λ (z : StorePart). z.step) q.2)
+        ∙ sym (ap (λ (z : StorePart). z.entry) q.2);
+    fenced =
+        λ x y i j e. let r = part-fenced ls x i in let q =
+        part-fenced ls y j in ap (λ (z : StorePart). z.fenced) r.2 ∙ sym (ap (λ (z : StorePart). z.fenced) q.2);
     flushed = λ m j l x e g lt. all_flushed m j l x e g lt;
-    site_there = λ x i. let r = part-fenced ls x i in subst (λ (y : StorePart). Stands P y.site) (sym r.2) (k.site_there r.0 r.1);
-    flush_there = λ x f i e. let r = part-fenced ls x i in k.flush_there r.0 f r.1 (sym (ap (λ (y : StorePart). y.first_flush) r.2) ∙ e);
-    call_there = λ x v i j. let r = part-fenced ls x i in k.call_there r.0 v r.1 (subst (λ (y : StorePart). In v y.levels) r.2 j);
-    split = λ x i. let r = part-fenced ls x i in subst (λ (y : StorePart). IsParted up y.levels) (sym r.2) (k.split r.0 r.1);
-    births = λ x v i j. let r = part-fenced ls x i in k.births r.0 v r.1 (subst (λ (y : StorePart). In v y.levels) r.2 j);
+    site_there =
+        λ x i. let r = part-fenced ls x i in subst (λ (y : StorePart). Stands P y.site) (sym r.2)
+        (k.site_there r.0 r.1);
+    flush_there =
+        λ x f i e. let r = part-fenced ls x i in
+        k.flush_there r.0 f r.1 (sym (ap (λ (y : StorePart). y.first_flush) r.2) ∙ e);
+    call_there =
+        λ x v i j. let r = part-fenced ls x i in
+        k.call_there r.0 v r.1 (subst (λ (y : StorePart). In v y.levels) r.2 j);
+    split =
+        λ x i. let r = part-fenced ls x i in subst (λ (y : StorePart). IsParted up y.levels) (sym r.2)
+        (k.split r.0 r.1);
+    births =
+        λ x v i j. let r = part-fenced ls x i in k.births r.0 v r.1 (subst (λ (y : StorePart). In v y.levels) r.2 j);
     stack = k.stack;
     calls = k.calls;
     ordered = ordered_fence ls k.ordered;
@@ -228,7 +255,8 @@ module _ (P : Program) where
     where
       ordered_fence : (ls : List (Line StorePart)) → AreOrdered ls → AreOrdered (fenced_lines ls)
       ordered_fence [] h = tt
-      ordered_fence (l ∷ ls) h = (ordered-fenced_line (map_line noted_fence l) (ordered-map_line noted_fence l h.0), ordered_fence ls h.1)
+      ordered_fence (l ∷ ls) h =
+          (ordered-fenced_line (map_line noted_fence l) (ordered-map_line noted_fence l h.0), ordered_fence ls h.1)
 
       all_flushed : (m j : ℕ) (l : Line StorePart) (x : StorePart) → slice_get (fenced_lines ls) m ≡ Some l
           → slice_get l.parts j ≡ Some x → j < l.flushed → (f : Flush) × (x.first_flush ≡ Some f)
@@ -261,8 +289,24 @@ module _ (P : Program) where
     fenced : y.fenced ≡ x.fenced
 
   same_store : (flush : Flush) (y x : StorePart) → IsFlushedFrom flush y x → IsSameStore y x
-  same_store flush y x (inl e) = record { step = ap (λ (z : StorePart). z.step) e; site = ap (λ (z : StorePart). z.site) e; levels = ap (λ (z : StorePart). z.levels) e; entry = ap (λ (z : StorePart). z.entry) e; fenced = ap (λ (z : StorePart). z.fenced) e }
-  same_store flush y x (inr e) = record { step = ap (λ (z : StorePart). z.step) e; site = ap (λ (z : StorePart). z.site) e; levels = ap (λ (z : StorePart). z.levels) e; entry = ap (λ (z : StorePart). z.entry) e; fenced = ap (λ (z : StorePart). z.fenced) e }
+  same_store flush y x (inl e) =
+      record {
+        step = ap (λ (z : StorePart). z.step) e;
+        site = ap (λ (z : StorePart). z.site) e;
+        levels = ap (λ (z : StorePart). z.levels) e;
+        entry = ap (λ (z : StorePart). z.entry) e;
+        fenced =
+            ap (λ (z : StorePart). z.fenced) e;
+      }
+  same_store flush y x (inr e) =
+      record {
+        step = ap (λ (z : StorePart). z.step) e;
+        site = ap (λ (z : StorePart). z.site) e;
+        levels = ap (λ (z : StorePart). z.levels) e;
+        entry = ap (λ (z : StorePart). z.entry) e;
+        fenced =
+            ap (λ (z : StorePart). z.fenced) e;
+      }
 
   flush_of : (flush f : Flush) (y x : StorePart) → IsFlushedFrom flush y x → y.first_flush ≡ Some f
       → (f ≡ flush) ⊎ (x.first_flush ≡ Some f)
@@ -271,7 +315,9 @@ module _ (P : Program) where
     where
       go : (o : Option Flush) → x.first_flush ≡ o → earlier x.first_flush flush ≡ Some f
           → (f ≡ flush) ⊎ (x.first_flush ≡ Some f)
-      go None q g = inl (let r : Some flush ≡ Some f = sym (ap (λ (z : Option Flush). earlier z flush) q) ∙ g in let u : f ≡ flush = cc in u)
+      go None q g =
+          inl (let r : Some flush ≡ Some f = sym (ap (λ (z : Option Flush). earlier z flush) q) ∙ g in
+          let u : f ≡ flush = cc in u)
       go (Some a) q g = inr (q ∙ sym (ap (λ (z : Option Flush). earlier z flush) q) ∙ g)
 
   met_flushed : (o : Option Flush) (flush : Flush) → (f : Flush) × (earlier o flush ≡ Some f)
@@ -283,20 +329,39 @@ module _ (P : Program) where
       → IsKept P up (change_range (λ _ l. flush_line flush l) o size ls) (suc n)
   flush_here up ls n o size flush at there k = record {
     made = λ x i. let r = from x i in omega (arith, k.made r.0 r.1, (same_store flush x r.0 r.2).step);
-    flush_made = λ x f i e. let r = from x i in made_by f (flush_of flush f x r.0 r.2 e) (λ g. k.flush_made r.0 f r.1 g);
-    site = λ x y i j e. let r = from x i in let q = from y j in let a = same_store flush x r.0 r.2 in let b = same_store flush y q.0 q.2 in a.site ∙ k.site r.0 q.0 r.1 q.1 (sym a.step ∙ e ∙ b.step) ∙ sym b.site;
-    levels = λ x y i j e. let r = from x i in let q = from y j in let a = same_store flush x r.0 r.2 in let b = same_store flush y q.0 q.2 in a.levels ∙ k.levels r.0 q.0 r.1 q.1 (sym a.step ∙ e ∙ b.step) ∙ sym b.levels;
-    entry = λ x y i j e. let r = from x i in let q = from y j in let a = same_store flush x r.0 r.2 in let b = same_store flush y q.0 q.2 in a.entry ∙ k.entry r.0 q.0 r.1 q.1 (sym a.step ∙ e ∙ b.step) ∙ sym b.entry;
-    fenced = λ x y i j e. let r = from x i in let q = from y j in let a = same_store flush x r.0 r.2 in let b = same_store flush y q.0 q.2 in a.fenced ∙ k.fenced r.0 q.0 r.1 q.1 (sym a.step ∙ e ∙ b.step) ∙ sym b.fenced;
+    flush_made =
+        λ x f i e. let r = from x i in made_by f (flush_of flush f x r.0 r.2 e) (λ g. k.flush_made r.0 f r.1 g);
+    site =
+        λ x y i j e. let r = from x i in let q = from y j in let a = same_store flush x r.0 r.2 in let b =
+        same_store flush y q.0 q.2 in a.site ∙ k.site r.0 q.0 r.1 q.1 (sym a.step ∙ e ∙ b.step) ∙ sym b.site;
+    levels =
+        λ x y i j e. let r = from x i in let q = from y j in let a = same_store flush x r.0 r.2 in let b =
+        same_store flush y q.0 q.2 in a.levels ∙ k.levels r.0 q.0 r.1 q.1 (sym a.step ∙ e ∙ b.step) ∙ sym b.levels;
+    entry =
+        λ x y i j e. let r = from x i in let q = from y j in let a = same_store flush x r.0 r.2 in let b =
+        same_store flush y q.0 q.2 in a.entry ∙ k.entry r.0 q.0 r.1 q.1 (sym a.step ∙ e ∙ b.step) ∙ sym b.entry;
+    fenced =
+        λ x y i j e. let r = from x i in let q = from y j in let a = same_store flush x r.0 r.2 in let b =
+        same_store flush y q.0 q.2 in a.fenced ∙ k.fenced r.0 q.0 r.1 q.1 (sym a.step ∙ e ∙ b.step) ∙ sym b.fenced;
     flushed = λ m j l x e g lt. let a = get_flushed flush o size 0 ls m l e in all_flushed m j l x a.0 a.1 g lt a.2;
-    site_there = λ x i. let r = from x i in subst (Stands P) (sym (same_store flush x r.0 r.2).site) (k.site_there r.0 r.1);
-    flush_there = λ x f i e. let r = from x i in stands_by f (flush_of flush f x r.0 r.2 e) (λ g. k.flush_there r.0 f r.1 g);
-    call_there = λ x v i j. let r = from x i in k.call_there r.0 v r.1 (subst (In v) (same_store flush x r.0 r.2).levels j);
+    site_there =
+        λ x i. let r = from x i in subst (Stands P) (sym (same_store flush x r.0 r.2).site) (k.site_there r.0 r.1);
+    flush_there =
+        λ x f i e. let r = from x i in stands_by f (flush_of flush f x r.0 r.2 e) (λ g. k.flush_there r.0 f r.1 g);
+    call_there =
+        λ x v i j. let r = from x i in k.call_there r.0 v r.1 (subst (In v) (same_store flush x r.0 r.2).levels j);
     split = λ x i. let r = from x i in subst (IsParted up) (sym (same_store flush x r.0 r.2).levels) (k.split r.0 r.1);
-    births = λ x v i j. let r = from x i in omega (arith, k.births r.0 v r.1 (subst (In v) (same_store flush x r.0 r.2).levels j));
+    births =
+        λ x v i j. let r = from x i in omega (
+          arith,
+          k.births r.0 v r.1 (subst (In v) (same_store flush x r.0 r.2).levels j),
+        );
     stack = descending_later up n k.stack;
     calls = k.calls;
-    ordered = ordered-change_from (λ _ l. flush_line flush l) o size (λ _ l h. ordered-flushed_line (map_line (noted_flush flush) l) (ordered-map_line (noted_flush flush) l h)) 0 ls k.ordered;
+    ordered =
+        ordered-change_from (λ _ l. flush_line flush l) o size
+        (λ _ l h. ordered-flushed_line (map_line (noted_flush flush) l) (ordered-map_line (noted_flush flush) l h)) 0 ls
+        k.ordered;
   }
     where
       from : (x : StorePart) → PartOf (change_range (λ _ l. flush_line flush l) o size ls) x
@@ -314,9 +379,13 @@ module _ (P : Program) where
       all_flushed : (m j : ℕ) (l : Line StorePart) (x : StorePart) (l0 : Line StorePart) → slice_get ls m ≡ Some l0
           → slice_get l.parts j ≡ Some x → j < l.flushed → (l ≡ l0) ⊎ (l ≡ flush_line flush l0)
           → (f : Flush) × (x.first_flush ≡ Some f)
-      all_flushed m j l x l0 e g lt (inl same) = k.flushed m j l0 x e (sym (ap (λ (y : Line StorePart). slice_get y.parts j) same) ∙ g) (subst (λ (y : Line StorePart). j < y.flushed) same lt)
+      all_flushed m j l x l0 e g lt (inl same) =
+          k.flushed m j l0 x e (sym (ap (λ (y : Line StorePart). slice_get y.parts j) same) ∙ g)
+          (subst (λ (y : Line StorePart). j < y.flushed) same lt)
       all_flushed m j l x l0 e g lt (inr met) =
-          let b = get_map (noted_flush flush) l0.parts j x (sym (ap (λ (y : Line StorePart). slice_get y.parts j) met) ∙ g) in
+          let b =
+          get_map (noted_flush flush) l0.parts j x (sym (ap (λ (y : Line StorePart). slice_get y.parts j) met) ∙ g)
+          in
           let c = met_flushed b.0.first_flush flush in
           (c.0, ap (λ (y : StorePart). y.first_flush) b.2 ∙ c.1)
 
@@ -338,7 +407,12 @@ module _ (P : Program) where
     where
       go : (t : Bool) → Some (cond t (with_part (part j) x) x) ≡ Some l
           → (l0 : Line StorePart) × (Some x ≡ Some l0) × ((l ≡ l0) ⊎ (l ≡ with_part (part (j + 0)) l0))
-      go true h = (x, refl, inr (let q : l ≡ with_part (part j) x = cc in let z : j ≡ j + 0 = omega arith in subst (λ i. l ≡ with_part (part i) x) z q))
+      go true h = (
+        x,
+        refl,
+        inr (let q : l ≡ with_part (part j) x = cc in let z : j ≡ j + 0 = omega arith in
+            subst (λ i. l ≡ with_part (part i) x) z q),
+      )
       go false h = (x, refl, inl (let q : l ≡ x = cc in q))
   get_stored part o n j (x ∷ ls) (suc m) l e =
       let r = get_stored part o n (suc j) ls m l e in
@@ -356,18 +430,40 @@ module _ (P : Program) where
       → Stands P s → IsKept P up ls counts.steps →
       IsKept P up (stored (part_of_store counts s up o bytes) o (length bytes) ls) (suc counts.steps)
   store_here up ls counts s o bytes there k = record {
-    made = λ x i. by x (from x i) (λ j. omega (arith, k.made x j)) (λ j e. let q : x.step ≡ counts.steps = ap (λ (y : StorePart). y.step) e in omega arith);
-    flush_made = λ x f i e. by x (from x i) (λ j. omega (arith, k.flush_made x f j e)) (λ j q. absurd (never x f j q e));
-    site = λ x y i j e. both x y (from x i) (from y j) e (λ (z : StorePart). z.site) (λ a b. k.site x y a b e) (λ m n. refl);
-    levels = λ x y i j e. both x y (from x i) (from y j) e (λ (z : StorePart). z.levels) (λ a b. k.levels x y a b e) (λ m n. refl);
-    entry = λ x y i j e. both x y (from x i) (from y j) e (λ (z : StorePart). z.entry) (λ a b. k.entry x y a b e) (λ m n. refl);
-    fenced = λ x y i j e. both x y (from x i) (from y j) e (λ (z : StorePart). z.fenced) (λ a b. k.fenced x y a b e) (λ m n. refl);
-    flushed = λ m j l x e g lt. let a = get_stored (part_of_store counts s up o bytes) o (length bytes) 0 ls m l e in all_flushed m j l x a.0 a.1 g lt a.2;
-    site_there = λ x i. by x (from x i) (λ j. k.site_there x j) (λ j e. subst (λ (y : StorePart). Stands P y.site) (sym e) there);
+    made =
+        λ x i. by x (from x i) (λ j. omega (arith, k.made x j))
+        (λ j e. let q : x.step ≡ counts.steps = ap (λ (y : StorePart). y.step) e in omega arith);
+    flush_made =
+        λ x f i e. by x (from x i) (λ j. omega (arith, k.flush_made x f j e)) (λ j q. absurd (never x f j q e));
+    site =
+        λ x y i j e. both x y (from x i) (from y j) e (λ (z : StorePart). z.site) (λ a b. k.site x y a b e)
+        (λ m n. refl);
+    levels =
+        λ x y i j e. both x y (from x i) (from y j) e (λ (z : StorePart). z.levels) (λ a b. k.levels x y a b e)
+        (λ m n. refl);
+    entry =
+        λ x y i j e. both x y (from x i) (from y j) e (λ (z : StorePart). z.entry) (λ a b. k.entry x y a b e)
+        (λ m n. refl);
+    fenced =
+        λ x y i j e. both x y (from x i) (from y j) e (λ (z : StorePart). z.fenced) (λ a b. k.fenced x y a b e)
+        (λ m n. refl);
+    flushed =
+        λ m j l x e g lt. let a = get_stored (part_of_store counts s up o bytes) o (length bytes) 0 ls m l e in
+        all_flushed m j l x a.0 a.1 g lt a.2;
+    site_there =
+        λ x i. by x (from x i) (λ j. k.site_there x j)
+        (λ j e. subst (λ (y : StorePart). Stands P y.site) (sym e) there);
     flush_there = λ x f i e. by x (from x i) (λ j. k.flush_there x f j e) (λ j q. absurd (never x f j q e));
-    call_there = λ x v i l. by x (from x i) (λ j. k.call_there x v j l) (λ j e. k.calls v (subst (λ (y : StorePart). In v y.levels) e l));
-    split = λ x i. by x (from x i) (λ j. k.split x j) (λ j e. subst (λ (y : StorePart). IsParted up y.levels) (sym e) (record { closed = []; open_ones = up; above = []; are = refl; outermost = refl; returned = λ v z. absurd z }));
-    births = λ x v i l. by x (from x i) (λ j. omega (arith, k.births x v j l)) (λ j e. omega (arith, born_before up counts.steps k.stack v (subst (λ (y : StorePart). In v y.levels) e l)));
+    call_there =
+        λ x v i l. by x (from x i) (λ j. k.call_there x v j l)
+        (λ j e. k.calls v (subst (λ (y : StorePart). In v y.levels) e l));
+    split =
+        λ x i. by x (from x i) (λ j. k.split x j)
+        (λ j e. subst (λ (y : StorePart). IsParted up y.levels) (sym e)
+        (record { closed = []; open_ones = up; above = []; are = refl; outermost = refl; returned = λ v z. absurd z }));
+    births =
+        λ x v i l. by x (from x i) (λ j. omega (arith, k.births x v j l))
+        (λ j e. omega (arith, born_before up counts.steps k.stack v (subst (λ (y : StorePart). In v y.levels) e l)));
     stack = descending_later up counts.steps k.stack;
     calls = k.calls;
     ordered = ordered-stored (part_of_store counts s up o bytes) o (length bytes) ls k.ordered;
@@ -392,19 +488,26 @@ module _ (P : Program) where
           → ((m n : ℕ) → see (part_of_store counts s up o bytes m) ≡ see (part_of_store counts s up o bytes n))
           → see x ≡ see y
       both x y (inl i) (inl j) e see old fresh = old i j
-      both x y (inl i) (inr j) e see old fresh = let q : y.step ≡ counts.steps = ap (λ (z : StorePart). z.step) j.1 in let lt = k.made x i in absurd (omega arith)
-      both x y (inr i) (inl j) e see old fresh = let q : x.step ≡ counts.steps = ap (λ (z : StorePart). z.step) i.1 in let lt = k.made y j in absurd (omega arith)
+      both x y (inl i) (inr j) e see old fresh =
+          let q : y.step ≡ counts.steps = ap (λ (z : StorePart). z.step) j.1 in let lt =
+          k.made x i in absurd (omega arith)
+      both x y (inr i) (inl j) e see old fresh =
+          let q : x.step ≡ counts.steps = ap (λ (z : StorePart). z.step) i.1 in let lt =
+          k.made y j in absurd (omega arith)
       both x y (inr i) (inr j) e see old fresh = ap see i.1 ∙ fresh i.0 j.0 ∙ sym (ap see j.1)
 
       all_flushed : (m j : ℕ) (l : Line StorePart) (x : StorePart) (l0 : Line StorePart) → slice_get ls m ≡ Some l0
           → slice_get l.parts j ≡ Some x → j < l.flushed
           → (l ≡ l0) ⊎ (l ≡ with_part (part_of_store counts s up o bytes (0 + m)) l0)
           → (f : Flush) × (x.first_flush ≡ Some f)
-      all_flushed m j l x l0 e g lt (inl same) = k.flushed m j l0 x e (sym (ap (λ (y : Line StorePart). slice_get y.parts j) same) ∙ g) (subst (λ (y : Line StorePart). j < y.flushed) same lt)
+      all_flushed m j l x l0 e g lt (inl same) =
+          k.flushed m j l0 x e (sym (ap (λ (y : Line StorePart). slice_get y.parts j) same) ∙ g)
+          (subst (λ (y : Line StorePart). j < y.flushed) same lt)
       all_flushed m j l x l0 e g lt (inr more) =
           let low : j < l0.flushed = subst (λ (y : Line StorePart). j < y.flushed) more lt in
           let h = (ordered-at ls m l0 k.ordered e).flushed in
-          k.flushed m j l0 x e (get_front l0.parts (part_of_store counts s up o bytes (0 + m)) x j (sym (ap (λ (y : Line StorePart). slice_get y.parts j) more) ∙ g) (omega arith)) low
+          k.flushed m j l0 x e (get_front l0.parts (part_of_store counts s up o bytes (0 + m)) x j
+          (sym (ap (λ (y : Line StorePart). slice_get y.parts j) more) ∙ g) (omega arith)) low
 
   store : (I : Input) (up : List Level) (ls : List (Line StorePart)) (counts : Counts) (s : Site) (a : ℕ)
       (bytes : List ℕ) → Stands P s → IsKept P up ls counts.steps
@@ -441,9 +544,13 @@ module _ (P : Program) where
   perform_kept I w f fs ls c e there k (Assigns to v) = later (levels_of (f ∷ fs)) ls c.steps k
   perform_kept I w f fs ls c e there k (Allocates to a n) = later (levels_of (f ∷ fs)) ls c.steps k
   perform_kept I w f fs ls c e there k (Stores a bytes) = store I (levels_of (f ∷ fs)) ls c (site_of f) a bytes there k
-  perform_kept I w f fs ls c e there k (Flushes a n) = flush I (levels_of (f ∷ fs)) ls c.steps a n (record { step = c.steps; site = site_of f }) refl there k
-  perform_kept I w f fs ls c e there k (Persists a n) = fence (levels_of (f ∷ fs)) _ (suc c.steps) (flush I (levels_of (f ∷ fs)) ls c.steps a n (record { step = c.steps; site = site_of f }) refl there k)
-  perform_kept I w f fs ls c e there k Fences = later (levels_of (f ∷ fs)) _ c.steps (fence (levels_of (f ∷ fs)) ls c.steps k)
+  perform_kept I w f fs ls c e there k (Flushes a n) =
+      flush I (levels_of (f ∷ fs)) ls c.steps a n (record { step = c.steps; site = site_of f }) refl there k
+  perform_kept I w f fs ls c e there k (Persists a n) =
+      fence (levels_of (f ∷ fs)) _ (suc c.steps)
+      (flush I (levels_of (f ∷ fs)) ls c.steps a n (record { step = c.steps; site = site_of f }) refl there k)
+  perform_kept I w f fs ls c e there k Fences =
+      later (levels_of (f ∷ fs)) _ c.steps (fence (levels_of (f ∷ fs)) ls c.steps k)
   perform_kept I w f fs ls c e there k (Asserts a n) = later (levels_of (f ∷ fs)) ls c.steps k
   perform_kept I w f fs ls c e there k (Prints z) = later (levels_of (f ∷ fs)) ls c.steps k
   perform_kept I w f fs ls c e there k (Reads to z rest) = later (levels_of (f ∷ fs)) ls c.steps k
@@ -524,8 +631,13 @@ module _ (P : Program) where
           → IsKept P (levels_of (f ∷ fs)) s.lines s.counts.steps
           → StateKept (carry_out I s.world f fs s.lines s.counts (counted e s.counts)
           (deed_of P I s.world (length fs) f (end_at P f) code))
-      by_code f fs e [] q k = cut_kept I s.world f fs s.lines s.counts e _ k (λ w2. end_kept I w2 f fs s.lines s.counts e k (end_action P I f (end_at P f)) (end_is I f (end_at P f)))
-      by_code f fs e (i ∷ rest) q k = cut_kept I s.world f fs s.lines s.counts e _ k (λ w2. perform_kept I w2 f fs s.lines s.counts e (i, instr_at_place f.function f.block f.place ∙ get_drop (body_at P f.function f.block) f.place i rest q) k _)
+      by_code f fs e [] q k =
+          cut_kept I s.world f fs s.lines s.counts e _ k
+          (λ w2. end_kept I w2 f fs s.lines s.counts e k (end_action P I f (end_at P f)) (end_is I f (end_at P f)))
+      by_code f fs e (i ∷ rest) q k =
+          cut_kept I s.world f fs s.lines s.counts e _ k
+          (λ w2. perform_kept I w2 f fs s.lines s.counts e
+          (i, instr_at_place f.function f.block f.place ∙ get_drop (body_at P f.function f.block) f.place i rest q) k _)
 
       on_them : (fs : List Frame) → IsKept P (levels_of fs) s.lines s.counts.steps
           → StateKept (on_frames P I s.world s.lines s.counts fs)
@@ -546,7 +658,8 @@ module _ (P : Program) where
       → l.parts ≡ []
   unfolding fresh_lines
   line_of_fresh zero m l e = absurd (let z : ⊥ = cc in z)
-  line_of_fresh (suc n) zero l e = let q : l ≡ record { parts = []; flushed = 0; durable = 0 } = cc in ap (λ (y : Line StorePart). y.parts) q
+  line_of_fresh (suc n) zero l e =
+      let q : l ≡ record { parts = []; flushed = 0; durable = 0 } = cc in ap (λ (y : Line StorePart). y.parts) q
   line_of_fresh (suc n) (suc m) l e = line_of_fresh n m l e
 
   start_kept : (I : Input) → StateKept (start P I)
@@ -557,7 +670,9 @@ module _ (P : Program) where
     levels = λ x y i j e. absurd (part_of_fresh _ x i);
     entry = λ x y i j e. absurd (part_of_fresh _ x i);
     fenced = λ x y i j e. absurd (part_of_fresh _ x i);
-    flushed = λ m k l x e g lt. let q : slice_get [] k ≡ Some x = sym (ap (λ (ps : List StorePart). slice_get ps k) (line_of_fresh _ m l e)) ∙ g in absurd (let z : ⊥ = cc in z);
+    flushed =
+        λ m k l x e g lt. let q : slice_get [] k ≡ Some x =
+        sym (ap (λ (ps : List StorePart). slice_get ps k) (line_of_fresh _ m l e)) ∙ g in absurd (let z : ⊥ = cc in z);
     site_there = λ x i. absurd (part_of_fresh _ x i);
     flush_there = λ x f i e. absurd (part_of_fresh _ x i);
     call_there = λ x v i j. absurd (part_of_fresh _ x i);

@@ -35,24 +35,58 @@ pub record IsWell (n m : ℕ) (l : Line StorePart) : Type 0 where
   pub unflushed : (k : ℕ) (x : StorePart) → slice_get l.parts k ≡ Some x → l.flushed ≤ k → x.first_flush ≡ None
 
 later : (n m : ℕ) (l : Line StorePart) → IsWell n m l → IsWell (suc n) m l
-later n m l h = record { inside = h.inside; line = h.line; made = λ k x e. omega (arith, h.made k x e); ascend = h.ascend; unflushed = h.unflushed }
+later n m l h =
+    record {
+      inside = h.inside;
+      line = h.line;
+      made = λ k x e. omega (arith, h.made k x e);
+      ascend = h.ascend;
+      unflushed = h.unflushed;
+    }
 
 well_flush : (n m : ℕ) (flush : Flush) (l : Line StorePart) → IsWell n m l → IsWell n m (flush_line flush l)
 well_flush n m flush l h = record {
-  inside = λ k x e b c. let r = get-of_map (noted_flush flush) l.parts k x e in h.inside k r.0 r.1 b (subst (λ (y : StorePart). covers y b ≡ true) (sym r.2) c);
-  line = λ k x e. let r = get-of_map (noted_flush flush) l.parts k x e in sym (ap (λ (y : StorePart). y.offset / 64) r.2) ∙ h.line k r.0 r.1;
-  made = λ k x e. let r = get-of_map (noted_flush flush) l.parts k x e in subst (λ (y : StorePart). y.step < n) r.2 (h.made k r.0 r.1);
-  ascend = λ j k x y e g lt. let r = get-of_map (noted_flush flush) l.parts j x e in let q = get-of_map (noted_flush flush) l.parts k y g in subst (λ (z : StorePart). x.step < z.step) q.2 (subst (λ (z : StorePart). z.step < q.0.step) r.2 (h.ascend j k r.0 q.0 r.1 q.1 lt));
-  unflushed = λ k x e le. absurd (omega (arith, get-below (map (noted_flush flush) l.parts) k x e, le, length-map l.parts (noted_flush flush)));
+  inside =
+      λ k x e b c. let r = get-of_map (noted_flush flush) l.parts k x e in
+      h.inside k r.0 r.1 b (subst (λ (y : StorePart). covers y b ≡ true) (sym r.2) c);
+  line =
+      λ k x e. let r = get-of_map (noted_flush flush) l.parts k x e in sym (ap (λ (y : StorePart). y.offset / 64) r.2)
+      ∙ h.line k r.0 r.1;
+  made =
+      λ k x e. let r = get-of_map (noted_flush flush) l.parts k x e in
+      subst (λ (y : StorePart). y.step < n) r.2 (h.made k r.0 r.1);
+  ascend =
+      λ j k x y e g lt. let r = get-of_map (noted_flush flush) l.parts j x e in let q =
+      get-of_map (noted_flush flush) l.parts k y g in
+      subst (λ (z : StorePart). x.step < z.step) q.2
+      (subst (λ (z : StorePart). z.step < q.0.step) r.2 (h.ascend j k r.0 q.0 r.1 q.1 lt));
+  unflushed =
+      λ k x e le. absurd (omega (
+        arith,
+        get-below (map (noted_flush flush) l.parts) k x e,
+        le,
+        length-map l.parts (noted_flush flush),
+      ));
 }
 
 well_fence : (n m : ℕ) (l : Line StorePart) → IsWell n m l → IsWell n m (fence_line l)
 well_fence n m l h = record {
-  inside = λ k x e b c. let r = get-of_map noted_fence l.parts k x e in h.inside k r.0 r.1 b (subst (λ (y : StorePart). covers y b ≡ true) (sym r.2) c);
-  line = λ k x e. let r = get-of_map noted_fence l.parts k x e in sym (ap (λ (y : StorePart). y.offset / 64) r.2) ∙ h.line k r.0 r.1;
-  made = λ k x e. let r = get-of_map noted_fence l.parts k x e in subst (λ (y : StorePart). y.step < n) r.2 (h.made k r.0 r.1);
-  ascend = λ j k x y e g lt. let r = get-of_map noted_fence l.parts j x e in let q = get-of_map noted_fence l.parts k y g in subst (λ (z : StorePart). x.step < z.step) q.2 (subst (λ (z : StorePart). z.step < q.0.step) r.2 (h.ascend j k r.0 q.0 r.1 q.1 lt));
-  unflushed = λ k x e le. let r = get-of_map noted_fence l.parts k x e in sym (ap (λ (y : StorePart). y.first_flush) r.2) ∙ h.unflushed k r.0 r.1 le;
+  inside =
+      λ k x e b c. let r = get-of_map noted_fence l.parts k x e in
+      h.inside k r.0 r.1 b (subst (λ (y : StorePart). covers y b ≡ true) (sym r.2) c);
+  line =
+      λ k x e. let r = get-of_map noted_fence l.parts k x e in sym (ap (λ (y : StorePart). y.offset / 64) r.2)
+      ∙ h.line k r.0 r.1;
+  made =
+      λ k x e. let r = get-of_map noted_fence l.parts k x e in
+      subst (λ (y : StorePart). y.step < n) r.2 (h.made k r.0 r.1);
+  ascend =
+      λ j k x y e g lt. let r = get-of_map noted_fence l.parts j x e in let q =
+      get-of_map noted_fence l.parts k y g in subst (λ (z : StorePart). x.step < z.step) q.2
+      (subst (λ (z : StorePart). z.step < q.0.step) r.2 (h.ascend j k r.0 q.0 r.1 q.1 lt));
+  unflushed =
+      λ k x e le. let r = get-of_map noted_fence l.parts k x e in sym (ap (λ (y : StorePart). y.first_flush) r.2)
+      ∙ h.unflushed k r.0 r.1 le;
 }
 
 -- a place of a list that one more item was put behind
@@ -68,13 +102,18 @@ place xs y k x e = go (split k (length xs) (omega (arith, get-below (xs ++ y ∷
 
     go : (k < length xs) ⊎ (k ≡ length xs) → Place xs y k x
     go (inl lt) = before lt (sym (get-append_left xs (y ∷ []) k lt) ∙ e)
-    go (inr q) = last q (let g : Some y ≡ Some x = sym (get-append_end xs y) ∙ ap (slice_get (xs ++ y ∷ [])) (sym q) ∙ e in let z : x ≡ y = cc in z)
+    go (inr q) =
+        last q (let g : Some y ≡ Some x = sym (get-append_end xs y) ∙ ap (slice_get (xs ++ y ∷ [])) (sym q) ∙ e in
+        let z : x ≡ y = cc in z)
 
 -- the new part of a store lies in its line
 part_inside : (counts : Counts) (site : Site) (levels : List Level) (o : ℕ) (bytes : List ℕ) (m b : ℕ)
     → covers (part_of_store counts site levels o bytes m) b ≡ true → b / 64 ≡ m
 part_inside counts site levels o bytes m b h =
-    let n : length (take (end_in m o (length bytes) - start_in m o) (drop (start_in m o - o) bytes)) ≡ end_in m o (length bytes) - start_in m o = length-take-le (end_in m o (length bytes) - start_in m o) (drop (start_in m o - o) bytes) (let e = length-drop (start_in m o - o) bytes in omega (arith, e)) in
+    let n : length (take (end_in m o (length bytes) - start_in m o) (drop (start_in m o - o) bytes))
+    ≡ end_in m o (length bytes) - start_in m o =
+    length-take-le (end_in m o (length bytes) - start_in m o) (drop (start_in m o - o) bytes)
+    (let e = length-drop (start_in m o - o) bytes in omega (arith, e)) in
     let r = true_over (part_of_store counts site levels o bytes m) b h in
     (byte-of_part o (length bytes) m b r.0 (bound (start_in m o) (end_in m o (length bytes)) _ b n r.0 r.1)).2
   where
@@ -105,7 +144,8 @@ well_store n m y l o inside at_line step none h = record {
 
     two : (j k : ℕ) (x z : StorePart) → Place l.parts y j x → Place l.parts y k z → j < k → x.step < z.step
     two j k x z (before lt e) (before lu g) less = h.ascend j k x z e g less
-    two j k x z (before lt e) (last q g) less = let s : z.step ≡ n = ap (λ (w : StorePart). w.step) g ∙ step in omega (arith, s, h.made j x e)
+    two j k x z (before lt e) (last q g) less =
+        let s : z.step ≡ n = ap (λ (w : StorePart). w.step) g ∙ step in omega (arith, s, h.made j x e)
     two j k x z (last q e) (before lu g) less = absurd (omega (arith, q, lu, less))
     two j k x z (last q e) (last r g) less = absurd (omega (arith, q, r, less))
 
@@ -122,41 +162,53 @@ all_later : (n : ℕ) (ls : List (Line StorePart)) → AreWell n ls → AreWell 
 all_later n ls h m l e = later n m l (h m l e)
 
 all_fence : (n : ℕ) (ls : List (Line StorePart)) → AreWell n ls → AreWell n (fenced_lines ls)
-all_fence n ls h m l e = let r = get-of_map fence_line ls m l e in subst (IsWell n m) r.2 (well_fence n m r.0 (h m r.0 r.1))
+all_fence n ls h m l e =
+    let r = get-of_map fence_line ls m l e in subst (IsWell n m) r.2 (well_fence n m r.0 (h m r.0 r.1))
 
 all_flush : (n : ℕ) (I : Input) (flush : Flush) (a size : ℕ) (ls : List (Line StorePart)) → AreWell n ls
     → AreWell n (met_lines I flush a size ls)
-all_flush n I flush a size ls h m l e = go (has_bytes m (a - I.base) size) (slice_get ls m) (λ x q. h m x q) (sym (slice_get-change_range (λ _ l. flush_line flush l) (a - I.base) size ls m) ∙ e)
+all_flush n I flush a size ls h m l e =
+    go (has_bytes m (a - I.base) size) (slice_get ls m) (λ x q. h m x q)
+    (sym (slice_get-change_range (λ _ l. flush_line flush l) (a - I.base) size ls m) ∙ e)
   where
     go : (b : Bool) (o : Option (Line StorePart)) → ((x : Line StorePart) → o ≡ Some x → IsWell n m x)
         → option_map (λ l. cond b (flush_line flush l) l) o ≡ Some l → IsWell n m l
     go b None k q = absurd (let z : ⊥ = cc in z)
-    go true (Some x) k q = let z : flush_line flush x ≡ l = cc in subst (IsWell n m) z (well_flush n m flush x (k x refl))
+    go true (Some x) k q =
+        let z : flush_line flush x ≡ l = cc in subst (IsWell n m) z (well_flush n m flush x (k x refl))
     go false (Some x) k q = k l q
 
 all_store : (n : ℕ) (counts : Counts) (site : Site) (levels : List Level) (o : ℕ) (bytes : List ℕ)
     (ls : List (Line StorePart)) → counts.steps ≡ n
     → ((m : ℕ) (l : Line StorePart) → slice_get ls m ≡ Some l → IsOrdered l) → AreWell n ls →
     AreWell (suc n) (stored (part_of_store counts site levels o bytes) o (length bytes) ls)
-all_store n counts site levels o bytes ls at ordered h m l e = go (has_bytes m o (length bytes)) refl (slice_get ls m) (λ x q. ordered m x q) (λ x q. h m x q) (sym (slice_get-change_range (λ j l. with_part (part_of_store counts site levels o bytes j) l) o (length bytes) ls m) ∙ e)
+all_store n counts site levels o bytes ls at ordered h m l e =
+    go (has_bytes m o (length bytes)) refl (slice_get ls m) (λ x q. ordered m x q) (λ x q. h m x q)
+    (sym (slice_get-change_range (λ j l. with_part (part_of_store counts site levels o bytes j) l) o
+    (length bytes) ls m) ∙ e)
   where
     part : StorePart
     part = part_of_store counts site levels o bytes m
 
     go : (b : Bool) → has_bytes m o (length bytes) ≡ b → (w : Option (Line StorePart))
         → ((x : Line StorePart) → w ≡ Some x → IsOrdered x) → ((x : Line StorePart) → w ≡ Some x → IsWell n m x) →
-        option_map (λ l. cond b (with_part (part_of_store counts site levels o bytes m) l) l) w ≡ Some l → IsWell (suc n) m l
+        option_map (λ l. cond b (with_part (part_of_store counts site levels o bytes m) l) l) w ≡ Some l
+        → IsWell (suc n) m l
     go b t None p k q = absurd (let z : ⊥ = cc in z)
     go true t (Some x) p k q =
         let z : with_part (part_of_store counts site levels o bytes m) x ≡ l = cc in
-        subst (IsWell (suc n) m) z (well_store n m (part_of_store counts site levels o bytes m) x (p x refl) (λ b c. part_inside counts site levels o bytes m b c) (line_of_start o (length bytes) m t) at refl (k x refl))
+        subst (IsWell (suc n) m) z (well_store n m (part_of_store counts site levels o bytes m) x (p x refl)
+        (λ b c. part_inside counts site levels o bytes m b c) (line_of_start o (length bytes) m t) at refl
+        (k x refl))
     go false t (Some x) p k q = later n m l (k l q)
 
 well_cases : (P : Program) (I : Input) (n : ℕ) → AreWell n (run P I n).lines
     → Cases I (run P I n) (λ e ls. AreWell (suc n) ls)
 well_cases P I n h = record {
   plain = λ e p. all_later n _ h;
-  store = λ f fs t a bytes e w. all_store n (run P I n).counts (site_of f) (levels_of (f ∷ fs)) (a - I.base) bytes _ (counted-steps P I n t.going) (λ m l q. ordered-at (run P I n).lines m l (lines_ordered P I n) q) h;
+  store =
+      λ f fs t a bytes e w. all_store n (run P I n).counts (site_of f) (levels_of (f ∷ fs)) (a - I.base) bytes _
+      (counted-steps P I n t.going) (λ m l q. ordered-at (run P I n).lines m l (lines_ordered P I n) q) h;
   flush = λ f fs t a m e. all_later n _ (all_flush n I _ a m _ h);
   persist = λ f fs t a m e. all_later n _ (all_fence n _ (all_flush n I _ a m _ h));
   fence = all_later n _ (all_fence n _ h);
@@ -172,7 +224,9 @@ empty_well m k l none = record {
 }
   where
     never : (j : ℕ) (x : StorePart) → slice_get l.parts j ≡ Some x → ⊥
-    never j x g = let q : slice_get [] j ≡ Some x = sym (ap (λ (ps : List StorePart). slice_get ps j) none) ∙ g in let z : ⊥ = cc in z
+    never j x g =
+        let q : slice_get [] j ≡ Some x = sym (ap (λ (ps : List StorePart). slice_get ps j) none) ∙ g in let z : ⊥ =
+        cc in z
 
 pub lines_well : (P : Program) (I : Input) (n : ℕ) → AreWell n (run P I n).lines
 unfolding run
@@ -197,7 +251,8 @@ has_order P I n = record {
     by : (m : ℕ) (l : Line StorePart) (k : ℕ) (x : StorePart) (f : Flush) → slice_get (run P I n).lines m ≡ Some l
         → slice_get l.parts k ≡ Some x → x.first_flush ≡ Some f → (k < l.flushed) ⊎ (l.flushed ≤ k) → k < l.flushed
     by m l k x f e g q (inl lt) = lt
-    by m l k x f e g q (inr le) = absurd (let z : None ≡ Some f = sym ((lines_well P I n m l e).unflushed k x g le) ∙ q in let w : ⊥ = cc in w)
+    by m l k x f e g q (inr le) =
+        absurd (let z : None ≡ Some f = sym ((lines_well P I n m l e).unflushed k x g le) ∙ q in let w : ⊥ = cc in w)
 
 -- ---- the last fence
 
@@ -213,7 +268,10 @@ module _ (P : Program) (I : Input) (from : ℕ) where
       go next true e (inl lt) = true_lt from n (omega (arith, s.1, lt))
       go next true e (inr q) = true_lt from n (omega (arith, s.1, q))
       go next false e (inl lt) = next (s.0, s.1, lt, s.3)
-      go next false e (inr q) = absurd (let h : fences (event P I (run P I n)) ≡ true = subst (λ m. fences (event P I (run P I m)) ≡ true) q s.3 in let b : false ≡ true = sym e ∙ h in let z : ⊥ = cc in z)
+      go next false e (inr q) =
+          absurd (let h : fences (event P I (run P I n))
+          ≡ true = subst (λ m. fences (event P I (run P I m)) ≡ true) q s.3 in let b : false ≡ true =
+          sym e ∙ h in let z : ⊥ = cc in z)
 
   before_fenced : (n : ℕ) → is_before from (last_fence P I n) ≡ true → FencedSince P I from n
   unfolding last_fence
@@ -228,4 +286,6 @@ module _ (P : Program) (I : Input) (from : ℕ) where
 
 pub fenced_by_last : (P : Program) (I : Input) (n : ℕ) (x : StorePart) → PartOf (run P I n).lines x
     → x.fenced ≡ is_before x.step (last_fence P I n)
-fenced_by_last P I n x i = both_ways _ _ (λ e. fenced_before P I x.step n (fence_told P I n x i e)) (λ e. told_by_fence P I n x i (before_fenced P I x.step n e))
+fenced_by_last P I n x i =
+    both_ways _ _ (λ e. fenced_before P I x.step n (fence_told P I n x i e))
+    (λ e. told_by_fence P I n x i (before_fenced P I x.step n e))

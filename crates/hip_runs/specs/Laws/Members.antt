@@ -78,7 +78,8 @@ module _ {A B : Type 0} (f : A → List B) where
 
   pub to_flat : (xs : List A) (y : B) (m : ℕ) (x : A) → slice_get xs m ≡ Some x → In y (f x) → In y (flat_map f xs)
   to_flat [] y m x e i = absurd (let z : ⊥ = cc in z)
-  to_flat (z ∷ xs) y zero x e i = let q : x ≡ z = cc in append-left (f z) (flat_map f xs) y (subst (λ w. In y (f w)) q i)
+  to_flat (z ∷ xs) y zero x e i =
+      let q : x ≡ z = cc in append-left (f z) (flat_map f xs) y (subst (λ w. In y (f w)) q i)
   to_flat (z ∷ xs) y (suc m) x e i = append-right (f z) (flat_map f xs) y (to_flat xs y m x e i)
 
 pub in_at : {A : Type 0} (xs : List A) (k : ℕ) (x : A) → slice_get xs k ≡ Some x → In x xs

@@ -36,18 +36,21 @@ some_bytes n b h = grind (arith, nat_tests)
 same_lines : (base o n j : ℕ) → 0 < n
     → has_bytes j (base + 64 * (o / 64) - base) (64 * ((o + n - 1) / 64 + 1) - 64 * (o / 64)) ≡ has_bytes j o n
 same_lines base o n j lt =
-    ap (λ k. has_bytes j k (64 * ((o + n - 1) / 64 + 1) - 64 * (o / 64))) (let e : base + 64 * (o / 64) - base ≡ 64 * (o / 64) = omega arith in e)
+    ap (λ k. has_bytes j k (64 * ((o + n - 1) / 64 + 1) - 64 * (o / 64)))
+    (let e : base + 64 * (o / 64) - base ≡ 64 * (o / 64) = omega arith in e)
     ∙ both_ways _ _ (lines_there o n j lt) (there_lines o n j lt)
 
 same_changes : {L : Type 0} (f : ℕ → L → L) (o n o' n' : ℕ) → ((j : ℕ) → has_bytes j o n ≡ has_bytes j o' n')
     → (j : ℕ) (ls : List L) → change_from f o n j ls ≡ change_from f o' n' j ls
 same_changes f o n o' n' h j [] = refl
-same_changes f o n o' n' h j (l ∷ ls) = ap₂ (λ b rest. cond b (f j l) l ∷ rest) (h j) (same_changes f o n o' n' h (suc j) ls)
+same_changes f o n o' n' h j (l ∷ ls) =
+    ap₂ (λ b rest. cond b (f j l) l ∷ rest) (h j) (same_changes f o n o' n' h (suc j) ls)
 
 flushed_alike : (I : Input) (flush : Flush) (a n : ℕ) (ls : List (Line StorePart)) → flushes_lines I a n ≡ true
     → met_lines I flush a n ls ≡ flushed_by I flush (first_line I a) (lines_size I a n) ls
 flushed_alike I flush a n ls h =
-    sym (same_changes (λ _ l. flush_line flush l) (first_line I a - I.base) (lines_size I a n) (a - I.base) n (λ j. same_lines I.base (a - I.base) n j (some_bytes n (in_region I a n) h)) 0 ls)
+    sym (same_changes (λ _ l. flush_line flush l) (first_line I a - I.base) (lines_size I a n) (a - I.base) n
+    (λ j. same_lines I.base (a - I.base) n j (some_bytes n (in_region I a n) h)) 0 ls)
 
 -- ---- the next lines
 
@@ -68,14 +71,22 @@ plain_next I s (events.End e) p = refl
 module _ (I : Input) (s : State) (f : Frame) (fs : List Frame) (t : IsTop s f fs) where
   at_top : (e : Event) (ls : List (Line StorePart))
       → ls ≡ lines_after I e s.counts (Some (site_of f)) (levels_of (f ∷ fs)) s.lines → Next I s e ls
-  at_top e ls h = subst (λ (gs : List Frame). ls ≡ lines_after I e s.counts (top_site gs) (levels_of gs) s.lines) (sym t.frames) h
+  at_top e ls h =
+      subst (λ (gs : List Frame). ls ≡ lines_after I e s.counts (top_site gs) (levels_of gs) s.lines) (sym t.frames) h
 
 next_cases : (I : Input) (s : State) → Cases I s (Next I s)
 next_cases I s = record {
   plain = λ e p. plain_next I s e p;
-  store = λ f fs t a bytes e w. at_top I s f fs t (events.Store a (little_endian bytes) (length bytes)) _ (ap (λ bs. stored (part_of_store s.counts (site_of f) (levels_of (f ∷ fs)) (a - I.base) bs) (a - I.base) (length bytes) s.lines) (sym w));
-  flush = λ f fs t a n e. at_top I s f fs t (events.Flush (first_line I a) (lines_size I a n)) _ (flushed_alike I (flush_here s f) a n s.lines e);
-  persist = λ f fs t a n e. at_top I s f fs t (events.Persist (first_line I a) (lines_size I a n)) _ (ap fenced_lines (flushed_alike I (flush_here s f) a n s.lines e));
+  store =
+      λ f fs t a bytes e w. at_top I s f fs t (events.Store a (little_endian bytes) (length bytes)) _
+      (ap (λ bs. stored (part_of_store s.counts (site_of f) (levels_of (f ∷ fs)) (a - I.base) bs) (a - I.base)
+      (length bytes) s.lines) (sym w));
+  flush =
+      λ f fs t a n e. at_top I s f fs t (events.Flush (first_line I a) (lines_size I a n)) _
+      (flushed_alike I (flush_here s f) a n s.lines e);
+  persist =
+      λ f fs t a n e. at_top I s f fs t (events.Persist (first_line I a) (lines_size I a n)) _
+      (ap fenced_lines (flushed_alike I (flush_here s f) a n s.lines e));
   fence = refl;
 }
 
@@ -150,15 +161,18 @@ rests-ended P I n h = go (run P I n).world.ending refl h
     go (Some x) q e = ap (on_ending P I (run P I n)) q
 
 -- while the run goes on, a step counts itself, and its entry if it has one
-pub counts-next : (P : Program) (I : Input) (n : ℕ) → has_ended (run P I n) ≡ false → (run P I (suc n)).counts ≡ counted (event P I (run P I n)) (run P I n).counts
+pub counts-next : (P : Program) (I : Input) (n : ℕ) → has_ended (run P I n) ≡ false
+    → (run P I (suc n)).counts ≡ counted (event P I (run P I n)) (run P I n).counts
 unfolding run step event on_ending on_frames
 counts-next P I n h = go (run P I n).world.ending h
   where
-    on_them : (s : State) (fs : List Frame) → has_frame fs ≡ true → (on_frames P I s.world s.lines s.counts fs).counts ≡ counted (event_on_frames P I s.world fs) s.counts
+    on_them : (s : State) (fs : List Frame) → has_frame fs ≡ true
+        → (on_frames P I s.world s.lines s.counts fs).counts ≡ counted (event_on_frames P I s.world fs) s.counts
     on_them s [] e = absurd (let z : ⊥ = cc in z)
     on_them s (f ∷ fs) e = carry_counts I s.world f fs s.lines s.counts _ (deed_at P I s.world f fs)
 
-    go : (o : Option Ending) → is_some o ≡ false → (on_ending P I (run P I n) o).counts ≡ counted (event_on_ending P I (run P I n) o) (run P I n).counts
+    go : (o : Option Ending) → is_some o ≡ false
+        → (on_ending P I (run P I n) o).counts ≡ counted (event_on_ending P I (run P I n) o) (run P I n).counts
     go None e = on_them (run P I n) (run P I n).frames (standing-frame P I n)
     go (Some x) e = absurd (let z : ⊥ = cc in z)
 
@@ -177,8 +191,12 @@ entries_rise P I n = go (step_counts P I (run P I n))
 
     go : ((step P I (run P I n)).counts ≡ (run P I n).counts)
         ⊎ ((step P I (run P I n)).counts ≡ counted (event P I (run P I n)) (run P I n).counts) → IsRise P I n
-    go (inl e) = let q : (step P I (run P I n)).counts.entries ≡ (run P I n).counts.entries = ap (λ (c : Counts). c.entries) e in record { least = omega (arith, q); most = omega (arith, q) }
-    go (inr e) = let r = by_entry (has_entry (event P I (run P I n))) _ (run P I n).counts.entries (ap (λ (c : Counts). c.entries) e) in record { least = r.0; most = r.1 }
+    go (inl e) =
+        let q : (step P I (run P I n)).counts.entries ≡ (run P I n).counts.entries =
+        ap (λ (c : Counts). c.entries) e in record { least = omega (arith, q); most = omega (arith, q) }
+    go (inr e) =
+        let r = by_entry (has_entry (event P I (run P I n))) _ (run P I n).counts.entries
+        (ap (λ (c : Counts). c.entries) e) in record { least = r.0; most = r.1 }
 
 module _ (P : Program) (I : Input) (entry : ℕ) where
   abbrev entries : ℕ → ℕ
@@ -229,4 +247,5 @@ module _ (P : Program) (I : Input) (entry : ℕ) where
   pub entry_exact : (n : ℕ) → header_entries I < entry → IsAtEntry P I entry n → entries n ≡ entry
   unfolding run
   entry_exact zero h a = absurd (let le = a.enough in omega (arith, le, h))
-  entry_exact (suc n) h a = let lt = a.least n (omega arith) in let r = entries_rise P I n in omega (arith, lt, r.most, a.enough)
+  entry_exact (suc n) h a =
+      let lt = a.least n (omega arith) in let r = entries_rise P I n in omega (arith, lt, r.most, a.enough)

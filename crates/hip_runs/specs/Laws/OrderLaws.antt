@@ -28,24 +28,56 @@ module _ (P : Program) (I : Input) (n j from : ℕ) where
     where
       go : (s.0 < n) ⊎ (s.0 ≡ n) → FlushedSince P I j from n
       go (inl lt) = (s.0, s.1, lt, s.3)
-      go (inr e) = absurd (let h : flushes I.base j Now ≡ true = subst (λ m. flushes I.base j (event P I (run P I m)) ≡ true) e s.3 in let b : false ≡ true = sym q ∙ h in let z : ⊥ = cc in z)
+      go (inr e) =
+          absurd (let h : flushes I.base j Now ≡ true = subst
+          (λ m. flushes I.base j (event P I (run P I m)) ≡ true) e s.3 in let b : false ≡ true =
+          sym q ∙ h in let z : ⊥ = cc in z)
 
   both_more : IsFlushedThenFenced P I j from n → IsFlushedThenFenced P I j from (suc n)
-  both_more s = record { flush = s.flush; fence = s.fence; after = s.after; ordered = s.ordered; before = omega (arith, s.before); flushed = s.flushed; fenced = s.fenced }
+  both_more s =
+      record {
+        flush = s.flush;
+        fence = s.fence;
+        after = s.after;
+        ordered = s.ordered;
+        before = omega (arith, s.before);
+        flushed = s.flushed;
+        fenced = s.fenced;
+      }
 
   both_before : fences Now ≡ false → IsFlushedThenFenced P I j from (suc n) → IsFlushedThenFenced P I j from n
   both_before q s = go (below s.fence n s.before)
     where
       go : (s.fence < n) ⊎ (s.fence ≡ n) → IsFlushedThenFenced P I j from n
-      go (inl lt) = record { flush = s.flush; fence = s.fence; after = s.after; ordered = s.ordered; before = lt; flushed = s.flushed; fenced = s.fenced }
-      go (inr e) = absurd (let h : fences Now ≡ true = subst (λ m. fences (event P I (run P I m)) ≡ true) e s.fenced in let b : false ≡ true = sym q ∙ h in let z : ⊥ = cc in z)
+      go (inl lt) =
+          record {
+            flush = s.flush;
+            fence = s.fence;
+            after = s.after;
+            ordered = s.ordered;
+            before = lt;
+            flushed = s.flushed;
+            fenced = s.fenced;
+          }
+      go (inr e) =
+          absurd (let h : fences Now ≡ true = subst (λ m. fences (event P I (run P I m)) ≡ true) e s.fenced in
+          let b : false ≡ true = sym q ∙ h in let z : ⊥ = cc in z)
 
   -- a flush that a fence follows came before this step, unless this step flushes
   flush_of_both : IsFlushedThenFenced P I j from (suc n) → FlushedSince P I j from (suc n)
   flush_of_both s = (s.flush, s.after, omega (arith, s.ordered, s.before), s.flushed)
 
   then_fenced : fences Now ≡ true → FlushedSince P I j from n → IsFlushedThenFenced P I j from (suc n)
-  then_fenced q s = record { flush = s.0; fence = n; after = s.1; ordered = omega (arith, s.2); before = omega arith; flushed = s.3; fenced = q }
+  then_fenced q s =
+      record {
+        flush = s.0;
+        fence = n;
+        after = s.1;
+        ordered = omega (arith, s.2);
+        before = omega arith;
+        flushed = s.3;
+        fenced = q;
+      }
 
 -- At place k of line j, of which so many parts are flushed and durable, stands a part of a store of step `from`, before
 -- step n.
@@ -96,7 +128,16 @@ module _ (P : Program) (I : Input) (n j from k : ℕ) where
     made = omega (arith, h.made);
     flushed = λ lt. (n, h.made, omega arith, r);
     by_flush = λ s. c;
-    durable = λ lt. record { flush = n; fence = n; after = h.made; ordered = omega arith; before = omega arith; flushed = r; fenced = q };
+    durable =
+        λ lt. record {
+          flush = n;
+          fence = n;
+          after = h.made;
+          ordered = omega arith;
+          before = omega arith;
+          flushed = r;
+          fenced = q;
+        };
     by_fence = λ s. c;
   }
 
@@ -150,13 +191,15 @@ module _ (P : Program) (I : Input) (n j : ℕ) where
   line_flush flush q r l h k y e =
       let b = get-of_map (noted_flush flush) l.parts k y e in
       subst (λ (z : StorePart). IsSeen P I (suc n) j z.step k (length (map (noted_flush flush) l.parts)) l.durable) b.2
-      (seen_flush P I n j b.0.step k l.flushed l.durable (length (map (noted_flush flush) l.parts)) (get_below (map (noted_flush flush) l.parts) k y e) q r (h k b.0 b.1))
+      (seen_flush P I n j b.0.step k l.flushed l.durable (length (map (noted_flush flush) l.parts))
+      (get_below (map (noted_flush flush) l.parts) k y e) q r (h k b.0 b.1))
 
   line_fence : fences Now_there ≡ true → flushes I.base j Now_there ≡ false → (l : Line StorePart) → InSeen n l
       → InSeen (suc n) (fence_line l)
   line_fence q r l h k y e =
       let b = get-of_map noted_fence l.parts k y e in
-      subst (λ (z : StorePart). IsSeen P I (suc n) j z.step k l.flushed l.flushed) b.2 (seen_fence P I n j b.0.step k l.flushed l.durable q r (h k b.0 b.1))
+      subst (λ (z : StorePart). IsSeen P I (suc n) j z.step k l.flushed l.flushed) b.2
+      (seen_fence P I n j b.0.step k l.flushed l.durable q r (h k b.0 b.1))
 
   line_persist : (flush : Flush) → fences Now_there ≡ true → flushes I.base j Now_there ≡ true → (l : Line StorePart)
       → InSeen n l → InSeen (suc n) (fence_line (flush_line flush l))
@@ -165,7 +208,8 @@ module _ (P : Program) (I : Input) (n j : ℕ) where
       let b = get-of_map (noted_flush flush) l.parts k c.0 c.1 in
       let count = length (map (noted_flush flush) l.parts) in
       subst (λ (y : StorePart). IsSeen P I (suc n) j y.step k count count) (ap noted_fence b.2 ∙ c.2)
-      (seen_persist P I n j b.0.step k l.flushed l.durable count (get_below (map (noted_flush flush) l.parts) k c.0 c.1) q r (h k b.0 b.1))
+      (seen_persist P I n j b.0.step k l.flushed l.durable count
+      (get_below (map (noted_flush flush) l.parts) k c.0 c.1) q r (h k b.0 b.1))
 
   line_store : (part : StorePart) → part.step ≡ n → fences Now_there ≡ false → flushes I.base j Now_there ≡ false
       → (l : Line StorePart) → IsOrdered l → InSeen n l → InSeen (suc n) (with_part part l)
@@ -174,7 +218,9 @@ module _ (P : Program) (I : Input) (n j : ℕ) where
       go : (slice_get l.parts k ≡ Some x) ⊎ ((k ≡ length l.parts) × (x ≡ part))
           → IsSeen P I (suc n) j x.step k l.flushed l.durable
       go (inl g) = line_same q r l h k x g
-      go (inr g) = seen_new P I n j x.step k l.flushed l.durable (ap (λ (y : StorePart). y.step) g.1 ∙ at) (omega (arith, o.flushed, g.0)) (omega (arith, o.durable, o.flushed, g.0))
+      go (inr g) =
+          seen_new P I n j x.step k l.flushed l.durable (ap (λ (y : StorePart). y.step) g.1 ∙ at)
+          (omega (arith, o.flushed, g.0)) (omega (arith, o.durable, o.flushed, g.0))
 
   all_same : fences Now_there ≡ false → flushes I.base j Now_there ≡ false → (o : Option (Line StorePart)) → AllSeen n o
       → AllSeen (suc n) o
@@ -218,16 +264,24 @@ module _ (P : Program) (I : Input) (n : ℕ) where
 
   seen_cases : AreSeen n (run P I n).lines → Cases I (run P I n) Next
   seen_cases seen = record {
-    plain = λ e p q j. all_same P I n j (ap fences q ∙ plain_fences e p) (ap (flushes I.base j) q ∙ plain_flushes I.base j e p) (slice_get (run P I n).lines j) (seen j);
+    plain =
+        λ e p q j. all_same P I n j (ap fences q ∙ plain_fences e p)
+        (ap (flushes I.base j) q ∙ plain_flushes I.base j e p) (slice_get (run P I n).lines j) (seen j);
     store = λ f fs t a bytes e w q j.
         subst (AllSeen P I n j (suc n)) (sym (slice_get-change_range _ (a - I.base) (length bytes) (run P I n).lines j))
-        (all_store P I n j (part_of_store (run P I n).counts (site_of f) (levels_of (f ∷ fs)) (a - I.base) bytes j) (counted-steps P I n t.going) (ap fences q) (ap (flushes I.base j) q) (has_bytes j (a - I.base) (length bytes)) (slice_get (run P I n).lines j) (λ l g. ordered-at (run P I n).lines j l (lines_ordered P I n) g) (seen j));
+        (all_store P I n j (part_of_store (run P I n).counts (site_of f) (levels_of (f ∷ fs)) (a - I.base) bytes j)
+        (counted-steps P I n t.going) (ap fences q) (ap (flushes I.base j) q)
+        (has_bytes j (a - I.base) (length bytes)) (slice_get (run P I n).lines j)
+        (λ l g. ordered-at (run P I n).lines j l (lines_ordered P I n) g) (seen j));
     flush = λ f fs t a m e q j.
         subst (AllSeen P I n j (suc n)) (sym (slice_get-change_range _ (a - I.base) m (run P I n).lines j))
-        (all_flush P I n j _ (ap fences q) (has_bytes j (a - I.base) m) (ap (flushes I.base j) q ∙ line_met I a m j e) (slice_get (run P I n).lines j) (seen j));
+        (all_flush P I n j _ (ap fences q) (has_bytes j (a - I.base) m) (ap (flushes I.base j) q ∙ line_met I a m j e)
+        (slice_get (run P I n).lines j) (seen j));
     persist = λ f fs t a m e q j.
-        subst (AllSeen P I n j (suc n)) (sym (get_mapped fence_line _ j ∙ ap (option_map fence_line) (slice_get-change_range _ (a - I.base) m (run P I n).lines j)))
-        (all_persist P I n j _ (ap fences q) (has_bytes j (a - I.base) m) (ap (flushes I.base j) q ∙ line_met I a m j e) (slice_get (run P I n).lines j) (seen j));
+        subst (AllSeen P I n j (suc n)) (sym (get_mapped fence_line _ j
+        ∙ ap (option_map fence_line) (slice_get-change_range _ (a - I.base) m (run P I n).lines j)))
+        (all_persist P I n j _ (ap fences q) (has_bytes j (a - I.base) m) (ap (flushes I.base j) q ∙ line_met I a m j e)
+        (slice_get (run P I n).lines j) (seen j));
     fence = λ q j.
         subst (AllSeen P I n j (suc n)) (sym (get_mapped fence_line (run P I n).lines j))
         (all_fence P I n j (ap fences q) (ap (flushes I.base j) q) (slice_get (run P I n).lines j) (seen j));
@@ -258,7 +312,8 @@ run_seen P I (suc n) j = seen_next P I n (run_seen P I n) j
 part_seen : (P : Program) (I : Input) (n j k : ℕ) (x : StorePart) (l : Line StorePart)
     → slice_get (run P I n).lines j ≡ Some l → slice_get l.parts k ≡ Some x
     → IsSeen P I n j x.step k l.flushed l.durable
-part_seen P I n j k x l e g = let all : AllSeen P I n j n (Some l) = subst (AllSeen P I n j n) e (run_seen P I n j) in all k x g
+part_seen P I n j k x l e g =
+    let all : AllSeen P I n j n (Some l) = subst (AllSeen P I n j n) e (run_seen P I n j) in all k x g
 
 -- a durable part's line was flushed after the store, and a fence came behind the flush
 pub durable_told : (P : Program) (I : Input) (n j k : ℕ) (x : StorePart) → IsDurableAt (run P I n) j k x

@@ -40,7 +40,9 @@ either false e f B told x p q = q
 
 one_of : {before after : World} → IsKept before after → (b : Bool) (e f : Event) → printed_by e ≡ []
     → ending_by e ≡ None → printed_by f ≡ [] → ending_by f ≡ None → IsTold before after (cond b e f)
-one_of kept b e f p q r t = nothing kept (cond b e f) (either b e f (List ℕ) printed_by [] p r) (either b e f (Option Ending) ending_by None q t)
+one_of kept b e f p q r t =
+    nothing kept (cond b e f) (either b e f (List ℕ) printed_by [] p r)
+    (either b e f (Option Ending) ending_by None q t)
 
 ended : {before w : World} → IsKept before w → (e : Ending)
     → IsTold before (record w { ending = Some e }) (events.End e)
@@ -51,21 +53,27 @@ module _ {before w : World} (kept : IsKept before w) (I : Input) where
       → IsTold before (leave v w f fs ls after).world (event_of I fs (Returns v))
   unfolding leave
   leave_told v f [] ls after = ended kept _
-  leave_told v f (g ∷ fs) ls after = nothing (record { output = kept.output; going = kept.going }) events.Quiet refl refl
+  leave_told v f (g ∷ fs) ls after =
+      nothing (record { output = kept.output; going = kept.going }) events.Quiet refl refl
 
   perform_told : (f : Frame) (fs : List Frame) (ls : List (Line StorePart)) (counts after : Counts) (x : Action)
       → IsTold before (perform I w f fs ls counts after x).world (event_of I fs x)
   unfolding perform
   perform_told f fs ls counts after (Traps kind) = ended kept _
   perform_told f fs ls counts after (Assigns to v) = nothing kept events.Quiet refl refl
-  perform_told f fs ls counts after (Allocates to a n) = nothing (record { output = kept.output; going = kept.going }) events.Quiet refl refl
-  perform_told f fs ls counts after (Stores a bytes) = one_of (record { output = kept.output; going = kept.going }) (in_region I a (length bytes)) _ _ refl refl refl refl
+  perform_told f fs ls counts after (Allocates to a n) =
+      nothing (record { output = kept.output; going = kept.going }) events.Quiet refl refl
+  perform_told f fs ls counts after (Stores a bytes) =
+      one_of (record { output = kept.output; going = kept.going })
+      (in_region I a (length bytes)) _ _ refl refl refl refl
   perform_told f fs ls counts after (Flushes a n) = one_of kept (flushes_lines I a n) _ _ refl refl refl refl
   perform_told f fs ls counts after (Persists a n) = one_of kept (flushes_lines I a n) _ _ refl refl refl refl
   perform_told f fs ls counts after Fences = nothing kept events.Fence refl refl
   perform_told f fs ls counts after (Asserts a n) = nothing kept (events.Assert a n) refl refl
-  perform_told f fs ls counts after (Prints z) = record { output = ap (λ text. text ++ (signed_decimal z ++ codes "\n")) kept.output; ending = kept.going }
-  perform_told f fs ls counts after (Reads to z rest) = nothing (record { output = kept.output; going = kept.going }) events.Quiet refl refl
+  perform_told f fs ls counts after (Prints z) =
+      record { output = ap (λ text. text ++ (signed_decimal z ++ codes "\n")) kept.output; ending = kept.going }
+  perform_told f fs ls counts after (Reads to z rest) =
+      nothing (record { output = kept.output; going = kept.going }) events.Quiet refl refl
   perform_told f fs ls counts after (Calls g rs to) = nothing kept events.Quiet refl refl
   perform_told f fs ls counts after (Jumps b rs) = nothing kept events.Quiet refl refl
   perform_told f fs ls counts after (Returns v) = leave_told v f fs ls after

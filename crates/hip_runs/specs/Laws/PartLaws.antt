@@ -49,7 +49,8 @@ part-flushed_from flush o n j (l ∷ ls) y (inl i) = here (has_bytes j o n) i
         → (x : StorePart) × PartOf (l ∷ ls) x × IsFlushedFrom flush y x
     here true i = let r = in-map (noted_flush flush) l.parts y i in (r.0, inl r.1, inr r.2)
     here false i = (y, inl i, inl refl)
-part-flushed_from flush o n j (l ∷ ls) y (inr i) = let r = part-flushed_from flush o n (suc j) ls y i in (r.0, inr r.1, r.2)
+part-flushed_from flush o n j (l ∷ ls) y (inr i) =
+    let r = part-flushed_from flush o n (suc j) ls y i in (r.0, inr r.1, r.2)
 
 pub part-flushed : (I : Input) (flush : Flush) (a n : ℕ) (ls : List (Line StorePart)) (y : StorePart)
     → PartOf (flushed_lines I flush a n ls) y → (x : StorePart) × PartOf ls x × IsFlushedFrom flush y x

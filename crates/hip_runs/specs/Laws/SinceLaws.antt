@@ -37,7 +37,9 @@ module _ (P : Program) (I : Input) (n : ℕ) where
     where
       go : (s.0 < n) ⊎ (s.0 ≡ n) → FencedSince P I from n
       go (inl lt) = (s.0, s.1, lt, s.3)
-      go (inr e) = absurd (let h : fences Now ≡ true = subst (λ m. fences (event P I (run P I m)) ≡ true) e s.3 in let b : false ≡ true = sym q ∙ h in let z : ⊥ = cc in z)
+      go (inr e) =
+          absurd (let h : fences Now ≡ true = subst (λ m. fences (event P I (run P I m)) ≡ true) e s.3 in
+          let b : false ≡ true = sym q ∙ h in let z : ⊥ = cc in z)
 
   module _ (j from : ℕ) where
     unflushed_more : flushes I.base j Now ≡ false → NotFlushedSince P I j from n → NotFlushedSince P I j from (suc n)
@@ -48,7 +50,14 @@ module _ (P : Program) (I : Input) (n : ℕ) where
         go (inr e) = subst (λ i. flushes I.base j (event P I (run P I i)) ≡ false) (sym e) q
 
     first_more : (flush : Flush) → IsFirst P I j from n flush → IsFirst P I j from (suc n) flush
-    first_more flush h = record { after = h.after; before = omega (arith, h.before); flushed = h.flushed; first = h.first; site = h.site }
+    first_more flush h =
+        record {
+          after = h.after;
+          before = omega (arith, h.before);
+          flushed = h.flushed;
+          first = h.first;
+          site = h.site;
+        }
 
     flush_kept : flushes I.base j Now ≡ false → (o : Option Flush) → IsFirstFlush P I j from n o
         → IsFirstFlush P I j from (suc n) o
@@ -133,7 +142,9 @@ module _ (P : Program) (I : Input) (n j : ℕ) where
     made = omega (arith, step);
     fenced = λ e. absurd (let b : false ≡ true = sym fenced ∙ e in let z : ⊥ = cc in z);
     by_fence = λ s. absurd (omega (arith, step, s.1, s.2));
-    flush = subst (λ o. IsFirstFlush P I j x.step (suc n) o) (sym flush) (λ m after before. absurd (omega (arith, step, after, before)));
+    flush =
+        subst (λ o. IsFirstFlush P I j x.step (suc n) o) (sym flush)
+        (λ m after before. absurd (omega (arith, step, after, before)));
   }
 
 -- ---- the parts of a line
@@ -166,7 +177,9 @@ of_fenced ls j y i = go (slice_get ls j) (subst (λ o. InLine o y) (get_mapped f
 pub of_flushed : (I : Input) (flush : Flush) (a n : ℕ) (ls : List (Line StorePart)) (j : ℕ) (y : StorePart)
     → InLine (slice_get (met_lines I flush a n ls) j) y
     → (x : StorePart) × InLine (slice_get ls j) x × (y ≡ cond (has_bytes j (a - I.base) n) (noted_flush flush x) x)
-of_flushed I flush a n ls j y i = go (has_bytes j (a - I.base) n) (slice_get ls j) (subst (λ o. InLine o y) (slice_get-change_range (λ _ l. flush_line flush l) (a - I.base) n ls j) i)
+of_flushed I flush a n ls j y i =
+    go (has_bytes j (a - I.base) n) (slice_get ls j)
+    (subst (λ o. InLine o y) (slice_get-change_range (λ _ l. flush_line flush l) (a - I.base) n ls j) i)
   where
     go : (b : Bool) (o : Option (Line StorePart)) → InLine (option_map (λ l. cond b (flush_line flush l) l) o) y
         → (x : StorePart) × InLine o x × (y ≡ cond b (noted_flush flush x) x)
@@ -177,7 +190,9 @@ of_flushed I flush a n ls j y i = go (has_bytes j (a - I.base) n) (slice_get ls 
 pub of_stored : (part : ℕ → StorePart) (o n : ℕ) (ls : List (Line StorePart)) (j : ℕ) (y : StorePart)
     → InLine (slice_get (stored part o n ls) j) y
     → InLine (slice_get ls j) y ⊎ ((has_bytes j o n ≡ true) × (y ≡ part j))
-of_stored part o n ls j y i = go (has_bytes j o n) (slice_get ls j) (subst (λ z. InLine z y) (slice_get-change_range (λ k l. with_part (part k) l) o n ls j) i)
+of_stored part o n ls j y i =
+    go (has_bytes j o n) (slice_get ls j) (subst (λ z. InLine z y)
+    (slice_get-change_range (λ k l. with_part (part k) l) o n ls j) i)
   where
     last : {A : Type 0} → A ⊎ In y (part j ∷ []) → A ⊎ ((true ≡ true) × (y ≡ part j))
     last (inl h) = inl h
@@ -255,20 +270,32 @@ module _ (P : Program) (I : Input) (n : ℕ) where
 
   told_cases : AreTold n (run P I n).lines → Cases I (run P I n) Next
   told_cases told = record {
-    plain = λ e p q j x i. told_same P I n j (ap fences q ∙ plain_fences e p) (ap (flushes I.base j) q ∙ plain_flushes I.base j e p) x (told j x i);
-    store = λ f fs t a bytes e w q j x i. by_store f fs t a bytes e q j x (of_stored _ (a - I.base) (length bytes) _ j x i);
-    flush = λ f fs t a m e q j y i. let r = of_flushed I _ a m _ j y i in subst (IsTold P I (suc n) j) (sym r.2) (by_flush f fs t a m j r.0 q (has_bytes j (a - I.base) m) (line_met I a m j e) (told j r.0 r.1));
+    plain =
+        λ e p q j x i. told_same P I n j (ap fences q ∙ plain_fences e p)
+        (ap (flushes I.base j) q ∙ plain_flushes I.base j e p) x (told j x i);
+    store =
+        λ f fs t a bytes e w q j x i. by_store f fs t a bytes e q j x (of_stored _ (a - I.base) (length bytes) _ j x i);
+    flush =
+        λ f fs t a m e q j y i. let r = of_flushed I _ a m _ j y i in
+        subst (IsTold P I (suc n) j) (sym r.2) (by_flush f fs t a m j r.0 q (has_bytes j (a - I.base) m)
+        (line_met I a m j e) (told j r.0 r.1));
     persist = λ f fs t a m e q j z i.
         let s = of_fenced _ j z i in
         let r = of_flushed I _ a m _ j s.0 s.1 in
-        subst (IsTold P I (suc n) j) (sym (s.2 ∙ ap noted_fence r.2)) (by_persist f fs t a m j r.0 q (has_bytes j (a - I.base) m) (line_met I a m j e) (told j r.0 r.1));
-    fence = λ q j y i. let r = of_fenced _ j y i in subst (IsTold P I (suc n) j) (sym r.2) (told_fence P I n j (ap fences q) (ap (flushes I.base j) q) r.0 (told j r.0 r.1));
+        subst (IsTold P I (suc n) j) (sym (s.2 ∙ ap noted_fence r.2))
+        (by_persist f fs t a m j r.0 q (has_bytes j (a - I.base) m) (line_met I a m j e) (told j r.0 r.1));
+    fence =
+        λ q j y i. let r = of_fenced _ j y i in subst (IsTold P I (suc n) j) (sym r.2)
+        (told_fence P I n j (ap fences q) (ap (flushes I.base j) q) r.0 (told j r.0 r.1));
   }
     where
       by_store : (f : Frame) (fs : List Frame) → IsTop (run P I n) f fs → (a : ℕ) (bytes : List ℕ)
           → in_region I a (length bytes) ≡ true →
           {value : ℕ} → event P I (run P I n) ≡ events.Store a value (length bytes) → (j : ℕ) (x : StorePart) →
-          InLine (slice_get (run P I n).lines j) x ⊎ ((has_bytes j (a - I.base) (length bytes) ≡ true) × (x ≡ part_of_store (run P I n).counts (site_of f) (levels_of (f ∷ fs)) (a - I.base) bytes j)) → IsTold P I (suc n) j x
+          InLine (slice_get (run P I n).lines j) x
+          ⊎ ((has_bytes j (a - I.base) (length bytes) ≡ true)
+          × (x ≡ part_of_store (run P I n).counts (site_of f) (levels_of (f ∷ fs)) (a - I.base) bytes j))
+          → IsTold P I (suc n) j x
       by_store f fs t a bytes e q j x (inl i) = told_same P I n j (ap fences q) (ap (flushes I.base j) q) x (told j x i)
       by_store f fs t a bytes e q j x (inr r) = told_new P I n j x
           (ap (λ (y : StorePart). y.offset / 64) r.1 ∙ line_of_start (a - I.base) (length bytes) j r.0)
@@ -278,14 +305,18 @@ module _ (P : Program) (I : Input) (n : ℕ) where
 
       by_flush : (f : Frame) (fs : List Frame) → IsTop (run P I n) f fs → (a m j : ℕ) (x : StorePart)
           → event P I (run P I n) ≡ events.Flush (first_line I a) (lines_size I a m) →
-          (b : Bool) → has_line I.base j (first_line I a) (lines_size I a m) ≡ b → IsTold P I n j x → IsTold P I (suc n) j (cond b (noted_flush (flush_here (run P I n) f) x) x)
-      by_flush f fs t a m j x q true e h = told_flush P I n j _ (here f fs t) (ap fences q) (ap (flushes I.base j) q ∙ e) x h
+          (b : Bool) → has_line I.base j (first_line I a) (lines_size I a m) ≡ b → IsTold P I n j x
+          → IsTold P I (suc n) j (cond b (noted_flush (flush_here (run P I n) f) x) x)
+      by_flush f fs t a m j x q true e h =
+          told_flush P I n j _ (here f fs t) (ap fences q) (ap (flushes I.base j) q ∙ e) x h
       by_flush f fs t a m j x q false e h = told_same P I n j (ap fences q) (ap (flushes I.base j) q ∙ e) x h
 
       by_persist : (f : Frame) (fs : List Frame) → IsTop (run P I n) f fs → (a m j : ℕ) (x : StorePart)
           → event P I (run P I n) ≡ events.Persist (first_line I a) (lines_size I a m) →
-          (b : Bool) → has_line I.base j (first_line I a) (lines_size I a m) ≡ b → IsTold P I n j x → IsTold P I (suc n) j (noted_fence (cond b (noted_flush (flush_here (run P I n) f) x) x))
-      by_persist f fs t a m j x q true e h = told_persist P I n j _ (here f fs t) (ap fences q) (ap (flushes I.base j) q ∙ e) x h
+          (b : Bool) → has_line I.base j (first_line I a) (lines_size I a m) ≡ b → IsTold P I n j x
+          → IsTold P I (suc n) j (noted_fence (cond b (noted_flush (flush_here (run P I n) f) x) x))
+      by_persist f fs t a m j x q true e h =
+          told_persist P I n j _ (here f fs t) (ap fences q) (ap (flushes I.base j) q ∙ e) x h
       by_persist f fs t a m j x q false e h = told_fence P I n j (ap fences q) (ap (flushes I.base j) q ∙ e) x h
 
   told_next : AreTold n (run P I n).lines → AreTold (suc n) (run P I (suc n)).lines
@@ -308,7 +339,9 @@ run_told P I (suc n) j x i = told_next P I n (run_told P I n) j x i
 
 part_told : (P : Program) (I : Input) (n : ℕ) (x : StorePart) → PartOf (run P I n).lines x
     → IsTold P I n (x.offset / 64) x
-part_told P I n x i = let r = line_of_part (run P I n).lines x i in let t = run_told P I n r.0 x r.1 in subst (λ j. IsTold P I n j x) (sym t.line) t
+part_told P I n x i =
+    let r = line_of_part (run P I n).lines x i in let t =
+    run_told P I n r.0 x r.1 in subst (λ j. IsTold P I n j x) (sym t.line) t
 
 -- a part tells that a fence met it, if one did, and only then
 pub fence_told : (P : Program) (I : Input) (n : ℕ) (x : StorePart) → PartOf (run P I n).lines x → x.fenced ≡ true
@@ -347,4 +380,6 @@ module _ (P : Program) (I : Input) (j from n : ℕ) where
       go : (f.step < g.step) ⊎ ((f.step ≡ g.step) ⊎ (g.step < f.step)) → Some f ≡ Some g
       go (inl lt) = absurd (never f h g.step lt k.first)
       go (inr (inr lt)) = absurd (never g k f.step lt h.first)
-      go (inr (inl e)) = ap Some (same_flush f g e (some_same f.site g.site (sym h.site ∙ ap (λ i. top_site (run P I i).frames) e ∙ k.site)))
+      go (inr (inl e)) =
+          ap Some (same_flush f g e (some_same f.site g.site
+          (sym h.site ∙ ap (λ i. top_site (run P I i).frames) e ∙ k.site)))

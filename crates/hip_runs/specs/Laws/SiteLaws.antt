@@ -40,7 +40,9 @@ module _ (P : Program) (I : Input) (n : ℕ) where
   by_site : (x : StorePart) (f : Flush) → IsFirst P I (x.offset / 64) x.step n f
       → (is_flush_call (instr_of P f.site) ≡ true)
       ⊎ ((is_persist_call (instr_of P f.site) ≡ true) × (fences (event P I (run P I f.step)) ≡ true))
-  by_site x f h = flush_of I.base (x.offset / 64) (event P I (run P I f.step)) (instr_of P f.site) (site_told P I (run P I f.step) f.site h.site) h.flushed
+  by_site x f h =
+      flush_of I.base (x.offset / 64) (event P I (run P I f.step)) (instr_of P f.site)
+      (site_told P I (run P I f.step) f.site h.site) h.flushed
 
   pub has_sites : HasSites P (run P I n)
   has_sites = record {
@@ -63,11 +65,23 @@ module _ (P : Program) (I : Input) (n : ℕ) where
 
       alone : (m : ℕ) (l : Line StorePart) (k : ℕ) (x : StorePart) (f : Flush) → slice_get (run P I n).lines m ≡ Some l
           → slice_get l.parts k ≡ Some x → l.durable ≤ k → IsFirst P I (x.offset / 64) x.step n f →
-          (is_flush_call (instr_of P f.site) ≡ true) ⊎ ((is_persist_call (instr_of P f.site) ≡ true) × (fences (event P I (run P I f.step)) ≡ true)) → is_flush_call (instr_of P f.site) ≡ true
+          (is_flush_call (instr_of P f.site) ≡ true)
+          ⊎ ((is_persist_call (instr_of P f.site) ≡ true) × (fences (event P I (run P I f.step)) ≡ true))
+          → is_flush_call (instr_of P f.site) ≡ true
       alone m l k x f q g le h (inl e) = e
       alone m l k x f q g le h (inr e) =
           let line : x.offset / 64 ≡ m = (lines_well P I n m l q).line k x g in
           let at : slice_get (run P I n).lines (x.offset / 64) ≡ Some l = ap (slice_get (run P I n).lines) line ∙ q in
-          let d = told_durable P I n (x.offset / 64) k x (subst (λ o. IsPartIn o k x) (sym at) g) (record { flush = f.step; fence = f.step; after = h.after; ordered = omega arith; before = h.before; flushed = h.flushed; fenced = e.1 }) in
+          let d =
+          told_durable P I n (x.offset / 64) k x (subst (λ o. IsPartIn o k x) (sym at) g)
+          (record {
+            flush = f.step;
+            fence = f.step;
+            after = h.after;
+            ordered = omega arith;
+            before = h.before;
+            flushed = h.flushed;
+            fenced = e.1;
+          }) in
           let lt : k < l.durable = (subst (λ o. IsDurableIn o k x) at d).1 in
           absurd (omega (arith, le, lt))

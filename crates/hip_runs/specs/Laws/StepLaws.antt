@@ -116,7 +116,8 @@ module _ (P : Program) (I : Input) (s : State) (Q : Event → List (Line StorePa
       on_them : (fs : List Frame) → s.frames ≡ fs → s.world.ending ≡ None
           → Q (event_on_frames P I s.world fs) (on_frames P I s.world s.lines s.counts fs).lines
       on_them [] q e = c.plain _ refl
-      on_them (f ∷ fs) q e = carry_case f fs (record { going = e; frames = q }) _ (deed_at P I s.world f fs) (deed_fits P I s.world f fs)
+      on_them (f ∷ fs) q e =
+          carry_case f fs (record { going = e; frames = q }) _ (deed_at P I s.world f fs) (deed_fits P I s.world f fs)
 
       go : (o : Option Ending) → s.world.ending ≡ o → Q (event_on_ending P I s o) (on_ending P I s o).lines
       go (Some e) q = c.plain _ refl
@@ -124,7 +125,9 @@ module _ (P : Program) (I : Input) (s : State) (Q : Event → List (Line StorePa
 
 pub ordered-met_lines : (I : Input) (flush : Flush) (a n : ℕ) (ls : List (Line StorePart)) → AreOrdered ls
     → AreOrdered (met_lines I flush a n ls)
-ordered-met_lines I flush a n ls o = ordered-change_from (λ _ l. flush_line flush l) (a - I.base) n (λ _ l h. ordered-flushed_line (map_line (noted_flush flush) l) (ordered-map_line (noted_flush flush) l h)) 0 ls o
+ordered-met_lines I flush a n ls o =
+    ordered-change_from (λ _ l. flush_line flush l) (a - I.base) n
+    (λ _ l h. ordered-flushed_line (map_line (noted_flush flush) l) (ordered-map_line (noted_flush flush) l h)) 0 ls o
 
 -- ---- how many lines there are
 
@@ -141,7 +144,9 @@ same_length I s = record {
 pub length-lines : (P : Program) (I : Input) (n : ℕ) → length (run P I n).lines ≡ length I.image / 64
 unfolding run fresh_lines
 length-lines P I zero = length-replicate _ _
-length-lines P I (suc n) = step-cases P I (run P I n) (λ e ls. length ls ≡ length (run P I n).lines) (same_length I (run P I n)) ∙ length-lines P I n
+length-lines P I (suc n) =
+    step-cases P I (run P I n) (λ e ls. length ls ≡ length (run P I n).lines) (same_length I (run P I n))
+    ∙ length-lines P I n
 
 -- ---- how many steps were counted
 
@@ -195,10 +200,12 @@ step_counted P I s n c = go s.world.ending refl
     on_them : (fs : List Frame) → s.frames ≡ fs → s.world.ending ≡ None
         → IsCounted (on_frames P I s.world s.lines s.counts fs) (suc n)
     on_them [] q e = absurd (let h : false ≡ true = sym (ap has_frame q) ∙ c.stands in let z : ⊥ = cc in z)
-    on_them (f ∷ fs) q e = carry_counted I s.world f fs s.lines s.counts _ (suc n) (ap suc (c.steps e)) (deed_at P I s.world f fs)
+    on_them (f ∷ fs) q e =
+        carry_counted I s.world f fs s.lines s.counts _ (suc n) (ap suc (c.steps e)) (deed_at P I s.world f fs)
 
     go : (o : Option Ending) → s.world.ending ≡ o → IsCounted (on_ending P I s o) (suc n)
-    go (Some e) q = record { stands = c.stands; steps = λ g. absurd (let h : Some e ≡ None = sym q ∙ g in let z : ⊥ = cc in z) }
+    go (Some e) q =
+        record { stands = c.stands; steps = λ g. absurd (let h : Some e ≡ None = sym q ∙ g in let z : ⊥ = cc in z) }
     go None q = on_them s.frames refl q
 
 run_counted : (P : Program) (I : Input) (n : ℕ) → IsCounted (run P I n) n

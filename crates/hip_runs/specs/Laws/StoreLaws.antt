@@ -29,7 +29,8 @@ index_take (suc n) (x ∷ xs) (suc i) h = index_take n xs i (omega arith)
 index_drop : (n : ℕ) (xs : List ℕ) (i : ℕ) → slice_index (drop n xs) i ≡ slice_index xs (n + i)
 index_drop zero xs i = let e : i ≡ 0 + i = omega arith in ap (slice_index xs) e
 index_drop (suc n) [] i = refl
-index_drop (suc n) (x ∷ xs) i = index_drop n xs i ∙ (let e : suc (n + i) ≡ suc n + i = omega arith in ap (slice_index (x ∷ xs)) e)
+index_drop (suc n) (x ∷ xs) i =
+    index_drop n xs i ∙ (let e : suc (n + i) ≡ suc n + i = omega arith in ap (slice_index (x ∷ xs)) e)
 
 covered : (first size b : ℕ) → nat_le first b && nat_lt b (first + size) ≡ true → (first ≤ b) × (b < first + size)
 covered first size b h = (grind (arith, nat_tests), grind (arith, nat_tests))
@@ -48,7 +49,9 @@ module _ (o : ℕ) (bytes : List ℕ) (j : ℕ) where
   fits n rest e = omega (arith, e)
 
   length_held : length Held ≡ end_in j o (length bytes) - start_in j o
-  length_held = length-take-le (end_in j o (length bytes) - start_in j o) (drop (start_in j o - o) bytes) (fits (length bytes) (length (drop (start_in j o - o) bytes)) (length-drop (start_in j o - o) bytes))
+  length_held =
+      length-take-le (end_in j o (length bytes) - start_in j o) (drop (start_in j o - o) bytes)
+      (fits (length bytes) (length (drop (start_in j o - o) bytes)) (length-drop (start_in j o - o) bytes))
 
   ends : (n b : ℕ) → start_in j o ≤ b → b < start_in j o + (end_in j o n - start_in j o) → b < end_in j o n
   ends n b h k = omega arith
@@ -65,7 +68,9 @@ module _ (o : ℕ) (bytes : List ℕ) (j : ℕ) where
 
   holds_byte : (b : ℕ) → start_in j o ≤ b → b < end_in j o (length bytes)
       → nat_le (start_in j o) b && nat_lt b (start_in j o + length Held) ≡ true
-  holds_byte b h k = cover (start_in j o) (length Held) b h (subst (λ i. b < start_in j o + i) (sym length_held) (starts (length bytes) b h k))
+  holds_byte b h k =
+      cover (start_in j o) (length Held) b h (subst (λ i. b < start_in j o + i) (sym length_held)
+      (starts (length bytes) b h k))
 
   behind : (n b : ℕ) → start_in j o ≤ b → b < end_in j o n → b - start_in j o < end_in j o n - start_in j o
   behind n b h k = omega arith
@@ -76,7 +81,8 @@ module _ (o : ℕ) (bytes : List ℕ) (j : ℕ) where
   held_byte : (b : ℕ) → start_in j o ≤ b → b < end_in j o (length bytes)
       → slice_index Held (b - start_in j o) ≡ slice_index bytes (b - o)
   held_byte b h k =
-      index_take (end_in j o (length bytes) - start_in j o) (drop (start_in j o - o) bytes) (b - start_in j o) (behind (length bytes) b h k)
+      index_take (end_in j o (length bytes) - start_in j o) (drop (start_in j o - o) bytes) (b - start_in j o)
+      (behind (length bytes) b h k)
       ∙ index_drop (start_in j o - o) bytes (b - start_in j o)
       ∙ ap (slice_index bytes) (sums b h)
 
@@ -91,10 +97,32 @@ module _ (o : ℕ) (bytes : List ℕ) (j : ℕ) where
 
 module _ (P : Program) (I : Input) where
   of_fence : (x : StorePart) → IsOfStore P I x → IsOfStore P I (noted_fence x)
-  of_fence x s = record { addr = s.addr; bytes = s.bytes; stored = s.stored; written = s.written; site = s.site; levels = s.levels; entry = s.entry; covered = s.covered; whole = s.whole }
+  of_fence x s =
+      record {
+        addr = s.addr;
+        bytes = s.bytes;
+        stored = s.stored;
+        written = s.written;
+        site = s.site;
+        levels = s.levels;
+        entry = s.entry;
+        covered = s.covered;
+        whole = s.whole;
+      }
 
   of_flush : (flush : Flush) (x : StorePart) → IsOfStore P I x → IsOfStore P I (noted_flush flush x)
-  of_flush flush x s = record { addr = s.addr; bytes = s.bytes; stored = s.stored; written = s.written; site = s.site; levels = s.levels; entry = s.entry; covered = s.covered; whole = s.whole }
+  of_flush flush x s =
+      record {
+        addr = s.addr;
+        bytes = s.bytes;
+        stored = s.stored;
+        written = s.written;
+        site = s.site;
+        levels = s.levels;
+        entry = s.entry;
+        covered = s.covered;
+        whole = s.whole;
+      }
 
   of_flushes : (flush : Flush) (b : Bool) (x : StorePart) → IsOfStore P I x
       → IsOfStore P I (cond b (noted_flush flush x) x)
@@ -116,10 +144,12 @@ module _ (P : Program) (I : Input) where
         record {
           addr = a;
           bytes = bytes;
-          stored = subst (λ i. event P I (run P I i) ≡ events.Store a (little_endian bytes) (length bytes)) (sym steps) q;
+          stored =
+              subst (λ i. event P I (run P I i) ≡ events.Store a (little_endian bytes) (length bytes)) (sym steps) q;
           written = w;
           site = subst (λ i. top_site (run P I i).frames ≡ Some (site_of f)) (sym steps) (ap top_site t.frames);
-          levels = subst (λ i. levels_of (f ∷ fs) ≡ levels_of (run P I i).frames) (sym steps) (sym (ap levels_of t.frames));
+          levels =
+              subst (λ i. levels_of (f ∷ fs) ≡ levels_of (run P I i).frames) (sym steps) (sym (ap levels_of t.frames));
           entry = subst (λ i. (run P I n).counts.entries + 1 ≡ (run P I i).counts.entries + 1) (sym steps) refl;
           covered = λ b h.
               let r = held (a - I.base) bytes j b h in
@@ -127,7 +157,8 @@ module _ (P : Program) (I : Input) where
                 omega (arith, low, o.0),
                 omega (arith, low, o.1),
                 o.2 ∙ sym line,
-                held_byte (a - I.base) bytes j b r.0 r.1 ∙ (let e : b - (a - I.base) ≡ I.base + b - a = omega (arith, low) in ap (slice_index bytes) e),
+                held_byte (a - I.base) bytes j b r.0 r.1
+                    ∙ (let e : b - (a - I.base) ≡ I.base + b - a = omega (arith, low) in ap (slice_index bytes) e),
               );
           whole = λ b from to e.
               let r = line_byte (a - I.base) bytes j b (omega (arith, low, from)) (omega (arith, low, to)) (e ∙ line) in
@@ -140,12 +171,17 @@ module _ (P : Program) (I : Input) where
     of_cases : AreOf (run P I n).lines → Cases I (run P I n) Next
     of_cases old = record {
       plain = λ e p q. old;
-      store = λ f fs t a bytes e w q j x i. by_store f fs t a bytes (in_there I a (length bytes) e) w q j x (of_stored _ (a - I.base) (length bytes) _ j x i);
-      flush = λ f fs t a m e q j y i. let r = of_flushed I _ a m _ j y i in subst (IsOfStore P I) (sym r.2) (of_flushes _ (has_bytes j (a - I.base) m) r.0 (old j r.0 r.1));
+      store =
+          λ f fs t a bytes e w q j x i. by_store f fs t a bytes (in_there I a (length bytes) e) w q j x
+          (of_stored _ (a - I.base) (length bytes) _ j x i);
+      flush =
+          λ f fs t a m e q j y i. let r = of_flushed I _ a m _ j y i in
+          subst (IsOfStore P I) (sym r.2) (of_flushes _ (has_bytes j (a - I.base) m) r.0 (old j r.0 r.1));
       persist = λ f fs t a m e q j z i.
           let s = of_fenced _ j z i in
           let r = of_flushed I _ a m _ j s.0 s.1 in
-          subst (IsOfStore P I) (sym (s.2 ∙ ap noted_fence r.2)) (of_fence _ (of_flushes _ (has_bytes j (a - I.base) m) r.0 (old j r.0 r.1)));
+          subst (IsOfStore P I) (sym (s.2 ∙ ap noted_fence r.2))
+          (of_fence _ (of_flushes _ (has_bytes j (a - I.base) m) r.0 (old j r.0 r.1)));
       fence = λ q j y i. let r = of_fenced _ j y i in subst (IsOfStore P I) (sym r.2) (of_fence r.0 (old j r.0 r.1));
     }
       where

@@ -23,11 +23,14 @@ length-none_pending_all zero = refl
 length-none_pending_all (suc n) = ap suc (length-none_pending_all n)
 
 -- the contents before the first step of a run are those of its start
-pub starts : (P : Program) (I : Input) → IsSound P → IsValid P I → volatile_start + length (volatile_bytes P I.base) ≡ volatile_end P → HoldsState P I (initial P I) (start P I)
+pub starts : (P : Program) (I : Input) → IsSound P → IsValid P I
+    → volatile_start + length (volatile_bytes P I.base) ≡ volatile_end P → HoldsState P I (initial P I) (start P I)
 starts P I s v e = record {
   volatile = e;
   memory = record {
-    holds = holds-new I.base (volatile_bytes P I.base) I.image (omega (arith, e, s.sizes.volatile)) (omega (arith, v.base.low));
+    holds =
+        holds-new I.base (volatile_bytes P I.base) I.image (omega (arith, e, s.sizes.volatile))
+        (omega (arith, v.base.low));
     mark_is = omega arith;
     laid_out = record {
       low = v.base.low;

@@ -38,7 +38,9 @@ module _ {A : Type 0} (test : A → Bool) where
   pub any_found : (xs : List A) → list_any test xs ≡ true
       → (k : ℕ) × (x : A) × (slice_get xs k ≡ Some x) × (test x ≡ true)
   any_found [] e = cc
-  any_found (y ∷ xs) e = ⊎_elim (λ t. (0, y, refl, t)) (λ f. let rest = any_found xs f in (suc rest.0, rest.1, rest.2, rest.3)) (either _ _ e)
+  any_found (y ∷ xs) e =
+      ⊎_elim (λ t. (0, y, refl, t)) (λ f. let rest = any_found xs f in (suc rest.0, rest.1, rest.2, rest.3))
+      (either _ _ e)
 
 -- what stands in the front list, stands at the same place in the whole
 pub get_kept : {A : Type 0} (xs ys : List A) (k : ℕ) (x : A) → slice_get xs k ≡ Some x → slice_get (xs ++ ys) k ≡ Some x
@@ -50,7 +52,8 @@ get_kept (y ∷ xs) ys (suc k) x e = get_kept xs ys k x e
 pub met-kept : {A : Type 0} (same : A → A → Bool) (xs ys : List A) (k : ℕ) (x : A) → slice_get xs k ≡ Some x
     → slice_get (met same xs ys) k ≡ Some x
 met-kept same xs [] k x e = e
-met-kept {A} same xs (y ∷ ys) k x e = met-kept same (cond (list_any (same y) xs) xs (xs ++ y ∷ [])) ys k x (added (list_any (same y) xs))
+met-kept {A} same xs (y ∷ ys) k x e =
+    met-kept same (cond (list_any (same y) xs) xs (xs ++ y ∷ [])) ys k x (added (list_any (same y) xs))
   where
     added : (b : Bool) → slice_get (cond b xs (xs ++ y ∷ [])) k ≡ Some x
     added true = e
@@ -60,7 +63,8 @@ module _ {A : Type 0} {same : A → A → Bool} (laws : IsEquivalence same) wher
   -- no item is there twice
   pub met-distinct : (xs ys : List A) → IsDistinct same xs → IsDistinct same (met same xs ys)
   met-distinct xs [] d = d
-  met-distinct xs (y ∷ ys) d = met-distinct (cond (list_any (same y) xs) xs (xs ++ y ∷ [])) ys (added (list_any (same y) xs) refl)
+  met-distinct xs (y ∷ ys) d =
+      met-distinct (cond (list_any (same y) xs) xs (xs ++ y ∷ [])) ys (added (list_any (same y) xs) refl)
     where
       added : (b : Bool) → list_any (same y) xs ≡ b → IsDistinct same (cond b xs (xs ++ y ∷ []))
       added true e = d
@@ -69,7 +73,8 @@ module _ {A : Type 0} {same : A → A → Bool} (laws : IsEquivalence same) wher
   -- what is in the first list or in the second, is in the list
   pub met-first : (q : A) (xs ys : List A) → list_any (same q) xs ≡ true → list_any (same q) (met same xs ys) ≡ true
   met-first q xs [] e = e
-  met-first q xs (y ∷ ys) e = met-first q (cond (list_any (same y) xs) xs (xs ++ y ∷ [])) ys (added (list_any (same y) xs))
+  met-first q xs (y ∷ ys) e =
+      met-first q (cond (list_any (same y) xs) xs (xs ++ y ∷ [])) ys (added (list_any (same y) xs))
     where
       added : (b : Bool) → list_any (same q) (cond b xs (xs ++ y ∷ [])) ≡ true
       added true = e
@@ -81,7 +86,8 @@ module _ {A : Type 0} {same : A → A → Bool} (laws : IsEquivalence same) wher
       ⊎_elim (λ t. met-first q (cond (list_any (same y) xs) xs (xs ++ y ∷ [])) ys (added (list_any (same y) xs) refl t))
       (λ f. met-second q (cond (list_any (same y) xs) xs (xs ++ y ∷ [])) ys f) (either (same q y) _ e)
     where
-      added : (b : Bool) → list_any (same y) xs ≡ b → same q y ≡ true → list_any (same q) (cond b xs (xs ++ y ∷ [])) ≡ true
+      added : (b : Bool) → list_any (same y) xs ≡ b → same q y ≡ true
+          → list_any (same q) (cond b xs (xs ++ y ∷ [])) ≡ true
       added true e t = list_any_congr laws q y xs t ∙ e
       added false e t = any_back (same q) xs (y ∷ []) (or_first _ _ t)
 
@@ -90,8 +96,12 @@ module _ {A : Type 0} {same : A → A → Bool} (laws : IsEquivalence same) wher
       → (list_any (same q) xs ≡ true) ⊎ (list_any (same q) ys ≡ true)
   met-only q xs [] e = inl e
   met-only q xs (y ∷ ys) e =
-      ⊎_elim (λ t. from (list_any (same y) xs) t) (λ f. inr (or_second _ _ f)) (met-only q (cond (list_any (same y) xs) xs (xs ++ y ∷ [])) ys e)
+      ⊎_elim (λ t. from (list_any (same y) xs) t) (λ f. inr (or_second _ _ f))
+      (met-only q (cond (list_any (same y) xs) xs (xs ++ y ∷ [])) ys e)
     where
-      from : (b : Bool) → list_any (same q) (cond b xs (xs ++ y ∷ [])) ≡ true → (list_any (same q) xs ≡ true) ⊎ (list_any (same q) (y ∷ ys) ≡ true)
+      from : (b : Bool) → list_any (same q) (cond b xs (xs ++ y ∷ [])) ≡ true → (list_any (same q) xs ≡ true)
+          ⊎ (list_any (same q) (y ∷ ys) ≡ true)
       from true e = inl e
-      from false e = ⊎_elim (λ t. inl t) (λ f. inr (or_first _ _ (⊎_elim (λ t. t) (λ n. cc) (either (same q y) false f)))) (any_either (same q) xs (y ∷ []) e)
+      from false e =
+          ⊎_elim (λ t. inl t) (λ f. inr (or_first _ _ (⊎_elim (λ t. t) (λ n. cc) (either (same q y) false f))))
+          (any_either (same q) xs (y ∷ []) e)

@@ -59,7 +59,8 @@ pub sum_of_multiples : (x y a : ℕ) → IsAlignment a → x % a ≡ 0 → y % a
 sum_of_multiples x y a h m n = grind (arith, h.is)
 
 pub times_multiple : (n x a : ℕ) → x % a ≡ 0 → (n * x) % a ≡ 0
-times_multiple n x a h = mul-mod n x a ∙ ap (λ (r : ℕ). (n % a * r) % a) h ∙ ap (λ (r : ℕ). r % a) (mul-zero (n % a)) ∙ zero-mod a
+times_multiple n x a h =
+    mul-mod n x a ∙ ap (λ (r : ℕ). (n % a * r) % a) h ∙ ap (λ (r : ℕ). r % a) (mul-zero (n % a)) ∙ zero-mod a
 
 -- ---- shapes
 
@@ -167,7 +168,8 @@ end_after-take place [] zero j h = end_after-le place (take j [])
 end_after-take place [] (suc i) j h = end_after-le place (take j [])
 end_after-take place (t ∷ ts) zero j h = end_after-le place (take j (t ∷ ts))
 end_after-take place (t ∷ ts) (suc i) zero h = absurd (omega arith)
-end_after-take place (t ∷ ts) (suc i) (suc j) h = end_after-take (next_multiple_of place (align_of t) + size_of t) ts i j (omega arith)
+end_after-take place (t ∷ ts) (suc i) (suc j) h =
+    end_after-take (next_multiple_of place (align_of t) + size_of t) ts i j (omega arith)
 
 greatest_align-low : (ys : List Ty) → 1 ≤ greatest_align (shapes ys)
 greatest_align-low [] = omega arith
@@ -226,18 +228,39 @@ module _ (ts : List Ty) (k : ℕ) (t : Ty) (h : k < length ts) (is : t ≡ get_o
   next_field =
       let first = take k ts in
       let rest = drop (k + 1) ts in
-      let depth_is = subst (λ (xs : List Ty). greatest_depth (shapes xs) ≡ max (greatest_depth (shapes first)) (shape t).depth) (sym prefix_is) (omega (arith, greatest_depth-append first (t ∷ []))) in
-      let largest_is = subst (λ (xs : List Ty). greatest_largest (shapes xs) ≡ max (greatest_largest (shapes first)) (shape t).largest) (sym prefix_is) (omega (arith, greatest_largest-append first (t ∷ []))) in
+      let depth_is =
+      subst (λ (xs : List Ty). greatest_depth (shapes xs) ≡ max (greatest_depth (shapes first)) (shape t).depth)
+      (sym prefix_is) (omega (arith, greatest_depth-append first (t ∷ []))) in
+      let largest_is =
+      subst (λ (xs : List Ty). greatest_largest (shapes xs)
+      ≡ max (greatest_largest (shapes first)) (shape t).largest) (sym prefix_is)
+      (omega (arith, greatest_largest-append first (t ∷ []))) in
       record {
-        end = subst (λ (xs : List Ty). end_after 0 (shapes xs) ≡ next_multiple_of (end_after 0 (shapes first)) (align_of t) + size_of t) (sym prefix_is) (end_after-append 0 first (t ∷ []));
-        align = subst (λ (xs : List Ty). greatest_align (shapes xs) ≡ max (greatest_align (shapes first)) (align_of t)) (sym prefix_is) (omega (arith, greatest_align-low first, greatest_align-append first (t ∷ [])));
+        end =
+            subst (λ (xs : List Ty). end_after 0 (shapes xs)
+            ≡ next_multiple_of (end_after 0 (shapes first)) (align_of t) + size_of t) (sym prefix_is)
+            (end_after-append 0 first (t ∷ []));
+        align =
+            subst (λ (xs : List Ty). greatest_align (shapes xs) ≡ max (greatest_align (shapes first)) (align_of t))
+            (sym prefix_is) (omega (arith, greatest_align-low first, greatest_align-append first (t ∷ [])));
         depth = depth_is;
         largest = largest_is;
-        end_le = subst (λ (xs : List Ty). end_after 0 (shapes (take (k + 1) ts)) ≤ end_after 0 (shapes xs)) (sym whole_is)
-            (omega (arith, end_after-append 0 (take (k + 1) ts) rest, end_after-le (end_after 0 (shapes (take (k + 1) ts))) rest));
-        align_le = subst (λ (xs : List Ty). greatest_align (shapes (take (k + 1) ts)) ≤ greatest_align (shapes xs)) (sym whole_is) (omega (arith, greatest_align-append (take (k + 1) ts) rest));
-        depth_le = subst (λ (xs : List Ty). (shape t).depth ≤ greatest_depth (shapes xs)) (sym whole_is) (omega (arith, depth_is, greatest_depth-append (take (k + 1) ts) rest));
-        largest_le = subst (λ (xs : List Ty). (shape t).largest ≤ greatest_largest (shapes xs)) (sym whole_is) (omega (arith, largest_is, greatest_largest-append (take (k + 1) ts) rest));
+        end_le =
+            subst (λ (xs : List Ty). end_after 0 (shapes (take (k + 1) ts)) ≤ end_after 0 (shapes xs)) (sym whole_is)
+            (omega (
+              arith,
+              end_after-append 0 (take (k + 1) ts) rest,
+              end_after-le (end_after 0 (shapes (take (k + 1) ts))) rest,
+            ));
+        align_le =
+            subst (λ (xs : List Ty). greatest_align (shapes (take (k + 1) ts)) ≤ greatest_align (shapes xs))
+            (sym whole_is) (omega (arith, greatest_align-append (take (k + 1) ts) rest));
+        depth_le =
+            subst (λ (xs : List Ty). (shape t).depth ≤ greatest_depth (shapes xs)) (sym whole_is)
+            (omega (arith, depth_is, greatest_depth-append (take (k + 1) ts) rest));
+        largest_le =
+            subst (λ (xs : List Ty). (shape t).largest ≤ greatest_largest (shapes xs)) (sym whole_is)
+            (omega (arith, largest_is, greatest_largest-append (take (k + 1) ts) rest));
       }
 
 -- field k, read by its number
@@ -268,14 +291,16 @@ field-inside ts k h =
 
 -- the struct's alignment is a multiple of the field's
 pub field-align : (ts : List Ty) (k : ℕ) → k < length ts → align_of (Struct ts) % align_of (field_of ts k) ≡ 0
-field-align ts k h = subst (λ (a : ℕ). a % align_of (field_of ts k) ≡ 0) (sym (align_of-Struct ts)) (greatest_align-multiple ts k h)
+field-align ts k h =
+    subst (λ (a : ℕ). a % align_of (field_of ts k) ≡ 0) (sym (align_of-Struct ts)) (greatest_align-multiple ts k h)
 
 -- ---- what fits
 
 pub Fits-Array : (n : ℕ) (e : Ty) → Fits (Array n e) → Fits e
 Fits-Array n e f =
     let s : shape (Array n e) ≡ shape_of_level (Ty-F.Array n (shape e)) = shape-Array n e in
-    let small : max (n * size_of e) (shape e).largest ≤ 67108864 = subst (λ (x : Shape). x.largest ≤ 67108864) s f.small in
+    let small : max (n * size_of e) (shape e).largest ≤ 67108864 =
+    subst (λ (x : Shape). x.largest ≤ 67108864) s f.small in
     let shallow : (shape e).depth + 1 ≤ 32 = subst (λ (x : Shape). x.depth ≤ 32) s f.shallow in
     record { small = omega arith; shallow = omega arith }
 
@@ -289,6 +314,7 @@ field-fits fs k h small shallow =
 pub Fits-Struct : (fs : List Ty) (k : ℕ) → k < length fs → Fits (Struct fs) → Fits (field_of fs k)
 Fits-Struct fs k h f =
     let s : shape (Struct fs) ≡ shape_of_level (Ty-F.Struct (shapes fs)) = shape-Struct fs in
-    let small : max (struct_size (shapes fs)) (greatest_largest (shapes fs)) ≤ 67108864 = subst (λ (x : Shape). x.largest ≤ 67108864) s f.small in
+    let small : max (struct_size (shapes fs)) (greatest_largest (shapes fs)) ≤ 67108864 =
+    subst (λ (x : Shape). x.largest ≤ 67108864) s f.small in
     let shallow : greatest_depth (shapes fs) + 1 ≤ 32 = subst (λ (x : Shape). x.depth ≤ 32) s f.shallow in
     field-fits fs k h (omega arith) (omega arith)

@@ -67,7 +67,8 @@ entered_level i (Ty-F.Struct fs) p is = ⊎_elim field past (cases_lt i (length 
 
 entered : (i : ℕ) (t : Ty) (p : Part) → enter t i ≡ Some p → IsEntered (shape t) p (level_is_inside i (out-Ty t))
 entered i t p is =
-    subst (λ (s : Shape). IsEntered s p (level_is_inside i (out-Ty t))) (sym (shape-level t)) (entered_level i (out-Ty t) p is)
+    subst (λ (s : Shape). IsEntered s p (level_is_inside i (out-Ty t))) (sym (shape-level t))
+    (entered_level i (out-Ty t) p is)
 
 -- what is known of a part of a type
 pub record IsPartOf (t : Ty) (p : Part) (inside : Type 0) : Type 0 where
@@ -79,7 +80,8 @@ pub record IsPartOf (t : Ty) (p : Part) (inside : Type 0) : Type 0 where
   pub fits : Fits t → Fits p.ty
 
 whole : (t : Ty) (inside : Type 0) → IsPartOf t (record { offset = 0; ty = t }) inside
-whole t inside = record { within = λ _. omega arith; aligned = zero-mod (align_of t); align = mod_self (align_of t); fits = λ f. f }
+whole t inside =
+    record { within = λ _. omega arith; aligned = zero-mod (align_of t); align = mod_self (align_of t); fits = λ f. f }
 
 -- a part of a part
 part_of_part : (t : Ty) (i : ℕ) (p q : Part) (rest : Type 0) → enter t i ≡ Some p → IsPartOf p.ty q rest →
@@ -90,8 +92,11 @@ part_of_part t i p q rest is part =
     record {
       within = λ h. omega (arith, first.within h.0, part.within h.1);
       aligned = sum_of_multiples p.offset q.offset (align_of q.ty) below
-          (multiple_of_multiple p.offset (align_of p.ty) (align_of q.ty) (align_of-alignment p.ty) below part.align first.aligned) part.aligned;
-      align = multiple_of_multiple (align_of t) (align_of p.ty) (align_of q.ty) (align_of-alignment p.ty) below part.align first.align;
+          (multiple_of_multiple p.offset (align_of p.ty) (align_of q.ty)
+          (align_of-alignment p.ty) below part.align first.aligned) part.aligned;
+      align =
+          multiple_of_multiple (align_of t) (align_of p.ty) (align_of q.ty)
+          (align_of-alignment p.ty) below part.align first.align;
       fits = λ f. part.fits (first.fits f.small f.shallow);
     }
 

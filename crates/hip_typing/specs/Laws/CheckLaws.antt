@@ -46,7 +46,8 @@ and_then-exact a b p q = record {
 pub each_from-exact : {A : Type 0} → (n : ℕ) (check : ℕ → A → Check) (xs : List A)
     → ((m : ℕ) (x : A) → IsExact (check m x)) → IsExact (each_from n check xs)
 each_from-exact n check [] exact = nothing-exact
-each_from-exact n check (x ∷ xs) exact = and_then-exact (check n x) (each_from (n + 1) check xs) (exact n x) (each_from-exact (n + 1) check xs exact)
+each_from-exact n check (x ∷ xs) exact =
+    and_then-exact (check n x) (each_from (n + 1) check xs) (exact n x) (each_from-exact (n + 1) check xs exact)
 
 -- ---- names
 
@@ -63,7 +64,8 @@ among_not xs name h = by_test (is_among xs name) refl
 pub differ_after-exact : (earlier : List (List ℕ)) (xs : List Named) → IsExact (differ_after earlier xs)
 differ_after-exact earlier [] = nothing-exact
 differ_after-exact earlier (x ∷ xs) =
-    and_then-exact _ _ (asks-exact _ _ breaks.Duplicate x.place (not_among earlier x.name) (among_not earlier x.name)) (differ_after-exact (earlier ++ x.name ∷ []) xs)
+    and_then-exact _ _ (asks-exact _ _ breaks.Duplicate x.place (not_among earlier x.name) (among_not earlier x.name))
+    (differ_after-exact (earlier ++ x.name ∷ []) xs)
 
 -- ---- types
 

@@ -163,15 +163,21 @@ item_is a b value h =
 pub same_const-equal : (a b : Const) → same_const a b ≡ true → a ≡ b
 same_const-equal = ind-Const IsEqual IsEqualGep IsEqualItem
     (λ x y is b h.
-    let unfolded : same_const (roll-Const x) b ≡ same_step (tests_of x) b = ap (λ (f : Const → Bool). f b) (fold-roll-Const (Const → Bool) (ConstGep → Bool) (TypedConst → Bool) same_step same_gep_step same_item_step x) in
+    let unfolded : same_const (roll-Const x) b ≡ same_step (tests_of x) b =
+    ap (λ (f : Const → Bool). f b) (fold-roll-Const (Const → Bool) (ConstGep → Bool)
+    (TypedConst → Bool) same_step same_gep_step same_item_step x) in
     let P : Const-F Const ConstGep TypedConst → Type 0 = λ z. same_level (tests_of z) (out-Const b) ≡ true in
     let there : P (consts y) = subst P (sym is) (sym unfolded ∙ h) in
     ap roll-Const (sym is ∙ level_equal y (out-Const b) there) ∙ roll-out-Const b)
     (λ x y is b h.
-    let unfolded : same_gep (roll-ConstGep x) b ≡ same_gep_step (gep_tests x) b = ap (λ (f : ConstGep → Bool). f b) (fold-roll-ConstGep (Const → Bool) (ConstGep → Bool) (TypedConst → Bool) same_step same_gep_step same_item_step x) in
+    let unfolded : same_gep (roll-ConstGep x) b ≡ same_gep_step (gep_tests x) b =
+    ap (λ (f : ConstGep → Bool). f b) (fold-roll-ConstGep (Const → Bool) (ConstGep → Bool)
+    (TypedConst → Bool) same_step same_gep_step same_item_step x) in
     gep_is (roll-ConstGep x) b (subst IsEqual (ap (λ g. g.base) is) y.base.1) (sym unfolded ∙ h))
     (λ x y is b h.
-    let unfolded : same_item (roll-TypedConst x) b ≡ same_item_step (item_tests x) b = ap (λ (f : TypedConst → Bool). f b) (fold-roll-TypedConst (Const → Bool) (ConstGep → Bool) (TypedConst → Bool) same_step same_gep_step same_item_step x) in
+    let unfolded : same_item (roll-TypedConst x) b ≡ same_item_step (item_tests x) b =
+    ap (λ (f : TypedConst → Bool). f b) (fold-roll-TypedConst (Const → Bool) (ConstGep → Bool)
+    (TypedConst → Bool) same_step same_gep_step same_item_step x) in
     item_is (roll-TypedConst x) b (subst IsEqual (ap (λ g. g.value) is) y.value.1) (sym unfolded ∙ h))
 
 -- ---- each constant passes with itself
@@ -214,18 +220,25 @@ pub same_const-refl : (a : Const) → same_const a a ≡ true
 same_const-refl = ind-Const IsReflexive IsReflexiveGep IsReflexiveItem
     (λ x y is.
     let a : Const = roll-Const x in
-    let unfolded : same_const a a ≡ same_step (tests_of x) a = ap (λ (f : Const → Bool). f a) (fold-roll-Const (Const → Bool) (ConstGep → Bool) (TypedConst → Bool) same_step same_gep_step same_item_step x) in
+    let unfolded : same_const a a ≡ same_step (tests_of x) a =
+    ap (λ (f : Const → Bool). f a) (fold-roll-Const (Const → Bool) (ConstGep → Bool)
+    (TypedConst → Bool) same_step same_gep_step same_item_step x) in
     let P : Const-F Const ConstGep TypedConst → Type 0 = λ z. same_level (tests_of z) z ≡ true in
     let here : P x = subst P is (level_reflexive y) in
     unfolded ∙ ap (λ (o : Const-F Const ConstGep TypedConst). same_level (tests_of x) o) (out-roll-Const x) ∙ here)
     (λ x y is.
     let a : ConstGep = roll-ConstGep x in
-    let unfolded : same_gep a a ≡ same_gep_step (gep_tests x) a = ap (λ (f : ConstGep → Bool). f a) (fold-roll-ConstGep (Const → Bool) (ConstGep → Bool) (TypedConst → Bool) same_step same_gep_step same_item_step x) in
+    let unfolded : same_gep a a ≡ same_gep_step (gep_tests x) a =
+    ap (λ (f : ConstGep → Bool). f a) (fold-roll-ConstGep (Const → Bool) (ConstGep → Bool)
+    (TypedConst → Bool) same_step same_gep_step same_item_step x) in
     let base : IsReflexive x.base = subst IsReflexive (ap (λ g. g.base) is) y.base.1 in
-    unfolded ∙ both_true (same_truth-refl x.inbounds) (both_true (same_type-refl x.ty) (both_true base (all_bits-refl x.indices))))
+    unfolded ∙ both_true (same_truth-refl x.inbounds)
+    (both_true (same_type-refl x.ty) (both_true base (all_bits-refl x.indices))))
     (λ x y is.
     let a : TypedConst = roll-TypedConst x in
-    let unfolded : same_item a a ≡ same_item_step (item_tests x) a = ap (λ (f : TypedConst → Bool). f a) (fold-roll-TypedConst (Const → Bool) (ConstGep → Bool) (TypedConst → Bool) same_step same_gep_step same_item_step x) in
+    let unfolded : same_item a a ≡ same_item_step (item_tests x) a =
+    ap (λ (f : TypedConst → Bool). f a) (fold-roll-TypedConst (Const → Bool) (ConstGep → Bool)
+    (TypedConst → Bool) same_step same_gep_step same_item_step x) in
     let value : IsReflexive x.value = subst IsReflexive (ap (λ g. g.value) is) y.value.1 in
     unfolded ∙ both_true (same_type-refl x.ty) value)
 
@@ -244,4 +257,5 @@ same_operand-refl (Fixed a) = same_const-refl a
 -- a test that tells whether two operands are equal is this one
 pub same_operand-is : (b : Bool) (x y : Operand) → (b ≡ true → x ≡ y) → (x ≡ y → b ≡ true) → b ≡ same_operand x y
 same_operand-is b x y equal test =
-    both_ways b (same_operand x y) (λ e. subst (λ (z : Operand). same_operand x z ≡ true) (equal e) (same_operand-refl x)) (λ e. test (same_operand-equal x y e))
+    both_ways b (same_operand x y) (λ e. subst (λ (z : Operand). same_operand x z ≡ true) (equal e)
+    (same_operand-refl x)) (λ e. test (same_operand-equal x y e))

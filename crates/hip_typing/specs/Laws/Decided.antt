@@ -46,11 +46,15 @@ none_first false b h g = g
 
 none_of : {X : Type 0} (test : X → Bool) (xs : List X) → ¬ (list_any test xs ≡ true) → All (λ x. ¬ (test x ≡ true)) xs
 none_of test [] h = All-nil (λ y. ¬ (test y ≡ true))
-none_of test (x ∷ xs) h = let both = any_cases (test x) (list_any test xs) h in All-cons (λ y. ¬ (test y ≡ true)) x xs both.0 (none_of test xs both.1)
+none_of test (x ∷ xs) h =
+    let both = any_cases (test x) (list_any test xs) h in
+    All-cons (λ y. ¬ (test y ≡ true)) x xs both.0 (none_of test xs both.1)
 
 of_none : {X : Type 0} (test : X → Bool) (xs : List X) → All (λ x. ¬ (test x ≡ true)) xs → ¬ (list_any test xs ≡ true)
 of_none test [] h = λ e. cc
-of_none test (x ∷ xs) h = none_first (test x) (list_any test xs) (All-head (λ y. ¬ (test y ≡ true)) x xs h) (of_none test xs (All-tail (λ y. ¬ (test y ≡ true)) x xs h))
+of_none test (x ∷ xs) h =
+    none_first (test x) (list_any test xs) (All-head (λ y. ¬ (test y ≡ true)) x xs h)
+    (of_none test xs (All-tail (λ y. ¬ (test y ≡ true)) x xs h))
 
 pub none-decides : {X : Type 0} (test : X → Bool) (P : X → Type 0) (xs : List X) → ((x : X) → Decides (test x) (P x))
     → Decides (not (list_any test xs)) (All (λ x. ¬ P x) xs)
@@ -80,7 +84,9 @@ pairs_sound test R (x ∷ xs) d e =
 pairs_whole : {X : Type 0} (test : X → X → Bool) (R : X → X → Type 0) (xs : List X)
     → ((x y : X) → Decides (test x y) (R x y)) → AllPairs R xs → each_pair test xs ≡ true
 pairs_whole test R [] d h = refl
-pairs_whole test R (x ∷ xs) d h = both_true ((all-decides (test x) (R x) xs (d x)).1 (pairs_first R x xs h)) (pairs_whole test R xs d (pairs_rest R x xs h))
+pairs_whole test R (x ∷ xs) d h =
+    both_true ((all-decides (test x) (R x) xs (d x)).1 (pairs_first R x xs h))
+    (pairs_whole test R xs d (pairs_rest R x xs h))
 
 pub pairs-decides : {X : Type 0} (test : X → X → Bool) (R : X → X → Type 0) (xs : List X)
     → ((x y : X) → Decides (test x y) (R x y)) → Decides (each_pair test xs) (AllPairs R xs)
@@ -106,7 +112,8 @@ each_from_sound n check P (x ∷ xs) f h = All-cons P x xs (f n x h.0) (each_fro
 each_from_whole : {X : Type 0} (n : ℕ) (check : ℕ → X → Check) (P : X → Type 0) (xs : List X)
     → ((m : ℕ) (x : X) → P x → (check m x).Holds) → All P xs → (each_from n check xs).Holds
 each_from_whole n check P [] f h = tt
-each_from_whole n check P (x ∷ xs) f h = (f n x (All-head P x xs h), each_from_whole (n + 1) check P xs f (All-tail P x xs h))
+each_from_whole n check P (x ∷ xs) f h =
+    (f n x (All-head P x xs h), each_from_whole (n + 1) check P xs f (All-tail P x xs h))
 
 -- what a check asks of each item holds of all
 pub each-sound : {X : Type 0} (check : ℕ → X → Check) (P : X → Type 0) (xs : List X)
@@ -141,10 +148,13 @@ holds_from-made n check [] h = tt
 holds_from-made n check (x ∷ xs) h =
     let first : n + 0 ≡ n = omega arith in (
       subst (λ m. (check m x).Holds) first (h 0 x refl),
-      holds_from-made (n + 1) check xs (λ k y e. let next : n + suc k ≡ n + 1 + k = omega arith in subst (λ m. (check m y).Holds) next (h (suc k) y e)),
+      holds_from-made (n + 1) check xs (λ k y e. let next : n + suc k ≡ n + 1 + k = omega arith in
+          subst (λ m. (check m y).Holds) next (h (suc k) y e)),
     )
 
 -- it holds if it holds at each place
 pub holds-made : {X : Type 0} (check : ℕ → X → Check) (xs : List X)
     → ((k : ℕ) (x : X) → slice_get xs k ≡ Some x → (check k x).Holds) → (each check xs).Holds
-holds-made check xs h = holds_from-made 0 check xs (λ k x e. let same : k ≡ 0 + k = omega arith in subst (λ m. (check m x).Holds) same (h k x e))
+holds-made check xs h =
+    holds_from-made 0 check xs (λ k x e. let same : k ≡ 0 + k = omega arith in
+    subst (λ m. (check m x).Holds) same (h k x e))

@@ -24,7 +24,8 @@ same_scalar-refl (scalars.Int w) = same_width-refl w
 same_scalar-refl scalars.Ptr = refl
 
 pub same_scalar-decides : (a b : Scalar) → Decides (same_scalar a b) (a ≡ b)
-same_scalar-decides a b = (same_scalar-equal a b, λ e. subst (λ (x : Scalar). same_scalar a x ≡ true) e (same_scalar-refl a))
+same_scalar-decides a b =
+    (same_scalar-equal a b, λ e. subst (λ (x : Scalar). same_scalar a x ≡ true) e (same_scalar-refl a))
 
 same_result-equal : (a b : Option Scalar) → same_result a b ≡ true → a ≡ b
 same_result-equal None None e = refl
@@ -37,7 +38,8 @@ same_result-refl None = refl
 same_result-refl (Some a) = same_scalar-refl a
 
 pub same_result-decides : (a b : Option Scalar) → Decides (same_result a b) (a ≡ b)
-same_result-decides a b = (same_result-equal a b, λ e. subst (λ (x : Option Scalar). same_result a x ≡ true) e (same_result-refl a))
+same_result-decides a b =
+    (same_result-equal a b, λ e. subst (λ (x : Option Scalar). same_result a x ≡ true) e (same_result-refl a))
 
 same_scalars-equal : (xs ys : List Scalar) → all_pass (map same_scalar xs) ys ≡ true → xs ≡ ys
 same_scalars-equal [] [] e = refl
@@ -52,10 +54,15 @@ same_scalars-refl [] = refl
 same_scalars-refl (x ∷ xs) = both_true (same_scalar-refl x) (same_scalars-refl xs)
 
 pub same_scalars-decides : (xs ys : List Scalar) → Decides (all_pass (map same_scalar xs) ys) (xs ≡ ys)
-same_scalars-decides xs ys = (same_scalars-equal xs ys, λ e. subst (λ (zs : List Scalar). all_pass (map same_scalar xs) zs ≡ true) e (same_scalars-refl xs))
+same_scalars-decides xs ys = (
+  same_scalars-equal xs ys,
+  λ e. subst (λ (zs : List Scalar). all_pass (map same_scalar xs) zs ≡ true) e
+      (same_scalars-refl xs),
+)
 
 pub same_bits-decides : (a b : Bits) → Decides (same_bits a b) (a ≡ b)
 same_bits-decides a b = (same_bits-equal a b, λ e. subst (λ (x : Bits). same_bits a x ≡ true) e (same_bits-refl a))
 
 pub same_operand-decides : (a b : Operand) → Decides (same_operand a b) (a ≡ b)
-same_operand-decides a b = (same_operand-equal a b, λ e. subst (λ (x : Operand). same_operand a x ≡ true) e (same_operand-refl a))
+same_operand-decides a b =
+    (same_operand-equal a b, λ e. subst (λ (x : Operand). same_operand a x ≡ true) e (same_operand-refl a))

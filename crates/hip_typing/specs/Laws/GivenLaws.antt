@@ -50,7 +50,9 @@ block_of fn label h =
     record { number = found.0; block = found.1; here = found.2; named = found.3 }
 
 pub sound-labels : (P : Program) → IsSound P → LabelsExist P
-sound-labels P s f b fn block at = All-weaker (IsAmong (label_names fn)) (HasBlock fn) (block_of fn) (end_labels block.end) (s.names_exist f b fn block at).last.labels
+sound-labels P s f b fn block at =
+    All-weaker (IsAmong (label_names fn)) (HasBlock fn) (block_of fn) (end_labels block.end)
+    (s.names_exist f b fn block at).last.labels
 
 -- ---- edges
 
@@ -74,7 +76,9 @@ number_by : (f : Function) (fs : List Function) (name : List ℕ) (b : Bool) →
     → number_of (function_names (f ∷ fs)) name
     ≡ (if b then Some 0 else option_map suc (number_of (function_names fs) name))
 number_by f fs name b is =
-    number_of-cons f.name (function_names fs) name ∙ ap (λ t. if t then Some 0 else option_map suc (number_of (function_names fs) name)) (bytes_eq-sym name f.name ∙ is)
+    number_of-cons f.name (function_names fs) name
+    ∙ ap (λ t. if t then Some 0 else option_map suc (number_of (function_names fs) name))
+    (bytes_eq-sym name f.name ∙ is)
 
 function_found : (fs : List Function) (name : List ℕ) (s : Signature) → function_of fs name ≡ Some s
     → FunctionAt fs name s
@@ -110,12 +114,14 @@ function_found (f ∷ fs) name s e = by_test (λ later. function_found fs name s
 extern_found : (es : List Extern) (name : List ℕ) (s : Signature) → All IsOfTable es → extern_of es name ≡ Some s
     → known_signature name ≡ Some s
 extern_found [] name s h e = cc
-extern_found (x ∷ xs) name s h e = by_test (λ later. extern_found xs name s (All-tail IsOfTable x xs h) later) (bytes_eq x.name name) refl e
+extern_found (x ∷ xs) name s h e =
+    by_test (λ later. extern_found xs name s (All-tail IsOfTable x xs h) later) (bytes_eq x.name name) refl e
   where
     by_test : (extern_of xs name ≡ Some s → known_signature name ≡ Some s) → (b : Bool) → bytes_eq x.name name ≡ b
         → (if b then Some (record { ret = x.ret; params = x.params }) else extern_of xs name) ≡ Some s
         → known_signature name ≡ Some s
-    by_test rest true is e = ap known_signature (sym ((bytes_eq-Decides x.name name).0 is)) ∙ All-head IsOfTable x xs h ∙ e
+    by_test rest true is e =
+        ap known_signature (sym ((bytes_eq-Decides x.name name).0 is)) ∙ All-head IsOfTable x xs h ∙ e
     by_test rest false is e = rest e
 
 -- ---- calls
@@ -127,12 +133,21 @@ call_is P callee ret args table e = by_extern (extern_of P.externs callee) refl 
   where
     of_function : FunctionAt P.functions callee (record { ret = ret; params = map (λ a. a.ty) args })
         → CallsFunction P callee ret args
-    of_function f = record { number = f.number; function = f.function; named = f.named; here = f.here; result = f.result; params = f.params }
+    of_function f =
+        record {
+          number = f.number;
+          function = f.function;
+          named = f.named;
+          here = f.here;
+          result = f.result;
+          params = f.params;
+        }
 
     by_extern : (o : Option Signature) → extern_of P.externs callee ≡ o
         → first_of o (function_of P.functions callee) ≡ Some (record { ret = ret; params = map (λ a. a.ty) args })
         → CallsFunction P callee ret args ⊎ CallsExtern callee ret args
-    by_extern None is e = inl (of_function (function_found P.functions callee (record { ret = ret; params = map (λ a. a.ty) args }) e))
+    by_extern None is e =
+        inl (of_function (function_found P.functions callee (record { ret = ret; params = map (λ a. a.ty) args }) e))
     by_extern (Some s) is e =
         inr (record {
           signature = record { ret = ret; params = map (λ a. a.ty) args };
@@ -143,4 +158,6 @@ call_is P callee ret args table e = by_extern (extern_of P.externs callee) refl 
 
 pub sound-calls : (P : Program) → IsSound P → CallsAgree P
 sound-calls P s f b i fn block dest ret callee args at e =
-    call_is P callee ret args s.externs.externs (all-at (λ i. TypesAgree P fn (InstrItem i)) block.body i (Call dest ret callee args) (s.types_agree f b fn block at).body e).own.signature
+    call_is P callee ret args s.externs.externs
+    (all-at (λ i. TypesAgree P fn (InstrItem i)) block.body i (Call dest ret callee args)
+    (s.types_agree f b fn block at).body e).own.signature

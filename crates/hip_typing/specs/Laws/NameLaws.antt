@@ -38,7 +38,9 @@ apart_after earlier (x ∷ xs) h =
     let rest : Apart (earlier ++ x.name ∷ []) (place_names xs) = apart_after (earlier ++ x.name ∷ []) xs h.1 in
     record {
       differ = (rest.apart x.name (among-right earlier (x.name ∷ []) x.name (inl refl)), rest.differ);
-      apart = λ name among there. ⊎_elim (λ e. h.0 (subst (λ (n : List ℕ). IsAmong earlier n) (sym e) among)) (λ later. rest.apart name (among-left earlier (x.name ∷ []) name among) later) there;
+      apart =
+          λ name among there. ⊎_elim (λ e. h.0 (subst (λ (n : List ℕ). IsAmong earlier n) (sym e) among))
+          (λ later. rest.apart name (among-left earlier (x.name ∷ []) name among) later) there;
     }
 
 after_apart : (earlier : List (List ℕ)) (xs : List Named) → Apart earlier (place_names xs)
@@ -49,7 +51,10 @@ after_apart earlier (x ∷ xs) a = (
   after_apart (earlier ++ x.name ∷ []) xs
       (record {
         differ = a.differ.1;
-        apart = λ name among there. ⊎_elim (λ h. a.apart name h (inr there)) (λ one. ⊎_elim (λ e. a.differ.0 (subst (λ (n : List ℕ). IsAmong (place_names xs) n) (sym e) there)) (λ none. none) one) (among-either earlier (x.name ∷ []) name among);
+        apart =
+            λ name among there. ⊎_elim (λ h. a.apart name h (inr there))
+            (λ one. ⊎_elim (λ e. a.differ.0 (subst (λ (n : List ℕ). IsAmong (place_names xs) n) (sym e) there))
+            (λ none. none) one) (among-either earlier (x.name ∷ []) name among);
       }),
 )
 
@@ -59,7 +64,8 @@ differ-sound xs names is h = subst AllDiffer is (apart_after [] xs h).differ
 
 differ-whole : (xs : List Named) (names : List (List ℕ)) → place_names xs ≡ names → AllDiffer names
     → (differ_after [] xs).Holds
-differ-whole xs names is h = after_apart [] xs (record { differ = subst AllDiffer (sym is) h; apart = λ name none. absurd none })
+differ-whole xs names is h =
+    after_apart [] xs (record { differ = subst AllDiffer (sym is) h; apart = λ name none. absurd none })
 
 -- ---- the names of the whole program
 
@@ -70,12 +76,18 @@ named_alike n name place (x ∷ xs) = ap (λ ns. name x ∷ ns) (named_alike (n 
 
 top_alike : (P : Program) → place_names (rules.declarations P) ≡ top_names P
 top_alike P =
-    map-append (λ n. n.name) (rules.global_declarations P.globals ++ rules.extern_declarations P.externs) (rules.function_declarations P.functions)
-    ∙ ap (λ ns. ns ++ place_names (rules.function_declarations P.functions)) (map-append (λ n. n.name) (rules.global_declarations P.globals) (rules.extern_declarations P.externs))
-    ∙ append_assoc (place_names (rules.global_declarations P.globals)) (place_names (rules.extern_declarations P.externs)) (place_names (rules.function_declarations P.functions))
-    ∙ ap (λ ns. ns ++ (place_names (rules.extern_declarations P.externs) ++ place_names (rules.function_declarations P.functions))) (named_alike 0 (λ g. g.name) places.Global P.globals)
-    ∙ ap (λ ns. map (λ g. g.name) P.globals ++ (ns ++ place_names (rules.function_declarations P.functions))) (named_alike 0 (λ e. e.name) places.Extern P.externs)
-    ∙ ap (λ ns. map (λ g. g.name) P.globals ++ (map (λ e. e.name) P.externs ++ ns)) (named_alike 0 (λ f. f.name) places.Head P.functions)
+    map-append (λ n. n.name) (rules.global_declarations P.globals ++ rules.extern_declarations P.externs)
+    (rules.function_declarations P.functions)
+    ∙ ap (λ ns. ns ++ place_names (rules.function_declarations P.functions))
+    (map-append (λ n. n.name) (rules.global_declarations P.globals) (rules.extern_declarations P.externs))
+    ∙ append_assoc (place_names (rules.global_declarations P.globals))
+    (place_names (rules.extern_declarations P.externs)) (place_names (rules.function_declarations P.functions))
+    ∙ ap (λ ns. ns ++ (place_names (rules.extern_declarations P.externs)
+    ++ place_names (rules.function_declarations P.functions))) (named_alike 0 (λ g. g.name) places.Global P.globals)
+    ∙ ap (λ ns. map (λ g. g.name) P.globals ++ (ns ++ place_names (rules.function_declarations P.functions)))
+    (named_alike 0 (λ e. e.name) places.Extern P.externs)
+    ∙ ap (λ ns. map (λ g. g.name) P.globals ++ (map (λ e. e.name) P.externs ++ ns))
+    (named_alike 0 (λ f. f.name) places.Head P.functions)
 
 pub names-sound : (P : Program) → (names_check P).Holds → AllDiffer (top_names P)
 names-sound P h = differ-sound (rules.declarations P) (top_names P) (top_alike P) h
@@ -107,36 +119,43 @@ module _ {A : Type 0} (d : Declares A) (name : A → List ℕ) (t : Tells d name
   phis_told : (n b : ℕ) (phis : List Phi) → map name (numbered_from n (d.phi b) phis) ≡ names_of (phi_registers phis)
   phis_told n b [] = refl
   phis_told n b (p ∷ ps) =
-      ap (λ x. x ∷ map name (numbered_from (n + 1) (d.phi b) ps)) (t.phi b n p) ∙ ap (λ ns. p.dest ∷ ns) (phis_told (n + 1) b ps)
+      ap (λ x. x ∷ map name (numbered_from (n + 1) (d.phi b) ps)) (t.phi b n p)
+      ∙ ap (λ ns. p.dest ∷ ns) (phis_told (n + 1) b ps)
 
   body_told : (n b : ℕ) (body : List Instr)
       → map name (joined (numbered_from n (instr_declared (d.instr b)) body)) ≡ names_of (body_registers body)
   body_told n b [] = refl
   body_told n b (i ∷ is) =
       map-append name (instr_declared (d.instr b) n i) (joined (numbered_from (n + 1) (instr_declared (d.instr b)) is))
-      ∙ ap (λ ns. ns ++ map name (joined (numbered_from (n + 1) (instr_declared (d.instr b)) is))) (registers_told b n (assigned_by i))
-      ∙ ap (λ ns. names_of (assigned_by i) ++ ns) (body_told (n + 1) b is) ∙ sym (map-append (λ r. r.name) (assigned_by i) (body_registers is))
+      ∙ ap (λ ns. ns ++ map name (joined (numbered_from (n + 1) (instr_declared (d.instr b)) is)))
+      (registers_told b n (assigned_by i))
+      ∙ ap (λ ns. names_of (assigned_by i) ++ ns) (body_told (n + 1) b is)
+      ∙ sym (map-append (λ r. r.name) (assigned_by i) (body_registers is))
 
   block_told : (b : ℕ) (block : Block) → map name (block_declared d b block) ≡ names_in_block block
   block_told b block =
-      ap (λ n. n ∷ map name (numbered (d.phi b) block.phis ++ body_declared (d.instr b) block.body)) (t.label b block.label)
+      ap (λ n. n ∷ map name (numbered (d.phi b) block.phis ++ body_declared (d.instr b) block.body))
+      (t.label b block.label)
       ∙ ap (λ ns. block.label ∷ ns)
       (map-append name (numbered (d.phi b) block.phis) (body_declared (d.instr b) block.body)
       ∙ ap (λ ns. ns ++ map name (body_declared (d.instr b) block.body)) (phis_told 0 b block.phis)
-      ∙ ap (λ ns. names_of (phi_registers block.phis) ++ ns) (body_told 0 b block.body) ∙ sym (map-append (λ r. r.name) (phi_registers block.phis) (body_registers block.body)))
+      ∙ ap (λ ns. names_of (phi_registers block.phis) ++ ns) (body_told 0 b block.body)
+      ∙ sym (map-append (λ r. r.name) (phi_registers block.phis) (body_registers block.body)))
 
   blocks_told : (n : ℕ) (blocks : List Block)
       → map name (joined (numbered_from n (block_declared d) blocks)) ≡ flat_map names_in_block blocks
   blocks_told n [] = refl
   blocks_told n (b ∷ bs) =
       map-append name (block_declared d n b) (joined (numbered_from (n + 1) (block_declared d) bs))
-      ∙ ap (λ ns. ns ++ map name (joined (numbered_from (n + 1) (block_declared d) bs))) (block_told n b) ∙ ap (λ ns. names_in_block b ++ ns) (blocks_told (n + 1) bs)
+      ∙ ap (λ ns. ns ++ map name (joined (numbered_from (n + 1) (block_declared d) bs))) (block_told n b)
+      ∙ ap (λ ns. names_in_block b ++ ns) (blocks_told (n + 1) bs)
 
   -- what is made of the declarations of a function has the names in it, in their order
   pub declared_names-are : (fn : Function) → map name (declared_by d fn) ≡ names_in_function fn
   declared_names-are fn =
       map-append name (map d.parameter fn.params) (blocks_declared d fn.blocks)
-      ∙ ap (λ ns. ns ++ map name (blocks_declared d fn.blocks)) (params_told fn.params) ∙ ap (λ ns. names_of (parameter_registers fn) ++ ns) (blocks_told 0 fn.blocks)
+      ∙ ap (λ ns. ns ++ map name (blocks_declared d fn.blocks)) (params_told fn.params)
+      ∙ ap (λ ns. names_of (parameter_registers fn) ++ ns) (blocks_told 0 fn.blocks)
 
 inner_names-are : (f : ℕ) (fn : Function) → place_names (inner_names f fn) ≡ names_in_function fn
 inner_names-are f fn =

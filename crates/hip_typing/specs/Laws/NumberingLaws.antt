@@ -10,7 +10,9 @@ use Rattle.hip_typing.specs.Numbering.{function_names, function_number}
 -- a function that has a number is there, and has that name
 pub function_number-there : (P : Program) (name : List ℕ) (g : ℕ) → function_number P name ≡ Some g
     → (fn : Function) × (slice_get P.functions g ≡ Some fn) × (fn.name ≡ name)
-function_number-there P name g e = named (slice_get P.functions g) refl (sym (slice_get-map (λ f. f.name) P.functions g) ∙ number_of-there (function_names P.functions) name g e)
+function_number-there P name g e =
+    named (slice_get P.functions g) refl (sym (slice_get-map (λ f. f.name) P.functions g)
+    ∙ number_of-there (function_names P.functions) name g e)
   where
     named : (o : Option Function) → slice_get P.functions g ≡ o → option_map (λ f. f.name) o ≡ Some name
         → (fn : Function) × (slice_get P.functions g ≡ Some fn) × (fn.name ≡ name)
@@ -19,9 +21,12 @@ function_number-there P name g e = named (slice_get P.functions g) refl (sym (sl
 
 pub function_number-within : (P : Program) (name : List ℕ) (g : ℕ) → function_number P name ≡ Some g
     → g < length P.functions
-function_number-within P name g e = let there = function_number-there P name g e in slice_get_within P.functions g there.0 there.1
+function_number-within P name g e =
+    let there = function_number-there P name g e in slice_get_within P.functions g there.0 there.1
 
 -- a function that is there has a number by its name
 pub function_number-known : (P : Program) (g : ℕ) (fn : Function) → slice_get P.functions g ≡ Some fn
     → (j : ℕ) × (function_number P fn.name ≡ Some j)
-function_number-known P g fn e = number_of-known (function_names P.functions) fn.name g (slice_get-map (λ f. f.name) P.functions g ∙ ap (option_map (λ f. f.name)) e)
+function_number-known P g fn e =
+    number_of-known (function_names P.functions) fn.name g
+    (slice_get-map (λ f. f.name) P.functions g ∙ ap (option_map (λ f. f.name)) e)

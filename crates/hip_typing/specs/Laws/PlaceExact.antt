@@ -40,36 +40,46 @@ found-by_test : {V : Type 0} (b : Bool) (x name : List ℕ) (v : V) (later : Opt
     → bytes_eq x name ≡ b → Decides (is_some later) (IsAmong names name)
     → Decides (is_some (if b then Some v else later)) (IsAmong (x ∷ names) name)
 found-by_test true x name v later names e d = (λ _. inl ((bytes_eq-Decides x name).0 e), λ _. refl)
-found-by_test false x name v later names e d =
-    (λ t. inr (d.0 t), λ h. ⊎_elim (λ same. let t : bytes_eq x name ≡ true = (bytes_eq-Decides x name).1 same in cc) (λ l. d.1 l) h)
+found-by_test false x name v later names e d = (
+  λ t. inr (d.0 t),
+  λ h. ⊎_elim (λ same. let t : bytes_eq x name ≡ true = (bytes_eq-Decides x name).1 same in cc)
+      (λ l. d.1 l) h,
+)
 
 register-decides : (rs : List Register) (name : List ℕ)
     → Decides (is_some (find_register rs name)) (IsAmong (names_of rs) name)
 register-decides [] name = (λ e. cc, λ h. absurd h)
-register-decides (r ∷ rs) name = found-by_test (bytes_eq r.name name) r.name name r.ty (find_register rs name) (names_of rs) refl (register-decides rs name)
+register-decides (r ∷ rs) name =
+    found-by_test (bytes_eq r.name name) r.name name r.ty (find_register rs name) (names_of rs) refl
+    (register-decides rs name)
 
 extern-decides : (es : List Extern) (name : List ℕ)
     → Decides (is_some (extern_of es name)) (IsAmong (map (λ e. e.name) es) name)
 extern-decides [] name = (λ e. cc, λ h. absurd h)
 extern-decides (e ∷ es) name =
-    found-by_test (bytes_eq e.name name) e.name name (record { ret = e.ret; params = e.params }) (extern_of es name) (map (λ e. e.name) es) refl (extern-decides es name)
+    found-by_test (bytes_eq e.name name) e.name name (record { ret = e.ret; params = e.params }) (extern_of es name)
+    (map (λ e. e.name) es) refl (extern-decides es name)
 
 function-decides : (fs : List Function) (name : List ℕ)
     → Decides (is_some (function_of fs name)) (IsAmong (map (λ f. f.name) fs) name)
 function-decides [] name = (λ e. cc, λ h. absurd h)
 function-decides (f ∷ fs) name =
-    found-by_test (bytes_eq f.name name) f.name name (record { ret = f.ret; params = map (λ p. p.ty) f.params }) (function_of fs name) (map (λ f. f.name) fs) refl (function-decides fs name)
+    found-by_test (bytes_eq f.name name) f.name name (record { ret = f.ret; params = map (λ p. p.ty) f.params })
+    (function_of fs name) (map (λ f. f.name) fs) refl (function-decides fs name)
 
 first-decides : (a b : Option Signature) (names others : List (List ℕ)) (name : List ℕ)
     → Decides (is_some a) (IsAmong names name) → Decides (is_some b) (IsAmong others name)
     → Decides (is_some (first_of a b)) (IsAmong (names ++ others) name)
 first-decides (Some s) b names others name p q = (λ e. among-left names others name (p.0 refl), λ h. refl)
-first-decides None b names others name p q =
-    (λ e. among-right names others name (q.0 e), λ h. ⊎_elim (λ l. let t = p.1 l in cc) (λ r. q.1 r) (among-either names others name h))
+first-decides None b names others name p q = (
+  λ e. among-right names others name (q.0 e),
+  λ h. ⊎_elim (λ l. let t = p.1 l in cc) (λ r. q.1 r) (among-either names others name h),
+)
 
 callee-decides : (P : Program) (name : List ℕ) → Decides (is_some (callee_of P name)) (IsAmong (callee_names P) name)
 callee-decides P name =
-    first-decides (extern_of P.externs name) (function_of P.functions name) (map (λ e. e.name) P.externs) (map (λ f. f.name) P.functions) name (extern-decides P.externs name) (function-decides P.functions name)
+    first-decides (extern_of P.externs name) (function_of P.functions name) (map (λ e. e.name) P.externs)
+    (map (λ f. f.name) P.functions) name (extern-decides P.externs name) (function-decides P.functions name)
 
 are_among-decides : (known names : List (List ℕ)) → Decides (are_among known names) (All (IsAmong known) names)
 are_among-decides known names = all-decides (is_among known) (IsAmong known) names (λ x. among-decides known x)
@@ -78,13 +88,18 @@ known-decides : (P : Program) (fn : Function) (us : List Use)
     → Decides (uses_known (scope_of P fn) us)
     (All (IsAmong (register_names fn)) (used_registers us) × All (IsAmong (global_names P)) (used_globals us))
 known-decides P fn us =
-    both-decides _ _ (all-decides (λ n. is_some (find_register (registers_of fn) n)) (IsAmong (register_names fn)) (used_registers us) (λ x. register-decides (registers_of fn) x))
+    both-decides _ _ (all-decides (λ n. is_some (find_register (registers_of fn) n)) (IsAmong (register_names fn))
+    (used_registers us) (λ x. register-decides (registers_of fn) x))
     (are_among-decides (global_names P) (used_globals us))
 
 callees-decides : (P : Program) (fn : Function) (i : Instr)
     → Decides (callee_known (scope_of P fn) i) (All (IsAmong (callee_names P)) (sound.callees_of (InstrItem i)))
-callees-decides P fn (Call dest ret callee args) =
-    (λ e. All-cons (IsAmong (callee_names P)) callee [] ((callee-decides P callee).0 e) (All-nil (IsAmong (callee_names P))), λ h. (callee-decides P callee).1 (All-head (IsAmong (callee_names P)) callee [] h))
+callees-decides P fn (Call dest ret callee args) = (
+  λ e. All-cons (IsAmong (callee_names P)) callee [] ((callee-decides P callee).0 e)
+      (All-nil (IsAmong (callee_names P))),
+  λ h. (callee-decides P callee).1
+      (All-head (IsAmong (callee_names P)) callee [] h),
+)
 callees-decides P fn (Binary dest op flags width a b) = (λ e. All-nil (IsAmong (callee_names P)), λ h. refl)
 callees-decides P fn (Compare dest pred ty a b) = (λ e. All-nil (IsAmong (callee_names P)), λ h. refl)
 callees-decides P fn (Select dest cond ty a b) = (λ e. All-nil (IsAmong (callee_names P)), λ h. refl)
@@ -99,29 +114,54 @@ phi_names-decides : (P : Program) (fn : Function) (p : Phi)
     → Decides (uses_known (scope_of P fn) (phi_uses p) && are_among (label_names fn) (edge_labels p.edges))
     (NamesExist P fn (PhiItem p))
 phi_names-decides P fn p =
-    let d = both-decides _ _ (known-decides P fn (phi_uses p)) (are_among-decides (label_names fn) (edge_labels p.edges)) in
-    (λ e. let h = d.0 e in record { registers = h.0.0; globals = h.0.1; callees = All-nil (IsAmong (callee_names P)); labels = h.1 }, λ n. d.1 ((n.registers, n.globals), n.labels))
+    let d =
+    both-decides _ _ (known-decides P fn (phi_uses p)) (are_among-decides (label_names fn) (edge_labels p.edges)) in (
+      λ e. let h = d.0 e in record {
+        registers = h.0.0;
+        globals = h.0.1;
+        callees = All-nil (IsAmong (callee_names P));
+        labels = h.1;
+      },
+      λ n. d.1 ((n.registers, n.globals), n.labels),
+    )
 
 instr_names-decides : (P : Program) (fn : Function) (i : Instr)
     → Decides (uses_known (scope_of P fn) (instr_uses i) && callee_known (scope_of P fn) i)
     (NamesExist P fn (InstrItem i))
 instr_names-decides P fn i =
-    let d = both-decides _ _ (known-decides P fn (instr_uses i)) (callees-decides P fn i) in
-    (λ e. let h = d.0 e in record { registers = h.0.0; globals = h.0.1; callees = h.1; labels = All-nil (IsAmong (label_names fn)) }, λ n. d.1 ((n.registers, n.globals), n.callees))
+    let d = both-decides _ _ (known-decides P fn (instr_uses i)) (callees-decides P fn i) in (
+      λ e. let h = d.0 e in record {
+        registers = h.0.0;
+        globals = h.0.1;
+        callees = h.1;
+        labels = All-nil (IsAmong (label_names fn));
+      },
+      λ n. d.1 ((n.registers, n.globals), n.callees),
+    )
 
 end_names-decides : (P : Program) (fn : Function) (e : End)
     → Decides (uses_known (scope_of P fn) (end_uses e) && are_among (label_names fn) (end_labels e))
     (NamesExist P fn (EndItem e))
 end_names-decides P fn e =
-    let d = both-decides _ _ (known-decides P fn (end_uses e)) (are_among-decides (label_names fn) (end_labels e)) in
-    (λ t. let h = d.0 t in record { registers = h.0.0; globals = h.0.1; callees = All-nil (IsAmong (callee_names P)); labels = h.1 }, λ n. d.1 ((n.registers, n.globals), n.labels))
+    let d = both-decides _ _ (known-decides P fn (end_uses e)) (are_among-decides (label_names fn) (end_labels e)) in (
+      λ t. let h = d.0 t in record {
+        registers = h.0.0;
+        globals = h.0.1;
+        callees = All-nil (IsAmong (callee_names P));
+        labels = h.1;
+      },
+      λ n. d.1 ((n.registers, n.globals), n.labels),
+    )
 
 -- ---- types agree
 
 has_type-decides : (ty : Scalar) (found : Option (Option Scalar)) → Decides (has_type ty found) (found ≡ Some (Some ty))
 has_type-decides ty None = (λ e. cc, λ h. cc)
 has_type-decides ty (Some None) = (λ e. cc, λ h. cc)
-has_type-decides ty (Some (Some t)) = (λ e. ap (λ x. Some (Some x)) ((same_scalar-decides t ty).0 e), λ h. (same_scalar-decides t ty).1 (let same : t ≡ ty = cc in same))
+has_type-decides ty (Some (Some t)) = (
+  λ e. ap (λ x. Some (Some x)) ((same_scalar-decides t ty).0 e),
+  λ h. (same_scalar-decides t ty).1 (let same : t ≡ ty = cc in same),
+)
 
 use-decides : (registers : List Register) (o : Operand) (ty : Scalar)
     → Decides (use_agrees registers o ty) (operand_is_typed registers o ty)
@@ -130,7 +170,9 @@ use-decides registers (Fixed value) ty = (λ e. e, λ h. h)
 
 uses-decides : (P : Program) (fn : Function) (us : List Use)
     → Decides (uses_agree (scope_of P fn) us) (All (IsTyped fn) us)
-uses-decides P fn us = all-decides (λ u. use_agrees (registers_of fn) u.operand u.ty) (IsTyped fn) us (λ u. use-decides (registers_of fn) u.operand u.ty)
+uses-decides P fn us =
+    all-decides (λ u. use_agrees (registers_of fn) u.operand u.ty) (IsTyped fn) us
+    (λ u. use-decides (registers_of fn) u.operand u.ty)
 
 abbrev call_of : Option Scalar → List Arg → Signature
 call_of ret args = record { ret = ret; params = map (λ a. a.ty) args }
@@ -139,8 +181,10 @@ signature-decides : (ret : Option Scalar) (args : List Arg) (o : Option Signatur
     → Decides (signature_agrees ret args o) (o ≡ Some (call_of ret args))
 signature-decides ret args None = (λ e. cc, λ h. cc)
 signature-decides ret args (Some s) =
-    let d = both-decides _ _ (same_result-decides s.ret ret) (same_scalars-decides s.params (map (λ a. a.ty) args)) in
-    (λ e. let h = d.0 e in λ i. Some (record { ret = h.0 i; params = h.1 i }), λ h. let same : s ≡ call_of ret args = cc in d.1 (ap (λ t. t.ret) same, ap (λ t. t.params) same))
+    let d = both-decides _ _ (same_result-decides s.ret ret) (same_scalars-decides s.params (map (λ a. a.ty) args)) in (
+      λ e. let h = d.0 e in λ i. Some (record { ret = h.0 i; params = h.1 i }),
+      λ h. let same : s ≡ call_of ret args = cc in d.1 (ap (λ t. t.ret) same, ap (λ t. t.params) same),
+    )
 
 register-agrees : (dest : Option (List ℕ)) (ret : Option Scalar)
     → Decides (register_agrees dest ret) (ret ≡ None → dest ≡ None)
@@ -173,7 +217,10 @@ returned-decides : (arg : Option Arg) (ret : Option Scalar)
 returned-decides None None = (λ e. refl, λ h. refl)
 returned-decides None (Some t) = (λ e. cc, λ h. cc)
 returned-decides (Some a) None = (λ e. cc, λ h. cc)
-returned-decides (Some a) (Some t) = (λ e. ap Some ((same_scalar-decides a.ty t).0 e), λ h. (same_scalar-decides a.ty t).1 (let same : a.ty ≡ t = cc in same))
+returned-decides (Some a) (Some t) = (
+  λ e. ap Some ((same_scalar-decides a.ty t).0 e),
+  λ h. (same_scalar-decides a.ty t).1 (let same : a.ty ≡ t = cc in same),
+)
 
 end_own-decides : (P : Program) (fn : Function) (e : End) → Decides (returns fn.ret e) (OwnTypesAgree P fn (EndItem e))
 end_own-decides P fn (Ret arg) = returned-decides arg fn.ret
@@ -204,7 +251,9 @@ phi_types-decides P fn p =
 -- ---- cases differ
 
 pairs_differ-decides : (cases : List Case) → Decides (cases_differ cases) (AllPairs (λ c d. c.value ≢ d.value) cases)
-pairs_differ-decides cases = pairs-decides differ (λ c d. c.value ≢ d.value) cases (λ c d. not-decides (same_bits c.value d.value) (same_bits-decides c.value d.value))
+pairs_differ-decides cases =
+    pairs-decides differ (λ c d. c.value ≢ d.value) cases
+    (λ c d. not-decides (same_bits c.value d.value) (same_bits-decides c.value d.value))
 
 cases-decides : (e : End) → Decides (cases_differ (end_cases e)) (sound.CasesDiffer (EndItem e))
 cases-decides (Switch width value other cases) = pairs_differ-decides cases
@@ -221,11 +270,16 @@ entry-decides fn label = by_blocks fn.blocks
     by_blocks : (bs : List Block)
         → Decides (is_entry bs label) (option_map (λ b. b.label) (slice_get bs 0) ≡ Some label)
     by_blocks [] = (λ e. cc, λ h. cc)
-    by_blocks (b ∷ bs) = (λ e. ap Some ((bytes_eq-Decides b.label label).0 e), λ h. (bytes_eq-Decides b.label label).1 (let same : b.label ≡ label = cc in same))
+    by_blocks (b ∷ bs) = (
+      λ e. ap Some ((bytes_eq-Decides b.label label).0 e),
+      λ h. (bytes_eq-Decides b.label label).1 (let same : b.label ≡ label = cc in same),
+    )
 
 ends-decides : (fn : Function) (block : Block) (e : End)
     → Decides (not (list_any (is_entry fn.blocks) (end_labels e))) (sound.EdgesAreSound fn block (EndItem e))
-ends-decides fn block e = none-decides (is_entry fn.blocks) (λ label. label_at fn 0 ≡ Some label) (end_labels e) (λ label. entry-decides fn label)
+ends-decides fn block e =
+    none-decides (is_entry fn.blocks) (λ label. label_at fn 0 ≡ Some label) (end_labels e)
+    (λ label. entry-decides fn label)
 
 abbrev IsPredecessor : List Block → List ℕ → List ℕ → Type 0
 IsPredecessor bs from to =
@@ -240,9 +294,13 @@ predecessor-whole : (bs : List Block) (from to : List ℕ) → IsPredecessor bs 
 predecessor-whole [] from to (n, b, here, label, named) = cc
 predecessor-whole (x ∷ xs) from to (zero, b, here, label, named) =
     let same : x ≡ b = cc in
-    let leads : is_predecessor to x ≡ true = ap (is_predecessor to) same ∙ (among-decides (end_labels b.end) to).1 named in
-    subst (λ p. IsAmong (if p then x.label ∷ predecessors xs to else predecessors xs to) from) (sym leads) (inl (ap (λ y. y.label) same ∙ label))
-predecessor-whole (x ∷ xs) from to (suc n, b, here, label, named) = predecessor-kept (is_predecessor to x) x.label (predecessors xs to) from (predecessor-whole xs from to (n, b, here, label, named))
+    let leads : is_predecessor to x ≡ true =
+    ap (is_predecessor to) same ∙ (among-decides (end_labels b.end) to).1 named in
+    subst (λ p. IsAmong (if p then x.label ∷ predecessors xs to else predecessors xs to) from) (sym leads)
+    (inl (ap (λ y. y.label) same ∙ label))
+predecessor-whole (x ∷ xs) from to (suc n, b, here, label, named) =
+    predecessor-kept (is_predecessor to x) x.label (predecessors xs to) from
+    (predecessor-whole xs from to (n, b, here, label, named))
 
 predecessor-sound : (bs : List Block) (from to : List ℕ) → IsAmong (predecessors bs to) from → IsPredecessor bs from to
 predecessor-sound [] from to h = absurd h
@@ -258,7 +316,8 @@ predecessor-sound (x ∷ xs) from to h = by_test (is_predecessor to x) refl (λ 
     by_test false e rest l = later (rest l)
 
 precedes : (fn : Function) (from to : List ℕ) → IsPredecessor fn.blocks from to → Precedes fn from to
-precedes fn from to (n, b, here, label, named) = record { number = n; block = b; here = here; label = label; named = named }
+precedes fn from to (n, b, here, label, named) =
+    record { number = n; block = b; here = here; label = label; named = named }
 
 preceding : (fn : Function) (from to : List ℕ) → Precedes fn from to → IsPredecessor fn.blocks from to
 preceding fn from to p = (p.number, p.block, p.here, p.label, p.named)
@@ -277,25 +336,46 @@ carry-decides e d = by_test (bytes_eq e.label d.label) refl
   where
     by_test : (b : Bool) → bytes_eq e.label d.label ≡ b
         → Decides (not b || same_operand e.value d.value) (e.label ≡ d.label → e.value ≡ d.value)
-    by_test true is = (λ t same. (same_operand-decides e.value d.value).0 t, λ h. (same_operand-decides e.value d.value).1 (h ((bytes_eq-Decides e.label d.label).0 is)))
-    by_test false is = (λ t same. let there : bytes_eq e.label d.label ≡ true = (bytes_eq-Decides e.label d.label).1 same in cc, λ h. refl)
+    by_test true is = (
+      λ t same. (same_operand-decides e.value d.value).0 t,
+      λ h. (same_operand-decides e.value d.value).1 (h ((bytes_eq-Decides e.label d.label).0 is)),
+    )
+    by_test false is = (
+      λ t same. let there : bytes_eq e.label d.label ≡ true = (bytes_eq-Decides e.label d.label).1 same in cc,
+      λ h. refl,
+    )
 
 edges-decides : (fn : Function) (block : Block) (edges : List Edge)
     → Decides (edges_agree (predecessors fn.blocks block.label) edges) (EdgesAgree fn block edges)
 edges-decides fn block edges =
     let before = predecessors fn.blocks block.label in
     let labels = edge_labels edges in
-    let d = both-decides _ _ (are_among-decides labels before) (both-decides _ _ (are_among-decides before labels) (pairs-decides carry_alike (λ e d. e.label ≡ d.label → e.value ≡ d.value) edges carry-decides)) in (
+    let d =
+    both-decides _ _ (are_among-decides labels before)
+    (both-decides _ _ (are_among-decides before labels)
+    (pairs-decides carry_alike (λ e d. e.label ≡ d.label → e.value ≡ d.value) edges carry-decides)) in (
       λ e.
           let h = d.0 e in
           record {
-            named = λ label p. among-of_all (IsAmong labels) before h.0 label (predecessor-whole fn.blocks label block.label (preceding fn label block.label p));
-            others = all-of_among (λ label. Precedes fn label block.label) labels (λ label among. precedes fn label block.label (predecessor-sound fn.blocks label block.label (among-of_all (IsAmong before) labels h.1.0 label among)));
+            named =
+                λ label p. among-of_all (IsAmong labels) before h.0 label
+                (predecessor-whole fn.blocks label block.label (preceding fn label block.label p));
+            others =
+                all-of_among (λ label. Precedes fn label block.label) labels
+                (λ label among. precedes fn label block.label
+                (predecessor-sound fn.blocks label block.label
+                (among-of_all (IsAmong before) labels h.1.0 label among)));
             repeats = h.1.1;
           },
       λ a. d.1 (
-        all-of_among (IsAmong labels) before (λ label among. a.named label (precedes fn label block.label (predecessor-sound fn.blocks label block.label among))),
-        (all-of_among (IsAmong before) labels (λ label among. predecessor-whole fn.blocks label block.label (preceding fn label block.label (among-of_all (λ l. Precedes fn l block.label) labels a.others label among))), a.repeats),
+        all-of_among (IsAmong labels) before (λ label among. a.named label
+            (precedes fn label block.label (predecessor-sound fn.blocks label block.label among))),
+        (
+          all-of_among (IsAmong before) labels (λ label among. predecessor-whole fn.blocks label block.label
+              (preceding fn label block.label (among-of_all
+              (λ l. Precedes fn l block.label) labels a.others label among))),
+          a.repeats,
+        ),
       ),
     )
 
@@ -321,7 +401,13 @@ phi-sound P fn block p place h = record {
 
 pub phi-whole : (P : Program) (fn : Function) (block : Block) (p : Phi) (place : Place)
     → ItemIsSound P fn block (PhiItem p) → (phi_check (scope_of P fn) block.label p place).Holds
-phi-whole P fn block p place s = ((phi_names-decides P fn p).1 s.names, (s.fit, ((phi_types-decides P fn p).1 s.agree, (edges-decides fn block p.edges).1 s.edges)))
+phi-whole P fn block p place s = (
+  (phi_names-decides P fn p).1 s.names,
+  (
+    s.fit,
+    ((phi_types-decides P fn p).1 s.agree, (edges-decides fn block p.edges).1 s.edges),
+  ),
+)
 
 pub instr-sound : (P : Program) (fn : Function) (block : Block) (i : Instr) (place : Place)
     → (instr_check (scope_of P fn) i place).Holds → ItemIsSound P fn block (InstrItem i)
@@ -335,7 +421,8 @@ instr-sound P fn block i place h = record {
 
 pub instr-whole : (P : Program) (fn : Function) (block : Block) (i : Instr) (place : Place)
     → ItemIsSound P fn block (InstrItem i) → (instr_check (scope_of P fn) i place).Holds
-instr-whole P fn block i place s = ((instr_names-decides P fn i).1 s.names, (s.fit, (instr_types-decides P fn i).1 s.agree))
+instr-whole P fn block i place s =
+    ((instr_names-decides P fn i).1 s.names, (s.fit, (instr_types-decides P fn i).1 s.agree))
 
 pub end-sound : (P : Program) (fn : Function) (block : Block) (e : End) (place : Place)
     → (end_check (scope_of P fn) e place).Holds → ItemIsSound P fn block (EndItem e)
@@ -349,5 +436,10 @@ end-sound P fn block e place h = record {
 
 pub end-whole : (P : Program) (fn : Function) (block : Block) (e : End) (place : Place)
     → ItemIsSound P fn block (EndItem e) → (end_check (scope_of P fn) e place).Holds
-end-whole P fn block e place s =
-    ((end_names-decides P fn e).1 s.names, (s.fit, ((end_types-decides P fn e).1 s.agree, ((cases-decides e).1 s.cases, (ends-decides fn block e).1 s.edges))))
+end-whole P fn block e place s = (
+  (end_names-decides P fn e).1 s.names,
+  (
+    s.fit,
+    ((end_types-decides P fn e).1 s.agree, ((cases-decides e).1 s.cases, (ends-decides fn block e).1 s.edges)),
+  ),
+)

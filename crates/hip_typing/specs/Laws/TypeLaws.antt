@@ -72,7 +72,8 @@ level_equal (Ty-F.Struct es) (Ty-F.Struct ts) h = ap (λ xs. Ty-F.Struct xs) (al
 -- types that pass the test are equal
 pub same_type-equal : (a b : Ty) → same_type a b ≡ true → a ≡ b
 same_type-equal = ind-Ty IsEqual (λ x y is b h.
-    let unfolded : same_type (roll-Ty x) b ≡ same_step (map-Ty Ty (Ty → Bool) same_type x) b = ap (λ (f : Ty → Bool). f b) (fold-roll-Ty (Ty → Bool) same_step x) in
+    let unfolded : same_type (roll-Ty x) b ≡ same_step (map-Ty Ty (Ty → Bool) same_type x) b =
+    ap (λ (f : Ty → Bool). f b) (fold-roll-Ty (Ty → Bool) same_step x) in
     let P : Ty-F Ty → Type 0 = λ z. same_level (map-Ty Ty (Ty → Bool) same_type z) (out-Ty b) ≡ true in
     let here : P x = sym unfolded ∙ h in
     let there : P (types y) = subst P (sym is) here in
@@ -100,7 +101,8 @@ level_reflexive (Ty-F.Struct es) = all_reflexive es
 -- each type passes the test with itself
 pub same_type-refl : (a : Ty) → same_type a a ≡ true
 same_type-refl = ind-Ty IsReflexive (λ x y is.
-    let unfolded : same_type (roll-Ty x) (roll-Ty x) ≡ same_step (map-Ty Ty (Ty → Bool) same_type x) (roll-Ty x) = ap (λ (f : Ty → Bool). f (roll-Ty x)) (fold-roll-Ty (Ty → Bool) same_step x) in
+    let unfolded : same_type (roll-Ty x) (roll-Ty x) ≡ same_step (map-Ty Ty (Ty → Bool) same_type x) (roll-Ty x) =
+    ap (λ (f : Ty → Bool). f (roll-Ty x)) (fold-roll-Ty (Ty → Bool) same_step x) in
     let P : Ty-F Ty → Type 0 = λ z. same_level (map-Ty Ty (Ty → Bool) same_type z) z ≡ true in
     let here : P x = subst P is (level_reflexive y) in
     unfolded ∙ ap (λ (o : Ty-F Ty). same_level (map-Ty Ty (Ty → Bool) same_type x) o) (out-roll-Ty x) ∙ here)
@@ -108,4 +110,5 @@ same_type-refl = ind-Ty IsReflexive (λ x y is.
 -- a test that tells whether two types are equal is this one
 pub same_type-is : (b : Bool) (x y : Ty) → (b ≡ true → x ≡ y) → (x ≡ y → b ≡ true) → b ≡ same_type x y
 same_type-is b x y equal test =
-    both_ways b (same_type x y) (λ e. subst (λ (z : Ty). same_type x z ≡ true) (equal e) (same_type-refl x)) (λ e. test (same_type-equal x y e))
+    both_ways b (same_type x y) (λ e. subst (λ (z : Ty). same_type x z ≡ true) (equal e) (same_type-refl x))
+    (λ e. test (same_type-equal x y e))

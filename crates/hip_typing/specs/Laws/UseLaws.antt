@@ -28,7 +28,9 @@ and_swap false false c = refl
 pub known_alike : (known names asked : List (List ℕ)) → Knows known names
     → list_all (is_among known) asked ≡ list_all (is_among names) asked
 known_alike known names [] knows = refl
-known_alike known names (x ∷ xs) knows = ap (λ b. b && list_all (is_among known) xs) (knows x) ∙ ap (λ b. is_among names x && b) (known_alike known names xs knows)
+known_alike known names (x ∷ xs) knows =
+    ap (λ b. b && list_all (is_among known) xs) (knows x)
+    ∙ ap (λ b. is_among names x && b) (known_alike known names xs knows)
 
 module _ (s : Scope) (names : List (List ℕ)) (values : List (Option Scalar)) (globals : List (List ℕ))
     (finds : Finds names values s.registers) (knows : Knows globals (global_names s)) where
@@ -43,16 +45,20 @@ module _ (s : Scope) (names : List (List ℕ)) (values : List (Option Scalar)) (
       uses_known s (record { operand = o; ty = ty } ∷ us)
   one_more (Reg name) ty us =
       ap (λ o. is_some o && (registered (used_registers us) && global (used_globals us))) (finds.finds name)
-      ∙ sym (and_assoc (is_some (find_register s.registers name)) (registered (used_registers us)) (global (used_globals us)))
+      ∙ sym (and_assoc (is_some (find_register s.registers name)) (registered (used_registers us))
+      (global (used_globals us)))
   one_more (Fixed value) ty us =
-      ap (λ b. b && (registered (used_registers us) && global (used_globals us))) (known_alike globals (global_names s) (names_in value) knows)
+      ap (λ b. b && (registered (used_registers us) && global (used_globals us)))
+      (known_alike globals (global_names s) (names_in value) knows)
       ∙ and_swap (global (names_in value)) (registered (used_registers us)) (global (used_globals us))
-      ∙ ap (λ b. registered (used_registers us) && b) (sym (list_all-append (is_among (global_names s)) (names_in value) (used_globals us)))
+      ∙ ap (λ b. registered (used_registers us) && b)
+      (sym (list_all-append (is_among (global_names s)) (names_in value) (used_globals us)))
 
   -- registers and globals that are used exist
   pub uses_known-by_tables : (us : List Use) → operands_known names values globals us ≡ uses_known s us
   uses_known-by_tables [] = refl
-  uses_known-by_tables (u ∷ us) = ap (λ b. operand_known names values globals u.operand && b) (uses_known-by_tables us) ∙ one_more u.operand u.ty us
+  uses_known-by_tables (u ∷ us) =
+      ap (λ b. operand_known names values globals u.operand && b) (uses_known-by_tables us) ∙ one_more u.operand u.ty us
 
 module _ (s : Scope) (names : List (List ℕ)) (values : List (Option Scalar))
     (finds : Finds names values s.registers) where
@@ -64,7 +70,8 @@ module _ (s : Scope) (names : List (List ℕ)) (values : List (Option Scalar))
   pub uses_agree-by_tables : (us : List Use) → operands_agree names values us ≡ uses_agree s us
   uses_agree-by_tables [] = refl
   uses_agree-by_tables (u ∷ us) =
-      ap (λ b. b && operands_agree names values us) (agrees_alike u.operand u.ty) ∙ ap (λ b. use_agrees s.registers u.operand u.ty && b) (uses_agree-by_tables us)
+      ap (λ b. b && operands_agree names values us) (agrees_alike u.operand u.ty)
+      ∙ ap (λ b. use_agrees s.registers u.operand u.ty && b) (uses_agree-by_tables us)
 
 fits_alike : (o : Operand) (ty : Scalar) (us : List Use)
     → (operand_fits o && list_all fits_test (used_types us))

@@ -60,7 +60,8 @@ fn push_instr<'a>(
     instr: &'a Instr,
 ) -> Result<(), NoMemory>
     ensures { OnOk result
-        (seen names.new ≡ seen names.old ++ instr_declared ((named_in site.function).instr site.block) site.index instr.now) }
+        (seen names.new ≡ seen names.old ++ instr_declared
+        ((named_in site.function).instr site.block) site.index instr.now) }
 {
     match assigned_by(instr) {
         Some(register) => names.push(NamedPlace {
@@ -78,7 +79,8 @@ fn push_body<'a>(
     block: usize,
     body: &'a [Instr],
 ) -> Result<(), NoMemory>
-    ensures { OnOk result (seen names.new ≡ seen names.old ++ body_declared ((named_in function).instr block) body.now) }
+    ensures { OnOk result (seen names.new ≡ seen names.old
+        ++ body_declared ((named_in function).instr block) body.now) }
 {
     'body: for index in 0..body.len() {
         let site = Site {

@@ -44,7 +44,8 @@ fn add_params<'a>(table: &mut InnerTable<'a>, params: &'a [Param]) -> Result<(),
 
 fn add_phis<'a>(table: &mut InnerTable<'a>, block: usize, phis: &'a [Phi]) -> Result<(), NoMemory>
     ensures { OnOk result
-        (Gains table.old.names table.old.values table.new.names table.new.values (numbered (entries.phi block) phis.now)) }
+        (Gains table.old.names table.old.values table.new.names table.new.values
+        (numbered (entries.phi block) phis.now)) }
 {
     'phis: for phi in phis {
         add_name(table, &phi.dest, Inner::Assigned { block, after: 0 })?;
@@ -75,7 +76,8 @@ fn add_assigned<'a>(
 
 fn add_body<'a>(table: &mut InnerTable<'a>, block: usize, body: &'a [Instr]) -> Result<(), NoMemory>
     ensures { OnOk result
-        (Gains table.old.names table.old.values table.new.names table.new.values (body_declared (entries.instr block) body.now)) }
+        (Gains table.old.names table.old.values table.new.names table.new.values
+        (body_declared (entries.instr block) body.now)) }
 {
     'instrs: for index in 0..body.len() {
         add_assigned(table, block, index, &body[index])?;
@@ -89,7 +91,8 @@ fn add_block<'a>(
     block: &'a Block,
 ) -> Result<(), NoMemory>
     ensures { OnOk result
-        (Gains table.old.names table.old.values table.new.names table.new.values (block_declared entries number block.now)) }
+        (Gains table.old.names table.old.values table.new.names table.new.values
+        (block_declared entries number block.now)) }
 {
     add_name(table, &block.label, Inner::Label(number))?;
     add_phis(table, number, block.phis.as_slice())?;

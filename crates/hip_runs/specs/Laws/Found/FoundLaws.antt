@@ -31,10 +31,13 @@ same_site_equal a b h =
     let p = both_true _ _ h in
     let q = both_true _ _ p.1 in
     ap₂ (λ (f : ℕ) (r : Site). record { function = f; block = r.block; index = r.index }) (equal_true _ _ p.0)
-    (ap₂ (λ (x y : ℕ). record { function = a.function; block = x; index = y }) (equal_true _ _ q.0) (equal_true _ _ q.1))
+    (ap₂ (λ (x y : ℕ). record { function = a.function; block = x; index = y }) (equal_true _ _ q.0)
+    (equal_true _ _ q.1))
 
 pub site_same : (a : Site) → same_site a a ≡ true
-site_same a = true_both (true_equal a.function a.function refl) (true_both (true_equal a.block a.block refl) (true_equal a.index a.index refl))
+site_same a =
+    true_both (true_equal a.function a.function refl)
+    (true_both (true_equal a.block a.block refl) (true_equal a.index a.index refl))
 
 pub same_object_equal : (a b : Object) → same_object a b ≡ true → a ≡ b
 same_object_equal (objects.Global a) (objects.Global b) h = ap objects.Global (equal_true a b h)
@@ -51,17 +54,22 @@ same_mark_equal a b h =
     let p = both_true _ _ h in
     let q = both_true _ _ p.1 in
     ap₂ (λ (s : Site) (m : Mark). record { site = s; operand = m.operand; object = m.object }) (same_site_equal _ _ p.0)
-    (ap₂ (λ (n : ℕ) (o : Object). record { site = a.site; operand = n; object = o }) (equal_true _ _ q.0) (same_object_equal _ _ q.1))
+    (ap₂ (λ (n : ℕ) (o : Object). record { site = a.site; operand = n; object = o }) (equal_true _ _ q.0)
+    (same_object_equal _ _ q.1))
 
 pub mark_same : (a b : Mark) → a ≡ b → same_mark a b ≡ true
-mark_same a b e = subst (λ x. same_mark a x ≡ true) e (true_both (site_same a.site) (true_both (true_equal a.operand a.operand refl) (object_same a.object)))
+mark_same a b e =
+    subst (λ x. same_mark a x ≡ true) e (true_both (site_same a.site)
+    (true_both (true_equal a.operand a.operand refl) (object_same a.object)))
 
 -- ---- marks are met once
 
 pub same_mark-equivalence : IsEquivalence same_mark
 same_mark-equivalence = record {
   refl = λ a. mark_same a a refl;
-  symm = λ a b. both_ways (same_mark a b) (same_mark b a) (λ e. mark_same b a (sym (same_mark_equal a b e))) (λ e. mark_same a b (sym (same_mark_equal b a e)));
+  symm =
+      λ a b. both_ways (same_mark a b) (same_mark b a) (λ e. mark_same b a (sym (same_mark_equal a b e)))
+      (λ e. mark_same a b (sym (same_mark_equal b a e)));
   congr = λ a b c e. ap (λ m. same_mark m c) (same_mark_equal a b e);
 }
 
@@ -74,12 +82,14 @@ met-append same xs (y ∷ ys) zs = met-append same (cond (list_any (same y) xs) 
 pub pointed-distinct : (P : Program) (I : Input) (n : ℕ) → IsDistinct same_mark (pointed P I n)
 unfolding pointed IsDistinct
 pointed-distinct P I zero = tt
-pointed-distinct P I (suc n) = met-distinct same_mark-equivalence (pointed P I n) (step_marks P I (run P I n)) (pointed-distinct P I n)
+pointed-distinct P I (suc n) =
+    met-distinct same_mark-equivalence (pointed P I n) (step_marks P I (run P I n)) (pointed-distinct P I n)
 
 pub hit-distinct : (P : Program) (I : Input) (n : ℕ) → IsDistinct nat_eq (hit P I n)
 unfolding hit IsDistinct
 hit-distinct P I zero = tt
-hit-distinct P I (suc n) = met-distinct nat_eq_equiv (hit P I n) (event_hits P I (event P I (run P I n))) (hit-distinct P I n)
+hit-distinct P I (suc n) =
+    met-distinct nat_eq_equiv (hit P I n) (event_hits P I (event P I (run P I n))) (hit-distinct P I n)
 
 -- ---- worths by one pass over the marks
 
@@ -92,7 +102,8 @@ module _ (hit : List ℕ) (site : Site) (operand : ℕ) where
       → is_worth_of w site operand ≡ same_site m.site site && nat_eq m.operand operand
   same_test w m e =
       let p = both_true (same_site w.site m.site) _ e in
-      ap₂ (λ (s : Site) (n : ℕ). same_site s site && nat_eq n operand) (same_site_equal w.site m.site p.0) (equal_true w.operand m.operand p.1)
+      ap₂ (λ (s : Site) (n : ℕ). same_site s site && nat_eq n operand) (same_site_equal w.site m.site p.0)
+      (equal_true w.operand m.operand p.1)
 
   other_test : (w : Worth) (m : Mark) → is_worth_of w m.site m.operand ≡ false → is_worth_of w site operand ≡ true
       → same_site m.site site && nat_eq m.operand operand ≡ false
@@ -105,7 +116,9 @@ module _ (hit : List ℕ) (site : Site) (operand : ℕ) where
           let q = both_true (same_site m.site site) _ g in
           let s : m.site ≡ w.site = same_site_equal m.site site q.0 ∙ sym (same_site_equal w.site site p.0) in
           let n : m.operand ≡ w.operand = equal_true m.operand operand q.1 ∙ sym (equal_true w.operand operand p.1) in
-          let t : is_worth_of w m.site m.operand ≡ true = ap₂ (λ (u : Site) (k : ℕ). is_worth_of w u k) s n ∙ true_both (site_same w.site) (true_equal w.operand w.operand refl) in
+          let t : is_worth_of w m.site m.operand ≡ true =
+          ap₂ (λ (u : Site) (k : ℕ). is_worth_of w u k) s n
+          ∙ true_both (site_same w.site) (true_equal w.operand w.operand refl) in
           absurd (let z : false ≡ true = sym e ∙ t in let u : ⊥ = cc in u)
 
   worth-with_mark : (ws : List Worth) (m : Mark)
@@ -125,20 +138,29 @@ module _ (hit : List ℕ) (site : Site) (operand : ℕ) where
 
       beside : (b : Bool) → is_worth_of w site operand ≡ b → is_worth_of w m.site m.operand ≡ false
           → worth_at (with_mark hit ws m) site operand ≡ more (worth_at ws site operand) m →
-          cond b w.worth (worth_at (with_mark hit ws m) site operand) ≡ more (cond b w.worth (worth_at ws site operand)) m
-      beside true f e next = sym (ap (λ t. cond t (w.worth +ℤ worth_of (is_marked hit m.object)) w.worth) (other_test w m e f))
+          cond b w.worth (worth_at (with_mark hit ws m) site operand)
+          ≡ more (cond b w.worth (worth_at ws site operand)) m
+      beside true f e next =
+          sym (ap (λ t. cond t (w.worth +ℤ worth_of (is_marked hit m.object)) w.worth) (other_test w m e f))
       beside false f e next = next
 
       go : (b : Bool) → is_worth_of w m.site m.operand ≡ b
           → worth_at (with_mark hit ws m) site operand ≡ more (worth_at ws site operand) m →
-          worth_at (cond b (record { site = w.site; operand = w.operand; worth = w.worth +ℤ worth_of (is_marked hit m.object) } ∷ ws) (w ∷ with_mark hit ws m)) site operand ≡ more (worth_at (w ∷ ws) site operand) m
-      go true e next = by (is_worth_of w site operand) (same_site m.site site && nat_eq m.operand operand) (same_test w m e)
+          worth_at (cond b (record {
+            site = w.site;
+            operand = w.operand;
+            worth = w.worth +ℤ worth_of (is_marked hit m.object);
+          } ∷ ws) (w ∷ with_mark hit ws m)) site operand
+          ≡ more (worth_at (w ∷ ws) site operand) m
+      go true e next =
+          by (is_worth_of w site operand) (same_site m.site site && nat_eq m.operand operand) (same_test w m e)
       go false e next = beside (is_worth_of w site operand) refl e next
 
   worths-in : (ws : List Worth) (ms : List Mark)
       → worth_at (worths_from hit ws ms) site operand ≡ worth_in hit site operand ms (worth_at ws site operand)
   worths-in ws [] = refl
-  worths-in ws (m ∷ ms) = worths-in (with_mark hit ws m) ms ∙ ap (λ sum. worth_in hit site operand ms sum) (worth-with_mark ws m)
+  worths-in ws (m ∷ ms) =
+      worths-in (with_mark hit ws m) ms ∙ ap (λ sum. worth_in hit site operand ms sum) (worth-with_mark ws m)
 
 -- the table gives each operand its worth
 pub worths-are : (marks : Marks) (site : Site) (operand : ℕ)
@@ -167,7 +189,9 @@ same_reports P I n e =
 
 same_pointed : (P : Program) (I : Input) (n : ℕ) → has_ended (run P I n) ≡ true → pointed P I (suc n) ≡ pointed P I n
 unfolding pointed
-same_pointed P I n e = ap (λ b. met same_mark (pointed P I n) (cond b [] (unless_ended (event P I (run P I n)) (frame_marks P I (run P I n).frames)))) e
+same_pointed P I n e =
+    ap (λ b. met same_mark (pointed P I n) (cond b []
+    (unless_ended (event P I (run P I n)) (frame_marks P I (run P I n).frames)))) e
 
 no_hits : (P : Program) (I : Input) (s : State) → has_ended s ≡ true → event_hits P I (event P I s) ≡ []
 unfolding event
@@ -197,11 +221,15 @@ record StaysFound (P : Program) (I : Input) (m n : ℕ) : Type 0 where
   same : findings P I n ≡ findings P I m
 
 found_later : (P : Program) (I : Input) (m k : ℕ) → has_ended (run P I m) ≡ true → StaysFound P I m (k + m)
-found_later P I m zero e = let q : m ≡ 0 + m = omega arith in subst (StaysFound P I m) q (record { ended = e; same = refl })
+found_later P I m zero e =
+    let q : m ≡ 0 + m = omega arith in subst (StaysFound P I m) q (record { ended = e; same = refl })
 found_later P I m (suc k) e =
     let before = found_later P I m k e in
     let q : suc (k + m) ≡ suc k + m = omega arith in
-    subst (StaysFound P I m) q (record { ended = ap has_ended (run_next P I (k + m) before.ended) ∙ before.ended; same = found_next P I (k + m) before.ended ∙ before.same })
+    subst (StaysFound P I m) q (record {
+      ended = ap has_ended (run_next P I (k + m) before.ended) ∙ before.ended;
+      same = found_next P I (k + m) before.ended ∙ before.same;
+    })
 
 further : (m n : ℕ) → ((k : ℕ) × (n ≡ k + m)) ⊎ ((k : ℕ) × (m ≡ k + n))
 further zero n = inl (n, omega arith)

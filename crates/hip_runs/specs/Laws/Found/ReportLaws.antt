@@ -69,19 +69,27 @@ module _ (P : Program) (s : State) (h : HasHistory P s) (at : HasSites P s) wher
   known : (o n made : ℕ) → AreKnown P s (loose_parts o n s.lines made)
   known o n made = record {
     there = λ p i. loose_there o n made s.lines p (part_loose o n made s.lines p i);
-    flushed = λ p i e. let k = part_loose o n made s.lines p i in h.flushed k.line k.place k.of p.part k.line_at k.loose.last_over.at (lt_true k.place k.of.flushed (sym k.flushed ∙ e));
-    unfenced = λ p f i e. let k = part_loose o n made s.lines p i in at.unfenced k.line k.of k.place p.part f k.line_at k.loose.last_over.at k.loose.not_durable e;
+    flushed =
+        λ p i e. let k = part_loose o n made s.lines p i in
+        h.flushed k.line k.place k.of p.part k.line_at k.loose.last_over.at
+        (lt_true k.place k.of.flushed (sym k.flushed ∙ e));
+    unfenced =
+        λ p f i e. let k = part_loose o n made s.lines p i in
+        at.unfenced k.line k.of k.place p.part f k.line_at k.loose.last_over.at k.loose.not_durable e;
   }
 
   by_formed : (check : ℕ) (p : LoosePart) (ps : List LoosePart) → AreKnown P s (p ∷ ps)
       → IsWellFormed P (report_by (levels_of s.frames) check p.part (p ∷ ps))
   by_formed check p ps k = record {
     flush_site = site (all_flushed (p ∷ ps)) refl;
-    closed = omega (arith, closed_few (levels_of s.frames) p.part.levels, length-map p.part.levels (λ (l : Level). l.call));
-    store = λ t e. subst (λ (x : Site). is_store (instr_of P x) ≡ true) (same_some p.part.site t e) (at.store p.part here);
+    closed =
+        omega (arith, closed_few (levels_of s.frames) p.part.levels, length-map p.part.levels (λ (l : Level). l.call));
+    store =
+        λ t e. subst (λ (x : Site). is_store (instr_of P x) ≡ true) (same_some p.part.site t e) (at.store p.part here);
     call = λ j t e.
         let r = get-of_map (λ (l : Level). l.call) p.part.levels j t e in
-        subst (λ (x : Site). is_defined_call P (instr_of P x) ≡ true) r.2 (at.call p.part r.0 here (in_at p.part.levels j r.0 r.1));
+        subst (λ (x : Site). is_defined_call P (instr_of P x) ≡ true) r.2
+        (at.call p.part r.0 here (in_at p.part.levels j r.0 r.1));
     flush = λ t e. flush t (all_flushed (p ∷ ps)) e;
   }
     where
@@ -103,7 +111,8 @@ module _ (P : Program) (s : State) (h : HasHistory P s) (at : HasSites P s) wher
           → is_some (flush_site_of b (p ∷ ps)) ≡ lacks_fence_alone (kind_of b p.part.fenced)
       site true e =
           let f = k.flushed p (inl refl) (in_all (λ (q : LoosePart). q.flushed) (p ∷ ps) e p (inl refl)) in
-          mapped (λ (g : Flush). g.site) (latest_flush (p ∷ ps)) ∙ ap (λ o. is_some (later_flush o (latest_flush ps))) f.1 ∙ latest_there f.0 (latest_flush ps)
+          mapped (λ (g : Flush). g.site) (latest_flush (p ∷ ps))
+          ∙ ap (λ o. is_some (later_flush o (latest_flush ps))) f.1 ∙ latest_there f.0 (latest_flush ps)
       site false e = sym (fenced_kind p.part.fenced)
 
       of_site : (o : Option Flush) (t : Site) → option_map (λ (g : Flush). g.site) o ≡ Some t
@@ -127,8 +136,11 @@ module _ (P : Program) (s : State) (h : HasHistory P s) (at : HasSites P s) wher
   check_formed : (o : Option Range) (r : Report) → In r (check_reports s o) → IsWellFormed P r
   check_formed None r i = absurd i
   check_formed (Some range) r i =
-      let a = of_flat (λ made. report_of (levels_of s.frames) (suc s.counts.entries) (loose_parts range.offset range.size s.lines made)) _ r i in
-      of_formed (suc s.counts.entries) (loose_parts range.offset range.size s.lines a.1) (known range.offset range.size a.1) r a.3
+      let a =
+      of_flat (λ made. report_of (levels_of s.frames) (suc s.counts.entries)
+      (loose_parts range.offset range.size s.lines made)) _ r i in
+      of_formed (suc s.counts.entries) (loose_parts range.offset range.size s.lines a.1)
+      (known range.offset range.size a.1) r a.3
 
 pub reports_formed : (P : Program) (I : Input) (n : ℕ) (r : Report) → In r (reports P I n) → IsWellFormed P r
 unfolding reports

@@ -30,8 +30,11 @@ module _ {A : Type 0} (f : ℕ → List A) where
       → flat_map f (range_with_len a n) ≡ flat_map f xs
   range_from zero a b [] e h none = refl
   range_from zero a b (x ∷ xs) e h none = absurd (omega (arith, h.0, h.1, e))
-  range_from (suc n) a b [] e h none = ap₂ (λ p q. p ++ q) (none a (omega arith) (omega (arith, e)) (λ i. i)) (range_from n (a + 1) b [] (omega (arith, e)) tt (λ y le lt i. none y (omega (arith, le)) lt i))
-  range_from (suc n) a b (x ∷ xs) e h none = go (λ ys u v. range_from n (a + 1) b ys (omega (arith, e)) u v) (split a x h.0)
+  range_from (suc n) a b [] e h none =
+      ap₂ (λ p q. p ++ q) (none a (omega arith) (omega (arith, e)) (λ i. i))
+      (range_from n (a + 1) b [] (omega (arith, e)) tt (λ y le lt i. none y (omega (arith, le)) lt i))
+  range_from (suc n) a b (x ∷ xs) e h none =
+      go (λ ys u v. range_from n (a + 1) b ys (omega (arith, e)) u v) (split a x h.0)
     where
       go : ((ys : List ℕ) → AscendWithin (a + 1) b ys → IsNoneBeside f (a + 1) b ys
           → flat_map f (range_with_len (a + 1) n) ≡ flat_map f ys) → (a < x) ⊎ (a
@@ -39,7 +42,8 @@ module _ {A : Type 0} (f : ℕ → List A) where
       go next (inl lt) =
           let up : AscendWithin (a + 1) b (x ∷ xs) = (omega (arith, lt), h.1, h.2) in
           ap₂ (λ p q. p ++ q)
-          (none a (omega arith) (omega (arith, e)) (λ i. let k : a + 1 ≤ a = above (a + 1) b (x ∷ xs) up a i in absurd (omega (arith, k))))
+          (none a (omega arith) (omega (arith, e))
+          (λ i. let k : a + 1 ≤ a = above (a + 1) b (x ∷ xs) up a i in absurd (omega (arith, k))))
           (next (x ∷ xs) up (λ y le low i. none y (omega (arith, le)) low i))
       go next (inr q) =
           ap₂ (λ p q. p ++ q) (ap f q)
@@ -64,7 +68,8 @@ module _ (ps : List LoosePart) (bs : List LooseByte) (made : ℕ) (h : AreAlike 
           → ((p : LoosePart) → In p qs → (b : LooseByte) × In b bs × (b.tag ≡ made) × (b.flushed ≡ p.flushed))
           → has_some qs ≡ true → has_tag made bs ≡ true
       to [] f e = absurd (let z : ⊥ = cc in z)
-      to (p ∷ qs) f e = let r = f p (inl refl) in in_any (λ b. nat_eq b.tag made) bs r.0 r.1 (true_equal r.0.tag made r.2)
+      to (p ∷ qs) f e =
+          let r = f p (inl refl) in in_any (λ b. nat_eq b.tag made) bs r.0 r.1 (true_equal r.0.tag made r.2)
 
       there : (qs : List LoosePart) (p : LoosePart) → In p qs → has_some qs ≡ true
       there [] p i = absurd i
@@ -76,12 +81,16 @@ module _ (ps : List LoosePart) (bs : List LooseByte) (made : ℕ) (h : AreAlike 
   flushed_told : all_flushed ps ≡ tag_flushed made bs
   flushed_told = both_ways _ _
       (λ e. all_in (λ b. not (nat_eq b.tag made) || b.flushed) bs (λ b i. to e b i (nat_eq b.tag made) refl))
-      (λ e. all_in (λ (p : LoosePart). p.flushed) ps (λ p i. let r = h.byte_of p i in sym r.3 ∙ use_it r.0 (true_equal r.0.tag made r.2) (in_all (λ b. not (nat_eq b.tag made) || b.flushed) bs e r.0 r.1)))
+      (λ e. all_in (λ (p : LoosePart). p.flushed) ps
+      (λ p i. let r = h.byte_of p i in sym r.3
+      ∙ use_it r.0 (true_equal r.0.tag made r.2) (in_all (λ b. not (nat_eq b.tag made) || b.flushed) bs e r.0 r.1)))
     where
       to : all_flushed ps ≡ true → (b : LooseByte) → In b bs → (t : Bool) → nat_eq b.tag made ≡ t
           → not t || b.flushed ≡ true
       to e b i false q = refl
-      to e b i true q = let r = h.part_of b i (equal_true b.tag made q) in sym r.2 ∙ in_all (λ (p : LoosePart). p.flushed) ps e r.0 r.1
+      to e b i true q =
+          let r = h.part_of b i (equal_true b.tag made q) in sym r.2
+          ∙ in_all (λ (p : LoosePart). p.flushed) ps e r.0 r.1
 
       use_it : (b : LooseByte) → nat_eq b.tag made ≡ true → not (nat_eq b.tag made) || b.flushed ≡ true
           → b.flushed ≡ true
@@ -104,13 +113,15 @@ tag_made P I n o len b i =
     let h = are_alike (run P I n).lines (in_lines P I n) o len b.tag in
     let r = h.part_of b i refl in
     let k = part_loose o len b.tag (run P I n).lines r.0 r.1 in
-    subst (λ m. m < (run P I n).counts.steps) k.step ((has_history P I n).made r.0.part (loose_there o len b.tag (run P I n).lines r.0 k))
+    subst (λ m. m < (run P I n).counts.steps) k.step
+    ((has_history P I n).made r.0.part (loose_there o len b.tag (run P I n).lines r.0 k))
 
 -- no part is loose of a store whose tag no loose byte has
 none_loose : (P : Program) (I : Input) (n o len made : ℕ)
     → ((b : LooseByte) → In b (loose_bytes (run P I n) o len) → b.tag ≡ made → ⊥)
     → loose_parts o len (run P I n).lines made ≡ []
-none_loose P I n o len made none = go (loose_parts o len (run P I n).lines made) (are_alike (run P I n).lines (in_lines P I n) o len made)
+none_loose P I n o len made none =
+    go (loose_parts o len (run P I n).lines made) (are_alike (run P I n).lines (in_lines P I n) o len made)
   where
     go : (ps : List LoosePart) → AreAlike ps (loose_bytes (run P I n) o len) made → ps ≡ []
     go [] h = refl
@@ -121,4 +132,5 @@ pub reports_by_tags : (P : Program) (I : Input) (n : ℕ) (range : Range) (tags 
     → check_reports (run P I n) (Some range) ≡ flat_map (reports_for (run P I n) range) tags
 reports_by_tags P I n range tags h =
     range_flat (reports_for (run P I n) range) (run P I n).counts.steps tags h.ascend
-    (λ made le lt out. ap (report_of (levels_of (run P I n).frames) (suc (run P I n).counts.entries)) (none_loose P I n range.offset range.size made (λ b i e. out (subst (λ m. In m tags) e (h.holds b i)))))
+    (λ made le lt out. ap (report_of (levels_of (run P I n).frames) (suc (run P I n).counts.entries))
+    (none_loose P I n range.offset range.size made (λ b i e. out (subst (λ m. In m tags) e (h.holds b i)))))

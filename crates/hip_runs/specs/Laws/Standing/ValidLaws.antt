@@ -69,21 +69,34 @@ valid_same P I w r a n v h = same_test (areas.are_valid r a (suc n)) (are_valid 
     region_is = ap₂ (λ x y. x + y) h.holds.base h.holds.region
 
     go : FitsOne r a (suc n) → are_valid P I w a (suc n) ≡ true
-    go (inl x) = first_true (in_volatile P a (suc n)) (in_stack w a (suc n)) (inside I a (suc n)) (within_true volatile_start (volatile_end P) a (suc n) x.0 (omega (arith, x.1, volatile_is)))
-    go (inr (inl x)) = second_true (in_volatile P a (suc n)) (in_stack w a (suc n)) (inside I a (suc n)) (within_true stack_start w.mark a (suc n) x.0 (omega (arith, x.1, h.mark_is)))
-    go (inr (inr x)) = third_true (in_volatile P a (suc n)) (in_stack w a (suc n)) (inside I a (suc n)) (within_true I.base (I.base + length I.image) a (suc n) (omega (arith, x.0, h.holds.base)) (omega (arith, x.1, region_is)))
+    go (inl x) =
+        first_true (in_volatile P a (suc n)) (in_stack w a (suc n)) (inside I a (suc n))
+        (within_true volatile_start (volatile_end P) a (suc n) x.0 (omega (arith, x.1, volatile_is)))
+    go (inr (inl x)) =
+        second_true (in_volatile P a (suc n)) (in_stack w a (suc n)) (inside I a (suc n))
+        (within_true stack_start w.mark a (suc n) x.0 (omega (arith, x.1, h.mark_is)))
+    go (inr (inr x)) =
+        third_true (in_volatile P a (suc n)) (in_stack w a (suc n)) (inside I a (suc n))
+        (within_true I.base (I.base + length I.image) a (suc n) (omega (arith, x.0, h.holds.base))
+        (omega (arith, x.1, region_is)))
 
     there : areas.are_valid r a (suc n) ≡ true → are_valid P I w a (suc n) ≡ true
     there e = go (are_valid-fits r n a h.laid_out e)
 
     fits : (in_volatile P a (suc n) ≡ true) ⊎ ((in_stack w a (suc n) ≡ true) ⊎ (inside I a (suc n) ≡ true))
         → FitsOne r a (suc n)
-    fits (inl x) = let q = within_is volatile_start (volatile_end P) a (suc n) x in inl (q.0, omega (arith, q.1, volatile_is))
-    fits (inr (inl x)) = let q = within_is stack_start w.mark a (suc n) x in inr (inl (q.0, omega (arith, q.1, h.mark_is)))
-    fits (inr (inr x)) = let q = within_is I.base (I.base + length I.image) a (suc n) x in inr (inr (omega (arith, q.0, h.holds.base), omega (arith, q.1, region_is)))
+    fits (inl x) =
+        let q = within_is volatile_start (volatile_end P) a (suc n) x in inl (q.0, omega (arith, q.1, volatile_is))
+    fits (inr (inl x)) =
+        let q = within_is stack_start w.mark a (suc n) x in inr (inl (q.0, omega (arith, q.1, h.mark_is)))
+    fits (inr (inr x)) =
+        let q = within_is I.base (I.base + length I.image) a (suc n) x in
+        inr (inr (omega (arith, q.0, h.holds.base), omega (arith, q.1, region_is)))
 
     back : are_valid P I w a (suc n) ≡ true → areas.are_valid r a (suc n) ≡ true
-    back e = fits-are_valid r (suc n) a (fits (three (in_volatile P a (suc n)) (in_stack w a (suc n)) (inside I a (suc n)) e))
+    back e =
+        fits-are_valid r (suc n) a (fits (three (in_volatile P a (suc n)) (in_stack w a (suc n))
+        (inside I a (suc n)) e))
 
 pub valid_is : (P : Program) (I : Input) (w : World) (r : Areas) (a n : ℕ) → 0 < n
     → volatile_start + length (volatile_bytes P I.base) ≡ volatile_end P → HoldsMemory P I r w.writes w.mark
@@ -102,7 +115,9 @@ pub accessed_is : (P : Program) (I : Input) (w : World) (r : Areas) (a n align :
     → volatile_start + length (volatile_bytes P I.base) ≡ volatile_end P → HoldsMemory P I r w.writes w.mark →
     accessed P I w a n align go ≡ unless_trap (access_trap r a n align) go
 unfolding accessed
-accessed_is P I w r a n align go some v h = ap (λ b. cond (nat_eq (a % align) 0) (cond b go (Traps traps.Address)) (Traps traps.Misaligned)) (sym (valid_is P I w r a n some v h)) ∙ by_tests (nat_eq (a % align) 0) (areas.are_valid r a n)
+accessed_is P I w r a n align go some v h =
+    ap (λ b. cond (nat_eq (a % align) 0) (cond b go (Traps traps.Address)) (Traps traps.Misaligned))
+    (sym (valid_is P I w r a n some v h)) ∙ by_tests (nat_eq (a % align) 0) (areas.are_valid r a n)
   where
     by_tests : (b c : Bool)
         → cond b (cond c go (Traps traps.Address))
@@ -115,7 +130,9 @@ accessed_is P I w r a n align go some v h = ap (λ b. cond (nat_eq (a % align) 0
 pub memory_written : {P : Program} {I : Input} {r : Areas} {ws : List Write} {mark : ℕ} (x : Write)
     → HoldsMemory P I r ws mark → HoldsMemory P I (after_write x r) (ws ++ x ∷ []) mark
 memory_written {P} {I} {r} {ws} x h = record {
-  holds = holds-write x r (record { base = I.base; volatile = volatile_bytes P I.base; region = I.image; writes = ws }) h.holds;
+  holds =
+      holds-write x r (record { base = I.base; volatile = volatile_bytes P I.base; region = I.image; writes = ws })
+      h.holds;
   mark_is = mark_of-after_write x r ∙ h.mark_is;
   laid_out = laid_out-after_write x r h.laid_out;
 }

@@ -47,17 +47,24 @@ module _ (From To : RattleType) (change : From.Denot → To.Denot) where
   unfolding part_of
   boxes alike = record {
     mir_same = λ i. (box_type (one_value From (alike.mir_same i) (λ _. ftrue) (λ _ _. nothing) gnil)).mir;
-    own_same = λ place i. (box_type (one_value From (alike.mir_same i) (alike.own_same place.value i) (alike.shr_same place.value i) gnil)).own_val (holding place tt);
-    shr_same = λ place i. (box_type (one_value From (alike.mir_same i) (alike.own_same place.value i) (alike.shr_same place.value i) gnil)).shr_at (holding place tt);
+    own_same =
+        λ place i. (box_type (one_value From (alike.mir_same i) (alike.own_same place.value i)
+        (alike.shr_same place.value i) gnil)).own_val (holding place tt);
+    shr_same =
+        λ place i. (box_type (one_value From (alike.mir_same i) (alike.own_same place.value i)
+        (alike.shr_same place.value i) gnil)).shr_at (holding place tt);
   }
 
   pub the_places : Alike From To change
       → Alike (link.the_row From) (link.the_row To) ((the_former this).map From.Denot To.Denot change)
   the_places alike =
-      let structs = struct_places (inside.the_type From) (inside.the_type To) ((λ place. holding place (change place.value)), tt) _ (λ at. refl) refl (laid _ _ _ (boxes alike), tt) in
+      let structs =
+      struct_places (inside.the_type From) (inside.the_type To)
+      ((λ place. holding place (change place.value)), tt) _ (λ at. refl) refl (laid _ _ _ (boxes alike), tt) in
       view_places stored this view (λ X Y by at. refl) (λ X at. refl) From.Denot To.Denot change
       (link.the_row From).coded (link.the_row To).coded (invariant From.Denot) (invariant To.Denot)
-      (λ at p q. refl) (λ at p q. refl) (λ at e. tt) (λ at e. tt) (over (inside.the_row From)) (over (inside.the_row To)) structs
+      (λ at p q. refl) (λ at p q. refl) (λ at e. tt) (λ at e. tt) (over (inside.the_row From))
+      (over (inside.the_row To)) structs
 
   pub the_codes_placed : Recodes From To change
       → Recodes (link.the_row From) (link.the_row To) ((the_former this).map From.Denot To.Denot change)

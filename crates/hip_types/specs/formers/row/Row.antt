@@ -38,18 +38,24 @@ the_items_listed Item items = list-listed Item items
 
 -- its one field is a vector of the items
 abbrev stored : Former {0}
-stored = via (vector.the_former this Global) Inside (λ Item inner. inner.items) (λ Item items. record { items = items }) (λ Item inner. refl) (λ Item items. refl)
+stored =
+    via (vector.the_former this Global) Inside (λ Item inner. inner.items) (λ Item items. record { items = items })
+    (λ Item inner. refl) (λ Item items. refl)
 
 module _ (From To : RattleType) (change : From.Denot → To.Denot) where
   pub the_places : Alike From To change
       → Alike (row.the_row From) (row.the_row To) ((the_former this).map From.Denot To.Denot change)
   the_places alike =
       let vectors = vector.the_places global.the_row ghosts From To change alike in
-      let structs = struct_places (inside.the_type From) (inside.the_type To) (vector.mapped change, tt) _ (λ inner. refl) refl (laid _ _ _ vectors, tt) in
+      let structs =
+      struct_places (inside.the_type From) (inside.the_type To) (vector.mapped change, tt) _ (λ inner. refl) refl
+      (laid _ _ _ vectors, tt) in
       view_places stored (list this) view (λ X Y by at. refl) (λ X at. refl) From.Denot To.Denot change
       (row.the_row From).coded (row.the_row To).coded (invariant From.Denot) (invariant To.Denot)
-      (λ at p q. refl) (λ at p q. refl) (λ at e. tt) (λ at e. tt) (over (inside.the_row From)) (over (inside.the_row To)) structs
+      (λ at p q. refl) (λ at p q. refl) (λ at e. tt) (λ at e. tt) (over (inside.the_row From))
+      (over (inside.the_row To)) structs
 
   pub the_codes_placed : Recodes From To change
       → Recodes (row.the_row From) (row.the_row To) ((the_former this).map From.Denot To.Denot change)
-  the_codes_placed recodes items = sym (code_map From.coded.code To.coded.code change (λ item. sym (recodes item)) items)
+  the_codes_placed recodes items =
+      sym (code_map From.coded.code To.coded.code change (λ item. sym (recodes item)) items)

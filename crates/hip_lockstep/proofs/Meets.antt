@@ -108,6 +108,7 @@ module _ {e : Event} {r : ReaderState} {s : CabinetState} {at : Lockstep} (P : P
             is_trace = whole_here ending ends;
             spells = spelled_none bytes (trace P I (suc n)) r s h none.ended ∙ append-nil (told (trace P I (suc n)));
           });
+      left = none.left;
     }
 
     pub end_missing : (r' : ReaderState) (s' : CabinetState) (refusal : ReplayRefusal) (ending : Ending) → ending_by e ≡ Some ending → ReadsEnd (at.entries + 1) r r' s s' (Err refusal) → Refuses P r' start s' refusal

@@ -36,6 +36,7 @@ pub record HasFollowed (P : Program) (I : Input) (start : CabinetState) (n : ℕ
   pub begun : r.count ≡ length (trace P I n)
   pub progress : r.progress ≡ Ended
   pub told : IfSome start.rest (λ bytes. IsTraceOf P bytes I)
+  pub left : IfSome s.rest (λ rest. rest ≡ [])
 
 -- what follows from one step more
 abbrev pub FollowsStep : Program → Input → CabinetState → ℕ → ReaderState → CabinetState → Lockstep

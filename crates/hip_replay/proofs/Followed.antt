@@ -40,6 +40,7 @@ replayed_by P start r0 r s0 s begun followed h f = record {
   ended = f.over.ended;
   entries = f.over.counted;
   told = f.over.told;
+  left = f.over.left;
   count = f.over.begun;
   progress = f.over.progress;
 }

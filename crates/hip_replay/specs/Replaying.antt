@@ -29,6 +29,7 @@ pub record HasReplayed (P : Program) (r : ReaderState) (old new : CabinetState) 
   pub ended : (run P replayed.input is_trace.steps).world.ending ≡ Some replayed.ending
   pub entries : replayed.entries ≡ length trace
   pub told : IfSome old.rest (λ bytes. IsTraceOf P bytes replayed.input)
+  pub left : IfSome new.rest (λ rest. rest ≡ [])
   pub count : r.count ≡ length trace
   pub progress : r.progress ≡ progresses.Ended
 

@@ -86,6 +86,7 @@ rest_answered r mid r' s s' [] result same count f a =
     subst (λ (x : Result (Option Entry) TraceRefusal). ReadsOn r r' s s' x) (sym a.0) (subst (λ (x : ReaderState). ReadsOn r x s s' (Ok None)) (sym a.1) (record {
       reading = f.more.reading;
       ended = nothing_left mid.held (ahead r s) s'.rest same (sym f.more.ahead) f.ended;
+      left = f.ended;
       held = refl;
       count = count;
       progress = refl;

@@ -69,10 +69,11 @@ pub record HasNext (r r' : ReaderState) (s s' : CabinetState) (e : Entry) : Type
   pub count : r'.count ≡ one_more r.count
   pub progress : r'.progress ≡ Reading
 
--- Nothing was ahead.
+-- Nothing was ahead, and the current file is read to its end.
 pub record HasNone (r r' : ReaderState) (s s' : CabinetState) : Type 0 where
   pub reading : IsReading s s'
   pub ended : IfSome (ahead r s) (λ bytes. bytes ≡ [])
+  pub left : IfSome s'.rest (λ rest. rest ≡ [])
   pub held : r'.held ≡ []
   pub count : r'.count ≡ r.count
   pub progress : r'.progress ≡ Ended

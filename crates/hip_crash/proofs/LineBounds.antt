@@ -17,7 +17,7 @@ use Rattle.hip_crash.specs.declared.values.StoredValue.{StoredValue}
 use Rattle.hip_crash.specs.Region.{seen_at}
 use Rattle.hip_crash.specs.Values.{stored_covers, stored_byte, bytes_after}
 use Rattle.hip_crash.specs.declared.log.CrashLog.TheInside.{Inside}
-use Rattle.hip_crash.specs.declared.pick.Bounds.{Bounds}
+use Rattle.hip_picks.specs.declared.pick.Bounds.{Bounds}
 use Rattle.hip_crash.proofs.Bytes.{index-bytes_after, index-take, length-bytes_after, same_lists}
 use Rattle.hip_crash.proofs.Holding.{index-drop, after-alike, alike-take}
 use Rattle.hip_crash.proofs.PickLaws.{piece}

@@ -6,8 +6,8 @@ use Rattle.hip_runs.specs.Crash.{byte_of, covers}
 use Rattle.hip_runs.specs.State.{State, StorePart}
 use Rattle.hip_runs.specs.declared.input.Input.{Input}
 use Rattle.hip_crash.specs.Picks.{number_for}
-use Rattle.hip_crash.specs.declared.pick.Bounds.{Bounds}
-use Rattle.hip_crash.specs.declared.pick.Pick.{Pick}
+use Rattle.hip_picks.specs.declared.pick.Bounds.{Bounds}
+use Rattle.hip_picks.specs.declared.pick.Pick.{Pick}
 
 -- for each of so many lines the number that picks give it, if they do
 pub record AreNumbers (count : ℕ) (picks : List Pick) (numbers : List (Option ℕ)) : Type 0 where

@@ -5,10 +5,10 @@ use Rattle.hip_lines.specs.Line.{Line}
 use Rattle.hip_runs.specs.Crash.{IsCrashImage, crash_image}
 use Rattle.hip_runs.specs.State.{StorePart, State}
 use Rattle.hip_runs.specs.declared.input.Input.{Input}
-use Rattle.hip_crash.specs.declared.pick.Bounds.{Bounds}
-use Rattle.hip_crash.specs.declared.pick.Pick.{Pick}
-use Rattle.hip_crash.specs.declared.pick.PickRefusal.{PickRefusal}
-use Rattle.hip_crash.specs.declared.pick.PickRefusal.TheVariants.{NoLine, Repeated, OutOfRange, NoMemory}
+use Rattle.hip_picks.specs.declared.pick.Bounds.{Bounds}
+use Rattle.hip_picks.specs.declared.pick.Pick.{Pick}
+use Rattle.hip_picks.specs.declared.pick.PickRefusal.{PickRefusal}
+use Rattle.hip_picks.specs.declared.pick.PickRefusal.TheVariants.{NoLine, Repeated, OutOfRange, NoMemory}
 
 -- from how many first parts of a cache line to how many a crash may leave: its durable number, and its length
 abbrev pub bounds_in : Option (Line StorePart) → Bounds

@@ -5,13 +5,14 @@ mod changes;
 mod counting;
 mod kept_line;
 mod kept_lines;
+mod laws;
 mod log;
 mod noting;
-mod pick;
 mod region_log;
 mod values;
 mod views;
 mod waiting;
 
+pub use hip_picks::{Bounds, Pick, PickRefusal};
+pub use laws::fitting_picks_give_images;
 pub use log::CrashLog;
-pub use pick::{Bounds, Pick, PickRefusal};

@@ -8,10 +8,10 @@ ghost use Rattle.hip_words.specs.Numbers.{signed_of};
 
 use crate::limits::MOST_TRACES;
 use crate::numbers;
-use crate::order::Pick;
 use crate::refusal::WordsRefusal;
 use clap::error::ErrorKind;
 use clap::{ArgMatches, Command};
+use hip_picks::Pick;
 use hip_runs::MOST_NUMBERS;
 use hip_types::{NoMemory, Row, Text};
 use std::alloc::Global;

@@ -1,8 +1,8 @@
 -- How the answer of a call follows from what was met and written.
-use Rattle.std.specs.Prelude.{ℕ, ◌≡◌, Bool, true, false, List, Err}
+use Rattle.std.specs.Prelude.{ℕ, ◌≡◌, ◌⊎◌, Bool, true, false, List, Err}
 use Rattle.std.proofs.Common.{inl, inr, refl, sym, subst}
-use Rattle.hip_answers.specs.Answers.{Answer, CarriedOut, Finishes, HasAnswered, HasBegun, PutsLine, Refused, Sinks, answered, outcome_of, refusal}
-use Rattle.hip_answers.specs.Programs.{LacksProgram}
+use Rattle.hip_answers.specs.Answers.{Answer, CarriedOut, CutShort, Finishes, HasAnswered, HasBegun, Outcome, PutsLine, RanOut, Refused, Sinks, answered, outcome_of, refusal}
+use Rattle.hip_answers.specs.Programs.{IsUnloaded, LacksProgram}
 use Rattle.hip_answers.specs.Statuses.{status_of_failure}
 use Rattle.hip_answers.specs.declared.status.Status.{Status}
 use Rattle.hip_answers.specs.declared.status.Status.TheVariants as statuses
@@ -10,10 +10,11 @@ use Rattle.hip_io.specs.Cabinets.{CabinetState}
 use Rattle.hip_io.specs.Sinks.{AppendsAll, AppendsPrefix, HasPut, SinkState}
 use Rattle.hip_io.specs.declared.sink.Put.{Put}
 use Rattle.hip_io.specs.declared.sink.Put.TheVariants as puts
-use Rattle.hip_loading.specs.Loading.{Loads}
+use Rattle.hip_loading.specs.Loading.{HasFailedLoading, Loads}
 use Rattle.hip_loading.specs.Outside.{HasMet}
 use Rattle.hip_loading.specs.declared.failure.Failure.{Failure}
 use Rattle.hip_loading.specs.declared.failure.Failure.TheVariants as failures
+use Rattle.hip_loading.specs.declared.refusal.LoadRefusal.{LoadRefusal}
 use Rattle.hip_loading.specs.declared.refusal.LoadRefusal.TheVariants as loads
 
 -- ---- refusals
@@ -79,16 +80,51 @@ finished {table} {begins} {old} {new} s answer puts.Failed mid result row carrie
 
 -- ---- programs
 
-pub unloaded : {table : Answer → Type 0} {begins : Bool} {old new : CabinetState} (s : Sinks) (name : List ℕ)
-    (failure : Failure _) → ((a : Answer) → LacksProgram old new name a → table a) → Loads name old new (Err failure)
+-- The program was not loaded. The table has a row for each refusal, and one for a file that could not be read.
+pub unloaded_by : {table : Answer → Type 0} {begins : Bool} {old new : CabinetState} (s : Sinks) (name : List ℕ)
+    (failure : Failure LoadRefusal) → ((a : Answer) → IsUnloaded old new name a → table a)
+    → (HasFailedLoading old new name → table (refusal statuses.ReadFault)) → Loads name old new (Err failure)
     → s.out_new ≡ s.out → PutsLine (status_of_failure failure) s.notes s.notes_new
     → HasAnswered table begins old new s (status_of_failure failure)
-unloaded s name (failures.Refused loads.Missing) rows h kept line =
-    refused s _ refl (rows _ (inl (record { why = loads.Missing; met = h.0; cause = h.1; is = refl }))) kept line
-unloaded s name (failures.Refused loads.TooLarge) rows h kept line =
-    refused s _ refl (rows _ (inl (record { why = loads.TooLarge; met = h.0; cause = h.1; is = refl }))) kept line
-unloaded s name (failures.Refused (loads.Bad why)) rows h kept line =
-    refused s _ refl (rows _ (inl (record { why = loads.Bad why; met = h.0; cause = h.1; is = refl }))) kept line
-unloaded s name failures.ReadFault rows h kept line =
-    refused s _ refl (rows _ (inr (record { met = h; is = refl }))) kept line
-unloaded s name failures.NoMemory rows h kept line = ran_out s h kept line
+unloaded_by s name (failures.Refused loads.Missing) rows unread h kept line =
+    refused s _ refl (rows _ (record { why = loads.Missing; met = h.0; cause = h.1; is = refl })) kept line
+unloaded_by s name (failures.Refused loads.TooLarge) rows unread h kept line =
+    refused s _ refl (rows _ (record { why = loads.TooLarge; met = h.0; cause = h.1; is = refl })) kept line
+unloaded_by s name (failures.Refused (loads.Bad why)) rows unread h kept line =
+    refused s _ refl (rows _ (record { why = loads.Bad why; met = h.0; cause = h.1; is = refl })) kept line
+unloaded_by s name failures.ReadFault rows unread h kept line = refused s statuses.ReadFault refl (unread h) kept line
+unloaded_by s name failures.NoMemory rows unread h kept line = ran_out s h kept line
+
+pub unloaded : {table : Answer → Type 0} {begins : Bool} {old new : CabinetState} (s : Sinks) (name : List ℕ)
+    (failure : Failure LoadRefusal) → ((a : Answer) → LacksProgram old new name a → table a)
+    → Loads name old new (Err failure) → s.out_new ≡ s.out
+    → PutsLine (status_of_failure failure) s.notes s.notes_new
+    → HasAnswered table begins old new s (status_of_failure failure)
+unloaded s name failure rows h kept line =
+    unloaded_by s name failure (λ a u. rows a (inl u))
+    (λ u. rows (refusal statuses.ReadFault) (inr (record { met = u.met; is = refl }))) h kept line
+
+-- ---- a larger table
+
+begun_by : {table wider : Answer → Type 0} (begins : Bool) (s : Sinks) → ((a : Answer) → table a → wider a)
+    → HasBegun begins table s → HasBegun begins wider s
+begun_by true s wide h = (h.0, wide h.0 h.1, h.2)
+begun_by false s wide h = h
+
+-- what is answered by a table is answered by each that has its answers
+pub answered_by : {table wider : Answer → Type 0} {begins : Bool} {old new : CabinetState} (s : Sinks)
+    (status : Status) → ((a : Answer) → table a → wider a) → HasAnswered table begins old new s status
+    → HasAnswered wider begins old new s status
+answered_by {table} {wider} {begins} {old} {new} s status wide h = record { how = by_outcome (outcome_of status) h.how }
+  where
+    kept_or_begun : (s.out_new ≡ s.out) ⊎ HasBegun begins table s → (s.out_new ≡ s.out) ⊎ HasBegun begins wider s
+    kept_or_begun (inl kept) = inl kept
+    kept_or_begun (inr begun) = inr (begun_by begins s wide begun)
+
+    by_outcome : (o : Outcome) → answered o table begins old new s status → answered o wider begins old new s status
+    by_outcome CarriedOut x =
+        record { answer = x.answer; is = wide x.answer x.is; status_is = x.status_is; written = x.written }
+    by_outcome Refused x = (wide (refusal status) x.0, x.1)
+    by_outcome CutShort x =
+        record { answer = x.answer; is = wide x.answer x.is; carried_out = x.carried_out; written = x.written }
+    by_outcome RanOut x = record { met = x.met; out = kept_or_begun x.out; line = x.line }

@@ -5,6 +5,8 @@ use Rattle.hip_run_traces.specs.declared.misfit.MisfitKind.{MisfitKind}
 use Rattle.hip_run_traces.specs.declared.misfit.MisfitKind.TheVariants as kinds
 use Rattle.hip_parse.specs.declared.error.ParseRefusal.{ParseRefusal}
 use Rattle.hip_parse.specs.declared.error.ParseRefusal.TheVariants as parse
+use Rattle.hip_picks.specs.declared.pick.PickRefusal.{PickRefusal}
+use Rattle.hip_picks.specs.declared.pick.PickRefusal.TheVariants as picks
 use Rattle.hip_typing.specs.declared.fault.TypeFault.{TypeFault}
 use Rattle.hip_typing.specs.declared.fault.TypeFault.TheVariants as fault
 use Rattle.hip_typing.specs.declared.fault.Place.{Place}
@@ -20,7 +22,11 @@ use Rattle.hip_answers.specs.declared.status.Status.TheVariants as status
 abbrev pub usage_text : List ℕ
 usage_text =
     codes "hippo: usage\n" ++ codes "usage: hippo run PROGRAM [--limit N] [NUMBERS...]\n"
-    ++ codes "       hippo repair PROGRAM TRACE\n"
+    ++ codes "       hippo record PROGRAM [--base N] [--limit N] [NUMBERS...]\n"
+    ++ codes "       hippo check PROGRAM TRACE\n" ++ codes "       hippo repair PROGRAM TRACE\n"
+    ++ codes "       hippo rerun PROGRAM TRACE\n" ++ codes "       hippo demo SEED SIZE\n"
+    ++ codes "       hippo many PROGRAM TRACES...\n" ++ codes "       hippo crash PROGRAM TRACE ENTRY [PICKS...]\n"
+    ++ codes "       hippo thin PROGRAM TRACE\n"
 
 abbrev pub missing_text : FileRole → List ℕ
 missing_text role.Program = codes "hippo: no file: program\n"
@@ -92,6 +98,23 @@ misfit_in_text trace entry word =
 abbrev pub no_entry_text : ℕ → List ℕ
 no_entry_text entries = codes "hippo: no entry: " ++ decimal entries ++ codes " entries\n"
 
+abbrev pub pick_number : PickRefusal → ℕ
+pick_number (picks.NoLine at) = at
+pick_number (picks.Repeated at) = at
+pick_number (picks.OutOfRange at least most) = at
+pick_number picks.NoMemory = 0
+
+-- in which way a pick fails: `line`, `repeated` or `range G to L`
+abbrev pub pick_words : PickRefusal → List ℕ
+pick_words (picks.NoLine at) = codes "line"
+pick_words (picks.Repeated at) = codes "repeated"
+pick_words (picks.OutOfRange at least most) = codes "range " ++ decimal least ++ codes " to " ++ decimal most
+pick_words picks.NoMemory = codes "out of memory"
+
+abbrev pub bad_pick_text : PickRefusal → List ℕ
+bad_pick_text refusal =
+    codes "hippo: pick " ++ decimal (pick_number refusal) ++ codes ": " ++ pick_words refusal ++ codes "\n"
+
 -- each refusal has a line; what was carried out has none
 unfoldable pub line_of : Status → List ℕ
 line_of status.Done = []
@@ -107,3 +130,4 @@ line_of (status.Trapped kind) = []
 line_of status.Cut = []
 line_of (status.MisfitIn trace entry kind) = misfit_in_text trace entry (kind_word kind)
 line_of (status.NoEntry entries) = no_entry_text entries
+line_of (status.BadPick refusal) = bad_pick_text refusal

@@ -22,6 +22,7 @@ code_of (statuses.Trapped kind) = 9
 code_of statuses.Cut = 10
 code_of (statuses.MisfitIn trace entry kind) = 11
 code_of (statuses.NoEntry entries) = 12
+code_of (statuses.BadPick refusal) = 13
 
 abbrev pub status_of_refusal : LoadRefusal → Status
 status_of_refusal loads.Missing = statuses.Missing roles.Program

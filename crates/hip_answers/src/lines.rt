@@ -3,13 +3,14 @@
 ghost use Rattle.std.specs.Prelude.{◌≡◌, ◌++◌, codes};
 ghost use Rattle.std.specs.Fmt.{decimal};
 ghost use Rattle.hip_io.specs.Sinks.{Writes};
-ghost use Rattle.hip_answers.specs.Lines.{line_of, usage_text, missing_text, misfit_in_text, no_entry_text, kind_word, fault_words, block_text, place_text, parse_word, parse_line, text_refusal, form_refusal, program_refusal, misfit_text};
+ghost use Rattle.hip_answers.specs.Lines.{line_of, usage_text, missing_text, misfit_in_text, no_entry_text, pick_number, pick_words, kind_word, fault_words, block_text, place_text, parse_word, parse_line, text_refusal, form_refusal, program_refusal, misfit_text};
 
 use crate::status::{FileRole, Status};
 use crate::texts::put_number;
 use hip_io::{Put, Sink, put_after};
 use hip_loading::ProgramRefusal;
 use hip_parse::ParseRefusal;
+use hip_picks::PickRefusal;
 use hip_run_traces::MisfitKind;
 use hip_typing::{Place, TypeFault};
 
@@ -203,6 +204,49 @@ fn put_no_entry<S: Sink>(out: &mut S, entries: u128) -> Put
     put_after(put, out, b" entries\n")
 }
 
+fn pick_number(refusal: PickRefusal) -> usize
+    ensures { result ≡ pick_number refusal }
+{
+    match refusal {
+        PickRefusal::NoLine { at }
+        | PickRefusal::Repeated { at }
+        | PickRefusal::OutOfRange { at, .. } => at,
+        PickRefusal::NoMemory => 0,
+    }
+}
+
+fn put_range<S: Sink>(before: Put, out: &mut S, least: u64, most: u64) -> Put
+    ensures { Writes before result (S.state out.old) (S.state out.new)
+        (codes "range " ++ decimal least ++ codes " to " ++ decimal most) }
+{
+    let put = put_after(before, out, b"range ");
+    let put = put_number(put, out, least as u128);
+    let put = put_after(put, out, b" to ");
+    put_number(put, out, most as u128)
+}
+
+fn put_pick_words<S: Sink>(before: Put, out: &mut S, refusal: PickRefusal) -> Put
+    ensures { Writes before result (S.state out.old) (S.state out.new) (pick_words refusal) }
+{
+    match refusal {
+        PickRefusal::NoLine { .. } => put_after(before, out, b"line"),
+        PickRefusal::Repeated { .. } => put_after(before, out, b"repeated"),
+        PickRefusal::OutOfRange { least, most, .. } => put_range(before, out, least, most),
+        PickRefusal::NoMemory => put_after(before, out, b"out of memory"),
+    }
+}
+
+fn put_bad_pick<S: Sink>(out: &mut S, number: usize, refusal: PickRefusal) -> Put
+    ensures { Writes Put.Done result (S.state out.old) (S.state out.new)
+        (codes "hippo: pick " ++ decimal number ++ codes ": " ++ pick_words refusal ++ codes "\n") }
+{
+    let put = put_after(Put::Done, out, b"hippo: pick ");
+    let put = put_number(put, out, number as u128);
+    let put = put_after(put, out, b": ");
+    let put = put_pick_words(put, out, refusal);
+    put_after(put, out, b"\n")
+}
+
 fn put_missing_number<S: Sink>(out: &mut S, number: u64) -> Put
     ensures { Writes Put.Done result (S.state out.old) (S.state out.new)
         (codes "hippo: no file: trace " ++ decimal number ++ codes "\n") }
@@ -231,7 +275,22 @@ fn put_usage<S: Sink>(out: &mut S) -> Put
         out,
         b"usage: hippo run PROGRAM [--limit N] [NUMBERS...]\n",
     );
-    put_after(put, out, b"       hippo repair PROGRAM TRACE\n")
+    let put = put_after(
+        put,
+        out,
+        b"       hippo record PROGRAM [--base N] [--limit N] [NUMBERS...]\n",
+    );
+    let put = put_after(put, out, b"       hippo check PROGRAM TRACE\n");
+    let put = put_after(put, out, b"       hippo repair PROGRAM TRACE\n");
+    let put = put_after(put, out, b"       hippo rerun PROGRAM TRACE\n");
+    let put = put_after(put, out, b"       hippo demo SEED SIZE\n");
+    let put = put_after(put, out, b"       hippo many PROGRAM TRACES...\n");
+    let put = put_after(
+        put,
+        out,
+        b"       hippo crash PROGRAM TRACE ENTRY [PICKS...]\n",
+    );
+    put_after(put, out, b"       hippo thin PROGRAM TRACE\n")
 }
 
 /// The line of a status.
@@ -256,5 +315,6 @@ pub fn put_line<S: Sink>(out: &mut S, status: &Status) -> Put
             kind_word(*kind),
         ),
         Status::NoEntry { entries } => put_no_entry(out, *entries),
+        Status::BadPick { refusal } => put_bad_pick(out, pick_number(*refusal), *refusal),
     }
 }

@@ -2,6 +2,7 @@ ghost use Rattle.std.specs.Prelude.{◌≡◌};
 ghost use Rattle.hip_answers.specs.Statuses.{code_of, status_of_failure};
 
 use hip_loading::{Failure, LoadRefusal, ProgramRefusal};
+use hip_picks::PickRefusal;
 use hip_run_traces::MisfitKind;
 use hip_runs::TrapKind;
 
@@ -58,6 +59,10 @@ pub enum Status {
     NoEntry {
         entries: u128,
     },
+    /// This is how the first of the picks that fails does; never for want of memory.
+    BadPick {
+        refusal: PickRefusal,
+    },
 }
 
 impl Status {
@@ -79,6 +84,7 @@ impl Status {
             Status::Cut => 10,
             Status::MisfitIn { .. } => 11,
             Status::NoEntry { .. } => 12,
+            Status::BadPick { .. } => 13,
         }
     }
 }

@@ -1,5 +1,5 @@
 -- The program in a file, and why there is none.
-use Rattle.std.specs.Prelude.{ℕ, ◌≡◌, ◌≤◌, ◌<◌, Bool, true, false, List, length, Option, Some, None, IfSome, Result, Ok, Err}
+use Rattle.std.specs.Prelude.{ℕ, ◌≡◌, ◌≤◌, ◌<◌, ◌⊎◌, Bool, true, false, List, length, Option, Some, None, IfSome, Result, Ok, Err}
 use Rattle.hip_io.specs.Cabinets.{CabinetState, file_of}
 use Rattle.hip_io.specs.declared.cabinet.NamedFile.{NamedFile}
 use Rattle.hip_ir.specs.declared.fault.Fault.{Fault}
@@ -89,10 +89,15 @@ is_missing loads.Missing = true
 is_missing loads.TooLarge = false
 is_missing (loads.Bad why) = false
 
+-- A file could not be read: it could not be fetched, and no file is current, or it is current and was read in part.
+pub record HasFailedLoading (old new : CabinetState) (name : List ℕ) : Type 0 where
+  pub met : HasMet false true old new
+  pub current : (new.is_current ≡ false) ⊎ IfSome new.name (λ n. n ≡ name)
+
 -- what loading the program of a file answers; want of memory is free
 abbrev pub Loads : List ℕ → CabinetState → CabinetState → Result Program (Failure LoadRefusal) → Type 0
 Loads name old new (Ok program) = HasMet false false old new × IsProgramOf old.files name program
 Loads name old new (Err (failures.Refused why)) =
     HasMet (is_missing why) false old new × HasNoProgram old.files name why
-Loads name old new (Err failures.ReadFault) = HasMet false true old new
+Loads name old new (Err failures.ReadFault) = HasFailedLoading old new name
 Loads name old new (Err failures.NoMemory) = HasMet false false old new

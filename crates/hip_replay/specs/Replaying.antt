@@ -1,5 +1,5 @@
 -- What replaying a trace answers.
-use Rattle.std.specs.Prelude.{◌≡◌, ℕ, List, length, Some, IfSome, Result, Ok, Err}
+use Rattle.std.specs.Prelude.{◌≡◌, ℕ, List, [], length, Some, IfSome, Result, Ok, Err}
 use Rattle.hip_io.specs.Cabinets.{CabinetState}
 use Rattle.hip_ir.specs.declared.program.Program.{Program}
 use Rattle.hip_lockstep.specs.InStep.{HasFollowed}

@@ -184,6 +184,13 @@ fn forget_in(alloc: Global, pending: &mut Pending, lines: &Lines, region: u64)
     }
 }
 
+// How many bytes the region has.
+fn region_of(machine: &Machine<'_>) -> u64
+    ensures { result ≡ length machine.now.input.image }
+{
+    machine.input().image.len() as u64
+}
+
 // Notes the step that a machine has taken, of which this was seen before it.
 fn note_event(
     alloc: Global,
@@ -212,7 +219,7 @@ fn note_event(
     let base = machine.input().base;
     let checked = machine.checked();
     let _program = checked.program();
-    let region = checked.region_size();
+    let region = region_of(machine);
     let moment = Moment {
         site: sight.site,
         step: notes.steps,

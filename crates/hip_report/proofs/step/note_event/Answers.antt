@@ -28,7 +28,7 @@ use Rattle.hip_report.proofs.step.note_event.Goals as goal
 pub step_check-requires-clause-region : goal.step_check-requires-clause-region
 step_check-requires-clause-region c =
     let m = c.args.machine.now in
-    let is : c.region_size-region.result ≡ length m.input.image = c.region_size-region.ensures ∙ ap region_size c.checked-checked.ensures ∙ sym c.input.ensures.valid.image in
+    let is : c.region_of-region.result ≡ length m.input.image = c.region_of-region.ensures in
     is ∙ same_size m.program m.input m.taken c.input.ensures.valid ∙ ap (λ k. 64 * k) (sym (ap length c.lines-lines.ensures ∙ length-map _ _))
 
 pub step_check-requires-clause-stores : goal.step_check-requires-clause-stores
@@ -73,9 +73,9 @@ returns-clause-noted c =
     let I = m.input in
     let s = run P I n in
     let next : suc n ≡ m.taken = (let t = c.requires.taken in omega (arith, t)) in
-    let region : c.region_size-region.result ≡ length I.image = c.region_size-region.ensures ∙ ap region_size c.checked-checked.ensures ∙ sym c.input.ensures.valid.image in
+    let region : c.region_of-region.result ≡ length I.image = c.region_of-region.ensures in
     let base : c.input.result.now.base ≡ I.base = ap (λ (i : Input). i.base) c.input.ensures.is in
-    let did : Did P I c.args.notes.now c.step_check.new.notes c.step_lines.new.notes c.step_calls.new.notes c.step_marks.new.notes c.step_hit.new.notes c.step_counts.new.notes c.lines-lines.result.now.lines c.input.result.now.base c.region_size-region.result c.args.seen c.args.sight.now.site c.args.sight.now.depth c.depth.result c.args.sight.now.marks = record {
+    let did : Did P I c.args.notes.now c.step_check.new.notes c.step_lines.new.notes c.step_calls.new.notes c.step_marks.new.notes c.step_hit.new.notes c.step_counts.new.notes c.lines-lines.result.now.lines c.input.result.now.base c.region_of-region.result c.args.seen c.args.sight.now.site c.args.sight.now.depth c.depth.result c.args.sight.now.marks = record {
       told = c.in_ok-step_check.ensures.told;
       r1 = c.in_ok-step_check.ensures.rest;
       follows = c.in_ok-step_lines.ensures.follows;
@@ -89,20 +89,20 @@ returns-clause-noted c =
       r5 = c.in_ok-step_hit.ensures.rest;
       r6 = c.step_counts.ensures;
     } in
-    let at = did_at P I c.args.notes.now c.step_check.new.notes c.step_lines.new.notes c.step_calls.new.notes c.step_marks.new.notes c.step_hit.new.notes c.step_counts.new.notes c.input.result.now.base c.region_size-region.result
+    let at = did_at P I c.args.notes.now c.step_check.new.notes c.step_lines.new.notes c.step_calls.new.notes c.step_marks.new.notes c.step_hit.new.notes c.step_counts.new.notes c.input.result.now.base c.region_of-region.result
     c.lines-lines.result.now.lines (shown (run P I (suc n)).lines) (c.lines-lines.ensures ∙ ap (λ i. shown (run P I i).lines) (sym next))
     c.args.seen (event P I s) c.requires.event c.args.sight.now.site (next_site P s) c.requires.site c.args.sight.now.depth (length s.frames) c.requires.depth
     c.depth.result (length (run P I (suc n)).frames) (c.depth.ensures ∙ ap (λ i. length (run P I i).frames) (sym next)) c.args.sight.now.marks (marks_ahead P I s) c.requires.marks did in
     let top = first_frame s.frames (standing-frame P I n) in
     let noted : AreNoted P I m.taken c.step_counts.new.notes = subst (λ i. AreNoted P I i c.step_counts.new.notes) next
-    (assembled P I n c.requires.going c.args.notes.now c.step_check.new.notes c.step_lines.new.notes c.step_calls.new.notes c.step_marks.new.notes c.step_hit.new.notes c.step_counts.new.notes c.requires.noted c.input.result.now.base c.region_size-region.result base region (c.stack_keeps_its_shape.ensures P I n).is.calls top.0 top.1 top.2 at) in
-    let size : c.region_size-region.result ≡ 64 * length (run P I m.taken).lines = region ∙ same_size P I m.taken c.input.ensures.valid in
-    forgotten P I m.taken c.region_size-region.result c.step_counts.new.notes c.step_forget.new.notes noted size
-    (subst (λ (ws : List (Waiting Part)). IsForgotten (loose_from ws 0 c.region_size-region.result) c.step_counts.new.notes.pending c.step_forget.new.notes.pending) c.lines-lines.ensures c.step_forget.ensures.kept)
+    (assembled P I n c.requires.going c.args.notes.now c.step_check.new.notes c.step_lines.new.notes c.step_calls.new.notes c.step_marks.new.notes c.step_hit.new.notes c.step_counts.new.notes c.requires.noted c.input.result.now.base c.region_of-region.result base region (c.stack_keeps_its_shape.ensures P I n).is.calls top.0 top.1 top.2 at) in
+    let size : c.region_of-region.result ≡ 64 * length (run P I m.taken).lines = region ∙ same_size P I m.taken c.input.ensures.valid in
+    forgotten P I m.taken c.region_of-region.result c.step_counts.new.notes c.step_forget.new.notes noted size
+    (subst (λ (ws : List (Waiting Part)). IsForgotten (loose_from ws 0 c.region_of-region.result) c.step_counts.new.notes.pending c.step_forget.new.notes.pending) c.lines-lines.ensures c.step_forget.ensures.kept)
     c.step_forget.ensures.rest
 
 pub step_forget-requires : goal.step_forget-requires
 step_forget-requires c =
     let m = c.args.machine.now in
-    let is : c.region_size-region.result ≡ length m.input.image = c.region_size-region.ensures ∙ ap region_size c.checked-checked.ensures ∙ sym c.input.ensures.valid.image in
+    let is : c.region_of-region.result ≡ length m.input.image = c.region_of-region.ensures in
     is ∙ same_size m.program m.input m.taken c.input.ensures.valid ∙ ap (λ k. 64 * k) (sym (ap length c.lines-lines.ensures ∙ length-map _ _))

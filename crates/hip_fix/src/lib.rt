@@ -6,6 +6,7 @@ mod plan_check;
 mod program;
 mod repairing;
 
+pub use direct::direct_stores;
 pub use hip_repairs::{CloneOf, Plan, Repaired};
 pub use plan_check::suits;
 pub use repairing::{apply, apply_skipping};

@@ -1,9 +1,12 @@
 -- What the repair for a run does.
+use Rattle.std.specs.Prelude.{Bool}
 use Rattle.hip_ir.specs.declared.program.Program.{Program}
-use Rattle.hip_repair_answers.specs.Cured.{IsCured}
+use Rattle.hip_ir.specs.declared.site.Site.{Site}
+use Rattle.hip_repair_answers.specs.Cured.{IsCured, IsCuredBy}
 use Rattle.hip_repairs.proofs.Theorems as theorem
 use Rattle.hip_repairs.specs.Choice.{Contains, plan_for}
 use Rattle.hip_repairs.specs.Direct.{direct}
+use Rattle.hip_repairs.specs.Quiet.{IsQuiet}
 use Rattle.hip_repairs.specs.declared.plan.Plan.{Plan}
 use Rattle.hip_runs.specs.Found.Marks.{IsFound}
 use Rattle.hip_runs.specs.Validity.{IsValid}
@@ -14,17 +17,21 @@ use Rattle.hip_typing.specs.Sound.{IsSound}
 itself : (plan : Plan) → Contains plan plan
 itself plan = record { flush_after = λ s h. h; fence_after = λ s h. h; hoist = λ s h. h }
 
+pub cures_by : (P : Program) (I : Input) (plan : Plan) (skip : Site → Bool) (found : Findings) → IsSound P
+    → IsValid P I → IsQuiet P skip → IsFound P I found → Contains plan (plan_for P found) → IsCuredBy P I plan skip
+cures_by P I plan skip found sound valid quiet is contains =
+    let again = theorem.repaired_is_sound P plan skip sound in
+    record {
+      harmless = theorem.repairs_do_no_harm P plan skip sound;
+      clean = theorem.repairs_are_clean P plan skip I found sound valid quiet is contains;
+      covered = theorem.hoisted_calls_are_covered P plan skip sound quiet;
+      fenced = theorem.hoisted_calls_are_fenced P plan skip sound;
+      sound = again;
+      reads = again.spelled;
+    }
+
 pub cures : (P : Program) (I : Input) (found : Findings) → IsSound P → IsValid P I → IsFound P I found
     → IsCured P I found
 cures P I found sound valid is =
     let plan = plan_for P found in
-    let quiet = theorem.direct_stores_are_quiet P sound in
-    let again = theorem.repaired_is_sound P plan (direct P) sound in
-    record {
-      harmless = theorem.repairs_do_no_harm P plan (direct P) sound;
-      clean = theorem.repairs_are_clean P plan (direct P) I found sound valid quiet is (itself plan);
-      covered = theorem.hoisted_calls_are_covered P plan (direct P) sound quiet;
-      fenced = theorem.hoisted_calls_are_fenced P plan (direct P) sound;
-      sound = again;
-      reads = again.spelled;
-    }
+    cures_by P I plan (direct P) found sound valid (theorem.direct_stores_are_quiet P sound) is (itself plan)

@@ -2,7 +2,8 @@
 use Rattle.std.proofs.Common.{◌≡◌, ◌⊎◌, ◌++◌, ℕ, true, false, List, Option, Some, None, inl, inr, refl, sym, ap, ◌∙◌, subst}
 use Rattle.std.specs.Prelude.{IfSome}
 use Rattle.hip_answers.specs.Answers.{Answer, refusal}
-use Rattle.hip_answers.specs.Lines.{fault_words, form_refusal, line_of}
+use Rattle.hip_answers.specs.Same.{IsSameAnswer}
+use Rattle.hip_answers.specs.SameLaws.{same_answer, same_refusal}
 use Rattle.hip_answers.specs.Statuses as programs
 use Rattle.hip_answers.specs.declared.status.Status.{Status}
 use Rattle.hip_answers.specs.declared.status.Status.TheVariants as statuses
@@ -10,13 +11,12 @@ use Rattle.hip_io.specs.Cabinets.{CabinetState, file_of}
 use Rattle.hip_io.specs.declared.cabinet.NamedFile.{NamedFile}
 use Rattle.hip_ir.specs.declared.program.Program.{Program}
 use Rattle.hip_loading.proofs.OneAnswer.{loads_one}
-use Rattle.hip_loading.specs.Laws.{LoadsOne, without_path, without_paths}
+use Rattle.hip_loading.specs.Laws.{LoadsOne}
 use Rattle.hip_loading.specs.Loading.{HasNoProgram, IsProgramOf}
 use Rattle.hip_loading.specs.declared.refusal.LoadRefusal.{LoadRefusal}
 use Rattle.hip_loading.specs.declared.refusal.LoadRefusal.TheVariants as loads
-use Rattle.hip_loading.specs.declared.refusal.ProgramRefusal.TheVariants as refusals
 use Rattle.hip_repair_answers.specs.Answers.{HasRunOf, TraceAnswers}
-use Rattle.hip_repair_answers.specs.Laws.{FaultsHideNone, GivesOne, IsSameAnswer, pathless}
+use Rattle.hip_repair_answers.specs.Laws.{FaultsHideNone, GivesOne}
 use Rattle.hip_repair_answers.specs.TraceFiles.{HasNoTrace, IsMisfitFile, IsTraceFile, ShowsNoMisfit, status_of_refusal}
 use Rattle.hip_repair_answers.specs.declared.refusal.TraceRefusal.{TraceRefusal}
 use Rattle.hip_repair_answers.specs.declared.refusal.TraceRefusal.TheVariants as traces
@@ -29,40 +29,8 @@ use Rattle.hip_runs.specs.Laws.Found.FoundLaws.{found_is_one}
 use Rattle.hip_runs.specs.declared.input.Input.{Input}
 use Rattle.hip_runs.specs.declared.report.Findings.{Findings}
 use Rattle.hip_trace.specs.Pieces.{spelled}
-use Rattle.hip_typing.specs.declared.fault.Place.{Place}
-use Rattle.hip_typing.specs.declared.fault.TypeFault.{TypeFault}
-use Rattle.hip_typing.specs.declared.fault.TypeFault.TheVariants as faults
-use Rattle.hip_parse.specs.declared.error.ParseRefusal.{ParseRefusal}
 
 -- ---- what is the same
-
-same_answer : {a b : Answer} → a ≡ b → IsSameAnswer a b
-same_answer e = record { status = ap (λ (x : Answer). pathless x.status) e; out = ap (λ (x : Answer). x.out) e; notes = ap (λ (x : Answer). x.notes) e }
-
-same_words : (fault : TypeFault) → fault_words fault ≡ fault_words (without_path fault)
-same_words (faults.Unassigned path) = refl
-same_words _ = refl
-
--- the line of a refusal does not tell the path
-line_is : (why : LoadRefusal) → line_of (programs.status_of_refusal why) ≡ line_of (programs.status_of_refusal (without_paths why))
-unfolding line_of
-line_is loads.Missing = refl
-line_is loads.TooLarge = refl
-line_is (loads.Bad (refusals.Text why)) = refl
-line_is (loads.Bad (refusals.Form why)) = ap (λ words. form_refusal words why.place) (same_words why.fault)
-
-status_is : (why : LoadRefusal) → pathless (programs.status_of_refusal why) ≡ programs.status_of_refusal (without_paths why)
-status_is loads.Missing = refl
-status_is loads.TooLarge = refl
-status_is (loads.Bad (refusals.Text why)) = refl
-status_is (loads.Bad (refusals.Form why)) = refl
-
-same_refusal : (why other : LoadRefusal) → without_paths why ≡ without_paths other → IsSameAnswer (refusal (programs.status_of_refusal why)) (refusal (programs.status_of_refusal other))
-same_refusal why other e = record {
-  status = status_is why ∙ ap programs.status_of_refusal e ∙ sym (status_is other);
-  out = refl;
-  notes = line_is why ∙ ap (λ (w : LoadRefusal). line_of (programs.status_of_refusal w)) e ∙ sym (line_is other);
-}
 
 same_bytes : (o : Option (List ℕ)) (a b : List ℕ) → o ≡ Some a → o ≡ Some b → a ≡ b
 same_bytes o a b p q = let k : Some a ≡ Some b = sym p ∙ q in cc
@@ -194,7 +162,7 @@ module _ (Texts : Program → Input → Findings → Answer → Type 0) (files :
 pub gives_one : (Texts : Program → Input → Findings → Answer → Type 0)
     → ((P : Program) (I : Input) (found : Findings) (a b : Answer) → Texts P I found a → Texts P I found b → a ≡ b)
     → GivesOne Texts
-gives_one Texts alike files old new other other_new p t a b told told' x y =
+gives_one Texts alike p t files old new other other_new a b told told' x y =
     two Texts files p t alike a b (view Texts files p t old new a told x) (view Texts files p t other other_new b told' y)
 
 -- ---- read faults

@@ -1,17 +1,15 @@
 -- What the definitions of the answers imply.
 use Rattle.std.specs.Prelude.{ℕ, ◌≡◌, ◌≢◌, ◌≤◌, ◌⊎◌, true, false, List, [], length, Some}
 use Rattle.hip_answers.specs.Answers.{Answer}
-use Rattle.hip_answers.specs.declared.status.Status.{Status}
+use Rattle.hip_answers.specs.Same.{AreOne}
 use Rattle.hip_answers.specs.declared.status.Status.TheVariants as statuses
 use Rattle.hip_io.specs.Cabinets.{CabinetState, file_of}
 use Rattle.hip_io.specs.declared.cabinet.NamedFile.{NamedFile}
 use Rattle.hip_ir.specs.Show.{show}
 use Rattle.hip_ir.specs.declared.program.Program.{Program}
-use Rattle.hip_loading.specs.Laws.{without_path}
 use Rattle.hip_loading.specs.Loading.{IsProgramOf}
 use Rattle.hip_loading.specs.Outside.{HasMet}
 use Rattle.hip_loading.specs.declared.program.TheConstants.{TEXT_LIMIT}
-use Rattle.hip_loading.specs.declared.refusal.ProgramRefusal.TheVariants as refusals
 use Rattle.hip_repair_answers.specs.Answers.{HasRepaired, HasRunOf, TraceAnswers}
 use Rattle.hip_repair_answers.specs.Cured.{repaired_for}
 use Rattle.hip_repair_answers.specs.TraceFiles.{IsTraceFile, ShowsNoMisfit}
@@ -29,24 +27,9 @@ use Rattle.hip_typing.specs.Sound.{IsSound}
 
 -- ---- one answer
 
--- the status, but for the path that shows a register without an assignment: one path or another may show it
-abbrev pub pathless : Status → Status
-pathless (statuses.BadProgram (refusals.Form why)) =
-    statuses.BadProgram (refusals.Form (record { fault = without_path why.fault; place = why.place }))
-pathless status = status
-
-pub record IsSameAnswer (a b : Answer) : Type 0 where
-  pub status : pathless a.status ≡ pathless b.status
-  pub out : a.out ≡ b.out
-  pub notes : a.notes ≡ b.notes
-
 -- where the files are told, two answers on them are the same, unless one of them is a read fault
 abbrev pub GivesOne : (Program → Input → Findings → Answer → Type 0) → Type 0
-GivesOne Texts =
-    (files : List NamedFile) → (old new other other_new : CabinetState) → (p t : List ℕ) → (a b : Answer)
-    → old.files ≡ Some files → other.files ≡ Some files → TraceAnswers Texts old new p t a
-    → TraceAnswers Texts other other_new p t b
-    → (a.status ≡ statuses.ReadFault) ⊎ ((b.status ≡ statuses.ReadFault) ⊎ IsSameAnswer a b)
+GivesOne Texts = (p t : List ℕ) → AreOne (λ old new answer. TraceAnswers Texts old new p t answer)
 
 -- where the one file has a program and the other is the trace of a run of it, and nothing is missing and nothing fails,
 -- there is an answer by which the command is carried out

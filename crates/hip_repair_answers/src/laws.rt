@@ -1,9 +1,14 @@
 //! Laws of the answers.
 
+ghost use Rattle.std.specs.Prelude.{Bool};
 ghost use Rattle.hip_ir.specs.declared.program.Program.{Program};
+ghost use Rattle.hip_ir.specs.declared.site.Site.{Site};
 ghost use Rattle.hip_repair_answers.specs.Answers.{HasChecked, HasRepaired, HasRerun};
-ghost use Rattle.hip_repair_answers.specs.Cured.{IsCured};
+ghost use Rattle.hip_repair_answers.specs.Cured.{IsCured, IsCuredBy};
 ghost use Rattle.hip_repair_answers.specs.Laws.{AnswersRuns, FaultsHideNone, GivesOne, NothingToRepair, RerunsAreTraces, SecondRepair};
+ghost use Rattle.hip_repairs.specs.Choice.{Contains, plan_for};
+ghost use Rattle.hip_repairs.specs.Quiet.{IsQuiet};
+ghost use Rattle.hip_repairs.specs.declared.plan.Plan.{Plan};
 ghost use Rattle.hip_runs.specs.Found.Marks.{IsFound};
 ghost use Rattle.hip_runs.specs.Validity.{IsValid};
 ghost use Rattle.hip_runs.specs.declared.input.Input.{Input};
@@ -15,6 +20,14 @@ ghost use Rattle.hip_typing.specs.Sound.{IsSound};
 pub fn repairs_cure()
     ensures { (P : Program) → (I : Input) → (found : Findings) → IsSound P → IsValid P I → IsFound P I found →
         IsCured P I found }
+{}
+
+/// The same of a repair by any plan that has what the run found, where the stores that the clones do not flush never lie
+/// in the region.
+pub fn plans_cure()
+    ensures { (P : Program) → (I : Input) → (plan : Plan) → (skip : Site → Bool) → (found : Findings) → IsSound P →
+        IsValid P I → IsQuiet P skip → IsFound P I found → Contains plan (plan_for P found) →
+        IsCuredBy P I plan skip }
 {}
 
 /// Where the files are told, two answers on them are the same, unless one of them is a read fault.

@@ -5,6 +5,8 @@ mod counts;
 mod reports;
 mod sites;
 
-pub use counts::{put_check_counts, put_count, put_repair_counts, put_rerun_counts};
+pub use counts::{
+    put_check_counts, put_count, put_repair_counts, put_repair_totals, put_rerun_counts, put_total,
+};
 pub use reports::{put_reports, write_report};
 pub use sites::put_site;

@@ -1,5 +1,5 @@
 use Rattle.hip_io.specs.Laws.SinkLaws.{and_then}
-use Rattle.hip_report_lines.proofs.counts.put_count.Goals as goal
+use Rattle.hip_report_lines.proofs.counts.put_total.Goals as goal
 
 pub returns : goal.returns
 returns g c = and_then (and_then (and_then c.put_after-put.ensures (c.put_after-put-2.ensures)) (c.put_number-put.ensures)) c.put_after.ensures

@@ -1,0 +1,5 @@
+use Rattle.hip_repair_answers.proofs.Cures.{cures_by}
+use Rattle.hip_repair_answers.proofs.laws.plans_cure.Goals as goal
+
+pub returns : goal.returns
+returns c = cures_by

@@ -1,0 +1,39 @@
+-- What was written of the reports, as an answer of `check`.
+use Rattle.std.proofs.Common.{false, length, refl}
+use Rattle.hip_answers.specs.Answers.{Answer, Finishes, PutsLine, Sinks}
+use Rattle.hip_answers.specs.Laws.{cut_out, finished}
+use Rattle.hip_answers.specs.declared.status.Status.{Status}
+use Rattle.hip_answers.specs.declared.status.Status.TheVariants as statuses
+use Rattle.hip_io.specs.Sinks.{AppendsAll, AppendsPrefix, SinkState, Writes}
+use Rattle.hip_io.specs.declared.sink.Put.{Put}
+use Rattle.hip_io.specs.declared.sink.Put.TheVariants as puts
+use Rattle.hip_ir.specs.declared.program.Program.{Program}
+use Rattle.hip_repair_answers.specs.Answers.{HasChecked}
+use Rattle.hip_report_lines.specs.Counts.{check_counts}
+use Rattle.hip_report_lines.specs.Reports.{report_lines}
+use Rattle.hip_runs.specs.declared.input.Input.{Input}
+use Rattle.hip_runs.specs.declared.report.Findings.{Findings}
+use Rattle.hip_trace_loading.specs.Runs.{AnswersOnRun}
+
+module _ (P : Program) (I : Input) (found : Findings) (s : Sinks) where
+  abbrev pub answer : Answer
+  answer =
+      record {
+        status = statuses.Done;
+        out = report_lines P found.reports;
+        notes = check_counts (length found.reports);
+      }
+
+  row : HasChecked P I found answer
+  row = record { status_is = refl; out_is = refl; notes_is = refl }
+
+  pub reported : (tried : Put) (cut : SinkState) (result : Status)
+      → AppendsAll s.out s.out_new (report_lines P found.reports)
+      → Writes puts.Done tried s.notes cut (check_counts (length found.reports))
+      → Finishes tried statuses.Done cut s.notes_new result → AnswersOnRun (HasChecked P I found) false s result
+  reported tried cut result out notes f old new met = finished s answer tried cut result row refl out notes.how f
+
+  pub reported_part : AppendsPrefix s.out s.out_new (report_lines P found.reports)
+      → PutsLine statuses.WriteFault s.notes s.notes_new
+      → AnswersOnRun (HasChecked P I found) false s statuses.WriteFault
+  reported_part out line old new met = cut_out s answer row refl out line

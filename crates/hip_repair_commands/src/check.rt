@@ -1,0 +1,53 @@
+//! `check`: the reports of a run.
+
+ghost use Rattle.std.specs.Prelude.{false};
+ghost use Rattle.hip_answers.specs.Answers.{HasAnswered, sinks};
+ghost use Rattle.hip_repair_answers.specs.Answers.{CheckAnswers, HasChecked};
+ghost use Rattle.hip_trace_loading.specs.Runs.{AnswersOnRun};
+
+use hip_answers::{Status, finish, refuse};
+use hip_io::{Cabinet, Put, Sink};
+use hip_report_lines::{put_check_counts, put_reports};
+use hip_trace_loading::{Replayed, load_run};
+use hip_typing::Checked;
+use std::alloc::Global;
+
+/// Writes a line for each report of a run; then how many there are goes to notes.
+fn report_findings<S: Sink, N: Sink>(
+    checked: &Checked,
+    replayed: &Replayed,
+    out: &mut S,
+    notes: &mut N,
+) -> Status
+    ensures { AnswersOnRun (HasChecked checked.now replayed.now.input replayed.now.findings) false
+        (sinks (S.state out.old) (S.state out.new) (N.state notes.old) (N.state notes.new)) result }
+{
+    let reports = replayed.findings.reports.as_slice();
+    match put_reports(out, checked.program(), reports) {
+        Put::Done => {
+            let tried = put_check_counts(notes, reports.len());
+            finish(notes, tried, Status::Done)
+        }
+        Put::Failed => refuse(notes, Status::WriteFault),
+    }
+}
+
+/// Writes the reports of the run whose trace one file has, of the program that another has. All memory that it needs is
+/// taken before the first byte is written.
+pub fn check_file<C: Cabinet, S: Sink, N: Sink>(
+    alloc: Global,
+    program: &str,
+    trace: &str,
+    cabinet: &mut C,
+    out: &mut S,
+    notes: &mut N,
+) -> Status
+    ensures { HasAnswered (CheckAnswers (C.state cabinet.old) (C.state cabinet.new) program.now trace.now) false
+        (C.state cabinet.old) (C.state cabinet.new)
+        (sinks (S.state out.old) (S.state out.new) (N.state notes.old) (N.state notes.new)) result }
+{
+    match load_run(alloc, program, trace, cabinet, notes) {
+        Ok(loaded) => report_findings(&loaded.checked, &loaded.replayed, out, notes),
+        Err(status) => status,
+    }
+}

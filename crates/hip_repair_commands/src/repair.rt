@@ -1,0 +1,86 @@
+//! `repair`: the repaired program, for the trace of one of its runs.
+
+ghost use Rattle.std.specs.Prelude.{false};
+ghost use Rattle.hip_answers.specs.Answers.{HasAnswered, sinks};
+ghost use Rattle.hip_repair_answers.specs.Answers.{HasRepaired, RepairAnswers};
+ghost use Rattle.hip_repair_commands.specs.Repairing.{IsRepairFor};
+ghost use Rattle.hip_runs.specs.Found.Marks.{IsFound};
+ghost use Rattle.hip_runs.specs.Validity.{IsValid};
+ghost use Rattle.hip_trace_loading.specs.Runs.{AnswersOnRun};
+
+use crate::repairing::{Repair, repair_for};
+use hip_answers::{Status, finish, refuse};
+use hip_io::{Cabinet, Sink};
+use hip_repair_answers::repairs_cure;
+use hip_report_lines::put_repair_counts;
+use hip_trace_loading::{Replayed, load_run};
+use hip_types::NoMemory;
+use hip_typing::Checked;
+use hip_write::write;
+use std::alloc::Global;
+
+/// Writes the repaired program; then the counts go to notes.
+fn put_repair<S: Sink, N: Sink>(
+    checked: &Checked,
+    replayed: &Replayed,
+    repair: &Repair,
+    out: &mut S,
+    notes: &mut N,
+) -> Status
+    requires valid { IsValid checked.now replayed.now.input }
+    requires found { IsFound checked.now replayed.now.input replayed.now.findings }
+    requires repair { IsRepairFor checked.now replayed.now.findings repair.now }
+    ensures { AnswersOnRun (HasRepaired checked.now replayed.now.input replayed.now.findings) false
+        (sinks (S.state out.old) (S.state out.new) (N.state notes.old) (N.state notes.new)) result }
+{
+    repairs_cure();
+    let _program = checked.program();
+    match write(repair.repaired.checked.program(), out) {
+        Ok(()) => {
+            let reports = replayed.findings.reports.len();
+            let clones = repair.repaired.clones.len();
+            let tried = put_repair_counts(notes, reports, &repair.plan, clones);
+            finish(notes, tried, Status::Done)
+        }
+        Err(_) => refuse(notes, Status::WriteFault),
+    }
+}
+
+/// Repairs a program for what one of its runs found, and writes it.
+fn repair_findings<S: Sink, N: Sink>(
+    alloc: Global,
+    checked: &Checked,
+    replayed: &Replayed,
+    out: &mut S,
+    notes: &mut N,
+) -> Status
+    requires valid { IsValid checked.now replayed.now.input }
+    requires found { IsFound checked.now replayed.now.input replayed.now.findings }
+    ensures { AnswersOnRun (HasRepaired checked.now replayed.now.input replayed.now.findings) false
+        (sinks (S.state out.old) (S.state out.new) (N.state notes.old) (N.state notes.new)) result }
+{
+    match repair_for(alloc, checked, &replayed.findings) {
+        Ok(repair) => put_repair(checked, replayed, &repair, out, notes),
+        Err(NoMemory) => refuse(notes, Status::NoMemory),
+    }
+}
+
+/// Repairs the program of a file for the run whose trace another has. All memory that it needs is taken before the
+/// first byte is written.
+pub fn repair_file<C: Cabinet, S: Sink, N: Sink>(
+    alloc: Global,
+    program: &str,
+    trace: &str,
+    cabinet: &mut C,
+    out: &mut S,
+    notes: &mut N,
+) -> Status
+    ensures { HasAnswered (RepairAnswers (C.state cabinet.old) (C.state cabinet.new) program.now trace.now) false
+        (C.state cabinet.old) (C.state cabinet.new)
+        (sinks (S.state out.old) (S.state out.new) (N.state notes.old) (N.state notes.new)) result }
+{
+    match load_run(alloc, program, trace, cabinet, notes) {
+        Ok(loaded) => repair_findings(alloc, &loaded.checked, &loaded.replayed, out, notes),
+        Err(status) => status,
+    }
+}

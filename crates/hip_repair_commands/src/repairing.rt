@@ -1,0 +1,32 @@
+//! The repair for what a run found.
+
+ghost use Rattle.std.specs.Prelude.{IfOk};
+ghost use Rattle.hip_repair_commands.specs.Repairing.{IsRepairFor};
+
+use hip_fix::apply;
+use hip_plan::plan;
+use hip_repairs::{Plan, Repaired};
+use hip_runs::Findings;
+use hip_types::NoMemory;
+use hip_typing::Checked;
+use std::alloc::Global;
+
+/// A plan, and the program that is repaired by it.
+#[derive(Drop)]
+pub(crate) struct Repair {
+    pub(crate) plan: Plan,
+    pub(crate) repaired: Repaired,
+}
+
+/// The plan for what a run found, and the program repaired by it.
+pub(crate) fn repair_for(
+    alloc: Global,
+    checked: &Checked,
+    findings: &Findings,
+) -> Result<Repair, NoMemory>
+    ensures { IfOk result (λ repair. IsRepairFor checked.now findings.now repair) }
+{
+    let plan = plan(alloc, checked, findings)?;
+    let repaired = apply(alloc, checked, &plan)?;
+    Ok(Repair { plan, repaired })
+}

@@ -1,0 +1,89 @@
+//! `rerun`: the trace of the repaired program's run, on the input of a trace of the program's.
+
+ghost use Rattle.std.specs.Prelude.{true};
+ghost use Rattle.hip_answers.specs.Answers.{HasAnswered, sinks};
+ghost use Rattle.hip_repair_answers.specs.Answers.{HasRerun, RerunAnswers};
+ghost use Rattle.hip_repair_commands.specs.Repairing.{IsRepairFor};
+ghost use Rattle.hip_runs.specs.Found.Marks.{IsFound};
+ghost use Rattle.hip_runs.specs.Validity.{IsValid};
+ghost use Rattle.hip_trace_loading.specs.Runs.{AnswersOnRun};
+
+use crate::repairing::{Repair, repair_for};
+use hip_answers::{Status, finish, refuse};
+use hip_io::{Cabinet, Sink};
+use hip_repair_answers::repairs_cure;
+use hip_replay::{RecordRefusal, record_run};
+use hip_report_lines::put_rerun_counts;
+use hip_trace_loading::{Replayed, load_run};
+use hip_types::NoMemory;
+use hip_typing::Checked;
+use std::alloc::Global;
+
+/// Runs the repaired program on the run's input and writes its trace as it runs; then how many reports there are of
+/// either run goes to notes.
+fn run_repair<S: Sink, N: Sink>(
+    alloc: Global,
+    checked: &Checked,
+    replayed: &Replayed,
+    repair: &Repair,
+    out: &mut S,
+    notes: &mut N,
+) -> Status
+    requires valid { IsValid checked.now replayed.now.input }
+    requires found { IsFound checked.now replayed.now.input replayed.now.findings }
+    requires repair { IsRepairFor checked.now replayed.now.findings repair.now }
+    ensures { AnswersOnRun (HasRerun checked.now replayed.now.input replayed.now.findings) true
+        (sinks (S.state out.old) (S.state out.new) (N.state notes.old) (N.state notes.new)) result }
+{
+    repairs_cure();
+    let _program = checked.program();
+    match record_run(alloc, &repair.repaired.checked, &replayed.input, out) {
+        Ok(recorded) => {
+            let before = replayed.findings.reports.len();
+            let after = recorded.findings.reports.len();
+            let tried = put_rerun_counts(notes, before, after);
+            finish(notes, tried, Status::Done)
+        }
+        Err(RecordRefusal::WriteFault) => refuse(notes, Status::WriteFault),
+        Err(RecordRefusal::NoMemory) => refuse(notes, Status::NoMemory),
+    }
+}
+
+/// Repairs a program for what one of its runs found, and runs it.
+fn rerun_findings<S: Sink, N: Sink>(
+    alloc: Global,
+    checked: &Checked,
+    replayed: &Replayed,
+    out: &mut S,
+    notes: &mut N,
+) -> Status
+    requires valid { IsValid checked.now replayed.now.input }
+    requires found { IsFound checked.now replayed.now.input replayed.now.findings }
+    ensures { AnswersOnRun (HasRerun checked.now replayed.now.input replayed.now.findings) true
+        (sinks (S.state out.old) (S.state out.new) (N.state notes.old) (N.state notes.new)) result }
+{
+    match repair_for(alloc, checked, &replayed.findings) {
+        Ok(repair) => run_repair(alloc, checked, replayed, &repair, out, notes),
+        Err(NoMemory) => refuse(notes, Status::NoMemory),
+    }
+}
+
+/// Repairs the program of a file for the run whose trace another has, and writes the trace of the repaired program's
+/// run on the same input as it runs.
+pub fn rerun_file<C: Cabinet, S: Sink, N: Sink>(
+    alloc: Global,
+    program: &str,
+    trace: &str,
+    cabinet: &mut C,
+    out: &mut S,
+    notes: &mut N,
+) -> Status
+    ensures { HasAnswered (RerunAnswers (C.state cabinet.old) (C.state cabinet.new) program.now trace.now) true
+        (C.state cabinet.old) (C.state cabinet.new)
+        (sinks (S.state out.old) (S.state out.new) (N.state notes.old) (N.state notes.new)) result }
+{
+    match load_run(alloc, program, trace, cabinet, notes) {
+        Ok(loaded) => rerun_findings(alloc, &loaded.checked, &loaded.replayed, out, notes),
+        Err(status) => status,
+    }
+}

@@ -1,0 +1,44 @@
+-- What a file gives that was fetched and replayed.
+use Rattle.std.proofs.Common.{◌≡◌, ℕ, false, List, Option, Some, None, ◌∙◌, subst}
+use Rattle.std.specs.Prelude.{IfSome}
+use Rattle.hip_io.specs.Cabinets.{CabinetState, IsFetched, IsFirstFile, file_of}
+use Rattle.hip_io.specs.declared.cabinet.NamedFile.{NamedFile}
+use Rattle.hip_ir.specs.declared.program.Program.{Program}
+use Rattle.hip_loading.specs.Outside.{HasMet}
+use Rattle.hip_repair_answers.specs.TraceFiles.{IsTraceFile}
+use Rattle.hip_replay.specs.Replaying.{HasReplayed}
+use Rattle.hip_replay.specs.declared.compared.Replayed.{Replayed}
+use Rattle.hip_run_traces.specs.Misfits.{IsTraceOf}
+use Rattle.hip_trace.specs.Reads.{IsReading, ReaderState}
+use Rattle.hip_trace_loading.specs.Loading.{HasLoadedTrace}
+
+-- what is known of the rest of a file that was fetched is known of the file
+of_file : (mid : CabinetState) (name : List ℕ) (Q : List ℕ → Type 0) (R : List NamedFile → Type 0)
+    (files : Option (List NamedFile)) → IfSome files (λ fs. IsFirstFile fs name mid) → IfSome mid.rest Q
+    → ((fs : List NamedFile) (bytes : List ℕ) → file_of fs name ≡ Some bytes → Q bytes → R fs) → IfSome files R
+of_file mid name Q R None first q make = first
+of_file mid name Q R (Some fs) first q make =
+    make fs first.bytes first.found (subst (λ (rest : Option (List ℕ)). IfSome rest Q) first.rest q)
+
+module _ {old mid new : CabinetState} {name : List ℕ} (P : Program) (r : ReaderState) (f : IsFetched old mid name) where
+  met_nothing : IsReading mid new → HasMet false false old new
+  met_nothing h = record {
+    files = h.stays.files ∙ f.files;
+    misses = h.stays.misses ∙ f.misses;
+    faults = h.faults ∙ f.faults;
+  }
+
+  pub loaded : (replayed : Replayed) → HasReplayed P r mid new replayed → HasLoadedTrace P name old new replayed
+  loaded replayed h = record {
+    met = met_nothing h.reading;
+    traced =
+        of_file mid name (λ bytes. IsTraceOf P bytes replayed.input) (λ fs. IsTraceFile fs name P replayed.input) old.files
+        f.told h.told (λ fs bytes found trace. record { bytes = bytes; found = found; trace = trace });
+    left = h.left;
+    valid = h.valid;
+    found = h.found;
+    trace = h.trace;
+    is_trace = h.is_trace;
+    ended = h.ended;
+    entries = h.entries;
+  }

@@ -1,0 +1,3 @@
+pub mod Laws
+pub mod Loading
+pub mod Runs

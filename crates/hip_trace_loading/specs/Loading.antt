@@ -1,0 +1,52 @@
+-- What loading the trace of a file answers.
+use Rattle.std.specs.Prelude.{ℕ, ◌≡◌, ◌⊎◌, true, false, List, [], length, Some, IfSome, Result, Ok, Err}
+use Rattle.hip_io.specs.Cabinets.{CabinetState}
+use Rattle.hip_ir.specs.declared.program.Program.{Program}
+use Rattle.hip_loading.specs.Outside.{HasMet}
+use Rattle.hip_loading.specs.declared.failure.Failure.{Failure}
+use Rattle.hip_loading.specs.declared.failure.Failure.TheVariants as failures
+use Rattle.hip_lockstep.specs.declared.refusal.ReplayRefusal.{ReplayRefusal}
+use Rattle.hip_lockstep.specs.declared.refusal.ReplayRefusal.TheVariants as refusals
+use Rattle.hip_repair_answers.specs.TraceFiles.{HasNoTrace, IsTraceFile, ShowsNoMisfit, is_missing}
+use Rattle.hip_repair_answers.specs.declared.refusal.TraceRefusal.{TraceRefusal}
+use Rattle.hip_repair_answers.specs.declared.refusal.TraceRefusal.TheVariants as traces
+use Rattle.hip_replay.specs.declared.compared.Replayed.{Replayed}
+use Rattle.hip_run_traces.specs.Traces.{IsTrace}
+use Rattle.hip_runs.specs.Found.Marks.{IsFound}
+use Rattle.hip_runs.specs.Step.{run}
+use Rattle.hip_runs.specs.Validity.{IsValid}
+use Rattle.hip_trace.specs.declared.entry.Entry.{Entry}
+
+-- a refusal of the replay, as one of the file
+abbrev pub failure_of : ReplayRefusal → Failure TraceRefusal
+failure_of (refusals.Misfit entry kind) = failures.Refused (traces.Misfit entry kind)
+failure_of refusals.ReadFault = failures.ReadFault
+failure_of refusals.NoMemory = failures.NoMemory
+
+-- The file is the trace of the program's run on the input, and was read to its end. The run found this and has ended
+-- so, and its trace has so many entries. Nothing was missing and nothing failed.
+pub record HasLoadedTrace (P : Program) (name : List ℕ) (old new : CabinetState) (replayed : Replayed) : Type 0 where
+  pub met : HasMet false false old new
+  pub traced : IfSome old.files (λ fs. IsTraceFile fs name P replayed.input)
+  pub left : IfSome new.rest (λ rest. rest ≡ [])
+  pub valid : IsValid P replayed.input
+  pub found : IsFound P replayed.input replayed.findings
+  pub trace : List Entry
+  pub is_trace : IsTrace P replayed.input trace
+  pub ended : (run P replayed.input is_trace.steps).world.ending ≡ Some replayed.ending
+  pub entries : replayed.entries ≡ length trace
+
+-- The file could not be fetched, and no file is current; or it is current and could not be read to its end, and those
+-- of its bytes that were taken show no misfit, whatever follows them.
+pub record HasFailedTrace (P : Program) (name : List ℕ) (old new : CabinetState) : Type 0 where
+  pub met : HasMet false true old new
+  pub current : (new.is_current ≡ false) ⊎ IfSome new.name (λ n. n ≡ name)
+  pub taken : (new.is_current ≡ false) ⊎ IfSome old.files (λ fs. ShowsNoMisfit fs name P new.rest)
+
+-- what loading the trace of a file answers; want of memory is free
+abbrev pub LoadsTrace : Program → List ℕ → CabinetState → CabinetState → Result Replayed (Failure TraceRefusal) → Type 0
+LoadsTrace P name old new (Ok replayed) = HasLoadedTrace P name old new replayed
+LoadsTrace P name old new (Err (failures.Refused why)) =
+    HasMet (is_missing why) false old new × HasNoTrace old.files name P why
+LoadsTrace P name old new (Err failures.ReadFault) = HasFailedTrace P name old new
+LoadsTrace P name old new (Err failures.NoMemory) = HasMet false false old new

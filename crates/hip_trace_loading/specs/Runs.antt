@@ -1,0 +1,38 @@
+-- What loading a program and the trace of one of its runs answers.
+use Rattle.std.specs.Prelude.{ℕ, ◌≡◌, ◌⊎◌, Bool, false, List, Result, Ok, Err}
+use Rattle.hip_answers.specs.Answers.{Answer, HasAnswered, Sinks, sinks}
+use Rattle.hip_answers.specs.Programs.{IsUnloaded}
+use Rattle.hip_answers.specs.declared.status.Status.{Status}
+use Rattle.hip_io.specs.Cabinets.{CabinetState}
+use Rattle.hip_io.specs.Sinks.{SinkState}
+use Rattle.hip_loading.specs.Loading.{IsProgramOf}
+use Rattle.hip_loading.specs.Outside.{HasMet}
+use Rattle.hip_repair_answers.specs.TraceFiles.{IsProgramUnread, LacksTrace}
+use Rattle.hip_trace_loading.specs.Loading.{HasLoadedTrace}
+use Rattle.hip_trace_loading.specs.declared.run.LoadedRun.{LoadedRun}
+
+-- The one file has the program, and the other is the trace of the run.
+pub record HasLoadedRun (program_name trace_name : List ℕ) (old new : CabinetState) (loaded : LoadedRun) : Type 0 where
+  pub program : IsProgramOf old.files program_name loaded.checked
+  pub trace : HasLoadedTrace loaded.checked trace_name old new loaded.replayed
+
+-- what a command answers that has no program, or no trace of a run of it
+abbrev pub LacksRun : CabinetState → CabinetState → List ℕ → List ℕ → Answer → Type 0
+LacksRun old new program_name trace_name answer =
+    IsUnloaded old new program_name answer
+    ⊎ (IsProgramUnread old new program_name answer ⊎ LacksTrace old new program_name trace_name answer)
+
+-- What loading a run answers. Notes are as they were, or the refusal is the whole answer of a command, whether or not
+-- its text goes out while it is made.
+abbrev pub LoadsRun : List ℕ → List ℕ → CabinetState → CabinetState → SinkState → SinkState
+    → Result LoadedRun Status → Type 0
+LoadsRun program_name trace_name old new notes notes_new (Ok loaded) =
+    HasLoadedRun program_name trace_name old new loaded × (notes_new ≡ notes)
+LoadsRun program_name trace_name old new notes notes_new (Err status) =
+    (begins : Bool) → (out : SinkState)
+    → HasAnswered (LacksRun old new program_name trace_name) begins old new (sinks out out notes notes_new) status
+
+-- what a command does on a run that is loaded: it answers by the table, and looks at no file
+abbrev pub AnswersOnRun : (Answer → Type 0) → Bool → Sinks → Status → Type 0
+AnswersOnRun table begins s status =
+    (old new : CabinetState) → HasMet false false old new → HasAnswered table begins old new s status

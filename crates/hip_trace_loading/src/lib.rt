@@ -1,0 +1,9 @@
+//! Traces in files: fetched and replayed beside the program, and what the files did meanwhile.
+#![tactic(auto)]
+
+mod run;
+mod trace;
+
+pub use hip_replay::Replayed;
+pub use run::{LoadedRun, load_run};
+pub use trace::load_trace;

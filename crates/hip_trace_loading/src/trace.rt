@@ -1,0 +1,58 @@
+ghost use Rattle.std.specs.Prelude.{◌≡◌, IsTrue};
+ghost use Rattle.hip_replay.specs.Replaying.{Replays};
+ghost use Rattle.hip_trace.specs.Reads.{ReaderState};
+ghost use Rattle.hip_trace_loading.specs.Loading.{LoadsTrace, failure_of};
+
+use hip_io::{Cabinet, Fetched};
+use hip_loading::Failure;
+use hip_repair_answers::TraceRefusal;
+use hip_replay::{ReplayRefusal, Replayed, replay};
+use hip_trace::Reader;
+use hip_typing::Checked;
+use std::alloc::Global;
+
+fn failure_of(refusal: ReplayRefusal) -> Failure<TraceRefusal>
+    ensures { result ≡ failure_of refusal }
+{
+    match refusal {
+        ReplayRefusal::Misfit { entry, kind } => Failure::Refused(TraceRefusal::Misfit {
+            entry,
+            kind,
+        }),
+        ReplayRefusal::ReadFault => Failure::ReadFault,
+        ReplayRefusal::NoMemory => Failure::NoMemory,
+    }
+}
+
+/// The run whose trace the rest of the current file is.
+fn replay_rest<C: Cabinet>(
+    alloc: Global,
+    checked: &Checked,
+    cabinet: &mut C,
+) -> Result<Replayed, ReplayRefusal>
+    requires { IsTrue (C.state cabinet.old).is_current }
+    ensures { (r : ReaderState) × Replays checked.now r (C.state cabinet.old) (C.state cabinet.new) result }
+{
+    let mut reader = Reader::new();
+    replay(alloc, checked, &mut reader, cabinet)
+}
+
+/// The run of the program whose trace the file of that name has: its input, what it found, how it has ended, and how
+/// many entries its trace has. The cabinet may be in any state.
+pub fn load_trace<C: Cabinet>(
+    alloc: Global,
+    checked: &Checked,
+    cabinet: &mut C,
+    name: &str,
+) -> Result<Replayed, Failure<TraceRefusal>>
+    ensures { LoadsTrace checked.now name.now (C.state cabinet.old) (C.state cabinet.new) result }
+{
+    match cabinet.fetch(name) {
+        Fetched::Ready => match replay_rest(alloc, checked, cabinet) {
+            Ok(replayed) => Ok(replayed),
+            Err(refusal) => Err(failure_of(refusal)),
+        },
+        Fetched::Missing => Err(Failure::Refused(TraceRefusal::Missing)),
+        Fetched::Failed => Err(Failure::ReadFault),
+    }
+}

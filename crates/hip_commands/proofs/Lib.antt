@@ -1,2 +1,5 @@
+pub mod OneProgram
+pub mod OneRecord
 pub mod OneRun
+pub mod Records
 pub mod Runs

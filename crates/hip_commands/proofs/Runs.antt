@@ -27,7 +27,7 @@ is_carried_out (endings.Trap kind) = refl
 is_carried_out endings.Cut = refl
 
 -- the answer of a run that prints the text and ends so
-abbrev answer_of : List ℕ → Ending → Answer
+abbrev pub answer_of : List ℕ → Ending → Answer
 answer_of text ending = record { status = status_of_ending ending; out = text; notes = ending_line ending }
 
 module _ {old new : CabinetState} {name : List ℕ} {limit : ℕ} {numbers : List ℤ} (P : Program) (I : Input)

@@ -1,3 +1,4 @@
 pub mod FirstInput
 pub mod Laws
+pub mod Record
 pub mod Run

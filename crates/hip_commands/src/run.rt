@@ -4,7 +4,7 @@ ghost use Rattle.std.specs.Prelude.{◌≤◌, true, length};
 ghost use Rattle.hip_answers.specs.Answers.{HasAnswered, sinks};
 ghost use Rattle.hip_commands.specs.Run.{RunAnswers};
 
-use crate::first_input::first_input;
+use crate::inputs::first_input;
 use hip_answers::{Status, finish, put_ending, refuse, status_of_ending, status_of_failure};
 use hip_io::{Cabinet, Sink};
 use hip_loading::load_program;

@@ -9,7 +9,7 @@ use hip_typing::Checked;
 use std::alloc::Global;
 
 /// The input of a run that begins with the initialisers' bytes.
-pub(crate) fn first_input(
+pub fn first_input(
     alloc: Global,
     checked: &Checked,
     base: u64,

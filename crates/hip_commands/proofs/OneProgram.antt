@@ -1,0 +1,94 @@
+-- Two answers on the program of one file: the same refusal, or both have run the program.
+use Rattle.std.proofs.Common.{◌≡◌, ◌≤◌, ◌<◌, ◌+◌, ◌-◌, ℕ, zero, suc, true, List, Option, Some, is_some, sym, ap, ◌∙◌, subst, inl, inr, arith}
+use Rattle.std.specs.Prelude.{◌⊎◌}
+use Rattle.std.proofs.lemmas.Bool.{cases_order}
+use Rattle.hip_answers.specs.Answers.{Answer, refusal}
+use Rattle.hip_answers.specs.Programs.{IsUnloaded, LacksProgram}
+use Rattle.hip_answers.specs.Same.{IsSameAnswer}
+use Rattle.hip_answers.specs.SameLaws.{same_refusal}
+use Rattle.hip_answers.specs.Statuses.{status_of_refusal}
+use Rattle.hip_answers.specs.declared.status.Status.TheVariants.{ReadFault}
+use Rattle.hip_io.specs.Cabinets.{CabinetState}
+use Rattle.hip_io.specs.declared.cabinet.NamedFile.{NamedFile}
+use Rattle.hip_ir.specs.declared.program.Program.{Program}
+use Rattle.hip_loading.specs.Laws.{LoadsOne}
+use Rattle.hip_loading.specs.Loading.{HasNoProgram, IsProgramOf}
+use Rattle.hip_loading.specs.declared.refusal.LoadRefusal.{LoadRefusal}
+use Rattle.hip_runs.specs.Laws.NextLaws.{rests-ended}
+use Rattle.hip_runs.specs.State.{State}
+use Rattle.hip_runs.specs.Step.{has_ended, run}
+use Rattle.hip_runs.specs.declared.event.Ending.{Ending}
+use Rattle.hip_runs.specs.declared.input.Input.{Input}
+
+-- ---- a run ends in one way
+
+stays : (P : Program) (I : Input) (k n : ℕ) → has_ended (run P I k) ≡ true → run P I (k + n) ≡ run P I k
+stays P I k zero ended = ap (run P I) (let e : k + 0 ≡ k = omega arith in e)
+stays P I k (suc n) ended =
+    let before = stays P I k n ended in
+    ap (run P I) (let e : k + suc n ≡ suc (k + n) = omega arith in e)
+    ∙ rests-ended P I (k + n) (ap has_ended before ∙ ended) ∙ before
+
+ends_there : (P : Program) (I : Input) (k m : ℕ) → k ≤ m → has_ended (run P I k) ≡ true → run P I m ≡ run P I k
+ends_there P I k m less ended =
+    ap (run P I) (let e : m ≡ k + (m - k) = omega (arith, less) in e) ∙ stays P I k (m - k) ended
+
+pub one_end : (P : Program) (I : Input) (k m : ℕ) → has_ended (run P I k) ≡ true → has_ended (run P I m) ≡ true
+    → run P I k ≡ run P I m
+one_end P I k m at_k at_m = by_order (cases_order k m)
+  where
+    by_order : (k ≡ m) ⊎ ((k < m) ⊎ (m < k)) → run P I k ≡ run P I m
+    by_order (inl same) = ap (run P I) same
+    by_order (inr (inl less)) = sym (ends_there P I k m (omega (arith, less)) at_k)
+    by_order (inr (inr more)) = ends_there P I m k (omega (arith, more)) at_m
+
+pub one_ending : (P : Program) (I : Input) (k m : ℕ) (ending other : Ending) → (run P I k).world.ending ≡ Some ending
+    → (run P I m).world.ending ≡ Some other → ending ≡ other
+one_ending P I k m ending other at_k at_m =
+    let same = one_end P I k m (ap is_some at_k) (ap is_some at_m) in
+    let both : Some ending ≡ Some other = sym at_k ∙ ap (λ (s : State). s.world.ending) same ∙ at_m in
+    cc
+
+-- ---- one answer
+
+-- what was done with the program of a file
+abbrev pub HasLoaded : Option (List NamedFile) → List ℕ → Type 0
+HasLoaded files name = (P : Program) × IsProgramOf files name P
+
+module _ (one : (files : List NamedFile) (name : List ℕ) → LoadsOne files name) (files : List NamedFile) (name : List ℕ)
+    (old new other other_new : CabinetState) (e : old.files ≡ Some files) (h : other.files ≡ Some files) where
+  program_of : (f : Option (List NamedFile)) (P : Program) → f ≡ Some files → IsProgramOf f name P
+      → IsProgramOf (Some files) name P
+  program_of f P told p = subst (λ (x : Option (List NamedFile)). IsProgramOf x name P) told p
+
+  refusal_of : (f : Option (List NamedFile)) (why : LoadRefusal) → f ≡ Some files → HasNoProgram f name why
+      → HasNoProgram (Some files) name why
+  refusal_of f why told p = subst (λ (x : Option (List NamedFile)). HasNoProgram x name why) told p
+
+  pub same_program : (P Q : Program) → IsProgramOf old.files name P → IsProgramOf other.files name Q → P ≡ Q
+  same_program P Q p q = (one files name).programs P Q (program_of old.files P e p) (program_of other.files Q h q)
+
+  unloaded : (a b : Answer) → IsUnloaded old new name a → IsUnloaded other other_new name b → IsSameAnswer a b
+  unloaded a b u v =
+      let same = (one files name).refusals u.why v.why (refusal_of old.files u.why e u.cause)
+      (refusal_of other.files v.why h v.cause) in
+      subst (λ x. IsSameAnswer x b) (sym u.is) (subst (λ x. IsSameAnswer (refusal (status_of_refusal u.why)) x) (sym v.is)
+      (same_refusal u.why v.why same))
+
+  -- both have no program, or both have done something with it
+  pub one_answer : (Did DidToo : Type 0) (a b : Answer) → (Did → HasLoaded old.files name)
+      → (DidToo → HasLoaded other.files name) → (Did → DidToo → IsSameAnswer a b) → LacksProgram old new name a ⊎ Did
+      → LacksProgram other other_new name b ⊎ DidToo
+      → (a.status ≡ ReadFault) ⊎ ((b.status ≡ ReadFault) ⊎ IsSameAnswer a b)
+  one_answer Did DidToo a b loaded too both (inl (inr u)) v = inl (ap (λ (x : Answer). x.status) u.is)
+  one_answer Did DidToo a b loaded too both (inl (inl u)) (inl (inr v)) =
+      inr (inl (ap (λ (x : Answer). x.status) v.is))
+  one_answer Did DidToo a b loaded too both (inr u) (inl (inr v)) = inr (inl (ap (λ (x : Answer). x.status) v.is))
+  one_answer Did DidToo a b loaded too both (inl (inl u)) (inl (inl v)) = inr (inr (unloaded a b u v))
+  one_answer Did DidToo a b loaded too both (inr u) (inr v) = inr (inr (both u v))
+  one_answer Did DidToo a b loaded too both (inl (inl u)) (inr v) =
+      absurd ((one files name).excluded (too v).0 u.why (program_of other.files (too v).0 h (too v).1)
+      (refusal_of old.files u.why e u.cause))
+  one_answer Did DidToo a b loaded too both (inr u) (inl (inl v)) =
+      absurd ((one files name).excluded (loaded u).0 v.why (program_of old.files (loaded u).0 e (loaded u).1)
+      (refusal_of other.files v.why h v.cause))

@@ -1,0 +1,39 @@
+-- The answers of `record`.
+use Rattle.std.specs.Prelude.{ℕ, ℤ, ◌≡◌, false, List, Some, ◌⊎◌}
+use Rattle.hip_answers.specs.Answers.{Answer}
+use Rattle.hip_answers.specs.Endings.{ending_line, status_of_ending}
+use Rattle.hip_answers.specs.Programs.{LacksProgram}
+use Rattle.hip_commands.specs.FirstInput.{first_input}
+use Rattle.hip_io.specs.Cabinets.{CabinetState}
+use Rattle.hip_ir.specs.declared.program.Program.{Program}
+use Rattle.hip_loading.specs.Loading.{IsProgramOf}
+use Rattle.hip_loading.specs.Outside.{HasMet}
+use Rattle.hip_run_traces.specs.Traces.{IsTrace}
+use Rattle.hip_runs.specs.Step.{run}
+use Rattle.hip_runs.specs.declared.event.Ending.{Ending}
+use Rattle.hip_runs.specs.declared.input.Input.{Input}
+use Rattle.hip_trace.specs.Texts.{lines_of}
+use Rattle.hip_trace.specs.declared.entry.Entry.{Entry}
+
+-- the text is the trace of the run, a line for each entry, and the run has ended in this way
+pub record IsTraceText (P : Program) (I : Input) (text : List ℕ) (ending : Ending) : Type 0 where
+  pub trace : List Entry
+  pub is_trace : IsTrace P I trace
+  pub ended : (run P I is_trace.steps).world.ending ≡ Some ending
+  pub is : text ≡ lines_of trace
+
+-- The program of the file has run on the initialisers' bytes: out has the trace of the run, and notes how the run has
+-- ended.
+pub record HasRecorded (old new : CabinetState) (name : List ℕ) (base limit : ℕ) (numbers : List ℤ)
+    (answer : Answer) : Type 0 where
+  pub program : Program
+  pub loaded : IsProgramOf old.files name program
+  pub met : HasMet false false old new
+  pub ending : Ending
+  pub traced : IsTraceText program (first_input program base limit numbers) answer.out ending
+  pub status_is : answer.status ≡ status_of_ending ending
+  pub notes_is : answer.notes ≡ ending_line ending
+
+abbrev pub RecordAnswers : CabinetState → CabinetState → List ℕ → ℕ → ℕ → List ℤ → Answer → Type 0
+RecordAnswers old new name base limit numbers answer =
+    LacksProgram old new name answer ⊎ HasRecorded old new name base limit numbers answer

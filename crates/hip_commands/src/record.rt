@@ -1,0 +1,52 @@
+//! `record`: the trace of a program's run.
+
+ghost use Rattle.hip_answers.specs.Answers.{HasAnswered, sinks};
+ghost use Rattle.hip_commands.specs.Record.{RecordAnswers};
+ghost use Rattle.hip_globals.specs.Addresses.{IsBase};
+ghost use Rattle.std.specs.Prelude.{◌≤◌, true, length};
+
+use crate::inputs::first_input;
+use hip_answers::{Status, finish, put_ending, refuse, status_of_ending, status_of_failure};
+use hip_io::{Cabinet, Sink};
+use hip_loading::load_program;
+use hip_replay::{RecordRefusal, record_run};
+use hip_runs::{MOST_NUMBERS, MOST_TURNS};
+use hip_types::{NoMemory, Row};
+use std::alloc::Global;
+
+/// Runs the program of a file, with its region at a base, and writes the trace of the run as it runs, a line for each
+/// entry; then how the run has ended goes to notes.
+pub fn record_file<C: Cabinet, S: Sink, N: Sink>(
+    alloc: Global,
+    program: &str,
+    base: u64,
+    limit: u64,
+    numbers: Row<i64>,
+    cabinet: &mut C,
+    out: &mut S,
+    notes: &mut N,
+) -> Status
+    requires base { IsBase base }
+    requires limit { limit ≤ MOST_TURNS }
+    requires numbers { length numbers ≤ MOST_NUMBERS }
+    ensures { HasAnswered (RecordAnswers (C.state cabinet.old) (C.state cabinet.new) program.now base limit numbers)
+        true (C.state cabinet.old) (C.state cabinet.new)
+        (sinks (S.state out.old) (S.state out.new) (N.state notes.old) (N.state notes.new)) result }
+{
+    let checked = match load_program(alloc, cabinet, program) {
+        Ok(checked) => checked,
+        Err(failure) => return refuse(notes, status_of_failure(failure)),
+    };
+    let input = match first_input(alloc, &checked, base, limit, numbers) {
+        Ok(input) => input,
+        Err(NoMemory) => return refuse(notes, Status::NoMemory),
+    };
+    match record_run(alloc, &checked, &input, out) {
+        Ok(recorded) => {
+            let tried = put_ending(notes, recorded.ending);
+            finish(notes, tried, status_of_ending(recorded.ending))
+        }
+        Err(RecordRefusal::WriteFault) => refuse(notes, Status::WriteFault),
+        Err(RecordRefusal::NoMemory) => refuse(notes, Status::NoMemory),
+    }
+}

@@ -1,0 +1,88 @@
+//! What a demonstration counts.
+
+ghost use Rattle.std.specs.Prelude.{◌≡◌, ◌<◌, ◌≤◌, IfOk};
+ghost use Rattle.hip_demo.specs.Demo.{HasShown, demo_input};
+ghost use Rattle.hip_demo.specs.Replays.{HasFound};
+ghost use Rattle.hip_gen.specs.Generated.{generated_program};
+ghost use Rattle.hip_runs.specs.Validity.{IsInput, IsValid};
+
+use crate::generated::load_generated;
+use crate::replayed::{Kept, keep_run, replay_text};
+use hip_commands::first_input;
+use hip_fix::apply;
+use hip_gen::{LARGEST_SIZE, SEED_END};
+use hip_plan::plan;
+use hip_repair_answers::repairs_cure;
+use hip_repairs::{Plan, inputs_stay_valid};
+use hip_replay::Replayed;
+use hip_run_traces::{each_run_has_one_trace, written_traces_are_read_back};
+use hip_runs::Input;
+use hip_types::{LOWEST_BASE, NoMemory, Row};
+use hip_typing::Checked;
+use std::alloc::Global;
+
+/// How many turns a run has that is given no limit.
+pub const DEFAULT_LIMIT: u64 = 1_000_000_000;
+
+/// What is counted where a program was recorded, replayed, repaired and run again.
+#[derive(Drop)]
+pub(crate) struct Shown {
+    /// How many entries the trace has.
+    pub entries: u128,
+    /// How many reports there are of the run.
+    pub reports: usize,
+    pub plan: Plan,
+    pub clones: usize,
+    /// How many entries the trace of the repaired program has.
+    pub rerun: u128,
+    /// How many reports there are of the repaired program's run.
+    pub after: usize,
+}
+
+/// Records the run of a program, and replays the trace.
+fn find(alloc: Global, checked: &Checked, input: &Input) -> Result<Replayed, NoMemory>
+    requires input { IsInput input.now }
+    requires valid { IsValid checked.now input.now }
+    ensures { IfOk result (λ replayed. HasFound checked.now input.now replayed) }
+{
+    each_run_has_one_trace();
+    written_traces_are_read_back();
+    let _program = checked.program();
+    let Kept { recorded: _, text } = keep_run(alloc, checked, input)?;
+    replay_text(alloc, checked, text)
+}
+
+/// Repairs a program for what its run found, and records the run of the repaired program on the same input.
+fn mend(alloc: Global, checked: &Checked, replayed: Replayed) -> Result<Shown, NoMemory>
+    requires found { HasFound checked.now replayed.input replayed }
+    requires valid { IsValid checked.now replayed.input }
+    ensures { IfOk result (λ shown. HasShown checked.now replayed.input shown) }
+{
+    inputs_stay_valid();
+    repairs_cure();
+    let _program = checked.program();
+    let plan = plan(alloc, checked, &replayed.findings)?;
+    let repaired = apply(alloc, checked, &plan)?;
+    let rerun = keep_run(alloc, &repaired.checked, &replayed.input)?;
+    Ok(Shown {
+        entries: replayed.entries,
+        reports: replayed.findings.reports.len(),
+        plan,
+        clones: repaired.clones.len(),
+        rerun: rerun.recorded.entries,
+        after: rerun.recorded.findings.reports.len(),
+    })
+}
+
+/// What is shown of the generated program for a seed and a size.
+pub(crate) fn show_generated(alloc: Global, seed: u64, size: u64) -> Result<Shown, NoMemory>
+    requires seed { seed < SEED_END }
+    requires some { 1 ≤ size }
+    requires small { size ≤ LARGEST_SIZE }
+    ensures { IfOk result (λ shown. HasShown (generated_program seed size) (demo_input seed size) shown) }
+{
+    let checked = load_generated(alloc, seed, size)?;
+    let input = first_input(alloc, &checked, LOWEST_BASE, DEFAULT_LIMIT, Row::new(alloc))?;
+    let replayed = find(alloc, &checked, &input)?;
+    mend(alloc, &checked, replayed)
+}

@@ -1,0 +1,2 @@
+pub mod SparedCounts
+pub mod Thins

@@ -1,0 +1,10 @@
+use Rattle.std.proofs.Common.{◌≡◌, ◌+◌, ◌≤◌, drop, length}
+use Rattle.std.specs.List.{filter}
+use Rattle.hip_thin_commands.specs.Spared.{is_spared_by}
+use Rattle.hip_thin_commands.proofs.spared.count_spared.Given as goal
+
+abbrev pub invariant-each : goal.invariant-each
+invariant-each l = record {
+  few : l.count ≤ l.index;
+  counted : l.count + length (filter (is_spared_by l.cloned.keys l.direct l.flushed) (drop l.index l.quiet)) ≡ length (filter (is_spared_by l.cloned.keys l.direct l.flushed) l.quiet);
+}

@@ -1,0 +1,3 @@
+pub mod Spared
+pub mod Thin
+pub mod Thinning

@@ -1,0 +1,33 @@
+-- The stores of cloned functions that get no flush by cloning since they are low, though they are not direct.
+use Rattle.std.specs.Prelude.{ℕ, Bool, ◌&&◌, not, nat_eq, List, length}
+use Rattle.std.specs.List.{filter, list_any}
+use Rattle.hip_ir.specs.Sites.{has_site, sites_of}
+use Rattle.hip_ir.specs.declared.program.Program.{Program}
+use Rattle.hip_ir.specs.declared.site.Site.{Site}
+use Rattle.hip_repairs.specs.Direct.{direct}
+use Rattle.hip_repairs.specs.Repaired.{cloned}
+use Rattle.hip_repairs.specs.declared.plan.CloneOf.{CloneOf}
+use Rattle.hip_repairs.specs.declared.plan.Plan.{Plan}
+use Rattle.hip_vol.specs.LowStores.{low_stores}
+
+-- A low store of a function that is cloned, neither direct nor one that the plan puts a flush after: the clone that
+-- `repair` makes flushes it, and the one that `thin` makes does not.
+abbrev pub is_spared : Program → Plan → Site → Bool
+is_spared P plan s =
+    low_stores P s
+    && (list_any (nat_eq s.function) (cloned P plan) && not (direct P s) && not (has_site plan.flush_after s))
+
+-- how many there are, each cloned function counted once
+abbrev pub spared_count : Program → Plan → ℕ
+spared_count P plan = length (filter (is_spared P plan) (sites_of P))
+
+-- ---- by lists
+
+-- a clone was made of the function of that number
+abbrev pub has_original : List CloneOf → ℕ → Bool
+has_original clones f = list_any (λ c. nat_eq f c.original) clones
+
+-- the site is of a cloned function, and neither direct nor flushed, by the lists of these
+abbrev pub is_spared_by : List ℕ → List Site → List Site → Site → Bool
+is_spared_by cloned direct flushed s =
+    list_any (nat_eq s.function) cloned && not (has_site direct s) && not (has_site flushed s)

@@ -1,0 +1,35 @@
+//! Laws of the answers.
+
+ghost use Rattle.hip_ir.specs.declared.program.Program.{Program};
+ghost use Rattle.hip_repair_answers.specs.Laws.{AnswersRuns, FaultsHideNone, GivesOne};
+ghost use Rattle.hip_runs.specs.Found.Marks.{IsFound};
+ghost use Rattle.hip_runs.specs.Validity.{IsValid};
+ghost use Rattle.hip_runs.specs.declared.input.Input.{Input};
+ghost use Rattle.hip_runs.specs.declared.report.Findings.{Findings};
+ghost use Rattle.hip_thin_commands.specs.Thin.{HasThinned, IsThinned};
+ghost use Rattle.hip_typing.specs.Sound.{IsSound};
+
+use hip_repair_answers::plans_cure;
+use hip_vol::low_stores_are_quiet;
+
+/// The program that is repaired for what a run found, whose clones do not flush the low stores, does no harm, is clean
+/// on the run's input, has its hoisted calls covered, is sound, and its canonical text reads as it.
+pub fn thins_cure()
+    ensures { (P : Program) → (I : Input) → (found : Findings) → IsSound P → IsValid P I → IsFound P I found →
+        IsThinned P I found }
+{
+    plans_cure();
+    low_stores_are_quiet();
+}
+
+/// Where the files are told, two answers of `thin` on them are the same, unless one of them is a read fault; where the
+/// trace's file is current after a read fault, and is not the program's, its bytes that were taken show no misfit; and
+/// where the one file has a program and the other is the trace of a run of it, there is an answer by which `thin` is
+/// carried out.
+pub fn thins_are_one()
+    ensures one { GivesOne HasThinned }
+    ensures faults { FaultsHideNone HasThinned }
+    ensures runs { AnswersRuns HasThinned }
+{
+    thins_cure();
+}

@@ -1,0 +1,12 @@
+//! The command that repairs a program by clones that do not flush stores which never lie in the region, with its
+//! answers.
+#![tactic(auto)]
+
+mod laws;
+mod spared;
+mod thin;
+mod thinning;
+
+pub use laws::{thins_are_one, thins_cure};
+pub use spared::spared_count;
+pub use thin::thin_file;

@@ -1,0 +1,76 @@
+//! How many stores of cloned functions the clones do not flush, though those of `repair` would.
+
+ghost use Rattle.std.specs.Prelude.{◌≡◌, ℕ, nat_eq, length, IfOk};
+ghost use Rattle.std.specs.List.{filter, list_any};
+ghost use Rattle.hip_ir.specs.Sites.{sites_of};
+ghost use Rattle.hip_repairs.specs.CloneNumbers.{clone_numbers};
+ghost use Rattle.hip_thin_commands.specs.Spared.{has_original, is_spared_by, spared_count};
+ghost use Rattle.hip_vol.specs.LowStores.{low_stores};
+
+use hip_fix::direct_stores;
+use hip_insertions::SiteSet;
+use hip_ir::Site;
+use hip_repairs::{CloneOf, Plan};
+use hip_types::NoMemory;
+use hip_typing::Checked;
+use indexmap::IndexSet;
+use std::alloc::Global;
+
+/// The numbers of the functions that have a clone.
+fn cloned_functions(alloc: Global, clones: &[CloneOf]) -> Result<IndexSet<usize>, NoMemory>
+    ensures { IfOk result (λ functions. (f : ℕ) → list_any (nat_eq f) functions.keys ≡ has_original clones.now f) }
+{
+    let mut functions = IndexSet::new(alloc);
+    'each: for clone in clones {
+        let _is_new = functions.insert(clone.original)?;
+    }
+    Ok(functions)
+}
+
+fn is_spared(
+    cloned: &IndexSet<usize>,
+    direct: &SiteSet<'_>,
+    flushed: &SiteSet<'_>,
+    site: Site,
+) -> bool
+    ensures { result ≡ is_spared_by cloned.now.keys direct.now flushed.now site }
+{
+    cloned.contains(&site.function) && !direct.contains(site) && !flushed.contains(site)
+}
+
+fn count_spared(
+    cloned: &IndexSet<usize>,
+    direct: &SiteSet<'_>,
+    flushed: &SiteSet<'_>,
+    quiet: &[Site],
+) -> usize
+    ensures { result ≡ length (filter (is_spared_by cloned.now.keys direct.now flushed.now) quiet.now) }
+{
+    let mut count = 0;
+    'each: for index in 0..quiet.len() {
+        if is_spared(cloned, direct, flushed, quiet[index]) {
+            count += 1;
+        }
+    }
+    count
+}
+
+/// How many low stores of the functions with clones are neither direct nor flushed by the plan, by the list of the low
+/// stores and that of the clones. It takes time and memory linear in the program and the lists.
+pub fn spared_count(
+    alloc: Global,
+    checked: &Checked,
+    plan: &Plan,
+    quiet: &[Site],
+    clones: &[CloneOf],
+) -> Result<usize, NoMemory>
+    requires quiet { quiet.now ≡ filter (low_stores checked.now) (sites_of checked.now) }
+    requires clones { clones.now ≡ clone_numbers checked.now plan.now }
+    ensures { IfOk result (λ count. count ≡ spared_count checked.now plan.now) }
+{
+    let cloned = cloned_functions(alloc, clones)?;
+    let stores = direct_stores(alloc, checked.program())?;
+    let direct = SiteSet::new(alloc, stores.as_slice())?;
+    let flushed = SiteSet::new(alloc, plan.flush_after.as_slice())?;
+    Ok(count_spared(&cloned, &direct, &flushed, quiet))
+}

@@ -1,0 +1,103 @@
+//! `thin`: the repaired program, for the trace of one of its runs, whose clones do not flush the low stores.
+
+ghost use Rattle.std.specs.Prelude.{false};
+ghost use Rattle.hip_answers.specs.Answers.{HasAnswered, sinks};
+ghost use Rattle.hip_io.specs.Sinks.{Writes};
+ghost use Rattle.hip_runs.specs.Found.Marks.{IsFound};
+ghost use Rattle.hip_runs.specs.Validity.{IsValid};
+ghost use Rattle.hip_thin_commands.specs.Thin.{HasThinned, ThinAnswers, thin_counts};
+ghost use Rattle.hip_thin_commands.specs.Thinning.{IsThinnedFor};
+ghost use Rattle.hip_trace_loading.specs.Runs.{AnswersOnRun};
+
+use crate::laws::thins_cure;
+use crate::thinning::{Thinned, thin_for};
+use hip_answers::{Status, finish, refuse};
+use hip_io::{Cabinet, Put, Sink};
+use hip_repairs::Plan;
+use hip_report_lines::{put_count, put_repair_counts};
+use hip_trace_loading::{Replayed, load_run};
+use hip_types::NoMemory;
+use hip_typing::Checked;
+use hip_write::write;
+use std::alloc::Global;
+
+/// What `thin` writes to the notes.
+fn put_thin_counts<N: Sink>(
+    notes: &mut N,
+    reports: usize,
+    plan: &Plan,
+    clones: usize,
+    spared: usize,
+) -> Put
+    ensures { Writes Put.Done result (N.state notes.old) (N.state notes.new)
+        (thin_counts reports plan.now clones spared) }
+{
+    let put = put_repair_counts(notes, reports, plan, clones);
+    put_count(put, notes, b"spared", spared)
+}
+
+/// Writes the repaired program; then the counts go to notes.
+fn put_thinned<S: Sink, N: Sink>(
+    checked: &Checked,
+    replayed: &Replayed,
+    thinned: &Thinned,
+    out: &mut S,
+    notes: &mut N,
+) -> Status
+    requires valid { IsValid checked.now replayed.now.input }
+    requires found { IsFound checked.now replayed.now.input replayed.now.findings }
+    requires thinned { IsThinnedFor checked.now replayed.now.findings thinned.now }
+    ensures { AnswersOnRun (HasThinned checked.now replayed.now.input replayed.now.findings) false
+        (sinks (S.state out.old) (S.state out.new) (N.state notes.old) (N.state notes.new)) result }
+{
+    thins_cure();
+    let _program = checked.program();
+    match write(thinned.repaired.checked.program(), out) {
+        Ok(()) => {
+            let reports = replayed.findings.reports.len();
+            let clones = thinned.repaired.clones.len();
+            let tried = put_thin_counts(notes, reports, &thinned.plan, clones, thinned.spared);
+            finish(notes, tried, Status::Done)
+        }
+        Err(_) => refuse(notes, Status::WriteFault),
+    }
+}
+
+/// Repairs a program for what one of its runs found, and writes it.
+fn thin_findings<S: Sink, N: Sink>(
+    alloc: Global,
+    checked: &Checked,
+    replayed: &Replayed,
+    out: &mut S,
+    notes: &mut N,
+) -> Status
+    requires valid { IsValid checked.now replayed.now.input }
+    requires found { IsFound checked.now replayed.now.input replayed.now.findings }
+    ensures { AnswersOnRun (HasThinned checked.now replayed.now.input replayed.now.findings) false
+        (sinks (S.state out.old) (S.state out.new) (N.state notes.old) (N.state notes.new)) result }
+{
+    match thin_for(alloc, checked, &replayed.findings) {
+        Ok(thinned) => put_thinned(checked, replayed, &thinned, out, notes),
+        Err(NoMemory) => refuse(notes, Status::NoMemory),
+    }
+}
+
+/// Repairs the program of a file for the run whose trace another has, by clones that do not flush the low stores. All
+/// memory that it needs is taken before the first byte is written.
+pub fn thin_file<C: Cabinet, S: Sink, N: Sink>(
+    alloc: Global,
+    program: &str,
+    trace: &str,
+    cabinet: &mut C,
+    out: &mut S,
+    notes: &mut N,
+) -> Status
+    ensures { HasAnswered (ThinAnswers (C.state cabinet.old) (C.state cabinet.new) program.now trace.now) false
+        (C.state cabinet.old) (C.state cabinet.new)
+        (sinks (S.state out.old) (S.state out.new) (N.state notes.old) (N.state notes.new)) result }
+{
+    match load_run(alloc, program, trace, cabinet, notes) {
+        Ok(loaded) => thin_findings(alloc, &loaded.checked, &loaded.replayed, out, notes),
+        Err(status) => status,
+    }
+}

@@ -1,0 +1,48 @@
+//! The repair for what a run found, whose clones do not flush the low stores.
+
+ghost use Rattle.std.specs.Prelude.{IfOk};
+ghost use Rattle.hip_thin_commands.specs.Thinning.{IsThinnedFor};
+
+use crate::spared::spared_count;
+use hip_fix::apply_skipping;
+use hip_plan::plan;
+use hip_repairs::{Plan, Repaired};
+use hip_runs::Findings;
+use hip_types::NoMemory;
+use hip_typing::Checked;
+use hip_vol::quiet_stores;
+use std::alloc::Global;
+
+/// A plan, the program that is repaired by it, and how many stores its clones do not flush though they are not direct.
+#[derive(Drop)]
+pub(crate) struct Thinned {
+    pub(crate) plan: Plan,
+    pub(crate) repaired: Repaired,
+    pub(crate) spared: usize,
+}
+
+/// The plan for what a run found, the program repaired by it whose clones do not flush the low stores, and how many
+/// stores are spared.
+pub(crate) fn thin_for(
+    alloc: Global,
+    checked: &Checked,
+    findings: &Findings,
+) -> Result<Thinned, NoMemory>
+    ensures { IfOk result (λ thinned. IsThinnedFor checked.now findings.now thinned) }
+{
+    let plan = plan(alloc, checked, findings)?;
+    let quiet = quiet_stores(alloc, checked)?;
+    let repaired = apply_skipping(alloc, checked, &plan, quiet.as_slice())?;
+    let spared = spared_count(
+        alloc,
+        checked,
+        &plan,
+        quiet.as_slice(),
+        repaired.clones.as_slice(),
+    )?;
+    Ok(Thinned {
+        plan,
+        repaired,
+        spared,
+    })
+}

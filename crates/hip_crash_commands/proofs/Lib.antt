@@ -1,0 +1,6 @@
+pub mod Advances
+pub mod Answered
+pub mod Crashes
+pub mod Faults
+pub mod OneCrash
+pub mod Recorded

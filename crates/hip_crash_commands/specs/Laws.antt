@@ -1,0 +1,32 @@
+-- What the definition of the answers of `crash` implies.
+use Rattle.std.specs.Prelude.{ℕ, ◌≡◌, ◌≢◌, false, List, Some}
+use Rattle.hip_answers.specs.Answers.{Answer}
+use Rattle.hip_answers.specs.declared.status.Status.TheVariants.{ReadFault}
+use Rattle.hip_crash_commands.specs.Crash.{CrashAnswers, CrashTexts}
+use Rattle.hip_io.specs.Cabinets.{CabinetState}
+use Rattle.hip_io.specs.declared.cabinet.NamedFile.{NamedFile}
+use Rattle.hip_ir.specs.declared.program.Program.{Program}
+use Rattle.hip_loading.specs.Loading.{IsProgramOf}
+use Rattle.hip_loading.specs.Outside.{HasMet}
+use Rattle.hip_picks.specs.declared.pick.Pick.{Pick}
+use Rattle.hip_repair_answers.specs.Laws.{FaultsHideNone, GivesOne}
+use Rattle.hip_repair_answers.specs.TraceFiles.{IsTraceFile}
+use Rattle.hip_runs.specs.declared.input.Input.{Input}
+
+-- where the files are told, two answers on them are the same, unless one of them is a read fault
+abbrev pub CrashesAreOne : Type 0
+CrashesAreOne = (entry : ℕ) → (picks : List Pick) → GivesOne (CrashTexts entry picks)
+
+-- where the trace's file is current after a read fault, and is not the program's, its bytes that were taken show no
+-- misfit
+abbrev pub CrashFaultsHideNone : Type 0
+CrashFaultsHideNone = (entry : ℕ) → (picks : List Pick) → FaultsHideNone (CrashTexts entry picks)
+
+-- where the one file has a program and the other is the trace of a run of it, and nothing is missing and nothing fails,
+-- there is an answer, which is no read fault
+abbrev pub CrashesAreAnswered : Type 0
+CrashesAreAnswered =
+    (files : List NamedFile) → (old new : CabinetState) → (p t : List ℕ) → (P : Program) → (I : Input)
+    → (entry : ℕ) → (picks : List Pick) → old.files ≡ Some files → IsProgramOf (Some files) p P
+    → IsTraceFile files t P I → HasMet false false old new
+    → (a : Answer) × (a.status ≢ ReadFault) × CrashAnswers old new p t entry picks a

@@ -1,0 +1,5 @@
+pub mod Advancing
+pub mod Crash
+pub mod Images
+pub mod Laws
+pub mod Traces

@@ -1,0 +1,76 @@
+ghost use Rattle.std.specs.Prelude.{true};
+ghost use Rattle.hip_answers.specs.Answers.{HasAnswered, sinks};
+ghost use Rattle.hip_crash_commands.specs.Crash.{CrashAnswers, CrashTexts};
+ghost use Rattle.hip_crash_commands.specs.Images.{HasEntries};
+ghost use Rattle.hip_runs.specs.Validity.{IsValid};
+ghost use Rattle.hip_runs.specs.declared.report.Findings.{Findings};
+ghost use Rattle.hip_trace_loading.specs.Runs.{AnswersOnRun};
+
+use crate::picking::image_at;
+use crate::recording::put_trace;
+use crate::refusal::status_of_image;
+use hip_answers::{Status, refuse};
+use hip_io::{Cabinet, Sink};
+use hip_picks::Pick;
+use hip_step::Input;
+use hip_trace_loading::load_run;
+use hip_typing::Checked;
+use std::alloc::Global;
+
+/// Picks a crash image of the run whose trace a file has, at an entry of that trace, and writes the trace of the run that
+/// begins with it as it runs; then how that run has ended goes to notes.
+pub fn crash_file<C: Cabinet, S: Sink, N: Sink>(
+    alloc: Global,
+    program: &str,
+    trace: &str,
+    entry: u64,
+    picks: &[Pick],
+    cabinet: &mut C,
+    out: &mut S,
+    notes: &mut N,
+) -> Status
+    ensures { HasAnswered
+        (CrashAnswers (C.state cabinet.old) (C.state cabinet.new) program.now trace.now entry picks.now) true
+        (C.state cabinet.old) (C.state cabinet.new)
+        (sinks (S.state out.old) (S.state out.new) (N.state notes.old) (N.state notes.new)) result }
+{
+    let loaded = match load_run(alloc, program, trace, cabinet, notes) {
+        Ok(loaded) => loaded,
+        Err(status) => return status,
+    };
+    let replayed = loaded.replayed;
+    crash_run(
+        alloc,
+        &loaded.checked,
+        replayed.input,
+        replayed.entries,
+        entry,
+        picks,
+        out,
+        notes,
+    )
+}
+
+// Picks an image of a run, whose trace has so many entries, and writes the trace of the run that begins with it.
+fn crash_run<S: Sink, N: Sink>(
+    alloc: Global,
+    checked: &Checked,
+    input: Input,
+    entries: u128,
+    entry: u64,
+    picks: &[Pick],
+    out: &mut S,
+    notes: &mut N,
+) -> Status
+    requires valid { IsValid checked.now input }
+    requires counted { HasEntries checked.now input entries }
+    ensures { (found : Findings) → AnswersOnRun (CrashTexts entry picks.now checked.now input found) true
+        (sinks (S.state out.old) (S.state out.new) (N.state notes.old) (N.state notes.new)) result }
+{
+    let image = match image_at(alloc, checked, &input, entries, entry, picks) {
+        Ok(image) => image,
+        Err(failure) => return refuse(notes, status_of_image(failure)),
+    };
+    let begun = Input { image, ..input };
+    put_trace(alloc, checked, &begun, out, notes)
+}

@@ -1,0 +1,23 @@
+//! Laws of the answers.
+
+ghost use Rattle.hip_crash_commands.specs.Laws.{CrashFaultsHideNone, CrashesAreAnswered, CrashesAreOne};
+
+use hip_crash::fitting_picks_give_images;
+
+/// Where the files are told, `crash` has one answer on them, but for read faults.
+pub fn crashes_are_one()
+    ensures { CrashesAreOne }
+{}
+
+/// Where the trace's file is current after a read fault, and is not the program's, its bytes that were taken show no
+/// misfit.
+pub fn crash_faults_hide_no_misfit()
+    ensures { CrashFaultsHideNone }
+{}
+
+/// Where the one file has a program and the other is the trace of a run of it, `crash` has an answer.
+pub fn crashes_are_answered()
+    ensures { CrashesAreAnswered }
+{
+    fitting_picks_give_images();
+}

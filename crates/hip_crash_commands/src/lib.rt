@@ -1,0 +1,13 @@
+//! `crash`: crash images that are picked, and the runs that begin with them.
+#![tactic(auto)]
+
+mod advancing;
+mod command;
+mod laws;
+mod picking;
+mod recording;
+mod refusal;
+
+pub use command::crash_file;
+pub use laws::{crash_faults_hide_no_misfit, crashes_are_answered, crashes_are_one};
+pub use refusal::ImageRefusal;

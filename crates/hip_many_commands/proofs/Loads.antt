@@ -1,0 +1,141 @@
+-- Traces that are loaded one after the other.
+use Rattle.std.proofs.Common.{◌≡◌, ◌⊎◌, ◌<◌, ◌+◌, ℕ, suc, false, List, [], ◌∷◌, ◌++◌, length, take, drop, get_or, Option, Err, refl, sym, ap, ◌∙◌, subst, arith}
+use Rattle.std.proofs.Math.Seq.{drop-cons, take-length}
+use Rattle.std.proofs.lemmas.List.{length-take-le, map-append, take-append-drop, take_more}
+use Rattle.std.proofs.lemmas.List.Elements.{All-append, All-cons, All-nil}
+use Rattle.std.specs.Prelude.{IfSome}
+use Rattle.hip_io.specs.Cabinets.{CabinetState}
+use Rattle.hip_io.specs.declared.cabinet.NamedFile.{NamedFile}
+use Rattle.hip_ir.specs.declared.program.Program.{Program}
+use Rattle.hip_loading.specs.Laws.{met_then}
+use Rattle.hip_loading.specs.Outside.{HasMet}
+use Rattle.hip_loading.specs.declared.failure.Failure.{Failure}
+use Rattle.hip_loading.specs.declared.failure.Failure.TheVariants as failures
+use Rattle.hip_many_commands.specs.Asking.{Asks, AsksAll, HasAsked, HasAskedAll, numbered}
+use Rattle.hip_many_commands.specs.Runs.{AreRunsOf, ComesBehindRuns, IsRunOf, TracedRun, plans_of, reports_of}
+use Rattle.hip_many_commands.specs.declared.loading.AllAsked.{AllAsked}
+use Rattle.hip_many_commands.specs.declared.loading.Asked.{Asked}
+use Rattle.hip_repair_answers.specs.TraceFiles.{HasNoTrace, ShowsNoMisfit}
+use Rattle.hip_repair_answers.specs.declared.refusal.TraceRefusal.{TraceRefusal}
+use Rattle.hip_repairs.specs.Choice.{plan_for}
+use Rattle.hip_repairs.specs.declared.plan.Plan.{Plan}
+
+-- The first traces, so many of them, are those of runs, and this is what the runs ask for.
+pub record HasAskedSome (P : Program) (names : List (List ℕ)) (start : CabinetState) (count : ℕ) (plans : List Plan)
+    (reports : ℕ) (now : CabinetState) : Type 0 where
+  pub runs : List TracedRun
+  pub are : AreRunsOf start.files P (take count names) runs
+  pub met : HasMet false false start now
+  pub plans_are : plans ≡ plans_of P runs
+  pub reports_are : reports ≡ reports_of runs
+
+-- ---- one run more
+
+reports_more : (rs : List TracedRun) (r : TracedRun) → reports_of (rs ++ r ∷ []) ≡ reports_of rs + length r.found.reports
+reports_more [] r = omega arith
+reports_more (x ∷ rs) r = omega (arith, reports_more rs r)
+
+of_files : {P : Program} {r : TracedRun} (files other : Option (List NamedFile)) → files ≡ other → IsRunOf files P r
+    → IsRunOf other P r
+of_files {P} {r} files other same is = subst (λ (fs : Option (List NamedFile)). IsRunOf fs P r) same is
+
+runs_more : (files : Option (List NamedFile)) (P : Program) (names : List (List ℕ)) (runs : List TracedRun)
+    (r : TracedRun) → AreRunsOf files P names runs → IsRunOf files P r
+    → AreRunsOf files P (names ++ r.name ∷ []) (runs ++ r ∷ [])
+runs_more files P names runs r are is = record {
+  named =
+      map-append (λ (x : TracedRun). x.name) runs (r ∷ [])
+      ∙ ap (λ (ns : List (List ℕ)). ns ++ r.name ∷ []) are.named;
+  each =
+      All-append (IsRunOf files P) runs (r ∷ []) are.each
+      (All-cons (IsRunOf files P) r [] is (All-nil (IsRunOf files P)));
+}
+
+module _ {P : Program} {names : List (List ℕ)} {start mid : CabinetState} {count : ℕ} {plans : List Plan} {reports : ℕ}
+    (some : HasAskedSome P names start count plans reports mid) (name : List ℕ) (within : count < length names)
+    (is : name ≡ get_or names count name) where
+  -- the first names and this one
+  front : take (count + 1) names ≡ take count names ++ name ∷ []
+  front =
+      subst (λ (n : List ℕ). take (count + 1) names ≡ take count names ++ n ∷ []) (sym is)
+      (take_more names count name within)
+
+  pub asked_more : (new : CabinetState) (asked : Asked) → HasAsked P name mid new asked
+      → HasAskedSome P names start (count + 1) (plans ++ asked.plan ∷ []) (reports + asked.reports) new
+  asked_more new asked h = record {
+    runs = some.runs ++ h.run ∷ [];
+    are =
+        subst (λ (ns : List (List ℕ)). AreRunsOf start.files P ns (some.runs ++ h.run ∷ []))
+        (ap (λ (n : List ℕ). take count names ++ n ∷ []) h.named ∙ sym front)
+        (runs_more start.files P (take count names) some.runs h.run some.are
+        (of_files mid.files start.files some.met.files h.is));
+    met = met_then some.met h.met;
+    plans_are =
+        ap (λ (ps : List Plan). ps ++ asked.plan ∷ []) some.plans_are
+        ∙ ap (λ (p : Plan). plans_of P some.runs ++ p ∷ []) h.plan_is
+        ∙ sym (map-append (λ (r : TracedRun). plan_for P r.found) some.runs (h.run ∷ []));
+    reports_are =
+        let more = reports_more some.runs h.run in
+        let first = some.reports_are in
+        let one = h.reports_are in
+        omega (arith, more, first, one);
+  }
+
+  -- it comes behind the runs
+  pub behind_runs : (number : ℕ) → number ≡ count + 1 → ComesBehindRuns start.files P names number name
+  behind_runs number same = record {
+    before = take count names;
+    behind = drop (suc count) names;
+    names_are =
+        sym (take-append-drop count names)
+        ∙ ap (λ (ns : List (List ℕ)). take count names ++ ns)
+        (drop-cons names count name within ∙ ap (λ (n : List ℕ). n ∷ drop (suc count) names) (sym is));
+    number_is = (let long = length-take-le count names (omega (arith, within)) in omega (arith, same, long));
+    runs = some.runs;
+    are = some.are;
+  }
+
+  pub lacked : (new : CabinetState) (number : ℕ) (failure : Failure TraceRefusal) → number ≡ count + 1
+      → Asks P name mid new (Err failure) → AsksAll P names start new (Err (numbered number failure))
+  lacked new number (failures.Refused why) same h = record {
+    name = name;
+    behind = behind_runs number same;
+    met = met_then some.met h.0;
+    cause = subst (λ (fs : Option (List NamedFile)). HasNoTrace fs name P why) some.met.files h.1;
+  }
+  lacked new number failures.ReadFault same h = record {
+    number = number;
+    name = name;
+    behind = behind_runs number same;
+    failed = record {
+      met = met_then some.met h.met;
+      current = h.current;
+      taken =
+          subst (λ (fs : Option (List NamedFile)). (new.is_current ≡ false)
+          ⊎ IfSome fs (λ told. ShowsNoMisfit told name P new.rest)) some.met.files h.taken;
+    };
+  }
+  lacked new number failures.NoMemory same h = met_then some.met h
+
+-- before the first
+pub asked_none : (P : Program) (names : List (List ℕ)) (start : CabinetState) → HasAskedSome P names start 0 [] 0 start
+asked_none P names start = record {
+  runs = [];
+  are = record { named = refl; each = All-nil (IsRunOf start.files P) };
+  met = record { files = refl; misses = refl; faults = refl };
+  plans_are = refl;
+  reports_are = refl;
+}
+
+-- behind the last
+pub asked_all : (P : Program) (names : List (List ℕ)) (start now : CabinetState) (count : ℕ) (asked : AllAsked)
+    → count ≡ length names → HasAskedSome P names start count asked.plans asked.reports now
+    → HasAskedAll P names start now asked
+asked_all P names start now count asked over some = record {
+  runs = some.runs;
+  are =
+      subst (λ (ns : List (List ℕ)). AreRunsOf start.files P ns some.runs)
+      (ap (λ n. take n names) over ∙ take-length names) some.are;
+  met = some.met;
+  asked_are = record { plans_are = some.plans_are; reports_are = some.reports_are };
+}

@@ -1,0 +1,288 @@
+-- The files give one answer of `many`.
+use Rattle.std.proofs.Common.{◌≡◌, ◌⊎◌, ◌++◌, ℕ, suc, true, List, [], ◌∷◌, length, map, Option, Some, None, inl, inr, refl, sym, ap, ◌∙◌, subst}
+use Rattle.std.proofs.lemmas.List.Elements.{All-cons, All-head, All-nil, All-tail}
+use Rattle.std.specs.List.{All}
+use Rattle.hip_answers.specs.Answers.{Answer, refusal}
+use Rattle.hip_answers.specs.Same.{IsSameAnswer}
+use Rattle.hip_answers.specs.SameLaws.{same_answer, same_refusal}
+use Rattle.hip_answers.specs.Statuses as programs
+use Rattle.hip_answers.specs.declared.status.Status.TheVariants as statuses
+use Rattle.hip_io.specs.Cabinets.{CabinetState, file_of}
+use Rattle.hip_io.specs.declared.cabinet.NamedFile.{NamedFile}
+use Rattle.hip_ir.specs.Show.{show}
+use Rattle.hip_ir.specs.declared.program.Program.{Program}
+use Rattle.hip_loading.proofs.OneAnswer.{loads_one}
+use Rattle.hip_loading.specs.Laws.{LoadsOne}
+use Rattle.hip_loading.specs.Loading.{HasNoProgram, IsProgramOf}
+use Rattle.hip_loading.specs.declared.refusal.LoadRefusal.{LoadRefusal}
+use Rattle.hip_many.specs.Reasons.{reasons}
+use Rattle.hip_many.specs.Union.{IsUnion}
+use Rattle.hip_many_commands.specs.Laws.{ManyAreOne}
+use Rattle.hip_many_commands.specs.Many.{HasRepairedMany, ManyAnswers, repaired_by, status_in}
+use Rattle.hip_many_commands.specs.Notes.{many_notes}
+use Rattle.hip_many_commands.specs.Runs.{AreRunsOf, ComesBehindRuns, IsRunOf, TracedRun, plans_of, reports_of}
+use Rattle.hip_repair_answers.specs.TraceFiles.{HasNoTrace, IsTraceFile}
+use Rattle.hip_repair_answers.specs.declared.refusal.TraceRefusal.{TraceRefusal}
+use Rattle.hip_repair_answers.specs.declared.refusal.TraceRefusal.TheVariants as traces
+use Rattle.hip_repairs.specs.CloneNumbers.{clone_numbers}
+use Rattle.hip_repairs.specs.declared.plan.Plan.{Plan}
+use Rattle.hip_run_traces.specs.Headers.{Gives}
+use Rattle.hip_run_traces.specs.Laws.MisfitLaws.{no-misfit, one-misfit}
+use Rattle.hip_run_traces.specs.Misfits.{IsMisfit, IsTraceOf}
+use Rattle.hip_run_traces.specs.declared.misfit.MisfitKind.{MisfitKind}
+use Rattle.hip_runs.specs.Found.Marks.{IsFound}
+use Rattle.hip_runs.specs.Laws.Found.FoundLaws.{found_is_one}
+use Rattle.hip_runs.specs.declared.input.Input.{Input}
+
+-- ---- what is in a file
+
+same_bytes : (o : Option (List ℕ)) (a b : List ℕ) → o ≡ Some a → o ≡ Some b → a ≡ b
+same_bytes o a b p q = let k : Some a ≡ Some b = sym p ∙ q in cc
+
+not_there : (o : Option (List ℕ)) (a : List ℕ) → o ≡ Some a → o ≡ None → ⊥
+not_there o a p q = let k : Some a ≡ None = sym p ∙ q in cc
+
+heads : {A : Type 0} (x y : A) (xs ys : List A) → x ∷ xs ≡ y ∷ ys → x ≡ y
+heads x y xs ys e = cc
+
+tails : {A : Type 0} (x y : A) (xs ys : List A) → x ∷ xs ≡ y ∷ ys → xs ≡ ys
+tails x y xs ys e = cc
+
+-- ---- each file is the trace of one run, or of none for one reason
+
+module _ (files : List NamedFile) (P : Program) where
+  untraced_once : (t : List ℕ) (why other : TraceRefusal) → HasNoTrace (Some files) t P why
+      → HasNoTrace (Some files) t P other → why ≡ other
+  untraced_once t traces.Missing traces.Missing h k = refl
+  untraced_once t traces.Missing (traces.Misfit e k) h m = absurd (not_there (file_of files t) m.bytes m.found h)
+  untraced_once t (traces.Misfit e k) traces.Missing m h = absurd (not_there (file_of files t) m.bytes m.found h)
+  untraced_once t (traces.Misfit e k) (traces.Misfit e' k') m n =
+      let bytes = same_bytes (file_of files t) n.bytes m.bytes n.found m.found in
+      let same =
+      one-misfit P m.bytes true e e' k k' m.misfit (subst (λ bs. IsMisfit P bs true e' k') bytes n.misfit) in
+      made same.0 same.1
+    where
+      made : {x y : ℕ} {u v : MisfitKind} → x ≡ y → u ≡ v → traces.Misfit x u ≡ traces.Misfit y v
+      made a b = cc
+
+  never_both : (t : List ℕ) (why : TraceRefusal) (I : Input) → HasNoTrace (Some files) t P why
+      → IsTraceFile files t P I → ⊥
+  never_both t traces.Missing I h d = not_there (file_of files t) d.bytes d.found h
+  never_both t (traces.Misfit e k) I m d =
+      let bytes = same_bytes (file_of files t) m.bytes d.bytes m.found d.found in
+      no-misfit P d.bytes I e k d.trace (subst (λ bs. IsMisfit P bs true e k) bytes m.misfit)
+
+  same_input : (bytes : List ℕ) (I J : Input) → IsTraceOf P bytes I → IsTraceOf P bytes J → I ≡ J
+  same_input bytes I J t u = let k : Gives t.entries I ≡ Gives u.entries J = sym t.header_is ∙ u.header_is in cc
+
+  same_trace : (t : List ℕ) (I J : Input) → IsTraceFile files t P I → IsTraceFile files t P J → I ≡ J
+  same_trace t I J d e =
+      let bytes = same_bytes (file_of files t) e.bytes d.bytes e.found d.found in
+      same_input d.bytes I J d.trace (subst (λ bs. IsTraceOf P bs J) bytes e.trace)
+
+  one_run : (r q : TracedRun) → r.name ≡ q.name → IsRunOf (Some files) P r → IsRunOf (Some files) P q → r ≡ q
+  one_run r q named x y =
+      let input = same_trace q.name r.input q.input
+      (subst (λ (n : List ℕ). IsTraceFile files n P r.input) named x.traced) y.traced in
+      let found = found_is_one P q.input r.found q.found
+      (subst (λ (I : Input). IsFound P I r.found) input x.found_is) y.found_is in
+      λ i. record { name = named i; input = input i; found = found i }
+
+  one_list : (rs qs : List TracedRun) → map (λ (r : TracedRun). r.name) rs ≡ map (λ (r : TracedRun). r.name) qs
+      → All (IsRunOf (Some files) P) rs → All (IsRunOf (Some files) P) qs → rs ≡ qs
+  one_list [] [] e h k = refl
+  one_list [] (q ∷ qs) e h k = absurd (let z : ⊥ = cc in z)
+  one_list (r ∷ rs) [] e h k = absurd (let z : ⊥ = cc in z)
+  one_list (r ∷ rs) (q ∷ qs) e h k =
+      let is = IsRunOf (Some files) P in
+      let first = one_run r q (heads r.name q.name _ _ e) (All-head is r rs h) (All-head is q qs k) in
+      let rest = one_list rs qs (tails r.name q.name _ _ e) (All-tail is r rs h) (All-tail is q qs k) in
+      λ i. first i ∷ rest i
+
+  one_runs : (names : List (List ℕ)) (rs qs : List TracedRun) → AreRunsOf (Some files) P names rs
+      → AreRunsOf (Some files) P names qs → rs ≡ qs
+  one_runs names rs qs x y = one_list rs qs (x.named ∙ sym y.named) x.each y.each
+
+  -- ---- the first that is none
+
+  pub record IsTraced (name : List ℕ) : Type 0 where
+    input : Input
+    is : IsTraceFile files name P input
+
+  traced_list : (rs : List TracedRun) → All (IsRunOf (Some files) P) rs
+      → All IsTraced (map (λ (r : TracedRun). r.name) rs)
+  traced_list [] h = All-nil IsTraced
+  traced_list (r ∷ rs) h =
+      let run = All-head (IsRunOf (Some files) P) r rs h in
+      All-cons IsTraced r.name _ (record { input = r.input; is = run.traced })
+      (traced_list rs (All-tail (IsRunOf (Some files) P) r rs h))
+
+  all_traced : (names : List (List ℕ)) (rs : List TracedRun) → AreRunsOf (Some files) P names rs → All IsTraced names
+  all_traced names rs are = subst (λ (ns : List (List ℕ)). All IsTraced ns) are.named (traced_list rs are.each)
+
+  apart : (name : List ℕ) (why : TraceRefusal) → HasNoTrace (Some files) name P why → IsTraced name → ⊥
+  apart name why h t = never_both name why t.input h t.is
+
+  among : (before behind : List (List ℕ)) (name : List ℕ) (why : TraceRefusal) → HasNoTrace (Some files) name P why
+      → All IsTraced (before ++ name ∷ behind) → ⊥
+  among [] behind name why h all = apart name why h (All-head IsTraced name behind all)
+  among (x ∷ xs) behind name why h all = among xs behind name why h (All-tail IsTraced x (xs ++ name ∷ behind) all)
+
+  pub record SamePlace (before before' : List (List ℕ)) (name name' : List ℕ) : Type 0 where
+    pub fronts : before ≡ before'
+    pub names : name ≡ name'
+
+  one_place : (before before' behind behind' : List (List ℕ)) (name name' : List ℕ) (why why' : TraceRefusal)
+      → HasNoTrace (Some files) name P why → HasNoTrace (Some files) name' P why' → All IsTraced before
+      → All IsTraced before' → before ++ name ∷ behind ≡ before' ++ name' ∷ behind'
+      → SamePlace before before' name name'
+  one_place [] [] behind behind' name name' why why' h k t u e =
+      record { fronts = refl; names = heads name name' behind behind' e }
+  one_place [] (x ∷ xs) behind behind' name name' why why' h k t u e =
+      absurd (apart x why (subst (λ n. HasNoTrace (Some files) n P why) (heads name x behind (xs ++ name' ∷ behind') e) h)
+      (All-head IsTraced x xs u))
+  one_place (x ∷ xs) [] behind behind' name name' why why' h k t u e =
+      absurd (apart x why' (subst (λ n. HasNoTrace (Some files) n P why') (sym (heads x name' (xs ++ name ∷ behind) behind' e)) k)
+      (All-head IsTraced x xs t))
+  one_place (x ∷ xs) (y ∷ ys) behind behind' name name' why why' h k t u e =
+      let first = heads x y (xs ++ name ∷ behind) (ys ++ name' ∷ behind') e in
+      let later =
+      one_place xs ys behind behind' name name' why why' h k (All-tail IsTraced x xs t) (All-tail IsTraced y ys u)
+      (tails x y (xs ++ name ∷ behind) (ys ++ name' ∷ behind') e) in
+      record { fronts = (λ i. first i ∷ later.fronts i); names = later.names }
+
+-- ---- the answers on files that are told
+
+pub record Unloaded (files : List NamedFile) (p : List ℕ) (a : Answer) : Type 0 where
+  why : LoadRefusal
+  cause : HasNoProgram (Some files) p why
+  is : a ≡ refusal (programs.status_of_refusal why)
+
+pub record Untraced (files : List NamedFile) (p : List ℕ) (names : List (List ℕ)) (a : Answer) : Type 0 where
+  program : Program
+  loaded : IsProgramOf (Some files) p program
+  number : ℕ
+  name : List ℕ
+  behind : ComesBehindRuns (Some files) program names number name
+  why : TraceRefusal
+  cause : HasNoTrace (Some files) name program why
+  is : a ≡ refusal (status_in number why)
+
+pub record Carried (files : List NamedFile) (p : List ℕ) (names : List (List ℕ)) (a : Answer) : Type 0 where
+  program : Program
+  loaded : IsProgramOf (Some files) p program
+  runs : List TracedRun
+  are : AreRunsOf (Some files) program names runs
+  texts : HasRepairedMany program runs a
+
+pub data View (files : List NamedFile) (p : List ℕ) (names : List (List ℕ)) (a : Answer) : Type 0 where
+  Faulted : a.status ≡ statuses.ReadFault → View files p names a
+  IsUnloaded : Unloaded files p a → View files p names a
+  IsUntraced : Untraced files p names a → View files p names a
+  IsCarried : Carried files p names a → View files p names a
+
+-- the union of plans is one
+abbrev UnionsAreOne : Type 0
+UnionsAreOne = (plans : List Plan) (a b : Plan) → IsUnion plans a → IsUnion plans b → a ≡ b
+
+answer_is : {a : Answer} (b : Answer) → a.status ≡ b.status → a.out ≡ b.out → a.notes ≡ b.notes → a ≡ b
+answer_is b e f g = λ i. record { status = e i; out = f i; notes = g i }
+
+alike : UnionsAreOne → (P : Program) (runs : List TracedRun) (a b : Answer) → HasRepairedMany P runs a
+    → HasRepairedMany P runs b → a ≡ b
+alike unions P runs a b x y =
+    let plan = unions (plans_of P runs) x.plan y.plan x.union y.union in
+    answer_is b (x.status_is ∙ sym y.status_is)
+    (x.out_is ∙ ap (λ (q : Plan). show (repaired_by P q)) plan ∙ sym y.out_is)
+    (x.notes_is
+    ∙ ap (λ (q : Plan). many_notes P (length runs) (reports_of runs) q (length (clone_numbers P q))
+    (reasons (plans_of P runs) q)) plan
+    ∙ sym y.notes_is)
+
+module _ (unions : UnionsAreOne) (files : List NamedFile) (p : List ℕ) (names : List (List ℕ)) where
+  view : (old new : CabinetState) (a : Answer) → old.files ≡ Some files → ManyAnswers old new p names a
+      → View files p names a
+  view old new a told (inl u) = IsUnloaded (record {
+    why = u.why;
+    cause = subst (λ fs. HasNoProgram fs p u.why) told u.cause;
+    is = u.is;
+  })
+  view old new a told (inr (inl u)) = Faulted (ap (λ (x : Answer). x.status) u.is)
+  view old new a told (inr (inr (inl u))) = IsUntraced (record {
+    program = u.program;
+    loaded = subst (λ fs. IsProgramOf fs p u.program) told u.loaded;
+    number = u.number;
+    name = u.name;
+    behind = subst (λ fs. ComesBehindRuns fs u.program names u.number u.name) told u.behind;
+    why = u.why;
+    cause = subst (λ fs. HasNoTrace fs u.name u.program u.why) told u.cause;
+    is = u.is;
+  })
+  view old new a told (inr (inr (inr (inl u)))) = Faulted (ap (λ (x : Answer). x.status) u.is)
+  view old new a told (inr (inr (inr (inr d)))) = IsCarried (record {
+    program = d.program;
+    loaded = subst (λ fs. IsProgramOf fs p d.program) told d.loaded;
+    runs = d.runs;
+    are = subst (λ fs. AreRunsOf fs d.program names d.runs) told d.are;
+    texts = d.texts;
+  })
+
+  one : LoadsOne files p
+  one = loads_one files p
+
+  two_untraced : (a b : Answer) → Untraced files p names a → Untraced files p names b → IsSameAnswer a b
+  two_untraced a b u v =
+      let P = u.program in
+      let same = one.programs v.program P v.loaded u.loaded in
+      let behind = subst (λ (Q : Program). ComesBehindRuns (Some files) Q names v.number v.name) same v.behind in
+      let cause = subst (λ (Q : Program). HasNoTrace (Some files) v.name Q v.why) same v.cause in
+      let place = one_place files P u.behind.before behind.before u.behind.behind behind.behind u.name v.name u.why v.why
+      u.cause cause (all_traced files P u.behind.before u.behind.runs u.behind.are)
+      (all_traced files P behind.before behind.runs behind.are) (sym u.behind.names_are ∙ behind.names_are) in
+      let why = untraced_once files P v.name u.why v.why
+      (subst (λ (n : List ℕ). HasNoTrace (Some files) n P u.why) place.names u.cause) cause in
+      let number : u.number ≡ v.number =
+      u.behind.number_is ∙ ap (λ (ns : List (List ℕ)). suc (length ns)) place.fronts ∙ sym behind.number_is in
+      same_answer (u.is ∙ ap (λ n. refusal (status_in n u.why)) number ∙ ap (λ w. refusal (status_in v.number w)) why
+      ∙ sym v.is)
+
+  untraced_carried : (a b : Answer) → Untraced files p names a → Carried files p names b → ⊥
+  untraced_carried a b u d =
+      let same = one.programs d.program u.program d.loaded u.loaded in
+      let are = subst (λ (Q : Program). AreRunsOf (Some files) Q names d.runs) same d.are in
+      among files u.program u.behind.before u.behind.behind u.name u.why u.cause
+      (subst (λ (ns : List (List ℕ)). All (IsTraced files u.program) ns) u.behind.names_are
+      (all_traced files u.program names d.runs are))
+
+  two_carried : (a b : Answer) → Carried files p names a → Carried files p names b → a ≡ b
+  two_carried a b c d =
+      let same = one.programs d.program c.program d.loaded c.loaded in
+      let runs = one_runs files c.program names d.runs c.runs
+      (subst (λ (Q : Program). AreRunsOf (Some files) Q names d.runs) same d.are) c.are in
+      alike unions c.program c.runs a b c.texts
+      (subst (λ (rs : List TracedRun). HasRepairedMany c.program rs b) runs
+      (subst (λ (Q : Program). HasRepairedMany Q d.runs b) same d.texts))
+
+  two : (a b : Answer) → View files p names a → View files p names b
+      → (a.status ≡ statuses.ReadFault) ⊎ ((b.status ≡ statuses.ReadFault) ⊎ IsSameAnswer a b)
+  two a b (Faulted e) v = inl e
+  two a b (IsUnloaded u) (Faulted e) = inr (inl e)
+  two a b (IsUntraced u) (Faulted e) = inr (inl e)
+  two a b (IsCarried u) (Faulted e) = inr (inl e)
+  two a b (IsUnloaded u) (IsUnloaded v) =
+      inr (inr (subst (λ x. IsSameAnswer x b) (sym u.is)
+      (subst (λ y. IsSameAnswer (refusal (programs.status_of_refusal u.why)) y) (sym v.is)
+      (same_refusal u.why v.why (one.refusals u.why v.why u.cause v.cause)))))
+  two a b (IsUnloaded u) (IsUntraced v) = absurd (one.excluded v.program u.why v.loaded u.cause)
+  two a b (IsUnloaded u) (IsCarried v) = absurd (one.excluded v.program u.why v.loaded u.cause)
+  two a b (IsUntraced v) (IsUnloaded u) = absurd (one.excluded v.program u.why v.loaded u.cause)
+  two a b (IsCarried v) (IsUnloaded u) = absurd (one.excluded v.program u.why v.loaded u.cause)
+  two a b (IsUntraced u) (IsUntraced v) = inr (inr (two_untraced a b u v))
+  two a b (IsUntraced u) (IsCarried v) = absurd (untraced_carried a b u v)
+  two a b (IsCarried v) (IsUntraced u) = absurd (untraced_carried b a u v)
+  two a b (IsCarried c) (IsCarried d) = inr (inr (same_answer (two_carried a b c d)))
+
+pub many_are_one : UnionsAreOne → ManyAreOne
+many_are_one unions p names files old new other other_new a b told told' x y =
+    two unions files p names a b (view unions files p names old new a told x)
+    (view unions files p names other other_new b told' y)

@@ -1,0 +1,20 @@
+use Rattle.std.proofs.Common.{refl}
+use Rattle.hip_many_commands.proofs.loading.ask.Goals as goal
+
+pub returns-in-Ok-plan : goal.returns-in-Ok-plan
+returns-in-Ok-plan g c = record {
+  run = record {
+    name = c.args.name.now;
+    input = c.in-Ok.replayed.input;
+    found = c.in-Ok.replayed.findings;
+  };
+  named = refl;
+  is = record {
+    traced = c.in-Ok.ensures.traced;
+    valid = c.in-Ok.ensures.valid;
+    found_is = c.in-Ok.ensures.found;
+  };
+  met = c.in-Ok.ensures.met;
+  plan_is = c.in-Ok-plan.ensures.is;
+  reports_are = c.len.ensures;
+}

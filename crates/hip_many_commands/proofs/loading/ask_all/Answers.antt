@@ -1,0 +1,17 @@
+use Rattle.std.proofs.Common.{◌+◌, ◌∙◌, refl, arith}
+use Rattle.std.proofs.lemmas.List.{get_or_default}
+use Rattle.hip_many_commands.proofs.Loads.{asked_more, lacked}
+use Rattle.hip_many_commands.proofs.loading.ask_all.Goals as goal
+
+pub returns-in-Err : goal.returns-in-Err
+returns-in-Err g c =
+    rw c.numbered.ensures (lacked c.traces.invariant.asked c.as_str.result.now c.traces-test.true
+    (c.as_str.ensures ∙ c.index-traces-index.is ∙ get_or_default _ _ _ _ c.traces-test.true)
+    (g.C.Cabinet.state c.ask.new.cabinet) (c.traces.index + 1) c.in-Err.failure refl c.in-Err.ensures)
+
+pub traces-preserved : goal.traces-preserved
+traces-preserved g c = record {
+  asked = rw (c.in-Ok-push.ensures.ok, c.added-reports.ensures.sum) (asked_more c.traces.invariant.asked c.as_str.result.now c.traces-test.true
+      (c.as_str.ensures ∙ c.index-traces-index.is ∙ get_or_default _ _ _ _ c.traces-test.true) (g.C.Cabinet.state c.ask.new.cabinet) c.in-Ok.asked c.in-Ok.ensures);
+  few = let before = c.traces.invariant.few in let here = c.added-reports.ensures.few in omega (arith, before, here);
+}

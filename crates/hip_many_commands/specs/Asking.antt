@@ -1,0 +1,86 @@
+-- The runs of a program that are loaded from files, and what they ask for.
+use Rattle.std.specs.Prelude.{ℕ, ◌≡◌, false, List, length, Result, Ok, Err}
+use Rattle.hip_answers.specs.declared.status.Status.{Status}
+use Rattle.hip_answers.specs.declared.status.Status.TheVariants as statuses
+use Rattle.hip_io.specs.Cabinets.{CabinetState}
+use Rattle.hip_ir.specs.declared.program.Program.{Program}
+use Rattle.hip_loading.specs.Outside.{HasMet}
+use Rattle.hip_loading.specs.declared.failure.Failure.{Failure}
+use Rattle.hip_loading.specs.declared.failure.Failure.TheVariants as failures
+use Rattle.hip_many_commands.specs.Many.{status_in}
+use Rattle.hip_many_commands.specs.Runs.{AreRunsOf, ComesBehindRuns, IsRunOf, TracedRun, plans_of, reports_of}
+use Rattle.hip_many_commands.specs.declared.loading.AllAsked.{AllAsked}
+use Rattle.hip_many_commands.specs.declared.loading.Asked.{Asked}
+use Rattle.hip_many_commands.specs.declared.refusal.NumberedRefusal.{NumberedRefusal}
+use Rattle.hip_repair_answers.specs.TraceFiles.{HasNoTrace, is_missing}
+use Rattle.hip_repair_answers.specs.declared.refusal.TraceRefusal.{TraceRefusal}
+use Rattle.hip_repairs.specs.Choice.{plan_for}
+use Rattle.hip_trace_loading.specs.Loading.{HasFailedTrace}
+
+-- ---- one trace
+
+-- The file of that name is the trace of the run, and this is the plan for it and how many reports it has.
+pub record HasAsked (P : Program) (name : List ℕ) (old new : CabinetState) (asked : Asked) : Type 0 where
+  pub run : TracedRun
+  pub named : run.name ≡ name
+  pub is : IsRunOf old.files P run
+  pub met : HasMet false false old new
+  pub plan_is : asked.plan ≡ plan_for P run.found
+  pub reports_are : asked.reports ≡ length run.found.reports
+
+-- what loading a trace and planning for its run answers; want of memory is free
+abbrev pub Asks : Program → List ℕ → CabinetState → CabinetState → Result Asked (Failure TraceRefusal) → Type 0
+Asks P name old new (Ok asked) = HasAsked P name old new asked
+Asks P name old new (Err (failures.Refused why)) =
+    HasMet (is_missing why) false old new × HasNoTrace old.files name P why
+Asks P name old new (Err failures.ReadFault) = HasFailedTrace P name old new
+Asks P name old new (Err failures.NoMemory) = HasMet false false old new
+
+-- ---- all traces
+
+-- the plans for runs, and how many reports these have together
+pub record AreAsked (P : Program) (runs : List TracedRun) (asked : AllAsked) : Type 0 where
+  pub plans_are : asked.plans ≡ plans_of P runs
+  pub reports_are : asked.reports ≡ reports_of runs
+
+-- The files of these names are the traces of runs, and this is what the runs ask for.
+pub record HasAskedAll (P : Program) (names : List (List ℕ)) (old new : CabinetState) (asked : AllAsked) : Type 0 where
+  pub runs : List TracedRun
+  pub are : AreRunsOf old.files P names runs
+  pub met : HasMet false false old new
+  pub asked_are : AreAsked P runs asked
+
+-- The first of the files that is none of a run's traces has this number, and this is why.
+pub record LacksTraceIn (P : Program) (names : List (List ℕ)) (old new : CabinetState) (refusal : NumberedRefusal) :
+    Type 0 where
+  pub name : List ℕ
+  pub behind : ComesBehindRuns old.files P names refusal.number name
+  pub met : HasMet (is_missing refusal.why) false old new
+  pub cause : HasNoTrace old.files name P refusal.why
+
+-- The first of the files that could not be read shows no misfit in what was taken of it.
+pub record HasFailedIn (P : Program) (names : List (List ℕ)) (old new : CabinetState) : Type 0 where
+  pub number : ℕ
+  pub name : List ℕ
+  pub behind : ComesBehindRuns old.files P names number name
+  pub failed : HasFailedTrace P name old new
+
+abbrev pub AsksAll : Program → List (List ℕ) → CabinetState → CabinetState
+    → Result AllAsked (Failure NumberedRefusal) → Type 0
+AsksAll P names old new (Ok asked) = HasAskedAll P names old new asked
+AsksAll P names old new (Err (failures.Refused refusal)) = LacksTraceIn P names old new refusal
+AsksAll P names old new (Err failures.ReadFault) = HasFailedIn P names old new
+AsksAll P names old new (Err failures.NoMemory) = HasMet false false old new
+
+-- ---- refusals
+
+-- a refusal of the trace of that number
+abbrev pub numbered : ℕ → Failure TraceRefusal → Failure NumberedRefusal
+numbered number (failures.Refused why) = failures.Refused (record { number = number; why = why })
+numbered number failures.ReadFault = failures.ReadFault
+numbered number failures.NoMemory = failures.NoMemory
+
+abbrev pub status_of_traces : Failure NumberedRefusal → Status
+status_of_traces (failures.Refused refusal) = status_in refusal.number refusal.why
+status_of_traces failures.ReadFault = statuses.ReadFault
+status_of_traces failures.NoMemory = statuses.NoMemory

@@ -1,0 +1,6 @@
+pub mod Asking
+pub mod Laws
+pub mod Many
+pub mod Notes
+pub mod Repairing
+pub mod Runs

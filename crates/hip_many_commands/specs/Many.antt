@@ -1,0 +1,97 @@
+-- The answers of `many`.
+use Rattle.std.specs.Prelude.{ℕ, ◌≡◌, ◌⊎◌, false, true, List, length, IfSome}
+use Rattle.std.specs.List.{All}
+use Rattle.hip_answers.specs.Answers.{Answer, refusal}
+use Rattle.hip_answers.specs.Programs.{IsUnloaded}
+use Rattle.hip_answers.specs.declared.status.FileRole.TheVariants as roles
+use Rattle.hip_answers.specs.declared.status.Status.{Status}
+use Rattle.hip_answers.specs.declared.status.Status.TheVariants as statuses
+use Rattle.hip_io.specs.Cabinets.{CabinetState}
+use Rattle.hip_ir.specs.Show.{show}
+use Rattle.hip_ir.specs.declared.program.Program.{Program}
+use Rattle.hip_loading.specs.Loading.{IsProgramOf}
+use Rattle.hip_loading.specs.Outside.{HasMet}
+use Rattle.hip_many.specs.Reasons.{reasons}
+use Rattle.hip_many.specs.Union.{IsUnion}
+use Rattle.hip_many_commands.specs.Notes.{many_notes}
+use Rattle.hip_many_commands.specs.Runs.{AreRunsOf, ComesBehindRuns, TracedRun, plans_of, reports_of}
+use Rattle.hip_repair_answers.specs.Cured.{IsCuredBy}
+use Rattle.hip_repair_answers.specs.TraceFiles.{HasNoTrace, IsProgramUnread, ShowsNoMisfit, is_missing}
+use Rattle.hip_repair_answers.specs.declared.refusal.TraceRefusal.{TraceRefusal}
+use Rattle.hip_repair_answers.specs.declared.refusal.TraceRefusal.TheVariants as traces
+use Rattle.hip_repairs.specs.CloneNumbers.{clone_numbers}
+use Rattle.hip_repairs.specs.Direct.{direct}
+use Rattle.hip_repairs.specs.Repaired.{repaired}
+use Rattle.hip_repairs.specs.declared.plan.Plan.{Plan}
+
+-- ---- a trace that is none
+
+-- the status of a refusal of the trace of that number
+abbrev pub status_in : ℕ → TraceRefusal → Status
+status_in number traces.Missing = statuses.Missing (roles.Number number)
+status_in number (traces.Misfit entry kind) = statuses.MisfitIn number entry kind
+
+-- The program is there, and this is the first of the files, in order, that is not the trace of a run of it; the answer
+-- says which and why.
+pub record IsUntracedIn (old new : CabinetState) (program_name : List ℕ) (names : List (List ℕ)) (answer : Answer) :
+    Type 0 where
+  pub program : Program
+  pub loaded : IsProgramOf old.files program_name program
+  pub number : ℕ
+  pub name : List ℕ
+  pub behind : ComesBehindRuns old.files program names number name
+  pub why : TraceRefusal
+  pub met : HasMet (is_missing why) false old new
+  pub cause : HasNoTrace old.files name program why
+  pub is : answer ≡ refusal (status_in number why)
+
+-- The program is there, all files before this one are traces of runs of it, and this one could not be fetched, and no
+-- file is current; or it is current and could not be read to its end, and the bytes that were taken show no misfit: if
+-- they show one, that is the answer.
+pub record IsUnreadIn (old new : CabinetState) (program_name : List ℕ) (names : List (List ℕ)) (answer : Answer) :
+    Type 0 where
+  pub program : Program
+  pub loaded : IsProgramOf old.files program_name program
+  pub number : ℕ
+  pub name : List ℕ
+  pub behind : ComesBehindRuns old.files program names number name
+  pub met : HasMet false true old new
+  pub current : (new.is_current ≡ false) ⊎ IfSome new.name (λ n. n ≡ name)
+  pub taken : (new.is_current ≡ false) ⊎ IfSome old.files (λ fs. ShowsNoMisfit fs name program new.rest)
+  pub is : answer ≡ refusal statuses.ReadFault
+
+-- ---- one repair for all
+
+-- the program repaired by a plan; the direct stores get no flush by cloning
+abbrev pub repaired_by : Program → Plan → Program
+repaired_by P plan = repaired P plan (direct P)
+
+-- Out has the canonical text of the program that is repaired by the union of the runs' plans. Notes has how many
+-- traces, reports, flushes, fences, hoisted calls and clones there are, and for each site of the union how many plans
+-- have it. The repaired program does no harm, is clean on the input of each run and has its hoisted calls covered.
+pub record HasRepairedMany (P : Program) (runs : List TracedRun) (answer : Answer) : Type 0 where
+  pub plan : Plan
+  pub union : IsUnion (plans_of P runs) plan
+  pub status_is : answer.status ≡ statuses.Done
+  pub out_is : answer.out ≡ show (repaired_by P plan)
+  pub notes_is : answer.notes ≡ many_notes P (length runs) (reports_of runs) plan (length (clone_numbers P plan))
+      (reasons (plans_of P runs) plan)
+  pub cured : All (λ r. IsCuredBy P r.input plan (direct P)) runs
+
+-- The one file has the program, and the others are the traces of runs of it.
+pub record HasRunsOf (old new : CabinetState) (program_name : List ℕ) (names : List (List ℕ)) (answer : Answer) : Type 0
+  where
+    pub program : Program
+    pub loaded : IsProgramOf old.files program_name program
+    pub runs : List TracedRun
+    pub are : AreRunsOf old.files program names runs
+    pub met : HasMet false false old new
+    pub texts : HasRepairedMany program runs answer
+
+-- no program; a trace that is none, or could not be read; or one repair for all runs
+abbrev pub ManyAnswers : CabinetState → CabinetState → List ℕ → List (List ℕ) → Answer → Type 0
+ManyAnswers old new program_name names answer =
+    IsUnloaded old new program_name answer
+    ⊎ (IsProgramUnread old new program_name answer
+    ⊎ (IsUntracedIn old new program_name names answer
+    ⊎ (IsUnreadIn old new program_name names answer ⊎ HasRunsOf old new program_name names answer)))

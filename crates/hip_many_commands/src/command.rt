@@ -1,0 +1,97 @@
+ghost use Rattle.std.specs.List.{All};
+ghost use Rattle.std.specs.Prelude.{◌≡◌, ℕ, false, List, Option, length};
+ghost use Rattle.hip_answers.specs.Answers.{HasAnswered, sinks};
+ghost use Rattle.hip_io.specs.declared.cabinet.NamedFile.{NamedFile};
+ghost use Rattle.hip_many_commands.specs.Asking.{AreAsked};
+ghost use Rattle.hip_many_commands.specs.Many.{HasRepairedMany, ManyAnswers};
+ghost use Rattle.hip_many_commands.specs.Repairing.{IsRepairBy};
+ghost use Rattle.hip_many_commands.specs.Runs.{AreRunsOf, TracedRun, plans_of, reports_of};
+ghost use Rattle.hip_repair_answers.specs.Cured.{IsCuredBy};
+ghost use Rattle.hip_repairs.specs.Direct.{direct};
+ghost use Rattle.hip_trace_loading.specs.Runs.{AnswersOnRun};
+
+use crate::loading::{AllAsked, ask_all};
+use crate::notes::put_notes;
+use crate::refusal::status_of_traces;
+use crate::repairing::{ManyRepair, repair_by};
+use hip_answers::{Status, finish, refuse, status_of_failure};
+use hip_io::{Cabinet, Sink};
+use hip_loading::load_program;
+use hip_repair_answers::plans_cure;
+use hip_repairs::direct_stores_are_quiet;
+use hip_types::{NoMemory, Text};
+use hip_typing::Checked;
+use hip_write::write;
+use std::alloc::Global;
+
+/// Repairs the program of a file for the runs whose traces other files have, once for all of them. All memory that it
+/// needs is taken before the first byte is written.
+pub fn many_file<C: Cabinet, S: Sink, N: Sink>(
+    alloc: Global,
+    program: &str,
+    traces: &[Text],
+    cabinet: &mut C,
+    out: &mut S,
+    notes: &mut N,
+) -> Status
+    ensures { HasAnswered (ManyAnswers (C.state cabinet.old) (C.state cabinet.new) program.now traces.now) false
+        (C.state cabinet.old) (C.state cabinet.new)
+        (sinks (S.state out.old) (S.state out.new) (N.state notes.old) (N.state notes.new)) result }
+{
+    let checked = match load_program(alloc, cabinet, program) {
+        Ok(checked) => checked,
+        Err(failure) => return refuse(notes, status_of_failure(failure)),
+    };
+    let asked = match ask_all(alloc, &checked, traces, cabinet) {
+        Ok(asked) => asked,
+        Err(failure) => return refuse(notes, status_of_traces(failure)),
+    };
+    repair_many(alloc, &checked, traces.len(), &asked, out, notes)
+}
+
+// Repairs a program for as many runs as there are traces, and writes it.
+fn repair_many<S: Sink, N: Sink>(
+    alloc: Global,
+    checked: &Checked,
+    traces: usize,
+    asked: &AllAsked,
+    out: &mut S,
+    notes: &mut N,
+) -> Status
+    ensures { (files : Option (List NamedFile)) → (names : List (List ℕ)) → (runs : List TracedRun) →
+        AreRunsOf files checked.now names runs → traces ≡ length names → AreAsked checked.now runs asked.now →
+        AnswersOnRun (HasRepairedMany checked.now runs) false
+        (sinks (S.state out.old) (S.state out.new) (N.state notes.old) (N.state notes.new)) result }
+{
+    plans_cure();
+    direct_stores_are_quiet();
+    let _program = checked.program();
+    match repair_by(alloc, checked, asked.plans.as_slice()) {
+        Ok(repair) => put_repair(checked, traces, asked.reports, &repair, out, notes),
+        Err(NoMemory) => refuse(notes, Status::NoMemory),
+    }
+}
+
+// Writes the repaired program; then the counts and the reasons go to notes.
+fn put_repair<S: Sink, N: Sink>(
+    checked: &Checked,
+    traces: usize,
+    reports: u128,
+    repair: &ManyRepair,
+    out: &mut S,
+    notes: &mut N,
+) -> Status
+    ensures { (runs : List TracedRun) → traces ≡ length runs → reports ≡ reports_of runs →
+        IsRepairBy checked.now (plans_of checked.now runs) repair.now →
+        All (λ r. IsCuredBy checked.now r.input repair.now.plan (direct checked.now)) runs →
+        AnswersOnRun (HasRepairedMany checked.now runs) false
+        (sinks (S.state out.old) (S.state out.new) (N.state notes.old) (N.state notes.new)) result }
+{
+    match write(repair.repaired.checked.program(), out) {
+        Ok(()) => {
+            let tried = put_notes(notes, checked.program(), traces, reports, repair);
+            finish(notes, tried, Status::Done)
+        }
+        Err(_) => refuse(notes, Status::WriteFault),
+    }
+}

@@ -1,0 +1,28 @@
+//! Laws of the answers.
+
+ghost use Rattle.hip_many_commands.specs.Laws.{ManyAreAnswered, ManyAreOne, ManyFaultsHideNone};
+
+use hip_many::unions_are_one;
+use hip_repair_answers::plans_cure;
+use hip_repairs::direct_stores_are_quiet;
+
+/// Where the files are told, `many` has one answer on them, but for read faults.
+pub fn many_are_one()
+    ensures { ManyAreOne }
+{
+    unions_are_one();
+}
+
+/// Where a file is current after a read fault, and is not the program's, its bytes that were taken show no misfit.
+pub fn many_faults_hide_no_misfit()
+    ensures { ManyFaultsHideNone }
+{}
+
+/// Where the one file has a program and the others are the traces of runs of it, `many` has an answer by which it is
+/// carried out.
+pub fn many_are_answered()
+    ensures { ManyAreAnswered }
+{
+    plans_cure();
+    direct_stores_are_quiet();
+}

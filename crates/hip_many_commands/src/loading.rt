@@ -1,0 +1,86 @@
+//! The traces, loaded one after the other.
+
+ghost use Rattle.std.specs.Prelude.{◌≡◌, ◌≤◌, ◌+◌, ◌^◌};
+ghost use Rattle.hip_many_commands.specs.Asking.{Asks, AsksAll};
+
+use crate::refusal::{NumberedRefusal, numbered};
+use hip_io::Cabinet;
+use hip_loading::Failure;
+use hip_plan::plan;
+use hip_repair_answers::TraceRefusal;
+use hip_repairs::Plan;
+use hip_trace_loading::load_trace;
+use hip_types::{NoMemory, Row, Text};
+use hip_typing::Checked;
+use std::alloc::Global;
+
+/// What a run asks for: the plan for it, and how many reports it has.
+#[derive(Debug, Drop)]
+pub(crate) struct Asked {
+    pub plan: Plan,
+    pub reports: usize,
+}
+
+/// What runs ask for: the plan for each, and how many reports they have together.
+#[derive(Debug, Drop)]
+pub(crate) struct AllAsked {
+    pub plans: Row<Plan>,
+    pub reports: u128,
+}
+
+/// Loads the trace of a file, and plans for its run.
+fn ask<C: Cabinet>(
+    alloc: Global,
+    checked: &Checked,
+    cabinet: &mut C,
+    name: &str,
+) -> Result<Asked, Failure<TraceRefusal>>
+    ensures { Asks checked.now name.now (C.state cabinet.old) (C.state cabinet.new) result }
+{
+    let replayed = match load_trace(alloc, checked, cabinet, name) {
+        Ok(replayed) => replayed,
+        Err(failure) => return Err(failure),
+    };
+    match plan(alloc, checked, &replayed.findings) {
+        Ok(plan) => Ok(Asked {
+            plan,
+            reports: replayed.findings.reports.len(),
+        }),
+        Err(_) => Err(Failure::NoMemory),
+    }
+}
+
+/// How many reports runs have together, with those of one run more.
+fn added(reports: u128, more: usize) -> u128
+    requires { reports + 2 ^ 64 ≤ 2 ^ 128 }
+    ensures sum { result ≡ reports + more }
+    ensures few { result ≤ reports + 2 ^ 64 }
+{
+    reports + more as u128
+}
+
+/// Loads the traces of files in order up to the first that is none, and plans for their runs.
+pub(crate) fn ask_all<C: Cabinet>(
+    alloc: Global,
+    checked: &Checked,
+    traces: &[Text],
+    cabinet: &mut C,
+) -> Result<AllAsked, Failure<NumberedRefusal>>
+    ensures { AsksAll checked.now traces.now (C.state cabinet.old) (C.state cabinet.new) result }
+{
+    let mut plans = Row::new(alloc);
+    let mut reports = 0;
+    'traces: for index in 0..traces.len() {
+        match ask(alloc, checked, cabinet, traces[index].as_str()) {
+            Ok(asked) => {
+                reports = added(reports, asked.reports);
+                match plans.push(asked.plan) {
+                    Ok(()) => {}
+                    Err(_) => return Err(Failure::NoMemory),
+                }
+            }
+            Err(failure) => return Err(numbered(index as u64 + 1, failure)),
+        }
+    }
+    Ok(AllAsked { plans, reports })
+}

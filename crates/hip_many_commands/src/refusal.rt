@@ -1,0 +1,52 @@
+ghost use Rattle.std.specs.Prelude.{◌≡◌};
+ghost use Rattle.hip_many_commands.specs.Asking.{numbered, status_of_traces};
+ghost use Rattle.hip_many_commands.specs.Many.{status_in};
+
+use hip_answers::{FileRole, Status};
+use hip_loading::Failure;
+use hip_repair_answers::TraceRefusal;
+
+/// Which of many files is no trace of a run of a program, and why.
+#[derive(Clone, Copy, Debug, PartialEq, Eq)]
+pub struct NumberedRefusal {
+    /// The file's number among the traces, counted from 1.
+    pub number: u64,
+    pub why: TraceRefusal,
+}
+
+/// A refusal of the trace of that number.
+pub(crate) fn numbered(number: u64, failure: Failure<TraceRefusal>) -> Failure<NumberedRefusal>
+    ensures { result ≡ numbered number failure }
+{
+    match failure {
+        Failure::Refused(why) => Failure::Refused(NumberedRefusal { number, why }),
+        Failure::ReadFault => Failure::ReadFault,
+        Failure::NoMemory => Failure::NoMemory,
+    }
+}
+
+/// The status of traces of which one is not loaded.
+pub(crate) fn status_of_traces(failure: Failure<NumberedRefusal>) -> Status
+    ensures { result ≡ status_of_traces failure }
+{
+    match failure {
+        Failure::Refused(refusal) => status_in(refusal.number, refusal.why),
+        Failure::ReadFault => Status::ReadFault,
+        Failure::NoMemory => Status::NoMemory,
+    }
+}
+
+fn status_in(number: u64, why: TraceRefusal) -> Status
+    ensures { result ≡ status_in number why }
+{
+    match why {
+        TraceRefusal::Missing => Status::Missing {
+            file: FileRole::Number(number),
+        },
+        TraceRefusal::Misfit { entry, kind } => Status::MisfitIn {
+            trace: number,
+            entry,
+            kind,
+        },
+    }
+}

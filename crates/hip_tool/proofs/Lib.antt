@@ -1,3 +1,2 @@
-pub mod AnswerLaws
-pub mod ReplayLaws
-pub mod Stages
+mod Fits
+mod OneAnswer

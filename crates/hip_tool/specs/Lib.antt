@@ -1,10 +1,2 @@
-pub mod Ahead
-pub mod Input
-pub mod OneStore
-pub mod Run
-pub mod Misfit
-pub mod Replays
-pub mod Answer
 pub mod Call
 pub mod Laws
-pub mod Seen

@@ -1,19 +1,26 @@
 //! The top call.
 
-ghost use Rattle.std.specs.Prelude.{map, string_bytes};
+ghost use Rattle.std.specs.Prelude.{Some, map, string_bytes};
 ghost use Rattle.hip_answers.specs.Answers.{HasAnswered, sinks};
-ghost use Rattle.hip_tool.specs.Call.{AnswersTo, begins};
+ghost use Rattle.hip_tool.specs.Call.{AnswersTo, IsFit, begins};
 ghost use Rattle.hip_words.specs.Order.{order};
 
-use crate::command::repair_file;
 use hip_answers::{Status, refuse};
-use hip_commands::run_file;
+use hip_commands::{record_file, run_file};
+use hip_crash_commands::crash_file;
+use hip_demo::demo;
 use hip_io::{Cabinet, Sink};
-use hip_words::{Order, WordsRefusal, read_words, runs_are_valid};
+use hip_many_commands::many_file;
+use hip_repair_commands::{check_file, repair_file, rerun_file};
+use hip_thin_commands::thin_file;
+use hip_words::{
+    Order, WordsRefusal, demos_are_valid, read_words, records_are_valid, runs_are_valid,
+};
 use std::alloc::Global;
 
-/// Carries out the command that the words give. The words come without the program's name. `repair` takes all its
-/// memory before the first byte is written; what `run` prints goes out as it runs.
+/// Carries out the command that the words give. The words come without the program's name. `check`, `repair`, `many`,
+/// `thin` and `demo` take all their memory before the first byte is written; what the others write goes out as a run
+/// takes its steps.
 pub fn hippo<C: Cabinet, S: Sink, N: Sink>(
     alloc: Global,
     words: &[String],
@@ -26,24 +33,87 @@ pub fn hippo<C: Cabinet, S: Sink, N: Sink>(
         (sinks (S.state out.old) (S.state out.new) (N.state notes.old) (N.state notes.new)) result }
 {
     runs_are_valid();
+    records_are_valid();
+    demos_are_valid();
     match read_words(alloc, words) {
-        Ok(
-            Order::Run {
-                program,
+        Ok(order) => carry_out(alloc, order, cabinet, out, notes),
+        Err(WordsRefusal::Usage) => refuse(notes, Status::Usage),
+        Err(WordsRefusal::NoMemory) => refuse(notes, Status::NoMemory),
+    }
+}
+
+fn carry_out<C: Cabinet, S: Sink, N: Sink>(
+    alloc: Global,
+    order: Order,
+    cabinet: &mut C,
+    out: &mut S,
+    notes: &mut N,
+) -> Status
+    requires { IsFit order }
+    ensures { HasAnswered (AnswersTo (Some order) (C.state cabinet.old) (C.state cabinet.new)) (begins (Some order))
+        (C.state cabinet.old) (C.state cabinet.new)
+        (sinks (S.state out.old) (S.state out.new) (N.state notes.old) (N.state notes.new)) result }
+{
+    match order {
+        Order::Run {
+            program,
+            limit,
+            numbers,
+        } => { run_file(alloc, program.as_str(), limit, numbers, cabinet, out, notes) }
+        Order::Record {
+            program,
+            base,
+            limit,
+            numbers,
+        } => {
+            record_file(
+                alloc,
+                program.as_str(),
+                base,
                 limit,
                 numbers,
-            },
-        ) => run_file(alloc, program.as_str(), limit, numbers, cabinet, out, notes),
-        Ok(Order::Repair { program, trace }) => repair_file(
+                cabinet,
+                out,
+                notes,
+            )
+        }
+        Order::Check { program, trace } => {
+            check_file(alloc, program.as_str(), trace.as_str(), cabinet, out, notes)
+        }
+        Order::Repair { program, trace } => {
+            repair_file(alloc, program.as_str(), trace.as_str(), cabinet, out, notes)
+        }
+        Order::Rerun { program, trace } => {
+            rerun_file(alloc, program.as_str(), trace.as_str(), cabinet, out, notes)
+        }
+        Order::Thin { program, trace } => {
+            thin_file(alloc, program.as_str(), trace.as_str(), cabinet, out, notes)
+        }
+        Order::Demo { seed, size } => demo(alloc, seed, size, out, notes),
+        Order::Many { program, traces } => {
+            many_file(
+                alloc,
+                program.as_str(),
+                traces.as_slice(),
+                cabinet,
+                out,
+                notes,
+            )
+        }
+        Order::Crash {
+            program,
+            trace,
+            entry,
+            picks,
+        } => crash_file(
             alloc,
             program.as_str(),
             trace.as_str(),
+            entry,
+            picks.as_slice(),
             cabinet,
             out,
             notes,
         ),
-        Ok(_) => refuse(notes, Status::Usage),
-        Err(WordsRefusal::Usage) => refuse(notes, Status::Usage),
-        Err(WordsRefusal::NoMemory) => refuse(notes, Status::NoMemory),
     }
 }

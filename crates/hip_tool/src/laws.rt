@@ -1,17 +1,23 @@
-//! Laws of the definitions that the contract of `hippo` names.
+//! A law of the answers.
 
-ghost use Rattle.hip_tool.specs.Laws.{HeadersAreValid, RepairsAreOne};
+ghost use Rattle.hip_tool.specs.Laws.{AnswersAreOne};
 
-use hip_loading::files_give_one_answer;
+use hip_commands::{records_are_one, runs_are_one};
+use hip_crash_commands::crashes_are_one;
+use hip_demo::demos_are_one;
+use hip_many_commands::many_are_one;
+use hip_repair_answers::answers_are_one as repairs_are_one;
+use hip_thin_commands::thins_are_one;
 
-/// The input that a trace's header gives is one that its program can be run on.
-pub fn headers_are_valid()
-    ensures { HeadersAreValid }
-{}
-
-/// Where the files give a repair, each answer on them is that repair or a read fault.
-pub fn repairs_are_one()
-    ensures { RepairsAreOne }
+/// Where the files are told, two answers to the same words are the same, unless one of them is a read fault.
+pub fn answers_are_one()
+    ensures { AnswersAreOne }
 {
-    files_give_one_answer();
+    runs_are_one();
+    records_are_one();
+    repairs_are_one();
+    thins_are_one();
+    crashes_are_one();
+    many_are_one();
+    demos_are_one();
 }

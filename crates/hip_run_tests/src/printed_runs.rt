@@ -14,17 +14,17 @@ use std::test::Fail;
 const BASE: u64 = 4_294_967_296;
 
 /// A program with its input, what it prints, and how its run ends.
-struct Run {
-    name: &'static str,
-    program: &'static str,
-    numbers: &'static [i64],
-    limit: u64,
-    printed: &'static str,
-    ending: Ending,
+pub struct Run {
+    pub name: &'static str,
+    pub program: &'static str,
+    pub numbers: &'static [i64],
+    pub limit: u64,
+    pub printed: &'static str,
+    pub ending: Ending,
 }
 
 /// The program of a text that is sound.
-fn checked(rt: &impl Abort, alloc: Global, text: &str) -> Checked {
+pub fn checked(rt: &impl Abort, alloc: Global, text: &str) -> Checked {
     let program = parse(alloc, text.as_bytes()).expect(rt, "the text is read");
     check(alloc, program).expect(rt, "the program is sound")
 }
@@ -58,7 +58,7 @@ fn assert_run(rt: &impl Abort, alloc: Global, run: &Run) -> Result<(), Fail> {
 }
 
 /// Asserts what each program prints and how its run ends.
-fn assert_runs(rt: &impl Abort, alloc: Global, runs: &[Run]) -> Result<(), Fail> {
+pub fn assert_runs(rt: &impl Abort, alloc: Global, runs: &[Run]) -> Result<(), Fail> {
     for run in runs {
         assert_run(rt, alloc, run)?;
     }

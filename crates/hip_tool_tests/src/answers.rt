@@ -1,31 +1,41 @@
 //! What `hippo` answers to words, files and faults of files.
 
-use crate::commands::{assert_outcome, call, files, repair};
-use hip_examples::{ONE_STORE, ONE_STORE_REPAIRED, ONE_STORE_TRACE};
-use hip_io::{FailAt, FailingCabinet, MemCabinet, NamedFile};
+use crate::commands::{assert_outcome, outcome_in_chunks, outcome_in_room, outcome_of_fault};
+use hip_examples::{ONE_STORE, ONE_STORE_TRACE};
+use hip_io::FailAt;
 use hip_tool::Status;
-use hip_types::Row;
+use std::alloc::Global;
+use std::process::Abort;
 use std::test::Fail;
 
-const COUNTS: &str = "reports 1\nflushes 1\nfences 1\nhoists 0\nclones 0\n";
+/// A program `a`, and the trace `b` of its run.
+const FILES: &[(&str, &str)] = &[("a", ONE_STORE), ("b", ONE_STORE_TRACE)];
 
 const USAGE: &str = "hippo: usage
 usage: hippo run PROGRAM [--limit N] [NUMBERS...]
+       hippo record PROGRAM [--base N] [--limit N] [NUMBERS...]
+       hippo check PROGRAM TRACE
        hippo repair PROGRAM TRACE
+       hippo rerun PROGRAM TRACE
+       hippo demo SEED SIZE
+       hippo many PROGRAM TRACES...
+       hippo crash PROGRAM TRACE ENTRY [PICKS...]
+       hippo thin PROGRAM TRACE
 ";
-
-#[test]
-fn one_store(rt: HostRuntime) -> Result<(), Fail> {
-    let outcome = repair(rt.alloc(), ONE_STORE, ONE_STORE_TRACE)?;
-    assert_outcome(&rt, &outcome, 0, ONE_STORE_REPAIRED, COUNTS, "one store");
-    Ok(())
-}
 
 /// Words that are no command, or that name a file which is not there.
 struct Words {
     words: &'static [&'static str],
     code: u8,
     notes: &'static str,
+}
+
+fn assert_refused(rt: &impl Abort, alloc: Global, cases: &[Words]) -> Result<(), Fail> {
+    for case in cases {
+        let outcome = outcome_in_chunks(alloc, case.words, FILES, 7)?;
+        assert_outcome(rt, &outcome, case.code, "", case.notes, case.notes);
+    }
+    Ok(())
 }
 
 const BAD_WORDS: &[Words] = &[
@@ -65,7 +75,70 @@ const BAD_WORDS: &[Words] = &[
         notes: USAGE,
     },
     Words {
+        words: &["record", "a", "--base", "4294967297"],
+        code: 1,
+        notes: USAGE,
+    },
+    Words {
+        words: &["run", "a", "--limit", "1099511627777"],
+        code: 1,
+        notes: USAGE,
+    },
+    Words {
+        words: &["many", "a"],
+        code: 1,
+        notes: USAGE,
+    },
+    Words {
+        words: &["crash", "a", "b", "4", "0"],
+        code: 1,
+        notes: USAGE,
+    },
+];
+
+#[test]
+fn usage(rt: HostRuntime) -> Result<(), Fail> {
+    assert_refused(&rt, rt.alloc(), BAD_WORDS)
+}
+
+const NO_FILES: &[Words] = &[
+    Words {
         words: &["repair", "c", "b"],
+        code: 2,
+        notes: "hippo: no file: program\n",
+    },
+    Words {
+        words: &["check", "c", "b"],
+        code: 2,
+        notes: "hippo: no file: program\n",
+    },
+    Words {
+        words: &["rerun", "c", "b"],
+        code: 2,
+        notes: "hippo: no file: program\n",
+    },
+    Words {
+        words: &["thin", "c", "b"],
+        code: 2,
+        notes: "hippo: no file: program\n",
+    },
+    Words {
+        words: &["many", "c", "b"],
+        code: 2,
+        notes: "hippo: no file: program\n",
+    },
+    Words {
+        words: &["run", "c"],
+        code: 2,
+        notes: "hippo: no file: program\n",
+    },
+    Words {
+        words: &["record", "c"],
+        code: 2,
+        notes: "hippo: no file: program\n",
+    },
+    Words {
+        words: &["crash", "c", "b", "1"],
         code: 2,
         notes: "hippo: no file: program\n",
     },
@@ -74,79 +147,138 @@ const BAD_WORDS: &[Words] = &[
         code: 2,
         notes: "hippo: no file: trace\n",
     },
+    Words {
+        words: &["check", "a", "c"],
+        code: 2,
+        notes: "hippo: no file: trace\n",
+    },
+    Words {
+        words: &["rerun", "a", "c"],
+        code: 2,
+        notes: "hippo: no file: trace\n",
+    },
+    Words {
+        words: &["thin", "a", "c"],
+        code: 2,
+        notes: "hippo: no file: trace\n",
+    },
+    Words {
+        words: &["crash", "a", "c", "1"],
+        code: 2,
+        notes: "hippo: no file: trace\n",
+    },
+    Words {
+        words: &["many", "a", "b", "c"],
+        code: 2,
+        notes: "hippo: no file: trace 2\n",
+    },
 ];
 
 #[test]
-fn usage_and_missing_files(rt: HostRuntime) -> Result<(), Fail> {
-    for case in BAD_WORDS {
-        let mut cabinet = files(rt.alloc(), ONE_STORE, ONE_STORE_TRACE)?;
-        let outcome = call(rt.alloc(), case.words, &mut cabinet, 1000)?;
-        assert_outcome(&rt, &outcome, case.code, "", case.notes, case.notes);
-    }
-    Ok(())
+fn missing_files(rt: HostRuntime) -> Result<(), Fail> {
+    assert_refused(&rt, rt.alloc(), NO_FILES)
 }
+
+/// Commands with the first ten bytes of what they write to the output, which has no more room.
+const CUT_SHORT: &[(&[&str], &str)] = &[
+    (&["repair", "a", "b"], "@x = globa"),
+    (&["thin", "a", "b"], "@x = globa"),
+    (&["many", "a", "b"], "@x = globa"),
+    (&["check", "a", "b"], "report bot"),
+    (&["rerun", "a", "b"], "START;1000"),
+    (&["record", "a"], "START;1000"),
+    (&["crash", "a", "b", "4"], "START;1000"),
+    (&["demo", "1", "8"], "seed 1 siz"),
+];
 
 #[test]
 fn out_of_room(rt: HostRuntime) -> Result<(), Fail> {
-    let mut cabinet = files(rt.alloc(), ONE_STORE, ONE_STORE_TRACE)?;
-    let outcome = call(rt.alloc(), &["repair", "a", "b"], &mut cabinet, 10)?;
-    assert_outcome(
-        &rt,
-        &outcome,
-        4,
-        "@x = globa",
-        "hippo: write fault\n",
-        "ten bytes",
-    );
+    for (words, out) in CUT_SHORT {
+        let outcome = outcome_in_room(rt.alloc(), *words, FILES, 10, 100)?;
+        assert_outcome(&rt, &outcome, 4, *out, "hippo: write fault\n", words[0]);
+    }
     Ok(())
 }
 
 /// Where a file fails.
 struct Failing {
+    words: &'static [&'static str],
     name: &'static str,
     at: FailAt,
 }
 
 const FAILING_FILES: &[Failing] = &[
     Failing {
+        words: &["repair", "a", "b"],
         name: "b",
         at: FailAt::Byte(20),
     },
     Failing {
+        words: &["repair", "a", "b"],
         name: "b",
         at: FailAt::Fetch,
     },
     Failing {
+        words: &["repair", "a", "b"],
         name: "a",
         at: FailAt::Fetch,
     },
     Failing {
+        words: &["repair", "a", "b"],
         name: "a",
         at: FailAt::Byte(0),
+    },
+    Failing {
+        words: &["check", "a", "b"],
+        name: "b",
+        at: FailAt::Byte(74),
+    },
+    Failing {
+        words: &["check", "a", "b"],
+        name: "a",
+        at: FailAt::Byte(50),
+    },
+    Failing {
+        words: &["rerun", "a", "b"],
+        name: "b",
+        at: FailAt::Byte(20),
+    },
+    Failing {
+        words: &["thin", "a", "b"],
+        name: "b",
+        at: FailAt::Byte(20),
+    },
+    Failing {
+        words: &["many", "a", "b"],
+        name: "b",
+        at: FailAt::Byte(20),
+    },
+    Failing {
+        words: &["crash", "a", "b", "1"],
+        name: "b",
+        at: FailAt::Byte(20),
+    },
+    Failing {
+        words: &["record", "a"],
+        name: "a",
+        at: FailAt::Byte(20),
     },
 ];
 
 #[test]
 fn read_faults(rt: HostRuntime) -> Result<(), Fail> {
     for case in FAILING_FILES {
-        let inner = files(rt.alloc(), ONE_STORE, ONE_STORE_TRACE)?;
-        let name = Row::from_slice(rt.alloc(), case.name.as_bytes())?;
-        let mut cabinet = FailingCabinet::new(inner, name, case.at);
-        let outcome = call(rt.alloc(), &["repair", "a", "b"], &mut cabinet, 1000)?;
-        assert_outcome(&rt, &outcome, 3, "", "hippo: read fault\n", case.name);
+        let outcome = outcome_of_fault(rt.alloc(), case.words, FILES, case.name, case.at)?;
+        assert_outcome(&rt, &outcome, 3, "", "hippo: read fault\n", case.words[0]);
     }
     Ok(())
 }
 
 #[test]
 fn too_large_program(rt: HostRuntime) -> Result<(), Fail> {
-    let mut files = Row::new(rt.alloc());
-    files.push(NamedFile {
-        name: Row::from_slice(rt.alloc(), b"a")?,
-        bytes: Row::from_vec(vec![in rt.alloc(); b' '; 16_777_217]?),
-    })?;
-    let mut cabinet = MemCabinet::new(files, 5000);
-    let outcome = call(rt.alloc(), &["repair", "a", "b"], &mut cabinet, 1000)?;
+    let spaces = " ".repeat(rt.alloc(), 16_777_217)?;
+    let files = &[("a", spaces.as_str()), ("b", "")];
+    let outcome = outcome_in_chunks(rt.alloc(), &["repair", "a", "b"], files, 5000)?;
     assert_outcome(&rt, &outcome, 8, "", "hippo: program too large\n", "spaces");
     Ok(())
 }

@@ -1,21 +1,41 @@
-//! Tests of more than one function by public calls alone: programs that are sound or refused, and what the command
+//! Tests of more than one function by public calls alone: programs that are sound or refused, and what each command
 //! answers.
 #![tactic(auto)]
 
 #[cfg(test)]
 mod answers;
 #[cfg(test)]
+mod checks;
+#[cfg(test)]
 mod command_words;
 #[cfg(test)]
 mod commands;
+#[cfg(test)]
+mod crash_runs;
+#[cfg(test)]
+mod demos;
+#[cfg(test)]
+mod hoists;
+#[cfg(test)]
+mod many_traces;
+#[cfg(test)]
+mod programs;
+#[cfg(test)]
+mod records;
 #[cfg(test)]
 mod refused_functions;
 #[cfg(test)]
 mod refused_programs;
 #[cfg(test)]
+mod repairs;
+#[cfg(test)]
+mod reruns;
+#[cfg(test)]
 mod run_commands;
 #[cfg(test)]
 mod sound_programs;
+#[cfg(test)]
+mod thin_repairs;
 #[cfg(test)]
 mod trace_misfits;
 #[cfg(test)]

@@ -1,7 +1,7 @@
 //! Programs that `repair` refuses, with the line that says why: their text, their globals and externs, and which of two
 //! faults comes first.
 
-use crate::commands::{assert_outcome, repair};
+use crate::commands::{assert_outcome, outcome_in_chunks};
 use hip_examples::ONE_STORE_TRACE;
 use std::alloc::Global;
 use std::process::Abort;
@@ -28,7 +28,8 @@ pub fn assert_refused(
     program: &str,
     why: &str,
 ) -> Result<(), Fail> {
-    let outcome = repair(alloc, program, ONE_STORE_TRACE)?;
+    let files = &[("a", program), ("b", ONE_STORE_TRACE)];
+    let outcome = outcome_in_chunks(alloc, &["repair", "a", "b"], files, 7)?;
     let notes = format!(in alloc; "hippo: program{why}\n")?;
     assert_outcome(rt, &outcome, 5, "", notes.as_str(), program);
     Ok(())
@@ -71,12 +72,6 @@ const WHOLE_PROGRAMS: &[RefusedProgram] = &[
         program: "@x = global i64 0, section \".pm\"\n\
             define i32 @main() {\nentry:\n  store i64 5, ptr @y\n  ret i32 0\n}\n",
         why: ": unknown at function 0 block 0 index 0",
-    },
-    // It is sound, and not repaired so far.
-    RefusedProgram {
-        program: "@x = global i64 0, section \".pm\"\n\
-            define i32 @main() {\nentry:\n  store i64 5, ptr @x\n  store i64 6, ptr @x\n  ret i32 0\n}\n",
-        why: ": shape at program",
     },
     RefusedProgram {
         program: "@x = global float 0",

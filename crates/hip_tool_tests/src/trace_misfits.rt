@@ -1,6 +1,6 @@
 //! The first entry of a trace that is none of the run.
 
-use crate::commands::{assert_outcome, repair};
+use crate::commands::{assert_outcome, outcome_in_chunks};
 use hip_examples::ONE_STORE;
 use std::alloc::Global;
 use std::process::Abort;
@@ -15,7 +15,8 @@ struct Misfit {
 /// Asserts what `repair` of the program of one store answers to each trace.
 fn assert_misfits(rt: &impl Abort, alloc: Global, cases: &[Misfit]) -> Result<(), Fail> {
     for case in cases {
-        let outcome = repair(alloc, ONE_STORE, case.trace)?;
+        let files = &[("a", ONE_STORE), ("b", case.trace)];
+        let outcome = outcome_in_chunks(alloc, &["repair", "a", "b"], files, 7)?;
         let notes = format!(in alloc; "hippo: trace entry {}\n", case.misfit)?;
         assert_outcome(rt, &outcome, 6, "", notes.as_str(), case.trace);
     }
@@ -86,6 +87,18 @@ const BAD_HEADERS: &[Misfit] = &[
     Misfit {
         trace: "START;1099511627777",
         misfit: "1: differs",
+    },
+    Misfit {
+        trace: "START;18446744073709551616",
+        misfit: "1: malformed",
+    },
+    Misfit {
+        trace: "|",
+        misfit: "1: malformed",
+    },
+    Misfit {
+        trace: "START;1000000000|REGISTER;0x100000000;0x40|REGISTER;0x100000000;0x40|STOP;0",
+        misfit: "3: differs",
     },
 ];
 

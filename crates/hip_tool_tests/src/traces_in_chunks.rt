@@ -2,10 +2,8 @@
 
 ghost use Rattle.std.specs.Prelude.{◌≤◌};
 
-use crate::commands::{call, file};
+use crate::commands::outcome_in_chunks;
 use hip_examples::ONE_STORE;
-use hip_io::MemCabinet;
-use hip_types::Row;
 use std::alloc::Global;
 use std::process::Abort;
 use std::test::Fail;
@@ -52,22 +50,12 @@ const REPLAYS: &[Replay] = &[
     },
 ];
 
-/// A program `a` and a trace `b`, given in chunks of so many bytes.
-fn in_chunks(alloc: Global, trace: &str, chunk: usize) -> Result<MemCabinet, Fail>
-    requires { 1 ≤ chunk }
-{
-    let mut files = Row::new(alloc);
-    files.push(file(alloc, "a", ONE_STORE)?)?;
-    files.push(file(alloc, "b", trace)?)?;
-    Ok(MemCabinet::new(files, chunk))
-}
-
 fn assert_replays(rt: &impl Abort, alloc: Global, chunk: usize) -> Result<(), Fail>
     requires { 1 ≤ chunk }
 {
     for case in REPLAYS {
-        let mut cabinet = in_chunks(alloc, case.trace, chunk)?;
-        let outcome = call(alloc, &["repair", "a", "b"], &mut cabinet, 1000)?;
+        let files = &[("a", ONE_STORE), ("b", case.trace)];
+        let outcome = outcome_in_chunks(alloc, &["repair", "a", "b"], files, chunk)?;
         assert_eq!(rt; outcome.code, case.code, "{}", case.trace);
         assert_eq!(rt;
             outcome.notes.bytes(),

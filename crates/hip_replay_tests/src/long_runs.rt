@@ -1,0 +1,115 @@
+//! Long runs, of which little is kept.
+
+use crate::runs::{checked, in_chunks, input, record, replayed};
+use hip_io::MemSink;
+use std::alloc::Global;
+use std::process::Abort;
+use std::test::Fail;
+
+/// A number is stored, flushed and fenced 100,000 times.
+const MANY_FENCES: &str = "@x = global i64 0, section \".pm\"
+declare void @llvm.x86.clwb(ptr)
+declare void @llvm.x86.sse.sfence()
+define i32 @main() {
+entry:
+  br label %loop
+loop:
+  %i = phi i64 [ 0, %entry ], [ %j, %loop ]
+  store i64 %i, ptr @x
+  call void @llvm.x86.clwb(ptr @x)
+  call void @llvm.x86.sse.sfence()
+  %j = add i64 %i, 1
+  %c = icmp ult i64 %j, 100000
+  br i1 %c, label %loop, label %done
+done:
+  ret i32 0
+}
+";
+
+/// A million stores under 4,001 calls, and then a flush of each line and a fence.
+const DEEP_STORES: &str = "@a = global [1000000 x i64] zeroinitializer, section \".pm\"
+declare void @llvm.x86.clwb(ptr)
+declare void @llvm.x86.sse.sfence()
+define void @down(i64 %n) {
+entry:
+  %z = icmp eq i64 %n, 0
+  br i1 %z, label %stores, label %more
+more:
+  %m = sub i64 %n, 1
+  call void @down(i64 %m)
+  ret void
+stores:
+  %i = phi i64 [ 0, %entry ], [ %j, %stores ]
+  %p = getelementptr [1000000 x i64], ptr @a, i64 0, i64 %i
+  store i64 %i, ptr %p
+  %j = add i64 %i, 1
+  %c = icmp ult i64 %j, 1000000
+  br i1 %c, label %stores, label %flushes
+flushes:
+  %k = phi i64 [ 0, %stores ], [ %l, %flushes ]
+  %q = getelementptr [1000000 x i64], ptr @a, i64 0, i64 %k
+  call void @llvm.x86.clwb(ptr %q)
+  %l = add i64 %k, 8
+  %d = icmp ult i64 %l, 1000000
+  br i1 %d, label %flushes, label %done
+done:
+  call void @llvm.x86.sse.sfence()
+  ret void
+}
+define i32 @main() {
+entry:
+  call void @down(i64 4000)
+  ret i32 0
+}
+";
+
+/// How many entries and reports a recorded run has, and how many globals were stored to.
+#[derive(Clone, Copy)]
+struct Counts {
+    entries: u128,
+    reports: usize,
+    hit: usize,
+}
+
+/// Records the run of a program, whose trace has at most so many bytes.
+fn counts_of(
+    rt: &impl Abort,
+    alloc: Global,
+    program: &str,
+    out: &mut MemSink,
+) -> Result<Counts, Fail> {
+    let checked = checked(rt, alloc, program);
+    let input = input(alloc, &checked, &[], 1_000_000_000)?;
+    let recorded = record(alloc, &checked, &input, out)?;
+    Ok(Counts {
+        entries: recorded.entries,
+        reports: recorded.findings.reports.len(),
+        hit: recorded.findings.marks.hit.len(),
+    })
+}
+
+#[test]
+fn many_fences(rt: HostRuntime) -> Result<(), Fail> {
+    let mut out = MemSink::new(rt.alloc(), 10_000_000)?;
+    let counts = counts_of(&rt, rt.alloc(), MANY_FENCES, &mut out)?;
+    assert_eq!(rt; counts.entries, 300_003);
+    assert_eq!(rt; counts.reports, 0);
+    assert_eq!(rt; counts.hit, 1);
+    let checked = checked(&rt, rt.alloc(), MANY_FENCES);
+    let mut cabinet = in_chunks(rt.alloc(), out.bytes(), 4_096)?;
+    match replayed(rt.alloc(), &checked, &mut cabinet) {
+        Ok(found) => assert_eq!(rt; found.entries, 300_003),
+        Err(_) => return Err(Fail::new("not replayed")),
+    }
+    Ok(())
+}
+
+#[test]
+fn deep_shared_paths(rt: HostRuntime) -> Result<(), Fail> {
+    let mut out = MemSink::new(rt.alloc(), 50_000_000)?;
+    let counts = counts_of(&rt, rt.alloc(), DEEP_STORES, &mut out)?;
+    assert_eq!(rt; counts.entries, 1_125_004);
+    assert_eq!(rt; counts.reports, 0);
+    assert_eq!(rt; counts.hit, 1);
+    Ok(())
+}

@@ -1,0 +1,302 @@
+//! The first entry of a trace that is none of the run's, and in which way it is not.
+
+ghost use Rattle.std.specs.Prelude.{◌≤◌};
+
+use crate::programs::{SEVEN, TWO_LINES, TWO_NUMBERS};
+use crate::runs::{assert_reports, checked, in_chunks, replayed};
+use hip_examples::{ENDLESS_LOOP, ONE_STORE};
+use hip_replay::{MisfitKind, ReplayRefusal};
+use hip_run_traces::MisfitKind::{Differs, Early, Extra, Malformed};
+use std::alloc::Global;
+use std::process::Abort;
+use std::test::Fail;
+
+/// A trace, and its misfit.
+struct Misfit {
+    trace: &'static str,
+    entry: u128,
+    kind: MisfitKind,
+}
+
+/// Asserts the misfit of each trace with a program, where so many bytes come at a time.
+fn assert_misfits(
+    rt: &impl Abort,
+    alloc: Global,
+    program: &str,
+    cases: &[Misfit],
+    chunk: usize,
+) -> Result<(), Fail>
+    requires { 1 ≤ chunk }
+{
+    let checked = checked(rt, alloc, program);
+    for case in cases {
+        let mut cabinet = in_chunks(alloc, case.trace.as_bytes(), chunk)?;
+        let Err(refusal) = replayed(alloc, &checked, &mut cabinet) else {
+            return Err(Fail::new(case.trace));
+        };
+        let misfit = ReplayRefusal::Misfit {
+            entry: case.entry,
+            kind: case.kind,
+        };
+        assert!(rt; refusal == misfit, "{}", case.trace);
+    }
+    Ok(())
+}
+
+const OF_ONE_STORE: &[Misfit] = &[
+    Misfit {
+        trace: "START;1000000000|REGISTER;0x100000000;0x40|STORE;0x100000000;0x6;0x8|FENCE|STOP;0",
+        entry: 3,
+        kind: Differs,
+    },
+    Misfit {
+        trace: "START;1000000000|REGISTER;0x100000000;0x40|STORE;0x100000000;0x5;0x4|STOP;0",
+        entry: 3,
+        kind: Differs,
+    },
+    Misfit {
+        trace: "START;1000000000|REGISTER;0x100000000;0x40|STORE;0x100000000;0x5;0x8|STOP;1",
+        entry: 4,
+        kind: Differs,
+    },
+    Misfit {
+        trace: "START;1|REGISTER;0x100000000;0x40|STORE;0x100000000;0x5;0x8|STOP;0",
+        entry: 4,
+        kind: Differs,
+    },
+    Misfit {
+        trace: "START;1000000000|REGISTER;0x100000000;0x40|STORE;0x100000000;0x5;0x8|STOP;0|FENCE",
+        entry: 5,
+        kind: Extra,
+    },
+    Misfit {
+        trace: "START;1000000000|REGISTER;0x100000000;0x40|STORE;0x100000000;0x5;0x8|STOP;0||",
+        entry: 5,
+        kind: Malformed,
+    },
+    Misfit {
+        trace: "START;1000000000|REGISTER;0x100000000;0x40|STORE;5|STOP;0",
+        entry: 3,
+        kind: Malformed,
+    },
+];
+
+const SHORT: &[Misfit] = &[
+    Misfit {
+        trace: "",
+        entry: 1,
+        kind: Early,
+    },
+    Misfit {
+        trace: "START;5",
+        entry: 2,
+        kind: Early,
+    },
+    Misfit {
+        trace: "START;5|REGISTER;0x100000000;0x40\n",
+        entry: 3,
+        kind: Early,
+    },
+    Misfit {
+        trace: "START;1000000000|REGISTER;0x100000000;0x40|STORE;0x100000000;0x5;0x8",
+        entry: 4,
+        kind: Early,
+    },
+];
+
+const HEADERS: &[Misfit] = &[
+    Misfit {
+        trace: "|",
+        entry: 1,
+        kind: Malformed,
+    },
+    Misfit {
+        trace: "FENCE",
+        entry: 1,
+        kind: Differs,
+    },
+    Misfit {
+        trace: "START;1099511627777",
+        entry: 1,
+        kind: Differs,
+    },
+    Misfit {
+        trace: "START;18446744073709551616",
+        entry: 1,
+        kind: Malformed,
+    },
+    Misfit {
+        trace: "START;5|START;5",
+        entry: 2,
+        kind: Differs,
+    },
+    Misfit {
+        trace: "START;1000000000|REGISTER;0x100000001;0x40|STORE;0x100000000;0x5;0x8|STOP;0",
+        entry: 2,
+        kind: Differs,
+    },
+    Misfit {
+        trace: "START;1000000000|REGISTER;0x100000000;0x80|STORE;0x100000000;0x5;0x8|STOP;0",
+        entry: 2,
+        kind: Differs,
+    },
+    Misfit {
+        trace: "START;1000000000|REGISTER;0x100000000;0x40|REGISTER;0x100000000;0x40|STOP;0",
+        entry: 3,
+        kind: Differs,
+    },
+];
+
+const IMAGES: &[Misfit] = &[
+    Misfit {
+        trace: "START;9|REGISTER;0x100000000;0x80|IMAGE;0x100000000;00000000000000000000000000000000000000000000000000000000000000000000000000000000000000000000000000000000000000000000000000000000",
+        entry: 3,
+        kind: Differs,
+    },
+    Misfit {
+        trace: "START;9|REGISTER;0x100000000;0x80|IMAGE;0x100000080;07000000000000000000000000000000000000000000000000000000000000000000000000000000000000000000000000000000000000000000000000000000",
+        entry: 3,
+        kind: Differs,
+    },
+    Misfit {
+        trace: "START;9|REGISTER;0x100000000;0x80|IMAGE;0x100000040;07000000000000000000000000000000000000000000000000000000000000000000000000000000000000000000000000000000000000000000000000000000|IMAGE;0x100000000;07000000000000000000000000000000000000000000000000000000000000000000000000000000000000000000000000000000000000000000000000000000",
+        entry: 4,
+        kind: Differs,
+    },
+    Misfit {
+        trace: "START;9|REGISTER;0x100000000;0x80|IMAGE;0x100000001;07000000000000000000000000000000000000000000000000000000000000000000000000000000000000000000000000000000000000000000000000000000",
+        entry: 3,
+        kind: Malformed,
+    },
+];
+
+const BEHIND_AN_IMAGE: &[Misfit] = &[Misfit {
+    trace: "START;9|REGISTER;0x100000000;0x40|IMAGE;0x100000000;07000000000000000000000000000000000000000000000000000000000000000000000000000000000000000000000000000000000000000000000000000000|INPUT;1|STOP;0",
+    entry: 4,
+    kind: Differs,
+}];
+
+/// The run of the first does not end in a test's time.
+const IN_LOCKSTEP: &[Misfit] = &[
+    Misfit {
+        trace: "START;1099511627776|REGISTER;0x100000000;0x40|STORE;0x100000000;0x8;0x8",
+        entry: 3,
+        kind: Differs,
+    },
+    Misfit {
+        trace: "START;1099511627776|REGISTER;0x100000000;0x40",
+        entry: 3,
+        kind: Early,
+    },
+];
+
+const OF_NUMBERS: &[Misfit] = &[
+    Misfit {
+        trace: "START;9|REGISTER;0x100000000;0x0|INPUT;1|INPUT;2|TRAP;input",
+        entry: 5,
+        kind: Differs,
+    },
+    Misfit {
+        trace: "START;9|REGISTER;0x100000000;0x0|INPUT;1|STOP;0",
+        entry: 4,
+        kind: Differs,
+    },
+    Misfit {
+        trace: "START;9|REGISTER;0x100000000;0x0|INPUT;9223372036854775808|STOP;0",
+        entry: 3,
+        kind: Malformed,
+    },
+];
+
+#[test]
+fn misfit_kinds(rt: HostRuntime) -> Result<(), Fail> {
+    assert_misfits(&rt, rt.alloc(), ONE_STORE, OF_ONE_STORE, 7)
+}
+
+#[test]
+fn short_traces(rt: HostRuntime) -> Result<(), Fail> {
+    assert_misfits(&rt, rt.alloc(), ONE_STORE, SHORT, 1)
+}
+
+#[test]
+fn header_rules(rt: HostRuntime) -> Result<(), Fail> {
+    assert_misfits(&rt, rt.alloc(), ONE_STORE, HEADERS, 4_096)
+}
+
+#[test]
+fn image_rules(rt: HostRuntime) -> Result<(), Fail> {
+    assert_misfits(&rt, rt.alloc(), TWO_LINES, IMAGES, 100)?;
+    assert_misfits(&rt, rt.alloc(), SEVEN, BEHIND_AN_IMAGE, 4_096)
+}
+
+#[test]
+fn lockstep(rt: HostRuntime) -> Result<(), Fail> {
+    assert_misfits(&rt, rt.alloc(), ENDLESS_LOOP, IN_LOCKSTEP, 4_096)
+}
+
+#[test]
+fn numbers_that_are_read(rt: HostRuntime) -> Result<(), Fail> {
+    assert_misfits(&rt, rt.alloc(), TWO_NUMBERS, OF_NUMBERS, 3)
+}
+
+/// Asserts that a trace of the program of one store is the run's.
+fn assert_fits(rt: &impl Abort, alloc: Global, trace: &str, chunk: usize) -> Result<(), Fail>
+    requires { 1 ≤ chunk }
+{
+    let checked = checked(rt, alloc, ONE_STORE);
+    let mut cabinet = in_chunks(alloc, trace.as_bytes(), chunk)?;
+    match replayed(alloc, &checked, &mut cabinet) {
+        Ok(found) => assert_reports(
+            rt,
+            alloc,
+            &checked,
+            found.findings.reports.as_slice(),
+            "report both entry 3 check 4 closed 0 path @main:entry:0\n",
+        ),
+        Err(_) => Err(Fail::new("a misfit")),
+    }
+}
+
+/// The same entries in other spellings.
+const SPELLINGS: &[&str] = &[
+    "START;1000000000|REGISTER;0x100000000;0x40|STORE;0x100000000;0x5;0x8|STOP;0",
+    "START;1000000000\nREGISTER;0x100000000;0x40\nSTORE;0x100000000;0x5;0x8\nSTOP;0\n",
+    "START;0001000000000|REGISTER;0x000100000000;0x0040\nSTORE;0x0100000000;0x05;0x8|STOP;-0|",
+];
+
+#[test]
+fn chunks_of_any_size(rt: HostRuntime) -> Result<(), Fail> {
+    for trace in SPELLINGS {
+        assert_fits(&rt, rt.alloc(), trace, 1)?;
+        assert_fits(&rt, rt.alloc(), trace, 7)?;
+        assert_fits(&rt, rt.alloc(), trace, 4_096)?;
+    }
+    Ok(())
+}
+
+/// The trace of the program of one store, where an entry of 25 bytes has so many zeros more in its address.
+fn with_zeros(alloc: Global, zeros: usize) -> Result<String, Fail> {
+    let zeros = "0".repeat(alloc, zeros)?;
+    Ok(format!(in alloc;
+        "START;1000000000|REGISTER;0x100000000;0x40|STORE;0x{}100000000;0x5;0x8|STOP;0",
+        zeros.as_str()
+    )?)
+}
+
+#[test]
+fn longest_entry(rt: HostRuntime) -> Result<(), Fail> {
+    let longest = with_zeros(rt.alloc(), 231)?;
+    assert_fits(&rt, rt.alloc(), longest.as_str(), 100)?;
+    let checked = checked(&rt, rt.alloc(), ONE_STORE);
+    let longer = with_zeros(rt.alloc(), 232)?;
+    let mut cabinet = in_chunks(rt.alloc(), longer.as_str().as_bytes(), 100)?;
+    let misfit = ReplayRefusal::Misfit {
+        entry: 3,
+        kind: Malformed,
+    };
+    match replayed(rt.alloc(), &checked, &mut cabinet) {
+        Err(refusal) => assert!(rt; refusal == misfit),
+        Ok(_) => return Err(Fail::new("a longer entry is read")),
+    }
+    Ok(())
+}

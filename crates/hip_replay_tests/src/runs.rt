@@ -1,0 +1,92 @@
+//! Runs that are recorded and replayed in memory.
+
+ghost use Rattle.std.specs.Prelude.{◌≤◌};
+
+use hip_io::{Cabinet, Fetched, MemCabinet, MemSink, NamedFile};
+use hip_parse::parse;
+use hip_replay::{Recorded, ReplayRefusal, Replayed, record_run, replay};
+use hip_report_lines::put_reports;
+use hip_runs::Report;
+use hip_step::{Input, why_not};
+use hip_trace::Reader;
+use hip_types::Row;
+use hip_typing::{Checked, check};
+use std::alloc::Global;
+use std::process::Abort;
+use std::test::Fail;
+
+/// Where the region begins.
+const BASE: u64 = 4_294_967_296;
+
+/// The program of a text that is sound.
+pub fn checked(rt: &impl Abort, alloc: Global, text: &str) -> Checked {
+    let program = parse(alloc, text.as_bytes()).expect(rt, "the text is read");
+    check(alloc, program).expect(rt, "the program is sound")
+}
+
+/// The input of a run that begins with the initialisers' bytes.
+pub fn input(alloc: Global, checked: &Checked, numbers: &[i64], limit: u64) -> Result<Input, Fail> {
+    Ok(Input {
+        base: BASE,
+        image: checked.region_bytes(alloc, BASE)?,
+        numbers: Row::from_slice(alloc, numbers)?,
+        limit,
+    })
+}
+
+/// Records the run of a program on a valid input.
+pub fn record(
+    alloc: Global,
+    checked: &Checked,
+    input: &Input,
+    out: &mut MemSink,
+) -> Result<Recorded, Fail> {
+    if let Some(_fault) = why_not(checked, input) {
+        return Err(Fail::new("the input is not valid"));
+    }
+    match record_run(alloc, checked, input, out) {
+        Ok(recorded) => Ok(recorded),
+        Err(_) => Err(Fail::new("not recorded")),
+    }
+}
+
+/// A cabinet with the file `trace`, which gives so many bytes at a time.
+pub fn in_chunks(alloc: Global, trace: &[u8], chunk: usize) -> Result<MemCabinet, Fail>
+    requires { 1 ≤ chunk }
+{
+    let mut files = Row::new(alloc);
+    files.push(NamedFile {
+        name: Row::from_slice(alloc, b"trace")?,
+        bytes: Row::from_slice(alloc, trace)?,
+    })?;
+    Ok(MemCabinet::new(files, chunk))
+}
+
+/// Replays the file `trace` of a cabinet.
+pub fn replayed<C: Cabinet>(
+    alloc: Global,
+    checked: &Checked,
+    cabinet: &mut C,
+) -> Result<Replayed, ReplayRefusal> {
+    match cabinet.fetch("trace") {
+        Fetched::Ready => {
+            let mut reader = Reader::new();
+            replay(alloc, checked, &mut reader, cabinet)
+        }
+        _ => Err(ReplayRefusal::ReadFault),
+    }
+}
+
+/// Asserts the lines of reports.
+pub fn assert_reports(
+    rt: &impl Abort,
+    alloc: Global,
+    checked: &Checked,
+    reports: &[Report],
+    lines: &str,
+) -> Result<(), Fail> {
+    let mut out = MemSink::new(alloc, 2_000)?;
+    let _put = put_reports(&mut out, checked.program(), reports);
+    assert_eq!(rt; out.bytes(), lines.as_bytes());
+    Ok(())
+}

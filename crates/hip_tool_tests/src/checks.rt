@@ -1,0 +1,247 @@
+//! `check`: a line for each report.
+
+use crate::commands::{Case, assert_cases};
+use crate::programs::{
+    ASSERT_INSIDE_CALLEE, FENCE_WITHOUT_FLUSH, FLUSH_OF_SHARED_LINE, FLUSH_WITHOUT_FENCE,
+    OVERWRITTEN, PERSIST_CALL, PMEM_FLUSH_CALL, STORE_IN_TWO_LINES,
+};
+use hip_examples::{COPY, EVEN_AND_ODD, ONE_STORE, ONE_STORE_TRACE};
+use std::test::Fail;
+
+/// One of the two lines is flushed, and a fence comes.
+const ONE_LINE_FLUSHED: &str = "@a = global [16 x i64] zeroinitializer, section \".pm\"
+declare void @llvm.x86.clwb(ptr)
+declare void @llvm.x86.sse.sfence()
+define i32 @main() {
+entry:
+  store i64 5, ptr getelementptr ([128 x i8], ptr @a, i64 0, i64 60), align 4
+  call void @llvm.x86.clwb(ptr @a)
+  call void @llvm.x86.sse.sfence()
+  ret i32 0
+}
+";
+
+/// Both are flushed, and no fence comes.
+const BOTH_LINES_FLUSHED: &str = "@a = global [16 x i64] zeroinitializer, section \".pm\"
+declare void @llvm.x86.clwb(ptr)
+define i32 @main() {
+entry:
+  store i64 5, ptr getelementptr ([128 x i8], ptr @a, i64 0, i64 60), align 4
+  call void @llvm.x86.clwb(ptr @a)
+  call void @llvm.x86.clwb(ptr getelementptr ([128 x i8], ptr @a, i64 0, i64 64))
+  ret i32 0
+}
+";
+
+const ONE_STORES: &[Case] = &[Case {
+    words: &["check", "a", "b"],
+    files: &[("a", ONE_STORE), ("b", ONE_STORE_TRACE)],
+    code: 0,
+    out: "report both entry 3 check 4 closed 0 path @main:entry:0\n",
+    notes: "reports 1\n",
+}];
+
+#[test]
+fn one_store_is_reported(rt: HostRuntime) -> Result<(), Fail> {
+    assert_cases(&rt, rt.alloc(), ONE_STORES)
+}
+
+const KINDS: &[Case] = &[
+    Case {
+        words: &["check", "a", "b"],
+        files: &[
+            ("a", FENCE_WITHOUT_FLUSH),
+            (
+                "b",
+                "START;1000000000|REGISTER;0x100000000;0x40|STORE;0x100000000;0x5;0x8|FENCE|STOP;0",
+            ),
+        ],
+        code: 0,
+        out: "report flush entry 3 check 5 closed 0 path @main:entry:0\n",
+        notes: "reports 1\n",
+    },
+    Case {
+        words: &["check", "a", "b"],
+        files: &[
+            ("a", FLUSH_WITHOUT_FENCE),
+            (
+                "b",
+                "START;1000000000|REGISTER;0x100000000;0x40|STORE;0x100000000;0x5;0x8|FLUSH;0x100000000;0x40|STOP;0",
+            ),
+        ],
+        code: 0,
+        out: "report fence entry 3 check 5 closed 0 flush @main:entry:1 path @main:entry:0\n",
+        notes: "reports 1\n",
+    },
+    Case {
+        words: &["check", "a", "b"],
+        files: &[
+            ("a", OVERWRITTEN),
+            (
+                "b",
+                "START;1000000000|REGISTER;0x100000000;0x40|STORE;0x100000000;0x5;0x8|STORE;0x100000000;0x6;0x8|STOP;0",
+            ),
+        ],
+        code: 0,
+        out: "report both entry 4 check 5 closed 0 path @main:entry:1\n",
+        notes: "reports 1\n",
+    },
+];
+
+#[test]
+fn kinds_of_reports(rt: HostRuntime) -> Result<(), Fail> {
+    assert_cases(&rt, rt.alloc(), KINDS)
+}
+
+const DURABLE: &[Case] = &[
+    Case {
+        words: &["check", "a", "b"],
+        files: &[
+            ("a", FLUSH_OF_SHARED_LINE),
+            (
+                "b",
+                "START;1000000000|REGISTER;0x100000000;0x40|STORE;0x100000000;0x5;0x8|STORE;0x100000008;0x6;0x8|FLUSH;0x100000000;0x40|FENCE|STOP;0",
+            ),
+        ],
+        code: 0,
+        out: "",
+        notes: "reports 0\n",
+    },
+    Case {
+        words: &["check", "a", "b"],
+        files: &[
+            ("a", PERSIST_CALL),
+            (
+                "b",
+                "START;1000000000|REGISTER;0x100000000;0x40|STORE;0x100000000;0x5;0x8|PERSIST;0x100000000;0x40|STOP;0",
+            ),
+        ],
+        code: 0,
+        out: "",
+        notes: "reports 0\n",
+    },
+];
+
+#[test]
+fn nothing_is_reported(rt: HostRuntime) -> Result<(), Fail> {
+    assert_cases(&rt, rt.alloc(), DURABLE)
+}
+
+const PATHS: &[Case] = &[
+    Case {
+        words: &["check", "a", "b"],
+        files: &[
+            ("a", COPY),
+            (
+                "b",
+                "START;1000000000|REGISTER;0x100000000;0x40|STORE;0x100000000;0x9;0x8|STOP;0",
+            ),
+        ],
+        code: 0,
+        out: "report both entry 3 check 4 closed 1 path @copy:entry:1 @main:entry:4\n",
+        notes: "reports 1\n",
+    },
+    Case {
+        words: &["check", "a", "b"],
+        files: &[
+            ("a", EVEN_AND_ODD),
+            (
+                "b",
+                "START;1000000000|REGISTER;0x100000000;0x40|STORE;0x100000000;0x2;0x8|STORE;0x100000000;0x1;0x8|STOP;0",
+            ),
+        ],
+        code: 0,
+        out: "report both entry 4 check 5 closed 2 path @odd:more:0 @even:more:2 @main:entry:2\n",
+        notes: "reports 1\n",
+    },
+];
+
+#[test]
+fn paths_of_reports(rt: HostRuntime) -> Result<(), Fail> {
+    assert_cases(&rt, rt.alloc(), PATHS)
+}
+
+const CALLEES: &[Case] = &[Case {
+    words: &["check", "a", "b"],
+    files: &[
+        ("a", ASSERT_INSIDE_CALLEE),
+        (
+            "b",
+            "START;1000000000|REGISTER;0x100000000;0x40|STORE;0x100000000;0x9;0x8|ASSERT;0x100000000;0x8|STOP;0",
+        ),
+    ],
+    code: 0,
+    out: "report both entry 3 check 4 closed 0 path @copy:entry:1 @main:entry:0\nreport both entry 3 check 5 closed 1 path @copy:entry:1 @main:entry:0\n",
+    notes: "reports 2\n",
+}];
+
+#[test]
+fn checks_inside_a_callee(rt: HostRuntime) -> Result<(), Fail> {
+    assert_cases(&rt, rt.alloc(), CALLEES)
+}
+
+const LIBPMEM: &[Case] = &[Case {
+    words: &["check", "a", "b"],
+    files: &[
+        ("a", PMEM_FLUSH_CALL),
+        (
+            "b",
+            "START;1000000000|REGISTER;0x100000000;0x40|STORE;0x100000000;0x5;0x8|FLUSH;0x100000000;0x40|STOP;0",
+        ),
+    ],
+    code: 0,
+    out: "report fence entry 3 check 5 closed 0 flush @main:entry:1 path @main:entry:0\n",
+    notes: "reports 1\n",
+}];
+
+#[test]
+fn kinds_behind_libpmem(rt: HostRuntime) -> Result<(), Fail> {
+    assert_cases(&rt, rt.alloc(), LIBPMEM)
+}
+
+const TWO_LINES: &[Case] = &[
+    Case {
+        words: &["check", "a", "b"],
+        files: &[
+            ("a", STORE_IN_TWO_LINES),
+            (
+                "b",
+                "START;1000000000|REGISTER;0x100000000;0x80|STORE;0x10000003c;0x5;0x8|STOP;0",
+            ),
+        ],
+        code: 0,
+        out: "report both entry 3 check 4 closed 0 path @main:entry:0\n",
+        notes: "reports 1\n",
+    },
+    Case {
+        words: &["check", "a", "b"],
+        files: &[
+            ("a", ONE_LINE_FLUSHED),
+            (
+                "b",
+                "START;1000000000|REGISTER;0x100000000;0x80|STORE;0x10000003c;0x5;0x8|FLUSH;0x100000000;0x40|FENCE|STOP;0",
+            ),
+        ],
+        code: 0,
+        out: "report flush entry 3 check 6 closed 0 path @main:entry:0\n",
+        notes: "reports 1\n",
+    },
+    Case {
+        words: &["check", "a", "b"],
+        files: &[
+            ("a", BOTH_LINES_FLUSHED),
+            (
+                "b",
+                "START;1000000000|REGISTER;0x100000000;0x80|STORE;0x10000003c;0x5;0x8|FLUSH;0x100000000;0x40|FLUSH;0x100000040;0x40|STOP;0",
+            ),
+        ],
+        code: 0,
+        out: "report fence entry 3 check 6 closed 0 flush @main:entry:2 path @main:entry:0\n",
+        notes: "reports 1\n",
+    },
+];
+
+#[test]
+fn two_line_kinds(rt: HostRuntime) -> Result<(), Fail> {
+    assert_cases(&rt, rt.alloc(), TWO_LINES)
+}

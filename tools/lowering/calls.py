@@ -85,20 +85,16 @@ def lower_intrinsic(function, name, result, arguments, alignments):
     values = [value for _, value in arguments]
     if kind := re.match(r'llvm\.([us])(min|max)\.i\d+$', name):
         predicate = kind[1] + ('lt' if kind[2] == 'min' else 'gt')
-        first = function.emit(f'icmp {predicate} {result} {values[0]}, {values[1]}')
-        return f'select i1 {first}, {result} {values[0]}, {result} {values[1]}'
+        return chosen(function, predicate, result, values, values)
     if name.startswith('llvm.abs.'):
-        negative = function.emit(f'icmp slt {result} {values[0]}, 0')
         negated = function.emit(f'sub {result} 0, {values[0]}')
-        return f'select i1 {negative}, {result} {negated}, {result} {values[0]}'
+        return chosen(function, 'slt', result, (values[0], 0), (negated, values[0]))
     if name.startswith('llvm.usub.sat.'):
-        below = function.emit(f'icmp ult {result} {values[0]}, {values[1]}')
         difference = function.emit(f'sub {result} {values[0]}, {values[1]}')
-        return f'select i1 {below}, {result} 0, {result} {difference}'
+        return chosen(function, 'ult', result, values, (0, difference))
     if name.startswith('llvm.uadd.sat.'):
         sum_ = function.emit(f'add {result} {values[0]}, {values[1]}')
-        over = function.emit(f'icmp ult {result} {sum_}, {values[0]}')
-        return f'select i1 {over}, {result} -1, {result} {sum_}'
+        return chosen(function, 'ult', result, (sum_, values[0]), (-1, sum_))
     if kind := re.match(r'llvm\.([us])cmp\.', name):
         operands = f'{arguments[0][0]} {values[0]}, {values[1]}'
         above = function.emit(f'icmp {kind[1]}gt {operands}')
@@ -107,6 +103,12 @@ def lower_intrinsic(function, name, result, arguments, alignments):
         below = function.emit(f'zext i1 {below} to {result}')
         return f'sub {result} {above}, {below}'
     raise Refused(f'the intrinsic @{name} has no form in the subset')
+
+
+def chosen(function, predicate, type_, compared, values):
+    """The first of two values where the predicate holds of the two that are compared, or else the second."""
+    test = function.emit(f'icmp {predicate} {type_} {compared[0]}, {compared[1]}')
+    return f'select i1 {test}, {type_} {values[0]}, {type_} {values[1]}'
 
 
 def lower_block(function, kind, arguments, alignments):

@@ -143,6 +143,20 @@ class Function:
         tokens.skip_attributes()
         return f'{type_} {self.operand(tokens, type_)}'
 
+    def operands(self, tokens, type_):
+        """Two operands of one type, with the type before them."""
+        first = self.operand(tokens, type_)
+        tokens.take(',')
+        return f'{type_} {first}, {self.operand(tokens, type_)}'
+
+    def arguments(self, tokens, count):
+        """So many types and operands, as one text."""
+        texts = [self.argument(tokens)]
+        while len(texts) < count:
+            tokens.take(',')
+            texts.append(self.argument(tokens))
+        return ', '.join(texts)
+
     def alignment(self, tokens):
         """`, align N` behind an access or an alloca."""
         if not tokens.take_if(','):
@@ -158,10 +172,7 @@ class Function:
 
     def binary(self, tokens, word):
         tokens.take_all(FLAGS)
-        type_ = self.integer(tokens)
-        first = self.operand(tokens, type_)
-        tokens.take(',')
-        return f'{word} {type_} {first}, {self.operand(tokens, type_)}'
+        return f'{word} {self.operands(tokens, self.integer(tokens))}'
 
     def cast(self, tokens, word):
         tokens.take_all(FLAGS)
@@ -171,17 +182,11 @@ class Function:
 
     def compare(self, tokens):
         tokens.take_all(FLAGS)
-        predicate, type_ = tokens.take(), self.scalar(tokens)
-        first = self.operand(tokens, type_)
-        tokens.take(',')
-        return f'icmp {predicate} {type_} {first}, {self.operand(tokens, type_)}'
+        predicate = tokens.take()
+        return f'icmp {predicate} {self.operands(tokens, self.scalar(tokens))}'
 
     def select(self, tokens):
-        condition = self.argument(tokens)
-        tokens.take(',')
-        first = self.argument(tokens)
-        tokens.take(',')
-        return f'select {condition}, {first}, {self.argument(tokens)}'
+        return f'select {self.arguments(tokens, 3)}'
 
     def alloca(self, tokens):
         type_, alignment = self.type(tokens), ''
@@ -209,9 +214,7 @@ class Function:
 
     def store(self, tokens):
         self.refuse_atomic(tokens)
-        value = self.argument(tokens)
-        tokens.take(',')
-        return f'store {value}, {self.argument(tokens)}{self.alignment(tokens)}'
+        return f'store {self.arguments(tokens, 2)}{self.alignment(tokens)}'
 
     def element_address(self, tokens):
         tokens.take_all(FLAGS)

@@ -85,31 +85,29 @@ shifted:
   ret $type %both
 }''')
 
-GATHER = Template('''\
+# The head of a function whose loop counts from 0 and has, in each turn, what is left of the number.
+OVER_BITS = '''\
 define $type $name($type %value) {
 entry:
   br label %loop
 loop:
-  %i = phi i64 [ 0, %entry ], [ %next, %loop ]
-  %left = phi $type [ %value, %entry ], [ %rest, %loop ]
+  %i = phi $type [ 0, %entry ], [ %next, %$turn ]
+  %left = phi $type [ %value, %entry ], [ %rest, %$turn ]
+'''
+
+GATHER = Template(OVER_BITS + '''\
   %sum = phi $type [ 0, %entry ], [ %result, %loop ]
   %part = and $type %left, $mask
 $combine
   %rest = lshr $type %left, $step
-  %next = add i64 %i, $step
-  %more = icmp ult i64 %next, $bits
+  %next = add $type %i, $step
+  %more = icmp ult $type %next, $bits
   br i1 %more, label %loop, label %done
 done:
   ret $type %result
 }''')
 
-SEARCH = Template('''\
-define $type $name($type %value) {
-entry:
-  br label %loop
-loop:
-  %i = phi $type [ 0, %entry ], [ %next, %more ]
-  %left = phi $type [ %value, %entry ], [ %rest, %more ]
+SEARCH = Template(OVER_BITS + '''\
 $test
   br i1 %found, label %done, label %more
 more:
@@ -161,7 +159,7 @@ def parts_helper(name, step, kind, words, bytes_):
 
 def bits_helper(name, kind, bits):
     """The intrinsics on the bits of one number, and the two funnel shifts."""
-    names = {'name': name, 'type': f'i{bits}', 'bits': bits}
+    names = {'name': name, 'type': f'i{bits}', 'bits': bits, 'turn': 'more' if kind in ('cttz', 'ctlz') else 'loop'}
     if kind == 'fshl':
         return ROTATE.substitute(names, kept='%high', other='%low', towards='shl', away='lshr')
     if kind == 'fshr':

@@ -102,7 +102,7 @@ pub unloaded : {table : Answer → Type 0} {begins : Bool} {old new : CabinetSta
     → HasAnswered table begins old new s (status_of_failure failure)
 unloaded s name failure rows h kept line =
     unloaded_by s name failure (λ a u. rows a (inl u))
-    (λ u. rows (refusal statuses.ReadFault) (inr (record { met = u.met; is = refl }))) h kept line
+    (λ u. rows (refusal statuses.ReadFault) (inr (record { met = u.met; current = u.current; is = refl }))) h kept line
 
 -- ---- a larger table
 

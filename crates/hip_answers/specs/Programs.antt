@@ -1,5 +1,5 @@
 -- What a command answers where there is no program for it.
-use Rattle.std.specs.Prelude.{ℕ, ◌≡◌, true, false, List, ◌⊎◌}
+use Rattle.std.specs.Prelude.{ℕ, ◌≡◌, true, false, List, IfSome, ◌⊎◌}
 use Rattle.hip_answers.specs.Answers.{Answer, refusal}
 use Rattle.hip_answers.specs.Statuses.{status_of_refusal}
 use Rattle.hip_answers.specs.declared.status.Status.TheVariants as statuses
@@ -15,10 +15,11 @@ pub record IsUnloaded (old new : CabinetState) (name : List ℕ) (answer : Answe
   pub cause : HasNoProgram old.files name why
   pub is : answer ≡ refusal (status_of_refusal why)
 
--- A file could not be read.
-pub record IsUnread (old new : CabinetState) (answer : Answer) : Type 0 where
+-- The program's file could not be fetched, and no file is current, or it is current and was read in part.
+pub record IsUnread (old new : CabinetState) (name : List ℕ) (answer : Answer) : Type 0 where
   pub met : HasMet false true old new
+  pub current : (new.is_current ≡ false) ⊎ IfSome new.name (λ n. n ≡ name)
   pub is : answer ≡ refusal statuses.ReadFault
 
 abbrev pub LacksProgram : CabinetState → CabinetState → List ℕ → Answer → Type 0
-LacksProgram old new name answer = IsUnloaded old new name answer ⊎ IsUnread old new answer
+LacksProgram old new name answer = IsUnloaded old new name answer ⊎ IsUnread old new name answer

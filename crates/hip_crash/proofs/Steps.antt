@@ -3,7 +3,7 @@ use Rattle.std.proofs.Common.{◌≡◌, ℕ, zero, suc, ◌+◌, ◌-◌, ◌*�
 use Rattle.std.proofs.lemmas.Bool.Decides.{nat_tests}
 use Rattle.hip_ir.specs.declared.program.Program.{Program}
 use Rattle.hip_ir.specs.declared.site.Site.{Site}
-use Rattle.hip_invariants.proofs.Bounds.{counts_fit}
+use Rattle.hip_invariants.specs.Laws.Bounds.{counts_fit}
 use Rattle.hip_lines.specs.Line.{Line, AreOrdered, has_bytes}
 use Rattle.hip_lines.specs.Laws.LineLaws.{ordered-at}
 use Rattle.hip_mem.specs.Bytes.{bytes_of}

@@ -2,11 +2,9 @@
 
 ghost use Rattle.std.specs.Prelude.{◌≡◌, ◌/◌, length, is_some};
 ghost use Rattle.hip_lines.specs.declared.TheConstants.{LINE_SIZE};
-ghost use Rattle.hip_runs.specs.Ends.{longest, longest_block};
 ghost use Rattle.hip_runs.specs.Outputs.{ending_by};
 ghost use Rattle.hip_runs.specs.Step.{has_entry, header_entries, image_lines, some_byte};
 
-use hip_ir::{Block, Program};
 use hip_lines::LINE_SIZE;
 use hip_step::{Event, Input};
 
@@ -64,25 +62,4 @@ pub fn is_end(event: Event) -> bool
         Event::End(_) => true,
         _ => false,
     }
-}
-
-/// The length of the longest body of a program's blocks, which bounds how many steps a run has.
-pub fn longest_body(program: &Program) -> usize
-    ensures { result ≡ longest program.now }
-{
-    let mut most = 0;
-    for function in program.functions.as_slice() {
-        most = longest_of(function.blocks.as_slice()).max(most);
-    }
-    most
-}
-
-fn longest_of(blocks: &[Block]) -> usize
-    ensures { result ≡ longest_block blocks.now }
-{
-    let mut most = 0;
-    for block in blocks {
-        most = block.body.len().max(most);
-    }
-    most
 }

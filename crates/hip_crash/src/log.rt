@@ -11,11 +11,12 @@ ghost use Rattle.hip_runs.specs.Crash.{IsCrashImage, crash_image};
 ghost use Rattle.hip_step.specs.Seen.{after_step, state_of};
 
 use crate::changes::line_bytes;
-use crate::counting::{count_header, is_counted, is_end, longest_body};
+use crate::counting::{count_header, is_counted, is_end};
 use crate::noting::note;
 use crate::region_log::RegionLog;
 use hip_lines::LINE_SIZE;
 use hip_picks::{Bounds, Pick, PickRefusal};
+use hip_runs::longest;
 use hip_step::{Event, Input, Machine};
 use hip_types::{NoMemory, Row};
 use hip_typing::Checked;
@@ -62,7 +63,7 @@ impl<'a> CrashLog<'a> {
         ensures { IfOk result (λ log. log ≡ record { program = checked.now; input = input.now; taken = 0 }) }
     {
         // No body is longer than a number of 64 bits tells, so that the counts are numbers of 128 bits.
-        let _longest = longest_body(checked.program());
+        let _longest = longest(checked.program());
         let region = RegionLog::new(alloc)?;
         let entries = count_header(input);
         Ok(CrashLog {

@@ -2,7 +2,7 @@
 use Rattle.std.proofs.Common.{◌≡◌, ◌<◌, ◌++◌, ◌∙◌, ℕ, ℤ, true, zero, suc, codes, List, [], All, take, replicate, sym, ap, subst, arith}
 use Rattle.std.proofs.lemmas.List.Elements.{All-append, All-cons, All-nil, All-take}
 use Rattle.hip_commands.specs.FirstInput.{first_input}
-use Rattle.hip_demo.specs.declared.shown.TheConstants.{DEFAULT_LIMIT}
+use Rattle.hip_runs.specs.declared.limits.TheConstants.{DEFAULT_LIMIT}
 use Rattle.hip_gen.specs.Generated.{array_of, generated_program, zeroed_array}
 use Rattle.hip_globals.specs.Addresses.{global_align}
 use Rattle.hip_globals.specs.Initial.{region_bytes}

@@ -5,7 +5,7 @@ use Rattle.hip_answers.specs.Answers.{Answer}
 use Rattle.hip_answers.specs.declared.status.Status.TheVariants.{Done}
 use Rattle.hip_commands.specs.FirstInput.{first_input}
 use Rattle.hip_demo.specs.declared.shown.Shown.{Shown}
-use Rattle.hip_demo.specs.declared.shown.TheConstants.{DEFAULT_LIMIT}
+use Rattle.hip_runs.specs.declared.limits.TheConstants.{DEFAULT_LIMIT}
 use Rattle.hip_gen.specs.Generated.{generated_program}
 use Rattle.hip_gen.specs.Read.{IsReadAsSound}
 use Rattle.hip_io.specs.Cabinets.{CabinetState}

@@ -11,4 +11,3 @@ mod shown;
 
 pub use command::demo;
 pub use laws::demos_are_one;
-pub use shown::DEFAULT_LIMIT;

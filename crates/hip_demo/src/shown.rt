@@ -16,13 +16,10 @@ use hip_repair_answers::repairs_cure;
 use hip_repairs::{Plan, inputs_stay_valid};
 use hip_replay::Replayed;
 use hip_run_traces::{each_run_has_one_trace, written_traces_are_read_back};
-use hip_runs::Input;
+use hip_runs::{DEFAULT_LIMIT, Input};
 use hip_types::{LOWEST_BASE, NoMemory, Row};
 use hip_typing::Checked;
 use std::alloc::Global;
-
-/// How many turns a run has that is given no limit.
-pub const DEFAULT_LIMIT: u64 = 1_000_000_000;
 
 /// What is counted where a program was recorded, replayed, repaired and run again.
 #[derive(Drop)]

@@ -17,7 +17,10 @@ use crate::direct::direct_stores;
 use crate::program::repaired_program;
 use hip_calls::{callees, fresh_names};
 use hip_ir::{Function, Site};
-use hip_repairs::{CloneOf, Plan, Repaired};
+use hip_repairs::{
+    CloneOf, Plan, Repaired, direct_stores_are_quiet, hoisted_calls_are_covered,
+    hoisted_calls_are_fenced, repaired_is_sound, repairs_are_clean, repairs_do_no_harm,
+};
 use hip_types::{NoMemory, Row};
 use hip_typing::Checked;
 use std::alloc::Global;
@@ -60,6 +63,11 @@ pub fn apply_skipping(
     ensures covered { IfOk result (λ r. IsQuiet checked.now (has_site skip.now) → IsCovered checked.now r.checked) }
     ensures fenced { OnOk result (AreHoistsFenced checked.now plan.now (has_site skip.now)) }
 {
+    repaired_is_sound();
+    repairs_do_no_harm();
+    repairs_are_clean();
+    hoisted_calls_are_covered();
+    hoisted_calls_are_fenced();
     let program = checked.program();
     let originals = callees(alloc, program, plan.hoist.as_slice())?;
     let names = fresh_names(alloc, program, originals.as_slice())?;
@@ -93,6 +101,7 @@ pub fn apply(alloc: Global, checked: &Checked, plan: &Plan) -> Result<Repaired, 
     ensures covered { IfOk result (λ r. IsCovered checked.now r.checked) }
     ensures fenced { OnOk result (AreHoistsFenced checked.now plan.now (direct checked.now)) }
 {
+    direct_stores_are_quiet();
     let skip = direct_stores(alloc, checked.program())?;
     apply_skipping(alloc, checked, plan, skip.as_slice())
 }

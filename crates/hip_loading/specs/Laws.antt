@@ -1,4 +1,7 @@
 -- What the definitions of loading imply: what is met in two calls, and that a file gives one answer.
+pub mod FormRefusals
+pub mod OneAnswer
+pub mod TextRefusals
 use Rattle.std.specs.Prelude.{ℕ, ◌≡◌, Bool, true, false, List, [], Some}
 use Rattle.std.proofs.Common.{◌∙◌, subst, arith}
 use Rattle.hip_io.specs.Cabinets.{CabinetState}

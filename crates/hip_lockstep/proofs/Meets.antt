@@ -15,8 +15,8 @@ use Rattle.hip_runs.specs.declared.input.Input.{Input}
 use Rattle.hip_trace.specs.Pieces.{spelled}
 use Rattle.hip_trace.specs.Reads.{ReaderState, HasNext, HasNone, ahead, one_more}
 use Rattle.hip_trace.specs.declared.entry.Entry.{Entry}
-use Rattle.hip_lockstep.proofs.Readings.{next_read, reads_more, told_at, told_map}
-use Rattle.hip_lockstep.proofs.RunSteps.{differs_run, ending_after, fits_more, no_entry, no_entry_goes_on, read_fault, spelled_malformed, spelled_next, spelled_none, trace_after}
+use Rattle.hip_lockstep.specs.Laws.Readings.{next_read, reads_more, told_at, told_map}
+use Rattle.hip_lockstep.specs.Laws.RunSteps.{differs_run, ending_after, fits_more, no_entry, no_entry_goes_on, read_fault, spelled_malformed, spelled_next, spelled_none, trace_after}
 use Rattle.hip_lockstep.specs.InStep.{IsInStep, HasFollowed}
 use Rattle.hip_lockstep.specs.Nexts.{ReadsEnd, ReadsEntry}
 use Rattle.hip_lockstep.specs.Reading.{HasReadEntries, IsRead, told}

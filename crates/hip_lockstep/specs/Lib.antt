@@ -4,3 +4,4 @@ pub mod Nexts
 pub mod Opening
 pub mod Reading
 pub mod Refusals
+pub mod Laws

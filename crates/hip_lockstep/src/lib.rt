@@ -2,7 +2,6 @@
 //! one and compared with those of the steps.
 #![tactic(auto)]
 
-mod bodies;
 mod entries;
 mod given;
 mod header;
@@ -11,7 +10,6 @@ mod opening;
 mod refusal;
 mod steps;
 
-pub use bodies::longest;
 pub use entries::{ending_of, put_entry};
 pub use header::put_header;
 pub use opening::{Begun, read_header};

@@ -7,7 +7,7 @@ use Rattle.hip_answers.specs.declared.status.Status.TheVariants as statuses
 use Rattle.hip_io.specs.Cabinets.{CabinetState}
 use Rattle.hip_io.specs.declared.cabinet.NamedFile.{NamedFile}
 use Rattle.hip_ir.specs.declared.program.Program.{Program}
-use Rattle.hip_loading.proofs.OneAnswer.{loads_one}
+use Rattle.hip_loading.specs.Laws.OneAnswer.{loads_one}
 use Rattle.hip_loading.specs.Loading.{IsProgramOf}
 use Rattle.hip_loading.specs.declared.refusal.LoadRefusal.{LoadRefusal}
 use Rattle.hip_loading.specs.declared.refusal.LoadRefusal.TheVariants as loads

@@ -11,16 +11,20 @@ use Rattle.hip_io.specs.Cabinets.{CabinetState, file_of}
 use Rattle.hip_io.specs.declared.cabinet.NamedFile.{NamedFile}
 use Rattle.hip_ir.specs.Show.{show}
 use Rattle.hip_ir.specs.declared.program.Program.{Program}
-use Rattle.hip_loading.proofs.OneAnswer.{loads_one}
+use Rattle.hip_loading.specs.Laws.OneAnswer.{loads_one}
 use Rattle.hip_loading.specs.Laws.{LoadsOne}
 use Rattle.hip_loading.specs.Loading.{HasNoProgram, IsProgramOf}
 use Rattle.hip_loading.specs.declared.refusal.LoadRefusal.{LoadRefusal}
 use Rattle.hip_many.specs.Reasons.{reasons}
 use Rattle.hip_many.specs.Union.{IsUnion}
 use Rattle.hip_many_commands.specs.Laws.{ManyAreOne}
-use Rattle.hip_many_commands.specs.Many.{HasRepairedMany, ManyAnswers, repaired_by, status_in}
+use Rattle.hip_many_commands.specs.Many.{HasRepairedMany, ManyAnswers, status_in}
+use Rattle.hip_repairs.specs.Direct.{direct}
+use Rattle.hip_repairs.specs.Repaired.{repaired}
 use Rattle.hip_many_commands.specs.Notes.{many_notes}
 use Rattle.hip_many_commands.specs.Runs.{AreRunsOf, ComesBehindRuns, IsRunOf, TracedRun, plans_of, reports_of}
+use Rattle.hip_repair_answers.specs.Laws.OneAnswer.{not_there, same_bytes}
+use Rattle.hip_repair_answers.specs.Laws.Repairs.{answer_is}
 use Rattle.hip_repair_answers.specs.TraceFiles.{HasNoTrace, IsTraceFile}
 use Rattle.hip_repair_answers.specs.declared.refusal.TraceRefusal.{TraceRefusal}
 use Rattle.hip_repair_answers.specs.declared.refusal.TraceRefusal.TheVariants as traces
@@ -35,12 +39,6 @@ use Rattle.hip_runs.specs.Laws.Found.FoundLaws.{found_is_one}
 use Rattle.hip_runs.specs.declared.input.Input.{Input}
 
 -- ---- what is in a file
-
-same_bytes : (o : Option (List ℕ)) (a b : List ℕ) → o ≡ Some a → o ≡ Some b → a ≡ b
-same_bytes o a b p q = let k : Some a ≡ Some b = sym p ∙ q in cc
-
-not_there : (o : Option (List ℕ)) (a : List ℕ) → o ≡ Some a → o ≡ None → ⊥
-not_there o a p q = let k : Some a ≡ None = sym p ∙ q in cc
 
 heads : {A : Type 0} (x y : A) (xs ys : List A) → x ∷ xs ≡ y ∷ ys → x ≡ y
 heads x y xs ys e = cc
@@ -185,15 +183,12 @@ pub data View (files : List NamedFile) (p : List ℕ) (names : List (List ℕ)) 
 abbrev UnionsAreOne : Type 0
 UnionsAreOne = (plans : List Plan) (a b : Plan) → IsUnion plans a → IsUnion plans b → a ≡ b
 
-answer_is : {a : Answer} (b : Answer) → a.status ≡ b.status → a.out ≡ b.out → a.notes ≡ b.notes → a ≡ b
-answer_is b e f g = λ i. record { status = e i; out = f i; notes = g i }
-
 alike : UnionsAreOne → (P : Program) (runs : List TracedRun) (a b : Answer) → HasRepairedMany P runs a
     → HasRepairedMany P runs b → a ≡ b
 alike unions P runs a b x y =
     let plan = unions (plans_of P runs) x.plan y.plan x.union y.union in
     answer_is b (x.status_is ∙ sym y.status_is)
-    (x.out_is ∙ ap (λ (q : Plan). show (repaired_by P q)) plan ∙ sym y.out_is)
+    (x.out_is ∙ ap (λ (q : Plan). show (repaired P q (direct P))) plan ∙ sym y.out_is)
     (x.notes_is
     ∙ ap (λ (q : Plan). many_notes P (length runs) (reports_of runs) q (length (clone_numbers P q))
     (reasons (plans_of P runs) q)) plan

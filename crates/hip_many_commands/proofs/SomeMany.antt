@@ -13,7 +13,7 @@ use Rattle.hip_many.specs.Reasons.{reasons}
 use Rattle.hip_many.specs.Union.{HasAll, IsUnion}
 use Rattle.hip_many_commands.proofs.Cures.{PlansCure, cures}
 use Rattle.hip_many_commands.specs.Laws.{ManyAreAnswered}
-use Rattle.hip_many_commands.specs.Many.{repaired_by}
+use Rattle.hip_repairs.specs.Repaired.{repaired}
 use Rattle.hip_many_commands.specs.Notes.{many_notes}
 use Rattle.hip_many_commands.specs.Runs.{AreRunsOf, TracedRun, plans_of, reports_of}
 use Rattle.hip_repairs.specs.Choice.{Contains, plan_for, wants_fence, wants_flush, wants_hoist}
@@ -104,7 +104,7 @@ many_are_answered cure quiet files old new p names P runs told loaded are met =
     let plan = union_of P runs in (
       record {
         status = statuses.Done;
-        out = show (repaired_by P plan);
+        out = show (repaired P plan (direct P));
         notes =
             many_notes P (length runs) (reports_of runs) plan (length (clone_numbers P plan))
             (reasons (plans_of P runs) plan);

@@ -2,7 +2,7 @@
 use Rattle.std.specs.Prelude.{ℕ, ◌≡◌, ◌⊎◌, false, true, List, length, IfSome}
 use Rattle.std.specs.List.{All}
 use Rattle.hip_answers.specs.Answers.{Answer, refusal}
-use Rattle.hip_answers.specs.Programs.{IsUnloaded}
+use Rattle.hip_answers.specs.Programs.{IsUnloaded, IsUnread}
 use Rattle.hip_answers.specs.declared.status.FileRole.TheVariants as roles
 use Rattle.hip_answers.specs.declared.status.Status.{Status}
 use Rattle.hip_answers.specs.declared.status.Status.TheVariants as statuses
@@ -16,7 +16,7 @@ use Rattle.hip_many.specs.Union.{IsUnion}
 use Rattle.hip_many_commands.specs.Notes.{many_notes}
 use Rattle.hip_many_commands.specs.Runs.{AreRunsOf, ComesBehindRuns, TracedRun, plans_of, reports_of}
 use Rattle.hip_repair_answers.specs.Cured.{IsCuredBy}
-use Rattle.hip_repair_answers.specs.TraceFiles.{HasNoTrace, IsProgramUnread, ShowsNoMisfit, is_missing}
+use Rattle.hip_repair_answers.specs.TraceFiles.{HasNoTrace, ShowsNoMisfit, is_missing}
 use Rattle.hip_repair_answers.specs.declared.refusal.TraceRefusal.{TraceRefusal}
 use Rattle.hip_repair_answers.specs.declared.refusal.TraceRefusal.TheVariants as traces
 use Rattle.hip_repairs.specs.CloneNumbers.{clone_numbers}
@@ -62,18 +62,15 @@ pub record IsUnreadIn (old new : CabinetState) (program_name : List ℕ) (names 
 
 -- ---- one repair for all
 
--- the program repaired by a plan; the direct stores get no flush by cloning
-abbrev pub repaired_by : Program → Plan → Program
-repaired_by P plan = repaired P plan (direct P)
-
--- Out has the canonical text of the program that is repaired by the union of the runs' plans. Notes has how many
+-- Out has the canonical text of the program that is repaired by the union of the runs' plans; its direct stores get no
+-- flush by cloning. Notes has how many
 -- traces, reports, flushes, fences, hoisted calls and clones there are, and for each site of the union how many plans
 -- have it. The repaired program does no harm, is clean on the input of each run and has its hoisted calls covered.
 pub record HasRepairedMany (P : Program) (runs : List TracedRun) (answer : Answer) : Type 0 where
   pub plan : Plan
   pub union : IsUnion (plans_of P runs) plan
   pub status_is : answer.status ≡ statuses.Done
-  pub out_is : answer.out ≡ show (repaired_by P plan)
+  pub out_is : answer.out ≡ show (repaired P plan (direct P))
   pub notes_is : answer.notes ≡ many_notes P (length runs) (reports_of runs) plan (length (clone_numbers P plan))
       (reasons (plans_of P runs) plan)
   pub cured : All (λ r. IsCuredBy P r.input plan (direct P)) runs
@@ -92,6 +89,6 @@ pub record HasRunsOf (old new : CabinetState) (program_name : List ℕ) (names :
 abbrev pub ManyAnswers : CabinetState → CabinetState → List ℕ → List (List ℕ) → Answer → Type 0
 ManyAnswers old new program_name names answer =
     IsUnloaded old new program_name answer
-    ⊎ (IsProgramUnread old new program_name answer
+    ⊎ (IsUnread old new program_name answer
     ⊎ (IsUntracedIn old new program_name names answer
     ⊎ (IsUnreadIn old new program_name names answer ⊎ HasRunsOf old new program_name names answer)))

@@ -3,7 +3,8 @@ use Rattle.std.specs.Prelude.{◌≡◌, List}
 use Rattle.hip_ir.specs.declared.program.Program.{Program}
 use Rattle.hip_many.specs.Reasons as many
 use Rattle.hip_many.specs.Union.{IsUnion}
-use Rattle.hip_many_commands.specs.Many.{repaired_by}
+use Rattle.hip_repairs.specs.Direct.{direct}
+use Rattle.hip_repairs.specs.Repaired.{repaired}
 use Rattle.hip_many_commands.specs.declared.repairing.ManyRepair.{ManyRepair}
 use Rattle.hip_repairs.specs.Choice.{Contains}
 use Rattle.hip_repairs.specs.CloneNumbers.{clone_numbers}
@@ -16,5 +17,5 @@ pub record IsRepairBy (P : Program) (plans : List Plan) (repair : ManyRepair) : 
   pub union : IsUnion plans repair.plan
   pub contains : (part : Plan) → In part plans → Contains repair.plan part
   pub reasons_are : repair.reasons ≡ many.reasons plans repair.plan
-  pub program_is : repair.repaired.checked ≡ repaired_by P repair.plan
+  pub program_is : repair.repaired.checked ≡ repaired P repair.plan (direct P)
   pub clones_are : repair.repaired.clones ≡ clone_numbers P repair.plan

@@ -1,3 +1,4 @@
+pub mod Decided
 pub mod HexDigits
 pub mod Numerals
 pub mod Quotients

@@ -1,10 +1,10 @@
 -- The texts of numbers, written and read. A written text has the least number of digits and lower case; digits are
 -- read with leading zeros too, and hexadecimal ones in either case.
-use Rattle.std.specs.Prelude.{ℕ, ◌^◌, ◌<◌, Bool, false, List, ◌++◌, drop, IsTrue, codes, ℤ, pos, neg_ℤ, if◌then◌else◌, nat_eq, FitsSigned}
+use Rattle.std.specs.Prelude.{ℕ, ◌^◌, Bool, true, false, ◌&&◌, List, [], ◌∷◌, ◌++◌, drop, codes, ℤ, pos, negsuc, neg_ℤ, Option, Some, None, if◌then◌else◌, nat_eq, nat_lt}
 use Rattle.std.specs.Fmt.{digits}
-use Rattle.std.specs.Int.{w64}
-use Rattle.std.specs.List.{starts_with}
-use Rattle.std.specs.Str.Parse.{IsNumeral, digits_value}
+use Rattle.std.specs.Char.{digit_value}
+use Rattle.std.specs.List.{list_all, starts_with}
+use Rattle.std.specs.Str.Parse.{digits_value}
 
 -- ---- written
 
@@ -14,9 +14,27 @@ hexadecimal n = codes "0x" ++ digits 16 false n
 
 -- ---- read
 
+abbrev pub is_nonempty : List ℕ → Bool
+is_nonempty [] = false
+is_nonempty (b ∷ bs) = true
+
+-- one or more digits to a base
+abbrev pub are_digits : ℕ → List ℕ → Bool
+are_digits base text = is_nonempty text && list_all (λ c. nat_lt (digit_value c) base) text
+
+abbrev pub is_number : ℕ → List ℕ → Bool
+is_number base text = are_digits base text && nat_lt (digits_value base text) (2 ^ 64)
+
 -- one or more digits to a base, of a number below 2 ^ 64
-abbrev pub IsNumber : ℕ → List ℕ → Type 0
-IsNumber base text = IsNumeral base text × (digits_value base text < 2 ^ 64)
+abbrev pub number_of : ℕ → List ℕ → Option ℕ
+number_of base text = if is_number base text then Some (digits_value base text) else None
+
+abbrev pub decimal_of : List ℕ → Option ℕ
+decimal_of text = number_of 10 text
+
+-- `0x` and one or more digits to base 16, of a number below 2 ^ 64
+abbrev pub hex_of : List ℕ → Option ℕ
+hex_of text = if starts_with nat_eq text (codes "0x") then number_of 16 (drop 2 text) else None
 
 abbrev pub has_minus : List ℕ → Bool
 has_minus text = starts_with nat_eq text (codes "-")
@@ -30,10 +48,14 @@ signed_value text =
     if has_minus text then neg_ℤ (pos (digits_value 10 (signed_digits text)))
     else pos (digits_value 10 (signed_digits text))
 
--- one or more decimal digits, after a `-` or none, of a number from -2 ^ 63 to 2 ^ 63 - 1
-abbrev pub IsSignedNumber : List ℕ → Type 0
-IsSignedNumber text = IsNumeral 10 (signed_digits text) × FitsSigned w64 (signed_value text)
+-- from -limit to limit - 1
+abbrev pub in_range : ℕ → ℤ → Bool
+in_range limit (pos n) = nat_lt n limit
+in_range limit (negsuc n) = nat_lt n limit
 
--- `0x` and one or more digits to base 16, of a number below 2 ^ 64
-abbrev pub IsHexadecimal : List ℕ → Type 0
-IsHexadecimal text = IsTrue (starts_with nat_eq text (codes "0x")) × IsNumber 16 (drop 2 text)
+abbrev pub is_signed : ℕ → List ℕ → Bool
+is_signed limit text = are_digits 10 (signed_digits text) && in_range limit (signed_value text)
+
+-- one or more decimal digits, after a `-` or none, of a number from -limit to limit - 1
+abbrev pub signed_of : ℕ → List ℕ → Option ℤ
+signed_of limit text = if is_signed limit text then Some (signed_value text) else None

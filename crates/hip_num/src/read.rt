@@ -1,24 +1,23 @@
-ghost use Rattle.std.specs.Prelude.{◌≤◌, ◌^◌, drop, pos, neg_ℤ};
+ghost use Rattle.std.specs.Prelude.{◌≡◌, ◌≤◌, ◌<◌, ◌^◌, pos, neg_ℤ};
 ghost use Rattle.std.specs.Option.{SomeIff};
-ghost use Rattle.std.specs.Str.Parse.{digits_value};
-ghost use Rattle.hip_num.specs.Texts as spec;
-ghost use Rattle.hip_num.specs.Texts.{IsNumber, IsSignedNumber, IsHexadecimal};
+ghost use Rattle.std.specs.Str.Parse.{IsNumeral, digits_value};
+ghost use Rattle.hip_num.specs.Texts.{decimal_of, hex_of, number_of, signed_of};
 
 /// The number that one or more decimal digits write. None where a byte is no digit, where there is none, and where the
 /// number is 2^64 or more.
 pub fn read_decimal(text: &[u8]) -> Option<u64>
-    ensures { SomeIff result (IsNumber 10 text.now) (digits_value 10 text.now) }
+    ensures { result ≡ decimal_of text.now }
 {
-    read_digits(text, 10)
+    read_number(text, 10)
 }
 
 /// The number that `0x` and one or more hexadecimal digits of either case write. None where the text has another
 /// form, and where the number is 2^64 or more.
 pub fn read_hex(text: &[u8]) -> Option<u64>
-    ensures { SomeIff result (IsHexadecimal text.now) (digits_value 16 (drop 2 text.now)) }
+    ensures { result ≡ hex_of text.now }
 {
     if text.starts_with(b"0x") {
-        read_digits(&text[2..], 16)
+        read_number(&text[2..], 16)
     } else {
         None
     }
@@ -27,12 +26,12 @@ pub fn read_hex(text: &[u8]) -> Option<u64>
 /// The number that one or more decimal digits write, negated where a `-` stands before them. None where the text has
 /// another form, and where the number is outside of i64.
 pub fn read_signed(text: &[u8]) -> Option<i64>
-    ensures { SomeIff result (IsSignedNumber text.now) (spec.signed_value text.now) }
+    ensures { result ≡ signed_of (2 ^ 63) text.now }
 {
     if text.starts_with(b"-") {
-        negated(read_digits(&text[1..], 10)?)
+        negated(read_number(&text[1..], 10)?)
     } else {
-        i64::try_from(read_digits(text, 10)?).ok()
+        i64::try_from(read_number(text, 10)?).ok()
     }
 }
 
@@ -48,10 +47,19 @@ fn negated(magnitude: u64) -> Option<i64>
     }
 }
 
+fn read_number(text: &[u8], base: u32) -> Option<u64>
+    requires low { 2 ≤ base }
+    requires high { base ≤ 16 }
+    ensures { result ≡ number_of base text.now }
+{
+    read_digits(text, base)
+}
+
 fn read_digits(text: &[u8], base: u32) -> Option<u64>
     requires low { 2 ≤ base }
     requires high { base ≤ 16 }
-    ensures { SomeIff result (IsNumber base text.now) (digits_value base text.now) }
+    ensures { SomeIff result (IsNumeral base text.now × (digits_value base text.now < 2 ^ 64))
+        (digits_value base text.now) }
 {
     if text.is_empty() {
         return None;

@@ -1,7 +1,7 @@
 -- The answers of `check`, `repair` and `rerun`.
 use Rattle.std.specs.Prelude.{ℕ, ◌≡◌, ◌⊎◌, false, List, [], length, IfSome}
 use Rattle.hip_answers.specs.Answers.{Answer}
-use Rattle.hip_answers.specs.Programs.{IsUnloaded}
+use Rattle.hip_answers.specs.Programs.{IsUnloaded, IsUnread}
 use Rattle.hip_answers.specs.declared.status.Status.TheVariants.{Done}
 use Rattle.hip_io.specs.Cabinets.{CabinetState}
 use Rattle.hip_ir.specs.Show.{show}
@@ -9,7 +9,7 @@ use Rattle.hip_ir.specs.declared.program.Program.{Program}
 use Rattle.hip_loading.specs.Loading.{IsProgramOf}
 use Rattle.hip_loading.specs.Outside.{HasMet}
 use Rattle.hip_repair_answers.specs.Cured.{IsCured, repaired_for}
-use Rattle.hip_repair_answers.specs.TraceFiles.{IsProgramUnread, IsTraceFile, LacksTrace}
+use Rattle.hip_repair_answers.specs.TraceFiles.{IsTraceFile, LacksTrace}
 use Rattle.hip_repairs.specs.Choice.{plan_for}
 use Rattle.hip_repairs.specs.CloneNumbers.{clone_numbers}
 use Rattle.hip_report_lines.specs.Counts.{check_counts, repair_counts, rerun_counts}
@@ -43,7 +43,7 @@ abbrev pub TraceAnswers : (Program → Input → Findings → Answer → Type 0)
     → List ℕ → Answer → Type 0
 TraceAnswers Texts old new program_name trace_name answer =
     IsUnloaded old new program_name answer
-    ⊎ (IsProgramUnread old new program_name answer
+    ⊎ (IsUnread old new program_name answer
     ⊎ (LacksTrace old new program_name trace_name answer ⊎ HasRunOf Texts old new program_name trace_name answer))
 
 -- ---- the commands

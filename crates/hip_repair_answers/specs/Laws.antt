@@ -1,4 +1,7 @@
 -- What the definitions of the answers imply.
+pub mod Cures
+pub mod OneAnswer
+pub mod Repairs
 use Rattle.std.specs.Prelude.{ℕ, ◌≡◌, ◌≢◌, ◌≤◌, ◌⊎◌, true, false, List, [], length, Some}
 use Rattle.hip_answers.specs.Answers.{Answer}
 use Rattle.hip_answers.specs.Same.{AreOne}

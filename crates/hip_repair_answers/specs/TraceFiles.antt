@@ -62,12 +62,6 @@ status_of_trace failures.NoMemory = statuses.NoMemory
 
 -- ---- answers
 
--- The program could not be fetched, and no file is current, or it could not be read to its end.
-pub record IsProgramUnread (old new : CabinetState) (program_name : List ℕ) (answer : Answer) : Type 0 where
-  pub met : HasMet false true old new
-  pub current : (new.is_current ≡ false) ⊎ IfSome new.name (λ name. name ≡ program_name)
-  pub is : answer ≡ refusal statuses.ReadFault
-
 -- The program is there, and the file is not the trace of a run of it; the answer says why.
 pub record IsUntraced (old new : CabinetState) (program_name trace_name : List ℕ) (answer : Answer) : Type 0 where
   pub program : Program

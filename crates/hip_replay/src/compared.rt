@@ -10,9 +10,9 @@ ghost use Rattle.hip_trace.specs.declared.refusal.Progress.TheVariants.{Reading}
 use crate::ended::Ended;
 use hip_invariants::runs_are_bounded;
 use hip_io::Cabinet;
-use hip_lockstep::{Begun, Lockstep, ReplayRefusal, longest, read_header};
+use hip_lockstep::{Begun, Lockstep, ReplayRefusal, read_header};
 use hip_report::{Findings, Tracker};
-use hip_runs::{events_tell_output_and_ending, runs_end};
+use hip_runs::{events_tell_output_and_ending, longest, runs_end};
 use hip_step::{Ending, Input, Machine};
 use hip_trace::Reader;
 use hip_typing::Checked;

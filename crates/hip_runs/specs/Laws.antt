@@ -18,3 +18,4 @@ pub mod SiteLaws
 pub mod Standing
 pub mod StepLaws
 pub mod StoreLaws
+pub mod Opened

@@ -1,6 +1,7 @@
 //! The meaning of programs over persistent memory: states, steps, runs, crash images, and what a run finds not durable.
 #![tactic(auto)]
 
+mod bodies;
 mod event;
 mod findings;
 mod history;
@@ -13,6 +14,7 @@ mod order;
 mod report;
 mod standing;
 
+pub use bodies::longest;
 pub use event::{Ending, Event, Object, TrapKind};
 pub use findings::{
     findings_are_one, marks_are_met_once, reports_are_well_formed, same_marks_are_equal,
@@ -28,7 +30,7 @@ pub use images::{
 };
 pub use input::{Input, InputFault};
 pub use laws::{parts_carry_their_history, runs_end};
-pub use limits::{MOST_FRAMES, MOST_NUMBERS, MOST_TURNS};
+pub use limits::{DEFAULT_LIMIT, MOST_FRAMES, MOST_NUMBERS, MOST_TURNS};
 pub use loose::{
     loose_bytes_tell_loose_parts, loose_parts_are_last_over_loose_bytes, reports_follow_the_tags,
     steps_of_nothing_may_be_left_out, tags_are_steps,

@@ -6,3 +6,6 @@ pub const MOST_TURNS: u64 = 1_099_511_627_776;
 
 /// How many numbers an input may have.
 pub const MOST_NUMBERS: u64 = 1_048_576;
+
+/// How many turns a run has that is given no limit.
+pub const DEFAULT_LIMIT: u64 = 1_000_000_000;

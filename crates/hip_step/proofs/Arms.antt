@@ -18,7 +18,7 @@ use Rattle.hip_runs.specs.Actions.{Traps, Assigns, Returns, trap_of}
 use Rattle.hip_runs.specs.State.{Frame, Slot}
 use Rattle.hip_runs.specs.Step.{with_turn, is_bottom, perform, leave}
 use Rattle.hip_invariants.specs.StackShape.{lie_in_order, HasShape}
-use Rattle.hip_invariants.proofs.StackShape.{lower}
+use Rattle.hip_invariants.specs.Laws.StackShape.{lower}
 use Rattle.hip_code.specs.Entries.{StandsAt}
 use Rattle.hip_code.specs.Frames.{names_at, HoldsFrame}
 use Rattle.hip_code.specs.Moves.{name_at}

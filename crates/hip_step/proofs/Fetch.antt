@@ -15,7 +15,7 @@ use Rattle.hip_runs.specs.State.{Frame, Slot, State}
 use Rattle.hip_runs.specs.Step.{event_at, stop, is_cut, carry_out, deed_at, counted, on_frames, on_ending, step, event_on_frames, event_on_ending, event}
 use Rattle.hip_invariants.specs.NeverStuck.{ReadsAssigned}
 use Rattle.hip_invariants.specs.StackShape.{lie_between, lie_in_order, HasShape}
-use Rattle.hip_invariants.proofs.StackShape.{lower}
+use Rattle.hip_invariants.specs.Laws.StackShape.{lower}
 use Rattle.hip_objects.specs.Blocks.{IsBehind}
 use Rattle.hip_step.specs.Blocks.{blocks_of}
 use Rattle.hip_mem.specs.Areas.{mark_of}

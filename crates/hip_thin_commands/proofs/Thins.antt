@@ -9,7 +9,7 @@ use Rattle.hip_io.specs.declared.sink.Put.{Put}
 use Rattle.hip_io.specs.declared.sink.Put.TheVariants as puts
 use Rattle.hip_ir.specs.Show.{show}
 use Rattle.hip_ir.specs.declared.program.Program.{Program}
-use Rattle.hip_repair_answers.proofs.Repairs.{Makes}
+use Rattle.hip_repair_answers.specs.Laws.Repairs.{Makes}
 use Rattle.hip_repairs.specs.Choice.{Contains, plan_for}
 use Rattle.hip_repairs.specs.CloneNumbers.{clone_numbers}
 use Rattle.hip_repairs.specs.declared.plan.CloneOf.{CloneOf}

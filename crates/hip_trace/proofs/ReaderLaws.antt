@@ -5,7 +5,7 @@ use Rattle.std.proofs.lemmas.List.{append-nil, take_all, drop_all}
 use Rattle.std.specs.List.{list_any}
 use Rattle.hip_io.specs.Cabinets.{CabinetState, StaysOpen}
 use Rattle.hip_io.specs.Counts.{Rose}
-use Rattle.hip_trace.specs.Numbers.{is_nonempty}
+use Rattle.hip_num.specs.Texts.{is_nonempty}
 use Rattle.hip_trace.specs.Entries.{entry_of}
 use Rattle.hip_trace.specs.Fronts.{FindsFront, HasRestFirst, HasFailedFirst, HoldsMore, HasTakenSome, HasTakenNothing, HasFailedMore, AnswersFront, answers_piece, answers_rest, IsFrontOf}
 use Rattle.hip_trace.specs.Pieces.{is_separator, spelled}
@@ -15,7 +15,7 @@ use Rattle.hip_trace.specs.declared.front.Front.{Front}
 use Rattle.hip_trace.specs.declared.front.Front.TheVariants as fronts
 use Rattle.hip_trace.specs.declared.refusal.TraceRefusal.{TraceRefusal}
 use Rattle.hip_trace.specs.declared.refusal.TraceRefusal.TheVariants.{Malformed, ReadFault}
-use Rattle.hip_trace.proofs.PieceLaws.{cut_at, none_found, spelled_at, spelled_last, spelled_long, no_piece}
+use Rattle.hip_trace.specs.Laws.PieceLaws.{cut_at, none_found, spelled_at, spelled_last, spelled_long, no_piece}
 
 -- ---- under the option of what is told
 

@@ -6,7 +6,7 @@ use Rattle.std.specs.List.{slice_split}
 use Rattle.std.specs.Str.{bytes_eq}
 use Rattle.hex.specs.Hex.{decode_sized}
 use Rattle.hip_tokens.specs.Bytes.{byte}
-use Rattle.hip_trace.specs.Numbers.{decimal_of, hex_of, signed_of}
+use Rattle.hip_num.specs.Texts.{decimal_of, hex_of, signed_of}
 use Rattle.hip_trace.specs.declared.entry.Entry.{Entry}
 use Rattle.hip_trace.specs.declared.entry.Entry.TheVariants.{Start, Register, Input, Image, Store, Flush, Fence, Persist, Assert, Stop, Trap, Cut}
 use Rattle.hip_trace.specs.declared.entry.TrapWord.{TrapWord}

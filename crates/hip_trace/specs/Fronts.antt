@@ -4,7 +4,7 @@ use Rattle.hip_io.specs.Counts.{Rose}
 use Rattle.hip_io.specs.Cabinets.{CabinetState, StaysOpen}
 use Rattle.hip_io.specs.declared.cabinet.Taken.{Taken}
 use Rattle.hip_io.specs.declared.cabinet.Taken.TheVariants as taken
-use Rattle.hip_trace.specs.Numbers.{is_nonempty}
+use Rattle.hip_num.specs.Texts.{is_nonempty}
 use Rattle.hip_trace.specs.Entries.{entry_of}
 use Rattle.hip_trace.specs.Pieces.{is_separator}
 use Rattle.hip_trace.specs.Reads.{ReaderState, IsReading, after_held, one_more}

@@ -1,4 +1,9 @@
 -- What a canonical text is for, and where a reader comes to an end.
+pub mod FieldLaws
+pub mod FitLaws
+pub mod PieceLaws
+pub mod TextLaws
+pub mod WrittenLaws
 use Rattle.std.specs.Prelude.{ℕ, ◌≡◌, ◌≤◌, ◌⊎◌, List, [], length, Option, Some, None, Result, Ok, Err}
 use Rattle.hip_io.specs.Cabinets.{CabinetState}
 use Rattle.hip_trace.specs.Entries.{entry_of}

@@ -2,7 +2,6 @@ pub mod Entries
 pub mod Fits
 pub mod Fronts
 pub mod Laws
-pub mod Numbers
 pub mod Pieces
 pub mod Seen
 pub mod Texts

@@ -2,7 +2,7 @@
 use Rattle.std.specs.Prelude.{ℕ, Bool, true, false, ◌||◌, List, [], ◌∷◌, length, map, Option, nat_lt, ◌==◌, if◌then◌else◌}
 use Rattle.std.specs.List.{slice_split}
 use Rattle.hip_tokens.specs.Bytes.{byte}
-use Rattle.hip_trace.specs.Numbers.{is_nonempty}
+use Rattle.hip_num.specs.Texts.{is_nonempty}
 use Rattle.hip_trace.specs.Entries.{entry_of}
 use Rattle.hip_trace.specs.declared.entry.Entry.{Entry}
 

@@ -3,7 +3,7 @@ use Rattle.std.specs.Prelude.{ℕ, ◌+◌, ◌-◌, ◌^◌, ◌≡◌, ◌≤�
 use Rattle.std.specs.List.{list_any}
 use Rattle.hip_io.specs.Counts.{Rose}
 use Rattle.hip_io.specs.Cabinets.{CabinetState, StaysOpen}
-use Rattle.hip_trace.specs.Numbers.{is_nonempty}
+use Rattle.hip_num.specs.Texts.{is_nonempty}
 use Rattle.hip_trace.specs.Entries.{entry_of}
 use Rattle.hip_trace.specs.Pieces.{is_separator, pieces, spelled}
 use Rattle.hip_trace.specs.declared.entry.Entry.{Entry}

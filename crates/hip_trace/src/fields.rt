@@ -7,7 +7,7 @@ ghost use Rattle.hip_tokens.specs.Bytes.{byte};
 ghost use Rattle.hip_trace.specs.Entries.{fields, one_field, two_fields, three_fields, two_numbers};
 ghost use Rattle.hip_trace.specs.Seen.{behind, pair_seen, triple_seen};
 
-use crate::numbers::read_hex;
+use hip_num::read_hex;
 
 /// How many bytes stand before the first semicolon.
 fn field_len(text: &[u8]) -> usize

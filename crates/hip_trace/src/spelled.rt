@@ -6,7 +6,8 @@ ghost use Rattle.hip_trace.specs.Seen.{behind};
 
 use crate::entry::{Entry, TrapWord};
 use crate::fields::{first_field, one_field, three_fields, two_fields, two_numbers};
-use crate::numbers::{read_decimal, read_hex, read_signed, read_signed_32};
+use crate::numbers::read_signed_32;
+use hip_num::{read_decimal, read_hex, read_signed};
 
 #[tactic(auto, unfolding(crate::specs::Entries::start))]
 fn start(rest: Option<&[u8]>) -> Option<Entry>

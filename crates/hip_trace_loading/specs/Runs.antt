@@ -1,13 +1,13 @@
 -- What loading a program and the trace of one of its runs answers.
 use Rattle.std.specs.Prelude.{ℕ, ◌≡◌, ◌⊎◌, Bool, false, List, Result, Ok, Err}
 use Rattle.hip_answers.specs.Answers.{Answer, HasAnswered, Sinks, sinks}
-use Rattle.hip_answers.specs.Programs.{IsUnloaded}
+use Rattle.hip_answers.specs.Programs.{IsUnloaded, IsUnread}
 use Rattle.hip_answers.specs.declared.status.Status.{Status}
 use Rattle.hip_io.specs.Cabinets.{CabinetState}
 use Rattle.hip_io.specs.Sinks.{SinkState}
 use Rattle.hip_loading.specs.Loading.{IsProgramOf}
 use Rattle.hip_loading.specs.Outside.{HasMet}
-use Rattle.hip_repair_answers.specs.TraceFiles.{IsProgramUnread, LacksTrace}
+use Rattle.hip_repair_answers.specs.TraceFiles.{LacksTrace}
 use Rattle.hip_trace_loading.specs.Loading.{HasLoadedTrace}
 use Rattle.hip_trace_loading.specs.declared.run.LoadedRun.{LoadedRun}
 
@@ -20,7 +20,7 @@ pub record HasLoadedRun (program_name trace_name : List ℕ) (old new : CabinetS
 abbrev pub LacksRun : CabinetState → CabinetState → List ℕ → List ℕ → Answer → Type 0
 LacksRun old new program_name trace_name answer =
     IsUnloaded old new program_name answer
-    ⊎ (IsProgramUnread old new program_name answer ⊎ LacksTrace old new program_name trace_name answer)
+    ⊎ (IsUnread old new program_name answer ⊎ LacksTrace old new program_name trace_name answer)
 
 -- What loading a run answers. Notes are as they were, or the refusal is the whole answer of a command, whether or not
 -- its text goes out while it is made.

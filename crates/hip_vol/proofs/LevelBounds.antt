@@ -43,7 +43,7 @@ use Rattle.hip_runs.specs.Laws.StepLaws.{IsTop}
 use Rattle.hip_invariants.specs.PointerLevels.{PointerLevel, within_level, is_at_most, behind_offset, both}
 use Rattle.hip_invariants.specs.Laws.InstrFacts.{instr_fact, CallFact, fact_holds}
 use Rattle.hip_invariants.specs.Laws.RegisterFacts.{ValuesHold, each_value, assigned_fact, fact_of_value, values_in_frames}
-use Rattle.hip_invariants.proofs.LevelBounds.{const_within}
+use Rattle.hip_invariants.specs.Laws.LevelBounds.{const_within}
 use Rattle.hip_vol.specs.Bounds.{Bound, Rule, Register, Result, free, low, same_as, Assignment, bound_in}
 use Rattle.hip_vol.specs.Closed.{IsMet, IsClosedUnder}
 use Rattle.hip_vol.specs.Rules.{constant_index, known_index, known_path, operand_bound, element_bound, rule, rule_for_result, argument_rules, rules_into, entry_rules, call_rules, instr_rules, end_rules, level_rules}

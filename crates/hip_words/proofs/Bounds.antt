@@ -1,5 +1,5 @@
 -- The numbers of an order are within bounds.
-use Rattle.std.proofs.Common.{◌≡◌, ◌<◌, ◌≤◌, ℕ, suc, Bool, true, false, cond, List, [], ◌∷◌, length, Option, Some, None, IfSome, option_map, refl, ap, subst, arith}
+use Rattle.std.proofs.Common.{◌≡◌, ◌^◌, ◌<◌, ◌≤◌, ℕ, suc, Bool, true, false, cond, List, [], ◌∷◌, length, Option, Some, None, IfSome, option_map, refl, ap, subst, arith}
 use Rattle.std.specs.Prelude.{codes, nat_le, option_and_then}
 use Rattle.std.proofs.lemmas.Bool.{and_parts, leb-true, ltb-true}
 use Rattle.clap.specs.Words.{Row, Text, first_of}
@@ -9,7 +9,7 @@ use Rattle.hip_runs.specs.declared.limits.TheConstants.{MOST_NUMBERS, MOST_TURNS
 use Rattle.hip_words.specs.Commands.{crash_app, demo_app, many_app, reads, record_app, run_app}
 use Rattle.hip_words.proofs.Bases.{base_valid}
 use Rattle.hip_words.specs.Laws.{DemosAreValid, RecordsAreValid, RunsAreValid}
-use Rattle.hip_words.specs.Numbers.{signed_of}
+use Rattle.hip_num.specs.Texts.{signed_of}
 use Rattle.hip_words.specs.Order.{crash_in, decimal_in, demo_in, each, files_of, is_limit, is_seed, is_size, many_in, number_in, numbers_of, order, order_by, picks_of, record_in, run_in, texts_in, traces_of, verb_of, where_so}
 use Rattle.hip_words.specs.declared.order.Order.{Order}
 use Rattle.hip_words.specs.declared.order.Order.TheVariants.{Check, Crash, Demo, Many, Record, Repair, Rerun, Run, Thin}
@@ -88,8 +88,8 @@ at_most_as (Some xs) n m h le = omega (arith, h, le)
 numbers_within : (ts : List Text) → IfSome (numbers_of ts) (λ ns. length ns ≤ MOST_NUMBERS)
 numbers_within ts = go (nat_le (length ts) MOST_NUMBERS) refl
   where
-    go : (b : Bool) → nat_le (length ts) MOST_NUMBERS ≡ b → IfSome (option_and_then (each signed_of) (cond b (Some ts) None)) (λ ns. length ns ≤ MOST_NUMBERS)
-    go true e = at_most_as (each signed_of ts) (length ts) MOST_NUMBERS (as_many signed_of ts) (leb-true _ _ e)
+    go : (b : Bool) → nat_le (length ts) MOST_NUMBERS ≡ b → IfSome (option_and_then (each (signed_of (2 ^ 63))) (cond b (Some ts) None)) (λ ns. length ns ≤ MOST_NUMBERS)
+    go true e = at_most_as (each (signed_of (2 ^ 63)) ts) (length ts) MOST_NUMBERS (as_many (signed_of (2 ^ 63)) ts) (leb-true _ _ e)
     go false e = tt
 
 -- ---- the orders

@@ -10,6 +10,7 @@ use Rattle.clap.specs.Walk.{Row, Walk, finished, idle, nothing_held, positional,
 use Rattle.clap.specs.Words.{Text}
 use Rattle.clap.specs.declared.builder.value_parser.Reading.TheVariants.{AsWritten}
 use Rattle.clap.specs.declared.parser.matches.ValueSource.TheVariants.{CommandLine, DefaultValue}
+use Rattle.hip_runs.specs.declared.limits.TheConstants.{DEFAULT_LIMIT}
 use Rattle.hip_words.specs.Commands.{reads, run_app, where_none}
 use Rattle.hip_words.specs.Order.{numbers_of, order, run_in, verb_of}
 use Rattle.hip_words.specs.declared.order.Order.{Order}
@@ -115,7 +116,7 @@ ends_more p ns n (m ∷ ms) e =
     (rest.0, ap (λ w. fold (walked shape.rules []) w ms) (to_more p ns n m (plain_word m both.0)) ∙ rest.1, rest.2 ∙ append_assoc ns (n ∷ []) (m ∷ ms))
 
 abbrev run_order : Text → Option (List ℤ) → Option Order
-run_order p = option_map (λ numbers. Run p 1000000000 numbers)
+run_order p = option_map (λ numbers. Run p DEFAULT_LIMIT numbers)
 
 orders_more : (p : Text) (ns : List Text) (n : Text) → option_and_then run_in (where_none (rest_fault (after_more p ns n)) (finished shape.rules (after_more p ns n).held)) ≡ run_order p (numbers_of (ns ++ n ∷ []))
 unfolding defaults_fault

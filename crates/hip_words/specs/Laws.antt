@@ -5,7 +5,7 @@ use Rattle.std.specs.List.{list_all}
 use Rattle.clap.specs.Words.{Text}
 use Rattle.hip_gen.specs.declared.limits.TheConstants.{LARGEST_SIZE, SEED_END}
 use Rattle.hip_globals.specs.Addresses.{IsBase, is_base}
-use Rattle.hip_runs.specs.declared.limits.TheConstants.{MOST_NUMBERS, MOST_TURNS}
+use Rattle.hip_runs.specs.declared.limits.TheConstants.{DEFAULT_LIMIT, MOST_NUMBERS, MOST_TURNS}
 use Rattle.hip_words.specs.Order.{files_of, numbers_of, order}
 use Rattle.hip_words.specs.declared.order.Order.TheVariants.{Demo, Record, Run}
 
@@ -23,7 +23,7 @@ abbrev pub RunsArePlain : Type 0
 RunsArePlain =
     (program : Text) (numbers : List Text) → is_plain program ≡ true → list_all is_plain numbers ≡ true
     → order (codes "run" ∷ program ∷ numbers)
-    ≡ option_map (λ ns. Run program 1000000000 ns) (numbers_of numbers)
+    ≡ option_map (λ ns. Run program DEFAULT_LIMIT ns) (numbers_of numbers)
 
 abbrev pub BasesAreValid : Type 0
 BasesAreValid = (base : ℕ) → is_base base ≡ true → IsBase base

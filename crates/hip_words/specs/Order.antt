@@ -1,5 +1,5 @@
 -- The order that the words give.
-use Rattle.std.specs.Prelude.{ℕ, ℤ, Bool, ◌&&◌, ◌==◌, nat_le, nat_lt, List, [], ◌∷◌, Option, Some, None, if◌then◌else◌, codes, length, option_map, option_and_then, unwrap_or}
+use Rattle.std.specs.Prelude.{ℕ, ℤ, ◌^◌, Bool, ◌&&◌, ◌==◌, nat_le, nat_lt, List, [], ◌∷◌, Option, Some, None, if◌then◌else◌, codes, length, option_map, option_and_then, unwrap_or}
 use Rattle.std.specs.List.{after_first, before_first, position_or_len}
 use Rattle.std.specs.Str.{bytes_eq}
 use Rattle.clap.specs.Words.{Row, Text, all_of, first_of}
@@ -9,7 +9,7 @@ use Rattle.hip_picks.specs.declared.pick.Pick.{Pick}
 use Rattle.hip_runs.specs.declared.limits.TheConstants.{MOST_NUMBERS, MOST_TURNS}
 use Rattle.hip_words.specs.declared.limits.TheConstants.{MOST_TRACES}
 use Rattle.hip_words.specs.Commands.{crash_app, demo_app, files_app, many_app, reads, record_app, run_app}
-use Rattle.hip_words.specs.Numbers.{decimal_of, signed_of}
+use Rattle.hip_num.specs.Texts.{decimal_of, signed_of}
 use Rattle.hip_words.specs.declared.order.Order.{Order}
 use Rattle.hip_words.specs.declared.order.Order.TheVariants.{Check, Crash, Demo, Many, Record, Repair, Rerun, Run, Thin}
 use Rattle.hip_words.specs.declared.order.Verb.{Verb}
@@ -52,7 +52,7 @@ abbrev pub at_most : ℕ → List Text → Option (List Text)
 at_most most = where_so (λ texts. nat_le (length texts) most)
 
 abbrev pub numbers_of : List Text → Option (List ℤ)
-numbers_of texts = option_and_then (each signed_of) (at_most MOST_NUMBERS texts)
+numbers_of texts = option_and_then (each (signed_of (2 ^ 63))) (at_most MOST_NUMBERS texts)
 
 abbrev pub traces_of : List Text → Option (List Text)
 traces_of = where_so (λ texts. nat_le 1 (length texts) && nat_le (length texts) MOST_TRACES)

@@ -1,13 +1,13 @@
 //! What clap makes of the words.
-ghost use Rattle.std.specs.Prelude.{◌≡◌, IfOk, true, map, string_bytes, option_map};
+ghost use Rattle.std.specs.Prelude.{◌≡◌, ◌^◌, IfOk, true, map, string_bytes, option_map};
 ghost use Rattle.clap.specs.Words.{all_of, app_of, first_of, found_of, is_simple_and_free, rows_of};
 ghost use Rattle.hip_words.specs.Answers.{Answers};
 ghost use Rattle.hip_words.specs.Commands.{GivesRows, reads};
 ghost use Rattle.hip_words.specs.Order.{each, numbers_of, pick_of, picks_of, texts_in, traces_of};
-ghost use Rattle.hip_words.specs.Numbers.{signed_of};
+ghost use Rattle.hip_num.specs.Texts.{signed_of};
 
 use crate::limits::MOST_TRACES;
-use crate::numbers;
+use crate::pick::pick_of;
 use crate::refusal::WordsRefusal;
 use clap::error::ErrorKind;
 use clap::{ArgMatches, Command};
@@ -54,11 +54,11 @@ fn all_texts<'m, 'a: 'm>(matches: &'m ArgMatches<'a>, id: &str) -> Option<&'m [&
 }
 
 fn each_signed(alloc: Global, texts: &[&str]) -> Result<Row<i64>, WordsRefusal>
-    ensures { Answers (each signed_of (map (λ text. text.now) texts.now)) result }
+    ensures { Answers (each (signed_of (2 ^ 63)) (map (λ text. text.now) texts.now)) result }
 {
     let mut numbers = Row::new(alloc);
     'each: for text in texts {
-        let number = numbers::signed_of(text.as_bytes()).ok_or(WordsRefusal::Usage)?;
+        let number = hip_num::read_signed(text.as_bytes()).ok_or(WordsRefusal::Usage)?;
         numbers.push(number)?;
     }
     Ok(numbers)
@@ -93,7 +93,7 @@ fn each_pick(alloc: Global, texts: &[&str]) -> Result<Row<Pick>, WordsRefusal>
 {
     let mut picks = Row::new(alloc);
     'each: for text in texts {
-        let pick = numbers::pick_of(*text).ok_or(WordsRefusal::Usage)?;
+        let pick = pick_of(*text).ok_or(WordsRefusal::Usage)?;
         picks.push(pick)?;
     }
     Ok(picks)

@@ -10,12 +10,12 @@ use crate::commands::{
     crash_command, demo_command, files_command, many_command, record_command, run_command,
 };
 use crate::matches::{first_text, numbers_in, parse, picks_in, text_of, traces_in};
-use crate::numbers::decimal_of;
 use crate::order::Order;
 use crate::refusal::WordsRefusal;
 use clap::ArgMatches;
 use hip_gen::{LARGEST_SIZE, SEED_END};
 use hip_globals::is_base;
+use hip_num::read_decimal;
 use hip_runs::MOST_TURNS;
 use hip_types::Text;
 use std::alloc::Global;
@@ -24,7 +24,7 @@ fn decimal_in(matches: &ArgMatches<'_>, id: &str) -> Option<u64>
     ensures { result ≡ decimal_in id.now (rows_of (found_of matches.now)) }
 {
     match first_text(matches, id) {
-        Some(text) => decimal_of(text.as_bytes()),
+        Some(text) => read_decimal(text.as_bytes()),
         None => None,
     }
 }

@@ -1,14 +1,65 @@
--- What is written is read back.
-use Rattle.std.specs.Prelude.{ℕ, ◌^◌, ◌<◌, ◌≡◌, List, ◌∷◌, false, ℤ, pos, negsuc, neg_ℤ, decimal, drop, FitsSigned, refl, suc, []}
+-- What the tests of spelled numbers decide; what is written is read back.
+use Rattle.std.specs.Prelude.{ℕ, ◌^◌, ◌<◌, ◌≡◌, true, false, List, [], ◌∷◌, ℤ, pos, negsuc, neg_ℤ, decimal, drop, nat_lt, FitsSigned, refl, suc}
+use Rattle.std.specs.Char.{digit_value}
+use Rattle.std.specs.Cmp.Derive.{both_true}
+use Rattle.std.specs.List.{list_all}
 use Rattle.std.specs.Fmt.{digits, signed_decimal}
 use Rattle.std.specs.Int.{w64}
-use Rattle.std.specs.Str.Parse.{IsNumeral, digits_value}
-use Rattle.std.proofs.Common.{arith, eqb, sym, ap, subst, ◌∙◌}
+use Rattle.std.specs.Str.Parse.{AllDigits, IsNumeral, digits_value}
+use Rattle.std.proofs.Common.{arith, rules, eqb, sym, ap, subst, ◌∙◌}
 use Rattle.std.proofs.lemmas.Fmt.{digits_is_IsNumeral, decimal_is_IsNumeral}
 use Rattle.std.proofs.lemmas.Str.Parse.{digit_from_value}
+use Rattle.std.proofs.lemmas.Bool.{ltb-true, lt-ltb, and_parts}
 use Rattle.std.proofs.lemmas.Bool.Decides.{nat_tests}
 use Rattle.std.specs.Int.{IsInRange}
-use Rattle.hip_num.specs.Texts.{hexadecimal, IsNumber, IsSignedNumber, IsHexadecimal, signed_value, signed_digits, has_minus}
+use Rattle.hip_num.specs.Texts.{hexadecimal, is_nonempty, are_digits, is_number, in_range, signed_value, signed_digits, has_minus}
+
+-- ---- what the tests decide
+
+abbrev pub IsNumber : ℕ → List ℕ → Type 0
+IsNumber base text = IsNumeral base text × (digits_value base text < 2 ^ 64)
+
+abbrev pub IsSignedNumber : List ℕ → Type 0
+IsSignedNumber text = IsNumeral 10 (signed_digits text) × FitsSigned w64 (signed_value text)
+
+all_digits-sound : (base : ℕ) (text : List ℕ) → list_all (λ c. nat_lt (digit_value c) base) text ≡ true → AllDigits base text
+all_digits-sound base [] e = tt
+all_digits-sound base (c ∷ cs) e =
+    let both = and_parts (nat_lt (digit_value c) base) (list_all (λ b. nat_lt (digit_value b) base) cs) e in
+    (ltb-true _ _ both.0, all_digits-sound base cs both.1)
+
+all_digits-whole : (base : ℕ) (text : List ℕ) → AllDigits base text → list_all (λ c. nat_lt (digit_value c) base) text ≡ true
+all_digits-whole base [] h = refl
+all_digits-whole base (c ∷ cs) h = both_true (lt-ltb _ _ h.0) (all_digits-whole base cs h.1)
+
+pub digits-sound : (base : ℕ) (text : List ℕ) → are_digits base text ≡ true → IsNumeral base text
+digits-sound base [] e = cc
+digits-sound base (c ∷ cs) e =
+    let both = and_parts (is_nonempty (c ∷ cs)) (list_all (λ b. nat_lt (digit_value b) base) (c ∷ cs)) e in
+    (omega arith, all_digits-sound base (c ∷ cs) both.1)
+
+pub digits-whole : (base : ℕ) (text : List ℕ) → IsNumeral base text → are_digits base text ≡ true
+digits-whole base [] h = absurd (let z : ⊥ = omega (arith, h.0) in z)
+digits-whole base (c ∷ cs) h = all_digits-whole base (c ∷ cs) h.1
+
+pub number-sound : (base : ℕ) (text : List ℕ) → is_number base text ≡ true → IsNumber base text
+number-sound base text e =
+    let both = and_parts (are_digits base text) (nat_lt (digits_value base text) (2 ^ 64)) e in
+    (digits-sound base text both.0, ltb-true _ _ both.1)
+
+pub number-whole : (base : ℕ) (text : List ℕ) → IsNumber base text → is_number base text ≡ true
+number-whole base text h = both_true (digits-whole base text h.0) (lt-ltb _ _ h.1)
+
+-- a number in a range fits the range's width
+pub range-sound : (z : ℤ) → in_range (2 ^ 63) z ≡ true → FitsSigned w64 z
+range-sound (pos n) e = let h = ltb-true _ _ e in search (rules, h)
+range-sound (negsuc n) e = let h = ltb-true _ _ e in search (rules, h)
+
+pub range-whole : (z : ℤ) → FitsSigned w64 z → in_range (2 ^ 63) z ≡ true
+range-whole (pos n) h = lt-ltb _ _ (omega arith)
+range-whole (negsuc n) h = lt-ltb _ _ (omega arith)
+
+-- ---- what is written is read back
 
 -- the decimal text of a number reads as the number
 pub decimal-value : (n : ℕ) → n < 2 ^ 64 → digits_value 10 (decimal n) ≡ n
@@ -24,8 +75,8 @@ hexadecimal_is n h = digits_is_IsNumeral 16 false (omega arith) (omega arith) n 
 pub hexadecimal-value : (n : ℕ) → n < 2 ^ 64 → digits_value 16 (drop 2 (hexadecimal n)) ≡ n
 hexadecimal-value n h = (hexadecimal_is n h).1
 
-pub hexadecimal-number : (n : ℕ) → n < 2 ^ 64 → IsHexadecimal (hexadecimal n)
-hexadecimal-number n h = (refl, ((hexadecimal_is n h).0, omega (arith, hexadecimal-value n h)))
+pub hexadecimal-number : (n : ℕ) → n < 2 ^ 64 → IsNumber 16 (drop 2 (hexadecimal n))
+hexadecimal-number n h = ((hexadecimal_is n h).0, omega (arith, hexadecimal-value n h))
 
 -- digits do not begin with a `-`
 pub has_minus-numeral : (ds : List ℕ) → IsNumeral 10 ds → has_minus ds ≡ false

@@ -22,7 +22,7 @@ use Rattle.hip_typing.specs.Sound.{callee_names}
 use Rattle.hip_globals.specs.Values.{Written, global_address, const_value}
 use Rattle.hip_names.specs.Laws.NameLaws.{bytes_eq-sym}
 use Rattle.hip_typing.specs.Laws.NameLaws.{names-sound}
-use Rattle.hip_invariants.proofs.GlobalAddresses.{start_before_end}
+use Rattle.hip_invariants.specs.Laws.GlobalAddresses.{start_before_end}
 use Rattle.hip_repairs.specs.Direct.{is_volatile_global, names_volatile}
 use Rattle.hip_repairs.proofs.soundness.HeadsAgain.{names_of_globals}
 use Rattle.hip_names.specs.Laws.DifferLaws.{differ_first}

@@ -16,7 +16,7 @@ use Rattle.hip_runs.specs.Actions.{Deed, Assigns, Asserts, Calls, Returns, Store
 use Rattle.hip_runs.specs.Found.Marks.{pointed, hit}
 use Rattle.hip_runs.specs.Found.Reports.{reports}
 use Rattle.hip_runs.specs.Step.{start, run, has_ended}
-use Rattle.hip_runs.proofs.Opened.{run_opened}
+use Rattle.hip_runs.specs.Laws.Opened.{run_opened}
 use Rattle.hip_repairs.specs.examples.Words.{site, zeroed, IsHoisted}
 use Rattle.hip_repairs.specs.examples.AssertInsideCallee.{assert_inside_callee, assert_inside_callee_reports, assert_inside_callee_repaired}
 use Rattle.hip_repairs.proofs.worked.Runs.{Follows, done_opened, int_value, address_value, run_is, reports_are}

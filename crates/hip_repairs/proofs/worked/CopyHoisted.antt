@@ -7,7 +7,7 @@ use Rattle.hip_runs.specs.Actions.{Deed, Allocates, Assigns, Calls, Returns, Sto
 use Rattle.hip_runs.specs.Found.Marks.{pointed, hit}
 use Rattle.hip_runs.specs.Found.Reports.{reports}
 use Rattle.hip_runs.specs.Step.{start, run, has_ended}
-use Rattle.hip_runs.proofs.Opened.{run_opened}
+use Rattle.hip_runs.specs.Laws.Opened.{run_opened}
 use Rattle.hip_repairs.specs.examples.Words.{site, zeroed, IsHoisted}
 use Rattle.hip_repairs.specs.examples.CopyHoisted.{copy_hoisted, copy_hoisted_report, copy_hoisted_repaired}
 use Rattle.hip_repairs.proofs.worked.Runs.{Follows, done_opened, int_value, address_value, run_is, reports_are}

@@ -4,7 +4,7 @@ use Rattle.hip_types.specs.Laws.LayoutLaws.{shape-Int}
 use Rattle.hip_runs.specs.Actions.{Deed, Flushes, Returns, Stores}
 use Rattle.hip_runs.specs.Found.Reports.{reports}
 use Rattle.hip_runs.specs.Step.{start, run, has_ended}
-use Rattle.hip_runs.proofs.Opened.{run_opened}
+use Rattle.hip_runs.specs.Laws.Opened.{run_opened}
 use Rattle.hip_repairs.specs.examples.Words.{zeroed, IsWorked}
 use Rattle.hip_repairs.specs.examples.FlushWithoutFence.{flush_without_fence, flush_without_fence_report, flush_without_fence_repaired}
 use Rattle.hip_repairs.proofs.worked.Runs.{Follows, done_opened, int_value, address_value, run_is, reports_are}

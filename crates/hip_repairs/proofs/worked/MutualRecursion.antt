@@ -8,7 +8,7 @@ use Rattle.hip_runs.specs.declared.report.Findings.{Findings}
 use Rattle.hip_runs.specs.Found.Marks.{pointed, hit, findings}
 use Rattle.hip_runs.specs.Found.Reports.{reports}
 use Rattle.hip_runs.specs.Step.{start, run, has_ended}
-use Rattle.hip_runs.proofs.Opened.{run_opened}
+use Rattle.hip_runs.specs.Laws.Opened.{run_opened}
 use Rattle.hip_repairs.specs.Choice.{plan_for}
 use Rattle.hip_repairs.specs.Repaired.{repaired}
 use Rattle.hip_repairs.specs.declared.plan.Plan.{Plan}

@@ -11,7 +11,7 @@ use Rattle.hip_runs.specs.Operands.{value_of}
 use Rattle.hip_runs.specs.Actions.{Deed, Returns, Stores}
 use Rattle.hip_runs.specs.Found.Reports.{reports}
 use Rattle.hip_runs.specs.Step.{start, run, has_ended}
-use Rattle.hip_runs.proofs.Opened.{run_opened}
+use Rattle.hip_runs.specs.Laws.Opened.{run_opened}
 use Rattle.hip_repairs.specs.examples.Words.{zeroed, IsWorked}
 use Rattle.hip_repairs.specs.examples.StoreInTwoLines.{sixteen_words, byte_sixty, store_in_two_lines, store_in_two_lines_report, store_in_two_lines_repaired}
 use Rattle.hip_repairs.proofs.worked.Runs.{Follows, done_opened, element_value, int_value, address_value, run_is, reports_are}

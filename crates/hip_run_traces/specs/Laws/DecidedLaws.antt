@@ -13,7 +13,7 @@ use Rattle.hip_run_traces.specs.Misfits.{kind_of, FirstDiffers, StopsAt, Differs
 use Rattle.hip_run_traces.specs.Traces.{IsTrace}
 use Rattle.hip_run_traces.specs.declared.misfit.MisfitKind.{MisfitKind}
 use Rattle.hip_run_traces.specs.declared.misfit.MisfitKind.TheVariants.{Differs, Early, Extra}
-use Rattle.hip_trace.proofs.TextLaws.{trap_word}
+use Rattle.hip_trace.specs.Laws.TextLaws.{trap_word}
 use Rattle.hip_trace.specs.Entries.{trap_of, trap_text}
 use Rattle.hip_trace.specs.Pieces.{spelled}
 use Rattle.hip_trace.specs.declared.entry.Entry.{Entry}

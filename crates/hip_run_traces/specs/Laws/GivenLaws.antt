@@ -18,7 +18,7 @@ use Rattle.hip_run_traces.specs.Laws.HeaderLaws.{told, whole_lines}
 use Rattle.hip_run_traces.specs.Laws.LineLaws.{lines_append, no_lines}
 use Rattle.hip_run_traces.specs.Laws.TraceLaws.{length-header_of}
 use Rattle.hip_run_traces.specs.Traces.{header_of, image_entries}
-use Rattle.hip_trace.proofs.FitLaws.{spelled_fits}
+use Rattle.hip_trace.specs.Laws.FitLaws.{spelled_fits}
 use Rattle.hip_trace.specs.Entries.{entry_of}
 use Rattle.hip_trace.specs.Fits.{IsLine, ValuesFit}
 use Rattle.hip_trace.specs.Pieces.{pieces, spelled}

@@ -10,7 +10,7 @@ use Rattle.hip_run_traces.specs.Laws.HeaderLaws.{header-trace, told}
 use Rattle.hip_run_traces.specs.Laws.RangeLaws.{trace_fits}
 use Rattle.hip_run_traces.specs.Misfits.{IsTraceOf}
 use Rattle.hip_run_traces.specs.Traces.{IsTrace}
-use Rattle.hip_trace.proofs.WrittenLaws.{read_back}
+use Rattle.hip_trace.specs.Laws.WrittenLaws.{read_back}
 use Rattle.hip_trace.specs.Fits.{ValuesFit}
 use Rattle.hip_trace.specs.Pieces.{spelled}
 use Rattle.hip_trace.specs.Texts.{lines_of}

@@ -17,7 +17,6 @@ use Rattle.hip_repairs.specs.Quiet.{IsQuiet}
 use Rattle.hip_repairs.specs.Repaired.{repaired}
 use Rattle.hip_repairs.specs.declared.repaired.Repaired.{Repaired}
 use Rattle.hip_fix.proofs.DirectSites.{found_direct}
-use Rattle.hip_repairs.proofs.Theorems.{direct_stores_are_quiet}
 use Rattle.hip_fix.proofs.repairing.apply.Goals as goal
 
 -- what holds of each answer, by what held of it before
@@ -34,7 +33,7 @@ returns c =
     let listed : c.as_slice.result.now ≡ filter (direct P) (sites_of P) =
     c.as_slice.ensures ∙ c.in_ok-skip.ensures ∙ ap (λ (p : Program). filter (direct p) (sites_of p)) c.program.ensures.is in
     let same : skip ≡ direct P = λ i s. (ap (λ (xs : List Site). has_site xs s) listed ∙ found_direct P s) i in
-    let quiet : IsQuiet P skip = subst (IsQuiet P) (sym same) (direct_stores_are_quiet P c.program.ensures.sound) in
+    let quiet : IsQuiet P skip = subst (IsQuiet P) (sym same) (c.direct_stores_are_quiet.ensures P c.program.ensures.sound) in
     let told = c.apply_skipping.ensures in
     record {
       program = subst (λ (test : Site → Bool). IfOk r (λ x. x.checked ≡ repaired P plan test)) same told.program;

@@ -7,7 +7,6 @@ use Rattle.hip_repairs.specs.Clean.{IsClean}
 use Rattle.hip_repairs.specs.CloneNumbers.{numbered_from}
 use Rattle.hip_repairs.specs.Covered.{IsCovered}
 use Rattle.hip_repairs.specs.Repaired.{repaired}
-use Rattle.hip_repairs.proofs.Theorems as theorem
 use Rattle.hip_fix.proofs.repairing.apply_skipping.Goals as goal
 
 pub of_sound-requires : goal.of_sound-requires
@@ -16,7 +15,7 @@ of_sound-requires c =
     let plan = c.args.plan.now in
     let skip = has_site c.args.skip.now in
     let is : c.in_ok-repaired.repaired ≡ repaired P plan skip = c.in_ok-repaired.ensures ∙ ap (λ (p : Program). repaired p plan skip) c.program-program.ensures.is in
-    subst IsSound (sym is) (theorem.repaired_is_sound P plan skip c.program-program.ensures.sound)
+    subst IsSound (sym is) (c.repaired_is_sound.ensures.sound P plan skip c.program-program.ensures.sound)
 
 pub returns : goal.returns
 returns c =
@@ -30,8 +29,8 @@ returns c =
     record {
       program = is;
       clones = c.in_ok-clones.ensures ∙ (λ i. numbered_from (length (functions i)) (originals i));
-      harmless = theorem.repairs_do_no_harm P plan skip sound;
-      clean = λ I found quiet valid is_found contains. subst (λ (p : Program). IsClean p I) (sym is) (theorem.repairs_are_clean P plan skip I found sound valid quiet is_found contains);
-      covered = λ quiet. subst (IsCovered P) (sym is) (theorem.hoisted_calls_are_covered P plan skip sound quiet);
-      fenced = theorem.hoisted_calls_are_fenced P plan skip sound;
+      harmless = c.repairs_do_no_harm.ensures P plan skip sound;
+      clean = λ I found quiet valid is_found contains. subst (λ (p : Program). IsClean p I) (sym is) (c.repairs_are_clean.ensures P plan skip I found sound valid quiet is_found contains);
+      covered = λ quiet. subst (IsCovered P) (sym is) (c.hoisted_calls_are_covered.ensures P plan skip sound quiet);
+      fenced = c.hoisted_calls_are_fenced.ensures P plan skip sound;
     }

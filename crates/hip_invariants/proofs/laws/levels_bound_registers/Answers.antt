@@ -1,4 +1,4 @@
-use Rattle.hip_invariants.proofs.LevelBounds.{registers_within}
+use Rattle.hip_invariants.specs.Laws.LevelBounds.{registers_within}
 use Rattle.hip_invariants.proofs.laws.levels_bound_registers.Goals as goal
 
 pub returns : goal.returns

@@ -1,4 +1,4 @@
-use Rattle.hip_invariants.proofs.ObjectsApart.{objects_apart}
+use Rattle.hip_invariants.specs.Laws.ObjectsApart.{objects_apart}
 use Rattle.hip_invariants.proofs.laws.objects_are_apart.Goals as goal
 
 pub returns : goal.returns

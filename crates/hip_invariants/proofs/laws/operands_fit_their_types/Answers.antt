@@ -1,4 +1,4 @@
-use Rattle.hip_invariants.proofs.FittingOperands.{are_uncut, operands_fit_at, stop_fits}
+use Rattle.hip_invariants.specs.Laws.FittingOperands.{are_uncut, operands_fit_at, stop_fits}
 use Rattle.hip_invariants.proofs.laws.operands_fit_their_types.Goals as goal
 
 pub returns : goal.returns

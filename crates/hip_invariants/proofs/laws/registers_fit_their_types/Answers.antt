@@ -1,4 +1,4 @@
-use Rattle.hip_invariants.proofs.FittingValues.{registers_fit}
+use Rattle.hip_invariants.specs.Laws.FittingValues.{registers_fit}
 use Rattle.hip_invariants.proofs.laws.registers_fit_their_types.Goals as goal
 
 pub returns : goal.returns

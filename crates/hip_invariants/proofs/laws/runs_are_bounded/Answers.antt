@@ -1,4 +1,4 @@
-use Rattle.hip_invariants.proofs.Bounds.{run_bounded, counts_fit}
+use Rattle.hip_invariants.specs.Laws.Bounds.{run_bounded, counts_fit}
 use Rattle.hip_invariants.proofs.laws.runs_are_bounded.Goals as goal
 
 pub returns : goal.returns

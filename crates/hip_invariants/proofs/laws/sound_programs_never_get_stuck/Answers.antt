@@ -1,4 +1,4 @@
-use Rattle.hip_invariants.proofs.NeverStuck.{never_stuck}
+use Rattle.hip_invariants.specs.Laws.NeverStuck.{never_stuck}
 use Rattle.hip_invariants.proofs.laws.sound_programs_never_get_stuck.Goals as goal
 
 pub returns : goal.returns

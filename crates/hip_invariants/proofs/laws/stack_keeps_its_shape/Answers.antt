@@ -1,4 +1,4 @@
-use Rattle.hip_invariants.proofs.StackShape.{stack_is_shaped}
+use Rattle.hip_invariants.specs.Laws.StackShape.{stack_is_shaped}
 use Rattle.hip_invariants.proofs.laws.stack_keeps_its_shape.Goals as goal
 
 pub returns : goal.returns

@@ -1,6 +1,6 @@
 use Rattle.std.proofs.Common.{[], Some, sym, ◌∙◌, arith}
-use Rattle.hip_lockstep.proofs.Openings.{bad_start, none_fronts, none_stops, start_differs, start_missing}
-use Rattle.hip_lockstep.proofs.Readings.{next_read, nothing_read}
+use Rattle.hip_lockstep.specs.Laws.Openings.{bad_start, none_fronts, none_stops, start_differs, start_missing}
+use Rattle.hip_lockstep.specs.Laws.Readings.{next_read, nothing_read}
 use Rattle.hip_lockstep.proofs.opening.read_limit.Goals as goal
 
 pub returns-in-Err-clause-read : goal.returns-in-Err-clause-read

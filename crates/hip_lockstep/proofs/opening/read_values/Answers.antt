@@ -1,7 +1,7 @@
 use Rattle.std.proofs.Common.{◌≡◌, ◌^◌, ◌<◌, false, Some, Ok, sym, subst, arith}
 use Rattle.hip_globals.specs.Addresses.{region_size}
 use Rattle.hip_run_traces.specs.Headers.{with_entry}
-use Rattle.hip_lockstep.proofs.Openings.{begins_giving, count_room, goes_on_giving, less_left, value_dropped, value_missing, value_refused}
+use Rattle.hip_lockstep.specs.Laws.Openings.{begins_giving, count_room, goes_on_giving, less_left, value_dropped, value_missing, value_refused}
 use Rattle.hip_lockstep.specs.Giving.{Takes, input_of}
 use Rattle.hip_lockstep.specs.Opening.{HasAllGiven}
 use Rattle.hip_lockstep.proofs.opening.read_values.Goals as goal

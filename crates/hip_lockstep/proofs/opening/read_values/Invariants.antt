@@ -1,6 +1,6 @@
 use Rattle.std.proofs.Common.{◌+◌, ◌-◌, length}
 use Rattle.hip_globals.specs.Addresses.{region_size}
-use Rattle.hip_lockstep.proofs.Openings.{IsGiving}
+use Rattle.hip_lockstep.specs.Laws.Openings.{IsGiving}
 use Rattle.hip_lockstep.specs.Giving.{input_of}
 use Rattle.hip_lockstep.proofs.opening.read_values.Given as goal
 

@@ -1,4 +1,4 @@
-use Rattle.hip_repair_answers.proofs.Cures.{cures_by}
+use Rattle.hip_repair_answers.specs.Laws.Cures.{cures_by}
 use Rattle.hip_repair_answers.proofs.laws.plans_cure.Goals as goal
 
 pub returns : goal.returns

@@ -1,4 +1,4 @@
-use Rattle.hip_repair_answers.proofs.Cures.{cures}
+use Rattle.hip_repair_answers.specs.Laws.Cures.{cures}
 use Rattle.hip_repair_answers.proofs.laws.repairs_cure.Goals as goal
 
 pub returns : goal.returns

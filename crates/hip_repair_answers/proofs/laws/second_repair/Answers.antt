@@ -1,4 +1,4 @@
-use Rattle.hip_repair_answers.proofs.Repairs.{second_repair}
+use Rattle.hip_repair_answers.specs.Laws.Repairs.{second_repair}
 use Rattle.hip_repair_answers.proofs.laws.second_repair.Goals as goal
 
 pub returns : goal.returns

@@ -1,5 +1,5 @@
 use Rattle.std.proofs.Common.{inr, suc, ◌^◌, ◌<◌, [], ◌∷◌, ◌++◌, Ok, refl, sym, ap, ◌∙◌, subst, arith}
-use Rattle.hip_lockstep.proofs.Openings.{stopped_after}
+use Rattle.hip_lockstep.specs.Laws.Openings.{stopped_after}
 use Rattle.hip_lockstep.specs.InStep.{FollowsStep, IsInStep}
 use Rattle.hip_run_traces.specs.Traces.{trace}
 use Rattle.hip_runs.specs.Ends.{longest}

@@ -1,5 +1,5 @@
 use Rattle.std.proofs.Common.{[], ◌∷◌, ◌++◌, length, sym, ap, ◌∙◌, subst}
-use Rattle.hip_lockstep.proofs.Openings.{stopped_after}
+use Rattle.hip_lockstep.specs.Laws.Openings.{stopped_after}
 use Rattle.hip_lockstep.specs.InStep.{IsInStep}
 use Rattle.hip_run_traces.specs.Laws.TraceLaws.{length-header_of}
 use Rattle.hip_run_traces.specs.Traces.{trace}

@@ -1,6 +1,6 @@
 use Rattle.std.proofs.Common.{[], ◌∷◌, ◌++◌, sym, subst}
 use Rattle.hip_io.specs.Cabinets.{CabinetState}
-use Rattle.hip_lockstep.proofs.Openings.{stopped_after}
+use Rattle.hip_lockstep.specs.Laws.Openings.{stopped_after}
 use Rattle.hip_lockstep.specs.InStep.{IsInStep}
 use Rattle.hip_run_traces.specs.Traces.{header_of}
 use Rattle.hip_replay.proofs.Followed.{begins_in_step}

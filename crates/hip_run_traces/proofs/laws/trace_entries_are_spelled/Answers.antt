@@ -1,6 +1,6 @@
 use Rattle.std.proofs.lemmas.List.Elements.{All-weaker}
 use Rattle.hip_run_traces.specs.Traces.{trace}
-use Rattle.hip_trace.proofs.FitLaws.{fits_spelled}
+use Rattle.hip_trace.specs.Laws.FitLaws.{fits_spelled}
 use Rattle.hip_trace.specs.Fits.{IsSpelled, ValuesFit}
 use Rattle.hip_run_traces.specs.Laws.RangeLaws.{trace_fits}
 use Rattle.hip_run_traces.proofs.laws.trace_entries_are_spelled.Goals as goal

@@ -1,5 +1,5 @@
-use Rattle.hip_repair_answers.proofs.OneAnswer.{gives_one, hide_none}
-use Rattle.hip_repair_answers.proofs.Repairs.{answers_runs}
+use Rattle.hip_repair_answers.specs.Laws.OneAnswer.{gives_one, hide_none}
+use Rattle.hip_repair_answers.specs.Laws.Repairs.{answers_runs}
 use Rattle.hip_thin_commands.specs.Thin.{HasThinned}
 use Rattle.hip_thin_commands.proofs.Thins.{alike, thins}
 use Rattle.hip_thin_commands.proofs.laws.thins_are_one.Goals as goal

@@ -1,7 +1,7 @@
 use Rattle.std.proofs.Common.{refl}
 use Rattle.std.specs.Prelude.{◌==◌}
 use Rattle.hip_tokens.specs.Bytes.{byte}
-use Rattle.hip_trace.proofs.FieldLaws.{first_part, only_part}
+use Rattle.hip_trace.specs.Laws.FieldLaws.{first_part, only_part}
 use Rattle.hip_trace.proofs.fields.first_field.Goals as goal
 
 pub returns-then-n-text : goal.returns-then-n-text

@@ -1,4 +1,4 @@
-use Rattle.hip_trace.proofs.FieldLaws.{not_one}
+use Rattle.hip_trace.specs.Laws.FieldLaws.{not_one}
 use Rattle.hip_trace.proofs.fields.one_field.Goals as goal
 
 pub returns-in-Some-rest : goal.returns-in-Some-rest

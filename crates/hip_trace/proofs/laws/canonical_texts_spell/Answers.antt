@@ -1,4 +1,4 @@
-use Rattle.hip_trace.proofs.TextLaws as laws
+use Rattle.hip_trace.specs.Laws.TextLaws as laws
 use Rattle.hip_trace.proofs.laws.canonical_texts_spell.Goals as goal
 
 pub returns : goal.returns

@@ -1,4 +1,4 @@
-use Rattle.hip_trace.proofs.FitLaws as laws
+use Rattle.hip_trace.specs.Laws.FitLaws as laws
 use Rattle.hip_trace.proofs.laws.entries_that_fit_are_spelled.Goals as goal
 
 pub returns-clause-spelled : goal.returns-clause-spelled

@@ -1,4 +1,4 @@
-use Rattle.hip_trace.proofs.PieceLaws as laws
+use Rattle.hip_trace.specs.Laws.PieceLaws as laws
 use Rattle.hip_trace.proofs.laws.pieces_are_told_one_by_one.Goals as goal
 
 pub returns : goal.returns

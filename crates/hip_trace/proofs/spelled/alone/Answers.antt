@@ -1,4 +1,4 @@
-use Rattle.hip_trace.proofs.FieldLaws.{not_alone}
+use Rattle.hip_trace.specs.Laws.FieldLaws.{not_alone}
 use Rattle.hip_trace.proofs.spelled.alone.Goals as goal
 
 pub returns-in-Some : goal.returns-in-Some

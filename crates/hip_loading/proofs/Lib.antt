@@ -1,3 +1,0 @@
-pub mod OneAnswer
-pub mod TextRefusals
-pub mod FormRefusals

@@ -1,6 +1,0 @@
-use Rattle.std.proofs.Common.{◌≡◌, drop, max}
-use Rattle.hip_runs.specs.Ends.{longest, longest_in}
-use Rattle.hip_lockstep.proofs.bodies.longest.Given as goal
-
-abbrev pub invariant-functions : goal.invariant-functions
-invariant-functions l = max l.most (longest_in (drop l.function-index l.program.functions)) ≡ longest l.program

@@ -1,0 +1,5 @@
+-- Laws of the definitions.
+
+pub mod Openings
+pub mod Readings
+pub mod RunSteps

@@ -1,3 +1,0 @@
-pub mod Cures
-pub mod OneAnswer
-pub mod Repairs

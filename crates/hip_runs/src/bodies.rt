@@ -1,0 +1,28 @@
+//! The lengths of bodies.
+
+ghost use Rattle.std.specs.Prelude.{◌≡◌};
+ghost use Rattle.hip_runs.specs.Ends.{longest, longest_block};
+
+use hip_ir::{Block, Program};
+
+fn longest_block(blocks: &[Block]) -> usize
+    ensures { result ≡ longest_block blocks.now }
+{
+    let mut most = 0;
+    'each: for block in blocks {
+        most = block.body.len().max(most);
+    }
+    most
+}
+
+/// The length of the longest body of a program's blocks, which bounds the steps of its runs. It takes time linear in
+/// the number of blocks.
+pub fn longest(program: &Program) -> usize
+    ensures { result ≡ longest program.now }
+{
+    let mut most = 0;
+    'functions: for function in program.functions.as_slice() {
+        most = longest_block(function.blocks.as_slice()).max(most);
+    }
+    most
+}

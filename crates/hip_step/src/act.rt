@@ -14,13 +14,13 @@ use hip_types::NoMemory;
 
 // The end of a block, or a call.
 #[inline(always)]
-fn step_control(core: &mut Core, code: &Code, control: Control) -> Result<Event, NoMemory>
+fn step_control(core: &mut Core, code: &Code, control: &Control) -> Result<Event, NoMemory>
     requires taken { core.old.taken + 1 < 2 ^ 128 }
     requires turns { core.old.turns + 1 < 2 ^ 64 }
     requires place { core.old.top.place + 1 < 2 ^ 64 }
-    requires within { ControlWithin (numbers_of code.now core.old) control }
+    requires within { ControlWithin (numbers_of code.now core.old) control.now }
     requires laid { IsLaid core.old }
-    ensures ok { IfOk result (λ e. Acts code.now core.old core.new e (ops.Control control)) }
+    ensures ok { IfOk result (λ e. Acts code.now core.old core.new e (ops.Control control.now)) }
     ensures taken { OnOk result (core.new.taken ≡ core.old.taken + 1) }
     ensures err { OnErr result (Keeps core.old core.new) }
 {
@@ -49,12 +49,12 @@ pub fn cut(core: &mut Core) -> Event
 
 // The op does what it stands for.
 #[inline(always)]
-fn act(core: &mut Core, code: &Code, input: &Input, op: Op) -> Result<Event, NoMemory>
+fn act(core: &mut Core, code: &Code, input: &Input, op: &Op) -> Result<Event, NoMemory>
     requires taken { core.old.taken + 1 < 2 ^ 128 }
     requires place { core.old.top.place + 1 < 2 ^ 64 }
-    requires within { OpWithin (numbers_of code.now core.old) op }
+    requires within { OpWithin (numbers_of code.now core.old) op.now }
     requires laid { IsLaid core.old }
-    ensures ok { IfOk result (λ e. Carries input.now code.now core.old core.new e op) }
+    ensures ok { IfOk result (λ e. Carries input.now code.now core.old core.new e op.now) }
     ensures taken { OnOk result (core.new.taken ≡ core.old.taken + 1) }
     ensures err { OnErr result (Keeps core.old core.new) }
 {
@@ -63,7 +63,7 @@ fn act(core: &mut Core, code: &Code, input: &Input, op: Op) -> Result<Event, NoM
             if core.turns >= core.limit {
                 return Ok(cut(core));
             }
-            Ok(step_value(core, code, dest, value))
+            Ok(step_value(core, code, *dest, value))
         }
         Op::Control(control) => {
             if core.turns >= core.limit {
@@ -85,6 +85,6 @@ pub fn step_core(core: &mut Core, code: &Code, input: &Input) -> Result<Event, N
     ensures taken { OnOk result (core.new.taken ≡ core.old.taken + 1) }
     ensures err { OnErr result (Keeps core.old core.new) }
 {
-    let op = code.ops[core.top.place];
+    let op = &code.ops[core.top.place];
     act(core, code, input, op)
 }

@@ -269,14 +269,14 @@ fn step_effect(
     core: &mut Core,
     code: &Code,
     input: &Input,
-    effect: Effect,
+    effect: &Effect,
 ) -> Result<Event, NoMemory>
     requires taken { core.old.taken + 1 < 2 ^ 128 }
     requires place { core.old.top.place + 1 < 2 ^ 64 }
-    requires within { EffectWithin (numbers_of code.now core.old) effect }
+    requires within { EffectWithin (numbers_of code.now core.old) effect.now }
     requires laid { IsLaid core.old }
     ensures ok { IfOk result (λ e. Carries input.now code.now core.old core.new e (ops.Memory
-        (memories.Effect effect))) }
+        (memories.Effect effect.now))) }
     ensures taken { OnOk result (core.new.taken ≡ core.old.taken + 1) }
     ensures err { OnErr result (Keeps core.old core.new) }
 {
@@ -285,15 +285,15 @@ fn step_effect(
             if core.turns >= core.limit {
                 return Ok(cut(core));
             }
-            let event = alloca(core, dest, size, align)?;
+            let event = alloca(core, *dest, *size, *align)?;
             Ok(event)
         }
-        Effect::Persistence(action) => Ok(persistence(core, code, action)),
+        Effect::Persistence(action) => Ok(persistence(core, code, *action)),
         Effect::Outside(action) => {
             if core.turns >= core.limit {
                 return Ok(cut(core));
             }
-            Ok(outside(core, code, input, action))
+            Ok(outside(core, code, input, *action))
         }
     }
 }
@@ -304,13 +304,13 @@ pub fn step_memory(
     core: &mut Core,
     code: &Code,
     input: &Input,
-    memory: Memory,
+    memory: &Memory,
 ) -> Result<Event, NoMemory>
     requires taken { core.old.taken + 1 < 2 ^ 128 }
     requires place { core.old.top.place + 1 < 2 ^ 64 }
-    requires within { MemoryWithin (numbers_of code.now core.old) memory }
+    requires within { MemoryWithin (numbers_of code.now core.old) memory.now }
     requires laid { IsLaid core.old }
-    ensures ok { IfOk result (λ e. Carries input.now code.now core.old core.new e (ops.Memory memory)) }
+    ensures ok { IfOk result (λ e. Carries input.now code.now core.old core.new e (ops.Memory memory.now)) }
     ensures taken { OnOk result (core.new.taken ≡ core.old.taken + 1) }
     ensures err { OnErr result (Keeps core.old core.new) }
 {
@@ -324,7 +324,7 @@ pub fn step_memory(
             if core.turns >= core.limit {
                 return Ok(cut(core));
             }
-            Ok(load(core, code, dest, width, align, addr))
+            Ok(load(core, code, *dest, *width, *align, *addr))
         }
         Memory::Store {
             size,
@@ -335,7 +335,7 @@ pub fn step_memory(
             if core.turns >= core.limit {
                 return Ok(cut(core));
             }
-            let event = store(core, code, size, align, value, addr)?;
+            let event = store(core, code, *size, *align, *value, *addr)?;
             Ok(event)
         }
         Memory::Effect(effect) => {

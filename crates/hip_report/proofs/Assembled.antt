@@ -1,5 +1,5 @@
 -- The notes after all parts of a step.
-use Rattle.std.proofs.Common.{◌≡◌, ℕ, suc, ◌+◌, ◌*◌, ◌<◌, ◌≤◌, ◌^◌, Bool, true, false, cond, List, [], ◌∷◌, length, map, Option, Some, refl, sym, ap, ap₂, ◌∙◌, subst, arith, nat_eq, ◌/◌, None, ◌⊎◌, inl, inr}
+use Rattle.std.proofs.Common.{◌≡◌, ℕ, suc, ◌+◌, ◌*◌, ◌<◌, ◌≤◌, ◌^◌, Bool, true, false, cond, List, [], ◌∷◌, length, map, Option, Some, refl, sym, ap, ap₂, ◌∙◌, subst, arith, nat_eq, ◌⊎◌, inl, inr}
 use Rattle.std.proofs.lemmas.Nat.{mul-le}
 use Rattle.hip_types.specs.Distinct.{met}
 use Rattle.hip_ir.specs.declared.program.Program.{Program}
@@ -25,23 +25,16 @@ use Rattle.hip_runs.specs.Ends.{longest}
 use Rattle.hip_runs.specs.Laws.StepLaws.{has_frame}
 use Rattle.hip_step.specs.Seen.{next_site}
 use Rattle.hip_report.specs.CallPaths.{births_of}
-use Rattle.hip_report.specs.MarkKeys.{mark_of}
+use Rattle.hip_report.specs.MarkKeys.{AreMet, mark_of, WereHit}
 use Rattle.hip_report.specs.Noted.{AreNoted, EndsBelow, Follows, Reported, births_after, calls_after, range_of}
 use Rattle.hip_report.specs.Pending.{lines_of}
-use Rattle.hip_lines.specs.Laws.LooseLaws.{get-below}
-use Rattle.hip_lines.specs.declared.part.LooseByte.{LooseByte}
 use Rattle.hip_runs.specs.Found.Tags.{loose_bytes}
-use Rattle.hip_runs.specs.State.{StorePart}
-use Rattle.hip_runs.specs.StoredParts.Parts.{In}
-use Rattle.hip_report.proofs.LoosePlaces.{byte_of_part}
-use Rattle.hip_report.specs.Pending.{StoresAscend}
-use Rattle.hip_report.specs.Noted.{IsForgotten}
-use Rattle.hip_report.specs.Standing.{IsLooseAt}
-use Rattle.hip_report.specs.declared.pending.StoreNote.{StoreNote}
+use Rattle.hip_report.specs.Noted.{IsForgotten, IsLetGo}
 use Rattle.hip_report.specs.Sights.{marks_ahead}
 use Rattle.hip_report.specs.Standing.{Tells}
 use Rattle.hip_report.specs.declared.notes.Notes.{Notes}
 use Rattle.hip_report.specs.declared.pending.Pending.{Pending}
+use Rattle.hip_report.proofs.Forgetting.{let_go}
 use Rattle.hip_report.proofs.Rooms.{Lies}
 use Rattle.hip_report.proofs.Steps.{CallsNext, calls_are, calls_next, entries_next, fence_next, hit_next, marks_next, pending_next, reports_next, steps_next}
 
@@ -73,9 +66,11 @@ pub record Did (P : Program) (I : Input) (c0 c1 c2 c3 c4 c5 c6 : Notes) (lines :
   pub births : c3.births.items ≡ births_after before after c0.steps site c2.births.items
   pub r3 : c3 ≡ record c2 { calls = c3.calls; births = c3.births }
   pub marks : map mark_of c4.marks.keys ≡ met same_mark (map mark_of c3.marks.keys) (unless_ended e ahead)
-  pub r4 : c4 ≡ record c3 { marks = c4.marks }
+  pub known : AreMet (map mark_of c4.marks.keys) c4.recent.items
+  pub r4 : c4 ≡ record c3 { marks = c4.marks; recent = c4.recent }
   pub hits : c5.hit.keys ≡ met nat_eq c4.hit.keys (event_hits P I e)
-  pub r5 : c5 ≡ record c4 { hit = c5.hit }
+  pub flags : WereHit c5.hit.keys c5.flags.items
+  pub r5 : c5 ≡ record c4 { hit = c5.hit; flags = c5.flags }
   pub r6 : c6 ≡ record c5 { steps = c5.steps + 1; entries = cond (has_entry e) (c5.entries + 1) c5.entries; fence = cond (fences e) (Some c5.steps) c5.fence }
 
 module _ (P : Program) (I : Input) (n : ℕ) (going : has_ended (run P I n) ≡ false) (c0 c1 c2 c3 c4 c5 c6 : Notes) (h : AreNoted P I n c0) (base region : ℕ) (is_base : base ≡ I.base) (is_region : region ≡ length I.image)
@@ -155,6 +150,12 @@ module _ (P : Program) (I : Input) (n : ℕ) (going : has_ended (run P I n) ≡ 
   hit4 : c4.hit ≡ c0.hit
   hit4 = ap (λ (x : Notes). x.hit) d.r4 ∙ ap (λ (x : Notes). x.hit) d.r3 ∙ ap (λ (x : Notes). x.hit) d.r2 ∙ ap (λ (x : Notes). x.hit) d.r1
 
+  recent6 : c6.recent ≡ c4.recent
+  recent6 = ap (λ (x : Notes). x.recent) d.r6 ∙ ap (λ (x : Notes). x.recent) d.r5
+
+  flags6 : c6.flags ≡ c5.flags
+  flags6 = ap (λ (x : Notes). x.flags) d.r6
+
   hit6 : c6.hit ≡ c5.hit
   hit6 = ap (λ (x : Notes). x.hit) d.r6
 
@@ -185,6 +186,8 @@ module _ (P : Program) (I : Input) (n : ℕ) (going : has_ended (run P I n) ≡ 
             (subst (λ (p : Pending). Tells P I (suc n) c0.header p.stores.items (lines_of p.lines)) (sym pending6)
             (pending_next P I n going c0.header c1.pending c2.pending old h.counted (c0.entries + 1) c1.calls.value (λ x. ap (λ i. i + 1) (h.entries x)) calls1 f fs q follows_here));
         marks = ap (λ x. map mark_of x.keys) marks6 ∙ d.marks ∙ marks_next P I n going (map mark_of c3.marks.keys) (ap (λ x. map mark_of x.keys) marks3 ∙ h.marks);
+        recent = subst (λ x. AreMet (map mark_of x.keys) c6.recent.items) (sym marks6) (subst (λ x. AreMet (map mark_of c4.marks.keys) x.items) (sym recent6) d.known);
+        flags = subst (λ x. WereHit x.keys c6.flags.items) (sym hit6) (subst (λ x. WereHit c5.hit.keys x.items) (sym flags6) d.flags);
         hit = ap (λ x. x.keys) hit6 ∙ d.hits ∙ hit_next P I n going c4.hit.keys (ap (λ x. x.keys) hit4 ∙ h.hit);
         reports = λ x. reports6 ∙ reports_next P I n going c0 h (sym header6 ∙ x) base region is_base is_region c1.reports (before E refl d.told);
       }
@@ -211,23 +214,10 @@ first_frame (f ∷ fs) e = (f, fs, refl)
 
 -- ---- what is let go
 
-no_more : (P : Program) (I : Input) (n region : ℕ) → region ≡ 64 * length (run P I n).lines → loose_bytes (run P I n) 0 region ≡ [] → (b k : ℕ) (x : StorePart) → IsLooseAt (run P I n).lines b k x → ⊥
-no_more P I n region e none b k x h =
-    let lt : b / 64 < length (run P I n).lines = get-below (run P I n).lines (b / 64) h.line h.line_at in
-    let r = byte_of_part P I n 0 region b k x h (omega arith) (omega (arith, lt, e)) in
-    subst (λ (bs : List LooseByte). In r.0 bs) none r.1
-
-nothing_tells : (P : Program) (I : Input) (n header region : ℕ) (p : Pending) → region ≡ 64 * length (run P I n).lines → loose_bytes (run P I n) 0 region ≡ [] → p.stores.items ≡ [] → ((j : ℕ) → lines_of p.lines j ≡ None)
-    → Tells P I n header p.stores.items (lines_of p.lines)
-nothing_tells P I n header region p e none stores lines = record {
-  stores = subst (λ (ns : List StoreNote). StoresAscend 0 n ns) (sym stores) tt;
-  flushes = λ j l q. absurd (let z : None ≡ Some l = sym (lines j) ∙ q in let w : ⊥ = cc in w);
-  kept = λ b k x h. absurd (no_more P I n region e none b k x h);
-}
-
-pub forgotten : (P : Program) (I : Input) (n region : ℕ) (c c' : Notes) → AreNoted P I n c → region ≡ 64 * length (run P I n).lines → IsForgotten (loose_bytes (run P I n) 0 region) c.pending c'.pending
-    → c' ≡ record c { pending = c'.pending } → AreNoted P I n c'
-forgotten P I n region c c' h e k r = subst (λ (x : Notes). AreNoted P I n x) (sym r) (record {
+pub forgotten : (P : Program) (I : Input) (n region : ℕ) (c c' : Notes) → AreNoted P I (suc n) c → region ≡ 64 * length (run P I (suc n)).lines
+    → IsForgotten (since.fences (event P I (run P I n))) (loose_bytes (run P I (suc n)) 0 region) c.pending c'.pending
+    → c' ≡ record c { pending = c'.pending; enough = c'.enough } → AreNoted P I (suc n) c'
+forgotten P I n region c c' h e k r = subst (λ (x : Notes). AreNoted P I (suc n) x) (sym r) (record {
   steps = h.steps;
   counted = h.counted;
   entries = h.entries;
@@ -238,10 +228,13 @@ forgotten P I n region c c' h e k r = subst (λ (x : Notes). AreNoted P I n x) (
   births = h.births;
   pending = by k;
   marks = h.marks;
+  recent = h.recent;
   hit = h.hit;
+  flags = h.flags;
   reports = h.reports;
 })
   where
-    by : (c'.pending ≡ c.pending) ⊎ ((loose_bytes (run P I n) 0 region ≡ []) × (c'.pending.stores.items ≡ []) × ((j : ℕ) → lines_of c'.pending.lines j ≡ None)) → Tells P I n c.header c'.pending.stores.items (lines_of c'.pending.lines)
-    by (inl q) = subst (λ (p : Pending). Tells P I n c.header p.stores.items (lines_of p.lines)) (sym q) h.pending
-    by (inr q) = nothing_tells P I n c.header region c'.pending e q.0 q.1 q.2
+    by : (c'.pending ≡ c.pending) ⊎ ((since.fences (event P I (run P I n)) ≡ true) × IsLetGo (loose_bytes (run P I (suc n)) 0 region) c.pending c'.pending)
+        → Tells P I (suc n) c.header c'.pending.stores.items (lines_of c'.pending.lines)
+    by (inl q) = subst (λ (p : Pending). Tells P I (suc n) c.header p.stores.items (lines_of p.lines)) (sym q) h.pending
+    by (inr q) = let_go P I n c.header region q.0 e c.pending c'.pending h.pending q.1

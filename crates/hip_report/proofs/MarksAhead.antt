@@ -4,7 +4,6 @@ use Rattle.std.specs.Prelude.{is_some}
 use Rattle.hip_ir.specs.Sites.{instr_of}
 use Rattle.std.specs.List.{flat_map}
 use Rattle.hip_types.specs.declared.number.Scalar.{Scalar}
-use Rattle.hip_types.specs.declared.number.Scalar.TheVariants.{Int, Ptr}
 use Rattle.hip_typing.specs.Numbering.{function_number}
 use Rattle.hip_ir.specs.declared.instr.Arg.{Arg}
 use Rattle.hip_ir.specs.declared.instr.Instr.TheVariants.{Call}
@@ -149,22 +148,10 @@ module _ (P : Program) (I : Input) (s : State) (site : Site) (n : IsNext P s sit
 
 -- ---- how many pointer operands there are
 
-abbrev pointed_by_type : Scalar → Operand → List Operand
-pointed_by_type Ptr value = value ∷ []
-pointed_by_type (Int w) value = []
-
-few_args : (args : List Arg) → length (flat_map pointer_arg args) ≤ length args
-few_args [] = omega arith
-few_args (a ∷ args) = go (few_args args) a.ty
-  where
-    go : length (flat_map pointer_arg args) ≤ length args → (ty : Scalar) → length (pointed_by_type ty a.value ++ flat_map pointer_arg args) ≤ suc (length args)
-    go h Ptr = omega (arith, h)
-    go h (Int w) = omega (arith, h)
-
-pub few_operands : (P : Program) (i : Instr) (dest : Option (List ℕ)) (ret : Option Scalar) (callee : List ℕ) (args : List Arg) → i ≡ Call dest ret callee args → (n : ℕ) → n ≡ length args
+pub few_operands : (P : Program) (i : Instr) (dest : Option (List ℕ)) (ret : Option Scalar) (callee : List ℕ) (args : List Arg) → i ≡ Call dest ret callee args → (n : ℕ) → length (flat_map pointer_arg args) ≤ n
     → length (pointer_operands P i) ≤ n
-few_operands P i dest ret callee args e n q = subst (λ (j : Instr). length (pointer_operands P j) ≤ n) (sym e) (go (is_some (function_number P callee)))
+few_operands P i dest ret callee args e n h = subst (λ (j : Instr). length (pointer_operands P j) ≤ n) (sym e) (go (is_some (function_number P callee)))
   where
     go : (t : Bool) → length (cond t (flat_map pointer_arg args) []) ≤ n
-    go true = let h = few_args args in omega (arith, h, q)
+    go true = h
     go false = omega arith

@@ -1,5 +1,5 @@
 -- Notes whose steps ascend, with one more.
-use Rattle.std.proofs.Common.{◌≡◌, ℕ, suc, ◌+◌, ◌<◌, ◌≤◌, Bool, true, false, cond, nat_eq, nat_lt, List, [], ◌∷◌, ◌++◌, Option, Some, None, refl, ap, ◌∙◌, arith}
+use Rattle.std.proofs.Common.{◌≡◌, ℕ, suc, ◌+◌, ◌<◌, ◌≤◌, Bool, true, false, cond, nat_eq, nat_lt, List, [], ◌∷◌, ◌++◌, Option, Some, None, refl, sym, ap, ap₂, ◌∙◌, filter, arith}
 use Rattle.std.proofs.lemmas.Bool.Decides.{nat_tests}
 use Rattle.hip_report.specs.declared.pending.FlushNote.{FlushNote}
 use Rattle.hip_report.specs.declared.pending.StoreNote.{StoreNote}
@@ -37,6 +37,37 @@ found_below a n (y ∷ xs) tag x h e = go (λ g. found_below (y.tag + 1) n xs ta
     go : (note_of xs tag ≡ Some x → tag < n) → (t : Bool) → nat_eq y.tag tag ≡ t → cond t (Some y) (note_of xs tag) ≡ Some x → tag < n
     go rest true q e = let same : y.tag ≡ tag = grind (arith, nat_tests) in let lt = h.1 in omega (arith, same, lt)
     go rest false q e = rest e
+
+-- ---- some of the stores
+
+from_lower : (a c b : ℕ) (xs : List StoreNote) → a ≤ c → StoresAscend c b xs → StoresAscend a b xs
+from_lower a c b [] le h = tt
+from_lower a c b (x ∷ xs) le h = let low = h.0 in (omega (arith, le, low), h.1, h.2)
+
+module _ (tags : ℕ → Bool) where
+  abbrev pub Some_of : List StoreNote → List StoreNote
+  Some_of xs = filter (λ note. tags note.tag) xs
+
+  pub fewer_stores : (a b : ℕ) (xs : List StoreNote) → StoresAscend a b xs → StoresAscend a b (Some_of xs)
+  fewer_stores a b [] h = tt
+  fewer_stores a b (x ∷ xs) h = go (tags x.tag) (fewer_stores (x.tag + 1) b xs h.2)
+    where
+      go : (t : Bool) → StoresAscend (x.tag + 1) b (Some_of xs) → StoresAscend a b (cond t (x ∷ Some_of xs) (Some_of xs))
+      go true k = (h.0, h.1, k)
+      go false k = let low = h.0 in from_lower a (x.tag + 1) b (Some_of xs) (omega (arith, low)) k
+
+  -- a note of a step that is among them stays there
+  pub stays_there : (tag : ℕ) → tags tag ≡ true → (xs : List StoreNote) → note_of (Some_of xs) tag ≡ note_of xs tag
+  stays_there tag e [] = refl
+  stays_there tag e (x ∷ xs) = go (tags x.tag) refl (nat_eq x.tag tag) refl (stays_there tag e xs)
+    where
+      go : (t : Bool) → tags x.tag ≡ t → (s : Bool) → nat_eq x.tag tag ≡ s → note_of (Some_of xs) tag ≡ note_of xs tag
+          → note_of (cond t (x ∷ Some_of xs) (Some_of xs)) tag ≡ cond s (Some x) (note_of xs tag)
+      go true p s q k = ap₂ (λ t r. cond t (Some x) r) q k
+      go false p true q k =
+          let same : x.tag ≡ tag = grind (arith, nat_tests) in
+          absurd (let z : false ≡ true = sym p ∙ ap tags same ∙ e in let w : ⊥ = cc in w)
+      go false p false q k = k
 
 -- ---- flushes
 

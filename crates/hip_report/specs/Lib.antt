@@ -5,4 +5,5 @@ pub mod Standing
 pub mod MarkKeys
 pub mod Noted
 pub mod Sights
+pub mod Plain
 pub mod Tracking

@@ -1,4 +1,7 @@
--- Marks as keys of a set.
+-- Marks as keys of a set, and what is kept at hand of those that were met.
+use Rattle.std.specs.Prelude.{◌≡◌, ℕ, true, nat_eq, List, Option, Some, slice_get, Bool}
+use Rattle.std.specs.List.{list_any}
+use Rattle.hip_runs.specs.Found.Marks.{same_mark}
 use Rattle.hip_runs.specs.declared.event.Object.{Object}
 use Rattle.hip_runs.specs.declared.event.Object.TheVariants as objects
 use Rattle.hip_runs.specs.declared.report.Mark.{Mark}
@@ -16,3 +19,12 @@ mark_of k = record {
   operand = k.operand;
   object = object_of k.object;
 }
+
+-- each mark at hand was met
+abbrev pub AreMet : List Mark → List (Option MarkKey) → Type 0
+AreMet marks recent = (i : ℕ) → (k : MarkKey) → slice_get recent i ≡ Some (Some k)
+    → list_any (same_mark (mark_of k)) marks ≡ true
+
+-- each global with a flag was hit
+abbrev pub WereHit : List ℕ → List Bool → Type 0
+WereHit hit flags = (g : ℕ) → slice_get flags g ≡ Some true → list_any (nat_eq g) hit ≡ true

@@ -1,5 +1,5 @@
 -- What a tracker notes of a run.
-use Rattle.std.specs.Prelude.{◌≡◌, ◌⊎◌, ℕ, ◌+◌, ◌-◌, ◌≤◌, ◌<◌, ◌^◌, cond, List, [], ◌∷◌, ◌++◌, map, nat_lt, length, take, drop, Option, Some, None, option_map}
+use Rattle.std.specs.Prelude.{◌≡◌, ◌⊎◌, ℕ, ◌+◌, ◌-◌, ◌≤◌, ◌<◌, ◌^◌, ◌/◌, Bool, true, cond, filter, List, [], ◌∷◌, ◌++◌, map, nat_lt, length, take, drop, Option, Some, None, option_map}
 use Rattle.hip_ir.specs.declared.program.Program.{Program}
 use Rattle.hip_ir.specs.declared.site.Site.{Site}
 use Rattle.std.specs.BTreeMap as tree
@@ -8,6 +8,7 @@ use Rattle.std.specs.Ordering.{nat_cmp}
 use Rattle.hip_lines.specs.Line.{has_bytes}
 use Rattle.hip_lines.specs.Parts.{loose_from}
 use Rattle.hip_lines.specs.Pending.{Pending as Waiting}
+use Rattle.hip_lines.specs.declared.TheConstants.{LINE_SIZE}
 use Rattle.hip_lines.specs.declared.part.LooseByte.{LooseByte}
 use Rattle.hip_lines.specs.declared.part.Part.{Part}
 use Rattle.hip_runs.specs.Found.Marks.{hit, pointed}
@@ -17,14 +18,15 @@ use Rattle.hip_runs.specs.declared.report.Report.{Report}
 use Rattle.hip_runs.specs.State.{Level, levels_of}
 use Rattle.hip_runs.specs.Step.{header_entries, run}
 use Rattle.hip_runs.specs.StoredParts.Order.{last_fence}
+use Rattle.hip_runs.specs.StoredParts.Parts.{In}
 use Rattle.hip_runs.specs.declared.event.Event.{Event}
 use Rattle.hip_runs.specs.declared.event.Event.TheVariants as events
 use Rattle.hip_runs.specs.declared.input.Input.{Input}
 use Rattle.hip_report.specs.CallPaths.{births_of}
 use Rattle.hip_report.specs.Checking.{group_from, reports_told}
 use Rattle.hip_report.specs.declared.checks.Group.{Group}
-use Rattle.hip_report.specs.MarkKeys.{mark_of}
-use Rattle.hip_report.specs.Pending.{lines_of, with_flush, with_store}
+use Rattle.hip_report.specs.MarkKeys.{AreMet, mark_of, WereHit}
+use Rattle.hip_report.specs.Pending.{AreBlank, blank, lines_of, with_flush, with_store}
 use Rattle.hip_report.specs.Standing.{Tells}
 use Rattle.hip_report.specs.declared.notes.Notes.{Notes}
 use Rattle.hip_report.specs.declared.pending.Pending.{Pending}
@@ -44,7 +46,9 @@ pub record AreNoted (P : Program) (I : Input) (n : ℕ) (c : Notes) : Type 0 whe
   pub births : c.births.items ≡ births_of (levels_of (run P I n).frames)
   pub pending : Tells P I n c.header c.pending.stores.items (lines_of c.pending.lines)
   pub marks : map mark_of c.marks.keys ≡ pointed P I n
+  pub recent : AreMet (map mark_of c.marks.keys) c.recent.items
   pub hit : c.hit.keys ≡ hit P I n
+  pub flags : WereHit c.hit.keys c.flags.items
   pub reports : c.header ≡ header_entries I → c.reports ≡ reports P I n
 
 -- ---- what an event does to what is kept of pending stores
@@ -120,7 +124,15 @@ Reported (Some r) births entry fence p lines old new =
 
 -- ---- what is let go
 
--- All stays, or, where no byte is loose, nothing does.
-abbrev pub IsForgotten : List LooseByte → Pending → Pending → Type 0
-IsForgotten bytes old new =
-    (new ≡ old) ⊎ ((bytes ≡ []) × (new.stores.items ≡ []) × ((j : ℕ) → lines_of new.lines j ≡ None))
+-- What is kept behind a fence of the notes where these bytes are loose: the stores of some steps, those by which bytes
+-- are loose among them, and a blank note of each line that has a loose byte.
+pub record IsLetGo (bytes : List LooseByte) (old new : Pending) : Type 0 where
+  pub tags : ℕ → Bool
+  pub told : (x : LooseByte) → In x bytes → tags x.tag ≡ true
+  pub stores : new.stores.items ≡ filter (λ note. tags note.tag) old.stores.items
+  pub lines : (x : LooseByte) → In x bytes → lines_of new.lines (x.offset / LINE_SIZE) ≡ Some blank
+  pub others : AreBlank (lines_of new.lines)
+
+-- all stays, or, behind a fence, only what the loose bytes ask for is kept
+abbrev pub IsForgotten : Bool → List LooseByte → Pending → Pending → Type 0
+IsForgotten fenced bytes old new = (new ≡ old) ⊎ ((fenced ≡ true) × IsLetGo bytes old new)

@@ -1,5 +1,5 @@
 -- What is kept of a run for the checks to come: its stores that may still be reported, and the flushes of their lines.
-use Rattle.std.specs.Prelude.{ℕ, ◌+◌, ◌<◌, ◌≤◌, Bool, true, false, cond, ◌&&◌, nat_eq, nat_le, nat_lt, List, [], ◌∷◌, ◌++◌, Option, Some, None}
+use Rattle.std.specs.Prelude.{◌≡◌, ◌⊎◌, ℕ, ◌+◌, ◌<◌, ◌≤◌, Bool, true, false, cond, ◌&&◌, nat_eq, nat_le, nat_lt, List, [], ◌∷◌, ◌++◌, Option, Some, None}
 use Rattle.std.specs.Ordering.{nat_cmp}
 use Rattle.std.specs.BTreeMap as tree
 use Rattle.std.specs.BTreeMap.{BTreeMap}
@@ -50,14 +50,12 @@ with_store l = record { stored = true; flushes = flushes_in l }
 abbrev pub with_flush : FlushNote → LineNote → LineNote
 with_flush f l = cond l.stored (record { stored = false; flushes = l.flushes ++ f ∷ [] }) l
 
--- the flushes that came after the last fence
-abbrev pub is_since : Option ℕ → FlushNote → Bool
-is_since None f = true
-is_since (Some fence) f = nat_lt fence f.step
+-- ---- what is let go
 
-abbrev pub since : Option ℕ → List FlushNote → List FlushNote
-since fence [] = []
-since fence (f ∷ fs) = cond (is_since fence f) (f ∷ since fence fs) (since fence fs)
+-- A line of which nothing is kept but that a store came, as behind a fence, where no loose byte was flushed.
+abbrev pub blank : LineNote
+blank = record { stored = true; flushes = [] }
 
-abbrev pub line_since : Option ℕ → LineNote → LineNote
-line_since fence l = record { stored = l.stored; flushes = since fence l.flushes }
+-- every line that has a note is blank
+abbrev pub AreBlank : (ℕ → Option LineNote) → Type 0
+AreBlank lines = (j : ℕ) → (lines j ≡ None) ⊎ (lines j ≡ Some blank)

@@ -1,11 +1,15 @@
 -- What is seen of a machine before a step.
-use Rattle.std.specs.Prelude.{ℕ, zero, suc, cond, List, [], ◌++◌, Option, Some, None}
+use Rattle.std.specs.Prelude.{◌≡◌, ℕ, zero, suc, Bool, true, false, cond, List, [], ◌++◌, Option, Some, None}
+use Rattle.hip_types.specs.Distinct.{met}
 use Rattle.hip_ir.specs.declared.program.Program.{Program}
 use Rattle.hip_ir.specs.declared.site.Site.{Site}
-use Rattle.hip_runs.specs.Found.Marks.{frame_marks, mark_of}
+use Rattle.hip_runs.specs.Found.Marks.{frame_marks, mark_of, same_mark}
 use Rattle.hip_runs.specs.Found.Objects.{object_at}
 use Rattle.hip_runs.specs.State.{State}
 use Rattle.hip_runs.specs.Step.{has_ended}
+use Rattle.hip_runs.specs.declared.event.Ending.TheVariants.{Cut, Trap}
+use Rattle.hip_runs.specs.declared.event.Event.{Event}
+use Rattle.hip_runs.specs.declared.event.Event.TheVariants as events
 use Rattle.hip_runs.specs.declared.input.Input.{Input}
 use Rattle.hip_runs.specs.declared.report.Mark.{Mark}
 use Rattle.hip_step.specs.Seen.{pointer_of}
@@ -26,3 +30,21 @@ mark_at P I s site k = mark_by P I s site k (pointer_of P I s k)
 abbrev pub marks_to : Program → Input → State → Site → ℕ → List Mark
 marks_to P I s site zero = []
 marks_to P I s site (suc k) = marks_to P I s site k ++ mark_at P I s site k
+
+-- to marks that were met, these add what those add
+abbrev pub AddAlike : List Mark → List Mark → List Mark → Type 0
+AddAlike met_before these those = met same_mark met_before these ≡ met same_mark met_before those
+
+-- whether nothing is seen of a step with this event but what it prints
+abbrev pub is_still : Event → Bool
+is_still events.Quiet = true
+is_still (events.Print z) = true
+is_still _ = false
+
+-- whether no notes but the counts change by a step with this event
+abbrev pub leaves : Event → Bool
+leaves events.Quiet = true
+leaves (events.Print z) = true
+leaves (events.End (Trap kind)) = true
+leaves (events.End Cut) = true
+leaves _ = false

@@ -2,7 +2,7 @@ ghost use Rattle.std.specs.Prelude.{◌≡◌, ℕ, ◌+◌, ◌-◌, ◌*◌, �
 ghost use Rattle.hip_lines.specs.Parts.{loose_from};
 ghost use Rattle.hip_types.specs.Distinct.{met};
 ghost use Rattle.hip_runs.specs.Found.Marks.{same_mark};
-ghost use Rattle.hip_report.specs.MarkKeys.{mark_of};
+ghost use Rattle.hip_report.specs.MarkKeys.{AreMet, mark_of};
 ghost use Rattle.hip_report.specs.declared.pending.LineNote.{LineNote as Line};
 ghost use Rattle.hip_report.specs.Noted.{EndsBelow, FlushedAt, Follows, Reported, StoredAt, births_after, calls_after, range_of};
 ghost use Rattle.hip_report.specs.Pending.{FlushesAscend, StoresAscend, lines_of};
@@ -142,11 +142,17 @@ fn note_call(
 }
 
 /// Notes the marks of a step that was taken.
-pub fn note_marks(marks: &mut IndexSet<MarkKey>, ahead: &[Mark]) -> Result<(), NoMemory>
-    ensures { OnOk result (map mark_of marks.new.keys ≡ met same_mark (map mark_of marks.old.keys) ahead.now) }
+pub fn note_marks(
+    marks: &mut IndexSet<MarkKey>,
+    recent: &mut Vec<Option<MarkKey>>,
+    ahead: &[Mark],
+) -> Result<(), NoMemory>
+    requires { AreMet (map mark_of marks.old.keys) recent.old.items }
+    ensures marks { OnOk result (map mark_of marks.new.keys ≡ met same_mark (map mark_of marks.old.keys) ahead.now) }
+    ensures known { OnOk result (AreMet (map mark_of marks.new.keys) recent.new.items) }
 {
     'each: for mark in ahead {
-        meet_mark(marks, *mark)?;
+        meet_mark(marks, recent, *mark)?;
     }
     Ok(())
 }

@@ -4,10 +4,11 @@
 mod call_path;
 mod checks;
 mod events;
-mod lengths;
+mod forget;
 mod marks;
 mod notes;
 mod pending;
+mod plain;
 mod sight;
 mod step;
 mod tracker;

@@ -2,11 +2,12 @@ ghost use Rattle.std.specs.Prelude.{◌≡◌, ◌⊎◌, ℕ, ◌+◌, ◌-◌,
 ghost use Rattle.hip_lines.specs.Line.{has_bytes};
 ghost use Rattle.hip_runs.specs.StoredParts.Since.{fences};
 ghost use Rattle.hip_runs.specs.Step.{has_entry};
+ghost use Rattle.hip_report.specs.MarkKeys.{AreMet, WereHit};
 ghost use Rattle.hip_report.specs.Noted.{Follows};
 ghost use Rattle.hip_report.specs.Pending.{is_between, lines_of, with_flush, with_store};
 
 use crate::call_path::CallPath;
-use crate::marks::MarkKey;
+use crate::marks::{MarkKey, none_recent};
 use crate::pending::{FlushNote, Pending, StoreNote, flush_lines};
 use hip_ir::Site;
 use hip_lines::LINE_SIZE;
@@ -16,6 +17,9 @@ use indexmap::IndexSet;
 use std::alloc::Global;
 use std::rc::Rc;
 
+/// How many stores are kept at least before it is looked whether they can be let go.
+pub const ENOUGH_STORES: usize = 1024;
+
 /// What a tracker notes of a run.
 #[derive(Drop)]
 pub struct Notes {
@@ -23,14 +27,21 @@ pub struct Notes {
     pub header: u128,
     pub steps: u128,
     pub entries: u128,
+    // How many of the next steps are known to be at instructions that are neither stores nor calls, unless the run ends.
+    pub plain: usize,
     // The step of the last fence.
     pub fence: Option<u128>,
     // The calls that stand, and their births, the outermost one first.
     pub calls: Rc<CallPath>,
     pub births: Vec<u128>,
     pub pending: Pending,
+    // With how many pending stores it is looked next which of them can be let go.
+    pub enough: usize,
+    // The marks and the globals that were met, and by which repeats are told without a look-up.
     pub marks: IndexSet<MarkKey>,
+    pub recent: Vec<Option<MarkKey>>,
     pub hit: IndexSet<usize>,
+    pub flags: Vec<bool>,
     pub reports: Row<Report>,
 }
 
@@ -40,26 +51,34 @@ impl Notes {
         ensures header { IfOk result (λ notes. notes.header ≡ header) }
         ensures steps { IfOk result (λ notes. notes.steps ≡ 0) }
         ensures entries { IfOk result (λ notes. notes.entries ≡ header) }
+        ensures plain { IfOk result (λ notes. notes.plain ≡ 0) }
         ensures fence { IfOk result (λ notes. notes.fence ≡ None) }
         ensures calls { IfOk result (λ notes. notes.calls.value ≡ []) }
         ensures births { IfOk result (λ notes. notes.births.items ≡ []) }
         ensures stores { IfOk result (λ notes. notes.pending.stores.items ≡ []) }
         ensures lines { IfOk result (λ notes. (j : ℕ) → lines_of notes.pending.lines j ≡ None) }
         ensures marks { IfOk result (λ notes. notes.marks.keys ≡ []) }
+        ensures recent { IfOk result (λ notes. AreMet [] notes.recent.items) }
         ensures hit { IfOk result (λ notes. notes.hit.keys ≡ []) }
+        ensures flags { IfOk result (λ notes. WereHit [] notes.flags.items) }
         ensures reports { IfOk result (λ notes. notes.reports ≡ []) }
     {
         let calls = CallPath::none(alloc)?;
+        let recent = none_recent(alloc)?;
         Ok(Notes {
             header,
             steps: 0,
             entries: header,
+            plain: 0,
             fence: None,
             calls,
             births: Vec::new(alloc),
             pending: Pending::new(alloc),
+            enough: ENOUGH_STORES,
             marks: IndexSet::new(alloc),
+            recent,
             hit: IndexSet::new(alloc),
+            flags: Vec::new(alloc),
             reports: Row::new(alloc),
         })
     }

@@ -1,15 +1,12 @@
 ghost use Rattle.std.specs.Prelude.{◌≡◌, ◌⊎◌, ℕ, ◌+◌, ◌-◌, ◌/◌, ◌<◌, ◌≤◌, ◌^◌, List, ◌++◌, ◌∷◌, [], Some, None, cond, true, option_map, IfOk, OnOk, IfSome, IsSome};
-ghost use Rattle.hip_lines.specs.declared.part.LooseByte.{LooseByte};
-ghost use Rattle.hip_runs.specs.StoredParts.Parts.{In};
 ghost use Rattle.hip_report.specs.declared.pending.StoreNote.{StoreNote as Note};
-ghost use Rattle.hip_report.specs.Pending.{first_after, flushes_in, FlushesAscend, is_between, line_since, lines_of, is_since, note_of, since, StoresAscend, with_flush, with_store};
+ghost use Rattle.hip_report.specs.Pending.{first_after, flushes_in, FlushesAscend, is_between, lines_of, note_of, StoresAscend, with_flush, with_store};
 
 use crate::call_path::CallPath;
 use hip_ir::Site;
-use hip_lines::{LINE_SIZE, LooseByte, NotDurable};
 use hip_types::{NoMemory, Row};
 use std::alloc::Global;
-use std::collections::{BTreeMap, BTreeSet};
+use std::collections::BTreeMap;
 use std::rc::Rc;
 
 /// A store of the region that may still be reported.
@@ -104,7 +101,12 @@ fn store_lines(
     Ok(())
 }
 
-fn store_line(alloc: Global, lines: &mut BTreeMap<u64, LineNote>, line: u64) -> Result<(), NoMemory>
+/// A store came into a line.
+pub fn store_line(
+    alloc: Global,
+    lines: &mut BTreeMap<u64, LineNote>,
+    line: u64,
+) -> Result<(), NoMemory>
     ensures here { OnOk result (lines_of lines.new line ≡ Some (with_store (lines_of lines.old line))) }
     ensures others { OnOk result ((j : ℕ) → (j ≡ line → ⊥) → lines_of lines.new j ≡ lines_of lines.old j) }
 {
@@ -149,6 +151,21 @@ fn this_one(note: &StoreNote, tag: u128) -> Option<&StoreNote>
 
 /// Notes a flush of the lines from the first one up to the end, in time of those that have a note.
 pub fn flush_lines(
+    lines: &mut BTreeMap<u64, LineNote>,
+    flush: FlushNote,
+    first: u64,
+    end: u64,
+) -> Result<(), NoMemory>
+    ensures { OnOk result ((j : ℕ) → lines_of lines.new j ≡ cond (is_between first end j)
+        (option_map (with_flush flush) (lines_of lines.old j)) (lines_of lines.old j)) }
+{
+    if end.saturating_sub(first) == 1 {
+        return flush_line(lines, flush, first);
+    }
+    flush_range(lines, flush, first, end)
+}
+
+fn flush_range(
     lines: &mut BTreeMap<u64, LineNote>,
     flush: FlushNote,
     first: u64,
@@ -204,40 +221,6 @@ impl LineNote {
             self.flushes.push(flush)?;
         }
         Ok(())
-    }
-
-    // Lets the flushes go that came before the last fence.
-    fn forget(self, alloc: Global, fence: Option<u128>) -> Result<LineNote, NoMemory>
-        ensures { IfOk result (λ note. note ≡ line_since fence self) }
-    {
-        let LineNote { stored, flushes } = self;
-        let flushes = flushes_since(alloc, flushes.as_slice(), fence)?;
-        Ok(LineNote { stored, flushes })
-    }
-}
-
-fn flushes_since(
-    alloc: Global,
-    flushes: &[FlushNote],
-    fence: Option<u128>,
-) -> Result<Row<FlushNote>, NoMemory>
-    ensures { IfOk result (λ row. row ≡ since fence flushes.now) }
-{
-    let mut kept = Row::new(alloc);
-    'each: for flush in flushes {
-        if is_since(fence, *flush) {
-            kept.push(*flush)?;
-        }
-    }
-    Ok(kept)
-}
-
-fn is_since(fence: Option<u128>, flush: FlushNote) -> bool
-    ensures { result ≡ is_since fence flush }
-{
-    match fence {
-        Some(fence) => fence < flush.step,
-        None => true,
     }
 }
 

@@ -1,16 +1,23 @@
-ghost use Rattle.std.specs.Prelude.{◌≡◌, ◌≤◌, ◌++◌, [], Some, length, IfOk, OnOk};
+ghost use Rattle.std.specs.Prelude.{◌≡◌, ◌≤◌, ◌<◌, ◌++◌, ◌∷◌, [], Some, length, map, IfOk, OnOk};
 ghost use Rattle.hip_ir.specs.Sites.{instr_of};
 ghost use Rattle.hip_ir.specs.declared.instr.Instr.{Instr as Code};
 ghost use Rattle.hip_ir.specs.declared.program.Program.{Program as Whole};
-ghost use Rattle.hip_runs.specs.Found.Marks.{pointer_operands};
+ghost use Rattle.std.specs.List.{flat_map};
+ghost use Rattle.hip_ir.specs.declared.instr.Arg.{Arg as Argument};
+ghost use Rattle.hip_runs.specs.Found.Marks.{pointer_arg, pointer_operands};
 ghost use Rattle.hip_runs.specs.Step.{has_ended};
 ghost use Rattle.hip_step.specs.Seen.{next_site, state_of};
-ghost use Rattle.hip_report.specs.Sights.{mark_at, marks_ahead, marks_to};
+ghost use Rattle.hip_report.specs.MarkKeys.{AreMet, mark_of};
+ghost use Rattle.hip_report.specs.Plain.{IsPlainFor};
+ghost use Rattle.hip_report.specs.Sights.{AddAlike, mark_at, marks_ahead, marks_to};
 
-use hip_ir::{Instr, Program, Site, instr_at};
+use crate::marks::is_recent;
+use crate::notes::Notes;
+use crate::plain::plain_at;
+use hip_ir::{Arg, Instr, Program, Site, instr_at};
 use hip_runs::Mark;
 use hip_step::Machine;
-use hip_types::{NoMemory, Row};
+use hip_types::{NoMemory, Row, Scalar};
 use std::alloc::Global;
 
 /// What is seen of a machine before a step.
@@ -19,47 +26,84 @@ pub struct Sight {
     pub ended: bool,
     pub site: Option<Site>,
     pub depth: usize,
-    // The marks of the step, if it is taken without a trap.
+    // How many instructions are next that are neither stores nor calls.
+    pub plain: usize,
+    // The marks of the step, if it is taken without a trap, without some that are noted.
     pub marks: Row<Mark>,
 }
 
-pub fn look(alloc: Global, machine: &Machine<'_>) -> Result<Sight, NoMemory>
+/// Looks at the next step. It takes memory for marks that may be new alone.
+#[inline(always)]
+pub fn look(alloc: Global, notes: &Notes, machine: &Machine<'_>) -> Result<Sight, NoMemory>
+    requires { AreMet (map mark_of notes.now.marks.keys) notes.now.recent.items }
     ensures ended { IfOk result (λ s. s.ended ≡ has_ended (state_of machine.now)) }
     ensures site { IfOk result (λ s. s.site ≡ next_site machine.now.program (state_of machine.now)) }
     ensures depth { IfOk result (λ s. s.depth ≡ length (state_of machine.now).frames) }
-    ensures marks { IfOk result (λ s. s.marks ≡ marks_ahead machine.now.program machine.now.input
-        (state_of machine.now)) }
+    ensures plain { IfOk result (λ s. 0 < s.plain → IsPlainFor machine.now.program (state_of machine.now) s.plain) }
+    ensures marks { IfOk result (λ s. AddAlike (map mark_of notes.now.marks.keys) s.marks
+        (marks_ahead machine.now.program machine.now.input (state_of machine.now))) }
 {
     let site = machine.site();
-    let marks = marks_of_next(alloc, machine, site)?;
+    let plain = plain_next(machine, site);
+    let marks = marks_of_next(alloc, notes, machine, site, plain)?;
     Ok(Sight {
         ended: machine.ending().is_some(),
         site,
         depth: machine.depth(),
+        plain,
         marks,
     })
 }
 
-fn marks_of_next(
-    alloc: Global,
-    machine: &Machine<'_>,
-    site: Option<Site>,
-) -> Result<Row<Mark>, NoMemory>
+// How many plain instructions are next.
+#[inline(always)]
+fn plain_next(machine: &Machine<'_>, site: Option<Site>) -> usize
     requires { site ≡ next_site machine.now.program (state_of machine.now) }
-    ensures { IfOk result (λ marks. marks ≡ marks_ahead machine.now.program machine.now.input (state_of machine.now)) }
+    ensures { 0 < result → IsPlainFor machine.now.program (state_of machine.now) result }
 {
     match site {
-        Some(site) => marks_at(alloc, machine, site),
+        Some(site) => plain_at(machine.checked().program(), site),
+        None => 0,
+    }
+}
+
+#[inline(always)]
+fn marks_of_next(
+    alloc: Global,
+    notes: &Notes,
+    machine: &Machine<'_>,
+    site: Option<Site>,
+    plain: usize,
+) -> Result<Row<Mark>, NoMemory>
+    requires known { AreMet (map mark_of notes.now.marks.keys) notes.now.recent.items }
+    requires site { site ≡ next_site machine.now.program (state_of machine.now) }
+    requires plain { 0 < plain → IsPlainFor machine.now.program (state_of machine.now) plain }
+    ensures { IfOk result (λ marks. AddAlike (map mark_of notes.now.marks.keys) marks
+        (marks_ahead machine.now.program machine.now.input (state_of machine.now))) }
+{
+    if plain > 0 {
+        return Ok(Row::new(alloc));
+    }
+    match site {
+        Some(site) => marks_at(alloc, notes, machine, site),
         None => Ok(Row::new(alloc)),
     }
 }
 
-fn marks_at(alloc: Global, machine: &Machine<'_>, site: Site) -> Result<Row<Mark>, NoMemory>
-    requires { next_site machine.now.program (state_of machine.now) ≡ Some site }
-    ensures { IfOk result (λ marks. marks ≡ marks_ahead machine.now.program machine.now.input (state_of machine.now)) }
+#[inline(always)]
+fn marks_at(
+    alloc: Global,
+    notes: &Notes,
+    machine: &Machine<'_>,
+    site: Site,
+) -> Result<Row<Mark>, NoMemory>
+    requires known { AreMet (map mark_of notes.now.marks.keys) notes.now.recent.items }
+    requires site { next_site machine.now.program (state_of machine.now) ≡ Some site }
+    ensures { IfOk result (λ marks. AddAlike (map mark_of notes.now.marks.keys) marks
+        (marks_ahead machine.now.program machine.now.input (state_of machine.now))) }
 {
     let count = operands_at(machine.checked().program(), site);
-    first_marks(alloc, machine, site, count)
+    first_marks(alloc, notes, machine, site, count)
 }
 
 // No less than the number of pointer operands at a site.
@@ -73,42 +117,62 @@ fn operands_at(program: &Program, site: Site) -> usize
 }
 
 // The marks of the first operands.
+#[inline(always)]
 fn first_marks(
     alloc: Global,
+    notes: &Notes,
     machine: &Machine<'_>,
     site: Site,
     count: usize,
 ) -> Result<Row<Mark>, NoMemory>
-    ensures { IfOk result (λ marks. marks ≡ marks_to machine.now.program machine.now.input
-        (state_of machine.now) site count) }
+    requires { AreMet (map mark_of notes.now.marks.keys) notes.now.recent.items }
+    ensures { IfOk result (λ marks. AddAlike (map mark_of notes.now.marks.keys) marks
+        (marks_to machine.now.program machine.now.input (state_of machine.now) site count)) }
 {
     let mut marks = Row::new(alloc);
     'operands: for operand in 0..count {
-        push_mark(machine, site, operand, &mut marks)?;
+        push_operand(notes, machine, site, operand, &mut marks)?;
     }
     Ok(marks)
 }
 
-fn push_mark(
+fn push_operand(
+    notes: &Notes,
     machine: &Machine<'_>,
     site: Site,
     operand: usize,
     marks: &mut Row<Mark>,
 ) -> Result<(), NoMemory>
-    ensures { OnOk result (marks.new ≡ marks.old ++ mark_at machine.now.program machine.now.input
-        (state_of machine.now) site operand) }
+    requires { AreMet (map mark_of notes.now.marks.keys) notes.now.recent.items }
+    ensures { OnOk result (AddAlike (map mark_of notes.now.marks.keys) marks.new
+        (marks.old ++ mark_at machine.now.program machine.now.input (state_of machine.now) site operand)) }
 {
     match machine.pointer(operand) {
         None => Ok(()),
         Some(addr) => match machine.object_at(addr) {
             None => Ok(()),
-            Some(object) => marks.push(Mark {
-                site,
-                operand,
-                object,
-            }),
+            Some(object) => push_mark(
+                notes,
+                Mark {
+                    site,
+                    operand,
+                    object,
+                },
+                marks,
+            ),
         },
     }
+}
+
+// Puts a mark behind others, unless it is at hand.
+fn push_mark(notes: &Notes, mark: Mark, marks: &mut Row<Mark>) -> Result<(), NoMemory>
+    requires { AreMet (map mark_of notes.now.marks.keys) notes.now.recent.items }
+    ensures { OnOk result (AddAlike (map mark_of notes.now.marks.keys) marks.new (marks.old ++ mark ∷ [])) }
+{
+    if is_recent(notes.recent.as_slice(), mark) {
+        return Ok(());
+    }
+    marks.push(mark)
 }
 
 // No less than the number of its pointer operands.
@@ -117,7 +181,28 @@ fn operand_count(instr: &Instr) -> usize
 {
     match instr {
         Instr::Store { .. } => 1,
-        Instr::Call { args, .. } => args.len(),
+        Instr::Call { args, .. } => pointer_count(args.as_slice()),
         _ => 0,
+    }
+}
+
+// How many of the arguments are pointers.
+fn pointer_count(args: &[Arg]) -> usize
+    ensures { length (flat_map pointer_arg args.now) ≤ result }
+{
+    let mut count = 0;
+    'each: for arg in args {
+        count += pointers_in(arg.ty);
+    }
+    count
+}
+
+fn pointers_in(ty: Scalar) -> usize
+    ensures few { result ≤ 1 }
+    ensures pointer { (a : Argument) → a.ty ≡ ty → length (pointer_arg a) ≤ result }
+{
+    match ty {
+        Scalar::Ptr => 1,
+        Scalar::Int(_) => 0,
     }
 }

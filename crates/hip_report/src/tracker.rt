@@ -3,14 +3,13 @@ ghost use Rattle.hip_runs.specs.Ends.{longest};
 ghost use Rattle.hip_runs.specs.Found.Marks.{IsFound};
 ghost use Rattle.hip_runs.specs.Step.{event, has_ended, header_entries};
 ghost use Rattle.hip_step.specs.Seen.{after_step, state_of};
-ghost use Rattle.hip_report.specs.Noted.{AreNoted};
+ghost use Rattle.hip_report.specs.Plain.{AreTracked};
 ghost use Rattle.hip_report.specs.Tracking.{HasNoted, IsSource, MayAdvance, NotesOf, notes_all, seen_in};
 
-use crate::lengths::longest;
 use crate::marks::{globals_of, marks_of};
 use crate::notes::Notes;
 use crate::step::note_step;
-use hip_runs::{Event, Findings, Input, Marks};
+use hip_runs::{Event, Findings, Input, Marks, longest};
 use hip_step::Machine;
 use hip_types::NoMemory;
 use hip_typing::Checked;
@@ -115,10 +114,11 @@ impl<'a> Tracker<'a> {
 }
 
 // Takes a machine's program and input, where nothing was noted yet.
+#[inline(always)]
 fn begin<'a>(source: &mut Option<Source<'a>>, notes: &Notes, machine: &Machine<'a>)
     requires notes { NotesOf source.old notes.now }
     requires all { notes_all (seen_in source.old notes.now.steps) machine.now }
-    ensures noted { AreNoted machine.now.program machine.now.input machine.now.taken notes.now }
+    ensures noted { AreTracked machine.now.program machine.now.input machine.now.taken notes.now }
     ensures short { longest machine.now.program < 2 ^ 64 }
     ensures source { IsSource source.new machine.now }
 {
@@ -136,6 +136,7 @@ fn begin<'a>(source: &mut Option<Source<'a>>, notes: &Notes, machine: &Machine<'
 }
 
 // Takes a machine's step and notes it.
+#[inline(always)]
 fn advance_in<'a>(
     alloc: Global,
     source: &mut Option<Source<'a>>,

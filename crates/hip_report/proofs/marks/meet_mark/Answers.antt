@@ -1,46 +1,13 @@
-use Rattle.std.proofs.Common.{◌≡◌, refl, ℕ, Bool, true, false, cond, ◌&&◌, ◌||◌, nat_eq, List, [], ◌∷◌, ◌++◌, map, ap, ap₂, ◌∙◌}
-use Rattle.std.specs.Prelude.{if◌then◌else◌}
-use Rattle.std.specs.List.{list_any}
+use Rattle.std.proofs.Common.{◌∷◌, ◌∙◌, [], ap, map}
+use Rattle.hip_types.specs.Distinct.{met}
 use Rattle.hip_runs.specs.Found.Marks.{same_mark}
 use Rattle.hip_runs.specs.declared.report.Mark.{Mark}
 use Rattle.hip_report.specs.MarkKeys.{mark_of}
-use Rattle.hip_report.specs.contracts.marks.MarkKeyPartialEq.TheImpl as impl
-use Rattle.hip_report.specs.declared.marks.MarkKey.{MarkKey}
-use Rattle.hip_report.specs.declared.marks.ObjectKey.{ObjectKey}
-use Rattle.hip_report.specs.declared.marks.ObjectKey.TheVariants.{Global, Slot}
+use Rattle.hip_report.proofs.MarksAtHand.{met_at_hand}
 use Rattle.hip_report.proofs.marks.meet_mark.Goals as goal
 
-abbrev key : ℕ → ℕ → ℕ → ℕ → ObjectKey → MarkKey
-key f b i k o = record { function = f; block = b; index = i; operand = k; object = o }
+pub returns-clause-marks : goal.returns-clause-marks
+returns-clause-marks c = c.in_ok-meet_key.ensures ∙ ap (λ (m : Mark). met same_mark (map mark_of c.args.marks.now.keys) (m ∷ [])) c.key_of-key.ensures
 
-four : (x y z r : Bool) → x && (y && (z && r)) ≡ (x && (y && z)) && r
-four false y z r = refl
-four true false z r = refl
-four true true z r = refl
-
-alike : (f b i k : ℕ) (o : ObjectKey) (f' b' i' k' : ℕ) (o' : ObjectKey) → impl.eq-value.it (key f b i k o) (key f' b' i' k' o') ≡ same_mark (mark_of (key f b i k o)) (mark_of (key f' b' i' k' o'))
-alike f b i k (Global g) f' b' i' k' (Global g') = four (nat_eq f f') (nat_eq b b') (nat_eq i i') (nat_eq k k' && nat_eq g g')
-alike f b i k (Global g) f' b' i' k' (Slot x y z) = four (nat_eq f f') (nat_eq b b') (nat_eq i i') (nat_eq k k' && false)
-alike f b i k (Slot x y z) f' b' i' k' (Global g') = four (nat_eq f f') (nat_eq b b') (nat_eq i i') (nat_eq k k' && false)
-alike f b i k (Slot x y z) f' b' i' k' (Slot x' y' z') = four (nat_eq f f') (nat_eq b b') (nat_eq i i') (nat_eq k k' && (nat_eq x x' && (nat_eq y y' && nat_eq z z')))
-
-map_any : (eq : MarkKey → MarkKey → Bool) → ((a b : MarkKey) → eq a b ≡ same_mark (mark_of a) (mark_of b)) → (k : MarkKey) (ks : List MarkKey) → list_any (eq k) ks ≡ list_any (same_mark (mark_of k)) (map mark_of ks)
-map_any eq h k [] = refl
-map_any eq h k (x ∷ ks) = ap₂ (λ s t. s || t) (h k x) (map_any eq h k ks)
-
-map_last : (ks : List MarkKey) (k : MarkKey) → map mark_of (ks ++ k ∷ []) ≡ map mark_of ks ++ mark_of k ∷ []
-map_last [] k = refl
-map_last (x ∷ ks) k = ap (λ (ms : List Mark). mark_of x ∷ ms) (map_last ks k)
-
-by_test : (t : Bool) (ks : List MarkKey) (k : MarkKey) → map mark_of (if t then ks else ks ++ k ∷ []) ≡ cond t (map mark_of ks) (map mark_of ks ++ mark_of k ∷ [])
-by_test true ks k = refl
-by_test false ks k = map_last ks k
-
-inserted : (eq : MarkKey → MarkKey → Bool) → ((a b : MarkKey) → eq a b ≡ same_mark (mark_of a) (mark_of b)) → (ks new : List MarkKey) (k : MarkKey) (m : Mark) → mark_of k ≡ m
-    → new ≡ (if list_any (eq k) ks then ks else ks ++ k ∷ []) → map mark_of new ≡ cond (list_any (same_mark m) (map mark_of ks)) (map mark_of ks) (map mark_of ks ++ m ∷ [])
-inserted eq h ks new k m e q =
-    ap (map mark_of) q ∙ by_test (list_any (eq k) ks) ks k ∙ ap (λ t. cond t (map mark_of ks) (map mark_of ks ++ mark_of k ∷ [])) (map_any eq h k ks)
-    ∙ ap (λ (x : Mark). cond (list_any (same_mark x) (map mark_of ks)) (map mark_of ks) (map mark_of ks ++ x ∷ [])) e
-
-pub returns : goal.returns
-returns c = inserted impl.eq-value.it (λ a b. alike a.function a.block a.index a.operand a.object b.function b.block b.index b.operand b.object) c.args.marks.now.keys c.insert.new.self.keys c.key_of-key.result c.args.mark c.key_of-key.ensures c.in_ok-_is_new.ensures.keys
+pub returns-clause-known : goal.returns-clause-known
+returns-clause-known c = met_at_hand (map mark_of c.args.marks.now.keys) (map mark_of c.meet_key.new.marks.keys) c.args.recent.now.items c.keep_recent.new.recent.items c.key_of-key.result c.requires c.in_ok-meet_key.ensures c.keep_recent.ensures

@@ -1,18 +1,20 @@
-use Rattle.std.proofs.Common.{◌≡◌, suc, ◌-◌, ◌*◌, ◌<◌, ◌^◌, List, length, sym, ap, ◌∙◌, subst, arith}
+use Rattle.std.proofs.Common.{◌≡◌, suc, ◌-◌, ◌*◌, ◌<◌, ◌^◌, List, length, refl, sym, ap, ◌∙◌, subst, arith}
 use Rattle.std.proofs.lemmas.List.{length-map}
 use Rattle.hip_globals.specs.Addresses.{region_size}
 use Rattle.hip_runs.specs.Laws.CrashLaws.{same_size}
 use Rattle.hip_runs.specs.Laws.StepLaws.{standing-frame}
 use Rattle.hip_runs.specs.Step.{event, run}
+use Rattle.hip_runs.specs.Found.Tags.{loose_bytes}
 use Rattle.hip_runs.specs.StoredParts.Shown.{shown}
+use Rattle.hip_runs.specs.StoredParts.Since.{fences}
 use Rattle.hip_runs.specs.declared.event.Event.{Event}
 use Rattle.hip_runs.specs.declared.input.Input.{Input}
 use Rattle.hip_runs.specs.declared.report.Mark.{Mark}
 use Rattle.std.specs.Prelude.{map}
 use Rattle.hip_types.specs.Distinct.{met}
 use Rattle.hip_runs.specs.Found.Marks.{same_mark, unless_ended}
-use Rattle.hip_report.specs.MarkKeys.{mark_of}
-use Rattle.hip_report.specs.Sights.{marks_ahead}
+use Rattle.hip_report.specs.MarkKeys.{AreMet, mark_of, WereHit}
+use Rattle.hip_report.specs.Sights.{AddAlike, marks_ahead}
 use Rattle.hip_step.specs.Seen.{next_site}
 use Rattle.hip_lines.specs.Parts.{loose_from}
 use Rattle.hip_lines.specs.Pending.{Pending as Waiting}
@@ -21,9 +23,10 @@ use Rattle.hip_report.specs.Noted.{AreNoted, EndsBelow, IsForgotten}
 use Rattle.hip_report.specs.declared.notes.Notes.{Notes}
 use Rattle.hip_report.proofs.Assembled.{Did, assembled, did_at, ends_below, few_at, first_frame, forgotten}
 use Rattle.hip_report.proofs.ClosedCalls.{length_births}
+use Rattle.hip_report.proofs.MarksAtHand.{unless_alike}
 use Rattle.hip_report.proofs.NoteLists.{more_flushes, more_stores}
 use Rattle.hip_report.proofs.Rooms.{Lies, event_lies}
-use Rattle.hip_report.proofs.step.note_event.Goals as goal
+use Rattle.hip_report.proofs.step.note_change.Goals as goal
 
 pub step_check-requires-clause-region : goal.step_check-requires-clause-region
 step_check-requires-clause-region c =
@@ -75,7 +78,8 @@ returns-clause-noted c =
     let next : suc n ≡ m.taken = (let t = c.requires.taken in omega (arith, t)) in
     let region : c.region_of-region.result ≡ length I.image = c.region_of-region.ensures in
     let base : c.input.result.now.base ≡ I.base = ap (λ (i : Input). i.base) c.input.ensures.is in
-    let did : Did P I c.args.notes.now c.step_check.new.notes c.step_lines.new.notes c.step_calls.new.notes c.step_marks.new.notes c.step_hit.new.notes c.step_counts.new.notes c.lines-lines.result.now.lines c.input.result.now.base c.region_of-region.result c.args.seen c.args.sight.now.site c.args.sight.now.depth c.depth.result c.args.sight.now.marks = record {
+    let marks3 : c.step_calls.new.notes.marks ≡ c.args.notes.now.marks = ap (λ (x : Notes). x.marks) c.in_ok-step_calls.ensures.rest ∙ ap (λ (x : Notes). x.marks) c.in_ok-step_lines.ensures.rest ∙ ap (λ (x : Notes). x.marks) c.in_ok-step_check.ensures.rest in
+    let did : Did P I c.args.notes.now c.step_check.new.notes c.step_lines.new.notes c.step_calls.new.notes c.step_marks.new.notes c.step_hit.new.notes c.step_counts.new.notes c.lines-lines.result.now.lines c.input.result.now.base c.region_of-region.result c.args.seen c.args.sight.now.site c.args.sight.now.depth c.args.after (marks_ahead P I s) = record {
       told = c.in_ok-step_check.ensures.told;
       r1 = c.in_ok-step_check.ensures.rest;
       follows = c.in_ok-step_lines.ensures.follows;
@@ -83,23 +87,49 @@ returns-clause-noted c =
       calls = c.in_ok-step_calls.ensures.calls;
       births = c.in_ok-step_calls.ensures.births;
       r3 = c.in_ok-step_calls.ensures.rest;
-      marks = c.in_ok-step_marks.ensures.marks ∙ ap (λ (ms : List Mark). met same_mark (map mark_of c.step_calls.new.notes.marks.keys) (unless_ended c.args.seen ms)) c.as_slice.ensures;
+      marks = c.in_ok-step_marks.ensures.marks ∙ ap (λ (ms : List Mark). met same_mark (map mark_of c.step_calls.new.notes.marks.keys) (unless_ended c.args.seen ms)) c.as_slice.ensures
+          ∙ unless_alike c.args.seen (map mark_of c.step_calls.new.notes.marks.keys) c.args.sight.now.marks (marks_ahead P I s)
+          (subst (λ x. AddAlike (map mark_of x.keys) c.args.sight.now.marks (marks_ahead P I s)) (sym marks3) c.requires.marks);
+      known = c.in_ok-step_marks.ensures.known;
       r4 = c.in_ok-step_marks.ensures.rest;
       hits = c.in_ok-step_hit.ensures.hit;
+      flags = c.in_ok-step_hit.ensures.known;
       r5 = c.in_ok-step_hit.ensures.rest;
       r6 = c.step_counts.ensures;
     } in
     let at = did_at P I c.args.notes.now c.step_check.new.notes c.step_lines.new.notes c.step_calls.new.notes c.step_marks.new.notes c.step_hit.new.notes c.step_counts.new.notes c.input.result.now.base c.region_of-region.result
     c.lines-lines.result.now.lines (shown (run P I (suc n)).lines) (c.lines-lines.ensures ∙ ap (λ i. shown (run P I i).lines) (sym next))
     c.args.seen (event P I s) c.requires.event c.args.sight.now.site (next_site P s) c.requires.site c.args.sight.now.depth (length s.frames) c.requires.depth
-    c.depth.result (length (run P I (suc n)).frames) (c.depth.ensures ∙ ap (λ i. length (run P I i).frames) (sym next)) c.args.sight.now.marks (marks_ahead P I s) c.requires.marks did in
+    c.args.after (length (run P I (suc n)).frames) (c.requires.after ∙ ap (λ i. length (run P I i).frames) (sym next)) (marks_ahead P I s) (marks_ahead P I s) refl did in
     let top = first_frame s.frames (standing-frame P I n) in
-    let noted : AreNoted P I m.taken c.step_counts.new.notes = subst (λ i. AreNoted P I i c.step_counts.new.notes) next
-    (assembled P I n c.requires.going c.args.notes.now c.step_check.new.notes c.step_lines.new.notes c.step_calls.new.notes c.step_marks.new.notes c.step_hit.new.notes c.step_counts.new.notes c.requires.noted c.input.result.now.base c.region_of-region.result base region (c.stack_keeps_its_shape.ensures P I n).is.calls top.0 top.1 top.2 at) in
-    let size : c.region_of-region.result ≡ 64 * length (run P I m.taken).lines = region ∙ same_size P I m.taken c.input.ensures.valid in
-    forgotten P I m.taken c.region_of-region.result c.step_counts.new.notes c.step_forget.new.notes noted size
-    (subst (λ (ws : List (Waiting Part)). IsForgotten (loose_from ws 0 c.region_of-region.result) c.step_counts.new.notes.pending c.step_forget.new.notes.pending) c.lines-lines.ensures c.step_forget.ensures.kept)
-    c.step_forget.ensures.rest
+    let noted : AreNoted P I (suc n) c.step_counts.new.notes =
+    assembled P I n c.requires.going c.args.notes.now c.step_check.new.notes c.step_lines.new.notes c.step_calls.new.notes c.step_marks.new.notes c.step_hit.new.notes c.step_counts.new.notes c.requires.noted c.input.result.now.base c.region_of-region.result base region (c.stack_keeps_its_shape.ensures P I n).is.calls top.0 top.1 top.2 at in
+    let size : c.region_of-region.result ≡ 64 * length (run P I (suc n)).lines = region ∙ same_size P I (suc n) c.input.ensures.valid in
+    let lines : c.lines-lines.result.now.lines ≡ shown (run P I (suc n)).lines = c.lines-lines.ensures ∙ ap (λ i. shown (run P I i).lines) (sym next) in
+    subst (λ i. AreNoted P I i c.step_forget.new.notes) next
+    (forgotten P I n c.region_of-region.result c.step_counts.new.notes c.step_forget.new.notes noted size
+    (subst (λ (e : Event). IsForgotten (fences e) (loose_bytes (run P I (suc n)) 0 c.region_of-region.result) c.step_counts.new.notes.pending c.step_forget.new.notes.pending) c.requires.event
+    (subst (λ (ws : List (Waiting Part)). IsForgotten (fences c.args.seen) (loose_from ws 0 c.region_of-region.result) c.step_counts.new.notes.pending c.step_forget.new.notes.pending) lines c.step_forget.ensures.kept))
+    c.step_forget.ensures.rest)
+
+pub step_marks-requires : goal.step_marks-requires
+step_marks-requires c =
+    let h = c.requires.noted in
+    let r1 = c.in_ok-step_check.ensures.rest in
+    let r2 = c.in_ok-step_lines.ensures.rest in
+    let r3 = c.in_ok-step_calls.ensures.rest in
+    subst (λ x. AreMet (map mark_of x.keys) c.step_calls.new.notes.recent.items) (sym (ap (λ (x : Notes). x.marks) r3 ∙ ap (λ (x : Notes). x.marks) r2 ∙ ap (λ (x : Notes). x.marks) r1))
+    (subst (λ x. AreMet (map mark_of c.args.notes.now.marks.keys) x.items) (sym (ap (λ (x : Notes). x.recent) r3 ∙ ap (λ (x : Notes). x.recent) r2 ∙ ap (λ (x : Notes). x.recent) r1)) h.recent)
+
+pub step_hit-requires : goal.step_hit-requires
+step_hit-requires c =
+    let h = c.requires.noted in
+    let r1 = c.in_ok-step_check.ensures.rest in
+    let r2 = c.in_ok-step_lines.ensures.rest in
+    let r3 = c.in_ok-step_calls.ensures.rest in
+    let r4 = c.in_ok-step_marks.ensures.rest in
+    subst (λ x. WereHit x.keys c.step_marks.new.notes.flags.items) (sym (ap (λ (x : Notes). x.hit) r4 ∙ ap (λ (x : Notes). x.hit) r3 ∙ ap (λ (x : Notes). x.hit) r2 ∙ ap (λ (x : Notes). x.hit) r1))
+    (subst (λ x. WereHit c.args.notes.now.hit.keys x.items) (sym (ap (λ (x : Notes). x.flags) r4 ∙ ap (λ (x : Notes). x.flags) r3 ∙ ap (λ (x : Notes). x.flags) r2 ∙ ap (λ (x : Notes). x.flags) r1)) h.flags)
 
 pub step_forget-requires : goal.step_forget-requires
 step_forget-requires c =

@@ -1,7 +1,7 @@
 use Rattle.std.proofs.Common.{◌≡◌, ◌⊎◌, ℕ, ◌-◌, ◌≤◌, cond}
 use Rattle.std.specs.Prelude.{option_map}
 use Rattle.hip_report.specs.Pending.{is_between, lines_of, with_flush}
-use Rattle.hip_report.proofs.pending.flush_lines.Given as goal
+use Rattle.hip_report.proofs.pending.flush_range.Given as goal
 
 abbrev pub invariant-each : goal.invariant-each
 invariant-each l = record {

@@ -1,0 +1,301 @@
+-- A step at a plain instruction moves on in its frame, or it ends the run.
+use Rattle.std.proofs.Common.{◌≡◌, ◌⊎◌, inl, inr, ℕ, suc, ◌+◌, ◌-◌, ◌<◌, ◌%◌, Bool, true, false, cond, nat_eq, nat_le, List, [], ◌∷◌, drop, length, map, Option, Some, None, slice_get, Result, Ok, Err, refl, sym, ap, ◌∙◌, subst, arith}
+use Rattle.std.specs.Prelude.{is_some}
+use Rattle.hip_ir.specs.declared.instr.Instr.{Instr}
+use Rattle.hip_ir.specs.declared.instr.Instr.TheVariants.{Binary, Compare, Select, Cast, Alloca, Load, Store, Gep, Call}
+use Rattle.hip_ir.specs.declared.program.Program.{Program}
+use Rattle.hip_mem.specs.Memory.{stack_end}
+use Rattle.hip_num.specs.declared.arithmetic.NumTrap.{NumTrap}
+use Rattle.hip_num.specs.Arithmetic.{binary_of}
+use Rattle.hip_types.specs.Numbers.{bits}
+use Rattle.hip_types.specs.declared.number.Bits.{Bits}
+use Rattle.std.specs.Int.{next_multiple_of}
+use Rattle.hip_runs.specs.Actions.{Action, Traps, Assigns, Allocates, Deed, accessed, allocated, are_valid, calculated, deed_of, instr_action}
+use Rattle.hip_runs.specs.Operands.{value_of}
+use Rattle.hip_runs.specs.Places.{body_at, code_at, end_at}
+use Rattle.hip_runs.specs.State.{Counts, Frame, Registers, State, World}
+use Rattle.hip_runs.specs.Step.{carry_out, counted, deed_at, event, event_at, event_of, event_on_ending, event_on_frames, has_ended, is_cut, on_ending, on_frames, perform, run, step, stop, with_turn}
+use Rattle.hip_lines.specs.Line.{Line}
+use Rattle.hip_runs.specs.State.{StorePart}
+use Rattle.hip_runs.specs.declared.event.Ending.{Ending}
+use Rattle.hip_runs.specs.declared.event.Ending.TheVariants.{Trap, Cut}
+use Rattle.hip_runs.specs.declared.event.Event.{Event}
+use Rattle.hip_runs.specs.declared.event.Event.TheVariants as events
+use Rattle.hip_runs.specs.declared.event.TrapKind.{TrapKind}
+use Rattle.hip_runs.specs.declared.event.TrapKind.TheVariants as traps
+use Rattle.hip_runs.specs.declared.input.Input.{Input}
+use Rattle.hip_types.specs.Distinct.{met}
+use Rattle.hip_invariants.specs.StackShape.{have_calls}
+use Rattle.hip_runs.specs.Found.Marks.{code_marks, frame_marks, operand_marks, pointer_operands, same_mark}
+use Rattle.hip_runs.specs.Step.{has_entry}
+use Rattle.hip_runs.specs.StoredParts.Since.{fences}
+use Rattle.hip_step.specs.Seen.{Seen, after_step, state_of}
+use Rattle.hip_report.specs.MarkKeys.{mark_of}
+use Rattle.hip_report.specs.Noted.{AreNoted}
+use Rattle.hip_report.specs.Plain.{AreTracked, IsPlainFor, PlainAhead, is_plain, is_plain_at}
+use Rattle.hip_report.specs.Sights.{is_still, leaves, marks_ahead}
+use Rattle.hip_report.specs.declared.notes.Notes.{Notes}
+use Rattle.hip_report.proofs.Still.{left_noted, still_counted}
+use Rattle.hip_report.proofs.MarksAhead.{drop_at}
+
+-- ---- actions
+
+pub data IsPlainAction (x : Action) : Type 0 where
+  trapping : (kind : TrapKind) → x ≡ Traps kind → IsPlainAction x
+  assigning : (dest : Option (List ℕ)) (v : ℕ) → x ≡ Assigns dest v → IsPlainAction x
+  allocating : (dest : List ℕ) (a n : ℕ) → x ≡ Allocates dest a n → IsPlainAction x
+
+either_plain : (b : Bool) (x y : Action) → IsPlainAction x → IsPlainAction y → IsPlainAction (cond b x y)
+either_plain true x y p q = p
+either_plain false x y p q = q
+
+module _ (P : Program) (I : Input) (w : World) (below : ℕ) (rs : Registers) where
+  access_plain : (a n align : ℕ) (x : Action) → IsPlainAction x → IsPlainAction (accessed P I w a n align x)
+  unfolding accessed
+  access_plain a n align x h =
+      either_plain (nat_eq (a % align) 0) (cond (are_valid P I w a n) x (Traps traps.Address)) (Traps traps.Misaligned)
+      (either_plain (are_valid P I w a n) x (Traps traps.Address) h (trapping _ refl)) (trapping _ refl)
+
+  allocation_plain : (dest : List ℕ) (size align : ℕ) → IsPlainAction (allocated w dest size align)
+  unfolding allocated
+  allocation_plain dest size align =
+      either_plain (nat_le (next_multiple_of w.mark align + size) stack_end)
+      (Allocates dest (next_multiple_of w.mark align) size) (Traps traps.Stack) (allocating _ _ _ refl) (trapping _ refl)
+
+  calculation_plain : (dest : List ℕ) (r : Result Bits NumTrap) → IsPlainAction (calculated dest r)
+  calculation_plain dest (Ok b) = assigning _ _ refl
+  calculation_plain dest (Err t) = trapping _ refl
+
+  pub action_plain : (i : Instr) → is_plain i ≡ true → IsPlainAction (instr_action P I w below rs i)
+  unfolding instr_action
+  action_plain (Binary dest op flags width a b) e =
+      calculation_plain dest (binary_of op (bits width (value_of P.globals I.base rs a))
+      (bits width (value_of P.globals I.base rs b)))
+  action_plain (Compare dest pred ty a b) e = assigning _ _ refl
+  action_plain (Select dest test ty a b) e = assigning _ _ refl
+  action_plain (Cast dest op from a to) e = assigning _ _ refl
+  action_plain (Alloca dest ty align) e = allocation_plain dest _ _
+  action_plain (Load dest ty addr align) e = access_plain _ _ _ _ (assigning _ _ refl)
+  action_plain (Store ty value addr align) e = absurd (let z : ⊥ = cc in z)
+  action_plain (Gep dest inbounds ty base indices) e = assigning _ _ refl
+  action_plain (Call dest ret callee args) e = absurd (let z : ⊥ = cc in z)
+
+-- ---- steps
+
+-- a frame that stands one place on
+pub record IsNextFrame (f f' : Frame) : Type 0 where
+  pub function : f'.function ≡ f.function
+  pub block : f'.block ≡ f.block
+  pub place : f'.place ≡ suc f.place
+
+pub data PlainMove (f : Frame) (fs : List Frame) (e : Event) (s : State) : Type 0 where
+  moved : e ≡ events.Quiet → has_ended s ≡ false → (f' : Frame) → s.frames ≡ f' ∷ fs → IsNextFrame f f' → PlainMove f fs e s
+  trapped : (kind : TrapKind) → e ≡ events.End (Trap kind) → s.frames ≡ f ∷ fs → PlainMove f fs e s
+  stopped : e ≡ events.End Cut → s.frames ≡ f ∷ fs → PlainMove f fs e s
+
+module _ (I : Input) (w : World) (going : w.ending ≡ None) (f : Frame) (fs : List Frame) (ls : List (Line StorePart)) (before after : Counts) where
+  does : (v : World) → v.ending ≡ None → (x : Action) → IsPlainAction x → PlainMove f fs (event_of I fs x) (perform I v f fs ls before after x)
+  unfolding perform
+  does v g x (trapping kind e) = subst (λ (y : Action). PlainMove f fs (event_of I fs y) (perform I v f fs ls before after y)) (sym e) (trapped kind refl refl)
+  does v g x (assigning dest a e) = subst (λ (y : Action). PlainMove f fs (event_of I fs y) (perform I v f fs ls before after y)) (sym e)
+      (moved refl (ap is_some g) _ refl (record { function = refl; block = refl; place = refl }))
+  does v g x (allocating dest a n e) = subst (λ (y : Action). PlainMove f fs (event_of I fs y) (perform I v f fs ls before after y)) (sym e)
+      (moved refl (ap is_some g) _ refl (record { function = refl; block = refl; place = refl }))
+
+  carried : (d : Deed) → IsPlainAction d.action → PlainMove f fs (event_at I w fs d) (carry_out I w f fs ls before after d)
+  unfolding carry_out
+  carried d h = by (is_cut I w d) d.turn
+    where
+      by : (b t : Bool) → PlainMove f fs (cond b (events.End Cut) (event_of I fs d.action))
+          (cond b (stop Cut w (f ∷ fs) ls after) (perform I (cond t (with_turn w) w) f fs ls before after d.action))
+      by true t = stopped refl refl
+      by false true = does (with_turn w) going d.action h
+      by false false = does w going d.action h
+
+module _ (P : Program) (I : Input) (s : State) (going : has_ended s ≡ false) (f : Frame) (fs : List Frame) (at : s.frames ≡ f ∷ fs)
+    (i : Instr) (there : slice_get (body_at P f.function f.block) f.place ≡ Some i) (plain : is_plain i ≡ true) where
+  code_here : (rest : List Instr) × (code_at P f ≡ i ∷ rest)
+  code_here = by (drop_at (body_at P f.function f.block) f.place)
+    where
+      by : ((drop f.place (body_at P f.function f.block) ≡ []) × (slice_get (body_at P f.function f.block) f.place ≡ None) × (drop (suc f.place) (body_at P f.function f.block) ≡ []))
+          ⊎ ((x : Instr) × (drop f.place (body_at P f.function f.block) ≡ x ∷ drop (suc f.place) (body_at P f.function f.block)) × (slice_get (body_at P f.function f.block) f.place ≡ Some x))
+          → (rest : List Instr) × (code_at P f ≡ i ∷ rest)
+      by (inl h) = absurd (let z : None ≡ Some i = sym h.1 ∙ there in let w : ⊥ = cc in w)
+      by (inr h) = let z : Some h.0 ≡ Some i = sym h.2 ∙ there in let same : h.0 ≡ i = cc in (_, h.1 ∙ ap (λ (x : Instr). x ∷ drop (suc f.place) (body_at P f.function f.block)) same)
+
+  plain_deed : IsPlainAction (deed_at P I s.world f fs).action
+  plain_deed = subst (λ (code : List Instr). IsPlainAction (deed_of P I s.world (length fs) f (end_at P f) code).action) (sym code_here.1)
+      (action_plain P I s.world (length fs) f.registers i plain)
+
+  pub plain_move : PlainMove f fs (event P I s) (step P I s)
+  unfolding event step on_ending on_frames
+  plain_move = by s.world.ending refl
+    where
+      on_them : s.world.ending ≡ None → (gs : List Frame) → s.frames ≡ gs → gs ≡ f ∷ fs
+          → PlainMove f fs (event_on_frames P I s.world gs) (on_frames P I s.world s.lines s.counts gs)
+      on_them g gs p q = subst (λ (hs : List Frame). PlainMove f fs (event_on_frames P I s.world hs) (on_frames P I s.world s.lines s.counts hs)) (sym q)
+          (carried I s.world g f fs s.lines s.counts (counted (event_at I s.world fs (deed_at P I s.world f fs)) s.counts) (deed_at P I s.world f fs) plain_deed)
+
+      by : (o : Option Ending) → s.world.ending ≡ o → PlainMove f fs (event_on_ending P I s o) (on_ending P I s o)
+      by None g = on_them g s.frames refl at
+      by (Some x) g = absurd (let z : true ≡ false = sym (ap is_some g) ∙ going in let w : ⊥ = cc in w)
+
+-- ---- what is plain next
+
+some_plain : (o : Option Instr) → is_plain_at o ≡ true → (i : Instr) × (o ≡ Some i) × (is_plain i ≡ true)
+some_plain None e = absurd (let z : ⊥ = cc in z)
+some_plain (Some i) e = (i, refl, e)
+
+-- a step that is known to be at a plain instruction
+pub record IsPlainStep (P : Program) (s next : State) (e : Event) (count : ℕ) : Type 0 where
+  pub top : Frame
+  pub below : List Frame
+  pub frames : s.frames ≡ top ∷ below
+  pub instr : Instr
+  pub there : slice_get (body_at P top.function top.block) top.place ≡ Some instr
+  pub plain : is_plain instr ≡ true
+  pub move : PlainMove top below e next
+
+pub plain_step : (P : Program) (I : Input) (n count : ℕ) → 0 < count → IsPlainFor P (run P I n) count
+    → IsPlainStep P (run P I n) (run P I (suc n)) (event P I (run P I n)) count
+unfolding run
+plain_step P I n count some h = by (run P I n).frames refl h.ahead
+  where
+    by : (fs : List Frame) → (run P I n).frames ≡ fs → PlainAhead P fs count → IsPlainStep P (run P I n) (step P I (run P I n)) (event P I (run P I n)) count
+    by [] q a = absurd (omega (arith, some, a))
+    by (f ∷ fs) q a =
+        let p = some_plain (slice_get (body_at P f.function f.block) f.place) (a f.place (omega arith) (omega (arith, some))) in
+        record {
+          top = f;
+          below = fs;
+          frames = q;
+          instr = p.0;
+          there = p.1;
+          plain = p.2;
+          move = plain_move P I (run P I n) (h.going some) f fs q p.0 p.1 p.2;
+        }
+
+-- after a quiet step at a plain instruction one less is known to be next
+fewer_plain : (P : Program) (f f' : Frame) (fs : List Frame) (count : ℕ) → 0 < count → IsNextFrame f f' → PlainAhead P (f ∷ fs) count → PlainAhead P (f' ∷ fs) (count - 1)
+fewer_plain P f f' fs count some next a j low high =
+    ap (λ i. is_plain_at (slice_get (body_at P i f'.block) j)) next.function ∙ ap (λ i. is_plain_at (slice_get (body_at P f.function i) j)) next.block
+    ∙ (let place = next.place in a j (omega (arith, low, place)) (omega (arith, high, place, some)))
+
+pub plain_after : (P : Program) (I : Input) (n count : ℕ) → 0 < count → IsPlainFor P (run P I n) count → event P I (run P I n) ≡ events.Quiet
+    → IsPlainFor P (run P I (suc n)) (count - 1)
+plain_after P I n count some h quiet =
+    let s = plain_step P I n count some h in by s (subst (λ (fs : List Frame). PlainAhead P fs count) s.frames h.ahead) s.move
+  where
+    by : (s : IsPlainStep P (run P I n) (run P I (suc n)) (event P I (run P I n)) count) → PlainAhead P (s.top ∷ s.below) count
+        → PlainMove s.top s.below (event P I (run P I n)) (run P I (suc n)) → IsPlainFor P (run P I (suc n)) (count - 1)
+    by s a (moved e going f' q next) = record {
+      going = λ _. going;
+      ahead = subst (λ (fs : List Frame). PlainAhead P fs (count - 1)) (sym q) (fewer_plain P s.top f' s.below count some next a);
+    }
+    by s a (trapped kind e q) = absurd (let z : events.Quiet ≡ events.End (Trap kind) = sym quiet ∙ e in let w : ⊥ = cc in w)
+    by s a (stopped e q) = absurd (let z : events.Quiet ≡ events.End Cut = sym quiet ∙ e in let w : ⊥ = cc in w)
+
+-- ---- the notes after a step at a plain instruction
+
+with_plain : (P : Program) (I : Input) (n k : ℕ) (c : Notes) → AreNoted P I n c → AreNoted P I n (record c { plain = k })
+with_plain P I n k c h = record {
+  steps = h.steps;
+  counted = h.counted;
+  entries = h.entries;
+  few = h.few;
+  header = h.header;
+  fence = h.fence;
+  calls = h.calls;
+  births = h.births;
+  pending = h.pending;
+  marks = h.marks;
+  recent = h.recent;
+  hit = h.hit;
+  flags = h.flags;
+  reports = h.reports;
+}
+
+-- what moves on in its frame or ends the run changes no notes but the counts
+module _ (P : Program) (I : Input) (n count : ℕ) (some : 0 < count) (h : IsPlainFor P (run P I n) count) where
+  abbrev E : Event
+  E = event P I (run P I n)
+
+  pub plain_leaves : leaves E ≡ true
+  plain_leaves = let s = plain_step P I n count some h in by s.top s.below s.move
+    where
+      by : (f : Frame) (fs : List Frame) → PlainMove f fs E (run P I (suc n)) → leaves E ≡ true
+      by f fs (moved e going f' q next) = ap leaves e
+      by f fs (trapped kind e q) = ap leaves e
+      by f fs (stopped e q) = ap leaves e
+
+  pub plain_depth : length (run P I (suc n)).frames ≡ length (run P I n).frames
+  plain_depth = let s = plain_step P I n count some h in by s.top s.below s.frames s.move
+    where
+      by : (f : Frame) (fs : List Frame) → (run P I n).frames ≡ f ∷ fs → PlainMove f fs E (run P I (suc n)) → length (run P I (suc n)).frames ≡ length (run P I n).frames
+      by f fs p (moved e going f' q next) = ap length q ∙ sym (ap length p)
+      by f fs p (trapped kind e q) = ap length q ∙ sym (ap length p)
+      by f fs p (stopped e q) = ap length q ∙ sym (ap length p)
+
+  no_operands : (i : Instr) → is_plain i ≡ true → pointer_operands P i ≡ []
+  no_operands (Binary dest op flags width a b) e = refl
+  no_operands (Compare dest pred ty a b) e = refl
+  no_operands (Select dest test ty a b) e = refl
+  no_operands (Cast dest op from a to) e = refl
+  no_operands (Alloca dest ty align) e = refl
+  no_operands (Load dest ty addr align) e = refl
+  no_operands (Store ty value addr align) e = absurd (let z : ⊥ = cc in z)
+  no_operands (Gep dest inbounds ty base indices) e = refl
+  no_operands (Call dest ret callee args) e = absurd (let z : ⊥ = cc in z)
+
+  pub plain_marks : marks_ahead P I (run P I n) ≡ []
+  plain_marks =
+      let s = plain_step P I n count some h in
+      let code = code_here P I (run P I n) (h.going some) s.top s.below s.frames s.instr s.there s.plain in
+      ap (λ t. cond t [] (frame_marks P I (run P I n).frames)) (h.going some)
+      ∙ ap (frame_marks P I) s.frames
+      ∙ ap (code_marks P I (s.top ∷ s.below) s.top) code.1
+      ∙ ap (operand_marks P I (s.top ∷ s.below) s.top 0) (no_operands s.instr s.plain)
+
+  pub plain_noted : have_calls (run P I n).frames → (c c' : Notes) → AreNoted P I n c
+      → c' ≡ record c { steps = c.steps + 1; entries = cond (has_entry E) (c.entries + 1) c.entries; fence = cond (fences E) (Some c.steps) c.fence }
+      → AreNoted P I (suc n) c'
+  plain_noted shaped c c' noted is =
+      left_noted P I n (h.going some) shaped c c' noted plain_leaves plain_depth (ap (met same_mark (map mark_of c.marks.keys)) (sym plain_marks)) is
+
+  -- a quiet step
+  pub plain_quiet : have_calls (run P I n).frames → (c c' : Notes) → AreNoted P I n c → E ≡ events.Quiet → c' ≡ record c { steps = c.steps + 1; plain = count - 1 } → AreTracked P I (suc n) c'
+  plain_quiet shaped c c' noted quiet is = subst (λ (x : Notes). AreTracked P I (suc n) x) (sym is) (record {
+    noted = with_plain P I (suc n) (count - 1) (record c { steps = c.steps + 1 }) (plain_noted shaped c (record c { steps = c.steps + 1 }) noted (still_counted E (ap is_still quiet) c));
+    plain = λ _. plain_after P I n count some h quiet;
+  })
+
+  -- another one, after which nothing is known of what is next
+  pub plain_ended : have_calls (run P I n).frames → (e : Event) → e ≡ E → (c c' : Notes) → AreNoted P I n c
+      → c' ≡ record c { steps = c.steps + 1; entries = cond (has_entry e) (c.entries + 1) c.entries; fence = cond (fences e) (Some c.steps) c.fence }
+      → AreTracked P I (suc n) (record c' { plain = 0 })
+  plain_ended shaped e same c c' noted is = record {
+    noted = with_plain P I (suc n) 0 c' (plain_noted shaped c c' noted (subst (λ (v : Event). c' ≡ record c { steps = c.steps + 1; entries = cond (has_entry v) (c.entries + 1) c.entries; fence = cond (fences v) (Some c.steps) c.fence }) same is));
+    plain = λ lt. absurd (omega (arith, lt));
+  }
+
+-- after a step before which so many were known to be next
+pub ahead_tracked : (P : Program) (I : Input) (n count k : ℕ) (e : Event) → e ≡ event P I (run P I n) → (c : Notes) → AreNoted P I (suc n) c → (0 < count → IsPlainFor P (run P I n) count)
+    → (0 < k → (e ≡ events.Quiet) × (0 < count) × (k ≡ count - 1)) → AreTracked P I (suc n) (record c { plain = k })
+ahead_tracked P I n count k e same c h known after = record {
+  noted = with_plain P I (suc n) k c h;
+  plain = λ lt. let r = after lt in subst (λ i. IsPlainFor P (run P I (suc n)) i) (sym r.2) (plain_after P I n count r.1 (known r.1) (sym same ∙ r.0));
+}
+
+-- ---- the steps that were taken
+
+pub taken_before : (m m' : Seen) (c : Notes) → m' ≡ after_step m → has_ended (state_of m) ≡ false → AreNoted m.program m.input m.taken c → AreNoted m'.program m'.input (m'.taken - 1) c
+taken_before m m' c e going h =
+    let back : suc m.taken - 1 ≡ m.taken = omega arith in
+    subst (λ (x : Seen). AreNoted x.program x.input (x.taken - 1) c) (sym e)
+    (subst (λ t. AreNoted m.program m.input (cond t m.taken (suc m.taken) - 1) c) (sym going) (subst (λ i. AreNoted m.program m.input i c) (sym back) h))
+
+pub tracked_before : (m m' : Seen) (c : Notes) → m' ≡ after_step m → has_ended (state_of m) ≡ false → AreTracked m.program m.input m.taken c → AreTracked m'.program m'.input (m'.taken - 1) c
+tracked_before m m' c e going h =
+    let back : suc m.taken - 1 ≡ m.taken = omega arith in
+    subst (λ (x : Seen). AreTracked x.program x.input (x.taken - 1) c) (sym e)
+    (subst (λ t. AreTracked m.program m.input (cond t m.taken (suc m.taken) - 1) c) (sym going) (subst (λ i. AreTracked m.program m.input i c) (sym back) h))

@@ -1,0 +1,20 @@
+use Rattle.std.proofs.Common.{◌≡◌, suc, ◌+◌, ◌-◌, arith, length, refl, ap, ◌∙◌, subst, sym}
+use Rattle.hip_runs.specs.Step.{run}
+use Rattle.hip_report.specs.Noted.{AreNoted}
+use Rattle.hip_report.specs.Sights.{is_still}
+use Rattle.hip_report.specs.declared.notes.Notes.{Notes}
+use Rattle.hip_report.proofs.Still.{still_noted}
+use Rattle.hip_report.proofs.step.note_still.Goals as goal
+
+pub returns-clause-noted : goal.returns-clause-noted
+returns-clause-noted c =
+    let m = c.args.machine.now in
+    let P = m.program in
+    let I = m.input in
+    let n = m.taken - 1 in
+    let next : suc n ≡ m.taken = (let t = c.requires.taken in omega (arith, t)) in
+    let notes : Notes = c.args.notes.now in
+    let after : Notes = record notes { steps = notes.steps + 1 } in
+    subst (λ i. AreNoted P I i after) next
+    (still_noted P I n c.requires.going (c.stack_keeps_its_shape.ensures P I n).is.calls notes after c.requires.noted (ap is_still (sym c.requires.event) ∙ c.requires.still)
+    (ap (λ i. length (run P I i).frames) next ∙ c.requires.depth) c.requires.marks refl)

@@ -2,6 +2,7 @@
 
 use crate::runs::{checked, in_chunks, input, record, replayed};
 use hip_io::MemSink;
+use hip_typing::Checked;
 use std::alloc::Global;
 use std::process::Abort;
 use std::test::Fail;
@@ -88,6 +89,24 @@ fn counts_of(
     })
 }
 
+/// Asserts how many entries a trace has that is replayed.
+fn assert_replayed(
+    rt: &impl Abort,
+    alloc: Global,
+    checked: &Checked,
+    trace: &[u8],
+    entries: u128,
+) -> Result<(), Fail> {
+    let mut cabinet = in_chunks(alloc, trace, 4_096)?;
+    match replayed(alloc, checked, &mut cabinet) {
+        Ok(found) => {
+            assert_eq!(rt; found.entries, entries);
+            Ok(())
+        }
+        Err(_) => Err(Fail::new("not replayed")),
+    }
+}
+
 #[test]
 fn many_fences(rt: HostRuntime) -> Result<(), Fail> {
     let mut out = MemSink::new(rt.alloc(), 10_000_000)?;
@@ -96,12 +115,7 @@ fn many_fences(rt: HostRuntime) -> Result<(), Fail> {
     assert_eq!(rt; counts.reports, 0);
     assert_eq!(rt; counts.hit, 1);
     let checked = checked(&rt, rt.alloc(), MANY_FENCES);
-    let mut cabinet = in_chunks(rt.alloc(), out.bytes(), 4_096)?;
-    match replayed(rt.alloc(), &checked, &mut cabinet) {
-        Ok(found) => assert_eq!(rt; found.entries, 300_003),
-        Err(_) => return Err(Fail::new("not replayed")),
-    }
-    Ok(())
+    assert_replayed(&rt, rt.alloc(), &checked, out.bytes(), 300_003)
 }
 
 #[test]

@@ -9,7 +9,9 @@ use crate::programs::{
 use crate::runs::{assert_reports, checked, in_chunks, input, record, replayed};
 use hip_examples::{COPY, ENDLESS_LOOP, EVEN_AND_ODD, ONE_STORE, REACH};
 use hip_io::MemSink;
+use hip_replay::Recorded;
 use hip_runs::{Ending, TrapKind};
+use hip_step::Input;
 use hip_typing::Checked;
 use std::alloc::Global;
 use std::process::Abort;
@@ -49,29 +51,49 @@ fn assert_replayed(
     }
 }
 
-/// Asserts what is written and found where the run is recorded.
-fn assert_recorded(
+fn assert_found(
     rt: &impl Abort,
     alloc: Global,
     checked: &Checked,
     case: &Recording,
+    found: &Recorded,
 ) -> Result<(), Fail> {
-    let input = input(alloc, checked, case.numbers, case.limit)?;
-    let mut out = MemSink::new(alloc, 2_000)?;
-    let found = record(alloc, checked, &input, &mut out)?;
-    assert_eq!(rt; out.bytes(), case.trace.as_bytes());
     assert_eq!(rt; found.entries, case.entries, "{}", case.trace);
     assert!(rt; found.ending == case.ending, "{}", case.trace);
     let reports = found.findings.reports.as_slice();
     assert_reports(rt, alloc, checked, reports, case.reports)
 }
 
+/// Asserts what is written and found where the run is recorded.
+fn assert_recorded(
+    rt: &impl Abort,
+    alloc: Global,
+    checked: &Checked,
+    input: &Input,
+    case: &Recording,
+) -> Result<(), Fail> {
+    let mut out = MemSink::new(alloc, 2_000)?;
+    let found = record(alloc, checked, input, &mut out)?;
+    assert_eq!(rt; out.bytes(), case.trace.as_bytes());
+    assert_found(rt, alloc, checked, case, &found)
+}
+
+fn assert_both(
+    rt: &impl Abort,
+    alloc: Global,
+    checked: &Checked,
+    case: &Recording,
+) -> Result<(), Fail> {
+    let input = input(alloc, checked, case.numbers, case.limit)?;
+    assert_recorded(rt, alloc, checked, &input, case)?;
+    assert_replayed(rt, alloc, checked, case)
+}
+
 /// Asserts both, of each run.
 fn assert_all(rt: &impl Abort, alloc: Global, cases: &[Recording]) -> Result<(), Fail> {
     for case in cases {
         let checked = checked(rt, alloc, case.program);
-        assert_recorded(rt, alloc, &checked, case)?;
-        assert_replayed(rt, alloc, &checked, case)?;
+        assert_both(rt, alloc, &checked, case)?;
     }
     Ok(())
 }

@@ -1,8 +1,9 @@
 //! How runs end, and after how many turns: each kind of trap, cuts and the steps that take no turn.
 
-use crate::printed_runs::checked;
-use hip_step::{Ending, Event, Input, Machine, TrapKind, why_not};
+use crate::printed_runs::{checked, machine};
+use hip_step::{Ending, Event, Input, Machine, TrapKind};
 use hip_types::{NoMemory, Row};
+use hip_typing::Checked;
 use std::alloc::Global;
 use std::process::Abort;
 use std::test::Fail;
@@ -39,20 +40,32 @@ fn assert_end(rt: &impl Abort, machine: &mut Machine<'_>, case: &Ended) -> Resul
     Ok(())
 }
 
-fn assert_ended(rt: &impl Abort, alloc: Global, case: &Ended) -> Result<(), Fail> {
-    let checked = checked(rt, alloc, case.program);
-    let input = Input {
+/// The input of a run without numbers.
+fn input(alloc: Global, checked: &Checked, limit: u64) -> Result<Input, Fail> {
+    Ok(Input {
         base: BASE,
         image: checked.region_bytes(alloc, BASE)?,
         numbers: Row::new(alloc),
-        limit: case.limit,
-    };
-    if let Some(_fault) = why_not(&checked, &input) {
-        return Err(Fail::new("the input is not valid"));
-    }
-    let mut machine = Machine::new(alloc, &checked, &input)?;
+        limit,
+    })
+}
+
+fn assert_on(
+    rt: &impl Abort,
+    alloc: Global,
+    checked: &Checked,
+    input: &Input,
+    case: &Ended,
+) -> Result<(), Fail> {
+    let mut machine = machine(alloc, checked, input)?;
     assert_end(rt, &mut machine, case)?;
     Ok(())
+}
+
+fn assert_ended(rt: &impl Abort, alloc: Global, case: &Ended) -> Result<(), Fail> {
+    let checked = checked(rt, alloc, case.program);
+    let input = input(alloc, &checked, case.limit)?;
+    assert_on(rt, alloc, &checked, &input, case)
 }
 
 fn assert_all(rt: &impl Abort, alloc: Global, cases: &[Ended]) -> Result<(), Fail> {

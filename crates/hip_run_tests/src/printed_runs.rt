@@ -3,7 +3,7 @@
 use hip_io::MemSink;
 use hip_parse::parse;
 use hip_replay::print_run;
-use hip_step::{Ending, Input, TrapKind, why_not};
+use hip_step::{Ending, Input, Machine, TrapKind, why_not};
 use hip_types::Row;
 use hip_typing::{Checked, check};
 use std::alloc::Global;
@@ -29,6 +29,18 @@ pub fn checked(rt: &impl Abort, alloc: Global, text: &str) -> Checked {
     check(alloc, program).expect(rt, "the program is sound")
 }
 
+/// A machine at the start of a run on a valid input.
+pub fn machine<'a>(
+    alloc: Global,
+    checked: &'a Checked,
+    input: &'a Input,
+) -> Result<Machine<'a>, Fail> {
+    if let Some(_fault) = why_not(checked, input) {
+        return Err(Fail::new("the input is not valid"));
+    }
+    Ok(Machine::new(alloc, checked, input)?)
+}
+
 fn input(alloc: Global, checked: &Checked, run: &Run) -> Result<Input, Fail> {
     let image = checked.region_bytes(alloc, BASE)?;
     let mut numbers = Row::new(alloc);
@@ -43,18 +55,29 @@ fn input(alloc: Global, checked: &Checked, run: &Run) -> Result<Input, Fail> {
     })
 }
 
+/// Asserts what a run prints and how it ends.
+fn assert_printed(
+    rt: &impl Abort,
+    alloc: Global,
+    checked: &Checked,
+    input: &Input,
+    run: &Run,
+) -> Result<(), Fail> {
+    if let Some(_fault) = why_not(checked, input) {
+        return Err(Fail::new(run.name));
+    }
+    let mut out = MemSink::new(alloc, 1_000)?;
+    let ending = print_run(alloc, checked, input, &mut out);
+    assert!(rt; ending == Ok(run.ending), "{}", run.name);
+    assert!(rt; out.bytes() == run.printed.as_bytes(), "{}", run.name);
+    Ok(())
+}
+
 /// Asserts what a program prints and how its run ends.
 fn assert_run(rt: &impl Abort, alloc: Global, run: &Run) -> Result<(), Fail> {
     let checked = checked(rt, alloc, run.program);
     let input = input(alloc, &checked, run)?;
-    let mut out = MemSink::new(alloc, 1_000)?;
-    if let Some(_fault) = why_not(&checked, &input) {
-        return Err(Fail::new(run.name));
-    }
-    let ending = print_run(alloc, &checked, &input, &mut out);
-    assert!(rt; ending == Ok(run.ending), "{}", run.name);
-    assert!(rt; out.bytes() == run.printed.as_bytes(), "{}", run.name);
-    Ok(())
+    assert_printed(rt, alloc, &checked, &input, run)
 }
 
 /// Asserts what each program prints and how its run ends.

@@ -1,8 +1,8 @@
 //! What a machine shows before each step, and the events of the steps.
 
-use crate::printed_runs::checked;
+use crate::printed_runs::{checked, machine};
 use hip_ir::Site;
-use hip_step::{Ending, Event, Input, Machine, Object, why_not};
+use hip_step::{Ending, Event, Input, Machine, Object};
 use hip_types::{NoMemory, Row};
 use hip_typing::Checked;
 use std::alloc::Global;
@@ -77,15 +77,22 @@ fn input(alloc: Global, checked: &Checked) -> Result<Input, Fail> {
     Ok(input)
 }
 
+fn assert_on(
+    rt: &impl Abort,
+    alloc: Global,
+    checked: &Checked,
+    input: &Input,
+    steps: &[Step],
+) -> Result<(), Fail> {
+    let mut machine = machine(alloc, checked, input)?;
+    assert_steps(rt, &mut machine, steps)?;
+    Ok(())
+}
+
 fn assert_run(rt: &impl Abort, alloc: Global, text: &str, steps: &[Step]) -> Result<(), Fail> {
     let checked = checked(rt, alloc, text);
     let input = input(alloc, &checked)?;
-    if let Some(_fault) = why_not(&checked, &input) {
-        return Err(Fail::new("the input is not valid"));
-    }
-    let mut machine = Machine::new(alloc, &checked, &input)?;
-    assert_steps(rt, &mut machine, steps)?;
-    Ok(())
+    assert_on(rt, alloc, &checked, &input, steps)
 }
 
 const EVERY_EVENT: &str = "@x = global i64 0, section \".pm\"
@@ -525,15 +532,22 @@ const OF_BLOCKS: &[Pointed] = &[
     },
 ];
 
+fn assert_pointed_on(
+    rt: &impl Abort,
+    alloc: Global,
+    checked: &Checked,
+    input: &Input,
+    cases: &[Pointed],
+) -> Result<(), Fail> {
+    let mut machine = machine(alloc, checked, input)?;
+    assert_pointed(rt, &mut machine, cases)?;
+    Ok(())
+}
+
 fn assert_objects(rt: &impl Abort, alloc: Global, cases: &[Pointed]) -> Result<(), Fail> {
     let checked = checked(rt, alloc, BLOCKS);
     let input = input(alloc, &checked)?;
-    if let Some(_fault) = why_not(&checked, &input) {
-        return Err(Fail::new("the input is not valid"));
-    }
-    let mut machine = Machine::new(alloc, &checked, &input)?;
-    assert_pointed(rt, &mut machine, cases)?;
-    Ok(())
+    assert_pointed_on(rt, alloc, &checked, &input, cases)
 }
 
 #[test]

@@ -43,6 +43,18 @@ fn cabinet_of(alloc: Global, texts: &[(&str, &str)], chunk: usize) -> Result<Mem
     Ok(MemCabinet::new(files, chunk))
 }
 
+/// These files, given in chunks of 7 bytes.
+fn cabinet_of_bytes(alloc: Global, given: &[(&str, &[u8])]) -> Result<MemCabinet, NoMemory> {
+    let mut files = Row::new(alloc);
+    for (name, bytes) in given {
+        files.push(NamedFile {
+            name: Row::from_slice(alloc, name.as_bytes())?,
+            bytes: Row::from_slice(alloc, *bytes)?,
+        })?;
+    }
+    Ok(MemCabinet::new(files, 7))
+}
+
 fn owned_words(alloc: Global, words: &[&str]) -> Result<Vec<String>, NoMemory> {
     let mut owned = Vec::new(alloc);
     for word in words {
@@ -80,6 +92,16 @@ pub fn outcome_in_chunks(
     requires { 1 ≤ chunk }
 {
     let mut cabinet = cabinet_of(alloc, texts, chunk)?;
+    call(alloc, words, &mut cabinet, ROOM, ROOM)
+}
+
+/// What a command leaves over files of any bytes.
+pub fn outcome_of_bytes(
+    alloc: Global,
+    words: &[&str],
+    files: &[(&str, &[u8])],
+) -> Result<Outcome, NoMemory> {
+    let mut cabinet = cabinet_of_bytes(alloc, files)?;
     call(alloc, words, &mut cabinet, ROOM, ROOM)
 }
 

@@ -15,6 +15,8 @@ mod crash_runs;
 #[cfg(test)]
 mod demos;
 #[cfg(test)]
+mod every_byte;
+#[cfg(test)]
 mod hoists;
 #[cfg(test)]
 mod many_traces;

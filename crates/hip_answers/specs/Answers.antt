@@ -110,7 +110,8 @@ pub record HasRunOut (table : Answer → Type 0) (begins : Bool) (old new : Cabi
   pub out : (s.out_new ≡ s.out) ⊎ HasBegun begins table s
   pub line : PutsLine NoMemory s.notes s.notes_new
 
-abbrev pub answered : Outcome → (Answer → Type 0) → Bool → CabinetState → CabinetState → Sinks → Status → Type 0
+abbrev pub answered : Outcome → (Answer → Type 0) → Bool → CabinetState → CabinetState → Sinks → Status
+    → Type 0
 answered CarriedOut table begins old new s status = HasAnswer table status (WritesBoth s)
 answered Refused table begins old new s status = table (refusal status) × WritesLine s status
 answered CutShort table begins old new s status = HasBeenCut table s

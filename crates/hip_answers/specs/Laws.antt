@@ -20,14 +20,16 @@ use Rattle.hip_loading.specs.declared.refusal.LoadRefusal.TheVariants as loads
 -- ---- refusals
 
 pub refused : {table : Answer → Type 0} {begins : Bool} {old new : CabinetState} (s : Sinks) (status : Status)
-    → outcome_of status ≡ Refused → table (refusal status) → s.out_new ≡ s.out → PutsLine status s.notes s.notes_new
+    → outcome_of status ≡ Refused → table (refusal status) → s.out_new ≡ s.out
+    → PutsLine status s.notes s.notes_new
     → HasAnswered table begins old new s status
 refused {table} {begins} {old} {new} s status e row kept line = record {
   how = subst (λ o. answered o table begins old new s status) (sym e) (row, record { out = kept; notes = line });
 }
 
 -- no memory, before anything was written
-pub ran_out : {table : Answer → Type 0} {begins : Bool} {old new : CabinetState} (s : Sinks) → HasMet false false old new
+pub ran_out : {table : Answer → Type 0} {begins : Bool} {old new : CabinetState} (s : Sinks)
+    → HasMet false false old new
     → s.out_new ≡ s.out → PutsLine statuses.NoMemory s.notes s.notes_new
     → HasAnswered table begins old new s statuses.NoMemory
 ran_out s met kept line = record { how = record { met = met; out = inl kept; line = line } }
@@ -117,7 +119,8 @@ pub answered_by : {table wider : Answer → Type 0} {begins : Bool} {old new : C
     → HasAnswered wider begins old new s status
 answered_by {table} {wider} {begins} {old} {new} s status wide h = record { how = by_outcome (outcome_of status) h.how }
   where
-    kept_or_begun : (s.out_new ≡ s.out) ⊎ HasBegun begins table s → (s.out_new ≡ s.out) ⊎ HasBegun begins wider s
+    kept_or_begun : (s.out_new ≡ s.out) ⊎ HasBegun begins table s → (s.out_new ≡ s.out)
+        ⊎ HasBegun begins wider s
     kept_or_begun (inl kept) = inl kept
     kept_or_begun (inr begun) = inr (begun_by begins s wide begun)
 

@@ -14,7 +14,8 @@ use Rattle.hip_calls.specs.Laws.ReachLaws.{Has}
 
 -- every function that one of these calls is of, and every function that a passing one calls, passes the test
 pub record PassesOn (P : Program) (sites : List Site) (test : ℕ → Bool) : Type 0 where
-  pub first : (s : Site) (f : ℕ) → has_site sites s ≡ true → Has (called_at P (instr_of P s)) f → test f ≡ true
+  pub first : (s : Site) (f : ℕ) → has_site sites s ≡ true → Has (called_at P (instr_of P s)) f
+      → test f ≡ true
   pub onward : (f g : ℕ) → test f ≡ true → Has (called_from P f) g → test g ≡ true
 
 -- The functions that calls reach from these calls: they are functions of the program, none is there twice, those that
@@ -23,7 +24,8 @@ pub record PassesOn (P : Program) (sites : List Site) (test : ℕ → Bool) : Ty
 pub record AreReached (P : Program) (sites : List Site) (reached : List ℕ) : Type 0 where
   pub functions : (f : ℕ) → Has reached f → f < length P.functions
   pub distinct : IsDistinct nat_eq reached
-  pub first : (s : Site) (f : ℕ) → has_site sites s ≡ true → Has (called_at P (instr_of P s)) f → Has reached f
+  pub first : (s : Site) (f : ℕ) → has_site sites s ≡ true → Has (called_at P (instr_of P s)) f
+      → Has reached f
   pub onward : (f g : ℕ) → Has reached f → Has (called_from P f) g → Has reached g
   pub least : (test : ℕ → Bool) → PassesOn P sites test → (f : ℕ) → Has reached f → test f ≡ true
 

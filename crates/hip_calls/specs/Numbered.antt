@@ -20,7 +20,8 @@ entries_from n (name ∷ names) = record { name = name; value = n } ∷ entries_
 -- an entry is put behind
 pub entries-next : (n : ℕ) (names : List (List ℕ)) (k : ℕ) (name : List ℕ) → k < length names
     → get_or names k [] ≡ name →
-    entries_from n (take k names) ++ record { name = name; value = n + k } ∷ [] ≡ entries_from n (take (k + 1) names)
+    entries_from n (take k names) ++ record { name = name; value = n + k } ∷ []
+    ≡ entries_from n (take (k + 1) names)
 entries-next n [] k name h e = absurd (omega arith)
 entries-next n (x ∷ names) zero name h e =
     let same : n + 0 ≡ n = omega arith in
@@ -29,7 +30,8 @@ entries-next n (x ∷ names) zero name h e =
 entries-next n (x ∷ names) (suc k) name h e =
     let one : suc (k + 1) ≡ suc k + 1 = omega arith in
     let on : n + suc k ≡ suc n + k = omega arith in
-    ap (λ m. record { name = x; value = n } ∷ (entries_from (suc n) (take k names) ++ record { name = name; value = m }
+    ap (λ m. record { name = x; value = n }
+    ∷ (entries_from (suc n) (take k names) ++ record { name = name; value = m }
     ∷ [])) on
     ∙ ap (λ es. record { name = x; value = n } ∷ es) (entries-next (suc n) names k name (omega arith) e)
     ∙ ap (λ m. entries_from n (take m (x ∷ names))) one
@@ -60,7 +62,8 @@ whole [] (suc k) h = refl
 whole (x ∷ names) zero h = absurd (omega arith)
 whole (x ∷ names) (suc k) h = ap (λ rest. x ∷ rest) (whole names k (omega arith))
 
-pub numbers_found : (known : List (List ℕ)) (numbers : List ℕ) (names : List (List ℕ)) (k : ℕ) → length names ≤ k →
+pub numbers_found : (known : List (List ℕ)) (numbers : List ℕ) (names : List (List ℕ)) (k : ℕ)
+    → length names ≤ k →
     StandsFor known numbers (entries_from 0 (take k names)) → Numbers known numbers names
 numbers_found known numbers names k h stands =
     record {

@@ -35,19 +35,22 @@ abbrev pub is_first : List GlobalVar → ℕ → List (List ℕ) → List ℕ �
 is_first globals region names constants [] a = ⊥
 is_first globals region names constants (x ∷ xs) a = IsOperand globals region names constants a x.value
 
-abbrev pub are_both : List GlobalVar → ℕ → List (List ℕ) → List ℕ → List Arg → Operand → Operand → Type 0
+abbrev pub are_both : List GlobalVar → ℕ → List (List ℕ) → List ℕ → List Arg → Operand → Operand
+    → Type 0
 are_both globals region names constants [] a b = ⊥
 are_both globals region names constants (x ∷ xs) a b =
     IsOperand globals region names constants a x.value × is_first globals region names constants xs b
 
 -- the operands stand for the arguments of a function with these parameters, of which it has at most two
-abbrev pub are_passed : List GlobalVar → ℕ → List (List ℕ) → List ℕ → List Scalar → List Arg → Operand → Operand →
+abbrev pub are_passed : List GlobalVar → ℕ → List (List ℕ) → List ℕ → List Scalar → List Arg → Operand
+    → Operand →
     Type 0
 are_passed globals region names constants [] args a b = Unit {0}
 are_passed globals region names constants (x ∷ []) args a b = is_first globals region names constants args a
 are_passed globals region names constants (x ∷ y ∷ more) args a b = are_both globals region names constants args a b
 
 -- the operands stand for the arguments that the function takes
-abbrev pub are_taken : List GlobalVar → ℕ → List (List ℕ) → List ℕ → ExternCall → List Arg → Operand → Operand → Type 0
+abbrev pub are_taken : List GlobalVar → ℕ → List (List ℕ) → List ℕ → ExternCall → List Arg → Operand
+    → Operand → Type 0
 are_taken globals region names constants call args a b =
     are_passed globals region names constants (row_of call).params args a b

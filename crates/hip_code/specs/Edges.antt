@@ -30,7 +30,8 @@ edge_from [] from = None
 edge_from (e ∷ es) from = cond (bytes_eq e.label from) (Some e.value) (edge_from es from)
 
 -- a move is a phi's for control from a label
-pub record IsMove (globals : List GlobalVar) (region : ℕ) (names : List (List ℕ)) (constants from : List ℕ) (m : Move)
+pub record IsMove (globals : List GlobalVar) (region : ℕ) (names : List (List ℕ)) (constants from : List ℕ)
+    (m : Move)
     (p : Phi) : Type 0 where
   pub operand : named.Operand
   pub edge : edge_from p.edges from ≡ Some operand
@@ -38,7 +39,8 @@ pub record IsMove (globals : List GlobalVar) (region : ℕ) (names : List (List 
   pub value : IsOperand globals region names constants m.value operand
 
 -- the moves are those of a block's phis, one for each
-abbrev pub are_moves : List GlobalVar → ℕ → List (List ℕ) → List ℕ → List ℕ → List Move → List Phi → Type 0
+abbrev pub are_moves : List GlobalVar → ℕ → List (List ℕ) → List ℕ → List ℕ → List Move → List Phi
+    → Type 0
 are_moves globals region names constants from [] [] = Unit {0}
 are_moves globals region names constants from (m ∷ ms) (p ∷ ps) =
     IsMove globals region names constants from m p × are_moves globals region names constants from ms ps
@@ -46,7 +48,8 @@ are_moves globals region names constants from [] (p ∷ ps) = ⊥
 are_moves globals region names constants from (m ∷ ms) [] = ⊥
 
 -- the moves are those of arguments, one for each parameter, into slots of the function that is called
-abbrev pub are_arguments : List GlobalVar → ℕ → List (List ℕ) → List (List ℕ) → List ℕ → List Move → List Param
+abbrev pub are_arguments : List GlobalVar → ℕ → List (List ℕ) → List (List ℕ) → List ℕ → List Move
+    → List Param
     → List Arg → Type 0
 are_arguments globals region names called constants [] [] args = Unit {0}
 are_arguments globals region names called constants [] (p ∷ ps) [] = Unit {0}
@@ -58,7 +61,8 @@ are_arguments globals region names called constants (m ∷ ms) (p ∷ ps) (x ∷
     × are_arguments globals region names called constants ms ps xs
 
 -- the edge of that number leads from a block to the one with a label
-pub record IsEdge (P : Program) (I : Input) (f b : ℕ) (tables : Tables) (number : ℕ) (label : List ℕ) : Type 0 where
+pub record IsEdge (P : Program) (I : Input) (f b : ℕ) (tables : Tables) (number : ℕ)
+    (label : List ℕ) : Type 0 where
   pub edge : Edge
   pub here : slice_get tables.edges number ≡ Some edge
   pub numbered : block_number (blocks_of P f) label ≡ Some edge.block
@@ -76,7 +80,8 @@ are_cases P I f b tables [] (d ∷ ds) = ⊥
 are_cases P I f b tables (c ∷ cs) [] = ⊥
 
 -- the call is one of a defined function
-pub record IsCall (P : Program) (I : Input) (f : ℕ) (tables : Tables) (call : Call) (callee : List ℕ) (args : List Arg)
+pub record IsCall (P : Program) (I : Input) (f : ℕ) (tables : Tables) (call : Call) (callee : List ℕ)
+    (args : List Arg)
     (dest : Option (List ℕ)) : Type 0 where
   pub function : Function
   pub numbered : function_number P callee ≡ Some call.function

@@ -29,7 +29,8 @@ values_passed n call = map (λ m. operand_value n m.value) (entries_of call.argu
 -- The call is one of that function, and passes these values where it takes as many.
 pub record IsCallWith (P : Program) (n : Numbers) (callee : List ℕ) (values : List ℕ) (call : Call) : Type 0 where
   pub numbered : function_number P callee ≡ Some call.function
-  pub passed : (g : Function) → slice_get P.functions call.function ≡ Some g → length values ≤ length g.params →
+  pub passed : (g : Function) → slice_get P.functions call.function ≡ Some g
+      → length values ≤ length g.params →
       values_passed n call ≡ values
 
 abbrev pub passes : Program → Numbers → List ℕ → List ℕ → Op → Type 0

@@ -27,7 +27,8 @@ pub record IsScaled (globals : List GlobalVar) (region : ℕ) (names : List (Lis
   pub scale : t.scale ≡ size
 
 -- The indices lead into a type, one after another: a constant one enters a part, another one an element of an array.
-abbrev pub is_path : List GlobalVar → ℕ → List (List ℕ) → List ℕ → Ty → List Arg → ℕ → List Term → Type 0
+abbrev pub is_path : List GlobalVar → ℕ → List (List ℕ) → List ℕ → Ty → List Arg → ℕ → List Term
+    → Type 0
 is_path globals region names constants t [] offset terms = (offset ≡ 0) × (terms ≡ [])
 is_path globals region names constants t (a ∷ rest_args) offset terms =
     ((index : ℕ) × (p : Part) × (rest : ℕ) × IsFixed globals region a index × (enter t index ≡ Some p)
@@ -39,7 +40,8 @@ is_path globals region names constants t (a ∷ rest_args) offset terms =
     × is_path globals region names constants e rest_args offset rest)
 
 -- the first index steps over whole values of the type
-abbrev pub is_gep : List GlobalVar → ℕ → List (List ℕ) → List ℕ → Ty → List Arg → ℕ → List Term → Type 0
+abbrev pub is_gep : List GlobalVar → ℕ → List (List ℕ) → List ℕ → Ty → List Arg → ℕ → List Term
+    → Type 0
 is_gep globals region names constants t [] offset terms = (offset ≡ 0) × (terms ≡ [])
 is_gep globals region names constants t (a ∷ rest_args) offset terms =
     ((index : ℕ) × (rest : ℕ) × IsFixed globals region a index × (offset ≡ index * size_of t + rest)

@@ -11,7 +11,8 @@ use Rattle.hip_crash.specs.declared.values.StoredValue.{StoredValue}
 
 -- the stored value gives the bytes of line j what the part gives them
 pub record IsAlike (j : ℕ) (v : StoredValue) (x : StorePart) : Type 0 where
-  pub same_covers : (b : ℕ) → LINE_SIZE * j ≤ b → b < LINE_SIZE * j + LINE_SIZE → stored_covers v b ≡ covers x b
+  pub same_covers : (b : ℕ) → LINE_SIZE * j ≤ b → b < LINE_SIZE * j + LINE_SIZE
+      → stored_covers v b ≡ covers x b
   pub same_bytes : (b : ℕ) → LINE_SIZE * j ≤ b → b < LINE_SIZE * j + LINE_SIZE → covers x b ≡ true →
       stored_byte v b ≡ byte_of x b
 

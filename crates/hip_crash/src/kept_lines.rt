@@ -86,7 +86,8 @@ impl KeptLines {
     #[inline]
     pub fn push(&mut self, line: u64, stored: StoredValue) -> Result<(), NoMemory>
         requires there { IsSome (line_at self.old line) }
-        requires few { (x : KeptLine) → line_at self.old line ≡ Some x → x.least + length x.later.items + 1 < 2 ^ 63 }
+        requires few { (x : KeptLine) → line_at self.old line ≡ Some x
+            → x.least + length x.later.items + 1 < 2 ^ 63 }
         ensures ok { OnOk result (ChangesLine (with_store stored) line self.old self.new) }
         ensures err { OnErr result ((j : ℕ) → kept_at self.new j ≡ kept_at self.old j) }
     {

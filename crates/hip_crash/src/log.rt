@@ -146,7 +146,8 @@ impl<'a> CrashLog<'a> {
     /// image.
     pub fn find_picks(&self, alloc: Global, image: &[u8]) -> Result<Option<Row<Pick>>, NoMemory>
         requires { length image.now ≡ length self.now.input.image }
-        ensures { IfOk result (λ found. MatchOption found (¬ IsCrashImage self.now.input (state_of self.now) image.now)
+        ensures { IfOk result (λ found. MatchOption found
+            (¬ IsCrashImage self.now.input (state_of self.now) image.now)
             (λ picks. ArePicksOf self.now.input (state_of self.now) picks image.now)) }
     {
         let _ = &self.checked;

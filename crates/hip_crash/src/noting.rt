@@ -15,7 +15,8 @@ use hip_step::Event;
 pub fn note(log: &mut RegionLog, base: u64, event: Event)
     requires idle { log.old.waiting ≡ waits.Nothing }
     requires within { (image : List ℕ) × IsWithin base image event × (length image < 2 ^ 40) }
-    ensures seen { (image : List ℕ) → (j : ℕ) → seen_at log.new image j ≡ noted base event j (seen_at log.old image j) }
+    ensures seen { (image : List ℕ) → (j : ℕ)
+        → seen_at log.new image j ≡ noted base event j (seen_at log.old image j) }
     ensures within { (image : List ℕ) → IsWithin base image event → WaitsWithin log.new.waiting image }
 {
     if let Event::Quiet = event {

@@ -35,7 +35,8 @@ impl RegionLog {
 
     /// Nothing was stored into the region.
     pub fn new(alloc: Global) -> Result<RegionLog, NoMemory>
-        ensures seen { IfOk result (λ log. (image : List ℕ) → (j : ℕ) → seen_at log image j ≡ fresh image j) }
+        ensures seen { IfOk result (λ log. (image : List ℕ) → (j : ℕ)
+            → seen_at log image j ≡ fresh image j) }
         ensures idle { IfOk result (λ log. log.waiting ≡ waits.Nothing) }
     {
         let lines = KeptLines::new(alloc)?;
@@ -150,7 +151,8 @@ impl RegionLog {
     pub fn note_fence(&mut self)
         requires { self.old.waiting ≡ waits.Nothing }
         ensures waiting { self.new.waiting ≡ waits.Nothing }
-        ensures seen { (image : List ℕ) → (j : ℕ) → seen_at self.new image j ≡ with_fence j (seen_at self.old image j) }
+        ensures seen { (image : List ℕ) → (j : ℕ)
+            → seen_at self.new image j ≡ with_fence j (seen_at self.old image j) }
     {
         fence_in(&mut self.lines, self.flushed.as_slice());
         self.flushed.clear();

@@ -17,8 +17,8 @@ use hip_trace_loading::load_run;
 use hip_typing::Checked;
 use std::alloc::Global;
 
-/// Picks a crash image of the run whose trace a file has, at an entry of that trace, and writes the trace of the run that
-/// begins with it as it runs; then how that run has ended goes to notes.
+/// Picks a crash image of the run whose trace a file has, at an entry of that trace, and writes the trace of the run
+/// that begins with it as it runs; then how that run has ended goes to notes.
 pub fn crash_file<C: Cabinet, S: Sink, N: Sink>(
     alloc: Global,
     program: &str,

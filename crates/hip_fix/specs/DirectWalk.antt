@@ -64,4 +64,5 @@ outside_in_function volatile f x = outside_in_blocks volatile (met bytes_eq [] (
 
 abbrev pub outside_in_functions : List (List ℕ) → ℕ → List Function → List Site
 outside_in_functions volatile f [] = []
-outside_in_functions volatile f (x ∷ xs) = outside_in_function volatile f x ++ outside_in_functions volatile (suc f) xs
+outside_in_functions volatile f (x ∷ xs) =
+    outside_in_function volatile f x ++ outside_in_functions volatile (suc f) xs

@@ -12,6 +12,7 @@ pub record HoldsAt (whole : List ℕ) (place : ℕ) (bytes : List ℕ) : Type 0 
 -- Each global that is persistent, or that is not, has the bytes of its initialiser where it lies, counted from the
 -- place of the first byte.
 pub record HoldsGlobals (P : Program) (base : ℕ) (persistent : Bool) (start : ℕ) (bytes : List ℕ) : Type 0 where
-  pub holds : (number : ℕ) (g : GlobalVar) → slice_get P.globals number ≡ Some g → same g.persistent persistent ≡ true
+  pub holds : (number : ℕ) (g : GlobalVar) → slice_get P.globals number ≡ Some g
+      → same g.persistent persistent ≡ true
       → HoldsAt bytes (start_of persistent start P.globals number - start)
       (constant_bytes (global_address P.globals base) g.init g.ty)

@@ -53,7 +53,8 @@ pub fn address_table(
     requires fit { AllFit globals.now }
     requires persistent { spec.end_of true base globals.now < 2 ^ 64 }
     requires volatile { spec.end_of false volatile_start globals.now < 2 ^ 64 }
-    ensures { IfOk result (λ table. StandsFor table.names table.values (laid_entries base volatile_start globals.now)) }
+    ensures { IfOk result (λ table. StandsFor table.names table.values
+        (laid_entries base volatile_start globals.now)) }
 {
     let mut table = NameTable::new(alloc);
     let mut persistent = base;

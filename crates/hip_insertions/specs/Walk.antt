@@ -58,7 +58,8 @@ marked_blocks clones w clone f b (x ∷ xs) =
 -- those of functions from number f on
 abbrev pub marked_functions : List Clone → Wanted → ℕ → List Function → List Marked
 marked_functions clones w f [] = []
-marked_functions clones w f (x ∷ xs) = marked_blocks clones w false f 0 x.blocks ++ marked_functions clones w (suc f) xs
+marked_functions clones w f (x ∷ xs) =
+    marked_blocks clones w false f 0 x.blocks ++ marked_functions clones w (suc f) xs
 
 abbrev pub marked_clone : List Clone → Wanted → ℕ → Option Function → List Marked
 marked_clone clones w f None = []

@@ -56,7 +56,8 @@ impl Body {
 
     /// Adds the flush of the bytes of a scalar.
     fn add_range_flush(&mut self, alloc: Global, addr: &Operand, ty: Scalar) -> Result<(), NoMemory>
-        ensures { OnOk result (self.new ≡ grown self.old ((spec.range_flush addr.now (scalar_size ty), true) ∷ [])) }
+        ensures { OnOk result (self.new ≡ grown self.old
+            ((spec.range_flush addr.now (scalar_size ty), true) ∷ [])) }
     {
         self.instrs.push(range_flush(alloc, addr, ty)?)?;
         self.needed.pmem_flush = true;

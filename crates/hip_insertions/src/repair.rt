@@ -144,7 +144,8 @@ impl Repair<'_> {
         block: &Block,
     ) -> Result<Block, NoMemory>
         ensures block { IfOk result (λ b. b
-            ≡ spec.repaired_block self.now.clones (wanted_in self.now) place.is_clone place.function number block.now) }
+            ≡ spec.repaired_block self.now.clones
+            (wanted_in self.now) place.is_clone place.function number block.now) }
         ensures needed { OnOk result (needed.new ≡ noted needed.old
             (repaired_body self.now.clones (wanted_in self.now) place.is_clone place.function number 0
             block.now.body)) }

@@ -1,6 +1,5 @@
 pub mod Places
 pub mod Frames
-pub mod RegisterFacts
 pub mod InstrActions
 pub mod InstrFacts
 pub mod AssignedPaths
@@ -16,6 +15,5 @@ pub mod NeverStuck
 pub mod ObjectsApart
 pub mod Reached
 pub mod ReachedAlways
-pub mod RegisterNames
-pub mod RegisterTypes
 pub mod StackShape
+pub mod Registers

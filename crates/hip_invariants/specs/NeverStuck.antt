@@ -32,12 +32,14 @@ pub record ReadsAssigned (P : Program) (f : Frame) : Type 0 where
   pub last : (e : End) → code_at P f ≡ [] → end_at P f ≡ Some e →
       All (IsAmong (assigned_names f.registers)) (used_registers (end_uses e))
   -- the operands that the phis of a block have for control from the frame's block
-  pub phis : (c j m : ℕ) (to : Block) (p : Phi) (e : Edge) → code_at P f ≡ [] → block_at P f.function c ≡ Some to →
+  pub phis : (c j m : ℕ) (to : Block) (p : Phi) (e : Edge) → code_at P f ≡ []
+      → block_at P f.function c ≡ Some to →
       slice_get to.phis j ≡ Some p → slice_get p.edges m ≡ Some e →
       e.label ≡ label_of (block_at P f.function f.block) →
       All (IsAmong (assigned_names f.registers)) (operand_registers e.value)
   -- and each of these phis has an operand for it
-  pub edges : (e : End) (c j : ℕ) (to : Block) (p : Phi) → end_at P f ≡ Some e → block_at P f.function c ≡ Some to →
+  pub edges : (e : End) (c j : ℕ) (to : Block) (p : Phi) → end_at P f ≡ Some e
+      → block_at P f.function c ≡ Some to →
       IsAmong (end_labels e) to.label → slice_get to.phis j ≡ Some p →
       IsAmong (edge_labels p.edges) (label_of (block_at P f.function f.block))
 

@@ -15,7 +15,8 @@ slots_of frames = flat_map (λ f. f.slots) frames
 
 -- the global of a number is there and contains an address; so for a block on the stack
 abbrev pub GlobalHas : Program → ℕ → ℕ → GlobalVar → ℕ → Type 0
-GlobalHas P base k g a = (slice_get P.globals k ≡ Some g) × (contains (address P base k) (shape g.ty).size a ≡ true)
+GlobalHas P base k g a = (slice_get P.globals k ≡ Some g)
+    × (contains (address P base k) (shape g.ty).size a ≡ true)
 
 abbrev pub SlotHas : List Frame → ℕ → Slot → ℕ → Type 0
 SlotHas frames j x a = (slice_get (slots_of frames) j ≡ Some x) × (contains x.addr x.size a ≡ true)

@@ -62,9 +62,11 @@ OperandFits P I rs u = value_of P.globals I.base rs u.operand < modulus (width_o
 
 -- The operands fit that the frame's next step may read: those of its instruction, of its block's end, and of phis.
 pub record OperandsFit (P : Program) (I : Input) (f : Frame) : Type 0 where
-  pub body : (i : Instr) (rest : List Instr) → code_at P f ≡ i ∷ rest → All (OperandFits P I f.registers) (instr_uses i)
+  pub body : (i : Instr) (rest : List Instr) → code_at P f ≡ i ∷ rest
+      → All (OperandFits P I f.registers) (instr_uses i)
   pub last : (e : End) → end_at P f ≡ Some e → All (OperandFits P I f.registers) (end_uses e)
-  pub phis : (c j : ℕ) (to : Block) (p : Phi) → block_at P f.function c ≡ Some to → slice_get to.phis j ≡ Some p →
+  pub phis : (c j : ℕ) (to : Block) (p : Phi) → block_at P f.function c ≡ Some to
+      → slice_get to.phis j ≡ Some p →
       All (OperandFits P I f.registers) (phi_uses p)
 
 -- What the bottom frame returns fits the 32 bits of the code that a run stops with.

@@ -27,7 +27,8 @@ pub fn sound_programs_never_get_stuck()
 /// Each register of each frame has a value of the type that its function gives it: below 2^N for an integer of N
 /// bits, and below 2^64 for a pointer.
 pub fn registers_fit_their_types()
-    ensures { (P : Program) → IsSound P → (I : Input) → IsValid P I → (n : ℕ) → RegistersFit P (run P I n).frames }
+    ensures { (P : Program) → IsSound P → (I : Input) → IsValid P I → (n : ℕ)
+        → RegistersFit P (run P I n).frames }
 {}
 
 /// Each operand that the next step reads has a value of the type that its place states, and what the bottom frame
@@ -56,7 +57,8 @@ pub fn stack_keeps_its_shape()
 /// At most one object contains an address: two globals have no byte in common, nor have two blocks on the stack, nor
 /// a global and a block; and the object that an address points into is the one that contains it.
 pub fn objects_are_apart()
-    ensures { (P : Program) → IsSound P → (I : Input) → IsValid P I → (n : ℕ) → AreApart P I.base (run P I n).frames }
+    ensures { (P : Program) → IsSound P → (I : Input) → IsValid P I → (n : ℕ)
+        → AreApart P I.base (run P I n).frames }
 {}
 
 /// A run has at most as many steps as its limit of turns, and one more, times the longest block with its end, and at

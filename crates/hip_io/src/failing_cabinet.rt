@@ -67,7 +67,8 @@ impl Cabinet for FailingCabinet {
 
     fn fetch(&mut self, name: &str) -> Fetched
         ensures fetch { HasFetched (failing_cabinet_state self.old) (failing_cabinet_state self.new) name.now result }
-        ensures fails { (result ≡ Fetched.Failed) ↔ ((self.old.at ≡ FailAt.Fetch) × (self.old.name ≡ name.now)) }
+        ensures fails { (result ≡ Fetched.Failed)
+            ↔ ((self.old.at ≡ FailAt.Fetch) × (self.old.name ≡ name.now)) }
         ensures left { self.new.left ≡ left_of self.old name.now }
         ensures alike { FailsAlike self.old self.new }
     {

@@ -32,7 +32,8 @@ constant_words = codes "undef" ∷ codes "poison" ∷ codes "freeze" ∷ codes "
 
 abbrev pub float_words : List (List ℕ)
 float_words =
-    codes "fadd" ∷ codes "fsub" ∷ codes "fmul" ∷ codes "fdiv" ∷ codes "frem" ∷ codes "fneg" ∷ codes "fcmp" ∷ []
+    codes "fadd" ∷ codes "fsub" ∷ codes "fmul" ∷ codes "fdiv" ∷ codes "frem" ∷ codes "fneg" ∷ codes "fcmp"
+    ∷ []
 
 abbrev pub cast_words : List (List ℕ)
 cast_words =
@@ -49,7 +50,8 @@ memory_words = codes "atomicrmw" ∷ codes "cmpxchg" ∷ codes "fence" ∷ codes
 
 abbrev pub control_words : List (List ℕ)
 control_words =
-    codes "invoke" ∷ codes "resume" ∷ codes "landingpad" ∷ codes "catchswitch" ∷ codes "cleanupret" ∷ codes "callbr"
+    codes "invoke" ∷ codes "resume" ∷ codes "landingpad" ∷ codes "catchswitch" ∷ codes "cleanupret"
+    ∷ codes "callbr"
     ∷ codes "indirectbr" ∷ codes "va_arg" ∷ []
 
 abbrev pub call_words : List (List ℕ)
@@ -59,7 +61,8 @@ call_words =
 
 abbrev pub linkage_words : List (List ℕ)
 linkage_words =
-    codes "external" ∷ codes "extern_weak" ∷ codes "weak" ∷ codes "linkonce" ∷ codes "common" ∷ codes "thread_local"
+    codes "external" ∷ codes "extern_weak" ∷ codes "weak" ∷ codes "linkonce" ∷ codes "common"
+    ∷ codes "thread_local"
     ∷ codes "addrspace" ∷ []
 
 abbrev pub flag_words : List (List ℕ)
@@ -67,7 +70,8 @@ flag_words = codes "disjoint" ∷ codes "nneg" ∷ codes "samesign" ∷ codes "n
 
 abbrev pub attribute_words : List (List ℕ)
 attribute_words =
-    codes "noundef" ∷ codes "nonnull" ∷ codes "nocapture" ∷ codes "readonly" ∷ codes "writeonly" ∷ codes "nounwind" ∷ []
+    codes "noundef" ∷ codes "nonnull" ∷ codes "nocapture" ∷ codes "readonly" ∷ codes "writeonly"
+    ∷ codes "nounwind" ∷ []
 
 abbrev pub function_words : List (List ℕ)
 function_words = codes "noinline" ∷ codes "alwaysinline" ∷ codes "optnone" ∷ codes "uselistorder" ∷ []

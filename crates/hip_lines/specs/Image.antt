@@ -44,4 +44,5 @@ module _ {P : Type 0} (covers : P → ℕ → Bool) (value : P → ℕ → ℕ) 
 
   -- a pick gives each line a number from its durable number to its length
   abbrev pub IsPick : List (Line P) → (ℕ → ℕ) → Type 0
-  IsPick ls pick = (j : ℕ) (l : Line P) → slice_get ls j ≡ Some l → (l.durable ≤ pick j) × (pick j ≤ length l.parts)
+  IsPick ls pick = (j : ℕ) (l : Line P) → slice_get ls j ≡ Some l → (l.durable ≤ pick j)
+      × (pick j ≤ length l.parts)

@@ -35,7 +35,8 @@ NoQueues m from to = (j : ℕ) → from ≤ j → j < to → queue_at m j ≡ No
 -- the first queue of a line from `from` up to `to`, if there is one
 abbrev pub IsQueueFrom : Queues → ℕ → ℕ → Option Queue → Type 0
 IsQueueFrom m from to None = NoQueues m from to
-IsQueueFrom m from to (Some q) = (queue_at m q.line ≡ Some q) × (from ≤ q.line) × (q.line < to) × NoQueues m from q.line
+IsQueueFrom m from to (Some q) = (queue_at m q.line ≡ Some q) × (from ≤ q.line) × (q.line < to)
+    × NoQueues m from q.line
 
 -- the queue of the line at whose bytes a search stands, or of the next one below `to` that has a queue
 abbrev pub IsNextQueue : Queues → ℕ → ℕ → Option Queue → Type 0

@@ -20,7 +20,8 @@ fn make_room_at(queues: &mut Queues, flushed: &mut Vec<u64>, line: u64) -> Resul
     ensures below { (n : ℕ) → line < n → AreBelow n queues.old → AreBelow n queues.new }
     ensures flushed { flushed.new.items ≡ flushed.old.items }
     ensures count { count_of queues.old ≤ count_of queues.new }
-    ensures spare { count_of queues.old ≤ vec_capacity flushed.old → count_of queues.new ≤ vec_capacity flushed.new }
+    ensures spare { count_of queues.old ≤ vec_capacity flushed.old
+        → count_of queues.new ≤ vec_capacity flushed.new }
 {
     match queues.get(line) {
         Some(_) => queues.make_room(line),
@@ -36,7 +37,8 @@ fn add_queue(queues: &mut Queues, flushed: &mut Vec<u64>, line: u64) -> Result<(
     ensures err { OnErr result ((j : ℕ) → queue_at queues.new j ≡ queue_at queues.old j) }
     ensures flushed { flushed.new.items ≡ flushed.old.items }
     ensures count { count_of queues.old ≤ count_of queues.new }
-    ensures spare { count_of queues.old ≤ vec_capacity flushed.old → count_of queues.new ≤ vec_capacity flushed.new }
+    ensures spare { count_of queues.old ≤ vec_capacity flushed.old
+        → count_of queues.new ≤ vec_capacity flushed.new }
 {
     let more = queues.count() + 1 - flushed.len();
     if flushed.reserve(more).is_err() {
@@ -60,7 +62,8 @@ pub fn make_room_in(
     ensures ok { OnOk result (HasRoomFor queues.new (Some (offset, size))) }
     ensures below { (n : ℕ) → offset + size ≤ LINE_SIZE * n → AreBelow n queues.old → AreBelow n queues.new }
     ensures flushed { flushed.new.items ≡ flushed.old.items }
-    ensures spare { count_of queues.old ≤ vec_capacity flushed.old → count_of queues.new ≤ vec_capacity flushed.new }
+    ensures spare { count_of queues.old ≤ vec_capacity flushed.old
+        → count_of queues.new ≤ vec_capacity flushed.new }
 {
     let end = (offset + size as u64 - 1) / LINE_SIZE + 1;
     for line in offset / LINE_SIZE..end {
@@ -87,7 +90,8 @@ pub fn ensure_room(
     ensures ready { room ≡ Some (offset, size) → IsOk result }
     ensures below { (n : ℕ) → offset + size ≤ LINE_SIZE * n → AreBelow n queues.old → AreBelow n queues.new }
     ensures flushed { flushed.new.items ≡ flushed.old.items }
-    ensures spare { count_of queues.old ≤ vec_capacity flushed.old → count_of queues.new ≤ vec_capacity flushed.new }
+    ensures spare { count_of queues.old ≤ vec_capacity flushed.old
+        → count_of queues.new ≤ vec_capacity flushed.new }
 {
     if is_room_for(room, offset, size) {
         return Ok(());

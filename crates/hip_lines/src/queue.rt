@@ -17,7 +17,8 @@ pub struct Queue {
     /// For each byte of the line one more than the place of the last part over it, or 0.
     pub last: [u32; LINE_SIZE as usize],
     pub ghost within: { flushed ≤ length parts.items },
-    pub ghost marked: { (b : ℕ) → b / LINE_SIZE ≡ line → slice_index last (b % LINE_SIZE) ≡ mark_of (last_over part_covers b parts.items) },
+    pub ghost marked: { (b : ℕ) → b / LINE_SIZE ≡ line
+        → slice_index last (b % LINE_SIZE) ≡ mark_of (last_over part_covers b parts.items) },
 }
 
 impl Queue {

@@ -153,7 +153,8 @@ impl Queues {
 fn make_room_at(queues: &mut Vec<Queue>, place: usize) -> Result<(), NoMemory>
     requires { place < length queues.old.items }
     ensures changes { ChangesPlace (λ w. w) place queues.old.items queues.new.items }
-    ensures kept { (q r : Queue) → slice_get queues.old.items place ≡ Some q → slice_get queues.new.items place ≡ Some r
+    ensures kept { (q r : Queue) → slice_get queues.old.items place ≡ Some q
+        → slice_get queues.new.items place ≡ Some r
         → HasRoom q → HasRoom r }
     ensures ok { OnOk result ((r : Queue) → slice_get queues.new.items place ≡ Some r → HasRoom r) }
 {
@@ -164,7 +165,8 @@ fn make_room_at(queues: &mut Vec<Queue>, place: usize) -> Result<(), NoMemory>
 fn push_at(queues: &mut Vec<Queue>, place: usize, part: Part)
     requires within { place < length queues.old.items }
     requires room { (q : Queue) → slice_get queues.old.items place ≡ Some q → HasRoom q }
-    requires first { (q : Queue) → slice_get queues.old.items place ≡ Some q → part.offset / LINE_SIZE ≡ q.line }
+    requires first { (q : Queue) → slice_get queues.old.items place ≡ Some q
+        → part.offset / LINE_SIZE ≡ q.line }
     requires last { (q : Queue) → slice_get queues.old.items place ≡ Some q
         → part.offset + part.size ≤ LINE_SIZE * q.line + LINE_SIZE }
     ensures { ChangesPlace (pending_with part) place queues.old.items queues.new.items }
@@ -185,7 +187,8 @@ fn flush_at(queues: &mut Vec<Queue>, place: usize)
 fn fence_at(queues: &mut Vec<Queue>, place: usize) -> bool
     requires { place < length queues.old.items }
     ensures changes { ChangesPlace pending_fenced place queues.old.items queues.new.items }
-    ensures empty { result ≡ true → (r : Queue) → slice_get queues.new.items place ≡ Some r → r.parts.items ≡ [] }
+    ensures empty { result ≡ true → (r : Queue) → slice_get queues.new.items place ≡ Some r
+        → r.parts.items ≡ [] }
 {
     let queue = &mut queues[place];
     queue.fence();
@@ -209,7 +212,8 @@ fn fresh_place(
 ) -> Result<u32, NoMemory>
     requires { ArePlaced directory.now queues.old.items }
     ensures placed { ArePlaced directory.now queues.new.items }
-    ensures same { (j : ℕ) → queue_in directory.now queues.new.items j ≡ queue_in directory.now queues.old.items j }
+    ensures same { (j : ℕ) → queue_in directory.now queues.new.items j
+        ≡ queue_in directory.now queues.old.items j }
     ensures least { length queues.old.items ≤ length queues.new.items }
     ensures most { length queues.new.items ≤ length queues.old.items + 1 }
     ensures ok { IfOk result (λ place. IsFresh directory.now line place queues.new.items) }

@@ -24,7 +24,8 @@ EndsHere count (Err unread.Malformed) result = result ≡ Err (refusals.Misfit (
 EndsHere count (Err unread.ReadFault) result = result ≡ Err refusals.ReadFault
 
 -- an entry behind so many, or the cause why there is none
-abbrev pub ReadsEntry : ℕ → ReaderState → ReaderState → CabinetState → CabinetState → Result Entry ReplayRefusal
+abbrev pub ReadsEntry : ℕ → ReaderState → ReaderState → CabinetState → CabinetState
+    → Result Entry ReplayRefusal
     → Type 0
 ReadsEntry count r r' s s' (Ok e) = HasNext r r' s s' e
 ReadsEntry count r r' s s' (Err (refusals.Misfit entry Early)) = (entry ≡ count + 1) × HasNone r r' s s'
@@ -39,7 +40,8 @@ abbrev pub HasMore : ReaderState → ReaderState → CabinetState → CabinetSta
 HasMore r r' s s' = (e : Entry) × HasNext r r' s s' e
 
 -- the file's end behind so many entries, or the cause why it is not there
-abbrev pub ReadsEnd : ℕ → ReaderState → ReaderState → CabinetState → CabinetState → Result (Unit {0}) ReplayRefusal
+abbrev pub ReadsEnd : ℕ → ReaderState → ReaderState → CabinetState → CabinetState
+    → Result (Unit {0}) ReplayRefusal
     → Type 0
 ReadsEnd count r r' s s' (Ok _) = HasNone r r' s s'
 ReadsEnd count r r' s s' (Err (refusals.Misfit entry Extra)) = (entry ≡ count + 1) × HasMore r r' s s'

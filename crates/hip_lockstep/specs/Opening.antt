@@ -45,7 +45,8 @@ pub record HasAllGiven (P : Program) (start : CabinetState) (r : ReaderState) (s
   pub entries : List Entry
   pub read : HasReadEntries start r s (entries ++ behind.next ∷ [])
   pub counted : behind.entries ≡ length entries
-  pub header : (more : List (Option Entry)) → header P (told entries ++ more) ≡ header_from P given behind.entries more
+  pub header : (more : List (Option Entry))
+      → header P (told entries ++ more) ≡ header_from P given behind.entries more
   pub ends : with_entry P given (Some behind.next) ≡ None
 
 -- The header was read, which gives the input, and one entry behind it.
@@ -57,20 +58,24 @@ pub record HasHeader (P : Program) (start : CabinetState) (r : ReaderState) (s :
     pub header : IfSome start.rest
         (λ bytes. header P (spelled true bytes) ≡ Gives (header_entries begun.input) begun.input)
 
-abbrev pub ReadsLimit : Program → CabinetState → ReaderState → CabinetState → Result ℕ ReplayRefusal → Type 0
+abbrev pub ReadsLimit : Program → CabinetState → ReaderState → CabinetState → Result ℕ ReplayRefusal
+    → Type 0
 ReadsLimit P start r s (Ok limit) = HasLimit start r s limit
 ReadsLimit P start r s (Err refusal) = Refuses P r start s refusal
 
-abbrev pub ReadsBase : Program → CabinetState → ReaderState → CabinetState → ℕ → Result ℕ ReplayRefusal → Type 0
+abbrev pub ReadsBase : Program → CabinetState → ReaderState → CabinetState → ℕ → Result ℕ ReplayRefusal
+    → Type 0
 ReadsBase P start r s limit (Ok base) = HasBase P start r s limit base
 ReadsBase P start r s limit (Err refusal) = Refuses P r start s refusal
 
-abbrev pub ReadsValues : Program → CabinetState → ReaderState → CabinetState → Input → Result Lockstep ReplayRefusal
+abbrev pub ReadsValues : Program → CabinetState → ReaderState → CabinetState → Input
+    → Result Lockstep ReplayRefusal
     → Type 0
 ReadsValues P start r s given (Ok behind) = HasAllGiven P start r s given behind
 ReadsValues P start r s given (Err refusal) = Refuses P r start s refusal
 
 -- the input that the header gives, or the cause why there is none
-abbrev pub ReadsHeader : Program → CabinetState → ReaderState → CabinetState → Result Begun ReplayRefusal → Type 0
+abbrev pub ReadsHeader : Program → CabinetState → ReaderState → CabinetState → Result Begun ReplayRefusal
+    → Type 0
 ReadsHeader P start r s (Ok begun) = HasHeader P start r s begun
 ReadsHeader P start r s (Err refusal) = Refuses P r start s refusal

@@ -13,7 +13,8 @@ told es = map (λ e. Some e) es
 
 -- The text ended at a separator: its pieces stay the same, whatever follows.
 pub record StopsAtSeparator (text : List ℕ) (entries : List Entry) : Type 0 where
-  pub spells : (whole : Bool) → (more : List ℕ) → spelled whole (text ++ more) ≡ told entries ++ spelled whole more
+  pub spells : (whole : Bool) → (more : List ℕ)
+      → spelled whole (text ++ more) ≡ told entries ++ spelled whole more
 
 -- The text is the whole file; its last piece has no separator, and counts only because the file is whole.
 pub record StopsAtEnd (text : List ℕ) (entries : List Entry) (left : List ℕ) : Type 0 where

@@ -86,7 +86,8 @@ fn read_base<C: Cabinet>(
 ) -> Result<u64, ReplayRefusal>
     requires reading { reader.old.progress ≡ Reading }
     requires current { IsTrue (C.state cabinet.old).is_current }
-    ensures read { (start : CabinetState) → (limit : ℕ) → HasLimit start reader.old (C.state cabinet.old) limit →
+    ensures read { (start : CabinetState) → (limit : ℕ)
+        → HasLimit start reader.old (C.state cabinet.old) limit →
         ReadsBase checked.now start reader.new (C.state cabinet.new) limit result }
     ensures current { IsTrue (C.state cabinet.new).is_current }
     ensures reading { OnOk result (reader.new.progress ≡ Reading) }

@@ -12,5 +12,6 @@ ghost use Rattle.hip_many.specs.Union.{IsUnion};
 pub fn unions_are_one()
     ensures one { (plans : List Plan) → (a b : Plan) → IsUnion plans a → IsUnion plans b → a ≡ b }
     ensures none { IsUnion [] no_repairs }
-    ensures two { (P : Program) → (a b : Plan) → IsWithin P a → IsWithin P b → IsUnion (a ∷ b ∷ []) (union P a b) }
+    ensures two { (P : Program) → (a b : Plan) → IsWithin P a → IsWithin P b
+        → IsUnion (a ∷ b ∷ []) (union P a b) }
 {}

@@ -38,9 +38,11 @@ fn add_all(set: &mut SiteSet, sites: &[Site]) -> Result<(), NoMemory>
 pub fn plan_many(alloc: Global, plans: &[Plan]) -> Result<Plan, NoMemory>
     ensures union { IfOk result (IsUnion plans.now) }
     ensures contains { IfOk result (λ plan. (part : Plan) → In part plans.now → Contains plan part) }
-    ensures suits { IfOk result (λ plan. (P : Program) → ((part : Plan) → In part plans.now → IsSuiting P part) →
+    ensures suits { IfOk result (λ plan. (P : Program)
+        → ((part : Plan) → In part plans.now → IsSuiting P part) →
         IsSuiting P plan) }
-    ensures clean { IfOk result (λ plan. (P : Program) → (skip : Site → Bool) → (I : Input) → (found : Findings) →
+    ensures clean { IfOk result (λ plan. (P : Program) → (skip : Site → Bool) → (I : Input)
+        → (found : Findings) →
         IsSound P → IsValid P I → IsQuiet P skip → IsFound P I found → In (plan_for P found) plans.now →
         IsClean (repaired P plan skip) I) }
 {

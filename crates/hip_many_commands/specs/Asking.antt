@@ -29,7 +29,8 @@ pub record HasAsked (P : Program) (name : List ℕ) (old new : CabinetState) (as
   pub reports_are : asked.reports ≡ length run.found.reports
 
 -- what loading a trace and planning for its run answers; want of memory is free
-abbrev pub Asks : Program → List ℕ → CabinetState → CabinetState → Result Asked (Failure TraceRefusal) → Type 0
+abbrev pub Asks : Program → List ℕ → CabinetState → CabinetState → Result Asked (Failure TraceRefusal)
+    → Type 0
 Asks P name old new (Ok asked) = HasAsked P name old new asked
 Asks P name old new (Err (failures.Refused why)) =
     HasMet (is_missing why) false old new × HasNoTrace old.files name P why
@@ -44,7 +45,8 @@ pub record AreAsked (P : Program) (runs : List TracedRun) (asked : AllAsked) : T
   pub reports_are : asked.reports ≡ reports_of runs
 
 -- The files of these names are the traces of runs, and this is what the runs ask for.
-pub record HasAskedAll (P : Program) (names : List (List ℕ)) (old new : CabinetState) (asked : AllAsked) : Type 0 where
+pub record HasAskedAll (P : Program) (names : List (List ℕ)) (old new : CabinetState)
+    (asked : AllAsked) : Type 0 where
   pub runs : List TracedRun
   pub are : AreRunsOf old.files P names runs
   pub met : HasMet false false old new

@@ -14,20 +14,24 @@ use Rattle.hip_repair_answers.specs.TraceFiles.{ShowsNoMisfit}
 
 -- where the files are told, two answers on them are the same, unless one of them is a read fault
 abbrev pub ManyAreOne : Type 0
-ManyAreOne = (p : List ℕ) → (names : List (List ℕ)) → AreOne (λ old new answer. ManyAnswers old new p names answer)
+ManyAreOne = (p : List ℕ) → (names : List (List ℕ))
+    → AreOne (λ old new answer. ManyAnswers old new p names answer)
 
 -- where a file is current after a read fault, and is not the program's, its bytes that were taken show no misfit
 abbrev pub ManyFaultsHideNone : Type 0
 ManyFaultsHideNone =
-    (files : List NamedFile) → (old new : CabinetState) → (p t : List ℕ) → (names : List (List ℕ)) → (P : Program)
-    → (a : Answer) → old.files ≡ Some files → IsProgramOf (Some files) p P → new.is_current ≡ true → new.name ≡ Some t
+    (files : List NamedFile) → (old new : CabinetState) → (p t : List ℕ) → (names : List (List ℕ))
+    → (P : Program)
+    → (a : Answer) → old.files ≡ Some files → IsProgramOf (Some files) p P → new.is_current ≡ true
+    → new.name ≡ Some t
     → p ≢ t → a.status ≡ ReadFault → ManyAnswers old new p names a → ShowsNoMisfit files t P new.rest
 
 -- where the one file has a program and the others are the traces of runs of it, and nothing is missing and nothing
 -- fails, there is an answer by which the command is carried out
 abbrev pub ManyAreAnswered : Type 0
 ManyAreAnswered =
-    (files : List NamedFile) → (old new : CabinetState) → (p : List ℕ) → (names : List (List ℕ)) → (P : Program)
+    (files : List NamedFile) → (old new : CabinetState) → (p : List ℕ) → (names : List (List ℕ))
+    → (P : Program)
     → (runs : List TracedRun) → old.files ≡ Some files → IsProgramOf (Some files) p P
     → AreRunsOf (Some files) P names runs → HasMet false false old new
     → (a : Answer) × (a.status ≡ Done) × ManyAnswers old new p names a

@@ -76,7 +76,8 @@ pub record HasRepairedMany (P : Program) (runs : List TracedRun) (answer : Answe
   pub cured : All (λ r. IsCuredBy P r.input plan (direct P)) runs
 
 -- The one file has the program, and the others are the traces of runs of it.
-pub record HasRunsOf (old new : CabinetState) (program_name : List ℕ) (names : List (List ℕ)) (answer : Answer) : Type 0
+pub record HasRunsOf (old new : CabinetState) (program_name : List ℕ) (names : List (List ℕ))
+    (answer : Answer) : Type 0
   where
     pub program : Program
     pub loaded : IsProgramOf old.files program_name program

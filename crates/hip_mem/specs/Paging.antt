@@ -27,4 +27,5 @@ pub record ArePages (d : Directory) (bytes : List ℕ) : Type 0 where
 
 -- a page that is not noted as one that may have other bytes is zeros
 pub record AreClean (dirty : List Bool) (bytes : List ℕ) : Type 0 where
-  pub zero : (n i : ℕ) → slice_index_or dirty n true ≡ false → i < PAGE_SIZE → slice_index bytes (PAGE_SIZE * n + i) ≡ 0
+  pub zero : (n i : ℕ) → slice_index_or dirty n true ≡ false → i < PAGE_SIZE
+      → slice_index bytes (PAGE_SIZE * n + i) ≡ 0

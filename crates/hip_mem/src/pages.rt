@@ -82,7 +82,8 @@ impl Pages {
         ensures bytes { (i : ℕ) → i < PAGE_SIZE → byte_of self.new number i
             ≡ cond (nat_le at i && nat_lt i (at + length bytes.now)) (slice_index bytes.now (i - at))
             (byte_of self.old number i) }
-        ensures others { (n i : ℕ) → n ≢ number → i < PAGE_SIZE → byte_of self.new n i ≡ byte_of self.old n i }
+        ensures others { (n i : ℕ) → n ≢ number → i < PAGE_SIZE
+            → byte_of self.new n i ≡ byte_of self.old n i }
         ensures made { (n : ℕ) → place_of self.new n ≡ place_of self.old n }
     {
         let start = self.start(number);
@@ -98,7 +99,8 @@ impl Pages {
         requires within { to ≤ PAGE_SIZE }
         ensures bytes { (i : ℕ) → i < PAGE_SIZE → byte_of self.new number i
             ≡ cond (nat_le from i && nat_lt i to) 0 (byte_of self.old number i) }
-        ensures others { (n i : ℕ) → n ≢ number → i < PAGE_SIZE → byte_of self.new n i ≡ byte_of self.old n i }
+        ensures others { (n i : ℕ) → n ≢ number → i < PAGE_SIZE
+            → byte_of self.new n i ≡ byte_of self.old n i }
         ensures made { (n : ℕ) → place_of self.new n ≡ place_of self.old n }
     {
         let start = self.start(number);
@@ -312,7 +314,8 @@ fn append_page(
     requires absent { number_at directory.old key ≡ 0 }
     ensures pages { ArePages directory.new bytes.new.items }
     ensures clean { AreClean dirty.new.items bytes.new.items }
-    ensures same { (k i : ℕ) → i < PAGE_SIZE → slice_index bytes.new.items (PAGE_SIZE * number_at directory.new k + i)
+    ensures same { (k i : ℕ) → i < PAGE_SIZE
+        → slice_index bytes.new.items (PAGE_SIZE * number_at directory.new k + i)
         ≡ slice_index bytes.old.items (PAGE_SIZE * number_at directory.old k + i) }
     ensures kept { (k : ℕ) → 0 < number_at directory.old k → 0 < number_at directory.new k }
     ensures ok { OnOk result (0 < number_at directory.new key) }
@@ -455,7 +458,8 @@ fn erase(area: &mut [u8], from: usize, to: usize)
     requires forward { from ≤ to }
     requires within { to ≤ length area.old }
     ensures len { length area.new ≡ length area.old }
-    ensures bytes { (i : ℕ) → slice_index area.new i ≡ cond (nat_le from i && nat_lt i to) 0 (slice_index area.old i) }
+    ensures bytes { (i : ℕ) → slice_index area.new i
+        ≡ cond (nat_le from i && nat_lt i to) 0 (slice_index area.old i) }
 {
     area[from..to].fill(0);
 }

@@ -33,7 +33,8 @@ impl<'a> NameSet<'a> {
     /// Whether the name is new. One that is not new leaves the names as they are.
     pub fn insert(&mut self, name: &'a [u8]) -> Result<bool, NoMemory>
         ensures new { IfOk result (λ is_new. is_new ≡ not (is_among self.old name.now)) }
-        ensures names { IfOk result (λ is_new. self.new ≡ (if is_new then self.old ++ name.now ∷ [] else self.old)) }
+        ensures names { IfOk result (λ is_new. self.new
+            ≡ (if is_new then self.old ++ name.now ∷ [] else self.old)) }
         ensures err { OnErr result (self.new ≡ self.old) }
     {
         match self.names.insert(name) {

@@ -24,7 +24,8 @@ pub(crate) trait Production: Copy {
     fn read<'a>(self, parser: &mut Parser<'a>, alloc: Global) -> Result<Self::Value, ReadError>
         ensures { Takes (λ x. x) result ((part self).read (left parser.old)) (left parser.new) };
 
-    ghost within: { (x : Self) (ts : List At) (v : Self.Value × List At) → (part x).read ts ≡ Ok v → length v.1 ≤ length ts };
+    ghost within: { (x : Self) (ts : List At) (v : Self.Value × List At) → (part x).read ts ≡ Ok v
+        → length v.1 ≤ length ts };
 }
 
 /// A part that is read again as long as the next token begins one.

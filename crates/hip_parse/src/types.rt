@@ -100,7 +100,8 @@ impl<'a> Parser<'a> {
     #[cycle(types)]
     #[tactic(auto, unfolding(hip_rules::specs::Part::one_more_by))]
     fn next_field(&mut self, alloc: Global, depth: u64) -> Result<Ty, ReadError>
-        ensures { Takes (λ x. x) result ((one_more_by comma (type_within depth)).read (left self.old)) (left self.new) }
+        ensures { Takes (λ x. x) result ((one_more_by comma (type_within depth)).read (left self.old))
+            (left self.new) }
     {
         self.mark(b',')?;
         self.ty(alloc, depth)

@@ -39,7 +39,8 @@ pub record HasRunOf (Texts : Program → Input → Findings → Answer → Type 
   pub texts : Texts program input found answer
 
 -- the answers of a command that is given a program and a trace: no program, no trace of a run of it, or a run
-abbrev pub TraceAnswers : (Program → Input → Findings → Answer → Type 0) → CabinetState → CabinetState → List ℕ
+abbrev pub TraceAnswers : (Program → Input → Findings → Answer → Type 0) → CabinetState → CabinetState
+    → List ℕ
     → List ℕ → Answer → Type 0
 TraceAnswers Texts old new program_name trace_name answer =
     IsUnloaded old new program_name answer

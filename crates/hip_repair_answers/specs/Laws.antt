@@ -39,14 +39,17 @@ GivesOne Texts = (p t : List ℕ) → AreOne (λ old new answer. TraceAnswers Te
 abbrev pub AnswersRuns : (Program → Input → Findings → Answer → Type 0) → Type 0
 AnswersRuns Texts =
     (files : List NamedFile) → (old new : CabinetState) → (p t : List ℕ) → (P : Program) → (I : Input)
-    → old.files ≡ Some files → IsProgramOf (Some files) p P → IsTraceFile files t P I → HasMet false false old new
+    → old.files ≡ Some files → IsProgramOf (Some files) p P → IsTraceFile files t P I
+    → HasMet false false old new
     → (a : Answer) × (a.status ≡ statuses.Done) × TraceAnswers Texts old new p t a
 
--- where the trace's file is current after a read fault, and is not the program's, its bytes that were taken show no misfit
+-- where the trace's file is current after a read fault, and is not the program's, its bytes that were taken show no
+-- misfit
 abbrev pub FaultsHideNone : (Program → Input → Findings → Answer → Type 0) → Type 0
 FaultsHideNone Texts =
     (files : List NamedFile) → (old new : CabinetState) → (p t : List ℕ) → (P : Program) → (a : Answer)
-    → old.files ≡ Some files → IsProgramOf (Some files) p P → new.is_current ≡ true → new.name ≡ Some t → p ≢ t
+    → old.files ≡ Some files → IsProgramOf (Some files) p P → new.is_current ≡ true → new.name ≡ Some t
+    → p ≢ t
     → a.status ≡ statuses.ReadFault → TraceAnswers Texts old new p t a → ShowsNoMisfit files t P new.rest
 
 -- ---- `repair`
@@ -58,7 +61,8 @@ no_counts = repair_counts 0 no_repairs 0
 -- where the run reports nothing, `repair` gives the program's canonical text and five zeros
 abbrev pub NothingToRepair : Type 0
 NothingToRepair =
-    (P : Program) → (I : Input) → (found : Findings) → (a : Answer) → found.reports ≡ [] → HasRepaired P I found a
+    (P : Program) → (I : Input) → (found : Findings) → (a : Answer) → found.reports ≡ []
+    → HasRepaired P I found a
     → (a.out ≡ show P) × (a.notes ≡ no_counts)
 
 -- One file has the text of the program that is repaired for a run, of at most 16,777,216 bytes, and another has the
@@ -74,7 +78,8 @@ pub record AreRepairedFiles (files : List NamedFile) (p t : List ℕ) (P : Progr
 -- A second repair changes nothing: on these files `repair` answers with the same text and five zeros.
 abbrev pub SecondRepair : Type 0
 SecondRepair =
-    (P : Program) → (I : Input) → (found : Findings) → IsSound P → IsInput I → IsValid P I → IsFound P I found
+    (P : Program) → (I : Input) → (found : Findings) → IsSound P → IsInput I → IsValid P I
+    → IsFound P I found
     → (files : List NamedFile) → (p t : List ℕ) → AreRepairedFiles files p t P I found
     → (old new : CabinetState) → old.files ≡ Some files → HasMet false false old new
     → HasRunOf HasRepaired old new p t
@@ -83,5 +88,6 @@ SecondRepair =
 -- the repaired program's run has its trace read back: the second file has no misfit
 abbrev pub RerunsAreTraces : Type 0
 RerunsAreTraces =
-    (P : Program) → (I : Input) → (found : Findings) → IsSound P → IsInput I → IsValid P I → (es : List Entry)
+    (P : Program) → (I : Input) → (found : Findings) → IsSound P → IsInput I → IsValid P I
+    → (es : List Entry)
     → IsTrace (repaired_for P found) I es → IsTraceOf (repaired_for P found) (lines_of es) I

@@ -33,7 +33,8 @@ pub record IsMisfitFile (files : List NamedFile) (name : List ℕ) (P : Program)
   pub misfit : IsMisfit P bytes true entry kind
 
 -- Some bytes of the file were taken, and the rest is left. Those that were taken show no misfit, whatever follows.
-pub record ShowsNoMisfit (files : List NamedFile) (name : List ℕ) (P : Program) (rest : Option (List ℕ)) : Type 0 where
+pub record ShowsNoMisfit (files : List NamedFile) (name : List ℕ) (P : Program)
+    (rest : Option (List ℕ)) : Type 0 where
   pub taken : List ℕ
   pub left : List ℕ
   pub found : file_of files name ≡ Some (taken ++ left)

@@ -18,14 +18,16 @@ ghost use Rattle.hip_typing.specs.Sound.{IsSound};
 /// The program that is repaired for what a run found does no harm, is clean on the run's input, has its hoisted calls
 /// covered, is sound, and its canonical text reads as it.
 pub fn repairs_cure()
-    ensures { (P : Program) → (I : Input) → (found : Findings) → IsSound P → IsValid P I → IsFound P I found →
+    ensures { (P : Program) → (I : Input) → (found : Findings) → IsSound P → IsValid P I
+        → IsFound P I found →
         IsCured P I found }
 {}
 
-/// The same of a repair by any plan that has what the run found, where the stores that the clones do not flush never lie
-/// in the region.
+/// The same of a repair by any plan that has what the run found, where the stores that the clones do not flush never
+/// lie in the region.
 pub fn plans_cure()
-    ensures { (P : Program) → (I : Input) → (plan : Plan) → (skip : Site → Bool) → (found : Findings) → IsSound P →
+    ensures { (P : Program) → (I : Input) → (plan : Plan) → (skip : Site → Bool) → (found : Findings)
+        → IsSound P →
         IsValid P I → IsQuiet P skip → IsFound P I found → Contains plan (plan_for P found) →
         IsCuredBy P I plan skip }
 {}

@@ -71,7 +71,8 @@ pub record IsCovered (P Q : Program) : Type 0 where
       (I : Input) → IsValid P I → (n : ℕ) (behind : IsBehindClone Q (length P.functions) (run Q I n)) →
       (j : ℕ) × IsLastBefore Q I j n × IsAtCall behind.frame behind.others behind.at (run Q I j)
   pub durable :
-      (I : Input) → IsValid P I → (j n : ℕ) → IsBehindClone Q (length P.functions) (run Q I n) → IsLastBefore Q I j n →
+      (I : Input) → IsValid P I → (j n : ℕ) → IsBehindClone Q (length P.functions) (run Q I n)
+      → IsLastBefore Q I j n →
       (m : ℕ) (l : Line StorePart) → slice_get (run Q I (suc n)).lines m ≡ Some l →
       (k : ℕ) (p : StorePart) → slice_get l.parts k ≡ Some p → j ≤ p.step → k < l.durable
 
@@ -94,7 +95,8 @@ pub record IsFenced (Q : Program) (functions f b place : ℕ) : Type 0 where
 abbrev pub AreHoistsFenced : Program → Plan → (Site → Bool) → Type 0
 AreHoistsFenced P plan skip =
     (s : Site) (dest : Option (List ℕ)) (ret : Option Scalar) (callee : List ℕ) (args : List Arg) (g : ℕ) →
-    has_site plan.hoist s ≡ true → instr_of P s ≡ Some (Call dest ret callee args) → function_number P callee ≡ Some g →
+    has_site plan.hoist s ≡ true → instr_of P s ≡ Some (Call dest ret callee args)
+    → function_number P callee ≡ Some g →
     IsFenced (repaired P plan skip) (length P.functions) s.function s.block (repaired_place P plan skip false s)
     × ((c : ℕ) → slice_get (cloned P plan) c ≡ Some s.function →
     IsFenced (repaired P plan skip) (length P.functions) (length P.functions + c) s.block

@@ -79,7 +79,8 @@ pub record SameFrame (functions : ℕ) (copied : List ℕ) (f f' : Frame) : Type
 
 abbrev pub SameFrames : ℕ → List ℕ → List Frame → List Frame → Type 0
 SameFrames functions copied [] [] = Unit {0}
-SameFrames functions copied (f ∷ fs) (f' ∷ fs') = SameFrame functions copied f f' × SameFrames functions copied fs fs'
+SameFrames functions copied (f ∷ fs) (f' ∷ fs') = SameFrame functions copied f f'
+    × SameFrames functions copied fs fs'
 SameFrames functions copied [] (f' ∷ fs') = ⊥
 SameFrames functions copied (f ∷ fs) [] = ⊥
 

@@ -46,12 +46,14 @@ pub fn one_store_is_repaired()
 
 /// A store with a fence and no flush behind it: the flush goes between them.
 pub fn fence_without_flush_is_repaired()
-    ensures { IsWorked fence_without_flush (zeroed 1) 3 (fence_without_flush_report ∷ []) fence_without_flush_repaired }
+    ensures { IsWorked fence_without_flush (zeroed 1) 3
+        (fence_without_flush_report ∷ []) fence_without_flush_repaired }
 {}
 
 /// A store with a flush and no fence behind it: the fence goes behind the flush.
 pub fn flush_without_fence_is_repaired()
-    ensures { IsWorked flush_without_fence (zeroed 1) 3 (flush_without_fence_report ∷ []) flush_without_fence_repaired }
+    ensures { IsWorked flush_without_fence (zeroed 1) 3
+        (flush_without_fence_report ∷ []) flush_without_fence_repaired }
 {}
 
 /// A store that a second one overwrites: the second alone is reported, and the flush and the fence go behind it.

@@ -33,10 +33,12 @@ pub fn repairs_are_clean()
 
 /// The repaired program is sound again, by whatever plan. The region's size and all addresses are what they were.
 pub fn repaired_is_sound()
-    ensures sound { (P : Program) → (plan : Plan) → (skip : Site → Bool) → IsSound P → IsSound (repaired P plan skip) }
+    ensures sound { (P : Program) → (plan : Plan) → (skip : Site → Bool) → IsSound P
+        → IsSound (repaired P plan skip) }
     ensures same_region { (P : Program) → (plan : Plan) → (skip : Site → Bool) →
         region_size (repaired P plan skip) ≡ region_size P }
-    ensures same_addresses { (P : Program) → (plan : Plan) → (skip : Site → Bool) → (base : ℕ) → (number : ℕ) →
+    ensures same_addresses { (P : Program) → (plan : Plan) → (skip : Site → Bool) → (base : ℕ)
+        → (number : ℕ) →
         address (repaired P plan skip) base number ≡ address P base number }
 {}
 

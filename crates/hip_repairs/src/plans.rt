@@ -34,7 +34,8 @@ pub fn plans_have_what_is_asked()
 
 /// The plan for what a run found suits the program.
 pub fn plans_suit()
-    ensures { (P : Program) → (I : Input) → (found : Findings) → IsFound P I found → IsSuiting P (plan_for P found) }
+    ensures { (P : Program) → (I : Input) → (found : Findings) → IsFound P I found
+        → IsSuiting P (plan_for P found) }
 {}
 
 /// The union of two plans has each of them, where that one names sites of the program alone, as a plan does that

@@ -34,7 +34,8 @@ pub record HasReplayed (P : Program) (r : ReaderState) (old new : CabinetState) 
   pub progress : r.progress ≡ progresses.Ended
 
 -- what is known of a run whose steps were compared, since a cabinet stood in a state
-abbrev pub FollowsSteps : Program → Input → CabinetState → ReaderState → CabinetState → Result Ended ReplayRefusal
+abbrev pub FollowsSteps : Program → Input → CabinetState → ReaderState → CabinetState
+    → Result Ended ReplayRefusal
     → Type 0
 FollowsSteps P I start r s (Ok done) = (n : ℕ) × HasFollowed P I start n r s done.entries done.ending
 FollowsSteps P I start r s (Err refusal) = Refuses P r start s refusal
@@ -46,12 +47,14 @@ pub record HasFound (P : Program) (I : Input) (start : CabinetState) (r : Reader
   pub over : HasFollowed P I start steps r s followed.entries followed.ending
   pub found : IsFound P I followed.findings
 
-abbrev pub Follows : Program → Input → CabinetState → ReaderState → CabinetState → Result Followed ReplayRefusal
+abbrev pub Follows : Program → Input → CabinetState → ReaderState → CabinetState
+    → Result Followed ReplayRefusal
     → Type 0
 Follows P I start r s (Ok followed) = HasFound P I start r s followed
 Follows P I start r s (Err refusal) = Refuses P r start s refusal
 
 -- what a replay of the rest of the current file does, by its answer
-abbrev pub Replays : Program → ReaderState → CabinetState → CabinetState → Result Replayed ReplayRefusal → Type 0
+abbrev pub Replays : Program → ReaderState → CabinetState → CabinetState → Result Replayed ReplayRefusal
+    → Type 0
 Replays P r old new (Ok replayed) = HasReplayed P r old new replayed
 Replays P r old new (Err refusal) = Refuses P r old new refusal

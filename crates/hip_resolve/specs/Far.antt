@@ -46,7 +46,8 @@ pub record Enters (s : Scope) (t : Ty) (a : Arg) (part : Ty) (old new : Path) : 
 pub record Reaches (s : Scope) (t : Ty) (args : List Arg) (k : ℕ) (part : Ty) (path : Path) : Type 0 where
   pub whole : ℕ
   pub offset : path.offset % 2 ^ 64 ≡ whole % 2 ^ 64
-  pub on : (constants : List ℕ) (offset : ℕ) (terms : List Term) → leads s constants part (drop k args) offset terms →
+  pub on : (constants : List ℕ) (offset : ℕ) (terms : List Term)
+      → leads s constants part (drop k args) offset terms →
       IsGep s.program.now.globals s.base (names_of s) constants t args (whole + offset) (path.terms ++ terms)
 
 -- all indices

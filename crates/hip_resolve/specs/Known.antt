@@ -43,7 +43,8 @@ InstrKnown P names (Load dest ty addr align) =
 InstrKnown P names (Store ty value addr align) =
     OperandKnown names value × OperandKnown names addr × (0 < access_align ty align)
 InstrKnown P names (Gep dest inbounds ty base indices) =
-    IsAmong names dest × OperandKnown names base × ArgsKnown names indices × Fits ty × (gep_agrees indices ty ≡ true)
+    IsAmong names dest × OperandKnown names base × ArgsKnown names indices × Fits ty
+    × (gep_agrees indices ty ≡ true)
     × (list_all spelled_index indices ≡ true)
 InstrKnown P names (Call dest ret callee args) =
     ResultKnown names dest × ArgsKnown names args × (CallsFunction P callee ret args ⊎ CallsExtern callee ret args)

@@ -47,4 +47,5 @@ pub record HasCases (s : Scope) (t u : Tables) (source : Source) (ds : List name
 
 -- the labels of the cases are named by the block's end
 pub record CasesNamed (source : Source) (ds : List named_case.Case) : Type 0 where
-  pub at : (k : ℕ) (d : named_case.Case) → slice_get ds k ≡ Some d → IsAmong (end_labels source.block.now.«end») d.label
+  pub at : (k : ℕ) (d : named_case.Case) → slice_get ds k ≡ Some d
+      → IsAmong (end_labels source.block.now.«end») d.label

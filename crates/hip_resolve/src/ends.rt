@@ -96,7 +96,8 @@ pub fn switch(
     requires lead { LeadFrom scope.now source.now.number source.now.first (grown tables.old) }
     requires as_long { length made.old ≡ length (blocks_of scope.now.program.now scope.now.number) }
     requires value { OperandKnown (names_of scope.now) value.now }
-    requires last { (width : Width) × (source.now.block.now.«end» ≡ ends.Switch width value.now other.now cases.now) }
+    requires last { (width : Width) × (source.now.block.now.«end»
+        ≡ ends.Switch width value.now other.now cases.now) }
     ensures op { IfOk result (λ o. EndsHere scope.now (grown tables.old) (grown tables.new) source.now o) }
     ensures as_long { length made.new ≡ length made.old }
 {

@@ -82,7 +82,8 @@ pub fn gep(
     requires fits { Fits ty.now }
     requires agrees { gep_agrees indices.now ty.now ≡ true }
     ensures { IfOk result (λ o. Makes (grown tables.old) (grown tables.new)
-        (λ t. (inbounds : Bool) → DoesHere scope.now t o (instrs.Gep dest.now inbounds ty.now base.now indices.now))) }
+        (λ t. (inbounds : Bool) → DoesHere scope.now t o
+        (instrs.Gep dest.now inbounds ty.now base.now indices.now))) }
 {
     let dest = slot(scope, dest)?;
     let base = operand(scope, tables, base)?;

@@ -1,4 +1,5 @@
 pub mod Exact
+pub mod Repeated
 pub mod Same
 pub mod Phases
 pub mod Loops

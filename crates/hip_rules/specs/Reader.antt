@@ -64,7 +64,8 @@ taken_up step s o = on_ok o (λ xs rest. Ok (folded step s xs, rest))
 
 -- Parts of one kind that begin by a head, at most so many. Where a head is followed by no such part, the head is
 -- given with them.
-unfoldable pub leading_at : {F X P : Type 0} → (Tok → Bool) → Reader F X → (Tok → Bool) → (X → Reader F P) → ℕ
+unfoldable pub leading_at : {F X P : Type 0} → (Tok → Bool) → Reader F X → (Tok → Bool) → (X → Reader F P)
+    → ℕ
     → Reader F (List P × Option X)
 leading_at kh rh kf rf zero ts = Ok (([], None), ts)
 leading_at kh rh kf rf (suc n) ts =
@@ -84,5 +85,6 @@ abbrev pub by_head : {F X B : Type 0} → Option X → (X → Reader F B) → Re
 by_head (Some x) r o = r x
 by_head None r o = o
 
-abbrev pub with_leaders : {F X P : Type 0} → List P → Outcome F (List P × Option X) → Outcome F (List P × Option X)
+abbrev pub with_leaders : {F X P : Type 0} → List P → Outcome F (List P × Option X)
+    → Outcome F (List P × Option X)
 with_leaders front o = on_ok o (λ q rest. Ok ((front ++ q.0, q.1), rest))

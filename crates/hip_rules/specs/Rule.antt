@@ -35,7 +35,8 @@ unfoldable pub one : {F A : Type 0} → (Tok → Verdict F A) → Rule F A
 one {F} {A} p = record {
   Derives = λ ts x rest. (t : At) × (ts ≡ t ∷ rest) × (p t.tok ≡ Yes x);
   Front = λ ts rest. (rest ≡ ts) ⊎ ((t : At) × (x : A) × (ts ≡ t ∷ rest) × (p t.tok ≡ Yes x));
-  Refuses = λ why ts rest. (rest ≡ ts) × (t : At) × (more : List At) × (ts ≡ t ∷ more) × (p t.tok ≡ Because why);
+  Refuses = λ why ts rest. (rest ≡ ts) × (t : At) × (more : List At) × (ts ≡ t ∷ more)
+      × (p t.tok ≡ Because why);
 }
 
 -- One part, and then the part that its value asks for. A front is one of the first part, or the first part whole and

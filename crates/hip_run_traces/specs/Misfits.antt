@@ -43,7 +43,8 @@ pub record DiffersFromRun (P : Program) (I : Input) (whole : Bool) (pieces : Lis
   pub differs : FirstDiffers whole pieces trace count kind
 
 abbrev pub MisfitBehind : Header → Program → Bool → List (Option Entry) → ℕ → MisfitKind → Type 0
-MisfitBehind (Stops count) P whole pieces entry kind = (entry ≡ count + 1) × StopsAt whole (slice_get pieces count) kind
+MisfitBehind (Stops count) P whole pieces entry kind = (entry ≡ count + 1)
+    × StopsAt whole (slice_get pieces count) kind
 MisfitBehind (Gives count I) P whole pieces entry kind = DiffersFromRun P I whole pieces entry kind
 
 -- The misfit of a program and the bytes of a trace, or of a front of a trace that is not whole: the number of an entry,

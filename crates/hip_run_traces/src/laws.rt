@@ -18,7 +18,8 @@ ghost use Rattle.std.specs.Prelude.{◌≡◌, ◌+◌, ◌<◌, ◌++◌, ◌�
 /// The trace of a run's first steps has as many entries as the run counts, and the trace of more steps begins with it.
 pub fn traces_follow_the_run()
     ensures header { (I : Input) → length (header_of I) ≡ header_entries I }
-    ensures length { (P : Program) → (I : Input) → (n : ℕ) → length (trace P I n) ≡ (run P I n).counts.entries }
+    ensures length { (P : Program) → (I : Input) → (n : ℕ)
+        → length (trace P I n) ≡ (run P I n).counts.entries }
     ensures front { (P : Program) → (I : Input) → (n d : ℕ) →
         (more : List Entry) × (trace P I (n + d) ≡ trace P I n ++ more) }
     ensures step { (P : Program) → (I : Input) → (n : ℕ) → has_ended (run P I n) ≡ false →
@@ -30,7 +31,8 @@ pub fn traces_follow_the_run()
 /// Each run has one trace, which begins with the trace of any number of its steps.
 pub fn each_run_has_one_trace()
     ensures there { (P : Program) → (I : Input) → (es : List Entry) × IsTrace P I es }
-    ensures one { (P : Program) → (I : Input) → (es fs : List Entry) → IsTrace P I es → IsTrace P I fs → es ≡ fs }
+    ensures one { (P : Program) → (I : Input) → (es fs : List Entry) → IsTrace P I es → IsTrace P I fs
+        → es ≡ fs }
     ensures front { (P : Program) → (I : Input) → (n : ℕ) → (es : List Entry) → IsTrace P I es →
         (more : List Entry) × (es ≡ trace P I n ++ more) }
 {}
@@ -70,7 +72,8 @@ pub fn misfits_are_one()
         IsMisfit P bytes whole e k → IsMisfit P bytes whole e' k' → k ≡ k' }
     ensures none { (P : Program) → (bytes : List ℕ) → (I : Input) → (e : ℕ) → (k : MisfitKind) →
         IsTraceOf P bytes I → IsMisfit P bytes true e k → ⊥ }
-    ensures behind { (P : Program) → (bytes : List ℕ) → (whole : Bool) → (I : Input) → (h e : ℕ) → (k : MisfitKind) →
+    ensures behind { (P : Program) → (bytes : List ℕ) → (whole : Bool) → (I : Input) → (h e : ℕ)
+        → (k : MisfitKind) →
         IsMisfit P bytes whole e k → header P (spelled whole bytes) ≡ Gives h I → h < e }
 {}
 
@@ -83,10 +86,12 @@ pub fn first_bytes_decide_misfits()
 /// Behind entries that the pieces spell, the first difference is the next one. Where pieces differ from the trace of a
 /// run's first steps before that trace ends, they differ so from the run's trace.
 pub fn first_steps_decide_misfits()
-    ensures here { (whole : Bool) → (front : List Entry) → (pieces : List (Option Entry)) → (more : List Entry) →
+    ensures here { (whole : Bool) → (front : List Entry) → (pieces : List (Option Entry))
+        → (more : List Entry) →
         (k : MisfitKind) → DiffersAt whole (slice_get pieces 0) (slice_get more 0) k →
         FirstDiffers whole (map (λ e. Some e) front ++ pieces) (front ++ more) (length front) k }
-    ensures longer { (P : Program) → (I : Input) → (n : ℕ) → (whole : Bool) → (pieces : List (Option Entry)) →
+    ensures longer { (P : Program) → (I : Input) → (n : ℕ) → (whole : Bool)
+        → (pieces : List (Option Entry)) →
         (es : List Entry) → (count : ℕ) → (k : MisfitKind) → IsTrace P I es → count < length (trace P I n) →
         FirstDiffers whole pieces (trace P I n) count k → FirstDiffers whole pieces es count k }
 {}
@@ -95,8 +100,10 @@ pub fn first_steps_decide_misfits()
 /// spell the first entries of the run's trace.
 pub fn fronts_that_agree_show_no_misfit()
     ensures stops { (P : Program) → (bytes : List ℕ) → (h e : ℕ) → (k : MisfitKind) →
-        header P (spelled false bytes) ≡ Stops h → length (spelled false bytes) ≤ h → IsMisfit P bytes false e k → ⊥ }
-    ensures gives { (P : Program) → (bytes : List ℕ) → (I : Input) → (h : ℕ) → (es : List Entry) → (e : ℕ) →
+        header P (spelled false bytes) ≡ Stops h → length (spelled false bytes) ≤ h → IsMisfit P bytes false e k
+        → ⊥ }
+    ensures gives { (P : Program) → (bytes : List ℕ) → (I : Input) → (h : ℕ) → (es : List Entry)
+        → (e : ℕ) →
         (k : MisfitKind) → header P (spelled false bytes) ≡ Gives h I → IsTrace P I es →
         spelled false bytes ≡ map (λ x. Some x) (take (length (spelled false bytes)) es) →
         IsMisfit P bytes false e k → ⊥ }
@@ -104,7 +111,8 @@ pub fn fronts_that_agree_show_no_misfit()
 
 /// A front of a file shows no misfit where its pieces are the first of those that spell the entries of a run's steps.
 pub fn fronts_of_traces_show_no_misfit()
-    ensures { (P : Program) → (I : Input) → (n : ℕ) → (bytes : List ℕ) → (more : List (Option Entry)) → (e : ℕ) →
+    ensures { (P : Program) → (I : Input) → (n : ℕ) → (bytes : List ℕ) → (more : List (Option Entry))
+        → (e : ℕ) →
         (k : MisfitKind) → IsValid P I → map (λ x. Some x) (trace P I n) ≡ spelled false bytes ++ more →
         IsMisfit P bytes false e k → ⊥ }
 {}
@@ -113,12 +121,14 @@ pub fn fronts_of_traces_show_no_misfit()
 pub fn misfits_are_decided()
     ensures whole { (P : Program) → (bytes : List ℕ) →
         ((I : Input) × IsTraceOf P bytes I) ⊎ ((e : ℕ) × (k : MisfitKind) × IsMisfit P bytes true e k) }
-    ensures front { (P : Program) → (bytes : List ℕ) → ((e : ℕ) × (k : MisfitKind) × IsMisfit P bytes false e k)
+    ensures front { (P : Program) → (bytes : List ℕ)
+        → ((e : ℕ) × (k : MisfitKind) × IsMisfit P bytes false e k)
         ⊎ ((e : ℕ) → (k : MisfitKind) → IsMisfit P bytes false e k → ⊥) }
 {}
 
 /// The text of a run's trace, a line for each entry, is the trace of the run on the same input.
 pub fn written_traces_are_read_back()
-    ensures { (P : Program) → IsSound P → (I : Input) → IsInput I → IsValid P I → (es : List Entry) → IsTrace P I es →
+    ensures { (P : Program) → IsSound P → (I : Input) → IsInput I → IsValid P I → (es : List Entry)
+        → IsTrace P I es →
         IsTraceOf P (lines_of es) I }
 {}

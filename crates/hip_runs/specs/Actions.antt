@@ -190,7 +190,8 @@ extern_action P I w call values dest =
     line_action P I w (row_of call).effect (arg_value values 0) (flushed_size (row_of call).params values)
 
 -- a call of an external function, or else of a defined one
-abbrev pub call_action : Program → Input → World → ℕ → Option ExternCall → List ℕ → List ℕ → Option (List ℕ) → Action
+abbrev pub call_action : Program → Input → World → ℕ → Option ExternCall → List ℕ → List ℕ
+    → Option (List ℕ) → Action
 call_action P I w below (Some call) callee values dest = extern_action P I w call values dest
 call_action P I w below None callee values dest = entered P below callee values dest
 

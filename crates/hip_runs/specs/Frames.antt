@@ -24,5 +24,6 @@ pub data Moves (P : Program) (s s' : State) : Type 0 where
       called_number P (instr_of P (site_of f)) ≡ Some g.function →
       g.level ≡ Some (record { call = site_of f; birth = s.counts.steps }) →
       s'.counts.steps ≡ suc s.counts.steps → Moves P s s'
-  returns : (f g g' : Frame) (fs : List Frame) → s.frames ≡ f ∷ g ∷ fs → s'.frames ≡ g' ∷ fs → IsSameCall g g' →
+  returns : (f g g' : Frame) (fs : List Frame) → s.frames ≡ f ∷ g ∷ fs → s'.frames ≡ g' ∷ fs
+      → IsSameCall g g' →
       s'.counts.steps ≡ suc s.counts.steps → Moves P s s'

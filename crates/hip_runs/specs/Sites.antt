@@ -53,7 +53,8 @@ pub record HasSites (P : Program) (s : State) : Type 0 where
   pub flush : (x : StorePart) (f : Flush) → PartOf s.lines x → x.first_flush ≡ Some f →
       is_flush_call (instr_of P f.site) || is_persist_call (instr_of P f.site) ≡ true
   pub unfenced : (m : ℕ) (l : Line StorePart) (k : ℕ) (x : StorePart) (f : Flush) →
-      slice_get s.lines m ≡ Some l → slice_get l.parts k ≡ Some x → l.durable ≤ k → x.first_flush ≡ Some f →
+      slice_get s.lines m ≡ Some l → slice_get l.parts k ≡ Some x → l.durable ≤ k
+      → x.first_flush ≡ Some f →
       is_flush_call (instr_of P f.site) ≡ true
   pub standing : (v : Level) → In v (levels_of s.frames) → is_defined_call P (instr_of P v.call) ≡ true
   pub call : (x : StorePart) (v : Level) → PartOf s.lines x → In v x.levels →

@@ -102,13 +102,15 @@ leave v w f (g ∷ fs) ls after = state (record w { mark = f.mark }) (with_regis
 
 -- What an action does to a state; a trap changes nothing but the ending. The counts are those before the step and after
 -- it.
-unfoldable pub perform : Input → World → Frame → List Frame → List (Line StorePart) → Counts → Counts → Action → State
+unfoldable pub perform : Input → World → Frame → List Frame → List (Line StorePart) → Counts → Counts
+    → Action → State
 perform I w f fs ls before after (Traps kind) = stop (Trap kind) w (f ∷ fs) ls after
 perform I w f fs ls before after (Assigns dest v) = state w (with_register dest v (next f) ∷ fs) ls after
 perform I w f fs ls before after (Allocates dest a n) =
     state (with_block a n w) (with_register (Some dest) a (next (with_slot a n f)) ∷ fs) ls after
 perform I w f fs ls before after (Stores a bytes) =
-    state (with_bytes a bytes w) (next f ∷ fs) (stored_lines I before (site_of f) (levels_of (f ∷ fs)) a bytes ls) after
+    state (with_bytes a bytes w) (next f ∷ fs)
+    (stored_lines I before (site_of f) (levels_of (f ∷ fs)) a bytes ls) after
 perform I w f fs ls before after (Flushes a n) =
     state w (next f ∷ fs) (flushed_lines I (record { step = before.steps; site = site_of f }) a n ls) after
 perform I w f fs ls before after (Persists a n) =
@@ -143,7 +145,8 @@ is_cut I w d = d.turn && not (nat_lt w.turns I.limit)
 abbrev pub event_at : Input → World → List Frame → Deed → Event
 event_at I w fs d = cond (is_cut I w d) (events.End Cut) (event_of I fs d.action)
 
-unfoldable pub carry_out : Input → World → Frame → List Frame → List (Line StorePart) → Counts → Counts → Deed → State
+unfoldable pub carry_out : Input → World → Frame → List Frame → List (Line StorePart) → Counts → Counts
+    → Deed → State
 carry_out I w f fs ls before after d =
     cond (is_cut I w d) (stop Cut w (f ∷ fs) ls after)
     (perform I (cond d.turn (with_turn w) w) f fs ls before after d.action)

@@ -32,7 +32,8 @@ pub fn same_marks_are_equal()
 /// the path begins at a store and goes on with calls of functions of the program, and the flush is a call that
 /// flushes and takes no fence.
 pub fn reports_are_well_formed()
-    ensures { (P : Program) → (I : Input) → (n : ℕ) → (r : Report) → In r (reports P I n) → IsWellFormed P r }
+    ensures { (P : Program) → (I : Input) → (n : ℕ) → (r : Report) → In r (reports P I n)
+        → IsWellFormed P r }
 {}
 
 /// No mark and no persistent global is met twice, and the items of two lists are met one list after the other.

@@ -56,16 +56,19 @@ pub fn parts_are_of_stores()
 
 /// A part of a store tells that it was fenced exactly where a fence came after its store.
 pub fn fences_are_told()
-    ensures came { (P : Program) → (I : Input) → (n : ℕ) → (part : StorePart) → PartOf (run P I n).lines part →
+    ensures came { (P : Program) → (I : Input) → (n : ℕ) → (part : StorePart)
+        → PartOf (run P I n).lines part →
         part.fenced ≡ true → FencedSince P I part.step n }
-    ensures told { (P : Program) → (I : Input) → (n : ℕ) → (part : StorePart) → PartOf (run P I n).lines part →
+    ensures told { (P : Program) → (I : Input) → (n : ℕ) → (part : StorePart)
+        → PartOf (run P I n).lines part →
         FencedSince P I part.step n → part.fenced ≡ true }
 {}
 
 /// A part of a store tells the first flush of its cache line after its store, or that there was none; and there is
 /// one first flush at most.
 pub fn first_flushes_are_told()
-    ensures told { (P : Program) → (I : Input) → (n : ℕ) → (part : StorePart) → PartOf (run P I n).lines part →
+    ensures told { (P : Program) → (I : Input) → (n : ℕ) → (part : StorePart)
+        → PartOf (run P I n).lines part →
         IsFirstFlush P I (part.offset / LINE_SIZE) part.step n part.first_flush }
     ensures one { (P : Program) → (I : Input) → (line from n : ℕ) → (first other : Option Flush) →
         IsFirstFlush P I line from n first → IsFirstFlush P I line from n other → first ≡ other }

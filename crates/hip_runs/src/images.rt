@@ -32,17 +32,20 @@ pub fn images_are_decided_by_lines()
 pub fn images_make_valid_inputs()
     ensures valid { (P : Program) → (I : Input) → (n : ℕ) → (content : List ℕ) → IsValid P I →
         IsCrashImage I (run P I n) content → IsValid P (record I { image = content }) }
-    ensures input { (P : Program) → (I : Input) → (n : ℕ) → (content : List ℕ) → IsInput I → IsValid P I →
+    ensures input { (P : Program) → (I : Input) → (n : ℕ) → (content : List ℕ) → IsInput I
+        → IsValid P I →
         IsCrashImage I (run P I n) content → IsInput (record I { image = content }) }
 {}
 
 /// So many entries are reached after one least number of steps, if they are ever reached; and behind the entries that
 /// stand before the first step, there are just so many then.
 pub fn entries_find_one_state()
-    ensures there { (P : Program) → (I : Input) → (entry steps : ℕ) → entry ≤ (run P I steps).counts.entries →
+    ensures there { (P : Program) → (I : Input) → (entry steps : ℕ)
+        → entry ≤ (run P I steps).counts.entries →
         (n : ℕ) × (n ≤ steps) × IsAtEntry P I entry n }
     ensures one { (P : Program) → (I : Input) → (entry m n : ℕ) →
         IsAtEntry P I entry m → IsAtEntry P I entry n → m ≡ n }
-    ensures exact { (P : Program) → (I : Input) → (entry n : ℕ) → header_entries I < entry → IsAtEntry P I entry n →
+    ensures exact { (P : Program) → (I : Input) → (entry n : ℕ) → header_entries I < entry
+        → IsAtEntry P I entry n →
         (run P I n).counts.entries ≡ entry }
 {}

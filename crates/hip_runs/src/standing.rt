@@ -22,20 +22,24 @@ ghost use Rattle.std.specs.Prelude.{◌≡◌, ◌+◌, ◌<◌, ℕ, List, leng
 /// The pending parts that a `Lines` shows follow the cache lines of a run through each store, flush and fence.
 pub fn shown_lines_follow_the_run()
     ensures fresh { (n : ℕ) → none_pending_all n ≡ shown (fresh_lines n) }
-    ensures stored { (I : Input) → (ps : List (Pending Part)) → (ls : List (Line StorePart)) → HoldsLines I ps ls →
+    ensures stored { (I : Input) → (ps : List (Pending Part)) → (ls : List (Line StorePart))
+        → HoldsLines I ps ls →
         (counts : Counts) → (site : Site) → (levels : List Level) → (offset : ℕ) → (bytes : List ℕ) →
         HoldsLines I (pending_stored offset (length bytes) counts.steps ps)
         (stored (part_of_store counts site levels offset bytes) offset (length bytes) ls) }
-    ensures flushed { (I : Input) → (ps : List (Pending Part)) → (ls : List (Line StorePart)) → HoldsLines I ps ls →
+    ensures flushed { (I : Input) → (ps : List (Pending Part)) → (ls : List (Line StorePart))
+        → HoldsLines I ps ls →
         (flush : Flush) → (offset : ℕ) → (size : ℕ) →
         HoldsLines I (pending_flushed_all offset size ps) (change_range (λ _ l. flush_line flush l) offset size ls) }
-    ensures fenced { (I : Input) → (ps : List (Pending Part)) → (ls : List (Line StorePart)) → HoldsLines I ps ls →
+    ensures fenced { (I : Input) → (ps : List (Pending Part)) → (ls : List (Line StorePart))
+        → HoldsLines I ps ls →
         HoldsLines I (pending_fenced_all ps) (fenced_lines ls) }
 {}
 
 /// Where a `Ram` holds the memory of a run, the bytes that are valid in it are those that are valid in the run.
 pub fn valid_bytes_are_those_of_the_run()
-    ensures { (P : Program) → (I : Input) → (w : World) → (r : Areas) → (addr : ℕ) → (size : ℕ) → 0 < size →
+    ensures { (P : Program) → (I : Input) → (w : World) → (r : Areas) → (addr : ℕ) → (size : ℕ)
+        → 0 < size →
         VOLATILE_START + length (volatile_bytes P I.base) ≡ volatile_end P → HoldsMemory P I r w.writes w.mark →
         areas.are_valid r addr size ≡ are_valid P I w addr size }
 {}

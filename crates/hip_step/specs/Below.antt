@@ -30,7 +30,8 @@ pub record IsSaved (P : Program) (slots : List ℕ) (base : ℕ) (slot : Option 
   pub blocks : x.blocks ≡ length (blocks_of gs)
   pub call : IsCallOf g level
 
-abbrev pub are_saved : Program → List ℕ → ℕ → Option ℕ → Option (List ℕ) → Option Level → List Activation →
+abbrev pub are_saved : Program → List ℕ → ℕ → Option ℕ → Option (List ℕ) → Option Level
+    → List Activation →
     List Frame → Type 0
 are_saved P slots base slot name level saved [] = saved ≡ []
 are_saved P slots base slot name level saved (g ∷ gs) =

@@ -20,7 +20,8 @@ ghost use Rattle.hip_storage.specs.Standing.{HasDone, HoldsAt, Point};
 /// asks. It is refused exactly where the run traps, for the same cause.
 pub fn loads_are_those_of_the_run()
     ensures done { (P : Program) → (I : Input) → (p : Point) → (s : Contents) → HoldsAt P I s p →
-        (addr : ℕ) → (size : ℕ) → (align : ℕ) → (value : ℕ) → (dest : Option (List ℕ)) → (m : ℕ) → 0 < size →
+        (addr : ℕ) → (size : ℕ) → (align : ℕ) → (value : ℕ) → (dest : Option (List ℕ)) → (m : ℕ)
+        → 0 < size →
         HasLoaded s addr size align value → HasDone P I p s events.Quiet (accessed P I p.world addr size align
         (Assigns dest (little_endian (bytes_at (memory_of P I p.world) addr size) % m))) (Assigns dest (value % m)) }
     ensures refused { (P : Program) → (I : Input) → (p : Point) → (s : Contents) → HoldsAt P I s p →
@@ -33,7 +34,8 @@ pub fn loads_are_those_of_the_run()
 /// traps, for the same cause.
 pub fn stores_are_those_of_the_run()
     ensures done { (P : Program) → (I : Input) → (p : Point) → (old : Contents) → HoldsAt P I old p →
-        (new : Contents) → (event : Event) → (addr : ℕ) → (size : ℕ) → (align : ℕ) → (value : ℕ) → 0 < size →
+        (new : Contents) → (event : Event) → (addr : ℕ) → (size : ℕ) → (align : ℕ) → (value : ℕ)
+        → 0 < size →
         HasStored old new event addr size align value p.before.steps →
         HasDone P I p new event (accessed P I p.world addr size align (Stores addr (bytes_of size value)))
         (Stores addr (bytes_of size value)) }
@@ -51,10 +53,12 @@ pub fn blocks_are_those_of_the_run()
         HasPushed old new block size align →
         HasDone P I p new events.Quiet (allocated p.world dest size align) (Allocates dest block size) }
     ensures refused { (P : Program) → (I : Input) → (p : Point) → (s : Contents) → HoldsAt P I s p →
-        (size : ℕ) → (align : ℕ) → (dest : List ℕ) → (kind : TrapKind) → block_trap s size align ≡ Some kind →
+        (size : ℕ) → (align : ℕ) → (dest : List ℕ) → (kind : TrapKind)
+        → block_trap s size align ≡ Some kind →
         HasDone P I p s (events.End (Trap kind)) (allocated p.world dest size align) (Traps kind) }
     ensures returns { (P : Program) → (I : Input) → (p : Point) → (s : Contents) → HoldsAt P I s p →
-        (value : ℕ) → (g : Frame) → (fs : List Frame) → p.frames ≡ g ∷ fs → stack_start ≤ p.frame.mark →
+        (value : ℕ) → (g : Frame) → (fs : List Frame) → p.frames ≡ g ∷ fs
+        → stack_start ≤ p.frame.mark →
         p.frame.mark ≤ p.world.mark →
         HasDone P I p (after_pop p.frame.mark s) events.Quiet (Returns value) (Returns value) }
 {}
@@ -63,13 +67,16 @@ pub fn blocks_are_those_of_the_run()
 /// flush of the line of an address is one of the range of its byte.
 pub fn flushes_are_those_of_the_run()
     ensures flushed { (P : Program) → (I : Input) → (p : Point) → (old : Contents) → HoldsAt P I old p →
-        (new : Contents) → (event : Event) → (addr : ℕ) → (size : ℕ) → HasFlushed old new event addr size →
+        (new : Contents) → (event : Event) → (addr : ℕ) → (size : ℕ)
+        → HasFlushed old new event addr size →
         HasDone P I p new event (flushing P I p.world addr size (Flushes addr size)) (Flushes addr size) }
     ensures persisted { (P : Program) → (I : Input) → (p : Point) → (old : Contents) → HoldsAt P I old p →
-        (new : Contents) → (event : Event) → (addr : ℕ) → (size : ℕ) → HasPersisted old new event addr size →
+        (new : Contents) → (event : Event) → (addr : ℕ) → (size : ℕ)
+        → HasPersisted old new event addr size →
         HasDone P I p new event (flushing P I p.world addr size (Persists addr size)) (Persists addr size) }
     ensures refused { (P : Program) → (I : Input) → (p : Point) → (s : Contents) → HoldsAt P I s p →
-        (addr : ℕ) → (size : ℕ) → (kind : TrapKind) → (go : Action) → range_trap s addr size ≡ Some kind →
+        (addr : ℕ) → (size : ℕ) → (kind : TrapKind) → (go : Action)
+        → range_trap s addr size ≡ Some kind →
         HasDone P I p s (events.End (Trap kind)) (flushing P I p.world addr size go) (Traps kind) }
     ensures fenced { (P : Program) → (I : Input) → (p : Point) → (s : Contents) → HoldsAt P I s p →
         HasDone P I p (after_fence s) events.Fence Fences Fences }
@@ -78,7 +85,8 @@ pub fn flushes_are_those_of_the_run()
 /// A range is checked in the run where it lies in the region, and else the run traps.
 pub fn asserts_are_those_of_the_run()
     ensures done { (P : Program) → (I : Input) → (p : Point) → (s : Contents) → HoldsAt P I s p →
-        (addr : ℕ) → (size : ℕ) → lies_in_region s addr size ≡ true → HasDone P I p s (events.Assert addr size)
+        (addr : ℕ) → (size : ℕ) → lies_in_region s addr size ≡ true
+        → HasDone P I p s (events.Assert addr size)
         (cond (in_region I addr size) (Asserts addr size) (Traps traps.Address)) (Asserts addr size) }
     ensures refused { (P : Program) → (I : Input) → (p : Point) → (s : Contents) → HoldsAt P I s p →
         (addr : ℕ) → (size : ℕ) → lies_in_region s addr size ≡ false → HasDone P I p s

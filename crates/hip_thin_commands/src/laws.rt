@@ -15,7 +15,8 @@ use hip_vol::low_stores_are_quiet;
 /// The program that is repaired for what a run found, whose clones do not flush the low stores, does no harm, is clean
 /// on the run's input, has its hoisted calls covered, is sound, and its canonical text reads as it.
 pub fn thins_cure()
-    ensures { (P : Program) → (I : Input) → (found : Findings) → IsSound P → IsValid P I → IsFound P I found →
+    ensures { (P : Program) → (I : Input) → (found : Findings) → IsSound P → IsValid P I
+        → IsFound P I found →
         IsThinned P I found }
 {
     plans_cure();

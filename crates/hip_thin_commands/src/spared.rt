@@ -18,7 +18,8 @@ use std::alloc::Global;
 
 /// The numbers of the functions that have a clone.
 fn cloned_functions(alloc: Global, clones: &[CloneOf]) -> Result<IndexSet<usize>, NoMemory>
-    ensures { IfOk result (λ functions. (f : ℕ) → list_any (nat_eq f) functions.keys ≡ has_original clones.now f) }
+    ensures { IfOk result (λ functions. (f : ℕ)
+        → list_any (nat_eq f) functions.keys ≡ has_original clones.now f) }
 {
     let mut functions = IndexSet::new(alloc);
     'each: for clone in clones {

@@ -18,7 +18,8 @@ AreFormed (t ∷ ts) = (is_formed t.tok ≡ true) × AreFormed ts
 
 -- ---- the names of the pieces
 
-prefix_by : (p : ℕ → Bool) (x : ℕ) (xs : List ℕ) (b : Bool) → p x ≡ b → list_all p (take (prefix_len p xs) xs) ≡ true
+prefix_by : (p : ℕ → Bool) (x : ℕ) (xs : List ℕ) (b : Bool) → p x ≡ b
+    → list_all p (take (prefix_len p xs) xs) ≡ true
     → list_all p (take (cond b (1 + prefix_len p xs) 0) (x ∷ xs)) ≡ true
 prefix_by p x xs true e h = rw (one-add, e) h
 prefix_by p x xs false e h = refl
@@ -27,7 +28,8 @@ pub prefix_all : (p : ℕ → Bool) (xs : List ℕ) → list_all p (take (prefix
 prefix_all p [] = refl
 prefix_all p (x ∷ xs) = prefix_by p x xs (p x) refl (prefix_all p xs)
 
-pub name_of : (b : ℕ) (bs : List ℕ) → begins_name b ≡ true → is_name (b ∷ take (prefix_len goes_on_name bs) bs) ≡ true
+pub name_of : (b : ℕ) (bs : List ℕ) → begins_name b ≡ true
+    → is_name (b ∷ take (prefix_len goes_on_name bs) bs) ≡ true
 name_of b bs e = rw (e, prefix_all goes_on_name bs) refl
 
 pub name_front : (bs : List ℕ) → name_here bs ≡ true → is_name (take (prefix_len goes_on_name bs) bs) ≡ true
@@ -43,7 +45,8 @@ record IsFormed (p : Piece) : Type 0 where
   formed : is_formed p.tok ≡ true
 
 -- one of two pieces, by a test
-by_test : (c : Bool) (p q : Piece) → (c ≡ true → IsFormed p) → (c ≡ false → IsFormed q) → IsFormed (cond c p q)
+by_test : (c : Bool) (p q : Piece) → (c ≡ true → IsFormed p) → (c ≡ false → IsFormed q)
+    → IsFormed (cond c p q)
 by_test true p q h k = h refl
 by_test false p q h k = k refl
 
@@ -91,7 +94,8 @@ piece_formed b bs =
     by_test (eqb b 34) _ _ (λ _. string_formed bs) (λ _.
     by_test (is_mark b) _ _ (λ _. record { formed = refl }) (λ _. record { formed = refl })))))))
 
-by_tests : (blank comment : Bool) (a b c : List At) (t : At) → AreFormed a → AreFormed b → is_formed t.tok ≡ true
+by_tests : (blank comment : Bool) (a b c : List At) (t : At) → AreFormed a → AreFormed b
+    → is_formed t.tok ≡ true
     → AreFormed c → AreFormed (cond blank a (cond comment b (t ∷ c)))
 by_tests true comment a b c t f g h k = f
 by_tests false true a b c t f g h k = g

@@ -56,7 +56,8 @@ colon (b ∷ bs) rest = colon bs rest
 name_first : (b : ℕ) → begins_name b ≡ true → (is_blank b ≡ false) × (eqb b 59 ≡ false)
 name_first b e = (grind (arith, nat_tests), grind (arith, nat_tests))
 
-digit_first : (d : ℕ) → is_digit d ≡ true → (is_blank d ≡ false) × (eqb d 59 ≡ false) × (begins_name d ≡ false)
+digit_first : (d : ℕ) → is_digit d ≡ true → (is_blank d ≡ false) × (eqb d 59 ≡ false)
+    × (begins_name d ≡ false)
 digit_first d e = (grind (arith, nat_tests), grind (arith, nat_tests), grind (arith, nat_tests))
 
 all_go_on : (name : List ℕ) → is_name name ≡ true → list_all goes_on_name name ≡ true
@@ -88,7 +89,8 @@ word_cut line (b ∷ bs) rest p e =
     in
     let token : piece (Word (b ∷ bs)) (length bs) ≡ piece_at b (bs ++ rest) =
     rw (first, len, no_colon bs rest e, take_at bs rest (length bs) refl) refl in
-    cut_token line b (bs ++ rest) (Word (b ∷ bs)) (length bs) o.0 o.1 token ∙ rw (drop_at bs rest (length bs) refl) refl
+    cut_token line b (bs ++ rest) (Word (b ∷ bs)) (length bs) o.0 o.1 token
+    ∙ rw (drop_at bs rest (length bs) refl) refl
 
 -- a name before `:`
 pub label_cut : (line : ℕ) (name rest : List ℕ) → is_name name ≡ true
@@ -102,7 +104,8 @@ label_cut line (b ∷ bs) rest p =
     prefix_ends goes_on_name bs (58 ∷ rest) ((and_parts (begins_name b) (list_all goes_on_name bs) p).1) refl in
     let token : piece (Label (b ∷ bs)) (length bs + 1) ≡ piece_at b (bs ++ 58 ∷ rest) =
     rw (first, len, colon bs rest, take_at bs (58 ∷ rest) (length bs) refl) refl in
-    cut_token line b (bs ++ 58 ∷ rest) (Label (b ∷ bs)) (length bs + 1) o.0 o.1 token ∙ rw (behind_colon bs rest) refl
+    cut_token line b (bs ++ 58 ∷ rest) (Label (b ∷ bs)) (length bs + 1) o.0 o.1 token
+    ∙ rw (behind_colon bs rest) refl
   where
     behind_colon : (xs ys : List ℕ) → drop (length xs + 1) (xs ++ 58 ∷ ys) ≡ ys
     behind_colon [] ys = refl
@@ -153,7 +156,8 @@ digits_cut line (d ∷ ds) rest p e =
     let len = prefix_ends is_digit ds rest ((and_parts (is_digit d) (list_all is_digit ds) p).1) (ends_number rest e) in
     let token : piece (Num (d ∷ ds)) (length ds) ≡ piece_at d (ds ++ rest) =
     rw (o.2, first, len, take_at ds rest (length ds) refl) refl in
-    cut_token line d (ds ++ rest) (Num (d ∷ ds)) (length ds) o.0 o.1 token ∙ rw (drop_at ds rest (length ds) refl) refl
+    cut_token line d (ds ++ rest) (Num (d ∷ ds)) (length ds) o.0 o.1 token
+    ∙ rw (drop_at ds rest (length ds) refl) refl
 
 all_digits : (ds : List ℕ) → are_digits ds ≡ true → list_all is_digit ds ≡ true
 all_digits [] p = absurd cc
@@ -176,7 +180,8 @@ minus_cut line ds rest p e =
 -- ---- marks
 
 mark_first : (b : ℕ) → is_mark b ≡ true
-    → (is_blank b ≡ false) × (eqb b 59 ≡ false) × (begins_name b ≡ false) × (is_digit b ≡ false) × (eqb b 45 ≡ false)
+    → (is_blank b ≡ false) × (eqb b 59 ≡ false) × (begins_name b ≡ false) × (is_digit b ≡ false)
+    × (eqb b 45 ≡ false)
     × (eqb b 37 ≡ false) × (eqb b 64 ≡ false) × (eqb b 34 ≡ false)
 mark_first b e = (
   grind (arith, nat_tests),

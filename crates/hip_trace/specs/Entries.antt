@@ -55,7 +55,8 @@ image_at addr bytes = if addr % 64 == 0 then option_map (λ bs. Image addr bs) b
 
 -- `IMAGE;A;H`
 unfoldable pub image : List (List ℕ) → Option Entry
-image fs = option_and_then (λ f. option_and_then (λ addr. image_at addr (line_bytes f.1)) (hex_of f.0)) (two_fields fs)
+image fs = option_and_then (λ f. option_and_then (λ addr. image_at addr (line_bytes f.1)) (hex_of f.0))
+    (two_fields fs)
 
 -- sizes are 1, 2, 4 and 8
 abbrev pub is_store_size : ℕ → Bool

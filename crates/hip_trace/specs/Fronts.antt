@@ -81,11 +81,22 @@ FindsFront held held' s s' fronts.Failed = HasFailedFirst held held' s s'
 -- ---- the answer to what stands first
 
 -- The first n bytes are a piece; with its end `taken` bytes are let go.
-abbrev pub answers_piece : Option Entry → ReaderState → ReaderState → ℕ → Result (Option Entry) TraceRefusal → Type 0
+abbrev pub answers_piece : Option Entry → ReaderState → ReaderState → ℕ → Result (Option Entry) TraceRefusal
+    → Type 0
 answers_piece None r r' taken result =
-    (result ≡ Err Malformed) × (r' ≡ record { held = r.held; count = one_more r.count; progress = Refused Malformed })
+    (result ≡ Err Malformed) × (r' ≡ record {
+      held = r.held;
+      count = one_more r.count;
+      progress =
+          Refused Malformed;
+    })
 answers_piece (Some e) r r' taken result =
-    (result ≡ Ok (Some e)) × (r' ≡ record { held = drop taken r.held; count = one_more r.count; progress = Reading })
+    (result ≡ Ok (Some e)) × (r' ≡ record {
+      held = drop taken r.held;
+      count = one_more r.count;
+      progress =
+          Reading;
+    })
 
 abbrev pub AnswersPiece : ReaderState → ReaderState → ℕ → ℕ → Result (Option Entry) TraceRefusal → Type 0
 AnswersPiece r r' n taken result = answers_piece (entry_of (take n r.held)) r r' taken result
@@ -106,7 +117,12 @@ abbrev pub AnswersFront : ReaderState → ReaderState → Front → Result (Opti
 AnswersFront r r' (fronts.Piece n) result = AnswersPiece r r' n (n + 1) result
 AnswersFront r r' fronts.Rest result = answers_rest r.held r r' result
 AnswersFront r r' fronts.TooLong result =
-    (result ≡ Err Malformed) × (r' ≡ record { held = r.held; count = one_more r.count; progress = Refused Malformed })
+    (result ≡ Err Malformed) × (r' ≡ record {
+      held = r.held;
+      count = one_more r.count;
+      progress =
+          Refused Malformed;
+    })
 AnswersFront r r' fronts.Failed result = (result ≡ Err ReadFault) × (r' ≡ failed r)
 
 -- a piece and its separator lie in what is held

@@ -19,10 +19,12 @@ CanonicalTextsSpell = (text : List ℕ) (e : Entry) → entry_of text ≡ Some e
 
 -- No text that spells an entry is shorter than its canonical text.
 abbrev pub CanonicalTextsAreShortest : Type 0
-CanonicalTextsAreShortest = (text : List ℕ) (e : Entry) → entry_of text ≡ Some e → length (text_of e) ≤ length text
+CanonicalTextsAreShortest = (text : List ℕ) (e : Entry) → entry_of text ≡ Some e
+    → length (text_of e) ≤ length text
 
 -- At the file's end the answer of a reader that reads on is None, or a read failed.
 abbrev pub ReadersEnd : Type 0
 ReadersEnd =
-    (r r' : ReaderState) (s s' : CabinetState) (result : Result (Option Entry) TraceRefusal) → ahead r s ≡ Some [] →
+    (r r' : ReaderState) (s s' : CabinetState) (result : Result (Option Entry) TraceRefusal)
+    → ahead r s ≡ Some [] →
     ReadsOn r r' s s' result → (result ≡ Ok None) ⊎ (result ≡ Err ReadFault)

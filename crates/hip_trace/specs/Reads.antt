@@ -96,7 +96,8 @@ pub record HasFailed (r r' : ReaderState) (s s' : CabinetState) : Type 0 where
   pub count : r'.count ≡ (if is_nonempty r'.held then one_more r.count else r.count)
   pub progress : r'.progress ≡ Refused ReadFault
 
-abbrev pub ReadsOn : ReaderState → ReaderState → CabinetState → CabinetState → Result (Option Entry) TraceRefusal
+abbrev pub ReadsOn : ReaderState → ReaderState → CabinetState → CabinetState
+    → Result (Option Entry) TraceRefusal
     → Type 0
 ReadsOn r r' s s' (Ok None) = HasNone r r' s s'
 ReadsOn r r' s s' (Ok (Some e)) = HasNext r r' s s' e
@@ -117,6 +118,7 @@ reads_from Ended r r' s s' result = Repeats r r' s s' (Ok None) result
 reads_from (Refused refusal) r r' s s' result = Repeats r r' s s' (Err refusal) result
 
 -- What `next` does. None and refusals are repeated.
-abbrev pub ReadsNext : ReaderState → ReaderState → CabinetState → CabinetState → Result (Option Entry) TraceRefusal
+abbrev pub ReadsNext : ReaderState → ReaderState → CabinetState → CabinetState
+    → Result (Option Entry) TraceRefusal
     → Type 0
 ReadsNext r r' s s' result = reads_from r.progress r r' s s' result

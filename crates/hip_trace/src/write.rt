@@ -122,7 +122,8 @@ fn with_numbers(word: &[u8], a: u64, b: u64) -> EntryText
 }
 
 fn with_store(addr: u64, value: u64, size: u64) -> EntryText
-    ensures text { result ≡ with_fields (codes "STORE") (hexadecimal addr ∷ hexadecimal value ∷ hexadecimal size ∷ []) }
+    ensures text { result ≡ with_fields (codes "STORE")
+        (hexadecimal addr ∷ hexadecimal value ∷ hexadecimal size ∷ []) }
     ensures length { length result ≤ 200 }
 {
     let mut text = EntryText::new(b"STORE");

@@ -44,7 +44,8 @@ pub record HasFailedTrace (P : Program) (name : List ℕ) (old new : CabinetStat
   pub taken : (new.is_current ≡ false) ⊎ IfSome old.files (λ fs. ShowsNoMisfit fs name P new.rest)
 
 -- what loading the trace of a file answers; want of memory is free
-abbrev pub LoadsTrace : Program → List ℕ → CabinetState → CabinetState → Result Replayed (Failure TraceRefusal) → Type 0
+abbrev pub LoadsTrace : Program → List ℕ → CabinetState → CabinetState
+    → Result Replayed (Failure TraceRefusal) → Type 0
 LoadsTrace P name old new (Ok replayed) = HasLoadedTrace P name old new replayed
 LoadsTrace P name old new (Err (failures.Refused why)) =
     HasMet (is_missing why) false old new × HasNoTrace old.files name P why

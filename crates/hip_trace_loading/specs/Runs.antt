@@ -12,7 +12,8 @@ use Rattle.hip_trace_loading.specs.Loading.{HasLoadedTrace}
 use Rattle.hip_trace_loading.specs.declared.run.LoadedRun.{LoadedRun}
 
 -- The one file has the program, and the other is the trace of the run.
-pub record HasLoadedRun (program_name trace_name : List ℕ) (old new : CabinetState) (loaded : LoadedRun) : Type 0 where
+pub record HasLoadedRun (program_name trace_name : List ℕ) (old new : CabinetState)
+    (loaded : LoadedRun) : Type 0 where
   pub program : IsProgramOf old.files program_name loaded.checked
   pub trace : HasLoadedTrace loaded.checked trace_name old new loaded.replayed
 

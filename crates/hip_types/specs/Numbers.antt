@@ -63,13 +63,15 @@ wrapped-lt w (negsuc n) = omega (arith, modulus_pos w)
 pub signed-low : (w : Width) (n : ℕ) → n < sign_of w → signed w n ≡ pos n
 signed-low w n h = grind (arith, ints)
 
-pub signed-high : (w : Width) (n : ℕ) → sign_of w ≤ n → n < modulus w → signed w n ≡ negsuc (modulus w - 1 - n)
+pub signed-high : (w : Width) (n : ℕ) → sign_of w ≤ n → n < modulus w
+    → signed w n ≡ negsuc (modulus w - 1 - n)
 signed-high w n h k = grind (arith, ints)
 
 -- reading with a sign loses nothing
 pub wrapped-signed : (w : Width) (n : ℕ) → n < modulus w → wrapped w (signed w n) ≡ n
 wrapped-signed w n h =
-    ⊎_elim (λ low. rw (signed-low w n low) (mod-eq_of_lt h)) (λ high. rw (signed-high w n high h) (from_above w n h))
+    ⊎_elim (λ low. rw (signed-low w n low) (mod-eq_of_lt h))
+    (λ high. rw (signed-high w n high h) (from_above w n h))
     (cases_lt n (sign_of w))
   where
     from_above : (v : Width) (m : ℕ) → m < modulus v → modulus v - 1 - (modulus v - 1 - m) % modulus v ≡ m

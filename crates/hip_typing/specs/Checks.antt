@@ -131,7 +131,8 @@ refuses-found P breaks.BadGlobal place s e = refused_for P faults.BadGlobal plac
 refuses-found P breaks.BadEdge place s e = refused_for P faults.BadEdge place (s, e)
 refuses-found P breaks.TooLarge place s e = refused_for P faults.TooLarge place (s, e)
 
-pub refuses-stopped : (P : Program) (r : Refused) → IsSpelled P → Answers {T = Unit {0}} (Err r) (rules_check P).found →
+pub refuses-stopped : (P : Program) (r : Refused) → IsSpelled P
+    → Answers {T = Unit {0}} (Err r) (rules_check P).found →
     Refuses P (refusal_of r)
 refuses-stopped P (refused.Found f) s e = refuses-found P f.fault f.place s e
 refuses-stopped P refused.NoMemory s e = refl
@@ -139,7 +140,8 @@ refuses-stopped P refused.NoMemory s e = refl
 pub registers-hold : (P : Program) → (rules_check P).found ≡ None → (registers_check P).Holds
 registers-hold P none = ((rules-exact P).sound none).1.1.1.1.1.0
 
-pub refuses-unassigned : (P : Program) (place : Place) (path : List ℕ) → IsSpelled P → (rules_check P).found ≡ None →
+pub refuses-unassigned : (P : Program) (place : Place) (path : List ℕ) → IsSpelled P
+    → (rules_check P).found ≡ None →
     IsFirstUnassigned P place path → Refuses P (record { fault = faults.Unassigned path; place = place })
 refuses-unassigned P place path s none u = refused_for P (faults.Unassigned path) place (s, none, u)
 

@@ -30,10 +30,12 @@ abbrev pub names_in : Const → List (List ℕ)
 names_in = fold-Const (List (List ℕ)) (List (List ℕ)) (List (List ℕ)) names_step gep_names_step item_names_step
 
 abbrev pub gep_names : ConstGep → List (List ℕ)
-gep_names = fold-ConstGep (List (List ℕ)) (List (List ℕ)) (List (List ℕ)) names_step gep_names_step item_names_step
+gep_names = fold-ConstGep (List (List ℕ)) (List (List ℕ))
+    (List (List ℕ)) names_step gep_names_step item_names_step
 
 abbrev pub item_names : TypedConst → List (List ℕ)
-item_names = fold-TypedConst (List (List ℕ)) (List (List ℕ)) (List (List ℕ)) names_step gep_names_step item_names_step
+item_names = fold-TypedConst (List (List ℕ)) (List (List ℕ))
+    (List (List ℕ)) names_step gep_names_step item_names_step
 
 -- the type that an index enters: an array's element, or the field that it numbers
 abbrev pub entered : ℕ → Ty-F Ty → Option Ty

@@ -71,17 +71,21 @@ same_gep_step gep other =
     same_truth gep.inbounds other.inbounds
     && (same_type gep.ty other.ty && (gep.base other.base && same_list same_bits gep.indices other.indices))
 
-abbrev pub same_item_step : TypedConst-F (Const → Bool) (ConstGep → Bool) (TypedConst → Bool) → TypedConst → Bool
+abbrev pub same_item_step : TypedConst-F (Const → Bool) (ConstGep → Bool) (TypedConst → Bool) → TypedConst
+    → Bool
 same_item_step item other = same_type item.ty other.ty && item.value other.value
 
 abbrev pub same_const : Const → Const → Bool
-same_const = fold-Const (Const → Bool) (ConstGep → Bool) (TypedConst → Bool) same_step same_gep_step same_item_step
+same_const = fold-Const (Const → Bool) (ConstGep → Bool)
+    (TypedConst → Bool) same_step same_gep_step same_item_step
 
 abbrev pub same_gep : ConstGep → ConstGep → Bool
-same_gep = fold-ConstGep (Const → Bool) (ConstGep → Bool) (TypedConst → Bool) same_step same_gep_step same_item_step
+same_gep = fold-ConstGep (Const → Bool) (ConstGep → Bool)
+    (TypedConst → Bool) same_step same_gep_step same_item_step
 
 abbrev pub same_item : TypedConst → TypedConst → Bool
-same_item = fold-TypedConst (Const → Bool) (ConstGep → Bool) (TypedConst → Bool) same_step same_gep_step same_item_step
+same_item = fold-TypedConst (Const → Bool) (ConstGep → Bool)
+    (TypedConst → Bool) same_step same_gep_step same_item_step
 
 abbrev pub same_operand : Operand → Operand → Bool
 same_operand (Reg a) (Reg b) = bytes_eq a b

@@ -63,7 +63,8 @@ pub record HasBlock (fn : Function) (label : List ℕ) : Type 0 where
 
 abbrev pub LabelsExist : Program → Type 0
 LabelsExist P =
-    (f b : ℕ) (fn : Function) (block : Block) → IsBlockAt P f b fn block → All (HasBlock fn) (end_labels block.end)
+    (f b : ℕ) (fn : Function) (block : Block) → IsBlockAt P f b fn block
+    → All (HasBlock fn) (end_labels block.end)
 
 -- a phi has an edge for each block whose end names its own
 abbrev pub PhisAgree : Program → Type 0

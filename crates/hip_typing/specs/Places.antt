@@ -226,7 +226,8 @@ is_predecessor label b = is_among (end_labels b.end) label
 -- the labels of the blocks whose end names the label
 abbrev pub predecessors : List Block → List ℕ → List (List ℕ)
 predecessors [] label = []
-predecessors (b ∷ bs) label = if is_predecessor label b then b.label ∷ predecessors bs label else predecessors bs label
+predecessors (b ∷ bs) label = if is_predecessor label b then b.label
+    ∷ predecessors bs label else predecessors bs label
 
 -- two edges of one label carry the same operand
 abbrev pub carry_alike : Edge → Edge → Bool

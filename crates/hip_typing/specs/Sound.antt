@@ -232,7 +232,8 @@ pub record UsesAreAssigned (fn : Function) (b : ℕ) (block : Block) : Type 0 wh
   pub last : All (IsAssigned fn b AtEnd) (used_registers (end_uses block.end))
 
 abbrev pub RegistersAssigned : Program → Type 0
-RegistersAssigned P = (f b : ℕ) (fn : Function) (block : Block) → IsBlockAt P f b fn block → UsesAreAssigned fn b block
+RegistersAssigned P = (f b : ℕ) (fn : Function) (block : Block) → IsBlockAt P f b fn block
+    → UsesAreAssigned fn b block
 
 -- ---- soundness
 

@@ -42,7 +42,7 @@ use Rattle.hip_runs.specs.Laws.PartLaws.{append-left, append-right}
 use Rattle.hip_runs.specs.Laws.StepLaws.{IsTop}
 use Rattle.hip_invariants.specs.PointerLevels.{PointerLevel, within_level, is_at_most, behind_offset, both}
 use Rattle.hip_invariants.specs.Laws.InstrFacts.{instr_fact, CallFact, fact_holds}
-use Rattle.hip_invariants.specs.Laws.RegisterFacts.{ValuesHold, each_value, assigned_fact, fact_of_value, values_in_frames}
+use Rattle.hip_invariants.specs.Laws.Registers.Facts.{ValuesHold, each_value, assigned_fact, fact_of_value, values_in_frames}
 use Rattle.hip_invariants.specs.Laws.LevelBounds.{const_within}
 use Rattle.hip_vol.specs.Bounds.{Bound, Rule, Register, Result, free, low, same_as, Assignment, bound_in}
 use Rattle.hip_vol.specs.Closed.{IsMet, IsClosedUnder}

@@ -31,7 +31,8 @@ BasesAreValid = (base : ℕ) → is_base base ≡ true → IsBase base
 -- a run has at most 2^40 turns and 1,048,576 numbers
 abbrev pub RunsAreValid : Type 0
 RunsAreValid =
-    (words : List Text) (program : Text) (limit : ℕ) (numbers : List ℤ) → order words ≡ Some (Run program limit numbers)
+    (words : List Text) (program : Text) (limit : ℕ) (numbers : List ℤ)
+    → order words ≡ Some (Run program limit numbers)
     → (limit ≤ MOST_TURNS) × (length numbers ≤ MOST_NUMBERS)
 
 -- so has one that is recorded, and its base is one

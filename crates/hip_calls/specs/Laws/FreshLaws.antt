@@ -26,7 +26,8 @@ number_from : ℕ → List ℕ → ℕ
 number_from a [] = a
 number_from a (d ∷ ds) = number_from (a * 10 + (d - 48)) ds
 
-number_from-push : (a : ℕ) (ds : List ℕ) (d : ℕ) → number_from a (ds ++ d ∷ []) ≡ number_from a ds * 10 + (d - 48)
+number_from-push : (a : ℕ) (ds : List ℕ) (d : ℕ)
+    → number_from a (ds ++ d ∷ []) ≡ number_from a ds * 10 + (d - 48)
 unfolding number_from
 number_from-push a [] d = refl
 number_from-push a (e ∷ ds) d = number_from-push (a * 10 + (e - 48)) ds d
@@ -37,7 +38,8 @@ unfolding number_from
 numeral-value zero n h = absurd (omega arith)
 numeral-value (suc fuel) n h = by_size (nat_lt n 10) refl (λ below. numeral-value fuel (n / 10) below)
   where
-    by_size : (b : Bool) → nat_lt n 10 ≡ b → (n / 10 < fuel → number_from 0 (numeral_in fuel (n / 10)) ≡ n / 10)
+    by_size : (b : Bool) → nat_lt n 10 ≡ b
+        → (n / 10 < fuel → number_from 0 (numeral_in fuel (n / 10)) ≡ n / 10)
         → number_from 0 (if b then (48 + n) ∷ [] else numeral_in fuel (n / 10) ++ (48 + n % 10) ∷ []) ≡ n
     by_size true t rest = omega arith
     by_size false t rest =
@@ -60,7 +62,8 @@ numeral_in-decimal (suc fuel) n h small = by_size (nat_lt n 10) refl (λ below. 
     by_size true t rest = let below : n < 10 = grind (arith, nat_tests) in sym (decimal_digit n below)
     by_size false t rest =
         let large : 10 ≤ n = grind (arith, nat_tests) in
-        ap (λ ds. ds ++ (48 + n % 10) ∷ []) (rest (omega arith) (omega arith)) ∙ sym (decimal_step_wide n large small)
+        ap (λ ds. ds ++ (48 + n % 10) ∷ []) (rest (omega arith) (omega arith))
+        ∙ sym (decimal_step_wide n large small)
 
 pub numeral-decimal : (n : ℕ) → n < 10 ^ 64 → numeral n ≡ decimal n
 numeral-decimal n small = numeral_in-decimal (suc n) n (omega arith) small
@@ -129,18 +132,21 @@ distinct-candidates_from name (suc n) k =
 -- where the name that is found is taken, all candidates up to it are
 all_taken : (taken : List (List ℕ)) (name : List ℕ) (more k : ℕ)
     → is_among taken (fresh_from taken name more k) ≡ true →
-    (q : List ℕ) → list_any (bytes_eq q) (candidates_from name (suc more) k) ≡ true → list_any (bytes_eq q) taken ≡ true
+    (q : List ℕ) → list_any (bytes_eq q) (candidates_from name (suc more) k) ≡ true
+    → list_any (bytes_eq q) taken ≡ true
 unfolding candidates_from
 all_taken taken name zero k e q h = by_test (bytes_eq q (candidate name k)) refl h
   where
-    by_test : (b : Bool) → bytes_eq q (candidate name k) ≡ b → (b || false) ≡ true → list_any (bytes_eq q) taken ≡ true
+    by_test : (b : Bool) → bytes_eq q (candidate name k) ≡ b → (b || false) ≡ true
+        → list_any (bytes_eq q) taken ≡ true
     by_test true t g = subst (λ n. is_among taken n ≡ true) (sym ((bytes_eq-Decides q (candidate name k)).0 t)) e
     by_test false t g = cc
 all_taken taken name (suc more) k e q h =
     by_free (is_among taken (candidate name k)) refl e (λ f g. all_taken taken name more (suc k) f q g)
   where
     by_test : is_among taken (candidate name k) ≡ true
-        → (list_any (bytes_eq q) (candidates_from name (suc more) (suc k)) ≡ true → list_any (bytes_eq q) taken ≡ true)
+        → (list_any (bytes_eq q) (candidates_from name (suc more) (suc k)) ≡ true
+        → list_any (bytes_eq q) taken ≡ true)
         → (b : Bool) → bytes_eq q (candidate name k) ≡ b
         → (b || list_any (bytes_eq q) (candidates_from name (suc more) (suc k))) ≡ true
         → list_any (bytes_eq q) taken ≡ true
@@ -160,7 +166,8 @@ all_taken taken name (suc more) k e q h =
 pub fresh-free : (taken : List (List ℕ)) (name : List ℕ) → is_among taken (fresh_name taken name) ≡ false
 fresh-free taken name = by_test (is_among taken (fresh_name taken name)) refl
   where
-    by_test : (b : Bool) → is_among taken (fresh_name taken name) ≡ b → is_among taken (fresh_name taken name) ≡ false
+    by_test : (b : Bool) → is_among taken (fresh_name taken name) ≡ b
+        → is_among taken (fresh_name taken name) ≡ false
     by_test true e =
         let count =
         length-le_from_is_member nat_list_eq_equiv (candidates_from name (suc (length taken)) 0) taken
@@ -216,7 +223,8 @@ not_later : (b c : Bool) → (b || c) ≡ false → (b ≡ false) × (c ≡ fals
 not_later true c e = cc
 not_later false c e = (refl, e)
 
-pub among_alike : (xs ys : List (List ℕ)) (x q : List ℕ) → is_among (xs ++ x ∷ ys) q ≡ is_among (x ∷ (xs ++ ys)) q
+pub among_alike : (xs ys : List (List ℕ)) (x q : List ℕ)
+    → is_among (xs ++ x ∷ ys) q ≡ is_among (x ∷ (xs ++ ys)) q
 among_alike xs ys x q =
     list_any-append (bytes_eq q) xs (x ∷ ys)
     ∙ moved (list_any (bytes_eq q) xs) (bytes_eq q x) (list_any (bytes_eq q) ys)
@@ -227,7 +235,8 @@ among_alike xs ys x q =
     moved true false c = refl
     moved false b c = refl
 
-pub first_alike : (xs ys : List (List ℕ)) (name fresh : List ℕ) → ((q : List ℕ) → is_among xs q ≡ is_among ys q)
+pub first_alike : (xs ys : List (List ℕ)) (name fresh : List ℕ)
+    → ((q : List ℕ) → is_among xs q ≡ is_among ys q)
     → IsFirstFree xs name fresh → IsFirstFree ys name fresh
 first_alike xs ys name fresh same f = record {
   number = f.number;
@@ -239,7 +248,8 @@ first_alike xs ys name fresh same f = record {
 -- each is the first candidate of its name that is not taken and is no earlier one
 pub fresh_for-first : (taken names : List (List ℕ)) (k : ℕ) (fresh : List ℕ)
     → slice_get (fresh_for taken names) k ≡ Some fresh →
-    (name : List ℕ) × (slice_get names k ≡ Some name) × IsFirstFree (take k (fresh_for taken names) ++ taken) name fresh
+    (name : List ℕ) × (slice_get names k ≡ Some name)
+    × IsFirstFree (take k (fresh_for taken names) ++ taken) name fresh
 fresh_for-first taken [] k fresh e = cc
 fresh_for-first taken (name ∷ names) zero fresh e =
     (name, refl, subst (IsFirstFree taken name) (same_Some _ _ e) (fresh-first taken name))
@@ -367,7 +377,8 @@ digits_go_on (suc fuel) n = by_size (nat_lt n 10) refl (digits_go_on fuel (n / 1
     one_digit d h = ap (λ b. b && true) (digit_goes_on d h)
 
     by_size : (b : Bool) → nat_lt n 10 ≡ b → list_all goes_on_name (numeral_in fuel (n / 10)) ≡ true
-        → list_all goes_on_name (if b then (48 + n) ∷ [] else numeral_in fuel (n / 10) ++ (48 + n % 10) ∷ []) ≡ true
+        → list_all goes_on_name (if b then (48 + n) ∷ [] else numeral_in fuel (n / 10) ++ (48 + n % 10) ∷ [])
+        ≡ true
     by_size true t rest = one_digit n (grind (arith, nat_tests))
     by_size false t rest =
         all_go_on (numeral_in fuel (n / 10)) ((48 + n % 10) ∷ []) rest (one_digit (n % 10) (omega arith))
@@ -377,7 +388,8 @@ longer_name : (name more : List ℕ) → is_name name ≡ true → list_all goes
 longer_name [] more e f = cc
 longer_name (b ∷ bs) more e f = by_first (begins_name b) e
   where
-    by_first : (t : Bool) → (t && list_all goes_on_name bs) ≡ true → (t && list_all goes_on_name (bs ++ more)) ≡ true
+    by_first : (t : Bool) → (t && list_all goes_on_name bs) ≡ true
+        → (t && list_all goes_on_name (bs ++ more)) ≡ true
     by_first true g = all_go_on bs more g f
     by_first false g = g
 

@@ -37,7 +37,8 @@ either_of false e = cc
 has_one : (q : ℕ) → Has (q ∷ []) q
 has_one q = ap (λ b. b || false) (nat_eq_equiv.refl q)
 
-flat-has : {A : Type 0} (f : A → List ℕ) (xs : List A) (k : ℕ) (x : A) (q : ℕ) → slice_get xs k ≡ Some x → Has (f x) q
+flat-has : {A : Type 0} (f : A → List ℕ) (xs : List A) (k : ℕ) (x : A) (q : ℕ) → slice_get xs k ≡ Some x
+    → Has (f x) q
     → Has (flat_map f xs) q
 flat-has f [] k x q e h = cc
 flat-has f (y ∷ xs) zero x q e h =
@@ -45,7 +46,8 @@ flat-has f (y ∷ xs) zero x q e h =
 flat-has f (y ∷ xs) (suc k) x q e h = any_back (nat_eq q) (f y) (flat_map f xs) (flat-has f xs k x q e h)
 
 flat-all : {A : Type 0} (f : A → List ℕ) (Q : ℕ → Type 0) → (xs : List A)
-    → ((k : ℕ) (x : A) (q : ℕ) → slice_get xs k ≡ Some x → Has (f x) q → Q q) → (q : ℕ) → Has (flat_map f xs) q → Q q
+    → ((k : ℕ) (x : A) (q : ℕ) → slice_get xs k ≡ Some x → Has (f x) q → Q q) → (q : ℕ)
+    → Has (flat_map f xs) q → Q q
 flat-all f Q [] each q h = cc
 flat-all f Q (x ∷ xs) each q h =
     ⊎_elim (λ front. each 0 x q refl front) (λ back. flat-all f Q xs (λ k y r e g. each (suc k) y r e g) q back)
@@ -140,7 +142,8 @@ reached-all P Q closed (suc steps) place seen all q h =
 
 -- the functions that stand before that place are gone through: what they call is in the list
 abbrev IsDone : Program → List ℕ → ℕ → Type 0
-IsDone P seen place = (k f q : ℕ) → k < place → slice_get seen k ≡ Some f → Has (called_from P f) q → Has seen q
+IsDone P seen place = (k f q : ℕ) → k < place → slice_get seen k ≡ Some f → Has (called_from P f) q
+    → Has seen q
 
 get_within : (xs : List ℕ) (k : ℕ) → k < length xs → (x : ℕ) × (slice_get xs k ≡ Some x)
 get_within [] k h = absurd (omega arith)

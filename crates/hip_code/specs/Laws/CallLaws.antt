@@ -27,7 +27,8 @@ use Rattle.hip_code.specs.declared.op.Control.TheVariants as controls
 use Rattle.hip_code.specs.declared.op.Op.TheVariants as ops
 
 module _ (P : Program) (I : Input) (f : ℕ) (tables : Tables) where
-  pub resolves_call : (dest : Option (List ℕ)) (ret : Option Scalar) (callee : List ℕ) (args : List Arg) (call : Call)
+  pub resolves_call : (dest : Option (List ℕ)) (ret : Option Scalar) (callee : List ℕ) (args : List Arg)
+      (call : Call)
       → call_of callee ≡ None → IsCall P I f tables call callee args dest →
       Resolves P I f tables (ops.Control (controls.Call call)) (instrs.Call dest ret callee args)
   unfolding instr_action entered
@@ -54,12 +55,14 @@ module _ (P : Program) (I : Input) (f : ℕ) (tables : Tables) where
               record { begins = c.begins; frame = c.frame; size = c.size; arguments = m.placed; result = r.placed };
           turn = ap (λ o. not (is_flush_or_fence o)) (sym defined);
           acts =
-              ap₂ (λ xs to. cond (nat_lt below (MOST_FRAMES - 1)) (Calls call.function xs to) (Traps traps.Depth)) moves
+              ap₂ (λ xs to. cond (nat_lt below (MOST_FRAMES - 1)) (Calls call.function xs to)
+              (Traps traps.Depth)) moves
               r.name_is
               ∙ sym (ap (λ o. call_action P I w below o callee vs dest) defined
               ∙ ap (λ o. cond (nat_lt below (MOST_FRAMES - 1)) (numbered_call P o vs dest) (Traps traps.Depth))
               c.numbered
-              ∙ ap (λ o. cond (nat_lt below (MOST_FRAMES - 1)) (bound_call o call.function vs dest) (Traps traps.Depth))
+              ∙ ap (λ o. cond (nat_lt below (MOST_FRAMES - 1)) (bound_call o call.function vs dest)
+              (Traps traps.Depth))
               c.here);
         };
     names = λ slots base rs h k.

@@ -63,8 +63,10 @@ module _ (P : Program) (I : Input) (f b : ℕ) (tables : Tables) where
           (entries_of e.edge.moves tables.moves) (phis_of (block_at P f e.edge.block)) e.moves in
           subst (EdgePlaced P f tables.moves) same (record { begins = e.begins; moved = m.placed })
 
-  edge_acts : (g : Frame) (slots : List ℕ) (base : ℕ) (number : ℕ) (label : List ℕ) → g.function ≡ f → g.block ≡ b
-      → HoldsFrame names slots base g.registers → KnowsPhis P f b g.registers → IsEdge P I f b tables number label →
+  edge_acts : (g : Frame) (slots : List ℕ) (base : ℕ) (number : ℕ) (label : List ℕ) → g.function ≡ f
+      → g.block ≡ b
+      → HoldsFrame names slots base g.registers → KnowsPhis P f b g.registers
+      → IsEdge P I f b tables number label →
       edge_action names (numbers_at tables slots base) g.registers (slice_get tables.edges number) ≡ jump P I g label
   unfolding jump
   edge_acts g slots base number label at_f at_b h known e =
@@ -82,7 +84,8 @@ module _ (P : Program) (I : Input) (f b : ℕ) (tables : Tables) where
       (phis_of (block_at P x e.edge.block)))) at_f at_b)
 
   -- a branch that takes the edge to a label
-  branches : (w : World) (below : ℕ) (g : Frame) (slots : List ℕ) (base : ℕ) (go : Go) (label : List ℕ) → g.function ≡ f
+  branches : (w : World) (below : ℕ) (g : Frame) (slots : List ℕ) (base : ℕ) (go : Go) (label : List ℕ)
+      → g.function ≡ f
       → g.block ≡ b → HoldsFrame names slots base g.registers → KnowsPhis P f b g.registers →
       GoWithin (numbers_at tables slots base) go
       → IsEdge P I f b tables (edge_taken (numbers_at tables slots base) go) label →
@@ -140,7 +143,8 @@ module _ (P : Program) (I : Input) (f b : ℕ) (tables : Tables) where
       (case_taken v cs ds other label a.2 e))
 
   cases_within : (slots : List ℕ) (base : ℕ) (rs : Registers) (cs : List Case) (ds : List named_case.Case)
-      → HoldsFrame names slots base rs → are_cases P I f b tables cs ds → CasesWithin (numbers_at tables slots base) cs
+      → HoldsFrame names slots base rs → are_cases P I f b tables cs ds
+      → CasesWithin (numbers_at tables slots base) cs
   cases_within slots base rs [] ds h a = record { at = λ k c e. absurd (let z : ⊥ = cc in z) }
   cases_within slots base rs (c ∷ cs) [] h a = absurd a
   cases_within slots base rs (c ∷ cs) (d ∷ ds) h a =

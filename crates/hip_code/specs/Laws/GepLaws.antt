@@ -35,7 +35,8 @@ use Rattle.hip_code.specs.declared.op.Term.{Term}
 use Rattle.hip_code.specs.declared.op.Value.TheVariants as values
 
 -- one more term
-terms_more : (n : Numbers) (t : Term) (ts : List Term) → is_within n t.index → TermsWithin n ts → TermsWithin n (t ∷ ts)
+terms_more : (n : Numbers) (t : Term) (ts : List Term) → is_within n t.index → TermsWithin n ts
+    → TermsWithin n (t ∷ ts)
 terms_more n t ts h r = record { at = go }
   where
     go : (k : ℕ) (x : Term) → slice_get (t ∷ ts) k ≡ Some x → is_within n x.index
@@ -188,7 +189,8 @@ module _ (P : Program) (I : Input) (f : ℕ) (tables : Tables) where
   pub resolves_scaled : (name : List ℕ) (dest : ℕ) (base : Operand) (x : named.Operand) (ty : Ty) (args : List Arg)
       (inbounds : Bool) (offset whole : ℕ) (term : Term) →
       number_of names_here name ≡ Some dest → stands_for base x
-      → IsGep P.globals I.base names_here tables.constants ty args whole (term ∷ []) → offset ≡ whole % 2 ^ 64 →
+      → IsGep P.globals I.base names_here tables.constants ty args whole (term ∷ [])
+      → offset ≡ whole % 2 ^ 64 →
       Resolves P I f tables (ops.Value dest (values.Gep (geps.Scaled base term.index term.width term.scale offset)))
       (instrs.Gep name inbounds ty x args)
   unfolding instr_action

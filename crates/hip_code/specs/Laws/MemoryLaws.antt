@@ -59,7 +59,8 @@ module _ (P : Program) (I : Input) (f : ℕ) (tables : Tables) where
   abbrev stands_for : Operand → named.Operand → Type 0
   stands_for o x = IsOperand P.globals I.base (names_at P f) tables.constants o x
 
-  pub resolves_load : (name : List ℕ) (dest : ℕ) (ty : Scalar) (align : Option ℕ) (a : Operand) (x : named.Operand) →
+  pub resolves_load : (name : List ℕ) (dest : ℕ) (ty : Scalar) (align : Option ℕ) (a : Operand)
+      (x : named.Operand) →
       0 < access_align ty align → number_of names name ≡ Some dest → stands_for a x →
       Resolves P I f tables (ops.Memory (memories.Load dest (width_of ty) (access_align ty align) a))
       (instrs.Load name ty x align)
@@ -108,7 +109,8 @@ module _ (P : Program) (I : Input) (f : ℕ) (tables : Tables) where
   }
 
   pub resolves_alloca : (name : List ℕ) (dest : ℕ) (ty : Ty) (written : Option ℕ) (size align : ℕ) →
-      size ≡ (shape ty).size → align ≡ (shape ty).align → 0 < align → align ≤ 8 → number_of names name ≡ Some dest →
+      size ≡ (shape ty).size → align ≡ (shape ty).align → 0 < align → align ≤ 8
+      → number_of names name ≡ Some dest →
       Resolves P I f tables (ops.Memory (memories.Effect (effects.Alloca dest size align)))
       (instrs.Alloca name ty written)
   unfolding instr_action
@@ -205,7 +207,8 @@ module _ (P : Program) (I : Input) (f : ℕ) (tables : Tables) where
   -- a call of an external function
   pub resolves_extern : (dest : Option (List ℕ)) (slot : Option ℕ) (ret : Option Scalar) (callee : List ℕ)
       (args : List Arg) (c : ExternCall) (a b : Operand) →
-      call_of callee ≡ Some c → is_result names slot dest → are_taken P.globals I.base names tables.constants c args a b
+      call_of callee ≡ Some c → is_result names slot dest
+      → are_taken P.globals I.base names tables.constants c args a b
       →
       Resolves P I f tables (ops.Memory (memories.Effect (extern_op c slot a b))) (instrs.Call dest ret callee args)
   unfolding instr_action
@@ -216,7 +219,8 @@ module _ (P : Program) (I : Input) (f : ℕ) (tables : Tables) where
           within = e.within;
           placed = e.placed;
           turn = e.turn ∙ ap (λ o. not (is_flush_or_fence o)) (sym is);
-          acts = e.acts ∙ ap (λ o. call_action P I w below o callee (values_of P.globals I.base rs args) dest) (sym is);
+          acts = e.acts ∙ ap (λ o. call_action P I w below o callee (values_of P.globals I.base rs args) dest)
+              (sym is);
         };
     names =
         λ slots base rs h k. record {

@@ -67,7 +67,8 @@ none_are : (n : Numbers) (base size : ℕ) (names : List (List ℕ)) → MovesAr
 none_are n base size names = record { read = read_none n; written = written_none base size; placed = placed_none names }
 
 more_are : (n : Numbers) (base size : ℕ) (names : List (List ℕ)) (m : Move) (ms : List Move) → is_within n m.value
-    → base + m.dest < size → IsSlot names m.dest → MovesAre n base size names ms → MovesAre n base size names (m ∷ ms)
+    → base + m.dest < size → IsSlot names m.dest → MovesAre n base size names ms
+    → MovesAre n base size names (m ∷ ms)
 more_are n base size names m ms r w p rest =
     record {
       read = read_more n m ms r rest.read;
@@ -76,7 +77,8 @@ more_are n base size names m ms r w p rest =
     }
 
 -- the slots from a base on hold the registers after moves
-pub holds_moved : (n : Numbers) (base : ℕ) (names : List (List ℕ)) (slots : List ℕ) (rs : Registers) (ms : List Move)
+pub holds_moved : (n : Numbers) (base : ℕ) (names : List (List ℕ)) (slots : List ℕ) (rs : Registers)
+    (ms : List Move)
     → MovesPlaced names ms → HoldsFrame names slots base rs →
     HoldsFrame names (put n base ms slots) base (moved names n ms rs)
 holds_moved n base names slots rs [] p h = h
@@ -107,7 +109,8 @@ from_edge globals region rs from (d ∷ es) x e = go (bytes_eq d.label from) e (
 
 -- the operand of an edge is one for control from its label
 known_edge : (rs : Registers) (from : List ℕ) (es : List Edge) (x : named.Operand)
-    → ((k : ℕ) (e : Edge) → slice_get es k ≡ Some e → e.label ≡ from → IsKnown rs e.value) → edge_from es from ≡ Some x
+    → ((k : ℕ) (e : Edge) → slice_get es k ≡ Some e → e.label ≡ from → IsKnown rs e.value)
+    → edge_from es from ≡ Some x
     → IsKnown rs x
 known_edge rs from [] x all e = absurd (let z : ⊥ = cc in z)
 known_edge rs from (d ∷ es) x all e =
@@ -135,7 +138,8 @@ module _ (globals : List GlobalVar) (region : ℕ) (names : List (List ℕ)) (n 
 
   -- the moves give what the phis give
   pub phis_move : (ms : List Move) (ps : List Phi) → are_moves globals region names n.tables.constants from ms ps →
-      ((j k : ℕ) (p : Phi) (e : Edge) → slice_get ps j ≡ Some p → slice_get p.edges k ≡ Some e → e.label ≡ from
+      ((j k : ℕ) (p : Phi) (e : Edge) → slice_get ps j ≡ Some p → slice_get p.edges k ≡ Some e
+      → e.label ≡ from
       → IsKnown rs e.value) →
       moved names n ms rs ≡ after_phis globals region rs from ps
   phis_move [] [] a known = refl

@@ -65,7 +65,8 @@ gives P I w below f n rs name dest value r d h reads e = record {
   acts = ap₂ gave (name_there (names_at P f) name dest d) e;
 }
 
-pub record ResultIs (names : List (List ℕ)) (n : Numbers) (slot : Option ℕ) (name : Option (List ℕ)) : Type 0 where
+pub record ResultIs (names : List (List ℕ)) (n : Numbers) (slot : Option ℕ)
+    (name : Option (List ℕ)) : Type 0 where
   pub name_is : result_name names slot ≡ name
   pub placed : result_placed names slot
   pub there : HasResult n slot

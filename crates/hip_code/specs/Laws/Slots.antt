@@ -31,13 +31,19 @@ one_name : (names : List (List ℕ)) (x y : List ℕ) (slot : ℕ) → number_of
 one_name names x y slot e f = sym (name_there names x slot e) ∙ name_there names y slot f
 
 -- a register takes a value, and its slot too
-pub holds_assigned : (names : List (List ℕ)) (slots : List ℕ) (base : ℕ) (rs : Registers) (name : List ℕ) (slot v : ℕ) →
+pub holds_assigned : (names : List (List ℕ)) (slots : List ℕ) (base : ℕ) (rs : Registers) (name : List ℕ)
+    (slot v : ℕ) →
     number_of names name ≡ Some slot → HoldsFrame names slots base rs
     → HoldsFrame names (slice_set slots (base + slot) v) base (assigned (Some name) v rs)
 holds_assigned names slots base rs name slot v e h =
-    record { room = subst (λ n. base + length names ≤ n) (sym (length-set slots (base + slot) v)) h.room; holds = here }
+    record {
+      room = subst (λ n. base + length names ≤ n) (sym (length-set slots (base + slot) v)) h.room;
+      holds =
+          here;
+    }
   where
-    other : (x : List ℕ) (k : ℕ) → number_of names x ≡ Some k → bytes_eq name x ≡ false → k ≡ slot → ⊥
+    other : (x : List ℕ) (k : ℕ) → number_of names x ≡ Some k → bytes_eq name x ≡ false → k ≡ slot
+        → ⊥
     other x k n t same =
         let q : name ≡ x = one_name names name x slot e (n ∙ ap Some same) in
         let yes = (bytes_eq-Decides name x).1 q in let z : ⊥ = cc in z
@@ -55,7 +61,8 @@ holds_assigned names slots base rs name slot v e h =
         let apart : base + k ≡ base + slot → ⊥ = λ z. other x k n t (omega (arith, z)) in
         get_or-set_other slots (base + slot) (base + k) v 0 apart ∙ h.holds x k n a
 
-    here : (x : List ℕ) (k : ℕ) → number_of names x ≡ Some k → is_assigned (assigned (Some name) v rs) x ≡ true
+    here : (x : List ℕ) (k : ℕ) → number_of names x ≡ Some k
+        → is_assigned (assigned (Some name) v rs) x ≡ true
         → slice_index (slice_set slots (base + slot) v) (base + k) ≡ look_up (assigned (Some name) v rs) x
     here x k n a = at_name (bytes_eq name x) x k refl n a
 

@@ -168,7 +168,8 @@ module _ (P : Program) (I : Input) (f : ℕ) (tables : Tables) where
     names = λ slots base rs h k. record { is = tt };
   }
 
-  pub resolves_compare : (name : List ℕ) (dest : ℕ) (pred : Pred) (ty : Scalar) (a b : Operand) (x y : named.Operand) →
+  pub resolves_compare : (name : List ℕ) (dest : ℕ) (pred : Pred) (ty : Scalar) (a b : Operand)
+      (x y : named.Operand) →
       number_of names name ≡ Some dest → stands_for a x → stands_for b y →
       Resolves P I f tables (ops.Value dest (values.Rest (compare_op pred (width_of ty) a b)))
       (instrs.Compare name pred ty x y)
@@ -207,7 +208,8 @@ module _ (P : Program) (I : Input) (f : ℕ) (tables : Tables) where
     names = λ slots base rs h k. record { is = tt };
   }
 
-  pub resolves_cast : (name : List ℕ) (dest : ℕ) (op : CastOp) (from to : Scalar) (a : Operand) (x : named.Operand) →
+  pub resolves_cast : (name : List ℕ) (dest : ℕ) (op : CastOp) (from to : Scalar) (a : Operand)
+      (x : named.Operand) →
       number_of names name ≡ Some dest → stands_for a x →
       Resolves P I f tables (ops.Value dest (values.Rest (cast_op op (width_of from) (width_of to) a)))
       (instrs.Cast name op from x to)

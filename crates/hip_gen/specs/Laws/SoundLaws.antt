@@ -57,7 +57,8 @@ use Rattle.hip_gen.specs.Laws.TextLaws.{generated_text-is}
 
 -- ---- types
 
-array_shape : (n : ℕ) → shape (array_of n) ≡ record { size = n * 8; align = 8; depth = 1; largest = max (n * 8) 8 }
+array_shape : (n : ℕ) → shape (array_of n)
+    ≡ record { size = n * 8; align = 8; depth = 1; largest = max (n * 8) 8 }
 array_shape n = shape-Array n (types.Int W64) ∙ ap (λ (e : Shape). shape_of_level (Ty-F.Array n e)) (shape-Int W64)
 
 array_fits : (n : ℕ) → n ≤ LARGEST_SIZE → Fits (array_of n)
@@ -102,10 +103,12 @@ int32_shape n =
     ) refl
 
 address_names : (name : List ℕ) → names_in (consts.Address name) ≡ name ∷ []
-address_names name = ap names_in (sym (consts.rolls-Address name)) ∙ fold-roll-Const _ _ _ _ _ _ (Const-F.Address name)
+address_names name = ap names_in (sym (consts.rolls-Address name))
+    ∙ fold-roll-Const _ _ _ _ _ _ (Const-F.Address name)
 
 address_types : (name : List ℕ) → types_in (consts.Address name) ≡ []
-address_types name = ap types_in (sym (consts.rolls-Address name)) ∙ fold-roll-Const _ _ _ _ _ _ (Const-F.Address name)
+address_types name = ap types_in (sym (consts.rolls-Address name))
+    ∙ fold-roll-Const _ _ _ _ _ _ (Const-F.Address name)
 
 address_shape : (name : List ℕ) → has_shape (consts.Address name) types.Ptr ≡ true
 address_shape name =
@@ -169,7 +172,8 @@ element_is name length index known small = record {
 -- ---- instructions of the groups
 
 -- what holds of the instructions of each group holds of all
-all_groups : (Q : Instr → Type 0) (seed size : ℕ) → ((group : ℕ) (k : Kind) → All Q (group_instrs size group k))
+all_groups : (Q : Instr → Type 0) (seed size : ℕ)
+    → ((group : ℕ) (k : Kind) → All Q (group_instrs size group k))
     → (n : ℕ) → All Q (instrs_before seed size n)
 all_groups Q seed size h zero = All-nil Q
 all_groups Q seed size h (suc n) =
@@ -179,7 +183,8 @@ all_groups Q seed size h (suc n) =
 -- what holds of the three instructions that there are holds of those of each group
 each_group : (Q : Instr → Type 0) (size : ℕ) → size ≤ LARGEST_SIZE
     → ((c : Const) (value : ℕ) → IsElement c → Q (store c value))
-    → ((c : Const) → IsElement c → Q (flush c)) → ((c : Const) (value : ℕ) → IsElement c → Q (put c value))
+    → ((c : Const) → IsElement c → Q (flush c))
+    → ((c : Const) (value : ℕ) → IsElement c → Q (put c value))
     → (group : ℕ) (k : Kind) → All Q (group_instrs size group k)
 each_group Q size small stores flushes puts group k = by_kind k
   where
@@ -238,7 +243,8 @@ module _ (size : ℕ) (small : size ≤ LARGEST_SIZE) (body : List Instr) where
   abbrev s : Scope
   s = scope_of P (define_main body)
 
-  store_holds : (c : Const) (value : ℕ) → IsElement c → (place : Place) → (instr_check s (store c value) place).Holds
+  store_holds : (c : Const) (value : ℕ) → IsElement c → (place : Place)
+      → (instr_check s (store c value) place).Holds
   store_holds c value e place = (
     rw (int_names (bits W64 value), e.named, e.known) refl,
     (
@@ -250,7 +256,8 @@ module _ (size : ℕ) (small : size ≤ LARGEST_SIZE) (body : List Instr) where
   flush_holds : (c : Const) → IsElement c → (place : Place) → (instr_check s (flush c) place).Holds
   flush_holds c e place = (rw (e.named, e.known) refl, (one_fits c e, rw e.points refl))
 
-  put_holds : (c : Const) (value : ℕ) → IsElement c → (place : Place) → (instr_check s (put c value) place).Holds
+  put_holds : (c : Const) (value : ℕ) → IsElement c → (place : Place)
+      → (instr_check s (put c value) place).Holds
   put_holds c value e place = (
     rw (e.named, int_names (bits W64 value), e.known) refl,
     (
@@ -331,7 +338,8 @@ module _ (size : ℕ) (small : size ≤ LARGEST_SIZE) (body : List Instr) where
 
   put_assigned : AllAssigned define_put 0
   put_assigned =
-      All-cons (UseIsAssigned define_put) (used (codes "v")) (used (codes "p") ∷ []) (λ path u. u.none (inr (inl refl)))
+      All-cons (UseIsAssigned define_put) (used (codes "v")) (used (codes "p") ∷ [])
+      (λ path u. u.none (inr (inl refl)))
       (All-cons (UseIsAssigned define_put) (used (codes "p")) [] (λ path u. u.none (inl refl))
       (All-nil (UseIsAssigned define_put)))
 
@@ -345,7 +353,8 @@ module _ (size : ℕ) (small : size ≤ LARGEST_SIZE) (body : List Instr) where
       })
   main_uses none (suc b) block at = cc
 
-  assigned_hold : All UsesNone body → (f : ℕ) (fn : Function) → slice_get P.functions f ≡ Some fn → AllAssigned fn f
+  assigned_hold : All UsesNone body → (f : ℕ) (fn : Function) → slice_get P.functions f ≡ Some fn
+      → AllAssigned fn f
   assigned_hold none zero fn at = subst (λ (g : Function). AllAssigned g 0) (same_Some _ _ at) put_assigned
   assigned_hold none (suc zero) fn at =
       subst (λ (g : Function). AllAssigned g 1) (same_Some _ _ at)

@@ -65,7 +65,8 @@ flush_spelled c h = rw h refl
 put_spelled : (c : Const) (value : ℕ) → spelled_pointer c ≡ true → spelled_instr (put c value) ≡ true
 put_spelled c value h = rw (h, number_spelled value) refl
 
-persistent_spelled : (size group : ℕ) → size ≤ LARGEST_SIZE → spelled_pointer (persistent_element size group) ≡ true
+persistent_spelled : (size group : ℕ) → size ≤ LARGEST_SIZE
+    → spelled_pointer (persistent_element size group) ≡ true
 persistent_spelled size group h = element_spelled (codes "data") size group refl (omega arith)
 
 volatile_spelled : (group : ℕ) → spelled_pointer (volatile_element group) ≡ true
@@ -85,7 +86,8 @@ group_spelled size group kinds.PersistentCall h =
 group_spelled size group kinds.VolatileCall h =
     rw (put_spelled (volatile_element group) (group + 1) (volatile_spelled group)) refl
 
-groups_spelled : (seed size n : ℕ) → size ≤ LARGEST_SIZE → list_all spelled_instr (instrs_before seed size n) ≡ true
+groups_spelled : (seed size n : ℕ) → size ≤ LARGEST_SIZE
+    → list_all spelled_instr (instrs_before seed size n) ≡ true
 groups_spelled seed size zero h = refl
 groups_spelled seed size (suc n) h =
     list_all-append spelled_instr (instrs_before seed size n) (group_instrs size n (kind seed n))
@@ -93,10 +95,12 @@ groups_spelled seed size (suc n) h =
 
 -- ---- programs
 
-block_spelled : (body : List Instr) → list_all spelled_instr body ≡ true → spelled_block (main_block body) ≡ true
+block_spelled : (body : List Instr) → list_all spelled_instr body ≡ true
+    → spelled_block (main_block body) ≡ true
 block_spelled body h = rw (h, out-Const-Int (bits W32 0)) refl
 
-global_spelled : (name : List ℕ) (length : ℕ) (persistent : Bool) → is_name name ≡ true → length ≤ LARGEST_COUNT
+global_spelled : (name : List ℕ) (length : ℕ) (persistent : Bool) → is_name name ≡ true
+    → length ≤ LARGEST_COUNT
     → spelled_global (zeroed_array name length persistent) ≡ true
 global_spelled name length persistent h small = rw (h, array_spelled length small, zero_spelled length) refl
 

@@ -39,7 +39,8 @@ zero_literal = literal-is 0 (omega arith) ∙ decimal_digit 0 (omega arith)
 
 int-is : (b : Bits) → const_text (consts.Int b) ≡ literal_text b
 int-is b =
-    ap const_text (sym (consts.rolls-Int b)) ∙ fold-roll-Const (List ℕ) (List ℕ) (List ℕ) const_step gep_step typed_step
+    ap const_text (sym (consts.rolls-Int b))
+    ∙ fold-roll-Const (List ℕ) (List ℕ) (List ℕ) const_step gep_step typed_step
     (Const-F.Int b)
 
 zero-is : const_text consts.Zero ≡ codes "zeroinitializer"
@@ -77,7 +78,8 @@ number-is n h = int-is (bits W64 n) ∙ literal-is n h
 
 element_joined : (d name e : List ℕ) → codes "getelementptr ("
     ++ ((codes "[" ++ (d ++ codes " x i64]"))
-    ++ (codes ", ptr " ++ ((codes "@" ++ name) ++ ((codes ", i64 0" ++ (codes ", i64 " ++ (e ++ []))) ++ codes ")")))) ≡
+    ++ (codes ", ptr " ++ ((codes "@" ++ name)
+    ++ ((codes ", i64 0" ++ (codes ", i64 " ++ (e ++ []))) ++ codes ")")))) ≡
     codes "getelementptr ([" ++ (d ++ (codes " x i64], ptr @" ++ (name ++ (codes ", i64 0, i64 " ++ (e ++ codes ")")))))
 element_joined d name e =
     ap (λ t. codes "getelementptr ([" ++ t) (append_assoc d (codes " x i64]") _
@@ -120,7 +122,8 @@ store_joined v e =
 store-is : (c : Const) (e : List ℕ) (value : ℕ) → value < 2 ^ 63 → const_text c ≡ e
     → line (store c value) ≡ store_line e value
 store-is c e value h is =
-    ap₂ (λ v t. codes "  " ++ ((codes "store " ++ (codes "i64" ++ (codes " " ++ (v ++ (codes ", ptr " ++ (t ++ []))))))
+    ap₂ (λ v t. codes "  " ++ ((codes "store "
+    ++ (codes "i64" ++ (codes " " ++ (v ++ (codes ", ptr " ++ (t ++ []))))))
     ++ codes "\n")) (number-is value h) is
     ∙ store_joined (decimal value) e
 
@@ -167,7 +170,8 @@ group-is size group kinds.PersistentCall h =
     append-nil _ ∙ put-is (element (codes "data") size group) _ (group + 1) (omega arith)
     (element-is (codes "data") size group (omega arith))
 group-is size group kinds.VolatileCall h =
-    append-nil _ ∙ put-is (element (codes "temp") VOLATILE_LENGTH (group % VOLATILE_LENGTH)) _ (group + 1) (omega arith)
+    append-nil _ ∙ put-is (element (codes "temp") VOLATILE_LENGTH (group % VOLATILE_LENGTH)) _ (group + 1)
+    (omega arith)
     (element-is (codes "temp") VOLATILE_LENGTH (group % VOLATILE_LENGTH) (omega arith))
 
 groups-are : (seed size : ℕ) (n : ℕ) → n ≤ LARGEST_SIZE
@@ -189,7 +193,8 @@ temp-is : global_text (zeroed_array (codes "temp") VOLATILE_LENGTH false)
     ≡ codes "@temp = global [8 x i64] zeroinitializer\n"
 temp-is =
     ap₂ (λ t z. codes "@temp = global " ++ (t ++ (codes " " ++ (z ++ codes "\n"))))
-    (array-is VOLATILE_LENGTH ∙ ap (λ d. codes "[" ++ (d ++ codes " x i64]")) (decimal_digit 8 (omega arith))) zero-is
+    (array-is VOLATILE_LENGTH ∙ ap (λ d. codes "[" ++ (d ++ codes " x i64]"))
+    (decimal_digit 8 (omega arith))) zero-is
 
 main-is : (body : List Instr) → function_text (define_main body) ≡ codes "define i32 @main() {\nentry:\n"
     ++ (((flat_map line body ++ codes "  ret i32 0\n") ++ []) ++ codes "}\n")
@@ -216,7 +221,8 @@ all_joined : (d groups : List ℕ) →
     ++ codes "@temp = global [8 x i64] zeroinitializer\n")
     ++ (codes
     "declare void @llvm.x86.clwb(ptr)\ndefine void @put(ptr %p, i64 %v) {\nentry:\n  store i64 %v, ptr %p\n  ret void\n}\n"
-    ++ ((codes "define i32 @main() {\nentry:\n" ++ (((groups ++ codes "  ret i32 0\n") ++ []) ++ codes "}\n")) ++ [])) ≡
+    ++ ((codes "define i32 @main() {\nentry:\n" ++ (((groups ++ codes "  ret i32 0\n") ++ []) ++ codes "}\n"))
+    ++ [])) ≡
     (codes "@data = global [" ++ (d ++ middle)) ++ (groups ++ last_lines)
 all_joined d groups =
     ap (λ t. codes "@data = global [" ++ t)

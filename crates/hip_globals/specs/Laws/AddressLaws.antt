@@ -27,7 +27,8 @@ written_divides n e = eqb-true (LARGEST_ALIGNMENT % n) 0 (and_parts (not (n == 0
 one_of : (m n : ℕ) → (max m n ≡ m) ⊎ (max m n ≡ n)
 one_of m n = grind arith
 
-greater_divides : (m n : ℕ) → LARGEST_ALIGNMENT % m ≡ 0 → LARGEST_ALIGNMENT % n ≡ 0 → LARGEST_ALIGNMENT % max m n ≡ 0
+greater_divides : (m n : ℕ) → LARGEST_ALIGNMENT % m ≡ 0 → LARGEST_ALIGNMENT % n ≡ 0
+    → LARGEST_ALIGNMENT % max m n ≡ 0
 greater_divides m n p q = go (one_of m n)
   where
     go : (max m n ≡ m) ⊎ (max m n ≡ n) → LARGEST_ALIGNMENT % max m n ≡ 0
@@ -68,7 +69,8 @@ rest_of_sum base x a e =
 
 page_of_base : (base a : ℕ) → base % BASE_ALIGNMENT ≡ 0 → LARGEST_ALIGNMENT % a ≡ 0 → base % a ≡ 0
 page_of_base base a page divides =
-    let whole : base ≡ base / BASE_ALIGNMENT * BASE_ALIGNMENT = omega (arith, mod-add-div' base BASE_ALIGNMENT, page) in
+    let whole : base ≡ base / BASE_ALIGNMENT * BASE_ALIGNMENT =
+    omega (arith, mod-add-div' base BASE_ALIGNMENT, page) in
     ap (λ n. n % a) whole ∙ times_multiple (base / BASE_ALIGNMENT) BASE_ALIGNMENT a divides
 
 next_from : (base x a : ℕ) → base % a ≡ 0 → next_multiple_of (base + x) a ≡ base + next_multiple_of x a
@@ -77,11 +79,13 @@ next_from base x a e =
     ap (λ r. base + x + (a - r) % a) rest ∙ (let assoc : base + x + (a - x % a) % a ≡ base
     + (x + (a - x % a) % a) = omega arith in assoc)
 
-start_from : (base at : ℕ) (g : GlobalVar) → base % BASE_ALIGNMENT ≡ 0 → LARGEST_ALIGNMENT % global_align g ≡ 0
+start_from : (base at : ℕ) (g : GlobalVar) → base % BASE_ALIGNMENT ≡ 0
+    → LARGEST_ALIGNMENT % global_align g ≡ 0
     → global_start (base + at) g ≡ base + global_start at g
 start_from base at g page divides = next_from base at (global_align g) (page_of_base base (global_align g) page divides)
 
-after : (b : Bool) (base at : ℕ) (g : GlobalVar) → base % BASE_ALIGNMENT ≡ 0 → LARGEST_ALIGNMENT % global_align g ≡ 0 →
+after : (b : Bool) (base at : ℕ) (g : GlobalVar) → base % BASE_ALIGNMENT ≡ 0
+    → LARGEST_ALIGNMENT % global_align g ≡ 0 →
     (if b then global_start (base + at) g + size_of g.ty else base + at) ≡ base
     + (if b then global_start at g + size_of g.ty else at)
 after true base at g page divides =
@@ -91,7 +95,8 @@ after true base at g page divides =
 after false base at g page divides = refl
 
 -- what lies from a base on lies from 0 on, moved by the base
-pub start_of-from : (persistent : Bool) (base at : ℕ) (gs : List GlobalVar) (number : ℕ) → base % BASE_ALIGNMENT ≡ 0
+pub start_of-from : (persistent : Bool) (base at : ℕ) (gs : List GlobalVar) (number : ℕ)
+    → base % BASE_ALIGNMENT ≡ 0
     → AllDivide gs → start_of persistent (base + at) gs number ≡ base + start_of persistent at gs number
 start_of-from persistent base at [] number page all = refl
 start_of-from persistent base at (g ∷ gs) zero page all = start_from base at g page all.0
@@ -100,7 +105,8 @@ start_of-from persistent base at (g ∷ gs) (suc number) page all =
     ∙ start_of-from persistent base (if same g.persistent persistent then global_start at g
     + size_of g.ty else at) gs number page all.1
 
-pub end_of-from : (persistent : Bool) (base at : ℕ) (gs : List GlobalVar) → base % BASE_ALIGNMENT ≡ 0 → AllDivide gs
+pub end_of-from : (persistent : Bool) (base at : ℕ) (gs : List GlobalVar) → base % BASE_ALIGNMENT ≡ 0
+    → AllDivide gs
     → end_of persistent (base + at) gs ≡ base + end_of persistent at gs
 end_of-from persistent base at [] page all = refl
 end_of-from persistent base at (g ∷ gs) page all =

@@ -12,17 +12,21 @@ use Rattle.hip_typing.specs.Paths.{LeadsTo, IsChain, IsPathTo, registers_before,
 use Rattle.hip_typing.specs.Registers.{assigned_by, phi_registers, body_registers, block_registers, parameter_registers}
 use Rattle.hip_typing.specs.declared.assigned.Point.{Point}
 use Rattle.hip_typing.specs.declared.assigned.Point.TheVariants.{Before, AtEnd}
-use Rattle.hip_invariants.specs.Laws.RegisterNames.{named_either, named_left, named_right}
+use Rattle.hip_invariants.specs.Laws.Registers.Names.{named_either, named_left, named_right}
 
 -- ---- one instruction more
 
-taken_more : (body : List Instr) (k : ℕ) (i : Instr) (q : List ℕ) → slice_get body k ≡ Some i → IsAmong (names_of (body_registers (take (suc k) body))) q → IsAmong (names_of (body_registers (take k body))) q ⊎ IsAmong (names_of (assigned_by i)) q
+taken_more : (body : List Instr) (k : ℕ) (i : Instr) (q : List ℕ) → slice_get body k ≡ Some i
+    → IsAmong (names_of (body_registers (take (suc k) body))) q
+    → IsAmong (names_of (body_registers (take k body))) q ⊎ IsAmong (names_of (assigned_by i)) q
 taken_more [] k i q e h = cc
 taken_more (x ∷ xs) zero i q e h =
-    ⊎_elim (λ l. inr (subst (λ (z : Instr). IsAmong (names_of (assigned_by z)) q) (same_Some x i e) l)) (λ r. absurd r) (named_either (assigned_by x) [] q h)
+    ⊎_elim (λ l. inr (subst (λ (z : Instr). IsAmong (names_of (assigned_by z)) q) (same_Some x i e) l))
+    (λ r. absurd r) (named_either (assigned_by x) [] q h)
 taken_more (x ∷ xs) (suc k) i q e h =
     ⊎_elim (λ l. inl (named_left (assigned_by x) (body_registers (take k xs)) q l))
-    (λ r. ⊎_elim (λ l. inl (named_right (assigned_by x) (body_registers (take k xs)) q l)) (λ o. inr o) (taken_more xs k i q e r))
+    (λ r. ⊎_elim (λ l. inl (named_right (assigned_by x) (body_registers (take k xs)) q l)) (λ o. inr o)
+    (taken_more xs k i q e r))
     (named_either (assigned_by x) (body_registers (take (suc k) xs)) q h)
 
 pub taken_all : {A : Type 0} (xs : List A) (k : ℕ) → drop k xs ≡ [] → take k xs ≡ xs
@@ -33,78 +37,115 @@ taken_all (x ∷ xs) (suc k) e = ap (λ ys. x ∷ ys) (taken_all xs k e)
 
 module _ (fn : Function) where
   -- what is assigned in the last block of a path
-  before_is : (point : Point) (b : ℕ) (block : Block) → slice_get fn.blocks b ≡ Some block → names_before fn point b ≡ names_of (registers_before point block)
-  before_is point b block at = ap (λ o. unwrap_or (option_map (λ (x : Block). names_of (registers_before point x)) o) []) at
+  before_is : (point : Point) (b : ℕ) (block : Block) → slice_get fn.blocks b ≡ Some block
+      → names_before fn point b ≡ names_of (registers_before point block)
+  before_is point b block at = ap (λ o. unwrap_or
+      (option_map (λ (x : Block). names_of (registers_before point x)) o) []) at
 
-  whole_is : (b : ℕ) (block : Block) → slice_get fn.blocks b ≡ Some block → whole_block_names fn b ≡ names_of (block_registers block)
+  whole_is : (b : ℕ) (block : Block) → slice_get fn.blocks b ≡ Some block
+      → whole_block_names fn b ≡ names_of (block_registers block)
   whole_is b block at = ap (λ o. unwrap_or (option_map (λ (x : Block). names_of (block_registers x)) o) []) at
 
   -- a name that is assigned on a path: on the way to the block, or in it
-  pub on_path : (earlier : List ℕ) (b : ℕ) (block : Block) (point : Point) (q : List ℕ) → slice_get fn.blocks b ≡ Some block → IsAmong (assigned_on fn earlier b point) q →
-      IsAmong (names_of (parameter_registers fn)) q ⊎ (IsAmong (flat_map (whole_block_names fn) earlier) q ⊎ IsAmong (names_of (registers_before point block)) q)
+  pub on_path : (earlier : List ℕ) (b : ℕ) (block : Block) (point : Point) (q : List ℕ)
+      → slice_get fn.blocks b ≡ Some block → IsAmong (assigned_on fn earlier b point) q →
+      IsAmong (names_of (parameter_registers fn)) q
+      ⊎ (IsAmong (flat_map (whole_block_names fn) earlier) q
+      ⊎ IsAmong (names_of (registers_before point block)) q)
   on_path earlier b block point q at h =
       ⊎_elim (λ l. inl l)
-      (λ r. inr (⊎_elim (λ l. inl l) (λ m. inr (subst (λ ns. IsAmong ns q) (before_is point b block at) m)) (among-either (flat_map (whole_block_names fn) earlier) (names_before fn point b) q r)))
-      (among-either (names_of (parameter_registers fn)) (flat_map (whole_block_names fn) earlier ++ names_before fn point b) q h)
+      (λ r. inr (⊎_elim (λ l. inl l) (λ m. inr (subst (λ ns. IsAmong ns q) (before_is point b block at) m))
+      (among-either (flat_map (whole_block_names fn) earlier) (names_before fn point b) q r)))
+      (among-either (names_of (parameter_registers fn))
+      (flat_map (whole_block_names fn) earlier ++ names_before fn point b) q h)
 
-  pub by_parameter : (earlier : List ℕ) (b : ℕ) (point : Point) (q : List ℕ) → IsAmong (names_of (parameter_registers fn)) q → IsAmong (assigned_on fn earlier b point) q
+  pub by_parameter : (earlier : List ℕ) (b : ℕ) (point : Point) (q : List ℕ)
+      → IsAmong (names_of (parameter_registers fn)) q → IsAmong (assigned_on fn earlier b point) q
   by_parameter earlier b point q h = among-left (names_of (parameter_registers fn)) _ q h
 
-  pub by_block : (earlier : List ℕ) (b : ℕ) (point : Point) (q : List ℕ) → IsAmong (flat_map (whole_block_names fn) earlier) q → IsAmong (assigned_on fn earlier b point) q
-  by_block earlier b point q h = among-right (names_of (parameter_registers fn)) _ q (among-left (flat_map (whole_block_names fn) earlier) (names_before fn point b) q h)
+  pub by_block : (earlier : List ℕ) (b : ℕ) (point : Point) (q : List ℕ)
+      → IsAmong (flat_map (whole_block_names fn) earlier) q → IsAmong (assigned_on fn earlier b point) q
+  by_block earlier b point q h = among-right (names_of (parameter_registers fn)) _ q
+      (among-left (flat_map (whole_block_names fn) earlier) (names_before fn point b) q h)
 
-  pub by_last : (earlier : List ℕ) (b : ℕ) (block : Block) (point : Point) (q : List ℕ) → slice_get fn.blocks b ≡ Some block → IsAmong (names_of (registers_before point block)) q → IsAmong (assigned_on fn earlier b point) q
+  pub by_last : (earlier : List ℕ) (b : ℕ) (block : Block) (point : Point) (q : List ℕ)
+      → slice_get fn.blocks b ≡ Some block → IsAmong (names_of (registers_before point block)) q
+      → IsAmong (assigned_on fn earlier b point) q
   by_last earlier b block point q at h =
-      among-right (names_of (parameter_registers fn)) _ q (among-right (flat_map (whole_block_names fn) earlier) (names_before fn point b) q (subst (λ ns. IsAmong ns q) (sym (before_is point b block at)) h))
+      among-right (names_of (parameter_registers fn)) _ q
+      (among-right (flat_map (whole_block_names fn) earlier) (names_before fn point b) q
+      (subst (λ ns. IsAmong ns q) (sym (before_is point b block at)) h))
 
   -- behind an instruction
-  pub behind : (earlier : List ℕ) (b k : ℕ) (block : Block) (i : Instr) (q : List ℕ) → slice_get fn.blocks b ≡ Some block → slice_get block.body k ≡ Some i →
-      IsAmong (assigned_on fn earlier b (Before (suc k))) q → IsAmong (assigned_on fn earlier b (Before k)) q ⊎ IsAmong (names_of (assigned_by i)) q
+  pub behind : (earlier : List ℕ) (b k : ℕ) (block : Block) (i : Instr) (q : List ℕ)
+      → slice_get fn.blocks b ≡ Some block → slice_get block.body k ≡ Some i →
+      IsAmong (assigned_on fn earlier b (Before (suc k))) q → IsAmong (assigned_on fn earlier b (Before k)) q
+      ⊎ IsAmong (names_of (assigned_by i)) q
   behind earlier b k block i q at e h =
       ⊎_elim (λ l. inl (by_parameter earlier b (Before k) q l))
       (λ r. ⊎_elim (λ l. inl (by_block earlier b (Before k) q l))
-      (λ m. ⊎_elim (λ l. inl (by_last earlier b block (Before k) q at (named_left (phi_registers block.phis) (body_registers (take k block.body)) q l)))
-      (λ n. ⊎_elim (λ l. inl (by_last earlier b block (Before k) q at (named_right (phi_registers block.phis) (body_registers (take k block.body)) q l))) (λ o. inr o) (taken_more block.body k i q e n))
-      (named_either (phi_registers block.phis) (body_registers (take (suc k) block.body)) q m)) r) (on_path earlier b block (Before (suc k)) q at h)
+      (λ m. ⊎_elim (λ l. inl (by_last earlier b block (Before k) q at
+      (named_left (phi_registers block.phis) (body_registers (take k block.body)) q l)))
+      (λ n. ⊎_elim (λ l. inl (by_last earlier b block (Before k) q at
+      (named_right (phi_registers block.phis) (body_registers (take k block.body)) q l))) (λ o. inr o)
+      (taken_more block.body k i q e n))
+      (named_either (phi_registers block.phis) (body_registers (take (suc k) block.body)) q m)) r)
+      (on_path earlier b block (Before (suc k)) q at h)
 
   -- at the end of a block is where all instructions are behind
-  pub at_end : (earlier : List ℕ) (b k : ℕ) (block : Block) (q : List ℕ) → slice_get fn.blocks b ≡ Some block → drop k block.body ≡ [] → IsAmong (assigned_on fn earlier b AtEnd) q → IsAmong (assigned_on fn earlier b (Before k)) q
+  pub at_end : (earlier : List ℕ) (b k : ℕ) (block : Block) (q : List ℕ) → slice_get fn.blocks b ≡ Some block
+      → drop k block.body ≡ [] → IsAmong (assigned_on fn earlier b AtEnd) q
+      → IsAmong (assigned_on fn earlier b (Before k)) q
   at_end earlier b k block q at e h =
       ⊎_elim (λ l. by_parameter earlier b (Before k) q l)
       (λ r. ⊎_elim (λ l. by_block earlier b (Before k) q l)
-      (λ m. by_last earlier b block (Before k) q at (subst (λ (is : List Instr). IsAmong (names_of (phi_registers block.phis ++ body_registers is)) q) (sym (taken_all block.body k e)) m)) r) (on_path earlier b block AtEnd q at h)
+      (λ m. by_last earlier b block (Before k) q at
+      (subst (λ (is : List Instr). IsAmong (names_of (phi_registers block.phis ++ body_registers is)) q)
+      (sym (taken_all block.body k e)) m)) r) (on_path earlier b block AtEnd q at h)
 
-  blocks_more : (earlier : List ℕ) (b : ℕ) (q : List ℕ) → IsAmong (flat_map (whole_block_names fn) (earlier ++ b ∷ [])) q → IsAmong (flat_map (whole_block_names fn) earlier) q ⊎ IsAmong (whole_block_names fn b) q
+  blocks_more : (earlier : List ℕ) (b : ℕ) (q : List ℕ)
+      → IsAmong (flat_map (whole_block_names fn) (earlier ++ b ∷ [])) q
+      → IsAmong (flat_map (whole_block_names fn) earlier) q ⊎ IsAmong (whole_block_names fn b) q
   blocks_more [] b q h = ⊎_elim (λ l. inr l) (λ r. absurd r) (among-either (whole_block_names fn b) [] q h)
   blocks_more (c ∷ cs) b q h =
       ⊎_elim (λ l. inl (among-left (whole_block_names fn c) (flat_map (whole_block_names fn) cs) q l))
-      (λ r. ⊎_elim (λ l. inl (among-right (whole_block_names fn c) (flat_map (whole_block_names fn) cs) q l)) (λ o. inr o) (blocks_more cs b q r))
+      (λ r. ⊎_elim (λ l. inl (among-right (whole_block_names fn c) (flat_map (whole_block_names fn) cs) q l))
+      (λ o. inr o) (blocks_more cs b q r))
       (among-either (whole_block_names fn c) (flat_map (whole_block_names fn) (cs ++ b ∷ [])) q h)
 
   -- in the block that control goes to: on the way to the end of the block before it, or by a phi
-  pub over_edge : (earlier : List ℕ) (b c : ℕ) (block to : Block) (q : List ℕ) → slice_get fn.blocks b ≡ Some block → slice_get fn.blocks c ≡ Some to →
-      IsAmong (assigned_on fn (earlier ++ b ∷ []) c (Before 0)) q → IsAmong (assigned_on fn earlier b AtEnd) q ⊎ IsAmong (names_of (phi_registers to.phis)) q
+  pub over_edge : (earlier : List ℕ) (b c : ℕ) (block to : Block) (q : List ℕ)
+      → slice_get fn.blocks b ≡ Some block → slice_get fn.blocks c ≡ Some to →
+      IsAmong (assigned_on fn (earlier ++ b ∷ []) c (Before 0)) q → IsAmong (assigned_on fn earlier b AtEnd) q
+      ⊎ IsAmong (names_of (phi_registers to.phis)) q
   over_edge earlier b c block to q at there h =
       ⊎_elim (λ l. inl (by_parameter earlier b AtEnd q l))
       (λ r. ⊎_elim
-      (λ l. inl (⊎_elim (λ m. by_block earlier b AtEnd q m) (λ n. by_last earlier b block AtEnd q at (subst (λ ns. IsAmong ns q) (whole_is b block at) n)) (blocks_more earlier b q l)))
-      (λ m. ⊎_elim (λ p. inr p) (λ none. none_taken to.body none) (named_either (phi_registers to.phis) (body_registers (take 0 to.body)) q m)) r)
+      (λ l. inl (⊎_elim (λ m. by_block earlier b AtEnd q m)
+      (λ n. by_last earlier b block AtEnd q at (subst (λ ns. IsAmong ns q) (whole_is b block at) n))
+      (blocks_more earlier b q l)))
+      (λ m. ⊎_elim (λ p. inr p) (λ none. none_taken to.body none)
+      (named_either (phi_registers to.phis) (body_registers (take 0 to.body)) q m)) r)
       (on_path (earlier ++ b ∷ []) c to (Before 0) q there h)
     where
-      none_taken : (body : List Instr) → IsAmong (names_of (body_registers (take 0 body))) q → IsAmong (assigned_on fn earlier b AtEnd) q ⊎ IsAmong (names_of (phi_registers to.phis)) q
+      none_taken : (body : List Instr) → IsAmong (names_of (body_registers (take 0 body))) q
+          → IsAmong (assigned_on fn earlier b AtEnd) q ⊎ IsAmong (names_of (phi_registers to.phis)) q
       none_taken [] h = absurd h
       none_taken (i ∷ is) h = absurd h
 
   -- ---- paths that go on
 
-  chain_more : (x : ℕ) (blocks before : List ℕ) (last c : ℕ) → x ∷ blocks ≡ before ++ last ∷ [] → IsChain fn x blocks → LeadsTo fn last c → IsChain fn x (blocks ++ c ∷ [])
+  chain_more : (x : ℕ) (blocks before : List ℕ) (last c : ℕ) → x ∷ blocks ≡ before ++ last ∷ []
+      → IsChain fn x blocks → LeadsTo fn last c → IsChain fn x (blocks ++ c ∷ [])
   chain_more x [] [] last c e chain leads = let same : last ≡ x = cc in (subst (λ n. LeadsTo fn n c) same leads, tt)
   chain_more x [] (p ∷ []) last c e chain leads = cc
   chain_more x [] (p ∷ (q ∷ ps)) last c e chain leads = cc
   chain_more x (y ∷ ys) [] last c e chain leads = cc
-  chain_more x (y ∷ ys) (p ∷ ps) last c e chain leads = let rest : y ∷ ys ≡ ps ++ last ∷ [] = cc in (chain.0, chain_more y ys ps last c rest chain.1 leads)
+  chain_more x (y ∷ ys) (p ∷ ps) last c e chain leads = let rest : y ∷ ys ≡ ps ++ last ∷ [] = cc in
+      (chain.0, chain_more y ys ps last c rest chain.1 leads)
 
-  pub path_more : (earlier : List ℕ) (b c : ℕ) → IsPathTo fn (earlier ++ b ∷ []) b → LeadsTo fn b c → IsPathTo fn ((earlier ++ b ∷ []) ++ c ∷ []) c
+  pub path_more : (earlier : List ℕ) (b c : ℕ) → IsPathTo fn (earlier ++ b ∷ []) b → LeadsTo fn b c
+      → IsPathTo fn ((earlier ++ b ∷ []) ++ c ∷ []) c
   path_more earlier b c path leads = record {
     blocks = path.blocks ++ c ∷ [];
     is = ap (λ bs. bs ++ c ∷ []) path.is;

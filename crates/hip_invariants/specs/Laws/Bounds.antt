@@ -21,12 +21,14 @@ use Rattle.hip_invariants.specs.Laws.Places.{first_frame}
 
 -- ---- a step is counted
 
-leave_counts : (v : ℕ) (w : World) (f : Frame) (fs : List Frame) (ls : List (Line StorePart)) (after : Counts) → (leave v w f fs ls after).counts ≡ after
+leave_counts : (v : ℕ) (w : World) (f : Frame) (fs : List Frame) (ls : List (Line StorePart)) (after : Counts)
+    → (leave v w f fs ls after).counts ≡ after
 unfolding leave
 leave_counts v w f [] ls after = refl
 leave_counts v w f (g ∷ fs) ls after = refl
 
-perform_counts : (I : Input) (w : World) (f : Frame) (fs : List Frame) (ls : List (Line StorePart)) (before after : Counts) (x : Action) → (perform I w f fs ls before after x).counts ≡ after
+perform_counts : (I : Input) (w : World) (f : Frame) (fs : List Frame) (ls : List (Line StorePart))
+    (before after : Counts) (x : Action) → (perform I w f fs ls before after x).counts ≡ after
 unfolding perform
 perform_counts I w f fs ls before after (Traps kind) = refl
 perform_counts I w f fs ls before after (Assigns dest v) = refl
@@ -42,20 +44,25 @@ perform_counts I w f fs ls before after (Calls g registers dest) = refl
 perform_counts I w f fs ls before after (Jumps b registers) = refl
 perform_counts I w f fs ls before after (Returns v) = leave_counts v w f fs ls after
 
-carry_out_counts : (I : Input) (w : World) (f : Frame) (fs : List Frame) (ls : List (Line StorePart)) (before after : Counts) (d : Deed) → (carry_out I w f fs ls before after d).counts ≡ after
+carry_out_counts : (I : Input) (w : World) (f : Frame) (fs : List Frame) (ls : List (Line StorePart))
+    (before after : Counts) (d : Deed) → (carry_out I w f fs ls before after d).counts ≡ after
 unfolding carry_out
 carry_out_counts I w f fs ls before after d = go (is_cut I w d)
   where
-    go : (b : Bool) → (cond b (stop Cut w (f ∷ fs) ls after) (perform I (cond d.turn (with_turn w) w) f fs ls before after d.action)).counts ≡ after
+    go : (b : Bool) → (cond b (stop Cut w (f ∷ fs) ls after)
+        (perform I (cond d.turn (with_turn w) w) f fs ls before after d.action)).counts ≡ after
     go true = refl
     go false = perform_counts I (cond d.turn (with_turn w) w) f fs ls before after d.action
 
 module _ (P : Program) (I : Input) where
-  step_counts : (s : State) (f : Frame) (fs : List Frame) → s.world.ending ≡ None → s.frames ≡ f ∷ fs → (step P I s).counts ≡ counted (event_at I s.world fs (deed_at P I s.world f fs)) s.counts
+  step_counts : (s : State) (f : Frame) (fs : List Frame) → s.world.ending ≡ None → s.frames ≡ f ∷ fs
+      → (step P I s).counts ≡ counted (event_at I s.world fs (deed_at P I s.world f fs)) s.counts
   unfolding step on_ending on_frames
   step_counts s f fs going frames =
-      ap (λ o. (on_ending P I s o).counts) going ∙ ap (λ gs. (on_frames P I s.world s.lines s.counts gs).counts) frames
-      ∙ carry_out_counts I s.world f fs s.lines s.counts (counted (event_at I s.world fs (deed_at P I s.world f fs)) s.counts) (deed_at P I s.world f fs)
+      ap (λ o. (on_ending P I s o).counts) going
+      ∙ ap (λ gs. (on_frames P I s.world s.lines s.counts gs).counts) frames
+      ∙ carry_out_counts I s.world f fs s.lines s.counts
+      (counted (event_at I s.world fs (deed_at P I s.world f fs)) s.counts) (deed_at P I s.world f fs)
 
   step_ended : (s : State) (e : Ending) → s.world.ending ≡ Some e → step P I s ≡ s
   unfolding step on_ending
@@ -75,25 +82,36 @@ module _ (P : Program) (I : Input) where
   record IsWithin (n turns : ℕ) (fs : List Frame) : Type 0 where
     is : n + steps_left P I turns (code_left fs) ≤ most
 
-  within_next : (n turns : ℕ) (f : Frame) (fs : List Frame) (s : State) → s.world.ending ≡ None → IsWithin n turns (f ∷ fs) → Goes P I turns (length (code_at P f)) s → IsWithin (suc n) s.world.turns s.frames
-  within_next n turns f fs s going w (ended h) = absurd (let no : false ≡ true = sym (ap is_some going) ∙ h in let z : ⊥ = cc in z)
+  within_next : (n turns : ℕ) (f : Frame) (fs : List Frame) (s : State) → s.world.ending ≡ None
+      → IsWithin n turns (f ∷ fs) → Goes P I turns (length (code_at P f)) s
+      → IsWithin (suc n) s.world.turns s.frames
+  within_next n turns f fs s going w (ended h) =
+      absurd (let no : false ≡ true = sym (ap is_some going) ∙ h in let z : ⊥ = cc in z)
   within_next n turns f fs s going w (turned g gs frames t below) =
       subst (λ m. IsWithin (suc n) m s.frames) (sym t) (subst (IsWithin (suc n) (suc turns)) (sym frames)
       (record { is = omega (arith, w.is, more_turns I.limit turns (longest P) below, code_short P g) }))
   within_next n turns f fs s going w (moved g gs frames t l) =
-      subst (λ m. IsWithin (suc n) m s.frames) (sym t) (subst (IsWithin (suc n) turns) (sym frames) (record { is = omega (arith, w.is, l) }))
+      subst (λ m. IsWithin (suc n) m s.frames) (sym t)
+      (subst (IsWithin (suc n) turns) (sym frames) (record { is = omega (arith, w.is, l) }))
 
   -- while the run goes on
   within_run : (n : ℕ) → (run P I n).world.ending ≡ None → IsWithin n (run P I n).world.turns (run P I n).frames
   unfolding run
-  within_run zero e = record { is = let none : I.limit - 0 ≡ I.limit = omega arith in rw none (omega (arith, code_short P (start_frame (main_number P)))) }
+  within_run zero e = record {
+    is = let none : I.limit - 0 ≡ I.limit = omega arith in
+        rw none (omega (arith, code_short P (start_frame (main_number P))));
+  }
   within_run (suc n) e = later (run P I n).world.ending refl (λ g. within_run n g)
     where
-      later : (o : Option Ending) → (run P I n).world.ending ≡ o → ((run P I n).world.ending ≡ None → IsWithin n (run P I n).world.turns (run P I n).frames) → IsWithin (suc n) (step P I (run P I n)).world.turns (step P I (run P I n)).frames
-      later (Some x) q before = absurd (let no : Some x ≡ None = sym q ∙ sym (ap (λ (s : State). s.world.ending) (step_ended (run P I n) x q)) ∙ e in let z : ⊥ = cc in z)
+      later : (o : Option Ending) → (run P I n).world.ending ≡ o
+          → ((run P I n).world.ending ≡ None → IsWithin n (run P I n).world.turns (run P I n).frames)
+          → IsWithin (suc n) (step P I (run P I n)).world.turns (step P I (run P I n)).frames
+      later (Some x) q before = absurd (let no : Some x ≡ None = sym q
+          ∙ sym (ap (λ (s : State). s.world.ending) (step_ended (run P I n) x q)) ∙ e in let z : ⊥ = cc in z)
       later None q before =
           let top = first_frame (run P I n).frames (standing-frame P I n) in
-          within_next n (run P I n).world.turns top.0 top.1 (step P I (run P I n)) e (subst (IsWithin n (run P I n).world.turns) top.2 (before q)) (next_goes P I n top.0 top.1 q top.2)
+          within_next n (run P I n).world.turns top.0 top.1 (step P I (run P I n)) e
+          (subst (IsWithin n (run P I n).world.turns) top.2 (before q)) (next_goes P I n top.0 top.1 q top.2)
 
   -- ---- the counts
 
@@ -110,7 +128,8 @@ module _ (P : Program) (I : Input) where
   counts_bounded zero = record { steps = omega arith; entries = omega arith }
   counts_bounded (suc n) = later (run P I n).world.ending refl (counts_bounded n)
     where
-      later : (o : Option Ending) → (run P I n).world.ending ≡ o → AreBounded (run P I n).counts → AreBounded (step P I (run P I n)).counts
+      later : (o : Option Ending) → (run P I n).world.ending ≡ o → AreBounded (run P I n).counts
+          → AreBounded (step P I (run P I n)).counts
       later (Some x) q before = subst (λ (s : State). AreBounded s.counts) (sym (step_ended (run P I n) x q)) before
       later None q before =
           let top = first_frame (run P I n).frames (standing-frame P I n) in
@@ -133,12 +152,19 @@ module _ (P : Program) (I : Input) where
   pub run_bounded : (n : ℕ) → IsBounded P I n
   run_bounded n =
       let counts = counts_bounded n in
-      record { steps = counts.steps; entries = counts.entries; header = omega (arith, lines_few (length I.image / 64) I.image) }
+      record {
+        steps = counts.steps;
+        entries = counts.entries;
+        header =
+            omega (arith, lines_few (length I.image / 64) I.image);
+      }
 
   pub counts_fit : IsSound P → IsValid P I → longest P < 2 ^ 64 → (n : ℕ) → CountsFit P I n
   counts_fit sound valid short n =
       let bounded = run_bounded n in
-      let product : suc I.limit * suc (longest P) ≤ suc (2 ^ 40) * 2 ^ 64 = mul-le (suc I.limit) (suc (longest P)) (suc (2 ^ 40)) (2 ^ 64) (omega (arith, valid.limit)) (omega (arith, short)) in
+      let product : suc I.limit * suc (longest P) ≤ suc (2 ^ 40) * 2 ^ 64 =
+      mul-le (suc I.limit) (suc (longest P)) (suc (2 ^ 40)) (2 ^ 64) (omega (arith, valid.limit))
+      (omega (arith, short)) in
       let image : length I.image ≤ 67108864 = omega (arith, valid.image, sound.sizes.region) in
       record {
         steps = omega (arith, bounded.steps, product);

@@ -13,9 +13,14 @@ use Rattle.hip_typing.specs.Numbering.{function_names}
 use Rattle.hip_typing.specs.Sound.{IsSound, IsFree}
 
 -- no function has a name of the table
-pub function_free : (P : Program) (s : IsSound P) (callee : List ℕ) (ret : Option Scalar) (args : List Arg) → CallsFunction P callee ret args → call_of callee ≡ None
+pub function_free : (P : Program) (s : IsSound P) (callee : List ℕ) (ret : Option Scalar) (args : List Arg)
+    → CallsFunction P callee ret args → call_of callee ≡ None
 function_free P s callee ret args c =
-    let free : call_of c.function.name ≡ None = all-at (λ f. IsFree f.name) P.functions c.number c.function s.externs.functions c.here in
-    let there : slice_get (function_names P.functions) c.number ≡ Some callee = number_of-there (function_names P.functions) callee c.number c.named in
-    let same : Some c.function.name ≡ Some callee = sym (slice_get-map (λ (f : Function). f.name) P.functions c.number ∙ ap (option_map (λ (f : Function). f.name)) c.here) ∙ there in
+    let free : call_of c.function.name ≡ None =
+    all-at (λ f. IsFree f.name) P.functions c.number c.function s.externs.functions c.here in
+    let there : slice_get (function_names P.functions) c.number ≡ Some callee =
+    number_of-there (function_names P.functions) callee c.number c.named in
+    let same : Some c.function.name ≡ Some callee =
+    sym (slice_get-map (λ (f : Function). f.name) P.functions c.number
+    ∙ ap (option_map (λ (f : Function). f.name)) c.here) ∙ there in
     subst (λ n. call_of n ≡ None) (same_Some c.function.name callee same) free

@@ -23,9 +23,11 @@ use Rattle.hip_names.specs.Laws.DifferLaws.{differ_second}
 
 -- ---- what is spelled
 
-list_all_at : {A : Type 0} (test : A → Bool) (xs : List A) (k : ℕ) (x : A) → list_all test xs ≡ true → slice_get xs k ≡ Some x → test x ≡ true
+list_all_at : {A : Type 0} (test : A → Bool) (xs : List A) (k : ℕ) (x : A) → list_all test xs ≡ true
+    → slice_get xs k ≡ Some x → test x ≡ true
 list_all_at test [] k x h e = cc
-list_all_at test (y ∷ xs) zero x h e = subst (λ z. test z ≡ true) (same_Some y x e) (and_parts (test y) (list_all test xs) h).0
+list_all_at test (y ∷ xs) zero x h e =
+    subst (λ z. test z ≡ true) (same_Some y x e) (and_parts (test y) (list_all test xs) h).0
 list_all_at test (y ∷ xs) (suc k) x h e = list_all_at test xs k x (and_parts (test y) (list_all test xs) h).1 e
 
 first_of : {A : Type 0} (xs : List A) → not_empty xs ≡ true → (x : A) × (slice_get xs 0 ≡ Some x)
@@ -39,7 +41,9 @@ among_all Q (y ∷ xs) x h (inr t) = among_all Q xs x (All-tail Q y xs h) t
 
 module _ (P : Program) (s : IsSound P) (g : ℕ) (fn : Function) (here : slice_get P.functions g ≡ Some fn) where
   spelled : spelled_function fn ≡ true
-  spelled = list_all_at spelled_function P.functions g fn (and_parts _ (list_all spelled_function P.functions) (and_parts (list_all spelled_global P.globals) _ ((spelled_exact P).1 s.spelled)).1).1 here
+  spelled = list_all_at spelled_function P.functions g fn
+      (and_parts _ (list_all spelled_function P.functions)
+      (and_parts (list_all spelled_global P.globals) _ ((spelled_exact P).1 s.spelled)).1).1 here
 
   blocks_spelled : (not_empty fn.blocks && list_all spelled_block fn.blocks) ≡ true
   blocks_spelled = (and_parts _ (not_empty fn.blocks && list_all spelled_block fn.blocks) (and_parts _ _ spelled).1).1
@@ -47,10 +51,13 @@ module _ (P : Program) (s : IsSound P) (g : ℕ) (fn : Function) (here : slice_g
   pub entry_block : (block : Block) × (slice_get fn.blocks 0 ≡ Some block)
   entry_block = first_of fn.blocks (and_parts (not_empty fn.blocks) _ blocks_spelled).0
 
-  phi_has_edge : (b k : ℕ) (block : Block) (p : Phi) → slice_get fn.blocks b ≡ Some block → slice_get block.phis k ≡ Some p → (e : Edge) × (slice_get p.edges 0 ≡ Some e)
+  phi_has_edge : (b k : ℕ) (block : Block) (p : Phi) → slice_get fn.blocks b ≡ Some block
+      → slice_get block.phis k ≡ Some p → (e : Edge) × (slice_get p.edges 0 ≡ Some e)
   phi_has_edge b k block p at e =
-      let in_block : spelled_block block ≡ true = list_all_at spelled_block fn.blocks b block (and_parts (not_empty fn.blocks) _ blocks_spelled).1 at in
-      let in_phi : spelled_phi p ≡ true = list_all_at spelled_phi block.phis k p (and_parts (list_all spelled_phi block.phis) _ (and_parts _ _ in_block).1).0 e in
+      let in_block : spelled_block block ≡ true =
+      list_all_at spelled_block fn.blocks b block (and_parts (not_empty fn.blocks) _ blocks_spelled).1 at in
+      let in_phi : spelled_phi p ≡ true = list_all_at spelled_phi block.phis k p
+      (and_parts (list_all spelled_phi block.phis) _ (and_parts _ _ in_block).1).0 e in
       first_of p.edges (and_parts (not_empty p.edges) _ (and_parts _ _ in_phi).1).0
 
   label_first : (es : List Edge) (e : Edge) → slice_get es 0 ≡ Some e → IsAmong (map (λ d. d.label) es) e.label
@@ -58,25 +65,38 @@ module _ (P : Program) (s : IsSound P) (g : ℕ) (fn : Function) (here : slice_g
   label_first (d ∷ es) e h = inl (ap (λ (x : Edge). x.label) (same_Some d e h))
 
   -- no block's end names the entry block, so that a phi there would have no edge
-  pub no_entry_phi : (block : Block) → slice_get fn.blocks 0 ≡ Some block → (k : ℕ) (p : Phi) → slice_get block.phis k ≡ Some p → ⊥
+  pub no_entry_phi : (block : Block) → slice_get fn.blocks 0 ≡ Some block → (k : ℕ) (p : Phi)
+      → slice_get block.phis k ≡ Some p → ⊥
   no_entry_phi block at k p e =
-      let agree : EdgesAgree fn block p.edges = all-at (λ p. EdgesAreSound fn block (PhiItem p)) block.phis k p (s.edges_agree g 0 fn block (record { function = here; block_is = at })).phis e in
+      let agree : EdgesAgree fn block p.edges =
+      all-at (λ p. EdgesAreSound fn block (PhiItem p)) block.phis k p
+      (s.edges_agree g 0 fn block (record { function = here; block_is = at })).phis e in
       let edge = phi_has_edge 0 k block p at e in
-      let before : Precedes fn edge.0.label block.label = among_all (λ label. Precedes fn label block.label) _ edge.0.label agree.others (label_first p.edges edge.0 edge.1) in
-      let none : label_at fn 0 ≢ Some block.label = among_all (λ label. label_at fn 0 ≢ Some label) (end_labels before.block.end) block.label (s.edges_agree g before.number fn before.block (record { function = here; block_is = before.here })).last before.named in
+      let before : Precedes fn edge.0.label block.label =
+      among_all (λ label. Precedes fn label block.label) _ edge.0.label agree.others
+      (label_first p.edges edge.0 edge.1) in
+      let none : label_at fn 0 ≢ Some block.label =
+      among_all (λ label. label_at fn 0 ≢ Some label) (end_labels before.block.end) block.label
+      (s.edges_agree g before.number fn before.block
+      (record { function = here; block_is = before.here })).last before.named in
       none (ap (option_map (λ (b : Block). b.label)) at)
 
 -- ---- labels and their numbers
 
 -- the block of a label's number has the label
-pub label_there : (fn : Function) (label : List ℕ) (c : ℕ) → label_number fn label ≡ Some c → label_at fn c ≡ Some label
-label_there fn label c e = sym (slice_get-map (λ (b : Block). b.label) fn.blocks c) ∙ number_of-there (label_names fn) label c e
+pub label_there : (fn : Function) (label : List ℕ) (c : ℕ) → label_number fn label ≡ Some c
+    → label_at fn c ≡ Some label
+label_there fn label c e = sym (slice_get-map (λ (b : Block). b.label) fn.blocks c)
+    ∙ number_of-there (label_names fn) label c e
 
 -- the label of a block has a number
-pub label_known : (fn : Function) (k : ℕ) (block : Block) → slice_get fn.blocks k ≡ Some block → (c : ℕ) × (label_number fn block.label ≡ Some c)
-label_known fn k block at = number_of-known (label_names fn) block.label k (slice_get-map (λ (b : Block). b.label) fn.blocks k ∙ ap (option_map (λ (b : Block). b.label)) at)
+pub label_known : (fn : Function) (k : ℕ) (block : Block) → slice_get fn.blocks k ≡ Some block → (c : ℕ)
+    × (label_number fn block.label ≡ Some c)
+label_known fn k block at = number_of-known (label_names fn) block.label k
+    (slice_get-map (λ (b : Block). b.label) fn.blocks k ∙ ap (option_map (λ (b : Block). b.label)) at)
 
-labels_among : (bs : List Block) (q : List ℕ) → IsAmong (map (λ b. b.label) bs) q → IsAmong (flat_map names_in_block bs) q
+labels_among : (bs : List Block) (q : List ℕ) → IsAmong (map (λ b. b.label) bs) q
+    → IsAmong (flat_map names_in_block bs) q
 labels_among [] q h = h
 labels_among (b ∷ bs) q (inl e) = inl e
 labels_among (b ∷ bs) q (inr h) = among-right (names_in_block b) (flat_map names_in_block bs) q (labels_among bs q h)
@@ -95,15 +115,22 @@ there_among [] k x e = cc
 there_among (y ∷ xs) zero x e = inl (same_Some y x e)
 there_among (y ∷ xs) (suc k) x e = inr (there_among xs k x e)
 
-earlier_none : (xs : List (List ℕ)) (k j : ℕ) (x : List ℕ) → AllDiffer xs → slice_get xs k ≡ Some x → j < k → slice_get xs j ≡ Some x → ⊥
+earlier_none : (xs : List (List ℕ)) (k j : ℕ) (x : List ℕ) → AllDiffer xs → slice_get xs k ≡ Some x
+    → j < k → slice_get xs j ≡ Some x → ⊥
 earlier_none [] k j x d e lt f = cc
 earlier_none (y ∷ xs) zero j x d e lt f = absurd (let z : ⊥ = omega (arith, lt) in z)
-earlier_none (y ∷ xs) (suc k) zero x d e lt f = d.0 (subst (λ n. IsAmong xs n) (sym (same_Some y x f)) (there_among xs k x e))
+earlier_none (y ∷ xs) (suc k) zero x d e lt f =
+    d.0 (subst (λ n. IsAmong xs n) (sym (same_Some y x f)) (there_among xs k x e))
 earlier_none (y ∷ xs) (suc k) (suc j) x d e lt f = earlier_none xs k j x d.1 e (omega (arith, lt)) f
 
 -- where the names of a function differ, the number of a block's label is its own
-pub own_number : (fn : Function) (k : ℕ) (block : Block) → AllDiffer (names_in_function fn) → slice_get fn.blocks k ≡ Some block → label_number fn block.label ≡ Some k
+pub own_number : (fn : Function) (k : ℕ) (block : Block) → AllDiffer (names_in_function fn)
+    → slice_get fn.blocks k ≡ Some block → label_number fn block.label ≡ Some k
 own_number fn k block d at =
-    let labels : AllDiffer (label_names fn) = labels_differ fn.blocks (differ_second (names_of (parameter_registers fn)) (flat_map names_in_block fn.blocks) d) in
-    let there : slice_get (label_names fn) k ≡ Some block.label = slice_get-map (λ (b : Block). b.label) fn.blocks k ∙ ap (option_map (λ (b : Block). b.label)) at in
-    number_of-first (label_names fn) block.label k there (λ j lt f. earlier_none (label_names fn) k j block.label labels there lt f)
+    let labels : AllDiffer (label_names fn) =
+    labels_differ fn.blocks (differ_second (names_of (parameter_registers fn))
+    (flat_map names_in_block fn.blocks) d) in
+    let there : slice_get (label_names fn) k ≡ Some block.label = slice_get-map (λ (b : Block). b.label) fn.blocks k
+    ∙ ap (option_map (λ (b : Block). b.label)) at in
+    number_of-first (label_names fn) block.label k there
+    (λ j lt f. earlier_none (label_names fn) k j block.label labels there lt f)

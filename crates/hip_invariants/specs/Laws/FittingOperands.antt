@@ -33,7 +33,7 @@ use Rattle.hip_invariants.specs.FrameFacts.{frames_hold}
 use Rattle.hip_invariants.specs.Laws.InstrFacts.{fact_holds}
 use Rattle.hip_runs.specs.Laws.Members.{get_drop}
 use Rattle.hip_invariants.specs.Laws.Places.{block_there}
-use Rattle.hip_invariants.specs.Laws.RegisterFacts.{ValuesHold, values_in_frames}
+use Rattle.hip_invariants.specs.Laws.Registers.Facts.{ValuesHold, values_in_frames}
 use Rattle.hip_invariants.specs.Reached.{top_is_reached, caller_is_reached}
 use Rattle.hip_invariants.specs.Types.{FitsType}
 use Rattle.hip_invariants.specs.Laws.FittingValues.{operand_fits, result_fits, types_kept}
@@ -52,51 +52,72 @@ are_uncut = record {
 }
 
 module _ (P : Program) (s : IsSound P) (I : Input) (valid : IsValid P I) where
-  top_holds : (n : ℕ) (f : Frame) (fs : List Frame) → IsTop (run P I n) f fs → ValuesHold (FitsType P) (FitsResult P) f.function f.registers
+  top_holds : (n : ℕ) (f : Frame) (fs : List Frame) → IsTop (run P I n) f fs
+      → ValuesHold (FitsType P) (FitsResult P) f.function f.registers
   top_holds n f fs t =
-      (let all : values_in_frames (FitsType P) (FitsResult P) (f ∷ fs) = subst (values_in_frames (FitsType P) (FitsResult P)) t.frames (fact_holds (FitsType P) (FitsResult P) P I (types_kept P s I valid) n) in all).0
+      (let all : values_in_frames (FitsType P) (FitsResult P) (f ∷ fs) =
+      subst (values_in_frames (FitsType P) (FitsResult P)) t.frames
+      (fact_holds (FitsType P) (FitsResult P) P I (types_kept P s I valid) n) in all).0
 
   module _ (f : Frame) (h : ValuesHold (FitsType P) (FitsResult P) f.function f.registers) where
-    uses_fit : (fn : Function) → slice_get P.functions f.function ≡ Some fn → (us : List Use) → All (IsTyped fn) us → All (OperandFits P I f.registers) us
-    uses_fit fn here us typed = All-weaker (IsTyped fn) (OperandFits P I f.registers) (λ u t. operand_fits P s I valid f.function fn here f.registers h u.operand u.ty t) us typed
+    uses_fit : (fn : Function) → slice_get P.functions f.function ≡ Some fn → (us : List Use)
+        → All (IsTyped fn) us → All (OperandFits P I f.registers) us
+    uses_fit fn here us typed = All-weaker (IsTyped fn) (OperandFits P I f.registers)
+        (λ u t. operand_fits P s I valid f.function fn here f.registers h u.operand u.ty t) us typed
 
     operands_fit : OperandsFit P I f
     operands_fit = record {
-      body = λ i rest e. body (block_at P f.function f.block) refl i (get_drop (body_at P f.function f.block) f.place i rest e);
+      body = λ i rest e. body (block_at P f.function f.block) refl i
+          (get_drop (body_at P f.function f.block) f.place i rest e);
       last = λ e q. last (block_at P f.function f.block) refl e q;
-      phis = λ c j to p there e. let at = block_there P f.function c to there in uses_fit at.0 at.1.function (phi_uses p) ((sound-operands P s f.function c at.0 to at.1).phis j p e);
+      phis = λ c j to p there e. let at = block_there P f.function c to there in
+          uses_fit at.0 at.1.function (phi_uses p) ((sound-operands P s f.function c at.0 to at.1).phis j p e);
     }
       where
-        body : (o : Option Block) → block_at P f.function f.block ≡ o → (i : Instr) → slice_get (body_of o) f.place ≡ Some i → All (OperandFits P I f.registers) (instr_uses i)
+        body : (o : Option Block) → block_at P f.function f.block ≡ o → (i : Instr)
+            → slice_get (body_of o) f.place ≡ Some i → All (OperandFits P I f.registers) (instr_uses i)
         body None q i e = cc
-        body (Some block) q i e = let at = block_there P f.function f.block block q in uses_fit at.0 at.1.function (instr_uses i) ((sound-operands P s f.function f.block at.0 block at.1).body f.place i e)
+        body (Some block) q i e = let at = block_there P f.function f.block block q in
+            uses_fit at.0 at.1.function (instr_uses i)
+            ((sound-operands P s f.function f.block at.0 block at.1).body f.place i e)
 
-        last : (o : Option Block) → block_at P f.function f.block ≡ o → (e : End) → end_of o ≡ Some e → All (OperandFits P I f.registers) (end_uses e)
+        last : (o : Option Block) → block_at P f.function f.block ≡ o → (e : End) → end_of o ≡ Some e
+            → All (OperandFits P I f.registers) (end_uses e)
         last None q e r = cc
         last (Some block) q e r =
             let at = block_there P f.function f.block block q in
-            subst (λ (x : End). All (OperandFits P I f.registers) (end_uses x)) (same_Some block.end e r) (uses_fit at.0 at.1.function (end_uses block.end) (sound-operands P s f.function f.block at.0 block at.1).last)
+            subst (λ (x : End). All (OperandFits P I f.registers) (end_uses x)) (same_Some block.end e r)
+            (uses_fit at.0 at.1.function (end_uses block.end)
+            (sound-operands P s f.function f.block at.0 block at.1).last)
 
   -- at each step
   pub operands_fit_at : (n : ℕ) (f : Frame) (fs : List Frame) → IsTop (run P I n) f fs → OperandsFit P I f
   operands_fit_at n f fs t = operands_fit f (top_holds n f fs t)
 
   -- what the bottom frame returns is below 2^32
-  pub stop_fits : (n : ℕ) (f : Frame) (arg : Option Arg) → IsTop (run P I n) f [] → end_at P f ≡ Some (ends.Ret arg) → returned P.globals I.base f.registers arg < modulus W32
+  pub stop_fits : (n : ℕ) (f : Frame) (arg : Option Arg) → IsTop (run P I n) f []
+      → end_at P f ≡ Some (ends.Ret arg) → returned P.globals I.base f.registers arg < modulus W32
   stop_fits n f arg t e = go (block_at P f.function f.block) refl e
     where
       bottom : f.function ≡ s.main.number
       bottom =
-          (let all : frames_hold (top_is_reached P) (caller_is_reached P) (main_number P) (f ∷ []) = subst (frames_hold (top_is_reached P) (caller_is_reached P) (main_number P)) t.frames (all_reached P s I n) in all).1
+          (let all : frames_hold (top_is_reached P) (caller_is_reached P) (main_number P) (f ∷ []) =
+          subst (frames_hold (top_is_reached P) (caller_is_reached P) (main_number P)) t.frames
+          (all_reached P s I n) in all).1
           ∙ (let is : main_number P ≡ s.main.number = ap numbered_main s.main.named in is)
 
-      go : (o : Option Block) → block_at P f.function f.block ≡ o → end_of o ≡ Some (ends.Ret arg) → returned P.globals I.base f.registers arg < modulus W32
+      go : (o : Option Block) → block_at P f.function f.block ≡ o → end_of o ≡ Some (ends.Ret arg)
+          → returned P.globals I.base f.registers arg < modulus W32
       go None q r = cc
       go (Some block) q r =
           let at = block_there P f.function f.block block q in
           let is : block.end ≡ ends.Ret arg = same_Some block.end (ends.Ret arg) r in
-          let same : at.0 ≡ s.main.function = same_Some at.0 s.main.function (sym at.1.function ∙ ap (slice_get P.functions) bottom ∙ s.main.here) in
+          let same : at.0 ≡ s.main.function = same_Some at.0 s.main.function
+          (sym at.1.function ∙ ap (slice_get P.functions) bottom ∙ s.main.here) in
           let answers : at.0.ret ≡ Some (Int W32) = ap (λ (g : Function). g.ret) same ∙ s.main.result in
-          let typed = subst (λ (x : End). All (IsTyped at.0) (end_uses x)) is (sound-operands P s f.function f.block at.0 block at.1).last in
-          let agrees = subst (λ (x : End). OwnTypesAgree P at.0 (EndItem x)) is (s.types_agree f.function f.block at.0 block at.1).last.own in
-          subst (λ (r : Option Scalar). fits_type (Some r) (returned P.globals I.base f.registers arg)) answers (result_fits P s I valid f.function at.0 at.1.function f.registers (top_holds n f [] t) arg typed agrees)
+          let typed = subst (λ (x : End). All (IsTyped at.0) (end_uses x)) is
+          (sound-operands P s f.function f.block at.0 block at.1).last in
+          let agrees = subst (λ (x : End). OwnTypesAgree P at.0 (EndItem x)) is
+          (s.types_agree f.function f.block at.0 block at.1).last.own in
+          subst (λ (r : Option Scalar). fits_type (Some r) (returned P.globals I.base f.registers arg)) answers
+          (result_fits P s I valid f.function at.0 at.1.function f.registers (top_holds n f [] t) arg typed agrees)

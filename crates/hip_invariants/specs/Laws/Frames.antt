@@ -103,7 +103,8 @@ module _ (Top : Frame → Type 0) (Below : ℕ → Option (List ℕ) → Frame �
 
     step_kept : (s : State)
         → ((f : Frame) (fs : List Frame) → IsTop s f fs → frames_hold Top Below (main_number P) (f ∷ fs)
-        → Keeps f (deed_at P I s.world f fs).action) → frames_hold Top Below (main_number P) s.frames → frames_hold Top
+        → Keeps f (deed_at P I s.world f fs).action) → frames_hold Top Below (main_number P) s.frames
+        → frames_hold Top
         Below (main_number P) (step P I s).frames
     unfolding step on_ending on_frames
     step_kept s each all = go s.world.ending refl
@@ -118,7 +119,8 @@ module _ (Top : Frame → Type 0) (Below : ℕ → Option (List ℕ) → Frame �
             (counted (event_at I s.world fs (deed_at P I s.world f fs)) s.counts) here (deed_at P I s.world f fs)
             (each f fs (record { going = e; frames = q }) here)
 
-        go : (o : Option Ending) → s.world.ending ≡ o → frames_hold Top Below (main_number P) (on_ending P I s o).frames
+        go : (o : Option Ending) → s.world.ending ≡ o
+            → frames_hold Top Below (main_number P) (on_ending P I s o).frames
         go (Some e) q = all
         go None q = on_them s.frames refl q
 

@@ -14,7 +14,8 @@ pub later_end : (persistent : Bool) (at : ℕ) (gs : List GlobalVar) → at ≤ 
 later_end persistent at [] = omega arith
 later_end persistent at (g ∷ gs) = go (same g.persistent persistent) (λ n. later_end persistent n gs)
   where
-    go : (t : Bool) → ((n : ℕ) → n ≤ end_of persistent n gs) → at ≤ end_of persistent (if t then behind at g else at) gs
+    go : (t : Bool) → ((n : ℕ) → n ≤ end_of persistent n gs)
+        → at ≤ end_of persistent (if t then behind at g else at) gs
     go true rest = omega (arith, rest (behind at g), next-le at (global_align g))
     go false rest = rest at
 
@@ -25,45 +26,61 @@ same_self true false e = cc
 same_self false true e = cc
 
 -- a global begins before the end of all of its kind
-pub start_before_end : (persistent : Bool) (at : ℕ) (gs : List GlobalVar) (k : ℕ) → is_persistent gs k ≡ persistent → start_of persistent at gs k ≤ end_of persistent at gs
+pub start_before_end : (persistent : Bool) (at : ℕ) (gs : List GlobalVar) (k : ℕ)
+    → is_persistent gs k ≡ persistent → start_of persistent at gs k ≤ end_of persistent at gs
 start_before_end persistent at [] k e = omega arith
-start_before_end persistent at (g ∷ gs) zero e = go (same g.persistent persistent) (same_self g.persistent persistent e)
+start_before_end persistent at (g ∷ gs) zero e =
+    go (same g.persistent persistent) (same_self g.persistent persistent e)
   where
     go : (t : Bool) → t ≡ true → global_start at g ≤ end_of persistent (if t then behind at g else at) gs
     go true h = omega (arith, later_end persistent (behind at g) gs)
     go false h = cc
-start_before_end persistent at (g ∷ gs) (suc k) e = start_before_end persistent (if same g.persistent persistent then behind at g else at) gs k e
+start_before_end persistent at (g ∷ gs) (suc k) e =
+    start_before_end persistent (if same g.persistent persistent then behind at g else at) gs k e
 
 -- and ends there at most
-pub ends_before_end : (persistent : Bool) (at : ℕ) (gs : List GlobalVar) (k : ℕ) (g : GlobalVar) → slice_get gs k ≡ Some g → is_persistent gs k ≡ persistent → start_of persistent at gs k + (shape g.ty).size ≤ end_of persistent at gs
+pub ends_before_end : (persistent : Bool) (at : ℕ) (gs : List GlobalVar) (k : ℕ) (g : GlobalVar)
+    → slice_get gs k ≡ Some g → is_persistent gs k ≡ persistent
+    → start_of persistent at gs k + (shape g.ty).size ≤ end_of persistent at gs
 ends_before_end persistent at [] k g q e = cc
-ends_before_end persistent at (x ∷ gs) zero g q e = subst (λ (y : GlobalVar). global_start at x + (shape y.ty).size ≤ end_of persistent at (x ∷ gs)) (same_Some x g q) (go (same x.persistent persistent) (same_self x.persistent persistent e))
+ends_before_end persistent at (x ∷ gs) zero g q e =
+    subst (λ (y : GlobalVar). global_start at x + (shape y.ty).size ≤ end_of persistent at (x ∷ gs))
+    (same_Some x g q) (go (same x.persistent persistent) (same_self x.persistent persistent e))
   where
-    go : (t : Bool) → t ≡ true → global_start at x + (shape x.ty).size ≤ end_of persistent (if t then behind at x else at) gs
+    go : (t : Bool) → t ≡ true → global_start at x + (shape x.ty).size
+        ≤ end_of persistent (if t then behind at x else at) gs
     go true h = later_end persistent (behind at x) gs
     go false h = cc
-ends_before_end persistent at (x ∷ gs) (suc k) g q e = ends_before_end persistent (if same x.persistent persistent then behind at x else at) gs k g q e
+ends_before_end persistent at (x ∷ gs) (suc k) g q e =
+    ends_before_end persistent (if same x.persistent persistent then behind at x else at) gs k g q e
 
 -- a global that is there begins behind the start of all of them
-pub starts_behind : (persistent : Bool) (at : ℕ) (gs : List GlobalVar) (k : ℕ) (g : GlobalVar) → slice_get gs k ≡ Some g → at ≤ start_of persistent at gs k
+pub starts_behind : (persistent : Bool) (at : ℕ) (gs : List GlobalVar) (k : ℕ) (g : GlobalVar)
+    → slice_get gs k ≡ Some g → at ≤ start_of persistent at gs k
 starts_behind persistent at [] k g q = cc
 starts_behind persistent at (x ∷ gs) zero g q = next-le at (global_align x)
-starts_behind persistent at (x ∷ gs) (suc k) g q = go (same x.persistent persistent) (λ n. starts_behind persistent n gs k g q)
+starts_behind persistent at (x ∷ gs) (suc k) g q =
+    go (same x.persistent persistent) (λ n. starts_behind persistent n gs k g q)
   where
-    go : (t : Bool) → ((n : ℕ) → n ≤ start_of persistent n gs k) → at ≤ start_of persistent (if t then behind at x else at) gs k
+    go : (t : Bool) → ((n : ℕ) → n ≤ start_of persistent n gs k)
+        → at ≤ start_of persistent (if t then behind at x else at) gs k
     go true rest = omega (arith, rest (behind at x), next-le at (global_align x))
     go false rest = rest at
 
 -- of two of a kind the later one begins behind the end of the earlier one
-pub one_behind_another : (persistent : Bool) (at : ℕ) (gs : List GlobalVar) (j k : ℕ) (g h : GlobalVar) → slice_get gs j ≡ Some g → slice_get gs k ≡ Some h → is_persistent gs j ≡ persistent → j < k →
+pub one_behind_another : (persistent : Bool) (at : ℕ) (gs : List GlobalVar) (j k : ℕ) (g h : GlobalVar)
+    → slice_get gs j ≡ Some g → slice_get gs k ≡ Some h → is_persistent gs j ≡ persistent → j < k →
     start_of persistent at gs j + (shape g.ty).size ≤ start_of persistent at gs k
 one_behind_another persistent at [] j k g h q r e lt = cc
 one_behind_another persistent at (x ∷ gs) j zero g h q r e lt = absurd (let z : ⊥ = omega (arith, lt) in z)
 one_behind_another persistent at (x ∷ gs) zero (suc k) g h q r e lt =
-    subst (λ (y : GlobalVar). global_start at x + (shape y.ty).size ≤ start_of persistent at (x ∷ gs) (suc k)) (same_Some x g q) (go (same x.persistent persistent) (same_self x.persistent persistent e))
+    subst (λ (y : GlobalVar). global_start at x + (shape y.ty).size ≤ start_of persistent at (x ∷ gs) (suc k))
+    (same_Some x g q) (go (same x.persistent persistent) (same_self x.persistent persistent e))
   where
-    go : (t : Bool) → t ≡ true → global_start at x + (shape x.ty).size ≤ start_of persistent (if t then behind at x else at) gs k
+    go : (t : Bool) → t ≡ true → global_start at x + (shape x.ty).size
+        ≤ start_of persistent (if t then behind at x else at) gs k
     go true s = starts_behind persistent (behind at x) gs k h r
     go false s = cc
 one_behind_another persistent at (x ∷ gs) (suc j) (suc k) g h q r e lt =
-    one_behind_another persistent (if same x.persistent persistent then behind at x else at) gs j k g h q r e (omega (arith, lt))
+    one_behind_another persistent (if same x.persistent persistent then behind at x else at) gs j k g h q r e
+    (omega (arith, lt))

@@ -57,7 +57,8 @@ module _ (P : Program) (I : Input) (w : World) (below : ℕ) (rs : Registers) (C
         Claim (Calls h (bound fn.params (values_of P.globals I.base rs args)) dest)
     -- a callee that is not there
     pub missing : call_of callee ≡ None →
-        ((h : ℕ) (fn : Function) → function_number P callee ≡ Some h → ¬ (slice_get P.functions h ≡ Some fn)) →
+        ((h : ℕ) (fn : Function) → function_number P callee ≡ Some h
+        → ¬ (slice_get P.functions h ≡ Some fn)) →
         Claim (Traps traps.Unreachable)
 
   -- What an instruction may do, but for traps: the claim has to be shown of these actions.
@@ -102,7 +103,8 @@ module _ (P : Program) (I : Input) (w : World) (below : ℕ) (rs : Registers) (C
         cond_case (nat_eq n 0) x _ p (cond_case (are_valid P I w a n) x (Traps traps.Address) p address)
 
     allocated_case : (dest : List ℕ) (size align : ℕ)
-        → ((a : ℕ) → a ≡ next_multiple_of w.mark align → a + size ≤ stack_end → Claim (Allocates dest a size))
+        → ((a : ℕ) → a ≡ next_multiple_of w.mark align → a + size ≤ stack_end
+        → Claim (Allocates dest a size))
         → Claim (allocated w dest size align)
     unfolding allocated
     allocated_case dest size align p = go (nat_le (next_multiple_of w.mark align + size) stack_end) refl
@@ -120,7 +122,8 @@ module _ (P : Program) (I : Input) (w : World) (below : ℕ) (rs : Registers) (C
     calculated_case dest (Err num_traps.ShiftRange) p = trap traps.ShiftRange (λ e. cc)
 
     read_case : (dest : Option (List ℕ)) (left : List ℤ)
-        → ((z : ℤ) (rest : List ℤ) → left ≡ z ∷ rest → Claim (Reads dest z rest)) → Claim (read_next dest left)
+        → ((z : ℤ) (rest : List ℤ) → left ≡ z ∷ rest → Claim (Reads dest z rest))
+        → Claim (read_next dest left)
     read_case dest [] p = trap traps.InputEnd (λ e. cc)
     read_case dest (z ∷ rest) p = p z rest refl
 
@@ -132,8 +135,10 @@ module _ (P : Program) (I : Input) (w : World) (below : ℕ) (rs : Registers) (C
     lines_case effects.FlushAndFence a n some still = flushing_case a n (Persists a n) (still _ tt)
 
     extern_case : (x : ExternCall) (values : List ℕ) (dest : Option (List ℕ))
-        → (x ≡ calls.ReadI64 → (z : ℤ) (rest : List ℤ) → w.left ≡ z ∷ rest → Claim (Reads dest z rest))
-        → (x ≢ calls.ReadI64 → (y : Action) → leaves_registers y → Claim y) → Claim (extern_action P I w x values dest)
+        → (x ≡ calls.ReadI64 → (z : ℤ) (rest : List ℤ) → w.left ≡ z ∷ rest
+        → Claim (Reads dest z rest))
+        → (x ≢ calls.ReadI64 → (y : Action) → leaves_registers y → Claim y)
+        → Claim (extern_action P I w x values dest)
     extern_case calls.ReadI64 values dest read still = read_case dest w.left (read refl)
     extern_case calls.PrintI64 values dest read still = still (λ e. cc) _ tt
     extern_case calls.PmAssert values dest read still =
@@ -159,7 +164,8 @@ module _ (P : Program) (I : Input) (w : World) (below : ℕ) (rs : Registers) (C
     entered_case : (callee values : List ℕ) (dest : Option (List ℕ))
         → ((h : ℕ) (fn : Function) → function_number P callee ≡ Some h → slice_get P.functions h ≡ Some fn
         → below < 16383 → Claim (Calls h (bound fn.params values) dest)) →
-        (((h : ℕ) (fn : Function) → function_number P callee ≡ Some h → ¬ (slice_get P.functions h ≡ Some fn))
+        (((h : ℕ) (fn : Function) → function_number P callee ≡ Some h
+        → ¬ (slice_get P.functions h ≡ Some fn))
         → Claim (Traps traps.Unreachable)) → Claim (entered P below callee values dest)
     unfolding entered
     entered_case callee values dest p none = go (nat_lt below 16383) refl

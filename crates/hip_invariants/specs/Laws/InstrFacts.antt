@@ -31,9 +31,10 @@ use Rattle.hip_runs.specs.State.{Registers, Frame, World}
 use Rattle.hip_runs.specs.Step.{run}
 use Rattle.hip_runs.specs.Laws.StepLaws.{IsTop}
 use Rattle.hip_invariants.specs.Laws.InstrActions.{leaves_registers, instr_cases, of_instr_action}
-use Rattle.hip_invariants.specs.Laws.RegisterFacts.{ValuesHold, assigned_fact, WaitsFor, GivesFacts, values_in_frames, actions_keep_facts}
+use Rattle.hip_invariants.specs.Laws.Registers.Facts.{ValuesHold, assigned_fact, WaitsFor, GivesFacts, values_in_frames, actions_keep_facts}
 
-module _ (Fact : ℕ → List ℕ → ℕ → Type 0) (Returned : ℕ → ℕ → Type 0) (P : Program) (I : Input) where
+module _ (Fact : ℕ → List ℕ → ℕ → Type 0) (Returned : ℕ → ℕ → Type 0) (P : Program)
+    (I : Input) where
   abbrev value : Registers → Operand → ℕ
   value rs o = value_of P.globals I.base rs o
 
@@ -42,7 +43,8 @@ module _ (Fact : ℕ → List ℕ → ℕ → Type 0) (Returned : ℕ → ℕ �
   -- its result is waited for.
   pub record CallFact (g : ℕ) (rs : Registers) (dest : Option (List ℕ)) (callee : List ℕ)
       (args : List Arg) : Type 0 where
-    pub read : call_of callee ≡ Some calls.ReadI64 → (z : ℤ) → assigned_fact Fact Returned g dest (wrapped W64 z)
+    pub read : call_of callee ≡ Some calls.ReadI64 → (z : ℤ)
+        → assigned_fact Fact Returned g dest (wrapped W64 z)
     pub enter : (h : ℕ) (fn : Function) → call_of callee ≡ None → function_number P callee ≡ Some h →
         slice_get P.functions h ≡ Some fn →
         ValuesHold Fact Returned h (bound fn.params (values_of P.globals I.base rs args)) ×
@@ -59,7 +61,8 @@ module _ (Fact : ℕ → List ℕ → ℕ → Type 0) (Returned : ℕ → ℕ �
       Fact g dest (cond (nat_eq (value rs test) 1) (value rs a) (value rs b))
   instr_fact g w rs (Cast dest op from a to) = Fact g dest (cast_value op from to (value rs a))
   instr_fact g w rs (Alloca dest ty align) =
-      (a : ℕ) → a ≡ next_multiple_of w.mark (shape ty).align → a + (shape ty).size ≤ stack_end → Fact g dest a
+      (a : ℕ) → a ≡ next_multiple_of w.mark (shape ty).align → a + (shape ty).size ≤ stack_end
+      → Fact g dest a
   instr_fact g w rs (Load dest ty addr align) =
       Fact g dest (read_value ty (bytes_at (memory_of P I w) (value rs addr) (scalar_size ty)))
   instr_fact g w rs (Store ty v addr align) = Unit {0}

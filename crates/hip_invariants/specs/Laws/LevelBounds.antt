@@ -40,7 +40,7 @@ use Rattle.hip_runs.specs.Step.{run}
 use Rattle.hip_runs.specs.Laws.StepLaws.{IsTop}
 use Rattle.hip_runs.specs.Validity.{IsValid}
 use Rattle.hip_invariants.specs.Laws.InstrFacts.{instr_fact, fact_holds}
-use Rattle.hip_invariants.specs.Laws.RegisterFacts.{each_told, ValuesHold, each_value, assigned_fact, fact_of_value, values_in_frames}
+use Rattle.hip_invariants.specs.Laws.Registers.Facts.{each_told, ValuesHold, each_value, assigned_fact, fact_of_value, values_in_frames}
 use Rattle.hip_invariants.specs.Laws.GlobalAddresses.{start_before_end}
 use Rattle.hip_invariants.specs.PointerLevels.{within_level, is_at_most, behind_offset, number_level, global_level, level_step, gep_level_step, item_level_step, const_level, Levels, literal, fixed_index, both, fixed_path, gep_level, operand_level, goes_into, args_are_at_most, instr_is_closed, IsClosed, IsWithinLevel, RegistersAreWithin}
 
@@ -53,24 +53,30 @@ zero_within : (a : Option ℕ) → within_level a 0
 zero_within None = tt
 zero_within (Some t) = omega arith
 
-offset_within : (a : Option ℕ) (offset v : ℕ) → within_level a v → within_level (behind_offset a offset) ((v + offset) % 2 ^ 64)
+offset_within : (a : Option ℕ) (offset v : ℕ) → within_level a v
+    → within_level (behind_offset a offset) ((v + offset) % 2 ^ 64)
 offset_within None offset v m = tt
 offset_within (Some t) offset v m = same (nat_eq offset 0) refl
   where
     up : (b : Bool) → offset < 67108864 → within_level (cond b (Some (suc t)) None) ((v + offset) % 2 ^ 64)
-    up true lt = let next : stack_end + 67108864 * suc t ≡ stack_end + 67108864 * t + 67108864 = omega arith in rw next (omega arith)
+    up true lt = let next : stack_end + 67108864 * suc t ≡ stack_end + 67108864 * t + 67108864 = omega arith in
+        rw next (omega arith)
     up false lt = tt
 
-    near : (b : Bool) → nat_lt offset 67108864 ≡ b → within_level (cond b (cond (nat_lt t 32) (Some (suc t)) None) None) ((v + offset) % 2 ^ 64)
+    near : (b : Bool) → nat_lt offset 67108864 ≡ b
+        → within_level (cond b (cond (nat_lt t 32) (Some (suc t)) None) None) ((v + offset) % 2 ^ 64)
     near true e = up (nat_lt t 32) (ltb-true offset 67108864 e)
     near false e = tt
 
-    same : (b : Bool) → nat_eq offset 0 ≡ b → within_level (cond b (Some t) (cond (nat_lt offset 67108864) (cond (nat_lt t 32) (Some (suc t)) None) None)) ((v + offset) % 2 ^ 64)
+    same : (b : Bool) → nat_eq offset 0 ≡ b
+        → within_level (cond b (Some t) (cond (nat_lt offset 67108864) (cond (nat_lt t 32) (Some (suc t)) None) None))
+        ((v + offset) % 2 ^ 64)
     same true e = let none : offset ≡ 0 = eqb-true offset 0 e in omega arith
     same false e = near (nat_lt offset 67108864) refl
 
 abbrev const_gep_level : List GlobalVar → ConstGep → Option ℕ
-const_gep_level globals = fold-ConstGep (Option ℕ) (Option ℕ) (Option ℕ) (level_step (global_level globals)) gep_level_step item_level_step
+const_gep_level globals = fold-ConstGep (Option ℕ) (Option ℕ) (Option ℕ)
+    (level_step (global_level globals)) gep_level_step item_level_step
 
 abbrev written_gep : (List ℕ → ℕ) → ConstGep → ℕ
 written_gep address_of = fold-ConstGep Written ℕ Piece (written_step address_of) gep_step item_step
@@ -84,11 +90,15 @@ module _ (P : Program) (s : IsSound P) (base : ℕ) where
   address_within : (name : List ℕ) → within_level (global_level P.globals name) (global_address P.globals base name)
   address_within name = go (number_of (map (λ g. g.name) P.globals) name)
     where
-      at_number : (k : ℕ) (b : Bool) → is_persistent P.globals k ≡ b → within_level (cond b None (Some 0)) (cond b (start_of true base P.globals k) (start_of false volatile_start P.globals k))
+      at_number : (k : ℕ) (b : Bool) → is_persistent P.globals k ≡ b
+          → within_level (cond b None (Some 0)) (cond b (start_of true base P.globals k)
+          (start_of false volatile_start P.globals k))
       at_number k true e = tt
-      at_number k false e = let low = start_before_end false volatile_start P.globals k e in omega (arith, low, s.sizes.volatile)
+      at_number k false e = let low = start_before_end false volatile_start P.globals k e in
+          omega (arith, low, s.sizes.volatile)
 
-      go : (o : Option ℕ) → within_level (number_level P.globals o) (unwrap_or (option_map (address_in P.globals base) o) 0)
+      go : (o : Option ℕ) → within_level (number_level P.globals o)
+          (unwrap_or (option_map (address_in P.globals base) o) 0)
       go None = omega arith
       go (Some k) = at_number k (is_persistent P.globals k) refl
 
@@ -101,35 +111,54 @@ module _ (P : Program) (s : IsSound P) (base : ℕ) where
   abbrev IsWithinItem : TypedConst → Type 0
   IsWithinItem item = Unit {0}
 
-  within_by : (c : Const) (a : Option ℕ) (v : ℕ) → const_level P.globals c ≡ a → const_value P.globals base c ≡ v → within_level a v → IsWithin c
-  within_by c a v e f m = subst (λ x. within_level x (const_value P.globals base c)) (sym e) (subst (within_level a) (sym f) m)
+  within_by : (c : Const) (a : Option ℕ) (v : ℕ) → const_level P.globals c ≡ a
+      → const_value P.globals base c ≡ v → within_level a v → IsWithin c
+  within_by c a v e f m = subst (λ x. within_level x (const_value P.globals base c)) (sym e)
+      (subst (within_level a) (sym f) m)
 
   pub const_within : (c : Const) → IsWithin c
   const_within = ind-Const IsWithin IsWithinGep IsWithinItem
       (λ x y is. subst (λ z. IsWithin (roll-Const z)) is (of_level y))
       (λ x y is.
       let base_most : IsWithin x.base = subst IsWithin (ap (λ g. g.base) is) y.base.1 in
-      let level : const_gep_level P.globals (roll-ConstGep x) ≡ behind_offset (const_level P.globals x.base) (unwrap_or (gep_of x.ty (map index_of x.indices)) 0) = fold-roll-ConstGep _ _ _ _ _ _ x in
-      let value : written_gep (global_address P.globals base) (roll-ConstGep x) ≡ (const_value P.globals base x.base + unwrap_or (gep_of x.ty (map index_of x.indices)) 0) % 2 ^ 64 = fold-roll-ConstGep _ _ _ _ _ _ x in
+      let level : const_gep_level P.globals (roll-ConstGep x)
+      ≡ behind_offset (const_level P.globals x.base) (unwrap_or (gep_of x.ty (map index_of x.indices)) 0) =
+      fold-roll-ConstGep _ _ _ _ _ _ x in
+      let value : written_gep (global_address P.globals base) (roll-ConstGep x)
+      ≡ (const_value P.globals base x.base + unwrap_or (gep_of x.ty (map index_of x.indices)) 0) % 2 ^ 64 =
+      fold-roll-ConstGep _ _ _ _ _ _ x in
       subst (λ a. within_level a (written_gep (global_address P.globals base) (roll-ConstGep x))) (sym level)
-      (subst (within_level (behind_offset (const_level P.globals x.base) (unwrap_or (gep_of x.ty (map index_of x.indices)) 0))) (sym value) (offset_within (const_level P.globals x.base) _ (const_value P.globals base x.base) base_most)))
+      (subst (within_level (behind_offset (const_level P.globals x.base)
+      (unwrap_or (gep_of x.ty (map index_of x.indices)) 0))) (sym value)
+      (offset_within (const_level P.globals x.base) _ (const_value P.globals base x.base) base_most)))
       (λ x y is. tt)
     where
-      of_level : (y : Const-F ((c : Const) × IsWithin c) ((g : ConstGep) × IsWithinGep g) ((i : TypedConst) × IsWithinItem i)) → IsWithin (roll-Const (map-Const _ _ _ Const ConstGep TypedConst (λ e. e.0) (λ e. e.0) (λ e. e.0) y))
+      of_level : (y : Const-F ((c : Const) × IsWithin c) ((g : ConstGep) × IsWithinGep g)
+          ((i : TypedConst) × IsWithinItem i)) → IsWithin
+          (roll-Const (map-Const _ _ _ Const ConstGep TypedConst (λ e. e.0) (λ e. e.0) (λ e. e.0) y))
       of_level (Const-F.Int b) = within_by _ None _ (fold-roll-Const _ _ _ _ _ _ _) refl tt
-      of_level Const-F.Null = within_by _ (Some 0) 0 (fold-roll-Const _ _ _ _ _ _ _) (ap (λ (x : Written). x.value) (fold-roll-Const _ _ _ _ _ _ _)) (omega arith)
-      of_level Const-F.Zero = within_by _ (Some 0) 0 (fold-roll-Const _ _ _ _ _ _ _) (ap (λ (x : Written). x.value) (fold-roll-Const _ _ _ _ _ _ _)) (omega arith)
-      of_level (Const-F.Address name) = within_by _ (global_level P.globals name) (global_address P.globals base name) (fold-roll-Const _ _ _ _ _ _ _) (ap (λ (x : Written). x.value) (fold-roll-Const _ _ _ _ _ _ _)) (address_within name)
-      of_level (Const-F.Gep e) = within_by _ (const_gep_level P.globals e.0) (written_gep (global_address P.globals base) e.0) (fold-roll-Const _ _ _ _ _ _ _) (ap (λ (x : Written). x.value) (fold-roll-Const _ _ _ _ _ _ _)) e.1
+      of_level Const-F.Null = within_by _ (Some 0) 0 (fold-roll-Const _ _ _ _ _ _ _)
+          (ap (λ (x : Written). x.value) (fold-roll-Const _ _ _ _ _ _ _)) (omega arith)
+      of_level Const-F.Zero = within_by _ (Some 0) 0 (fold-roll-Const _ _ _ _ _ _ _)
+          (ap (λ (x : Written). x.value) (fold-roll-Const _ _ _ _ _ _ _)) (omega arith)
+      of_level (Const-F.Address name) = within_by _ (global_level P.globals name) (global_address P.globals base name)
+          (fold-roll-Const _ _ _ _ _ _ _) (ap (λ (x : Written). x.value) (fold-roll-Const _ _ _ _ _ _ _))
+          (address_within name)
+      of_level (Const-F.Gep e) = within_by _ (const_gep_level P.globals e.0)
+          (written_gep (global_address P.globals base) e.0) (fold-roll-Const _ _ _ _ _ _ _)
+          (ap (λ (x : Written). x.value) (fold-roll-Const _ _ _ _ _ _ _)) e.1
       of_level (Const-F.Array items) = within_by _ None _ (fold-roll-Const _ _ _ _ _ _ _) refl tt
       of_level (Const-F.Struct items) = within_by _ None _ (fold-roll-Const _ _ _ _ _ _ _) refl tt
 
 module _ (P : Program) (s : IsSound P) (I : Input) (L : Levels) (closed : IsClosed P L) where
-  operand_within : (g : ℕ) (rs : Registers) → ValuesHold (IsWithinLevel L) (ResultIsWithin L) g rs → (o : Operand) → within_level (operand_level P L g o) (value_of P.globals I.base rs o)
-  operand_within g rs h (Reg name) = (fact_of_value (IsWithinLevel L) (ResultIsWithin L) g rs name h (record { is = zero_within _ })).is
+  operand_within : (g : ℕ) (rs : Registers) → ValuesHold (IsWithinLevel L) (ResultIsWithin L) g rs → (o : Operand)
+      → within_level (operand_level P L g o) (value_of P.globals I.base rs o)
+  operand_within g rs h (Reg name) = (fact_of_value (IsWithinLevel L) (ResultIsWithin L) g rs name h
+      (record { is = zero_within _ })).is
   operand_within g rs h (Fixed c) = const_within P s I.base c
 
-  chosen_within : (a : Option ℕ) (b : Bool) (x y : ℕ) → within_level a x → within_level a y → within_level a (cond b x y)
+  chosen_within : (a : Option ℕ) (b : Bool) (x y : ℕ) → within_level a x → within_level a y
+      → within_level a (cond b x y)
   chosen_within a true x y p q = p
   chosen_within a false x y p q = q
 
@@ -137,22 +166,34 @@ module _ (P : Program) (s : IsSound P) (I : Input) (L : Levels) (closed : IsClos
   free_within None v h = tt
   free_within (Some t) v h = absurd h
 
-  assigned_within : (g : ℕ) (a : Option ℕ) (dest : Option (List ℕ)) (v : ℕ) → goes_into P L g a dest → within_level a v → assigned_fact (IsWithinLevel L) (ResultIsWithin L) g dest v
+  assigned_within : (g : ℕ) (a : Option ℕ) (dest : Option (List ℕ)) (v : ℕ) → goes_into P L g a dest
+      → within_level a v → assigned_fact (IsWithinLevel L) (ResultIsWithin L) g dest v
   assigned_within g a None v h m = tt
   assigned_within g a (Some dest) v h m = record { is = within_higher a (L.register g dest) v h m }
 
-  bound_within : (g h : ℕ) (rs : Registers) → ValuesHold (IsWithinLevel L) (ResultIsWithin L) g rs → (ps : List Param) (args : List Arg) → args_are_at_most P L g h ps args → each_value (IsWithinLevel L) (ResultIsWithin L) h (bound ps (values_of P.globals I.base rs args))
+  bound_within : (g h : ℕ) (rs : Registers) → ValuesHold (IsWithinLevel L) (ResultIsWithin L) g rs
+      → (ps : List Param) (args : List Arg) → args_are_at_most P L g h ps args
+      → each_value (IsWithinLevel L) (ResultIsWithin L) h (bound ps (values_of P.globals I.base rs args))
   bound_within g h rs holds [] args below = tt
   bound_within g h rs holds (p ∷ ps) [] below = tt
-  bound_within g h rs holds (p ∷ ps) (a ∷ args) below =
-      (record { is = within_higher (operand_level P L g a.value) (L.register h p.name) _ below.0 (operand_within g rs holds a.value) }, bound_within g h rs holds ps args below.1)
+  bound_within g h rs holds (p ∷ ps) (a ∷ args) below = (
+    record {
+      is = within_higher (operand_level P L g a.value) (L.register h p.name) _ below.0
+          (operand_within g rs holds a.value);
+    },
+    bound_within g h rs holds ps args below.1,
+  )
 
-  literal_is : (ty : Scalar) (c : Const) (i : ℕ) → literal ty (out-Const c) ≡ Some i → index_value ty (const_value P.globals I.base c) ≡ i
+  literal_is : (ty : Scalar) (c : Const) (i : ℕ) → literal ty (out-Const c) ≡ Some i
+      → index_value ty (const_value P.globals I.base c) ≡ i
   literal_is ty c i e = go (out-Const c) refl e
     where
-      go : (y : Const-F Const ConstGep TypedConst) → out-Const c ≡ y → literal ty y ≡ Some i → index_value ty (const_value P.globals I.base c) ≡ i
+      go : (y : Const-F Const ConstGep TypedConst) → out-Const c ≡ y → literal ty y ≡ Some i
+          → index_value ty (const_value P.globals I.base c) ≡ i
       go (Const-F.Int b) q r =
-          let is : const_value P.globals I.base c ≡ b.value = ap (const_value P.globals I.base) (sym (roll-out-Const c) ∙ ap roll-Const q) ∙ ap (λ (x : Written). x.value) (fold-roll-Const _ _ _ _ _ _ _) in
+          let is : const_value P.globals I.base c ≡ b.value =
+          ap (const_value P.globals I.base) (sym (roll-out-Const c) ∙ ap roll-Const q)
+          ∙ ap (λ (x : Written). x.value) (fold-roll-Const _ _ _ _ _ _ _) in
           ap (index_value ty) is ∙ same_Some (index_value ty b.value) i r
       go Const-F.Null q r = cc
       go Const-F.Zero q r = cc
@@ -161,72 +202,129 @@ module _ (P : Program) (s : IsSound P) (I : Input) (L : Levels) (closed : IsClos
       go (Const-F.Array items) q r = cc
       go (Const-F.Struct items) q r = cc
 
-  fixed_is : (rs : Registers) (args : List Arg) (path : List ℕ) → fixed_path args ≡ Some path → index_values P.globals I.base rs args ≡ path
+  fixed_is : (rs : Registers) (args : List Arg) (path : List ℕ) → fixed_path args ≡ Some path
+      → index_values P.globals I.base rs args ≡ path
   fixed_is rs [] path e = same_Some [] path e
-  fixed_is rs (a ∷ args) path e = parts a.value (fixed_index a.ty a.value) (fixed_path args) refl (λ is q. fixed_is rs args is q) e
+  fixed_is rs (a ∷ args) path e = parts a.value (fixed_index a.ty a.value) (fixed_path args) refl
+      (λ is q. fixed_is rs args is q) e
     where
-      joined : (o : Operand) (i : ℕ) (is : List ℕ) → index_value a.ty (value_of P.globals I.base rs o) ≡ i → index_values P.globals I.base rs args ≡ is → i ∷ is ≡ path → index_value a.ty (value_of P.globals I.base rs o) ∷ index_values P.globals I.base rs args ≡ path
+      joined : (o : Operand) (i : ℕ) (is : List ℕ) → index_value a.ty (value_of P.globals I.base rs o) ≡ i
+          → index_values P.globals I.base rs args ≡ is → i ∷ is ≡ path
+          → index_value a.ty (value_of P.globals I.base rs o) ∷ index_values P.globals I.base rs args ≡ path
       joined o i is p q r = ap₂ (λ x xs. x ∷ xs) p q ∙ r
 
-      value : (o : Operand) (i : ℕ) → fixed_index a.ty o ≡ Some i → index_value a.ty (value_of P.globals I.base rs o) ≡ i
+      value : (o : Operand) (i : ℕ) → fixed_index a.ty o ≡ Some i
+          → index_value a.ty (value_of P.globals I.base rs o) ≡ i
       value (Reg name) i q = cc
       value (Fixed c) i q = literal_is a.ty c i q
 
-      parts : (o : Operand) (first : Option ℕ) (rest : Option (List ℕ)) → fixed_index a.ty o ≡ first → ((is : List ℕ) → rest ≡ Some is → index_values P.globals I.base rs args ≡ is) → both first rest ≡ Some path →
+      parts : (o : Operand) (first : Option ℕ) (rest : Option (List ℕ)) → fixed_index a.ty o ≡ first
+          → ((is : List ℕ) → rest ≡ Some is → index_values P.globals I.base rs args ≡ is)
+          → both first rest ≡ Some path →
           index_value a.ty (value_of P.globals I.base rs o) ∷ index_values P.globals I.base rs args ≡ path
       parts o None rest p later r = cc
       parts o (Some i) None p later r = cc
       parts o (Some i) (Some is) p later r = joined o i is (value o i p) (later is refl) (same_Some (i ∷ is) path r)
 
-  gep_within : (g : ℕ) (rs : Registers) → ValuesHold (IsWithinLevel L) (ResultIsWithin L) g rs → (base : Operand) (ty : Ty) (indices : List Arg) → within_level (gep_level (operand_level P L g base) ty (fixed_path indices)) ((value_of P.globals I.base rs base + unwrap_or (gep_of ty (index_values P.globals I.base rs indices)) 0) % 2 ^ 64)
+  gep_within : (g : ℕ) (rs : Registers) → ValuesHold (IsWithinLevel L) (ResultIsWithin L) g rs
+      → (base : Operand) (ty : Ty) (indices : List Arg)
+      → within_level (gep_level (operand_level P L g base) ty (fixed_path indices))
+      ((value_of P.globals I.base rs base + unwrap_or
+      (gep_of ty (index_values P.globals I.base rs indices)) 0) % 2 ^ 64)
   gep_within g rs h base ty indices = go (fixed_path indices) refl
     where
-      go : (o : Option (List ℕ)) → fixed_path indices ≡ o → within_level (gep_level (operand_level P L g base) ty o) ((value_of P.globals I.base rs base + unwrap_or (gep_of ty (index_values P.globals I.base rs indices)) 0) % 2 ^ 64)
+      go : (o : Option (List ℕ)) → fixed_path indices ≡ o
+          → within_level (gep_level (operand_level P L g base) ty o)
+          ((value_of P.globals I.base rs base + unwrap_or
+          (gep_of ty (index_values P.globals I.base rs indices)) 0) % 2 ^ 64)
       go None e = tt
       go (Some path) e =
-          subst (λ is. within_level (behind_offset (operand_level P L g base) (unwrap_or (gep_of ty path) 0)) ((value_of P.globals I.base rs base + unwrap_or (gep_of ty is) 0) % 2 ^ 64)) (sym (fixed_is rs indices path e))
-          (offset_within (operand_level P L g base) (unwrap_or (gep_of ty path) 0) (value_of P.globals I.base rs base) (operand_within g rs h base))
+          subst (λ is. within_level (behind_offset (operand_level P L g base) (unwrap_or (gep_of ty path) 0))
+          ((value_of P.globals I.base rs base + unwrap_or (gep_of ty is) 0) % 2 ^ 64))
+          (sym (fixed_is rs indices path e))
+          (offset_within (operand_level P L g base) (unwrap_or (gep_of ty path) 0) (value_of P.globals I.base rs base)
+          (operand_within g rs h base))
 
-  instr_fact_of : (g : ℕ) (w : World) (rs : Registers) → ValuesHold (IsWithinLevel L) (ResultIsWithin L) g rs → (i : Instr) → instr_is_closed P L g i → instr_fact (IsWithinLevel L) (ResultIsWithin L) P I g w rs i
+  instr_fact_of : (g : ℕ) (w : World) (rs : Registers) → ValuesHold (IsWithinLevel L) (ResultIsWithin L) g rs
+      → (i : Instr) → instr_is_closed P L g i → instr_fact (IsWithinLevel L) (ResultIsWithin L) P I g w rs i
   instr_fact_of g w rs h (Binary dest op flags width a b) c = λ r e. record { is = free_within _ _ c }
   instr_fact_of g w rs h (Compare dest pred ty a b) c = record { is = free_within _ _ c }
-  instr_fact_of g w rs h (Select dest test ty a b) c = record { is = chosen_within (L.register g dest) _ _ _ (within_higher (operand_level P L g a) _ _ c.0 (operand_within g rs h a)) (within_higher (operand_level P L g b) _ _ c.1 (operand_within g rs h b)) }
+  instr_fact_of g w rs h (Select dest test ty a b) c = record {
+    is =
+        chosen_within (L.register g dest) _ _ _ (within_higher (operand_level P L g a) _ _ c.0 (operand_within g rs h a))
+        (within_higher (operand_level P L g b) _ _ c.1 (operand_within g rs h b));
+  }
   instr_fact_of g w rs h (Cast dest op from a to) c = record { is = free_within _ _ c }
-  instr_fact_of g w rs h (Alloca dest ty align) c = λ a q within. record { is = within_higher (Some 0) (L.register g dest) a c (omega (arith, within)) }
+  instr_fact_of g w rs h (Alloca dest ty align) c =
+      λ a q within. record { is = within_higher (Some 0) (L.register g dest) a c (omega (arith, within)) }
   instr_fact_of g w rs h (Load dest ty addr align) c = record { is = free_within _ _ c }
   instr_fact_of g w rs h (Store ty value addr align) c = tt
-  instr_fact_of g w rs h (Gep dest inbounds ty base indices) c = record { is = within_higher (gep_level (operand_level P L g base) ty (fixed_path indices)) (L.register g dest) _ c (gep_within g rs h base ty indices) }
+  instr_fact_of g w rs h (Gep dest inbounds ty base indices) c = record {
+    is =
+        within_higher (gep_level (operand_level P L g base) ty (fixed_path indices)) (L.register g dest) _ c
+        (gep_within g rs h base ty indices);
+  }
   instr_fact_of g w rs h (Call dest ret callee args) c = record {
     read = λ e z. assigned_within g None dest (wrapped W64 z) (c.read e) tt;
-    enter = λ k fn e q r. let both = c.enter k fn e q r in
-        (record { all = bound_within g k rs h fn.params args both.1 }, record { for_result = λ v m. assigned_within g (L.result k) dest v both.0 m.is });
+    enter = λ k fn e q r. let both = c.enter k fn e q r in (
+      record { all = bound_within g k rs h fn.params args both.1 },
+      record { for_result = λ v m. assigned_within g (L.result k) dest v both.0 m.is },
+    );
   }
 
-  edge_within : (g : ℕ) (rs : Registers) → ValuesHold (IsWithinLevel L) (ResultIsWithin L) g rs → (a : Option ℕ) (from : List ℕ) (es : List Edge) → ((j : ℕ) (e : Edge) → slice_get es j ≡ Some e → is_at_most (operand_level P L g e.value) a) → within_level a (edge_value P.globals I.base rs es from)
+  edge_within : (g : ℕ) (rs : Registers) → ValuesHold (IsWithinLevel L) (ResultIsWithin L) g rs
+      → (a : Option ℕ) (from : List ℕ) (es : List Edge)
+      → ((j : ℕ) (e : Edge) → slice_get es j ≡ Some e → is_at_most (operand_level P L g e.value) a)
+      → within_level a (edge_value P.globals I.base rs es from)
   edge_within g rs h a from [] each = zero_within a
-  edge_within g rs h a from (e ∷ es) each = chosen_within a (bytes_eq e.label from) _ _ (within_higher (operand_level P L g e.value) a _ (each 0 e refl) (operand_within g rs h e.value)) (edge_within g rs h a from es (λ j d q. each (suc j) d q))
+  edge_within g rs h a from (e ∷ es) each =
+      chosen_within a (bytes_eq e.label from) _ _
+      (within_higher (operand_level P L g e.value) a _ (each 0 e refl) (operand_within g rs h e.value))
+      (edge_within g rs h a from es (λ j d q. each (suc j) d q))
 
-  result_within : (g : ℕ) (rs : Registers) → ValuesHold (IsWithinLevel L) (ResultIsWithin L) g rs → (arg : Option Arg) → ((a : Arg) → arg ≡ Some a → is_at_most (operand_level P L g a.value) (L.result g)) → within_level (L.result g) (returned P.globals I.base rs arg)
+  result_within : (g : ℕ) (rs : Registers) → ValuesHold (IsWithinLevel L) (ResultIsWithin L) g rs
+      → (arg : Option Arg) → ((a : Arg) → arg ≡ Some a
+      → is_at_most (operand_level P L g a.value) (L.result g))
+      → within_level (L.result g) (returned P.globals I.base rs arg)
   result_within g rs h None each = zero_within (L.result g)
-  result_within g rs h (Some a) each = within_higher (operand_level P L g a.value) (L.result g) _ (each a refl) (operand_within g rs h a.value)
+  result_within g rs h (Some a) each = within_higher (operand_level P L g a.value) (L.result g) _ (each a refl)
+      (operand_within g rs h a.value)
 
   -- a value of level t is at most the greatest of the level, in each frame at each step
   pub levels_hold : (n : ℕ) → values_in_frames (IsWithinLevel L) (ResultIsWithin L) (run P I n).frames
   levels_hold =
       fact_holds (IsWithinLevel L) (ResultIsWithin L) P I
       (record {
-        instr = λ n f fs fn block i t h at e. record { is = instr_fact_of f.function (run P I n).world f.registers h i (closed.instr f.function f.block f.place fn block i at e) };
-        phi = λ f c k fn block p from h at e. record { is = edge_within f.function f.registers h (L.register f.function p.dest) from p.edges (λ j d q. closed.phi f.function c k j fn block p d at e q) };
-        result = λ f fn block arg h at e. record { is = result_within f.function f.registers h arg (λ a q. closed.result f.function f.block fn block a at (e ∙ ap (λ o. ends.Ret o) q)) };
+        instr = λ n f fs fn block i t h at e. record {
+          is =
+              instr_fact_of f.function (run P I n).world f.registers h i
+              (closed.instr f.function f.block f.place fn block i at e);
+        };
+        phi = λ f c k fn block p from h at e. record {
+          is =
+              edge_within f.function f.registers h (L.register f.function p.dest) from p.edges
+              (λ j d q. closed.phi f.function c k j fn block p d at e q);
+        };
+        result = λ f fn block arg h at e. record {
+          is =
+              result_within f.function f.registers h arg
+              (λ a q. closed.result f.function f.block fn block a at (e ∙ ap (λ o. ends.Ret o) q));
+        };
       })
 
   -- as the law says it
   pub registers_within : (n : ℕ) → RegistersAreWithin L (run P I n).frames
-  registers_within n = each_told (IsWithinLevel L) (ResultIsWithin L) (λ g name. record { is = zero_within _ }) (run P I n).frames (levels_hold n)
+  registers_within n = each_told (IsWithinLevel L) (ResultIsWithin L) (λ g name. record { is = zero_within _ })
+      (run P I n).frames (levels_hold n)
 
   -- a store through an operand of a level up to 32 lies below the region
-  pub low_address : IsValid P I → (n : ℕ) (f : Frame) (fs : List Frame) (o : Operand) (t : ℕ) → IsTop (run P I n) f fs → operand_level P L f.function o ≡ Some t → t ≤ 32 → value_of P.globals I.base f.registers o < I.base
+  pub low_address : IsValid P I → (n : ℕ) (f : Frame) (fs : List Frame) (o : Operand) (t : ℕ)
+      → IsTop (run P I n) f fs → operand_level P L f.function o ≡ Some t → t ≤ 32
+      → value_of P.globals I.base f.registers o < I.base
   low_address valid n f fs o t top level low =
-      let all : values_in_frames (IsWithinLevel L) (ResultIsWithin L) (f ∷ fs) = subst (values_in_frames (IsWithinLevel L) (ResultIsWithin L)) top.frames (levels_hold n) in
-      let most : value_of P.globals I.base f.registers o ≤ stack_end + 67108864 * t = subst (λ a. within_level a (value_of P.globals I.base f.registers o)) level (operand_within f.function f.registers all.0 o) in
+      let all : values_in_frames (IsWithinLevel L) (ResultIsWithin L) (f ∷ fs) =
+      subst (values_in_frames (IsWithinLevel L) (ResultIsWithin L)) top.frames (levels_hold n) in
+      let most : value_of P.globals I.base f.registers o ≤ stack_end + 67108864 * t =
+      subst (λ a. within_level a (value_of P.globals I.base f.registers o)) level
+      (operand_within f.function f.registers all.0 o) in
       omega (arith, most, low, valid.base.low)

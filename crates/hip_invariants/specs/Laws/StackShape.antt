@@ -60,12 +60,14 @@ lower low high [] b = b
 lower low high (s ∷ ss) b = omega (arith, lower low s.addr ss b.1, b.0)
 
 module _ (P : Program) (I : Input) where
-  allowed_cases : (w : World) (below : ℕ) (rs : Registers) (i : Instr) → instr_cases P I w below rs (Allowed w.mark below) i
+  allowed_cases : (w : World) (below : ℕ) (rs : Registers) (i : Instr)
+      → instr_cases P I w below rs (Allowed w.mark below) i
   allowed_cases w below rs (Binary dest op flags width x y) = λ r e. record { is = tt }
   allowed_cases w below rs (Compare dest pred ty x y) = record { is = tt }
   allowed_cases w below rs (Select dest test ty x y) = record { is = tt }
   allowed_cases w below rs (Cast dest op from x to) = record { is = tt }
-  allowed_cases w below rs (Alloca dest ty align) = λ a e within. record { is = (subst (λ n. w.mark ≤ n) (sym e) (next-le w.mark _), within) }
+  allowed_cases w below rs (Alloca dest ty align) =
+      λ a e within. record { is = (subst (λ n. w.mark ≤ n) (sym e) (next-le w.mark _), within) }
   allowed_cases w below rs (Load dest ty addr align) = record { is = tt }
   allowed_cases w below rs (Store ty value addr align) = record { is = tt }
   allowed_cases w below rs (Gep dest inbounds ty base indices) = record { is = tt }
@@ -89,21 +91,32 @@ module _ (P : Program) (I : Input) where
   end_allowed mark below f (Some (ends.Ret arg)) = record { is = tt }
   end_allowed mark below f (Some ends.Unreachable) = record { is = tt }
 
-  deed_allowed : (w : World) (below : ℕ) (f : Frame) (code : List Instr) → Allowed w.mark below (deed_of P I w below f (end_at P f) code).action
+  deed_allowed : (w : World) (below : ℕ) (f : Frame) (code : List Instr)
+      → Allowed w.mark below (deed_of P I w below f (end_at P f) code).action
   deed_allowed w below f [] = end_allowed w.mark below f (end_at P f)
-  deed_allowed w below f (i ∷ rest) = of_instr_action P I w below f.registers (Allowed w.mark below) (λ kind n. record { is = tt }) i (allowed_cases w below f.registers i)
+  deed_allowed w below f (i ∷ rest) = of_instr_action P I w below f.registers (Allowed w.mark below)
+      (λ kind n. record { is = tt }) i (allowed_cases w below f.registers i)
 
   -- ---- a step
 
-  same_level : (f h : Frame) (fs : List Frame) → h.level ≡ f.level → have_calls (f ∷ fs) → have_calls (h ∷ fs)
+  same_level : (f h : Frame) (fs : List Frame) → h.level ≡ f.level → have_calls (f ∷ fs)
+      → have_calls (h ∷ fs)
   same_level f h [] e l = e ∙ l
   same_level f h (g ∷ fs) e l = ((l.0.0, e ∙ l.0.1), l.1)
 
   -- another frame on top with the same blocks, mark and call
-  changed : (mark : ℕ) (f h : Frame) (fs : List Frame) → lie_in_order mark (h ∷ fs) → h.level ≡ f.level → HasShape mark (f ∷ fs) → HasShape mark (h ∷ fs)
-  changed mark f h fs o e s = record { in_order = o; within = s.within; few = s.few; calls = same_level f h fs e s.calls }
+  changed : (mark : ℕ) (f h : Frame) (fs : List Frame) → lie_in_order mark (h ∷ fs) → h.level ≡ f.level
+      → HasShape mark (f ∷ fs) → HasShape mark (h ∷ fs)
+  changed mark f h fs o e s = record {
+    in_order = o;
+    within = s.within;
+    few = s.few;
+    calls =
+        same_level f h fs e s.calls;
+  }
 
-  leave_shaped : (v : ℕ) (w : World) (f : Frame) (fs : List Frame) (ls : List (Line StorePart)) (after : Counts) → HasShape w.mark (f ∷ fs) → KeepsShape (leave v w f fs ls after)
+  leave_shaped : (v : ℕ) (w : World) (f : Frame) (fs : List Frame) (ls : List (Line StorePart)) (after : Counts)
+      → HasShape w.mark (f ∷ fs) → KeepsShape (leave v w f fs ls after)
   unfolding leave
   leave_shaped v w f [] ls after s = record { is = s }
   leave_shaped v w f (g ∷ fs) ls after s = record {
@@ -115,7 +128,9 @@ module _ (P : Program) (I : Input) where
     };
   }
 
-  perform_shaped : (w : World) (f : Frame) (fs : List Frame) (ls : List (Line StorePart)) (before after : Counts) → HasShape w.mark (f ∷ fs) → (x : Action) → allowed w.mark (length fs) x → KeepsShape (perform I w f fs ls before after x)
+  perform_shaped : (w : World) (f : Frame) (fs : List Frame) (ls : List (Line StorePart)) (before after : Counts)
+      → HasShape w.mark (f ∷ fs) → (x : Action) → allowed w.mark (length fs) x
+      → KeepsShape (perform I w f fs ls before after x)
   unfolding perform
   perform_shaped w f fs ls before after s (Traps kind) p = record { is = s }
   perform_shaped w f fs ls before after s (Assigns dest v) p = record { is = changed w.mark f _ fs s.in_order refl s }
@@ -133,7 +148,10 @@ module _ (P : Program) (I : Input) where
   perform_shaped w f fs ls before after s Fences p = record { is = changed w.mark f _ fs s.in_order refl s }
   perform_shaped w f fs ls before after s (Asserts a n) p = record { is = changed w.mark f _ fs s.in_order refl s }
   perform_shaped w f fs ls before after s (Prints z) p = record { is = changed w.mark f _ fs s.in_order refl s }
-  perform_shaped w f fs ls before after s (Reads dest z rest) p = record { is = changed w.mark f _ fs s.in_order refl s }
+  perform_shaped w f fs ls before after s (Reads dest z rest) p = record {
+    is =
+        changed w.mark f _ fs s.in_order refl s;
+  }
   perform_shaped w f fs ls before after s (Calls g registers dest) p = record {
     is = record {
       in_order = (let same : w.mark ≤ w.mark = omega arith in same, s.in_order);
@@ -142,10 +160,15 @@ module _ (P : Program) (I : Input) where
       calls = ((_, refl), same_level f (next f) fs refl s.calls);
     };
   }
-  perform_shaped w f fs ls before after s (Jumps b registers) p = record { is = changed w.mark f _ fs s.in_order refl s }
+  perform_shaped w f fs ls before after s (Jumps b registers) p = record {
+    is =
+        changed w.mark f _ fs s.in_order refl s;
+  }
   perform_shaped w f fs ls before after s (Returns v) p = leave_shaped v w f fs ls after s
 
-  carry_out_shaped : (w : World) (f : Frame) (fs : List Frame) (ls : List (Line StorePart)) (before after : Counts) → HasShape w.mark (f ∷ fs) → (d : Deed) → Allowed w.mark (length fs) d.action → KeepsShape (carry_out I w f fs ls before after d)
+  carry_out_shaped : (w : World) (f : Frame) (fs : List Frame) (ls : List (Line StorePart)) (before after : Counts)
+      → HasShape w.mark (f ∷ fs) → (d : Deed) → Allowed w.mark (length fs) d.action
+      → KeepsShape (carry_out I w f fs ls before after d)
   unfolding carry_out
   carry_out_shaped w f fs ls before after s d p = go (is_cut I w d)
     where
@@ -153,7 +176,8 @@ module _ (P : Program) (I : Input) where
       taken true = perform_shaped (with_turn w) f fs ls before after s d.action p.is
       taken false = perform_shaped w f fs ls before after s d.action p.is
 
-      go : (b : Bool) → KeepsShape (cond b (stop Cut w (f ∷ fs) ls after) (perform I (cond d.turn (with_turn w) w) f fs ls before after d.action))
+      go : (b : Bool) → KeepsShape (cond b (stop Cut w (f ∷ fs) ls after)
+          (perform I (cond d.turn (with_turn w) w) f fs ls before after d.action))
       go true = record { is = s }
       go false = taken d.turn
 
@@ -161,9 +185,12 @@ module _ (P : Program) (I : Input) where
   unfolding step on_ending on_frames
   step_shaped s h = go s.world.ending
     where
-      on_them : (fs : List Frame) → HasShape s.world.mark fs → KeepsShape (on_frames P I s.world s.lines s.counts fs)
+      on_them : (fs : List Frame) → HasShape s.world.mark fs
+          → KeepsShape (on_frames P I s.world s.lines s.counts fs)
       on_them [] q = record { is = q }
-      on_them (f ∷ fs) q = carry_out_shaped s.world f fs s.lines s.counts (counted (event_at I s.world fs (deed_at P I s.world f fs)) s.counts) q (deed_at P I s.world f fs) (deed_allowed s.world (length fs) f (code_at P f))
+      on_them (f ∷ fs) q = carry_out_shaped s.world f fs s.lines s.counts
+          (counted (event_at I s.world fs (deed_at P I s.world f fs)) s.counts) q (deed_at P I s.world f fs)
+          (deed_allowed s.world (length fs) f (code_at P f))
 
       go : (o : Option Ending) → KeepsShape (on_ending P I s o)
       go (Some e) = h
@@ -171,7 +198,15 @@ module _ (P : Program) (I : Input) where
 
   run_shaped : (n : ℕ) → KeepsShape (run P I n)
   unfolding run
-  run_shaped zero = record { is = record { in_order = (omega arith, omega arith); within = omega arith; few = omega arith; calls = refl } }
+  run_shaped zero = record {
+    is = record {
+      in_order = (omega arith, omega arith);
+      within = omega arith;
+      few =
+          omega arith;
+      calls = refl;
+    };
+  }
   run_shaped (suc n) = step_shaped (run P I n) (run_shaped n)
 
 -- one level fewer than frames
@@ -179,7 +214,8 @@ levels_fewer : (f : Frame) (fs : List Frame) → have_calls (f ∷ fs) → lengt
 levels_fewer f [] l = rw l refl
 levels_fewer f (g ∷ fs) l = rw l.0.1 (ap suc (levels_fewer g fs l.1))
 
-levels_counted : (fs : List Frame) → has_frame fs ≡ true → have_calls fs → suc (length (levels_of fs)) ≡ length fs
+levels_counted : (fs : List Frame) → has_frame fs ≡ true → have_calls fs
+    → suc (length (levels_of fs)) ≡ length fs
 levels_counted [] h l = cc
 levels_counted (f ∷ fs) h l = ap suc (levels_fewer f fs l)
 

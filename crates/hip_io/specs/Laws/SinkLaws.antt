@@ -35,7 +35,8 @@ all_then_prefix old mid new s t p q = record {
 }
 
 -- a prefix of the first text is one of both
-pub prefix_of_more : (old new : SinkState) (s t : List ℕ) → AppendsPrefix old new s → AppendsPrefix old new (s ++ t)
+pub prefix_of_more : (old new : SinkState) (s t : List ℕ) → AppendsPrefix old new s
+    → AppendsPrefix old new (s ++ t)
 prefix_of_more old new s t q = record {
   written = q.written;
   missing = q.missing ++ t;
@@ -57,7 +58,8 @@ writes_both Failed j k old mid new s t p q =
     record { answer = rest.answer; state = rest.state ∙ p.state }
 
 -- Two stages write both texts.
-pub and_then : {i j k : Put} {old mid new : SinkState} {s t : List ℕ} → Writes i j old mid s → Writes j k mid new t
+pub and_then : {i j k : Put} {old mid new : SinkState} {s t : List ℕ} → Writes i j old mid s
+    → Writes j k mid new t
     → Writes i k old new (s ++ t)
 and_then {i} {j} {k} {old} {mid} {new} {s} {t} p q = record { how = writes_both i j k old mid new s t p.how q.how }
 
@@ -70,5 +72,6 @@ writes_nothing Done old = record { how = record { bytes = keeps old.bytes; fault
     keeps (Some x) = ap (λ (y : List ℕ). Some y) (sym (append-nil x))
 writes_nothing Failed old = record { how = record { answer = refl; state = refl } }
 
-pub same_text : {i j : Put} {old new : SinkState} {s t : List ℕ} → s ≡ t → Writes i j old new s → Writes i j old new t
+pub same_text : {i j : Put} {old new : SinkState} {s t : List ℕ} → s ≡ t → Writes i j old new s
+    → Writes i j old new t
 same_text {i} {j} {old} {new} {s} {t} e p = subst (λ (x : List ℕ). Writes i j old new x) e p

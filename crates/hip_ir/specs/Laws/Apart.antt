@@ -71,7 +71,8 @@ label_apart d h (Mark b) e = absurd cc
 label_apart d h (Odd b) e = absurd cc
 
 -- words with a meaning are apart from what no word passes
-pub words_apart : {A : Type 0} (f : List ℕ → Option A) (d : Tok → Bool) → ((t : List ℕ) → d (Word t) ≡ false)
+pub words_apart : {A : Type 0} (f : List ℕ → Option A) (d : Tok → Bool)
+    → ((t : List ℕ) → d (Word t) ≡ false)
     → Apart (is_word_of f) d
 words_apart f d h (Word t) e = h t
 words_apart f d h (Label t) e = absurd cc
@@ -113,7 +114,8 @@ no_entry_apart B f (Odd b) e = refl
 
 -- a table of values, none of which is written as a word of the first
 pub table_apart : {A B : Type 0} (f : List ℕ → Option A) (text : B → List ℕ) (xs : List B)
-    → list_all (λ x. not (is_there (f (text x)))) xs ≡ true → Apart (is_word_of f) (is_word_of (written_as text xs))
+    → list_all (λ x. not (is_there (f (text x)))) xs ≡ true
+    → Apart (is_word_of f) (is_word_of (written_as text xs))
 table_apart {A} {B} f text [] h = no_entry_apart B f
 table_apart f text (x ∷ xs) h =
     let p = and_parts (not (is_there (f (text x)))) (list_all (λ y. not (is_there (f (text y)))) xs) h in
@@ -155,7 +157,8 @@ none_is_no : {A : Type 0} (o : Option A) → is_there o ≡ false → or_no o �
 none_is_no (Some x) e = absurd cc
 none_is_no None e = refl
 
-pub not_word_of : {A : Type 0} (f : List ℕ → Option A) (t : Tok) → is_word_of f t ≡ false → a_word_of f t ≡ No
+pub not_word_of : {A : Type 0} (f : List ℕ → Option A) (t : Tok) → is_word_of f t ≡ false
+    → a_word_of f t ≡ No
 not_word_of f (Word t) e = none_is_no (f t) e
 not_word_of f (Label t) e = refl
 not_word_of f (Global t) e = refl

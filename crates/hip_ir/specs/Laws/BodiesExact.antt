@@ -53,7 +53,8 @@ phi_read dest =
 -- ---- instructions, each of which may be followed by any token but perhaps a comma
 
 -- a test is apart from a word and from what comes after it
-from_word : {A : Type 0} (f : List ℕ → Option A) (w : List ℕ) (d : Tok → Bool) → is_word_of f (Word w) ≡ false
+from_word : {A : Type 0} (f : List ℕ → Option A) (w : List ℕ) (d : Tok → Bool)
+    → is_word_of f (Word w) ≡ false
     → Apart (is_word_of f) d → Apart (is_word_of f) (joined (is_word w) d)
 from_word f w d h p =
     apart_joined (is_word_of f) (is_word w) d (apart_sym (is_word w) (is_word_of f) (word_apart w (is_word_of f) h)) p
@@ -276,7 +277,8 @@ br_read =
 pub case_read : (w : Width) → IsRead (case w) (is_width w) never
 unfolding case
 case_read w =
-    begins _ _ _ (λ _. link _ _ _ (λ value. link _ _ _ (λ _. part_link _ _ _ target_exact (λ label. gives_exact _ _))))
+    begins _ _ _ (λ _. link _ _ _ (λ value.
+    link _ _ _ (λ _. part_link _ _ _ target_exact (λ label. gives_exact _ _))))
 
 switch_read : IsRead switch (is_word (codes "switch")) never
 unfolding switch

@@ -67,7 +67,8 @@ may_stand wraps exact Nsw = wraps
 may_stand wraps exact Exact = exact
 
 flags_stand : (wraps exact : Bool)
-    → list_all (may_stand wraps exact) (if wraps then Nuw ∷ Nsw ∷ [] else (if exact then Exact ∷ [] else [])) ≡ true
+    → list_all (may_stand wraps exact) (if wraps then Nuw ∷ Nsw ∷ [] else (if exact then Exact ∷ [] else []))
+    ≡ true
 flags_stand true exact = refl
 flags_stand false true = refl
 flags_stand false false = refl
@@ -128,13 +129,15 @@ select_yields dest d =
     (λ _. then_yields _ _ _ _ (operand_yields (scalars.Int W1))
     (λ cond c. after_token _ _ _ (λ _. after_token _ _ _
     (λ s. then_yields _ _ _ _ (operand_yields s) (λ a x. after_token _ _ _ (λ _. after_token _ _ _ (λ _.
-    then_yields _ _ _ _ (operand_yields s) (λ b y. gives_yields _ _ (both_true d (both_true c (both_true x y))))))))))))
+    then_yields _ _ _ _ (operand_yields s) (λ b y.
+    gives_yields _ _ (both_true d (both_true c (both_true x y))))))))))))
 
 int_cast_by : (v w : Width) (t : List ℕ) (op : CastOp) → or_no (int_cast_word t) ≡ Yes op
     → spelled_cast op (scalars.Int v) (scalars.Int w) ≡ true
 int_cast_by v w t op e = table_is (λ z. spelled_cast z (scalars.Int v) (scalars.Int w)) cast_text int_casts t op refl e
 
-int_cast_yields : (dest : List ℕ) → is_name dest ≡ true → Yields (int_cast dest) (λ i. spelled_instr i ≡ true)
+int_cast_yields : (dest : List ℕ) → is_name dest ≡ true
+    → Yields (int_cast dest) (λ i. spelled_instr i ≡ true)
 unfolding int_cast
 int_cast_yields dest d =
     then_yields _ _ _ _ (token_yields (a_word_of int_cast_word) _
@@ -144,14 +147,16 @@ int_cast_yields dest d =
     (λ a x. after_token _ _ _ (λ _. after_token _ _ _
     (λ v. gives_yields _ _ (both_true d (both_true (c w v) x)))))))
 
-ptrtoint_yields : (dest : List ℕ) → is_name dest ≡ true → Yields (ptrtoint dest) (λ i. spelled_instr i ≡ true)
+ptrtoint_yields : (dest : List ℕ) → is_name dest ≡ true
+    → Yields (ptrtoint dest) (λ i. spelled_instr i ≡ true)
 unfolding ptrtoint
 ptrtoint_yields dest d =
     after_token _ _ _ (λ _. after_token _ _ _
     (λ _. then_yields _ _ _ _ (operand_yields scalars.Ptr)
     (λ a x. after_token _ _ _ (λ _. after_token _ _ _ (λ w. gives_yields _ _ (both_true d x))))))
 
-inttoptr_yields : (dest : List ℕ) → is_name dest ≡ true → Yields (inttoptr dest) (λ i. spelled_instr i ≡ true)
+inttoptr_yields : (dest : List ℕ) → is_name dest ≡ true
+    → Yields (inttoptr dest) (λ i. spelled_instr i ≡ true)
 unfolding inttoptr
 inttoptr_yields dest d =
     after_token _ _ _ (λ _. after_token _ _ _
@@ -202,26 +207,30 @@ plain_call_yields dest d =
     (listed_yields comma (is_mark 41) arg spelled_arg arg_yields)
     (λ args a. gives_yields _ _ (both_true d (both_true c a)))))))
 
-call_yields : (dest : Option (List ℕ)) → spelled_result dest ≡ true → Yields (call dest) (λ i. spelled_instr i ≡ true)
+call_yields : (dest : Option (List ℕ)) → spelled_result dest ≡ true
+    → Yields (call dest) (λ i. spelled_instr i ≡ true)
 unfolding call
 call_yields dest d =
     then_yields _ _ _ _ (optional_yields _ _ Any Any (token_yields _ _ (λ t a f e. tt)) tt (λ a h. tt))
     (λ _ h. plain_call_yields dest d)
 
-memory_instr_yields : (dest : List ℕ) → is_name dest ≡ true → Yields (memory_instr dest) (λ i. spelled_instr i ≡ true)
+memory_instr_yields : (dest : List ℕ) → is_name dest ≡ true
+    → Yields (memory_instr dest) (λ i. spelled_instr i ≡ true)
 unfolding memory_instr
 memory_instr_yields dest d =
     either_yields _ _ _ _ (alloca_yields dest d)
     (either_yields _ _ _ _ (load_yields dest d) (either_yields _ _ _ _ (gep_yields dest d) (call_yields (Some dest) d)))
 
-cast_instr_yields : (dest : List ℕ) → is_name dest ≡ true → Yields (cast_instr dest) (λ i. spelled_instr i ≡ true)
+cast_instr_yields : (dest : List ℕ) → is_name dest ≡ true
+    → Yields (cast_instr dest) (λ i. spelled_instr i ≡ true)
 unfolding cast_instr
 cast_instr_yields dest d =
     either_yields _ _ _ _ (int_cast_yields dest d)
     (either_yields _ _ _ _ (ptrtoint_yields dest d)
     (either_yields _ _ _ _ (inttoptr_yields dest d) (memory_instr_yields dest d)))
 
-value_instr_yields : (dest : List ℕ) → is_name dest ≡ true → Yields (value_instr dest) (λ i. spelled_instr i ≡ true)
+value_instr_yields : (dest : List ℕ) → is_name dest ≡ true
+    → Yields (value_instr dest) (λ i. spelled_instr i ≡ true)
 unfolding value_instr
 value_instr_yields dest d =
     either_yields _ _ _ _ (binary_yields dest d)
@@ -294,12 +303,14 @@ end_yields =
 
 -- ---- blocks
 
-instrs_and_end_yields : (label : List ℕ) (phis : List Phi) → is_name label ≡ true → list_all spelled_phi phis ≡ true
+instrs_and_end_yields : (label : List ℕ) (phis : List Phi) → is_name label ≡ true
+    → list_all spelled_phi phis ≡ true
     → Yields (instrs_and_end label phis) (λ b. spelled_block b ≡ true)
 unfolding instrs_and_end closing
 instrs_and_end_yields label phis l p =
     then_yields _ _ _ _ (repeated_yields begins_instr instr spelled_instr instr_yields)
-    (λ body b. then_yields _ _ _ _ end_yields (λ last e. gives_yields _ _ (both_true l (both_true p (both_true b e)))))
+    (λ body b. then_yields _ _ _ _ end_yields
+    (λ last e. gives_yields _ _ (both_true l (both_true p (both_true b e)))))
 
 pub block_yields : Yields block (λ b. spelled_block b ≡ true)
 unfolding block

@@ -96,7 +96,8 @@ begins_pointer (Word t) = is_pointer_word t
 begins_pointer (Global t) = true
 begins_pointer _ = false
 
-not_pointer_word : (t : List ℕ) (b d : Bool) → bytes_eq t (codes "null") ≡ b → bytes_eq t (codes "zeroinitializer") ≡ d
+not_pointer_word : (t : List ℕ) (b d : Bool) → bytes_eq t (codes "null") ≡ b
+    → bytes_eq t (codes "zeroinitializer") ≡ d
     → (b || d) ≡ false → a_pointer (Word t) ≡ No
 not_pointer_word t true d h k e = absurd cc
 not_pointer_word t false true h k e = absurd cc
@@ -112,7 +113,8 @@ not_pointer (Str t) e = refl
 not_pointer (Mark b) e = refl
 not_pointer (Odd b) e = refl
 
-gep_const_read : (inside : Bool → Part Fault Const) → ((inbounds : Bool) → IsRead (inside inbounds) (is_mark 40) never)
+gep_const_read : (inside : Bool → Part Fault Const)
+    → ((inbounds : Bool) → IsRead (inside inbounds) (is_mark 40) never)
     → IsRead (gep_const inside) (is_word (codes "getelementptr")) never
 unfolding gep_const
 gep_const_read inside p =
@@ -133,7 +135,8 @@ gep_inside_read base inbounds p =
 abbrev pub begins_pointer_const : Tok → Bool
 begins_pointer_const = joined (is_word (codes "getelementptr")) begins_pointer
 
-pointer_by_read : (inside : Bool → Part Fault Const) → ((inbounds : Bool) → IsRead (inside inbounds) (is_mark 40) never)
+pointer_by_read : (inside : Bool → Part Fault Const)
+    → ((inbounds : Bool) → IsRead (inside inbounds) (is_mark 40) never)
     → IsRead (pointer_by inside) begins_pointer_const never
 unfolding pointer_by
 pointer_by_read inside p =
@@ -158,7 +161,8 @@ unfolding typed_const
 typed_const_read value p =
     then_read type _ begins_type never (type_read 32) (λ ty. maps_exact (value ty) _ never (p ty))
 
-const_list_read : (open_mark close_mark : ℕ) (value : Ty → Part Fault Const) → ((ty : Ty) → Exact (value ty) never)
+const_list_read : (open_mark close_mark : ℕ) (value : Ty → Part Fault Const)
+    → ((ty : Ty) → Exact (value ty) never)
     → Apart comma (is_mark close_mark) → Apart (is_mark close_mark) begins_type
     → IsRead (const_list open_mark close_mark value) (is_mark open_mark) never
 unfolding const_list

@@ -50,13 +50,15 @@ label_is (Label x) n f e = subst (λ z. is_name z ≡ true) (yes_is x n e) f
 label_is t n f e = absurd cc
 
 -- a word that means something by a table
-pub word_is : {A : Type 0} (f : List ℕ → Option A) (Q : A → Type 0) → ((t : List ℕ) (a : A) → or_no (f t) ≡ Yes a → Q a)
+pub word_is : {A : Type 0} (f : List ℕ → Option A) (Q : A → Type 0)
+    → ((t : List ℕ) (a : A) → or_no (f t) ≡ Yes a → Q a)
     → (t : Tok) (a : A) → is_formed t ≡ true → a_word_of f t ≡ Yes a → Q a
 word_is f Q h (Word t) a g e = h t a e
 word_is f Q h t a g e = absurd cc
 
 -- an entry of a table, and what comes after it
-pub entry_is : {A : Type 0} (Q : A → Type 0) (b : Bool) (x : A) (o : Option A) (a : A) → Q x → (or_no o ≡ Yes a → Q a)
+pub entry_is : {A : Type 0} (Q : A → Type 0) (b : Bool) (x : A) (o : Option A) (a : A) → Q x
+    → (or_no o ≡ Yes a → Q a)
     → or_no (if b then Some x else o) ≡ Yes a → Q a
 entry_is Q true x o a q h e = subst Q (yes_is x a e) q
 entry_is Q false x o a q h e = h e
@@ -78,7 +80,8 @@ below_is : (limit m n : ℕ) (b : Bool) → nat_lt m limit ≡ b → or_range (i
 below_is limit m n true h e = subst (λ z. nat_lt z limit ≡ true) (yes_is m n e) h
 below_is limit m n false h e = absurd cc
 
-count_by : (b : Bool) (m n : ℕ) → or_range (if b then None else below 67108865 m) ≡ Yes n → nat_lt n 67108865 ≡ true
+count_by : (b : Bool) (m n : ℕ) → or_range (if b then None else below 67108865 m) ≡ Yes n
+    → nat_lt n 67108865 ≡ true
 count_by true m n e = absurd cc
 count_by false m n e = below_is 67108865 m n (nat_lt m 67108865) refl e
 
@@ -117,7 +120,8 @@ truth_is W16 t b e = absurd cc
 truth_is W32 t b e = absurd cc
 truth_is W64 t b e = absurd cc
 
-pub literal_is : (w : Width) (t : Tok) (b : Bits) → is_formed t ≡ true → a_literal w t ≡ Yes b → of_width w b ≡ true
+pub literal_is : (w : Width) (t : Tok) (b : Bits) → is_formed t ≡ true → a_literal w t ≡ Yes b
+    → of_width w b ≡ true
 literal_is w (Num t) b f e = in_range_is w (value_of w t) b e
 literal_is w (Word t) b f e = truth_is w t b e
 literal_is w t b f e = absurd cc
@@ -143,11 +147,13 @@ zero_by : (b : Bool) (c : Const) (Q : Const → Type 0) → Q consts.Zero
 zero_by true c Q q e = subst Q (yes_is consts.Zero c e) q
 zero_by false c Q q e = absurd cc
 
-zero_is : (Q : Const → Type 0) → Q consts.Zero → (t : Tok) (c : Const) → is_formed t ≡ true → zero_const t ≡ Yes c → Q c
+zero_is : (Q : Const → Type 0) → Q consts.Zero → (t : Tok) (c : Const) → is_formed t ≡ true
+    → zero_const t ≡ Yes c → Q c
 zero_is Q q t c f e = zero_by (is_word (codes "zeroinitializer") t) c Q q e
 
 simple_by : (n z : Bool) (c : Const) (Q : Const → Type 0) → Q consts.Null → Q consts.Zero
-    → ◌≡◌ {A = Verdict Fault Const} (if n then Yes consts.Null else (if z then Yes consts.Zero else No)) (Yes c) → Q c
+    → ◌≡◌ {A = Verdict Fault Const} (if n then Yes consts.Null else (if z then Yes consts.Zero else No)) (Yes c)
+    → Q c
 simple_by true z c Q p q e = subst Q (yes_is consts.Null c e) p
 simple_by false z c Q p q e = zero_by z c Q q e
 
@@ -221,12 +227,14 @@ literal_index_yields : Yields literal_index (λ b. true ≡ true)
 unfolding literal_index
 literal_index_yields = after_token _ _ _ (λ w. token_yields (a_literal w) _ (λ t b f e. refl))
 
-gep_inside_yields : (n : ℕ) (inbounds : Bool) → Yields (pointer_within n) (λ c. spelled_pointer_within n c ≡ true)
+gep_inside_yields : (n : ℕ) (inbounds : Bool)
+    → Yields (pointer_within n) (λ c. spelled_pointer_within n c ≡ true)
     → Yields (gep_inside (pointer_within n) inbounds) (λ c. spelled_pointer_within (suc n) c ≡ true)
 unfolding gep_inside spelled_pointer_within
 gep_inside_yields n inbounds p =
     after_token _ _ _ (λ _. then_yields _ _ _ _ (type_yields 32)
-    (λ ty t. after_token _ _ _ (λ _. after_token _ _ _ (λ _. then_yields _ _ _ _ p (λ from b. after_token _ _ _ (λ _.
+    (λ ty t. after_token _ _ _ (λ _. after_token _ _ _
+    (λ _. then_yields _ _ _ _ p (λ from b. after_token _ _ _ (λ _.
     then_yields _ _ _ _ (separated_yields comma literal_index (λ i. true)
     (λ is. not_empty is ≡ true) literal_index_yields (λ x xs h. refl)) (λ indices i. after_token _ _ _ (λ _.
     gives_yields _ _ (rw (out-Const-Gep (record { inbounds = inbounds; ty = ty; base = from; indices = indices }))
@@ -245,7 +253,8 @@ gep_const_yields inside Q p =
     after_token _ _ _ (λ _. then_yields _ _ _ _ (maybe_word_yields (codes "inbounds")) (λ inbounds h. p inbounds))
 
 pointer_by_yields : (inside : Bool → Part Fault Const) (Q : Const → Type 0)
-    → ((inbounds : Bool) → Yields (inside inbounds) Q) → Yields (token a_pointer) Q → Yields (pointer_by inside) Q
+    → ((inbounds : Bool) → Yields (inside inbounds) Q) → Yields (token a_pointer) Q
+    → Yields (pointer_by inside) Q
 unfolding pointer_by
 pointer_by_yields inside Q p q = either_yields _ _ _ Q (gep_const_yields inside Q p) q
 
@@ -265,7 +274,8 @@ typed_const_yields : (value : Ty → Part Fault Const) (test : Ty → Const → 
     → Yields (typed_const value) (λ item. spelled_item test item ≡ true)
 unfolding typed_const
 typed_const_yields value test p =
-    then_yields _ _ _ _ (type_yields 32) (λ ty t. then_yields _ _ _ _ (p ty) (λ c h. gives_yields _ _ (both_true t h)))
+    then_yields _ _ _ _ (type_yields 32) (λ ty t.
+    then_yields _ _ _ _ (p ty) (λ c h. gives_yields _ _ (both_true t h)))
 
 const_list_yields : (open_mark close_mark : ℕ) (value : Ty → Part Fault Const) (test : Ty → Const → Bool)
     → ((ty : Ty) → Yields (value ty) (λ c. test ty c ≡ true))
@@ -276,7 +286,8 @@ const_list_yields open_mark close_mark value test p =
     (typed_const_yields value test p))
 
 array_const_yields : (items : Part Fault (List TypedConst)) (inner : List TypedConst → Bool)
-    → Yields items (λ xs. inner xs ≡ true) → Yields (array_const items) (λ c. spelled_array inner (out-Const c) ≡ true)
+    → Yields items (λ xs. inner xs ≡ true)
+    → Yields (array_const items) (λ c. spelled_array inner (out-Const c) ≡ true)
 unfolding array_const
 array_const_yields items inner p = then_yields _ _ _ _ p (λ xs h. gives_yields _ _ (rw (out-Const-Array xs) h))
 

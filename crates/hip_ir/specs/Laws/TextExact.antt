@@ -250,7 +250,8 @@ taken ts program (Ok x) r t =
     elim (r.only program [] t) [ inl e ↦ ended_is program x.0 x.1 e.0 e.1 | inr g ↦ none_next g ]
 taken ts program (Err e) r t = none_next (r.only program [] t)
 
-pub derived_is : (ts : List At) (program : Program) → text.rule.Derives ts program [] → whole_text ts ≡ Ok (program, [])
+pub derived_is : (ts : List At) (program : Program) → text.rule.Derives ts program []
+    → whole_text ts ≡ Ok (program, [])
 unfolding whole_text
 derived_is ts program t = taken ts program (text.read ts) (text_exact.reads ts) t
 
@@ -267,7 +268,8 @@ only_is ts found program rest e t =
 pub never_derived : (ts : List At) (why : Option Fault) (rest : List At) (program : Program)
     → whole_text ts ≡ Err (why, rest) → text.rule.Derives ts program [] → ⊥
 never_derived ts why rest program e t =
-    let q : ◌≡◌ {A = Outcome Fault Program} (Err (why, rest)) (Ok (program, [])) = sym e ∙ derived_is ts program t in cc
+    let q : ◌≡◌ {A = Outcome Fault Program} (Err (why, rest)) (Ok (program, [])) = sym e
+    ∙ derived_is ts program t in cc
 
 -- the tokens of a text derive one program at most
 pub one_program : (ts : List At) (p q : Program) → text.rule.Derives ts p [] → text.rule.Derives ts q [] → p ≡ q

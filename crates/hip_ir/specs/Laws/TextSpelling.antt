@@ -41,12 +41,14 @@ target_item_yields =
 section_yields : Yields section (λ p. spelled_align p.1 ≡ true)
 unfolding section
 section_yields =
-    after_token _ _ _ (λ _. after_token _ _ _ (λ _. then_yields _ _ _ _ maybe_align_yields (λ n a. gives_yields _ _ a)))
+    after_token _ _ _ (λ _. after_token _ _ _
+    (λ _. then_yields _ _ _ _ maybe_align_yields (λ n a. gives_yields _ _ a)))
 
 only_align_yields : Yields only_align (λ p. spelled_align p.1 ≡ true)
 unfolding only_align
 only_align_yields =
-    after_token _ _ _ (λ _. then_yields _ _ _ _ (token_yields an_alignment _ alignment_is) (λ n a. gives_yields _ _ a))
+    after_token _ _ _ (λ _. then_yields _ _ _ _ (token_yields an_alignment _ alignment_is)
+    (λ n a. gives_yields _ _ a))
 
 placement_yields : Yields placement (λ p. spelled_align p.1 ≡ true)
 unfolding placement
@@ -133,7 +135,8 @@ with_item_spelled p (FunctionItem f) h k =
     let a = spelled_parts p h in both_true a.0 (both_true a.1 (one_more spelled_function p.functions f a.2 k))
 with_item_spelled p DroppedItem h k = h
 
-all_spelled : (p : Program) (items : List Item) → spelled_program p ≡ true → list_all spelled_as_item items ≡ true
+all_spelled : (p : Program) (items : List Item) → spelled_program p ≡ true
+    → list_all spelled_as_item items ≡ true
     → spelled_program (folded with_item p items) ≡ true
 all_spelled p [] h k = h
 all_spelled p (i ∷ items) h k =

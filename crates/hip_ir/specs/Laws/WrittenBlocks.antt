@@ -54,7 +54,8 @@ phi_by dest s (e ∷ es) n some h =
     (last_text _ (separated_are (edge s) edge_text (spelled_edge s) (edge_is s) e es h) (nothing_text anything)))
     (λ rest h. refl))) (λ rest h. refl)
 
-phi_is : (p : Phi) → spelled_phi p ≡ true → IsTextOf ends_word (both assigned.rule (λ x. (phi x).rule)) (phi_text p) p
+phi_is : (p : Phi) → spelled_phi p ≡ true
+    → IsTextOf ends_word (both assigned.rule (λ x. (phi x).rule)) (phi_text p) p
 phi_is p h =
     let q = and_parts (is_name p.dest) (not_empty p.edges && list_all (spelled_edge p.ty) p.edges) h in
     let r = and_parts (not_empty p.edges) (list_all (spelled_edge p.ty) p.edges) q.1 in
@@ -62,7 +63,8 @@ phi_is p h =
 
 -- ---- ends
 
-target_is : (label : List ℕ) → is_name label ≡ true → IsTextOf ends_word target.rule (codes "label %" ++ label) label
+target_is : (label : List ℕ) → is_name label ≡ true
+    → IsTextOf ends_word target.rule (codes "label %" ++ label) label
 unfolding target
 target_is label e = word_then _ _ (codes "label") refl refl (local_text _ label e refl)
 
@@ -96,7 +98,8 @@ case_is w c e =
     subst (λ v. IsTextOf anything (case v).rule (case_text c) c) (same_width c.value.width w p.0) (own_case c p.1)
 
 switch_is : (w : Width) (value : Operand) (other : List ℕ) (cases : List Case)
-    → spelled_operand (scalars.Int w) value ≡ true → is_name other ≡ true → list_all (spelled_case w) cases ≡ true
+    → spelled_operand (scalars.Int w) value ≡ true → is_name other ≡ true
+    → list_all (spelled_case w) cases ≡ true
     → IsTextOf anything switch.rule (codes "switch " ++
     (width_text w ++
     (codes " " ++

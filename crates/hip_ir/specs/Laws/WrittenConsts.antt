@@ -41,10 +41,12 @@ item_text = fold-TypedConst (List ℕ) (List ℕ) (List ℕ) const_step gep_step
 
 abbrev level_text : Const-F Const ConstGep TypedConst → List ℕ
 level_text level =
-    const_step (map-Const Const ConstGep TypedConst (List ℕ) (List ℕ) (List ℕ) const_text gep_text item_text level)
+    const_step (map-Const Const ConstGep TypedConst (List ℕ) (List ℕ)
+    (List ℕ) const_text gep_text item_text level)
 
 by_level : (l : Rule Fault Const) (c : Const)
-    → IsTextOf ends_word l (level_text (out-Const c)) (roll-Const (out-Const c)) → IsTextOf ends_word l (const_text c) c
+    → IsTextOf ends_word l (level_text (out-Const c)) (roll-Const (out-Const c))
+    → IsTextOf ends_word l (const_text c) c
 by_level l c p =
     let level : const_text c ≡ level_text (out-Const c) =
     fold_out-Const (List ℕ) (List ℕ) (List ℕ) const_step gep_step typed_step c in
@@ -62,7 +64,8 @@ all_pass [] = refl
 all_pass (x ∷ xs) = all_pass xs
 
 -- `inbounds ` or nothing, and what follows
-pub inbounds_then : {B : Type 0} (f : Bool → Rule Fault B) (d : List ℕ → Bool) (t : List ℕ) (y : B) (inbounds : Bool)
+pub inbounds_then : {B : Type 0} (f : Bool → Rule Fault B) (d : List ℕ → Bool) (t : List ℕ) (y : B)
+    (inbounds : Bool)
     → IsTextOf d (f inbounds) t y
     → IsTextOf d (both (maybe_word (codes "inbounds")).rule f) (inbounds_text inbounds ++ t) y
 unfolding maybe_word
@@ -75,7 +78,8 @@ inbounds_then f d t y false q =
 
 module _ (base : Part Fault Const) (test : Const → Bool)
     (each : (c : Const) → test c ≡ true → IsTextOf ends_word base.rule (const_text c) c) where
-  inside_is : (inbounds : Bool) (ty : Ty) (c : Const) (indices : List Bits) → spelled_type ty ≡ true → test c ≡ true
+  inside_is : (inbounds : Bool) (ty : Ty) (c : Const) (indices : List Bits) → spelled_type ty ≡ true
+      → test c ≡ true
       → not_empty indices ≡ true
       → IsTextOf anything (gep_inside base inbounds).rule
       (codes "(" ++ (type_text ty ++ (codes ", ptr " ++ (const_text c
@@ -110,7 +114,8 @@ module _ (base : Part Fault Const) (test : Const → Bool)
 -- ---- constants under `ptr`
 
 pointer_level_is : (inside : Bool → Part Fault Const) (test : ConstGep → Bool)
-    → ((gep : ConstGep) → test gep ≡ true → IsTextOf ends_word (gep_const inside).rule (gep_text gep) (consts.Gep gep))
+    → ((gep : ConstGep) → test gep ≡ true
+    → IsTextOf ends_word (gep_const inside).rule (gep_text gep) (consts.Gep gep))
     → (level : Const-F Const ConstGep TypedConst) → spelled_pointer_level test level ≡ true
     → IsTextOf ends_word (pointer_by inside).rule (level_text level) (roll-Const level)
 unfolding pointer_by

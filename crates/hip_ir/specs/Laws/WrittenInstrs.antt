@@ -78,7 +78,8 @@ pred_is preds.Slt = word_text _ _ refl refl
 pred_is preds.Sle = word_text _ _ refl refl
 
 -- `%x = `
-pub assigned_is : (dest : List ℕ) → is_name dest ≡ true → IsTextOf anything assigned.rule (assigned_text dest) dest
+pub assigned_is : (dest : List ℕ) → is_name dest ≡ true
+    → IsTextOf anything assigned.rule (assigned_text dest) dest
 unfolding assigned
 assigned_is dest e =
     then_text _ (local_text _ dest e refl) (blank_text 32 refl
@@ -170,7 +171,8 @@ abbrev two_operands : Operand → Operand → List ℕ
 two_operands a b = operand_text a ++ (codes ", " ++ operand_text b)
 
 binary_instr_is : (dest : List ℕ) (op : BinaryOp) (set : Flags) (w : Width) (a b : Operand)
-    → spelled_flags op set ≡ true → spelled_operand (scalars.Int w) a ≡ true → spelled_operand (scalars.Int w) b ≡ true
+    → spelled_flags op set ≡ true → spelled_operand (scalars.Int w) a ≡ true
+    → spelled_operand (scalars.Int w) b ≡ true
     → IsTextOf ends_word (binary dest).rule (binary_text op ++
     (codes " " ++ (flags_text set ++ (width_text w ++ (codes " " ++ two_operands a b))))) (instrs.Binary dest op set w
     a b)
@@ -195,7 +197,8 @@ compare_is dest p s a b f g =
     (blank_text 32 refl (last_text _ (operand_is s b g) (nothing_text anything)))) (λ rest h. refl)))
     (λ rest h. refl))) (λ rest h. refl))
 
-select_is : (dest : List ℕ) (cond : Operand) (s : Scalar) (a b : Operand) → spelled_operand (scalars.Int W1) cond ≡ true
+select_is : (dest : List ℕ) (cond : Operand) (s : Scalar) (a b : Operand)
+    → spelled_operand (scalars.Int W1) cond ≡ true
     → spelled_operand s a ≡ true → spelled_operand s b ≡ true
     → IsTextOf ends_word (select dest).rule (codes "select i1 " ++
     (operand_text cond ++
@@ -249,7 +252,8 @@ inttoptr_is dest w a f =
     (last_text _ (word_text _ (codes "ptr") refl refl) (nothing_text anything)))) (λ rest h. refl)))
     (λ rest h. refl))
 
-cast_is : (dest : List ℕ) (op : CastOp) (from : Scalar) (a : Operand) (to : Scalar) → spelled_cast op from to ≡ true
+cast_is : (dest : List ℕ) (op : CastOp) (from : Scalar) (a : Operand) (to : Scalar)
+    → spelled_cast op from to ≡ true
     → spelled_operand from a ≡ true
     → IsTextOf ends_word (cast_instr dest).rule (cast_form (cast_text op) from a to) (instrs.Cast dest op from a to)
 unfolding cast_instr
@@ -307,8 +311,10 @@ store_is s value addr n e f g =
     (then_text _ (operand_is scalars.Ptr addr f) (last_text _ (align_is n g) (nothing_text anything))
     (align_leaves n))))) (λ rest h. refl))) (λ rest h. refl))
 
-gep_is : (dest : List ℕ) (inbounds : Bool) (ty : Ty) (base : Operand) (indices : List Arg) → spelled_type ty ≡ true
-    → spelled_operand scalars.Ptr base ≡ true → not_empty indices ≡ true → list_all spelled_index indices ≡ true
+gep_is : (dest : List ℕ) (inbounds : Bool) (ty : Ty) (base : Operand) (indices : List Arg)
+    → spelled_type ty ≡ true
+    → spelled_operand scalars.Ptr base ≡ true → not_empty indices ≡ true
+    → list_all spelled_index indices ≡ true
     → IsTextOf ends_word (gep dest).rule (codes "getelementptr " ++
     (inbounds_text inbounds ++
     (type_text ty ++ (codes ", ptr " ++ (operand_text base ++ after_commas (map arg_text indices)))))) (instrs.Gep dest
@@ -324,7 +330,8 @@ gep_is dest inbounds ty base (i ∷ is) e f some g =
     (last_text _ (separated_are index arg_text spelled_index index_is i is g) (nothing_text anything))))
     (λ rest h. refl))))) (λ rest h. refl)))
 
-call_is : (dest : Option (List ℕ)) (ret : Option Scalar) (callee : List ℕ) (args : List Arg) → is_name callee ≡ true
+call_is : (dest : Option (List ℕ)) (ret : Option Scalar) (callee : List ℕ) (args : List Arg)
+    → is_name callee ≡ true
     → list_all spelled_arg args ≡ true
     → IsTextOf anything (call dest).rule (codes "call " ++
     (ret_text ret ++ (codes " @" ++ (callee ++ parenthesized (map arg_text args))))) (instrs.Call dest ret callee args)
@@ -339,7 +346,8 @@ call_is dest ret callee args e f =
 -- ---- all instructions
 
 behind_register : (dest text : List ℕ) (i : Instr) → is_name dest ≡ true
-    → IsTextOf ends_word (value_instr dest).rule text i → IsTextOf ends_word instr.rule (assigned_text dest ++ text) i
+    → IsTextOf ends_word (value_instr dest).rule text i
+    → IsTextOf ends_word instr.rule (assigned_text dest ++ text) i
 unfolding instr assigning_instr
 behind_register dest text i n p = left_text _ (then_text _ (assigned_is dest n) p (λ rest h. refl))
 

@@ -35,7 +35,8 @@ digits_push : (n d : ℕ) (ds : List ℕ) → digits_from n (ds ++ d ∷ []) ≡
 digits_push n d [] = refl
 digits_push n d (e ∷ ds) = digits_push (10 * n + (e - 48)) d ds
 
-all_push : (p : ℕ → Bool) (d : ℕ) (ds : List ℕ) → list_all p ds ≡ true → p d ≡ true → list_all p (ds ++ d ∷ []) ≡ true
+all_push : (p : ℕ → Bool) (d : ℕ) (ds : List ℕ) → list_all p ds ≡ true → p d ≡ true
+    → list_all p (ds ++ d ∷ []) ≡ true
 all_push p d [] a h = rw h refl
 all_push p d (e ∷ ds) a h =
     rw ((and_parts (p e) (list_all p ds) a).0, all_push p d ds ((and_parts (p e) (list_all p ds) a).1) h) refl
@@ -43,7 +44,8 @@ all_push p d (e ∷ ds) a h =
 is_glyph : (n : ℕ) → n < 10 → is_digit (48 + n) ≡ true
 is_glyph n h = grind (arith, nat_tests)
 
-more_digits : (n : ℕ) (ds : List ℕ) → 10 ≤ n → IsNumber (n / 10) ds → IsNumber n (ds ++ ((48 + n % 10) ∷ []))
+more_digits : (n : ℕ) (ds : List ℕ) → 10 ≤ n → IsNumber (n / 10) ds
+    → IsNumber n (ds ++ ((48 + n % 10) ∷ []))
 more_digits n ds h p = record {
   all = all_push is_digit (48 + n % 10) ds p.all (is_glyph (n % 10) (omega arith));
   value = digits_push 0 (48 + n % 10) ds ∙ (let v = p.value in omega arith);
@@ -94,7 +96,8 @@ alignment_lt n e = by_size (cases_lt 4096 n)
     by_size (inl lt) = absurd (let r : 4096 % n ≡ 4096 = mod-eq_of_lt lt in grind (arith, nat_tests))
     by_size (inr le) = omega arith
 
-alignment_again : (n : ℕ) (ds : List ℕ) → is_alignment n ≡ true → IsPlain n ds → an_alignment (Num ds) ≡ Yes n
+alignment_again : (n : ℕ) (ds : List ℕ) → is_alignment n ≡ true → IsPlain n ds
+    → an_alignment (Num ds) ≡ Yes n
 alignment_again n ds e p = rw (p.unsigned, p.value, e) refl
 
 pub alignment_text : (n : ℕ) → is_alignment n ≡ true → IsTextOf ends_word (one an_alignment) (decimal n) n
@@ -113,7 +116,13 @@ record IsLiteral (w : Width) (s : List ℕ) (b : Bits) : Type 0 where
 
 word_literal : (w : Width) (s : List ℕ) (b : Bits) → is_name s ≡ true → a_literal w (Word s) ≡ Yes b
     → is_word (codes "zeroinitializer") (Word s) ≡ false → IsLiteral w s b
-word_literal w s b n v o = record { tok = Word s; cuts = λ line rest e. word_cut line s rest n e; value = v; other = o }
+word_literal w s b n v o = record {
+  tok = Word s;
+  cuts = λ line rest e. word_cut line s rest n e;
+  value = v;
+  other =
+      o;
+}
 
 truth_literal : (n : ℕ) → n < 2 → IsLiteral W1 (number_text W1 n) (bits W1 n)
 truth_literal zero lt = word_literal W1 (codes "false") _ refl refl refl
@@ -131,7 +140,8 @@ plain_again : (w : Width) (n : ℕ) (ds : List ℕ) → n < 2 ^ bits_of w → Is
     → a_literal w (Num ds) ≡ Yes (bits w n)
 plain_again w n ds lt p = rw (p.unsigned, p.value, lt-ltb n (2 ^ bits_of w) lt) refl
 
-minus_again : (w : Width) (n m : ℕ) (ds : List ℕ) → n < 2 ^ bits_of w → 2 ^ (bits_of w - 1) ≤ n → m ≡ 2 ^ bits_of w - n
+minus_again : (w : Width) (n m : ℕ) (ds : List ℕ) → n < 2 ^ bits_of w → 2 ^ (bits_of w - 1) ≤ n
+    → m ≡ 2 ^ bits_of w - n
     → IsPlain m ds → a_literal w (Num (45 ∷ ds)) ≡ Yes (bits w n)
 minus_again w n m ds lt le is p =
     let half = modulus_is w in
@@ -215,7 +225,8 @@ pub literal_is : (w : Width) (b : Bits) → of_width w b ≡ true
     → IsTextOf ends_word (one (a_literal w)) (literal_text b) b
 literal_is w b e = let p = literal_of w b e in token_text _ p.tok p.cuts p.value
 
-int_const_again : (w : Width) (t : Tok) (b : Bits) → a_literal w t ≡ Yes b → is_word (codes "zeroinitializer") t ≡ false
+int_const_again : (w : Width) (t : Tok) (b : Bits) → a_literal w t ≡ Yes b
+    → is_word (codes "zeroinitializer") t ≡ false
     → an_int_const w t ≡ Yes (consts.Int b)
 int_const_again w t b v o = rw (o, v) refl
 

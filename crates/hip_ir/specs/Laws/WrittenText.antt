@@ -33,7 +33,8 @@ use Rattle.hip_ir.specs.Laws.WrittenBlocks.{block_is}
 
 -- ---- globals
 
-fixed_is : (fixed : Bool) (t : List ℕ) {B : Type 0} (f : Bool → Rule Fault B) (y : B) → IsTextOf anything (f fixed) t y
+fixed_is : (fixed : Bool) (t : List ℕ) {B : Type 0} (f : Bool → Rule Fault B) (y : B)
+    → IsTextOf anything (f fixed) t y
     → IsTextOf anything (both (one (a_word_of fixed_word)) f) (fixed_text fixed ++ t) y
 fixed_is true t f y q = word_then _ f (codes "constant") refl refl q
 fixed_is false t f y q = word_then _ f (codes "global") refl refl q
@@ -99,7 +100,8 @@ global_is g h =
 scalar_listed : (s : Scalar) → true ≡ true → IsTextOf ends_word scalar.rule (scalar_text s) s
 scalar_listed s e = scalar_is s
 
-extern_is : (e : Extern) → spelled_extern e ≡ true → IsTextOf anything extern_item.rule (extern_text e) (ExternItem e)
+extern_is : (e : Extern) → spelled_extern e ≡ true
+    → IsTextOf anything extern_item.rule (extern_text e) (ExternItem e)
 unfolding extern_item
 extern_is e h =
     word_then _ _ (codes "declare") refl refl
@@ -143,7 +145,8 @@ function_is f h =
     (then_text _ {s = []} (none_text _ anything)
     (blank_text 32 refl (mark_then _ _ 123 refl refl (blank_text 10 refl (then_text _ (blocks_are f.blocks r.0 r.1)
     (last_text _ (blank_behind 10 refl (λ rest h. refl) (mark_text _ 125 refl refl)) (nothing_text anything))
-    (λ rest h. refl))))) (λ rest h. refl)) (λ rest h. refl))) (λ rest h. refl))) (λ rest h. refl)) (λ rest h. refl))
+    (λ rest h. refl))))) (λ rest h. refl)) (λ rest h. refl))) (λ rest h. refl))) (λ rest h. refl))
+    (λ rest h. refl))
 
 -- ---- texts
 
@@ -152,7 +155,8 @@ global_listed : (g : GlobalVar) → spelled_global g ≡ true
 unfolding item
 global_listed g h = left_text _ (global_is g h)
 
-extern_listed : (e : Extern) → spelled_extern e ≡ true → IsTextOf anything item.rule (extern_text e) (ExternItem e)
+extern_listed : (e : Extern) → spelled_extern e ≡ true
+    → IsTextOf anything item.rule (extern_text e) (ExternItem e)
 unfolding item
 extern_listed e h = right_text _ (left_text _ (extern_is e h))
 

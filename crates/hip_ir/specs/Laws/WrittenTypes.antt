@@ -98,7 +98,8 @@ flat_is array struct (Ty-F.Struct fs) e = absurd cc
 module _ (p : Part Fault Ty) (test : Ty → Bool)
     (each : (t : Ty) → test t ≡ true → IsTextOf ends_word p.rule (type_text t) t) where
   array_is : (n : ℕ) (t : Ty) → nat_lt n 67108865 ≡ true → test t ≡ true
-      → IsTextOf anything (array_type p).rule (codes "[" ++ (decimal n ++ (codes " x " ++ (type_text t ++ codes "]"))))
+      → IsTextOf anything (array_type p).rule
+      (codes "[" ++ (decimal n ++ (codes " x " ++ (type_text t ++ codes "]"))))
       (types.Array n t)
   unfolding array_type
   array_is n t e f = mark_then _ _ 91 refl refl (then_text _ (count_text n e)

@@ -93,7 +93,8 @@ module _ {P : Type 0} where
   -- ---- all lines
 
   pub ahead-change_from : (f f' : ℕ → Line P → Line P) (o n : ℕ)
-      → ((j : ℕ) (l l' : Line P) → IsAhead l l' → IsAhead (f j l) (f' j l')) → (j : ℕ) (ls ls' : List (Line P))
+      → ((j : ℕ) (l l' : Line P) → IsAhead l l' → IsAhead (f j l) (f' j l'))
+      → (j : ℕ) (ls ls' : List (Line P))
       → AreAhead ls ls' → AreAhead (change_from f o n j ls) (change_from f' o n j ls')
   ahead-change_from f f' o n h j [] [] a = a
   ahead-change_from f f' o n h j (l ∷ ls) (l' ∷ ls') a =
@@ -124,7 +125,8 @@ module _ {P : Type 0} where
       ahead-change_from (λ j l. with_part (part j) l) (λ j l. with_part (part j) l) o n
       (λ j l l' h. ahead-with_part (part j) l l' h) 0 ls ls' a
 
-  pub ahead-flushed : (o n : ℕ) (ls ls' : List (Line P)) → AreAhead ls ls' → AreAhead (flushed o n ls) (flushed o n ls')
+  pub ahead-flushed : (o n : ℕ) (ls ls' : List (Line P)) → AreAhead ls ls'
+      → AreAhead (flushed o n ls) (flushed o n ls')
   ahead-flushed o n ls ls' a =
       ahead-change_from (λ _ l. flushed_line l) (λ _ l. flushed_line l) o n
       (λ _ l l' h. ahead-flushed_line l l' h) 0 ls ls' a
@@ -169,13 +171,15 @@ module _ {P : Type 0} (covers : P → ℕ → Bool) (value : P → ℕ → ℕ) 
       least = omega (arith, a.durable, h.1.least);
       most = omega (arith, ap length a.parts, h.1.most);
       bytes =
-          λ b from to. h.1.bytes b from to ∙ ap (λ ps. byte_after covers value (take h.0 ps) b (slice_index first b))
+          λ b from to. h.1.bytes b from to ∙ ap
+          (λ ps. byte_after covers value (take h.0 ps) b (slice_index first b))
           a.parts;
     },
   )
 
   -- images of lines that are further flushed and fenced are images of the lines
-  pub image-ahead : (first r : List ℕ) (ls ls' : List (Line P)) → AreAhead ls ls' → IsImage covers value first ls' r
+  pub image-ahead : (first r : List ℕ) (ls ls' : List (Line P)) → AreAhead ls ls'
+      → IsImage covers value first ls' r
       → IsImage covers value first ls r
   image-ahead first r ls ls' a h =
       record {
@@ -205,7 +209,8 @@ module _ {P : Type 0} (covers : P → ℕ → Bool) (value : P → ℕ → ℕ) 
       (record { least = omega (arith, o.durable, h.least); most = h.most; bytes = h.bytes }, h.least)
 
   -- a store keeps each image of its line and adds those that have the whole list
-  pub line_image-with_part : (first r : List ℕ) (j : ℕ) (x : P) (l : Line P) → IsLineImage covers value first r j l
+  pub line_image-with_part : (first r : List ℕ) (j : ℕ) (x : P) (l : Line P)
+      → IsLineImage covers value first r j l
       → IsLineImage covers value first r j (with_part x l)
   line_image-with_part first r j x l h = (
     h.0,
@@ -234,7 +239,8 @@ module _ {P : Type 0} (covers : P → ℕ → Bool) (value : P → ℕ → ℕ) 
             least = h.least;
             most = m;
             bytes = λ b from to. h.bytes b from to
-                ∙ ap (λ ps. byte_after covers value ps b (slice_index first b)) (take-append-le q l.parts (x ∷ []) m);
+                ∙ ap (λ ps. byte_after covers value ps b (slice_index first b))
+                (take-append-le q l.parts (x ∷ []) m);
           })
       go (inr e) = inr e
 
@@ -245,7 +251,8 @@ module _ {P : Type 0} (covers : P → ℕ → Bool) (value : P → ℕ → ℕ) 
   length-image_from ls pick b [] = refl
   length-image_from ls pick b (x ∷ xs) = ap suc (length-image_from ls pick (suc b) xs)
 
-  pub slice_index-image_from : (ls : List (Line P)) (pick : ℕ → ℕ) (b : ℕ) (xs : List ℕ) (i : ℕ) → i < length xs
+  pub slice_index-image_from : (ls : List (Line P)) (pick : ℕ → ℕ) (b : ℕ) (xs : List ℕ) (i : ℕ)
+      → i < length xs
       → slice_index (image_from covers value ls pick b xs) i
       ≡ byte_after covers value (take (pick ((b + i) / LINE_SIZE))
       (parts_of covers value (slice_get ls ((b + i) / LINE_SIZE)))) (b + i) (slice_index xs i)
@@ -270,7 +277,8 @@ module _ {P : Type 0} (covers : P → ℕ → Bool) (value : P → ℕ → ℕ) 
   get_below (x ∷ ls) (suc j) l e = omega (arith, get_below ls j l e)
 
   -- the content of a pick is an image
-  pub image_of-image : (ls : List (Line P)) (pick : ℕ → ℕ) (first : List ℕ) → length first ≡ LINE_SIZE * length ls
+  pub image_of-image : (ls : List (Line P)) (pick : ℕ → ℕ) (first : List ℕ)
+      → length first ≡ LINE_SIZE * length ls
       → IsPick covers value ls pick → IsImage covers value first ls (image_of covers value ls pick first)
   image_of-image ls pick first n p = record {
     whole = length-image_from ls pick 0 first;
@@ -286,7 +294,8 @@ module _ {P : Type 0} (covers : P → ℕ → Bool) (value : P → ℕ → ℕ) 
             slice_index-image_from ls pick 0 first b c
             ∙ ap (λ i. byte_after covers value (take (pick i) (parts_of covers value (slice_get ls i))) (0 + b)
             (slice_index first b)) q
-            ∙ ap (λ o. byte_after covers value (take (pick j) (parts_of covers value o)) (0 + b) (slice_index first b))
+            ∙ ap (λ o. byte_after covers value (take (pick j) (parts_of covers value o)) (0 + b)
+            (slice_index first b))
             e
             ∙ ap (λ a. byte_after covers value (take (pick j) l.parts) a (slice_index first b)) z;
       },
@@ -304,7 +313,8 @@ module _ {P : Type 0} (covers : P → ℕ → Bool) (value : P → ℕ → ℕ) 
   some_line l l' o e f = cc
 
   -- the number of parts that an image has of the line that stands at a place
-  pick_by : (first r : List ℕ) (ls : List (Line P)) → IsImage covers value first ls r → (j : ℕ) (o : Option (Line P))
+  pick_by : (first r : List ℕ) (ls : List (Line P)) → IsImage covers value first ls r
+      → (j : ℕ) (o : Option (Line P))
       → slice_get ls j ≡ o → ℕ
   pick_by first r ls h j None e = 0
   pick_by first r ls h j (Some l) e = (h.lines j l e).0
@@ -326,7 +336,8 @@ module _ {P : Type 0} (covers : P → ℕ → Bool) (value : P → ℕ → ℕ) 
   unfolding pick_of pick_by
   pick_of-pick first r ls h j l e = go (slice_get ls j) refl e
     where
-      go : (o : Option (Line P)) (f : slice_get ls j ≡ o) → o ≡ Some l → (l.durable ≤ pick_by first r ls h j o f)
+      go : (o : Option (Line P)) (f : slice_get ls j ≡ o) → o ≡ Some l
+          → (l.durable ≤ pick_by first r ls h j o f)
           × (pick_by first r ls h j o f ≤ length l.parts)
       go None f g = absurd (let z : ⊥ = cc in z)
       go (Some l') f g =

@@ -14,11 +14,13 @@ pub has_bytes-of_byte : (o n b : ℕ) → o ≤ b → b < o + n → (has_bytes (
 has_bytes-of_byte o n b h k = (grind (arith, nat_tests), omega arith, omega arith)
 
 -- and a byte of a line's part lies in the range and in that line
-pub byte-of_part : (o n j b : ℕ) → start_in j o ≤ b → b < end_in j o n → (o ≤ b) × (b < o + n) × (b / LINE_SIZE ≡ j)
+pub byte-of_part : (o n j b : ℕ) → start_in j o ≤ b → b < end_in j o n → (o ≤ b) × (b < o + n)
+    × (b / LINE_SIZE ≡ j)
 byte-of_part o n j b h k = (omega arith, omega arith, omega arith)
 
 -- a range reaches no line outside those of its first and last byte
-pub has_bytes-other : (o n j : ℕ) → has_bytes j o n ≡ true → (o / LINE_SIZE ≤ j) × (j ≤ (o + n - 1) / LINE_SIZE)
+pub has_bytes-other : (o n j : ℕ) → has_bytes j o n ≡ true → (o / LINE_SIZE ≤ j)
+    × (j ≤ (o + n - 1) / LINE_SIZE)
     × (0 < n)
 has_bytes-other o n j h = (grind (arith, nat_tests), grind (arith, nat_tests), grind (arith, nat_tests))
 
@@ -36,7 +38,8 @@ module _ {L : Type 0} (f : ℕ → L → L) (o n : ℕ) where
   slice_get-change_from j (l ∷ ls) zero =
       ap (λ i. Some (cond (has_bytes i o n) (f i l) l)) (let e : j ≡ j + 0 = omega arith in e)
   slice_get-change_from j (l ∷ ls) (suc k) =
-      slice_get-change_from (suc j) ls k ∙ ap (λ i. option_map (λ l. cond (has_bytes i o n) (f i l) l) (slice_get ls k))
+      slice_get-change_from (suc j) ls k ∙ ap
+      (λ i. option_map (λ l. cond (has_bytes i o n) (f i l) l) (slice_get ls k))
       (let e : suc j + k ≡ j + suc k = omega arith in e)
 
   pub slice_get-change_range : (ls : List L) (k : ℕ)
@@ -73,7 +76,8 @@ pub ordered-map_line : {P Q : Type 0} (f : P → Q) (l : Line P) → IsOrdered l
 ordered-map_line f l h = record { durable = h.durable; flushed = omega (arith, h.flushed, length-map l.parts f) }
 
 pub ordered-change_from : {P : Type 0} (f : ℕ → Line P → Line P) (o n : ℕ)
-    → ((j : ℕ) (l : Line P) → IsOrdered l → IsOrdered (f j l)) → (j : ℕ) (ls : List (Line P)) → AreOrdered ls
+    → ((j : ℕ) (l : Line P) → IsOrdered l → IsOrdered (f j l)) → (j : ℕ) (ls : List (Line P))
+    → AreOrdered ls
     → AreOrdered (change_from f o n j ls)
 ordered-change_from f o n h j [] a = a
 ordered-change_from f o n h j (l ∷ ls) a = (here (has_bytes j o n), ordered-change_from f o n h (suc j) ls a.1)
@@ -100,7 +104,8 @@ ordered-fresh_lines P zero = tt
 ordered-fresh_lines P (suc n) = (record { durable = omega arith; flushed = omega arith }, ordered-fresh_lines P n)
 
 -- a line that is there is ordered
-pub ordered-at : {P : Type 0} (ls : List (Line P)) (j : ℕ) (l : Line P) → AreOrdered ls → slice_get ls j ≡ Some l
+pub ordered-at : {P : Type 0} (ls : List (Line P)) (j : ℕ) (l : Line P) → AreOrdered ls
+    → slice_get ls j ≡ Some l
     → IsOrdered l
 ordered-at [] j l a e = absurd (let h : ⊥ = cc in h)
 ordered-at (x ∷ ls) zero l a e = let h : x ≡ l = cc in subst IsOrdered h a.0

@@ -8,7 +8,8 @@ some_same : {A : Type 0} (x y : A) (o : Option A) → o ≡ Some x → o ≡ Som
 some_same x y o p q = cc
 
 -- places of an append
-pub get-append_left : {A : Type 0} (xs ys : List A) (k : ℕ) → k < length xs → slice_get (xs ++ ys) k ≡ slice_get xs k
+pub get-append_left : {A : Type 0} (xs ys : List A) (k : ℕ) → k < length xs
+    → slice_get (xs ++ ys) k ≡ slice_get xs k
 get-append_left [] ys k h = absurd (omega arith)
 get-append_left (x ∷ xs) ys zero h = refl
 get-append_left (x ∷ xs) ys (suc k) h = get-append_left xs ys k (omega arith)
@@ -43,7 +44,8 @@ module _ {P : Type 0} (covers : P → ℕ → Bool) where
       which (inr (inl e)) = e
       which (inr (inr gt)) = absurd (let e = h'.last k x gt h.at in let f = h.over in let z : ⊥ = cc in z)
 
-  pub last_over-part : (ps : List P) (b k k' : ℕ) (x x' : P) → IsLastOver covers ps b k x → IsLastOver covers ps b k' x'
+  pub last_over-part : (ps : List P) (b k k' : ℕ) (x x' : P) → IsLastOver covers ps b k x
+      → IsLastOver covers ps b k' x'
       → x ≡ x'
   last_over-part ps b k k' x x' h h' =
       some_same x x' (slice_get ps k) h.at (ap (slice_get ps) (last_over-place ps b k k' x x' h h') ∙ h'.at)
@@ -124,13 +126,15 @@ module _ {P : Type 0} (covers : P → ℕ → Bool) where
   drop-loose l b k x h =
       let nd = h.not_durable in record {
         at = get-drop l.durable l.parts (k - l.durable)
-            ∙ ap (slice_get l.parts) (let f : l.durable + (k - l.durable) ≡ k = omega arith in f) ∙ h.last_over.at;
+            ∙ ap (slice_get l.parts) (let f : l.durable + (k - l.durable) ≡ k = omega arith in f)
+            ∙ h.last_over.at;
         over =
             h.last_over.over;
         last = after;
       }
     where
-      after : (j : ℕ) (y : P) → k - l.durable < j → slice_get (drop l.durable l.parts) j ≡ Some y → covers y b ≡ false
+      after : (j : ℕ) (y : P) → k - l.durable < j → slice_get (drop l.durable l.parts) j ≡ Some y
+          → covers y b ≡ false
       after j y lt e =
           let nd = h.not_durable in h.last_over.last (l.durable + j) y (omega arith)
           (sym (get-drop l.durable l.parts j) ∙ e)
@@ -146,11 +150,13 @@ module _ {P : Type 0} (covers : P → ℕ → Bool) where
         not_durable = let d = h.durable in let f = h.flushed in omega arith;
       }
     where
-      after : (j : ℕ) (y : P) → length l.parts < j → slice_get (l.parts ++ x ∷ []) j ≡ Some y → covers y b ≡ false
+      after : (j : ℕ) (y : P) → length l.parts < j → slice_get (l.parts ++ x ∷ []) j ≡ Some y
+          → covers y b ≡ false
       after j y lt e = absurd (omega (arith, get-below (l.parts ++ x ∷ []) j y e, length-append l.parts (x ∷ [])))
 
   -- where it does not, the byte is loose as before, by the same part
-  pub loose-with_part_beside : (x : P) (l : Line P) (b k : ℕ) (y : P) → covers x b ≡ false → IsLooseBy covers l b k y
+  pub loose-with_part_beside : (x : P) (l : Line P) (b k : ℕ) (y : P) → covers x b ≡ false
+      → IsLooseBy covers l b k y
       → IsLooseBy covers (with_part x l) b k y
   loose-with_part_beside x l b k y c h =
       record {
@@ -171,7 +177,8 @@ module _ {P : Type 0} (covers : P → ℕ → Bool) where
       go j z lt e (inl m) = h.last_over.last j z lt (sym (get-append_left l.parts (x ∷ []) j m) ∙ e)
       go j z lt e (inr (inl m)) =
           let f : x ≡ z = some_same x z (slice_get (l.parts ++ x ∷ []) j)
-          (ap (slice_get (l.parts ++ x ∷ [])) m ∙ get-append_end l.parts x) e in subst (λ w. covers w b ≡ false) f c
+          (ap (slice_get (l.parts ++ x ∷ [])) m ∙ get-append_end l.parts x) e in
+          subst (λ w. covers w b ≡ false) f c
       go j z lt e (inr (inr m)) =
           absurd (omega (arith, get-below (l.parts ++ x ∷ []) j z e, length-append l.parts (x ∷ [])))
 
@@ -189,7 +196,8 @@ module _ {P : Type 0} (covers : P → ℕ → Bool) where
       split : (j : ℕ) → (j < length l.parts) ⊎ ((j ≡ length l.parts) ⊎ (length l.parts < j))
       split j = grind arith
 
-      here : (k < length l.parts) ⊎ ((k ≡ length l.parts) ⊎ (length l.parts < k)) → slice_get l.parts k ≡ Some y
+      here : (k < length l.parts) ⊎ ((k ≡ length l.parts) ⊎ (length l.parts < k))
+          → slice_get l.parts k ≡ Some y
       here (inl m) = sym (get-append_left l.parts (x ∷ []) k m) ∙ h.last_over.at
       here (inr (inl m)) =
           absurd (let f : x ≡ y = some_same x y (slice_get (l.parts ++ x ∷ []) k)
@@ -226,7 +234,8 @@ module _ {P : Type 0} (covers : P → ℕ → Bool) where
 
   -- ---- a fence right after a flush leaves no loose byte in the line
 
-  pub not_loose-after_flush_and_fence : (l : Line P) (b : ℕ) → IsLoose covers (fenced_line (flushed_line l)) b → ⊥
+  pub not_loose-after_flush_and_fence : (l : Line P) (b : ℕ) → IsLoose covers (fenced_line (flushed_line l)) b
+      → ⊥
   not_loose-after_flush_and_fence l b h = omega (arith, h.2.not_durable, get-below l.parts h.0 h.1 h.2.last_over.at)
 
 -- ---- parts seen through a function
@@ -237,7 +246,8 @@ get-map f [] k x e = absurd (let h : ⊥ = cc in h)
 get-map f (y ∷ xs) zero x e = let h : y ≡ x = some_same y x (Some y) refl e in ap (λ z. Some (f z)) h
 get-map f (y ∷ xs) (suc k) x e = get-map f xs k x e
 
-pub get-of_map : {A B : Type 0} (f : A → B) (xs : List A) (k : ℕ) (y : B) → slice_get (map f xs) k ≡ Some y → (x : A)
+pub get-of_map : {A B : Type 0} (f : A → B) (xs : List A) (k : ℕ) (y : B) → slice_get (map f xs) k ≡ Some y
+    → (x : A)
     × (slice_get xs k ≡ Some x) × (f x ≡ y)
 get-of_map f [] k y e = absurd (let h : ⊥ = cc in h)
 get-of_map f (x ∷ xs) zero y e = (x, refl, some_same (f x) y (Some (f x)) refl e)

@@ -36,11 +36,14 @@ pending-fenced_line l h =
     ap₂ (λ ps n. record { parts = ps; flushed = n })
     (ap (λ n. drop n l.parts) (let d = h.durable in
     let e : l.flushed ≡ l.durable + (l.flushed - l.durable) = omega arith in e)
-    ∙ sym (drop-drop l.durable (l.flushed - l.durable) l.parts)) (let e : l.flushed - l.flushed ≡ 0 = omega arith in e)
+    ∙ sym (drop-drop l.durable (l.flushed - l.durable) l.parts))
+    (let e : l.flushed - l.flushed ≡ 0 = omega arith in e)
 
 -- the same of all lines
-pub pending-change_from : {P : Type 0} (f : ℕ → Line P → Line P) (f' : ℕ → Pending P → Pending P) (o n : ℕ)
-    → ((j : ℕ) (l : Line P) → IsOrdered l → pending_of (f j l) ≡ f' j (pending_of l)) → (j : ℕ) (ls : List (Line P))
+pub pending-change_from : {P : Type 0} (f : ℕ → Line P → Line P) (f' : ℕ → Pending P → Pending P)
+    (o n : ℕ)
+    → ((j : ℕ) (l : Line P) → IsOrdered l → pending_of (f j l) ≡ f' j (pending_of l))
+    → (j : ℕ) (ls : List (Line P))
     → AreOrdered ls → map pending_of (change_from f o n j ls) ≡ change_from f' o n j (map pending_of ls)
 pending-change_from f f' o n h j [] a = refl
 pending-change_from f f' o n h j (l ∷ ls) a =
@@ -70,6 +73,7 @@ module _ {P : Type 0} (covers : P → ℕ → Bool) where
       go (Some (k, x)) h = loose-drop covers l b k x h
 
   -- and it is flushed among the pending parts exactly where it is flushed in its line
-  pub pending-flushed : (l : Line P) (k : ℕ) → IsOrdered l → (k < (pending_of l).flushed → l.durable + k < l.flushed)
+  pub pending-flushed : (l : Line P) (k : ℕ) → IsOrdered l
+      → (k < (pending_of l).flushed → l.durable + k < l.flushed)
       × (l.durable + k < l.flushed → k < (pending_of l).flushed)
   pending-flushed l k h = (λ c. omega (arith, h.durable), λ c. omega (arith, h.durable))

@@ -21,7 +21,8 @@ use Rattle.hip_typing.specs.declared.fault.TypeRefusal.{TypeRefusal}
 -- ---- the first use without an assignment
 
 -- the first item of a list that Q does not hold of is one
-one_first : {A : Type 0} (Q : A → Type 0) (v w : List A) (x y : A) (a b : List A) → v ++ x ∷ a ≡ w ++ y ∷ b → All Q v
+one_first : {A : Type 0} (Q : A → Type 0) (v w : List A) (x y : A) (a b : List A) → v ++ x ∷ a ≡ w ++ y ∷ b
+    → All Q v
     → All Q w → (Q x → ⊥) → (Q y → ⊥) → x ≡ y
 one_first Q [] [] x y a b e p q not_x not_y = let heads : x ≡ y = cc in heads
 one_first Q [] (z ∷ w) x y a b e p q not_x not_y =
@@ -29,7 +30,8 @@ one_first Q [] (z ∷ w) x y a b e p q not_x not_y =
 one_first Q (z ∷ v) [] x y a b e p q not_x not_y =
     absurd (let heads : z ≡ y = cc in not_y (subst Q heads (All-head Q z v p)))
 one_first Q (z ∷ v) (u ∷ w) x y a b e p q not_x not_y =
-    one_first Q v w x y a b (let tails : v ++ x ∷ a ≡ w ++ y ∷ b = cc in tails) (All-tail Q z v p) (All-tail Q u w q)
+    one_first Q v w x y a b (let tails : v ++ x ∷ a ≡ w ++ y ∷ b = cc in tails) (All-tail Q z v p)
+    (All-tail Q u w q)
     not_x not_y
 
 within : {A : Type 0} (Q : A → Type 0) (v : List A) (x : A) (a : List A) → All Q (v ++ x ∷ a) → Q x
@@ -37,29 +39,34 @@ within Q [] x a all = All-head Q x a all
 within Q (z ∷ v) x a all = within Q v x a (All-tail Q z (v ++ x ∷ a) all)
 
 -- the functions before the first use without an assignment have none
-not_before : (P : Program) (p q : Place) (a b : List ℕ) → (u : IsFirstUnassigned P p a) → (v : IsFirstUnassigned P q b)
+not_before : (P : Program) (p q : Place) (a b : List ℕ) → (u : IsFirstUnassigned P p a)
+    → (v : IsFirstUnassigned P q b)
     → u.function < v.function → ⊥
 not_before P p q a b u v less =
     let all : AllAssigned u.fn u.function = v.earlier u.function u.fn less u.here in
     within (UseIsAssigned u.fn) u.before u.it u.after (subst (All (UseIsAssigned u.fn)) u.uses all) a u.unassigned
 
-same_number : (P : Program) (p q : Place) (a b : List ℕ) → (u : IsFirstUnassigned P p a) → (v : IsFirstUnassigned P q b)
+same_number : (P : Program) (p q : Place) (a b : List ℕ) → (u : IsFirstUnassigned P p a)
+    → (v : IsFirstUnassigned P q b)
     → (u.function ≡ v.function)
 same_number P p q a b u v = decide (cases_order u.function v.function)
   where
-    decide : (u.function ≡ v.function) ⊎ ((u.function < v.function) ⊎ (v.function < u.function)) → u.function ≡ v.function
+    decide : (u.function ≡ v.function) ⊎ ((u.function < v.function) ⊎ (v.function < u.function))
+        → u.function ≡ v.function
     decide (inl same) = same
     decide (inr (inl less)) = absurd (not_before P p q a b u v less)
     decide (inr (inr more)) = absurd (not_before P q p b a v u more)
 
-one_unassigned : (P : Program) (p q : Place) (a b : List ℕ) → IsFirstUnassigned P p a → IsFirstUnassigned P q b → p ≡ q
+one_unassigned : (P : Program) (p q : Place) (a b : List ℕ) → IsFirstUnassigned P p a → IsFirstUnassigned P q b
+    → p ≡ q
 one_unassigned P p q a b u v =
     let number = same_number P p q a b u v in
     let function : u.fn ≡ v.fn =
     some_is (sym u.here ∙ ap (slice_get P.functions) number ∙ v.here) in
     let uses : u.before ++ u.it ∷ u.after ≡ v.before ++ v.it ∷ v.after =
     sym u.uses ∙ ap (λ f. register_uses f u.fn) number ∙ ap (register_uses v.function) function ∙ v.uses in
-    let assigned : All (UseIsAssigned v.fn) u.before = subst (λ f. All (UseIsAssigned f) u.before) function u.assigned in
+    let assigned : All (UseIsAssigned v.fn) u.before =
+    subst (λ f. All (UseIsAssigned f) u.before) function u.assigned in
     let item = one_first (UseIsAssigned v.fn) u.before v.before u.it v.it u.after v.after uses assigned v.assigned
     (λ h. subst (λ f. UseIsAssigned f u.it) (sym function) h a u.unassigned) (λ h. h b v.unassigned) in
     sym u.at ∙ ap (λ (i : RegisterUse). i.place) item ∙ v.at

@@ -44,7 +44,8 @@ programs files name P Q p q =
     let text = same_bytes (file_of files name) q.text p.text q.is_text.told p.is_text.told in
     same_program p.text P Q p.reads (subst (λ t. Reads t Q) text q.reads)
 
-excluded : (files : List NamedFile) (name : List ℕ) (P : Program) (why : LoadRefusal) → IsProgramOf (Some files) name P
+excluded : (files : List NamedFile) (name : List ℕ) (P : Program) (why : LoadRefusal)
+    → IsProgramOf (Some files) name P
     → HasNoProgram (Some files) name why → ⊥
 excluded files name P loads.Missing p h = not_there (file_of files name) p.text p.is_text.told h
 excluded files name P loads.TooLarge p h =
@@ -63,12 +64,14 @@ same_form : (a b : TypeRefusal) → IsSame a.fault b.fault a.place b.place
 same_form a b s = made s.fault s.place
   where
     made : {f g : TypeFault} {p q : Place} → f ≡ g → p ≡ q
-        → loads.Bad (refusals.Form (record { fault = f; place = p })) ≡ loads.Bad (refusals.Form (record { fault = g; place = q }))
+        → loads.Bad (refusals.Form (record { fault = f; place = p }))
+        ≡ loads.Bad (refusals.Form (record { fault = g; place = q }))
     made e h = cc
 
 bad : (text : List ℕ) (a b : ProgramRefusal) → RefusesProgram text a → RefusesProgram text b
     → without_paths (loads.Bad a) ≡ without_paths (loads.Bad b)
-bad text (refusals.Text a) (refusals.Text b) p q = ap (λ r. loads.Bad (refusals.Text r)) (one_text_refusal text a b p q)
+bad text (refusals.Text a) (refusals.Text b) p q =
+    ap (λ r. loads.Bad (refusals.Text r)) (one_text_refusal text a b p q)
 bad text (refusals.Text a) (refusals.Form b) p q = absurd (unread text a q.0 p q.1)
 bad text (refusals.Form a) (refusals.Text b) p q = absurd (unread text b p.0 q p.1)
 bad text (refusals.Form a) (refusals.Form b) p q =

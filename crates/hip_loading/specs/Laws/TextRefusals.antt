@@ -27,13 +27,15 @@ stable faults.Range faults.Range h = refl
 stable faults.TooDeep faults.TooDeep h = refl
 stable a b h = absurd (h (λ e. let z : ⊥ = cc in z))
 
-same_fault : (ts : List At) (why other : Fault) (rest : List At) → IsRefusedAt ts why rest → IsRefusedAt ts other rest
+same_fault : (ts : List At) (why other : Fault) (rest : List At) → IsRefusedAt ts why rest
+    → IsRefusedAt ts other rest
     → why ≡ other
 same_fault ts why other rest p q =
     stable why other (λ differ. differ (p.other (λ w r. differ (p.own w r ∙ sym (q.own w r)))
     ∙ sym (q.other (λ w r. differ (p.own w r ∙ sym (q.own w r))))))
 
-same_place : (ts : List At) (why other : Fault) (a b : List At) → IsRefusedAt ts why a → IsRefusedAt ts other b → a ≡ b
+same_place : (ts : List At) (why other : Fault) (a b : List At) → IsRefusedAt ts why a → IsRefusedAt ts other b
+    → a ≡ b
 same_place ts why other a b p q =
     let front_a : text.rule.Front ts a = p.viable a p.here ([], refl) in
     let front_b : text.rule.Front ts b = q.viable b q.here ([], refl) in
@@ -41,7 +43,8 @@ same_place ts why other a b p q =
     let short : length a ≤ length b = p.no_further b front_b in
     same_end p.here.0 q.here.0 a b (sym p.here.1 ∙ q.here.1) (omega (arith, long, short))
 
-same_refusal : (bytes : List ℕ) (why other : Fault) (l m : ℕ) → IsRefusedText bytes why l → IsRefusedText bytes other m
+same_refusal : (bytes : List ℕ) (why other : Fault) (l m : ℕ) → IsRefusedText bytes why l
+    → IsRefusedText bytes other m
     → refusal_of why l ≡ refusal_of other m
 same_refusal bytes why other l m p q =
     let rest = same_place (tokens bytes) why other p.refused.0 q.refused.0 p.refused.1 q.refused.1 in
@@ -65,7 +68,8 @@ refused_as bytes (parse.Range line) h = record { why = faults.Range; line = line
 refused_as bytes (parse.TooDeep line) h = record { why = faults.TooDeep; line = line; is = refl; refused = h }
 refused_as bytes parse.NoMemory h = absurd h
 
-pub one_text_refusal : (bytes : List ℕ) (a b : ParseRefusal) → RefusesText bytes a → RefusesText bytes b → a ≡ b
+pub one_text_refusal : (bytes : List ℕ) (a b : ParseRefusal) → RefusesText bytes a → RefusesText bytes b
+    → a ≡ b
 one_text_refusal bytes a b p q =
     let v = refused_as bytes a p in
     let w = refused_as bytes b q in

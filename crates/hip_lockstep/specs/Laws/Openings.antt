@@ -47,27 +47,36 @@ pub none_starts : (P : Program) → header P [] ≡ Stops 0
 unfolding header
 none_starts P = refl
 
-pub bad_start : (P : Program) (e : Option Entry) (es : List (Option Entry)) → valid_limit e ≡ None → header P (e ∷ es) ≡ Stops 0
+pub bad_start : (P : Program) (e : Option Entry) (es : List (Option Entry)) → valid_limit e ≡ None
+    → header P (e ∷ es) ≡ Stops 0
 unfolding header
 bad_start P e es q = ap (behind_start P es) q ∙ no_start P es
 
-pub start_alone : (P : Program) (e : Option Entry) (limit : ℕ) → valid_limit e ≡ Some limit → header P (e ∷ []) ≡ Stops 1
+pub start_alone : (P : Program) (e : Option Entry) (limit : ℕ) → valid_limit e ≡ Some limit
+    → header P (e ∷ []) ≡ Stops 1
 unfolding header
 start_alone P e limit q = ap (behind_start P []) q
 
-pub bad_register : (P : Program) (e : Option Entry) (limit : ℕ) (x : Option Entry) (es : List (Option Entry)) → valid_limit e ≡ Some limit → valid_base P x ≡ None → header P (e ∷ x ∷ es) ≡ Stops 1
+pub bad_register : (P : Program) (e : Option Entry) (limit : ℕ) (x : Option Entry) (es : List (Option Entry))
+    → valid_limit e ≡ Some limit → valid_base P x ≡ None → header P (e ∷ x ∷ es) ≡ Stops 1
 unfolding header
 bad_register P e limit x es q b = ap (behind_start P (x ∷ es)) q ∙ ap (behind_register P limit es) b
 
-pub both_valid : (P : Program) (e : Option Entry) (limit : ℕ) (x : Option Entry) (base : ℕ) (es : List (Option Entry)) → valid_limit e ≡ Some limit → valid_base P x ≡ Some base → header P (e ∷ x ∷ es) ≡ header_from P (record { base = base; image = []; numbers = []; limit = limit }) 2 es
+pub both_valid : (P : Program) (e : Option Entry) (limit : ℕ) (x : Option Entry) (base : ℕ)
+    (es : List (Option Entry)) → valid_limit e ≡ Some limit → valid_base P x ≡ Some base
+    → header P (e ∷ x ∷ es) ≡ header_from P
+    (record { base = base; image = []; numbers = []; limit = limit }) 2 es
 unfolding header
 both_valid P e limit x base es q b = ap (behind_start P (x ∷ es)) q ∙ ap (behind_register P limit es) b
 
-behind_told : (es : List Entry) (rest : List (Option Entry)) → slice_get (told es ++ rest) (length es) ≡ slice_get rest 0
+behind_told : (es : List Entry) (rest : List (Option Entry))
+    → slice_get (told es ++ rest) (length es) ≡ slice_get rest 0
 behind_told [] rest = refl
 behind_told (e ∷ es) rest = behind_told es rest
 
-stops_here : (P : Program) (bytes : List ℕ) (es : List Entry) (rest : List (Option Entry)) (kind : MisfitKind) → spelled true bytes ≡ told es ++ rest → header P (told es ++ rest) ≡ Stops (length es) → StopsAt true (slice_get rest 0) kind → IsMisfit P bytes true (length es + 1) kind
+stops_here : (P : Program) (bytes : List ℕ) (es : List Entry) (rest : List (Option Entry)) (kind : MisfitKind)
+    → spelled true bytes ≡ told es ++ rest → header P (told es ++ rest) ≡ Stops (length es)
+    → StopsAt true (slice_get rest 0) kind → IsMisfit P bytes true (length es + 1) kind
 stops_here P bytes es rest kind spells head s = record {
   here = subst (λ ps. MisfitBehind (header P ps) P true ps (length es + 1) kind) (sym spells)
       (subst (λ h. MisfitBehind h P true (told es ++ rest) (length es + 1) kind) (sym head)
@@ -75,25 +84,36 @@ stops_here P bytes es rest kind spells head s = record {
 }
 
 -- the pieces of a front are all of the header, which has less than two
-all_of_header : (P : Program) (es : List Entry) (xs last : List (Option Entry)) → ((ys zs : List (Option Entry)) → told es ≡ ys ++ zs → header P ys ≡ Stops (length ys)) → told es ≡ xs ++ last → header P xs ≡ Stops (length xs)
+all_of_header : (P : Program) (es : List Entry) (xs last : List (Option Entry))
+    → ((ys zs : List (Option Entry)) → told es ≡ ys ++ zs → header P ys ≡ Stops (length ys))
+    → told es ≡ xs ++ last → header P xs ≡ Stops (length xs)
 all_of_header P es xs last heads split = heads xs last split
 
-module _ (P : Program) (start : CabinetState) (es : List Entry) (r : ReaderState) (s : CabinetState) (few : length es + 1 < 2 ^ 128) (read : HasReadEntries start r s es) (stops : (rest : List (Option Entry)) → IsUnspelled rest → header P (told es ++ rest) ≡ Stops (length es)) (fronts : (ys zs : List (Option Entry)) → told es ≡ ys ++ zs → header P ys ≡ Stops (length ys)) where
-  pub start_missing : (r' : ReaderState) (s' : CabinetState) (refusal : ReplayRefusal) → ReadsEntry (length es) r r' s s' (Err refusal) → Refuses P r' start s' refusal
-  start_missing r' s' (refusals.Misfit entry Early) (number, none) = subst (λ k. HasMisfit P r' start s' k Early) (sym number) (record {
-    reading = reads_more start s s' read.reading none.reading;
-    told = told_map (λ bytes. IsRead bytes es (ahead r s)) (λ bytes. IsMisfit P bytes true (length es + 1) Early) start.rest read.told
-        (λ bytes at h. stops_here P bytes es [] Early (spelled_none bytes es r s h none.ended) (stops [] tt) (refl, refl));
-    count = none.count ∙ read.count ∙ (let e : length es ≡ begun_at Early (length es + 1) = omega arith in e);
-  })
-  start_missing r' s' (refusals.Misfit entry Malformed) (number, bad) = subst (λ k. HasMisfit P r' start s' k Malformed) (sym number) (record {
-    reading = reads_more start s s' read.reading bad.reading;
-    told = told_map (λ bytes. IsRead bytes es (ahead r s)) (λ bytes. IsMisfit P bytes true (length es + 1) Malformed) start.rest read.told
-        (λ bytes at h.
-        let spells = spelled_malformed bytes es r s h bad.entries in
-        stops_here P bytes es (None ∷ spells.0) Malformed spells.1 (stops (None ∷ spells.0) tt) refl);
-    count = bad.count ∙ ap one_more read.count ∙ fits_more (length es) few;
-  })
+module _ (P : Program) (start : CabinetState) (es : List Entry) (r : ReaderState) (s : CabinetState)
+    (few : length es + 1 < 2 ^ 128) (read : HasReadEntries start r s es)
+    (stops : (rest : List (Option Entry)) → IsUnspelled rest → header P (told es ++ rest) ≡ Stops (length es))
+    (fronts : (ys zs : List (Option Entry)) → told es ≡ ys ++ zs → header P ys ≡ Stops (length ys)) where
+  pub start_missing : (r' : ReaderState) (s' : CabinetState) (refusal : ReplayRefusal)
+      → ReadsEntry (length es) r r' s s' (Err refusal) → Refuses P r' start s' refusal
+  start_missing r' s' (refusals.Misfit entry Early) (number, none) =
+      subst (λ k. HasMisfit P r' start s' k Early) (sym number) (record {
+        reading = reads_more start s s' read.reading none.reading;
+        told = told_map (λ bytes. IsRead bytes es (ahead r s))
+            (λ bytes. IsMisfit P bytes true (length es + 1) Early) start.rest read.told
+            (λ bytes at h. stops_here P bytes es [] Early (spelled_none bytes es r s h none.ended) (stops [] tt)
+            (refl, refl));
+        count = none.count ∙ read.count ∙ (let e : length es ≡ begun_at Early (length es + 1) = omega arith in e);
+      })
+  start_missing r' s' (refusals.Misfit entry Malformed) (number, bad) =
+      subst (λ k. HasMisfit P r' start s' k Malformed) (sym number) (record {
+        reading = reads_more start s s' read.reading bad.reading;
+        told = told_map (λ bytes. IsRead bytes es (ahead r s))
+            (λ bytes. IsMisfit P bytes true (length es + 1) Malformed) start.rest read.told
+            (λ bytes at h.
+            let spells = spelled_malformed bytes es r s h bad.entries in
+            stops_here P bytes es (None ∷ spells.0) Malformed spells.1 (stops (None ∷ spells.0) tt) refl);
+        count = bad.count ∙ ap one_more read.count ∙ fits_more (length es) few;
+      })
   start_missing r' s' (refusals.Misfit entry Differs) h = absurd h
   start_missing r' s' (refusals.Misfit entry Extra) h = absurd h
   start_missing r' s' refusals.ReadFault f = record {
@@ -106,16 +126,22 @@ module _ (P : Program) (start : CabinetState) (es : List Entry) (r : ReaderState
         record {
           front = t.front;
           taken = t.taken;
-          none = λ entry kind m. front-stops P t.front (length (spelled false t.front)) entry kind (fronts (spelled false t.front) t.last t.spells) (let e : length (spelled false t.front) ≤ length (spelled false t.front) = omega arith in e) m;
+          none = λ entry kind m. front-stops P t.front (length (spelled false t.front)) entry kind
+              (fronts (spelled false t.front) t.last t.spells)
+              (let e : length (spelled false t.front) ≤ length (spelled false t.front) = omega arith in e) m;
         });
   }
   start_missing r' s' refusals.NoMemory h = absurd h
 
 -- the entry behind is not valid
-pub start_differs : (P : Program) (start : CabinetState) (es : List Entry) (e : Entry) (r : ReaderState) (s : CabinetState) → HasReadEntries start r s (es ++ e ∷ []) → ((rest : List (Option Entry)) → header P (told es ++ Some e ∷ rest) ≡ Stops (length es)) → HasMisfit P r start s (length es + 1) Differs
+pub start_differs : (P : Program) (start : CabinetState) (es : List Entry) (e : Entry) (r : ReaderState)
+    (s : CabinetState) → HasReadEntries start r s (es ++ e ∷ [])
+    → ((rest : List (Option Entry)) → header P (told es ++ Some e ∷ rest) ≡ Stops (length es))
+    → HasMisfit P r start s (length es + 1) Differs
 start_differs P start es e r s read stops = record {
   reading = read.reading;
-  told = told_map (λ bytes. IsRead bytes (es ++ e ∷ []) (ahead r s)) (λ bytes. IsMisfit P bytes true (length es + 1) Differs) start.rest read.told
+  told = told_map (λ bytes. IsRead bytes (es ++ e ∷ []) (ahead r s))
+      (λ bytes. IsMisfit P bytes true (length es + 1) Differs) start.rest read.told
       (λ bytes at h.
       let spells = spelled_next bytes es e (ahead r s) h in
       stops_here P bytes es (Some e ∷ spells.0) Differs spells.1 (stops spells.0) refl);
@@ -128,28 +154,34 @@ empty_front : (ys zs : List (Option Entry)) → [] ≡ ys ++ zs → ys ≡ []
 empty_front [] zs q = refl
 empty_front (y ∷ ys) zs q = absurd (let z : ⊥ = cc in z)
 
-pub none_fronts : (P : Program) (ys zs : List (Option Entry)) → told [] ≡ ys ++ zs → header P ys ≡ Stops (length ys)
+pub none_fronts : (P : Program) (ys zs : List (Option Entry)) → told [] ≡ ys ++ zs
+    → header P ys ≡ Stops (length ys)
 none_fronts P [] zs q = none_starts P
 none_fronts P (y ∷ ys) zs q = absurd (let z : ⊥ = cc in z)
 
-pub none_stops : (P : Program) (rest : List (Option Entry)) → IsUnspelled rest → header P (told [] ++ rest) ≡ Stops 0
+pub none_stops : (P : Program) (rest : List (Option Entry)) → IsUnspelled rest
+    → header P (told [] ++ rest) ≡ Stops 0
 none_stops P [] h = none_starts P
 none_stops P (None ∷ rest) h = bad_start P None rest refl
 none_stops P (Some e ∷ rest) h = absurd h
 
-pub one_fronts : (P : Program) (e : Entry) (limit : ℕ) → valid_limit (Some e) ≡ Some limit → (ys zs : List (Option Entry)) → told (e ∷ []) ≡ ys ++ zs → header P ys ≡ Stops (length ys)
+pub one_fronts : (P : Program) (e : Entry) (limit : ℕ) → valid_limit (Some e) ≡ Some limit
+    → (ys zs : List (Option Entry)) → told (e ∷ []) ≡ ys ++ zs → header P ys ≡ Stops (length ys)
 one_fronts P e limit v [] zs q = none_starts P
-one_fronts P e limit v (y ∷ []) zs q = let same : Some e ≡ y = cc in start_alone P y limit (ap valid_limit (sym same) ∙ v)
+one_fronts P e limit v (y ∷ []) zs q = let same : Some e ≡ y = cc in
+    start_alone P y limit (ap valid_limit (sym same) ∙ v)
 one_fronts P e limit v (y ∷ w ∷ ys) zs q = absurd (let z : ⊥ = cc in z)
 
-pub one_stops : (P : Program) (e : Entry) (limit : ℕ) → valid_limit (Some e) ≡ Some limit → (rest : List (Option Entry)) → IsUnspelled rest → header P (told (e ∷ []) ++ rest) ≡ Stops 1
+pub one_stops : (P : Program) (e : Entry) (limit : ℕ) → valid_limit (Some e) ≡ Some limit
+    → (rest : List (Option Entry)) → IsUnspelled rest → header P (told (e ∷ []) ++ rest) ≡ Stops 1
 one_stops P e limit v [] h = start_alone P (Some e) limit v
 one_stops P e limit v (None ∷ rest) h = bad_register P (Some e) limit None rest v refl
 one_stops P e limit v (Some x ∷ rest) h = absurd h
 
 -- ---- want of memory
 
-pub stopped_after : (start : CabinetState) (r : ReaderState) (s : CabinetState) (es : List Entry) → HasReadEntries start r s es → HasStoppedReplay start s
+pub stopped_after : (start : CabinetState) (r : ReaderState) (s : CabinetState) (es : List Entry)
+    → HasReadEntries start r s es → HasStoppedReplay start s
 stopped_after start r s es read = record { reading = read.reading }
 
 -- ---- what INPUT and IMAGE entries give
@@ -173,9 +205,12 @@ pub record IsHeaderOf (P : Program) (given : Input) (entries : List Entry) (coun
   pub are : entries ≡ header_of (filled P given)
   pub number : count ≡ header_entries (filled P given)
 
-pub header_given_so : (P : Program) (given : Input) (es : List Entry) (count : ℕ) → FitAll (told es) → count ≡ length es → ((more : List (Option Entry)) → header P (told es ++ more) ≡ header_from P given count more) → IsHeaderOf P given es count
+pub header_given_so : (P : Program) (given : Input) (es : List Entry) (count : ℕ) → FitAll (told es)
+    → count ≡ length es → ((more : List (Option Entry))
+    → header P (told es ++ more) ≡ header_from P given count more) → IsHeaderOf P given es count
 header_given_so P given es count fit counted head =
-    let whole : header P (told es) ≡ Gives count (filled P given) = ap (header P) (sym (append-nil (told es))) ∙ head [] in
+    let whole : header P (told es) ≡ Gives count (filled P given) = ap (header P) (sym (append-nil (told es)))
+    ∙ head [] in
     let h = header-given P (told es) count (filled P given) fit whole in
     let long = told_long es in
     let longer = told_long (header_of (filled P given)) in
@@ -185,7 +220,9 @@ header_given_so P given es count fit counted head =
     let none : h.rest ≡ [] = nothing h.rest (omega (arith, long, longer, both, same, number, counted)) in
     record {
       valid = h.valid;
-      are = told_alike es (header_of (filled P given)) (h.split ∙ ap (λ ps. told (header_of (filled P given)) ++ ps) none ∙ append-nil (told (header_of (filled P given))));
+      are = told_alike es (header_of (filled P given))
+          (h.split ∙ ap (λ ps. told (header_of (filled P given)) ++ ps) none
+          ∙ append-nil (told (header_of (filled P given))));
       number = h.count;
     }
   where
@@ -201,12 +238,14 @@ starts_going : (P : Program) (I : Input) → (run P I 0).world.ending ≡ None
 unfolding run
 starts_going P I = refl
 
-unspelled_gives : (P : Program) (given : Input) (count : ℕ) (rest : List (Option Entry)) → IsUnspelled rest → header_from P given count rest ≡ Gives count (filled P given)
+unspelled_gives : (P : Program) (given : Input) (count : ℕ) (rest : List (Option Entry)) → IsUnspelled rest
+    → header_from P given count rest ≡ Gives count (filled P given)
 unspelled_gives P given count [] h = refl
 unspelled_gives P given count (None ∷ rest) h = refl
 unspelled_gives P given count (Some e ∷ rest) h = absurd h
 
-module _ {P : Program} {start : CabinetState} {r : ReaderState} {s : CabinetState} {given : Input} {count : ℕ} (is : HasGiven P start r s given count) (few : count + 1 < 2 ^ 128) where
+module _ {P : Program} {start : CabinetState} {r : ReaderState} {s : CabinetState} {given : Input}
+    {count : ℕ} (is : HasGiven P start r s given count) (few : count + 1 < 2 ^ 128) where
   so : IsHeaderOf P given is.entries count
   so = header_given_so P given is.entries count is.read.fit is.counted is.header
 
@@ -217,25 +256,31 @@ module _ {P : Program} {start : CabinetState} {r : ReaderState} {s : CabinetStat
   counts = is.counted ∙ ap (λ es. length es) entries_are
 
   -- no entry could be read behind those of the header
-  pub value_missing : (r' : ReaderState) (s' : CabinetState) (refusal : ReplayRefusal) → ReadsEntry count r r' s s' (Err refusal) → Refuses P r' start s' refusal
+  pub value_missing : (r' : ReaderState) (s' : CabinetState) (refusal : ReplayRefusal)
+      → ReadsEntry count r r' s s' (Err refusal) → Refuses P r' start s' refusal
   value_missing r' s' refusal h =
-      no_entry P (filled P given) start so.valid 0 r s (starts_going P (filled P given)) (subst (λ n. n + 1 < 2 ^ 128) counts few)
+      no_entry P (filled P given) start so.valid 0 r s (starts_going P (filled P given))
+      (subst (λ n. n + 1 < 2 ^ 128) counts few)
       (subst (λ es. HasReadEntries start r s es) entries_are is.read)
       (λ bytes at rest spells bad.
-      ap (header P) (spells ∙ ap (λ es. told es ++ rest) (sym entries_are)) ∙ is.header rest ∙ unspelled_gives P given count rest bad
+      ap (header P) (spells ∙ ap (λ es. told es ++ rest) (sym entries_are)) ∙ is.header rest
+      ∙ unspelled_gives P given count rest bad
       ∙ ap (λ n. Gives n (filled P given)) so.number)
       r' s' refusal (subst (λ n. ReadsEntry n r r' s s' (Err refusal)) counts h)
 
   room : length is.entries + 1 < 2 ^ 128
   room = subst (λ n. n + 1 < 2 ^ 128) is.counted few
 
-  header_behind : (e : Entry) (more : List (Option Entry)) → header P (told (is.entries ++ e ∷ []) ++ more) ≡ header_from P given count (Some e ∷ more)
+  header_behind : (e : Entry) (more : List (Option Entry))
+      → header P (told (is.entries ++ e ∷ []) ++ more) ≡ header_from P given count (Some e ∷ more)
   header_behind e more =
-      ap (λ ps. header P (ps ++ more)) (told_append is.entries (e ∷ [])) ∙ ap (header P) (append_assoc (told is.entries) (Some e ∷ []) more)
+      ap (λ ps. header P (ps ++ more)) (told_append is.entries (e ∷ []))
+      ∙ ap (header P) (append_assoc (told is.entries) (Some e ∷ []) more)
       ∙ is.header (Some e ∷ more)
 
   -- one more entry of the header
-  pub value_taken : (r' : ReaderState) (s' : CabinetState) (e : Entry) (next : Input) → HasNext r r' s s' e → with_entry P given (Some e) ≡ Some next → HasGiven P start r' s' next (count + 1)
+  pub value_taken : (r' : ReaderState) (s' : CabinetState) (e : Entry) (next : Input) → HasNext r r' s s' e
+      → with_entry P given (Some e) ≡ Some next → HasGiven P start r' s' next (count + 1)
   value_taken r' s' e next h q = record {
     entries = is.entries ++ e ∷ [];
     read = next_read start s s' r r' is.entries e room is.read h;
@@ -246,11 +291,15 @@ module _ {P : Program} {start : CabinetState} {r : ReaderState} {s : CabinetStat
   }
 
   -- there is no memory for what the entry gives
-  pub value_dropped : (r' : ReaderState) (s' : CabinetState) (e : Entry) → HasNext r r' s s' e → HasStoppedReplay start s'
-  value_dropped r' s' e h = stopped_after start r' s' (is.entries ++ e ∷ []) (next_read start s s' r r' is.entries e room is.read h)
+  pub value_dropped : (r' : ReaderState) (s' : CabinetState) (e : Entry) → HasNext r r' s s' e
+      → HasStoppedReplay start s'
+  value_dropped r' s' e h = stopped_after start r' s' (is.entries ++ e ∷ [])
+      (next_read start s s' r r' is.entries e room is.read h)
 
   -- the first entry behind the header
-  pub value_refused : (r' : ReaderState) (s' : CabinetState) (e : Entry) → HasNext r r' s s' e → with_entry P given (Some e) ≡ None → HasAllGiven P start r' s' given (record { next = e; entries = count })
+  pub value_refused : (r' : ReaderState) (s' : CabinetState) (e : Entry) → HasNext r r' s s' e
+      → with_entry P given (Some e) ≡ None
+      → HasAllGiven P start r' s' given (record { next = e; entries = count })
   value_refused r' s' e h q = record {
     entries = is.entries;
     read = next_read start s s' r r' is.entries e room is.read h;
@@ -259,7 +308,9 @@ module _ {P : Program} {start : CabinetState} {r : ReaderState} {s : CabinetStat
     ends = q;
   }
 
-pub first_given : (P : Program) (start : CabinetState) (r : ReaderState) (s : CabinetState) (limit base : ℕ) → HasBase P start r s limit base → HasGiven P start r s (record { base = base; image = []; numbers = []; limit = limit }) 2
+pub first_given : (P : Program) (start : CabinetState) (r : ReaderState) (s : CabinetState) (limit base : ℕ)
+    → HasBase P start r s limit base → HasGiven P start r s
+    (record { base = base; image = []; numbers = []; limit = limit }) 2
 first_given P start r s limit base h = record {
   entries = h.first ∷ h.second ∷ [];
   read = h.read;
@@ -268,14 +319,20 @@ first_given P start r s limit base h = record {
 }
 
 -- all entries of the header were read, so that its input is known
-pub header_read : (P : Program) (start : CabinetState) (r : ReaderState) (s : CabinetState) (given : Input) (behind : Lockstep) → HasAllGiven P start r s given behind → HasHeader P start r s (record { input = filled P given; lockstep = behind })
+pub header_read : (P : Program) (start : CabinetState) (r : ReaderState) (s : CabinetState) (given : Input)
+    (behind : Lockstep) → HasAllGiven P start r s given behind
+    → HasHeader P start r s (record { input = filled P given; lockstep = behind })
 header_read P start r s given behind h =
-    let so = header_given_so P given h.entries behind.entries (fit_front (told h.entries) (Some behind.next ∷ []) (subst FitAll (told_append h.entries (behind.next ∷ [])) h.read.fit)) h.counted h.header in
+    let so = header_given_so P given h.entries behind.entries
+    (fit_front (told h.entries) (Some behind.next ∷ [])
+    (subst FitAll (told_append h.entries (behind.next ∷ [])) h.read.fit)) h.counted h.header in
     record {
       valid = so.valid;
       read = subst (λ es. HasReadEntries start r s (es ++ behind.next ∷ [])) so.are h.read;
       counted = h.counted ∙ ap (λ es. length es) so.are;
-      header = told_map (λ bytes. IsRead bytes (h.entries ++ behind.next ∷ []) (ahead r s)) (λ bytes. header P (spelled true bytes) ≡ Gives (header_entries (filled P given)) (filled P given)) start.rest h.read.told
+      header = told_map (λ bytes. IsRead bytes (h.entries ++ behind.next ∷ []) (ahead r s))
+          (λ bytes. header P (spelled true bytes)
+          ≡ Gives (header_entries (filled P given)) (filled P given)) start.rest h.read.told
           (λ bytes at k.
           let spells = spelled_next bytes h.entries behind.next (ahead r s) k in
           ap (header P) spells.1 ∙ h.header (Some behind.next ∷ spells.0)
@@ -297,34 +354,59 @@ pub record GivesMore (P : Program) (J K : Input) : Type 0 where
   pub few : length K.numbers ≤ 1048576
   pub within : length K.image ≤ region_size P
 
-by_test : (P : Program) (J K : Input) (test : Bool) (there : Input) → (if test then Some there else None) ≡ Some K → (test ≡ true → GivesMore P J there) → GivesMore P J K
+by_test : (P : Program) (J K : Input) (test : Bool) (there : Input) → (if test then Some there else None) ≡ Some K
+    → (test ≡ true → GivesMore P J there) → GivesMore P J K
 by_test P J K true there q h = let same : there ≡ K = cc in subst (λ (X : Input). GivesMore P J X) same (h refl)
 by_test P J K false there q h = absurd (let z : ⊥ = cc in z)
 
-number_gives : (P : Program) (J K : Input) (z : ℤ) → length J.numbers ≤ 1048576 → length J.image ≤ region_size P → with_number J z ≡ Some K → GivesMore P J K
-number_gives P J K z few within q = by_test P J K (is_empty J.image && nat_lt (length J.numbers) 1048576) (record J { numbers = J.numbers ++ z ∷ [] }) q make
+number_gives : (P : Program) (J K : Input) (z : ℤ) → length J.numbers ≤ 1048576
+    → length J.image ≤ region_size P → with_number J z ≡ Some K → GivesMore P J K
+number_gives P J K z few within q = by_test P J K (is_empty J.image && nat_lt (length J.numbers) 1048576)
+    (record J { numbers = J.numbers ++ z ∷ [] }) q make
   where
-    make : is_empty J.image && nat_lt (length J.numbers) 1048576 ≡ true → GivesMore P J (record J { numbers = J.numbers ++ z ∷ [] })
+    make : is_empty J.image && nat_lt (length J.numbers) 1048576 ≡ true
+        → GivesMore P J (record J { numbers = J.numbers ++ z ∷ [] })
     make t =
-        let room = lt_true (length J.numbers) 1048576 (and_parts (is_empty J.image) (nat_lt (length J.numbers) 1048576) t).1 in
+        let room = lt_true (length J.numbers) 1048576
+        (and_parts (is_empty J.image) (nat_lt (length J.numbers) 1048576) t).1 in
         let long = length-append J.numbers (z ∷ []) in
-        record { numbers = omega (arith, long); image = omega arith; more = omega (arith, long); few = omega (arith, long, room); within = within }
+        record {
+          numbers = omega (arith, long);
+          image = omega arith;
+          more = omega (arith, long);
+          few =
+              omega (arith, long, room);
+          within = within;
+        }
 
-line_gives : (P : Program) (J K : Input) (addr : ℕ) (line : List ℕ) → length line ≡ 64 → length J.numbers ≤ 1048576 → length J.image ≤ region_size P → with_line P J addr line ≡ Some K → GivesMore P J K
-line_gives P J K addr line one few within q = by_test P J K (is_next_line P J addr line) (record J { image = J.image ++ (zeros (addr - (J.base + length J.image)) ++ line) }) q make
+line_gives : (P : Program) (J K : Input) (addr : ℕ) (line : List ℕ) → length line ≡ 64
+    → length J.numbers ≤ 1048576 → length J.image ≤ region_size P → with_line P J addr line ≡ Some K
+    → GivesMore P J K
+line_gives P J K addr line one few within q =
+    by_test P J K (is_next_line P J addr line)
+    (record J { image = J.image ++ (zeros (addr - (J.base + length J.image)) ++ line) }) q make
   where
-    make : is_next_line P J addr line ≡ true → GivesMore P J (record J { image = J.image ++ (zeros (addr - (J.base + length J.image)) ++ line) })
+    make : is_next_line P J addr line ≡ true
+        → GivesMore P J (record J { image = J.image ++ (zeros (addr - (J.base + length J.image)) ++ line) })
     make t =
-        let a = and_parts (nat_le (J.base + length J.image) addr) (nat_le (addr + 64) (J.base + region_size P) && some_byte line) t in
+        let a = and_parts (nat_le (J.base + length J.image) addr)
+        (nat_le (addr + 64) (J.base + region_size P) && some_byte line) t in
         let b = and_parts (nat_le (addr + 64) (J.base + region_size P)) (some_byte line) a.1 in
         let from : J.base + length J.image ≤ addr = le_true (J.base + length J.image) addr a.0 in
         let to : addr + 64 ≤ J.base + region_size P = le_true (addr + 64) (J.base + region_size P) b.0 in
         let gap = length-zeros (addr - (J.base + length J.image)) in
         let long = length-append J.image (zeros (addr - (J.base + length J.image)) ++ line) in
         let longer = length-append (zeros (addr - (J.base + length J.image))) line in
-        record { numbers = omega arith; image = omega (arith, long); more = omega (arith, long, longer, one); few = few; within = omega (arith, long, longer, one, gap, from, to) }
+        record {
+          numbers = omega arith;
+          image = omega (arith, long);
+          more = omega (arith, long, longer, one);
+          few = few;
+          within = omega (arith, long, longer, one, gap, from, to);
+        }
 
-entry_gives : (P : Program) (J K : Input) (e : Entry) → ValuesFit e → length J.numbers ≤ 1048576 → length J.image ≤ region_size P → with_entry P J (Some e) ≡ Some K → GivesMore P J K
+entry_gives : (P : Program) (J K : Input) (e : Entry) → ValuesFit e → length J.numbers ≤ 1048576
+    → length J.image ≤ region_size P → with_entry P J (Some e) ≡ Some K → GivesMore P J K
 entry_gives P J K (Number z) fits few within q = number_gives P J K z few within q
 entry_gives P J K (Image addr line) fits few within q = line_gives P J K addr line fits.whole few within q
 entry_gives P J K (Start limit) fits few within q = absurd (let z : ⊥ = cc in z)
@@ -341,7 +423,8 @@ entry_gives P J K Cut fits few within q = absurd (let z : ⊥ = cc in z)
 -- ---- the loop over INPUT and IMAGE entries
 
 -- since a reader, a cabinet and what was given
-pub record IsGiving (P : Program) (r0 : ReaderState) (s0 : CabinetState) (given0 : Input) (r : ReaderState) (s : CabinetState) (given : Input) (count : ℕ) : Type 0 where
+pub record IsGiving (P : Program) (r0 : ReaderState) (s0 : CabinetState) (given0 : Input) (r : ReaderState)
+    (s : CabinetState) (given : Input) (count : ℕ) : Type 0 where
   pub progress : r.progress ≡ Reading
   pub current : s.is_current ≡ true
   pub numbers : length given.numbers ≤ 1048576
@@ -349,20 +432,33 @@ pub record IsGiving (P : Program) (r0 : ReaderState) (s0 : CabinetState) (given0
   pub few : count ≤ 2 + length given.numbers + length given.image
   pub so_far : (start : CabinetState) → HasGiven P start r0 s0 given0 2 → HasGiven P start r s given count
 
-pub begins_giving : (P : Program) (r : ReaderState) (s : CabinetState) (given : Input) → r.progress ≡ Reading → s.is_current ≡ true → given.numbers ≡ [] → given.image ≡ [] → IsGiving P r s given r s given 2
+pub begins_giving : (P : Program) (r : ReaderState) (s : CabinetState) (given : Input) → r.progress ≡ Reading
+    → s.is_current ≡ true → given.numbers ≡ [] → given.image ≡ [] → IsGiving P r s given r s given 2
 begins_giving P r s given reading current numbers image =
     let none = ap (λ zs. length zs) numbers in
     let empty = ap (λ bs. length bs) image in
-    record { progress = reading; current = current; numbers = omega (arith, none); image = omega (arith, empty); few = omega (arith, none, empty); so_far = λ start h. h }
+    record {
+      progress = reading;
+      current = current;
+      numbers = omega (arith, none);
+      image = omega (arith, empty);
+      few =
+          omega (arith, none, empty);
+      so_far = λ start h. h;
+    }
 
-module _ {P : Program} {r0 : ReaderState} {s0 : CabinetState} {given0 : Input} {r : ReaderState} {s : CabinetState} {given : Input} {count : ℕ} (is : IsGiving P r0 s0 given0 r s given count) (size : region_size P < 2 ^ 64) where
+module _ {P : Program} {r0 : ReaderState} {s0 : CabinetState} {given0 : Input} {r : ReaderState} {s : CabinetState}
+    {given : Input} {count : ℕ} (is : IsGiving P r0 s0 given0 r s given count) (size : region_size P < 2 ^ 64) where
   pub count_room : count + 1 < 2 ^ 128
-  count_room = let few = is.few in let numbers = is.numbers in let image = is.image in omega (arith, few, numbers, image, size)
+  count_room = let few = is.few in let numbers = is.numbers in let image = is.image in
+      omega (arith, few, numbers, image, size)
 
-  more_given : (r' : ReaderState) (s' : CabinetState) (e : Entry) (next : Input) → HasNext r r' s s' e → with_entry P given (Some e) ≡ Some next → GivesMore P given next
+  more_given : (r' : ReaderState) (s' : CabinetState) (e : Entry) (next : Input) → HasNext r r' s s' e
+      → with_entry P given (Some e) ≡ Some next → GivesMore P given next
   more_given r' s' e next h q = entry_gives P given next e (spelled_fits h.piece e h.spells) is.numbers is.image q
 
-  pub goes_on_giving : (r' : ReaderState) (s' : CabinetState) (e : Entry) (next : Input) → HasNext r r' s s' e → with_entry P given (Some e) ≡ Some next → IsGiving P r0 s0 given0 r' s' next (count + 1)
+  pub goes_on_giving : (r' : ReaderState) (s' : CabinetState) (e : Entry) (next : Input) → HasNext r r' s s' e
+      → with_entry P given (Some e) ≡ Some next → IsGiving P r0 s0 given0 r' s' next (count + 1)
   goes_on_giving r' s' e next h q =
       let more = more_given r' s' e next h q in
       let few = is.few in
@@ -376,7 +472,10 @@ module _ {P : Program} {r0 : ReaderState} {s0 : CabinetState} {given0 : Input} {
         so_far = λ start k. value_taken (is.so_far start k) count_room r' s' e next h q;
       }
 
-  pub less_left : (r' : ReaderState) (s' : CabinetState) (e : Entry) (next : Input) → HasNext r r' s s' e → with_entry P given (Some e) ≡ Some next → 1048576 - length next.numbers + (region_size P - length next.image) < 1048576 - length given.numbers + (region_size P - length given.image)
+  pub less_left : (r' : ReaderState) (s' : CabinetState) (e : Entry) (next : Input) → HasNext r r' s s' e
+      → with_entry P given (Some e) ≡ Some next
+      → 1048576 - length next.numbers + (region_size P - length next.image) < 1048576 - length given.numbers
+      + (region_size P - length given.image)
   less_left r' s' e next h q =
       let more = more_given r' s' e next h q in
       let a = more.numbers in
@@ -388,13 +487,17 @@ module _ {P : Program} {r0 : ReaderState} {s0 : CabinetState} {given0 : Input} {
 
 -- ---- the whole header
 
-pub first_given_at : (P : Program) (start : CabinetState) (r : ReaderState) (s : CabinetState) (limit base : ℕ) (numbers : List ℤ) (image : List ℕ) → HasBase P start r s limit base → numbers ≡ [] → image ≡ [] → HasGiven P start r s (record { base = base; image = image; numbers = numbers; limit = limit }) 2
+pub first_given_at : (P : Program) (start : CabinetState) (r : ReaderState) (s : CabinetState) (limit base : ℕ)
+    (numbers : List ℤ) (image : List ℕ) → HasBase P start r s limit base → numbers ≡ [] → image ≡ []
+    → HasGiven P start r s (record { base = base; image = image; numbers = numbers; limit = limit }) 2
 first_given_at P start r s limit base numbers image h n i =
     subst (λ zs. HasGiven P start r s (record { base = base; image = image; numbers = zs; limit = limit }) 2) (sym n)
-    (subst (λ bs. HasGiven P start r s (record { base = base; image = bs; numbers = []; limit = limit }) 2) (sym i) (first_given P start r s limit base h))
+    (subst (λ bs. HasGiven P start r s (record { base = base; image = bs; numbers = []; limit = limit }) 2) (sym i)
+    (first_given P start r s limit base h))
 
 -- the bytes go no further than the region
-pub image_within : {P : Program} {start : CabinetState} {r : ReaderState} {s : CabinetState} {given : Input} {behind : Lockstep} → HasAllGiven P start r s given behind → length given.image ≤ region_size P
+pub image_within : {P : Program} {start : CabinetState} {r : ReaderState} {s : CabinetState} {given : Input}
+    {behind : Lockstep} → HasAllGiven P start r s given behind → length given.image ≤ region_size P
 image_within {P} {start} {r} {s} {given} {behind} h =
     let valid = (header_read P start r s given behind h).valid in
     let whole = valid.image in
@@ -402,5 +505,6 @@ image_within {P} {start} {r} {s} {given} {behind} h =
     let gap = length-zeros (region_size P - length given.image) in
     omega (arith, whole, long, gap)
 
-pub stopped_behind : {P : Program} {start : CabinetState} {r : ReaderState} {s : CabinetState} {given : Input} {behind : Lockstep} → HasAllGiven P start r s given behind → HasStoppedReplay start s
+pub stopped_behind : {P : Program} {start : CabinetState} {r : ReaderState} {s : CabinetState} {given : Input}
+    {behind : Lockstep} → HasAllGiven P start r s given behind → HasStoppedReplay start s
 stopped_behind {P} {start} {r} {s} {given} {behind} h = stopped_after start r s (h.entries ++ behind.next ∷ []) h.read

@@ -17,7 +17,8 @@ use Rattle.hip_lockstep.specs.Reading.{StopsAtSeparator, StopsAtEnd, IsRead, Has
 
 -- ---- what is told
 
-pub told_map : {A : Type 0} (P Q : A → Type 0) (o : Option A) → IfSome o P → ((x : A) → o ≡ Some x → P x → Q x) → IfSome o Q
+pub told_map : {A : Type 0} (P Q : A → Type 0) (o : Option A) → IfSome o P
+    → ((x : A) → o ≡ Some x → P x → Q x) → IfSome o Q
 told_map P Q None h f = tt
 told_map P Q (Some x) h f = f x refl h
 
@@ -26,7 +27,13 @@ told_at P None x e h = absurd (let z : ⊥ = cc in z)
 told_at P (Some y) x e h = let same : y ≡ x = cc in subst P same h
 
 pub stays_more : (a b c : CabinetState) → StaysOpen a b → StaysOpen b c → StaysOpen a c
-stays_more a b c x y = record { files = y.files ∙ x.files; misses = y.misses ∙ x.misses; current = y.current; named = y.named ∙ x.named }
+stays_more a b c x y = record {
+  files = y.files ∙ x.files;
+  misses = y.misses
+      ∙ x.misses;
+  current = y.current;
+  named = y.named ∙ x.named;
+}
 
 pub reads_more : (start mid new : CabinetState) → IsReading start mid → IsReading mid new → IsReading start new
 reads_more start mid new p q = record {
@@ -48,7 +55,8 @@ short_text : (text : List ℕ) (e : Entry) → entry_of text ≡ Some e → leng
 unfolding entry_of
 short_text text e h = go (nat_lt 256 (length text)) refl h
   where
-    go : (b : Bool) → nat_lt 256 (length text) ≡ b → (if b then None else entry_by (fields text)) ≡ Some e → length text ≤ 256
+    go : (b : Bool) → nat_lt 256 (length text) ≡ b → (if b then None else entry_by (fields text)) ≡ Some e
+        → length text ≤ 256
     go true q k = absurd (let z : ⊥ = cc in z)
     go false q k = ltb-false 256 (length text) q
 
@@ -71,16 +79,20 @@ module _ (bytes : List ℕ) (es : List Entry) (e : Entry) (piece : List ℕ) (sp
       ap (λ (o : Option Entry). told es ++ (o ∷ more)) spells ∙ sym (append_assoc (told es) (Some e ∷ []) more)
       ∙ ap (λ (ps : List (Option Entry)). ps ++ more) (sym told_one)
 
-  at_separator : (text left : List ℕ) (separator : ℕ) → list_any is_separator piece ≡ false → is_separator separator ≡ true → StopsAtSeparator text es → StopsAtSeparator (text ++ (piece ++ separator ∷ [])) (es ++ e ∷ [])
+  at_separator : (text left : List ℕ) (separator : ℕ) → list_any is_separator piece ≡ false
+      → is_separator separator ≡ true → StopsAtSeparator text es
+      → StopsAtSeparator (text ++ (piece ++ separator ∷ [])) (es ++ e ∷ [])
   at_separator text left separator whole separates h = record {
     spells = λ w more.
-        ap (spelled w) (append_assoc text (piece ++ separator ∷ []) more ∙ ap (λ (xs : List ℕ). text ++ xs) (append_assoc piece (separator ∷ []) more))
+        ap (spelled w) (append_assoc text (piece ++ separator ∷ []) more
+        ∙ ap (λ (xs : List ℕ). text ++ xs) (append_assoc piece (separator ∷ []) more))
         ∙ h.spells w (piece ++ separator ∷ more)
         ∙ ap (λ (ps : List (Option Entry)). told es ++ ps) (spelled_first w piece separator more whole separates)
         ∙ behind (spelled w more);
   }
 
-  at_end : (text left : List ℕ) → list_any is_separator piece ≡ false → is_nonempty piece ≡ true → left ≡ [] → StopsAtSeparator text es → StopsAtEnd (text ++ piece) (es ++ e ∷ []) left
+  at_end : (text left : List ℕ) → list_any is_separator piece ≡ false → is_nonempty piece ≡ true
+      → left ≡ [] → StopsAtSeparator text es → StopsAtEnd (text ++ piece) (es ++ e ∷ []) left
   at_end text left whole some none h = record {
     none = none;
     spells =
@@ -89,13 +101,18 @@ module _ (bytes : List ℕ) (es : List Entry) (e : Entry) (piece : List ℕ) (sp
     last = Some e ∷ [];
     front =
         told_one
-        ∙ ap (λ (ps : List (Option Entry)). ps ++ Some e ∷ []) (sym (h.spells false piece ∙ ap (λ (ps : List (Option Entry)). told es ++ ps) (ap (λ (ts : List (List ℕ)). map entry_of ts) (no_piece piece whole (short_text piece e spells))) ∙ append-nil (told es)));
+        ∙ ap (λ (ps : List (Option Entry)). ps ++ Some e ∷ [])
+        (sym (h.spells false piece ∙ ap (λ (ps : List (Option Entry)). told es ++ ps)
+        (ap (λ (ts : List (List ℕ)). map entry_of ts) (no_piece piece whole (short_text piece e spells)))
+        ∙ append-nil (told es)));
   }
 
-  next_piece : (old new : Option (List ℕ)) → IsRead bytes es old → TakesPiece piece old new → IsRead bytes (es ++ e ∷ []) new
+  next_piece : (old new : Option (List ℕ)) → IsRead bytes es old → TakesPiece piece old new
+      → IsRead bytes (es ++ e ∷ []) new
   next_piece old new h (inl s) = go new s.bytes h.spells
     where
-      go : (o : Option (List ℕ)) → old ≡ option_map (λ rest. piece ++ s.separator ∷ rest) o → StopsAtSeparator h.text es ⊎ StopsAtEnd h.text es h.left → IsRead bytes (es ++ e ∷ []) o
+      go : (o : Option (List ℕ)) → old ≡ option_map (λ rest. piece ++ s.separator ∷ rest) o
+          → StopsAtSeparator h.text es ⊎ StopsAtEnd h.text es h.left → IsRead bytes (es ++ e ∷ []) o
       go None q k = absurd (let is = h.ahead_is in let z : ⊥ = cc in z)
       go (Some left) q (inl k) =
           let is = h.ahead_is in
@@ -105,7 +122,8 @@ module _ (bytes : List ℕ) (es : List Entry) (e : Entry) (piece : List ℕ) (sp
             left = left;
             ahead_is = refl;
             bytes_are =
-                h.bytes_are ∙ ap (λ (xs : List ℕ). h.text ++ xs) (same ∙ sym (append_assoc piece (s.separator ∷ []) left))
+                h.bytes_are ∙ ap (λ (xs : List ℕ). h.text ++ xs)
+                (same ∙ sym (append_assoc piece (s.separator ∷ []) left))
                 ∙ sym (append_assoc h.text (piece ++ s.separator ∷ []) left);
             spells = inl (at_separator h.text left s.separator s.whole s.separates k);
           }
@@ -115,7 +133,8 @@ module _ (bytes : List ℕ) (es : List Entry) (e : Entry) (piece : List ℕ) (sp
           absurd (not_empty piece s.separator left (sym k.none ∙ same))
   next_piece old new h (inr s) = go new s.bytes s.left h.spells
     where
-      go : (o : Option (List ℕ)) → old ≡ option_map (λ rest. piece ++ rest) o → IfSome o (λ rest. rest ≡ []) → StopsAtSeparator h.text es ⊎ StopsAtEnd h.text es h.left → IsRead bytes (es ++ e ∷ []) o
+      go : (o : Option (List ℕ)) → old ≡ option_map (λ rest. piece ++ rest) o → IfSome o (λ rest. rest ≡ [])
+          → StopsAtSeparator h.text es ⊎ StopsAtEnd h.text es h.left → IsRead bytes (es ++ e ∷ []) o
       go None q end k = absurd (let is = h.ahead_is in let z : ⊥ = cc in z)
       go (Some left) q end (inl k) =
           let is = h.ahead_is in
@@ -124,7 +143,8 @@ module _ (bytes : List ℕ) (es : List Entry) (e : Entry) (piece : List ℕ) (sp
             text = h.text ++ piece;
             left = left;
             ahead_is = refl;
-            bytes_are = h.bytes_are ∙ ap (λ (xs : List ℕ). h.text ++ xs) same ∙ sym (append_assoc h.text piece left);
+            bytes_are = h.bytes_are ∙ ap (λ (xs : List ℕ). h.text ++ xs) same
+                ∙ sym (append_assoc h.text piece left);
             spells = inr (at_end h.text left s.whole s.some end k);
           }
       go (Some left) q end (inr k) =
@@ -137,18 +157,24 @@ module _ (bytes : List ℕ) (es : List Entry) (e : Entry) (piece : List ℕ) (sp
 fits_more : (n : ℕ) → n + 1 < 2 ^ 128 → one_more n ≡ n + 1
 fits_more n lt = omega arith
 
-pub next_read : (start s s' : CabinetState) (r r' : ReaderState) (es : List Entry) (e : Entry) → length es + 1 < 2 ^ 128 → HasReadEntries start r s es → HasNext r r' s s' e → HasReadEntries start r' s' (es ++ e ∷ [])
+pub next_read : (start s s' : CabinetState) (r r' : ReaderState) (es : List Entry) (e : Entry)
+    → length es + 1 < 2 ^ 128 → HasReadEntries start r s es → HasNext r r' s s' e
+    → HasReadEntries start r' s' (es ++ e ∷ [])
 next_read start s s' r r' es e few h n = record {
   reading = reads_more start s s' h.reading n.reading;
   progress = n.progress;
   count = n.count ∙ ap one_more h.count ∙ fits_more (length es) few ∙ sym (length-append es (e ∷ []));
-  fit = subst FitAll (sym (told_append es (e ∷ []))) (fit_append (told es) (Some e ∷ []) h.fit (spelled_fits n.piece e n.spells, tt));
-  told = told_map (λ bytes. IsRead bytes es (ahead r s)) (λ bytes. IsRead bytes (es ++ e ∷ []) (ahead r' s')) start.rest h.told
+  fit = subst FitAll (sym (told_append es (e ∷ [])))
+      (fit_append (told es) (Some e ∷ []) h.fit (spelled_fits n.piece e n.spells, tt));
+  told = told_map (λ bytes. IsRead bytes es (ahead r s))
+      (λ bytes. IsRead bytes (es ++ e ∷ []) (ahead r' s')) start.rest h.told
       (λ bytes at read. next_piece bytes es e n.piece n.spells (ahead r s) (ahead r' s') read n.taken);
 }
 
 -- before the first entry
-pub nothing_read : (start : CabinetState) (r : ReaderState) → r ≡ record { held = []; count = 0; progress = Reading } → start.is_current ≡ true → HasReadEntries start r start []
+pub nothing_read : (start : CabinetState) (r : ReaderState)
+    → r ≡ record { held = []; count = 0; progress = Reading } → start.is_current ≡ true
+    → HasReadEntries start r start []
 nothing_read start r new current = subst (λ (x : ReaderState). HasReadEntries start x start []) (sym new) (record {
   reading = record { stays = record { files = refl; misses = refl; current = current; named = refl }; faults = refl };
   progress = refl;
@@ -159,17 +185,27 @@ nothing_read start r new current = subst (λ (x : ReaderState). HasReadEntries s
   where
     go : (o : Option (List ℕ)) → IfSome o (λ bytes. IsRead bytes [] (option_map (λ rest. [] ++ rest) o))
     go None = tt
-    go (Some b) = record { text = []; left = b; ahead_is = refl; bytes_are = refl; spells = inl (record { spells = λ w more. refl }) }
+    go (Some b) = record {
+      text = [];
+      left = b;
+      ahead_is = refl;
+      bytes_are = refl;
+      spells =
+          inl (record { spells = λ w more. refl });
+    }
 
 -- ---- what the whole file spells, and its front
 
-pub read_whole : (bytes : List ℕ) (es : List Entry) (o : Option (List ℕ)) (h : IsRead bytes es o) → spelled true bytes ≡ told es ++ spelled true h.left
+pub read_whole : (bytes : List ℕ) (es : List Entry) (o : Option (List ℕ)) (h : IsRead bytes es o)
+    → spelled true bytes ≡ told es ++ spelled true h.left
 read_whole bytes es o h = go h.spells
   where
-    go : StopsAtSeparator h.text es ⊎ StopsAtEnd h.text es h.left → spelled true bytes ≡ told es ++ spelled true h.left
+    go : StopsAtSeparator h.text es ⊎ StopsAtEnd h.text es h.left
+        → spelled true bytes ≡ told es ++ spelled true h.left
     go (inl k) = ap (spelled true) h.bytes_are ∙ k.spells true h.left
     go (inr k) =
-        ap (spelled true) (h.bytes_are ∙ ap (λ (xs : List ℕ). h.text ++ xs) k.none ∙ append-nil h.text) ∙ k.spells
+        ap (spelled true) (h.bytes_are ∙ ap (λ (xs : List ℕ). h.text ++ xs) k.none ∙ append-nil h.text)
+        ∙ k.spells
         ∙ sym (append-nil (told es)) ∙ ap (λ (xs : List ℕ). told es ++ spelled true xs) (sym k.none)
 
 nothing_spelled : (held : List ℕ) → pieces false held ≡ [] → spelled false held ≡ []
@@ -180,11 +216,21 @@ empty_front [] rest e = refl
 empty_front (b ∷ bs) rest e = absurd (let z : ⊥ = cc in z)
 
 -- the bytes that were taken, of which the last ones are no piece yet
-pub read_front : (bytes : List ℕ) (es : List Entry) (o : Option (List ℕ)) (h : IsRead bytes es o) (held rest : List ℕ) → h.left ≡ held ++ rest → pieces false held ≡ [] → (last : List (Option Entry)) × (told es ≡ spelled false (h.text ++ held) ++ last)
+pub read_front : (bytes : List ℕ) (es : List Entry) (o : Option (List ℕ)) (h : IsRead bytes es o)
+    (held rest : List ℕ) → h.left ≡ held ++ rest → pieces false held ≡ [] → (last : List (Option Entry))
+    × (told es ≡ spelled false (h.text ++ held) ++ last)
 read_front bytes es o h held rest split none = go h.spells
   where
-    go : StopsAtSeparator h.text es ⊎ StopsAtEnd h.text es h.left → (last : List (Option Entry)) × (told es ≡ spelled false (h.text ++ held) ++ last)
-    go (inl k) = ([], sym (append-nil (spelled false (h.text ++ held)) ∙ k.spells false held ∙ ap (λ (ps : List (Option Entry)). told es ++ ps) (nothing_spelled held none) ∙ append-nil (told es)))
+    go : StopsAtSeparator h.text es ⊎ StopsAtEnd h.text es h.left → (last : List (Option Entry))
+        × (told es ≡ spelled false (h.text ++ held) ++ last)
+    go (inl k) = (
+      [],
+      sym (append-nil (spelled false (h.text ++ held)) ∙ k.spells false held
+          ∙ ap (λ (ps : List (Option Entry)). told es ++ ps) (nothing_spelled held none) ∙ append-nil (told es)),
+    )
     go (inr k) =
-        let empty : held ≡ [] = empty_front held rest (sym k.none ∙ split) in
-        (k.last, k.front ∙ ap (λ (xs : List ℕ). spelled false xs ++ k.last) (sym (ap (λ (xs : List ℕ). h.text ++ xs) empty ∙ append-nil h.text)))
+        let empty : held ≡ [] = empty_front held rest (sym k.none ∙ split) in (
+          k.last,
+          k.front ∙ ap (λ (xs : List ℕ). spelled false xs ++ k.last)
+              (sym (ap (λ (xs : List ℕ). h.text ++ xs) empty ∙ append-nil h.text)),
+        )

@@ -9,21 +9,26 @@ use Rattle.hip_mem.specs.Areas.{Areas, IsLaidOut, mark_of, is_valid, are_valid, 
 -- ---- tests
 
 -- an address is in an area or not
-pub in_or_not : (start : ℕ) (xs : List ℕ) (a : ℕ) → ((is_in start xs a ≡ true) × (start ≤ a) × (a < start + length xs))
+pub in_or_not : (start : ℕ) (xs : List ℕ) (a : ℕ)
+    → ((is_in start xs a ≡ true) × (start ≤ a) × (a < start + length xs))
     ⊎ ((is_in start xs a ≡ false) × ((a < start) ⊎ (start + length xs ≤ a)))
 in_or_not start xs a = grind (arith, nat_tests)
 
-pub in_area : (start : ℕ) (xs : List ℕ) (a : ℕ) → start ≤ a → a < start + length xs → is_in start xs a ≡ true
+pub in_area : (start : ℕ) (xs : List ℕ) (a : ℕ) → start ≤ a → a < start + length xs
+    → is_in start xs a ≡ true
 in_area start xs a h k = grind (arith, nat_tests)
 
-pub not_in_area : (start : ℕ) (xs : List ℕ) (a : ℕ) → (a < start) ⊎ (start + length xs ≤ a) → is_in start xs a ≡ false
+pub not_in_area : (start : ℕ) (xs : List ℕ) (a : ℕ) → (a < start) ⊎ (start + length xs ≤ a)
+    → is_in start xs a ≡ false
 not_in_area start xs a h = grind (arith, nat_tests)
 
-pub is_in-bounds : (start : ℕ) (xs : List ℕ) (a : ℕ) → is_in start xs a ≡ true → (start ≤ a) × (a < start + length xs)
+pub is_in-bounds : (start : ℕ) (xs : List ℕ) (a : ℕ) → is_in start xs a ≡ true → (start ≤ a)
+    × (a < start + length xs)
 is_in-bounds start xs a h = grind (arith, nat_tests)
 
 -- an area with another content of the same length
-pub is_in-length : (start : ℕ) (xs ys : List ℕ) (a : ℕ) → length ys ≡ length xs → is_in start ys a ≡ is_in start xs a
+pub is_in-length : (start : ℕ) (xs ys : List ℕ) (a : ℕ) → length ys ≡ length xs
+    → is_in start ys a ≡ is_in start xs a
 is_in-length start xs ys a e = ap (λ n. nat_le start a && nat_lt a (start + n)) e
 
 -- ---- a write
@@ -43,7 +48,8 @@ slice_index-area_written w start (x ∷ xs) (suc i) h =
 
 pub is_valid-after_write : (w : Write) (r : Areas) (a : ℕ) → is_valid (after_write w r) a ≡ is_valid r a
 is_valid-after_write w r a =
-    ap₂ (λ x y. x || y) (is_in-length volatile_start r.volatile _ a (length-area_written w volatile_start r.volatile))
+    ap₂ (λ x y. x || y) (is_in-length volatile_start r.volatile _ a
+    (length-area_written w volatile_start r.volatile))
     (ap₂ (λ x y. x || y) (is_in-length stack_start r.stack _ a (length-area_written w stack_start r.stack))
     (is_in-length r.base r.region _ a (length-area_written w r.base r.region)))
 
@@ -65,7 +71,8 @@ byte_in-after_write w r a v =
     s' : is_in stack_start (area_written w stack_start r.stack) a ≡ is_in stack_start r.stack a
     s' = is_in-length stack_start r.stack _ a (length-area_written w stack_start r.stack)
 
-    go : ((is_in volatile_start r.volatile a ≡ true) × (volatile_start ≤ a) × (a < volatile_start + length r.volatile))
+    go : ((is_in volatile_start r.volatile a ≡ true) × (volatile_start ≤ a)
+        × (a < volatile_start + length r.volatile))
         ⊎ ((is_in volatile_start r.volatile a ≡ false)
         × ((a < volatile_start) ⊎ (volatile_start + length r.volatile ≤ a)))
         → ((is_in stack_start r.stack a ≡ true) × (stack_start ≤ a) × (a < stack_start + length r.stack))
@@ -86,7 +93,8 @@ pub byte_from-append : (ws : List Write) (w : Write) (a first : ℕ)
 byte_from-append [] w a first = refl
 byte_from-append (x ∷ ws) w a first = byte_from-append ws w a (byte_written x a first)
 
-pub byte_at-with_write : (w : Write) (m : Memory) (a : ℕ) → byte_at (with_write w m) a ≡ byte_written w a (byte_at m a)
+pub byte_at-with_write : (w : Write) (m : Memory) (a : ℕ)
+    → byte_at (with_write w m) a ≡ byte_written w a (byte_at m a)
 byte_at-with_write w m a = byte_from-append m.writes w a (initial_byte m a)
 
 -- ---- what holds a memory holds it after a write, a push and a pop
@@ -109,8 +117,10 @@ holds-new base volatile region h k =
     none a = grind (arith, nat_tests)
 
     go : (a : ℕ) → is_valid (record { base = base; volatile = volatile; stack = []; region = region }) a ≡ true
-        → ((is_in volatile_start volatile a ≡ true) × (volatile_start ≤ a) × (a < volatile_start + length volatile))
-        ⊎ ((is_in volatile_start volatile a ≡ false) × ((a < volatile_start) ⊎ (volatile_start + length volatile ≤ a)))
+        → ((is_in volatile_start volatile a ≡ true) × (volatile_start ≤ a)
+        × (a < volatile_start + length volatile))
+        ⊎ ((is_in volatile_start volatile a ≡ false)
+        × ((a < volatile_start) ⊎ (volatile_start + length volatile ≤ a)))
         → ((is_in base region a ≡ true) × (base ≤ a) × (a < base + length region))
         ⊎ ((is_in base region a ≡ false) × ((a < base) ⊎ (base + length region ≤ a)))
         → byte_in (record { base = base; volatile = volatile; stack = []; region = region }) a
@@ -156,16 +166,19 @@ length-take-le zero xs h = refl
 length-take-le (suc n) [] h = absurd (omega arith)
 length-take-le (suc n) (x ∷ xs) h = ap suc (length-take-le n xs (omega arith))
 
-pub covered_or_not : (w : Write) (a : ℕ) → ((write_covers w a ≡ true) × (w.addr ≤ a) × (a < w.addr + length w.bytes))
+pub covered_or_not : (w : Write) (a : ℕ)
+    → ((write_covers w a ≡ true) × (w.addr ≤ a) × (a < w.addr + length w.bytes))
     ⊎ ((write_covers w a ≡ false) × ((a < w.addr) ⊎ (w.addr + length w.bytes ≤ a)))
 covered_or_not w a = grind (arith, nat_tests)
 
 -- a write that does not cover the byte
-pub not_written : (w : Write) (a old : ℕ) → (a < w.addr) ⊎ (w.addr + length w.bytes ≤ a) → byte_written w a old ≡ old
+pub not_written : (w : Write) (a old : ℕ) → (a < w.addr) ⊎ (w.addr + length w.bytes ≤ a)
+    → byte_written w a old ≡ old
 not_written w a old h = go (covered_or_not w a)
   where
     go : ((write_covers w a ≡ true) × (w.addr ≤ a) × (a < w.addr + length w.bytes))
-        ⊎ ((write_covers w a ≡ false) × ((a < w.addr) ⊎ (w.addr + length w.bytes ≤ a))) → byte_written w a old ≡ old
+        ⊎ ((write_covers w a ≡ false) × ((a < w.addr) ⊎ (w.addr + length w.bytes ≤ a)))
+        → byte_written w a old ≡ old
     go (inl x) = absurd (both h)
       where
         both : (a < w.addr) ⊎ (w.addr + length w.bytes ≤ a) → ⊥
@@ -210,7 +223,8 @@ pub mark_of-after_push : (mark : ℕ) (r : Areas) → mark_of r ≤ mark → mar
 mark_of-after_push mark r h =
     omega (arith, length-append r.stack (zeros (mark - mark_of r)), length-zeros (mark - mark_of r))
 
-pub holds-push : (mark : ℕ) (r : Areas) (m : Memory) → AreApart r → mark_of r ≤ mark → mark ≤ stack_end → Holds r m
+pub holds-push : (mark : ℕ) (r : Areas) (m : Memory) → AreApart r → mark_of r ≤ mark → mark ≤ stack_end
+    → Holds r m
     → Holds (after_push mark r) (with_write (push_write mark r) m)
 holds-push mark r m p low high h = record {
   base = h.base;
@@ -233,7 +247,8 @@ holds-push mark r m p low high h = record {
         (inr (omega (arith, low, l, length-zeros (mark - mark_of r)))))
 
     go : (a : ℕ) → is_valid (after_push mark r) a ≡ true
-        → ((is_in volatile_start r.volatile a ≡ true) × (volatile_start ≤ a) × (a < volatile_start + length r.volatile))
+        → ((is_in volatile_start r.volatile a ≡ true) × (volatile_start ≤ a)
+        × (a < volatile_start + length r.volatile))
         ⊎ ((is_in volatile_start r.volatile a ≡ false)
         × ((a < volatile_start) ⊎ (volatile_start + length r.volatile ≤ a)))
         → ((is_in stack_start (r.stack ++ zeros (mark - mark_of r)) a ≡ true) × (stack_start ≤ a)
@@ -278,7 +293,8 @@ holds-push mark r m p low high h = record {
         absurd (let i = x.0 in let j = s.0 in let k = z.0 in
         let e : is_valid (after_push mark r) a ≡ false = rw (i, j, k) refl in let n : ⊥ = cc in n)
 
-pub holds-pop : (mark : ℕ) (r : Areas) (m : Memory) → AreApart r → stack_start ≤ mark → mark ≤ mark_of r → Holds r m
+pub holds-pop : (mark : ℕ) (r : Areas) (m : Memory) → AreApart r → stack_start ≤ mark → mark ≤ mark_of r
+    → Holds r m
     → Holds (after_pop mark r) m
 holds-pop mark r m p low high h = record {
   base = h.base;
@@ -294,7 +310,8 @@ holds-pop mark r m p low high h = record {
     len = length-take-le (mark - stack_start) r.stack (omega (arith, high))
 
     go : (a : ℕ) → is_valid (after_pop mark r) a ≡ true
-        → ((is_in volatile_start r.volatile a ≡ true) × (volatile_start ≤ a) × (a < volatile_start + length r.volatile))
+        → ((is_in volatile_start r.volatile a ≡ true) × (volatile_start ≤ a)
+        × (a < volatile_start + length r.volatile))
         ⊎ ((is_in volatile_start r.volatile a ≡ false)
         × ((a < volatile_start) ⊎ (volatile_start + length r.volatile ≤ a)))
         → ((is_in stack_start (take (mark - stack_start) r.stack) a ≡ true) × (stack_start ≤ a)
@@ -345,7 +362,8 @@ are_valid-at r a (suc n) (suc k) e h =
     ap (is_valid r) (let z : a + suc k ≡ suc a + k = omega arith in z)
     ∙ are_valid-at r (suc a) n k (both_true (is_valid r a) (are_valid r (suc a) n) e).1 (omega arith)
 
-pub are_valid-from_each : (r : Areas) (n a : ℕ) → ((k : ℕ) → k < n → is_valid r (a + k) ≡ true) → are_valid r a n ≡ true
+pub are_valid-from_each : (r : Areas) (n a : ℕ) → ((k : ℕ) → k < n → is_valid r (a + k) ≡ true)
+    → are_valid r a n ≡ true
 are_valid-from_each r zero a h = refl
 are_valid-from_each r (suc n) a h =
     let e : is_valid r a ≡ true = ap (is_valid r) (let z : a ≡ a + 0 = omega arith in z) ∙ h 0 (omega arith) in
@@ -368,7 +386,8 @@ bytes_in-bytes_at r m (suc n) a h e =
     ap₂ (λ x xs. x ∷ xs) (h.bytes a b.0) (bytes_in-bytes_at r m n (suc a) h b.1)
 
 -- what was written is read
-bytes_in-written : (w : Write) (r : Areas) (n k : ℕ) → are_valid r (w.addr + k) n ≡ true → k + n ≡ length w.bytes
+bytes_in-written : (w : Write) (r : Areas) (n k : ℕ) → are_valid r (w.addr + k) n ≡ true
+    → k + n ≡ length w.bytes
     → bytes_in (after_write w r) (w.addr + k) n ≡ drop k w.bytes
 bytes_in-written w r zero k e h = sym (drop-all k w.bytes (omega arith))
   where
@@ -393,7 +412,8 @@ bytes_in-written w r (suc n) k e h =
     drop-first (suc k) (x ∷ xs) h = drop-first k xs (omega arith)
 
     over : ((write_covers w (w.addr + k) ≡ true) × (w.addr ≤ w.addr + k) × (w.addr + k < w.addr + length w.bytes))
-        ⊎ ((write_covers w (w.addr + k) ≡ false) × ((w.addr + k < w.addr) ⊎ (w.addr + length w.bytes ≤ w.addr + k)))
+        ⊎ ((write_covers w (w.addr + k) ≡ false)
+        × ((w.addr + k < w.addr) ⊎ (w.addr + length w.bytes ≤ w.addr + k)))
         → byte_written w (w.addr + k) (byte_in r (w.addr + k)) ≡ slice_index w.bytes (w.addr + k - w.addr)
     over (inl x) = ap (λ b. cond b (slice_index w.bytes (w.addr + k - w.addr)) (byte_in r (w.addr + k))) x.0
     over (inr x) = absurd (out x.1)
@@ -419,15 +439,18 @@ abbrev pub FitsOne : Areas → ℕ → ℕ → Type 0
 FitsOne r a n = Fits volatile_start r.volatile a n ⊎ (Fits stack_start r.stack a n ⊎ Fits r.base r.region a n)
 
 pub valid-where : (r : Areas) (a : ℕ) → is_valid r a ≡ true → FitsOne r a 1
-valid-where r a e = go (in_or_not volatile_start r.volatile a) (in_or_not stack_start r.stack a) (in_or_not r.base r.region a)
+valid-where r a e = go (in_or_not volatile_start r.volatile a) (in_or_not stack_start r.stack a)
+    (in_or_not r.base r.region a)
   where
-    go : ((is_in volatile_start r.volatile a ≡ true) × (volatile_start ≤ a) × (a < volatile_start + length r.volatile))
+    go : ((is_in volatile_start r.volatile a ≡ true) × (volatile_start ≤ a)
+        × (a < volatile_start + length r.volatile))
         ⊎ ((is_in volatile_start r.volatile a ≡ false)
         × ((a < volatile_start) ⊎ (volatile_start + length r.volatile ≤ a)))
         → ((is_in stack_start r.stack a ≡ true) × (stack_start ≤ a) × (a < stack_start + length r.stack))
         ⊎ ((is_in stack_start r.stack a ≡ false) × ((a < stack_start) ⊎ (stack_start + length r.stack ≤ a)))
         → ((is_in r.base r.region a ≡ true) × (r.base ≤ a) × (a < r.base + length r.region))
-        ⊎ ((is_in r.base r.region a ≡ false) × ((a < r.base) ⊎ (r.base + length r.region ≤ a))) → FitsOne r a 1
+        ⊎ ((is_in r.base r.region a ≡ false) × ((a < r.base) ⊎ (r.base + length r.region ≤ a)))
+        → FitsOne r a 1
     go (inl x) y z = inl (x.1, omega (arith, x.2))
     go (inr x) (inl y) z = inr (inl (y.1, omega (arith, y.2)))
     go (inr x) (inr y) (inl z) = inr (inr (z.1, omega (arith, z.2)))
@@ -455,7 +478,8 @@ where-valid r a (inr (inr x)) =
 
 pub are_valid-fits : (r : Areas) (n a : ℕ) → IsLaidOut r → are_valid r a (suc n) ≡ true → FitsOne r a (suc n)
 are_valid-fits r zero a l e = valid-where r a (both_true (is_valid r a) true e).0
-are_valid-fits r (suc n) a l e = let b = both_true (is_valid r a) (are_valid r (suc a) (suc n)) e in join (valid-where r a b.0) (are_valid-fits r n (suc a) l b.1)
+are_valid-fits r (suc n) a l e = let b = both_true (is_valid r a) (are_valid r (suc a) (suc n)) e in
+    join (valid-where r a b.0) (are_valid-fits r n (suc a) l b.1)
   where
     join : FitsOne r a 1 → FitsOne r (suc a) (suc n) → FitsOne r a (suc (suc n))
     join (inl x) (inl y) = inl (x.0, omega (arith, y.1))

@@ -43,9 +43,11 @@ bytes_of-little_endian (b ∷ bs) h =
     let low : b < 256 = h 0 in
     let r : (b + 256 * little_endian bs) % 256 ≡ b = omega arith in
     let q : (b + 256 * little_endian bs) / 256 ≡ little_endian bs = omega arith in
-    ap₂ (λ x y. x ∷ bytes_of (length bs) y) r q ∙ ap (λ xs. b ∷ xs) (bytes_of-little_endian bs (λ i. h (suc i)))
+    ap₂ (λ x y. x ∷ bytes_of (length bs) y) r q
+    ∙ ap (λ xs. b ∷ xs) (bytes_of-little_endian bs (λ i. h (suc i)))
 
-pub little_endian-below : (bs : List ℕ) → ((i : ℕ) → slice_index bs i < 256) → little_endian bs < 256 ^ length bs
+pub little_endian-below : (bs : List ℕ) → ((i : ℕ) → slice_index bs i < 256)
+    → little_endian bs < 256 ^ length bs
 little_endian-below [] h = omega arith
 little_endian-below (b ∷ bs) h =
     let low : b < 256 = h 0 in
@@ -80,7 +82,8 @@ bytes_low_first-bytes_of (suc k) i v =
     ∙ ap (bytes_of k) (ap (λ d. v / d) (pow-suc 256 i) ∙ sym (div-div-eq-div-mul v (256 ^ i) 256)))
 
 pub to_le_bytes-bytes_of : (v : ℕ) → to_le_bytes w64 v ≡ bytes_of 8 v
-to_le_bytes-bytes_of v = bytes_low_first-bytes_of 8 0 v ∙ ap (bytes_of 8) (let e : v / 256 ^ 0 ≡ v = omega arith in e)
+to_le_bytes-bytes_of v = bytes_low_first-bytes_of 8 0 v
+    ∙ ap (bytes_of 8) (let e : v / 256 ^ 0 ≡ v = omega arith in e)
 
 pub take-bytes_of : (n m v : ℕ) → n ≤ m → take n (bytes_of m v) ≡ bytes_of n v
 take-bytes_of zero m v h = refl

@@ -35,7 +35,8 @@ apart_append xs ys zs a b q h t = ⊎_elim (a q h) (b q h) (among-either ys zs q
 pub append_apart : (xs ys zs : List (List ℕ)) → Apart xs zs → Apart ys zs → Apart (xs ++ ys) zs
 append_apart xs ys zs a b q h t = ⊎_elim (λ f. a q f t) (λ g. b q g t) (among-either xs ys q h)
 
-none_among : (x : List ℕ) (xs : List (List ℕ)) → AllByRecursion (λ y. bytes_eq x y ≡ false) xs → ¬ IsAmong xs x
+none_among : (x : List ℕ) (xs : List (List ℕ)) → AllByRecursion (λ y. bytes_eq x y ≡ false) xs
+    → ¬ IsAmong xs x
 none_among x [] h t = t
 none_among x (y ∷ xs) h (inl e) = both_ways (bytes_eq x y) h.0 ((bytes_eq-Decides x y).1 (sym e))
 none_among x (y ∷ xs) h (inr t) = none_among x xs h.1 t

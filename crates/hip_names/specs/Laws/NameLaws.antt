@@ -42,7 +42,8 @@ pub among-right : (xs ys : List (List ℕ)) (name : List ℕ) → IsAmong ys nam
 among-right [] ys name h = h
 among-right (x ∷ xs) ys name h = inr (among-right xs ys name h)
 
-pub among-either : (xs ys : List (List ℕ)) (name : List ℕ) → IsAmong (xs ++ ys) name → IsAmong xs name ⊎ IsAmong ys name
+pub among-either : (xs ys : List (List ℕ)) (name : List ℕ) → IsAmong (xs ++ ys) name → IsAmong xs name
+    ⊎ IsAmong ys name
 among-either [] ys name h = inr h
 among-either (x ∷ xs) ys name (inl e) = inl (inl e)
 among-either (x ∷ xs) ys name (inr h) = ⊎_elim (λ l. inl (inr l)) (λ r. inr r) (among-either xs ys name h)

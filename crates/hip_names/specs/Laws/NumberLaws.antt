@@ -34,7 +34,8 @@ abbrev pub IsLater : (x : List ℕ) (xs : List (List ℕ)) (name : List ℕ) →
 IsLater x xs name k = (j : ℕ) × (bytes_eq name x ≡ false) × (number_of xs name ≡ Some j) × (k ≡ suc j)
 
 -- the name that has a number is the first one, or it has a number among the rest
-pub number_cases : (x : List ℕ) (xs : List (List ℕ)) (name : List ℕ) (k : ℕ) → number_of (x ∷ xs) name ≡ Some k
+pub number_cases : (x : List ℕ) (xs : List (List ℕ)) (name : List ℕ) (k : ℕ)
+    → number_of (x ∷ xs) name ≡ Some k
     → IsHere x name k ⊎ IsLater x xs name k
 number_cases x xs name k e = by_first (bytes_eq name x) refl
   where
@@ -104,7 +105,8 @@ number_of-first xs name k e none =
     let found = number_of-known xs name k e in
     let least = number_of-least xs name found.0 k found.1 e in
     let there = number_of-there xs name found.0 found.1 in
-    let same : found.0 ≡ k = ⊎_elim (λ s. s) (λ below. absurd (none found.0 below there)) (eq-or-lt_of_le least) in
+    let same : found.0 ≡ k = ⊎_elim (λ s. s) (λ below. absurd (none found.0 below there))
+    (eq-or-lt_of_le least) in
     found.1 ∙ ap Some same
 
 -- a name that is not in the front list has its number behind it

@@ -42,8 +42,10 @@ module _ {V : Type 0} where
   later_if true v o later = refl
   later_if false v o later = refl
 
-  beside-push : (ns : List (List ℕ)) (vs : List V) (n : List ℕ) (v : V) (name : List ℕ) → length ns ≡ length vs →
-      value_beside (ns ++ n ∷ []) (vs ++ v ∷ []) name ≡ or_later (value_beside ns vs name) (at_name (bytes_eq name n) v)
+  beside-push : (ns : List (List ℕ)) (vs : List V) (n : List ℕ) (v : V) (name : List ℕ)
+      → length ns ≡ length vs →
+      value_beside (ns ++ n ∷ []) (vs ++ v ∷ []) name
+      ≡ or_later (value_beside ns vs name) (at_name (bytes_eq name n) v)
   beside-push [] [] n v name e = beside-cons n [] v [] name
   beside-push [] (w ∷ vs) n v name e = absurd (omega arith)
   beside-push (m ∷ ns) [] n v name e = absurd (omega arith)
@@ -61,7 +63,8 @@ module _ {V : Type 0} where
       ∙ later_if (bytes_eq x.name name) x.value (value_of es name) (at_name (bytes_eq e.name name) e.value)
 
   -- a new name is added
-  pub entry_added : (ns : List (List ℕ)) (vs : List V) (es : List (Entry V)) (n : List ℕ) (v : V) → StandsFor ns vs es
+  pub entry_added : (ns : List (List ℕ)) (vs : List V) (es : List (Entry V)) (n : List ℕ) (v : V)
+      → StandsFor ns vs es
       → StandsFor (ns ++ n ∷ []) (vs ++ v ∷ []) (es ++ record { name = n; value = v } ∷ [])
   entry_added ns vs es n v s = record {
     as_long = omega (arith, s.as_long, length-append ns (n ∷ []), length-append vs (v ∷ []));
@@ -72,7 +75,8 @@ module _ {V : Type 0} where
   }
 
   -- a name that is there has a value
-  has_value : (ns : List (List ℕ)) (vs : List V) (name : List ℕ) → length ns ≡ length vs → is_among ns name ≡ true
+  has_value : (ns : List (List ℕ)) (vs : List V) (name : List ℕ) → length ns ≡ length vs
+      → is_among ns name ≡ true
       → value_beside ns vs name ≡ None → ⊥
   has_value [] vs name e there none = cc
   has_value (n ∷ ns) [] name e there none = omega arith
@@ -90,7 +94,8 @@ module _ {V : Type 0} where
   kept None later h = h refl
 
   -- a name that is there keeps its value
-  pub entry_kept : (ns : List (List ℕ)) (vs : List V) (es : List (Entry V)) (n : List ℕ) (v : V) → is_among ns n ≡ true
+  pub entry_kept : (ns : List (List ℕ)) (vs : List V) (es : List (Entry V)) (n : List ℕ) (v : V)
+      → is_among ns n ≡ true
       → StandsFor ns vs es → StandsFor ns vs (es ++ record { name = n; value = v } ∷ [])
   entry_kept ns vs es n v there s = record {
     as_long = s.as_long;
@@ -99,7 +104,8 @@ module _ {V : Type 0} where
         (other name (bytes_eq n name) refl)) ∙ sym (of-push es (record { name = n; value = v }) name);
   }
     where
-      other : (name : List ℕ) (b : Bool) → bytes_eq n name ≡ b → value_of es name ≡ None → at_name b v ≡ None
+      other : (name : List ℕ) (b : Bool) → bytes_eq n name ≡ b → value_of es name ≡ None
+          → at_name b v ≡ None
       other name false e none = refl
       other name true e none =
           let same : n ≡ name = (bytes_eq-Decides n name).0 e in

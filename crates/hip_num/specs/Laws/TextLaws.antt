@@ -22,13 +22,15 @@ IsNumber base text = IsNumeral base text × (digits_value base text < 2 ^ 64)
 abbrev pub IsSignedNumber : List ℕ → Type 0
 IsSignedNumber text = IsNumeral 10 (signed_digits text) × FitsSigned w64 (signed_value text)
 
-all_digits-sound : (base : ℕ) (text : List ℕ) → list_all (λ c. nat_lt (digit_value c) base) text ≡ true → AllDigits base text
+all_digits-sound : (base : ℕ) (text : List ℕ) → list_all (λ c. nat_lt (digit_value c) base) text ≡ true
+    → AllDigits base text
 all_digits-sound base [] e = tt
 all_digits-sound base (c ∷ cs) e =
     let both = and_parts (nat_lt (digit_value c) base) (list_all (λ b. nat_lt (digit_value b) base) cs) e in
     (ltb-true _ _ both.0, all_digits-sound base cs both.1)
 
-all_digits-whole : (base : ℕ) (text : List ℕ) → AllDigits base text → list_all (λ c. nat_lt (digit_value c) base) text ≡ true
+all_digits-whole : (base : ℕ) (text : List ℕ) → AllDigits base text
+    → list_all (λ c. nat_lt (digit_value c) base) text ≡ true
 all_digits-whole base [] h = refl
 all_digits-whole base (c ∷ cs) h = both_true (lt-ltb _ _ h.0) (all_digits-whole base cs h.1)
 
@@ -69,7 +71,8 @@ pub decimal-number : (n : ℕ) → n < 2 ^ 64 → IsNumber 10 (decimal n)
 decimal-number n h = ((decimal_is_IsNumeral n h).0, omega (arith, decimal-value n h))
 
 -- so does its hexadecimal text
-hexadecimal_is : (n : ℕ) → n < 2 ^ 64 → IsNumeral 16 (digits 16 false n) × (digits_value 16 (digits 16 false n) ≡ n)
+hexadecimal_is : (n : ℕ) → n < 2 ^ 64 → IsNumeral 16 (digits 16 false n)
+    × (digits_value 16 (digits 16 false n) ≡ n)
 hexadecimal_is n h = digits_is_IsNumeral 16 false (omega arith) (omega arith) n (omega arith)
 
 pub hexadecimal-value : (n : ℕ) → n < 2 ^ 64 → digits_value 16 (drop 2 (hexadecimal n)) ≡ n

@@ -18,7 +18,8 @@ itself : (plan : Plan) → Contains plan plan
 itself plan = record { flush_after = λ s h. h; fence_after = λ s h. h; hoist = λ s h. h }
 
 pub cures_by : (P : Program) (I : Input) (plan : Plan) (skip : Site → Bool) (found : Findings) → IsSound P
-    → IsValid P I → IsQuiet P skip → IsFound P I found → Contains plan (plan_for P found) → IsCuredBy P I plan skip
+    → IsValid P I → IsQuiet P skip → IsFound P I found → Contains plan (plan_for P found)
+    → IsCuredBy P I plan skip
 cures_by P I plan skip found sound valid quiet is contains =
     let again = theorem.repaired_is_sound P plan skip sound in
     record {

@@ -55,7 +55,8 @@ pub record Untraced (files : List NamedFile) (p t : List ℕ) (a : Answer) : Typ
   cause : HasNoTrace (Some files) t program why
   is : a ≡ refusal (status_of_refusal why)
 
-pub record Carried (Texts : Program → Input → Findings → Answer → Type 0) (files : List NamedFile) (p t : List ℕ) (a : Answer) : Type 0 where
+pub record Carried (Texts : Program → Input → Findings → Answer → Type 0) (files : List NamedFile)
+    (p t : List ℕ) (a : Answer) : Type 0 where
   program : Program
   loaded : IsProgramOf (Some files) p program
   input : Input
@@ -64,15 +65,18 @@ pub record Carried (Texts : Program → Input → Findings → Answer → Type 0
   found_is : IsFound program input found
   texts : Texts program input found a
 
-pub data View (Texts : Program → Input → Findings → Answer → Type 0) (files : List NamedFile) (p t : List ℕ) (a : Answer) : Type 0 where
+pub data View (Texts : Program → Input → Findings → Answer → Type 0) (files : List NamedFile) (p t : List ℕ)
+    (a : Answer) : Type 0 where
   Faulted : a.status ≡ statuses.ReadFault → View Texts files p t a
   IsUnloaded : Unloaded files p a → View Texts files p t a
   IsUntraced : Untraced files p t a → View Texts files p t a
   IsCarried : Carried Texts files p t a → View Texts files p t a
 
 module _ (Texts : Program → Input → Findings → Answer → Type 0) (files : List NamedFile) (p t : List ℕ) where
-  view : (old new : CabinetState) (a : Answer) → old.files ≡ Some files → TraceAnswers Texts old new p t a → View Texts files p t a
-  view old new a told (inl u) = IsUnloaded (record { why = u.why; cause = subst (λ fs. HasNoProgram fs p u.why) told u.cause; is = u.is })
+  view : (old new : CabinetState) (a : Answer) → old.files ≡ Some files → TraceAnswers Texts old new p t a
+      → View Texts files p t a
+  view old new a told (inl u) = IsUnloaded
+      (record { why = u.why; cause = subst (λ fs. HasNoProgram fs p u.why) told u.cause; is = u.is })
   view old new a told (inr (inl u)) = Faulted (ap (λ (x : Answer). x.status) u.is)
   view old new a told (inr (inr (inl (inl u)))) = IsUntraced (record {
     program = u.program;
@@ -86,7 +90,8 @@ module _ (Texts : Program → Input → Findings → Answer → Type 0) (files :
     program = d.program;
     loaded = subst (λ fs. IsProgramOf fs p d.program) told d.loaded;
     input = d.input;
-    traced = subst (λ (fs : Option (List NamedFile)). IfSome fs (λ told_files. IsTraceFile told_files t d.program d.input)) told d.traced;
+    traced = subst (λ (fs : Option (List NamedFile)). IfSome fs
+        (λ told_files. IsTraceFile told_files t d.program d.input)) told d.traced;
     found = d.found;
     found_is = d.found_is;
     texts = d.texts;
@@ -97,19 +102,22 @@ module _ (Texts : Program → Input → Findings → Answer → Type 0) (files :
   one : LoadsOne files p
   one = loads_one files p
 
-  untraced_once : (P : Program) (why other : TraceRefusal) → HasNoTrace (Some files) t P why → HasNoTrace (Some files) t P other → why ≡ other
+  untraced_once : (P : Program) (why other : TraceRefusal) → HasNoTrace (Some files) t P why
+      → HasNoTrace (Some files) t P other → why ≡ other
   untraced_once P traces.Missing traces.Missing h k = refl
   untraced_once P traces.Missing (traces.Misfit e k) h m = absurd (not_there (file_of files t) m.bytes m.found h)
   untraced_once P (traces.Misfit e k) traces.Missing m h = absurd (not_there (file_of files t) m.bytes m.found h)
   untraced_once P (traces.Misfit e k) (traces.Misfit e' k') m n =
       let bytes = same_bytes (file_of files t) n.bytes m.bytes n.found m.found in
-      let same = one-misfit P m.bytes true e e' k k' m.misfit (subst (λ bs. IsMisfit P bs true e' k') bytes n.misfit) in
+      let same = one-misfit P m.bytes true e e' k k' m.misfit
+      (subst (λ bs. IsMisfit P bs true e' k') bytes n.misfit) in
       made same.0 same.1
     where
       made : {x y : ℕ} {u v : MisfitKind} → x ≡ y → u ≡ v → traces.Misfit x u ≡ traces.Misfit y v
       made a b = cc
 
-  never_both : (P : Program) (why : TraceRefusal) (I : Input) → HasNoTrace (Some files) t P why → IsTraceFile files t P I → ⊥
+  never_both : (P : Program) (why : TraceRefusal) (I : Input) → HasNoTrace (Some files) t P why
+      → IsTraceFile files t P I → ⊥
   never_both P traces.Missing I h d = not_there (file_of files t) d.bytes d.found h
   never_both P (traces.Misfit e k) I m d =
       let bytes = same_bytes (file_of files t) m.bytes d.bytes m.found d.found in
@@ -123,7 +131,8 @@ module _ (Texts : Program → Input → Findings → Answer → Type 0) (files :
   two_untraced : (a b : Answer) → Untraced files p t a → Untraced files p t b → IsSameAnswer a b
   two_untraced a b u v =
       let programs_are = one.programs v.program u.program v.loaded u.loaded in
-      let why = untraced_once u.program u.why v.why u.cause (subst (λ Q. HasNoTrace (Some files) t Q v.why) programs_are v.cause) in
+      let why = untraced_once u.program u.why v.why u.cause
+      (subst (λ Q. HasNoTrace (Some files) t Q v.why) programs_are v.cause) in
       same_answer (u.is ∙ ap (λ w. refusal (status_of_refusal w)) why ∙ sym v.is)
 
   untraced_carried : (a b : Answer) → Untraced files p t a → Carried Texts files p t b → ⊥
@@ -131,12 +140,15 @@ module _ (Texts : Program → Input → Findings → Answer → Type 0) (files :
       let programs_are = one.programs d.program u.program d.loaded u.loaded in
       never_both u.program u.why d.input u.cause (subst (λ Q. IsTraceFile files t Q d.input) programs_are d.traced)
 
-  module _ (alike : (P : Program) (I : Input) (found : Findings) (a b : Answer) → Texts P I found a → Texts P I found b → a ≡ b) where
+  module _ (alike : (P : Program) (I : Input) (found : Findings) (a b : Answer) → Texts P I found a
+      → Texts P I found b → a ≡ b) where
     two_carried : (a b : Answer) → Carried Texts files p t a → Carried Texts files p t b → a ≡ b
     two_carried a b c d =
         let programs_are = one.programs d.program c.program d.loaded c.loaded in
-        let inputs_are = sym (same_trace c.program c.input d.input c.traced (subst (λ Q. IsTraceFile files t Q d.input) programs_are d.traced)) in
-        let there = subst (λ J. IsFound c.program J d.found) inputs_are (subst (λ Q. IsFound Q d.input d.found) programs_are d.found_is) in
+        let inputs_are = sym (same_trace c.program c.input d.input c.traced
+        (subst (λ Q. IsTraceFile files t Q d.input) programs_are d.traced)) in
+        let there = subst (λ J. IsFound c.program J d.found) inputs_are
+        (subst (λ Q. IsFound Q d.input d.found) programs_are d.found_is) in
         let found_are = found_is_one c.program c.input d.found c.found there c.found_is in
         let texts = subst (λ (f : Findings). Texts c.program c.input f b) found_are
         (subst (λ (J : Input). Texts c.program J d.found b) inputs_are
@@ -149,7 +161,10 @@ module _ (Texts : Program → Input → Findings → Answer → Type 0) (files :
     two a b (IsUnloaded u) (Faulted e) = inr (inl e)
     two a b (IsUntraced u) (Faulted e) = inr (inl e)
     two a b (IsCarried u) (Faulted e) = inr (inl e)
-    two a b (IsUnloaded u) (IsUnloaded v) = inr (inr (subst (λ x. IsSameAnswer x b) (sym u.is) (subst (λ y. IsSameAnswer (refusal (programs.status_of_refusal u.why)) y) (sym v.is) (same_refusal u.why v.why (one.refusals u.why v.why u.cause v.cause)))))
+    two a b (IsUnloaded u) (IsUnloaded v) = inr
+        (inr (subst (λ x. IsSameAnswer x b) (sym u.is)
+        (subst (λ y. IsSameAnswer (refusal (programs.status_of_refusal u.why)) y) (sym v.is)
+        (same_refusal u.why v.why (one.refusals u.why v.why u.cause v.cause)))))
     two a b (IsUnloaded u) (IsUntraced v) = absurd (one.excluded v.program u.why v.loaded u.cause)
     two a b (IsUnloaded u) (IsCarried v) = absurd (one.excluded v.program u.why v.loaded u.cause)
     two a b (IsUntraced v) (IsUnloaded u) = absurd (one.excluded v.program u.why v.loaded u.cause)
@@ -160,10 +175,12 @@ module _ (Texts : Program → Input → Findings → Answer → Type 0) (files :
     two a b (IsCarried c) (IsCarried d) = inr (inr (same_answer (two_carried a b c d)))
 
 pub gives_one : (Texts : Program → Input → Findings → Answer → Type 0)
-    → ((P : Program) (I : Input) (found : Findings) (a b : Answer) → Texts P I found a → Texts P I found b → a ≡ b)
+    → ((P : Program) (I : Input) (found : Findings) (a b : Answer) → Texts P I found a → Texts P I found b
+    → a ≡ b)
     → GivesOne Texts
 gives_one Texts alike p t files old new other other_new a b told told' x y =
-    two Texts files p t alike a b (view Texts files p t old new a told x) (view Texts files p t other other_new b told' y)
+    two Texts files p t alike a b (view Texts files p t old new a told x)
+    (view Texts files p t other other_new b told' y)
 
 -- ---- read faults
 
@@ -193,9 +210,12 @@ hide_none Texts done files old new p t P a told loaded current named apart statu
     same : u.program ≡ P
     same = (loads_one files p).programs u.program P (subst (λ fs. IsProgramOf fs p u.program) told u.loaded) loaded
 
-    go : (new.is_current ≡ false) ⊎ IfSome old.files (λ fs. ShowsNoMisfit fs t u.program new.rest) → ShowsNoMisfit files t P new.rest
+    go : (new.is_current ≡ false) ⊎ IfSome old.files (λ fs. ShowsNoMisfit fs t u.program new.rest)
+        → ShowsNoMisfit files t P new.rest
     go (inl e) = absurd (let k : true ≡ false = sym current ∙ e in let z : ⊥ = cc in z)
     go (inr s) = subst (λ (Q : Program). ShowsNoMisfit files t Q new.rest) same
-        (subst (λ (fs : Option (List NamedFile)). IfSome fs (λ told_files. ShowsNoMisfit told_files t u.program new.rest)) told s)
+        (subst (λ (fs : Option (List NamedFile)). IfSome fs
+        (λ told_files. ShowsNoMisfit told_files t u.program new.rest)) told s)
 hide_none Texts done files old new p t P a told loaded current named apart status (inr (inr (inr d))) =
-    absurd (let k : statuses.Done ≡ statuses.ReadFault = sym (done d.program d.input d.found a d.texts) ∙ status in let z : ⊥ = cc in z)
+    absurd (let k : statuses.Done ≡ statuses.ReadFault = sym (done d.program d.input d.found a d.texts) ∙ status in
+    let z : ⊥ = cc in z)

@@ -41,26 +41,34 @@ use Rattle.hip_typing.specs.Sound.{IsSound}
 
 -- ---- texts that are the same
 
-pub answer_is : {a : Answer} (b : Answer) → a.status ≡ b.status → a.out ≡ b.out → a.notes ≡ b.notes → a ≡ b
+pub answer_is : {a : Answer} (b : Answer) → a.status ≡ b.status → a.out ≡ b.out → a.notes ≡ b.notes
+    → a ≡ b
 answer_is b e f g = λ i. record { status = e i; out = f i; notes = g i }
 
-pub checked_alike : (P : Program) (I : Input) (found : Findings) (a b : Answer) → HasChecked P I found a → HasChecked P I found b → a ≡ b
-checked_alike P I found a b x y = answer_is b (x.status_is ∙ sym y.status_is) (x.out_is ∙ sym y.out_is) (x.notes_is ∙ sym y.notes_is)
+pub checked_alike : (P : Program) (I : Input) (found : Findings) (a b : Answer) → HasChecked P I found a
+    → HasChecked P I found b → a ≡ b
+checked_alike P I found a b x y = answer_is b (x.status_is ∙ sym y.status_is) (x.out_is ∙ sym y.out_is)
+    (x.notes_is ∙ sym y.notes_is)
 
-pub repaired_alike : (P : Program) (I : Input) (found : Findings) (a b : Answer) → HasRepaired P I found a → HasRepaired P I found b → a ≡ b
-repaired_alike P I found a b x y = answer_is b (x.status_is ∙ sym y.status_is) (x.out_is ∙ sym y.out_is) (x.notes_is ∙ sym y.notes_is)
+pub repaired_alike : (P : Program) (I : Input) (found : Findings) (a b : Answer) → HasRepaired P I found a
+    → HasRepaired P I found b → a ≡ b
+repaired_alike P I found a b x y = answer_is b (x.status_is ∙ sym y.status_is) (x.out_is ∙ sym y.out_is)
+    (x.notes_is ∙ sym y.notes_is)
 
-pub rerun_alike : (P : Program) (I : Input) (found : Findings) (a b : Answer) → HasRerun P I found a → HasRerun P I found b → a ≡ b
+pub rerun_alike : (P : Program) (I : Input) (found : Findings) (a b : Answer) → HasRerun P I found a
+    → HasRerun P I found b → a ≡ b
 rerun_alike P I found a b x y =
     let traces_are = one-trace (repaired_for P found) I x.trace y.trace x.is_trace y.is_trace in
     let after_are = found_is_one (repaired_for P found) I x.after y.after x.after_is y.after_is in
     answer_is b (x.status_is ∙ sym y.status_is) (x.out_is ∙ ap lines_of traces_are ∙ sym y.out_is)
-    (x.notes_is ∙ ap (λ (f : Findings). rerun_counts (length found.reports) (length f.reports)) after_are ∙ sym y.notes_is)
+    (x.notes_is ∙ ap (λ (f : Findings). rerun_counts (length found.reports) (length f.reports)) after_are
+    ∙ sym y.notes_is)
 
 -- ---- runs are answered
 
 -- the findings of the repaired program's run have no report
-pub nothing_left : (P : Program) (I : Input) (found after : Findings) → IsSound P → IsValid P I → IsFound P I found
+pub nothing_left : (P : Program) (I : Input) (found after : Findings) → IsSound P → IsValid P I
+    → IsFound P I found
     → IsFound (repaired_for P found) I after → after.reports ≡ []
 nothing_left P I found after sound valid is later =
     ap (λ (f : Findings). f.reports) later.is ∙ (cures P I found sound valid is).clean later.steps
@@ -93,7 +101,12 @@ reruns P I found sound valid is =
     let Q = repaired_for P found in
     let traced : (es : List Entry) × IsTrace Q I es = whole-trace Q I in
     let later : (f : Findings) × IsFound Q I f = found_exists Q I in (
-      record { status = Done; out = lines_of traced.0; notes = rerun_counts (length found.reports) (length later.0.reports) },
+      record {
+        status = Done;
+        out = lines_of traced.0;
+        notes =
+            rerun_counts (length found.reports) (length later.0.reports);
+      },
       refl,
       record {
         trace = traced.0;
@@ -111,14 +124,16 @@ pub answers_runs : (Texts : Program → Input → Findings → Answer → Type 0
 answers_runs Texts made files old new p t P I told loaded traced met =
     let found : (f : Findings) × IsFound P I f = found_exists P I in
     let valid : IsValid P I = (header-given P _ _ I (fit_pieces true traced.bytes) traced.trace.header_is).valid in
-    let done : (a : Answer) × (a.status ≡ Done) × Texts P I found.0 a = made P I found.0 loaded.sound valid found.1 in (
+    let done : (a : Answer) × (a.status ≡ Done)
+    × Texts P I found.0 a = made P I found.0 loaded.sound valid found.1 in (
       done.0,
       done.1,
       inr (inr (inr (record {
         program = P;
         loaded = subst (λ fs. IsProgramOf fs p P) (sym told) loaded;
         input = I;
-        traced = subst (λ (fs : Option (List NamedFile)). IfSome fs (λ told_files. IsTraceFile told_files t P I)) (sym told) traced;
+        traced = subst (λ (fs : Option (List NamedFile)). IfSome fs (λ told_files. IsTraceFile told_files t P I))
+            (sym told) traced;
         valid = valid;
         found = found.0;
         found_is = found.1;
@@ -138,14 +153,17 @@ no_clones : (P : Program) → length (clone_numbers P no_repairs) ≡ 0
 no_clones P = ap (λ fs. length (numbered_from (length P.functions) fs)) (none_reached P (length P.functions) 0)
 
 five_zeros : (P : Program) (found : Findings) → found.reports ≡ []
-    → repair_counts (length found.reports) (plan_for P found) (length (clone_numbers P (plan_for P found))) ≡ no_counts
+    → repair_counts (length found.reports) (plan_for P found) (length (clone_numbers P (plan_for P found)))
+    ≡ no_counts
 five_zeros P found e =
-    ap (λ (rs : List Report). repair_counts (length rs) (plan_for P found) (length (clone_numbers P (plan_for P found)))) e
+    ap (λ (rs : List Report). repair_counts (length rs) (plan_for P found)
+    (length (clone_numbers P (plan_for P found)))) e
     ∙ ap (λ (plan : Plan). repair_counts 0 plan (length (clone_numbers P plan))) (nothing_planned P found e)
     ∙ ap (λ n. repair_counts 0 no_repairs n) (no_clones P)
 
 same_again : (P : Program) (found : Findings) → found.reports ≡ [] → repaired_for P found ≡ P
-same_again P found e = ap (λ (plan : Plan). repaired P plan (direct P)) (nothing_planned P found e) ∙ nothing_repaired (direct P) P
+same_again P found e = ap (λ (plan : Plan). repaired P plan (direct P)) (nothing_planned P found e)
+    ∙ nothing_repaired (direct P) P
 
 pub nothing_to_repair : NothingToRepair
 nothing_to_repair P I found a e r =
@@ -155,7 +173,8 @@ nothing_to_repair P I found a e r =
 
 pub reruns_are_traces : RerunsAreTraces
 reruns_are_traces P I found sound is_input valid es is =
-    written-trace (repaired_for P found) (repaired_is_sound P (plan_for P found) (direct P) sound) I is_input (valid_again P (plan_for P found) (direct P) I valid) es is
+    written-trace (repaired_for P found) (repaired_is_sound P (plan_for P found) (direct P) sound) I is_input
+    (valid_again P (plan_for P found) (direct P) I valid) es is
 
 pub second_repair : SecondRepair
 second_repair P I found sound is_input valid is files p t on old new told met =
@@ -168,16 +187,22 @@ second_repair P I found sound is_input valid is files p t on old new told met =
       program = Q;
       loaded = record {
         text = show Q;
-        is_text = record { fits = on.fits; told = subst (λ (fs : Option (List NamedFile)). IfSome fs (λ told_files. file_of told_files p ≡ Some (show Q))) (sym told) on.text };
+        is_text = record {
+          fits = on.fits;
+          told =
+              subst (λ (fs : Option (List NamedFile)). IfSome fs (λ told_files. file_of told_files p ≡ Some (show Q)))
+              (sym told) on.text;
+        };
         reads = cured.reads;
         sound = cured.sound;
       };
       input = I;
-      traced = subst (λ (fs : Option (List NamedFile)). IfSome fs (λ told_files. IsTraceFile told_files t Q I)) (sym told) (record {
-        bytes = lines_of on.trace;
-        found = on.lines;
-        trace = reruns_are_traces P I found sound is_input valid on.trace on.is_trace;
-      });
+      traced = subst (λ (fs : Option (List NamedFile)). IfSome fs (λ told_files. IsTraceFile told_files t Q I))
+          (sym told) (record {
+            bytes = lines_of on.trace;
+            found = on.lines;
+            trace = reruns_are_traces P I found sound is_input valid on.trace on.is_trace;
+          });
       valid = valid_q;
       found = later.0;
       found_is = later.1;

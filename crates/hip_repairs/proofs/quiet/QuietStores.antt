@@ -20,7 +20,7 @@ use Rattle.hip_runs.specs.Places.{blocks_of, body_at, code_at, end_at}
 use Rattle.hip_runs.specs.State.{Frame, World, State, site_of}
 use Rattle.hip_runs.specs.Step.{is_cut, event_of, event_at, event_on_frames, event_on_ending, event, run}
 use Rattle.hip_runs.specs.Validity.{IsValid}
-use Rattle.hip_invariants.specs.Laws.RegisterFacts.{values_in_frames}
+use Rattle.hip_invariants.specs.Laws.Registers.Facts.{values_in_frames}
 use Rattle.hip_repairs.specs.Direct.{is_outside, stores_outside, direct}
 use Rattle.hip_repairs.specs.Quiet.{stores_in_region, IsQuiet}
 use Rattle.hip_runs.specs.Laws.Members.{get_drop}

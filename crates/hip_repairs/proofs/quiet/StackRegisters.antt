@@ -20,7 +20,7 @@ use Rattle.hip_runs.specs.Operands.{look_up, bound}
 use Rattle.hip_runs.specs.Places.{blocks_in, blocks_of}
 use Rattle.hip_runs.specs.State.{Registers, World}
 use Rattle.hip_runs.specs.Step.{run}
-use Rattle.hip_invariants.specs.Laws.RegisterFacts.{ValuesHold, each_value, assigned_fact, fact_of_value, values_in_frames}
+use Rattle.hip_invariants.specs.Laws.Registers.Facts.{ValuesHold, each_value, assigned_fact, fact_of_value, values_in_frames}
 use Rattle.hip_invariants.specs.Laws.InstrFacts.{instr_fact, fact_holds}
 use Rattle.hip_repairs.specs.Direct.{allocates, allocates_in}
 use Rattle.hip_repairs.proofs.quiet.AssignedOnce.{names_of_instr, only_alloca, no_phi, no_parameter, differ_inside, once}

@@ -40,7 +40,8 @@ pub record IsCallable (P : Program) : Type 0 where
 abbrev pub HasNumber : List Function → List ℕ → Type 0
 HasNumber fs name = (j : ℕ) × (number_of (function_names fs) name ≡ Some j)
 
-number_behind : (f : Function) (fs : List Function) (name : List ℕ) → HasNumber fs name → HasNumber (f ∷ fs) name
+number_behind : (f : Function) (fs : List Function) (name : List ℕ) → HasNumber fs name
+    → HasNumber (f ∷ fs) name
 number_behind f fs name h = by_first (bytes_eq name f.name) refl
   where
     whole : (b : Bool) → bytes_eq name f.name ≡ b
@@ -77,7 +78,8 @@ extern_at (e ∷ es) name s h = by_first (bytes_eq e.name name) refl h (extern_a
   where
     by_first : (b : Bool) → bytes_eq e.name name ≡ b
         → (if b then Some (record { ret = e.ret; params = e.params }) else extern_of es name) ≡ Some s
-        → (extern_of es name ≡ Some s → (k : ℕ) × (x : Extern) × (slice_get es k ≡ Some x) × (x.name ≡ name))
+        → (extern_of es name ≡ Some s → (k : ℕ) × (x : Extern) × (slice_get es k ≡ Some x)
+        × (x.name ≡ name))
         → (k : ℕ) × (x : Extern) × (slice_get (e ∷ es) k ≡ Some x) × (x.name ≡ name)
     by_first true t g rest = (0, e, refl, (bytes_eq-Decides e.name name).0 t)
     by_first false t g rest = let later = rest g in (suc later.0, later.1, later.2, later.3)
@@ -88,7 +90,8 @@ function_at [] name s h = cc
 function_at (f ∷ fs) name s h = by_first (bytes_eq f.name name) refl h (function_at fs name s)
   where
     by_first : (b : Bool) → bytes_eq f.name name ≡ b
-        → (if b then Some (record { ret = f.ret; params = map (λ p. p.ty) f.params }) else function_of fs name) ≡ Some s
+        → (if b then Some (record { ret = f.ret; params = map (λ p. p.ty) f.params }) else function_of fs name)
+        ≡ Some s
         → (function_of fs name ≡ Some s → HasNumber fs name) → HasNumber (f ∷ fs) name
     by_first true t g rest = number_first f fs name t
     by_first false t g rest = number_behind f fs name (rest g)
@@ -105,13 +108,16 @@ of_table e name same h = by_call (call_of e.name) (ap call_of (sym same)) h
 
 abbrev pub IsInstrAt : Program → (f b k : ℕ) → Instr → Type 0
 IsInstrAt P f b k i =
-    (fn : Function) × (block : Block) × (slice_get P.functions f ≡ Some fn) × (slice_get fn.blocks b ≡ Some block)
+    (fn : Function) × (block : Block) × (slice_get P.functions f ≡ Some fn)
+    × (slice_get fn.blocks b ≡ Some block)
     × (slice_get block.body k ≡ Some i)
 
-pub instr_place : (P : Program) (f b k : ℕ) (i : Instr) → slice_get (body_at P f b) k ≡ Some i → IsInstrAt P f b k i
+pub instr_place : (P : Program) (f b k : ℕ) (i : Instr) → slice_get (body_at P f b) k ≡ Some i
+    → IsInstrAt P f b k i
 instr_place P f b k i h = in_function (slice_get P.functions f) refl h
   where
-    in_block : (fn : Function) → slice_get P.functions f ≡ Some fn → (o : Option Block) → slice_get fn.blocks b ≡ o
+    in_block : (fn : Function) → slice_get P.functions f ≡ Some fn → (o : Option Block)
+        → slice_get fn.blocks b ≡ o
         → slice_get (body_of o) k ≡ Some i → IsInstrAt P f b k i
     in_block fn e None g c = cc
     in_block fn e (Some block) g c = (fn, block, e, g, c)
@@ -122,13 +128,16 @@ instr_place P f b k i h = in_function (slice_get P.functions f) refl h
     in_function (Some fn) e c = in_block fn e (slice_get fn.blocks b) refl c
 
 abbrev pub IsCalled : Program → List ℕ → Type 0
-IsCalled P callee = ((e : ExternCall) × (call_of callee ≡ Some e)) ⊎ ((g : ℕ) × (function_number P callee ≡ Some g))
+IsCalled P callee = ((e : ExternCall) × (call_of callee ≡ Some e))
+    ⊎ ((g : ℕ) × (function_number P callee ≡ Some g))
 
-pub callee_there : (P : Program) (callee : List ℕ) → (externs_check P).Holds → is_some (callee_of P callee) ≡ true
+pub callee_there : (P : Program) (callee : List ℕ) → (externs_check P).Holds
+    → is_some (callee_of P callee) ≡ true
     → IsCalled P callee
 callee_there P callee externs h = in_externs (extern_of P.externs callee) refl h
   where
-    in_functions : (o : Option Signature) → function_of P.functions callee ≡ o → is_some o ≡ true → IsCalled P callee
+    in_functions : (o : Option Signature) → function_of P.functions callee ≡ o → is_some o ≡ true
+        → IsCalled P callee
     in_functions None e g = cc
     in_functions (Some s) e g = inr (function_at P.functions callee s e)
 
@@ -140,8 +149,10 @@ callee_there P callee externs h = in_externs (extern_of P.externs callee) refl h
         inl (of_table there.1 callee there.3 (holds-at declared P.externs there.0 there.1 externs.1.0 there.2))
 
 -- what holds of an instruction by the rules of places
-pub instr_checked : (P : Program) → (places_check P).Holds → (f b k : ℕ) (i : Instr) (fn : Function) (block : Block)
-    → slice_get P.functions f ≡ Some fn → slice_get fn.blocks b ≡ Some block → slice_get block.body k ≡ Some i →
+pub instr_checked : (P : Program) → (places_check P).Holds
+    → (f b k : ℕ) (i : Instr) (fn : Function) (block : Block)
+    → slice_get P.functions f ≡ Some fn → slice_get fn.blocks b ≡ Some block
+    → slice_get block.body k ≡ Some i →
     (instr_check (scope_of P fn) i (places.Body (record { function = f; block = b; index = k }))).Holds
 instr_checked P h f b k i fn block e g c =
     holds-at (λ k instr. instr_check (scope_of P fn) instr

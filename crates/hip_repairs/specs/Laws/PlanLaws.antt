@@ -80,7 +80,8 @@ module _ (P : Program) (I : Input) (found : Findings) (is_found : IsFound P I fo
           (asked.flushes.has s (asked.fences.site s h)
           (in_any (λ r. asks_flush r.kind (choice P found r) r.path s) found.reports r i e))
 
-  hoist_suits : (s : Site) → has_site (plan_for P found).hoist s ≡ true → is_defined_call P (instr_of P s) ≡ true
+  hoist_suits : (s : Site) → has_site (plan_for P found).hoist s ≡ true
+      → is_defined_call P (instr_of P s) ≡ true
   hoist_suits s h =
       let r = any_in (λ r. asks_hoist r.kind (choice P found r) r.path s) found.reports (asked.hoists.asked s h) in
       let k = hoist_at r.0.kind (choice P found r.0) r.0.path s r.2 in
@@ -98,7 +99,8 @@ module _ (P : Program) (I : Input) (found : Findings) (is_found : IsFound P I fo
 
 -- ---- the union of two plans
 
-is_there : (P : Program) (s : Site) (test : Option Instr → Bool) → test None ≡ false → test (instr_of P s) ≡ true
+is_there : (P : Program) (s : Site) (test : Option Instr → Bool) → test None ≡ false
+    → test (instr_of P s) ≡ true
     → has_site (sites_of P) s ≡ true
 is_there P s test none e = go (instr_of P s) refl e
   where
@@ -123,7 +125,8 @@ suiting_within P plan suits = record {
     by s (inr e) = flush s e
 
 module _ (P : Program) (a b : Plan) where
-  in_list : (xs ys : List Site) (s : Site) → has_site (sites_of P) s ≡ true → has_site xs s || has_site ys s ≡ true
+  in_list : (xs ys : List Site) (s : Site) → has_site (sites_of P) s ≡ true
+      → has_site xs s || has_site ys s ≡ true
       → has_site (either_list P xs ys) s ≡ true
   in_list xs ys s h e = filtered_has (λ t. has_site xs t || has_site ys t) (sites_of P) s (has_in (sites_of P) s h) e
 

@@ -24,13 +24,15 @@ site f b k = record { function = f; block = b; index = k }
 site_is : (a b : Site) → a.function ≡ b.function → a.block ≡ b.block → a.index ≡ b.index → a ≡ b
 unfolding site
 site_is a b e f g =
-    ap (λ n. site n a.block a.index) e ∙ ap (λ n. site b.function n a.index) f ∙ ap (λ n. site b.function b.block n) g
+    ap (λ n. site n a.block a.index) e ∙ ap (λ n. site b.function n a.index) f
+    ∙ ap (λ n. site b.function b.block n) g
 
 pub has_in : (xs : List Site) (s : Site) → has_site xs s ≡ true → In s xs
 has_in [] s e = absurd (let z : ⊥ = cc in z)
 has_in (x ∷ xs) s e = go (either (same_site s x) _ e) (λ h. has_in xs s h)
   where
-    go : (same_site s x ≡ true) ⊎ (has_site xs s ≡ true) → (has_site xs s ≡ true → In s xs) → In s (x ∷ xs)
+    go : (same_site s x ≡ true) ⊎ (has_site xs s ≡ true) → (has_site xs s ≡ true → In s xs)
+        → In s (x ∷ xs)
     go (inl h) rest = inl (same_site_equal s x h)
     go (inr h) rest = inr (rest h)
 
@@ -95,14 +97,16 @@ site_in P s i e = go (slice_get P.functions s.function) refl e
         (functions_have 0 P.functions s.function s.block s.index fn y i h g e)
 
     go : (o : Option Function) → slice_get P.functions s.function ≡ o
-        → option_and_then (λ x. slice_get x.body s.index) (option_and_then (λ f. slice_get f.blocks s.block) o) ≡ Some i
+        → option_and_then (λ x. slice_get x.body s.index) (option_and_then (λ f. slice_get f.blocks s.block) o)
+        ≡ Some i
         → In s (sites_of P)
     go None h e = absurd (let z : ⊥ = cc in z)
     go (Some fn) h e = in_block fn h (slice_get fn.blocks s.block) refl e
 
 -- ---- filters
 
-in_filtered : (test : Site → Bool) (xs : List Site) (s : Site) → In s xs → test s ≡ true → In s (filter test xs)
+in_filtered : (test : Site → Bool) (xs : List Site) (s : Site) → In s xs → test s ≡ true
+    → In s (filter test xs)
 in_filtered test [] s i e = absurd i
 in_filtered test (x ∷ xs) s i e = go (test x) refl i (λ j. in_filtered test xs s j e)
   where
@@ -114,7 +118,8 @@ in_filtered test (x ∷ xs) s i e = go (test x) refl i (λ j. in_filtered test x
         absurd (let q : test x ≡ true = subst (λ (y : Site). test y ≡ true) same e in let z : ⊥ = cc in z)
     go false h (inr j) rest = rest j
 
-pub filtered_in : (test : Site → Bool) (xs : List Site) (s : Site) → In s (filter test xs) → In s xs × (test s ≡ true)
+pub filtered_in : (test : Site → Bool) (xs : List Site) (s : Site) → In s (filter test xs) → In s xs
+    × (test s ≡ true)
 filtered_in test [] s i = absurd i
 filtered_in test (x ∷ xs) s i = go (test x) refl i (λ j. filtered_in test xs s j)
   where
@@ -202,7 +207,8 @@ total : (a b : Site) → Before a b ⊎ ((a ≡ b) ⊎ Before b a)
 total a b = functions (three a.function b.function)
   where
     indices : a.function ≡ b.function → a.block ≡ b.block
-        → (a.index < b.index) ⊎ ((a.index ≡ b.index) ⊎ (b.index < a.index)) → Before a b ⊎ ((a ≡ b) ⊎ Before b a)
+        → (a.index < b.index) ⊎ ((a.index ≡ b.index) ⊎ (b.index < a.index)) → Before a b
+        ⊎ ((a ≡ b) ⊎ Before b a)
     indices e f (inl h) = inl (inr (e, inr (f, h)))
     indices e f (inr (inl h)) = inr (inl (site_is a b e f h))
     indices e f (inr (inr h)) = inr (inr (inr (sym e, inr (sym f, h))))
@@ -267,7 +273,8 @@ sorted_filter test (x ∷ xs) h = go (test x) (sorted_filter test xs h.1)
     go true r = ((λ s i. h.0 s (filtered_in test xs s i).0), r)
     go false r = r
 
-sorted_append : (xs ys : List Site) → Sorted xs → Sorted ys → ((a b : Site) → In a xs → In b ys → Before a b)
+sorted_append : (xs ys : List Site) → Sorted xs → Sorted ys
+    → ((a b : Site) → In a xs → In b ys → Before a b)
     → Sorted (xs ++ ys)
 sorted_append [] ys h g b = g
 sorted_append (x ∷ xs) ys h g b =
@@ -370,7 +377,8 @@ same_sorted (x ∷ xs) (y ∷ ys) h g to from = go (total x y) (λ a b. same_sor
     not_before a b bs after (inl e) lt = never b (subst (λ z. Before z b) e lt)
     not_before a b bs after (inr i) lt = never a (before_trans a b a lt (after a i))
 
-    behind : (a b : Site) (xs bs : List Site) → a ≡ b → AllAfter a xs → ((s : Site) → In s (a ∷ xs) → In s (b ∷ bs))
+    behind : (a b : Site) (xs bs : List Site) → a ≡ b → AllAfter a xs
+        → ((s : Site) → In s (a ∷ xs) → In s (b ∷ bs))
         → (s : Site) → In s xs → In s bs
     behind a b xs bs e after all s i = by (all s (inr i))
       where
@@ -379,11 +387,13 @@ same_sorted (x ∷ xs) (y ∷ ys) h g to from = go (total x y) (λ a b. same_sor
         by (inr j) = j
 
     go : Before x y ⊎ ((x ≡ y) ⊎ Before y x)
-        → (((s : Site) → In s xs → In s ys) → ((s : Site) → In s ys → In s xs) → xs ≡ ys) → x ∷ xs ≡ y ∷ ys
+        → (((s : Site) → In s xs → In s ys) → ((s : Site) → In s ys → In s xs) → xs ≡ ys)
+        → x ∷ xs ≡ y ∷ ys
     go (inl lt) rest = absurd (not_before x y ys g.0 (to x (inl refl)) lt)
     go (inr (inr lt)) rest = absurd (not_before y x xs h.0 (from y (inl refl)) lt)
     go (inr (inl e)) rest =
-        ap (λ z. z ∷ xs) e ∙ ap (λ zs. y ∷ zs) (rest (behind x y xs ys e h.0 to) (behind y x ys xs (sym e) g.0 from))
+        ap (λ z. z ∷ xs) e ∙ ap (λ zs. y ∷ zs)
+        (rest (behind x y xs ys e h.0 to) (behind y x ys xs (sym e) g.0 from))
 
 pub same_members : (xs ys : List Site) → is_ascending xs ≡ true → is_ascending ys ≡ true
     → ((s : Site) → has_site xs s ≡ has_site ys s) → xs ≡ ys

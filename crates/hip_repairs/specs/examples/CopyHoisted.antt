@@ -60,7 +60,8 @@ copy_hoisted =
       externs = [];
       functions =
           copy_function
-          ∷ copying_main (call_void (codes "copy") (ptr_arg (at (codes "p")) ∷ ptr_arg (reg (codes "b")) ∷ []) ∷ [])
+          ∷ copying_main (call_void (codes "copy") (ptr_arg (at (codes "p")) ∷ ptr_arg (reg (codes "b")) ∷ [])
+          ∷ [])
           ∷ [];
     }
 
@@ -90,7 +91,8 @@ copy_hoisted_repaired =
       functions =
           copy_function
           ∷ copying_main
-          (call_void (codes "copy.pm") (ptr_arg (at (codes "p")) ∷ ptr_arg (reg (codes "b")) ∷ []) ∷ sfence ∷ [])
+          (call_void (codes "copy.pm") (ptr_arg (at (codes "p")) ∷ ptr_arg (reg (codes "b")) ∷ []) ∷ sfence
+          ∷ [])
           ∷ copy_clone
           ∷ [];
     }

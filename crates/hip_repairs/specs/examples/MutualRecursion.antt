@@ -46,7 +46,8 @@ counting_down name other flush =
       phis = [];
       body =
           store_i64 (reg (codes "n")) (reg (codes "d"))
-          ∷ (flush ++ (subtract ∷ call_void other (ptr_arg (reg (codes "d")) ∷ i64_arg (reg (codes "m")) ∷ []) ∷ []));
+          ∷ (flush ++ (subtract ∷ call_void other (ptr_arg (reg (codes "d")) ∷ i64_arg (reg (codes "m")) ∷ [])
+          ∷ []));
       end = ends.Br (codes "done");
     }
     ∷ ret_void (codes "done") []
@@ -62,7 +63,8 @@ counting_down name other flush =
 abbrev pub counting_main : List Instr → Function
 counting_main last =
     main_of
-    (alloca_i64 (codes "t") ∷ call_void (codes "even") (ptr_arg (reg (codes "t")) ∷ i64_arg (number 2) ∷ []) ∷ last)
+    (alloca_i64 (codes "t") ∷ call_void (codes "even") (ptr_arg (reg (codes "t")) ∷ i64_arg (number 2) ∷ [])
+    ∷ last)
 
 -- call void @NAME(ptr @p, i64 2)
 abbrev pub count_in_region : List ℕ → Instr

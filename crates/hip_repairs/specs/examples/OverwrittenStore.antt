@@ -17,7 +17,8 @@ overwritten_store =
     record {
       globals = persistent_i64 (codes "x") ∷ [];
       externs = [];
-      functions = main_of (store_i64 (number 5) (at (codes "x")) ∷ store_i64 (number 6) (at (codes "x")) ∷ []) ∷ [];
+      functions = main_of (store_i64 (number 5) (at (codes "x")) ∷ store_i64 (number 6) (at (codes "x")) ∷ [])
+          ∷ [];
     }
 
 -- report both entry 4 check 5 closed 0 path @main:entry:1

@@ -49,7 +49,12 @@ wide_store = instrs.Store (Int W64) (number 5) byte_sixty (Some 4)
 --   ret i32 0
 -- }
 abbrev pub store_in_two_lines : Program
-store_in_two_lines = record { globals = sixteen_words ∷ []; externs = []; functions = main_of (wide_store ∷ []) ∷ [] }
+store_in_two_lines = record {
+  globals = sixteen_words ∷ [];
+  externs = [];
+  functions =
+      main_of (wide_store ∷ []) ∷ [];
+}
 
 -- report both entry 3 check 4 closed 0 path @main:entry:0
 abbrev pub store_in_two_lines_report : Report

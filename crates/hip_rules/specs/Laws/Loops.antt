@@ -32,7 +32,8 @@ module _ (F A : Type 0) (k : Tok → Bool) (r : Reader F A) (some : TakesSome r)
   abbrev step : ℕ → Outcome F A → Outcome F (List A)
   step n o = on_ok o (λ x more. onto x (times_at k r n more))
 
-  same_step : (n m : ℕ) (ts : List At) (o : Outcome F A) → r ts ≡ o → length ts ≤ suc n → length ts ≤ suc m
+  same_step : (n m : ℕ) (ts : List At) (o : Outcome F A) → r ts ≡ o → length ts ≤ suc n
+      → length ts ≤ suc m
       → ((more : List At) → length more ≤ n → length more ≤ m → times_at k r n more ≡ times_at k r m more)
       → step n o ≡ step m o
   same_step n m ts (Ok x) e p q h = let lt = some ts x e in ap (onto x.0) (h x.1 (omega arith) (omega arith))
@@ -70,7 +71,8 @@ module _ (F A : Type 0) (k : Tok → Bool) (r : Reader F A) (some : TakesSome r)
       fuel (length ts) (length after) after (omega arith) (omega arith) in
       opened ts e ∙ ap (step (length ts)) h ∙ ap (onto x) same
 
-  pub refused : (ts : List At) (f : Option F × List At) → next k ts ≡ true → r ts ≡ Err f → many_at k r ts ≡ Err f
+  pub refused : (ts : List At) (f : Option F × List At) → next k ts ≡ true → r ts ≡ Err f
+      → many_at k r ts ≡ Err f
   refused ts f e h = opened ts e ∙ ap (step (length ts)) h
 
   -- ---- a loop that pushes each part to a list
@@ -93,7 +95,8 @@ module _ (F A : Type 0) (k : Tok → Bool) (r : Reader F A) (some : TakesSome r)
   goes_on front ts x after total e h so_far =
       sym (regroup front x (many_at k r after)) ∙ ap (with_front front) (sym (one_more ts x after e h)) ∙ so_far
 
-  pub fails : (front : List A) (ts : List At) (f : Option F × List At) (total : Outcome F (List A)) → next k ts ≡ true
+  pub fails : (front : List A) (ts : List At) (f : Option F × List At) (total : Outcome F (List A))
+      → next k ts ≡ true
       → r ts ≡ Err f → with_front front (many_at k r ts) ≡ total → total ≡ Err f
   fails front ts f total e h so_far = sym so_far ∙ ap (with_front front) (refused ts f e h)
 
@@ -138,13 +141,15 @@ module _ (F X P : Type 0) (kh : Tok → Bool) (rh : Reader F X) (kf : Tok → Bo
   abbrev led_behind : ℕ → X → List At → Outcome F (List P × Option X)
   led_behind n x m = cond (next kf m) (led_part n (rf x m)) (Ok (([], Some x), m))
 
-  same_part : (n m : ℕ) (x : X) (ts : List At) (o : Outcome F P) → rf x ts ≡ o → length ts ≤ n → length ts ≤ m
+  same_part : (n m : ℕ) (x : X) (ts : List At) (o : Outcome F P) → rf x ts ≡ o → length ts ≤ n
+      → length ts ≤ m
       → ((more : List At) → length more ≤ n → length more ≤ m → leading_at kh rh kf rf n more
       ≡ leading_at kh rh kf rf m more) → led_part n o ≡ led_part m o
   same_part n m x ts (Ok p) e a b h = let le = within x ts p e in ap (led p.0) (h p.1 (omega arith) (omega arith))
   same_part n m x ts (Err f) e a b h = refl
 
-  same_head : (n m : ℕ) (ts : List At) (o : Outcome F X) → rh ts ≡ o → length ts ≤ suc n → length ts ≤ suc m
+  same_head : (n m : ℕ) (ts : List At) (o : Outcome F X) → rh ts ≡ o → length ts ≤ suc n
+      → length ts ≤ suc m
       → ((more : List At) → length more ≤ n → length more ≤ m → leading_at kh rh kf rf n more
       ≡ leading_at kh rh kf rf m more) → on_ok o (led_behind n) ≡ on_ok o (led_behind m)
   same_head n m ts (Ok x) e a b h =
@@ -177,8 +182,10 @@ module _ (F X P : Type 0) (kh : Tok → Bool) (rh : Reader F X) (kf : Tok → Bo
   leaders_closed [] e = refl
   leaders_closed (t ∷ ts) e = rw e refl
 
-  one_leader : (ts : List At) (x : X) (m : List At) (p : P) (after : List At) → next kh ts ≡ true → rh ts ≡ Ok (x, m)
-      → next kf m ≡ true → rf x m ≡ Ok (p, after) → leaders_at kh rh kf rf ts ≡ led p (leaders_at kh rh kf rf after)
+  one_leader : (ts : List At) (x : X) (m : List At) (p : P) (after : List At) → next kh ts ≡ true
+      → rh ts ≡ Ok (x, m)
+      → next kf m ≡ true → rf x m ≡ Ok (p, after)
+      → leaders_at kh rh kf rf ts ≡ led p (leaders_at kh rh kf rf after)
   one_leader ts x m p after e h g q =
       let lt = some ts (x, m) h in
       let le = within x m (p, after) q in
@@ -186,7 +193,8 @@ module _ (F X P : Type 0) (kh : Tok → Bool) (rh : Reader F X) (kf : Tok → Bo
       leading_fuel (length ts) (length after) after (omega arith) (omega arith) in
       leaders_opened ts e ∙ rw (h, g, q) (ap (led p) same)
 
-  head_alone : (ts : List At) (x : X) (m : List At) → next kh ts ≡ true → rh ts ≡ Ok (x, m) → next kf m ≡ false
+  head_alone : (ts : List At) (x : X) (m : List At) → next kh ts ≡ true → rh ts ≡ Ok (x, m)
+      → next kf m ≡ false
       → leaders_at kh rh kf rf ts ≡ Ok (([], Some x), m)
   head_alone ts x m e h g = leaders_opened ts e ∙ rw (h, g) refl
 
@@ -194,7 +202,8 @@ module _ (F X P : Type 0) (kh : Tok → Bool) (rh : Reader F X) (kf : Tok → Bo
       → leaders_at kh rh kf rf ts ≡ Err f
   head_refused ts f e h = leaders_opened ts e ∙ rw h refl
 
-  part_refused : (ts : List At) (x : X) (m : List At) (f : Option F × List At) → next kh ts ≡ true → rh ts ≡ Ok (x, m)
+  part_refused : (ts : List At) (x : X) (m : List At) (f : Option F × List At) → next kh ts ≡ true
+      → rh ts ≡ Ok (x, m)
       → next kf m ≡ true → rf x m ≡ Err f → leaders_at kh rh kf rf ts ≡ Err f
   part_refused ts x m f e h g q = leaders_opened ts e ∙ rw (h, g, q) refl
 

@@ -4,7 +4,8 @@ use Rattle.hip_tokens.specs.Tokens.{Tok, At}
 use Rattle.hip_rules.specs.Rule.{Rule, Verdict, No, done, one, both, ◌or◌, perhaps, many, AllDerive}
 use Rattle.hip_rules.specs.Reader.{Outcome, next, on_ok}
 use Rattle.hip_rules.specs.Part.{Part, gives, token, ◌>>=◌, either, repeated, optional, phased, the, passing, one_more_by, separated, none_up_to, some_up_to, listed, skipped}
-use Rattle.hip_rules.specs.Laws.Exact.{IsExact, Exactly, Accepts, IsAbsent, never, joined, next_widens, next_not_left, next_not_right, mapped, both_empty, both_whole, both_within, both_later, both_closed, one_exact, done_exact, both_exact, then_exact, or_exact, or_takes_some, exact_widens, many_exact, perhaps_exact, both_absent, or_absent, token_absent}
+use Rattle.hip_rules.specs.Laws.Exact.{IsExact, Exactly, Accepts, IsAbsent, never, joined, next_widens, next_not_left, next_not_right, mapped, both_empty, both_whole, both_within, both_later, both_closed, one_exact, done_exact, both_exact, then_exact, or_exact, or_takes_some, exact_widens, both_absent, or_absent, token_absent}
+use Rattle.hip_rules.specs.Laws.Repeated.{many_exact, perhaps_exact}
 use Rattle.hip_rules.specs.Laws.Same.{IsSame}
 use Rattle.hip_rules.specs.Laws.Phases.{phases_exact}
 use Rattle.hip_rules.specs.Laws.Loops.{TakesSome}
@@ -38,7 +39,8 @@ apart_next : (c d : Tok → Bool) → Apart c d → (ts : List At) → next c ts
 apart_next c d p [] e = refl
 apart_next c d p (t ∷ ts) e = p t.tok e
 
-pub apart_absent : {F A : Type 0} (p : Part F A) (first follow c : Tok → Bool) → IsRead p first follow → Apart c first
+pub apart_absent : {F A : Type 0} (p : Part F A) (first follow c : Tok → Bool) → IsRead p first follow
+    → Apart c first
     → (ts : List At) → next c ts ≡ true → IsAbsent p.rule ts
 apart_absent p first follow c r a ts e = r.absent ts (apart_next c first a ts e)
 
@@ -82,7 +84,8 @@ both_takes_some : {F A B : Type 0} (l : Rule F A) (f : A → Rule F B)
 unfolding both
 both_takes_some l f p q ts b rest t = let i = p ts t.0 t.1 t.2 in let j = q t.0 t.1 b rest t.3 in omega arith
 
-derives_within : {F A : Type 0} (p : Part F A) (c : Tok → Bool) → Exact p c → (ts : List At) (a : A) (rest : List At)
+derives_within : {F A : Type 0} (p : Part F A) (c : Tok → Bool) → Exact p c
+    → (ts : List At) (a : A) (rest : List At)
     → p.rule.Derives ts a rest → length rest ≤ length ts
 derives_within p c e ts a rest t = e.within ts rest (e.whole ts a rest t)
 
@@ -101,7 +104,8 @@ next_exact l f c second d p q apart =
     both_exact l.rule (λ a. (f a).rule) l.read (λ a. (f a).read) c d p (λ a. (q a).exact)
     (λ a m g. apart_absent (f a) second d c (q a) apart m g)
 
-pub next_read : {F A B : Type 0} (l : Part F A) (f : A → Part F B) (first c second d : Tok → Bool) → IsRead l first c
+pub next_read : {F A B : Type 0} (l : Part F A) (f : A → Part F B) (first c second d : Tok → Bool)
+    → IsRead l first c
     → ((a : A) → IsRead (f a) second d) → Apart c second → IsRead (l >>= f) first d
 next_read l f first c second d p q apart = record {
   exact = next_exact l f c second d p.exact q apart;
@@ -155,7 +159,8 @@ pub repeated_exact : {F A : Type 0} (l : Part F A) (k c : Tok → Bool) → IsRe
 repeated_exact {F} {A} l k c p apart =
     many_exact F A l.rule l.read k c p.exact p.absent (λ ts e. apart_absent l k c c p apart ts e) p.some
 
-pub optional_exact : {F A : Type 0} (l : Part F A) (k c : Tok → Bool) → IsRead l k c → Exact (optional k l) (joined k c)
+pub optional_exact : {F A : Type 0} (l : Part F A) (k c : Tok → Bool) → IsRead l k c
+    → Exact (optional k l) (joined k c)
 optional_exact {F} {A} l k c p = perhaps_exact F A l.rule l.read k c p.exact p.absent
 
 -- an optional part, and then one that takes a token at least
@@ -192,7 +197,8 @@ module _ (F A B : Type 0) (l : Part F A) (f : Option A → Part F B) (k second d
         ];
       }
 
-  optional_some : (ts : List At) (b : B) (rest : List At) → (both (perhaps l.rule) (λ o. (f o).rule)).Derives ts b rest
+  optional_some : (ts : List At) (b : B) (rest : List At)
+      → (both (perhaps l.rule) (λ o. (f o).rule)).Derives ts b rest
       → length rest < length ts
   unfolding both perhaps
   optional_some ts b rest t =
@@ -251,7 +257,8 @@ some_read {F} {A} l k close first p apart =
     (separated_read l k first p) (λ items. maps_read (passing {F = F} close) (λ _. items) close never
     (passing_read close never)) apart
 
-pub listed_read : {F A : Type 0} (l : Part F A) (k close first : Tok → Bool) → IsRead l first never → Apart k close
+pub listed_read : {F A : Type 0} (l : Part F A) (k close first : Tok → Bool) → IsRead l first never
+    → Apart k close
     → Apart close first → IsRead (listed k close l) (joined close first) never
 unfolding listed
 listed_read l k close first p apart begins =
@@ -283,7 +290,8 @@ pub phased_exact : {F X P B : Type 0} (head : Part F X) (part : X → Part F P) 
     → IsRead head kh never → ((x : X) → IsRead (part x) kf c)
     → ((ps : List P) (x : X) → IsRead (after_head ps x) after d) → ((ps : List P) → IsRead (no_head ps) none d)
     → Apart kh none → Apart kf after → Apart c kh → Apart c none
-    → ((ps : List P) → IsSame (both head.rule (λ x. (after_head ps x).rule) or (no_head ps).rule) (following ps).rule)
+    → ((ps : List P) → IsSame (both head.rule (λ x. (after_head ps x).rule) or (no_head ps).rule)
+    (following ps).rule)
     → Exact (phased kh head kf part after_head no_head following) d
 phased_exact {F} {X} {P} {B} head part after_head no_head following kh kf c after none d p q r s a1 a2 a3 a4 same =
     phases_exact F X P B head.rule head.read (λ x. (part x).rule) (λ x. (part x).read) (λ ps. (following ps).rule)
@@ -303,11 +311,14 @@ pub begins : {F B : Type 0} (k : Tok → Bool) (f : Unit {0} → Part F B) (d : 
     → ((a : Unit {0}) → Exact (f a) d) → IsRead (passing k >>= f) k d
 begins {F} k f d q = then_read (passing {F = F} k) f k d (passing_read k never) q
 
-pub token_begins : {F A B : Type 0} (p : Tok → Verdict F A) (first : Tok → Bool) (f : A → Part F B) (d : Tok → Bool)
-    → ((t : Tok) → first t ≡ false → p t ≡ No) → ((a : A) → Exact (f a) d) → IsRead (token p >>= f) first d
+pub token_begins : {F A B : Type 0} (p : Tok → Verdict F A) (first : Tok → Bool) (f : A → Part F B)
+    (d : Tok → Bool)
+    → ((t : Tok) → first t ≡ false → p t ≡ No) → ((a : A) → Exact (f a) d)
+    → IsRead (token p >>= f) first d
 token_begins p first f d h q = then_read (token p) f first d (token_read p first never h) q
 
-pub link : {F A B : Type 0} (p : Tok → Verdict F A) (f : A → Part F B) (d : Tok → Bool) → ((a : A) → Exact (f a) d)
+pub link : {F A B : Type 0} (p : Tok → Verdict F A) (f : A → Part F B) (d : Tok → Bool)
+    → ((a : A) → Exact (f a) d)
     → Exact (token p >>= f) d
 link p f d q = then_exact (one p) (λ a. (f a).rule) _ (λ a. (f a).read) d (one_exact p) q
 
@@ -343,7 +354,8 @@ pub apart_joined : (d a b : Tok → Bool) → Apart d a → Apart d b → Apart 
 apart_joined d a b p q t e = rw (p t e) (q t e)
 
 -- more tokens may begin a part than do
-next_not_wide : (first wide : Tok → Bool) → ((t : Tok) → wide t ≡ false → first t ≡ false) → (ts : List At)
+next_not_wide : (first wide : Tok → Bool) → ((t : Tok) → wide t ≡ false → first t ≡ false)
+    → (ts : List At)
     → next wide ts ≡ false → next first ts ≡ false
 next_not_wide first wide h [] e = refl
 next_not_wide first wide h (t ∷ ts) e = h t.tok e
@@ -377,13 +389,15 @@ module _ (F A B : Type 0) (l : Part F A) (f : List A → Part F B) (k c second d
               (subst (λ z. (f u.0).rule.Front z m) (nothing_repeated ts here u.0 u.1 u.2) u.3)
         ];
         refused = λ why m t. elim t [
-          | inl u ↦ here.refused why m (subst (λ z. l.rule.Refuses why z m) (nothing_repeated ts here u.0 u.1 u.2) u.3)
+          | inl u ↦ here.refused why m (subst (λ z. l.rule.Refuses why z m)
+              (nothing_repeated ts here u.0 u.1 u.2) u.3)
           | inr u ↦ ((q u.0).absent ts after).refused why m
               (subst (λ z. (f u.0).rule.Refuses why z m) (nothing_repeated ts here u.0 u.1 u.2) u.3)
         ];
       }
 
-  repeated_some : (ts : List At) (b : B) (rest : List At) → (both (many l.rule) (λ xs. (f xs).rule)).Derives ts b rest
+  repeated_some : (ts : List At) (b : B) (rest : List At)
+      → (both (many l.rule) (λ xs. (f xs).rule)).Derives ts b rest
       → length rest < length ts
   unfolding both
   repeated_some ts b rest t =

@@ -5,11 +5,13 @@ use Rattle.std.proofs.lemmas.List.{append-nil}
 use Rattle.hip_tokens.specs.Tokens.{Tok, At}
 use Rattle.hip_rules.specs.Rule.{Rule, both, many, ◌or◌}
 use Rattle.hip_rules.specs.Reader.{Reader, Outcome, on_ok, next, leading_at, leaders_at, by_head}
-use Rattle.hip_rules.specs.Laws.Exact.{IsExact, Exactly, IsAbsent, never, never_next, joined, both_where, both_empty, both_whole, both_within, both_later, both_closed, or_left, or_right, or_empty, or_absent, both_absent, then_exact, or_exact, many_exact}
+use Rattle.hip_rules.specs.Laws.Exact.{IsExact, Exactly, IsAbsent, never, never_next, joined, both_where, both_empty, both_whole, both_within, both_later, both_closed, or_left, or_right, or_empty, or_absent, both_absent, then_exact, or_exact}
+use Rattle.hip_rules.specs.Laws.Repeated.{many_exact}
 use Rattle.hip_rules.specs.Laws.Same.{IsSame, factored, many_unrolls, unrolled, same_exactly, same_exact, same_refl, same_sym, same_trans, or_same, or_assoc, both_assoc, both_same, same_absent}
 
 module _ (F X P B : Type 0) (h : Rule F X) (rh : Reader F X) (f : X → Rule F P) (rf : X → Reader F P)
-    (T : List P → Rule F B) (R : List P → X → Rule F B) (rR : List P → X → Reader F B) (O : List P → Rule F B)
+    (T : List P → Rule F B) (R : List P → X → Rule F B) (rR : List P → X → Reader F B)
+    (O : List P → Rule F B)
     (rO : List P → Reader F B)
     (kh kf c d : Tok → Bool)
     (h_exact : IsExact h rh never) (f_exact : (x : X) → IsExact (f x) (rf x) c)
@@ -85,14 +87,16 @@ module _ (F X P B : Type 0) (h : Rule F X) (rh : Reader F X) (f : X → Rule F P
   goes ps x = both (f x) (λ p. phases (ps ++ (p ∷ []))) or R ps x
 
   goes_empty : (ps : List P) (x : X) (ts : List At) → (goes ps x).Front ts ts
-  goes_empty ps x = or_empty (both (f x) (λ p. phases (ps ++ (p ∷ [])))) (R ps x) (both_empty (f x) _ (f_exact x).empty)
+  goes_empty ps x = or_empty (both (f x) (λ p. phases (ps ++ (p ∷ [])))) (R ps x)
+      (both_empty (f x) _ (f_exact x).empty)
 
   behind : (n : ℕ) (ps : List P) (x : X) (m : List At) (b : Bool) → next kf m ≡ b
       → ((p : P) (rest : List At) → length rest ≤ n
       → Exactly (phases (ps ++ (p ∷ []))) d rest (ph n (ps ++ (p ∷ [])) rest)) → length m ≤ n
       → Exactly (goes ps x) d m (cond b (on_ok (rf x m) (λ p rest. ph n (ps ++ (p ∷ [])) rest)) (rR ps x m))
   behind n ps x m true e others le = or_left (both (f x) (λ p. phases (ps ++ (p ∷ [])))) (R ps x) d m _
-      (both_where F P B (f x) (λ p. phases (ps ++ (p ∷ []))) c d (f_exact x).whole (λ p. phases_empty (ps ++ (p ∷ [])))
+      (both_where F P B (f x) (λ p. phases (ps ++ (p ∷ []))) c d (f_exact x).whole
+      (λ p. phases_empty (ps ++ (p ∷ [])))
       (λ p w g. phases_absent (ps ++ (p ∷ [])) w g) (λ p rest. ph n (ps ++ (p ∷ [])) rest) m (rf x m)
       (λ p rest t. others p rest (let k = (f_exact x).within m rest ((f_exact x).whole m p rest t) in omega arith))
       ((f_exact x).reads m))

@@ -110,23 +110,51 @@ unfolding ◌or◌
 or_same l m n k s r = record {
   derives = λ ts a rest t. elim t [ inl t ↦ inl (s.derives ts a rest t) | inr t ↦ inr (r.derives ts a rest t) ];
   derives_back =
-      λ ts a rest t. elim t [ inl t ↦ inl (s.derives_back ts a rest t) | inr t ↦ inr (r.derives_back ts a rest t) ];
+      λ ts a rest t. elim t [
+        | inl t ↦ inl (s.derives_back ts a rest t)
+        | inr t ↦
+            inr (r.derives_back ts a rest t)
+      ];
   front = λ ts rest t. elim t [ inl t ↦ inl (s.front ts rest t) | inr t ↦ inr (r.front ts rest t) ];
   front_back = λ ts rest t. elim t [ inl t ↦ inl (s.front_back ts rest t) | inr t ↦ inr (r.front_back ts rest t) ];
   refuses = λ w ts rest t. elim t [ inl t ↦ inl (s.refuses w ts rest t) | inr t ↦ inr (r.refuses w ts rest t) ];
   refuses_back =
-      λ w ts rest t. elim t [ inl t ↦ inl (s.refuses_back w ts rest t) | inr t ↦ inr (r.refuses_back w ts rest t) ];
+      λ w ts rest t. elim t [
+        | inl t ↦ inl (s.refuses_back w ts rest t)
+        | inr t ↦
+            inr (r.refuses_back w ts rest t)
+      ];
 }
 
 pub or_assoc : {F A : Type 0} (l m n : Rule F A) → IsSame ((l or m) or n) (l or (m or n))
 unfolding ◌or◌
 or_assoc l m n = record {
-  derives = λ ts a rest t. elim t [ inl t ↦ elim t [ inl u ↦ inl u | inr u ↦ inr (inl u) ] | inr t ↦ inr (inr t) ];
-  derives_back = λ ts a rest t. elim t [ inl t ↦ inl (inl t) | inr t ↦ elim t [ inl u ↦ inl (inr u) | inr u ↦ inr u ] ];
+  derives = λ ts a rest t. elim t [
+    | inl t ↦ elim t [ inl u ↦ inl u | inr u ↦ inr (inl u) ]
+    | inr t ↦
+        inr (inr t)
+  ];
+  derives_back = λ ts a rest t. elim t [
+    | inl t ↦ inl (inl t)
+    | inr t ↦
+        elim t [ inl u ↦ inl (inr u) | inr u ↦ inr u ]
+  ];
   front = λ ts rest t. elim t [ inl t ↦ elim t [ inl u ↦ inl u | inr u ↦ inr (inl u) ] | inr t ↦ inr (inr t) ];
-  front_back = λ ts rest t. elim t [ inl t ↦ inl (inl t) | inr t ↦ elim t [ inl u ↦ inl (inr u) | inr u ↦ inr u ] ];
-  refuses = λ w ts rest t. elim t [ inl t ↦ elim t [ inl u ↦ inl u | inr u ↦ inr (inl u) ] | inr t ↦ inr (inr t) ];
-  refuses_back = λ w ts rest t. elim t [ inl t ↦ inl (inl t) | inr t ↦ elim t [ inl u ↦ inl (inr u) | inr u ↦ inr u ] ];
+  front_back = λ ts rest t. elim t [
+    | inl t ↦ inl (inl t)
+    | inr t ↦
+        elim t [ inl u ↦ inl (inr u) | inr u ↦ inr u ]
+  ];
+  refuses = λ w ts rest t. elim t [
+    | inl t ↦ elim t [ inl u ↦ inl u | inr u ↦ inr (inl u) ]
+    | inr t ↦
+        inr (inr t)
+  ];
+  refuses_back = λ w ts rest t. elim t [
+    | inl t ↦ inl (inl t)
+    | inr t ↦
+        elim t [ inl u ↦ inl (inr u) | inr u ↦ inr u ]
+  ];
 }
 
 pub both_assoc : {F A B C : Type 0} (l : Rule F A) (f : A → Rule F B) (g : B → Rule F C)
@@ -145,7 +173,11 @@ both_assoc l f g = record {
       λ ts rest t. elim t [
         | inl t ↦ inl (inl t)
         | inr t
-            ↦ elim t.3 [ inl u ↦ inl (inr (t.0, t.1, t.2, u)) | inr u ↦ inr (u.0, u.1, (t.0, t.1, t.2, u.2), u.3) ]
+            ↦ elim t.3 [
+              | inl u ↦ inl (inr (t.0, t.1, t.2, u))
+              | inr u ↦
+                  inr (u.0, u.1, (t.0, t.1, t.2, u.2), u.3)
+            ]
       ];
   refuses =
       λ w ts rest t. elim t [
@@ -157,7 +189,11 @@ both_assoc l f g = record {
       λ w ts rest t. elim t [
         | inl t ↦ inl (inl t)
         | inr t
-            ↦ elim t.3 [ inl u ↦ inl (inr (t.0, t.1, t.2, u)) | inr u ↦ inr (u.0, u.1, (t.0, t.1, t.2, u.2), u.3) ]
+            ↦ elim t.3 [
+              | inl u ↦ inl (inr (t.0, t.1, t.2, u))
+              | inr u ↦
+                  inr (u.0, u.1, (t.0, t.1, t.2, u.2), u.3)
+            ]
       ];
 }
 
@@ -200,7 +236,11 @@ both_same l f g s = record {
   derives = λ ts b rest t. (t.0, t.1, t.2, (s t.0).derives t.1 b rest t.3);
   derives_back = λ ts b rest t. (t.0, t.1, t.2, (s t.0).derives_back t.1 b rest t.3);
   front = λ ts rest t. elim t [ inl t ↦ inl t | inr t ↦ inr (t.0, t.1, t.2, (s t.0).front t.1 rest t.3) ];
-  front_back = λ ts rest t. elim t [ inl t ↦ inl t | inr t ↦ inr (t.0, t.1, t.2, (s t.0).front_back t.1 rest t.3) ];
+  front_back = λ ts rest t. elim t [
+    | inl t ↦ inl t
+    | inr t ↦
+        inr (t.0, t.1, t.2, (s t.0).front_back t.1 rest t.3)
+  ];
   refuses = λ w ts rest t. elim t [ inl t ↦ inl t | inr t ↦ inr (t.0, t.1, t.2, (s t.0).refuses w t.1 rest t.3) ];
   refuses_back =
       λ w ts rest t. elim t [ inl t ↦ inl t | inr t ↦ inr (t.0, t.1, t.2, (s t.0).refuses_back w t.1 rest t.3) ];

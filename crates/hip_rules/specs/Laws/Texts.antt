@@ -22,7 +22,8 @@ pub record IsTextOf {F A : Type 0} (ends : List ℕ → Bool) (l : Rule F A) (te
 abbrev pub Leaves : (List ℕ → Bool) → List ℕ → (List ℕ → Bool) → Type 0
 Leaves c text d = (rest : List ℕ) → d rest ≡ true → c (text ++ rest) ≡ true
 
-pub anywhere_text : {F A : Type 0} {l : Rule F A} {s : List ℕ} {x : A} (c : List ℕ → Bool) → IsTextOf anything l s x
+pub anywhere_text : {F A : Type 0} {l : Rule F A} {s : List ℕ} {x : A} (c : List ℕ → Bool)
+    → IsTextOf anything l s x
     → IsTextOf c l s x
 anywhere_text c p = record { derives = λ line rest e. p.derives line rest refl }
 
@@ -30,7 +31,8 @@ pub nothing_text : {F A : Type 0} {x : A} (c : List ℕ → Bool) → IsTextOf {
 unfolding done
 nothing_text c = record { derives = λ line rest e. (line, (refl, refl)) }
 
-pub blank_text : {F A : Type 0} {l : Rule F A} {c : List ℕ → Bool} {t : List ℕ} {x : A} (b : ℕ) → is_blank b ≡ true
+pub blank_text : {F A : Type 0} {l : Rule F A} {c : List ℕ → Bool} {t : List ℕ} {x : A} (b : ℕ)
+    → is_blank b ≡ true
     → IsTextOf c l t x → IsTextOf c l (b ∷ t) x
 blank_text {l = l} {t = t} {x = x} b blank p =
     record {
@@ -39,7 +41,8 @@ blank_text {l = l} {t = t} {x = x} b blank p =
     }
 
 -- a separator behind it
-pub blank_behind : {F A : Type 0} {l : Rule F A} {c : List ℕ → Bool} {s : List ℕ} {x : A} (b : ℕ) → is_blank b ≡ true
+pub blank_behind : {F A : Type 0} {l : Rule F A} {c : List ℕ → Bool} {s : List ℕ} {x : A} (b : ℕ)
+    → is_blank b ≡ true
     → Leaves c (b ∷ []) anything → IsTextOf c l s x → IsTextOf anything l (s ++ b ∷ []) x
 blank_behind {l = l} {s = s} {x = x} b blank leaves p = record {
   derives = λ line rest e.
@@ -49,7 +52,8 @@ blank_behind {l = l} {s = s} {x = x} b blank leaves p = record {
 
 -- ---- one part after the other
 
-pub then_text : {F A B : Type 0} {l : Rule F A} (f : A → Rule F B) {c d : List ℕ → Bool} {s t : List ℕ} {x : A} {y : B}
+pub then_text : {F A B : Type 0} {l : Rule F A} (f : A → Rule F B) {c d : List ℕ → Bool} {s t : List ℕ} {x : A}
+    {y : B}
     → IsTextOf c l s x → IsTextOf d (f x) t y → Leaves c t d → IsTextOf d (both l f) (s ++ t) y
 unfolding both
 then_text f {s = s} {t = t} {x = x} p q leaves = record {
@@ -60,7 +64,8 @@ then_text f {s = s} {t = t} {x = x} p q leaves = record {
 }
 
 -- where the last part is nothing
-pub last_text : {F A B : Type 0} {l : Rule F A} (f : A → Rule F B) {c : List ℕ → Bool} {s : List ℕ} {x : A} {y : B}
+pub last_text : {F A B : Type 0} {l : Rule F A} (f : A → Rule F B) {c : List ℕ → Bool} {s : List ℕ} {x : A}
+    {y : B}
     → IsTextOf c l s x → IsTextOf anything (f x) [] y → IsTextOf c (both l f) s y
 unfolding both
 last_text f {x = x} p q = record {
@@ -73,20 +78,24 @@ last_text f {x = x} p q = record {
 -- ---- one token
 
 pub token_text : {F A : Type 0} (p : Tok → Verdict F A) {c : List ℕ → Bool} {s : List ℕ} {x : A} (t : Tok)
-    → ((line : ℕ) (rest : List ℕ) → c rest ≡ true → cut line 0 (s ++ rest) ≡ at_line line t ∷ cut line 0 rest)
+    → ((line : ℕ) (rest : List ℕ) → c rest ≡ true
+    → cut line 0 (s ++ rest) ≡ at_line line t ∷ cut line 0 rest)
     → p t ≡ Yes x → IsTextOf c (one p) s x
 unfolding one
 token_text p t h e = record { derives = λ line rest q. (line, (at_line line t, h line rest q, e)) }
 
-pub word_text : {F A : Type 0} (p : Tok → Verdict F A) {x : A} (w : List ℕ) → is_name w ≡ true → p (Word w) ≡ Yes x
+pub word_text : {F A : Type 0} (p : Tok → Verdict F A) {x : A} (w : List ℕ) → is_name w ≡ true
+    → p (Word w) ≡ Yes x
     → IsTextOf ends_word (one p) w x
 word_text p w n e = token_text p (Word w) (λ line rest h. word_cut line w rest n h) e
 
-pub local_text : {F A : Type 0} (p : Tok → Verdict F A) {x : A} (w : List ℕ) → is_name w ≡ true → p (Local w) ≡ Yes x
+pub local_text : {F A : Type 0} (p : Tok → Verdict F A) {x : A} (w : List ℕ) → is_name w ≡ true
+    → p (Local w) ≡ Yes x
     → IsTextOf ends_word (one p) (37 ∷ w) x
 local_text p w n e = token_text p (Local w) (λ line rest h. local_cut line w rest n h) e
 
-pub global_text : {F A : Type 0} (p : Tok → Verdict F A) {x : A} (w : List ℕ) → is_name w ≡ true → p (Global w) ≡ Yes x
+pub global_text : {F A : Type 0} (p : Tok → Verdict F A) {x : A} (w : List ℕ) → is_name w ≡ true
+    → p (Global w) ≡ Yes x
     → IsTextOf ends_word (one p) (64 ∷ w) x
 global_text p w n e = token_text p (Global w) (λ line rest h. global_cut line w rest n h) e
 
@@ -94,24 +103,28 @@ pub digits_text : {F A : Type 0} (p : Tok → Verdict F A) {x : A} (ds : List �
     → p (Num ds) ≡ Yes x → IsTextOf ends_word (one p) ds x
 digits_text p ds n e = token_text p (Num ds) (λ line rest h. digits_cut line ds rest n h) e
 
-pub mark_text : {F A : Type 0} (p : Tok → Verdict F A) {x : A} (b : ℕ) → is_mark b ≡ true → p (Mark b) ≡ Yes x
+pub mark_text : {F A : Type 0} (p : Tok → Verdict F A) {x : A} (b : ℕ) → is_mark b ≡ true
+    → p (Mark b) ≡ Yes x
     → IsTextOf anything (one p) (b ∷ []) x
 mark_text p b n e = token_text p (Mark b) (λ line rest h. mark_cut line b rest n) e
 
 -- a word and a space, and what follows
-pub word_then : {F A B : Type 0} (p : Tok → Verdict F A) (f : A → Rule F B) {d : List ℕ → Bool} {t : List ℕ} {x : A}
+pub word_then : {F A B : Type 0} (p : Tok → Verdict F A) (f : A → Rule F B) {d : List ℕ → Bool} {t : List ℕ}
+    {x : A}
     {y : B} (w : List ℕ) → is_name w ≡ true → p (Word w) ≡ Yes x → IsTextOf d (f x) t y
     → IsTextOf d (both (one p) f) (w ++ (32 ∷ t)) y
 word_then p f w n e q = then_text f (word_text p w n e) (blank_text 32 refl q) (λ rest h. refl)
 
 -- a mark, and what follows
-pub mark_then : {F A B : Type 0} (p : Tok → Verdict F A) (f : A → Rule F B) {d : List ℕ → Bool} {t : List ℕ} {x : A}
+pub mark_then : {F A B : Type 0} (p : Tok → Verdict F A) (f : A → Rule F B) {d : List ℕ → Bool} {t : List ℕ}
+    {x : A}
     {y : B} (b : ℕ) → is_mark b ≡ true → p (Mark b) ≡ Yes x → IsTextOf d (f x) t y
     → IsTextOf d (both (one p) f) (b ∷ t) y
 mark_then p f b n e q = then_text f (mark_text p b n e) q (λ rest h. refl)
 
 -- a name before `:`, and what follows
-pub label_then : {F A B : Type 0} (p : Tok → Verdict F A) (f : A → Rule F B) {d : List ℕ → Bool} {t : List ℕ} {x : A}
+pub label_then : {F A B : Type 0} (p : Tok → Verdict F A) (f : A → Rule F B) {d : List ℕ → Bool} {t : List ℕ}
+    {x : A}
     {y : B} (w : List ℕ) → is_name w ≡ true → p (Label w) ≡ Yes x → IsTextOf d (f x) t y
     → IsTextOf d (both (one p) f) (w ++ (58 ∷ t)) y
 unfolding both one
@@ -126,7 +139,8 @@ label_then p f {t = t} {x = x} w n e q = record {
 
 -- ---- cases
 
-pub left_text : {F A : Type 0} {l : Rule F A} (m : Rule F A) {c : List ℕ → Bool} {s : List ℕ} {x : A} → IsTextOf c l s x
+pub left_text : {F A : Type 0} {l : Rule F A} (m : Rule F A) {c : List ℕ → Bool} {s : List ℕ} {x : A}
+    → IsTextOf c l s x
     → IsTextOf c (l or m) s x
 unfolding ◌or◌
 left_text m p = record { derives = λ line rest e. let q = p.derives line rest e in (q.0, inl q.1) }
@@ -162,21 +176,25 @@ more_text {s = s} {t = t} p q leaves = record {
 }
 
 -- a part may stand behind another
-module _ {F X A : Type 0} (l : Rule F A) (text : X → List ℕ) (value : X → A) (c : List ℕ → Bool) (test : X → Bool)
+module _ {F X A : Type 0} (l : Rule F A) (text : X → List ℕ) (value : X → A) (c : List ℕ → Bool)
+    (test : X → Bool)
     (each : (x : X) → test x ≡ true → IsTextOf c l (text x) (value x))
     (leaves : (x : X) (rest : List ℕ) → c (text x ++ rest) ≡ true) where
   texts_leave : (xs : List X) → Leaves c (flat_map text xs) c
   texts_leave [] rest e = e
-  texts_leave (x ∷ xs) rest e = rw (append_assoc (text x) (flat_map text xs) rest) (leaves x (flat_map text xs ++ rest))
+  texts_leave (x ∷ xs) rest e = rw (append_assoc (text x) (flat_map text xs) rest)
+      (leaves x (flat_map text xs ++ rest))
 
-  pub mapped_texts : (xs : List X) → list_all test xs ≡ true → IsTextOf c (many l) (flat_map text xs) (map value xs)
+  pub mapped_texts : (xs : List X) → list_all test xs ≡ true
+      → IsTextOf c (many l) (flat_map text xs) (map value xs)
   mapped_texts [] e = no_more_text l c
   mapped_texts (x ∷ xs) e =
       let passes = and_parts (test x) (list_all test xs) e in
       more_text (each x passes.0) (mapped_texts xs passes.1) (texts_leave xs)
 
 pub many_texts : {F A : Type 0} (l : Rule F A) (text : A → List ℕ) (c : List ℕ → Bool) (test : A → Bool)
-    → ((x : A) → test x ≡ true → IsTextOf c l (text x) x) → ((x : A) (rest : List ℕ) → c (text x ++ rest) ≡ true)
+    → ((x : A) → test x ≡ true → IsTextOf c l (text x) x)
+    → ((x : A) (rest : List ℕ) → c (text x ++ rest) ≡ true)
     → (xs : List A) → list_all test xs ≡ true → IsTextOf c (many l) (flat_map text xs) xs
 many_texts l text c test each leaves xs e =
     subst (IsTextOf c (many l) (flat_map text xs)) (map-id xs) (mapped_texts l text (λ x. x) c test each leaves xs e)
@@ -187,7 +205,8 @@ all_derive_both l [] ys ts m rest p q = subst (λ u. AllDerive l u ys rest) p q
 all_derive_both l (x ∷ xs) ys ts m rest p q = (p.0, p.1, all_derive_both l xs ys p.0 m rest p.2 q)
 
 pub joined_texts : {F A : Type 0} (l : Rule F A) {c d : List ℕ → Bool} {s t : List ℕ} {xs ys : List A}
-    → IsTextOf c (many l) s xs → IsTextOf d (many l) t ys → Leaves c t d → IsTextOf d (many l) (s ++ t) (xs ++ ys)
+    → IsTextOf c (many l) s xs → IsTextOf d (many l) t ys → Leaves c t d
+    → IsTextOf d (many l) (s ++ t) (xs ++ ys)
 unfolding many
 joined_texts l {s = s} {t = t} {xs = xs} {ys = ys} p q leaves = record {
   derives = λ line rest e.

@@ -26,12 +26,14 @@ done_yields : (F : Type 0) {A : Type 0} (a : A) (Q : A → Type 0) → Q a → R
 unfolding done
 done_yields F a Q q ts x rest f d = (subst Q (sym d.1) q, subst AreFormed (sym d.0) f)
 
-both_yields : {F A B : Type 0} (l : Rule F A) (f : A → Rule F B) (P : A → Type 0) (Q : B → Type 0) → RuleYields l P
+both_yields : {F A B : Type 0} (l : Rule F A) (f : A → Rule F B) (P : A → Type 0) (Q : B → Type 0)
+    → RuleYields l P
     → ((a : A) → P a → RuleYields (f a) Q) → RuleYields (both l f) Q
 unfolding both
 both_yields l f P Q p q ts b rest g d = let first = p ts d.0 d.1 g d.2 in q d.0 first.0 d.1 b rest first.1 d.3
 
-or_yields : {F A : Type 0} (l m : Rule F A) (Q : A → Type 0) → RuleYields l Q → RuleYields m Q → RuleYields (l or m) Q
+or_yields : {F A : Type 0} (l m : Rule F A) (Q : A → Type 0) → RuleYields l Q → RuleYields m Q
+    → RuleYields (l or m) Q
 unfolding ◌or◌
 or_yields l m Q p q ts a rest f d = elim d [ inl k ↦ p ts a rest f k | inr k ↦ q ts a rest f k ]
 
@@ -48,7 +50,8 @@ many_yields : {F A : Type 0} (l : Rule F A) (test : A → Bool) → RuleYields l
 unfolding many
 many_yields l test p ts xs rest f d = all_yield l test p ts xs rest f d
 
-perhaps_yields : {F A : Type 0} (l : Rule F A) (P : A → Type 0) (Q : Option A → Type 0) → RuleYields l P → Q None
+perhaps_yields : {F A : Type 0} (l : Rule F A) (P : A → Type 0) (Q : Option A → Type 0) → RuleYields l P
+    → Q None
     → ((a : A) → P a → Q (Some a)) → RuleYields (perhaps l) Q
 unfolding perhaps
 perhaps_yields l P Q p q h ts o rest f d = elim d [
@@ -69,9 +72,13 @@ token_yields p Q h = record { yields = one_yields p Q h }
 pub gives_yields : {F A : Type 0} (a : A) (Q : A → Type 0) → Q a → Yields {F = F} (gives a) Q
 gives_yields {F} a Q q = record { yields = done_yields F a Q q }
 
-pub then_yields : {F A B : Type 0} (l : Part F A) (f : A → Part F B) (P : A → Type 0) (Q : B → Type 0) → Yields l P
+pub then_yields : {F A B : Type 0} (l : Part F A) (f : A → Part F B) (P : A → Type 0) (Q : B → Type 0)
+    → Yields l P
     → ((a : A) → P a → Yields (f a) Q) → Yields (l >>= f) Q
-then_yields l f P Q p q = record { yields = both_yields l.rule (λ a. (f a).rule) P Q p.yields (λ a h. (q a h).yields) }
+then_yields l f P Q p q = record {
+  yields =
+      both_yields l.rule (λ a. (f a).rule) P Q p.yields (λ a h. (q a h).yields);
+}
 
 -- behind a token of which nothing is asked
 pub after_token : {F A B : Type 0} (p : Tok → Verdict F A) (f : A → Part F B) (Q : B → Type 0)
@@ -82,7 +89,8 @@ pub either_yields : {F A : Type 0} (k : Tok → Bool) (l m : Part F A) (Q : A �
     → Yields (either k l m) Q
 either_yields k l m Q p q = record { yields = or_yields l.rule m.rule Q p.yields q.yields }
 
-pub repeated_yields : {F A : Type 0} (k : Tok → Bool) (l : Part F A) (test : A → Bool) → Yields l (λ a. test a ≡ true)
+pub repeated_yields : {F A : Type 0} (k : Tok → Bool) (l : Part F A) (test : A → Bool)
+    → Yields l (λ a. test a ≡ true)
     → Yields (repeated k l) (λ xs. list_all test xs ≡ true)
 repeated_yields k l test p = record { yields = many_yields l.rule test p.yields }
 
@@ -97,7 +105,8 @@ one_more_yields k l Q p = after_token _ _ Q (λ _. p)
 
 -- all values pass, and there is one
 pub separated_yields : {F A : Type 0} (k : Tok → Bool) (l : Part F A) (test : A → Bool) (Q : List A → Type 0)
-    → Yields l (λ a. test a ≡ true) → ((x : A) (xs : List A) → list_all test (x ∷ xs) ≡ true → Q (x ∷ xs))
+    → Yields l (λ a. test a ≡ true) →
+    ((x : A) (xs : List A) → list_all test (x ∷ xs) ≡ true → Q (x ∷ xs))
     → Yields (separated k l) Q
 unfolding separated
 separated_yields k l test Q p h =
@@ -105,7 +114,8 @@ separated_yields k l test Q p h =
     (repeated_yields k (one_more_by k l) test (one_more_yields k l _ p))
     (λ others es. gives_yields (first ∷ others) Q (h first others (both_true e es))))
 
-some_yield : {F A : Type 0} (k close : Tok → Bool) (l : Part F A) (test : A → Bool) → Yields l (λ a. test a ≡ true)
+some_yield : {F A : Type 0} (k close : Tok → Bool) (l : Part F A) (test : A → Bool)
+    → Yields l (λ a. test a ≡ true)
     → Yields (some_up_to k close l) (λ xs. list_all test xs ≡ true)
 unfolding some_up_to
 some_yield k close l test p =
@@ -132,7 +142,8 @@ skipped_yields k l p =
 
 -- behind parts of one kind, each of which has a head
 pub phased_yields : {F X P B : Type 0} (kh : Tok → Bool) (head : Part F X) (kf : Tok → Bool) (part : X → Part F P)
-    (after_head : List P → X → Part F B) (no_head following : List P → Part F B) (R : X → Type 0) (test : P → Bool)
+    (after_head : List P → X → Part F B) (no_head following : List P → Part F B) (R : X → Type 0)
+    (test : P → Bool)
     (Q : B → Type 0)
     → Yields head R → ((x : X) → R x → Yields (part x) (λ p. test p ≡ true))
     → ((ps : List P) → list_all test ps ≡ true → Yields (following ps) Q)

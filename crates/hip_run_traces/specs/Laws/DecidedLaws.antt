@@ -25,7 +25,8 @@ use Rattle.hip_trace.specs.declared.entry.TrapWord.{TrapWord}
 abbrev Same : {A : Type 0} → A → A → Type 0
 Same a b = (a ≡ b) ⊎ (a ≡ b → ⊥)
 
-by_test : {A : Type 0} (a b : A) (test : Bool) → (test ≡ true → a ≡ b) → (a ≡ b → test ≡ true) → Same a b
+by_test : {A : Type 0} (a b : A) (test : Bool) → (test ≡ true → a ≡ b) → (a ≡ b → test ≡ true)
+    → Same a b
 by_test a b true f g = inl (f refl)
 by_test a b false f g = inr (λ e. let k = g e in let z : ⊥ = cc in z)
 
@@ -58,7 +59,8 @@ word_same a b = by (bytes_same (trap_text a) (trap_text b))
         inl (let k : a ≡ b = cc in k)
     by (inr n) = inr (λ e. n (ap trap_text e))
 
-both_same : {A B : Type 0} (f : A → B → Entry) (a a' : A) (b b' : B) → (f a b ≡ f a' b' → (a ≡ a') × (b ≡ b'))
+both_same : {A B : Type 0} (f : A → B → Entry) (a a' : A) (b b' : B)
+    → (f a b ≡ f a' b' → (a ≡ a') × (b ≡ b'))
     → Same a a' → Same b b' → Same (f a b) (f a' b')
 both_same f a a' b b' parts (inl e) (inl d) = inl (ap (λ x. f x b) e ∙ ap (λ y. f a' y) d)
 both_same f a a' b b' parts (inl e) (inr n) = inr (λ q. n (parts q).1)
@@ -78,7 +80,8 @@ store_same a v s a' v' s' (inr n) other more = inr (λ q. n (let k : a ≡ a' = 
 entry_same : (x y : Entry) → Same x y
 entry_same (Start a) (Start b) = one_same (λ l. Start l) a b (λ q. let k : a ≡ b = cc in k) (nat_same a b)
 entry_same (Register a s) (Register b t) =
-    both_same (λ x y. Register x y) a b s t (λ q. (let k : a ≡ b = cc in k, let k : s ≡ t = cc in k)) (nat_same a b)
+    both_same (λ x y. Register x y) a b s t (λ q. (let k : a ≡ b = cc in k, let k : s ≡ t = cc in k))
+    (nat_same a b)
     (nat_same s t)
 entry_same (Number a) (Number b) = one_same (λ z. Number z) a b (λ q. let k : a ≡ b = cc in k) (int_same a b)
 entry_same (Image a s) (Image b t) =
@@ -90,7 +93,8 @@ entry_same (Flush a s) (Flush b t) =
     (nat_same s t)
 entry_same Fence Fence = inl refl
 entry_same (Persist a s) (Persist b t) =
-    both_same (λ x y. Persist x y) a b s t (λ q. (let k : a ≡ b = cc in k, let k : s ≡ t = cc in k)) (nat_same a b)
+    both_same (λ x y. Persist x y) a b s t (λ q. (let k : a ≡ b = cc in k, let k : s ≡ t = cc in k))
+    (nat_same a b)
     (nat_same s t)
 entry_same (Assert a s) (Assert b t) =
     both_same (λ x y. Assert x y) a b s t (λ q. (let k : a ≡ b = cc in k, let k : s ≡ t = cc in k)) (nat_same a b)
@@ -139,7 +143,8 @@ compare whole (p ∷ ps) (e ∷ es) = go (piece_same p e) (compare whole ps es)
         )
     go (inl q) (inr a) = inr (record {
       spell = ap (λ (x : Option Entry). x ∷ ps) q ∙ ap (λ (xs : List (Option Entry)). Some e ∷ xs) a.spell;
-      all = λ w. ap (λ (x : Option Entry). x ∷ ps) q ∙ ap (λ (xs : List (Option Entry)). Some e ∷ xs) (a.all w);
+      all = λ w. ap (λ (x : Option Entry). x ∷ ps) q
+          ∙ ap (λ (xs : List (Option Entry)). Some e ∷ xs) (a.all w);
     })
 
 -- ---- files
@@ -156,7 +161,8 @@ module _ (P : Program) (bytes : List ℕ) where
   made whole e k h q m =
       record { here = subst (λ (x : Header). MisfitBehind x P whole (spelled whole bytes) e k) (sym q) m }
 
-  behind_run : (whole : Bool) (c : ℕ) (I : Input) → header P (spelled whole bytes) ≡ Gives c I → (ts : List Entry)
+  behind_run : (whole : Bool) (c : ℕ) (I : Input) → header P (spelled whole bytes) ≡ Gives c I
+      → (ts : List Entry)
       → IsTrace P I ts → (d : (n : ℕ) × (k : MisfitKind) × FirstDiffers whole (spelled whole bytes) ts n k)
       → SomeMisfit P bytes whole
   behind_run whole c I q ts t d = (
@@ -179,7 +185,8 @@ module _ (P : Program) (bytes : List ℕ) where
   whole-decided = go (header P (spelled true bytes)) refl
     where
       stop : (c : ℕ) → header P (spelled true bytes) ≡ Stops c → (o : Option (Option Entry))
-          → slice_get (spelled true bytes) c ≡ o → ((I : Input) × IsTraceOf P bytes I) ⊎ SomeMisfit P bytes true
+          → slice_get (spelled true bytes) c ≡ o → ((I : Input) × IsTraceOf P bytes I)
+          ⊎ SomeMisfit P bytes true
       stop c q None at =
           inr (
             c + 1,
@@ -189,7 +196,8 @@ module _ (P : Program) (bytes : List ℕ) where
           )
       stop c q (Some p) at = inr (behind_stop true c q p at)
 
-      run : (c : ℕ) (I : Input) → header P (spelled true bytes) ≡ Gives c I → (ts : List Entry) → IsTrace P I ts
+      run : (c : ℕ) (I : Input) → header P (spelled true bytes) ≡ Gives c I → (ts : List Entry)
+          → IsTrace P I ts
           → Compared true (spelled true bytes) ts → ((I : Input) × IsTraceOf P bytes I) ⊎ SomeMisfit P bytes true
       run c I q ts t (inl d) = inr (behind_run true c I q ts t d)
       run c I q ts t (inr a) =
@@ -203,7 +211,8 @@ module _ (P : Program) (bytes : List ℕ) where
   pub front-decided : SomeMisfit P bytes false ⊎ NoMisfit P bytes false
   front-decided = go (header P (spelled false bytes)) refl
     where
-      behind : (h : Header) → header P (spelled false bytes) ≡ h → (e : ℕ) (k : MisfitKind) → IsMisfit P bytes false e k
+      behind : (h : Header) → header P (spelled false bytes) ≡ h → (e : ℕ) (k : MisfitKind)
+          → IsMisfit P bytes false e k
           → MisfitBehind h P false (spelled false bytes) e k
       behind h q e k m = subst (λ (x : Header). MisfitBehind x P false (spelled false bytes) e k) q m.here
 
@@ -212,7 +221,8 @@ module _ (P : Program) (bytes : List ℕ) where
       stop c q None at = inr (λ e k m. no_stop (slice_get (spelled false bytes) c) k at (behind (Stops c) q e k m).1)
       stop c q (Some p) at = inl (behind_stop false c q p at)
 
-      run : (c : ℕ) (I : Input) → header P (spelled false bytes) ≡ Gives c I → (ts : List Entry) → IsTrace P I ts
+      run : (c : ℕ) (I : Input) → header P (spelled false bytes) ≡ Gives c I → (ts : List Entry)
+          → IsTrace P I ts
           → Compared false (spelled false bytes) ts → SomeMisfit P bytes false ⊎ NoMisfit P bytes false
       run c I q ts t (inl d) = inl (behind_run false c I q ts t d)
       run c I q ts t (inr a) = inr (λ e k m. never (behind (Gives c I) q e k m))

@@ -19,7 +19,8 @@ some_part : (bytes : List ℕ) → (p : List ℕ) × (ps : List (List ℕ)) × (
 some_part [] = ([], [], refl)
 some_part (b ∷ bs) = go (is_separator b) (some_part bs)
   where
-    go : (t : Bool) → (p : List ℕ) × (ps : List (List ℕ)) × (parts bs ≡ p ∷ ps) → (p : List ℕ) × (ps : List (List ℕ))
+    go : (t : Bool) → (p : List ℕ) × (ps : List (List ℕ)) × (parts bs ≡ p ∷ ps) → (p : List ℕ)
+        × (ps : List (List ℕ))
         × (cond t ([] ∷ parts bs) (onto_first b (parts bs)) ≡ p ∷ ps)
     go true h = ([], parts bs, refl)
     go false h = (b ∷ h.0, h.1, ap (onto_first b) h.2)
@@ -70,7 +71,8 @@ counted_behind : (whole : Bool) (same : List (List ℕ)) (p : List ℕ) (ps : Li
     → counted whole (same ++ p ∷ ps) ≡ same ++ counted whole (p ∷ ps)
 counted_behind whole [] p ps = refl
 counted_behind whole (s ∷ []) p ps = refl
-counted_behind whole (s ∷ t ∷ ss) p ps = ap (λ (qs : List (List ℕ)). s ∷ qs) (counted_behind whole (t ∷ ss) p ps)
+counted_behind whole (s ∷ t ∷ ss) p ps =
+    ap (λ (qs : List (List ℕ)). s ∷ qs) (counted_behind whole (t ∷ ss) p ps)
 
 map_append : (xs ys : List (List ℕ)) → map entry_of (xs ++ ys) ≡ map entry_of xs ++ map entry_of ys
 map_append [] ys = refl
@@ -86,13 +88,15 @@ counts_long true (b ∷ bs) lt = refl
 counts_long false part lt = lt-ltb 256 (length part) lt
 
 -- a last part that is too long is a piece however it goes on, and spells nothing
-long_last : (whole : Bool) (last more : List ℕ) (rest : List (List ℕ)) → 256 < length last → (es : List (Option Entry))
+long_last : (whole : Bool) (last more : List ℕ) (rest : List (List ℕ)) → 256 < length last
+    → (es : List (Option Entry))
     × (map entry_of (counted whole ((last ++ more) ∷ rest)) ≡ None ∷ es)
 long_last whole last more [] lt =
     let longer : 256 < length (last ++ more) = let len = length-append last more in omega (arith, len, lt) in (
       [],
       ap (λ (b : Bool). map entry_of (if b then (last ++ more) ∷ [] else []))
-          (counts_long whole (last ++ more) longer) ∙ ap (λ (o : Option Entry). o ∷ []) (too_long (last ++ more) longer),
+          (counts_long whole (last ++ more) longer)
+          ∙ ap (λ (o : Option Entry). o ∷ []) (too_long (last ++ more) longer),
     )
 long_last whole last more (r ∷ rs) lt =
     let longer : 256 < length (last ++ more) = let len = length-append last more in omega (arith, len, lt) in (

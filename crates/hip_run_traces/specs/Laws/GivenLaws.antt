@@ -68,11 +68,13 @@ record Takes (P : Program) (J K : Input) (e : Entry) : Type 0 where
   limit : K.limit ≡ J.limit
   more : so_far K ≡ so_far J ++ e ∷ []
 
-push_number : (zs : List ℤ) (z : ℤ) → map (λ y. Number y) (zs ++ z ∷ []) ≡ map (λ y. Number y) zs ++ Number z ∷ []
+push_number : (zs : List ℤ) (z : ℤ) → map (λ y. Number y) (zs ++ z ∷ []) ≡ map (λ y. Number y) zs
+    ++ Number z ∷ []
 push_number [] z = refl
 push_number (y ∷ ys) z = ap (λ (es : List Entry). Number y ∷ es) (push_number ys z)
 
-taken : {K J : Input} (P : Program) (e : Entry) (t : Bool) (there : Input) → (if t then Some there else None) ≡ Some K
+taken : {K J : Input} (P : Program) (e : Entry) (t : Bool) (there : Input)
+    → (if t then Some there else None) ≡ Some K
     → (t ≡ true → Takes P J there e) → Takes P J K e
 taken {K = K} {J = J} P e true there q h =
     let same : there ≡ K = cc in subst (λ (X : Input). Takes P J X e) same (h refl)
@@ -119,7 +121,8 @@ takes_number P J K z good fits q =
         }
 
 -- the entries of some lines, of a gap of zeros, and of one line more
-line_more : (addr k m : ℕ) (A line : List ℕ) → length A ≡ 64 * k → length line ≡ 64 → some_byte line ≡ true
+line_more : (addr k m : ℕ) (A line : List ℕ) → length A ≡ 64 * k → length line ≡ 64
+    → some_byte line ≡ true
     → image_entries (k + (m + 1)) addr (A ++ (zeros (64 * m) ++ line)) ≡ image_entries k addr A
     ++ Image (addr + 64 * k + 64 * m) line ∷ []
 line_more addr k m A line len one some =
@@ -180,11 +183,13 @@ takes_line P J K addr line good fits q =
           more =
               ap (λ (es : List Entry). map (λ y. Number y) J.numbers ++ es)
               (ap (λ (j : ℕ). image_entries j J.base (J.image ++ (zeros g ++ line))) count
-              ∙ ap (λ (j : ℕ). image_entries (length J.image / 64 + (g / 64 + 1)) J.base (J.image ++ (zeros j ++ line)))
+              ∙ ap (λ (j : ℕ). image_entries (length J.image / 64 + (g / 64 + 1)) J.base
+              (J.image ++ (zeros j ++ line)))
               gaps
               ∙ line_more J.base (length J.image / 64) (g / 64) J.image line len one b.1
               ∙ ap (λ (j : ℕ). image_entries (length J.image / 64) J.base J.image ++ Image j line ∷ []) at)
-              ∙ sym (append_assoc (map (λ y. Number y) J.numbers) (image_entries (length J.image / 64) J.base J.image)
+              ∙ sym (append_assoc (map (λ y. Number y) J.numbers)
+              (image_entries (length J.image / 64) J.base J.image)
               (Image addr line ∷ []));
         }
 
@@ -228,7 +233,8 @@ end_given P J F c h es good q =
     number : c ≡ h
     number = cc
 
-    go : (g : ℕ) → region_size P - length J.image ≡ g → IsGiven P J (record J { image = J.image ++ zeros g }) c h es
+    go : (g : ℕ) → region_size P - length J.image ≡ g
+        → IsGiven P J (record J { image = J.image ++ zeros g }) c h es
     go g gap =
         let lines : length J.image % 64 ≡ 0 = good.lines in
         let region : region_size P % 64 ≡ 0 = whole_lines (end_of true 0 P.globals) in
@@ -237,7 +243,8 @@ end_given P J F c h es good q =
         let gaps : g ≡ 64 * (g / 64) = omega (arith, gap, region, lines, within) in
         let long : length (J.image ++ zeros g) ≡ length J.image + g =
         length-append J.image (zeros g) ∙ ap (λ (j : ℕ). length J.image + j) (length-zeros g) in
-        let count : length (J.image ++ zeros g) / 64 ≡ length J.image / 64 + g / 64 = omega (arith, long, len, gaps) in
+        let count : length (J.image ++ zeros g) / 64 ≡ length J.image / 64 + g / 64 =
+        omega (arith, long, len, gaps) in
         record {
           input =
               record {
@@ -292,7 +299,8 @@ given_from P (Some e ∷ es) J F c h fits good q =
           entries = e ∷ r.entries;
           rest = r.rest;
           split = ap (λ (xs : List (Option Entry)). Some e ∷ xs) r.split;
-          all = r.all ∙ ap (λ (xs : List Entry). xs ++ r.entries) t.more ∙ append_assoc (so_far J) (e ∷ []) r.entries;
+          all = r.all ∙ ap (λ (xs : List Entry). xs ++ r.entries) t.more
+              ∙ append_assoc (so_far J) (e ∷ []) r.entries;
           count = omega (arith, number);
         }
 
@@ -310,7 +318,8 @@ limit_of (Some (Start limit)) l q = go (nat_le limit 1099511627776) refl q
     go false k r = absurd (let z : ⊥ = cc in z)
 limit_of (Some e) l q = absurd (let z : ⊥ = cc in z)
 
-base_of : (P : Program) (o : Option Entry) (b : ℕ) → valid_base P o ≡ Some b → (o ≡ Some (Register b (region_size P)))
+base_of : (P : Program) (o : Option Entry) (b : ℕ) → valid_base P o ≡ Some b
+    → (o ≡ Some (Register b (region_size P)))
     × IsBase b
 base_of P None b q = absurd (let z : ⊥ = cc in z)
 base_of P (Some (Register base size)) b q = go (is_base base && (size == region_size P)) refl q
@@ -343,7 +352,8 @@ pub record IsHeader (P : Program) (es : List (Option Entry)) (h : ℕ) (F : Inpu
   pub rest : List (Option Entry)
   pub split : es ≡ told (header_of F) ++ rest
 
-behind : (P : Program) (limit base : ℕ) (es : List (Option Entry)) (h : ℕ) (F : Input) → limit ≤ 2 ^ 40 → IsBase base
+behind : (P : Program) (limit base : ℕ) (es : List (Option Entry)) (h : ℕ) (F : Input) → limit ≤ 2 ^ 40
+    → IsBase base
     → FitAll es → header_from P (record { base = base; image = []; numbers = []; limit = limit }) 2 es ≡ Gives h F
     → IsHeader P (Some (Start limit) ∷ Some (Register base (region_size P)) ∷ es) h F
 unfolding header_of
@@ -359,7 +369,8 @@ behind P limit base es h F few good fits q =
       within = omega arith;
       bytes = All-nil (λ b. b < 256);
     }) q in
-    let top : Start F.limit ∷ Register F.base (length F.image) ∷ so_far F ≡ Start limit ∷ Register base (region_size P)
+    let top : Start F.limit ∷ Register F.base (length F.image) ∷ so_far F ≡ Start limit
+    ∷ Register base (region_size P)
     ∷ r.entries =
     ap (λ (x : ℕ). Start x ∷ Register F.base (length F.image) ∷ so_far F) r.limit
     ∙ ap (λ (x : ℕ). Start limit ∷ Register x (length F.image) ∷ so_far F) r.base
@@ -377,14 +388,17 @@ behind P limit base es h F few good fits q =
           ∙ ap (λ (xs : List Entry). told xs ++ r.rest) (sym top);
     }
 
-pub header-given : (P : Program) (es : List (Option Entry)) (h : ℕ) (F : Input) → FitAll es → header P es ≡ Gives h F
+pub header-given : (P : Program) (es : List (Option Entry)) (h : ℕ) (F : Input) → FitAll es
+    → header P es ≡ Gives h F
     → IsHeader P es h F
 unfolding header
 header-given P [] h F fits q = absurd (let z : ⊥ = cc in z)
 header-given P (e ∷ es) h F fits q = first (valid_limit e) refl q
   where
-    second : (limit : ℕ) (d : Option Entry) (ds : List (Option Entry)) → limit ≤ 2 ^ 40 → FitAll ds → (o : Option ℕ)
-        → valid_base P d ≡ o → behind_register P limit ds o ≡ Gives h F → IsHeader P (Some (Start limit) ∷ d ∷ ds) h F
+    second : (limit : ℕ) (d : Option Entry) (ds : List (Option Entry)) → limit ≤ 2 ^ 40 → FitAll ds
+        → (o : Option ℕ)
+        → valid_base P d ≡ o → behind_register P limit ds o ≡ Gives h F
+        → IsHeader P (Some (Start limit) ∷ d ∷ ds) h F
     second limit d ds few fit None k q = absurd (let z : ⊥ = cc in z)
     second limit d ds few fit (Some base) k q =
         let b = base_of P d base k in

@@ -95,7 +95,8 @@ module _ (P : Program) (base limit : ℕ) (numbers : List ℤ) where
   abbrev front : List ℕ → Input
   front image = record { base = base; image = image; numbers = numbers; limit = limit }
 
-  lines_read : (n addr g c : ℕ) (A bytes : List ℕ) (rest : List Entry) → EndsHeader P rest → length bytes ≡ 64 * n
+  lines_read : (n addr g c : ℕ) (A bytes : List ℕ) (rest : List Entry) → EndsHeader P rest
+      → length bytes ≡ 64 * n
       → base + region_size P ≡ addr + 64 * n → addr ≡ base + length A + g
       → header_from P (front A) c (told (image_entries n addr bytes ++ rest))
       ≡ Gives (c + image_lines n bytes) (front (A ++ (zeros g ++ bytes)))
@@ -122,7 +123,8 @@ module _ (P : Program) (base limit : ℕ) (numbers : List ℤ) where
           let none : take 64 bytes ≡ zeros 64 =
           no_byte (take 64 bytes) q ∙ ap zeros (length-take-le 64 bytes (omega (arith, len))) in
           let image : zeros (g + 64) ++ drop 64 bytes ≡ zeros g ++ bytes =
-          ap (λ (zs : List ℕ). zs ++ drop 64 bytes) (zeros-add g 64) ∙ append_assoc (zeros g) (zeros 64) (drop 64 bytes)
+          ap (λ (zs : List ℕ). zs ++ drop 64 bytes) (zeros-add g 64)
+          ∙ append_assoc (zeros g) (zeros 64) (drop 64 bytes)
           ∙ ap (λ (zs : List ℕ). zeros g ++ (zs ++ drop 64 bytes)) (sym none)
           ∙ ap (λ (zs : List ℕ). zeros g ++ zs) (take-append-drop 64 bytes) in
           let count : c + image_lines n (drop 64 bytes) ≡ c + (0 + image_lines n (drop 64 bytes)) = omega arith in
@@ -139,7 +141,8 @@ module _ (P : Program) (base limit : ℕ) (numbers : List ℤ) where
           let zeroed = length-zeros g in
           let taken = length-take-le 64 bytes (omega (arith, len)) in
           let read : with_line P (front A) addr (take 64 bytes) ≡ Some (front (A ++ (zeros g ++ take 64 bytes))) =
-          ap (λ (t : Bool). if t then Some (front (A ++ (zeros (addr - (base + length A)) ++ take 64 bytes))) else None)
+          ap (λ (t : Bool). if t then Some (front
+          (A ++ (zeros (addr - (base + length A)) ++ take 64 bytes))) else None)
           next
           ∙ ap (λ (j : ℕ). Some (front (A ++ (zeros j ++ take 64 bytes)))) gap in
           let image : (A ++ (zeros g ++ take 64 bytes)) ++ (zeros 0 ++ drop 64 bytes) ≡ A ++ (zeros g ++ bytes) =
@@ -175,7 +178,8 @@ module _ (P : Program) (base limit : ℕ) where
       let count : suc c + length zs ≡ c + length (z ∷ zs) = omega arith in
       ap (go_on P (numbered ns) c (λ more. header_from P more (suc c) (told (map (λ y. Number y) zs ++ es)))) read
       ∙ numbers_read zs (ns ++ z ∷ []) (suc c) es (omega (arith, long, few))
-      ∙ ap (λ (ms : List ℤ). header_from P (numbered ms) (suc c + length zs) (told es)) (append_assoc ns (z ∷ []) zs)
+      ∙ ap (λ (ms : List ℤ). header_from P (numbered ms) (suc c + length zs) (told es))
+      (append_assoc ns (z ∷ []) zs)
       ∙ ap (λ (j : ℕ). header_from P (numbered (ns ++ z ∷ zs)) j (told es)) count
 
 -- ---- the whole header

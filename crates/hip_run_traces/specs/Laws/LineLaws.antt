@@ -34,7 +34,8 @@ pub zeros-add : (a b : ℕ) → zeros (a + b) ≡ zeros a ++ zeros b
 unfolding zeros
 zeros-add zero b = ap zeros (let e : 0 + b ≡ b = omega arith in e)
 zeros-add (suc a) b =
-    ap zeros (let e : suc a + b ≡ suc (a + b) = omega arith in e) ∙ ap (λ (xs : List ℕ). 0 ∷ xs) (zeros-add a b)
+    ap zeros (let e : suc a + b ≡ suc (a + b) = omega arith in e)
+    ∙ ap (λ (xs : List ℕ). 0 ∷ xs) (zeros-add a b)
 
 -- ---- entries of lines
 
@@ -55,7 +56,8 @@ no_lines (suc n) addr =
     ap (λ (m : ℕ). image_entries (suc n) addr (zeros m)) more
     ∙ ap (image_entries (suc n) addr) (zeros-add 64 (64 * n))
     ∙ line_then n addr (zeros 64) (zeros (64 * n)) (length-zeros 64)
-    ∙ ap (λ (b : Bool). (if b then Image addr (zeros 64) ∷ [] else []) ++ image_entries n (addr + 64) (zeros (64 * n)))
+    ∙ ap (λ (b : Bool). (if b then Image addr (zeros 64) ∷ [] else [])
+    ++ image_entries n (addr + 64) (zeros (64 * n)))
     (byte_of_zeros 64)
     ∙ no_lines n (addr + 64)
 

@@ -19,7 +19,8 @@ use Rattle.hip_trace.specs.declared.entry.Entry.{Entry}
 
 -- ---- places of lists
 
-get_front : {A : Type 0} (xs ys : List A) (k : ℕ) (x : A) → slice_get xs k ≡ Some x → slice_get (xs ++ ys) k ≡ Some x
+get_front : {A : Type 0} (xs ys : List A) (k : ℕ) (x : A) → slice_get xs k ≡ Some x
+    → slice_get (xs ++ ys) k ≡ Some x
 get_front [] ys k x e = absurd (let z : ⊥ = cc in z)
 get_front (x ∷ xs) ys zero y e = e
 get_front (x ∷ xs) ys (suc k) y e = get_front xs ys k y e
@@ -184,7 +185,8 @@ no_start : (P : Program) (es : List (Option Entry)) → behind_start P es None �
 no_start P [] = refl
 no_start P (e ∷ es) = refl
 
-gives_not : (P : Program) (es : List (Option Entry)) (J : Input) (c n : ℕ) → header_from P J c es ≡ Stops n → ⊥
+gives_not : (P : Program) (es : List (Option Entry)) (J : Input) (c n : ℕ) → header_from P J c es ≡ Stops n
+    → ⊥
 gives_not P [] J c n q = let z : ⊥ = cc in z
 gives_not P (e ∷ es) J c n q = go (with_entry P J e) q (λ K. gives_not P es K (suc c) n)
   where
@@ -211,7 +213,8 @@ stops_front P (x ∷ xs) ys c p q e = first (valid_limit x) xs q e
     second limit ws (Some base) r =
         absurd (gives_not P ws (record { base = base; image = []; numbers = []; limit = limit }) 2 c r)
 
-    first : (o : Option ℕ) (zs : List (Option Entry)) → behind_start P zs o ≡ Stops c → slice_get (x ∷ zs) c ≡ Some p
+    first : (o : Option ℕ) (zs : List (Option Entry)) → behind_start P zs o ≡ Stops c
+        → slice_get (x ∷ zs) c ≡ Some p
         → behind_start P (zs ++ ys) o ≡ Stops c
     first None zs r g = no_start P (zs ++ ys) ∙ sym (no_start P zs) ∙ r
     first (Some limit) [] r g =
@@ -219,19 +222,22 @@ stops_front P (x ∷ xs) ys c p q e = first (valid_limit x) xs q e
         ≡ Some p = subst (λ (n : ℕ). slice_get (x ∷ []) n ≡ Some p) (sym same) g in let z : ⊥ = cc in z)
     first (Some limit) (y ∷ ws) r g = second limit ws (valid_base P y) r
 
-from_front : (P : Program) (es ys : List (Option Entry)) (J F : Input) (c h : ℕ) → header_from P J c es ≡ Gives h F
+from_front : (P : Program) (es ys : List (Option Entry)) (J F : Input) (c h : ℕ)
+    → header_from P J c es ≡ Gives h F
     → h < c + length es → header_from P J c (es ++ ys) ≡ Gives h F
 from_front P [] ys J F c h q lt = absurd (let same : c ≡ h = cc in omega (arith, same, lt))
 from_front P (e ∷ es) ys J F c h q lt =
     go (with_entry P J e) q (λ K r. from_front P es ys K F (suc c) h r (omega (arith, lt)))
   where
     go : (o : Option Input) → go_on P J c (λ more. header_from P more (suc c) es) o ≡ Gives h F
-        → ((K : Input) → header_from P K (suc c) es ≡ Gives h F → header_from P K (suc c) (es ++ ys) ≡ Gives h F)
+        → ((K : Input) → header_from P K (suc c) es ≡ Gives h F
+        → header_from P K (suc c) (es ++ ys) ≡ Gives h F)
         → go_on P J c (λ more. header_from P more (suc c) (es ++ ys)) o ≡ Gives h F
     go None r ih = r
     go (Some K) r ih = ih K r
 
-gives_front : (P : Program) (xs ys : List (Option Entry)) (h : ℕ) (F : Input) → header P xs ≡ Gives h F → h < length xs
+gives_front : (P : Program) (xs ys : List (Option Entry)) (h : ℕ) (F : Input) → header P xs ≡ Gives h F
+    → h < length xs
     → header P (xs ++ ys) ≡ Gives h F
 unfolding header
 gives_front P [] ys h F q lt = absurd (let z : ⊥ = cc in z)
@@ -245,7 +251,8 @@ gives_front P (x ∷ xs) ys h F q lt = first (valid_limit x) xs q lt
 
     first : (o : Option ℕ) (zs : List (Option Entry)) → behind_start P zs o ≡ Gives h F → h < length (x ∷ zs)
         → behind_start P (zs ++ ys) o ≡ Gives h F
-    first None zs r less = absurd (let same : Stops 0 ≡ Gives h F = sym (no_start P zs) ∙ r in let z : ⊥ = cc in z)
+    first None zs r less = absurd (let same : Stops 0 ≡ Gives h F = sym (no_start P zs) ∙ r in let z : ⊥ = cc in
+        z)
     first (Some limit) [] r less = absurd (let z : ⊥ = cc in z)
     first (Some limit) (y ∷ ws) r less = second limit ws (valid_base P y) r (omega (arith, less))
 
@@ -262,8 +269,10 @@ module _ (P : Program) (front rest : List ℕ) (whole : Bool) (e : ℕ) (kind : 
   abbrev xs : List (Option Entry)
   xs = spelled false front
 
-  stop_stays : (more : List (Option Entry)) (c : ℕ) → header P xs ≡ Stops c → e ≡ c + 1 → (p : Option (Option Entry))
-      → slice_get xs c ≡ p → StopsAt false p kind → MisfitBehind (header P (xs ++ more)) P whole (xs ++ more) e kind
+  stop_stays : (more : List (Option Entry)) (c : ℕ) → header P xs ≡ Stops c → e ≡ c + 1
+      → (p : Option (Option Entry))
+      → slice_get xs c ≡ p → StopsAt false p kind
+      → MisfitBehind (header P (xs ++ more)) P whole (xs ++ more) e kind
   stop_stays more c q number None at s = absurd (let y = s.0 in let z : ⊥ = cc in z)
   stop_stays more c q number (Some p) at s =
       subst (λ (h : Header). MisfitBehind h P whole (xs ++ more) e kind) (sym (stops_front P xs more c p q at))
@@ -308,7 +317,8 @@ module _ (P : Program) (front rest : List ℕ) (whole : Bool) (e : ℕ) (kind : 
 -- ---- step by step
 
 -- a difference before the end of the trace of some steps is one of the whole trace
-pub step-differs : (P : Program) (I : Input) (n : ℕ) (whole : Bool) (ps : List (Option Entry)) (es : List Entry) (c : ℕ)
+pub step-differs : (P : Program) (I : Input) (n : ℕ) (whole : Bool) (ps : List (Option Entry)) (es : List Entry)
+    (c : ℕ)
     (kind : MisfitKind) → IsTrace P I es → c < length (trace P I n) → FirstDiffers whole ps (trace P I n) c kind
     → FirstDiffers whole ps es c kind
 step-differs P I n whole ps es c kind t lt d =
@@ -367,7 +377,8 @@ pub no_stop : (o : Option (Option Entry)) (k : MisfitKind) → o ≡ None → St
 no_stop None k q s = let y = s.0 in let z : ⊥ = cc in z
 no_stop (Some p) k q s = let z : ⊥ = cc in z
 
-pub front-stops : (P : Program) (bytes : List ℕ) (h e : ℕ) (k : MisfitKind) → header P (spelled false bytes) ≡ Stops h
+pub front-stops : (P : Program) (bytes : List ℕ) (h e : ℕ) (k : MisfitKind)
+    → header P (spelled false bytes) ≡ Stops h
     → length (spelled false bytes) ≤ h → IsMisfit P bytes false e k → ⊥
 front-stops P bytes h e k q le m =
     let d = subst (λ (x : Header). MisfitBehind x P false (spelled false bytes) e k) q m.here in
@@ -384,7 +395,8 @@ told_append [] fs = refl
 told_append (e ∷ es) fs = ap (λ (ps : List (Option Entry)). Some e ∷ ps) (told_append es fs)
 
 -- where pieces are the first of those that spell the entries, they spell the first entries
-first_told : (xs more : List (Option Entry)) (front es : List Entry) → told front ≡ xs ++ more → (rest : List Entry)
+first_told : (xs more : List (Option Entry)) (front es : List Entry) → told front ≡ xs ++ more
+    → (rest : List Entry)
     → es ≡ front ++ rest → xs ≡ told (take (length xs) es)
 first_told xs more front es split rest begins =
     let whole : told es ≡ xs ++ (more ++ told rest) =
@@ -409,7 +421,8 @@ module _ (P : Program) (I : Input) (n : ℕ) (bytes : List ℕ) (more : List (Op
       let z : ⊥ = cc in z
 
   -- the header ends before the pieces do
-  ends_before : (h : ℕ) (F : Input) → header P (spelled false bytes) ≡ Gives h F → h < length (spelled false bytes) → ⊥
+  ends_before : (h : ℕ) (F : Input) → header P (spelled false bytes) ≡ Gives h F
+      → h < length (spelled false bytes) → ⊥
   ends_before h F q lt =
       let same : Gives h F ≡ Gives (header_entries I) I =
       sym (gives_front P (spelled false bytes) more h F q lt) ∙ whole_header in
@@ -420,7 +433,8 @@ module _ (P : Program) (I : Input) (n : ℕ) (bytes : List ℕ) (more : List (Op
       (first_told (spelled false bytes) more (trace P I n) whole.0 split front.0 front.1) m
 
   -- all pieces are of the header
-  ends_later : (h : ℕ) (F : Input) → header P (spelled false bytes) ≡ Gives h F → length (spelled false bytes) ≤ h → ⊥
+  ends_later : (h : ℕ) (F : Input) → header P (spelled false bytes) ≡ Gives h F
+      → length (spelled false bytes) ≤ h → ⊥
   ends_later h F q le =
       let given = header-given P (spelled false bytes) h F (fit_pieces false bytes) q in
       let whole = whole-trace P F in

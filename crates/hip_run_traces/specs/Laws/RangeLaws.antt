@@ -127,7 +127,8 @@ module _ (P : Program) (I : Input) (w : World) (below : ℕ) (rs : Registers) wh
   ranged_numbered None values dest = record { is = tt {0} }
   ranged_numbered (Some g) values dest = ranged_bound (slice_get P.functions g) g values dest
 
-  ranged_entered : (callee values : List ℕ) (dest : Option (List ℕ)) → IsRanged I (entered P below callee values dest)
+  ranged_entered : (callee values : List ℕ) (dest : Option (List ℕ))
+      → IsRanged I (entered P below callee values dest)
   unfolding entered
   ranged_entered callee values dest =
       ranged_cond (nat_lt below 16383) (numbered_call P (function_number P callee) values dest) (Traps traps.Depth)
@@ -216,12 +217,14 @@ signed_fits n h = go (split n (2 ^ 31))
     go (inr k) = subst (FitsSigned w32) (sym (signed-high W32 n k h)) (high (2 ^ 32 - 1 - n) (omega (arith, k, h)))
 
 -- the lines of a range
-lines_fit : (base d n size : ℕ) → base % 4096 ≡ 0 → base ≤ 2 ^ 46 → size ≤ 2 ^ 26 → 0 < n → d + n ≤ size
+lines_fit : (base d n size : ℕ) → base % 4096 ≡ 0 → base ≤ 2 ^ 46 → size ≤ 2 ^ 26 → 0 < n
+    → d + n ≤ size
     → AreLines (base + 64 * (d / 64)) (64 * ((d + n - 1) / 64 + 1) - 64 * (d / 64))
 lines_fit base d n size page high few some within =
     go (d / 64) ((d + n - 1) / 64) (omega arith) (omega arith) (omega arith)
   where
-    go : (q r : ℕ) → q ≤ r → 64 * q ≤ d → 64 * r ≤ d + n - 1 → AreLines (base + 64 * q) (64 * (r + 1) - 64 * q)
+    go : (q r : ℕ) → q ≤ r → 64 * q ≤ d → 64 * r ≤ d + n - 1
+        → AreLines (base + 64 * q) (64 * (r + 1) - 64 * q)
     go q r le first last =
         let size_is : 64 * (r + 1) - 64 * q ≡ 64 * (r + 1 - q) = omega arith in
         record {
@@ -315,7 +318,8 @@ module _ (P : Program) (I : Input) (sound : IsSound P) (valid : IsValid P I) whe
 
   -- ---- before the first step
 
-  images_fit : (n addr : ℕ) (bytes : List ℕ) → addr % 64 ≡ 0 → addr + 64 * n < 2 ^ 64 → length bytes ≡ 64 * n
+  images_fit : (n addr : ℕ) (bytes : List ℕ) → addr % 64 ≡ 0 → addr + 64 * n < 2 ^ 64
+      → length bytes ≡ 64 * n
       → All (λ b. b < 256) bytes → All ValuesFit (image_entries n addr bytes)
   images_fit zero addr bytes aligned most len h = All-nil ValuesFit
   images_fit (suc n) addr bytes aligned most len h =

@@ -21,7 +21,8 @@ one_line : (b : Bool) (e : Entry) (es : List Entry) (m : ℕ) → length es ≡ 
 one_line true e es m h = omega (arith, h)
 one_line false e es m h = omega (arith, h)
 
-pub length-image_entries : (n addr : ℕ) (bytes : List ℕ) → length (image_entries n addr bytes) ≡ image_lines n bytes
+pub length-image_entries : (n addr : ℕ) (bytes : List ℕ)
+    → length (image_entries n addr bytes) ≡ image_lines n bytes
 length-image_entries zero addr bytes = refl
 length-image_entries (suc n) addr bytes =
     one_line (some_byte (take 64 bytes)) (entries.Image addr (take 64 bytes))
@@ -50,12 +51,14 @@ length-entry (events.End x) n = omega arith
 
 -- ---- one step more
 
-pub next-trace : (P : Program) (I : Input) (n : ℕ) → trace P I (suc n) ≡ trace P I n ++ next_entries P I (run P I n)
+pub next-trace : (P : Program) (I : Input) (n : ℕ)
+    → trace P I (suc n) ≡ trace P I n ++ next_entries P I (run P I n)
 unfolding trace
 next-trace P I n = refl
 
 -- a run that has ended has no more entries
-pub rests-trace : (P : Program) (I : Input) (n : ℕ) → has_ended (run P I n) ≡ true → trace P I (suc n) ≡ trace P I n
+pub rests-trace : (P : Program) (I : Input) (n : ℕ) → has_ended (run P I n) ≡ true
+    → trace P I (suc n) ≡ trace P I n
 rests-trace P I n h =
     next-trace P I n ∙ ap (λ (b : Bool). trace P I n
     ++ (if b then [] else entry_list (entry_of_event (event P I (run P I n))))) h
@@ -71,7 +74,8 @@ module _ (P : Program) (I : Input) where
           → length (trace P I n ++ (if b then [] else entry_list (entry_of_event (event P I (run P I n)))))
           ≡ (run P I (suc n)).counts.entries
       go true q h =
-          ap length (append-nil (trace P I n)) ∙ h ∙ sym (ap (λ (s : State). s.counts.entries) (rests-ended P I n q))
+          ap length (append-nil (trace P I n)) ∙ h
+          ∙ sym (ap (λ (s : State). s.counts.entries) (rests-ended P I n q))
       go false q h =
           length-append (trace P I n) (entry_list (entry_of_event (event P I (run P I n))))
           ∙ ap (λ (m : ℕ). m + length (entry_list (entry_of_event (event P I (run P I n))))) h
@@ -115,7 +119,8 @@ module _ (P : Program) (I : Input) where
   whole-trace = let end = runs_end P I in (trace P I end.0, record { steps = end.0; ended = end.1; are = refl })
 
   -- the traces at two numbers of steps at which the run has ended
-  ended_alike : (m n : ℕ) → has_ended (run P I m) ≡ true → has_ended (run P I n) ≡ true → trace P I m ≡ trace P I n
+  ended_alike : (m n : ℕ) → has_ended (run P I m) ≡ true → has_ended (run P I n) ≡ true
+      → trace P I m ≡ trace P I n
   ended_alike m n h k = go (order m n)
     where
       order : (a b : ℕ) → ((d : ℕ) × (b ≡ a + d)) ⊎ ((d : ℕ) × (a ≡ b + d))
@@ -136,7 +141,8 @@ module _ (P : Program) (I : Input) where
   one-trace es fs h k = h.are ∙ ended_alike h.steps k.steps h.ended k.ended ∙ sym k.are
 
   -- the whole trace begins with the trace of any number of steps
-  pub whole-front : (n : ℕ) (es : List Entry) → IsTrace P I es → (more : List Entry) × (es ≡ trace P I n ++ more)
+  pub whole-front : (n : ℕ) (es : List Entry) → IsTrace P I es → (more : List Entry)
+      × (es ≡ trace P I n ++ more)
   whole-front n es h = go (front-trace n h.steps) (ended_later h.steps n h.ended)
     where
       ended_later : (m d : ℕ) → has_ended (run P I m) ≡ true → trace P I (d + m) ≡ trace P I m

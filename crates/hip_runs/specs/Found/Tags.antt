@@ -46,8 +46,10 @@ has_some (x ∷ xs) = true
 -- The loose parts of a store, and the loose bytes that have its tag: each of either has one of the other that is
 -- flushed alike.
 pub record AreAlike (ps : List LoosePart) (bs : List LooseByte) (made : ℕ) : Type 0 where
-  pub byte_of : (p : LoosePart) → In p ps → (b : LooseByte) × In b bs × (b.tag ≡ made) × (b.flushed ≡ p.flushed)
-  pub part_of : (b : LooseByte) → In b bs → b.tag ≡ made → (p : LoosePart) × In p ps × (p.flushed ≡ b.flushed)
+  pub byte_of : (p : LoosePart) → In p ps → (b : LooseByte) × In b bs × (b.tag ≡ made)
+      × (b.flushed ≡ p.flushed)
+  pub part_of : (b : LooseByte) → In b bs → b.tag ≡ made → (p : LoosePart) × In p ps
+      × (p.flushed ≡ b.flushed)
 
 -- A store has loose parts exactly where some loose byte has its tag, and all are flushed exactly where all those
 -- bytes are.

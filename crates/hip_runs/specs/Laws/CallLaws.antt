@@ -31,7 +31,8 @@ module _ (P : Program) (s : State) where
       returns f g _ fs q refl (record { function = refl; mark = refl; dest = refl; level = refl }) c
 
   perform_moves : (I : Input) (w : World) (f : Frame) (fs : List Frame) (ls : List (Line StorePart)) (after : Counts)
-      → s.frames ≡ f ∷ fs → after.steps ≡ suc s.counts.steps → (x : Action) → Fits P x (instr_of P (site_of f))
+      → s.frames ≡ f ∷ fs → after.steps ≡ suc s.counts.steps → (x : Action)
+      → Fits P x (instr_of P (site_of f))
       → Moves P s (perform I w f fs ls s.counts after x)
   unfolding perform
   perform_moves I w f fs ls after q c (Traps kind) h = stays f f fs q refl (same_call f) c
@@ -146,7 +147,8 @@ module _ (P : Program) where
   run_defined I zero = tt
   run_defined I (suc n) = defined_next (run P I n) (step P I (run P I n)) (step_moves P I (run P I n)) (run_defined I n)
 
-  among : (ls : List Level) → AreDefined P ls → (v : Level) → In v ls → is_defined_call P (instr_of P v.call) ≡ true
+  among : (ls : List Level) → AreDefined P ls → (v : Level) → In v ls
+      → is_defined_call P (instr_of P v.call) ≡ true
   among [] h v i = absurd i
   among (l ∷ ls) h v (inl e) = subst (λ (x : Level). is_defined_call P (instr_of P x.call) ≡ true) (sym e) h.0
   among (l ∷ ls) h v (inr i) = among ls h.1 v i

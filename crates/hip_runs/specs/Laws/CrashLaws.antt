@@ -30,7 +30,8 @@ whole_lines P I v = go (end_of true 0 P.globals) v.image
 pub same_size : (P : Program) (I : Input) (n : ℕ) → IsValid P I → length I.image ≡ 64 * length (run P I n).lines
 same_size P I n v = whole_lines P I v ∙ ap (λ k. 64 * k) (sym (length-lines P I n))
 
-pub choice-image : (P : Program) (I : Input) (n : ℕ) (pick : ℕ → ℕ) → IsValid P I → IsCrashPick (run P I n) pick
+pub choice-image : (P : Program) (I : Input) (n : ℕ) (pick : ℕ → ℕ) → IsValid P I
+    → IsCrashPick (run P I n) pick
     → IsCrashImage I (run P I n) (crash_image I (run P I n) pick)
 choice-image P I n pick v p = image_of-image covers byte_of (run P I n).lines pick I.image (same_size P I n v) p
 
@@ -81,7 +82,8 @@ module _ (first content : List ℕ) (j : ℕ) where
       least = omega (arith, d, h.1.least);
       most = omega (arith, h.1.most, ap length e, length-map l.parts f);
       bytes =
-          λ b from to. h.1.bytes b from to ∙ ap (λ xs. byte_after covers byte_of (take h.0 xs) b (slice_index first b))
+          λ b from to. h.1.bytes b from to ∙ ap
+          (λ xs. byte_after covers byte_of (take h.0 xs) b (slice_index first b))
           e ∙ front_same f s h.0 l.parts b (slice_index first b);
     },
   )
@@ -127,7 +129,8 @@ module _ (I : Input) (ls : List (Line StorePart)) where
   fewer_flushed : (flush : Flush) (a n : ℕ) → OnlyOf (met_lines I flush a n ls)
   fewer_flushed flush a n content h = record { whole = h.whole; lines = at }
     where
-      at : (j : ℕ) (l : Line StorePart) → slice_get ls j ≡ Some l → IsLineImage covers byte_of I.image content j l
+      at : (j : ℕ) (l : Line StorePart) → slice_get ls j ≡ Some l
+          → IsLineImage covers byte_of I.image content j l
       at j l e =
           go (has_bytes j (a - I.base) n) (h.lines j _
           (slice_get-change_range _ (a - I.base) n ls j
@@ -179,7 +182,8 @@ module _ (I : Input) (ls : List (Line StorePart)) where
           go true x i = line_image-with_part covers byte_of I.image content j (part j) x i
           go false x i = i
 
-fewer : (I : Input) (s : State) → AreOrdered s.lines → Cases I s (λ e ls. stores e ≡ false → OnlyOf I s.lines ls)
+fewer : (I : Input) (s : State) → AreOrdered s.lines
+    → Cases I s (λ e ls. stores e ≡ false → OnlyOf I s.lines ls)
 fewer I s o = record {
   plain = λ e p q content h. h;
   store = λ f fs t a bytes e w q. absurd (let z : ⊥ = cc in z);
@@ -191,7 +195,8 @@ fewer I s o = record {
 }
 
 -- only a step that stores into the region adds crash images
-pub only_stores_add : (P : Program) (I : Input) (n : ℕ) (content : List ℕ) → stores (event P I (run P I n)) ≡ false
+pub only_stores_add : (P : Program) (I : Input) (n : ℕ) (content : List ℕ)
+    → stores (event P I (run P I n)) ≡ false
     → IsCrashImage I (run P I (suc n)) content → IsCrashImage I (run P I n) content
 unfolding run
 only_stores_add P I n content q h = step-cases P I (run P I n) _ (fewer I (run P I n) (lines_ordered P I n)) q content h
@@ -206,7 +211,8 @@ kept I s = record {
 }
 
 -- only a fence takes crash images away
-pub only_fences_remove : (P : Program) (I : Input) (n : ℕ) (content : List ℕ) → fences (event P I (run P I n)) ≡ false
+pub only_fences_remove : (P : Program) (I : Input) (n : ℕ) (content : List ℕ)
+    → fences (event P I (run P I n)) ≡ false
     → IsCrashImage I (run P I n) content → IsCrashImage I (run P I (suc n)) content
 unfolding run
 only_fences_remove P I n content q h = step-cases P I (run P I n) _ (kept I (run P I n)) q content h

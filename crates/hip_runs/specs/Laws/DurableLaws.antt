@@ -19,7 +19,8 @@ get_front [] y x k e lt = absurd (omega arith)
 get_front (z ∷ xs) y x zero e lt = e
 get_front (z ∷ xs) y x (suc k) e lt = get_front xs y x k e (omega arith)
 
-get_longer : {A : Type 0} (xs ys : List A) (x : A) (k : ℕ) → slice_get xs k ≡ Some x → slice_get (xs ++ ys) k ≡ Some x
+get_longer : {A : Type 0} (xs ys : List A) (x : A) (k : ℕ) → slice_get xs k ≡ Some x
+    → slice_get (xs ++ ys) k ≡ Some x
 get_longer [] ys x k e = absurd (let z : ⊥ = cc in z)
 get_longer (z ∷ xs) ys x zero e = e
 get_longer (z ∷ xs) ys x (suc k) e = get_longer xs ys x k e
@@ -59,14 +60,16 @@ store_kept part o n ls a h m k x d =
     (subst (λ o. IsDurableIn o k x) (slice_get-change_range (λ j l. with_part (part j) l) o n ls m) d)
   where
     go : (b : Bool) (o : Option (Line StorePart)) → ((l : Line StorePart) → o ≡ Some l → IsOrdered l)
-        → (IsDurableIn o k x → x.fenced ≡ true) → IsDurableIn (option_map (λ l. cond b (with_part (part m) l) l) o) k x
+        → (IsDurableIn o k x → x.fenced ≡ true)
+        → IsDurableIn (option_map (λ l. cond b (with_part (part m) l) l) o) k x
         → x.fenced ≡ true
     go b None a h d = absurd d
     go true (Some l) a h d =
         let r = a l refl in h (get_front l.parts (part m) x k d.0 (omega (arith, d.1, r.durable, r.flushed)), d.1)
     go false (Some l) a h d = h d
 
-fenced_cases : (I : Input) (s : State) → AreOrdered s.lines → AreFenced s.lines → Cases I s (λ e ls. AreFenced ls)
+fenced_cases : (I : Input) (s : State) → AreOrdered s.lines → AreFenced s.lines
+    → Cases I s (λ e ls. AreFenced ls)
 fenced_cases I s a h = record {
   plain = λ e p. h;
   store = λ f fs t addr bytes e w. store_kept _ (addr - I.base) (length bytes) s.lines a h;
@@ -124,7 +127,8 @@ module _ (m k : ℕ) (x : StorePart) where
       subst (λ o. IsDurableIn o k x) (sym (get_mapped fence_line ls m))
       (go (slice_get ls m) (λ l e. ordered-at ls m l a e) d)
     where
-      go : (o : Option (Line StorePart)) → ((l : Line StorePart) → o ≡ Some l → IsOrdered l) → IsDurableIn o k x
+      go : (o : Option (Line StorePart)) → ((l : Line StorePart) → o ≡ Some l → IsOrdered l)
+          → IsDurableIn o k x
           → IsDurableIn (option_map fence_line o) k x
       go None a d = absurd d
       go (Some l) a d =
@@ -171,7 +175,8 @@ module _ (m k : ℕ) (x : StorePart) where
 
 pub durable_stays : (P : Program) (I : Input) (n d m k : ℕ) (x : StorePart) → IsDurableAt (run P I n) m k x
     → IsDurableAt (run P I (n + d)) m k x
-durable_stays P I n zero m k x h = let e : n ≡ n + zero = omega arith in subst (λ i. IsDurableAt (run P I i) m k x) e h
+durable_stays P I n zero m k x h = let e : n ≡ n + zero = omega arith in
+    subst (λ i. IsDurableAt (run P I i) m k x) e h
 durable_stays P I n (suc d) m k x h =
     let e : suc (n + d) ≡ n + suc d = omega arith in
     subst (λ i. IsDurableAt (run P I i) m k x) e (next m k x P I (n + d) (durable_stays P I n d m k x h))

@@ -46,7 +46,8 @@ pub code_short : (P : Program) (f : Frame) → length (code_at P f) ≤ longest 
 code_short P f =
     omega (arith, drop_short f.place (body_at P f.function f.block), body_short P.functions f.function f.block)
 
-pub drop_next : {A : Type 0} (xs : List A) (k : ℕ) (x : A) (ys : List A) → drop k xs ≡ x ∷ ys → drop (suc k) xs ≡ ys
+pub drop_next : {A : Type 0} (xs : List A) (k : ℕ) (x : A) (ys : List A) → drop k xs ≡ x ∷ ys
+    → drop (suc k) xs ≡ ys
 drop_next [] zero x ys e = cc
 drop_next [] (suc k) x ys e = cc
 drop_next (y ∷ xs) zero x ys e = cc
@@ -60,7 +61,8 @@ pub data Goes (P : Program) (I : Input) (turns left : ℕ) (s : State) : Type 0 
   ended : has_ended s ≡ true → Goes P I turns left s
   turned : (f : Frame) (fs : List Frame) → s.frames ≡ f ∷ fs → s.world.turns ≡ suc turns → turns < I.limit
       → Goes P I turns left s
-  moved : (f : Frame) (fs : List Frame) → s.frames ≡ f ∷ fs → s.world.turns ≡ turns → suc (length (code_at P f)) ≡ left
+  moved : (f : Frame) (fs : List Frame) → s.frames ≡ f ∷ fs → s.world.turns ≡ turns
+      → suc (length (code_at P f)) ≡ left
       → Goes P I turns left s
 
 leave_goes : (P : Program) (I : Input) (turns left v : ℕ) (w : World) (f : Frame) (fs : List Frame)
@@ -144,8 +146,10 @@ still_instr P I w below regs (Load dest ty addr align) e = absurd (let z : ⊥ =
 still_instr P I w below regs (Store ty value addr align) e = absurd (let z : ⊥ = cc in z)
 still_instr P I w below regs (Gep dest inbounds ty base indices) e = absurd (let z : ⊥ = cc in z)
 
-still_goes : (P : Program) (I : Input) (left : ℕ) (w : World) (f : Frame) (fs : List Frame) (ls : List (Line StorePart))
-    (c d : Counts) (x : Action) → suc (length (drop (suc f.place) (body_at P f.function f.block))) ≡ left → is_still x
+still_goes : (P : Program) (I : Input) (left : ℕ) (w : World) (f : Frame) (fs : List Frame)
+    (ls : List (Line StorePart))
+    (c d : Counts) (x : Action) → suc (length (drop (suc f.place) (body_at P f.function f.block))) ≡ left
+    → is_still x
     → Goes P I w.turns left (perform I w f fs ls c d x)
 unfolding perform
 still_goes P I left w f fs ls c d (Traps kind) e p = ended refl
@@ -162,7 +166,8 @@ still_goes P I left w f fs ls c d (Calls g rs to) e p = absurd p
 still_goes P I left w f fs ls c d (Jumps b rs) e p = absurd p
 still_goes P I left w f fs ls c d (Returns v) e p = absurd p
 
-deed_goes : (P : Program) (I : Input) (left : ℕ) (w : World) (f : Frame) (fs : List Frame) (ls : List (Line StorePart))
+deed_goes : (P : Program) (I : Input) (left : ℕ) (w : World) (f : Frame) (fs : List Frame)
+    (ls : List (Line StorePart))
     (c d : Counts) (turn : Bool) (x : Action)
     → (turn ≡ false → is_still x × (suc (length (drop (suc f.place) (body_at P f.function f.block))) ≡ left))
     → Goes P I w.turns left (carry_out I w f fs ls c d (record { turn = turn; action = x }))
@@ -211,7 +216,8 @@ less_turned x y left c b m lt more le = omega (arith, lt, more, le)
 
 module _ (P : Program) (I : Input) where
   goes_on : (m turns left : ℕ) (s : State) (k : ℕ) → run P I k ≡ s → steps_left P I turns left < suc m
-      → ((g : Frame) (gs : List Frame) → s.frames ≡ g ∷ gs → steps_left P I s.world.turns (length (code_at P g)) < m
+      → ((g : Frame) (gs : List Frame) → s.frames ≡ g ∷ gs
+      → steps_left P I s.world.turns (length (code_at P g)) < m
       → Ends P I) → Goes P I turns left s → Ends P I
   goes_on m turns left s k at lt rest (ended h) = (k, subst (λ (x : State). has_ended x ≡ true) (sym at) h)
   goes_on m turns left s k at lt rest (turned g gs frames t below) =
@@ -222,7 +228,8 @@ module _ (P : Program) (I : Input) where
       rest g gs frames (subst (λ (n : ℕ). steps_left P I n (length (code_at P g)) < m) (sym t)
       (less_moved ((I.limit - turns) * suc (longest P)) left (length (code_at P g)) m lt l))
 
-  pub next_goes : (n : ℕ) (f : Frame) (fs : List Frame) → (run P I n).world.ending ≡ None → (run P I n).frames ≡ f ∷ fs
+  pub next_goes : (n : ℕ) (f : Frame) (fs : List Frame) → (run P I n).world.ending ≡ None
+      → (run P I n).frames ≡ f ∷ fs
       → Goes P I (run P I n).world.turns (length (code_at P f)) (run P I (suc n))
   unfolding run
   next_goes n f fs going frames = step_goes P I (run P I n) f fs going frames

@@ -57,7 +57,8 @@ pub record Fits (P : Program) (x : Action) (o : Option Instr) : Type 0 where
 written : (n v : ℕ) → bytes_of (length (bytes_of n v)) (little_endian (bytes_of n v)) ≡ bytes_of n v
 written n v = bytes_of-little_endian (bytes_of n v) (λ i. bytes_of-below n v i)
 
-fits_cond : {P : Program} (b : Bool) (x y : Action) (o : Option Instr) → Fits P x o → Fits P y o → Fits P (cond b x y) o
+fits_cond : {P : Program} (b : Bool) (x y : Action) (o : Option Instr) → Fits P x o → Fits P y o
+    → Fits P (cond b x y) o
 fits_cond true x y o p q = p
 fits_cond false x y o p q = q
 
@@ -70,7 +71,8 @@ flushes_and_fences calls.ReadI64 e = cc
 flushes_and_fences _ e = cc
 
 module _ (P : Program) (I : Input) (w : World) (below : ℕ) (rs : Registers) where
-  fits_accessed : (a n align : ℕ) (x : Action) (o : Option Instr) → Fits P x o → Fits P (accessed P I w a n align x) o
+  fits_accessed : (a n align : ℕ) (x : Action) (o : Option Instr) → Fits P x o
+      → Fits P (accessed P I w a n align x) o
   unfolding accessed
   fits_accessed a n align x o h =
       fits_cond (nat_eq (a % align) 0) (cond (are_valid P I w a n) x (Traps traps.Address)) (Traps traps.Misaligned) o
@@ -82,7 +84,8 @@ module _ (P : Program) (I : Input) (w : World) (below : ℕ) (rs : Registers) wh
       fits_cond (nat_eq n 0) x (cond (are_valid P I w a n) x (Traps traps.Address)) o h
       (fits_cond (are_valid P I w a n) x (Traps traps.Address) o h (record { is = tt {0} }))
 
-  fits_lines : (effect : LineEffect) (a n : ℕ) (o : Option Instr) → (effect ≡ effects.Flush → is_flush_call o ≡ true)
+  fits_lines : (effect : LineEffect) (a n : ℕ) (o : Option Instr)
+      → (effect ≡ effects.Flush → is_flush_call o ≡ true)
       → (effect ≡ effects.FlushAndFence → is_persist_call o ≡ true) → Fits P (line_action P I w effect a n) o
   fits_lines effects.Nothing a n o flush persist = record { is = tt {0} }
   fits_lines effects.Flush a n o flush persist = fits_flushing a n (Flushes a n) o (record { is = flush refl })
@@ -102,7 +105,8 @@ module _ (P : Program) (I : Input) (w : World) (below : ℕ) (rs : Registers) wh
   fits_bound None g values dest o h = record { is = tt {0} }
   fits_bound (Some f) g values dest o h = record { is = h }
 
-  fits_numbered : (n : Option ℕ) (values : List ℕ) (dest : Option (List ℕ)) (o : Option Instr) → called_number P o ≡ n
+  fits_numbered : (n : Option ℕ) (values : List ℕ) (dest : Option (List ℕ)) (o : Option Instr)
+      → called_number P o ≡ n
       → Fits P (numbered_call P n values dest) o
   fits_numbered None values dest o h = record { is = tt {0} }
   fits_numbered (Some g) values dest o h = fits_bound (slice_get P.functions g) g values dest o h

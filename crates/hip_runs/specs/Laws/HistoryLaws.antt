@@ -39,7 +39,8 @@ record IsKept (P : Program) (up : List Level) (ls : List (Line StorePart)) (n : 
   levels : (x y : StorePart) → PartOf ls x → PartOf ls y → x.step ≡ y.step → x.levels ≡ y.levels
   entry : (x y : StorePart) → PartOf ls x → PartOf ls y → x.step ≡ y.step → x.entry ≡ y.entry
   fenced : (x y : StorePart) → PartOf ls x → PartOf ls y → x.step ≡ y.step → x.fenced ≡ y.fenced
-  flushed : (m k : ℕ) (l : Line StorePart) (x : StorePart) → slice_get ls m ≡ Some l → slice_get l.parts k ≡ Some x
+  flushed : (m k : ℕ) (l : Line StorePart) (x : StorePart) → slice_get ls m ≡ Some l
+      → slice_get l.parts k ≡ Some x
       → k < l.flushed → (f : Flush) × (x.first_flush ≡ Some f)
   site_there : (x : StorePart) → PartOf ls x → Stands P x.site
   flush_there : (x : StorePart) (f : Flush) → PartOf ls x → x.first_flush ≡ Some f → Stands P f.site
@@ -61,7 +62,8 @@ born_before (l ∷ ls) n h v (inl e) = subst (λ (x : Level). x.birth < n) (sym 
 born_before (l ∷ ls) n h v (inr i) = omega (arith, h.0, born_before ls l.birth h.1 v i)
 
 -- a call that is not among those made before step b, and was made at step b or later, does not stand
-closed_there : (up : List Level) (b : ℕ) → AreDescending up b → (v : Level) → b ≤ v.birth → is_open up v ≡ false
+closed_there : (up : List Level) (b : ℕ) → AreDescending up b → (v : Level) → b ≤ v.birth
+    → is_open up v ≡ false
 closed_there [] b h v le = refl
 closed_there (l ∷ ls) b h v le =
     let low = h.0 in
@@ -209,7 +211,8 @@ module _ (P : Program) where
   get_map f (x ∷ xs) zero y e = (x, refl, let q : y ≡ f x = cc in q)
   get_map f (x ∷ xs) (suc k) y e = get_map f xs k y e
 
-  fence : (up : List Level) (ls : List (Line StorePart)) (n : ℕ) → IsKept P up ls n → IsKept P up (fenced_lines ls) n
+  fence : (up : List Level) (ls : List (Line StorePart)) (n : ℕ) → IsKept P up ls n
+      → IsKept P up (fenced_lines ls) n
   fence up ls n k = record {
     made = λ x i. let r = part-fenced ls x i in subst (λ (y : StorePart). y.step < n) (sym r.2) (k.made r.0 r.1);
     flush_made =
@@ -218,17 +221,20 @@ module _ (P : Program) where
     site =
         λ x y i j e. let r = part-fenced ls x i in let q =
         part-fenced ls y j in ap (λ (z : StorePart). z.site) r.2
-        ∙ k.site r.0 q.0 r.1 q.1 (sym (ap (λ (z : StorePart). z.step) r.2) ∙ e ∙ ap (λ (z : StorePart). z.step) q.2)
+        ∙ k.site r.0 q.0 r.1 q.1 (sym (ap (λ (z : StorePart). z.step) r.2) ∙ e
+        ∙ ap (λ (z : StorePart). z.step) q.2)
         ∙ sym (ap (λ (z : StorePart). z.site) q.2);
     levels =
         λ x y i j e. let r = part-fenced ls x i in let q =
         part-fenced ls y j in ap (λ (z : StorePart). z.levels) r.2
-        ∙ k.levels r.0 q.0 r.1 q.1 (sym (ap (λ (z : StorePart). z.step) r.2) ∙ e ∙ ap (λ (z : StorePart). z.step) q.2)
+        ∙ k.levels r.0 q.0 r.1 q.1 (sym (ap (λ (z : StorePart). z.step) r.2) ∙ e
+        ∙ ap (λ (z : StorePart). z.step) q.2)
         ∙ sym (ap (λ (z : StorePart). z.levels) q.2);
     entry =
         λ x y i j e. let r = part-fenced ls x i in let q =
         part-fenced ls y j in ap (λ (z : StorePart). z.entry) r.2
-        ∙ k.entry r.0 q.0 r.1 q.1 (sym (ap (λ (z : StorePart). z.step) r.2) ∙ e ∙ ap (λ (z : StorePart). z.step) q.2)
+        ∙ k.entry r.0 q.0 r.1 q.1 (sym (ap (λ (z : StorePart). z.step) r.2) ∙ e
+        ∙ ap (λ (z : StorePart). z.step) q.2)
         ∙ sym (ap (λ (z : StorePart). z.entry) q.2);
     fenced =
         λ x y i j e. let r = part-fenced ls x i in let q =
@@ -262,7 +268,8 @@ module _ (P : Program) where
           → slice_get l.parts j ≡ Some x → j < l.flushed → (f : Flush) × (x.first_flush ≡ Some f)
       all_flushed m j l x e g lt =
           let a = get_fenced ls m l e in
-          let b = get_map noted_fence a.0.parts j x (sym (ap (λ (y : Line StorePart). slice_get y.parts j) a.2) ∙ g) in
+          let b = get_map noted_fence a.0.parts j x
+          (sym (ap (λ (y : Line StorePart). slice_get y.parts j) a.2) ∙ g) in
           let c = k.flushed m j a.0 b.0 a.1 b.1 (subst (λ (y : Line StorePart). j < y.flushed) a.2 lt) in
           (c.0, ap (λ (y : StorePart). y.first_flush) b.2 ∙ c.1)
 
@@ -336,13 +343,15 @@ module _ (P : Program) where
         same_store flush y q.0 q.2 in a.site ∙ k.site r.0 q.0 r.1 q.1 (sym a.step ∙ e ∙ b.step) ∙ sym b.site;
     levels =
         λ x y i j e. let r = from x i in let q = from y j in let a = same_store flush x r.0 r.2 in let b =
-        same_store flush y q.0 q.2 in a.levels ∙ k.levels r.0 q.0 r.1 q.1 (sym a.step ∙ e ∙ b.step) ∙ sym b.levels;
+        same_store flush y q.0 q.2 in a.levels ∙ k.levels r.0 q.0 r.1 q.1 (sym a.step ∙ e ∙ b.step)
+        ∙ sym b.levels;
     entry =
         λ x y i j e. let r = from x i in let q = from y j in let a = same_store flush x r.0 r.2 in let b =
         same_store flush y q.0 q.2 in a.entry ∙ k.entry r.0 q.0 r.1 q.1 (sym a.step ∙ e ∙ b.step) ∙ sym b.entry;
     fenced =
         λ x y i j e. let r = from x i in let q = from y j in let a = same_store flush x r.0 r.2 in let b =
-        same_store flush y q.0 q.2 in a.fenced ∙ k.fenced r.0 q.0 r.1 q.1 (sym a.step ∙ e ∙ b.step) ∙ sym b.fenced;
+        same_store flush y q.0 q.2 in a.fenced ∙ k.fenced r.0 q.0 r.1 q.1 (sym a.step ∙ e ∙ b.step)
+        ∙ sym b.fenced;
     flushed = λ m j l x e g lt. let a = get_flushed flush o size 0 ls m l e in all_flushed m j l x a.0 a.1 g lt a.2;
     site_there =
         λ x i. let r = from x i in subst (Stands P) (sym (same_store flush x r.0 r.2).site) (k.site_there r.0 r.1);
@@ -360,7 +369,8 @@ module _ (P : Program) where
     calls = k.calls;
     ordered =
         ordered-change_from (λ _ l. flush_line flush l) o size
-        (λ _ l h. ordered-flushed_line (map_line (noted_flush flush) l) (ordered-map_line (noted_flush flush) l h)) 0 ls
+        (λ _ l h. ordered-flushed_line (map_line (noted_flush flush) l)
+        (ordered-map_line (noted_flush flush) l h)) 0 ls
         k.ordered;
   }
     where
@@ -376,7 +386,8 @@ module _ (P : Program) where
       stands_by f (inl e) old = subst (λ (z : Flush). Stands P z.site) (sym e) there
       stands_by f (inr a) old = old a
 
-      all_flushed : (m j : ℕ) (l : Line StorePart) (x : StorePart) (l0 : Line StorePart) → slice_get ls m ≡ Some l0
+      all_flushed : (m j : ℕ) (l : Line StorePart) (x : StorePart) (l0 : Line StorePart)
+          → slice_get ls m ≡ Some l0
           → slice_get l.parts j ≡ Some x → j < l.flushed → (l ≡ l0) ⊎ (l ≡ flush_line flush l0)
           → (f : Flush) × (x.first_flush ≡ Some f)
       all_flushed m j l x l0 e g lt (inl same) =
@@ -389,7 +400,8 @@ module _ (P : Program) where
           let c = met_flushed b.0.first_flush flush in
           (c.0, ap (λ (y : StorePart). y.first_flush) b.2 ∙ c.1)
 
-  flush : (I : Input) (up : List Level) (ls : List (Line StorePart)) (n a size : ℕ) (flush : Flush) → flush.step ≡ n
+  flush : (I : Input) (up : List Level) (ls : List (Line StorePart)) (n a size : ℕ) (flush : Flush)
+      → flush.step ≡ n
       → Stands P flush.site → IsKept P up ls n → IsKept P up (flushed_lines I flush a size ls) (suc n)
   flush I up ls n a size f at there k = go (flushes_lines I a size)
     where
@@ -419,7 +431,8 @@ module _ (P : Program) where
       let z : suc j + m ≡ j + suc m = omega arith in
       (r.0, r.1, subst (λ i. (l ≡ r.0) ⊎ (l ≡ with_part (part i) r.0)) z r.2)
 
-  get_front : {A : Type 0} (xs : List A) (y x : A) (k : ℕ) → slice_get (xs ++ y ∷ []) k ≡ Some x → k < length xs
+  get_front : {A : Type 0} (xs : List A) (y x : A) (k : ℕ) → slice_get (xs ++ y ∷ []) k ≡ Some x
+      → k < length xs
       → slice_get xs k ≡ Some x
   get_front [] y x k e lt = absurd (omega arith)
   get_front (z ∷ xs) y x zero e lt = e
@@ -460,7 +473,15 @@ module _ (P : Program) where
     split =
         λ x i. by x (from x i) (λ j. k.split x j)
         (λ j e. subst (λ (y : StorePart). IsParted up y.levels) (sym e)
-        (record { closed = []; open_ones = up; above = []; are = refl; outermost = refl; returned = λ v z. absurd z }));
+        (record {
+          closed = [];
+          open_ones = up;
+          above = [];
+          are = refl;
+          outermost = refl;
+          returned =
+              λ v z. absurd z;
+        }));
     births =
         λ x v i l. by x (from x i) (λ j. omega (arith, k.births x v j l))
         (λ j e. omega (arith, born_before up counts.steps k.stack v (subst (λ (y : StorePart). In v y.levels) e l)));
@@ -478,11 +499,14 @@ module _ (P : Program) where
       by x (inl i) old fresh = old i
       by x (inr j) old fresh = fresh j.0 j.1
 
-      never : (x : StorePart) (f : Flush) (j : ℕ) → x ≡ part_of_store counts s up o bytes j → x.first_flush ≡ Some f → ⊥
-      never x f j e h = let q : None ≡ Some f = sym (ap (λ (y : StorePart). y.first_flush) e) ∙ h in let z : ⊥ = cc in z
+      never : (x : StorePart) (f : Flush) (j : ℕ) → x ≡ part_of_store counts s up o bytes j
+          → x.first_flush ≡ Some f → ⊥
+      never x f j e h = let q : None ≡ Some f = sym (ap (λ (y : StorePart). y.first_flush) e) ∙ h in
+          let z : ⊥ = cc in z
 
       -- an old part and a new one are of different steps, and two new ones are of one store
-      both : {A : Type 0} (x y : StorePart) → PartOf ls x ⊎ ((j : ℕ) × (x ≡ part_of_store counts s up o bytes j))
+      both : {A : Type 0} (x y : StorePart) → PartOf ls x
+          ⊎ ((j : ℕ) × (x ≡ part_of_store counts s up o bytes j))
           → PartOf ls y ⊎ ((j : ℕ) × (y ≡ part_of_store counts s up o bytes j)) → x.step ≡ y.step
           → (see : StorePart → A) → (PartOf ls x → PartOf ls y → see x ≡ see y)
           → ((m n : ℕ) → see (part_of_store counts s up o bytes m) ≡ see (part_of_store counts s up o bytes n))
@@ -496,7 +520,8 @@ module _ (P : Program) where
           k.made y j in absurd (omega arith)
       both x y (inr i) (inr j) e see old fresh = ap see i.1 ∙ fresh i.0 j.0 ∙ sym (ap see j.1)
 
-      all_flushed : (m j : ℕ) (l : Line StorePart) (x : StorePart) (l0 : Line StorePart) → slice_get ls m ≡ Some l0
+      all_flushed : (m j : ℕ) (l : Line StorePart) (x : StorePart) (l0 : Line StorePart)
+          → slice_get ls m ≡ Some l0
           → slice_get l.parts j ≡ Some x → j < l.flushed
           → (l ≡ l0) ⊎ (l ≡ with_part (part_of_store counts s up o bytes (0 + m)) l0)
           → (f : Flush) × (x.first_flush ≡ Some f)
@@ -543,7 +568,8 @@ module _ (P : Program) where
   perform_kept I w f fs ls c e there k (Traps kind) = later (levels_of (f ∷ fs)) ls c.steps k
   perform_kept I w f fs ls c e there k (Assigns to v) = later (levels_of (f ∷ fs)) ls c.steps k
   perform_kept I w f fs ls c e there k (Allocates to a n) = later (levels_of (f ∷ fs)) ls c.steps k
-  perform_kept I w f fs ls c e there k (Stores a bytes) = store I (levels_of (f ∷ fs)) ls c (site_of f) a bytes there k
+  perform_kept I w f fs ls c e there k (Stores a bytes) =
+      store I (levels_of (f ∷ fs)) ls c (site_of f) a bytes there k
   perform_kept I w f fs ls c e there k (Flushes a n) =
       flush I (levels_of (f ∷ fs)) ls c.steps a n (record { step = c.steps; site = site_of f }) refl there k
   perform_kept I w f fs ls c e there k (Persists a n) =
@@ -636,8 +662,11 @@ module _ (P : Program) where
           (λ w2. end_kept I w2 f fs s.lines s.counts e k (end_action P I f (end_at P f)) (end_is I f (end_at P f)))
       by_code f fs e (i ∷ rest) q k =
           cut_kept I s.world f fs s.lines s.counts e _ k
-          (λ w2. perform_kept I w2 f fs s.lines s.counts e
-          (i, instr_at_place f.function f.block f.place ∙ get_drop (body_at P f.function f.block) f.place i rest q) k _)
+          (λ w2. perform_kept I w2 f fs s.lines s.counts e (
+            i,
+            instr_at_place f.function f.block f.place
+                ∙ get_drop (body_at P f.function f.block) f.place i rest q,
+          ) k _)
 
       on_them : (fs : List Frame) → IsKept P (levels_of fs) s.lines s.counts.steps
           → StateKept (on_frames P I s.world s.lines s.counts fs)
@@ -672,7 +701,8 @@ module _ (P : Program) where
     fenced = λ x y i j e. absurd (part_of_fresh _ x i);
     flushed =
         λ m k l x e g lt. let q : slice_get [] k ≡ Some x =
-        sym (ap (λ (ps : List StorePart). slice_get ps k) (line_of_fresh _ m l e)) ∙ g in absurd (let z : ⊥ = cc in z);
+        sym (ap (λ (ps : List StorePart). slice_get ps k) (line_of_fresh _ m l e)) ∙ g in
+        absurd (let z : ⊥ = cc in z);
     site_there = λ x i. absurd (part_of_fresh _ x i);
     flush_there = λ x f i e. absurd (part_of_fresh _ x i);
     call_there = λ x v i j. absurd (part_of_fresh _ x i);

@@ -57,7 +57,8 @@ module _ (test : ℕ → Bool) where
   first_or_later : (a b : ℕ) → a ≤ b → (a ≡ b) ⊎ (a + 1 ≤ b)
   first_or_later a b h = grind arith
 
-  all_there : (a n : ℕ) → list_all test (range_with_len a n) ≡ true → (b : ℕ) → a ≤ b → b < a + n → test b ≡ true
+  all_there : (a n : ℕ) → list_all test (range_with_len a n) ≡ true → (b : ℕ) → a ≤ b → b < a + n
+      → test b ≡ true
   all_there a zero h b le lt = absurd (omega (arith, le, lt))
   all_there a (suc n) h b le lt =
       go (λ low. all_there (a + 1) n (both_true (test a) _ h).1 b low (omega (arith, lt))) (first_or_later a b le)
@@ -66,23 +67,27 @@ module _ (test : ℕ → Bool) where
       go next (inl e) = subst (λ k. test k ≡ true) e (both_true (test a) _ h).0
       go next (inr low) = next low
 
-  there_all : (a n : ℕ) → ((b : ℕ) → a ≤ b → b < a + n → test b ≡ true) → list_all test (range_with_len a n) ≡ true
+  there_all : (a n : ℕ) → ((b : ℕ) → a ≤ b → b < a + n → test b ≡ true)
+      → list_all test (range_with_len a n) ≡ true
   there_all a zero h = refl
   there_all a (suc n) h =
       true_both (h a (omega arith) (omega arith))
       (there_all (a + 1) n (λ b le lt. h b (omega (arith, le)) (omega (arith, lt))))
 
-  some_there : (a n : ℕ) → list_any test (range_with_len a n) ≡ true → (b : ℕ) × (a ≤ b) × (b < a + n) × (test b ≡ true)
+  some_there : (a n : ℕ) → list_any test (range_with_len a n) ≡ true → (b : ℕ) × (a ≤ b) × (b < a + n)
+      × (test b ≡ true)
   some_there a zero h = absurd (let z : ⊥ = cc in z)
   some_there a (suc n) h = go (λ g. some_there (a + 1) n g) (either (test a) _ h)
     where
-      go : (list_any test (range_with_len (a + 1) n) ≡ true → (b : ℕ) × (a + 1 ≤ b) × (b < a + 1 + n) × (test b ≡ true))
+      go : (list_any test (range_with_len (a + 1) n) ≡ true → (b : ℕ) × (a + 1 ≤ b) × (b < a + 1 + n)
+          × (test b ≡ true))
           → (test a ≡ true) ⊎ (list_any test (range_with_len (a + 1) n) ≡ true)
           → (b : ℕ) × (a ≤ b) × (b < a + suc n) × (test b ≡ true)
       go next (inl t) = (a, omega arith, omega arith, t)
       go next (inr t) = let r = next t in (r.0, omega (arith, r.1), omega (arith, r.2), r.3)
 
-  there_some : (a n b : ℕ) → a ≤ b → b < a + n → test b ≡ true → list_any test (range_with_len a n) ≡ true
+  there_some : (a n b : ℕ) → a ≤ b → b < a + n → test b ≡ true
+      → list_any test (range_with_len a n) ≡ true
   there_some a zero b le lt t = absurd (omega (arith, le, lt))
   there_some a (suc n) b le lt t = go (λ low. there_some (a + 1) n b low (omega (arith, lt)) t) (first_or_later a b le)
     where
@@ -123,7 +128,8 @@ module _ (first content : List ℕ) where
       (λ b from to. true_equal _ _ (h.1.bytes b from to)))
 
   lines_of_test : (j : ℕ) (ls : List (Line StorePart)) → are_line_images first content j ls ≡ true
-      → (k : ℕ) (l : Line StorePart) → slice_get ls k ≡ Some l → IsLineImage covers byte_of first content (j + k) l
+      → (k : ℕ) (l : Line StorePart) → slice_get ls k ≡ Some l
+      → IsLineImage covers byte_of first content (j + k) l
   lines_of_test j [] h k l e = absurd (let z : ⊥ = cc in z)
   lines_of_test j (x ∷ ls) h zero l e =
       let same_line : x ≡ l = cc in
@@ -137,7 +143,8 @@ module _ (first content : List ℕ) where
       (lines_of_test (suc j) ls (both_true (is_line_image first content j x) _ h).1 k l e)
 
   test_of_lines : (j : ℕ) (ls : List (Line StorePart))
-      → ((k : ℕ) (l : Line StorePart) → slice_get ls k ≡ Some l → IsLineImage covers byte_of first content (j + k) l)
+      → ((k : ℕ) (l : Line StorePart) → slice_get ls k ≡ Some l
+      → IsLineImage covers byte_of first content (j + k) l)
       → are_line_images first content j ls ≡ true
   test_of_lines j [] h = refl
   test_of_lines j (x ∷ ls) h =
@@ -183,13 +190,15 @@ in_front (suc q) [] x i = i
 in_front (suc q) (y ∷ xs) x (inl e) = inl e
 in_front (suc q) (y ∷ xs) x (inr i) = inr (in_front q xs x i)
 
-line_there : (ls : List (Line StorePart)) (j : ℕ) → j < length ls → (l : Line StorePart) × (slice_get ls j ≡ Some l)
+line_there : (ls : List (Line StorePart)) (j : ℕ) → j < length ls → (l : Line StorePart)
+    × (slice_get ls j ≡ Some l)
 line_there [] j h = absurd (omega (arith, h))
 line_there (l ∷ ls) zero h = (l, refl)
 line_there (l ∷ ls) (suc j) h = line_there ls j (omega (arith, h))
 
 after_below : (xs : List StorePart) (b first : ℕ) → first < 256
-    → ((x : StorePart) → In x xs → covers x b ≡ true → byte_of x b < 256) → byte_after covers byte_of xs b first < 256
+    → ((x : StorePart) → In x xs → covers x b ≡ true → byte_of x b < 256)
+    → byte_after covers byte_of xs b first < 256
 after_below [] b first h parts = h
 after_below (x ∷ xs) b first h parts =
     after_below xs b (cond (covers x b) (byte_of x b) first) (go (covers x b) refl) (λ y i. parts y (inr i))
@@ -206,7 +215,8 @@ module _ (P : Program) (I : Input) (n : ℕ) where
       (o.covered b e).3 ∙ ap (λ bs. slice_index bs (I.base + b - o.addr)) (sym o.written) in
       subst (λ v. v < 256) (sym same) (bytes_of-below (length o.bytes) (little_endian o.bytes) (I.base + b - o.addr))
 
-  image_bytes : (content : List ℕ) → IsValid P I → All (λ b. b < 256) I.image → IsCrashImage I (run P I n) content
+  image_bytes : (content : List ℕ) → IsValid P I → All (λ b. b < 256) I.image
+      → IsCrashImage I (run P I n) content
       → All (λ b. b < 256) content
   image_bytes content v first h = index_below content below
     where

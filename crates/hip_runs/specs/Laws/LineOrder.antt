@@ -25,14 +25,17 @@ use Rattle.std.specs.Cmp.{both_ways}
 -- Line m of a state after n steps.
 pub record IsWell (n m : ℕ) (l : Line StorePart) : Type 0 where
   -- what its parts cover lies in it
-  pub inside : (k : ℕ) (x : StorePart) → slice_get l.parts k ≡ Some x → (b : ℕ) → covers x b ≡ true → b / 64 ≡ m
+  pub inside : (k : ℕ) (x : StorePart) → slice_get l.parts k ≡ Some x → (b : ℕ) → covers x b ≡ true
+      → b / 64 ≡ m
   pub line : (k : ℕ) (x : StorePart) → slice_get l.parts k ≡ Some x → x.offset / 64 ≡ m
   -- its parts are in the order of their stores' steps
   pub made : (k : ℕ) (x : StorePart) → slice_get l.parts k ≡ Some x → x.step < n
-  pub ascend : (j k : ℕ) (x y : StorePart) → slice_get l.parts j ≡ Some x → slice_get l.parts k ≡ Some y → j < k
+  pub ascend : (j k : ℕ) (x y : StorePart) → slice_get l.parts j ≡ Some x → slice_get l.parts k ≡ Some y
+      → j < k
       → x.step < y.step
   -- a part that is not flushed has no first flush
-  pub unflushed : (k : ℕ) (x : StorePart) → slice_get l.parts k ≡ Some x → l.flushed ≤ k → x.first_flush ≡ None
+  pub unflushed : (k : ℕ) (x : StorePart) → slice_get l.parts k ≡ Some x → l.flushed ≤ k
+      → x.first_flush ≡ None
 
 later : (n m : ℕ) (l : Line StorePart) → IsWell n m l → IsWell (suc n) m l
 later n m l h =
@@ -94,8 +97,10 @@ data Place {A : Type 0} (xs : List A) (y : A) (k : ℕ) (x : A) : Type 0 where
   before : k < length xs → slice_get xs k ≡ Some x → Place xs y k x
   last : k ≡ length xs → x ≡ y → Place xs y k x
 
-place : {A : Type 0} (xs : List A) (y : A) (k : ℕ) (x : A) → slice_get (xs ++ y ∷ []) k ≡ Some x → Place xs y k x
-place xs y k x e = go (split k (length xs) (omega (arith, get-below (xs ++ y ∷ []) k x e, length-append xs (y ∷ []))))
+place : {A : Type 0} (xs : List A) (y : A) (k : ℕ) (x : A) → slice_get (xs ++ y ∷ []) k ≡ Some x
+    → Place xs y k x
+place xs y k x e = go (split k (length xs)
+    (omega (arith, get-below (xs ++ y ∷ []) k x e, length-append xs (y ∷ []))))
   where
     split : (j n : ℕ) → j < n + 1 → (j < n) ⊎ (j ≡ n)
     split j n h = grind arith
@@ -103,7 +108,8 @@ place xs y k x e = go (split k (length xs) (omega (arith, get-below (xs ++ y ∷
     go : (k < length xs) ⊎ (k ≡ length xs) → Place xs y k x
     go (inl lt) = before lt (sym (get-append_left xs (y ∷ []) k lt) ∙ e)
     go (inr q) =
-        last q (let g : Some y ≡ Some x = sym (get-append_end xs y) ∙ ap (slice_get (xs ++ y ∷ [])) (sym q) ∙ e in
+        last q (let g : Some y ≡ Some x = sym (get-append_end xs y) ∙ ap (slice_get (xs ++ y ∷ [])) (sym q)
+        ∙ e in
         let z : x ≡ y = cc in z)
 
 -- the new part of a store lies in its line
@@ -120,8 +126,10 @@ part_inside counts site levels o bytes m b h =
     bound : (s e len b : ℕ) → len ≡ e - s → s ≤ b → b < s + len → b < e
     bound s e len b q le lt = omega (arith, q, le, lt)
 
-well_store : (n m : ℕ) (y : StorePart) (l : Line StorePart) → IsOrdered l → ((b : ℕ) → covers y b ≡ true → b / 64 ≡ m)
-    → y.offset / 64 ≡ m → y.step ≡ n → y.first_flush ≡ None → IsWell n m l → IsWell (suc n) m (with_part y l)
+well_store : (n m : ℕ) (y : StorePart) (l : Line StorePart) → IsOrdered l
+    → ((b : ℕ) → covers y b ≡ true → b / 64 ≡ m)
+    → y.offset / 64 ≡ m → y.step ≡ n → y.first_flush ≡ None → IsWell n m l
+    → IsWell (suc n) m (with_part y l)
 well_store n m y l o inside at_line step none h = record {
   inside = λ k x e. in_it k x (place l.parts y k x e);
   line = λ k x e. on_line k x (place l.parts y k x e);
@@ -191,7 +199,8 @@ all_store n counts site levels o bytes ls at ordered h m l e =
     part = part_of_store counts site levels o bytes m
 
     go : (b : Bool) → has_bytes m o (length bytes) ≡ b → (w : Option (Line StorePart))
-        → ((x : Line StorePart) → w ≡ Some x → IsOrdered x) → ((x : Line StorePart) → w ≡ Some x → IsWell n m x) →
+        → ((x : Line StorePart) → w ≡ Some x → IsOrdered x)
+        → ((x : Line StorePart) → w ≡ Some x → IsWell n m x) →
         option_map (λ l. cond b (with_part (part_of_store counts site levels o bytes m) l) l) w ≡ Some l
         → IsWell (suc n) m l
     go b t None p k q = absurd (let z : ⊥ = cc in z)
@@ -225,7 +234,8 @@ empty_well m k l none = record {
   where
     never : (j : ℕ) (x : StorePart) → slice_get l.parts j ≡ Some x → ⊥
     never j x g =
-        let q : slice_get [] j ≡ Some x = sym (ap (λ (ps : List StorePart). slice_get ps j) none) ∙ g in let z : ⊥ =
+        let q : slice_get [] j ≡ Some x = sym (ap (λ (ps : List StorePart). slice_get ps j) none) ∙ g in
+        let z : ⊥ =
         cc in z
 
 pub lines_well : (P : Program) (I : Input) (n : ℕ) → AreWell n (run P I n).lines
@@ -248,11 +258,14 @@ has_order P I n = record {
     which : (a b : ℕ) → (a < b) ⊎ (b ≤ a)
     which a b = grind arith
 
-    by : (m : ℕ) (l : Line StorePart) (k : ℕ) (x : StorePart) (f : Flush) → slice_get (run P I n).lines m ≡ Some l
-        → slice_get l.parts k ≡ Some x → x.first_flush ≡ Some f → (k < l.flushed) ⊎ (l.flushed ≤ k) → k < l.flushed
+    by : (m : ℕ) (l : Line StorePart) (k : ℕ) (x : StorePart) (f : Flush)
+        → slice_get (run P I n).lines m ≡ Some l
+        → slice_get l.parts k ≡ Some x → x.first_flush ≡ Some f → (k < l.flushed) ⊎ (l.flushed ≤ k)
+        → k < l.flushed
     by m l k x f e g q (inl lt) = lt
     by m l k x f e g q (inr le) =
-        absurd (let z : None ≡ Some f = sym ((lines_well P I n m l e).unflushed k x g le) ∙ q in let w : ⊥ = cc in w)
+        absurd (let z : None ≡ Some f = sym ((lines_well P I n m l e).unflushed k x g le) ∙ q in let w : ⊥ = cc in
+        w)
 
 -- ---- the last fence
 

@@ -39,12 +39,14 @@ or_false true b h = absurd (let z : ⊥ = cc in z)
 or_false false b h = (refl, h)
 
 module _ {A : Type 0} (test : A → Bool) where
-  pub none_at : (xs : List A) → list_any test xs ≡ false → (j : ℕ) (y : A) → slice_get xs j ≡ Some y → test y ≡ false
+  pub none_at : (xs : List A) → list_any test xs ≡ false → (j : ℕ) (y : A) → slice_get xs j ≡ Some y
+      → test y ≡ false
   none_at [] h j y e = absurd (let z : ⊥ = cc in z)
   none_at (x ∷ xs) h zero y e = let q : x ≡ y = cc in subst (λ z. test z ≡ false) q (or_false (test x) _ h).0
   none_at (x ∷ xs) h (suc j) y e = none_at xs (or_false (test x) _ h).1 j y e
 
-  pub at_none : (xs : List A) → ((j : ℕ) (y : A) → slice_get xs j ≡ Some y → test y ≡ false) → list_any test xs ≡ false
+  pub at_none : (xs : List A) → ((j : ℕ) (y : A) → slice_get xs j ≡ Some y → test y ≡ false)
+      → list_any test xs ≡ false
   at_none [] h = refl
   at_none (x ∷ xs) h = both (h 0 x refl) (at_none xs (λ j y e. h (suc j) y e))
     where
@@ -72,11 +74,13 @@ module _ {A B : Type 0} (f : A → List B) where
   of_flat (x ∷ xs) y i = go (λ j. of_flat xs y j) (in-append (f x) (flat_map f xs) y i)
     where
       go : (In y (flat_map f xs) → (m : ℕ) × (z : A) × (slice_get xs m ≡ Some z) × In y (f z))
-          → In y (f x) ⊎ In y (flat_map f xs) → (m : ℕ) × (z : A) × (slice_get (x ∷ xs) m ≡ Some z) × In y (f z)
+          → In y (f x) ⊎ In y (flat_map f xs) → (m : ℕ) × (z : A) × (slice_get (x ∷ xs) m ≡ Some z)
+          × In y (f z)
       go next (inl j) = (0, x, refl, j)
       go next (inr j) = let r = next j in (suc r.0, r.1, r.2, r.3)
 
-  pub to_flat : (xs : List A) (y : B) (m : ℕ) (x : A) → slice_get xs m ≡ Some x → In y (f x) → In y (flat_map f xs)
+  pub to_flat : (xs : List A) (y : B) (m : ℕ) (x : A) → slice_get xs m ≡ Some x → In y (f x)
+      → In y (flat_map f xs)
   to_flat [] y m x e i = absurd (let z : ⊥ = cc in z)
   to_flat (z ∷ xs) y zero x e i =
       let q : x ≡ z = cc in append-left (f z) (flat_map f xs) y (subst (λ w. In y (f w)) q i)
@@ -98,7 +102,8 @@ module _ {A : Type 0} (test : A → Bool) where
   all_in (y ∷ xs) h = true_both (h y (inl refl)) (all_in xs (λ x i. h x (inr i)))
 
 -- the first item of what is left behind so many stands at that place
-pub get_drop : {A : Type 0} (xs : List A) (k : ℕ) (x : A) (ys : List A) → drop k xs ≡ x ∷ ys → slice_get xs k ≡ Some x
+pub get_drop : {A : Type 0} (xs : List A) (k : ℕ) (x : A) (ys : List A) → drop k xs ≡ x ∷ ys
+    → slice_get xs k ≡ Some x
 get_drop [] zero x ys e = cc
 get_drop [] (suc k) x ys e = cc
 get_drop (y ∷ xs) zero x ys e = cc

@@ -22,7 +22,8 @@ use Rattle.hip_runs.specs.declared.event.Event.TheVariants as events
 
 -- ---- the lines that an event names are those that a range meets
 
-lines_there : (o n j : ℕ) → 0 < n → has_bytes j (64 * (o / 64)) (64 * ((o + n - 1) / 64 + 1) - 64 * (o / 64)) ≡ true
+lines_there : (o n j : ℕ) → 0 < n → has_bytes j (64 * (o / 64)) (64 * ((o + n - 1) / 64 + 1) - 64 * (o / 64))
+    ≡ true
     → has_bytes j o n ≡ true
 lines_there o n j lt h = grind (arith, nat_tests)
 
@@ -40,7 +41,8 @@ same_lines base o n j lt =
     (let e : base + 64 * (o / 64) - base ≡ 64 * (o / 64) = omega arith in e)
     ∙ both_ways _ _ (lines_there o n j lt) (there_lines o n j lt)
 
-same_changes : {L : Type 0} (f : ℕ → L → L) (o n o' n' : ℕ) → ((j : ℕ) → has_bytes j o n ≡ has_bytes j o' n')
+same_changes : {L : Type 0} (f : ℕ → L → L) (o n o' n' : ℕ)
+    → ((j : ℕ) → has_bytes j o n ≡ has_bytes j o' n')
     → (j : ℕ) (ls : List L) → change_from f o n j ls ≡ change_from f o' n' j ls
 same_changes f o n o' n' h j [] = refl
 same_changes f o n o' n' h j (l ∷ ls) =
@@ -72,7 +74,8 @@ module _ (I : Input) (s : State) (f : Frame) (fs : List Frame) (t : IsTop s f fs
   at_top : (e : Event) (ls : List (Line StorePart))
       → ls ≡ lines_after I e s.counts (Some (site_of f)) (levels_of (f ∷ fs)) s.lines → Next I s e ls
   at_top e ls h =
-      subst (λ (gs : List Frame). ls ≡ lines_after I e s.counts (top_site gs) (levels_of gs) s.lines) (sym t.frames) h
+      subst (λ (gs : List Frame). ls ≡ lines_after I e s.counts (top_site gs) (levels_of gs) s.lines)
+      (sym t.frames) h
 
 next_cases : (I : Input) (s : State) → Cases I s (Next I s)
 next_cases I s = record {
@@ -92,7 +95,8 @@ next_cases I s = record {
 
 -- the next lines follow from the event, the site and the calls of the top frame, and the counts
 pub next_lines : (P : Program) (I : Input) (n : ℕ)
-    → (run P I (suc n)).lines ≡ lines_after I (event P I (run P I n)) (run P I n).counts (top_site (run P I n).frames)
+    → (run P I (suc n)).lines ≡ lines_after I (event P I (run P I n)) (run P I n).counts
+    (top_site (run P I n).frames)
     (levels_of (run P I n).frames) (run P I n).lines
 unfolding run
 next_lines P I n = step-cases P I (run P I n) (Next I (run P I n)) (next_cases I (run P I n))
@@ -152,11 +156,13 @@ step_counts P I s = go s.world.ending
     go None = on_them s.frames
 
 -- a run that has ended stays as it is
-pub rests-ended : (P : Program) (I : Input) (n : ℕ) → has_ended (run P I n) ≡ true → run P I (suc n) ≡ run P I n
+pub rests-ended : (P : Program) (I : Input) (n : ℕ) → has_ended (run P I n) ≡ true
+    → run P I (suc n) ≡ run P I n
 unfolding run step on_ending
 rests-ended P I n h = go (run P I n).world.ending refl h
   where
-    go : (o : Option Ending) → (run P I n).world.ending ≡ o → is_some o ≡ true → step P I (run P I n) ≡ run P I n
+    go : (o : Option Ending) → (run P I n).world.ending ≡ o → is_some o ≡ true
+        → step P I (run P I n) ≡ run P I n
     go None q e = absurd (let z : ⊥ = cc in z)
     go (Some x) q e = ap (on_ending P I (run P I n)) q
 
@@ -203,7 +209,8 @@ module _ (P : Program) (I : Input) (entry : ℕ) where
   entries n = (run P I n).counts.entries
 
   -- below a number of steps either some state is the first with so many entries, or all have fewer
-  search_below : (n : ℕ) → ((k : ℕ) × (k < n) × IsAtEntry P I entry k) ⊎ ((k : ℕ) → k < n → entries k < entry)
+  search_below : (n : ℕ) → ((k : ℕ) × (k < n) × IsAtEntry P I entry k)
+      ⊎ ((k : ℕ) → k < n → entries k < entry)
   search_below zero = inr (λ k lt. absurd (omega (arith, lt)))
   search_below (suc n) = go (search_below n) (split entry (entries n))
     where

@@ -92,7 +92,8 @@ module _ (P : Program) (I : Input) (n j from k : ℕ) where
   abbrev Now_too : Event
   Now_too = event P I (run P I n)
 
-  seen_same : (fl du : ℕ) → fences Now_too ≡ false → flushes I.base j Now_too ≡ false → IsSeen P I n j from k fl du
+  seen_same : (fl du : ℕ) → fences Now_too ≡ false → flushes I.base j Now_too ≡ false
+      → IsSeen P I n j from k fl du
       → IsSeen P I (suc n) j from k fl du
   seen_same fl du q r h = record {
     made = omega (arith, h.made);
@@ -112,7 +113,8 @@ module _ (P : Program) (I : Input) (n j from k : ℕ) where
     by_fence = λ s. h.by_fence (both_before P I n j from q s);
   }
 
-  seen_fence : (fl du : ℕ) → fences Now_too ≡ true → flushes I.base j Now_too ≡ false → IsSeen P I n j from k fl du
+  seen_fence : (fl du : ℕ) → fences Now_too ≡ true → flushes I.base j Now_too ≡ false
+      → IsSeen P I n j from k fl du
       → IsSeen P I (suc n) j from k fl fl
   seen_fence fl du q r h = record {
     made = omega (arith, h.made);
@@ -173,7 +175,8 @@ get_more (z ∷ xs) y x (suc k) e = go (get_more xs y x k e)
 
 module _ (P : Program) (I : Input) (n j : ℕ) where
   abbrev InSeen : ℕ → Line StorePart → Type 0
-  InSeen m l = (k : ℕ) (x : StorePart) → slice_get l.parts k ≡ Some x → IsSeen P I m j x.step k l.flushed l.durable
+  InSeen m l = (k : ℕ) (x : StorePart) → slice_get l.parts k ≡ Some x
+      → IsSeen P I m j x.step k l.flushed l.durable
 
   abbrev AllSeen : ℕ → Option (Line StorePart) → Type 0
   AllSeen m None = Unit {0}
@@ -182,11 +185,13 @@ module _ (P : Program) (I : Input) (n j : ℕ) where
   abbrev Now_there : Event
   Now_there = event P I (run P I n)
 
-  line_same : fences Now_there ≡ false → flushes I.base j Now_there ≡ false → (l : Line StorePart) → InSeen n l
+  line_same : fences Now_there ≡ false → flushes I.base j Now_there ≡ false → (l : Line StorePart)
+      → InSeen n l
       → InSeen (suc n) l
   line_same q r l h k x e = seen_same P I n j x.step k l.flushed l.durable q r (h k x e)
 
-  line_flush : (flush : Flush) → fences Now_there ≡ false → flushes I.base j Now_there ≡ true → (l : Line StorePart)
+  line_flush : (flush : Flush) → fences Now_there ≡ false → flushes I.base j Now_there ≡ true
+      → (l : Line StorePart)
       → InSeen n l → InSeen (suc n) (flush_line flush l)
   line_flush flush q r l h k y e =
       let b = get-of_map (noted_flush flush) l.parts k y e in
@@ -194,14 +199,16 @@ module _ (P : Program) (I : Input) (n j : ℕ) where
       (seen_flush P I n j b.0.step k l.flushed l.durable (length (map (noted_flush flush) l.parts))
       (get_below (map (noted_flush flush) l.parts) k y e) q r (h k b.0 b.1))
 
-  line_fence : fences Now_there ≡ true → flushes I.base j Now_there ≡ false → (l : Line StorePart) → InSeen n l
+  line_fence : fences Now_there ≡ true → flushes I.base j Now_there ≡ false → (l : Line StorePart)
+      → InSeen n l
       → InSeen (suc n) (fence_line l)
   line_fence q r l h k y e =
       let b = get-of_map noted_fence l.parts k y e in
       subst (λ (z : StorePart). IsSeen P I (suc n) j z.step k l.flushed l.flushed) b.2
       (seen_fence P I n j b.0.step k l.flushed l.durable q r (h k b.0 b.1))
 
-  line_persist : (flush : Flush) → fences Now_there ≡ true → flushes I.base j Now_there ≡ true → (l : Line StorePart)
+  line_persist : (flush : Flush) → fences Now_there ≡ true → flushes I.base j Now_there ≡ true
+      → (l : Line StorePart)
       → InSeen n l → InSeen (suc n) (fence_line (flush_line flush l))
   line_persist flush q r l h k z e =
       let c = get-of_map noted_fence (map (noted_flush flush) l.parts) k z e in
@@ -211,7 +218,8 @@ module _ (P : Program) (I : Input) (n j : ℕ) where
       (seen_persist P I n j b.0.step k l.flushed l.durable count
       (get_below (map (noted_flush flush) l.parts) k c.0 c.1) q r (h k b.0 b.1))
 
-  line_store : (part : StorePart) → part.step ≡ n → fences Now_there ≡ false → flushes I.base j Now_there ≡ false
+  line_store : (part : StorePart) → part.step ≡ n → fences Now_there ≡ false
+      → flushes I.base j Now_there ≡ false
       → (l : Line StorePart) → IsOrdered l → InSeen n l → InSeen (suc n) (with_part part l)
   line_store part at q r l o h k x e = go (get_more l.parts part x k e)
     where
@@ -222,7 +230,8 @@ module _ (P : Program) (I : Input) (n j : ℕ) where
           seen_new P I n j x.step k l.flushed l.durable (ap (λ (y : StorePart). y.step) g.1 ∙ at)
           (omega (arith, o.flushed, g.0)) (omega (arith, o.durable, o.flushed, g.0))
 
-  all_same : fences Now_there ≡ false → flushes I.base j Now_there ≡ false → (o : Option (Line StorePart)) → AllSeen n o
+  all_same : fences Now_there ≡ false → flushes I.base j Now_there ≡ false → (o : Option (Line StorePart))
+      → AllSeen n o
       → AllSeen (suc n) o
   all_same q r None h = h
   all_same q r (Some l) h = line_same q r l h
@@ -234,7 +243,8 @@ module _ (P : Program) (I : Input) (n j : ℕ) where
   all_flush flush q true r (Some l) h = line_flush flush q r l h
   all_flush flush q false r (Some l) h = line_same q r l h
 
-  all_fence : fences Now_there ≡ true → flushes I.base j Now_there ≡ false → (o : Option (Line StorePart)) → AllSeen n o
+  all_fence : fences Now_there ≡ true → flushes I.base j Now_there ≡ false → (o : Option (Line StorePart))
+      → AllSeen n o
       → AllSeen (suc n) (option_map fence_line o)
   all_fence q r None h = h
   all_fence q r (Some l) h = line_fence q r l h
@@ -246,8 +256,10 @@ module _ (P : Program) (I : Input) (n j : ℕ) where
   all_persist flush q true r (Some l) h = line_persist flush q r l h
   all_persist flush q false r (Some l) h = line_fence q r l h
 
-  all_store : (part : StorePart) → part.step ≡ n → fences Now_there ≡ false → flushes I.base j Now_there ≡ false
-      → (b : Bool) (o : Option (Line StorePart)) → ((l : Line StorePart) → o ≡ Some l → IsOrdered l) → AllSeen n o
+  all_store : (part : StorePart) → part.step ≡ n → fences Now_there ≡ false
+      → flushes I.base j Now_there ≡ false
+      → (b : Bool) (o : Option (Line StorePart)) → ((l : Line StorePart) → o ≡ Some l → IsOrdered l)
+      → AllSeen n o
       → AllSeen (suc n) (option_map (λ l. cond b (with_part part l) l) o)
   all_store part at q r b None a h = h
   all_store part at q r true (Some l) a h = line_store part at q r l (a l refl) h
@@ -280,7 +292,8 @@ module _ (P : Program) (I : Input) (n : ℕ) where
     persist = λ f fs t a m e q j.
         subst (AllSeen P I n j (suc n)) (sym (get_mapped fence_line _ j
         ∙ ap (option_map fence_line) (slice_get-change_range _ (a - I.base) m (run P I n).lines j)))
-        (all_persist P I n j _ (ap fences q) (has_bytes j (a - I.base) m) (ap (flushes I.base j) q ∙ line_met I a m j e)
+        (all_persist P I n j _ (ap fences q) (has_bytes j (a - I.base) m)
+        (ap (flushes I.base j) q ∙ line_met I a m j e)
         (slice_get (run P I n).lines j) (seen j));
     fence = λ q j.
         subst (AllSeen P I n j (suc n)) (sym (get_mapped fence_line (run P I n).lines j))

@@ -26,7 +26,8 @@ record IsKept (before after : World) : Type 0 where
   going : after.ending ≡ None
 
 -- then the event prints nothing and is no end
-nothing : {before after : World} → IsKept before after → (e : Event) → printed_by e ≡ [] → ending_by e ≡ None
+nothing : {before after : World} → IsKept before after → (e : Event) → printed_by e ≡ []
+    → ending_by e ≡ None
     → IsTold before after e
 nothing {before} {after} kept e p q = record {
   output = kept.output ∙ sym (append-nil before.output) ∙ ap (λ text. before.output ++ text) (sym p);
@@ -104,7 +105,8 @@ step_told P I s = go s.world.ending refl
     on_them [] e = nothing (record { output = refl; going = e }) events.Quiet refl refl
     on_them (f ∷ fs) e = carry_told I s.world e f fs s.lines s.counts _ (deed_at P I s.world f fs)
 
-    go : (o : Option Ending) → s.world.ending ≡ o → IsTold s.world (on_ending P I s o).world (event_on_ending P I s o)
+    go : (o : Option Ending) → s.world.ending ≡ o
+        → IsTold s.world (on_ending P I s o).world (event_on_ending P I s o)
     go (Some e) q = record { output = sym (append-nil s.world.output); ending = q }
     go None q = on_them s.frames q
 

@@ -6,7 +6,8 @@ use Rattle.hip_runs.specs.StoredParts.Parts.{In, PartOf}
 use Rattle.hip_runs.specs.StoredParts.Persistence.{noted_flush, noted_fence, flush_line, flushes_lines, flushed_lines, fenced_lines}
 use Rattle.hip_runs.specs.State.{Flush, StorePart}
 
-pub in-map : {A B : Type 0} (f : A → B) (xs : List A) (y : B) → In y (map f xs) → (x : A) × In x xs × (y ≡ f x)
+pub in-map : {A B : Type 0} (f : A → B) (xs : List A) (y : B) → In y (map f xs) → (x : A) × In x xs
+    × (y ≡ f x)
 in-map f [] y i = absurd i
 in-map f (x ∷ xs) y (inl e) = (x, inl refl, e)
 in-map f (x ∷ xs) y (inr i) = let r = in-map f xs y i in (r.0, inr r.1, r.2)
@@ -71,7 +72,8 @@ part-stored_from part o n j (l ∷ ls) y (inl i) = here (has_bytes j o n) i
     last (inr (inl e)) = inr (j, e)
     last (inr (inr k)) = absurd k
 
-    here : (b : Bool) → In y (cond b (with_part (part j) l) l).parts → PartOf (l ∷ ls) y ⊎ ((k : ℕ) × (y ≡ part k))
+    here : (b : Bool) → In y (cond b (with_part (part j) l) l).parts → PartOf (l ∷ ls) y
+        ⊎ ((k : ℕ) × (y ≡ part k))
     here true i = last (in-append l.parts (part j ∷ []) y i)
     here false i = inl (inl i)
 part-stored_from part o n j (l ∷ ls) y (inr i) = go (part-stored_from part o n (suc j) ls y i)

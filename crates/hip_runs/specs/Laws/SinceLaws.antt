@@ -42,7 +42,8 @@ module _ (P : Program) (I : Input) (n : ℕ) where
           let b : false ≡ true = sym q ∙ h in let z : ⊥ = cc in z)
 
   module _ (j from : ℕ) where
-    unflushed_more : flushes I.base j Now ≡ false → NotFlushedSince P I j from n → NotFlushedSince P I j from (suc n)
+    unflushed_more : flushes I.base j Now ≡ false → NotFlushedSince P I j from n
+        → NotFlushedSince P I j from (suc n)
     unflushed_more q h m after before = go (below m n before)
       where
         go : (m < n) ⊎ (m ≡ n) → flushes I.base j (event P I (run P I m)) ≡ false
@@ -160,7 +161,8 @@ get_mapped f [] (suc k) = refl
 get_mapped f (x ∷ xs) zero = refl
 get_mapped f (x ∷ xs) (suc k) = get_mapped f xs k
 
-pub line_of_part : (ls : List (Line StorePart)) (x : StorePart) → PartOf ls x → (j : ℕ) × InLine (slice_get ls j) x
+pub line_of_part : (ls : List (Line StorePart)) (x : StorePart) → PartOf ls x → (j : ℕ)
+    × InLine (slice_get ls j) x
 line_of_part [] x i = absurd i
 line_of_part (l ∷ ls) x (inl i) = (0, i)
 line_of_part (l ∷ ls) x (inr i) = let r = line_of_part ls x i in (suc r.0, r.1)
@@ -176,7 +178,8 @@ of_fenced ls j y i = go (slice_get ls j) (subst (λ o. InLine o y) (get_mapped f
 
 pub of_flushed : (I : Input) (flush : Flush) (a n : ℕ) (ls : List (Line StorePart)) (j : ℕ) (y : StorePart)
     → InLine (slice_get (met_lines I flush a n ls) j) y
-    → (x : StorePart) × InLine (slice_get ls j) x × (y ≡ cond (has_bytes j (a - I.base) n) (noted_flush flush x) x)
+    → (x : StorePart) × InLine (slice_get ls j) x
+    × (y ≡ cond (has_bytes j (a - I.base) n) (noted_flush flush x) x)
 of_flushed I flush a n ls j y i =
     go (has_bytes j (a - I.base) n) (slice_get ls j)
     (subst (λ o. InLine o y) (slice_get-change_range (λ _ l. flush_line flush l) (a - I.base) n ls j) i)
@@ -274,7 +277,8 @@ module _ (P : Program) (I : Input) (n : ℕ) where
         λ e p q j x i. told_same P I n j (ap fences q ∙ plain_fences e p)
         (ap (flushes I.base j) q ∙ plain_flushes I.base j e p) x (told j x i);
     store =
-        λ f fs t a bytes e w q j x i. by_store f fs t a bytes e q j x (of_stored _ (a - I.base) (length bytes) _ j x i);
+        λ f fs t a bytes e w q j x i. by_store f fs t a bytes e q j x
+        (of_stored _ (a - I.base) (length bytes) _ j x i);
     flush =
         λ f fs t a m e q j y i. let r = of_flushed I _ a m _ j y i in
         subst (IsTold P I (suc n) j) (sym r.2) (by_flush f fs t a m j r.0 q (has_bytes j (a - I.base) m)
@@ -291,7 +295,8 @@ module _ (P : Program) (I : Input) (n : ℕ) where
     where
       by_store : (f : Frame) (fs : List Frame) → IsTop (run P I n) f fs → (a : ℕ) (bytes : List ℕ)
           → in_region I a (length bytes) ≡ true →
-          {value : ℕ} → event P I (run P I n) ≡ events.Store a value (length bytes) → (j : ℕ) (x : StorePart) →
+          {value : ℕ} → event P I (run P I n) ≡ events.Store a value (length bytes)
+          → (j : ℕ) (x : StorePart) →
           InLine (slice_get (run P I n).lines j) x
           ⊎ ((has_bytes j (a - I.base) (length bytes) ≡ true)
           × (x ≡ part_of_store (run P I n).counts (site_of f) (levels_of (f ∷ fs)) (a - I.base) bytes j))
@@ -344,7 +349,8 @@ part_told P I n x i =
     run_told P I n r.0 x r.1 in subst (λ j. IsTold P I n j x) (sym t.line) t
 
 -- a part tells that a fence met it, if one did, and only then
-pub fence_told : (P : Program) (I : Input) (n : ℕ) (x : StorePart) → PartOf (run P I n).lines x → x.fenced ≡ true
+pub fence_told : (P : Program) (I : Input) (n : ℕ) (x : StorePart) → PartOf (run P I n).lines x
+    → x.fenced ≡ true
     → FencedSince P I x.step n
 fence_told P I n x i e = (part_told P I n x i).fenced e
 
@@ -368,8 +374,10 @@ same_flush : (f g : Flush) → f.step ≡ g.step → f.site ≡ g.site → f ≡
 same_flush f g p q = ap₂ (λ (n : ℕ) (s : Site). record { step = n; site = s }) p q
 
 module _ (P : Program) (I : Input) (j from n : ℕ) where
-  never : (flush : Flush) → IsFirst P I j from n flush → (m : ℕ) → flush.step < m → NotFlushedSince P I j from m → ⊥
-  never flush h m lt none = let b : true ≡ false = sym h.flushed ∙ none flush.step h.after lt in let z : ⊥ = cc in z
+  never : (flush : Flush) → IsFirst P I j from n flush → (m : ℕ) → flush.step < m
+      → NotFlushedSince P I j from m → ⊥
+  never flush h m lt none = let b : true ≡ false = sym h.flushed ∙ none flush.step h.after lt in let z : ⊥ = cc in
+      z
 
   pub one_first : (o o' : Option Flush) → IsFirstFlush P I j from n o → IsFirstFlush P I j from n o' → o ≡ o'
   one_first None None h k = refl

@@ -63,7 +63,8 @@ module _ (P : Program) (I : Input) (n : ℕ) where
       either false b (inl e) = absurd (let z : ⊥ = cc in z)
       either false b (inr e) = e.0
 
-      alone : (m : ℕ) (l : Line StorePart) (k : ℕ) (x : StorePart) (f : Flush) → slice_get (run P I n).lines m ≡ Some l
+      alone : (m : ℕ) (l : Line StorePart) (k : ℕ) (x : StorePart) (f : Flush)
+          → slice_get (run P I n).lines m ≡ Some l
           → slice_get l.parts k ≡ Some x → l.durable ≤ k → IsFirst P I (x.offset / 64) x.step n f →
           (is_flush_call (instr_of P f.site) ≡ true)
           ⊎ ((is_persist_call (instr_of P f.site) ≡ true) × (fences (event P I (run P I f.step)) ≡ true))
@@ -71,7 +72,8 @@ module _ (P : Program) (I : Input) (n : ℕ) where
       alone m l k x f q g le h (inl e) = e
       alone m l k x f q g le h (inr e) =
           let line : x.offset / 64 ≡ m = (lines_well P I n m l q).line k x g in
-          let at : slice_get (run P I n).lines (x.offset / 64) ≡ Some l = ap (slice_get (run P I n).lines) line ∙ q in
+          let at : slice_get (run P I n).lines (x.offset / 64) ≡ Some l = ap (slice_get (run P I n).lines) line
+          ∙ q in
           let d =
           told_durable P I n (x.offset / 64) k x (subst (λ o. IsPartIn o k x) (sym at) g)
           (record {

@@ -159,14 +159,16 @@ record IsCounted (s : State) (n : ℕ) : Type 0 where
   stands : has_frame s.frames ≡ true
   steps : s.world.ending ≡ None → s.counts.steps ≡ n
 
-leave_counted : (v : ℕ) (w : World) (f : Frame) (fs : List Frame) (ls : List (Line StorePart)) (after : Counts) (n : ℕ)
+leave_counted : (v : ℕ) (w : World) (f : Frame) (fs : List Frame) (ls : List (Line StorePart)) (after : Counts)
+    (n : ℕ)
     → after.steps ≡ n → IsCounted (leave v w f fs ls after) n
 unfolding leave
 leave_counted v w f [] ls after n q = record { stands = refl; steps = λ g. q }
 leave_counted v w f (g ∷ fs) ls after n q = record { stands = refl; steps = λ g. q }
 
 perform_counted : (I : Input) (w : World) (f : Frame) (fs : List Frame) (ls : List (Line StorePart))
-    (before after : Counts) (n : ℕ) → after.steps ≡ n → (x : Action) → IsCounted (perform I w f fs ls before after x) n
+    (before after : Counts) (n : ℕ) → after.steps ≡ n → (x : Action)
+    → IsCounted (perform I w f fs ls before after x) n
 unfolding perform
 perform_counted I w f fs ls before after n q (Traps kind) = record { stands = refl; steps = λ g. q }
 perform_counted I w f fs ls before after n q (Assigns to v) = record { stands = refl; steps = λ g. q }
@@ -183,7 +185,8 @@ perform_counted I w f fs ls before after n q (Jumps b rs) = record { stands = re
 perform_counted I w f fs ls before after n q (Returns v) = leave_counted v w f fs ls after n q
 
 carry_counted : (I : Input) (w : World) (f : Frame) (fs : List Frame) (ls : List (Line StorePart))
-    (before after : Counts) (n : ℕ) → after.steps ≡ n → (d : Deed) → IsCounted (carry_out I w f fs ls before after d) n
+    (before after : Counts) (n : ℕ) → after.steps ≡ n → (d : Deed)
+    → IsCounted (carry_out I w f fs ls before after d) n
 unfolding carry_out
 carry_counted I w f fs ls before after n q d = go (is_cut I w d)
   where
@@ -205,7 +208,11 @@ step_counted P I s n c = go s.world.ending refl
 
     go : (o : Option Ending) → s.world.ending ≡ o → IsCounted (on_ending P I s o) (suc n)
     go (Some e) q =
-        record { stands = c.stands; steps = λ g. absurd (let h : Some e ≡ None = sym q ∙ g in let z : ⊥ = cc in z) }
+        record {
+          stands = c.stands;
+          steps = λ g.
+              absurd (let h : Some e ≡ None = sym q ∙ g in let z : ⊥ = cc in z);
+        }
     go None q = on_them s.frames refl q
 
 run_counted : (P : Program) (I : Input) (n : ℕ) → IsCounted (run P I n) n
@@ -214,7 +221,8 @@ run_counted P I zero = record { stands = refl; steps = λ g. refl }
 run_counted P I (suc n) = step_counted P I (run P I n) n (run_counted P I n)
 
 -- while a run goes on, it counts its steps
-pub counted-steps : (P : Program) (I : Input) (n : ℕ) → (run P I n).world.ending ≡ None → (run P I n).counts.steps ≡ n
+pub counted-steps : (P : Program) (I : Input) (n : ℕ) → (run P I n).world.ending ≡ None
+    → (run P I n).counts.steps ≡ n
 counted-steps P I n g = (run_counted P I n).steps g
 
 -- a frame stands in each state of a run

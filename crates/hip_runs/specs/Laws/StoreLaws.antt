@@ -32,7 +32,8 @@ index_drop (suc n) [] i = refl
 index_drop (suc n) (x ∷ xs) i =
     index_drop n xs i ∙ (let e : suc (n + i) ≡ suc n + i = omega arith in ap (slice_index (x ∷ xs)) e)
 
-covered : (first size b : ℕ) → nat_le first b && nat_lt b (first + size) ≡ true → (first ≤ b) × (b < first + size)
+covered : (first size b : ℕ) → nat_le first b && nat_lt b (first + size) ≡ true → (first ≤ b)
+    × (b < first + size)
 covered first size b h = (grind (arith, nat_tests), grind (arith, nat_tests))
 
 cover : (first size b : ℕ) → first ≤ b → b < first + size → nat_le first b && nat_lt b (first + size) ≡ true
@@ -87,7 +88,8 @@ module _ (o : ℕ) (bytes : List ℕ) (j : ℕ) where
       ∙ ap (slice_index bytes) (sums b h)
 
   -- a byte of the store that lies in the line is one that the part covers
-  line_byte : (b : ℕ) → o ≤ b → b < o + length bytes → b / 64 ≡ j → (start_in j o ≤ b) × (b < end_in j o (length bytes))
+  line_byte : (b : ℕ) → o ≤ b → b < o + length bytes → b / 64 ≡ j → (start_in j o ≤ b)
+      × (b < end_in j o (length bytes))
   line_byte b h k e = inside (length bytes) b h k e
     where
       inside : (n b : ℕ) → o ≤ b → b < o + n → b / 64 ≡ j → (start_in j o ≤ b) × (b < end_in j o n)
@@ -149,7 +151,8 @@ module _ (P : Program) (I : Input) where
           written = w;
           site = subst (λ i. top_site (run P I i).frames ≡ Some (site_of f)) (sym steps) (ap top_site t.frames);
           levels =
-              subst (λ i. levels_of (f ∷ fs) ≡ levels_of (run P I i).frames) (sym steps) (sym (ap levels_of t.frames));
+              subst (λ i. levels_of (f ∷ fs) ≡ levels_of (run P I i).frames) (sym steps)
+              (sym (ap levels_of t.frames));
           entry = subst (λ i. (run P I n).counts.entries + 1 ≡ (run P I i).counts.entries + 1) (sym steps) refl;
           covered = λ b h.
               let r = held (a - I.base) bytes j b h in
@@ -161,7 +164,8 @@ module _ (P : Program) (I : Input) where
                     ∙ (let e : b - (a - I.base) ≡ I.base + b - a = omega (arith, low) in ap (slice_index bytes) e),
               );
           whole = λ b from to e.
-              let r = line_byte (a - I.base) bytes j b (omega (arith, low, from)) (omega (arith, low, to)) (e ∙ line) in
+              let r = line_byte (a - I.base) bytes j b (omega (arith, low, from)) (omega (arith, low, to))
+              (e ∙ line) in
               holds_byte (a - I.base) bytes j b r.0 r.1;
         }
 
@@ -185,9 +189,11 @@ module _ (P : Program) (I : Input) where
       fence = λ q j y i. let r = of_fenced _ j y i in subst (IsOfStore P I) (sym r.2) (of_fence r.0 (old j r.0 r.1));
     }
       where
-        by_store : (f : Frame) (fs : List Frame) → IsTop (run P I n) f fs → (a : ℕ) (bytes : List ℕ) → I.base ≤ a
+        by_store : (f : Frame) (fs : List Frame) → IsTop (run P I n) f fs → (a : ℕ) (bytes : List ℕ)
+            → I.base ≤ a
             → bytes_of (length bytes) (little_endian bytes) ≡ bytes
-            → event P I (run P I n) ≡ events.Store a (little_endian bytes) (length bytes) → (j : ℕ) (x : StorePart) →
+            → event P I (run P I n) ≡ events.Store a (little_endian bytes) (length bytes)
+            → (j : ℕ) (x : StorePart) →
             InLine (slice_get (run P I n).lines j) x
             ⊎ ((has_bytes j (a - I.base) (length bytes) ≡ true)
             × (x ≡ part_of_store (run P I n).counts (site_of f) (levels_of (f ∷ fs)) (a - I.base) bytes j))

@@ -26,12 +26,15 @@ pub record IsParted (standing levels : List Level) : Type 0 where
 pub record HasHistory (P : Program) (s : State) : Type 0 where
   -- a part was made by an earlier step, and first flushed by a later one
   pub made : (x : StorePart) → PartOf s.lines x → x.step < s.counts.steps
-  pub flush_made : (x : StorePart) (f : Flush) → PartOf s.lines x → x.first_flush ≡ Some f → f.step < s.counts.steps
+  pub flush_made : (x : StorePart) (f : Flush) → PartOf s.lines x → x.first_flush ≡ Some f
+      → f.step < s.counts.steps
   -- the parts of one store have one history of fences
   pub site : (x y : StorePart) → PartOf s.lines x → PartOf s.lines y → x.step ≡ y.step → x.site ≡ y.site
-  pub levels : (x y : StorePart) → PartOf s.lines x → PartOf s.lines y → x.step ≡ y.step → x.levels ≡ y.levels
+  pub levels : (x y : StorePart) → PartOf s.lines x → PartOf s.lines y → x.step ≡ y.step
+      → x.levels ≡ y.levels
   pub entry : (x y : StorePart) → PartOf s.lines x → PartOf s.lines y → x.step ≡ y.step → x.entry ≡ y.entry
-  pub fenced : (x y : StorePart) → PartOf s.lines x → PartOf s.lines y → x.step ≡ y.step → x.fenced ≡ y.fenced
+  pub fenced : (x y : StorePart) → PartOf s.lines x → PartOf s.lines y → x.step ≡ y.step
+      → x.fenced ≡ y.fenced
   -- a part that is flushed has a first flush
   pub flushed : (m k : ℕ) (l : Line StorePart) (x : StorePart) → slice_get s.lines m ≡ Some l →
       slice_get l.parts k ≡ Some x → k < l.flushed → (f : Flush) × (x.first_flush ≡ Some f)

@@ -23,7 +23,8 @@ pub record HasOrder (s : State) : Type 0 where
   pub by_flush : (m : ℕ) (l : Line StorePart) (k : ℕ) (x : StorePart) (f : Flush) →
       slice_get s.lines m ≡ Some l → slice_get l.parts k ≡ Some x → x.first_flush ≡ Some f → k < l.flushed
   pub inside : (m : ℕ) (l : Line StorePart) (k : ℕ) (x : StorePart) →
-      slice_get s.lines m ≡ Some l → slice_get l.parts k ≡ Some x → (b : ℕ) → covers x b ≡ true → b / LINE_SIZE ≡ m
+      slice_get s.lines m ≡ Some l → slice_get l.parts k ≡ Some x → (b : ℕ) → covers x b ≡ true
+      → b / LINE_SIZE ≡ m
 
 -- The calls that stand were made one after another, and so were those of each part, before its store.
 pub record HasCalls (s : State) : Type 0 where

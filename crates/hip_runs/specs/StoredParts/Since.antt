@@ -104,5 +104,6 @@ pub record IsOfStore (P : Program) (I : Input) (x : StorePart) : Type 0 where
   pub entry : x.entry ≡ (run P I x.step).counts.entries + 1
   pub covered : (b : ℕ) → covers x b ≡ true → (addr ≤ I.base + b) × (I.base + b < addr + length bytes)
       × (b / LINE_SIZE ≡ x.offset / LINE_SIZE) × (byte_of x b ≡ slice_index bytes (I.base + b - addr))
-  pub whole : (b : ℕ) → addr ≤ I.base + b → I.base + b < addr + length bytes → b / LINE_SIZE ≡ x.offset / LINE_SIZE →
+  pub whole : (b : ℕ) → addr ≤ I.base + b → I.base + b < addr + length bytes
+      → b / LINE_SIZE ≡ x.offset / LINE_SIZE →
       covers x b ≡ true

@@ -257,14 +257,16 @@ module _ {P : Program} {I : Input} {old : Contents} (p : Point) (h : HoldsAt P I
   assert_is a n b e = ap (λ t. cond t (Asserts a n) (Traps traps.Address)) (sym (region_is h a n) ∙ e)
 
   pub assert_refused : {new : Contents} (a n : ℕ) → lies_in_region old a n ≡ false → new ≡ old
-      → HasDone P I p new (events.End (Trap traps.Address)) (cond (in_region I a n) (Asserts a n) (Traps traps.Address))
+      → HasDone P I p new (events.End (Trap traps.Address))
+      (cond (in_region I a n) (Asserts a n) (Traps traps.Address))
       (Traps traps.Address)
   assert_refused a n outside same = traps_done traps.Address (assert_is a n false outside) same
 
   -- ---- what is done
 
   pub assert_done : {new : Contents} (a n : ℕ) → lies_in_region old a n ≡ true → new ≡ old
-      → HasDone P I p new (events.Assert a n) (cond (in_region I a n) (Asserts a n) (Traps traps.Address)) (Asserts a n)
+      → HasDone P I p new (events.Assert a n) (cond (in_region I a n) (Asserts a n) (Traps traps.Address))
+      (Asserts a n)
   unfolding perform
   assert_done a n inside same = record { is = assert_is a n true inside; holds = kept_by same; seen = refl }
 

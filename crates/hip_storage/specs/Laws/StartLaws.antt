@@ -24,7 +24,8 @@ length-none_pending_all (suc n) = ap suc (length-none_pending_all n)
 
 -- the contents before the first step of a run are those of its start
 pub starts : (P : Program) (I : Input) → IsSound P → IsValid P I
-    → volatile_start + length (volatile_bytes P I.base) ≡ volatile_end P → HoldsState P I (initial P I) (start P I)
+    → volatile_start + length (volatile_bytes P I.base) ≡ volatile_end P
+    → HoldsState P I (initial P I) (start P I)
 starts P I s v e = record {
   volatile = e;
   memory = record {

@@ -13,7 +13,8 @@ module _ (p : ℕ → Bool) where
   Splits : List ℕ → Type 0
   Splits xs = slice_split p xs ≡ take (before xs) xs ∷ slice_split p (drop (suc (before xs)) xs)
 
-  first_by : (x : ℕ) (xs : List ℕ) (b : Bool) → p x ≡ b → (before xs < length xs → Splits xs) → before (x ∷ xs) < length (x ∷ xs) → Splits (x ∷ xs)
+  first_by : (x : ℕ) (xs : List ℕ) (b : Bool) → p x ≡ b → (before xs < length xs → Splits xs)
+      → before (x ∷ xs) < length (x ∷ xs) → Splits (x ∷ xs)
   unfolding before Splits
   first_by x xs true e ih lt = rw e refl
   first_by x xs false e ih lt =
@@ -28,7 +29,9 @@ module _ (p : ℕ → Bool) where
   first_part_is [] lt = absurd (omega arith)
   first_part_is (x ∷ xs) lt = first_by x xs (p x) refl (first_part_is xs) lt
 
-  only_by : (x : ℕ) (xs : List ℕ) (b : Bool) → p x ≡ b → (length xs ≤ before xs → slice_split p xs ≡ xs ∷ []) → length (x ∷ xs) ≤ before (x ∷ xs) → slice_split p (x ∷ xs) ≡ (x ∷ xs) ∷ []
+  only_by : (x : ℕ) (xs : List ℕ) (b : Bool) → p x ≡ b
+      → (length xs ≤ before xs → slice_split p xs ≡ xs ∷ []) → length (x ∷ xs) ≤ before (x ∷ xs)
+      → slice_split p (x ∷ xs) ≡ (x ∷ xs) ∷ []
   unfolding before
   only_by x xs true e ih le =
       let len : prefix_len (λ y. not (p y)) (x ∷ xs) ≡ 0 = rw e refl in
@@ -45,20 +48,25 @@ module _ (p : ℕ → Bool) where
   only_part_is [] le = refl
   only_part_is (x ∷ xs) le = only_by x xs (p x) refl (only_part_is xs) le
 
-pub first_part : (p : ℕ → Bool) (xs : List ℕ) (n m : ℕ) → n ≡ prefix_len (λ x. not (p x)) xs → n < length xs → m ≡ n + 1 → slice_split p xs ≡ take n xs ∷ slice_split p (drop m xs)
+pub first_part : (p : ℕ → Bool) (xs : List ℕ) (n m : ℕ) → n ≡ prefix_len (λ x. not (p x)) xs
+    → n < length xs → m ≡ n + 1 → slice_split p xs ≡ take n xs ∷ slice_split p (drop m xs)
 unfolding before Splits
 first_part p xs n m e lt f = rw (f, e, add-one) (first_part_is p xs (rw (← e) lt))
 
-pub only_part : (p : ℕ → Bool) (xs : List ℕ) (n : ℕ) → n ≡ prefix_len (λ x. not (p x)) xs → length xs ≤ n → slice_split p xs ≡ xs ∷ []
+pub only_part : (p : ℕ → Bool) (xs : List ℕ) (n : ℕ) → n ≡ prefix_len (λ x. not (p x)) xs
+    → length xs ≤ n → slice_split p xs ≡ xs ∷ []
 unfolding before
 only_part p xs n e le = only_part_is p xs (rw (← e) le)
 
 -- a text has a field
-pub some_field : (p : ℕ → Bool) (xs : List ℕ) → (a : List ℕ) × (as' : List (List ℕ)) × (slice_split p xs ≡ a ∷ as')
+pub some_field : (p : ℕ → Bool) (xs : List ℕ) → (a : List ℕ) × (as' : List (List ℕ))
+    × (slice_split p xs ≡ a ∷ as')
 some_field p [] = ([], [], refl)
 some_field p (x ∷ xs) = some_by (p x) (some_field p xs)
   where
-    some_by : (b : Bool) → ((a : List ℕ) × (as' : List (List ℕ)) × (slice_split p xs ≡ a ∷ as')) → (a : List ℕ) × (as' : List (List ℕ)) × (cond b ([] ∷ slice_split p xs) (onto_first x (slice_split p xs)) ≡ a ∷ as')
+    some_by : (b : Bool) → ((a : List ℕ) × (as' : List (List ℕ)) × (slice_split p xs ≡ a ∷ as'))
+        → (a : List ℕ) × (as' : List (List ℕ))
+        × (cond b ([] ∷ slice_split p xs) (onto_first x (slice_split p xs)) ≡ a ∷ as')
     some_by true h = ([], slice_split p xs, refl)
     some_by false h = (x ∷ h.0, h.1, rw h.2 refl)
 

@@ -53,13 +53,17 @@ signed_length : (z : ℤ) → FitsSigned w64 z → length (signed_decimal z) ≤
 signed_length (pos n) h = let short = digits_length 10 n 19 (omega arith) (omega arith) in omega (arith, short)
 signed_length (negsuc n) h = let short = digits_length 10 (suc n) 19 (omega arith) (omega arith) in omega (arith, short)
 
-signed_field : (limit : ℕ) (z : ℤ) → FitsSigned w64 z → in_range limit z ≡ true → FieldOf ℤ (signed_of limit) (signed_decimal z) z 21
+signed_field : (limit : ℕ) (z : ℤ) → FitsSigned w64 z → in_range limit z ≡ true
+    → FieldOf ℤ (signed_of limit) (signed_decimal z) z 21
 signed_field limit z h r =
     let number = signed_decimal-number z h in
     let value = signed_decimal-value z h in
-    let tested : is_signed limit (signed_decimal z) ≡ true = both_true (digits-whole 10 (signed_digits (signed_decimal z)) number.0) (subst (λ (y : ℤ). in_range limit y ≡ true) (sym value) r) in
+    let tested : is_signed limit (signed_decimal z) ≡ true =
+    both_true (digits-whole 10 (signed_digits (signed_decimal z)) number.0)
+    (subst (λ (y : ℤ). in_range limit y ≡ true) (sym value) r) in
     record {
-      reads = ap (λ (b : Bool). if b then Some (signed_value (signed_decimal z)) else None) tested ∙ ap (λ (y : ℤ). Some y) value;
+      reads = ap (λ (b : Bool). if b then Some (signed_value (signed_decimal z)) else None) tested
+          ∙ ap (λ (y : ℤ). Some y) value;
       plain = signed_plain z h;
       short = signed_length z h;
     }
@@ -81,7 +85,8 @@ are_bytes [] h i = omega arith
 are_bytes (x ∷ xs) h zero = All-head (λ b. b < 256) x xs h
 are_bytes (x ∷ xs) h (suc i) = are_bytes xs (All-tail (λ b. b < 256) x xs h) i
 
-line_field : (bytes : List ℕ) → length bytes ≡ 64 → All (λ b. b < 256) bytes → FieldOf (List ℕ) line_bytes (encode_lower bytes) bytes 128
+line_field : (bytes : List ℕ) → length bytes ≡ 64 → All (λ b. b < 256) bytes
+    → FieldOf (List ℕ) line_bytes (encode_lower bytes) bytes 128
 line_field bytes len h =
     let twice = length-encode_with lower_digits bytes in
     record {
@@ -100,32 +105,38 @@ record EntryOf (e : Entry) : Type 0 where
 spelled_by : (e : Entry) → EntryOf e → IsSpelled e
 unfolding entry_of text_of
 spelled_by e h =
-    let split : fields (text_of e) ≡ word_of e ∷ fields_of e = fields_with (word_of e) (fields_of e) h.plain ∙ ap (λ (ps : List (List ℕ)). ps ++ fields_of e) (fields_plain (word_of e) (word_plain e)) in
+    let split : fields (text_of e) ≡ word_of e ∷ fields_of e = fields_with (word_of e) (fields_of e) h.plain
+    ∙ ap (λ (ps : List (List ℕ)). ps ++ fields_of e) (fields_plain (word_of e) (word_plain e)) in
     let len = length-with (word_of e) (fields_of e) in
     let most = h.short in
     let few : length (text_of e) ≤ 256 = omega (arith, len, most) in
     record { by_its_text = rw (le-ltb 256 (length (text_of e)) few) (ap entry_by split ∙ h.by) }
 
-numbers_read : (a b : ℕ) → a < 2 ^ 64 → b < 2 ^ 64 → two_numbers (hexadecimal a ∷ hexadecimal b ∷ []) ≡ Some (a, b)
+numbers_read : (a b : ℕ) → a < 2 ^ 64 → b < 2 ^ 64
+    → two_numbers (hexadecimal a ∷ hexadecimal b ∷ []) ≡ Some (a, b)
 unfolding two_numbers
 numbers_read a b h k =
-    ap (option_and_then (λ x. option_map (λ y. (x, y)) (hex_of (hexadecimal b)))) (hex_field a h).reads ∙ ap (option_map (λ y. (a, y))) (hex_field b k).reads
+    ap (option_and_then (λ x. option_map (λ y. (x, y)) (hex_of (hexadecimal b)))) (hex_field a h).reads
+    ∙ ap (option_map (λ y. (a, y))) (hex_field b k).reads
 
 lines_test : (addr size : ℕ) → AreLines addr size → are_lines addr size ≡ true
 lines_test addr size h =
-    both_true (rw h.aligned refl) (both_true (rw h.whole refl) (both_true (lt-ltb 0 size h.some) (within addr size h.within)))
+    both_true (rw h.aligned refl) (both_true (rw h.whole refl)
+    (both_true (lt-ltb 0 size h.some) (within addr size h.within)))
   where
     within : (a n : ℕ) → a + n ≤ 2 ^ 64 → nat_le (a + n) (2 ^ 64) ≡ true
     within a n le = grind (arith, nat_tests)
 
-sizes : (size : ℕ) → is_store_size size ≡ true → (size ≡ 1) ⊎ ((size ≡ 2) ⊎ ((size ≡ 4) ⊎ (size ≡ 8)))
+sizes : (size : ℕ) → is_store_size size ≡ true → (size ≡ 1)
+    ⊎ ((size ≡ 2) ⊎ ((size ≡ 4) ⊎ (size ≡ 8)))
 sizes size h = grind (arith, nat_tests)
 
 pub value_fits : (size value : ℕ) → is_store_size size ≡ true → value < 2 ^ (8 * size) → value < 2 ^ 64
 value_fits size value h less = go (sizes size h)
   where
     at : (n : ℕ) → 2 ^ (8 * n) ≤ 2 ^ 64 → size ≡ n → value < 2 ^ 64
-    at n most same = let k : value < 2 ^ (8 * n) = subst (λ (m : ℕ). value < 2 ^ (8 * m)) same less in omega (arith, k, most)
+    at n most same = let k : value < 2 ^ (8 * n) = subst (λ (m : ℕ). value < 2 ^ (8 * m)) same less in
+        omega (arith, k, most)
 
     go : (size ≡ 1) ⊎ ((size ≡ 2) ⊎ ((size ≡ 4) ⊎ (size ≡ 8))) → value < 2 ^ 64
     go (inl e) = at 1 (omega arith) e
@@ -151,19 +162,26 @@ store_is addr value size h =
     let first = a.short in
     let second = v.short in
     let third = s.short in
-    let there : sized_store addr value size ≡ Some (Store addr value size) = ap (λ (b : Bool). if b then Some (Store addr value size) else None) (both_true h.sized (lt-ltb _ _ h.within)) in
+    let there : sized_store addr value size ≡ Some (Store addr value size) =
+    ap (λ (b : Bool). if b then Some (Store addr value size) else None)
+    (both_true h.sized (lt-ltb _ _ h.within)) in
     record {
-      by = ap (option_and_then (λ x. option_and_then (λ y. option_and_then (λ z. sized_store x y z) (hex_of (hexadecimal size))) (hex_of (hexadecimal value)))) a.reads
-          ∙ ap (option_and_then (λ y. option_and_then (λ z. sized_store addr y z) (hex_of (hexadecimal size)))) v.reads
+      by = ap (option_and_then (λ x. option_and_then
+          (λ y. option_and_then (λ z. sized_store x y z) (hex_of (hexadecimal size)))
+          (hex_of (hexadecimal value)))) a.reads
+          ∙ ap (option_and_then (λ y. option_and_then (λ z. sized_store addr y z)
+          (hex_of (hexadecimal size)))) v.reads
           ∙ ap (option_and_then (λ z. sized_store addr value z)) s.reads ∙ there;
       plain = (a.plain, (v.plain, (s.plain, tt)));
       short = omega (arith, first, second, third);
     }
 
-lines_read : (addr size : ℕ) → AreLines addr size → option_and_then some_lines (two_numbers (hexadecimal addr ∷ hexadecimal size ∷ [])) ≡ Some (addr, size)
+lines_read : (addr size : ℕ) → AreLines addr size
+    → option_and_then some_lines (two_numbers (hexadecimal addr ∷ hexadecimal size ∷ [])) ≡ Some (addr, size)
 lines_read addr size h =
     let fits : addr < 2 ^ 64 = omega (arith, h.some, h.within) in
-    ap (option_and_then some_lines) (numbers_read addr size fits h.fits) ∙ ap (λ (b : Bool). if b then Some (addr, size) else None) (lines_test addr size h)
+    ap (option_and_then some_lines) (numbers_read addr size fits h.fits)
+    ∙ ap (λ (b : Bool). if b then Some (addr, size) else None) (lines_test addr size h)
 
 flush_is : (addr size : ℕ) → AreLines addr size → EntryOf (Flush addr size)
 unfolding entry_by flush
@@ -172,7 +190,11 @@ flush_is addr size h =
     let b = hex_field size h.fits in
     let first = a.short in
     let second = b.short in
-    record { by = ap (option_map (λ x. Flush x.0 x.1)) (lines_read addr size h); plain = (a.plain, (b.plain, tt)); short = omega (arith, first, second) }
+    record {
+      by = ap (option_map (λ x. Flush x.0 x.1)) (lines_read addr size h);
+      plain = (a.plain, (b.plain, tt));
+      short = omega (arith, first, second);
+    }
 
 persist_is : (addr size : ℕ) → AreLines addr size → EntryOf (Persist addr size)
 unfolding entry_by persist
@@ -181,7 +203,11 @@ persist_is addr size h =
     let b = hex_field size h.fits in
     let first = a.short in
     let second = b.short in
-    record { by = ap (option_map (λ x. Persist x.0 x.1)) (lines_read addr size h); plain = (a.plain, (b.plain, tt)); short = omega (arith, first, second) }
+    record {
+      by = ap (option_map (λ x. Persist x.0 x.1)) (lines_read addr size h);
+      plain = (a.plain, (b.plain, tt));
+      short = omega (arith, first, second);
+    }
 
 entry_is : (e : Entry) → ValuesFit e → EntryOf e
 unfolding entry_by start register input image assert stop trap
@@ -194,7 +220,12 @@ entry_is (Register base size) h =
     let b = hex_field size h.1 in
     let first = a.short in
     let second = b.short in
-    record { by = ap (option_map (λ x. Register x.0 x.1)) (numbers_read base size h.0 h.1); plain = (a.plain, (b.plain, tt)); short = omega (arith, first, second) }
+    record {
+      by = ap (option_map (λ x. Register x.0 x.1)) (numbers_read base size h.0 h.1);
+      plain =
+          (a.plain, (b.plain, tt));
+      short = omega (arith, first, second);
+    }
 entry_is (Input number) h =
     let f = signed_field (2 ^ 63) number h (in_64 number h) in
     let short = f.short in
@@ -206,7 +237,8 @@ entry_is (Image addr bytes) h =
     let second = b.short in
     let there : image_at addr (Some bytes) ≡ Some (Image addr bytes) = rw h.aligned refl in
     record {
-      by = ap (option_and_then (λ x. image_at x (line_bytes (encode_lower bytes)))) a.reads ∙ ap (image_at addr) b.reads ∙ there;
+      by = ap (option_and_then (λ x. image_at x (line_bytes (encode_lower bytes)))) a.reads
+          ∙ ap (image_at addr) b.reads ∙ there;
       plain = (a.plain, (b.plain, tt));
       short = omega (arith, first, second);
     }
@@ -219,7 +251,12 @@ entry_is (Assert addr size) h =
     let b = hex_field size h.1 in
     let first = a.short in
     let second = b.short in
-    record { by = ap (option_map (λ x. Assert x.0 x.1)) (numbers_read addr size h.0 h.1); plain = (a.plain, (b.plain, tt)); short = omega (arith, first, second) }
+    record {
+      by = ap (option_map (λ x. Assert x.0 x.1)) (numbers_read addr size h.0 h.1);
+      plain =
+          (a.plain, (b.plain, tt));
+      short = omega (arith, first, second);
+    }
 entry_is (Stop code) h =
     let f = signed_field (2 ^ 31) code (wider code h) (in_32 code h) in
     let short = f.short in
@@ -235,12 +272,15 @@ fits_spelled e h = spelled_by e (entry_is e h)
 
 -- ---- what is spelled fits
 
-number_small : (base : ℕ) (text : List ℕ) (n : ℕ) → (if is_number base text then Some (digits_value base text) else None) ≡ Some n → n < 2 ^ 64
+number_small : (base : ℕ) (text : List ℕ) (n : ℕ)
+    → (if is_number base text then Some (digits_value base text) else None) ≡ Some n → n < 2 ^ 64
 number_small base text n e = go (is_number base text) refl e
   where
-    go : (b : Bool) → is_number base text ≡ b → (if b then Some (digits_value base text) else None) ≡ Some n → n < 2 ^ 64
+    go : (b : Bool) → is_number base text ≡ b → (if b then Some (digits_value base text) else None) ≡ Some n
+        → n < 2 ^ 64
     go false k e = absurd (let z : ⊥ = cc in z)
-    go true k e = let same : digits_value base text ≡ n = cc in subst (λ (x : ℕ). x < 2 ^ 64) same (number-sound base text k).1
+    go true k e = let same : digits_value base text ≡ n = cc in
+        subst (λ (x : ℕ). x < 2 ^ 64) same (number-sound base text k).1
 
 hex_small : (text : List ℕ) (n : ℕ) → hex_of text ≡ Some n → n < 2 ^ 64
 hex_small text n e = go (starts_with nat_eq text (codes "0x")) e
@@ -252,7 +292,8 @@ hex_small text n e = go (starts_with nat_eq text (codes "0x")) e
 signed_in : (limit : ℕ) (text : List ℕ) (z : ℤ) → signed_of limit text ≡ Some z → in_range limit z ≡ true
 signed_in limit text z e = go (is_signed limit text) refl e
   where
-    go : (b : Bool) → is_signed limit text ≡ b → (if b then Some (signed_value text) else None) ≡ Some z → in_range limit z ≡ true
+    go : (b : Bool) → is_signed limit text ≡ b → (if b then Some (signed_value text) else None) ≡ Some z
+        → in_range limit z ≡ true
     go false k e = absurd (let y : ⊥ = cc in y)
     go true k e =
         let both = and_parts (are_digits 10 (signed_digits text)) (in_range limit (signed_value text)) k in
@@ -323,26 +364,31 @@ are_lines_parts addr size e h =
     within : (a n : ℕ) → nat_le (a + n) (2 ^ 64) ≡ true → a + n ≤ 2 ^ 64
     within a n le = grind (arith, nat_tests)
 
-some_lines_are : (fs : List (List ℕ)) (n : ℕ × ℕ) → option_and_then some_lines (two_numbers fs) ≡ Some n → AreLines n.0 n.1
+some_lines_are : (fs : List (List ℕ)) (n : ℕ × ℕ) → option_and_then some_lines (two_numbers fs) ≡ Some n
+    → AreLines n.0 n.1
 some_lines_are fs n e =
     let m = then_some (two_numbers fs) some_lines n e in
     let small = two_small fs m.0 m.1 in
     let same = lines_same m.0 n m.2 in
     subst (λ (p : ℕ × ℕ). AreLines p.0 p.1) same (go m.0 small.1 (are_lines m.0.0 m.0.1) refl m.2)
   where
-    go : (p : ℕ × ℕ) → p.1 < 2 ^ 64 → (b : Bool) → are_lines p.0 p.1 ≡ b → (if b then Some p else None) ≡ Some n → AreLines p.0 p.1
+    go : (p : ℕ × ℕ) → p.1 < 2 ^ 64 → (b : Bool) → are_lines p.0 p.1 ≡ b
+        → (if b then Some p else None) ≡ Some n → AreLines p.0 p.1
     go p h true k q = are_lines_parts p.0 p.1 k h
     go p h false k q = absurd (let z : ⊥ = cc in z)
 
 flush_fits : (fs : List (List ℕ)) (e : Entry) → flush fs ≡ Some e → ValuesFit e
 unfolding flush
-flush_fits fs e k = let n = map_some (option_and_then some_lines (two_numbers fs)) _ e k in subst ValuesFit n.2 (some_lines_are fs n.0 n.1)
+flush_fits fs e k = let n = map_some (option_and_then some_lines (two_numbers fs)) _ e k in
+    subst ValuesFit n.2 (some_lines_are fs n.0 n.1)
 
 persist_fits : (fs : List (List ℕ)) (e : Entry) → persist fs ≡ Some e → ValuesFit e
 unfolding persist
-persist_fits fs e k = let n = map_some (option_and_then some_lines (two_numbers fs)) _ e k in subst ValuesFit n.2 (some_lines_are fs n.0 n.1)
+persist_fits fs e k = let n = map_some (option_and_then some_lines (two_numbers fs)) _ e k in
+    subst ValuesFit n.2 (some_lines_are fs n.0 n.1)
 
-line_fits : (text bytes : List ℕ) → line_bytes text ≡ Some bytes → (length bytes ≡ 64) × All (λ b. b < 256) bytes
+line_fits : (text bytes : List ℕ) → line_bytes text ≡ Some bytes → (length bytes ≡ 64)
+    × All (λ b. b < 256) bytes
 line_fits text bytes e =
     let sized = ok_some (decode_sized text 64) bytes e in
     let len = decode_sized-ok text 64 bytes sized in
@@ -358,9 +404,15 @@ image_fits fs e k =
     let b = image_same a.0 (line_bytes f.0.1) e a.2 in
     let line = line_fits f.0.1 b.0 b.1 in
     let made : image_at a.0 (Some b.0) ≡ Some e = ap (image_at a.0) (sym b.1) ∙ a.2 in
-    subst ValuesFit b.2 (record { fits = hex_small f.0.0 a.0 a.1; aligned = aligned a.0 b.0 made (a.0 % 64 == 0) refl; whole = line.0; bytes = line.1 })
+    subst ValuesFit b.2 (record {
+      fits = hex_small f.0.0 a.0 a.1;
+      aligned = aligned a.0 b.0 made (a.0 % 64 == 0) refl;
+      whole = line.0;
+      bytes = line.1;
+    })
   where
-    aligned : (addr : ℕ) (bs : List ℕ) → image_at addr (Some bs) ≡ Some e → (b : Bool) → (addr % 64 == 0) ≡ b → addr % 64 ≡ 0
+    aligned : (addr : ℕ) (bs : List ℕ) → image_at addr (Some bs) ≡ Some e → (b : Bool)
+        → (addr % 64 == 0) ≡ b → addr % 64 ≡ 0
     aligned addr bs m true q = eqb-true (addr % 64) 0 q
     aligned addr bs m false q = absurd (let k : image_at addr (Some bs) ≡ None = rw q refl in let z : ⊥ = cc in z)
 
@@ -372,10 +424,14 @@ store_fits fs e k =
     let v = then_some (hex_of f.0.1) _ e a.2 in
     let s = then_some (hex_of f.0.2) _ e v.2 in
     let same = sized_same a.0 v.0 s.0 e s.2 in
-    subst ValuesFit same (go a.0 v.0 s.0 (hex_small f.0.0 a.0 a.1) (is_store_size s.0 && nat_lt v.0 (2 ^ (8 * s.0))) refl s.2)
+    subst ValuesFit same (go a.0 v.0 s.0 (hex_small f.0.0 a.0 a.1)
+    (is_store_size s.0 && nat_lt v.0 (2 ^ (8 * s.0))) refl s.2)
   where
-    go : (addr value size : ℕ) → addr < 2 ^ 64 → (b : Bool) → is_store_size size && nat_lt value (2 ^ (8 * size)) ≡ b → (if b then Some (Store addr value size) else None) ≡ Some e → IsStored addr value size
-    go addr value size h true q m = let both = and_parts (is_store_size size) (nat_lt value (2 ^ (8 * size))) q in record { fits = h; sized = both.0; within = ltb-true _ _ both.1 }
+    go : (addr value size : ℕ) → addr < 2 ^ 64 → (b : Bool)
+        → is_store_size size && nat_lt value (2 ^ (8 * size)) ≡ b
+        → (if b then Some (Store addr value size) else None) ≡ Some e → IsStored addr value size
+    go addr value size h true q m = let both = and_parts (is_store_size size) (nat_lt value (2 ^ (8 * size))) q in
+        record { fits = h; sized = both.0; within = ltb-true _ _ both.1 }
     go addr value size h false q m = absurd (let z : ⊥ = cc in z)
 
 alone_fits : (e : Entry) (fs : List (List ℕ)) (x : Entry) → ValuesFit e → alone e fs ≡ Some x → ValuesFit x

@@ -53,24 +53,29 @@ pub fields_plain : (f : List ℕ) → IsPlain f → fields f ≡ f ∷ []
 fields_plain [] e = refl
 fields_plain (x ∷ xs) e = let h = plain_parts x xs e in rw (h.0, fields_plain xs h.1) refl
 
-onto_push : (x : ℕ) (ps : List (List ℕ)) (f : List ℕ) → 0 < length ps → onto_first x (ps ++ f ∷ []) ≡ onto_first x ps ++ f ∷ []
+onto_push : (x : ℕ) (ps : List (List ℕ)) (f : List ℕ) → 0 < length ps
+    → onto_first x (ps ++ f ∷ []) ≡ onto_first x ps ++ f ∷ []
 onto_push x [] f lt = absurd (omega arith)
 onto_push x (p ∷ ps) f lt = refl
 
 has_field : (xs : List ℕ) → 0 < length (fields xs)
-has_field xs = let h = some_field is_semicolon xs in let e = ap (λ (ps : List (List ℕ)). length ps) h.2 in omega (arith, e)
+has_field xs = let h = some_field is_semicolon xs in let e = ap (λ (ps : List (List ℕ)). length ps) h.2 in
+    omega (arith, e)
 
 fields_push : (xs f : List ℕ) → IsPlain f → fields (xs ++ byte ";" ∷ f) ≡ fields xs ++ f ∷ []
 fields_push [] f e = ap (λ (ps : List (List ℕ)). [] ∷ ps) (fields_plain f e)
 fields_push (x ∷ xs) f e = go (is_semicolon x) (fields_push xs f e)
   where
-    go : (b : Bool) → fields (xs ++ byte ";" ∷ f) ≡ fields xs ++ f ∷ [] → cond b ([] ∷ fields (xs ++ byte ";" ∷ f)) (onto_first x (fields (xs ++ byte ";" ∷ f))) ≡ cond b ([] ∷ fields xs) (onto_first x (fields xs)) ++ f ∷ []
+    go : (b : Bool) → fields (xs ++ byte ";" ∷ f) ≡ fields xs ++ f ∷ []
+        → cond b ([] ∷ fields (xs ++ byte ";" ∷ f)) (onto_first x (fields (xs ++ byte ";" ∷ f)))
+        ≡ cond b ([] ∷ fields xs) (onto_first x (fields xs)) ++ f ∷ []
     go true ih = ap (λ (ps : List (List ℕ)). [] ∷ ps) ih
     go false ih = ap (onto_first x) ih ∙ onto_push x (fields xs) f (has_field xs)
 
 pub fields_with : (w : List ℕ) (fs : List (List ℕ)) → ArePlain fs → fields (with_fields w fs) ≡ fields w ++ fs
 fields_with w [] h = sym (append-nil (fields w))
-fields_with w (f ∷ fs) h = fields_with (w ++ byte ";" ∷ f) fs h.1 ∙ ap (λ (ps : List (List ℕ)). ps ++ fs) (fields_push w f h.0) ∙ append_assoc (fields w) (f ∷ []) fs
+fields_with w (f ∷ fs) h = fields_with (w ++ byte ";" ∷ f) fs h.1
+    ∙ ap (λ (ps : List (List ℕ)). ps ++ fs) (fields_push w f h.0) ∙ append_assoc (fields w) (f ∷ []) fs
 
 -- the length of fields, with a semicolon each
 abbrev pub total : List (List ℕ) → ℕ
@@ -79,7 +84,8 @@ total (f ∷ fs) = length f + 1 + total fs
 
 pub length-with : (w : List ℕ) (fs : List (List ℕ)) → length (with_fields w fs) ≡ length w + total fs
 length-with w [] = omega arith
-length-with w (f ∷ fs) = let a = length-with (w ++ byte ";" ∷ f) fs in let b = length-append w (byte ";" ∷ f) in omega (arith, a, b)
+length-with w (f ∷ fs) = let a = length-with (w ++ byte ";" ∷ f) fs in let b = length-append w (byte ";" ∷ f) in
+    omega (arith, a, b)
 
 total_onto : (x : ℕ) (ps : List (List ℕ)) → 0 < length ps → total (onto_first x ps) ≡ total ps + 1
 total_onto x [] lt = absurd (omega arith)
@@ -89,7 +95,8 @@ length-fields : (xs : List ℕ) → total (fields xs) ≡ length xs + 1
 length-fields [] = refl
 length-fields (x ∷ xs) = go (is_semicolon x) (length-fields xs)
   where
-    go : (b : Bool) → total (fields xs) ≡ length xs + 1 → total (cond b ([] ∷ fields xs) (onto_first x (fields xs))) ≡ length (x ∷ xs) + 1
+    go : (b : Bool) → total (fields xs) ≡ length xs + 1
+        → total (cond b ([] ∷ fields xs) (onto_first x (fields xs))) ≡ length (x ∷ xs) + 1
     go true ih = omega (arith, ih)
     go false ih = let b = total_onto x (fields xs) (has_field xs) in omega (arith, ih, b)
 
@@ -101,14 +108,23 @@ pub record Again (A : Type 0) (read : List ℕ → Option A) (text canonical : L
   pub short : length canonical ≤ length text
   pub plain : IsPlain canonical
 
-onto_length : (k base n j : ℕ) (acc : List ℕ) → 2 ≤ base → n < base ^ suc j → length (digits_onto k base false n acc) ≤ length acc + suc j
+onto_length : (k base n j : ℕ) (acc : List ℕ) → 2 ≤ base → n < base ^ suc j
+    → length (digits_onto k base false n acc) ≤ length acc + suc j
 onto_length zero base n j acc low lt = omega arith
-onto_length (suc k) base n j acc low lt = go (n / base == 0) refl j lt (λ i room. onto_length k base (n / base) i (digit_glyph false (n % base) ∷ acc) low room)
+onto_length (suc k) base n j acc low lt =
+    go (n / base == 0) refl j lt (λ i room.
+    onto_length k base (n / base) i (digit_glyph false (n % base) ∷ acc) low room)
   where
-    go : (b : Bool) → (n / base == 0) ≡ b → (i : ℕ) → n < base ^ suc i → ((m : ℕ) → n / base < base ^ suc m → length (digits_onto k base false (n / base) (digit_glyph false (n % base) ∷ acc)) ≤ length (digit_glyph false (n % base) ∷ acc) + suc m) → length (if b then digit_glyph false (n % base) ∷ acc else digits_onto k base false (n / base) (digit_glyph false (n % base) ∷ acc)) ≤ length acc + suc i
+    go : (b : Bool) → (n / base == 0) ≡ b → (i : ℕ) → n < base ^ suc i
+        → ((m : ℕ) → n / base < base ^ suc m
+        → length (digits_onto k base false (n / base) (digit_glyph false (n % base) ∷ acc))
+        ≤ length (digit_glyph false (n % base) ∷ acc) + suc m)
+        → length (if b then digit_glyph false (n % base)
+        ∷ acc else digits_onto k base false (n / base) (digit_glyph false (n % base) ∷ acc)) ≤ length acc + suc i
     go true e i less ih = omega arith
     go false e zero less ih =
-        let one : n < 1 * base = subst (λ (x : ℕ). n < x) (pow-suc base 0 ∙ ap (λ (x : ℕ). x * base) (pow-zero base)) less in
+        let one : n < 1 * base = subst (λ (x : ℕ). n < x)
+        (pow-suc base 0 ∙ ap (λ (x : ℕ). x * base) (pow-zero base)) less in
         let none = div_below n base 1 (omega arith) one in
         let zeroed : n / base ≡ 0 = omega (arith, none) in
         let tested : (n / base == 0) ≡ true = rw zeroed refl in
@@ -122,9 +138,12 @@ pub digits_length : (base n j : ℕ) → 2 ≤ base → n < base ^ suc j → len
 unfolding digits
 digits_length base n j low lt = let h = onto_length 64 base n j [] low lt in omega (arith, h)
 
-digits_short : (base n : ℕ) (ds : List ℕ) → 2 ≤ base → IsNumeral base ds → digits_value base ds ≡ n → length (digits base false n) ≤ length ds
+digits_short : (base n : ℕ) (ds : List ℕ) → 2 ≤ base → IsNumeral base ds → digits_value base ds ≡ n
+    → length (digits base false n) ≤ length ds
 digits_short base n [] low h e = absurd (omega (arith, h.0))
-digits_short base n (d ∷ ds) low h e = digits_length base n (length ds) low (subst (λ (x : ℕ). x < base ^ length (d ∷ ds)) e (digits_value-lt base (d ∷ ds) h.1))
+digits_short base n (d ∷ ds) low h e =
+    digits_length base n (length ds) low (subst (λ (x : ℕ). x < base ^ length (d ∷ ds)) e
+    (digits_value-lt base (d ∷ ds) h.1))
 
 pub digits_plain : (base : ℕ) (ds : List ℕ) → base ≤ 16 → AllDigits base ds → IsPlain ds
 digits_plain base [] high h = refl
@@ -138,7 +157,8 @@ digits_plain base (d ∷ ds) high h = rw (other (is_semicolon d) refl) (digits_p
         absurd (omega (arith, great, h.0, high))
 
 -- the number that is read is the value of one or more digits
-number_in : (base : ℕ) (text : List ℕ) (n : ℕ) → number_of base text ≡ Some n → IsNumber base text × (digits_value base text ≡ n)
+number_in : (base : ℕ) (text : List ℕ) (n : ℕ) → number_of base text ≡ Some n → IsNumber base text
+    × (digits_value base text ≡ n)
 number_in base text n e = go (is_number base text) refl e
   where
     go : (b : Bool) → is_number base text ≡ b → (if b then Some (digits_value base text) else None) ≡ Some n
@@ -160,7 +180,8 @@ decimal_again text n e =
 hex_again : (text : List ℕ) (n : ℕ) → hex_of text ≡ Some n → Again ℕ hex_of text (hexadecimal n) n
 hex_again text n e = go (starts_with nat_eq text (codes "0x")) e
   where
-    go : (b : Bool) → (if b then number_of 16 (drop 2 text) else None) ≡ Some n → Again ℕ hex_of text (hexadecimal n) n
+    go : (b : Bool) → (if b then number_of 16 (drop 2 text) else None) ≡ Some n
+        → Again ℕ hex_of text (hexadecimal n) n
     go false e = absurd (let z : ⊥ = cc in z)
     go true e =
         let number = number_in 16 (drop 2 text) n e in
@@ -170,19 +191,23 @@ hex_again text n e = go (starts_with nat_eq text (codes "0x")) e
         let some = number.0.0.0 in
         let len = length-drop 2 text in
         record {
-          again = rw (number-whole 16 (digits 16 false n) canonical) (ap (λ (x : ℕ). Some x) (hexadecimal-value n small));
+          again = rw (number-whole 16 (digits 16 false n) canonical)
+              (ap (λ (x : ℕ). Some x) (hexadecimal-value n small));
           short = omega (arith, shorter, some, len);
           plain = digits_plain 16 (digits 16 false n) (omega arith) canonical.0.1;
         }
 
 -- ---- numbers with a sign
 
-short_by : (minus : Bool) (v : ℕ) (z : ℤ) → (if minus then neg_ℤ (pos v) else pos v) ≡ z → length (signed_decimal z) ≤ length (decimal v) + (if minus then 1 else 0)
+short_by : (minus : Bool) (v : ℕ) (z : ℤ) → (if minus then neg_ℤ (pos v) else pos v) ≡ z
+    → length (signed_decimal z) ≤ length (decimal v) + (if minus then 1 else 0)
 short_by false v z e = subst (λ (y : ℤ). length (signed_decimal y) ≤ length (decimal v) + 0) e (omega arith)
 short_by true zero z e = subst (λ (y : ℤ). length (signed_decimal y) ≤ length (decimal 0) + 1) e (omega arith)
-short_by true (suc n) z e = subst (λ (y : ℤ). length (signed_decimal y) ≤ length (decimal (suc n)) + 1) e (omega arith)
+short_by true (suc n) z e = subst (λ (y : ℤ). length (signed_decimal y) ≤ length (decimal (suc n)) + 1) e
+    (omega arith)
 
-minus_length : (text : List ℕ) (minus : Bool) → has_minus text ≡ minus → length (if minus then drop 1 text else text) + (if minus then 1 else 0) ≤ length text
+minus_length : (text : List ℕ) (minus : Bool) → has_minus text ≡ minus
+    → length (if minus then drop 1 text else text) + (if minus then 1 else 0) ≤ length text
 minus_length text false e = omega arith
 minus_length [] true e = absurd (let z : ⊥ = cc in z)
 minus_length (c ∷ cs) true e = omega arith
@@ -192,13 +217,17 @@ signed_plain (pos n) h = digits_plain 10 (decimal n) (omega arith) (decimal-numb
 signed_plain (negsuc n) h = digits_plain 10 (decimal (suc n)) (omega arith) (decimal-number (suc n) (omega arith)).0.1
 
 pub range_fits : (limit : ℕ) (z : ℤ) → limit ≤ 2 ^ 63 → in_range limit z ≡ true → FitsSigned w64 z
-range_fits limit (pos n) low e = let h = ltb-true _ _ e in let k : n < 2 ^ 63 = omega (arith, h, low) in search (rules, k)
-range_fits limit (negsuc n) low e = let h = ltb-true _ _ e in let k : n < 2 ^ 63 = omega (arith, h, low) in search (rules, k)
+range_fits limit (pos n) low e = let h = ltb-true _ _ e in let k : n < 2 ^ 63 = omega (arith, h, low) in
+    search (rules, k)
+range_fits limit (negsuc n) low e = let h = ltb-true _ _ e in let k : n < 2 ^ 63 = omega (arith, h, low) in
+    search (rules, k)
 
-signed_again : (limit : ℕ) (text : List ℕ) (z : ℤ) → limit ≤ 2 ^ 63 → signed_of limit text ≡ Some z → Again ℤ (signed_of limit) text (signed_decimal z) z
+signed_again : (limit : ℕ) (text : List ℕ) (z : ℤ) → limit ≤ 2 ^ 63 → signed_of limit text ≡ Some z
+    → Again ℤ (signed_of limit) text (signed_decimal z) z
 signed_again limit text z low e = go (is_signed limit text) refl e
   where
-    go : (b : Bool) → is_signed limit text ≡ b → (if b then Some (signed_value text) else None) ≡ Some z → Again ℤ (signed_of limit) text (signed_decimal z) z
+    go : (b : Bool) → is_signed limit text ≡ b → (if b then Some (signed_value text) else None) ≡ Some z
+        → Again ℤ (signed_of limit) text (signed_decimal z) z
     go false k e = absurd (let y : ⊥ = cc in y)
     go true k e =
         let both = and_parts (are_digits 10 (signed_digits text)) (in_range limit (signed_value text)) k in
@@ -208,12 +237,16 @@ signed_again limit text z low e = go (is_signed limit text) refl e
         let fits = range_fits limit z low range in
         let number = signed_decimal-number z fits in
         let value = signed_decimal-value z fits in
-        let tested : is_signed limit (signed_decimal z) ≡ true = both_true (digits-whole 10 (signed_digits (signed_decimal z)) number.0) (subst (λ (y : ℤ). in_range limit y ≡ true) (sym value) range) in
+        let tested : is_signed limit (signed_decimal z) ≡ true =
+        both_true (digits-whole 10 (signed_digits (signed_decimal z)) number.0)
+        (subst (λ (y : ℤ). in_range limit y ≡ true) (sym value) range) in
         let first = short_by (has_minus text) (digits_value 10 (signed_digits text)) z same in
-        let second = digits_short 10 (digits_value 10 (signed_digits text)) (signed_digits text) (omega arith) numeral refl in
+        let second = digits_short 10 (digits_value 10 (signed_digits text)) (signed_digits text)
+        (omega arith) numeral refl in
         let third = minus_length text (has_minus text) refl in
         record {
-          again = ap (λ (b : Bool). if b then Some (signed_value (signed_decimal z)) else None) tested ∙ ap (λ (y : ℤ). Some y) value;
+          again = ap (λ (b : Bool). if b then Some (signed_value (signed_decimal z)) else None) tested
+              ∙ ap (λ (y : ℤ). Some y) value;
           short = omega (arith, first, second, third);
           plain = signed_plain z fits;
         }
@@ -228,13 +261,15 @@ none_at (x ∷ xs) (suc k) e = none_at xs k (plain_parts x xs e).1
 pub encoded_plain : (bytes : List ℕ) → IsPlain (encode_lower bytes)
 unfolding encode_with
 encoded_plain [] = refl
-encoded_plain (b ∷ bs) = rw (none_at lower_digits (b / 16) refl, none_at lower_digits (b % 16) refl) (encoded_plain bs)
+encoded_plain (b ∷ bs) = rw (none_at lower_digits (b / 16) refl, none_at lower_digits (b % 16) refl)
+    (encoded_plain bs)
 
 pub ok_some : (r : Result (List ℕ) FromHexError) (bytes : List ℕ) → result_ok r ≡ Some bytes → r ≡ Ok bytes
 ok_some (Ok x) bytes e = let k : x ≡ bytes = cc in ap (λ (y : List ℕ). Ok y) k
 ok_some (Err x) bytes e = absurd (let z : ⊥ = cc in z)
 
-bytes_again : (text bytes : List ℕ) → line_bytes text ≡ Some bytes → Again (List ℕ) line_bytes text (encode_lower bytes) bytes
+bytes_again : (text bytes : List ℕ) → line_bytes text ≡ Some bytes
+    → Again (List ℕ) line_bytes text (encode_lower bytes) bytes
 bytes_again text bytes e =
     let sized = ok_some (decode_sized text 64) bytes e in
     let len = decode_sized-ok text 64 bytes sized in
@@ -242,18 +277,22 @@ bytes_again text bytes e =
     let first = ok.2 in
     let second = length-encode_with lower_digits bytes in
     record {
-      again = ap (λ (r : Result (List ℕ) FromHexError). result_ok r) (decode_sized-twice (encode_lower bytes) 64 (omega (arith, len, first, second)) ∙ decode_of-encode_lower bytes ok.3);
+      again = ap (λ (r : Result (List ℕ) FromHexError). result_ok r)
+          (decode_sized-twice (encode_lower bytes) 64 (omega (arith, len, first, second))
+          ∙ decode_of-encode_lower bytes ok.3);
       short = omega (arith, first, second);
       plain = encoded_plain bytes;
     }
 
 -- ---- words of traps
 
-pub either : {A P : Type 0} (b : Bool) (x y : Option A) (v : A) → (b ≡ true → x ≡ Some v → P) → (y ≡ Some v → P) → (if b then x else y) ≡ Some v → P
+pub either : {A P : Type 0} (b : Bool) (x y : Option A) (v : A) → (b ≡ true → x ≡ Some v → P)
+    → (y ≡ Some v → P) → (if b then x else y) ≡ Some v → P
 either true x y v f g e = f refl e
 either false x y v f g e = g e
 
-kind_of : (text : List ℕ) (k kind : TrapWord) → bytes_eq text (trap_text k) ≡ true → Some k ≡ Some kind → text ≡ trap_text kind
+kind_of : (text : List ℕ) (k kind : TrapWord) → bytes_eq text (trap_text k) ≡ true → Some k ≡ Some kind
+    → text ≡ trap_text kind
 kind_of text k kind e s = let same : k ≡ kind = cc in (bytes_eq-Decides text (trap_text k)).0 e ∙ ap trap_text same
 
 trap_text-of : (text : List ℕ) (kind : TrapWord) → trap_of text ≡ Some kind → text ≡ trap_text kind
@@ -295,11 +334,13 @@ trap_short traps.Unreachable = omega arith
 
 -- ---- entries
 
-pub then_some : {A B : Type 0} (o : Option A) (f : A → Option B) (y : B) → option_and_then f o ≡ Some y → (x : A) × (o ≡ Some x) × (f x ≡ Some y)
+pub then_some : {A B : Type 0} (o : Option A) (f : A → Option B) (y : B) → option_and_then f o ≡ Some y
+    → (x : A) × (o ≡ Some x) × (f x ≡ Some y)
 then_some None f y e = absurd (let z : ⊥ = cc in z)
 then_some (Some x) f y e = (x, refl, e)
 
-pub map_some : {A B : Type 0} (o : Option A) (f : A → B) (y : B) → option_map f o ≡ Some y → (x : A) × (o ≡ Some x) × (f x ≡ y)
+pub map_some : {A B : Type 0} (o : Option A) (f : A → B) (y : B) → option_map f o ≡ Some y → (x : A)
+    × (o ≡ Some x) × (f x ≡ y)
 map_some None f y e = absurd (let z : ⊥ = cc in z)
 map_some (Some x) f y e = let k : f x ≡ y = cc in (x, refl, k)
 
@@ -308,17 +349,22 @@ one_is [] a e = absurd (let z : ⊥ = cc in z)
 one_is (x ∷ []) a e = let k : x ≡ a = cc in ap (λ (y : List ℕ). y ∷ []) k
 one_is (x ∷ y ∷ ys) a e = absurd (let z : ⊥ = cc in z)
 
-two_length : (fs : List (List ℕ)) (f : List ℕ × List ℕ) → two_fields fs ≡ Some f → total fs ≡ length f.0 + length f.1 + 2
+two_length : (fs : List (List ℕ)) (f : List ℕ × List ℕ) → two_fields fs ≡ Some f
+    → total fs ≡ length f.0 + length f.1 + 2
 two_length [] f e = absurd (let z : ⊥ = cc in z)
 two_length (x ∷ []) f e = absurd (let z : ⊥ = cc in z)
-two_length (x ∷ y ∷ []) f e = let k : (x, y) ≡ f = cc in subst (λ (g : List ℕ × List ℕ). total (x ∷ y ∷ []) ≡ length g.0 + length g.1 + 2) k (omega arith)
+two_length (x ∷ y ∷ []) f e = let k : (x, y) ≡ f = cc in
+    subst (λ (g : List ℕ × List ℕ). total (x ∷ y ∷ []) ≡ length g.0 + length g.1 + 2) k (omega arith)
 two_length (x ∷ y ∷ z ∷ zs) f e = absurd (let w : ⊥ = cc in w)
 
-three_length : (fs : List (List ℕ)) (f : List ℕ × List ℕ × List ℕ) → three_fields fs ≡ Some f → total fs ≡ length f.0 + length f.1 + length f.2 + 3
+three_length : (fs : List (List ℕ)) (f : List ℕ × List ℕ × List ℕ) → three_fields fs ≡ Some f
+    → total fs ≡ length f.0 + length f.1 + length f.2 + 3
 three_length [] f e = absurd (let z : ⊥ = cc in z)
 three_length (x ∷ []) f e = absurd (let z : ⊥ = cc in z)
 three_length (x ∷ y ∷ []) f e = absurd (let z : ⊥ = cc in z)
-three_length (x ∷ y ∷ z ∷ []) f e = let k : (x, y, z) ≡ f = cc in subst (λ (g : List ℕ × List ℕ × List ℕ). total (x ∷ y ∷ z ∷ []) ≡ length g.0 + length g.1 + length g.2 + 3) k (omega arith)
+three_length (x ∷ y ∷ z ∷ []) f e = let k : (x, y, z) ≡ f = cc in
+    subst (λ (g : List ℕ × List ℕ × List ℕ). total (x ∷ y ∷ z ∷ []) ≡ length g.0 + length g.1
+    + length g.2 + 3) k (omega arith)
 three_length (x ∷ y ∷ z ∷ w ∷ ws) f e = absurd (let v : ⊥ = cc in v)
 
 record NumbersAgain (fs : List (List ℕ)) (n : ℕ × ℕ) : Type 0 where
@@ -338,7 +384,8 @@ numbers_again fs n e =
     let shorts = first.short in
     let shorter = second.short in
     subst (NumbersAgain fs) b.2 (record {
-      again = ap (option_and_then (λ x. option_map (λ y. (x, y)) (hex_of (hexadecimal b.0)))) first.again ∙ ap (option_map (λ y. (a.0, y))) second.again;
+      again = ap (option_and_then (λ x. option_map (λ y. (x, y)) (hex_of (hexadecimal b.0)))) first.again
+          ∙ ap (option_map (λ y. (a.0, y))) second.again;
       short = omega (arith, len, shorts, shorter);
       plain = (first.plain, (second.plain, tt));
     })
@@ -358,7 +405,14 @@ start_again fs e k =
     let d = decimal_again f.0 n.0 n.1 in
     let len = ap total (one_is fs f.0 f.1) in
     let shorter = d.short in
-    subst (EntryAgain (codes "START") fs) n.2 (record { named = refl; again = ap (option_map (λ limit. Start limit)) d.again; short = omega (arith, len, shorter); plain = (d.plain, tt) })
+    subst (EntryAgain (codes "START") fs) n.2
+    (record {
+      named = refl;
+      again = ap (option_map (λ limit. Start limit)) d.again;
+      short =
+          omega (arith, len, shorter);
+      plain = (d.plain, tt);
+    })
 
 input_again : (fs : List (List ℕ)) (e : Entry) → input fs ≡ Some e → EntryAgain (codes "INPUT") fs e
 unfolding input entry_by
@@ -368,7 +422,14 @@ input_again fs e k =
     let d = signed_again (2 ^ 63) f.0 n.0 (omega arith) n.1 in
     let len = ap total (one_is fs f.0 f.1) in
     let shorter = d.short in
-    subst (EntryAgain (codes "INPUT") fs) n.2 (record { named = refl; again = ap (option_map (λ number. Input number)) d.again; short = omega (arith, len, shorter); plain = (d.plain, tt) })
+    subst (EntryAgain (codes "INPUT") fs) n.2
+    (record {
+      named = refl;
+      again = ap (option_map (λ number. Input number)) d.again;
+      short =
+          omega (arith, len, shorter);
+      plain = (d.plain, tt);
+    })
 
 stop_again : (fs : List (List ℕ)) (e : Entry) → stop fs ≡ Some e → EntryAgain (codes "STOP") fs e
 unfolding stop entry_by
@@ -378,7 +439,14 @@ stop_again fs e k =
     let d = signed_again (2 ^ 31) f.0 n.0 (omega arith) n.1 in
     let len = ap total (one_is fs f.0 f.1) in
     let shorter = d.short in
-    subst (EntryAgain (codes "STOP") fs) n.2 (record { named = refl; again = ap (option_map (λ code. Stop code)) d.again; short = omega (arith, len, shorter); plain = (d.plain, tt) })
+    subst (EntryAgain (codes "STOP") fs) n.2
+    (record {
+      named = refl;
+      again = ap (option_map (λ code. Stop code)) d.again;
+      short =
+          omega (arith, len, shorter);
+      plain = (d.plain, tt);
+    })
 
 trap_again : (fs : List (List ℕ)) (e : Entry) → trap fs ≡ Some e → EntryAgain (codes "TRAP") fs e
 unfolding trap entry_by
@@ -388,7 +456,13 @@ trap_again fs e k =
     let w = trap_word n.0 in
     let len = ap total (one_is fs f.0 f.1) in
     let same = ap (λ (x : List ℕ). length x) (trap_text-of f.0 n.0 n.1) in
-    subst (EntryAgain (codes "TRAP") fs) n.2 (record { named = refl; again = ap (option_map (λ kind. Trap kind)) w.0; short = omega (arith, len, same); plain = (w.1, tt) })
+    subst (EntryAgain (codes "TRAP") fs) n.2
+    (record {
+      named = refl;
+      again = ap (option_map (λ kind. Trap kind)) w.0;
+      short = omega (arith, len, same);
+      plain = (w.1, tt);
+    })
 
 register_again : (fs : List (List ℕ)) (e : Entry) → register fs ≡ Some e → EntryAgain (codes "REGISTER") fs e
 unfolding register entry_by
@@ -396,7 +470,14 @@ register_again fs e k =
     let n = map_some (two_numbers fs) _ e k in
     let h = numbers_again fs n.0 n.1 in
     let shorter = h.short in
-    subst (EntryAgain (codes "REGISTER") fs) n.2 (record { named = refl; again = ap (option_map (λ x. Register x.0 x.1)) h.again; short = omega (arith, shorter); plain = h.plain })
+    subst (EntryAgain (codes "REGISTER") fs) n.2
+    (record {
+      named = refl;
+      again = ap (option_map (λ x. Register x.0 x.1)) h.again;
+      short =
+          omega (arith, shorter);
+      plain = h.plain;
+    })
 
 assert_again : (fs : List (List ℕ)) (e : Entry) → assert fs ≡ Some e → EntryAgain (codes "ASSERT") fs e
 unfolding assert entry_by
@@ -404,7 +485,13 @@ assert_again fs e k =
     let n = map_some (two_numbers fs) _ e k in
     let h = numbers_again fs n.0 n.1 in
     let shorter = h.short in
-    subst (EntryAgain (codes "ASSERT") fs) n.2 (record { named = refl; again = ap (option_map (λ x. Assert x.0 x.1)) h.again; short = omega (arith, shorter); plain = h.plain })
+    subst (EntryAgain (codes "ASSERT") fs) n.2
+    (record {
+      named = refl;
+      again = ap (option_map (λ x. Assert x.0 x.1)) h.again;
+      short = omega (arith, shorter);
+      plain = h.plain;
+    })
 
 pub lines_same : (m n : ℕ × ℕ) → some_lines m ≡ Some n → m ≡ n
 lines_same m n e = go (are_lines m.0 m.1) e
@@ -422,7 +509,15 @@ flush_again fs e k =
     let h = numbers_again fs n.0 (m.1 ∙ ap (λ (x : ℕ × ℕ). Some x) same) in
     let lines = ap some_lines (sym same) ∙ m.2 in
     let shorter = h.short in
-    subst (EntryAgain (codes "FLUSH") fs) n.2 (record { named = refl; again = ap (λ (o : Option (ℕ × ℕ)). option_map (λ x. Flush x.0 x.1) (option_and_then some_lines o)) h.again ∙ ap (option_map (λ x. Flush x.0 x.1)) lines; short = omega (arith, shorter); plain = h.plain })
+    subst (EntryAgain (codes "FLUSH") fs) n.2
+    (record {
+      named = refl;
+      again = ap (λ (o : Option (ℕ × ℕ)). option_map (λ x. Flush x.0 x.1)
+          (option_and_then some_lines o)) h.again ∙ ap (option_map (λ x. Flush x.0 x.1)) lines;
+      short =
+          omega (arith, shorter);
+      plain = h.plain;
+    })
 
 persist_again : (fs : List (List ℕ)) (e : Entry) → persist fs ≡ Some e → EntryAgain (codes "PERSIST") fs e
 unfolding persist entry_by
@@ -433,12 +528,22 @@ persist_again fs e k =
     let h = numbers_again fs n.0 (m.1 ∙ ap (λ (x : ℕ × ℕ). Some x) same) in
     let lines = ap some_lines (sym same) ∙ m.2 in
     let shorter = h.short in
-    subst (EntryAgain (codes "PERSIST") fs) n.2 (record { named = refl; again = ap (λ (o : Option (ℕ × ℕ)). option_map (λ x. Persist x.0 x.1) (option_and_then some_lines o)) h.again ∙ ap (option_map (λ x. Persist x.0 x.1)) lines; short = omega (arith, shorter); plain = h.plain })
+    subst (EntryAgain (codes "PERSIST") fs) n.2
+    (record {
+      named = refl;
+      again = ap (λ (o : Option (ℕ × ℕ)). option_map (λ x. Persist x.0 x.1)
+          (option_and_then some_lines o)) h.again ∙ ap (option_map (λ x. Persist x.0 x.1)) lines;
+      short =
+          omega (arith, shorter);
+      plain = h.plain;
+    })
 
-pub image_same : (addr : ℕ) (bytes : Option (List ℕ)) (e : Entry) → image_at addr bytes ≡ Some e → (bs : List ℕ) × (bytes ≡ Some bs) × (Image addr bs ≡ e)
+pub image_same : (addr : ℕ) (bytes : Option (List ℕ)) (e : Entry) → image_at addr bytes ≡ Some e
+    → (bs : List ℕ) × (bytes ≡ Some bs) × (Image addr bs ≡ e)
 image_same addr bytes e k = go (addr % 64 == 0) k
   where
-    go : (b : Bool) → (if b then option_map (λ bs. Image addr bs) bytes else None) ≡ Some e → (bs : List ℕ) × (bytes ≡ Some bs) × (Image addr bs ≡ e)
+    go : (b : Bool) → (if b then option_map (λ bs. Image addr bs) bytes else None) ≡ Some e → (bs : List ℕ)
+        × (bytes ≡ Some bs) × (Image addr bs ≡ e)
     go true h = map_some bytes _ e h
     go false h = absurd (let z : ⊥ = cc in z)
 
@@ -453,15 +558,18 @@ image_again fs e k =
     let len = two_length fs f.0 f.1 in
     let shorts = first.short in
     let shorter = second.short in
-    let there : image_at a.0 (Some b.0) ≡ Some (Image a.0 b.0) = ap (image_at a.0) (sym b.1) ∙ a.2 ∙ ap (λ (x : Entry). Some x) (sym b.2) in
+    let there : image_at a.0 (Some b.0) ≡ Some (Image a.0 b.0) = ap (image_at a.0) (sym b.1) ∙ a.2
+    ∙ ap (λ (x : Entry). Some x) (sym b.2) in
     subst (EntryAgain (codes "IMAGE") fs) b.2 (record {
       named = refl;
-      again = ap (option_and_then (λ addr. image_at addr (line_bytes (encode_lower b.0)))) first.again ∙ ap (image_at a.0) second.again ∙ there;
+      again = ap (option_and_then (λ addr. image_at addr (line_bytes (encode_lower b.0)))) first.again
+          ∙ ap (image_at a.0) second.again ∙ there;
       short = omega (arith, len, shorts, shorter);
       plain = (first.plain, (second.plain, tt));
     })
 
-pub sized_same : (addr value size : ℕ) (e : Entry) → sized_store addr value size ≡ Some e → Store addr value size ≡ e
+pub sized_same : (addr value size : ℕ) (e : Entry) → sized_store addr value size ≡ Some e
+    → Store addr value size ≡ e
 sized_same addr value size e k = go (is_store_size size && nat_lt value (2 ^ (8 * size))) k
   where
     go : (b : Bool) → (if b then Some (Store addr value size) else None) ≡ Some e → Store addr value size ≡ e
@@ -485,9 +593,13 @@ store_again fs e k =
     let shortest = third.short in
     subst (EntryAgain (codes "STORE") fs) same (record {
       named = refl;
-      again = ap (option_and_then (λ addr. option_and_then (λ value. option_and_then (λ size. sized_store addr value size) (hex_of (hexadecimal s.0))) (hex_of (hexadecimal v.0)))) first.again
-          ∙ ap (option_and_then (λ value. option_and_then (λ size. sized_store a.0 value size) (hex_of (hexadecimal s.0)))) second.again
-          ∙ ap (option_and_then (λ size. sized_store a.0 v.0 size)) third.again ∙ s.2 ∙ ap (λ (x : Entry). Some x) (sym same);
+      again = ap (option_and_then (λ addr. option_and_then
+          (λ value. option_and_then (λ size. sized_store addr value size) (hex_of (hexadecimal s.0)))
+          (hex_of (hexadecimal v.0)))) first.again
+          ∙ ap (option_and_then (λ value. option_and_then (λ size. sized_store a.0 value size)
+          (hex_of (hexadecimal s.0)))) second.again
+          ∙ ap (option_and_then (λ size. sized_store a.0 v.0 size)) third.again ∙ s.2
+          ∙ ap (λ (x : Entry). Some x) (sym same);
       short = omega (arith, len, shorts, shorter, shortest);
       plain = (first.plain, (second.plain, (third.plain, tt)));
     })
@@ -498,16 +610,20 @@ alone_same e (f ∷ fs) x k = absurd (let z : ⊥ = cc in z)
 
 fence_again : (fs : List (List ℕ)) (e : Entry) → alone Fence fs ≡ Some e → EntryAgain (codes "FENCE") fs e
 unfolding entry_by
-fence_again fs e k = subst (EntryAgain (codes "FENCE") fs) (alone_same Fence fs e k) (record { named = refl; again = refl; short = omega arith; plain = tt })
+fence_again fs e k = subst (EntryAgain (codes "FENCE") fs) (alone_same Fence fs e k)
+    (record { named = refl; again = refl; short = omega arith; plain = tt })
 
 cut_again : (fs : List (List ℕ)) (e : Entry) → alone Cut fs ≡ Some e → EntryAgain (codes "CUT") fs e
 unfolding entry_by
-cut_again fs e k = subst (EntryAgain (codes "CUT") fs) (alone_same Cut fs e k) (record { named = refl; again = refl; short = omega arith; plain = tt })
+cut_again fs e k = subst (EntryAgain (codes "CUT") fs) (alone_same Cut fs e k)
+    (record { named = refl; again = refl; short = omega arith; plain = tt })
 
-worded : (word name : List ℕ) (fs : List (List ℕ)) (e : Entry) → bytes_eq word name ≡ true → EntryAgain name fs e → EntryAgain word fs e
+worded : (word name : List ℕ) (fs : List (List ℕ)) (e : Entry) → bytes_eq word name ≡ true
+    → EntryAgain name fs e → EntryAgain word fs e
 worded word name fs e k h = subst (λ (w : List ℕ). EntryAgain w fs e) (sym ((bytes_eq-Decides word name).0 k)) h
 
-entry_again : (word : List ℕ) (fs : List (List ℕ)) (e : Entry) → entry_by (word ∷ fs) ≡ Some e → EntryAgain word fs e
+entry_again : (word : List ℕ) (fs : List (List ℕ)) (e : Entry) → entry_by (word ∷ fs) ≡ Some e
+    → EntryAgain word fs e
 unfolding entry_by
 entry_again word fs e =
     either _ _ _ e (λ t k. worded word (codes "STORE") fs e t (store_again fs e k))
@@ -540,11 +656,13 @@ word_plain Cut = refl
 
 -- ---- texts
 
-pub spelled_fields : (text : List ℕ) (e : Entry) → entry_of text ≡ Some e → (length text ≤ 256) × (entry_by (fields text) ≡ Some e)
+pub spelled_fields : (text : List ℕ) (e : Entry) → entry_of text ≡ Some e → (length text ≤ 256)
+    × (entry_by (fields text) ≡ Some e)
 unfolding entry_of
 spelled_fields text e k = go (nat_lt 256 (length text)) refl k
   where
-    go : (b : Bool) → nat_lt 256 (length text) ≡ b → (if b then None else entry_by (fields text)) ≡ Some e → (length text ≤ 256) × (entry_by (fields text) ≡ Some e)
+    go : (b : Bool) → nat_lt 256 (length text) ≡ b → (if b then None else entry_by (fields text)) ≡ Some e
+        → (length text ≤ 256) × (entry_by (fields text) ≡ Some e)
     go true t h = absurd (let z : ⊥ = cc in z)
     go false t h = (ltb-false _ _ t, h)
 
@@ -557,7 +675,8 @@ unfolding text_of
 text_again text e k =
     let first = some_field is_semicolon text in
     let h = entry_again first.0 first.1 e (ap entry_by (sym first.2) ∙ k) in
-    let split : fields (text_of e) ≡ word_of e ∷ fields_of e = fields_with (word_of e) (fields_of e) h.plain ∙ ap (λ (ps : List (List ℕ)). ps ++ fields_of e) (fields_plain (word_of e) (word_plain e)) in
+    let split : fields (text_of e) ≡ word_of e ∷ fields_of e = fields_with (word_of e) (fields_of e) h.plain
+    ∙ ap (λ (ps : List (List ℕ)). ps ++ fields_of e) (fields_plain (word_of e) (word_plain e)) in
     let a = length-with (word_of e) (fields_of e) in
     let b = sym (ap total first.2) ∙ length-fields text in
     let c = ap (λ (w : List ℕ). length w) h.named in

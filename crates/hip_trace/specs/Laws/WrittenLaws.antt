@@ -37,7 +37,8 @@ whole-append (x ∷ xs) ys h k = let p = first_none x xs h in rw (p.0, whole-app
 
 digits_whole : (base : ℕ) (ds : List ℕ) → base ≤ 16 → AllDigits base ds → IsWhole ds
 digits_whole base [] high h = refl
-digits_whole base (d ∷ ds) high h = rw (other (d == byte "|") (d == byte "\n") refl refl) (digits_whole base ds high h.1)
+digits_whole base (d ∷ ds) high h = rw (other (d == byte "|") (d == byte "\n") refl refl)
+    (digits_whole base ds high h.1)
   where
     never : (c : ℕ) → digit_value c ≡ 36 → d ≡ c → ⊥
     never c great same = let k : digit_value d ≡ 36 = ap digit_value same ∙ great in omega (arith, k, h.0, high)
@@ -65,7 +66,8 @@ none_at (x ∷ xs) (suc k) e = none_at xs k (first_none x xs e).1
 encoded_whole : (bytes : List ℕ) → IsWhole (encode_lower bytes)
 unfolding encode_with
 encoded_whole [] = refl
-encoded_whole (b ∷ bs) = rw (none_at lower_digits (b / 16) refl, none_at lower_digits (b % 16) refl) (encoded_whole bs)
+encoded_whole (b ∷ bs) = rw (none_at lower_digits (b / 16) refl, none_at lower_digits (b % 16) refl)
+    (encoded_whole bs)
 
 trap_whole : (kind : TrapWord) → IsWhole (trap_text kind)
 trap_whole traps.DivZero = refl
@@ -83,10 +85,22 @@ fields_whole (Start limit) h = (decimal_whole limit h, tt)
 fields_whole (Register base size) h = (hexadecimal_whole base h.0, (hexadecimal_whole size h.1, tt))
 fields_whole (Input number) h = (signed_whole number h, tt)
 fields_whole (Image addr bytes) h = (hexadecimal_whole addr h.fits, (encoded_whole bytes, tt))
-fields_whole (Store addr value size) h = (hexadecimal_whole addr h.fits, (hexadecimal_whole value (value_fits size value h.sized h.within), (hexadecimal_whole size (size_fits size h.sized), tt)))
-fields_whole (Flush addr size) h = (hexadecimal_whole addr (omega (arith, h.some, h.within)), (hexadecimal_whole size h.fits, tt))
+fields_whole (Store addr value size) h = (
+  hexadecimal_whole addr h.fits,
+  (
+    hexadecimal_whole value (value_fits size value h.sized h.within),
+    (hexadecimal_whole size (size_fits size h.sized), tt),
+  ),
+)
+fields_whole (Flush addr size) h = (
+  hexadecimal_whole addr (omega (arith, h.some, h.within)),
+  (hexadecimal_whole size h.fits, tt),
+)
 fields_whole Fence h = tt
-fields_whole (Persist addr size) h = (hexadecimal_whole addr (omega (arith, h.some, h.within)), (hexadecimal_whole size h.fits, tt))
+fields_whole (Persist addr size) h = (
+  hexadecimal_whole addr (omega (arith, h.some, h.within)),
+  (hexadecimal_whole size h.fits, tt),
+)
 fields_whole (Assert addr size) h = (hexadecimal_whole addr h.0, (hexadecimal_whole size h.1, tt))
 fields_whole (Stop code) h = (signed_whole code (wider code h), tt)
 fields_whole (Trap kind) h = (trap_whole kind, tt)

@@ -30,7 +30,8 @@ module _ {A : Type 0} (test : A → Bool) where
       → (list_any test xs ≡ true) ⊎ (list_any test ys ≡ true)
   any_either xs ys e = either _ _ (sym (list_any-append test xs ys) ∙ e)
 
-  pub any_at : (xs : List A) (k : ℕ) (x : A) → slice_get xs k ≡ Some x → test x ≡ true → list_any test xs ≡ true
+  pub any_at : (xs : List A) (k : ℕ) (x : A) → slice_get xs k ≡ Some x → test x ≡ true
+      → list_any test xs ≡ true
   any_at [] k x e t = cc
   any_at (y ∷ xs) zero x e t = or_first _ _ (let same : y ≡ x = cc in ap test same ∙ t)
   any_at (y ∷ xs) (suc k) x e t = or_second _ _ (any_at xs k x e t)
@@ -43,7 +44,8 @@ module _ {A : Type 0} (test : A → Bool) where
       (either _ _ e)
 
 -- what stands in the front list, stands at the same place in the whole
-pub get_kept : {A : Type 0} (xs ys : List A) (k : ℕ) (x : A) → slice_get xs k ≡ Some x → slice_get (xs ++ ys) k ≡ Some x
+pub get_kept : {A : Type 0} (xs ys : List A) (k : ℕ) (x : A) → slice_get xs k ≡ Some x
+    → slice_get (xs ++ ys) k ≡ Some x
 get_kept [] ys k x e = cc
 get_kept (y ∷ xs) ys zero x e = e
 get_kept (y ∷ xs) ys (suc k) x e = get_kept xs ys k x e
@@ -71,7 +73,8 @@ module _ {A : Type 0} {same : A → A → Bool} (laws : IsEquivalence same) wher
       added false e = IsDistinct-push laws xs y d e
 
   -- what is in the first list or in the second, is in the list
-  pub met-first : (q : A) (xs ys : List A) → list_any (same q) xs ≡ true → list_any (same q) (met same xs ys) ≡ true
+  pub met-first : (q : A) (xs ys : List A) → list_any (same q) xs ≡ true
+      → list_any (same q) (met same xs ys) ≡ true
   met-first q xs [] e = e
   met-first q xs (y ∷ ys) e =
       met-first q (cond (list_any (same y) xs) xs (xs ++ y ∷ [])) ys (added (list_any (same y) xs))
@@ -80,10 +83,12 @@ module _ {A : Type 0} {same : A → A → Bool} (laws : IsEquivalence same) wher
       added true = e
       added false = any_front (same q) xs (y ∷ []) e
 
-  pub met-second : (q : A) (xs ys : List A) → list_any (same q) ys ≡ true → list_any (same q) (met same xs ys) ≡ true
+  pub met-second : (q : A) (xs ys : List A) → list_any (same q) ys ≡ true
+      → list_any (same q) (met same xs ys) ≡ true
   met-second q xs [] e = cc
   met-second q xs (y ∷ ys) e =
-      ⊎_elim (λ t. met-first q (cond (list_any (same y) xs) xs (xs ++ y ∷ [])) ys (added (list_any (same y) xs) refl t))
+      ⊎_elim (λ t. met-first q (cond (list_any (same y) xs) xs (xs ++ y ∷ [])) ys
+      (added (list_any (same y) xs) refl t))
       (λ f. met-second q (cond (list_any (same y) xs) xs (xs ++ y ∷ [])) ys f) (either (same q y) _ e)
     where
       added : (b : Bool) → list_any (same y) xs ≡ b → same q y ≡ true

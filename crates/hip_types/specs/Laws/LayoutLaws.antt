@@ -52,7 +52,8 @@ greater_right : (a b : ℕ) → IsAlignment a → IsAlignment b → max a b % b 
 greater_right a b h k = grind (arith, h.is, k.is)
 
 -- a multiple of a multiple is a multiple
-pub multiple_of_multiple : (x a b : ℕ) → IsAlignment a → IsAlignment b → a % b ≡ 0 → x % a ≡ 0 → x % b ≡ 0
+pub multiple_of_multiple : (x a b : ℕ) → IsAlignment a → IsAlignment b → a % b ≡ 0 → x % a ≡ 0
+    → x % b ≡ 0
 multiple_of_multiple x a b h k m n = grind (arith, h.is, k.is)
 
 pub sum_of_multiples : (x y a : ℕ) → IsAlignment a → x % a ≡ 0 → y % a ≡ 0 → (x + y) % a ≡ 0
@@ -60,7 +61,8 @@ sum_of_multiples x y a h m n = grind (arith, h.is)
 
 pub times_multiple : (n x a : ℕ) → x % a ≡ 0 → (n * x) % a ≡ 0
 times_multiple n x a h =
-    mul-mod n x a ∙ ap (λ (r : ℕ). (n % a * r) % a) h ∙ ap (λ (r : ℕ). r % a) (mul-zero (n % a)) ∙ zero-mod a
+    mul-mod n x a ∙ ap (λ (r : ℕ). (n % a * r) % a) h ∙ ap (λ (r : ℕ). r % a) (mul-zero (n % a))
+    ∙ zero-mod a
 
 -- ---- shapes
 
@@ -93,7 +95,8 @@ fields_alignment : (fs : List Regular) → IsAlignment (greatest_align (shapes_o
 fields_alignment [] = record { is = inl refl }
 fields_alignment (f ∷ fs) = greater _ _ f.1.alignment (fields_alignment fs)
 
-level_regular : (y : Ty-F Regular) → IsRegular (shape_of_level (map-Ty Ty Shape shape (map-Ty Regular Ty (λ e. e.0) y)))
+level_regular : (y : Ty-F Regular) → IsRegular
+    (shape_of_level (map-Ty Ty Shape shape (map-Ty Regular Ty (λ e. e.0) y)))
 level_regular (Ty-F.Int w) = scalar_regular (bytes_of w) (width_alignment w)
 level_regular Ty-F.Ptr = scalar_regular 8 eight
 level_regular (Ty-F.Array n e) =
@@ -200,7 +203,8 @@ greatest_align-multiple [] k h = absurd (omega arith)
 greatest_align-multiple (t ∷ ts) zero h = greater_left _ _ (align_of-alignment t) (greatest_align-alignment ts)
 greatest_align-multiple (t ∷ ts) (suc k) h =
     let rest = greatest_align-alignment ts in
-    multiple_of_multiple (greatest_align (shapes (t ∷ ts))) (greatest_align (shapes ts)) (align_of (field_of ts k)) rest
+    multiple_of_multiple (greatest_align (shapes (t ∷ ts))) (greatest_align (shapes ts))
+    (align_of (field_of ts k)) rest
     (align_of-alignment (field_of ts k)) (greatest_align-multiple ts k (omega arith))
     (greater_right _ _ (align_of-alignment t) rest)
 

@@ -65,7 +65,8 @@ entered_level i (Ty-F.Struct fs) p is = ⊎_elim field past (cases_lt i (length 
         let gone = rw (slice_get_past fs i h) at is in
         cc
 
-entered : (i : ℕ) (t : Ty) (p : Part) → enter t i ≡ Some p → IsEntered (shape t) p (level_is_inside i (out-Ty t))
+entered : (i : ℕ) (t : Ty) (p : Part) → enter t i ≡ Some p
+    → IsEntered (shape t) p (level_is_inside i (out-Ty t))
 entered i t p is =
     subst (λ (s : Shape). IsEntered s p (level_is_inside i (out-Ty t))) (sym (shape-level t))
     (entered_level i (out-Ty t) p is)
@@ -81,7 +82,13 @@ pub record IsPartOf (t : Ty) (p : Part) (inside : Type 0) : Type 0 where
 
 whole : (t : Ty) (inside : Type 0) → IsPartOf t (record { offset = 0; ty = t }) inside
 whole t inside =
-    record { within = λ _. omega arith; aligned = zero-mod (align_of t); align = mod_self (align_of t); fits = λ f. f }
+    record {
+      within = λ _. omega arith;
+      aligned = zero-mod (align_of t);
+      align = mod_self (align_of t);
+      fits =
+          λ f. f;
+    }
 
 -- a part of a part
 part_of_part : (t : Ty) (i : ℕ) (p q : Part) (rest : Type 0) → enter t i ≡ Some p → IsPartOf p.ty q rest →
@@ -104,7 +111,8 @@ abbrev ArePartsAt : List ℕ → Type 0
 ArePartsAt is = (t : Ty) (p : Part) → part_at is t ≡ Some p → IsPartOf t p (AreInside is t)
 
 module _ (i : ℕ) (is : List ℕ) (t : Ty) (p : Part) (known : ArePartsAt is) where
-  further_in : (q : Part) → enter t i ≡ Some q → (r : Option Part) → part_at is q.ty ≡ r → further q.offset r ≡ Some p →
+  further_in : (q : Part) → enter t i ≡ Some q → (r : Option Part) → part_at is q.ty ≡ r
+      → further q.offset r ≡ Some p →
       IsPartOf t p (level_is_inside i (out-Ty t) × AreInside is q.ty)
   further_in q found None there e = cc
   further_in q found (Some r) there e =
@@ -112,7 +120,8 @@ module _ (i : ℕ) (is : List ℕ) (t : Ty) (p : Part) (known : ArePartsAt is) w
       subst (λ (x : Part). IsPartOf t x (level_is_inside i (out-Ty t) × AreInside is q.ty)) e-is
       (part_of_part t i q r (AreInside is q.ty) found (known q.ty r there))
 
-  one_in : (o : Option Part) → enter t i ≡ o → option_and_then (λ q. further q.offset (part_at is q.ty)) o ≡ Some p →
+  one_in : (o : Option Part) → enter t i ≡ o
+      → option_and_then (λ q. further q.offset (part_at is q.ty)) o ≡ Some p →
       IsPartOf t p (level_is_inside i (out-Ty t) × IfSome o (λ q. AreInside is q.ty))
   one_in None found e = cc
   one_in (Some q) found e = further_in q found (part_at is q.ty) refl e
@@ -131,7 +140,8 @@ pub record IsElement (t : Ty) (is : List ℕ) (o : ℕ) : Type 0 where
   pub at : o ≡ part.offset
   pub within : o + size_of part.ty ≤ size_of t
 
-element : (is : List ℕ) (t : Ty) (o : ℕ) → Fits t → AreInside is t → (r : Option Part) → part_at is t ≡ r →
+element : (is : List ℕ) (t : Ty) (o : ℕ) → Fits t → AreInside is t → (r : Option Part)
+    → part_at is t ≡ r →
     option_map (λ p. (0 * size_of t + p.offset) % 2 ^ 64) r ≡ Some o → IsElement t is o
 element is t o f inside None there e = cc
 element is t o f inside (Some r) there e =

@@ -26,13 +26,15 @@ use Rattle.hip_typing.specs.Sound.{EdgeIsAssigned, UsesAreAssigned}
 
 pub all-front : {X : Type 0} (Q : X → Type 0) (xs ys : List X) → All Q (xs ++ ys) → All Q xs
 all-front Q [] ys h = All-nil Q
-all-front Q (x ∷ xs) ys h = All-cons Q x xs (All-head Q x (xs ++ ys) h) (all-front Q xs ys (All-tail Q x (xs ++ ys) h))
+all-front Q (x ∷ xs) ys h = All-cons Q x xs (All-head Q x (xs ++ ys) h)
+    (all-front Q xs ys (All-tail Q x (xs ++ ys) h))
 
 pub all-back : {X : Type 0} (Q : X → Type 0) (xs ys : List X) → All Q (xs ++ ys) → All Q ys
 all-back Q [] ys h = h
 all-back Q (x ∷ xs) ys h = all-back Q xs ys (All-tail Q x (xs ++ ys) h)
 
-all-mapped : {X Y : Type 0} (Q : Y → Type 0) (f : X → Y) (xs : List X) → All Q (map f xs) → All (λ x. Q (f x)) xs
+all-mapped : {X Y : Type 0} (Q : Y → Type 0) (f : X → Y) (xs : List X) → All Q (map f xs)
+    → All (λ x. Q (f x)) xs
 all-mapped Q f [] h = All-nil (λ y. Q (f y))
 all-mapped Q f (x ∷ xs) h =
     All-cons (λ y. Q (f y)) x xs (All-head Q (f x) (map f xs) h) (all-mapped Q f xs (All-tail Q (f x) (map f xs) h))
@@ -52,7 +54,8 @@ flat-all Q g (x ∷ xs) h =
     (flat-all Q g xs (All-tail (λ y. All Q (g y)) x xs h))
 
 pub all-joined : {X Y : Type 0} (Q : Y → Type 0) (n : ℕ) (make : ℕ → X → List Y) (xs : List X)
-    → All Q (joined (numbered_from n make xs)) → (k : ℕ) (x : X) → slice_get xs k ≡ Some x → All Q (make (n + k) x)
+    → All Q (joined (numbered_from n make xs)) → (k : ℕ) (x : X) → slice_get xs k ≡ Some x
+    → All Q (make (n + k) x)
 all-joined Q n make [] h k x e = cc
 all-joined Q n make (y ∷ ys) h zero x e =
     let same : y ≡ x = cc in
@@ -65,7 +68,8 @@ all-joined Q n make (y ∷ ys) h (suc k) x e =
     (all-back Q (make n y) (joined (numbered_from (n + 1) make ys)) h) k x e)
 
 pub joined-all : {X Y : Type 0} (Q : Y → Type 0) (n : ℕ) (make : ℕ → X → List Y) (xs : List X)
-    → ((k : ℕ) (x : X) → slice_get xs k ≡ Some x → All Q (make (n + k) x)) → All Q (joined (numbered_from n make xs))
+    → ((k : ℕ) (x : X) → slice_get xs k ≡ Some x → All Q (make (n + k) x))
+    → All Q (joined (numbered_from n make xs))
 joined-all Q n make [] h = All-nil Q
 joined-all Q n make (y ∷ ys) h =
     let first : n + 0 ≡ n = omega arith in
@@ -76,11 +80,13 @@ joined-all Q n make (y ∷ ys) h =
 -- ---- numbers of blocks by their label
 
 -- a number that is one more than another is there only with that other
-pub number_before : (o : Option ℕ) (c : ℕ) → option_map suc o ≡ Some c → (d : ℕ) × (o ≡ Some d) × (c ≡ suc d)
+pub number_before : (o : Option ℕ) (c : ℕ) → option_map suc o ≡ Some c → (d : ℕ) × (o ≡ Some d)
+    × (c ≡ suc d)
 number_before None c e = cc
 number_before (Some d) c e = (d, refl, cc)
 
-all-numbers : (Q : ℕ → Type 0) (n : ℕ) (bs : List Block) (label : List ℕ) → All Q (block_numbers_from n bs label)
+all-numbers : (Q : ℕ → Type 0) (n : ℕ) (bs : List Block) (label : List ℕ)
+    → All Q (block_numbers_from n bs label)
     → (c : ℕ) → number_of (map (λ b. b.label) bs) label ≡ Some c → Q (n + c)
 all-numbers Q n [] label h c e = cc
 all-numbers Q n (b ∷ bs) label h c e =
@@ -90,7 +96,8 @@ all-numbers Q n (b ∷ bs) label h c e =
     by_test : (t : Bool) → bytes_eq label b.label ≡ t → (c : ℕ)
         → All Q (if bytes_eq b.label label then n ∷ [] else block_numbers_from (n + 1) bs label)
         → cond t (Some 0) (option_map suc (number_of (map (λ b. b.label) bs) label)) ≡ Some c →
-        (All Q (block_numbers_from (n + 1) bs label) → (d : ℕ) → number_of (map (λ b. b.label) bs) label ≡ Some d
+        (All Q (block_numbers_from (n + 1) bs label) → (d : ℕ)
+        → number_of (map (λ b. b.label) bs) label ≡ Some d
         → Q (n + 1 + d)) → Q (n + c)
     by_test true is c h e rest =
         let there : bytes_eq b.label label ≡ true = bytes_eq-sym b.label label ∙ is in
@@ -109,7 +116,8 @@ all-numbers Q n (b ∷ bs) label h c e =
         subst Q at (rest later d.0 d.1)
 
 numbers-all : (Q : ℕ → Type 0) (n : ℕ) (bs : List Block) (label : List ℕ)
-    → ((c : ℕ) → number_of (map (λ b. b.label) bs) label ≡ Some c → Q (n + c)) → All Q (block_numbers_from n bs label)
+    → ((c : ℕ) → number_of (map (λ b. b.label) bs) label ≡ Some c → Q (n + c))
+    → All Q (block_numbers_from n bs label)
 numbers-all Q n [] label h = All-nil Q
 numbers-all Q n (b ∷ bs) label h = by_test (bytes_eq b.label label) refl (λ g. numbers-all Q (n + 1) bs label g)
   where
@@ -123,7 +131,8 @@ numbers-all Q n (b ∷ bs) label h = by_test (bytes_eq b.label label) refl (λ g
 
     by_test : (t : Bool) → bytes_eq b.label label ≡ t
         → (((c : ℕ) → number_of (map (λ b. b.label) bs) label ≡ Some c → Q (n + 1 + c))
-        → All Q (block_numbers_from (n + 1) bs label)) → All Q (if t then n ∷ [] else block_numbers_from (n + 1) bs
+        → All Q (block_numbers_from (n + 1) bs label))
+        → All Q (if t then n ∷ [] else block_numbers_from (n + 1) bs
         label)
     by_test true is rest =
         let first : n + 0 ≡ n = omega arith in All-cons Q n [] (subst Q first (h 0 (steps true is))) (All-nil Q)
@@ -228,7 +237,8 @@ assigned-sound fn f h b block e =
     (all-joined (UseIsAssigned fn) 0 (block_register_uses fn.blocks f) fn.blocks h b block e))
 
 pub assigned-whole : (fn : Function) (f : ℕ)
-    → ((b : ℕ) (block : Block) → slice_get fn.blocks b ≡ Some block → UsesAreAssigned fn b block) → AllAssigned fn f
+    → ((b : ℕ) (block : Block) → slice_get fn.blocks b ≡ Some block → UsesAreAssigned fn b block)
+    → AllAssigned fn f
 assigned-whole fn f h =
     joined-all (UseIsAssigned fn) 0 (block_register_uses fn.blocks f) fn.blocks
     (λ b block e. let number : b ≡ 0 + b = omega arith in

@@ -96,7 +96,8 @@ each_from-holds n check (x ∷ xs) (suc k) d h within =
     let e : n + suc k ≡ n + 1 + k = omega arith in
     rw e (each_from-holds (n + 1) check xs k d h.1 (omega arith))
 
-pub each-holds : {A : Type 0} → (check : ℕ → A → Check) (xs : List A) (k : ℕ) (d : A) → (each check xs).Holds
+pub each-holds : {A : Type 0} → (check : ℕ → A → Check) (xs : List A) (k : ℕ) (d : A)
+    → (each check xs).Holds
     → k < length xs → (check k (get_or xs k d)).Holds
 each-holds check xs k d h within =
     let e : 0 + k ≡ k = omega arith in

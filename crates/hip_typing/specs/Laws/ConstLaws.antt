@@ -70,7 +70,8 @@ KnownItem = (i : TypedConst) × IsEqualItem i
 abbrev consts : Const-F Known KnownGep KnownItem → Const-F Const ConstGep TypedConst
 consts y = map-Const Known KnownGep KnownItem Const ConstGep TypedConst (λ e. e.0) (λ e. e.0) (λ e. e.0) y
 
-abbrev tests_of : Const-F Const ConstGep TypedConst → Const-F (Const → Bool) (ConstGep → Bool) (TypedConst → Bool)
+abbrev tests_of : Const-F Const ConstGep TypedConst
+    → Const-F (Const → Bool) (ConstGep → Bool) (TypedConst → Bool)
 tests_of z =
     map-Const Const ConstGep TypedConst (Const → Bool) (ConstGep → Bool) (TypedConst → Bool)
     same_const same_gep same_item z
@@ -152,7 +153,8 @@ gep_is a b base h =
     let indices = all_bits-equal a.indices b.indices third.1 in
     λ i. record { inbounds = inbounds i; ty = ty i; base = inner i; indices = indices i }
 
-item_is : (a b : TypedConst) → IsEqual a.value → (same_type a.ty b.ty && same_const a.value b.value) ≡ true → a ≡ b
+item_is : (a b : TypedConst) → IsEqual a.value → (same_type a.ty b.ty && same_const a.value b.value) ≡ true
+    → a ≡ b
 item_is a b value h =
     let both = and_parts (same_type a.ty b.ty) _ h in
     let ty = same_type-equal a.ty b.ty both.0 in
@@ -255,7 +257,8 @@ same_operand-refl (Reg a) = (bytes_eq-Decides a a).1 refl
 same_operand-refl (Fixed a) = same_const-refl a
 
 -- a test that tells whether two operands are equal is this one
-pub same_operand-is : (b : Bool) (x y : Operand) → (b ≡ true → x ≡ y) → (x ≡ y → b ≡ true) → b ≡ same_operand x y
+pub same_operand-is : (b : Bool) (x y : Operand) → (b ≡ true → x ≡ y) → (x ≡ y → b ≡ true)
+    → b ≡ same_operand x y
 same_operand-is b x y equal test =
     both_ways b (same_operand x y) (λ e. subst (λ (z : Operand). same_operand x z ≡ true) (equal e)
     (same_operand-refl x)) (λ e. test (same_operand-equal x y e))

@@ -14,7 +14,8 @@ use Rattle.hip_typing.specs.Places.{each_pair}
 pub both-decides : {P Q : Type 0} (a b : Bool) → Decides a P → Decides b Q → Decides (a && b) (P × Q)
 both-decides a b p q = (λ e. let h = and_parts a b e in (p.0 h.0, q.0 h.1), λ h. both_true (p.1 h.0) (q.1 h.1))
 
-pub all-decides : {X : Type 0} (test : X → Bool) (P : X → Type 0) (xs : List X) → ((x : X) → Decides (test x) (P x))
+pub all-decides : {X : Type 0} (test : X → Bool) (P : X → Type 0) (xs : List X)
+    → ((x : X) → Decides (test x) (P x))
     → Decides (list_all test xs) (All P xs)
 all-decides test P xs d = (
   λ e k x within. (d (get_or xs k x)).0 (AllPass-from_list_all test xs e k x within),
@@ -44,19 +45,22 @@ none_first : (a b : Bool) → ¬ (a ≡ true) → ¬ (b ≡ true) → ¬ ((a || 
 none_first true b h g = absurd (h refl)
 none_first false b h g = g
 
-none_of : {X : Type 0} (test : X → Bool) (xs : List X) → ¬ (list_any test xs ≡ true) → All (λ x. ¬ (test x ≡ true)) xs
+none_of : {X : Type 0} (test : X → Bool) (xs : List X) → ¬ (list_any test xs ≡ true)
+    → All (λ x. ¬ (test x ≡ true)) xs
 none_of test [] h = All-nil (λ y. ¬ (test y ≡ true))
 none_of test (x ∷ xs) h =
     let both = any_cases (test x) (list_any test xs) h in
     All-cons (λ y. ¬ (test y ≡ true)) x xs both.0 (none_of test xs both.1)
 
-of_none : {X : Type 0} (test : X → Bool) (xs : List X) → All (λ x. ¬ (test x ≡ true)) xs → ¬ (list_any test xs ≡ true)
+of_none : {X : Type 0} (test : X → Bool) (xs : List X) → All (λ x. ¬ (test x ≡ true)) xs
+    → ¬ (list_any test xs ≡ true)
 of_none test [] h = λ e. cc
 of_none test (x ∷ xs) h =
     none_first (test x) (list_any test xs) (All-head (λ y. ¬ (test y ≡ true)) x xs h)
     (of_none test xs (All-tail (λ y. ¬ (test y ≡ true)) x xs h))
 
-pub none-decides : {X : Type 0} (test : X → Bool) (P : X → Type 0) (xs : List X) → ((x : X) → Decides (test x) (P x))
+pub none-decides : {X : Type 0} (test : X → Bool) (P : X → Type 0) (xs : List X)
+    → ((x : X) → Decides (test x) (P x))
     → Decides (not (list_any test xs)) (All (λ x. ¬ P x) xs)
 none-decides test P xs d = (
   λ e k x within p. none_of test xs (not_false (list_any test xs) e) k x within ((d (get_or xs k x)).1 p),
@@ -94,12 +98,14 @@ pairs-decides test R xs d = (pairs_sound test R xs d, pairs_whole test R xs d)
 
 -- ---- items by their places
 
-pub all-at : {X : Type 0} (P : X → Type 0) (xs : List X) (k : ℕ) (x : X) → All P xs → slice_get xs k ≡ Some x → P x
+pub all-at : {X : Type 0} (P : X → Type 0) (xs : List X) (k : ℕ) (x : X) → All P xs → slice_get xs k ≡ Some x
+    → P x
 all-at P [] k x h e = cc
 all-at P (y ∷ ys) zero x h e = let same : y ≡ x = cc in subst P same (All-head P y ys h)
 all-at P (y ∷ ys) (suc k) x h e = all-at P ys k x (All-tail P y ys h) e
 
-pub all-made : {X : Type 0} (P : X → Type 0) (xs : List X) → ((k : ℕ) (x : X) → slice_get xs k ≡ Some x → P x)
+pub all-made : {X : Type 0} (P : X → Type 0) (xs : List X)
+    → ((k : ℕ) (x : X) → slice_get xs k ≡ Some x → P x)
     → All P xs
 all-made P [] h = All-nil P
 all-made P (x ∷ xs) h = All-cons P x xs (h 0 x refl) (all-made P xs (λ k y e. h (suc k) y e))

@@ -86,7 +86,8 @@ function_found [] name s e = cc
 function_found (f ∷ fs) name s e = by_test (λ later. function_found fs name s later) (bytes_eq f.name name) refl e
   where
     by_test : (function_of fs name ≡ Some s → FunctionAt fs name s) → (b : Bool) → bytes_eq f.name name ≡ b
-        → (if b then Some (record { ret = f.ret; params = map (λ p. p.ty) f.params }) else function_of fs name) ≡ Some s
+        → (if b then Some (record { ret = f.ret; params = map (λ p. p.ty) f.params }) else function_of fs name)
+        ≡ Some s
         → FunctionAt (f ∷ fs) name s
     by_test rest true is e =
         let same = some_is (record { ret = f.ret; params = map (λ p. p.ty) f.params }) s e in
@@ -111,13 +112,15 @@ function_found (f ∷ fs) name s e = by_test (λ later. function_found fs name s
 
 -- ---- external functions
 
-extern_found : (es : List Extern) (name : List ℕ) (s : Signature) → All IsOfTable es → extern_of es name ≡ Some s
+extern_found : (es : List Extern) (name : List ℕ) (s : Signature) → All IsOfTable es
+    → extern_of es name ≡ Some s
     → known_signature name ≡ Some s
 extern_found [] name s h e = cc
 extern_found (x ∷ xs) name s h e =
     by_test (λ later. extern_found xs name s (All-tail IsOfTable x xs h) later) (bytes_eq x.name name) refl e
   where
-    by_test : (extern_of xs name ≡ Some s → known_signature name ≡ Some s) → (b : Bool) → bytes_eq x.name name ≡ b
+    by_test : (extern_of xs name ≡ Some s → known_signature name ≡ Some s) → (b : Bool)
+        → bytes_eq x.name name ≡ b
         → (if b then Some (record { ret = x.ret; params = x.params }) else extern_of xs name) ≡ Some s
         → known_signature name ≡ Some s
     by_test rest true is e =

@@ -108,7 +108,8 @@ module _ {A : Type 0} (d : Declares A) (name : A → List ℕ) (t : Tells d name
   registers_told : (b i : ℕ) (rs : List Register) → map name (map (d.instr b i) rs) ≡ names_of rs
   registers_told b i [] = refl
   registers_told b i (r ∷ rs) =
-      ap (λ n. n ∷ map name (map (d.instr b i) rs)) (t.instr b i r) ∙ ap (λ ns. r.name ∷ ns) (registers_told b i rs)
+      ap (λ n. n ∷ map name (map (d.instr b i) rs)) (t.instr b i r)
+      ∙ ap (λ ns. r.name ∷ ns) (registers_told b i rs)
 
   params_told : (params : List Param)
       → map name (map d.parameter params) ≡ names_of (map (λ p. record { name = p.name; ty = Some p.ty }) params)
@@ -116,7 +117,8 @@ module _ {A : Type 0} (d : Declares A) (name : A → List ℕ) (t : Tells d name
   params_told (p ∷ ps) =
       ap (λ n. n ∷ map name (map d.parameter ps)) (t.parameter p) ∙ ap (λ ns. p.name ∷ ns) (params_told ps)
 
-  phis_told : (n b : ℕ) (phis : List Phi) → map name (numbered_from n (d.phi b) phis) ≡ names_of (phi_registers phis)
+  phis_told : (n b : ℕ) (phis : List Phi)
+      → map name (numbered_from n (d.phi b) phis) ≡ names_of (phi_registers phis)
   phis_told n b [] = refl
   phis_told n b (p ∷ ps) =
       ap (λ x. x ∷ map name (numbered_from (n + 1) (d.phi b) ps)) (t.phi b n p)

@@ -76,7 +76,8 @@ first-decides None b names others name p q = (
   λ h. ⊎_elim (λ l. let t = p.1 l in cc) (λ r. q.1 r) (among-either names others name h),
 )
 
-callee-decides : (P : Program) (name : List ℕ) → Decides (is_some (callee_of P name)) (IsAmong (callee_names P) name)
+callee-decides : (P : Program) (name : List ℕ)
+    → Decides (is_some (callee_of P name)) (IsAmong (callee_names P) name)
 callee-decides P name =
     first-decides (extern_of P.externs name) (function_of P.functions name) (map (λ e. e.name) P.externs)
     (map (λ f. f.name) P.functions) name (extern-decides P.externs name) (function-decides P.functions name)
@@ -155,7 +156,8 @@ end_names-decides P fn e =
 
 -- ---- types agree
 
-has_type-decides : (ty : Scalar) (found : Option (Option Scalar)) → Decides (has_type ty found) (found ≡ Some (Some ty))
+has_type-decides : (ty : Scalar) (found : Option (Option Scalar))
+    → Decides (has_type ty found) (found ≡ Some (Some ty))
 has_type-decides ty None = (λ e. cc, λ h. cc)
 has_type-decides ty (Some None) = (λ e. cc, λ h. cc)
 has_type-decides ty (Some (Some t)) = (
@@ -222,7 +224,8 @@ returned-decides (Some a) (Some t) = (
   λ h. (same_scalar-decides a.ty t).1 (let same : a.ty ≡ t = cc in same),
 )
 
-end_own-decides : (P : Program) (fn : Function) (e : End) → Decides (returns fn.ret e) (OwnTypesAgree P fn (EndItem e))
+end_own-decides : (P : Program) (fn : Function) (e : End)
+    → Decides (returns fn.ret e) (OwnTypesAgree P fn (EndItem e))
 end_own-decides P fn (Ret arg) = returned-decides arg fn.ret
 end_own-decides P fn (Br label) = (λ e. tt, λ h. refl)
 end_own-decides P fn (CondBr cond first second) = (λ e. tt, λ h. refl)
@@ -250,7 +253,8 @@ phi_types-decides P fn p =
 
 -- ---- cases differ
 
-pairs_differ-decides : (cases : List Case) → Decides (cases_differ cases) (AllPairs (λ c d. c.value ≢ d.value) cases)
+pairs_differ-decides : (cases : List Case)
+    → Decides (cases_differ cases) (AllPairs (λ c d. c.value ≢ d.value) cases)
 pairs_differ-decides cases =
     pairs-decides differ (λ c d. c.value ≢ d.value) cases
     (λ c d. not-decides (same_bits c.value d.value) (same_bits-decides c.value d.value))
@@ -290,7 +294,8 @@ predecessor-kept : (p : Bool) (x : List ℕ) (rest : List (List ℕ)) (from : Li
 predecessor-kept true x rest from h = inr h
 predecessor-kept false x rest from h = h
 
-predecessor-whole : (bs : List Block) (from to : List ℕ) → IsPredecessor bs from to → IsAmong (predecessors bs to) from
+predecessor-whole : (bs : List Block) (from to : List ℕ) → IsPredecessor bs from to
+    → IsAmong (predecessors bs to) from
 predecessor-whole [] from to (n, b, here, label, named) = cc
 predecessor-whole (x ∷ xs) from to (zero, b, here, label, named) =
     let same : x ≡ b = cc in
@@ -302,15 +307,18 @@ predecessor-whole (x ∷ xs) from to (suc n, b, here, label, named) =
     predecessor-kept (is_predecessor to x) x.label (predecessors xs to) from
     (predecessor-whole xs from to (n, b, here, label, named))
 
-predecessor-sound : (bs : List Block) (from to : List ℕ) → IsAmong (predecessors bs to) from → IsPredecessor bs from to
+predecessor-sound : (bs : List Block) (from to : List ℕ) → IsAmong (predecessors bs to) from
+    → IsPredecessor bs from to
 predecessor-sound [] from to h = absurd h
 predecessor-sound (x ∷ xs) from to h = by_test (is_predecessor to x) refl (λ l. predecessor-sound xs from to l) h
   where
     later : IsPredecessor xs from to → IsPredecessor (x ∷ xs) from to
     later (n, b, here, label, named) = (suc n, b, here, label, named)
 
-    by_test : (p : Bool) → is_predecessor to x ≡ p → (IsAmong (predecessors xs to) from → IsPredecessor xs from to)
-        → IsAmong (if p then x.label ∷ predecessors xs to else predecessors xs to) from → IsPredecessor (x ∷ xs) from to
+    by_test : (p : Bool) → is_predecessor to x ≡ p
+        → (IsAmong (predecessors xs to) from → IsPredecessor xs from to)
+        → IsAmong (if p then x.label ∷ predecessors xs to else predecessors xs to) from
+        → IsPredecessor (x ∷ xs) from to
     by_test true e rest (inl same) = (0, x, refl, same, (among-decides (end_labels x.end) to).0 e)
     by_test true e rest (inr l) = later (rest l)
     by_test false e rest l = later (rest l)
@@ -322,7 +330,8 @@ precedes fn from to (n, b, here, label, named) =
 preceding : (fn : Function) (from to : List ℕ) → Precedes fn from to → IsPredecessor fn.blocks from to
 preceding fn from to p = (p.number, p.block, p.here, p.label, p.named)
 
-all-of_among : (Q : List ℕ → Type 0) (xs : List (List ℕ)) → ((x : List ℕ) → IsAmong xs x → Q x) → All Q xs
+all-of_among : (Q : List ℕ → Type 0) (xs : List (List ℕ)) → ((x : List ℕ) → IsAmong xs x → Q x)
+    → All Q xs
 all-of_among Q [] h = All-nil Q
 all-of_among Q (x ∷ xs) h = All-cons Q x xs (h x (inl refl)) (all-of_among Q xs (λ y among. h y (inr among)))
 

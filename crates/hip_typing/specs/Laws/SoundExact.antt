@@ -99,7 +99,8 @@ externs-sound P h = record {
 
 externs-whole : (P : Program) → KeepsToTable P → (externs_check P).Holds
 externs-whole P k = (
-  each-whole rules.free_global (λ g. IsFree g.name) P.globals (λ n g c. (none-decides (call_of g.name)).1 c) k.globals,
+  each-whole rules.free_global (λ g. IsFree g.name) P.globals
+      (λ n g c. (none-decides (call_of g.name)).1 c) k.globals,
   (
     each-whole rules.declared IsOfTable P.externs (λ n e c. (table-decides e (known_signature e.name)).1 c) k.externs,
     each-whole rules.free_function (λ f. IsFree f.name) P.functions
@@ -134,7 +135,8 @@ main_there (f ∷ fs) n g named here is =
   where
     by_test : (t : Bool) → bytes_eq (codes "main") f.name ≡ t → (n : ℕ) → slice_get (f ∷ fs) n ≡ Some g
         → cond t (Some 0) (option_map suc (number_of (function_names fs) (codes "main"))) ≡ Some n →
-        ((m : ℕ) → number_of (function_names fs) (codes "main") ≡ Some m → slice_get fs m ≡ Some g → has_main fs ≡ true)
+        ((m : ℕ) → number_of (function_names fs) (codes "main") ≡ Some m → slice_get fs m ≡ Some g
+        → has_main fs ≡ true)
         → has_main (f ∷ fs) ≡ true
     by_test true e n here at rest =
         let there : bytes_eq f.name (codes "main") ≡ true = bytes_eq-sym f.name (codes "main") ∙ e in
@@ -163,12 +165,14 @@ number_by f fs b is =
     (bytes_eq-sym (codes "main") f.name ∙ is)
 
 main_found : (fs : List Function) → has_main fs ≡ true
-    → (n : ℕ) × (g : Function) × (number_of (function_names fs) (codes "main") ≡ Some n) × (slice_get fs n ≡ Some g)
+    → (n : ℕ) × (g : Function) × (number_of (function_names fs) (codes "main") ≡ Some n)
+    × (slice_get fs n ≡ Some g)
     × (is_main g ≡ true)
 main_found [] e = cc
 main_found (f ∷ fs) e = by_test (λ later. main_found fs later) (bytes_eq f.name (codes "main")) refl e
   where
-    by_test : (has_main fs ≡ true → (n : ℕ) × (g : Function) × (number_of (function_names fs) (codes "main") ≡ Some n)
+    by_test : (has_main fs ≡ true → (n : ℕ) × (g : Function)
+        × (number_of (function_names fs) (codes "main") ≡ Some n)
         × (slice_get fs n ≡ Some g) × (is_main g ≡ true)) →
         (b : Bool) → bytes_eq f.name (codes "main") ≡ b → (if b then is_main f else has_main fs) ≡ true →
         (n : ℕ) × (g : Function) × (number_of (function_names (f ∷ fs)) (codes "main") ≡ Some n)
@@ -207,7 +211,8 @@ main-sound P h =
 
 -- ---- places
 
-block-sound : (P : Program) (f b : ℕ) (fn : Function) (block : Block) → (block_check (scope_of P fn) f b block).Holds
+block-sound : (P : Program) (f b : ℕ) (fn : Function) (block : Block)
+    → (block_check (scope_of P fn) f b block).Holds
     → EachItem block (ItemIsSound P fn block)
 block-sound P f b fn block h = record {
   phis =

@@ -108,7 +108,8 @@ same_type-refl = ind-Ty IsReflexive (λ x y is.
     unfolded ∙ ap (λ (o : Ty-F Ty). same_level (map-Ty Ty (Ty → Bool) same_type x) o) (out-roll-Ty x) ∙ here)
 
 -- a test that tells whether two types are equal is this one
-pub same_type-is : (b : Bool) (x y : Ty) → (b ≡ true → x ≡ y) → (x ≡ y → b ≡ true) → b ≡ same_type x y
+pub same_type-is : (b : Bool) (x y : Ty) → (b ≡ true → x ≡ y) → (x ≡ y → b ≡ true)
+    → b ≡ same_type x y
 same_type-is b x y equal test =
     both_ways b (same_type x y) (λ e. subst (λ (z : Ty). same_type x z ≡ true) (equal e) (same_type-refl x))
     (λ e. test (same_type-equal x y e))

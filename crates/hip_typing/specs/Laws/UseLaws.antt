@@ -58,7 +58,8 @@ module _ (s : Scope) (names : List (List ℕ)) (values : List (Option Scalar)) (
   pub uses_known-by_tables : (us : List Use) → operands_known names values globals us ≡ uses_known s us
   uses_known-by_tables [] = refl
   uses_known-by_tables (u ∷ us) =
-      ap (λ b. operand_known names values globals u.operand && b) (uses_known-by_tables us) ∙ one_more u.operand u.ty us
+      ap (λ b. operand_known names values globals u.operand && b) (uses_known-by_tables us)
+      ∙ one_more u.operand u.ty us
 
 module _ (s : Scope) (names : List (List ℕ)) (values : List (Option Scalar))
     (finds : Finds names values s.registers) where

@@ -8,7 +8,8 @@ use Rattle.hip_names.specs.Names.{is_among, Knows}
 use Rattle.hip_typing.specs.Places.{predecessors}
 
 -- the set of names at a name
-abbrev pub found_at : {S : Type 0} → IndexMap (Bor (List ℕ)) (List (List ℕ)) S → List ℕ → Option (List (List ℕ))
+abbrev pub found_at : {S : Type 0} → IndexMap (Bor (List ℕ)) (List (List ℕ)) S → List ℕ
+    → Option (List (List ℕ))
 found_at m label = get_by (λ k. bytes_eq label k.now) m
 
 abbrev pub names_at : {S : Type 0} → IndexMap (Bor (List ℕ)) (List (List ℕ)) S → List ℕ → List (List ℕ)
@@ -18,7 +19,8 @@ names_at m label = unwrap_or (found_at m label) []
 pub record Arrives {S : Type 0} (old new : IndexMap (Bor (List ℕ)) (List (List ℕ)) S) (labels : List (List ℕ))
     (from : List ℕ) : Type 0 where
   pub adds : (at name : List ℕ) →
-      is_among (names_at new at) name ≡ (is_among (names_at old at) name || (is_among labels at && bytes_eq name from))
+      is_among (names_at new at) name ≡ (is_among (names_at old at) name
+      || (is_among labels at && bytes_eq name from))
 
 -- the table finds the predecessors of each block
 pub record FindsPredecessors {S : Type 0} (m : IndexMap (Bor (List ℕ)) (List (List ℕ)) S)

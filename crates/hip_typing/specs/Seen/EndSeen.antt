@@ -25,7 +25,8 @@ end_found_by known fit agree function e place =
     (or_else (asked (cases_differ (end_cases e)) breaks.Duplicate place)
     (asked (not (list_any (is_entry function.blocks) (end_labels e))) breaks.BadEdge place))))
 
-abbrev pub end_found : List (List ℕ) → List (Option Scalar) → List (List ℕ) → List (List ℕ) → Function → End → Place →
+abbrev pub end_found : List (List ℕ) → List (Option Scalar) → List (List ℕ) → List (List ℕ) → Function
+    → End → Place →
     Option Finding
 end_found names values globals known_labels function e place =
     end_found_by (operands_known names values globals (end_uses e) && are_among known_labels (end_labels e))

@@ -25,7 +25,8 @@ found_by known fits agrees place =
     or_else (asked known breaks.Unknown place)
     (or_else (asked fits breaks.TooLarge place) (asked agrees breaks.Mismatch place))
 
-abbrev pub instr_found : List (List ℕ) → List (Option Scalar) → List (List ℕ) → List (List ℕ) → List Callee → Instr →
+abbrev pub instr_found : List (List ℕ) → List (Option Scalar) → List (List ℕ) → List (List ℕ)
+    → List Callee → Instr →
     Place → Option Finding
 instr_found names values globals callee_names callees i place =
     found_by (operands_known names values globals (instr_uses i) && callee_known_in callee_names callees i)

@@ -28,7 +28,8 @@ phi_found_by known fit agree edges place =
     (or_else (asked fit breaks.TooLarge place)
     (or_else (asked agree breaks.Mismatch place) (asked edges breaks.BadEdge place)))
 
-abbrev pub phi_found : List (List ℕ) → List (Option Scalar) → List (List ℕ) → List (List ℕ) → List (List ℕ) → Phi →
+abbrev pub phi_found : List (List ℕ) → List (Option Scalar) → List (List ℕ) → List (List ℕ)
+    → List (List ℕ) → Phi →
     Place → Option Finding
 phi_found names values globals known_labels before p place =
     phi_found_by (operands_known names values globals (phi_uses p) && are_among known_labels (edge_labels p.edges))
@@ -46,7 +47,8 @@ one_is : (p : List ℕ → Bool) (x name : List ℕ) (b : Bool) → bytes_eq nam
 one_is p x name true e here later = subst (λ (n : List ℕ). p n ≡ true) (sym ((bytes_eq-Decides name x).0 e)) here
 one_is p x name false e here later = later refl
 
-at_name : (p : List ℕ → Bool) (xs : List (List ℕ)) → list_all p xs ≡ true → (name : List ℕ) → is_among xs name ≡ true →
+at_name : (p : List ℕ → Bool) (xs : List (List ℕ)) → list_all p xs ≡ true → (name : List ℕ)
+    → is_among xs name ≡ true →
     p name ≡ true
 at_name p [] all name there = cc
 at_name p (x ∷ xs) all name there =
@@ -54,7 +56,8 @@ at_name p (x ∷ xs) all name there =
     one_is p x name (bytes_eq name x) refl both.0
     (λ off. at_name p xs both.1 name (first_or_later (bytes_eq name x) (is_among xs name) there off))
 
-at_each : (p : List ℕ → Bool) (xs : List (List ℕ)) → ((name : List ℕ) → is_among xs name ≡ true → p name ≡ true) →
+at_each : (p : List ℕ → Bool) (xs : List (List ℕ))
+    → ((name : List ℕ) → is_among xs name ≡ true → p name ≡ true) →
     list_all p xs ≡ true
 at_each p [] all = refl
 at_each p (x ∷ xs) all =

@@ -45,7 +45,8 @@ fn push_cases(
     cases: &[Case],
 ) -> Result<(), NoMemory>
     ensures { OnOk result
-        (numbers.new ≡ numbers.old ++ label_numbers names.now.names names.now.values (map (λ c. c.label) cases.now)) }
+        (numbers.new ≡ numbers.old ++ label_numbers names.now.names names.now.values
+        (map (λ c. c.label) cases.now)) }
 {
     'cases: for case in cases {
         push_label(numbers, names, &case.label)?;

@@ -53,7 +53,8 @@ pub same_mark_equal : (a b : Mark) → same_mark a b ≡ true → a ≡ b
 same_mark_equal a b h =
     let p = both_true _ _ h in
     let q = both_true _ _ p.1 in
-    ap₂ (λ (s : Site) (m : Mark). record { site = s; operand = m.operand; object = m.object }) (same_site_equal _ _ p.0)
+    ap₂ (λ (s : Site) (m : Mark). record { site = s; operand = m.operand; object = m.object })
+    (same_site_equal _ _ p.0)
     (ap₂ (λ (n : ℕ) (o : Object). record { site = a.site; operand = n; object = o }) (equal_true _ _ q.0)
     (same_object_equal _ _ q.1))
 
@@ -105,7 +106,8 @@ module _ (hit : List ℕ) (site : Site) (operand : ℕ) where
       ap₂ (λ (s : Site) (n : ℕ). same_site s site && nat_eq n operand) (same_site_equal w.site m.site p.0)
       (equal_true w.operand m.operand p.1)
 
-  other_test : (w : Worth) (m : Mark) → is_worth_of w m.site m.operand ≡ false → is_worth_of w site operand ≡ true
+  other_test : (w : Worth) (m : Mark) → is_worth_of w m.site m.operand ≡ false
+      → is_worth_of w site operand ≡ true
       → same_site m.site site && nat_eq m.operand operand ≡ false
   other_test w m e f = go (same_site m.site site && nat_eq m.operand operand) refl
     where
@@ -115,7 +117,8 @@ module _ (hit : List ℕ) (site : Site) (operand : ℕ) where
           let p = both_true (same_site w.site site) _ f in
           let q = both_true (same_site m.site site) _ g in
           let s : m.site ≡ w.site = same_site_equal m.site site q.0 ∙ sym (same_site_equal w.site site p.0) in
-          let n : m.operand ≡ w.operand = equal_true m.operand operand q.1 ∙ sym (equal_true w.operand operand p.1) in
+          let n : m.operand ≡ w.operand = equal_true m.operand operand q.1
+          ∙ sym (equal_true w.operand operand p.1) in
           let t : is_worth_of w m.site m.operand ≡ true =
           ap₂ (λ (u : Site) (k : ℕ). is_worth_of w u k) s n
           ∙ true_both (site_same w.site) (true_equal w.operand w.operand refl) in
@@ -181,13 +184,15 @@ run_next : (P : Program) (I : Input) (n : ℕ) → has_ended (run P I n) ≡ tru
 unfolding run
 run_next P I n e = ended_next P I (run P I n) e
 
-same_reports : (P : Program) (I : Input) (n : ℕ) → has_ended (run P I n) ≡ true → reports P I (suc n) ≡ reports P I n
+same_reports : (P : Program) (I : Input) (n : ℕ) → has_ended (run P I n) ≡ true
+    → reports P I (suc n) ≡ reports P I n
 unfolding reports
 same_reports P I n e =
     ap (λ b. reports P I n ++ check_reports (run P I n) (cond b None (checked_by I (event P I (run P I n))))) e
     ∙ append-nil (reports P I n)
 
-same_pointed : (P : Program) (I : Input) (n : ℕ) → has_ended (run P I n) ≡ true → pointed P I (suc n) ≡ pointed P I n
+same_pointed : (P : Program) (I : Input) (n : ℕ) → has_ended (run P I n) ≡ true
+    → pointed P I (suc n) ≡ pointed P I n
 unfolding pointed
 same_pointed P I n e =
     ap (λ b. met same_mark (pointed P I n) (cond b []
@@ -209,7 +214,8 @@ made_of : List Report → List Mark → List ℕ → Findings
 made_of rs ms hs = record { reports = rs; marks = record { pointed = ms; hit = hs } }
 
 -- a run that has ended finds no more
-found_next : (P : Program) (I : Input) (n : ℕ) → has_ended (run P I n) ≡ true → findings P I (suc n) ≡ findings P I n
+found_next : (P : Program) (I : Input) (n : ℕ) → has_ended (run P I n) ≡ true
+    → findings P I (suc n) ≡ findings P I n
 unfolding made_of
 found_next P I n e =
     ap (λ rs. made_of rs (pointed P I (suc n)) (hit P I (suc n))) (same_reports P I n e)

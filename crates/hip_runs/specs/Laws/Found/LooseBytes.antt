@@ -23,7 +23,8 @@ use Rattle.hip_lines.specs.Parts as bytes
 -- every byte that a part covers lies in the part's line
 abbrev pub AreInLines : List (Line StorePart) → Type 0
 AreInLines ls =
-    (m : ℕ) (l : Line StorePart) (k : ℕ) (x : StorePart) → slice_get ls m ≡ Some l → slice_get l.parts k ≡ Some x
+    (m : ℕ) (l : Line StorePart) (k : ℕ) (x : StorePart) → slice_get ls m ≡ Some l
+    → slice_get l.parts k ≡ Some x
     → (b : ℕ) → covers x b ≡ true → b / 64 ≡ m
 
 -- ---- a byte that a part shows
@@ -57,8 +58,10 @@ shown_byte o n (suc count) b later h =
         )
 
     go : (shows o n count (suc b) later ≡ true → (c : ℕ) × IsShown o n (suc count) b later c) → (x : Bool)
-        → nat_le o b ≡ x → (y : Bool) → nat_lt b (o + n) ≡ y → (z : Bool) → list_any (λ q. covers q b) later ≡ z
-        → (x && (y && not z)) || shows o n count (suc b) later ≡ true → (c : ℕ) × IsShown o n (suc count) b later c
+        → nat_le o b ≡ x → (y : Bool) → nat_lt b (o + n) ≡ y → (z : Bool)
+        → list_any (λ q. covers q b) later ≡ z
+        → (x && (y && not z)) || shows o n count (suc b) later ≡ true → (c : ℕ)
+        × IsShown o n (suc count) b later c
     go after true p true q false r g =
         (b, record { from = omega arith; to = omega arith; low = le_true _ _ p; high = lt_true _ _ q; bare = r })
     go after true p true q true r g = after g
@@ -121,10 +124,13 @@ found_part o n made d f k (x ∷ ps) y h =
           },
         )
 
-    go : (In y (loose_from o n made d f (suc k) ps) → (i : ℕ) × (p : StorePart) × IsFound o n made d f k (x ∷ ps) y i p)
-        → (a : Bool) → nat_eq x.step made ≡ a → (b : Bool) → nat_le d k ≡ b → (c : Bool) → is_last o n x ps ≡ c →
+    go : (In y (loose_from o n made d f (suc k) ps) → (i : ℕ) × (p : StorePart)
+        × IsFound o n made d f k (x ∷ ps) y i p)
+        → (a : Bool) → nat_eq x.step made ≡ a → (b : Bool) → nat_le d k ≡ b → (c : Bool)
+        → is_last o n x ps ≡ c →
         In y (cond (a && (b && c)) (record { part = x; flushed = nat_lt k f } ∷ loose_from o n made d f (suc k) ps)
-        (loose_from o n made d f (suc k) ps)) → (i : ℕ) × (p : StorePart) × IsFound o n made d f k (x ∷ ps) y i p
+        (loose_from o n made d f (suc k) ps)) → (i : ℕ) × (p : StorePart)
+        × IsFound o n made d f k (x ∷ ps) y i p
     go after true p true q true r (inl e) =
         let z : k ≡ k + 0 = omega arith in (
           0,
@@ -158,7 +164,8 @@ part_found o n made d f k (x ∷ ps) y zero p s =
     go _ _ _ a b c q
   where
     go : (a b c : Bool) → a ≡ true → b ≡ true → c ≡ true → y ≡ record { part = x; flushed = nat_lt k f }
-        → In y (cond (a && (b && c)) (record { part = x; flushed = nat_lt k f } ∷ loose_from o n made d f (suc k) ps)
+        → In y (cond (a && (b && c)) (record { part = x; flushed = nat_lt k f }
+        ∷ loose_from o n made d f (suc k) ps)
         (loose_from o n made d f (suc k) ps))
     go true true true p q r e = inl e
     go true true false p q r e = absurd (let z : ⊥ = cc in z)
@@ -194,7 +201,8 @@ in_bytes ws o (suc n) x i =
     go : (In x (bytes.loose_from ws (suc o) n) → (b : ℕ) × (suc o ≤ b) × (b < suc o + n)
         × (bytes.loose_at ws b
         ≡ Some x)) → (a : Option LooseByte) → bytes.loose_at ws o ≡ a → In x (option_to_list a) ⊎ In x
-        (bytes.loose_from ws (suc o) n) → (b : ℕ) × (o ≤ b) × (b < o + suc n) × (bytes.loose_at ws b ≡ Some x)
+        (bytes.loose_from ws (suc o) n) → (b : ℕ) × (o ≤ b) × (b < o + suc n)
+        × (bytes.loose_at ws b ≡ Some x)
     go next a e (inr j) = let r = next j in (r.0, omega (arith, r.1), omega (arith, r.2), r.3)
     go next None e (inl j) = absurd j
     go next (Some z) e (inl (inl q)) = (o, omega arith, omega arith, e ∙ ap Some (sym q))
@@ -209,7 +217,8 @@ bytes_in ws o (suc n) x b le lt e = go (λ low. bytes_in ws (suc o) n x b low (o
         → In x (bytes.loose_from ws o (suc n))
     go next (inl q) =
         append-left (option_to_list (bytes.loose_at ws o)) (bytes.loose_from ws (suc o) n) x
-        (subst (λ (a : Option LooseByte). In x (option_to_list a)) (sym e ∙ ap (bytes.loose_at ws) (sym q)) (inl refl))
+        (subst (λ (a : Option LooseByte). In x (option_to_list a)) (sym e ∙ ap (bytes.loose_at ws) (sym q))
+        (inl refl))
     go next (inr low) = append-right (option_to_list (bytes.loose_at ws o)) (bytes.loose_from ws (suc o) n) x (next low)
 
 -- ---- the loose byte of a line
@@ -228,7 +237,8 @@ told_byte l b x e =
     go (last_over bytes.part_covers b (shown_line l).parts) (last_over-finds bytes.part_covers b (shown_line l).parts) e
   where
     go : (o : Option (ℕ × Part)) → Finds bytes.part_covers (shown_line l).parts b o
-        → option_map (bytes.loose_by (shown_line l) b) o ≡ Some x → (k : ℕ) × (p : StorePart) × IsTold l b x k p
+        → option_map (bytes.loose_by (shown_line l) b) o ≡ Some x → (k : ℕ) × (p : StorePart)
+        × IsTold l b x k p
     go None h e = absurd (let z : ⊥ = cc in z)
     go (Some (i, q)) h e =
         let a = loose-drop bytes.part_covers (map_line shown_part l) b i q h in
@@ -262,7 +272,8 @@ byte_told l b k p h =
         → option_map (bytes.loose_by (shown_line l) b) o
         ≡ Some (record { offset = b; tag = p.step; flushed = nat_lt k l.flushed })
     go None f =
-        absurd (let g : false ≡ true = sym (f (k - l.durable) (shown_part p) there.at) ∙ there.over in let z : ⊥ = cc in
+        absurd (let g : false ≡ true = sym (f (k - l.durable) (shown_part p) there.at) ∙ there.over in
+        let z : ⊥ = cc in
         z)
     go (Some (i, q)) f =
         let e : i ≡ k - l.durable =
@@ -271,7 +282,8 @@ byte_told l b k p h =
         last_over-part bytes.part_covers (shown_line l).parts b i (k - l.durable) q (shown_part p) f there in
         let s : nat_lt i (l.flushed - l.durable) ≡ nat_lt k l.flushed =
         ap (λ j. nat_lt j (l.flushed - l.durable)) e ∙ shift k l.durable l.flushed h.not_durable in
-        ap₂ (λ (t : ℕ) (u : Bool). Some (record { offset = b; tag = t; flushed = u })) (ap (λ (w : Part). w.tag) g) s
+        ap₂ (λ (t : ℕ) (u : Bool). Some (record { offset = b; tag = t; flushed = u }))
+        (ap (λ (w : Part). w.tag) g) s
 
 -- ---- both ways
 
@@ -279,10 +291,12 @@ over_true : (p : StorePart) (c : ℕ) → p.offset ≤ c → c < p.offset + leng
 over_true p c le lt =
     let a = true_le p.offset c le in let b = true_lt c (p.offset + length p.bytes) lt in rw (a, b) refl
 
-pub true_over : (p : StorePart) (c : ℕ) → covers p c ≡ true → (p.offset ≤ c) × (c < p.offset + length p.bytes)
+pub true_over : (p : StorePart) (c : ℕ) → covers p c ≡ true → (p.offset ≤ c)
+    × (c < p.offset + length p.bytes)
 true_over p c h = go (nat_le p.offset c) refl (nat_lt c (p.offset + length p.bytes)) refl h
   where
-    go : (a : Bool) → nat_le p.offset c ≡ a → (b : Bool) → nat_lt c (p.offset + length p.bytes) ≡ b → a && b ≡ true
+    go : (a : Bool) → nat_le p.offset c ≡ a → (b : Bool) → nat_lt c (p.offset + length p.bytes) ≡ b
+        → a && b ≡ true
         → (p.offset ≤ c) × (c < p.offset + length p.bytes)
     go true p true q h = (le_true _ _ p, lt_true _ _ q)
     go true p false q h = absurd (let z : ⊥ = cc in z)

@@ -85,7 +85,8 @@ module _ (P : Program) (s : State) (h : HasHistory P s) (at : HasSites P s) wher
     closed =
         omega (arith, closed_few (levels_of s.frames) p.part.levels, length-map p.part.levels (λ (l : Level). l.call));
     store =
-        λ t e. subst (λ (x : Site). is_store (instr_of P x) ≡ true) (same_some p.part.site t e) (at.store p.part here);
+        λ t e. subst (λ (x : Site). is_store (instr_of P x) ≡ true) (same_some p.part.site t e)
+        (at.store p.part here);
     call = λ j t e.
         let r = get-of_map (λ (l : Level). l.call) p.part.levels j t e in
         subst (λ (x : Site). is_defined_call P (instr_of P x) ≡ true) r.2

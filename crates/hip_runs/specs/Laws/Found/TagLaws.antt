@@ -65,7 +65,8 @@ module _ (ps : List LoosePart) (bs : List LooseByte) (made : ℕ) (h : AreAlike 
   some_told = both_ways _ _ (λ e. to ps (λ p i. h.byte_of p i) e) (λ e. from (any_in (λ b. nat_eq b.tag made) bs e))
     where
       to : (qs : List LoosePart)
-          → ((p : LoosePart) → In p qs → (b : LooseByte) × In b bs × (b.tag ≡ made) × (b.flushed ≡ p.flushed))
+          → ((p : LoosePart) → In p qs → (b : LooseByte) × In b bs × (b.tag ≡ made)
+          × (b.flushed ≡ p.flushed))
           → has_some qs ≡ true → has_tag made bs ≡ true
       to [] f e = absurd (let z : ⊥ = cc in z)
       to (p ∷ qs) f e =

@@ -28,16 +28,19 @@ shown_change g h o n e j (l ∷ ls) a =
     here true = e j l a.0
     here false = refl
 
-same_parts : (k : StorePart → StorePart) → ((p : StorePart) → shown_part (k p) ≡ shown_part p) → (ps : List StorePart)
+same_parts : (k : StorePart → StorePart) → ((p : StorePart) → shown_part (k p) ≡ shown_part p)
+    → (ps : List StorePart)
     → map shown_part (map k ps) ≡ map shown_part ps
 same_parts k e [] = refl
 same_parts k e (p ∷ ps) = ap₂ (λ x xs. x ∷ xs) (e p) (same_parts k e ps)
 
-same_line : (k : StorePart → StorePart) → ((p : StorePart) → shown_part (k p) ≡ shown_part p) → (l : Line StorePart)
+same_line : (k : StorePart → StorePart) → ((p : StorePart) → shown_part (k p) ≡ shown_part p)
+    → (l : Line StorePart)
     → map_line shown_part (map_line k l) ≡ map_line shown_part l
 same_line k e l = ap (λ ps. record { parts = ps; flushed = l.flushed; durable = l.durable }) (same_parts k e l.parts)
 
-flush_shown : (flush : Flush) (l : Line StorePart) → shown_line (flush_line flush l) ≡ pending_flushed (shown_line l)
+flush_shown : (flush : Flush) (l : Line StorePart)
+    → shown_line (flush_line flush l) ≡ pending_flushed (shown_line l)
 flush_shown flush l =
     ap (λ n. pending_of (record {
       parts = map shown_part (map (noted_flush flush) l.parts);
@@ -71,7 +74,8 @@ store_shown counts site levels o bytes j l h =
     ∙ ap (λ n. pending_with (record { offset = start_in j o; size = n; tag = counts.steps }) (shown_line l))
     (part_length o j bytes)
 
-fenced_shown : (ls : List (Line StorePart)) → AreOrdered ls → shown (fenced_lines ls) ≡ pending_fenced_all (shown ls)
+fenced_shown : (ls : List (Line StorePart)) → AreOrdered ls
+    → shown (fenced_lines ls) ≡ pending_fenced_all (shown ls)
 fenced_shown [] a = refl
 fenced_shown (l ∷ ls) a = ap₂ (λ w ws. w ∷ ws) (fence_shown l a.0) (fenced_shown ls a.1)
 
@@ -103,7 +107,8 @@ module _ {I : Input} {ps : List (Pending Part)} {ls : List (Line StorePart)} (h 
   pub holds_flushed : (flush : Flush) (o n : ℕ)
       → HoldsLines I (pending_flushed_all o n ps) (change_range (λ _ l. flush_line flush l) o n ls)
   holds_flushed flush o n = record {
-    are = ap (pending_flushed_all o n) h.are ∙ sym (shown_change _ _ o n (λ j l x. flush_shown flush l) 0 ls h.ordered);
+    are = ap (pending_flushed_all o n) h.are
+        ∙ sym (shown_change _ _ o n (λ j l x. flush_shown flush l) 0 ls h.ordered);
     ordered =
         ordered-change_from _ o n (λ j l x. ordered-flushed_line (map_line (noted_flush flush) l)
         (ordered-map_line (noted_flush flush) l x)) 0 ls h.ordered;
@@ -131,7 +136,8 @@ module _ {I : Input} {ps : List (Pending Part)} {ls : List (Line StorePart)} (h 
 
   -- after the flush of a range that has bytes and may lie in the region
   pub holds_flush : (flush : Flush) (a n : ℕ) → 0 < n
-      → HoldsLines I (cond (in_region I a n) (pending_flushed_all (a - I.base) n ps) ps) (flushed_lines I flush a n ls)
+      → HoldsLines I (cond (in_region I a n) (pending_flushed_all (a - I.base) n ps) ps)
+      (flushed_lines I flush a n ls)
   holds_flush flush a n some =
       subst (λ c. HoldsLines I (cond (in_region I a n) (pending_flushed_all (a - I.base) n ps) ps)
       (cond (c && in_region I a n) (change_range (λ _ l. flush_line flush l) (a - I.base) n ls) ls))

@@ -69,7 +69,8 @@ module _ (Fact : ℕ → List ℕ → ℕ → Type 0) (Returned : ℕ → ℕ �
     pub is : gives_facts g x
 
   -- one more register
-  pub with_value : (g : ℕ) (dest : Option (List ℕ)) (v : ℕ) (rs : Registers) → assigned_fact g dest v → ValuesHold g rs
+  pub with_value : (g : ℕ) (dest : Option (List ℕ)) (v : ℕ) (rs : Registers) → assigned_fact g dest v
+      → ValuesHold g rs
       → ValuesHold g (assigned dest v rs)
   with_value g None v rs p h = h
   with_value g (Some name) v rs p h = record { all = (p, h.all) }
@@ -124,9 +125,11 @@ module _ (Fact : ℕ → List ℕ → ℕ → Type 0) (Returned : ℕ → ℕ �
           IsBlockAt P f.function f.block fn block → slice_get block.body f.place ≡ Some i →
           GivesFacts f.function (instr_action P I (run P I n).world (length fs) f.registers i)
       pub phi : (f : Frame) (c k : ℕ) (fn : Function) (block : Block) (p : Phi) (from : List ℕ) →
-          ValuesHold f.function f.registers → IsBlockAt P f.function c fn block → slice_get block.phis k ≡ Some p →
+          ValuesHold f.function f.registers → IsBlockAt P f.function c fn block
+          → slice_get block.phis k ≡ Some p →
           Fact f.function p.dest (edge_value P.globals I.base f.registers p.edges from)
-      pub result : (f : Frame) (fn : Function) (block : Block) (arg : Option Arg) → ValuesHold f.function f.registers →
+      pub result : (f : Frame) (fn : Function) (block : Block) (arg : Option Arg)
+          → ValuesHold f.function f.registers →
           IsBlockAt P f.function f.block fn block → block.end ≡ ends.Ret arg →
           Returned f.function (returned P.globals I.base f.registers arg)
 
@@ -135,7 +138,8 @@ module _ (Fact : ℕ → List ℕ → ℕ → Type 0) (Returned : ℕ → ℕ �
           → ValuesHold f.function f.registers → IsBlockAt P f.function c fn block →
           (ps : List Phi)
           → ((k : ℕ) (p : Phi)
-          → slice_get ps k ≡ Some p → Fact f.function p.dest (edge_value P.globals I.base f.registers p.edges from))
+          → slice_get ps k ≡ Some p → Fact f.function p.dest
+          (edge_value P.globals I.base f.registers p.edges from))
           → each_value f.function (after_phis P.globals I.base f.registers from ps)
       phis_hold f c fn block from h at [] each = h.all
       phis_hold f c fn block from h at (p ∷ ps) each =
@@ -173,7 +177,8 @@ module _ (Fact : ℕ → List ℕ → ℕ → Type 0) (Returned : ℕ → ℕ �
               kept.result f at.0 block arg h at.1 (let s : block.end ≡ ends.Ret arg = cc in s)
       end_gives f h (Some ends.Unreachable) e = record { is = tt }
 
-      deed_gives : (n : ℕ) (f : Frame) (fs : List Frame) → IsTop (run P I n) f fs → ValuesHold f.function f.registers
+      deed_gives : (n : ℕ) (f : Frame) (fs : List Frame) → IsTop (run P I n) f fs
+          → ValuesHold f.function f.registers
           → (code : List Instr) → code_at P f ≡ code →
           GivesFacts f.function (deed_of P I (run P I n).world (length fs) f (end_at P f) code).action
       deed_gives n f fs t h [] e = end_gives f h (end_at P f) refl

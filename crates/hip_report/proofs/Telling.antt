@@ -21,7 +21,7 @@ use Rattle.hip_report.specs.Standing.{IsKept, IsLooseAt, Tells, flush_of}
 use Rattle.hip_report.specs.declared.pending.FlushNote.{FlushNote}
 use Rattle.hip_report.specs.declared.pending.LineNote.{LineNote}
 use Rattle.hip_report.specs.declared.pending.StoreNote.{StoreNote}
-use Rattle.hip_report.proofs.LooseSteps.{fenced_back, flushed_back, met_by, persisted_back, stored_back}
+use Rattle.hip_report.proofs.noting.LooseSteps.{fenced_back, flushed_back, met_by, persisted_back, stored_back}
 use Rattle.hip_report.proofs.NoteLists.{first_of_more, found_below, last_there, more_flushes, more_stores, none_after, one_flush_more, one_store_more, or_last, still_there}
 
 -- the lines that a store or a flush of so many bytes at an offset meets are changed

@@ -3,6 +3,7 @@ use Rattle.std.specs.Prelude.{◌≡◌, ℕ, suc, Bool, false, cond, nat_eq, Li
 use Rattle.hip_runs.specs.State.{Level}
 use Rattle.hip_report.specs.declared.call_path.Link.{Link}
 use Rattle.hip_report.specs.declared.call_path.Link.TheVariants.{End, Call}
+use Rattle.hip_report.specs.declared.calls.StandingCall.{StandingCall}
 
 abbrev pub levels_in : Link → List Level
 levels_in End = []
@@ -12,6 +13,11 @@ levels_in (Call site birth depth outer) = record { call = site; birth = birth } 
 abbrev pub HasDepth : Link → Type 0
 HasDepth End = Unit {0}
 HasDepth (Call site birth depth outer) = depth ≡ length outer.value
+
+-- calls inside of others, the outermost one of them first
+abbrev pub calls_inside : List StandingCall → List Level → List Level
+calls_inside [] outer = outer
+calls_inside (c ∷ cs) outer = calls_inside cs (record { call = c.site; birth = c.birth } ∷ outer)
 
 -- the births of calls that stand, the outermost one first
 abbrev pub births_of : List Level → List ℕ

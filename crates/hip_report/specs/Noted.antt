@@ -42,7 +42,7 @@ pub record AreNoted (P : Program) (I : Input) (n : ℕ) (c : Notes) : Type 0 whe
   pub few : c.entries ≤ c.header + n
   pub header : c.header ≤ 2 ^ 64
   pub fence : c.fence ≡ last_fence P I n
-  pub calls : c.calls.value ≡ levels_of (run P I n).frames
+  pub calls : c.calls ≡ levels_of (run P I n).frames
   pub births : c.births.items ≡ births_of (levels_of (run P I n).frames)
   pub pending : Tells P I n c.header c.pending.stores.items (lines_of c.pending.lines)
   pub marks : map mark_of c.marks.keys ≡ pointed P I n
@@ -59,7 +59,8 @@ ChangeLines to o n old new = (j : ℕ)
     → lines_of new.lines j ≡ cond (has_bytes j o n) (to (lines_of old.lines j)) (lines_of old.lines j)
 
 abbrev pub StaySame : Pending → Pending → Type 0
-StaySame old new = (new.stores.items ≡ old.stores.items) × ((j : ℕ) → lines_of new.lines j ≡ lines_of old.lines j)
+StaySame old new = (new.stores.items ≡ old.stores.items)
+    × ((j : ℕ) → lines_of new.lines j ≡ lines_of old.lines j)
 
 -- a note of a store by a step at a site, with this entry and under these calls
 pub record IsNoteOf (step entry : ℕ) (site : Site) (calls : List Level) (note : StoreNote) : Type 0 where
@@ -71,7 +72,8 @@ pub record IsNoteOf (step entry : ℕ) (site : Site) (calls : List Level) (note 
 abbrev pub StoredAt : Option Site → ℕ → ℕ → List Level → ℕ → ℕ → Pending → Pending → Type 0
 StoredAt None step entry calls o m old new = Unit {0}
 StoredAt (Some site) step entry calls o m old new =
-    ((note : StoreNote) × IsNoteOf step entry site calls note × (new.stores.items ≡ old.stores.items ++ note ∷ []))
+    ((note : StoreNote) × IsNoteOf step entry site calls note
+    × (new.stores.items ≡ old.stores.items ++ note ∷ []))
     × ChangeLines (λ l. Some (with_store l)) o m old new
 
 abbrev pub FlushedAt : Option Site → ℕ → ℕ → ℕ → Pending → Pending → Type 0
@@ -113,7 +115,8 @@ range_of base region (events.End (Stop code)) = Some (record { offset = 0; size 
 range_of base region _ = None
 
 -- the reports behind others, of a check of a range if there is one
-abbrev pub Reported : Option Range → List ℕ → ℕ → Option ℕ → Pending → List (Waiting Part) → List Report
+abbrev pub Reported : Option Range → List ℕ → ℕ → Option ℕ → Pending → List (Waiting Part)
+    → List Report
     → List Report → Type 0
 Reported None births entry fence p lines old new = new ≡ old
 Reported (Some r) births entry fence p lines old new =

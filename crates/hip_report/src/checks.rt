@@ -69,7 +69,8 @@ fn groups_of(
     size: u64,
 ) -> Result<BTreeMap<u128, Group>, NoMemory>
     requires within { offset + size ≤ LINE_SIZE * length lines.now.lines }
-    requires flushes { (j : ℕ) → (l : Line) → lines_of notes.now j ≡ Some l → FlushesAscend 0 (2 ^ 128) l.flushes }
+    requires flushes { (j : ℕ) → (l : Line) → lines_of notes.now j ≡ Some l
+        → FlushesAscend 0 (2 ^ 128) l.flushes }
     ensures told { IfOk result (λ groups. (tag : ℕ)
         → tree.get nat_cmp groups tag ≡ group_from (lines_of notes.now) tag None
         (loose_from lines.now.lines offset size)) }

@@ -7,7 +7,7 @@ ghost use Rattle.hip_report.specs.declared.pending.LineNote.{LineNote as Line};
 ghost use Rattle.hip_report.specs.Noted.{EndsBelow, FlushedAt, Follows, Reported, StoredAt, births_after, calls_after, range_of};
 ghost use Rattle.hip_report.specs.Pending.{FlushesAscend, StoresAscend, lines_of};
 
-use crate::call_path::CallPath;
+use crate::calls::Calls;
 use crate::checks::{Check, check_range};
 use crate::marks::{MarkKey, meet_mark};
 use crate::notes::{forget_birth, note_flush, note_store};
@@ -18,7 +18,6 @@ use hip_runs::{Ending, Event, Mark, Report};
 use hip_types::{NoMemory, Row};
 use indexmap::IndexSet;
 use std::alloc::Global;
-use std::rc::Rc;
 
 /// Where a run stands before a step: the site, the number of steps, and that of the entry that the step may have.
 #[derive(Clone, Copy)]
@@ -35,11 +34,14 @@ pub fn note_lines(
     event: Event,
     moment: Moment,
     base: u64,
-    calls: &Rc<CallPath>,
+    calls: &mut Calls,
+    standing: usize,
 ) -> Result<(), NoMemory>
-    requires { EndsBelow base event }
-    ensures { OnOk result
-        (Follows event moment.site base moment.step moment.entry calls.now.value pending.old pending.new) }
+    requires ends { EndsBelow base event }
+    requires standing { standing ≡ length calls.old }
+    ensures follows { OnOk result
+        (Follows event moment.site base moment.step moment.entry calls.old pending.old pending.new) }
+    ensures calls { OnOk result (calls.new ≡ calls.old) }
 {
     match event {
         Event::Store { addr, size, .. } => {
@@ -48,6 +50,7 @@ pub fn note_lines(
                 pending,
                 moment,
                 calls,
+                standing,
                 addr.saturating_sub(base),
                 size as u64,
             )
@@ -61,13 +64,16 @@ fn store_at(
     alloc: Global,
     pending: &mut Pending,
     moment: Moment,
-    calls: &Rc<CallPath>,
+    calls: &mut Calls,
+    standing: usize,
     offset: u64,
     size: u64,
 ) -> Result<(), NoMemory>
-    requires { offset + size < 2 ^ 64 }
-    ensures { OnOk result
-        (StoredAt moment.site moment.step moment.entry calls.now.value offset size pending.old pending.new) }
+    requires ends { offset + size < 2 ^ 64 }
+    requires standing { standing ≡ length calls.old }
+    ensures stored { OnOk result
+        (StoredAt moment.site moment.step moment.entry calls.old offset size pending.old pending.new) }
+    ensures calls { OnOk result (calls.new ≡ calls.old) }
 {
     let Some(site) = moment.site else {
         return Ok(());
@@ -76,7 +82,7 @@ fn store_at(
         tag: moment.step,
         entry: moment.entry,
         site,
-        calls: CallPath::shared(calls)?,
+        calls: calls.path(alloc, standing)?,
     };
     note_store(alloc, pending, note, offset, size)
 }
@@ -97,44 +103,39 @@ fn flush_at(pending: &mut Pending, moment: Moment, offset: u64, size: u64) -> Re
 
 /// Notes the calls after a step, by how many frames stood before it and stand after it.
 pub fn note_calls(
-    alloc: Global,
-    calls: &mut Rc<CallPath>,
+    calls: &mut Calls,
     births: &mut Vec<u128>,
     moment: Moment,
     before: usize,
     after: usize,
 ) -> Result<(), NoMemory>
-    requires { length births.old.items ≡ length calls.old.value }
-    ensures calls { OnOk result (calls.new.value ≡ calls_after before after moment.step moment.site calls.old.value) }
+    ensures calls { OnOk result (calls.new ≡ calls_after before after moment.step moment.site calls.old) }
     ensures births { OnOk result (births.new.items
         ≡ births_after before after moment.step moment.site births.old.items) }
 {
     if before < after {
         return match moment.site {
-            Some(site) => note_call(alloc, calls, births, site, moment.step),
+            Some(site) => note_call(calls, births, site, moment.step),
             None => Ok(()),
         };
     }
     if after < before {
-        *calls = CallPath::outside(calls)?;
+        calls.leave()?;
         forget_birth(births);
     }
     Ok(())
 }
 
 fn note_call(
-    alloc: Global,
-    calls: &mut Rc<CallPath>,
+    calls: &mut Calls,
     births: &mut Vec<u128>,
     site: Site,
     step: u128,
 ) -> Result<(), NoMemory>
-    requires { length births.old.items ≡ length calls.old.value }
-    ensures calls { OnOk result (calls.new.value ≡ record { call = site; birth = step } ∷ calls.old.value) }
+    ensures calls { OnOk result (calls.new ≡ record { call = site; birth = step } ∷ calls.old) }
     ensures births { OnOk result (births.new.items ≡ births.old.items ++ step ∷ []) }
 {
-    let outer = CallPath::shared(calls)?;
-    *calls = CallPath::inside(alloc, site, step, births.len(), outer)?;
+    calls.enter(site, step)?;
     match births.push(step) {
         Ok(()) => Ok(()),
         Err(_) => Err(NoMemory),

@@ -91,7 +91,8 @@ fn meet_tag(tags: &mut BTreeSet<u128>, tag: u128) -> Result<(), NoMemory>
 fn meet_line(alloc: Global, lines: &mut BTreeMap<u64, LineNote>, line: u64) -> Result<(), NoMemory>
     requires { AreBlank (lines_of lines.old) }
     ensures here { OnOk result (lines_of lines.new line ≡ Some blank) }
-    ensures others { OnOk result ((j : ℕ) → lines_of lines.old j ≡ Some blank → lines_of lines.new j ≡ Some blank) }
+    ensures others { OnOk result ((j : ℕ) → lines_of lines.old j ≡ Some blank
+        → lines_of lines.new j ≡ Some blank) }
     ensures blank { OnOk result (AreBlank (lines_of lines.new)) }
 {
     store_line(alloc, lines, line)

@@ -72,7 +72,8 @@ fn place_of(key: MarkKey) -> usize {
 /// Whether a mark is at hand.
 #[inline(always)]
 pub fn is_recent(recent: &[Option<MarkKey>], mark: Mark) -> bool
-    ensures { result ≡ true → (i : ℕ) × (k : Key) × (slice_get recent.now i ≡ Some (Some k)) × (mark_of k ≡ mark) }
+    ensures { result ≡ true → (i : ℕ) × (k : Key) × (slice_get recent.now i ≡ Some (Some k))
+        × (mark_of k ≡ mark) }
 {
     let key = key_of(mark);
     match recent.get(place_of(key)) {
@@ -108,7 +109,8 @@ pub fn meet_mark(
     mark: Mark,
 ) -> Result<(), NoMemory>
     requires { AreMet (map mark_of marks.old.keys) recent.old.items }
-    ensures marks { OnOk result (map mark_of marks.new.keys ≡ met same_mark (map mark_of marks.old.keys) (mark ∷ [])) }
+    ensures marks { OnOk result (map mark_of marks.new.keys
+        ≡ met same_mark (map mark_of marks.old.keys) (mark ∷ [])) }
     ensures known { OnOk result (AreMet (map mark_of marks.new.keys) recent.new.items) }
 {
     let key = key_of(mark);

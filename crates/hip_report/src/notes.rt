@@ -6,7 +6,7 @@ ghost use Rattle.hip_report.specs.MarkKeys.{AreMet, WereHit};
 ghost use Rattle.hip_report.specs.Noted.{Follows};
 ghost use Rattle.hip_report.specs.Pending.{is_between, lines_of, with_flush, with_store};
 
-use crate::call_path::CallPath;
+use crate::calls::Calls;
 use crate::marks::{MarkKey, none_recent};
 use crate::pending::{FlushNote, Pending, StoreNote, flush_lines};
 use hip_ir::Site;
@@ -15,7 +15,6 @@ use hip_runs::{Event, Report};
 use hip_types::{NoMemory, Row};
 use indexmap::IndexSet;
 use std::alloc::Global;
-use std::rc::Rc;
 
 /// How many stores are kept at least before it is looked whether they can be let go.
 pub const ENOUGH_STORES: usize = 1024;
@@ -27,12 +26,13 @@ pub struct Notes {
     pub header: u128,
     pub steps: u128,
     pub entries: u128,
-    // How many of the next steps are known to be at instructions that are neither stores nor calls, unless the run ends.
+    // How many of the next steps are known to be at instructions that are neither stores nor calls, unless the run
+    // ends.
     pub plain: usize,
     // The step of the last fence.
     pub fence: Option<u128>,
     // The calls that stand, and their births, the outermost one first.
-    pub calls: Rc<CallPath>,
+    pub calls: Calls,
     pub births: Vec<u128>,
     pub pending: Pending,
     // With how many pending stores it is looked next which of them can be let go.
@@ -53,7 +53,7 @@ impl Notes {
         ensures entries { IfOk result (λ notes. notes.entries ≡ header) }
         ensures plain { IfOk result (λ notes. notes.plain ≡ 0) }
         ensures fence { IfOk result (λ notes. notes.fence ≡ None) }
-        ensures calls { IfOk result (λ notes. notes.calls.value ≡ []) }
+        ensures calls { IfOk result (λ notes. notes.calls ≡ []) }
         ensures births { IfOk result (λ notes. notes.births.items ≡ []) }
         ensures stores { IfOk result (λ notes. notes.pending.stores.items ≡ []) }
         ensures lines { IfOk result (λ notes. (j : ℕ) → lines_of notes.pending.lines j ≡ None) }
@@ -63,7 +63,7 @@ impl Notes {
         ensures flags { IfOk result (λ notes. WereHit [] notes.flags.items) }
         ensures reports { IfOk result (λ notes. notes.reports ≡ []) }
     {
-        let calls = CallPath::none(alloc)?;
+        let calls = Calls::none(alloc)?;
         let recent = none_recent(alloc)?;
         Ok(Notes {
             header,

@@ -108,7 +108,8 @@ pub fn store_line(
     line: u64,
 ) -> Result<(), NoMemory>
     ensures here { OnOk result (lines_of lines.new line ≡ Some (with_store (lines_of lines.old line))) }
-    ensures others { OnOk result ((j : ℕ) → (j ≡ line → ⊥) → lines_of lines.new j ≡ lines_of lines.old j) }
+    ensures others { OnOk result ((j : ℕ) → (j ≡ line → ⊥)
+        → lines_of lines.new j ≡ lines_of lines.old j) }
 {
     match lines.get_mut(&line) {
         Some(note) => {
@@ -184,7 +185,8 @@ fn flush_range(
 
 // The first line from one on that has a note, before the end.
 fn first_line(lines: &BTreeMap<u64, LineNote>, from: u64, end: u64) -> Option<u64>
-    ensures some { IfSome result (λ line. (from ≤ line) × (line < end) × IsSome (lines_of lines.now line) × ((j : ℕ)
+    ensures some { IfSome result (λ line. (from ≤ line) × (line < end) × IsSome (lines_of lines.now line)
+        × ((j : ℕ)
         → from ≤ j → j < line → lines_of lines.now j ≡ None)) }
     ensures none { result ≡ None → (j : ℕ) → from ≤ j → j < end → lines_of lines.now j ≡ None }
 {
@@ -203,7 +205,8 @@ fn flush_line(
     line: u64,
 ) -> Result<(), NoMemory>
     ensures here { OnOk result (lines_of lines.new line ≡ option_map (with_flush flush) (lines_of lines.old line)) }
-    ensures others { OnOk result ((j : ℕ) → (j ≡ line → ⊥) → lines_of lines.new j ≡ lines_of lines.old j) }
+    ensures others { OnOk result ((j : ℕ) → (j ≡ line → ⊥)
+        → lines_of lines.new j ≡ lines_of lines.old j) }
 {
     match lines.get_mut(&line) {
         Some(note) => note.flush(flush),

@@ -2,22 +2,21 @@ ghost use Rattle.std.specs.Prelude.{◌≡◌, ◌≤◌, ◌<◌, ◌++◌, ◌
 ghost use Rattle.hip_ir.specs.Sites.{instr_of};
 ghost use Rattle.hip_ir.specs.declared.instr.Instr.{Instr as Code};
 ghost use Rattle.hip_ir.specs.declared.program.Program.{Program as Whole};
-ghost use Rattle.std.specs.List.{flat_map};
-ghost use Rattle.hip_ir.specs.declared.instr.Arg.{Arg as Argument};
-ghost use Rattle.hip_runs.specs.Found.Marks.{pointer_arg, pointer_operands};
+ghost use Rattle.hip_ir.specs.declared.site.Site.{Site as Place};
+ghost use Rattle.hip_runs.specs.Found.Marks.{pointer_operands};
 ghost use Rattle.hip_runs.specs.Step.{has_ended};
 ghost use Rattle.hip_step.specs.Seen.{next_site, state_of};
 ghost use Rattle.hip_report.specs.MarkKeys.{AreMet, mark_of};
 ghost use Rattle.hip_report.specs.Plain.{IsPlainFor};
 ghost use Rattle.hip_report.specs.Sights.{AddAlike, mark_at, marks_ahead, marks_to};
 
+use crate::ahead::{Ahead, NOTHING, ahead_at};
 use crate::marks::is_recent;
 use crate::notes::Notes;
-use crate::plain::plain_at;
-use hip_ir::{Arg, Instr, Program, Site, instr_at};
+use hip_ir::Site;
 use hip_runs::Mark;
 use hip_step::Machine;
-use hip_types::{NoMemory, Row, Scalar};
+use hip_types::{NoMemory, Row};
 use std::alloc::Global;
 
 /// What is seen of a machine before a step.
@@ -44,75 +43,54 @@ pub fn look(alloc: Global, notes: &Notes, machine: &Machine<'_>) -> Result<Sight
         (marks_ahead machine.now.program machine.now.input (state_of machine.now))) }
 {
     let site = machine.site();
-    let plain = plain_next(machine, site);
-    let marks = marks_of_next(alloc, notes, machine, site, plain)?;
+    let ahead = ahead_of(machine, site);
+    let marks = marks_of_next(alloc, notes, machine, site, ahead)?;
     Ok(Sight {
         ended: machine.ending().is_some(),
         site,
         depth: machine.depth(),
-        plain,
+        plain: ahead.plain,
         marks,
     })
 }
 
-// How many plain instructions are next.
+// What is ahead at the next instruction, if there is one.
 #[inline(always)]
-fn plain_next(machine: &Machine<'_>, site: Option<Site>) -> usize
+fn ahead_of(machine: &Machine<'_>, site: Option<Site>) -> Ahead
     requires { site ≡ next_site machine.now.program (state_of machine.now) }
-    ensures { 0 < result → IsPlainFor machine.now.program (state_of machine.now) result }
+    ensures plain { 0 < result.plain → IsPlainFor machine.now.program (state_of machine.now) result.plain }
+    ensures operands { (s : Place) → (P : Whole) → (i : Code) → site ≡ Some s
+        → instr_of machine.now.program s ≡ Some i → length (pointer_operands P i) ≤ result.operands }
 {
     match site {
-        Some(site) => plain_at(machine.checked().program(), site),
-        None => 0,
+        Some(site) => ahead_at(machine.checked().program(), site),
+        None => NOTHING,
     }
 }
 
+// The marks of the next step, where this is ahead. A plain instruction has none.
 #[inline(always)]
 fn marks_of_next(
     alloc: Global,
     notes: &Notes,
     machine: &Machine<'_>,
     site: Option<Site>,
-    plain: usize,
+    ahead: Ahead,
 ) -> Result<Row<Mark>, NoMemory>
     requires known { AreMet (map mark_of notes.now.marks.keys) notes.now.recent.items }
     requires site { site ≡ next_site machine.now.program (state_of machine.now) }
-    requires plain { 0 < plain → IsPlainFor machine.now.program (state_of machine.now) plain }
+    requires plain { 0 < ahead.plain → IsPlainFor machine.now.program (state_of machine.now) ahead.plain }
+    requires operands { (s : Place) → (P : Whole) → (i : Code) → site ≡ Some s
+        → instr_of machine.now.program s ≡ Some i → length (pointer_operands P i) ≤ ahead.operands }
     ensures { IfOk result (λ marks. AddAlike (map mark_of notes.now.marks.keys) marks
         (marks_ahead machine.now.program machine.now.input (state_of machine.now))) }
 {
-    if plain > 0 {
+    if ahead.plain > 0 {
         return Ok(Row::new(alloc));
     }
     match site {
-        Some(site) => marks_at(alloc, notes, machine, site),
+        Some(site) => first_marks(alloc, notes, machine, site, ahead.operands),
         None => Ok(Row::new(alloc)),
-    }
-}
-
-#[inline(always)]
-fn marks_at(
-    alloc: Global,
-    notes: &Notes,
-    machine: &Machine<'_>,
-    site: Site,
-) -> Result<Row<Mark>, NoMemory>
-    requires known { AreMet (map mark_of notes.now.marks.keys) notes.now.recent.items }
-    requires site { next_site machine.now.program (state_of machine.now) ≡ Some site }
-    ensures { IfOk result (λ marks. AddAlike (map mark_of notes.now.marks.keys) marks
-        (marks_ahead machine.now.program machine.now.input (state_of machine.now))) }
-{
-    let count = operands_at(machine.checked().program(), site);
-    first_marks(alloc, notes, machine, site, count)
-}
-
-// No less than the number of pointer operands at a site.
-fn operands_at(program: &Program, site: Site) -> usize
-    ensures { (P : Whole) → (i : Code) → instr_of program.now site ≡ Some i → length (pointer_operands P i) ≤ result }
-{
-    match instr_at(program, site) {
-        Some(instr) => operand_count(instr),
-        None => 0,
     }
 }
 
@@ -173,36 +151,4 @@ fn push_mark(notes: &Notes, mark: Mark, marks: &mut Row<Mark>) -> Result<(), NoM
         return Ok(());
     }
     marks.push(mark)
-}
-
-// No less than the number of its pointer operands.
-fn operand_count(instr: &Instr) -> usize
-    ensures { (P : Whole) → length (pointer_operands P instr.now) ≤ result }
-{
-    match instr {
-        Instr::Store { .. } => 1,
-        Instr::Call { args, .. } => pointer_count(args.as_slice()),
-        _ => 0,
-    }
-}
-
-// How many of the arguments are pointers.
-fn pointer_count(args: &[Arg]) -> usize
-    ensures { length (flat_map pointer_arg args.now) ≤ result }
-{
-    let mut count = 0;
-    'each: for arg in args {
-        count += pointers_in(arg.ty);
-    }
-    count
-}
-
-fn pointers_in(ty: Scalar) -> usize
-    ensures few { result ≤ 1 }
-    ensures pointer { (a : Argument) → a.ty ≡ ty → length (pointer_arg a) ≤ result }
-{
-    match ty {
-        Scalar::Ptr => 1,
-        Scalar::Int(_) => 0,
-    }
 }

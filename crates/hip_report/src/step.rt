@@ -71,38 +71,39 @@ fn step_lines(
     moment: Moment,
     base: u64,
 ) -> Result<(), NoMemory>
-    requires { EndsBelow base event }
+    requires ends { EndsBelow base event }
+    requires births { length notes.old.births.items ≡ length notes.old.calls }
     ensures follows { OnOk result
-        (Follows event moment.site base moment.step moment.entry notes.old.calls.value notes.old.pending
+        (Follows event moment.site base moment.step moment.entry notes.old.calls notes.old.pending
         notes.new.pending) }
     ensures rest { OnOk result (notes.new ≡ record notes.old { pending = notes.new.pending }) }
 {
-    note_lines(alloc, &mut notes.pending, event, moment, base, &notes.calls)
+    let standing = notes.births.len();
+    note_lines(
+        alloc,
+        &mut notes.pending,
+        event,
+        moment,
+        base,
+        &mut notes.calls,
+        standing,
+    )
 }
 
 // The calls after a step.
 fn step_calls(
-    alloc: Global,
     notes: &mut Notes,
     moment: Moment,
     before: usize,
     after: usize,
 ) -> Result<(), NoMemory>
-    requires { length notes.old.births.items ≡ length notes.old.calls.value }
-    ensures calls { OnOk result (notes.new.calls.value
-        ≡ calls_after before after moment.step moment.site notes.old.calls.value) }
+    ensures calls { OnOk result (notes.new.calls
+        ≡ calls_after before after moment.step moment.site notes.old.calls) }
     ensures births { OnOk result (notes.new.births.items
         ≡ births_after before after moment.step moment.site notes.old.births.items) }
     ensures rest { OnOk result (notes.new ≡ record notes.old { calls = notes.new.calls; births = notes.new.births }) }
 {
-    note_calls(
-        alloc,
-        &mut notes.calls,
-        &mut notes.births,
-        moment,
-        before,
-        after,
-    )
+    note_calls(&mut notes.calls, &mut notes.births, moment, before, after)
 }
 
 // The marks of a step with this event.
@@ -305,7 +306,7 @@ fn note_change(
     let lines = machine.lines();
     step_check(alloc, notes, lines, seen, base, region, moment.entry)?;
     step_lines(alloc, notes, seen, moment, base)?;
-    step_calls(alloc, notes, moment, sight.depth, after)?;
+    step_calls(notes, moment, sight.depth, after)?;
     step_marks(notes, seen, sight.marks.as_slice())?;
     step_hit(notes, seen, machine)?;
     step_counts(notes, seen);

@@ -21,7 +21,7 @@ use Rattle.hip_lines.specs.Pending.{Pending as Waiting}
 use Rattle.hip_lines.specs.declared.part.Part.{Part}
 use Rattle.hip_report.specs.Noted.{AreNoted, EndsBelow, IsForgotten}
 use Rattle.hip_report.specs.declared.notes.Notes.{Notes}
-use Rattle.hip_report.proofs.Assembled.{Did, assembled, did_at, ends_below, few_at, first_frame, forgotten}
+use Rattle.hip_report.proofs.noting.Assembled.{Did, assembled, did_at, ends_below, few_at, first_frame, forgotten}
 use Rattle.hip_report.proofs.ClosedCalls.{length_births}
 use Rattle.hip_report.proofs.MarksAtHand.{unless_alike}
 use Rattle.hip_report.proofs.NoteLists.{more_flushes, more_stores}
@@ -50,8 +50,8 @@ step_check-requires-clause-flushes c j l e =
     let few : n < 2 ^ 127 = few_at m.program m.input n c.args.notes.now h (c.runs_are_bounded.ensures.bounded m.program m.input n) c.input.ensures.valid.limit c.requires.short in
     more_flushes 0 n (2 ^ 128) _ (omega (arith, few)) (h.pending.flushes j l e)
 
-pub step_lines-requires : goal.step_lines-requires
-step_lines-requires c =
+pub step_lines-requires-clause-ends : goal.step_lines-requires-clause-ends
+step_lines-requires-clause-ends c =
     let m = c.args.machine.now in
     let n = m.taken - 1 in
     let size = same_size m.program m.input n c.input.ensures.valid in
@@ -59,14 +59,12 @@ step_lines-requires c =
     let lies : Lies m.input c.args.seen = subst (λ (e : Event). Lies m.input e) (sym c.requires.event) (event_lies m.program m.input (run m.program m.input n)) in
     subst (λ (i : Input). EndsBelow i.base c.args.seen) (sym c.input.ensures.is) (ends_below m.input _ c.args.seen lies size small)
 
-pub step_calls-requires : goal.step_calls-requires
-step_calls-requires c =
+pub step_lines-requires-clause-births : goal.step_lines-requires-clause-births
+step_lines-requires-clause-births c =
     let h = c.requires.noted in
     let r1 = c.in_ok-step_check.ensures.rest in
-    let r2 = c.in_ok-step_lines.ensures.rest in
-    ap (λ (x : Notes). length x.births.items) r2 ∙ ap (λ (x : Notes). length x.births.items) r1
-    ∙ ap length h.births ∙ length_births _ ∙ sym (ap length h.calls)
-    ∙ sym (ap (λ (x : Notes). length x.calls.value) r1) ∙ sym (ap (λ (x : Notes). length x.calls.value) r2)
+    ap (λ (x : Notes). length x.births.items) r1 ∙ ap length h.births ∙ length_births _ ∙ sym (ap length h.calls)
+    ∙ sym (ap (λ (x : Notes). length x.calls) r1)
 
 pub returns-clause-noted : goal.returns-clause-noted
 returns-clause-noted c =

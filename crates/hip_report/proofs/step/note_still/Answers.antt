@@ -3,7 +3,7 @@ use Rattle.hip_runs.specs.Step.{run}
 use Rattle.hip_report.specs.Noted.{AreNoted}
 use Rattle.hip_report.specs.Sights.{is_still}
 use Rattle.hip_report.specs.declared.notes.Notes.{Notes}
-use Rattle.hip_report.proofs.Still.{still_noted}
+use Rattle.hip_report.proofs.noting.Still.{still_noted}
 use Rattle.hip_report.proofs.step.note_still.Goals as goal
 
 pub returns-clause-noted : goal.returns-clause-noted

@@ -35,7 +35,7 @@ tells_none P I header notes lines e h = record {
   kept = λ b k x l. absurd (none_loose P I b k x l);
 }
 
-nothing_noted : (c : Notes) → c.header ≤ 2 ^ 64 → c.steps ≡ 0 → c.entries ≡ c.header → c.fence ≡ None → c.calls.value ≡ [] → c.births.items ≡ [] → c.pending.stores.items ≡ []
+nothing_noted : (c : Notes) → c.header ≤ 2 ^ 64 → c.steps ≡ 0 → c.entries ≡ c.header → c.fence ≡ None → c.calls ≡ [] → c.births.items ≡ [] → c.pending.stores.items ≡ []
     → ((j : ℕ) → lines_of c.pending.lines j ≡ None) → c.marks.keys ≡ [] → AreMet [] c.recent.items → c.hit.keys ≡ [] → WereHit [] c.flags.items → c.reports ≡ [] → (P : Program) (I : Input) → AreNoted P I 0 c
 unfolding run last_fence pointed hit reports
 nothing_noted c h steps entries fence calls births stores lines marks recent hits flags rs P I = record {
@@ -55,7 +55,7 @@ nothing_noted c h steps entries fence calls births stores lines marks recent hit
   reports = λ e. rs;
 }
 
-pub blank : (c : Notes) → c.header ≤ 2 ^ 64 → c.steps ≡ 0 → c.entries ≡ c.header → c.plain ≡ 0 → c.fence ≡ None → c.calls.value ≡ [] → c.births.items ≡ [] → c.pending.stores.items ≡ []
+pub blank : (c : Notes) → c.header ≤ 2 ^ 64 → c.steps ≡ 0 → c.entries ≡ c.header → c.plain ≡ 0 → c.fence ≡ None → c.calls ≡ [] → c.births.items ≡ [] → c.pending.stores.items ≡ []
     → ((j : ℕ) → lines_of c.pending.lines j ≡ None) → c.marks.keys ≡ [] → AreMet [] c.recent.items → c.hit.keys ≡ [] → WereHit [] c.flags.items → c.reports ≡ [] → (P : Program) (I : Input) → AreTracked P I 0 c
 blank c h steps entries plain fence calls births stores lines marks recent hits flags rs P I = record {
   noted = nothing_noted c h steps entries fence calls births stores lines marks recent hits flags rs P I;

@@ -36,7 +36,7 @@ use Rattle.hip_report.specs.declared.notes.Notes.{Notes}
 use Rattle.hip_report.specs.declared.pending.Pending.{Pending}
 use Rattle.hip_report.proofs.Forgetting.{let_go}
 use Rattle.hip_report.proofs.Rooms.{Lies}
-use Rattle.hip_report.proofs.Steps.{CallsNext, calls_are, calls_next, entries_next, fence_next, hit_next, marks_next, pending_next, reports_next, steps_next}
+use Rattle.hip_report.proofs.noting.Steps.{CallsNext, calls_are, calls_next, entries_next, fence_next, hit_next, marks_next, pending_next, reports_next, steps_next}
 
 -- ---- bounds
 
@@ -60,9 +60,9 @@ ends_below I lines (events.End x) h w s = tt
 pub record Did (P : Program) (I : Input) (c0 c1 c2 c3 c4 c5 c6 : Notes) (lines : List (Waiting Part)) (base region : ℕ) (e : Event) (site : Option Site) (before after : ℕ) (ahead : List Mark) : Type 0 where
   pub told : Reported (range_of base region e) c0.births.items (c0.entries + 1) c0.fence c0.pending lines c0.reports c1.reports
   pub r1 : c1 ≡ record c0 { reports = c1.reports }
-  pub follows : Follows e site base c0.steps (c0.entries + 1) c1.calls.value c1.pending c2.pending
+  pub follows : Follows e site base c0.steps (c0.entries + 1) c1.calls c1.pending c2.pending
   pub r2 : c2 ≡ record c1 { pending = c2.pending }
-  pub calls : c3.calls.value ≡ calls_after before after c0.steps site c2.calls.value
+  pub calls : c3.calls ≡ calls_after before after c0.steps site c2.calls
   pub births : c3.births.items ≡ births_after before after c0.steps site c2.births.items
   pub r3 : c3 ≡ record c2 { calls = c3.calls; births = c3.births }
   pub marks : map mark_of c4.marks.keys ≡ met same_mark (map mark_of c3.marks.keys) (unless_ended e ahead)
@@ -117,17 +117,17 @@ module _ (P : Program) (I : Input) (n : ℕ) (going : has_ended (run P I n) ≡ 
   few6 true e = let k = h.few in let w = header6 in omega (arith, e, k, w)
   few6 false e = let k = h.few in let w = header6 in omega (arith, e, k, w)
 
-  follows_here : Follows E (next_site P (run P I n)) I.base n (c0.entries + 1) c1.calls.value c1.pending c2.pending
-  follows_here = subst (λ b. Follows E (next_site P (run P I n)) b n (c0.entries + 1) c1.calls.value c1.pending c2.pending) is_base (subst (λ s. Follows E (next_site P (run P I n)) base s (c0.entries + 1) c1.calls.value c1.pending c2.pending) h.steps d.follows)
+  follows_here : Follows E (next_site P (run P I n)) I.base n (c0.entries + 1) c1.calls c1.pending c2.pending
+  follows_here = subst (λ b. Follows E (next_site P (run P I n)) b n (c0.entries + 1) c1.calls c1.pending c2.pending) is_base (subst (λ s. Follows E (next_site P (run P I n)) base s (c0.entries + 1) c1.calls c1.pending c2.pending) h.steps d.follows)
 
   pending1 : c1.pending ≡ c0.pending
   pending1 = ap (λ (x : Notes). x.pending) d.r1
 
-  calls1 : c1.calls.value ≡ levels_of (run P I n).frames
-  calls1 = ap (λ (x : Notes). x.calls.value) d.r1 ∙ h.calls
+  calls1 : c1.calls ≡ levels_of (run P I n).frames
+  calls1 = ap (λ (x : Notes). x.calls) d.r1 ∙ h.calls
 
-  calls2 : c2.calls.value ≡ levels_of (run P I n).frames
-  calls2 = ap (λ (x : Notes). x.calls.value) d.r2 ∙ calls1
+  calls2 : c2.calls ≡ levels_of (run P I n).frames
+  calls2 = ap (λ (x : Notes). x.calls) d.r2 ∙ calls1
 
   births2 : c2.births.items ≡ births_of (levels_of (run P I n).frames)
   births2 = ap (λ (x : Notes). x.births.items) d.r2 ∙ ap (λ (x : Notes). x.births.items) d.r1 ∙ h.births
@@ -163,9 +163,9 @@ module _ (P : Program) (I : Input) (n : ℕ) (going : has_ended (run P I n) ≡ 
   reports6 = ap (λ (x : Notes). x.reports) d.r6 ∙ ap (λ (x : Notes). x.reports) d.r5 ∙ ap (λ (x : Notes). x.reports) d.r4 ∙ ap (λ (x : Notes). x.reports) d.r3 ∙ ap (λ (x : Notes). x.reports) d.r2
 
   calls_both : CallsNext P I n going (length (run P I n).frames) (length (run P I (suc n)).frames) (next_site P (run P I n)) (levels_of (run P I n).frames) (levels_of (run P I (suc n)).frames)
-      → (c6.calls.value ≡ levels_of (run P I (suc n)).frames) × (c6.births.items ≡ births_of (levels_of (run P I (suc n)).frames))
+      → (c6.calls ≡ levels_of (run P I (suc n)).frames) × (c6.births.items ≡ births_of (levels_of (run P I (suc n)).frames))
   calls_both (calls_are a b) = (
-    ap (λ x. x.value) calls6 ∙ d.calls ∙ ap₂ (λ s ls. calls_after (length (run P I n).frames) (length (run P I (suc n)).frames) s (next_site P (run P I n)) ls) h.steps calls2 ∙ a,
+    calls6 ∙ d.calls ∙ ap₂ (λ s ls. calls_after (length (run P I n).frames) (length (run P I (suc n)).frames) s (next_site P (run P I n)) ls) h.steps calls2 ∙ a,
     ap (λ x. x.items) births6 ∙ d.births ∙ ap₂ (λ s ls. births_after (length (run P I n).frames) (length (run P I (suc n)).frames) s (next_site P (run P I n)) ls) h.steps births2 ∙ b,
   )
 
@@ -184,7 +184,7 @@ module _ (P : Program) (I : Input) (n : ℕ) (going : has_ended (run P I n) ≡ 
         births = both.1;
         pending = subst (λ i. Tells P I (suc n) i c6.pending.stores.items (lines_of c6.pending.lines)) (sym header6)
             (subst (λ (p : Pending). Tells P I (suc n) c0.header p.stores.items (lines_of p.lines)) (sym pending6)
-            (pending_next P I n going c0.header c1.pending c2.pending old h.counted (c0.entries + 1) c1.calls.value (λ x. ap (λ i. i + 1) (h.entries x)) calls1 f fs q follows_here));
+            (pending_next P I n going c0.header c1.pending c2.pending old h.counted (c0.entries + 1) c1.calls (λ x. ap (λ i. i + 1) (h.entries x)) calls1 f fs q follows_here));
         marks = ap (λ x. map mark_of x.keys) marks6 ∙ d.marks ∙ marks_next P I n going (map mark_of c3.marks.keys) (ap (λ x. map mark_of x.keys) marks3 ∙ h.marks);
         recent = subst (λ x. AreMet (map mark_of x.keys) c6.recent.items) (sym marks6) (subst (λ x. AreMet (map mark_of c4.marks.keys) x.items) (sym recent6) d.known);
         flags = subst (λ x. WereHit x.keys c6.flags.items) (sym hit6) (subst (λ x. WereHit c5.hit.keys x.items) (sym flags6) d.flags);

@@ -35,7 +35,7 @@ use Rattle.hip_report.specs.Noted.{AreNoted}
 use Rattle.hip_report.specs.Plain.{AreTracked, IsPlainFor, PlainAhead, is_plain, is_plain_at}
 use Rattle.hip_report.specs.Sights.{is_still, leaves, marks_ahead}
 use Rattle.hip_report.specs.declared.notes.Notes.{Notes}
-use Rattle.hip_report.proofs.Still.{left_noted, still_counted}
+use Rattle.hip_report.proofs.noting.Still.{left_noted, still_counted}
 use Rattle.hip_report.proofs.MarksAhead.{drop_at}
 
 -- ---- actions

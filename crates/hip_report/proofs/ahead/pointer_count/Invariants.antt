@@ -1,7 +1,7 @@
 use Rattle.std.proofs.Common.{◌≤◌, ◌+◌, drop, length}
 use Rattle.std.specs.List.{flat_map}
 use Rattle.hip_runs.specs.Found.Marks.{pointer_arg}
-use Rattle.hip_report.proofs.sight.pointer_count.Given as goal
+use Rattle.hip_report.proofs.ahead.pointer_count.Given as goal
 
 abbrev pub invariant-each : goal.invariant-each
 invariant-each l = record {

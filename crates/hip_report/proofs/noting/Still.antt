@@ -23,7 +23,7 @@ use Rattle.hip_report.specs.MarkKeys.{mark_of}
 use Rattle.hip_report.specs.Noted.{AreNoted, Follows, Reported, births_after, calls_after, range_of}
 use Rattle.hip_report.specs.Sights.{AddAlike, is_still, leaves, marks_ahead}
 use Rattle.hip_report.specs.declared.notes.Notes.{Notes}
-use Rattle.hip_report.proofs.Assembled.{Did, assembled, first_frame}
+use Rattle.hip_report.proofs.noting.Assembled.{Did, assembled, first_frame}
 use Rattle.hip_report.proofs.MarksAtHand.{unless_alike}
 
 abbrev none_of : (A : Type 0) → List A
@@ -80,7 +80,7 @@ nothing_told (events.End (Trap kind)) s base region lines c = refl
 nothing_told (events.End Cut) s base region lines c = refl
 nothing_told (events.End (Stop code)) s base region lines c = absurd (let z : ⊥ = cc in z)
 
-nothing_follows : (e : Event) → leaves e ≡ true → (site : Option Site) (base : ℕ) (c : Notes) → Follows e site base c.steps (c.entries + 1) c.calls.value c.pending c.pending
+nothing_follows : (e : Event) → leaves e ≡ true → (site : Option Site) (base : ℕ) (c : Notes) → Follows e site base c.steps (c.entries + 1) c.calls c.pending c.pending
 nothing_follows events.Quiet s site base c = (refl, λ j. refl)
 nothing_follows (events.Print z) s site base c = (refl, λ j. refl)
 nothing_follows (events.Store a v m) s site base c = absurd (let z : ⊥ = cc in z)
@@ -140,7 +140,7 @@ left_noted P I n going shaped c c' h left depth alike is =
       r1 = refl;
       follows = nothing_follows (event P I (run P I n)) left (next_site P (run P I n)) I.base c;
       r2 = refl;
-      calls = same_calls (length (run P I n).frames) (length (run P I (suc n)).frames) depth c.steps (next_site P (run P I n)) c.calls.value;
+      calls = same_calls (length (run P I n).frames) (length (run P I (suc n)).frames) depth c.steps (next_site P (run P I n)) c.calls;
       births = same_births (length (run P I n).frames) (length (run P I (suc n)).frames) depth c.steps (next_site P (run P I n)) c.births.items;
       r3 = refl;
       marks = nothing_marked (event P I (run P I n)) (map mark_of c.marks.keys) (marks_ahead P I (run P I n)) alike;

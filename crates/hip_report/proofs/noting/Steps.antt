@@ -41,7 +41,7 @@ use Rattle.hip_report.specs.declared.notes.Notes.{Notes}
 use Rattle.hip_report.specs.declared.pending.LineNote.{LineNote}
 use Rattle.hip_report.specs.declared.pending.Pending.{Pending}
 use Rattle.hip_report.specs.declared.pending.StoreNote.{StoreNote}
-use Rattle.hip_report.proofs.CallSteps.{CallsMove, calls_move, fewer, more, same}
+use Rattle.hip_report.proofs.noting.CallSteps.{CallsMove, calls_move, fewer, more, same}
 use Rattle.hip_report.proofs.MarksAhead.{drop_at}
 use Rattle.hip_report.proofs.Reporting.{reports_of_check}
 use Rattle.hip_report.proofs.Telling.{tell_fence, tell_flush, tell_persist, tell_same, tell_store}

@@ -3,7 +3,7 @@ use Rattle.std.specs.List.{flat_map}
 use Rattle.hip_ir.specs.declared.instr.Arg.{Arg}
 use Rattle.hip_runs.specs.Found.Marks.{pointer_arg}
 use Rattle.hip_report.proofs.MarksAhead.{few_operands}
-use Rattle.hip_report.proofs.sight.operand_count.Goals as goal
+use Rattle.hip_report.proofs.ahead.operand_count.Goals as goal
 
 pub returns-in-Call : goal.returns-in-Call
 returns-in-Call c P =

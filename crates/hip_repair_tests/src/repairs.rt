@@ -1,61 +1,24 @@
 //! Repaired programs, by plans.
 
+use crate::programs::{AMPLE, Place, assert_written, checked, site, sites};
 use hip_examples::{COPY, EVEN_AND_ODD, REACH};
-use hip_fix::{CloneOf, Plan, Repaired, apply, apply_skipping, suits};
-use hip_io::MemSink;
-use hip_ir::Site;
-use hip_parse::parse;
-use hip_types::Row;
-use hip_typing::{Checked, check};
-use hip_write::write;
+use hip_fix::{CloneOf, Plan, apply, apply_skipping, suits};
 use std::alloc::Global;
 use std::process::Abort;
-use std::test::Fail;
-
-/// The program of a text that is sound.
-fn checked(alloc: Global, text: &str) -> Result<Checked, Fail> {
-    let Ok(program) = parse(alloc, text.as_bytes()) else {
-        return Err(Fail::new("not read"));
-    };
-    match check(alloc, program) {
-        Ok(checked) => Ok(checked),
-        Err(_refusal) => Err(Fail::new("refused")),
-    }
-}
-
-const fn site(function: usize, block: usize, index: usize) -> Site {
-    Site {
-        function,
-        block,
-        index,
-    }
-}
 
 /// A plan of these sites.
 fn plan(
-    alloc: Global,
-    flush_after: &[Site],
-    fence_after: &[Site],
-    hoist: &[Site],
-) -> Result<Plan, Fail> {
-    Ok(Plan {
-        flush_after: Row::from_slice(alloc, flush_after)?,
-        fence_after: Row::from_slice(alloc, fence_after)?,
-        hoist: Row::from_slice(alloc, hoist)?,
-    })
-}
-
-/// The repaired program is written so.
-fn assert_written(
     rt: &impl Abort,
     alloc: Global,
-    repaired: &Repaired,
-    text: &str,
-) -> Result<(), Fail> {
-    let mut sink = MemSink::new(alloc, 10_000)?;
-    assert!(rt; write(repaired.checked.program(), &mut sink).is_ok());
-    assert_eq!(rt; sink.bytes(), text.as_bytes());
-    Ok(())
+    flush_after: &[Place],
+    fence_after: &[Place],
+    hoist: &[Place],
+) -> Plan {
+    Plan {
+        flush_after: sites(rt, alloc, flush_after),
+        fence_after: sites(rt, alloc, fence_after),
+        hoist: sites(rt, alloc, hoist),
+    }
 }
 
 /// The plan suits, and the program of the one text repaired by it is the other text, with so many clones.
@@ -66,13 +29,12 @@ fn assert_repaired(
     plan: &Plan,
     repaired: &str,
     clones: &[CloneOf],
-) -> Result<(), Fail> {
-    let checked = checked(alloc, text)?;
+) {
+    let checked = checked(rt, alloc, text);
     assert!(rt; suits(&checked, plan));
-    let answer = apply(alloc, &checked, plan)?;
-    assert_written(rt, alloc, &answer, repaired)?;
+    let answer = apply(alloc, &checked, plan).expect(rt, AMPLE);
+    assert_written(rt, alloc, answer.checked.program(), repaired);
     assert_eq!(rt; answer.clones.as_slice(), clones);
-    Ok(())
 }
 
 const COPY_FLUSHED: &str = "@p = global i64 0, section \".pm\"
@@ -96,9 +58,9 @@ entry:
 ";
 
 #[test]
-fn flush_in_callee(rt: HostRuntime) -> Result<(), Fail> {
-    let plan = plan(rt.alloc(), &[site(0, 0, 1)], &[], &[])?;
-    assert_repaired(&rt, rt.alloc(), COPY, &plan, COPY_FLUSHED, &[])
+fn flush_in_callee(rt: HostRuntime) {
+    let plan = plan(&rt, rt.alloc(), &[(0, 0, 1)], &[], &[]);
+    assert_repaired(&rt, rt.alloc(), COPY, &plan, COPY_FLUSHED, &[]);
 }
 
 const COPY_HOISTED: &str = "@p = global i64 0, section \".pm\"
@@ -130,13 +92,13 @@ entry:
 ";
 
 #[test]
-fn copy_hoisted(rt: HostRuntime) -> Result<(), Fail> {
-    let plan = plan(rt.alloc(), &[], &[], &[site(1, 0, 4)])?;
+fn copy_hoisted(rt: HostRuntime) {
+    let plan = plan(&rt, rt.alloc(), &[], &[], &[(1, 0, 4)]);
     let clone = CloneOf {
         original: 0,
         copy: 2,
     };
-    assert_repaired(&rt, rt.alloc(), COPY, &plan, COPY_HOISTED, &[clone])
+    assert_repaired(&rt, rt.alloc(), COPY, &plan, COPY_HOISTED, &[clone]);
 }
 
 const COUNTING_CLONES: &str = "@p = global i64 0, section \".pm\"
@@ -203,8 +165,8 @@ done:
 ";
 
 #[test]
-fn mutual_recursion(rt: HostRuntime) -> Result<(), Fail> {
-    let plan = plan(rt.alloc(), &[], &[], &[site(2, 0, 2)])?;
+fn mutual_recursion(rt: HostRuntime) {
+    let plan = plan(&rt, rt.alloc(), &[], &[], &[(2, 0, 2)]);
     let even = CloneOf {
         original: 0,
         copy: 3,
@@ -220,7 +182,7 @@ fn mutual_recursion(rt: HostRuntime) -> Result<(), Fail> {
         &plan,
         COUNTING_CLONES,
         &[even, odd],
-    )
+    );
 }
 
 const HOISTED_INSIDE: &str = "@p = global i64 0, section \".pm\"
@@ -289,8 +251,8 @@ done:
 ";
 
 #[test]
-fn hoists_inside_clones(rt: HostRuntime) -> Result<(), Fail> {
-    let plan = plan(rt.alloc(), &[], &[], &[site(0, 1, 2), site(2, 0, 2)])?;
+fn hoists_inside_clones(rt: HostRuntime) {
+    let plan = plan(&rt, rt.alloc(), &[], &[], &[(0, 1, 2), (2, 0, 2)]);
     let odd = CloneOf {
         original: 1,
         copy: 3,
@@ -306,16 +268,24 @@ fn hoists_inside_clones(rt: HostRuntime) -> Result<(), Fail> {
         &plan,
         HOISTED_INSIDE,
         &[odd, even],
-    )
+    );
 }
 
 #[test]
-fn no_calls_no_clones(rt: HostRuntime) -> Result<(), Fail> {
-    let program = checked(rt.alloc(), COPY)?;
-    assert!(rt; hip_calls::callees(rt.alloc(), program.program(), &[])?.is_empty());
-    assert!(rt; hip_calls::fresh_names(rt.alloc(), program.program(), &[])?.is_empty());
-    let nothing = plan(rt.alloc(), &[], &[], &[])?;
-    assert_repaired(&rt, rt.alloc(), COPY, &nothing, COPY, &[])
+fn no_calls_no_clones(rt: HostRuntime) {
+    let program = checked(&rt, rt.alloc(), COPY);
+    assert!(rt;
+        hip_calls::callees(rt.alloc(), program.program(), &[])
+            .expect(&rt, AMPLE)
+            .is_empty()
+    );
+    assert!(rt;
+        hip_calls::fresh_names(rt.alloc(), program.program(), &[])
+            .expect(&rt, AMPLE)
+            .is_empty()
+    );
+    let nothing = plan(&rt, rt.alloc(), &[], &[], &[]);
+    assert_repaired(&rt, rt.alloc(), COPY, &nothing, COPY, &[]);
 }
 
 const NAME_TAKEN: &str = "define void @copy(ptr %d) {
@@ -362,8 +332,8 @@ entry:
 ";
 
 #[test]
-fn clone_name_taken(rt: HostRuntime) -> Result<(), Fail> {
-    let plan = plan(rt.alloc(), &[], &[], &[site(2, 0, 1)])?;
+fn clone_name_taken(rt: HostRuntime) {
+    let plan = plan(&rt, rt.alloc(), &[], &[], &[(2, 0, 1)]);
     let clone = CloneOf {
         original: 0,
         copy: 3,
@@ -375,7 +345,7 @@ fn clone_name_taken(rt: HostRuntime) -> Result<(), Fail> {
         &plan,
         NAME_TAKEN_REPAIRED,
         &[clone],
-    )
+    );
 }
 
 const REACH_REPAIRED: &str = "@p = global i64 0, section \".pm\"
@@ -409,16 +379,18 @@ entry:
 ";
 
 #[test]
-fn alloca_gets_no_flush(rt: HostRuntime) -> Result<(), Fail> {
-    let plan = plan(rt.alloc(), &[], &[], &[site(1, 0, 1)])?;
+fn alloca_gets_no_flush(rt: HostRuntime) {
+    let plan = plan(&rt, rt.alloc(), &[], &[], &[(1, 0, 1)]);
     let clone = CloneOf {
         original: 0,
         copy: 2,
     };
-    assert_repaired(&rt, rt.alloc(), REACH, &plan, REACH_REPAIRED, &[clone])?;
-    let program = checked(rt.alloc(), REACH)?;
-    let skipping = apply_skipping(rt.alloc(), &program, &plan, &[site(0, 0, 2)])?;
-    assert_written(&rt, rt.alloc(), &skipping, REACH_REPAIRED)
+    assert_repaired(&rt, rt.alloc(), REACH, &plan, REACH_REPAIRED, &[clone]);
+    let program = checked(&rt, rt.alloc(), REACH);
+    let skipping = apply_skipping(rt.alloc(), &program, &plan, &[site((0, 0, 2))]).expect(
+        &rt, AMPLE,
+    );
+    assert_written(&rt, rt.alloc(), skipping.checked.program(), REACH_REPAIRED);
 }
 
 const TWO_LINES: &str = "@a = global [16 x i64] zeroinitializer, section \".pm\"
@@ -442,8 +414,7 @@ entry:
 ";
 
 #[test]
-fn store_in_two_lines(rt: HostRuntime) -> Result<(), Fail> {
-    let here = site(0, 0, 0);
-    let plan = plan(rt.alloc(), &[here], &[here], &[])?;
-    assert_repaired(&rt, rt.alloc(), TWO_LINES, &plan, TWO_LINES_REPAIRED, &[])
+fn store_in_two_lines(rt: HostRuntime) {
+    let plan = plan(&rt, rt.alloc(), &[(0, 0, 0)], &[(0, 0, 0)], &[]);
+    assert_repaired(&rt, rt.alloc(), TWO_LINES, &plan, TWO_LINES_REPAIRED, &[]);
 }

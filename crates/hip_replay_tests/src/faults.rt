@@ -1,7 +1,7 @@
 //! Reads that fail in the middle of a trace, and sinks that are full in the middle of one.
 
 use crate::programs::OVERWRITTEN;
-use crate::runs::{checked, in_chunks, input, replayed};
+use crate::runs::{AMPLE, checked, in_chunks, input, replayed};
 use hip_examples::ONE_STORE;
 use hip_io::{FailAt, FailingCabinet, MemSink};
 use hip_replay::{MisfitKind, RecordRefusal, ReplayRefusal, record_run};
@@ -9,7 +9,6 @@ use hip_step::why_not;
 use hip_types::Row;
 use std::alloc::Global;
 use std::process::Abort;
-use std::test::Fail;
 
 /// A trace of which so many bytes are read before a read fails, and the refusal.
 struct Fault {
@@ -58,24 +57,20 @@ const FAULTS: &[Fault] = &[
 ];
 
 /// The refusal of a trace with the program of one store, where a read fails.
-fn refused(rt: &impl Abort, alloc: Global, case: &Fault) -> Result<ReplayRefusal, Fail> {
+fn refused(rt: &impl Abort, alloc: Global, case: &Fault) -> Option<ReplayRefusal> {
     let checked = checked(rt, alloc, ONE_STORE);
-    let files = in_chunks(alloc, case.trace.as_bytes(), 10)?;
-    let name = Row::from_slice(alloc, b"trace")?;
+    let files = in_chunks(rt, alloc, case.trace.as_bytes(), 10);
+    let name = Row::from_slice(alloc, b"trace").expect(rt, AMPLE);
     let mut cabinet = FailingCabinet::new(files, name, FailAt::Byte(case.at));
-    match replayed(alloc, &checked, &mut cabinet) {
-        Err(refusal) => Ok(refusal),
-        Ok(_) => Err(Fail::new(case.trace)),
-    }
+    replayed(alloc, &checked, &mut cabinet).err()
 }
 
 #[test]
-fn read_faults(rt: HostRuntime) -> Result<(), Fail> {
+fn read_faults(rt: HostRuntime) {
     for case in FAULTS {
-        let refusal = refused(&rt, rt.alloc(), case)?;
-        assert!(rt; refusal == case.refusal, "{} {}", case.trace, case.at);
+        let refusal = refused(&rt, rt.alloc(), case);
+        assert!(rt; refusal == Some(case.refusal), "{} {}", case.trace, case.at);
     }
-    Ok(())
 }
 
 const TRACE: &str = "START;9
@@ -86,24 +81,21 @@ STOP;0
 ";
 
 /// Whether a sink with so much room is full, and has what fits of the trace.
-fn is_cut(rt: &impl Abort, alloc: Global, room: u64) -> Result<bool, Fail> {
+fn is_cut(rt: &impl Abort, alloc: Global, room: u64) -> bool {
     let checked = checked(rt, alloc, OVERWRITTEN);
-    let input = input(alloc, &checked, &[], 9)?;
-    if let Some(_fault) = why_not(&checked, &input) {
-        return Err(Fail::new("the input is not valid"));
-    }
-    let mut out = MemSink::new(alloc, room)?;
+    let input = input(rt, alloc, &checked, &[], 9);
+    assert!(rt; why_not(&checked, &input).is_none(), "the input is valid");
+    let mut out = MemSink::new(alloc, room).expect(rt, AMPLE);
     let refused = match record_run(alloc, &checked, &input, &mut out) {
         Err(refusal) => refusal == RecordRefusal::WriteFault,
         Ok(_) => false,
     };
-    Ok(refused && TRACE.as_bytes().starts_with(out.bytes()) && out.bytes().len() as u64 == room)
+    refused && TRACE.as_bytes().starts_with(out.bytes()) && out.bytes().len() as u64 == room
 }
 
 #[test]
-fn write_faults(rt: HostRuntime) -> Result<(), Fail> {
+fn write_faults(rt: HostRuntime) {
     for room in [0, 1, 8, 20, 60, 92] {
-        assert!(rt; is_cut(&rt, rt.alloc(), room)?, "{room}");
+        assert!(rt; is_cut(&rt, rt.alloc(), room), "{room}");
     }
-    Ok(())
 }

@@ -1,6 +1,6 @@
 //! A log of keys and values: 40 inserts, with a store that lacks something at most places.
 
-use crate::runs::{assert_reports, checked, in_chunks, input, record, replayed};
+use crate::runs::{AMPLE, assert_reports, checked, in_chunks, input, record, replayed};
 use hip_examples::KEY_VALUE_LOG;
 use hip_io::MemSink;
 use hip_replay::Replayed;
@@ -9,7 +9,6 @@ use hip_step::Input;
 use hip_typing::Checked;
 use std::alloc::Global;
 use std::process::Abort;
-use std::test::Fail;
 
 const FIRST: &str = "report flush entry 7 check 243 closed 1 path @fill:entry:1 @main:loop:6\n";
 
@@ -32,19 +31,16 @@ STORE;0x1000002c0;0x2;0x8
 ";
 
 /// The input of the log's run.
-fn log_input(alloc: Global, checked: &Checked) -> Result<Input, Fail> {
-    input(alloc, checked, &[], 1_000_000_000)
+fn log_input(rt: &impl Abort, alloc: Global, checked: &Checked) -> Input {
+    input(rt, alloc, checked, &[], 1_000_000_000)
 }
 
 /// What is found where the log's run is recorded and its trace is replayed, 100 bytes at a time.
-fn replay_of_the_log(alloc: Global, checked: &Checked, input: &Input) -> Result<Replayed, Fail> {
-    let mut out = MemSink::new(alloc, 10_000)?;
-    let _recorded = record(alloc, checked, input, &mut out)?;
-    let mut cabinet = in_chunks(alloc, out.bytes(), 100)?;
-    match replayed(alloc, checked, &mut cabinet) {
-        Ok(found) => Ok(found),
-        Err(_) => Err(Fail::new("not replayed")),
-    }
+fn replay_of_the_log(rt: &impl Abort, alloc: Global, checked: &Checked, input: &Input) -> Replayed {
+    let mut out = MemSink::new(alloc, 10_000).expect(rt, AMPLE);
+    let _recorded = record(rt, alloc, checked, input, &mut out);
+    let mut cabinet = in_chunks(rt, alloc, out.bytes(), 100);
+    replayed(alloc, checked, &mut cabinet).expect(rt, "the trace is replayed")
 }
 
 /// Asserts the text of the log's trace.
@@ -54,43 +50,32 @@ fn assert_text(rt: &impl Abort, out: &MemSink) {
     assert_eq!(rt; lines, 243);
 }
 
-fn assert_log(
-    rt: &impl Abort,
-    alloc: Global,
-    checked: &Checked,
-    input: &Input,
-) -> Result<(), Fail> {
-    let mut out = MemSink::new(alloc, 10_000)?;
-    let recorded = record(alloc, checked, input, &mut out)?;
+fn assert_log(rt: &impl Abort, alloc: Global, checked: &Checked, input: &Input) {
+    let mut out = MemSink::new(alloc, 10_000).expect(rt, AMPLE);
+    let recorded = record(rt, alloc, checked, input, &mut out);
     assert_eq!(rt; recorded.entries, 243);
     assert!(rt; recorded.ending == Ending::Stop(0));
     assert_text(rt, &out);
-    Ok(())
 }
 
-fn assert_some(
-    rt: &impl Abort,
-    alloc: Global,
-    checked: &Checked,
-    found: &Replayed,
-) -> Result<(), Fail> {
+fn assert_some(rt: &impl Abort, alloc: Global, checked: &Checked, found: &Replayed) {
     let reports = found.findings.reports.as_slice();
     assert_eq!(rt; reports.len(), 82);
-    assert_reports(rt, alloc, checked, &reports[..1], FIRST)?;
-    assert_reports(rt, alloc, checked, &reports[78..], LAST)
+    assert_reports(rt, alloc, checked, &reports[..1], FIRST);
+    assert_reports(rt, alloc, checked, &reports[78..], LAST);
 }
 
 #[test]
-fn key_value_log(rt: HostRuntime) -> Result<(), Fail> {
+fn key_value_log(rt: HostRuntime) {
     let checked = checked(&rt, rt.alloc(), KEY_VALUE_LOG);
-    let input = log_input(rt.alloc(), &checked)?;
-    assert_log(&rt, rt.alloc(), &checked, &input)
+    let input = log_input(&rt, rt.alloc(), &checked);
+    assert_log(&rt, rt.alloc(), &checked, &input);
 }
 
 #[test]
-fn reports_of_the_log(rt: HostRuntime) -> Result<(), Fail> {
+fn reports_of_the_log(rt: HostRuntime) {
     let checked = checked(&rt, rt.alloc(), KEY_VALUE_LOG);
-    let input = log_input(rt.alloc(), &checked)?;
-    let found = replay_of_the_log(rt.alloc(), &checked, &input)?;
-    assert_some(&rt, rt.alloc(), &checked, &found)
+    let input = log_input(&rt, rt.alloc(), &checked);
+    let found = replay_of_the_log(&rt, rt.alloc(), &checked, &input);
+    assert_some(&rt, rt.alloc(), &checked, &found);
 }

@@ -1,11 +1,10 @@
 //! Long runs, of which little is kept.
 
-use crate::runs::{checked, in_chunks, input, record, replayed};
+use crate::runs::{AMPLE, checked, in_chunks, input, record, replayed};
 use hip_io::MemSink;
 use hip_typing::Checked;
 use std::alloc::Global;
 use std::process::Abort;
-use std::test::Fail;
 
 /// A number is stored, flushed and fenced 100,000 times.
 const MANY_FENCES: &str = "@x = global i64 0, section \".pm\"
@@ -73,57 +72,40 @@ struct Counts {
 }
 
 /// Records the run of a program, whose trace has at most so many bytes.
-fn counts_of(
-    rt: &impl Abort,
-    alloc: Global,
-    program: &str,
-    out: &mut MemSink,
-) -> Result<Counts, Fail> {
+fn counts_of(rt: &impl Abort, alloc: Global, program: &str, out: &mut MemSink) -> Counts {
     let checked = checked(rt, alloc, program);
-    let input = input(alloc, &checked, &[], 1_000_000_000)?;
-    let recorded = record(alloc, &checked, &input, out)?;
-    Ok(Counts {
+    let input = input(rt, alloc, &checked, &[], 1_000_000_000);
+    let recorded = record(rt, alloc, &checked, &input, out);
+    Counts {
         entries: recorded.entries,
         reports: recorded.findings.reports.len(),
         hit: recorded.findings.marks.hit.len(),
-    })
-}
-
-/// Asserts how many entries a trace has that is replayed.
-fn assert_replayed(
-    rt: &impl Abort,
-    alloc: Global,
-    checked: &Checked,
-    trace: &[u8],
-    entries: u128,
-) -> Result<(), Fail> {
-    let mut cabinet = in_chunks(alloc, trace, 4_096)?;
-    match replayed(alloc, checked, &mut cabinet) {
-        Ok(found) => {
-            assert_eq!(rt; found.entries, entries);
-            Ok(())
-        }
-        Err(_) => Err(Fail::new("not replayed")),
     }
 }
 
+/// Asserts how many entries a trace has that is replayed.
+fn assert_replayed(rt: &impl Abort, alloc: Global, checked: &Checked, trace: &[u8], entries: u128) {
+    let mut cabinet = in_chunks(rt, alloc, trace, 4_096);
+    let found = replayed(alloc, checked, &mut cabinet).expect(rt, "the trace fits");
+    assert_eq!(rt; found.entries, entries);
+}
+
 #[test]
-fn many_fences(rt: HostRuntime) -> Result<(), Fail> {
-    let mut out = MemSink::new(rt.alloc(), 10_000_000)?;
-    let counts = counts_of(&rt, rt.alloc(), MANY_FENCES, &mut out)?;
+fn many_fences(rt: HostRuntime) {
+    let mut out = MemSink::new(rt.alloc(), 10_000_000).expect(&rt, AMPLE);
+    let counts = counts_of(&rt, rt.alloc(), MANY_FENCES, &mut out);
     assert_eq!(rt; counts.entries, 300_003);
     assert_eq!(rt; counts.reports, 0);
     assert_eq!(rt; counts.hit, 1);
     let checked = checked(&rt, rt.alloc(), MANY_FENCES);
-    assert_replayed(&rt, rt.alloc(), &checked, out.bytes(), 300_003)
+    assert_replayed(&rt, rt.alloc(), &checked, out.bytes(), 300_003);
 }
 
 #[test]
-fn deep_shared_paths(rt: HostRuntime) -> Result<(), Fail> {
-    let mut out = MemSink::new(rt.alloc(), 50_000_000)?;
-    let counts = counts_of(&rt, rt.alloc(), DEEP_STORES, &mut out)?;
+fn deep_shared_paths(rt: HostRuntime) {
+    let mut out = MemSink::new(rt.alloc(), 50_000_000).expect(&rt, AMPLE);
+    let counts = counts_of(&rt, rt.alloc(), DEEP_STORES, &mut out);
     assert_eq!(rt; counts.entries, 1_125_004);
     assert_eq!(rt; counts.reports, 0);
     assert_eq!(rt; counts.hit, 1);
-    Ok(())
 }

@@ -3,13 +3,12 @@
 ghost use Rattle.std.specs.Prelude.{◌≤◌};
 
 use crate::programs::{SEVEN, TWO_LINES, TWO_NUMBERS};
-use crate::runs::{assert_reports, checked, in_chunks, replayed};
+use crate::runs::{AMPLE, assert_reports, checked, in_chunks, replayed};
 use hip_examples::{ENDLESS_LOOP, ONE_STORE};
 use hip_replay::{MisfitKind, ReplayRefusal};
 use hip_run_traces::MisfitKind::{Differs, Early, Extra, Malformed};
 use std::alloc::Global;
 use std::process::Abort;
-use std::test::Fail;
 
 /// A trace, and its misfit.
 struct Misfit {
@@ -19,28 +18,21 @@ struct Misfit {
 }
 
 /// Asserts the misfit of each trace with a program, where so many bytes come at a time.
-fn assert_misfits(
-    rt: &impl Abort,
-    alloc: Global,
-    program: &str,
-    cases: &[Misfit],
-    chunk: usize,
-) -> Result<(), Fail>
+fn assert_misfits(rt: &impl Abort, alloc: Global, program: &str, cases: &[Misfit], chunk: usize)
     requires { 1 ≤ chunk }
 {
     let checked = checked(rt, alloc, program);
     for case in cases {
-        let mut cabinet = in_chunks(alloc, case.trace.as_bytes(), chunk)?;
-        let Err(refusal) = replayed(alloc, &checked, &mut cabinet) else {
-            return Err(Fail::new(case.trace));
-        };
+        let mut cabinet = in_chunks(rt, alloc, case.trace.as_bytes(), chunk);
         let misfit = ReplayRefusal::Misfit {
             entry: case.entry,
             kind: case.kind,
         };
-        assert!(rt; refusal == misfit, "{}", case.trace);
+        match replayed(alloc, &checked, &mut cabinet) {
+            Err(refusal) => assert!(rt; refusal == misfit, "{}", case.trace),
+            Ok(_) => assert!(rt; false, "{}", case.trace),
+        }
     }
-    Ok(())
 }
 
 const OF_ONE_STORE: &[Misfit] = &[
@@ -209,52 +201,50 @@ const OF_NUMBERS: &[Misfit] = &[
 ];
 
 #[test]
-fn misfit_kinds(rt: HostRuntime) -> Result<(), Fail> {
-    assert_misfits(&rt, rt.alloc(), ONE_STORE, OF_ONE_STORE, 7)
+fn misfit_kinds(rt: HostRuntime) {
+    assert_misfits(&rt, rt.alloc(), ONE_STORE, OF_ONE_STORE, 7);
 }
 
 #[test]
-fn short_traces(rt: HostRuntime) -> Result<(), Fail> {
-    assert_misfits(&rt, rt.alloc(), ONE_STORE, SHORT, 1)
+fn short_traces(rt: HostRuntime) {
+    assert_misfits(&rt, rt.alloc(), ONE_STORE, SHORT, 1);
 }
 
 #[test]
-fn header_rules(rt: HostRuntime) -> Result<(), Fail> {
-    assert_misfits(&rt, rt.alloc(), ONE_STORE, HEADERS, 4_096)
+fn header_rules(rt: HostRuntime) {
+    assert_misfits(&rt, rt.alloc(), ONE_STORE, HEADERS, 4_096);
 }
 
 #[test]
-fn image_rules(rt: HostRuntime) -> Result<(), Fail> {
-    assert_misfits(&rt, rt.alloc(), TWO_LINES, IMAGES, 100)?;
-    assert_misfits(&rt, rt.alloc(), SEVEN, BEHIND_AN_IMAGE, 4_096)
+fn image_rules(rt: HostRuntime) {
+    assert_misfits(&rt, rt.alloc(), TWO_LINES, IMAGES, 100);
+    assert_misfits(&rt, rt.alloc(), SEVEN, BEHIND_AN_IMAGE, 4_096);
 }
 
 #[test]
-fn lockstep(rt: HostRuntime) -> Result<(), Fail> {
-    assert_misfits(&rt, rt.alloc(), ENDLESS_LOOP, IN_LOCKSTEP, 4_096)
+fn lockstep(rt: HostRuntime) {
+    assert_misfits(&rt, rt.alloc(), ENDLESS_LOOP, IN_LOCKSTEP, 4_096);
 }
 
 #[test]
-fn numbers_that_are_read(rt: HostRuntime) -> Result<(), Fail> {
-    assert_misfits(&rt, rt.alloc(), TWO_NUMBERS, OF_NUMBERS, 3)
+fn numbers_that_are_read(rt: HostRuntime) {
+    assert_misfits(&rt, rt.alloc(), TWO_NUMBERS, OF_NUMBERS, 3);
 }
 
 /// Asserts that a trace of the program of one store is the run's.
-fn assert_fits(rt: &impl Abort, alloc: Global, trace: &str, chunk: usize) -> Result<(), Fail>
+fn assert_fits(rt: &impl Abort, alloc: Global, trace: &str, chunk: usize)
     requires { 1 ≤ chunk }
 {
     let checked = checked(rt, alloc, ONE_STORE);
-    let mut cabinet = in_chunks(alloc, trace.as_bytes(), chunk)?;
-    match replayed(alloc, &checked, &mut cabinet) {
-        Ok(found) => assert_reports(
-            rt,
-            alloc,
-            &checked,
-            found.findings.reports.as_slice(),
-            "report both entry 3 check 4 closed 0 path @main:entry:0\n",
-        ),
-        Err(_) => Err(Fail::new("a misfit")),
-    }
+    let mut cabinet = in_chunks(rt, alloc, trace.as_bytes(), chunk);
+    let found = replayed(alloc, &checked, &mut cabinet).expect(rt, "the trace fits");
+    assert_reports(
+        rt,
+        alloc,
+        &checked,
+        found.findings.reports.as_slice(),
+        "report both entry 3 check 4 closed 0 path @main:entry:0\n",
+    );
 }
 
 /// The same entries in other spellings.
@@ -265,38 +255,37 @@ const SPELLINGS: &[&str] = &[
 ];
 
 #[test]
-fn chunks_of_any_size(rt: HostRuntime) -> Result<(), Fail> {
+fn chunks_of_any_size(rt: HostRuntime) {
     for trace in SPELLINGS {
-        assert_fits(&rt, rt.alloc(), trace, 1)?;
-        assert_fits(&rt, rt.alloc(), trace, 7)?;
-        assert_fits(&rt, rt.alloc(), trace, 4_096)?;
+        assert_fits(&rt, rt.alloc(), trace, 1);
+        assert_fits(&rt, rt.alloc(), trace, 7);
+        assert_fits(&rt, rt.alloc(), trace, 4_096);
     }
-    Ok(())
 }
 
 /// The trace of the program of one store, where an entry of 25 bytes has so many zeros more in its address.
-fn with_zeros(alloc: Global, zeros: usize) -> Result<String, Fail> {
-    let zeros = "0".repeat(alloc, zeros)?;
-    Ok(format!(in alloc;
+fn with_zeros(rt: &impl Abort, alloc: Global, zeros: usize) -> String {
+    let zeros = "0".repeat(alloc, zeros).expect(rt, AMPLE);
+    format!(in alloc;
         "START;1000000000|REGISTER;0x100000000;0x40|STORE;0x{}100000000;0x5;0x8|STOP;0",
         zeros.as_str()
-    )?)
+    )
+    .expect(rt, AMPLE)
 }
 
 #[test]
-fn longest_entry(rt: HostRuntime) -> Result<(), Fail> {
-    let longest = with_zeros(rt.alloc(), 231)?;
-    assert_fits(&rt, rt.alloc(), longest.as_str(), 100)?;
+fn longest_entry(rt: HostRuntime) {
+    let longest = with_zeros(&rt, rt.alloc(), 231);
+    assert_fits(&rt, rt.alloc(), longest.as_str(), 100);
     let checked = checked(&rt, rt.alloc(), ONE_STORE);
-    let longer = with_zeros(rt.alloc(), 232)?;
-    let mut cabinet = in_chunks(rt.alloc(), longer.as_str().as_bytes(), 100)?;
+    let longer = with_zeros(&rt, rt.alloc(), 232);
+    let mut cabinet = in_chunks(&rt, rt.alloc(), longer.as_str().as_bytes(), 100);
     let misfit = ReplayRefusal::Misfit {
         entry: 3,
         kind: Malformed,
     };
     match replayed(rt.alloc(), &checked, &mut cabinet) {
         Err(refusal) => assert!(rt; refusal == misfit),
-        Ok(_) => return Err(Fail::new("a longer entry is read")),
+        Ok(_) => assert!(rt; false, "a longer entry is read"),
     }
-    Ok(())
 }

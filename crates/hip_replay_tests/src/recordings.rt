@@ -6,7 +6,7 @@ use crate::programs::{
     FLUSHED_RANGES, HALF_OVERWRITTEN, MISALIGNED, ONE_OF_TWO_LINES, OVERWRITTEN,
     OVERWRITTEN_BY_HALVES, PERSIST, SEVEN, SHARED_LINE, TWO_LINES, TWO_NUMBERS,
 };
-use crate::runs::{assert_reports, checked, in_chunks, input, record, replayed};
+use crate::runs::{AMPLE, assert_reports, checked, in_chunks, input, record, replayed};
 use hip_examples::{COPY, ENDLESS_LOOP, EVEN_AND_ODD, ONE_STORE, REACH};
 use hip_io::MemSink;
 use hip_replay::Recorded;
@@ -15,7 +15,6 @@ use hip_step::Input;
 use hip_typing::Checked;
 use std::alloc::Global;
 use std::process::Abort;
-use std::test::Fail;
 
 /// A program with its numbers and limit, the text of its run's trace, how the run ends, and the lines of its reports.
 struct Recording {
@@ -33,22 +32,13 @@ const LIMIT: u64 = 1_000_000_000;
 const STOPS: Ending = Ending::Stop(0);
 
 /// Asserts what is found where the trace is replayed.
-fn assert_replayed(
-    rt: &impl Abort,
-    alloc: Global,
-    checked: &Checked,
-    case: &Recording,
-) -> Result<(), Fail> {
-    let mut cabinet = in_chunks(alloc, case.trace.as_bytes(), 7)?;
-    match replayed(alloc, checked, &mut cabinet) {
-        Ok(found) => {
-            assert_eq!(rt; found.entries, case.entries, "{}", case.trace);
-            assert!(rt; found.ending == case.ending, "{}", case.trace);
-            let reports = found.findings.reports.as_slice();
-            assert_reports(rt, alloc, checked, reports, case.reports)
-        }
-        Err(_) => Err(Fail::new(case.trace)),
-    }
+fn assert_replayed(rt: &impl Abort, alloc: Global, checked: &Checked, case: &Recording) {
+    let mut cabinet = in_chunks(rt, alloc, case.trace.as_bytes(), 7);
+    let found = replayed(alloc, checked, &mut cabinet).expect(rt, case.trace);
+    assert_eq!(rt; found.entries, case.entries, "{}", case.trace);
+    assert!(rt; found.ending == case.ending, "{}", case.trace);
+    let reports = found.findings.reports.as_slice();
+    assert_reports(rt, alloc, checked, reports, case.reports);
 }
 
 fn assert_found(
@@ -57,11 +47,11 @@ fn assert_found(
     checked: &Checked,
     case: &Recording,
     found: &Recorded,
-) -> Result<(), Fail> {
+) {
     assert_eq!(rt; found.entries, case.entries, "{}", case.trace);
     assert!(rt; found.ending == case.ending, "{}", case.trace);
     let reports = found.findings.reports.as_slice();
-    assert_reports(rt, alloc, checked, reports, case.reports)
+    assert_reports(rt, alloc, checked, reports, case.reports);
 }
 
 /// Asserts what is written and found where the run is recorded.
@@ -71,31 +61,25 @@ fn assert_recorded(
     checked: &Checked,
     input: &Input,
     case: &Recording,
-) -> Result<(), Fail> {
-    let mut out = MemSink::new(alloc, 2_000)?;
-    let found = record(alloc, checked, input, &mut out)?;
+) {
+    let mut out = MemSink::new(alloc, 2_000).expect(rt, AMPLE);
+    let found = record(rt, alloc, checked, input, &mut out);
     assert_eq!(rt; out.bytes(), case.trace.as_bytes());
-    assert_found(rt, alloc, checked, case, &found)
+    assert_found(rt, alloc, checked, case, &found);
 }
 
-fn assert_both(
-    rt: &impl Abort,
-    alloc: Global,
-    checked: &Checked,
-    case: &Recording,
-) -> Result<(), Fail> {
-    let input = input(alloc, checked, case.numbers, case.limit)?;
-    assert_recorded(rt, alloc, checked, &input, case)?;
-    assert_replayed(rt, alloc, checked, case)
+fn assert_both(rt: &impl Abort, alloc: Global, checked: &Checked, case: &Recording) {
+    let input = input(rt, alloc, checked, case.numbers, case.limit);
+    assert_recorded(rt, alloc, checked, &input, case);
+    assert_replayed(rt, alloc, checked, case);
 }
 
 /// Asserts both, of each run.
-fn assert_all(rt: &impl Abort, alloc: Global, cases: &[Recording]) -> Result<(), Fail> {
+fn assert_all(rt: &impl Abort, alloc: Global, cases: &[Recording]) {
     for case in cases {
         let checked = checked(rt, alloc, case.program);
-        assert_both(rt, alloc, &checked, case)?;
+        assert_both(rt, alloc, &checked, case);
     }
-    Ok(())
 }
 
 const OF_ONE_FUNCTION: &[Recording] = &[
@@ -505,41 +489,41 @@ STOP;0
 ];
 
 #[test]
-fn kinds_of_reports(rt: HostRuntime) -> Result<(), Fail> {
-    assert_all(&rt, rt.alloc(), OF_ONE_FUNCTION)
+fn kinds_of_reports(rt: HostRuntime) {
+    assert_all(&rt, rt.alloc(), OF_ONE_FUNCTION);
 }
 
 #[test]
-fn overwritten_stores(rt: HostRuntime) -> Result<(), Fail> {
-    assert_all(&rt, rt.alloc(), OF_OVERWRITTEN_STORES)
+fn overwritten_stores(rt: HostRuntime) {
+    assert_all(&rt, rt.alloc(), OF_OVERWRITTEN_STORES);
 }
 
 #[test]
-fn paths_of_calls(rt: HostRuntime) -> Result<(), Fail> {
-    assert_all(&rt, rt.alloc(), OF_CALLS)
+fn paths_of_calls(rt: HostRuntime) {
+    assert_all(&rt, rt.alloc(), OF_CALLS);
 }
 
 #[test]
-fn frames_by_their_births(rt: HostRuntime) -> Result<(), Fail> {
-    assert_all(&rt, rt.alloc(), OF_FRAMES)
+fn frames_by_their_births(rt: HostRuntime) {
+    assert_all(&rt, rt.alloc(), OF_FRAMES);
 }
 
 #[test]
-fn cuts_and_traps(rt: HostRuntime) -> Result<(), Fail> {
-    assert_all(&rt, rt.alloc(), OF_ENDINGS)
+fn cuts_and_traps(rt: HostRuntime) {
+    assert_all(&rt, rt.alloc(), OF_ENDINGS);
 }
 
 #[test]
-fn images_and_numbers(rt: HostRuntime) -> Result<(), Fail> {
-    assert_all(&rt, rt.alloc(), OF_INPUTS)
+fn images_and_numbers(rt: HostRuntime) {
+    assert_all(&rt, rt.alloc(), OF_INPUTS);
 }
 
 #[test]
-fn flushed_ranges(rt: HostRuntime) -> Result<(), Fail> {
-    assert_all(&rt, rt.alloc(), OF_RANGES)
+fn flushed_ranges(rt: HostRuntime) {
+    assert_all(&rt, rt.alloc(), OF_RANGES);
 }
 
 #[test]
-fn stores_in_two_lines(rt: HostRuntime) -> Result<(), Fail> {
-    assert_all(&rt, rt.alloc(), OF_TWO_LINES)
+fn stores_in_two_lines(rt: HostRuntime) {
+    assert_all(&rt, rt.alloc(), OF_TWO_LINES);
 }

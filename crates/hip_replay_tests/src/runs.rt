@@ -13,7 +13,9 @@ use hip_types::Row;
 use hip_typing::{Checked, check};
 use std::alloc::Global;
 use std::process::Abort;
-use std::test::Fail;
+
+/// What is said where a call that was given ample memory found none.
+pub const AMPLE: &str = "there is memory";
 
 /// Where the region begins.
 const BASE: u64 = 4_294_967_296;
@@ -25,41 +27,45 @@ pub fn checked(rt: &impl Abort, alloc: Global, text: &str) -> Checked {
 }
 
 /// The input of a run that begins with the initialisers' bytes.
-pub fn input(alloc: Global, checked: &Checked, numbers: &[i64], limit: u64) -> Result<Input, Fail> {
-    Ok(Input {
+pub fn input(
+    rt: &impl Abort,
+    alloc: Global,
+    checked: &Checked,
+    numbers: &[i64],
+    limit: u64,
+) -> Input {
+    Input {
         base: BASE,
-        image: checked.region_bytes(alloc, BASE)?,
-        numbers: Row::from_slice(alloc, numbers)?,
+        image: checked.region_bytes(alloc, BASE).expect(rt, AMPLE),
+        numbers: Row::from_slice(alloc, numbers).expect(rt, AMPLE),
         limit,
-    })
+    }
 }
 
 /// Records the run of a program on a valid input.
 pub fn record(
+    rt: &impl Abort,
     alloc: Global,
     checked: &Checked,
     input: &Input,
     out: &mut MemSink,
-) -> Result<Recorded, Fail> {
-    if let Some(_fault) = why_not(checked, input) {
-        return Err(Fail::new("the input is not valid"));
-    }
-    match record_run(alloc, checked, input, out) {
-        Ok(recorded) => Ok(recorded),
-        Err(_) => Err(Fail::new("not recorded")),
-    }
+) -> Recorded {
+    assert!(rt; why_not(checked, input).is_none(), "the input is valid");
+    record_run(alloc, checked, input, out).expect(rt, "the run is recorded")
 }
 
 /// A cabinet with the file `trace`, which gives so many bytes at a time.
-pub fn in_chunks(alloc: Global, trace: &[u8], chunk: usize) -> Result<MemCabinet, Fail>
+pub fn in_chunks(rt: &impl Abort, alloc: Global, trace: &[u8], chunk: usize) -> MemCabinet
     requires { 1 ≤ chunk }
 {
     let mut files = Row::new(alloc);
-    files.push(NamedFile {
-        name: Row::from_slice(alloc, b"trace")?,
-        bytes: Row::from_slice(alloc, trace)?,
-    })?;
-    Ok(MemCabinet::new(files, chunk))
+    files
+        .push(NamedFile {
+            name: Row::from_slice(alloc, b"trace").expect(rt, AMPLE),
+            bytes: Row::from_slice(alloc, trace).expect(rt, AMPLE),
+        })
+        .expect(rt, AMPLE);
+    MemCabinet::new(files, chunk)
 }
 
 /// Replays the file `trace` of a cabinet.
@@ -84,9 +90,8 @@ pub fn assert_reports(
     checked: &Checked,
     reports: &[Report],
     lines: &str,
-) -> Result<(), Fail> {
-    let mut out = MemSink::new(alloc, 2_000)?;
+) {
+    let mut out = MemSink::new(alloc, 2_000).expect(rt, AMPLE);
     let _put = put_reports(&mut out, checked.program(), reports);
     assert_eq!(rt; out.bytes(), lines.as_bytes());
-    Ok(())
 }

@@ -1,15 +1,9 @@
 //! How runs end, and after how many turns: each kind of trap, cuts and the steps that take no turn.
 
-use crate::printed_runs::{checked, machine};
-use hip_step::{Ending, Event, Input, Machine, TrapKind};
-use hip_types::{NoMemory, Row};
-use hip_typing::Checked;
+use crate::machines::{AMPLE, checked, input, machine};
+use hip_step::{Ending, Event, Machine, TrapKind};
 use std::alloc::Global;
 use std::process::Abort;
-use std::test::Fail;
-
-/// Where the region begins.
-const BASE: u64 = 4_294_967_296;
 
 /// How many steps a run of these programs has at most.
 const MOST_STEPS: u64 = 40_000;
@@ -23,56 +17,29 @@ struct Ended {
 }
 
 /// Takes steps until the run has ended.
-fn run_to_end(machine: &mut Machine<'_>) -> Result<Option<Ending>, NoMemory> {
+fn run_to_end(rt: &impl Abort, machine: &mut Machine<'_>) -> Option<Ending> {
     for _ in 0..MOST_STEPS {
-        if let Event::End(ending) = machine.step()? {
-            return Ok(Some(ending));
+        if let Event::End(ending) = machine.step().expect(rt, AMPLE) {
+            return Some(ending);
         }
     }
-    Ok(None)
+    None
 }
 
-fn assert_end(rt: &impl Abort, machine: &mut Machine<'_>, case: &Ended) -> Result<(), NoMemory> {
-    let ending = run_to_end(machine)?;
+fn assert_ended(rt: &impl Abort, alloc: Global, case: &Ended) {
+    let checked = checked(rt, alloc, case.program);
+    let input = input(rt, alloc, &checked, &[], case.limit);
+    let mut machine = machine(rt, alloc, &checked, &input);
+    let ending = run_to_end(rt, &mut machine);
     assert!(rt; ending == Some(case.ending), "{}", case.program);
     assert!(rt; machine.ending() == ending, "{}", case.program);
     assert_eq!(rt; machine.turns(), case.turns, "{}", case.program);
-    Ok(())
 }
 
-/// The input of a run without numbers.
-fn input(alloc: Global, checked: &Checked, limit: u64) -> Result<Input, Fail> {
-    Ok(Input {
-        base: BASE,
-        image: checked.region_bytes(alloc, BASE)?,
-        numbers: Row::new(alloc),
-        limit,
-    })
-}
-
-fn assert_on(
-    rt: &impl Abort,
-    alloc: Global,
-    checked: &Checked,
-    input: &Input,
-    case: &Ended,
-) -> Result<(), Fail> {
-    let mut machine = machine(alloc, checked, input)?;
-    assert_end(rt, &mut machine, case)?;
-    Ok(())
-}
-
-fn assert_ended(rt: &impl Abort, alloc: Global, case: &Ended) -> Result<(), Fail> {
-    let checked = checked(rt, alloc, case.program);
-    let input = input(alloc, &checked, case.limit)?;
-    assert_on(rt, alloc, &checked, &input, case)
-}
-
-fn assert_all(rt: &impl Abort, alloc: Global, cases: &[Ended]) -> Result<(), Fail> {
+fn assert_all(rt: &impl Abort, alloc: Global, cases: &[Ended]) {
     for case in cases {
-        assert_ended(rt, alloc, case)?;
+        assert_ended(rt, alloc, case);
     }
-    Ok(())
 }
 
 const OF_ARITHMETIC: &[Ended] = &[
@@ -474,21 +441,21 @@ entry:
 ];
 
 #[test]
-fn traps_of_arithmetic(rt: HostRuntime) -> Result<(), Fail> {
-    assert_all(&rt, rt.alloc(), OF_ARITHMETIC)
+fn traps_of_arithmetic(rt: HostRuntime) {
+    assert_all(&rt, rt.alloc(), OF_ARITHMETIC);
 }
 
 #[test]
-fn traps_of_addresses(rt: HostRuntime) -> Result<(), Fail> {
-    assert_all(&rt, rt.alloc(), OF_ADDRESSES)
+fn traps_of_addresses(rt: HostRuntime) {
+    assert_all(&rt, rt.alloc(), OF_ADDRESSES);
 }
 
 #[test]
-fn flushes_take_no_turns(rt: HostRuntime) -> Result<(), Fail> {
-    assert_all(&rt, rt.alloc(), OF_FLUSHES)
+fn flushes_take_no_turns(rt: HostRuntime) {
+    assert_all(&rt, rt.alloc(), OF_FLUSHES);
 }
 
 #[test]
-fn room_that_is_full(rt: HostRuntime) -> Result<(), Fail> {
-    assert_all(&rt, rt.alloc(), OF_ROOM)
+fn room_that_is_full(rt: HostRuntime) {
+    assert_all(&rt, rt.alloc(), OF_ROOM);
 }

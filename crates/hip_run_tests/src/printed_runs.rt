@@ -1,17 +1,11 @@
 //! What programs print, and how their runs end.
 
+use crate::machines::{AMPLE, checked, input};
 use hip_io::MemSink;
-use hip_parse::parse;
 use hip_replay::print_run;
-use hip_step::{Ending, Input, Machine, TrapKind, why_not};
-use hip_types::Row;
-use hip_typing::{Checked, check};
+use hip_step::{Ending, TrapKind, why_not};
 use std::alloc::Global;
 use std::process::Abort;
-use std::test::Fail;
-
-/// Where the region begins.
-const BASE: u64 = 4_294_967_296;
 
 /// A program with its input, what it prints, and how its run ends.
 pub struct Run {
@@ -23,69 +17,22 @@ pub struct Run {
     pub ending: Ending,
 }
 
-/// The program of a text that is sound.
-pub fn checked(rt: &impl Abort, alloc: Global, text: &str) -> Checked {
-    let program = parse(alloc, text.as_bytes()).expect(rt, "the text is read");
-    check(alloc, program).expect(rt, "the program is sound")
-}
-
-/// A machine at the start of a run on a valid input.
-pub fn machine<'a>(
-    alloc: Global,
-    checked: &'a Checked,
-    input: &'a Input,
-) -> Result<Machine<'a>, Fail> {
-    if let Some(_fault) = why_not(checked, input) {
-        return Err(Fail::new("the input is not valid"));
-    }
-    Ok(Machine::new(alloc, checked, input)?)
-}
-
-fn input(alloc: Global, checked: &Checked, run: &Run) -> Result<Input, Fail> {
-    let image = checked.region_bytes(alloc, BASE)?;
-    let mut numbers = Row::new(alloc);
-    for number in run.numbers {
-        numbers.push(*number)?;
-    }
-    Ok(Input {
-        base: BASE,
-        image,
-        numbers,
-        limit: run.limit,
-    })
-}
-
-/// Asserts what a run prints and how it ends.
-fn assert_printed(
-    rt: &impl Abort,
-    alloc: Global,
-    checked: &Checked,
-    input: &Input,
-    run: &Run,
-) -> Result<(), Fail> {
-    if let Some(_fault) = why_not(checked, input) {
-        return Err(Fail::new(run.name));
-    }
-    let mut out = MemSink::new(alloc, 1_000)?;
-    let ending = print_run(alloc, checked, input, &mut out);
+/// Asserts what a program prints and how its run ends.
+fn assert_run(rt: &impl Abort, alloc: Global, run: &Run) {
+    let checked = checked(rt, alloc, run.program);
+    let input = input(rt, alloc, &checked, run.numbers, run.limit);
+    assert!(rt; why_not(&checked, &input).is_none(), "{}", run.name);
+    let mut out = MemSink::new(alloc, 1_000).expect(rt, AMPLE);
+    let ending = print_run(alloc, &checked, &input, &mut out);
     assert!(rt; ending == Ok(run.ending), "{}", run.name);
     assert!(rt; out.bytes() == run.printed.as_bytes(), "{}", run.name);
-    Ok(())
-}
-
-/// Asserts what a program prints and how its run ends.
-fn assert_run(rt: &impl Abort, alloc: Global, run: &Run) -> Result<(), Fail> {
-    let checked = checked(rt, alloc, run.program);
-    let input = input(alloc, &checked, run)?;
-    assert_printed(rt, alloc, &checked, &input, run)
 }
 
 /// Asserts what each program prints and how its run ends.
-pub fn assert_runs(rt: &impl Abort, alloc: Global, runs: &[Run]) -> Result<(), Fail> {
+pub fn assert_runs(rt: &impl Abort, alloc: Global, runs: &[Run]) {
     for run in runs {
-        assert_run(rt, alloc, run)?;
+        assert_run(rt, alloc, run);
     }
-    Ok(())
 }
 
 const SUM_OF_NUMBERS: &str = "declare i64 @read_i64()
@@ -399,6 +346,6 @@ entry:
 ];
 
 #[test]
-fn programs_print_and_end(rt: HostRuntime) -> Result<(), Fail> {
-    assert_runs(&rt, rt.alloc(), RUNS)
+fn programs_print_and_end(rt: HostRuntime) {
+    assert_runs(&rt, rt.alloc(), RUNS);
 }

@@ -1,16 +1,10 @@
 //! What a machine shows before each step, and the events of the steps.
 
-use crate::printed_runs::{checked, machine};
+use crate::machines::{AMPLE, BASE, checked, input, machine};
 use hip_ir::Site;
-use hip_step::{Ending, Event, Input, Machine, Object};
-use hip_types::{NoMemory, Row};
-use hip_typing::Checked;
+use hip_step::{Ending, Event, Machine, Object};
 use std::alloc::Global;
 use std::process::Abort;
-use std::test::Fail;
-
-/// Where the region begins.
-const BASE: u64 = 4_294_967_296;
 
 /// Where the stack begins.
 const STACK: u64 = 268_435_456;
@@ -38,61 +32,30 @@ fn place(site: Site) -> Place {
 }
 
 /// Takes a step, and gives what was shown before it.
-fn taken(machine: &mut Machine<'_>) -> Result<Step, NoMemory> {
+fn taken(rt: &impl Abort, machine: &mut Machine<'_>) -> Step {
     let site = machine.site().map(place);
     let depth = machine.depth();
     let turns = machine.turns();
     let call = machine.call_site(0).map(place);
     let pointer = machine.pointer(0);
-    Ok(Step {
+    Step {
         site,
         depth,
         turns,
         call,
         pointer,
-        event: machine.step()?,
-    })
-}
-
-/// Asserts what is shown of each step.
-fn assert_steps(
-    rt: &impl Abort,
-    machine: &mut Machine<'_>,
-    steps: &[Step],
-) -> Result<(), NoMemory> {
-    for number in 0..steps.len() {
-        assert!(rt; taken(machine)? == steps[number], "step {number}");
+        event: machine.step().expect(rt, AMPLE),
     }
-    Ok(())
 }
 
-/// The input of a run that reads 7.
-fn input(alloc: Global, checked: &Checked) -> Result<Input, Fail> {
-    let input = Input {
-        base: BASE,
-        image: checked.region_bytes(alloc, BASE)?,
-        numbers: Row::from_slice(alloc, &[7])?,
-        limit: 100,
-    };
-    Ok(input)
-}
-
-fn assert_on(
-    rt: &impl Abort,
-    alloc: Global,
-    checked: &Checked,
-    input: &Input,
-    steps: &[Step],
-) -> Result<(), Fail> {
-    let mut machine = machine(alloc, checked, input)?;
-    assert_steps(rt, &mut machine, steps)?;
-    Ok(())
-}
-
-fn assert_run(rt: &impl Abort, alloc: Global, text: &str, steps: &[Step]) -> Result<(), Fail> {
+/// Asserts what is shown of each step of a run that reads 7.
+fn assert_run(rt: &impl Abort, alloc: Global, text: &str, steps: &[Step]) {
     let checked = checked(rt, alloc, text);
-    let input = input(alloc, &checked)?;
-    assert_on(rt, alloc, &checked, &input, steps)
+    let input = input(rt, alloc, &checked, &[7], 100);
+    let mut machine = machine(rt, alloc, &checked, &input);
+    for (number, step) in steps.iter().enumerate() {
+        assert!(rt; taken(rt, &mut machine) == *step, "step {number}");
+    }
 }
 
 const EVERY_EVENT: &str = "@x = global i64 0, section \".pm\"
@@ -317,13 +280,13 @@ const OF_TWO_CALLS: &[Step] = &[
 ];
 
 #[test]
-fn events_and_turns(rt: HostRuntime) -> Result<(), Fail> {
-    assert_run(&rt, rt.alloc(), EVERY_EVENT, OF_EVERY_EVENT)
+fn events_and_turns(rt: HostRuntime) {
+    assert_run(&rt, rt.alloc(), EVERY_EVENT, OF_EVERY_EVENT);
 }
 
 #[test]
-fn frames_of_calls(rt: HostRuntime) -> Result<(), Fail> {
-    assert_run(&rt, rt.alloc(), TWO_CALLS, OF_TWO_CALLS)
+fn frames_of_calls(rt: HostRuntime) {
+    assert_run(&rt, rt.alloc(), TWO_CALLS, OF_TWO_CALLS);
 }
 
 /// What an address points into after so many steps.
@@ -331,24 +294,6 @@ struct Pointed {
     steps: usize,
     addr: u64,
     object: Option<Object>,
-}
-
-/// Asserts what the addresses point into, by the number of steps.
-fn assert_pointed(
-    rt: &impl Abort,
-    machine: &mut Machine<'_>,
-    cases: &[Pointed],
-) -> Result<(), NoMemory> {
-    let mut steps = 0;
-    for case in cases {
-        for _ in steps..case.steps {
-            let _event = machine.step()?;
-        }
-        steps = case.steps;
-        let object = machine.object_at(case.addr);
-        assert!(rt; object == case.object, "{} after {}", case.addr, case.steps);
-    }
-    Ok(())
 }
 
 const BLOCKS: &str = "@v = global i16 1
@@ -532,30 +477,32 @@ const OF_BLOCKS: &[Pointed] = &[
     },
 ];
 
-fn assert_pointed_on(
-    rt: &impl Abort,
-    alloc: Global,
-    checked: &Checked,
-    input: &Input,
-    cases: &[Pointed],
-) -> Result<(), Fail> {
-    let mut machine = machine(alloc, checked, input)?;
-    assert_pointed(rt, &mut machine, cases)?;
-    Ok(())
-}
-
-fn assert_objects(rt: &impl Abort, alloc: Global, cases: &[Pointed]) -> Result<(), Fail> {
+/// Asserts what the addresses point into, by the number of steps.
+fn assert_objects(rt: &impl Abort, alloc: Global, cases: &[Pointed]) {
     let checked = checked(rt, alloc, BLOCKS);
-    let input = input(alloc, &checked)?;
-    assert_pointed_on(rt, alloc, &checked, &input, cases)
+    let input = input(rt, alloc, &checked, &[7], 100);
+    let mut machine = machine(rt, alloc, &checked, &input);
+    let mut steps = 0;
+    for case in cases {
+        take_steps(rt, &mut machine, steps, case.steps);
+        steps = case.steps;
+        let object = machine.object_at(case.addr);
+        assert!(rt; object == case.object, "{} after {}", case.addr, case.steps);
+    }
+}
+
+fn take_steps(rt: &impl Abort, machine: &mut Machine<'_>, from: usize, to: usize) {
+    for _ in from..to {
+        let _event = machine.step().expect(rt, AMPLE);
+    }
 }
 
 #[test]
-fn addresses_of_globals(rt: HostRuntime) -> Result<(), Fail> {
-    assert_objects(&rt, rt.alloc(), OF_GLOBALS)
+fn addresses_of_globals(rt: HostRuntime) {
+    assert_objects(&rt, rt.alloc(), OF_GLOBALS);
 }
 
 #[test]
-fn addresses_of_blocks(rt: HostRuntime) -> Result<(), Fail> {
-    assert_objects(&rt, rt.alloc(), OF_BLOCKS)
+fn addresses_of_blocks(rt: HostRuntime) {
+    assert_objects(&rt, rt.alloc(), OF_BLOCKS);
 }

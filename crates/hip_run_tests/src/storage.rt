@@ -2,18 +2,13 @@
 
 ghost use Rattle.std.specs.Prelude.{◌≤◌};
 
+use crate::machines::{AMPLE, BASE, checked, input};
 use hip_lines::LooseByte;
-use hip_parse::parse;
-use hip_runs::{Event, Input, TrapKind};
+use hip_runs::{Event, TrapKind};
+use hip_step::why_not;
 use hip_storage::{Storage, StorageRefusal};
-use hip_types::Row;
-use hip_typing::{Checked, check};
 use std::alloc::Global;
 use std::process::Abort;
-use std::test::Fail;
-
-/// Where the region begins.
-const BASE: u64 = 0x1_0000_0000;
 
 /// Where the stack begins.
 const STACK: u64 = 0x1000_0000;
@@ -84,18 +79,15 @@ enum Call {
     },
 }
 
-fn assert_loose(
-    rt: &impl Abort,
-    alloc: Global,
-    storage: &Storage,
-    bytes: usize,
-    flushed: usize,
-) -> Result<(), Fail> {
+fn assert_loose(rt: &impl Abort, alloc: Global, storage: &Storage, bytes: usize, flushed: usize) {
     assert!(rt; storage.is_in_region(BASE, 128));
-    let loose: Vec<LooseByte> = storage.lines().not_durable(0, 128).collect(alloc)?;
+    let loose: Vec<LooseByte> = storage
+        .lines()
+        .not_durable(0, 128)
+        .collect(alloc)
+        .expect(rt, AMPLE);
     let found = loose.iter().filter(|byte| byte.flushed).count();
     assert!(rt; loose.len() == bytes && found == flushed);
-    Ok(())
 }
 
 fn assert_access(rt: &impl Abort, storage: &mut Storage, call: Call, tag: u128) {
@@ -139,13 +131,7 @@ fn assert_access(rt: &impl Abort, storage: &mut Storage, call: Call, tag: u128) 
     }
 }
 
-fn assert_call(
-    rt: &impl Abort,
-    alloc: Global,
-    storage: &mut Storage,
-    call: Call,
-    tag: u128,
-) -> Result<(), Fail> {
+fn assert_call(rt: &impl Abort, alloc: Global, storage: &mut Storage, call: Call, tag: u128) {
     match call {
         Call::Flush { addr, answer } => assert!(rt;
             storage.flush(addr) == answer,
@@ -167,36 +153,20 @@ fn assert_call(
                 "{size} from {addr}"
             );
         }
-        Call::Loose { bytes, flushed } => assert_loose(rt, alloc, storage, bytes, flushed)?,
+        Call::Loose { bytes, flushed } => assert_loose(rt, alloc, storage, bytes, flushed),
         access => assert_access(rt, storage, access, tag),
-    }
-    Ok(())
-}
-
-fn checked(alloc: Global) -> Result<Checked, Fail> {
-    let Ok(program) = parse(alloc, PROGRAM.as_bytes()) else {
-        return Err(Fail::new("not read"));
-    };
-    match check(alloc, program) {
-        Ok(checked) => Ok(checked),
-        Err(_refusal) => Err(Fail::new("refused")),
     }
 }
 
 /// The calls in turn, before the first step of a run; each is tagged with its number.
-fn assert_calls(rt: &impl Abort, alloc: Global, calls: &[Call]) -> Result<(), Fail> {
-    let checked = checked(alloc)?;
-    let input = Input {
-        base: BASE,
-        image: checked.region_bytes(alloc, BASE)?,
-        numbers: Row::new(alloc),
-        limit: 1,
-    };
-    let mut storage = Storage::new(alloc, &checked, &input)?;
+fn assert_calls(rt: &impl Abort, alloc: Global, calls: &[Call]) {
+    let checked = checked(rt, alloc, PROGRAM);
+    let input = input(rt, alloc, &checked, &[], 1);
+    assert!(rt; why_not(&checked, &input).is_none(), "the input is valid");
+    let mut storage = Storage::new(alloc, &checked, &input).expect(rt, AMPLE);
     'calls: for (number, call) in calls.iter().enumerate() {
-        assert_call(rt, alloc, &mut storage, *call, number as u128)?;
+        assert_call(rt, alloc, &mut storage, *call, number as u128);
     }
-    Ok(())
 }
 
 /// A store that lies in two cache lines is durable line by line.
@@ -412,16 +382,16 @@ const VOLATILE_CALLS: &[Call] = &[
 ];
 
 #[test]
-fn store_in_two_lines(rt: HostRuntime) -> Result<(), Fail> {
-    assert_calls(&rt, rt.alloc(), TORN)
+fn store_in_two_lines(rt: HostRuntime) {
+    assert_calls(&rt, rt.alloc(), TORN);
 }
 
 #[test]
-fn ranges_and_persists(rt: HostRuntime) -> Result<(), Fail> {
-    assert_calls(&rt, rt.alloc(), RANGES)
+fn ranges_and_persists(rt: HostRuntime) {
+    assert_calls(&rt, rt.alloc(), RANGES);
 }
 
 #[test]
-fn volatile_numbers_and_blocks(rt: HostRuntime) -> Result<(), Fail> {
-    assert_calls(&rt, rt.alloc(), VOLATILE_CALLS)
+fn volatile_numbers_and_blocks(rt: HostRuntime) {
+    assert_calls(&rt, rt.alloc(), VOLATILE_CALLS);
 }

@@ -2,10 +2,10 @@
 
 ghost use Rattle.std.specs.Prelude.{◌≡◌, ◌≤◌, ◌*◌, length};
 
+use crate::AMPLE;
 use hip_lines::{Lines, LooseByte};
 use std::alloc::Global;
 use std::process::Abort;
-use std::test::Fail;
 
 /// Bytes side by side that are not durable, all of one store.
 struct Bytes {
@@ -44,13 +44,7 @@ fn assert_bytes(rt: &impl Abort, found: &[LooseByte], bytes: &[Bytes]) {
 }
 
 /// One call on so many lines.
-fn make_call(
-    rt: &impl Abort,
-    alloc: Global,
-    lines: &mut Lines,
-    count: u64,
-    call: Call,
-) -> Result<(), Fail>
+fn make_call(rt: &impl Abort, alloc: Global, lines: &mut Lines, count: u64, call: Call)
     requires count { length lines.old.lines ≡ count }
     requires few { count ≤ 1048576 }
     ensures { length lines.new.lines ≡ count }
@@ -60,7 +54,7 @@ fn make_call(
         Call::Store { offset, size, tag } => {
             assert!(rt; 0 < size && size <= 8 && offset < size_of_region);
             assert!(rt; offset + u64::from(size) <= size_of_region);
-            lines.note_store(offset, size, tag)?;
+            lines.note_store(offset, size, tag).expect(rt, AMPLE);
         }
         Call::Flush { offset } => {
             assert!(rt; offset < size_of_region);
@@ -73,22 +67,23 @@ fn make_call(
         Call::Fence => lines.fence(),
         Call::NotDurable { among, bytes } => {
             assert!(rt; among <= size_of_region);
-            let found: Vec<LooseByte> = lines.not_durable(0, among).collect(alloc)?;
+            let found: Vec<LooseByte> = lines
+                .not_durable(0, among)
+                .collect(alloc)
+                .expect(rt, AMPLE);
             assert_bytes(rt, found.as_slice(), bytes);
         }
     }
-    Ok(())
 }
 
 /// The calls in turn, on so many lines.
-fn make_calls(rt: &impl Abort, alloc: Global, count: u64, calls: &[Call]) -> Result<(), Fail>
+fn make_calls(rt: &impl Abort, alloc: Global, count: u64, calls: &[Call])
     requires { count ≤ 1048576 }
 {
-    let mut lines = Lines::new(alloc, count * 64)?;
+    let mut lines = Lines::new(alloc, count * 64).expect(rt, AMPLE);
     'calls: for call in calls {
-        make_call(rt, alloc, &mut lines, count, *call)?;
+        make_call(rt, alloc, &mut lines, count, *call);
     }
-    Ok(())
 }
 
 const TWO_STORES_AND_ONE: &[Call] = &[
@@ -144,7 +139,7 @@ const TWO_STORES_AND_ONE: &[Call] = &[
 ];
 
 #[test]
-fn loose_bytes(rt: HostRuntime) -> Result<(), Fail> {
+fn loose_bytes(rt: HostRuntime) {
     make_calls(&rt, rt.alloc(), 1, TWO_STORES_AND_ONE)
 }
 
@@ -191,7 +186,7 @@ const STORE_OVER_A_BORDER: &[Call] = &[
 ];
 
 #[test]
-fn store_in_two_lines(rt: HostRuntime) -> Result<(), Fail> {
+fn store_in_two_lines(rt: HostRuntime) {
     make_calls(&rt, rt.alloc(), 2, STORE_OVER_A_BORDER)
 }
 
@@ -228,7 +223,7 @@ const FLUSH_OVER_A_BORDER: &[Call] = &[
 ];
 
 #[test]
-fn flush_of_a_range(rt: HostRuntime) -> Result<(), Fail> {
+fn flush_of_a_range(rt: HostRuntime) {
     make_calls(&rt, rt.alloc(), 4, FLUSH_OVER_A_BORDER)
 }
 
@@ -241,17 +236,19 @@ const LAST_STORE: &[Bytes] = &[Bytes {
 
 /// A region of a million lines: each of 50,000 fences costs one line, and each check those that hold something.
 #[test]
-fn many_lines(rt: HostRuntime) -> Result<(), Fail> {
-    let mut lines = Lines::new(rt.alloc(), 67_108_864)?;
-    lines.note_store(67_108_856, 8, 1)?;
+fn many_lines(rt: HostRuntime) {
+    let mut lines = Lines::new(rt.alloc(), 67_108_864).expect(&rt, AMPLE);
+    lines.note_store(67_108_856, 8, 1).expect(&rt, AMPLE);
     'turns: for turn in 0..50_000u32 {
         let offset = u64::from(turn) * 64;
-        lines.make_room(offset, 4)?;
-        lines.note_store(offset, 4, 2)?;
+        lines.make_room(offset, 4).expect(&rt, AMPLE);
+        lines.note_store(offset, 4, 2).expect(&rt, AMPLE);
         lines.flush(offset);
         lines.fence();
     }
-    let found: Vec<LooseByte> = lines.not_durable(0, 67_108_864).collect(rt.alloc())?;
+    let found: Vec<LooseByte> = lines
+        .not_durable(0, 67_108_864)
+        .collect(rt.alloc())
+        .expect(&rt, AMPLE);
     assert_bytes(&rt, found.as_slice(), LAST_STORE);
-    Ok(())
 }

@@ -1,18 +1,20 @@
 //! Paths in graphs of numbered nodes, from node 0 on.
 
+use crate::AMPLE;
 use hip_paths::Paths;
-use hip_types::{NoMemory, Row};
+use hip_types::Row;
 use std::alloc::Global;
 use std::process::Abort;
-use std::test::Fail;
 
 /// The graph with these successors, node by node.
-fn graph_of(alloc: Global, nodes: &[&[usize]]) -> Result<Row<Row<usize>>, NoMemory> {
+fn graph_of(rt: &impl Abort, alloc: Global, nodes: &[&[usize]]) -> Row<Row<usize>> {
     let mut graph = Row::new(alloc);
     for successors in nodes {
-        graph.push(Row::from_slice(alloc, successors)?)?;
+        graph
+            .push(Row::from_slice(alloc, successors).expect(rt, AMPLE))
+            .expect(rt, AMPLE);
     }
-    Ok(graph)
+    graph
 }
 
 /// A path to a node around another one, if there is one.
@@ -30,21 +32,17 @@ fn assert_path(rt: &impl Abort, found: Option<Row<usize>>, wanted: Option<&[usiz
     }
 }
 
-fn assert_paths(
-    rt: &impl Abort,
-    alloc: Global,
-    nodes: &[&[usize]],
-    cases: &[Around],
-) -> Result<(), Fail> {
-    let graph = graph_of(alloc, nodes)?;
+fn assert_paths(rt: &impl Abort, alloc: Global, nodes: &[&[usize]], cases: &[Around]) {
+    let graph = graph_of(rt, alloc, nodes);
     let count = graph.len();
-    let paths = Paths::new(alloc, graph.as_slice())?;
+    let paths = Paths::new(alloc, graph.as_slice()).expect(rt, AMPLE);
     for case in cases {
         assert!(rt; case.last < count);
-        let found = paths.path_around(alloc, case.passed, case.last)?;
+        let found = paths
+            .path_around(alloc, case.passed, case.last)
+            .expect(rt, AMPLE);
         assert_path(rt, found, case.path);
     }
-    Ok(())
 }
 
 const TWO_WAYS: &[&[usize]] = &[&[1, 2], &[3], &[3], &[]];
@@ -84,7 +82,7 @@ const AROUND_ONE_WAY: &[Around] = &[
 ];
 
 #[test]
-fn two_ways_meet(rt: HostRuntime) -> Result<(), Fail> {
+fn two_ways_meet(rt: HostRuntime) {
     assert_paths(&rt, rt.alloc(), TWO_WAYS, AROUND_ONE_WAY)
 }
 
@@ -110,7 +108,7 @@ const AROUND_WHAT_IS_NOT_REACHED: &[Around] = &[
 ];
 
 #[test]
-fn nodes_out_of_reach(rt: HostRuntime) -> Result<(), Fail> {
+fn nodes_out_of_reach(rt: HostRuntime) {
     assert_paths(&rt, rt.alloc(), OUT_OF_REACH, AROUND_WHAT_IS_NOT_REACHED)
 }
 
@@ -118,43 +116,55 @@ fn nodes_out_of_reach(rt: HostRuntime) -> Result<(), Fail> {
 const TWO_LOOPS: &[&[usize]] = &[&[1, 2], &[2, 3], &[1, 4], &[4, 5], &[3, 5], &[1]];
 
 #[test]
-fn loops_with_two_entries(rt: HostRuntime) -> Result<(), Fail> {
+fn loops_with_two_entries(rt: HostRuntime) {
     let alloc = rt.alloc();
-    let graph = graph_of(alloc, TWO_LOOPS)?;
+    let graph = graph_of(&rt, alloc, TWO_LOOPS);
     assert!(rt; 5 < graph.len());
-    let paths = Paths::new(alloc, graph.as_slice())?;
+    let paths = Paths::new(alloc, graph.as_slice()).expect(&rt, AMPLE);
     for passed in 0..5 {
         assert!(rt;
-            paths.path_around(alloc, passed, 5)?.is_some() == (passed != 0),
+            paths
+                .path_around(alloc, passed, 5)
+                .expect(&rt, AMPLE)
+                .is_some()
+                == (passed != 0),
             "{passed}"
         );
     }
-    Ok(())
 }
 
 /// A chain of so many nodes in which each one also leads to the last.
-fn chain(alloc: Global, count: usize) -> Result<Row<Row<usize>>, NoMemory> {
+fn chain(rt: &impl Abort, alloc: Global, count: usize) -> Row<Row<usize>> {
     let mut graph = Row::new(alloc);
     for node in 0..count {
-        graph.push(Row::from_slice(alloc, &[node.saturating_add(1), count])?)?;
+        graph
+            .push(Row::from_slice(alloc, &[node.saturating_add(1), count]).expect(rt, AMPLE))
+            .expect(rt, AMPLE);
     }
-    graph.push(Row::new(alloc))?;
-    Ok(graph)
+    graph.push(Row::new(alloc)).expect(rt, AMPLE);
+    graph
 }
 
 /// Where no path is there, none is searched for: 20,000 answers by a walk through the graph would take minutes.
 #[test]
-fn long_chain(rt: HostRuntime) -> Result<(), Fail> {
+fn long_chain(rt: HostRuntime) {
     let alloc = rt.alloc();
-    let graph = chain(alloc, 20_000)?;
-    let paths = Paths::new(alloc, graph.as_slice())?;
+    let graph = chain(&rt, alloc, 20_000);
+    let paths = Paths::new(alloc, graph.as_slice()).expect(&rt, AMPLE);
     assert!(rt; graph.len() == 20_001);
     for node in 1..20_000usize {
         assert!(rt;
-            paths.path_around(alloc, node / 2, node)?.is_none(),
+            paths
+                .path_around(alloc, node / 2, node)
+                .expect(&rt, AMPLE)
+                .is_none(),
             "{node}"
         );
     }
-    assert!(rt; paths.path_around(alloc, 4, 20_000)?.is_some());
-    Ok(())
+    assert!(rt;
+        paths
+            .path_around(alloc, 4, 20_000)
+            .expect(&rt, AMPLE)
+            .is_some()
+    );
 }

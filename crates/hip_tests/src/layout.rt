@@ -1,21 +1,21 @@
 //! Types and their layout.
 
-use hip_types::{Link, NoMemory, Row, Ty, Width, align, copy_ty, fits, gep_offset, same_ty, size};
+use crate::AMPLE;
+use hip_types::{Link, Row, Ty, Width, align, copy_ty, fits, gep_offset, same_ty, size};
 use std::alloc::Global;
 use std::process::Abort;
-use std::test::Fail;
 
 fn int(width: Width) -> Ty {
     Ty::Int(width)
 }
 
 /// `{ i8, i64, i16 }`
-fn mixed(alloc: Global) -> Result<Ty, NoMemory> {
+fn mixed(rt: &impl Abort, alloc: Global) -> Ty {
     let mut fields = Row::new(alloc);
     for width in [Width::W8, Width::W64, Width::W16] {
-        fields.push(int(width))?;
+        fields.push(int(width)).expect(rt, AMPLE);
     }
-    Ok(Ty::Struct(fields))
+    Ty::Struct(fields)
 }
 
 /// Indices into a type, and the offset that they lead to.
@@ -69,59 +69,58 @@ fn assert_offsets(rt: &impl Abort, ty: &Ty, places: &[Place]) {
 }
 
 #[test]
-fn layout_edges(rt: HostRuntime) -> Result<(), Fail> {
-    let ty = mixed(rt.alloc())?;
+fn layout_edges(rt: HostRuntime) {
+    let ty = mixed(&rt, rt.alloc());
     assert!(rt; fits(&ty));
     assert_eq!(rt; size(&ty), 24);
     assert_eq!(rt; align(&ty), 8);
     assert_offsets(&rt, &ty, MIXED_PLACES);
     assert_offsets(&rt, &int(Width::W64), WORD_PLACES);
-    let words = Ty::Array(3, Link::new(rt.alloc(), int(Width::W32))?);
+    let words = Ty::Array(3, Link::new(rt.alloc(), int(Width::W32)).expect(&rt, AMPLE));
     assert_offsets(&rt, &words, ARRAY_PLACES);
-    Ok(())
 }
 
 #[test]
-fn copied_type(rt: HostRuntime) -> Result<(), Fail> {
-    let ty = mixed(rt.alloc())?;
-    let copy = copy_ty(rt.alloc(), &ty)?;
+fn copied_type(rt: HostRuntime) {
+    let ty = mixed(&rt, rt.alloc());
+    let copy = copy_ty(rt.alloc(), &ty).expect(&rt, AMPLE);
     assert!(rt; same_ty(&ty, &copy));
     assert!(rt; !same_ty(&ty, &int(Width::W8)));
-    Ok(())
 }
 
 /// An array type that is nested this deep.
-fn nested(alloc: Global, depth: u8) -> Result<Ty, NoMemory> {
+fn nested(rt: &impl Abort, alloc: Global, depth: u8) -> Ty {
     let mut ty = int(Width::W8);
     for _ in 0..depth {
-        ty = Ty::Array(1, Link::new(alloc, ty)?);
+        ty = Ty::Array(1, Link::new(alloc, ty).expect(rt, AMPLE));
     }
-    Ok(ty)
+    ty
 }
 
 #[test]
-fn deepest_types(rt: HostRuntime) -> Result<(), Fail> {
-    assert!(rt; fits(&nested(rt.alloc(), 32)?));
-    assert!(rt; !fits(&nested(rt.alloc(), 33)?));
-    let largest = Ty::Array(67_108_864, Link::new(rt.alloc(), int(Width::W8))?);
+fn deepest_types(rt: HostRuntime) {
+    assert!(rt; fits(&nested(&rt, rt.alloc(), 32)));
+    assert!(rt; !fits(&nested(&rt, rt.alloc(), 33)));
+    let largest = Ty::Array(
+        67_108_864,
+        Link::new(rt.alloc(), int(Width::W8)).expect(&rt, AMPLE),
+    );
     assert!(rt; fits(&largest));
-    let two = Ty::Array(2, Link::new(rt.alloc(), largest)?);
-    let none_of_large = Ty::Array(0, Link::new(rt.alloc(), two)?);
+    let two = Ty::Array(2, Link::new(rt.alloc(), largest).expect(&rt, AMPLE));
+    let none_of_large = Ty::Array(0, Link::new(rt.alloc(), two).expect(&rt, AMPLE));
     assert!(rt; !fits(&none_of_large));
-    Ok(())
 }
 
 #[test]
-fn many_fields(rt: HostRuntime) -> Result<(), Fail> {
+fn many_fields(rt: HostRuntime) {
     let mut fields = Row::new(rt.alloc());
     for _ in 0..100_000u32 {
-        fields.push(int(Width::W8))?;
-        fields.push(int(Width::W32))?;
+        fields.push(int(Width::W8)).expect(&rt, AMPLE);
+        fields.push(int(Width::W32)).expect(&rt, AMPLE);
     }
     let ty = Ty::Struct(fields);
     assert!(rt; fits(&ty));
     assert_eq!(rt; size(&ty), 800_000);
-    let copy = copy_ty(rt.alloc(), &ty)?;
+    let copy = copy_ty(rt.alloc(), &ty).expect(&rt, AMPLE);
     assert!(rt; same_ty(&ty, &copy));
-    Ok(())
 }

@@ -1,18 +1,18 @@
 //! Lists and texts on the heap.
 
+use crate::AMPLE;
 use hip_types::{Bits, Row, Text, Width};
-use std::test::Fail;
 
 #[test]
-fn lists_and_texts(rt: HostRuntime) -> Result<(), Fail> {
-    let mut row = Row::from_slice(rt.alloc(), &[1u8, 2])?;
-    row.reserve(3)?;
-    row.extend_from_slice(&[3])?;
-    row.append(Row::from_slice(rt.alloc(), &[4])?)?;
+fn lists_and_texts(rt: HostRuntime) {
+    let mut row = Row::from_slice(rt.alloc(), &[1u8, 2]).expect(&rt, AMPLE);
+    row.reserve(3).expect(&rt, AMPLE);
+    row.extend_from_slice(&[3]).expect(&rt, AMPLE);
+    row.append(Row::from_slice(rt.alloc(), &[4]).expect(&rt, AMPLE))
+        .expect(&rt, AMPLE);
     assert_eq!(rt; row.as_slice(), [1, 2, 3, 4].as_slice());
     assert_eq!(rt; row.get(3).copied(), Some(4));
-    let text = Text::new(rt.alloc(), "pm")?;
+    let text = Text::new(rt.alloc(), "pm").expect(&rt, AMPLE);
     assert_eq!(rt; text.as_str(), "pm");
     assert_eq!(rt; Bits::new(Width::W8, 300).value, 44);
-    Ok(())
 }

@@ -2,9 +2,9 @@
 
 ghost use Rattle.std.specs.Prelude.{◌≤◌};
 
+use crate::AMPLE;
 use hip_mem::{MemTrap, PushRefusal, Ram, StoreRefusal};
 use std::process::Abort;
-use std::test::Fail;
 
 /// Where the region begins.
 const BASE: u64 = 0x1_0000_0000;
@@ -148,10 +148,9 @@ const FRESH: &[Call] = &[
 ];
 
 #[test]
-fn fresh_memory(rt: HostRuntime) -> Result<(), Fail> {
-    let mut ram = Ram::new(rt.alloc(), BASE, &[1, 2, 3], &[])?;
+fn fresh_memory(rt: HostRuntime) {
+    let mut ram = Ram::new(rt.alloc(), BASE, &[1, 2, 3], &[]).expect(&rt, AMPLE);
     assert_calls(&rt, &mut ram, FRESH);
-    Ok(())
 }
 
 /// A region of two pages: a store over their border, one of low bytes, and refusals that change nothing.
@@ -252,11 +251,10 @@ const TWO_PAGES: &[Call] = &[
 ];
 
 #[test]
-fn stores_are_read(rt: HostRuntime) -> Result<(), Fail> {
-    let region = vec![in rt.alloc(); 0xabu8; 8192]?;
-    let mut ram = Ram::new(rt.alloc(), BASE, &[], region.as_slice())?;
+fn stores_are_read(rt: HostRuntime) {
+    let region = vec![in rt.alloc(); 0xabu8; 8192].expect(&rt, AMPLE);
+    let mut ram = Ram::new(rt.alloc(), BASE, &[], region.as_slice()).expect(&rt, AMPLE);
     assert_calls(&rt, &mut ram, TWO_PAGES);
-    Ok(())
 }
 
 /// A block over bytes that an earlier frame wrote reads as zeros again.
@@ -325,10 +323,9 @@ const TWO_FRAMES: &[Call] = &[
 ];
 
 #[test]
-fn block_is_zeros_again(rt: HostRuntime) -> Result<(), Fail> {
-    let mut ram = Ram::new(rt.alloc(), BASE, &[], &[])?;
+fn block_is_zeros_again(rt: HostRuntime) {
+    let mut ram = Ram::new(rt.alloc(), BASE, &[], &[]).expect(&rt, AMPLE);
     assert_calls(&rt, &mut ram, TWO_FRAMES);
-    Ok(())
 }
 
 /// A block that fills the stack, and a store at its end.
@@ -364,16 +361,15 @@ const LEFT: &[Call] = &[
 ];
 
 #[test]
-fn pages_on_demand(rt: HostRuntime) -> Result<(), Fail> {
+fn pages_on_demand(rt: HostRuntime) {
     let mut rams = Vec::new(rt.alloc());
     for _ in 0..4000u32 {
-        let mut ram = Ram::new(rt.alloc(), BASE, &[], &[])?;
+        let mut ram = Ram::new(rt.alloc(), BASE, &[], &[]).expect(&rt, AMPLE);
         assert_calls(&rt, &mut ram, FULL_STACK);
-        rams.push(ram)?;
+        rams.push(ram).expect(&rt, AMPLE);
     }
     assert!(rt; rams.len() == 4000);
     for ram in &mut rams {
         assert_calls(&rt, ram, LEFT);
     }
-    Ok(())
 }

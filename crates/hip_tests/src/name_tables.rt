@@ -1,7 +1,7 @@
 //! Names: sets that number them, and tables of values.
 
+use crate::AMPLE;
 use hip_names::{NameSet, NameTable};
-use std::test::Fail;
 
 /// A name that is put into a set, and whether it is new there.
 struct Inserted {
@@ -50,11 +50,11 @@ const NUMBERED: &[Numbered] = &[
 ];
 
 #[test]
-fn names_are_numbered(rt: HostRuntime) -> Result<(), Fail> {
+fn names_are_numbered(rt: HostRuntime) {
     let mut names = NameSet::new(rt.alloc());
     for case in INSERTED {
         assert!(rt;
-            names.insert(case.name.as_bytes())? == case.is_new,
+            names.insert(case.name.as_bytes()).expect(&rt, AMPLE) == case.is_new,
             "{}",
             case.name
         );
@@ -68,19 +68,17 @@ fn names_are_numbered(rt: HostRuntime) -> Result<(), Fail> {
             case.name
         );
     }
-    Ok(())
 }
 
 #[test]
-fn set_within_another(rt: HostRuntime) -> Result<(), Fail> {
+fn set_within_another(rt: HostRuntime) {
     let mut names = NameSet::new(rt.alloc());
-    names.insert(b"main")?;
-    names.insert(b"copy")?;
+    names.insert(b"main").expect(&rt, AMPLE);
+    names.insert(b"copy").expect(&rt, AMPLE);
     let mut others = NameSet::new(rt.alloc());
-    others.insert(b"copy")?;
+    others.insert(b"copy").expect(&rt, AMPLE);
     assert!(rt; others.is_within(&names));
     assert!(rt; !names.is_within(&others));
-    Ok(())
 }
 
 const VALUES: &[(&str, u64)] = &[("x", 7), ("y", 8), ("x", 9)];
@@ -88,13 +86,12 @@ const VALUES: &[(&str, u64)] = &[("x", 7), ("y", 8), ("x", 9)];
 const FIRST_VALUES: &[(&str, Option<u64>)] = &[("x", Some(7)), ("y", Some(8)), ("z", None)];
 
 #[test]
-fn first_value_counts(rt: HostRuntime) -> Result<(), Fail> {
+fn first_value_counts(rt: HostRuntime) {
     let mut table = NameTable::new(rt.alloc());
     for (name, value) in VALUES {
-        table.add(name.as_bytes(), *value)?;
+        table.add(name.as_bytes(), *value).expect(&rt, AMPLE);
     }
     for (name, value) in FIRST_VALUES {
         assert_eq!(rt; table.get(name.as_bytes()), *value, "{name}");
     }
-    Ok(())
 }

@@ -1,32 +1,26 @@
 //! Programs that are read, and written in their canonical text.
 
+use crate::AMPLE;
 use hip_examples::{
     COPY, ENDLESS_LOOP, EVEN_AND_ODD, KEY_VALUE_LOG, ONE_STORE, ONE_STORE_REPAIRED, REACH,
 };
 use hip_io::MemSink;
 use hip_ir::{same, spelled};
 use hip_parse::parse;
-use hip_types::{NoMemory, Row};
+use hip_types::Row;
 use hip_write::write;
-use std::test::Fail;
+use std::alloc::Global;
+use std::process::Abort;
 
-/// Whether a text is read, its program spelled and written as the canonical text, and that text read as the same
-/// program.
-fn is_written_as(rt: &HostRuntime, text: &str, canonical: &str) -> Result<bool, NoMemory> {
-    let mut sink = MemSink::new(rt.alloc(), 10_000)?;
-    let Ok(program) = parse(rt.alloc(), text.as_bytes()) else {
-        return Ok(false);
-    };
-    if !spelled(&program) {
-        return Ok(false);
-    }
-    if write(&program, &mut sink).is_err() || sink.bytes() != canonical.as_bytes() {
-        return Ok(false);
-    }
-    match parse(rt.alloc(), sink.bytes()) {
-        Ok(again) => Ok(same(&program, &again)),
-        Err(_) => Ok(false),
-    }
+/// A text is read, its program is spelled and written as the canonical text, and that text is read as the same program.
+fn assert_written_as(rt: &impl Abort, alloc: Global, text: &str, canonical: &str) {
+    let program = parse(alloc, text.as_bytes()).expect(rt, "the text is read");
+    assert!(rt; spelled(&program), "{text}");
+    let mut sink = MemSink::new(alloc, 10_000).expect(rt, AMPLE);
+    assert!(rt; write(&program, &mut sink).is_ok(), "{text}");
+    assert_eq!(rt; sink.bytes(), canonical.as_bytes(), "{text}");
+    let again = parse(alloc, sink.bytes()).expect(rt, "the canonical text is read");
+    assert!(rt; same(&program, &again), "{text}");
 }
 
 const TABLE: &str = "@t = private constant [2 x { i8, ptr }] [ { i8, ptr } { i8 255, ptr @t },
@@ -37,9 +31,8 @@ const TABLE_WRITTEN: &str =
     "@t = constant [2 x { i8, ptr }] [{ i8, ptr } { i8 -1, ptr @t }, { i8, ptr } zeroinitializer], align 16\n";
 
 #[test]
-fn canonical_table(rt: HostRuntime) -> Result<(), Fail> {
-    assert!(rt; is_written_as(&rt, TABLE, TABLE_WRITTEN)?);
-    Ok(())
+fn canonical_table(rt: HostRuntime) {
+    assert_written_as(&rt, rt.alloc(), TABLE, TABLE_WRITTEN);
 }
 
 const FLAGS: &str = "define i64 @f(i64 %a, i64 %x) {
@@ -61,9 +54,8 @@ d:
 ";
 
 #[test]
-fn canonical_flags(rt: HostRuntime) -> Result<(), Fail> {
-    assert!(rt; is_written_as(&rt, FLAGS, FLAGS_WRITTEN)?);
-    Ok(())
+fn canonical_flags(rt: HostRuntime) {
+    assert_written_as(&rt, rt.alloc(), FLAGS, FLAGS_WRITTEN);
 }
 
 const CANONICAL: &[&str] = &[
@@ -77,29 +69,18 @@ const CANONICAL: &[&str] = &[
 ];
 
 #[test]
-fn canonical_texts_stay(rt: HostRuntime) -> Result<(), Fail> {
+fn canonical_texts_stay(rt: HostRuntime) {
     for text in CANONICAL {
-        assert!(rt; is_written_as(&rt, text, text)?, "{text}");
+        assert_written_as(&rt, rt.alloc(), text, text);
     }
-    Ok(())
-}
-
-/// Whether the program of a text is still spelled when its last global has a name of no bytes. None where no global
-/// is read.
-fn is_spelled_without_name(rt: &HostRuntime, text: &str) -> Result<Option<bool>, NoMemory> {
-    let Ok(mut program) = parse(rt.alloc(), text.as_bytes()) else {
-        return Ok(None);
-    };
-    let Some(mut nameless) = program.globals.pop() else {
-        return Ok(None);
-    };
-    nameless.name = Row::new(rt.alloc());
-    program.globals.push(nameless)?;
-    Ok(Some(spelled(&program)))
 }
 
 #[test]
-fn no_name_is_not_spelled(rt: HostRuntime) -> Result<(), Fail> {
-    assert!(rt; is_spelled_without_name(&rt, ONE_STORE)? == Some(false));
-    Ok(())
+fn no_name_is_not_spelled(rt: HostRuntime) {
+    let alloc = rt.alloc();
+    let mut program = parse(alloc, ONE_STORE.as_bytes()).expect(&rt, "the text is read");
+    let mut nameless = program.globals.pop().expect(&rt, "it has a global");
+    nameless.name = Row::new(alloc);
+    program.globals.push(nameless).expect(&rt, AMPLE);
+    assert!(rt; !spelled(&program));
 }

@@ -1,4 +1,5 @@
-//! Tests of more than one function by public calls alone: files, entries of traces, trees of programs and their texts.
+//! Tests of more than one function by public calls alone: files, entries of traces, trees of programs and their
+//! texts, generated programs, and what a sound program gives.
 #![tactic(auto)]
 
 #[cfg(test)]
@@ -6,14 +7,22 @@ mod canonical_texts;
 #[cfg(test)]
 mod files;
 #[cfg(test)]
+mod generated_texts;
+#[cfg(test)]
 mod nested_texts;
 #[cfg(test)]
 mod read_texts;
 #[cfg(test)]
 mod refused_texts;
 #[cfg(test)]
+mod sound_programs;
+#[cfg(test)]
 mod spelling;
 #[cfg(test)]
 mod trace_entries;
 #[cfg(test)]
 mod trees;
+
+/// What is said where a call that was given ample memory found none.
+#[cfg(test)]
+const AMPLE: &str = "there is memory";

@@ -1,9 +1,9 @@
 //! Types and constants nested as deep as the language allows, and one level deeper.
 
+use crate::AMPLE;
 use hip_parse::{ParseRefusal, parse};
-use std::alloc::{AllocError, Global};
+use std::alloc::Global;
 use std::process::Abort;
-use std::test::Fail;
 
 /// A global whose type or constant opens a level so many times, and closes it as often where it is to be read.
 struct NestedText {
@@ -15,25 +15,24 @@ struct NestedText {
     why: Option<ParseRefusal>,
 }
 
-fn text_of(alloc: Global, nested: &NestedText) -> Result<String, AllocError> {
-    let mut text = String::from_str(alloc, "@x = global ")?;
+fn text_of(rt: &impl Abort, alloc: Global, nested: &NestedText) -> String {
+    let mut text = String::from_str(alloc, "@x = global ").expect(rt, AMPLE);
     for _ in 0..nested.levels {
-        text.push_str(nested.open)?;
+        text.push_str(nested.open).expect(rt, AMPLE);
     }
-    text.push_str(nested.middle)?;
+    text.push_str(nested.middle).expect(rt, AMPLE);
     for _ in 0..nested.levels {
-        text.push_str(nested.close)?;
+        text.push_str(nested.close).expect(rt, AMPLE);
     }
-    Ok(text)
+    text
 }
 
-fn assert_limits(rt: &impl Abort, alloc: Global, cases: &[NestedText]) -> Result<(), Fail> {
+fn assert_limits(rt: &impl Abort, alloc: Global, cases: &[NestedText]) {
     for case in cases {
-        let text = text_of(alloc, case)?;
+        let text = text_of(rt, alloc, case);
         let refusal = parse(alloc, text.as_bytes()).err();
         assert!(rt; refusal == case.why, "{text}");
     }
-    Ok(())
 }
 
 const TYPES: &[NestedText] = &[
@@ -123,8 +122,8 @@ const ADDRESSES: &[NestedText] = &[
 ];
 
 #[test]
-fn nested_limits(rt: HostRuntime) -> Result<(), Fail> {
-    assert_limits(&rt, rt.alloc(), TYPES)?;
-    assert_limits(&rt, rt.alloc(), LISTS)?;
+fn nested_limits(rt: HostRuntime) {
+    assert_limits(&rt, rt.alloc(), TYPES);
+    assert_limits(&rt, rt.alloc(), LISTS);
     assert_limits(&rt, rt.alloc(), ADDRESSES)
 }

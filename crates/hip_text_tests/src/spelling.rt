@@ -1,43 +1,47 @@
 //! Which programs some text reads as.
 
+use crate::AMPLE;
 use crate::trees::{global, name, number, one_store, program_of};
 use hip_ir::{Case, Const, End, Flags, Instr, Operand, Phi, spelled};
-use hip_types::{BinaryOp, Bits, CastOp, Link, NoMemory, Row, Scalar, Ty, Width};
+use hip_types::{BinaryOp, Bits, CastOp, Link, Row, Scalar, Ty, Width};
 use std::alloc::Global;
-use std::test::Fail;
+use std::process::Abort;
 
-fn is_spelled_instr(alloc: Global, instr: Instr) -> Result<bool, NoMemory> {
+fn is_spelled_instr(rt: &impl Abort, alloc: Global, instr: Instr) -> bool {
     let mut body = Row::new(alloc);
-    body.push(instr)?;
-    let program = program_of(alloc, "entry", Row::new(alloc), body, End::Unreachable)?;
-    Ok(spelled(&program))
+    body.push(instr).expect(rt, AMPLE);
+    let program = program_of(rt, alloc, "entry", Row::new(alloc), body, End::Unreachable);
+    spelled(&program)
 }
 
-fn is_spelled_end(alloc: Global, end: End) -> Result<bool, NoMemory> {
-    let program = program_of(alloc, "entry", Row::new(alloc), Row::new(alloc), end)?;
-    Ok(spelled(&program))
+fn is_spelled_end(rt: &impl Abort, alloc: Global, end: End) -> bool {
+    let program = program_of(rt, alloc, "entry", Row::new(alloc), Row::new(alloc), end);
+    spelled(&program)
 }
 
 #[test]
-fn names_are_spelled(rt: HostRuntime) -> Result<(), Fail> {
+fn names_are_spelled(rt: HostRuntime) {
     let alloc = rt.alloc();
-    let mut program = one_store(alloc, Some(64))?;
+    let mut program = one_store(&rt, alloc, Some(64));
     assert!(rt; spelled(&program));
-    program.globals.push(global(alloc, "", None)?)?;
+    program
+        .globals
+        .push(global(&rt, alloc, "", None))
+        .expect(&rt, AMPLE);
     assert!(rt; !spelled(&program));
     for label in ["", "1st", "a b"] {
         let program = program_of(
+            &rt,
             alloc,
             label,
             Row::new(alloc),
             Row::new(alloc),
             End::Unreachable,
-        )?;
+        );
         assert!(rt; !spelled(&program), "{label}");
     }
-    let label = name(alloc, "%entry")?;
-    assert!(rt; !is_spelled_end(alloc, End::Br { label })?);
-    Ok(())
+    let label = name(&rt, alloc, "%entry");
+    assert!(rt; !is_spelled_end(&rt, alloc, End::Br { label }));
 }
 
 /// `add i64 1, 1` with these flags, and a second operand of this width.
@@ -78,42 +82,40 @@ const ADDITIONS: &[Addition] = &[
 ];
 
 #[test]
-fn additions_are_spelled(rt: HostRuntime) -> Result<(), Fail> {
+fn additions_are_spelled(rt: HostRuntime) {
     let alloc = rt.alloc();
     for case in ADDITIONS {
         let add = Instr::Binary {
-            dest: name(alloc, "r")?,
+            dest: name(&rt, alloc, "r"),
             op: BinaryOp::Add,
             flags: case.flags,
             width: Width::W64,
             a: number(Width::W64),
             b: number(case.second),
         };
-        assert!(rt; is_spelled_instr(alloc, add)? == case.is_spelled);
+        assert!(rt; is_spelled_instr(&rt, alloc, add) == case.is_spelled);
     }
-    Ok(())
 }
 
 #[test]
-fn pointers_are_spelled(rt: HostRuntime) -> Result<(), Fail> {
+fn pointers_are_spelled(rt: HostRuntime) {
     let alloc = rt.alloc();
     let narrowed = Instr::Cast {
-        dest: name(alloc, "r")?,
+        dest: name(&rt, alloc, "r"),
         op: CastOp::Ptrtoint,
         from: Scalar::Int(Width::W64),
         a: number(Width::W64),
         to: Scalar::Int(Width::W32),
     };
-    assert!(rt; !is_spelled_instr(alloc, narrowed)?);
+    assert!(rt; !is_spelled_instr(&rt, alloc, narrowed));
     let without_index = Instr::Gep {
-        dest: name(alloc, "r")?,
+        dest: name(&rt, alloc, "r"),
         inbounds: true,
         ty: Ty::Ptr,
         base: Operand::Fixed(Const::Null),
         indices: Row::new(alloc),
     };
-    assert!(rt; !is_spelled_instr(alloc, without_index)?);
-    Ok(())
+    assert!(rt; !is_spelled_instr(&rt, alloc, without_index));
 }
 
 /// An `alloca` of arrays of one element, so many deep, at this alignment.
@@ -152,50 +154,51 @@ const BLOCKS: &[Block] = &[
 ];
 
 #[test]
-fn limits_of_spelling(rt: HostRuntime) -> Result<(), Fail> {
+fn limits_of_spelling(rt: HostRuntime) {
     let alloc = rt.alloc();
     for case in BLOCKS {
         let mut ty = Ty::Ptr;
         for _level in 0..case.depth {
-            ty = Ty::Array(1, Link::new(alloc, ty)?);
+            ty = Ty::Array(1, Link::new(alloc, ty).expect(&rt, AMPLE));
         }
         let alloca = Instr::Alloca {
-            dest: name(alloc, "r")?,
+            dest: name(&rt, alloc, "r"),
             ty,
             align: Some(case.align),
         };
-        assert!(rt; is_spelled_instr(alloc, alloca)? == case.is_spelled);
+        assert!(rt; is_spelled_instr(&rt, alloc, alloca) == case.is_spelled);
     }
-    Ok(())
 }
 
 /// `switch i64 1, label %entry [ .. ]` with one case of this width
-fn switch(alloc: Global, width: Width) -> Result<End, NoMemory> {
+fn switch(rt: &impl Abort, alloc: Global, width: Width) -> End {
     let mut cases = Row::new(alloc);
-    cases.push(Case {
-        value: Bits::new(width, 1),
-        label: name(alloc, "entry")?,
-    })?;
-    Ok(End::Switch {
+    cases
+        .push(Case {
+            value: Bits::new(width, 1),
+            label: name(rt, alloc, "entry"),
+        })
+        .expect(rt, AMPLE);
+    End::Switch {
         width: Width::W64,
         value: number(Width::W64),
-        other: name(alloc, "entry")?,
+        other: name(rt, alloc, "entry"),
         cases,
-    })
+    }
 }
 
 #[test]
-fn blocks_are_spelled(rt: HostRuntime) -> Result<(), Fail> {
+fn blocks_are_spelled(rt: HostRuntime) {
     let alloc = rt.alloc();
-    assert!(rt; is_spelled_end(alloc, switch(alloc, Width::W64)?)?);
-    assert!(rt; !is_spelled_end(alloc, switch(alloc, Width::W8)?)?);
+    assert!(rt; is_spelled_end(&rt, alloc, switch(&rt, alloc, Width::W64)));
+    assert!(rt; !is_spelled_end(&rt, alloc, switch(&rt, alloc, Width::W8)));
     let mut phis = Row::new(alloc);
     phis.push(Phi {
-        dest: name(alloc, "p")?,
+        dest: name(&rt, alloc, "p"),
         ty: Scalar::Ptr,
         edges: Row::new(alloc),
-    })?;
-    let without_edges = program_of(alloc, "entry", phis, Row::new(alloc), End::Unreachable)?;
+    })
+    .expect(&rt, AMPLE);
+    let without_edges = program_of(&rt, alloc, "entry", phis, Row::new(alloc), End::Unreachable);
     assert!(rt; !spelled(&without_edges));
-    Ok(())
 }

@@ -2,23 +2,25 @@
 
 ghost use Rattle.std.specs.Prelude.{◌≤◌};
 
+use crate::AMPLE;
 use hip_io::{Cabinet, FailAt, FailingCabinet, Fetched, MemCabinet, MemSink, NamedFile};
 use hip_trace::{Entry, Reader, TraceRefusal, TrapWord, write_entry};
-use hip_types::{NoMemory, Row};
+use hip_types::Row;
 use std::alloc::Global;
 use std::process::Abort;
-use std::test::Fail;
 
 /// The only file, by the name `t`.
-fn file(alloc: Global, text: &[u8], chunk: usize) -> Result<MemCabinet, Fail>
+fn file(rt: &impl Abort, alloc: Global, text: &[u8], chunk: usize) -> MemCabinet
     requires { 1 ≤ chunk }
 {
     let mut files = Row::new(alloc);
-    files.push(NamedFile {
-        name: Row::from_slice(alloc, b"t")?,
-        bytes: Row::from_slice(alloc, text)?,
-    })?;
-    Ok(MemCabinet::new(files, chunk))
+    files
+        .push(NamedFile {
+            name: Row::from_slice(alloc, b"t").expect(rt, AMPLE),
+            bytes: Row::from_slice(alloc, text).expect(rt, AMPLE),
+        })
+        .expect(rt, AMPLE);
+    MemCabinet::new(files, chunk)
 }
 
 /// Reads the entries of the file `t`, and what comes behind them twice.
@@ -159,11 +161,11 @@ const SPELLINGS: &[Spelling] = &[
 ];
 
 #[test]
-fn read_and_written(rt: HostRuntime) -> Result<(), Fail> {
+fn read_and_written(rt: HostRuntime) {
     for case in SPELLINGS {
-        let mut cabinet = file(rt.alloc(), case.text, 7)?;
+        let mut cabinet = file(&rt, rt.alloc(), case.text, 7);
         assert_reads(&rt, &mut cabinet, &[case.entry], Ok(None), case.canonical);
-        let mut sink = MemSink::new(rt.alloc(), 200)?;
+        let mut sink = MemSink::new(rt.alloc(), 200).expect(&rt, AMPLE);
         assert!(rt;
             write_entry(&case.entry, &mut sink).is_ok(),
             "{}",
@@ -171,7 +173,6 @@ fn read_and_written(rt: HostRuntime) -> Result<(), Fail> {
         );
         assert_eq!(rt; sink.bytes(), case.canonical.as_bytes());
     }
-    Ok(())
 }
 
 const MALFORMED: &[&str] = &[
@@ -213,13 +214,13 @@ const MALFORMED: &[&str] = &[
 
 /// A text and a separator behind it, with an entry in front.
 #[test]
-fn malformed(rt: HostRuntime) -> Result<(), Fail> {
+fn malformed(rt: HostRuntime) {
     for text in MALFORMED {
         let mut bytes = Vec::new(rt.alloc());
-        bytes.extend_from_slice(b"CUT|")?;
-        bytes.extend_from_slice(text.as_bytes())?;
-        bytes.push(b'\n')?;
-        let mut cabinet = file(rt.alloc(), bytes.as_slice(), 4096)?;
+        bytes.extend_from_slice(b"CUT|").expect(&rt, AMPLE);
+        bytes.extend_from_slice(text.as_bytes()).expect(&rt, AMPLE);
+        bytes.push(b'\n').expect(&rt, AMPLE);
+        let mut cabinet = file(&rt, rt.alloc(), bytes.as_slice(), 4096);
         assert_reads(
             &rt,
             &mut cabinet,
@@ -228,7 +229,6 @@ fn malformed(rt: HostRuntime) -> Result<(), Fail> {
             text,
         );
     }
-    Ok(())
 }
 
 const TWO_STORES: &[u8] = b"START;7|STORE;0x40;0x1;0x8\nSTORE;0x48;0x2;0x8|CUT";
@@ -250,9 +250,9 @@ const TWO_STORES_ENTRIES: &[Entry] = &[
 
 /// The last piece has no separator. Its end is the file's.
 #[test]
-fn cut_anywhere(rt: HostRuntime) -> Result<(), Fail> {
+fn cut_anywhere(rt: HostRuntime) {
     for chunk in 1..60 {
-        let mut cabinet = file(rt.alloc(), TWO_STORES, chunk)?;
+        let mut cabinet = file(&rt, rt.alloc(), TWO_STORES, chunk);
         assert_reads(
             &rt,
             &mut cabinet,
@@ -261,38 +261,37 @@ fn cut_anywhere(rt: HostRuntime) -> Result<(), Fail> {
             "two stores",
         );
     }
-    let mut cabinet = file(rt.alloc(), b"", 1)?;
+    let mut cabinet = file(&rt, rt.alloc(), b"", 1);
     assert_reads(&rt, &mut cabinet, &[], Ok(None), "no byte");
-    Ok(())
 }
 
 /// A store of which the address has as many leading zeros as make the text that long.
-fn long_store(alloc: Global, len: usize) -> Result<Vec<u8>, NoMemory>
+fn long_store(rt: &impl Abort, alloc: Global, len: usize) -> Vec<u8>
     requires { len ≤ 1000 }
 {
     let mut text = Vec::new(alloc);
-    text.extend_from_slice(b"STORE;0x")?;
+    text.extend_from_slice(b"STORE;0x").expect(rt, AMPLE);
     for _ in 17..len {
-        text.push(b'0')?;
+        text.push(b'0').expect(rt, AMPLE);
     }
-    text.extend_from_slice(b"1;0x2;0x8")?;
-    Ok(text)
+    text.extend_from_slice(b"1;0x2;0x8").expect(rt, AMPLE);
+    text
 }
 
 #[test]
-fn longest_entry(rt: HostRuntime) -> Result<(), Fail> {
+fn longest_entry(rt: HostRuntime) {
     let store = Entry::Store {
         addr: 1,
         value: 2,
         size: 8,
     };
     for chunk in [1, 7, 4096] {
-        let text = long_store(rt.alloc(), 256)?;
+        let text = long_store(&rt, rt.alloc(), 256);
         assert_eq!(rt; text.len(), 256);
-        let mut cabinet = file(rt.alloc(), text.as_slice(), chunk)?;
+        let mut cabinet = file(&rt, rt.alloc(), text.as_slice(), chunk);
         assert_reads(&rt, &mut cabinet, &[store], Ok(None), "256 bytes");
-        let text = long_store(rt.alloc(), 257)?;
-        let mut cabinet = file(rt.alloc(), text.as_slice(), chunk)?;
+        let text = long_store(&rt, rt.alloc(), 257);
+        let mut cabinet = file(&rt, rt.alloc(), text.as_slice(), chunk);
         assert_reads(
             &rt,
             &mut cabinet,
@@ -301,23 +300,23 @@ fn longest_entry(rt: HostRuntime) -> Result<(), Fail> {
             "257 bytes",
         );
     }
-    Ok(())
 }
 
 /// A line whose first byte is 171 and whose last is 5; the text has upper case and then lower case.
 #[test]
-fn images(rt: HostRuntime) -> Result<(), Fail> {
+fn images(rt: HostRuntime) {
     let mut bytes = [0; 64];
     bytes[0] = 171;
     bytes[63] = 5;
     let image = Entry::Image { addr: 64, bytes };
     let mut text = Vec::new(rt.alloc());
-    text.extend_from_slice(b"IMAGE;0x40;AB")?;
+    text.extend_from_slice(b"IMAGE;0x40;AB").expect(&rt, AMPLE);
     for _ in 0..62 {
-        text.extend_from_slice(b"00")?;
+        text.extend_from_slice(b"00").expect(&rt, AMPLE);
     }
-    text.extend_from_slice(b"05|IMAGE;0x41;00")?;
-    let mut cabinet = file(rt.alloc(), text.as_slice(), 100)?;
+    text.extend_from_slice(b"05|IMAGE;0x41;00")
+        .expect(&rt, AMPLE);
+    let mut cabinet = file(&rt, rt.alloc(), text.as_slice(), 100);
     assert_reads(
         &rt,
         &mut cabinet,
@@ -325,19 +324,18 @@ fn images(rt: HostRuntime) -> Result<(), Fail> {
         Err(TraceRefusal::Malformed),
         "image",
     );
-    let mut sink = MemSink::new(rt.alloc(), 200)?;
+    let mut sink = MemSink::new(rt.alloc(), 200).expect(&rt, AMPLE);
     assert!(rt; write_entry(&image, &mut sink).is_ok());
     assert_eq!(rt; sink.bytes().len(), 140);
     assert_eq!(rt; &sink.bytes()[..15], b"IMAGE;0x40;ab00".as_slice());
     assert_eq!(rt; &sink.bytes()[136..], b"005\n".as_slice());
-    Ok(())
 }
 
 /// The file fails behind its ninth byte: the first entry is read before that.
 #[test]
-fn fault_in_the_middle(rt: HostRuntime) -> Result<(), Fail> {
-    let inner = file(rt.alloc(), TWO_STORES, 4)?;
-    let name = Row::from_slice(rt.alloc(), b"t")?;
+fn fault_in_the_middle(rt: HostRuntime) {
+    let inner = file(&rt, rt.alloc(), TWO_STORES, 4);
+    let name = Row::from_slice(rt.alloc(), b"t").expect(&rt, AMPLE);
     let mut cabinet = FailingCabinet::new(inner, name, FailAt::Byte(9));
     let first = Entry::Start { limit: 7 };
     assert_reads(
@@ -347,12 +345,11 @@ fn fault_in_the_middle(rt: HostRuntime) -> Result<(), Fail> {
         Err(TraceRefusal::ReadFault),
         "fault",
     );
-    Ok(())
 }
 
 #[test]
-fn texts_are_counted(rt: HostRuntime) -> Result<(), Fail> {
-    let mut cabinet = file(rt.alloc(), b"CUT|CUT||CUT", 5)?;
+fn texts_are_counted(rt: HostRuntime) {
+    let mut cabinet = file(&rt, rt.alloc(), b"CUT|CUT||CUT", 5);
     let fetched = cabinet.fetch("t");
     assert!(rt; matches!(fetched, Fetched::Ready));
     let mut reader = Reader::new();
@@ -363,7 +360,6 @@ fn texts_are_counted(rt: HostRuntime) -> Result<(), Fail> {
     assert_eq!(rt; reader.next(&mut cabinet), Err(TraceRefusal::Malformed));
     assert_eq!(rt; reader.next(&mut cabinet), Err(TraceRefusal::Malformed));
     assert_eq!(rt; reader.count(), 3);
-    Ok(())
 }
 
 #[test]
@@ -379,9 +375,8 @@ fn equal_entries(rt: HostRuntime) {
 }
 
 #[test]
-fn no_room(rt: HostRuntime) -> Result<(), Fail> {
-    let mut sink = MemSink::new(rt.alloc(), 3)?;
+fn no_room(rt: HostRuntime) {
+    let mut sink = MemSink::new(rt.alloc(), 3).expect(&rt, AMPLE);
     assert!(rt; write_entry(&Entry::Cut, &mut sink).is_err());
     assert_eq!(rt; sink.bytes(), b"CUT".as_slice());
-    Ok(())
 }

@@ -1,12 +1,13 @@
 //! What `hippo` answers to words, files and faults of files.
 
-use crate::commands::{assert_outcome, outcome_in_chunks, outcome_in_room, outcome_of_fault};
+use crate::commands::{
+    AMPLE, assert_outcome, outcome_in_chunks, outcome_in_room, outcome_of_fault,
+};
 use hip_examples::{ONE_STORE, ONE_STORE_TRACE};
 use hip_io::FailAt;
 use hip_tool::Status;
 use std::alloc::Global;
 use std::process::Abort;
-use std::test::Fail;
 
 /// A program `a`, and the trace `b` of its run.
 const FILES: &[(&str, &str)] = &[("a", ONE_STORE), ("b", ONE_STORE_TRACE)];
@@ -30,12 +31,11 @@ struct Words {
     notes: &'static str,
 }
 
-fn assert_refused(rt: &impl Abort, alloc: Global, cases: &[Words]) -> Result<(), Fail> {
+fn assert_refused(rt: &impl Abort, alloc: Global, cases: &[Words]) {
     for case in cases {
-        let outcome = outcome_in_chunks(alloc, case.words, FILES, 7)?;
+        let outcome = outcome_in_chunks(rt, alloc, case.words, FILES, 7);
         assert_outcome(rt, &outcome, case.code, "", case.notes, case.notes);
     }
-    Ok(())
 }
 
 const BAD_WORDS: &[Words] = &[
@@ -97,8 +97,8 @@ const BAD_WORDS: &[Words] = &[
 ];
 
 #[test]
-fn usage(rt: HostRuntime) -> Result<(), Fail> {
-    assert_refused(&rt, rt.alloc(), BAD_WORDS)
+fn usage(rt: HostRuntime) {
+    assert_refused(&rt, rt.alloc(), BAD_WORDS);
 }
 
 const NO_FILES: &[Words] = &[
@@ -175,8 +175,8 @@ const NO_FILES: &[Words] = &[
 ];
 
 #[test]
-fn missing_files(rt: HostRuntime) -> Result<(), Fail> {
-    assert_refused(&rt, rt.alloc(), NO_FILES)
+fn missing_files(rt: HostRuntime) {
+    assert_refused(&rt, rt.alloc(), NO_FILES);
 }
 
 /// Commands with the first ten bytes of what they write to the output, which has no more room.
@@ -192,12 +192,11 @@ const CUT_SHORT: &[(&[&str], &str)] = &[
 ];
 
 #[test]
-fn out_of_room(rt: HostRuntime) -> Result<(), Fail> {
+fn out_of_room(rt: HostRuntime) {
     for (words, out) in CUT_SHORT {
-        let outcome = outcome_in_room(rt.alloc(), *words, FILES, 10, 100)?;
-        assert_outcome(&rt, &outcome, 4, *out, "hippo: write fault\n", words[0]);
+        let outcome = outcome_in_room(&rt, rt.alloc(), *words, FILES, 10, 100);
+        assert_outcome(&rt, &outcome, 4, *out, "hippo: write fault\n", *out);
     }
-    Ok(())
 }
 
 /// Where a file fails.
@@ -266,21 +265,19 @@ const FAILING_FILES: &[Failing] = &[
 ];
 
 #[test]
-fn read_faults(rt: HostRuntime) -> Result<(), Fail> {
+fn read_faults(rt: HostRuntime) {
     for case in FAILING_FILES {
-        let outcome = outcome_of_fault(rt.alloc(), case.words, FILES, case.name, case.at)?;
+        let outcome = outcome_of_fault(&rt, rt.alloc(), case.words, FILES, case.name, case.at);
         assert_outcome(&rt, &outcome, 3, "", "hippo: read fault\n", case.words[0]);
     }
-    Ok(())
 }
 
 #[test]
-fn too_large_program(rt: HostRuntime) -> Result<(), Fail> {
-    let spaces = " ".repeat(rt.alloc(), 16_777_217)?;
+fn too_large_program(rt: HostRuntime) {
+    let spaces = " ".repeat(rt.alloc(), 16_777_217).expect(&rt, AMPLE);
     let files = &[("a", spaces.as_str()), ("b", "")];
-    let outcome = outcome_in_chunks(rt.alloc(), &["repair", "a", "b"], files, 5000)?;
+    let outcome = outcome_in_chunks(&rt, rt.alloc(), &["repair", "a", "b"], files, 5000);
     assert_outcome(&rt, &outcome, 8, "", "hippo: program too large\n", "spaces");
-    Ok(())
 }
 
 #[test]

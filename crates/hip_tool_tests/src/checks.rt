@@ -6,7 +6,6 @@ use crate::programs::{
     OVERWRITTEN, PERSIST_CALL, PMEM_FLUSH_CALL, STORE_IN_TWO_LINES,
 };
 use hip_examples::{COPY, EVEN_AND_ODD, ONE_STORE, ONE_STORE_TRACE};
-use std::test::Fail;
 
 /// One of the two lines is flushed, and a fence comes.
 const ONE_LINE_FLUSHED: &str = "@a = global [16 x i64] zeroinitializer, section \".pm\"
@@ -42,8 +41,8 @@ const ONE_STORES: &[Case] = &[Case {
 }];
 
 #[test]
-fn one_store_is_reported(rt: HostRuntime) -> Result<(), Fail> {
-    assert_cases(&rt, rt.alloc(), ONE_STORES)
+fn one_store_is_reported(rt: HostRuntime) {
+    assert_cases(&rt, rt.alloc(), ONE_STORES);
 }
 
 const KINDS: &[Case] = &[
@@ -89,8 +88,8 @@ const KINDS: &[Case] = &[
 ];
 
 #[test]
-fn kinds_of_reports(rt: HostRuntime) -> Result<(), Fail> {
-    assert_cases(&rt, rt.alloc(), KINDS)
+fn kinds_of_reports(rt: HostRuntime) {
+    assert_cases(&rt, rt.alloc(), KINDS);
 }
 
 const DURABLE: &[Case] = &[
@@ -123,8 +122,8 @@ const DURABLE: &[Case] = &[
 ];
 
 #[test]
-fn nothing_is_reported(rt: HostRuntime) -> Result<(), Fail> {
-    assert_cases(&rt, rt.alloc(), DURABLE)
+fn nothing_is_reported(rt: HostRuntime) {
+    assert_cases(&rt, rt.alloc(), DURABLE);
 }
 
 const PATHS: &[Case] = &[
@@ -157,8 +156,8 @@ const PATHS: &[Case] = &[
 ];
 
 #[test]
-fn paths_of_reports(rt: HostRuntime) -> Result<(), Fail> {
-    assert_cases(&rt, rt.alloc(), PATHS)
+fn paths_of_reports(rt: HostRuntime) {
+    assert_cases(&rt, rt.alloc(), PATHS);
 }
 
 const CALLEES: &[Case] = &[Case {
@@ -176,8 +175,8 @@ const CALLEES: &[Case] = &[Case {
 }];
 
 #[test]
-fn checks_inside_a_callee(rt: HostRuntime) -> Result<(), Fail> {
-    assert_cases(&rt, rt.alloc(), CALLEES)
+fn checks_inside_a_callee(rt: HostRuntime) {
+    assert_cases(&rt, rt.alloc(), CALLEES);
 }
 
 const LIBPMEM: &[Case] = &[Case {
@@ -195,8 +194,8 @@ const LIBPMEM: &[Case] = &[Case {
 }];
 
 #[test]
-fn kinds_behind_libpmem(rt: HostRuntime) -> Result<(), Fail> {
-    assert_cases(&rt, rt.alloc(), LIBPMEM)
+fn kinds_behind_libpmem(rt: HostRuntime) {
+    assert_cases(&rt, rt.alloc(), LIBPMEM);
 }
 
 const TWO_LINES: &[Case] = &[
@@ -242,6 +241,6 @@ const TWO_LINES: &[Case] = &[
 ];
 
 #[test]
-fn two_line_kinds(rt: HostRuntime) -> Result<(), Fail> {
-    assert_cases(&rt, rt.alloc(), TWO_LINES)
+fn two_line_kinds(rt: HostRuntime) {
+    assert_cases(&rt, rt.alloc(), TWO_LINES);
 }

@@ -2,7 +2,6 @@
 
 use crate::commands::{Case, assert_cases};
 use crate::programs::OVERWRITTEN;
-use std::test::Fail;
 
 /// The trace of its run.
 const TRACE: &str =
@@ -26,8 +25,8 @@ const PICKS: &[Case] = &[
 ];
 
 #[test]
-fn picked_image(rt: HostRuntime) -> Result<(), Fail> {
-    assert_cases(&rt, rt.alloc(), PICKS)
+fn picked_image(rt: HostRuntime) {
+    assert_cases(&rt, rt.alloc(), PICKS);
 }
 
 const BAD_PICKS: &[Case] = &[
@@ -62,6 +61,6 @@ const BAD_PICKS: &[Case] = &[
 ];
 
 #[test]
-fn bad_picks(rt: HostRuntime) -> Result<(), Fail> {
-    assert_cases(&rt, rt.alloc(), BAD_PICKS)
+fn bad_picks(rt: HostRuntime) {
+    assert_cases(&rt, rt.alloc(), BAD_PICKS);
 }

@@ -1,14 +1,13 @@
 //! Files that fail at each byte, sinks that have room for each number of bytes, and programs that are cut anywhere.
 
 use crate::commands::{
-    assert_outcome, outcome_in_chunks, outcome_in_room, outcome_of_bytes, outcome_of_fault,
+    AMPLE, assert_outcome, outcome_in_chunks, outcome_in_room, outcome_of_bytes, outcome_of_fault,
 };
 use hip_examples::{COPY, ONE_STORE, ONE_STORE_REPAIRED, ONE_STORE_TRACE};
 use hip_gen::generate;
 use hip_io::FailAt;
 use std::alloc::Global;
 use std::process::Abort;
-use std::test::Fail;
 
 const READ_FAULT: &str = "hippo: read fault\n";
 
@@ -23,19 +22,12 @@ const COPY_TRACE: &str =
 const COPY_FILES: &[(&str, &str)] = &[("a", COPY), ("b", COPY_TRACE)];
 
 /// The file fails at each of its bytes, and behind the last one.
-fn assert_faults(
-    rt: &impl Abort,
-    alloc: Global,
-    words: &[&str],
-    name: &str,
-    length: usize,
-) -> Result<(), Fail> {
+fn assert_faults(rt: &impl Abort, alloc: Global, words: &[&str], name: &str, length: usize) {
     for byte in 0..=length {
         let at = FailAt::Byte(byte as u64);
-        let outcome = outcome_of_fault(alloc, words, COPY_FILES, name, at)?;
+        let outcome = outcome_of_fault(rt, alloc, words, COPY_FILES, name, at);
         assert_outcome(rt, &outcome, 3, "", READ_FAULT, name);
     }
-    Ok(())
 }
 
 /// Each command that reads a program and a trace.
@@ -49,19 +41,17 @@ const OF_TWO_FILES: &[&[&str]] = &[
 ];
 
 #[test]
-fn program_fails_at_each_byte(rt: HostRuntime) -> Result<(), Fail> {
+fn program_fails_at_each_byte(rt: HostRuntime) {
     for words in OF_TWO_FILES {
-        assert_faults(&rt, rt.alloc(), *words, "a", COPY.len())?;
+        assert_faults(&rt, rt.alloc(), *words, "a", COPY.len());
     }
-    Ok(())
 }
 
 #[test]
-fn trace_fails_at_each_byte(rt: HostRuntime) -> Result<(), Fail> {
+fn trace_fails_at_each_byte(rt: HostRuntime) {
     for words in OF_TWO_FILES {
-        assert_faults(&rt, rt.alloc(), *words, "b", COPY_TRACE.len())?;
+        assert_faults(&rt, rt.alloc(), *words, "b", COPY_TRACE.len());
     }
-    Ok(())
 }
 
 /// The third entry differs from the run's. The separator behind it is byte 68.
@@ -70,11 +60,11 @@ const DIFFERS_AT_BYTE_68: &str =
 
 /// A misfit is told as soon as the entry's end was read, and a fault before it comes first.
 #[test]
-fn fault_before_and_behind_a_misfit(rt: HostRuntime) -> Result<(), Fail> {
+fn fault_before_and_behind_a_misfit(rt: HostRuntime) {
     let files = &[("a", ONE_STORE), ("b", DIFFERS_AT_BYTE_68)];
     for byte in 0..=DIFFERS_AT_BYTE_68.len() {
         let at = FailAt::Byte(byte as u64);
-        let outcome = outcome_of_fault(rt.alloc(), &["repair", "a", "b"], files, "b", at)?;
+        let outcome = outcome_of_fault(&rt, rt.alloc(), &["repair", "a", "b"], files, "b", at);
         if byte <= 68 {
             assert_outcome(&rt, &outcome, 3, "", READ_FAULT, "before");
         } else {
@@ -88,60 +78,65 @@ fn fault_before_and_behind_a_misfit(rt: HostRuntime) -> Result<(), Fail> {
             );
         }
     }
-    Ok(())
 }
 
 const STORE_FILES: &[(&str, &str)] = &[("a", ONE_STORE), ("b", ONE_STORE_TRACE)];
 
 #[test]
-fn output_has_room_for_some_bytes(rt: HostRuntime) -> Result<(), Fail> {
+fn output_has_room_for_some_bytes(rt: HostRuntime) {
     let text = ONE_STORE_REPAIRED.as_bytes();
     for room in 0..text.len() {
         let outcome = outcome_in_room(
+            &rt,
             rt.alloc(),
             &["repair", "a", "b"],
             STORE_FILES,
             room as u64,
             100,
-        )?;
+        );
         assert_eq!(rt; outcome.code, 4);
         assert_eq!(rt; outcome.out.bytes(), &text[..room]);
         assert_eq!(rt; outcome.notes.bytes(), WRITE_FAULT.as_bytes());
     }
-    Ok(())
 }
 
 /// The output is whole where the notes have too little room.
 #[test]
-fn notes_have_room_for_some_bytes(rt: HostRuntime) -> Result<(), Fail> {
+fn notes_have_room_for_some_bytes(rt: HostRuntime) {
     let notes = COUNTS.as_bytes();
     for room in 0..notes.len() {
         let outcome = outcome_in_room(
+            &rt,
             rt.alloc(),
             &["repair", "a", "b"],
             STORE_FILES,
             1_000,
             room as u64,
-        )?;
+        );
         assert_eq!(rt; outcome.code, 4);
         assert_eq!(rt; outcome.out.bytes(), ONE_STORE_REPAIRED.as_bytes());
         assert_eq!(rt; outcome.notes.bytes(), &notes[..room]);
     }
-    Ok(())
 }
 
 /// The refusal stands where its line has no room.
 #[test]
-fn line_of_a_refusal_has_room_for_some_bytes(rt: HostRuntime) -> Result<(), Fail> {
+fn line_of_a_refusal_has_room_for_some_bytes(rt: HostRuntime) {
     let files = &[("a", ONE_STORE), ("b", "")];
     let line = "hippo: trace entry 1: early\n".as_bytes();
     for room in 0..line.len() {
-        let outcome = outcome_in_room(rt.alloc(), &["repair", "a", "b"], files, 100, room as u64)?;
+        let outcome = outcome_in_room(
+            &rt,
+            rt.alloc(),
+            &["repair", "a", "b"],
+            files,
+            100,
+            room as u64,
+        );
         assert_eq!(rt; outcome.code, 6);
         assert_eq!(rt; outcome.out.bytes(), b"".as_slice());
         assert_eq!(rt; outcome.notes.bytes(), &line[..room]);
     }
-    Ok(())
 }
 
 /// A trace of the program of one store, and the first entry that is none of the run.
@@ -158,28 +153,26 @@ const BAD_ENTRIES: &[(&str, &str)] = &[
 ];
 
 #[test]
-fn bad_entries(rt: HostRuntime) -> Result<(), Fail> {
+fn bad_entries(rt: HostRuntime) {
     for (trace, notes) in BAD_ENTRIES {
         let files = &[("a", ONE_STORE), ("b", *trace)];
-        let outcome = outcome_in_chunks(rt.alloc(), &["repair", "a", "b"], files, 7)?;
+        let outcome = outcome_in_chunks(&rt, rt.alloc(), &["repair", "a", "b"], files, 7);
         assert_outcome(&rt, &outcome, 6, "", *notes, *trace);
     }
-    Ok(())
 }
 
 /// No proper front of a program's text is a program, as its last brace is missing.
 #[test]
-fn program_prefixes(rt: HostRuntime) -> Result<(), Fail> {
-    let text = generate(rt.alloc(), 1, 100)?;
+fn program_prefixes(rt: HostRuntime) {
+    let text = generate(rt.alloc(), 1, 100).expect(&rt, AMPLE);
     let text = text.as_slice();
     for length in 0..2_000 {
         if length < text.len() {
             let trace = ONE_STORE_TRACE.as_bytes();
             let files = &[("a", &text[..length]), ("b", trace)];
-            let outcome = outcome_of_bytes(rt.alloc(), &["repair", "a", "b"], files)?;
+            let outcome = outcome_of_bytes(&rt, rt.alloc(), &["repair", "a", "b"], files);
             assert_eq!(rt; outcome.code, 5);
             assert_eq!(rt; outcome.out.bytes(), b"".as_slice());
         }
     }
-    Ok(())
 }

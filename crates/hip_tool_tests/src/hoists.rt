@@ -3,7 +3,6 @@
 use crate::commands::{Case, assert_cases};
 use crate::programs::{ASSERT_INSIDE_CALLEE, REACH_REPAIRED};
 use hip_examples::{COPY, EVEN_AND_ODD, REACH};
-use std::test::Fail;
 
 /// The counts of one hoisted call and one clone.
 const ONE_HOIST: &str = "reports 1
@@ -235,8 +234,8 @@ const COPIES: &[Case] = &[Case {
 }];
 
 #[test]
-fn copy_hoisted(rt: HostRuntime) -> Result<(), Fail> {
-    assert_cases(&rt, rt.alloc(), COPIES)
+fn copy_hoisted(rt: HostRuntime) {
+    assert_cases(&rt, rt.alloc(), COPIES);
 }
 
 const REPAIRED_COPIES: &[Case] = &[Case {
@@ -254,8 +253,8 @@ const REPAIRED_COPIES: &[Case] = &[Case {
 }];
 
 #[test]
-fn repaired_copy_is_stable(rt: HostRuntime) -> Result<(), Fail> {
-    assert_cases(&rt, rt.alloc(), REPAIRED_COPIES)
+fn repaired_copy_is_stable(rt: HostRuntime) {
+    assert_cases(&rt, rt.alloc(), REPAIRED_COPIES);
 }
 
 const ASSERTS: &[Case] = &[Case {
@@ -273,8 +272,8 @@ const ASSERTS: &[Case] = &[Case {
 }];
 
 #[test]
-fn assert_inside_callee(rt: HostRuntime) -> Result<(), Fail> {
-    assert_cases(&rt, rt.alloc(), ASSERTS)
+fn assert_inside_callee(rt: HostRuntime) {
+    assert_cases(&rt, rt.alloc(), ASSERTS);
 }
 
 const TIES: &[Case] = &[Case {
@@ -292,8 +291,8 @@ const TIES: &[Case] = &[Case {
 }];
 
 #[test]
-fn tie_goes_innermost(rt: HostRuntime) -> Result<(), Fail> {
-    assert_cases(&rt, rt.alloc(), TIES)
+fn tie_goes_innermost(rt: HostRuntime) {
+    assert_cases(&rt, rt.alloc(), TIES);
 }
 
 const RECURSIONS: &[Case] = &[Case {
@@ -311,8 +310,8 @@ const RECURSIONS: &[Case] = &[Case {
 }];
 
 #[test]
-fn mutual_recursion(rt: HostRuntime) -> Result<(), Fail> {
-    assert_cases(&rt, rt.alloc(), RECURSIONS)
+fn mutual_recursion(rt: HostRuntime) {
+    assert_cases(&rt, rt.alloc(), RECURSIONS);
 }
 
 const TAKEN_NAMES: &[Case] = &[Case {
@@ -330,8 +329,8 @@ const TAKEN_NAMES: &[Case] = &[Case {
 }];
 
 #[test]
-fn clone_name_taken(rt: HostRuntime) -> Result<(), Fail> {
-    assert_cases(&rt, rt.alloc(), TAKEN_NAMES)
+fn clone_name_taken(rt: HostRuntime) {
+    assert_cases(&rt, rt.alloc(), TAKEN_NAMES);
 }
 
 const REACHES: &[Case] = &[Case {
@@ -349,6 +348,6 @@ const REACHES: &[Case] = &[Case {
 }];
 
 #[test]
-fn alloca_gets_no_flush(rt: HostRuntime) -> Result<(), Fail> {
-    assert_cases(&rt, rt.alloc(), REACHES)
+fn alloca_gets_no_flush(rt: HostRuntime) {
+    assert_cases(&rt, rt.alloc(), REACHES);
 }

@@ -1,5 +1,4 @@
-//! Tests of more than one function by public calls alone: programs that are sound or refused, and what each command
-//! answers.
+//! Tests of more than one function by public calls alone: programs that are refused, and what each command answers.
 #![tactic(auto)]
 
 #[cfg(test)]
@@ -34,8 +33,6 @@ mod repairs;
 mod reruns;
 #[cfg(test)]
 mod run_commands;
-#[cfg(test)]
-mod sound_programs;
 #[cfg(test)]
 mod thin_repairs;
 #[cfg(test)]

@@ -1,7 +1,6 @@
 //! `many`: one repair for the runs of many traces.
 
 use crate::commands::{Case, assert_cases};
-use std::test::Fail;
 
 /// Which of two stores is taken, the first number says.
 const TWO_BRANCHES: &str = "@x = global i64 0, section \".pm\"
@@ -88,8 +87,8 @@ const BOTH: &[Case] = &[Case {
 }];
 
 #[test]
-fn two_branches_two_traces(rt: HostRuntime) -> Result<(), Fail> {
-    assert_cases(&rt, rt.alloc(), BOTH)
+fn two_branches_two_traces(rt: HostRuntime) {
+    assert_cases(&rt, rt.alloc(), BOTH);
 }
 
 const TWICE: &[Case] = &[Case {
@@ -101,8 +100,8 @@ const TWICE: &[Case] = &[Case {
 }];
 
 #[test]
-fn same_trace_twice(rt: HostRuntime) -> Result<(), Fail> {
-    assert_cases(&rt, rt.alloc(), TWICE)
+fn same_trace_twice(rt: HostRuntime) {
+    assert_cases(&rt, rt.alloc(), TWICE);
 }
 
 const SECOND_MISFITS: &[Case] = &[
@@ -123,6 +122,6 @@ const SECOND_MISFITS: &[Case] = &[
 ];
 
 #[test]
-fn second_trace_misfit(rt: HostRuntime) -> Result<(), Fail> {
-    assert_cases(&rt, rt.alloc(), SECOND_MISFITS)
+fn second_trace_misfit(rt: HostRuntime) {
+    assert_cases(&rt, rt.alloc(), SECOND_MISFITS);
 }

@@ -2,7 +2,6 @@
 
 use crate::commands::{Case, assert_cases};
 use hip_examples::ENDLESS_LOOP;
-use std::test::Fail;
 
 /// An empty range at the base, the last byte of the region, and one byte behind it.
 const ASSERTED_RANGES: &str = "@p = global i64 0, section \".pm\"
@@ -54,8 +53,8 @@ const CUTS: &[Case] = &[
 ];
 
 #[test]
-fn endless_loop_cut(rt: HostRuntime) -> Result<(), Fail> {
-    assert_cases(&rt, rt.alloc(), CUTS)
+fn endless_loop_cut(rt: HostRuntime) {
+    assert_cases(&rt, rt.alloc(), CUTS);
 }
 
 const RANGES: &[Case] = &[Case {
@@ -67,8 +66,8 @@ const RANGES: &[Case] = &[Case {
 }];
 
 #[test]
-fn asserted_ranges(rt: HostRuntime) -> Result<(), Fail> {
-    assert_cases(&rt, rt.alloc(), RANGES)
+fn asserted_ranges(rt: HostRuntime) {
+    assert_cases(&rt, rt.alloc(), RANGES);
 }
 
 const IMAGES: &[Case] = &[Case {
@@ -80,8 +79,8 @@ const IMAGES: &[Case] = &[Case {
 }];
 
 #[test]
-fn initial_image(rt: HostRuntime) -> Result<(), Fail> {
-    assert_cases(&rt, rt.alloc(), IMAGES)
+fn initial_image(rt: HostRuntime) {
+    assert_cases(&rt, rt.alloc(), IMAGES);
 }
 
 const FLUSHES: &[Case] = &[Case {
@@ -93,6 +92,6 @@ const FLUSHES: &[Case] = &[Case {
 }];
 
 #[test]
-fn pmem_flush_ranges(rt: HostRuntime) -> Result<(), Fail> {
-    assert_cases(&rt, rt.alloc(), FLUSHES)
+fn pmem_flush_ranges(rt: HostRuntime) {
+    assert_cases(&rt, rt.alloc(), FLUSHES);
 }

@@ -6,7 +6,7 @@ use hip_parse::parse;
 use hip_types::Row;
 use hip_typing::{Place, TypeFault, TypeRefusal, check};
 use std::alloc::Global;
-use std::test::Fail;
+use std::process::Abort;
 
 /// What stands before each function.
 const CALLEES: &str = "@x = global i64 0
@@ -44,8 +44,8 @@ const NAMES_IN_FUNCTIONS: &[RefusedProgram] = &[
 ];
 
 #[test]
-fn names_inside_functions(rt: HostRuntime) -> Result<(), Fail> {
-    assert_refused_before_main(&rt, rt.alloc(), CALLEES, NAMES_IN_FUNCTIONS)
+fn names_inside_functions(rt: HostRuntime) {
+    assert_refused_before_main(&rt, rt.alloc(), CALLEES, NAMES_IN_FUNCTIONS);
 }
 
 const NAMES_AT_PLACES: &[RefusedProgram] = &[
@@ -96,8 +96,8 @@ const NAMES_AT_PLACES: &[RefusedProgram] = &[
 ];
 
 #[test]
-fn names_at_places(rt: HostRuntime) -> Result<(), Fail> {
-    assert_refused_before_main(&rt, rt.alloc(), CALLEES, NAMES_AT_PLACES)
+fn names_at_places(rt: HostRuntime) {
+    assert_refused_before_main(&rt, rt.alloc(), CALLEES, NAMES_AT_PLACES);
 }
 
 const TYPES_AT_PLACES: &[RefusedProgram] = &[
@@ -176,8 +176,8 @@ const TYPES_AT_PLACES: &[RefusedProgram] = &[
 ];
 
 #[test]
-fn types_at_places(rt: HostRuntime) -> Result<(), Fail> {
-    assert_refused_before_main(&rt, rt.alloc(), CALLEES, TYPES_AT_PLACES)
+fn types_at_places(rt: HostRuntime) {
+    assert_refused_before_main(&rt, rt.alloc(), CALLEES, TYPES_AT_PLACES);
 }
 
 const PHIS: &[RefusedProgram] = &[
@@ -195,8 +195,8 @@ const PHIS: &[RefusedProgram] = &[
 ];
 
 #[test]
-fn phi_without_predecessor(rt: HostRuntime) -> Result<(), Fail> {
-    assert_refused_before_main(&rt, rt.alloc(), "", PHIS)
+fn phi_without_predecessor(rt: HostRuntime) {
+    assert_refused_before_main(&rt, rt.alloc(), "", PHIS);
 }
 
 const USES_ON_PATHS: &[RefusedProgram] = &[
@@ -220,8 +220,8 @@ const USES_ON_PATHS: &[RefusedProgram] = &[
 ];
 
 #[test]
-fn uses_on_paths(rt: HostRuntime) -> Result<(), Fail> {
-    assert_refused_before_main(&rt, rt.alloc(), CALLEES, USES_ON_PATHS)
+fn uses_on_paths(rt: HostRuntime) {
+    assert_refused_before_main(&rt, rt.alloc(), CALLEES, USES_ON_PATHS);
 }
 
 /// `%x` is assigned on one of two branches, and used where they meet, in block 2.
@@ -253,17 +253,18 @@ c:
 }
 ";
 
-/// The place and the path of the refusal of a program that uses a register which is not assigned.
-fn unassigned(alloc: Global, text: &str) -> Result<(Place, Row<usize>), Fail> {
-    let Ok(program) = parse(alloc, text.as_bytes()) else {
-        return Err(Fail::new("not read"));
-    };
+/// A program is refused since it uses a register there that is not assigned on this path.
+fn assert_unassigned(rt: &impl Abort, alloc: Global, text: &str, at: Place, on: &[usize]) {
+    let program = parse(alloc, text.as_bytes()).expect(rt, "the text is read");
     match check(alloc, program) {
-        Err(TypeRefusal { fault, place }) => match fault {
-            TypeFault::Unassigned { path } => Ok((place, path)),
-            _ => Err(Fail::new("refused for another fault")),
-        },
-        Ok(_) => Err(Fail::new("not refused")),
+        Err(TypeRefusal { fault, place }) => {
+            assert_eq!(rt; place, at);
+            match fault {
+                TypeFault::Unassigned { path } => assert_eq!(rt; path.as_slice(), on),
+                _ => assert!(rt; false, "refused for another fault"),
+            }
+        }
+        Ok(_) => assert!(rt; false, "not refused"),
     }
 }
 
@@ -277,18 +278,13 @@ fn first_in(block: usize) -> Place {
 }
 
 #[test]
-fn unassigned_on_one_branch(rt: HostRuntime) -> Result<(), Fail> {
-    let (place, path) = unassigned(rt.alloc(), ONE_BRANCH)?;
-    assert_eq!(rt; place, first_in(2));
-    assert_eq!(rt; path.as_slice(), [0, 2].as_slice());
+fn unassigned_on_one_branch(rt: HostRuntime) {
+    assert_unassigned(&rt, rt.alloc(), ONE_BRANCH, first_in(2), &[0, 2]);
     assert_refused(
         &rt,
         rt.alloc(),
         ONE_BRANCH,
         ": unassigned at function 0 block 2 index 0",
-    )?;
-    let (place, path) = unassigned(rt.alloc(), TWO_BRANCHES)?;
-    assert_eq!(rt; place, first_in(3));
-    assert_eq!(rt; path.as_slice(), [0, 2, 3].as_slice());
-    Ok(())
+    );
+    assert_unassigned(&rt, rt.alloc(), TWO_BRANCHES, first_in(3), &[0, 2, 3]);
 }

@@ -1,11 +1,10 @@
 //! Programs that `repair` refuses, with the line that says why: their text, their globals and externs, and which of two
 //! faults comes first.
 
-use crate::commands::{assert_outcome, outcome_in_chunks};
+use crate::commands::{AMPLE, assert_outcome, outcome_in_chunks};
 use hip_examples::ONE_STORE_TRACE;
 use std::alloc::Global;
 use std::process::Abort;
-use std::test::Fail;
 
 /// A program that is refused, and why: the fault and its place, as the line of notes has them.
 pub struct RefusedProgram {
@@ -22,17 +21,11 @@ entry:
 
 /// Asserts that `repair` refuses this program for this reason, told from the colon or the number of the line on, and
 /// writes nothing else.
-pub fn assert_refused(
-    rt: &impl Abort,
-    alloc: Global,
-    program: &str,
-    why: &str,
-) -> Result<(), Fail> {
+pub fn assert_refused(rt: &impl Abort, alloc: Global, program: &str, why: &str) {
     let files = &[("a", program), ("b", ONE_STORE_TRACE)];
-    let outcome = outcome_in_chunks(alloc, &["repair", "a", "b"], files, 7)?;
-    let notes = format!(in alloc; "hippo: program{why}\n")?;
+    let outcome = outcome_in_chunks(rt, alloc, &["repair", "a", "b"], files, 7);
+    let notes = format!(in alloc; "hippo: program{why}\n").expect(rt, AMPLE);
     assert_outcome(rt, &outcome, 5, "", notes.as_str(), program);
-    Ok(())
 }
 
 /// Asserts the refusal of each program where these items stand before it, and a `main` that does nothing behind it.
@@ -41,13 +34,12 @@ pub fn assert_refused_before_main(
     alloc: Global,
     items: &str,
     cases: &[RefusedProgram],
-) -> Result<(), Fail> {
+) {
     for case in cases {
-        let program = format!(in alloc; "{items}{}{EMPTY_MAIN}", case.program)?;
-        let why = format!(in alloc; ": {}", case.why)?;
-        assert_refused(rt, alloc, program.as_str(), why.as_str())?;
+        let program = format!(in alloc; "{items}{}{EMPTY_MAIN}", case.program).expect(rt, AMPLE);
+        let why = format!(in alloc; ": {}", case.why).expect(rt, AMPLE);
+        assert_refused(rt, alloc, program.as_str(), why.as_str());
     }
-    Ok(())
 }
 
 /// Programs that stand alone, each with its line of notes behind `hippo: program`.
@@ -93,11 +85,10 @@ const WHOLE_PROGRAMS: &[RefusedProgram] = &[
 ];
 
 #[test]
-fn refused_programs(rt: HostRuntime) -> Result<(), Fail> {
+fn refused_programs(rt: HostRuntime) {
     for case in WHOLE_PROGRAMS {
-        assert_refused(&rt, rt.alloc(), case.program, case.why)?;
+        assert_refused(&rt, rt.alloc(), case.program, case.why);
     }
-    Ok(())
 }
 
 const NAMES_OF_PROGRAMS: &[RefusedProgram] = &[
@@ -120,8 +111,8 @@ const NAMES_OF_PROGRAMS: &[RefusedProgram] = &[
 ];
 
 #[test]
-fn names_of_a_program(rt: HostRuntime) -> Result<(), Fail> {
-    assert_refused_before_main(&rt, rt.alloc(), "", NAMES_OF_PROGRAMS)
+fn names_of_a_program(rt: HostRuntime) {
+    assert_refused_before_main(&rt, rt.alloc(), "", NAMES_OF_PROGRAMS);
 }
 
 const TWICE: &[RefusedProgram] = &[
@@ -136,8 +127,8 @@ const TWICE: &[RefusedProgram] = &[
 ];
 
 #[test]
-fn function_named_twice(rt: HostRuntime) -> Result<(), Fail> {
-    assert_refused_before_main(&rt, rt.alloc(), "", TWICE)
+fn function_named_twice(rt: HostRuntime) {
+    assert_refused_before_main(&rt, rt.alloc(), "", TWICE);
 }
 
 const NAMED_AS_EXTERNS: &[RefusedProgram] = &[
@@ -152,8 +143,8 @@ const NAMED_AS_EXTERNS: &[RefusedProgram] = &[
 ];
 
 #[test]
-fn extern_name_as_global(rt: HostRuntime) -> Result<(), Fail> {
-    assert_refused_before_main(&rt, rt.alloc(), "", NAMED_AS_EXTERNS)
+fn extern_name_as_global(rt: HostRuntime) {
+    assert_refused_before_main(&rt, rt.alloc(), "", NAMED_AS_EXTERNS);
 }
 
 const GLOBALS_AND_EXTERNS: &[RefusedProgram] = &[
@@ -210,8 +201,8 @@ const GLOBALS_AND_EXTERNS: &[RefusedProgram] = &[
 ];
 
 #[test]
-fn globals_and_externs(rt: HostRuntime) -> Result<(), Fail> {
-    assert_refused_before_main(&rt, rt.alloc(), "", GLOBALS_AND_EXTERNS)
+fn globals_and_externs(rt: HostRuntime) {
+    assert_refused_before_main(&rt, rt.alloc(), "", GLOBALS_AND_EXTERNS);
 }
 
 const TWO_FAULTS: &[RefusedProgram] = &[
@@ -257,6 +248,6 @@ const TWO_FAULTS: &[RefusedProgram] = &[
 ];
 
 #[test]
-fn first_of_two_faults(rt: HostRuntime) -> Result<(), Fail> {
-    assert_refused_before_main(&rt, rt.alloc(), "", TWO_FAULTS)
+fn first_of_two_faults(rt: HostRuntime) {
+    assert_refused_before_main(&rt, rt.alloc(), "", TWO_FAULTS);
 }

@@ -6,7 +6,6 @@ use crate::programs::{
     PERSIST_CALL, PMEM_FLUSH_CALL, STORE_IN_TWO_LINES,
 };
 use hip_examples::{ONE_STORE, ONE_STORE_REPAIRED, ONE_STORE_TRACE};
-use std::test::Fail;
 
 /// The counts of one flush and one fence.
 const ONE_REPAIR: &str = "reports 1
@@ -95,8 +94,8 @@ const ONE_STORES: &[Case] = &[
 ];
 
 #[test]
-fn one_store(rt: HostRuntime) -> Result<(), Fail> {
-    assert_cases(&rt, rt.alloc(), ONE_STORES)
+fn one_store(rt: HostRuntime) {
+    assert_cases(&rt, rt.alloc(), ONE_STORES);
 }
 
 const REPAIRED: &[Case] = &[Case {
@@ -114,8 +113,8 @@ const REPAIRED: &[Case] = &[Case {
 }];
 
 #[test]
-fn repaired_is_stable(rt: HostRuntime) -> Result<(), Fail> {
-    assert_cases(&rt, rt.alloc(), REPAIRED)
+fn repaired_is_stable(rt: HostRuntime) {
+    assert_cases(&rt, rt.alloc(), REPAIRED);
 }
 
 const FENCED: &[Case] = &[Case {
@@ -133,8 +132,8 @@ const FENCED: &[Case] = &[Case {
 }];
 
 #[test]
-fn fence_without_flush(rt: HostRuntime) -> Result<(), Fail> {
-    assert_cases(&rt, rt.alloc(), FENCED)
+fn fence_without_flush(rt: HostRuntime) {
+    assert_cases(&rt, rt.alloc(), FENCED);
 }
 
 const FLUSHED: &[Case] = &[Case {
@@ -152,8 +151,8 @@ const FLUSHED: &[Case] = &[Case {
 }];
 
 #[test]
-fn flush_without_fence(rt: HostRuntime) -> Result<(), Fail> {
-    assert_cases(&rt, rt.alloc(), FLUSHED)
+fn flush_without_fence(rt: HostRuntime) {
+    assert_cases(&rt, rt.alloc(), FLUSHED);
 }
 
 const OVERWRITTEN_STORES: &[Case] = &[Case {
@@ -171,8 +170,8 @@ const OVERWRITTEN_STORES: &[Case] = &[Case {
 }];
 
 #[test]
-fn overwritten_store(rt: HostRuntime) -> Result<(), Fail> {
-    assert_cases(&rt, rt.alloc(), OVERWRITTEN_STORES)
+fn overwritten_store(rt: HostRuntime) {
+    assert_cases(&rt, rt.alloc(), OVERWRITTEN_STORES);
 }
 
 const DURABLE: &[Case] = &[
@@ -218,8 +217,8 @@ const DURABLE: &[Case] = &[
 ];
 
 #[test]
-fn nothing_to_repair(rt: HostRuntime) -> Result<(), Fail> {
-    assert_cases(&rt, rt.alloc(), DURABLE)
+fn nothing_to_repair(rt: HostRuntime) {
+    assert_cases(&rt, rt.alloc(), DURABLE);
 }
 
 const PMEM_FLUSHES: &[Case] = &[Case {
@@ -237,8 +236,8 @@ const PMEM_FLUSHES: &[Case] = &[Case {
 }];
 
 #[test]
-fn pmem_flush_call(rt: HostRuntime) -> Result<(), Fail> {
-    assert_cases(&rt, rt.alloc(), PMEM_FLUSHES)
+fn pmem_flush_call(rt: HostRuntime) {
+    assert_cases(&rt, rt.alloc(), PMEM_FLUSHES);
 }
 
 const WIDE_STORES: &[Case] = &[Case {
@@ -256,6 +255,6 @@ const WIDE_STORES: &[Case] = &[Case {
 }];
 
 #[test]
-fn store_in_two_lines(rt: HostRuntime) -> Result<(), Fail> {
-    assert_cases(&rt, rt.alloc(), WIDE_STORES)
+fn store_in_two_lines(rt: HostRuntime) {
+    assert_cases(&rt, rt.alloc(), WIDE_STORES);
 }

@@ -3,7 +3,6 @@
 use crate::commands::{Case, assert_cases};
 use crate::programs::{OVERWRITTEN, STORE_IN_TWO_LINES};
 use hip_examples::{ENDLESS_LOOP, ONE_STORE, ONE_STORE_TRACE};
-use std::test::Fail;
 
 const ONE_STORES: &[Case] = &[Case {
     words: &["rerun", "a", "b"],
@@ -14,8 +13,8 @@ const ONE_STORES: &[Case] = &[Case {
 }];
 
 #[test]
-fn one_store_again(rt: HostRuntime) -> Result<(), Fail> {
-    assert_cases(&rt, rt.alloc(), ONE_STORES)
+fn one_store_again(rt: HostRuntime) {
+    assert_cases(&rt, rt.alloc(), ONE_STORES);
 }
 
 const OVERWRITTEN_STORES: &[Case] = &[Case {
@@ -33,8 +32,8 @@ const OVERWRITTEN_STORES: &[Case] = &[Case {
 }];
 
 #[test]
-fn overwritten_store_again(rt: HostRuntime) -> Result<(), Fail> {
-    assert_cases(&rt, rt.alloc(), OVERWRITTEN_STORES)
+fn overwritten_store_again(rt: HostRuntime) {
+    assert_cases(&rt, rt.alloc(), OVERWRITTEN_STORES);
 }
 
 const LOOPS: &[Case] = &[Case {
@@ -52,8 +51,8 @@ const LOOPS: &[Case] = &[Case {
 }];
 
 #[test]
-fn endless_loop_again(rt: HostRuntime) -> Result<(), Fail> {
-    assert_cases(&rt, rt.alloc(), LOOPS)
+fn endless_loop_again(rt: HostRuntime) {
+    assert_cases(&rt, rt.alloc(), LOOPS);
 }
 
 const WIDE_STORES: &[Case] = &[Case {
@@ -71,6 +70,6 @@ const WIDE_STORES: &[Case] = &[Case {
 }];
 
 #[test]
-fn store_in_two_lines_again(rt: HostRuntime) -> Result<(), Fail> {
-    assert_cases(&rt, rt.alloc(), WIDE_STORES)
+fn store_in_two_lines_again(rt: HostRuntime) {
+    assert_cases(&rt, rt.alloc(), WIDE_STORES);
 }

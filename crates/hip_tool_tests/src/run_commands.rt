@@ -4,7 +4,6 @@ use crate::commands::{Case, assert_cases, assert_outcome, outcome_in_room, outco
 use crate::programs::DIVIDE_BY_ZERO;
 use hip_examples::{ENDLESS_LOOP, KEY_VALUE_LOG, ONE_STORE};
 use hip_io::FailAt;
-use std::test::Fail;
 
 /// Two numbers are read, and their sum is printed.
 const SUM: &str = "declare i64 @read_i64()
@@ -61,8 +60,8 @@ const SUMS: &[Case] = &[
 ];
 
 #[test]
-fn sum_of_numbers(rt: HostRuntime) -> Result<(), Fail> {
-    assert_cases(&rt, rt.alloc(), SUMS)
+fn sum_of_numbers(rt: HostRuntime) {
+    assert_cases(&rt, rt.alloc(), SUMS);
 }
 
 const TRAPS: &[Case] = &[Case {
@@ -74,8 +73,8 @@ const TRAPS: &[Case] = &[Case {
 }];
 
 #[test]
-fn divide_by_zero(rt: HostRuntime) -> Result<(), Fail> {
-    assert_cases(&rt, rt.alloc(), TRAPS)
+fn divide_by_zero(rt: HostRuntime) {
+    assert_cases(&rt, rt.alloc(), TRAPS);
 }
 
 const LINES: &[Case] = &[Case {
@@ -87,8 +86,8 @@ const LINES: &[Case] = &[Case {
 }];
 
 #[test]
-fn output_and_code(rt: HostRuntime) -> Result<(), Fail> {
-    assert_cases(&rt, rt.alloc(), LINES)
+fn output_and_code(rt: HostRuntime) {
+    assert_cases(&rt, rt.alloc(), LINES);
 }
 
 const CUTS: &[Case] = &[
@@ -109,8 +108,8 @@ const CUTS: &[Case] = &[
 ];
 
 #[test]
-fn runs_that_are_cut(rt: HostRuntime) -> Result<(), Fail> {
-    assert_cases(&rt, rt.alloc(), CUTS)
+fn runs_that_are_cut(rt: HostRuntime) {
+    assert_cases(&rt, rt.alloc(), CUTS);
 }
 
 const WORKED: &[Case] = &[
@@ -131,8 +130,8 @@ const WORKED: &[Case] = &[
 ];
 
 #[test]
-fn worked_programs(rt: HostRuntime) -> Result<(), Fail> {
-    assert_cases(&rt, rt.alloc(), WORKED)
+fn worked_programs(rt: HostRuntime) {
+    assert_cases(&rt, rt.alloc(), WORKED);
 }
 
 const REFUSED: &[Case] = &[
@@ -153,8 +152,8 @@ const REFUSED: &[Case] = &[
 ];
 
 #[test]
-fn refused_before_a_run(rt: HostRuntime) -> Result<(), Fail> {
-    assert_cases(&rt, rt.alloc(), REFUSED)
+fn refused_before_a_run(rt: HostRuntime) {
+    assert_cases(&rt, rt.alloc(), REFUSED);
 }
 
 /// How many bytes of the text of three lines there is room for, and what is there after a write has failed.
@@ -169,33 +168,30 @@ const ROOMS: &[(u64, &str)] = &[
 ];
 
 #[test]
-fn output_is_cut_where_it_fails(rt: HostRuntime) -> Result<(), Fail> {
+fn output_is_cut_where_it_fails(rt: HostRuntime) {
     for (room, out) in ROOMS {
         let files = &[("a", THREE_LINES)];
-        let outcome = outcome_in_room(rt.alloc(), &["run", "a"], files, *room, 100)?;
+        let outcome = outcome_in_room(&rt, rt.alloc(), &["run", "a"], files, *room, 100);
         assert_outcome(&rt, &outcome, 4, *out, "hippo: write fault\n", *out);
     }
-    Ok(())
 }
 
 /// The output is whole and the notes are not: the line of the write fault is tried behind them.
 #[test]
-fn notes_are_cut_where_they_fail(rt: HostRuntime) -> Result<(), Fail> {
+fn notes_are_cut_where_they_fail(rt: HostRuntime) {
     let files = &[("a", THREE_LINES)];
-    let outcome = outcome_in_room(rt.alloc(), &["run", "a"], files, 100, 5)?;
+    let outcome = outcome_in_room(&rt, rt.alloc(), &["run", "a"], files, 100, 5);
     assert_outcome(&rt, &outcome, 4, "7\n-8\n9\n", "stop ", "notes");
-    Ok(())
 }
 
 /// Where the program's file fails.
 const FAULTS: &[FailAt] = &[FailAt::Fetch, FailAt::Byte(0), FailAt::Byte(20)];
 
 #[test]
-fn run_read_faults(rt: HostRuntime) -> Result<(), Fail> {
+fn run_read_faults(rt: HostRuntime) {
     for at in FAULTS {
         let files = &[("a", THREE_LINES)];
-        let outcome = outcome_of_fault(rt.alloc(), &["run", "a"], files, "a", *at)?;
+        let outcome = outcome_of_fault(&rt, rt.alloc(), &["run", "a"], files, "a", *at);
         assert_outcome(&rt, &outcome, 3, "", "hippo: read fault\n", "fault");
     }
-    Ok(())
 }

@@ -3,7 +3,6 @@
 use crate::commands::{Case, assert_cases};
 use crate::programs::REACH_REPAIRED;
 use hip_examples::REACH;
-use std::test::Fail;
 
 /// A function that is called by a hoisted one and never stores into the region.
 const NOTES: &str = "@p = global i64 0, section \".pm\"
@@ -145,8 +144,8 @@ const SPARED: &[Case] = &[
 ];
 
 #[test]
-fn spared_flush(rt: HostRuntime) -> Result<(), Fail> {
-    assert_cases(&rt, rt.alloc(), SPARED)
+fn spared_flush(rt: HostRuntime) {
+    assert_cases(&rt, rt.alloc(), SPARED);
 }
 
 const FREE: &[Case] = &[Case {
@@ -164,6 +163,6 @@ const FREE: &[Case] = &[Case {
 }];
 
 #[test]
-fn register_index_is_free(rt: HostRuntime) -> Result<(), Fail> {
-    assert_cases(&rt, rt.alloc(), FREE)
+fn register_index_is_free(rt: HostRuntime) {
+    assert_cases(&rt, rt.alloc(), FREE);
 }

@@ -1,10 +1,9 @@
 //! The first entry of a trace that is none of the run.
 
-use crate::commands::{assert_outcome, outcome_in_chunks};
+use crate::commands::{AMPLE, assert_outcome, outcome_in_chunks};
 use hip_examples::ONE_STORE;
 use std::alloc::Global;
 use std::process::Abort;
-use std::test::Fail;
 
 /// A trace that is none of the run of the program of one store, with the misfit.
 struct Misfit {
@@ -13,14 +12,13 @@ struct Misfit {
 }
 
 /// Asserts what `repair` of the program of one store answers to each trace.
-fn assert_misfits(rt: &impl Abort, alloc: Global, cases: &[Misfit]) -> Result<(), Fail> {
+fn assert_misfits(rt: &impl Abort, alloc: Global, cases: &[Misfit]) {
     for case in cases {
         let files = &[("a", ONE_STORE), ("b", case.trace)];
-        let outcome = outcome_in_chunks(alloc, &["repair", "a", "b"], files, 7)?;
-        let notes = format!(in alloc; "hippo: trace entry {}\n", case.misfit)?;
+        let outcome = outcome_in_chunks(rt, alloc, &["repair", "a", "b"], files, 7);
+        let notes = format!(in alloc; "hippo: trace entry {}\n", case.misfit).expect(rt, AMPLE);
         assert_outcome(rt, &outcome, 6, "", notes.as_str(), case.trace);
     }
-    Ok(())
 }
 
 const SHORT_TRACES: &[Misfit] = &[
@@ -39,8 +37,8 @@ const SHORT_TRACES: &[Misfit] = &[
 ];
 
 #[test]
-fn empty_and_short_traces(rt: HostRuntime) -> Result<(), Fail> {
-    assert_misfits(&rt, rt.alloc(), SHORT_TRACES)
+fn empty_and_short_traces(rt: HostRuntime) {
+    assert_misfits(&rt, rt.alloc(), SHORT_TRACES);
 }
 
 const OTHER_RUNS: &[Misfit] = &[
@@ -75,8 +73,8 @@ const OTHER_RUNS: &[Misfit] = &[
 ];
 
 #[test]
-fn misfit_kinds(rt: HostRuntime) -> Result<(), Fail> {
-    assert_misfits(&rt, rt.alloc(), OTHER_RUNS)
+fn misfit_kinds(rt: HostRuntime) {
+    assert_misfits(&rt, rt.alloc(), OTHER_RUNS);
 }
 
 const BAD_HEADERS: &[Misfit] = &[
@@ -103,6 +101,6 @@ const BAD_HEADERS: &[Misfit] = &[
 ];
 
 #[test]
-fn header_rules(rt: HostRuntime) -> Result<(), Fail> {
-    assert_misfits(&rt, rt.alloc(), BAD_HEADERS)
+fn header_rules(rt: HostRuntime) {
+    assert_misfits(&rt, rt.alloc(), BAD_HEADERS);
 }

@@ -6,7 +6,6 @@ use crate::commands::outcome_in_chunks;
 use hip_examples::ONE_STORE;
 use std::alloc::Global;
 use std::process::Abort;
-use std::test::Fail;
 
 /// A trace, and the exit code and the notes of `repair` of the program of one store.
 struct Replay {
@@ -50,12 +49,12 @@ const REPLAYS: &[Replay] = &[
     },
 ];
 
-fn assert_replays(rt: &impl Abort, alloc: Global, chunk: usize) -> Result<(), Fail>
+fn assert_replays(rt: &impl Abort, alloc: Global, chunk: usize)
     requires { 1 ≤ chunk }
 {
     for case in REPLAYS {
         let files = &[("a", ONE_STORE), ("b", case.trace)];
-        let outcome = outcome_in_chunks(alloc, &["repair", "a", "b"], files, chunk)?;
+        let outcome = outcome_in_chunks(rt, alloc, &["repair", "a", "b"], files, chunk);
         assert_eq!(rt; outcome.code, case.code, "{}", case.trace);
         assert_eq!(rt;
             outcome.notes.bytes(),
@@ -64,15 +63,14 @@ fn assert_replays(rt: &impl Abort, alloc: Global, chunk: usize) -> Result<(), Fa
             case.trace
         );
     }
-    Ok(())
 }
 
 #[test]
-fn one_byte_at_a_time(rt: HostRuntime) -> Result<(), Fail> {
-    assert_replays(&rt, rt.alloc(), 1)
+fn one_byte_at_a_time(rt: HostRuntime) {
+    assert_replays(&rt, rt.alloc(), 1);
 }
 
 #[test]
-fn whole_pages(rt: HostRuntime) -> Result<(), Fail> {
-    assert_replays(&rt, rt.alloc(), 5000)
+fn whole_pages(rt: HostRuntime) {
+    assert_replays(&rt, rt.alloc(), 5000);
 }

@@ -1,48 +1,17 @@
 //! The lines of reports and of counts, byte by byte, and cut by a sink that is full.
 
+use crate::programs::{AMPLE, Place, checked, site, sites};
 use hip_examples::{EVEN_AND_ODD, KEY_VALUE_LOG, ONE_STORE};
 use hip_io::{MemSink, Put};
-use hip_ir::Site;
-use hip_parse::parse;
 use hip_repairs::Plan;
 use hip_report_lines::{
     put_check_counts, put_repair_counts, put_reports, put_rerun_counts, write_report,
 };
 use hip_runs::{Kind, Report};
 use hip_types::Row;
-use hip_typing::{Checked, check};
+use hip_typing::Checked;
 use std::alloc::Global;
-use std::test::Fail;
-
-/// The program of a text that is sound.
-fn checked(alloc: Global, text: &str) -> Result<Checked, Fail> {
-    let Ok(program) = parse(alloc, text.as_bytes()) else {
-        return Err(Fail::new("not read"));
-    };
-    match check(alloc, program) {
-        Ok(checked) => Ok(checked),
-        Err(_refusal) => Err(Fail::new("refused")),
-    }
-}
-
-fn site(place: Place) -> Site {
-    Site {
-        function: place.0,
-        block: place.1,
-        index: place.2,
-    }
-}
-
-fn sites(alloc: Global, places: &[Place]) -> Result<Row<Site>, Fail> {
-    let mut sites = Row::new(alloc);
-    for place in places {
-        sites.push(site(*place))?;
-    }
-    Ok(sites)
-}
-
-/// A function, a block and a place in the block, by their numbers.
-type Place = (usize, usize, usize);
+use std::process::Abort;
 
 /// A report, and its line.
 #[derive(Clone, Copy)]
@@ -55,42 +24,43 @@ struct Case {
     line: &'static str,
 }
 
-fn report(alloc: Global, case: &Case) -> Result<Report, Fail> {
-    Ok(Report {
+fn report(rt: &impl Abort, alloc: Global, case: &Case) -> Report {
+    Report {
         entry: case.entries.0,
         check_entry: case.entries.1,
         kind: case.kind,
         flush_site: case.flush.map(site),
-        path: sites(alloc, case.path)?,
+        path: sites(rt, alloc, case.path),
         closed: case.closed,
-    })
-}
-
-/// Whether the report is written so, and whether each shorter sink takes a prefix of that.
-fn is_written(rt: &HostRuntime, program: &Checked, case: &Case) -> Result<bool, Fail> {
-    let report = report(rt.alloc(), case)?;
-    let expected = case.line.as_bytes();
-    for room in 0..expected.len() as u64 {
-        let mut short = MemSink::new(rt.alloc(), room)?;
-        if write_report(program, &report, &mut short).is_ok() {
-            return Ok(false);
-        }
-        if !expected.starts_with(short.bytes()) {
-            return Ok(false);
-        }
     }
-    let mut sink = MemSink::new(rt.alloc(), expected.len() as u64)?;
-    Ok(write_report(program, &report, &mut sink).is_ok() && sink.bytes() == expected)
 }
 
-fn are_written(rt: &HostRuntime, text: &str, cases: &[Case]) -> Result<bool, Fail> {
-    let program = checked(rt.alloc(), text)?;
+/// Each sink that is shorter than a line takes a front of it.
+fn assert_cut(rt: &impl Abort, alloc: Global, program: &Checked, report: &Report, line: &[u8]) {
+    for room in 0..line.len() as u64 {
+        let mut short = MemSink::new(alloc, room).expect(rt, AMPLE);
+        assert!(rt;
+            write_report(program, report, &mut short).is_err(),
+            "{room}"
+        );
+        assert!(rt; line.starts_with(short.bytes()), "{room}");
+    }
+}
+
+fn assert_line(rt: &impl Abort, alloc: Global, program: &Checked, case: &Case) {
+    let report = report(rt, alloc, case);
+    let line = case.line.as_bytes();
+    assert_cut(rt, alloc, program, &report, line);
+    let mut sink = MemSink::new(alloc, line.len() as u64).expect(rt, AMPLE);
+    assert!(rt; write_report(program, &report, &mut sink).is_ok());
+    assert_eq!(rt; sink.bytes(), line);
+}
+
+fn assert_lines(rt: &impl Abort, alloc: Global, text: &str, cases: &[Case]) {
+    let program = checked(rt, alloc, text);
     for case in cases {
-        if !is_written(rt, &program, case)? {
-            return Ok(false);
-        }
+        assert_line(rt, alloc, &program, case);
     }
-    Ok(true)
 }
 
 const OF_ONE_STORE: [Case; 1] = [Case {
@@ -157,49 +127,56 @@ const OF_KEY_VALUE_LOG: [Case; 4] = [
 ];
 
 #[test]
-fn lines_of_reports(rt: HostRuntime) -> Result<(), Fail> {
-    assert!(rt; are_written(&rt, ONE_STORE, &OF_ONE_STORE)?);
-    assert!(rt; are_written(&rt, EVEN_AND_ODD, &OF_EVEN_AND_ODD)?);
-    assert!(rt; are_written(&rt, KEY_VALUE_LOG, &OF_KEY_VALUE_LOG)?);
-    Ok(())
+fn lines_of_reports(rt: HostRuntime) {
+    assert_lines(&rt, rt.alloc(), ONE_STORE, &OF_ONE_STORE);
+    assert_lines(&rt, rt.alloc(), EVEN_AND_ODD, &OF_EVEN_AND_ODD);
+    assert_lines(&rt, rt.alloc(), KEY_VALUE_LOG, &OF_KEY_VALUE_LOG);
 }
+
+const LINES_OF_TWO: &str = "report flush entry 237 check 243 closed 0 path @main:loop:3
+report both entry 242 check 243 closed 1 path @fill:entry:3 @main:loop:6
+";
 
 /// The lines of two reports stand in their order.
 #[test]
-fn lines_of_two_reports(rt: HostRuntime) -> Result<(), Fail> {
+fn lines_of_two_reports(rt: HostRuntime) {
     let alloc = rt.alloc();
-    let program = checked(alloc, KEY_VALUE_LOG)?;
+    let program = checked(&rt, alloc, KEY_VALUE_LOG);
     let mut reports = Row::new(alloc);
-    reports.push(report(alloc, &OF_KEY_VALUE_LOG[1])?)?;
-    reports.push(report(alloc, &OF_KEY_VALUE_LOG[3])?)?;
-    let mut sink = MemSink::new(alloc, 1_000)?;
+    reports
+        .push(report(&rt, alloc, &OF_KEY_VALUE_LOG[1]))
+        .expect(&rt, AMPLE);
+    reports
+        .push(report(&rt, alloc, &OF_KEY_VALUE_LOG[3]))
+        .expect(&rt, AMPLE);
+    let mut sink = MemSink::new(alloc, 1_000).expect(&rt, AMPLE);
     let put = put_reports(&mut sink, program.program(), reports.as_slice());
     assert!(rt; put == Put::Done);
-    assert!(rt;
-        sink.bytes()
-            == b"report flush entry 237 check 243 closed 0 path @main:loop:3
-report both entry 242 check 243 closed 1 path @fill:entry:3 @main:loop:6\n"
-                .as_slice()
-    );
-    Ok(())
+    assert_eq!(rt; sink.bytes(), LINES_OF_TWO.as_bytes());
 }
+
+const COUNTS: &str = "reports 82
+reports 82
+flushes 1
+fences 2
+hoists 0
+clones 12
+before 82
+after 0
+";
 
 /// The counts of the key-value log's commands.
 #[test]
-fn lines_of_counts(rt: HostRuntime) -> Result<(), Fail> {
+fn lines_of_counts(rt: HostRuntime) {
     let alloc = rt.alloc();
     let plan = Plan {
-        flush_after: sites(alloc, &[(2, 1, 3)])?,
-        fence_after: sites(alloc, &[(0, 0, 3), (1, 0, 1)])?,
+        flush_after: sites(&rt, alloc, &[(2, 1, 3)]),
+        fence_after: sites(&rt, alloc, &[(0, 0, 3), (1, 0, 1)]),
         hoist: Row::new(alloc),
     };
-    let mut notes = MemSink::new(alloc, 1_000)?;
+    let mut notes = MemSink::new(alloc, 1_000).expect(&rt, AMPLE);
     assert!(rt; put_check_counts(&mut notes, 82) == Put::Done);
     assert!(rt; put_repair_counts(&mut notes, 82, &plan, 12) == Put::Done);
     assert!(rt; put_rerun_counts(&mut notes, 82, 0) == Put::Done);
-    assert!(rt;
-        notes.bytes()
-            == b"reports 82\nreports 82\nflushes 1\nfences 2\nhoists 0\nclones 12\nbefore 82\nafter 0\n".as_slice()
-    );
-    Ok(())
+    assert_eq!(rt; notes.bytes(), COUNTS.as_bytes());
 }

@@ -1,19 +1,14 @@
 //! Images that are picked and found at entries of traces.
 
-ghost use Rattle.std.specs.Prelude.{◌≡◌, IfOk};
-ghost use Rattle.hip_runs.specs.Validity.{IsValid};
+ghost use Rattle.std.specs.Prelude.{◌≡◌};
 
+use crate::machines::{AMPLE, checked, input};
 use hip_crash::{Bounds, CrashLog, Pick, PickRefusal};
-use hip_parse::parse;
 use hip_step::{Input, Machine, why_not};
 use hip_types::Row;
-use hip_typing::{Checked, check};
+use hip_typing::Checked;
 use std::alloc::Global;
 use std::process::Abort;
-use std::test::Fail;
-
-/// Where the region begins.
-const BASE: u64 = 4_294_967_296;
 
 /// How many steps a run of these programs has at most.
 const MOST_STEPS: u64 = 40;
@@ -246,57 +241,30 @@ const BOUNDED: &[Bounded] = &[
     },
 ];
 
-/// The program of a text that is sound.
-fn checked(rt: &impl Abort, alloc: Global, text: &str) -> Checked {
-    let program = parse(alloc, text.as_bytes()).expect(rt, "the text is read");
-    check(alloc, program).expect(rt, "the program is sound")
-}
-
-/// The input of a program's run from its initial bytes.
-fn input(alloc: Global, checked: &Checked, name: &str) -> Result<Input, Fail>
-    ensures { IfOk result (λ input. IsValid checked.now input) }
-{
-    let image = checked.region_bytes(alloc, BASE)?;
-    let input = Input {
-        base: BASE,
-        image,
-        numbers: Row::new(alloc),
-        limit: 100,
-    };
-    if let Some(_fault) = why_not(checked, &input) {
-        return Err(Fail::new(name));
-    }
-    Ok(input)
-}
-
 /// A log that has noted the run up to an entry of its trace.
 fn log_at<'a>(
+    rt: &impl Abort,
     alloc: Global,
     checked: &'a Checked,
     input: &'a Input,
     entry: u128,
-) -> Result<CrashLog<'a>, Fail>
-    requires { IsValid checked.now input.now }
-    ensures { IfOk result (λ log. log.input ≡ input.now) }
+) -> CrashLog<'a>
+    ensures { result.input ≡ input.now }
 {
-    let mut log = CrashLog::new(alloc, checked, input)?;
-    let mut machine = Machine::new(alloc, checked, input)?;
+    assert!(rt; why_not(checked, input).is_none(), "the input is valid");
+    let mut log = CrashLog::new(alloc, checked, input).expect(rt, AMPLE);
+    let mut machine = Machine::new(alloc, checked, input).expect(rt, AMPLE);
     'steps: for _step in 0..MOST_STEPS {
         if log.entries() < entry {
-            log.advance(&mut machine)?;
+            log.advance(&mut machine).expect(rt, AMPLE);
         }
     }
-    Ok(log)
+    log
 }
 
 /// Asserts that an image has these bytes, and zeros elsewhere.
 fn assert_bytes(rt: &impl Abort, image: &[u8], bytes: &[(usize, u8)], name: &str) {
-    let mut count: usize = 0;
-    for byte in image {
-        if *byte != 0 {
-            count = count.saturating_add(1);
-        }
-    }
+    let count = image.iter().filter(|byte| **byte != 0).count();
     assert!(rt; count == bytes.len(), "{name}");
     for (place, byte) in bytes {
         assert!(rt; image.get(*place) == Some(byte), "{name}");
@@ -311,87 +279,81 @@ fn assert_found(
     input: &Input,
     image: &[u8],
     name: &str,
-) -> Result<(), Fail>
+)
     requires { log.now.input ≡ input.now }
 {
-    if image.len() != input.image.len() {
-        return Err(Fail::new(name));
+    assert!(rt; image.len() == input.image.len(), "{name}");
+    let found = log.find_picks(alloc, image).expect(rt, AMPLE);
+    let picks = found.expect(rt, "the image is found");
+    assert!(rt; picks.len() == image.len() / 64, "{name}");
+    match log.pick_image(alloc, picks.as_slice()) {
+        Ok(again) => assert!(rt; again.as_slice() == image, "{name}"),
+        Err(_) => assert!(rt; false, "{name}"),
     }
-    match log.find_picks(alloc, image)? {
-        Some(picks) => {
-            assert!(rt; picks.len() == image.len() / 64, "{name}");
-            match log.pick_image(alloc, picks.as_slice()) {
-                Ok(again) => assert!(rt; again.as_slice() == image, "{name}"),
-                Err(_) => return Err(Fail::new(name)),
-            }
-        }
-        None => return Err(Fail::new(name)),
-    }
-    Ok(())
 }
 
-fn assert_picked(rt: &impl Abort, alloc: Global, picked: &Picked) -> Result<(), Fail> {
+fn assert_picked(rt: &impl Abort, alloc: Global, picked: &Picked) {
     let checked = checked(rt, alloc, picked.program);
-    let input = input(alloc, &checked, picked.name)?;
-    let log = log_at(alloc, &checked, &input, picked.entry)?;
+    let input = input(rt, alloc, &checked, &[], 100);
+    let log = log_at(rt, alloc, &checked, &input, picked.entry);
     match (log.pick_image(alloc, picked.picks), picked.answer) {
         (Ok(image), Ok(bytes)) => {
             assert_bytes(rt, image.as_slice(), bytes, picked.name);
-            assert_found(rt, alloc, &log, &input, image.as_slice(), picked.name)
+            assert_found(rt, alloc, &log, &input, image.as_slice(), picked.name);
         }
-        (Err(refusal), Err(wanted)) => {
-            assert!(rt; refusal == wanted, "{}", picked.name);
-            Ok(())
-        }
-        _ => Err(Fail::new(picked.name)),
+        (Err(refusal), Err(wanted)) => assert!(rt; refusal == wanted, "{}", picked.name),
+        _ => assert!(rt; false, "{}", picked.name),
     }
 }
 
-fn assert_bounded(rt: &impl Abort, alloc: Global, bounded: &Bounded) -> Result<(), Fail> {
+fn assert_bounded(rt: &impl Abort, alloc: Global, bounded: &Bounded) {
     let checked = checked(rt, alloc, bounded.program);
-    let input = input(alloc, &checked, bounded.name)?;
-    let log = log_at(alloc, &checked, &input, bounded.entry)?;
-    if bounded.line >= input.image.len() as u64 / 64 {
-        return Err(Fail::new(bounded.name));
-    }
+    let input = input(rt, alloc, &checked, &[], 100);
+    let log = log_at(rt, alloc, &checked, &input, bounded.entry);
+    assert!(rt;
+        bounded.line < input.image.len() as u64 / 64,
+        "{}",
+        bounded.name
+    );
     assert!(rt;
         log.bounds(bounded.line) == bounded.bounds,
         "{}",
         bounded.name
     );
-    Ok(())
 }
 
 #[test]
-fn images_are_picked_and_found_again(rt: HostRuntime) -> Result<(), Fail> {
+fn images_are_picked_and_found_again(rt: HostRuntime) {
     for picked in PICKED {
-        assert_picked(&rt, rt.alloc(), picked)?;
+        assert_picked(&rt, rt.alloc(), picked);
     }
-    Ok(())
 }
 
 #[test]
-fn lines_have_bounds(rt: HostRuntime) -> Result<(), Fail> {
+fn lines_have_bounds(rt: HostRuntime) {
     for bounded in BOUNDED {
-        assert_bounded(&rt, rt.alloc(), bounded)?;
+        assert_bounded(&rt, rt.alloc(), bounded);
     }
-    Ok(())
+}
+
+/// An image of the region that has a 7 in front and zeros elsewhere.
+fn seven_in_front(rt: &impl Abort, alloc: Global, len: usize) -> Row<u8> {
+    let mut image = Row::new(alloc);
+    image.push(7).expect(rt, AMPLE);
+    for _place in 1..len {
+        image.push(0).expect(rt, AMPLE);
+    }
+    image
 }
 
 #[test]
-fn what_no_crash_leaves_is_not_found(rt: HostRuntime) -> Result<(), Fail> {
+fn what_no_crash_leaves_is_not_found(rt: HostRuntime) {
     let alloc = rt.alloc();
     let checked = checked(&rt, alloc, TWO_STORES);
-    let input = input(alloc, &checked, "two stores")?;
-    let log = log_at(alloc, &checked, &input, 4)?;
-    let mut image = Row::new(alloc);
-    image.push(7)?;
-    for _place in 1..input.image.len() {
-        image.push(0)?;
-    }
-    if image.len() != input.image.len() {
-        return Err(Fail::new("the region's size"));
-    }
-    assert!(rt; log.find_picks(alloc, image.as_slice())?.is_none());
-    Ok(())
+    let input = input(&rt, alloc, &checked, &[], 100);
+    let log = log_at(&rt, alloc, &checked, &input, 4);
+    let image = seven_in_front(&rt, alloc, input.image.len());
+    assert!(rt; image.len() == input.image.len());
+    let found = log.find_picks(alloc, image.as_slice()).expect(&rt, AMPLE);
+    assert!(rt; found.is_none());
 }

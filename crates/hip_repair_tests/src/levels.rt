@@ -1,35 +1,16 @@
 //! Which stores are never in the region, by the levels of their addresses.
 
+use crate::programs::{AMPLE, Place, checked, sites};
 use hip_examples::{COPY, REACH};
-use hip_ir::Site;
-use hip_parse::parse;
-use hip_typing::check;
 use hip_vol::quiet_stores;
 use std::alloc::Global;
 use std::process::Abort;
-use std::test::Fail;
-
-const fn site(function: usize, block: usize, index: usize) -> Site {
-    Site {
-        function,
-        block,
-        index,
-    }
-}
 
 /// In the program of a text these are the stores that are never in the region.
-fn assert_quiet(rt: &impl Abort, alloc: Global, text: &str, expected: &[Site]) -> Result<(), Fail> {
-    let Ok(program) = parse(alloc, text.as_bytes()) else {
-        return Err(Fail::new("not read"));
-    };
-    match check(alloc, program) {
-        Ok(checked) => {
-            let sites = quiet_stores(alloc, &checked)?;
-            assert_eq!(rt; sites.as_slice(), expected);
-            Ok(())
-        }
-        Err(_refusal) => Err(Fail::new("refused")),
-    }
+fn assert_quiet(rt: &impl Abort, alloc: Global, text: &str, expected: &[Place]) {
+    let checked = checked(rt, alloc, text);
+    let quiet = quiet_stores(alloc, &checked).expect(rt, AMPLE);
+    assert_eq!(rt; quiet, sites(rt, alloc, expected));
 }
 
 /// Rows of the table: what has level 0, what is free, offsets, and the greatest of two.
@@ -68,16 +49,16 @@ entry:
 ";
 
 #[test]
-fn rows_of_the_table(rt: HostRuntime) -> Result<(), Fail> {
+fn rows_of_the_table(rt: HostRuntime) {
     let quiet = [
-        site(0, 0, 2),
-        site(0, 0, 3),
-        site(0, 0, 4),
-        site(0, 0, 13),
-        site(0, 0, 19),
-        site(0, 0, 23),
+        (0, 0, 2),
+        (0, 0, 3),
+        (0, 0, 4),
+        (0, 0, 13),
+        (0, 0, 19),
+        (0, 0, 23),
     ];
-    assert_quiet(&rt, rt.alloc(), ROWS, &quiet)
+    assert_quiet(&rt, rt.alloc(), ROWS, &quiet);
 }
 
 /// A pointer that is stepped in a loop meets its own level; one that is only handed round keeps it.
@@ -102,8 +83,8 @@ done:
 ";
 
 #[test]
-fn stepped_in_a_loop(rt: HostRuntime) -> Result<(), Fail> {
-    assert_quiet(&rt, rt.alloc(), LOOP, &[site(0, 1, 1)])
+fn stepped_in_a_loop(rt: HostRuntime) {
+    assert_quiet(&rt, rt.alloc(), LOOP, &[(0, 1, 1)]);
 }
 
 /// Recursion through a result: one function steps what it answers, the other answers it as it is. A call that no path
@@ -160,17 +141,17 @@ never:
 ";
 
 #[test]
-fn levels_through_calls(rt: HostRuntime) -> Result<(), Fail> {
-    let quiet = [site(3, 0, 0), site(4, 0, 4), site(4, 1, 2)];
-    assert_quiet(&rt, rt.alloc(), CALLS, &quiet)
+fn levels_through_calls(rt: HostRuntime) {
+    let quiet = [(3, 0, 0), (4, 0, 4), (4, 1, 2)];
+    assert_quiet(&rt, rt.alloc(), CALLS, &quiet);
 }
 
 #[test]
-fn register_index_is_free(rt: HostRuntime) -> Result<(), Fail> {
-    assert_quiet(&rt, rt.alloc(), REACH, &[site(0, 0, 2)])
+fn register_index_is_free(rt: HostRuntime) {
+    assert_quiet(&rt, rt.alloc(), REACH, &[(0, 0, 2)]);
 }
 
 #[test]
-fn argument_in_the_region_is_free(rt: HostRuntime) -> Result<(), Fail> {
-    assert_quiet(&rt, rt.alloc(), COPY, &[site(1, 0, 2)])
+fn argument_in_the_region_is_free(rt: HostRuntime) {
+    assert_quiet(&rt, rt.alloc(), COPY, &[(1, 0, 2)]);
 }

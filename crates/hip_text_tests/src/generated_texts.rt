@@ -5,7 +5,7 @@ use hip_parse::parse;
 use hip_types::Row;
 use hip_typing::check;
 use std::alloc::Global;
-use std::test::Fail;
+use std::process::Abort;
 
 /// The text for seed 1 and size 8.
 const SMALL_DEMO: &str = "@data = global [8 x i64] zeroinitializer, section \".pm\"
@@ -96,11 +96,12 @@ fn checksum(bytes: &[u8]) -> u32 {
     sum_of_sums.wrapping_mul(65_536).wrapping_add(sum)
 }
 
-fn generated(alloc: Global, seed: u64, size: u64) -> Result<Row<u8>, Fail> {
-    if seed >= SEED_END || size == 0 || size > LARGEST_SIZE {
-        return Err(Fail::new("a seed and a size that a program may have"));
-    }
-    Ok(generate(alloc, seed, size)?)
+fn generated(rt: &impl Abort, alloc: Global, seed: u64, size: u64) -> Row<u8> {
+    assert!(rt;
+        seed < SEED_END && size > 0 && size <= LARGEST_SIZE,
+        "{seed} {size}"
+    );
+    generate(alloc, seed, size).expect(rt, "there is memory")
 }
 
 /// Whether the text is read as a sound program.
@@ -112,16 +113,15 @@ fn is_sound(alloc: Global, text: &[u8]) -> bool {
 }
 
 #[test]
-fn small_demo(rt: HostRuntime) -> Result<(), Fail> {
-    let text = generated(rt.alloc(), 1, 8)?;
+fn small_demo(rt: HostRuntime) {
+    let text = generated(&rt, rt.alloc(), 1, 8);
     assert!(rt; text.as_slice() == SMALL_DEMO.as_bytes());
-    Ok(())
 }
 
 #[test]
-fn texts_of_other_seeds_and_sizes(rt: HostRuntime) -> Result<(), Fail> {
+fn texts_of_other_seeds_and_sizes(rt: HostRuntime) {
     for case in TEXTS {
-        let text = generated(rt.alloc(), case.seed, case.size)?;
+        let text = generated(&rt, rt.alloc(), case.seed, case.size);
         assert!(rt; text.len() == case.length, "{} {}", case.seed, case.size);
         assert!(rt;
             checksum(text.as_slice()) == case.checksum,
@@ -130,13 +130,12 @@ fn texts_of_other_seeds_and_sizes(rt: HostRuntime) -> Result<(), Fail> {
             case.size
         );
     }
-    Ok(())
 }
 
 #[test]
-fn generated_texts_are_read_and_sound(rt: HostRuntime) -> Result<(), Fail> {
+fn generated_texts_are_read_and_sound(rt: HostRuntime) {
     for case in TEXTS {
-        let text = generated(rt.alloc(), case.seed, case.size)?;
+        let text = generated(&rt, rt.alloc(), case.seed, case.size);
         assert!(rt;
             is_sound(rt.alloc(), text.as_slice()),
             "{} {}",
@@ -144,5 +143,4 @@ fn generated_texts_are_read_and_sound(rt: HostRuntime) -> Result<(), Fail> {
             case.size
         );
     }
-    Ok(())
 }

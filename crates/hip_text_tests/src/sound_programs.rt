@@ -2,12 +2,12 @@
 
 ghost use Rattle.std.specs.Prelude.{◌≡◌, length};
 
+use crate::AMPLE;
 use hip_ir::same;
 use hip_parse::parse;
 use hip_typing::{Checked, check};
 use std::alloc::Global;
 use std::process::Abort;
-use std::test::Fail;
 
 /// Where the region begins.
 const BASE: u64 = 0x1_0000_0000;
@@ -40,29 +40,21 @@ entry:
 ";
 
 /// The program of a text that is sound.
-fn checked(alloc: Global, text: &str) -> Result<Checked, Fail> {
-    let Ok(program) = parse(alloc, text.as_bytes()) else {
-        return Err(Fail::new("not read"));
-    };
-    match check(alloc, program) {
-        Ok(checked) => Ok(checked),
-        Err(_refusal) => Err(Fail::new("refused")),
-    }
+fn checked(rt: &impl Abort, alloc: Global, text: &str) -> Checked {
+    let program = parse(alloc, text.as_bytes()).expect(rt, "the text is read");
+    check(alloc, program).expect(rt, "the program is sound")
 }
 
 #[test]
-fn sound_program(rt: HostRuntime) -> Result<(), Fail> {
-    let checked = checked(rt.alloc(), SOUND)?;
+fn sound_program(rt: HostRuntime) {
+    let checked = checked(&rt, rt.alloc(), SOUND);
     assert_eq!(rt; checked.function_number(b"f"), Some(0));
     assert_eq!(rt; checked.function_number(b"main"), Some(1));
     assert_eq!(rt; checked.function_number(b"read_i64"), None);
     assert_eq!(rt; checked.function_number(b"v"), None);
     assert_eq!(rt; checked.region_size(), 320);
-    let Ok(program) = parse(rt.alloc(), SOUND.as_bytes()) else {
-        return Err(Fail::new("not read"));
-    };
+    let program = parse(rt.alloc(), SOUND.as_bytes()).expect(&rt, "the text is read");
     assert!(rt; same(checked.program(), &program));
-    Ok(())
 }
 
 /// Asserts where the first globals lie.
@@ -74,11 +66,10 @@ fn assert_addresses(rt: &impl Abort, checked: &Checked, addresses: &[u64]) {
 }
 
 #[test]
-fn addresses_of_globals(rt: HostRuntime) -> Result<(), Fail> {
-    let checked = checked(rt.alloc(), SOUND)?;
+fn addresses_of_globals(rt: HostRuntime) {
+    let checked = checked(&rt, rt.alloc(), SOUND);
     let addresses = [0x1_0000, BASE, 0x1_0008, BASE + 8, BASE + 256];
     assert_addresses(&rt, &checked, addresses.as_slice());
-    Ok(())
 }
 
 /// Two volatile globals with numbers and an address in them.
@@ -104,24 +95,22 @@ entry:
 const VOLATILE_BYTES: [u8; 16] = [1, 0, 1, 2, 0, 0, 0, 0, 0, 0, 1, 0, 0, 0, 0, 0];
 
 #[test]
-fn initial_bytes(rt: HostRuntime) -> Result<(), Fail> {
-    let checked = checked(rt.alloc(), VOLATILE)?;
-    let volatile = checked.volatile_bytes(rt.alloc(), BASE)?;
+fn initial_bytes(rt: HostRuntime) {
+    let checked = checked(&rt, rt.alloc(), VOLATILE);
+    let volatile = checked.volatile_bytes(rt.alloc(), BASE).expect(&rt, AMPLE);
     assert_eq!(rt; volatile.as_slice(), VOLATILE_BYTES.as_slice());
     assert_addresses(&rt, &checked, [65_536, 65_544].as_slice());
-    Ok(())
 }
 
 #[test]
-fn initial_bytes_of_a_region(rt: HostRuntime) -> Result<(), Fail> {
-    let checked = checked(rt.alloc(), PERSISTENT)?;
-    let volatile = checked.volatile_bytes(rt.alloc(), BASE)?;
+fn initial_bytes_of_a_region(rt: HostRuntime) {
+    let checked = checked(&rt, rt.alloc(), PERSISTENT);
+    let volatile = checked.volatile_bytes(rt.alloc(), BASE).expect(&rt, AMPLE);
     assert_eq!(rt; volatile.as_slice(), VOLATILE_BYTES.as_slice());
-    let region = checked.region_bytes(rt.alloc(), BASE)?;
+    let region = checked.region_bytes(rt.alloc(), BASE).expect(&rt, AMPLE);
     assert_eq!(rt; region.len(), 64);
     let first = [255, 255, 2, 0, 0, 0, 0, 0, 12, 0, 0, 0, 1, 0, 0, 0];
     assert!(rt; region.as_slice().starts_with(first.as_slice()));
     let others = region.as_slice().iter().filter(|byte| **byte != 0).count();
     assert_eq!(rt; others, 5);
-    Ok(())
 }

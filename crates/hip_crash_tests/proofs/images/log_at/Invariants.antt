@@ -1,5 +1,0 @@
-use Rattle.std.proofs.Common.{◌≡◌}
-use Rattle.hip_crash_tests.proofs.images.log_at.Given as goal
-
-abbrev pub invariant-steps : goal.invariant-steps
-invariant-steps l = record { same : l.log ≡ l.machine; input : l.log.input ≡ l.input }

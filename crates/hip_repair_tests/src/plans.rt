@@ -1,0 +1,513 @@
+//! Scores, levels and plans for given findings.
+
+use crate::programs::{AMPLE, Place, checked, site, sites};
+use hip_examples::{COPY, EVEN_AND_ODD, KEY_VALUE_LOG};
+use hip_fix::suits;
+use hip_plan::{choose, plan, score};
+use hip_runs::{Findings, Kind, Mark, Marks, Object, Report};
+use hip_types::Row;
+use hip_typing::Checked;
+use std::alloc::Global;
+use std::process::Abort;
+
+/// A report of a store at the first place, made by the calls at the others, of which so many had returned.
+struct Found {
+    kind: Kind,
+    entries: (u128, u128),
+    path: &'static [Place],
+    closed: usize,
+    // The level that is chosen for it.
+    level: usize,
+}
+
+/// That an operand of a place pointed into a global, or into a block of an `alloca`.
+struct Pointed {
+    place: Place,
+    operand: usize,
+    into: Into,
+}
+
+#[derive(Clone, Copy)]
+enum Into {
+    Global(usize),
+    Slot(Place),
+}
+
+/// What a run of a program found, and what comes of it.
+struct Case {
+    name: &'static str,
+    program: &'static str,
+    found: &'static [Found],
+    pointed: &'static [Pointed],
+    hit: &'static [usize],
+    scores: &'static [(Place, Option<i128>)],
+    flushes: &'static [Place],
+    fences: &'static [Place],
+    hoists: &'static [Place],
+}
+
+const ASSERTED_COPY: &str = "@p = global i64 0, section \".pm\"
+@q = global i64 9
+declare void @pm_assert(ptr, i64)
+define void @copy(ptr %dst, ptr %src) {
+entry:
+  %v = load i64, ptr %src
+  store i64 %v, ptr %dst
+  call void @pm_assert(ptr %dst, i64 8)
+  ret void
+}
+define i32 @main() {
+entry:
+  call void @copy(ptr @p, ptr @q)
+  ret i32 0
+}
+";
+
+/// What the run of `COPY` points into: the stack with the first call, persistent memory with the second.
+const COPIED: &[Pointed] = &[
+    Pointed {
+        place: (1, 0, 2),
+        operand: 0,
+        into: Into::Slot((1, 0, 0)),
+    },
+    Pointed {
+        place: (1, 0, 3),
+        operand: 0,
+        into: Into::Slot((1, 0, 1)),
+    },
+    Pointed {
+        place: (1, 0, 3),
+        operand: 1,
+        into: Into::Slot((1, 0, 0)),
+    },
+    Pointed {
+        place: (0, 0, 1),
+        operand: 0,
+        into: Into::Slot((1, 0, 1)),
+    },
+    Pointed {
+        place: (1, 0, 4),
+        operand: 0,
+        into: Into::Global(0),
+    },
+    Pointed {
+        place: (1, 0, 4),
+        operand: 1,
+        into: Into::Slot((1, 0, 1)),
+    },
+    Pointed {
+        place: (0, 0, 1),
+        operand: 0,
+        into: Into::Global(0),
+    },
+    Pointed {
+        place: (1, 0, 2),
+        operand: 0,
+        into: Into::Slot((1, 0, 0)),
+    },
+];
+
+/// The one call of `ASSERTED_COPY` and its store.
+const ONE_COPY: &[Pointed] = &[
+    Pointed {
+        place: (1, 0, 0),
+        operand: 0,
+        into: Into::Global(0),
+    },
+    Pointed {
+        place: (1, 0, 0),
+        operand: 1,
+        into: Into::Global(1),
+    },
+    Pointed {
+        place: (0, 0, 1),
+        operand: 0,
+        into: Into::Global(0),
+    },
+];
+
+/// Each site points into the stack with the first call of `EVEN_AND_ODD`, and into `@p` with the second.
+const COUNTED: &[Pointed] = &[
+    Pointed {
+        place: (2, 0, 1),
+        operand: 0,
+        into: Into::Slot((2, 0, 0)),
+    },
+    Pointed {
+        place: (0, 1, 0),
+        operand: 0,
+        into: Into::Slot((2, 0, 0)),
+    },
+    Pointed {
+        place: (0, 1, 2),
+        operand: 0,
+        into: Into::Slot((2, 0, 0)),
+    },
+    Pointed {
+        place: (1, 1, 0),
+        operand: 0,
+        into: Into::Slot((2, 0, 0)),
+    },
+    Pointed {
+        place: (1, 1, 2),
+        operand: 0,
+        into: Into::Slot((2, 0, 0)),
+    },
+    Pointed {
+        place: (2, 0, 2),
+        operand: 0,
+        into: Into::Global(0),
+    },
+    Pointed {
+        place: (0, 1, 0),
+        operand: 0,
+        into: Into::Global(0),
+    },
+    Pointed {
+        place: (0, 1, 2),
+        operand: 0,
+        into: Into::Global(0),
+    },
+    Pointed {
+        place: (1, 1, 0),
+        operand: 0,
+        into: Into::Global(0),
+    },
+    Pointed {
+        place: (1, 1, 2),
+        operand: 0,
+        into: Into::Global(0),
+    },
+];
+
+const CASES: &[Case] = &[
+    Case {
+        name: "a function that stores to the stack and to the region",
+        program: COPY,
+        found: &[Found {
+            kind: Kind::MissingBoth,
+            entries: (3, 4),
+            path: &[(0, 0, 1), (1, 0, 4)],
+            closed: 1,
+            level: 1,
+        }],
+        pointed: COPIED,
+        hit: &[0],
+        scores: &[
+            ((0, 0, 1), Some(0)),
+            ((1, 0, 4), Some(1)),
+            ((1, 0, 3), Some(-1)),
+            ((0, 0, 0), None),
+            ((2, 0, 0), None),
+        ],
+        flushes: &[],
+        fences: &[],
+        hoists: &[(1, 0, 4)],
+    },
+    Case {
+        name: "a check inside of the function, and one behind its call",
+        program: ASSERTED_COPY,
+        found: &[
+            Found {
+                kind: Kind::MissingBoth,
+                entries: (3, 4),
+                path: &[(0, 0, 1), (1, 0, 0)],
+                closed: 0,
+                level: 0,
+            },
+            Found {
+                kind: Kind::MissingBoth,
+                entries: (3, 5),
+                path: &[(0, 0, 1), (1, 0, 0)],
+                closed: 1,
+                level: 0,
+            },
+        ],
+        pointed: ONE_COPY,
+        hit: &[0],
+        scores: &[
+            ((0, 0, 1), Some(1)),
+            ((1, 0, 0), Some(1)),
+            ((0, 0, 2), None),
+        ],
+        flushes: &[(0, 0, 1)],
+        fences: &[(0, 0, 1)],
+        hoists: &[],
+    },
+    Case {
+        name: "a tie goes to the innermost level",
+        program: ASSERTED_COPY,
+        found: &[Found {
+            kind: Kind::MissingFlush,
+            entries: (3, 5),
+            path: &[(0, 0, 1), (1, 0, 0)],
+            closed: 1,
+            level: 0,
+        }],
+        pointed: ONE_COPY,
+        hit: &[0],
+        scores: &[],
+        flushes: &[(0, 0, 1)],
+        fences: &[],
+        hoists: &[],
+    },
+    Case {
+        name: "two functions that call each other",
+        program: EVEN_AND_ODD,
+        found: &[Found {
+            kind: Kind::MissingBoth,
+            entries: (4, 5),
+            path: &[(1, 1, 0), (0, 1, 2), (2, 0, 2)],
+            closed: 2,
+            level: 2,
+        }],
+        pointed: COUNTED,
+        hit: &[0],
+        scores: &[
+            ((1, 1, 0), Some(0)),
+            ((0, 1, 2), Some(0)),
+            ((2, 0, 2), Some(1)),
+        ],
+        flushes: &[],
+        fences: &[],
+        hoists: &[(2, 0, 2)],
+    },
+];
+
+fn report(rt: &impl Abort, alloc: Global, found: &Found) -> Report {
+    Report {
+        entry: found.entries.0,
+        check_entry: found.entries.1,
+        kind: found.kind,
+        flush_site: None,
+        path: sites(rt, alloc, found.path),
+        closed: found.closed,
+    }
+}
+
+fn reports(rt: &impl Abort, alloc: Global, found: &[Found]) -> Row<Report> {
+    let mut reports = Row::new(alloc);
+    for one in found {
+        reports.push(report(rt, alloc, one)).expect(rt, AMPLE);
+    }
+    reports
+}
+
+fn object(into: Into) -> Object {
+    match into {
+        Into::Global(number) => Object::Global(number),
+        Into::Slot(alloca) => Object::Slot(site(alloca)),
+    }
+}
+
+fn marks(rt: &impl Abort, alloc: Global, pointed: &[Pointed], hit: &[usize]) -> Marks {
+    let mut all = Row::new(alloc);
+    for one in pointed {
+        let mark = Mark {
+            site: site(one.place),
+            operand: one.operand,
+            object: object(one.into),
+        };
+        all.push(mark).expect(rt, AMPLE);
+    }
+    Marks {
+        pointed: all,
+        hit: Row::from_slice(alloc, hit).expect(rt, AMPLE),
+    }
+}
+
+/// The plan for the findings has these lists, and suits.
+fn assert_planned(
+    rt: &impl Abort,
+    alloc: Global,
+    checked: &Checked,
+    findings: &Findings,
+    case: &Case,
+) {
+    let plan = plan(alloc, checked, findings).expect(rt, AMPLE);
+    assert!(rt;
+        plan.flush_after == sites(rt, alloc, case.flushes),
+        "{}",
+        case.name
+    );
+    assert!(rt;
+        plan.fence_after == sites(rt, alloc, case.fences),
+        "{}",
+        case.name
+    );
+    assert!(rt;
+        plan.hoist == sites(rt, alloc, case.hoists),
+        "{}",
+        case.name
+    );
+    assert!(rt; suits(checked, &plan), "{}", case.name);
+}
+
+fn assert_levels(
+    rt: &impl Abort,
+    alloc: Global,
+    checked: &Checked,
+    findings: &Findings,
+    case: &Case,
+) {
+    for found in case.found {
+        let report = report(rt, alloc, found);
+        assert!(rt;
+            choose(checked, findings, &report) == found.level,
+            "{}",
+            case.name
+        );
+    }
+}
+
+fn assert_scores(rt: &impl Abort, checked: &Checked, findings: &Findings, case: &Case) {
+    for (place, expected) in case.scores {
+        assert!(rt;
+            score(checked, findings, site(*place)) == *expected,
+            "{}",
+            case.name
+        );
+    }
+}
+
+fn assert_case(rt: &impl Abort, alloc: Global, case: &Case) {
+    let checked = checked(rt, alloc, case.program);
+    let findings = Findings {
+        reports: reports(rt, alloc, case.found),
+        marks: marks(rt, alloc, case.pointed, case.hit),
+    };
+    assert_scores(rt, &checked, &findings, case);
+    assert_levels(rt, alloc, &checked, &findings, case);
+    assert_planned(rt, alloc, &checked, &findings, case);
+}
+
+#[test]
+fn plans_of_findings(rt: HostRuntime) {
+    for case in CASES {
+        assert_case(&rt, rt.alloc(), case);
+    }
+}
+
+/// What the run of `KEY_VALUE_LOG` points into, and what comes of its reports.
+const LOG: &Case = &Case {
+    name: "the key-value log",
+    program: KEY_VALUE_LOG,
+    found: &[],
+    pointed: &[
+        Pointed {
+            place: (2, 1, 1),
+            operand: 0,
+            into: Into::Slot((2, 0, 0)),
+        },
+        Pointed {
+            place: (1, 0, 1),
+            operand: 0,
+            into: Into::Slot((2, 0, 0)),
+        },
+        Pointed {
+            place: (1, 0, 3),
+            operand: 0,
+            into: Into::Slot((2, 0, 0)),
+        },
+        Pointed {
+            place: (2, 1, 3),
+            operand: 0,
+            into: Into::Global(2),
+        },
+        Pointed {
+            place: (0, 0, 2),
+            operand: 0,
+            into: Into::Global(0),
+        },
+        Pointed {
+            place: (2, 1, 6),
+            operand: 0,
+            into: Into::Global(1),
+        },
+        Pointed {
+            place: (1, 0, 1),
+            operand: 0,
+            into: Into::Global(1),
+        },
+        Pointed {
+            place: (1, 0, 3),
+            operand: 0,
+            into: Into::Global(1),
+        },
+    ],
+    hit: &[2, 0, 1],
+    scores: &[
+        ((1, 0, 1), Some(0)),
+        ((2, 1, 6), Some(1)),
+        ((2, 1, 3), Some(1)),
+        ((2, 1, 5), None),
+    ],
+    flushes: &[(2, 1, 3)],
+    fences: &[(0, 0, 3)],
+    hoists: &[(2, 1, 6)],
+};
+
+/// A report of a store that the call at place 6 of the loop makes, at that place of the function between.
+fn filled(rt: &impl Abort, alloc: Global, entry: u128, kind: Kind, index: usize) -> Report {
+    Report {
+        entry,
+        check_entry: 243,
+        kind,
+        flush_site: None,
+        path: sites(rt, alloc, &[(1, 0, index), (2, 1, 6)]),
+        closed: 1,
+    }
+}
+
+/// The report of the store of `@head`, whose flush lacks a fence.
+fn unfenced(rt: &impl Abort, alloc: Global) -> Report {
+    Report {
+        entry: 239,
+        check_entry: 243,
+        kind: Kind::MissingFence,
+        flush_site: Some(site((0, 0, 3))),
+        path: sites(rt, alloc, &[(0, 0, 2), (2, 1, 5)]),
+        closed: 1,
+    }
+}
+
+/// The report of the last store of `@count`.
+const COUNT: Found = Found {
+    kind: Kind::MissingFlush,
+    entries: (237, 243),
+    path: &[(2, 1, 3)],
+    closed: 0,
+    level: 0,
+};
+
+/// The reports of the run of `KEY_VALUE_LOG`, in the order of their stores.
+fn logged(rt: &impl Abort, alloc: Global) -> Row<Report> {
+    let mut reports = Row::new(alloc);
+    for turn in 0..39u64 {
+        let first = 7 + 6 * u128::from(turn);
+        let key = filled(rt, alloc, first, Kind::MissingFlush, 1);
+        reports.push(key).expect(rt, AMPLE);
+        let value = filled(rt, alloc, first + 1, Kind::MissingFlush, 3);
+        reports.push(value).expect(rt, AMPLE);
+    }
+    reports.push(report(rt, alloc, &COUNT)).expect(rt, AMPLE);
+    reports.push(unfenced(rt, alloc)).expect(rt, AMPLE);
+    let key = filled(rt, alloc, 241, Kind::MissingBoth, 1);
+    reports.push(key).expect(rt, AMPLE);
+    let value = filled(rt, alloc, 242, Kind::MissingBoth, 3);
+    reports.push(value).expect(rt, AMPLE);
+    reports
+}
+
+#[test]
+fn key_value_log(rt: HostRuntime) {
+    let alloc = rt.alloc();
+    let checked = checked(&rt, alloc, KEY_VALUE_LOG);
+    let findings = Findings {
+        reports: logged(&rt, alloc),
+        marks: marks(&rt, alloc, LOG.pointed, LOG.hit),
+    };
+    assert_eq!(rt; findings.reports.len(), 82);
+    assert_scores(&rt, &checked, &findings, LOG);
+    assert_planned(&rt, alloc, &checked, &findings, LOG);
+}

@@ -1,5 +1,8 @@
-//! Texts of programs that tests of several crates use, each in its canonical form.
+//! Texts that tests of several crates use: programs, each in its canonical form, their traces, and what tests say.
 #![tactic(auto)]
+
+/// What is said where a call that was given ample memory found none.
+pub const AMPLE: &str = "there is memory";
 
 /// One store of a persistent number, which is not flushed.
 pub const ONE_STORE: &str = "@x = global i64 0, section \".pm\"

@@ -1,3 +1,4 @@
+use crate::copies::{copy_four, copy_three};
 use crate::instr::{Arg, Instr, Operand};
 use hip_types::{Bits, Name, NoMemory, Row, Scalar, Structural, Width};
 use std::alloc::Global;
@@ -106,22 +107,24 @@ impl Structural for End {
             End::Br { label } => Ok(End::Br {
                 label: label.copy(alloc)?,
             }),
-            End::CondBr { cond, yes, no } => Ok(End::CondBr {
-                cond: cond.copy(alloc)?,
-                yes: yes.copy(alloc)?,
-                no: no.copy(alloc)?,
-            }),
+            End::CondBr { cond, yes, no } => {
+                let (cond, yes, no) = copy_three(alloc, cond, yes, no)?;
+                Ok(End::CondBr { cond, yes, no })
+            }
             End::Switch {
                 width,
                 value,
                 other,
                 cases,
-            } => Ok(End::Switch {
-                width: *width,
-                value: value.copy(alloc)?,
-                other: other.copy(alloc)?,
-                cases: cases.copy(alloc)?,
-            }),
+            } => {
+                let (value, other, cases) = copy_three(alloc, value, other, cases)?;
+                Ok(End::Switch {
+                    width: *width,
+                    value,
+                    other,
+                    cases,
+                })
+            }
             End::Ret(arg) => Ok(End::Ret(arg.copy(alloc)?)),
             End::Unreachable => Ok(End::Unreachable),
         }
@@ -161,11 +164,18 @@ impl Structural for End {
 
 impl Structural for Block {
     fn copy(&self, alloc: Global) -> Result<Block, NoMemory> {
+        let (label, phis, body, end) = copy_four(
+            alloc,
+            &self.label,
+            &self.phis,
+            &self.body,
+            &self.end,
+        )?;
         Ok(Block {
-            label: self.label.copy(alloc)?,
-            phis: self.phis.copy(alloc)?,
-            body: self.body.copy(alloc)?,
-            end: self.end.copy(alloc)?,
+            label,
+            phis,
+            body,
+            end,
         })
     }
 

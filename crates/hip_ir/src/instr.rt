@@ -1,4 +1,5 @@
 use crate::constant::Const;
+use crate::copies::{copy_four, copy_three, copy_two};
 use hip_types::{BinaryOp, CastOp, Name, NoMemory, Pred, Row, Scalar, Structural, Ty, Width};
 use std::alloc::Global;
 
@@ -128,14 +129,15 @@ impl Structural for Arg {
     }
 }
 
-/// Copies a variant field by field: the fields in braces by `copy`, those in brackets as they are.
+/// Copies a variant: the fields in braces by the function behind them, those in brackets as they are.
 macro_rules! copy_variant {
-    ($instr:expr, $alloc:expr, $($variant:ident { $($field:ident),* } [ $($plain:ident),* ],)*) => {
+    ($instr:expr, $alloc:expr,
+        $($variant:ident { $($field:ident),* } by $copy:ident [ $($plain:ident),* ],)*) => {
         match $instr {
-            $(Instr::$variant { $($field,)* $($plain,)* } => Ok(Instr::$variant {
-                $($field: $field.copy($alloc)?,)*
-                $($plain: *$plain,)*
-            }),)*
+            $(Instr::$variant { $($field,)* $($plain,)* } => {
+                let ($($field),*) = $copy($alloc, $($field),*)?;
+                Ok(Instr::$variant { $($field,)* $($plain: *$plain,)* })
+            })*
         }
     };
 }
@@ -156,15 +158,15 @@ macro_rules! same_variant {
 impl Structural for Instr {
     fn copy(&self, alloc: Global) -> Result<Instr, NoMemory> {
         copy_variant!(self, alloc,
-            Binary { dest, a, b } [op, flags, width],
-            Compare { dest, a, b } [pred, ty],
-            Select { dest, cond, a, b } [ty],
-            Cast { dest, a } [op, from, to],
-            Alloca { dest, ty } [align],
-            Load { dest, addr } [ty, align],
-            Store { value, addr } [ty, align],
-            Gep { dest, ty, base, indices } [inbounds],
-            Call { dest, callee, args } [ret],
+            Binary { dest, a, b } by copy_three [op, flags, width],
+            Compare { dest, a, b } by copy_three [pred, ty],
+            Select { dest, cond, a, b } by copy_four [ty],
+            Cast { dest, a } by copy_two [op, from, to],
+            Alloca { dest, ty } by copy_two [align],
+            Load { dest, addr } by copy_two [ty, align],
+            Store { value, addr } by copy_two [ty, align],
+            Gep { dest, ty, base, indices } by copy_four [inbounds],
+            Call { dest, callee, args } by copy_three [ret],
         )
     }
 

@@ -2,6 +2,7 @@ ghost use Rattle.std.specs.Prelude.{◌≡◌, ◌↔◌, IsTrue, IfOk};
 
 use crate::block::Block;
 use crate::constant::Const;
+use crate::copies::copy_three;
 use hip_types::{Name, NoMemory, Row, Scalar, Structural, Ty};
 use std::alloc::Global;
 
@@ -57,11 +58,12 @@ pub struct Program {
 
 impl Structural for GlobalVar {
     fn copy(&self, alloc: Global) -> Result<GlobalVar, NoMemory> {
+        let (name, ty, init) = copy_three(alloc, &self.name, &self.ty, &self.init)?;
         Ok(GlobalVar {
-            name: self.name.copy(alloc)?,
+            name,
             fixed: self.fixed,
-            ty: self.ty.copy(alloc)?,
-            init: self.init.copy(alloc)?,
+            ty,
+            init,
             persistent: self.persistent,
             align: self.align,
         })
@@ -106,11 +108,12 @@ impl Structural for Param {
 
 impl Structural for Function {
     fn copy(&self, alloc: Global) -> Result<Function, NoMemory> {
+        let (name, params, blocks) = copy_three(alloc, &self.name, &self.params, &self.blocks)?;
         Ok(Function {
             ret: self.ret,
-            name: self.name.copy(alloc)?,
-            params: self.params.copy(alloc)?,
-            blocks: self.blocks.copy(alloc)?,
+            name,
+            params,
+            blocks,
         })
     }
 
@@ -126,10 +129,16 @@ impl Structural for Function {
 pub fn copy(alloc: Global, program: &Program) -> Result<Program, NoMemory>
     ensures { IfOk result (λ p. p ≡ program.now) }
 {
+    let (globals, externs, functions) = copy_three(
+        alloc,
+        &program.globals,
+        &program.externs,
+        &program.functions,
+    )?;
     Ok(Program {
-        globals: program.globals.copy(alloc)?,
-        externs: program.externs.copy(alloc)?,
-        functions: program.functions.copy(alloc)?,
+        globals,
+        externs,
+        functions,
     })
 }
 

@@ -1,7 +1,7 @@
 //! Which stores are never in the region, by the levels of their addresses.
 
-use crate::programs::{AMPLE, Place, checked, sites};
-use hip_examples::{COPY, REACH};
+use crate::programs::{Place, checked, sites};
+use hip_examples::{AMPLE, COPY, REACH};
 use hip_vol::quiet_stores;
 use std::alloc::Global;
 use std::process::Abort;

@@ -1,7 +1,7 @@
 //! The lines of reports and of counts, byte by byte, and cut by a sink that is full.
 
-use crate::programs::{AMPLE, Place, checked, site, sites};
-use hip_examples::{EVEN_AND_ODD, KEY_VALUE_LOG, ONE_STORE};
+use crate::programs::{Place, checked, site, sites};
+use hip_examples::{AMPLE, EVEN_AND_ODD, KEY_VALUE_LOG, ONE_STORE};
 use hip_io::{MemSink, Put};
 use hip_repairs::Plan;
 use hip_report_lines::{

@@ -1,7 +1,7 @@
 //! Scores, levels and plans for given findings.
 
-use crate::programs::{AMPLE, Place, checked, site, sites};
-use hip_examples::{COPY, EVEN_AND_ODD, KEY_VALUE_LOG};
+use crate::programs::{Place, checked, site, sites};
+use hip_examples::{AMPLE, COPY, EVEN_AND_ODD, KEY_VALUE_LOG};
 use hip_fix::suits;
 use hip_plan::{choose, plan, score};
 use hip_runs::{Findings, Kind, Mark, Marks, Object, Report};

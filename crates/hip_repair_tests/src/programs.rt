@@ -1,5 +1,6 @@
 //! Programs of texts, sites in them, and how they are written.
 
+use hip_examples::AMPLE;
 use hip_io::MemSink;
 use hip_ir::{Program, Site};
 use hip_parse::parse;
@@ -8,9 +9,6 @@ use hip_typing::{Checked, check};
 use hip_write::write;
 use std::alloc::Global;
 use std::process::Abort;
-
-/// What is said where a call that was given ample memory found none.
-pub const AMPLE: &str = "there is memory";
 
 /// The program of a text that is sound.
 pub fn checked(rt: &impl Abort, alloc: Global, text: &str) -> Checked {

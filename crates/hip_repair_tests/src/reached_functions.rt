@@ -1,7 +1,8 @@
 //! Which functions calls reach, in large programs.
 
-use crate::programs::{AMPLE, site};
+use crate::programs::site;
 use hip_calls::{callees, fresh_names};
+use hip_examples::AMPLE;
 use hip_ir::{Block, End, Function, Instr, Program, Site};
 use hip_num::natural_into;
 use hip_types::{Name, Row};

@@ -1,7 +1,7 @@
 //! Repaired programs, by plans.
 
-use crate::programs::{AMPLE, Place, assert_written, checked, site, sites};
-use hip_examples::{COPY, EVEN_AND_ODD, REACH};
+use crate::programs::{Place, assert_written, checked, site, sites};
+use hip_examples::{AMPLE, COPY, EVEN_AND_ODD, REACH};
 use hip_fix::{CloneOf, Plan, apply, apply_skipping, suits};
 use std::alloc::Global;
 use std::process::Abort;

@@ -1,6 +1,7 @@
 //! Clones without the flushes of stores that are never in the region.
 
-use crate::programs::{AMPLE, assert_written, checked, sites};
+use crate::programs::{assert_written, checked, sites};
+use hip_examples::AMPLE;
 use hip_fix::{CloneOf, Plan, apply, apply_skipping, suits};
 use hip_ir::same;
 use hip_types::Row;

@@ -1,6 +1,7 @@
 //! Unions of plans, and for how many of them each line of a union stands.
 
-use crate::programs::{AMPLE, Place, site, sites};
+use crate::programs::{Place, site, sites};
+use hip_examples::AMPLE;
 use hip_fix::Plan;
 use hip_ir::Site;
 use hip_many::{Reason, Sort, plan_many, reasons};

@@ -1,7 +1,7 @@
 //! A log of keys and values: 40 inserts, with a store that lacks something at most places.
 
-use crate::runs::{AMPLE, assert_reports, checked, in_chunks, input, record, replayed};
-use hip_examples::KEY_VALUE_LOG;
+use crate::runs::{assert_reports, checked, in_chunks, input, record, replayed};
+use hip_examples::{AMPLE, KEY_VALUE_LOG};
 use hip_io::MemSink;
 use hip_replay::Replayed;
 use hip_runs::Ending;

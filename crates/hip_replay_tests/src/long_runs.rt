@@ -1,6 +1,7 @@
 //! Long runs, of which little is kept.
 
-use crate::runs::{AMPLE, checked, in_chunks, input, record, replayed};
+use crate::runs::{checked, in_chunks, input, record, replayed};
+use hip_examples::AMPLE;
 use hip_io::MemSink;
 use hip_typing::Checked;
 use std::alloc::Global;

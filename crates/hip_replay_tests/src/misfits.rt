@@ -3,8 +3,8 @@
 ghost use Rattle.std.specs.Prelude.{◌≤◌};
 
 use crate::programs::{SEVEN, TWO_LINES, TWO_NUMBERS};
-use crate::runs::{AMPLE, assert_reports, checked, in_chunks, replayed};
-use hip_examples::{ENDLESS_LOOP, ONE_STORE};
+use crate::runs::{assert_reports, checked, in_chunks, replayed};
+use hip_examples::{AMPLE, ENDLESS_LOOP, ONE_STORE};
 use hip_replay::{MisfitKind, ReplayRefusal};
 use hip_run_traces::MisfitKind::{Differs, Early, Extra, Malformed};
 use std::alloc::Global;

@@ -6,8 +6,8 @@ use crate::programs::{
     FLUSHED_RANGES, HALF_OVERWRITTEN, MISALIGNED, ONE_OF_TWO_LINES, OVERWRITTEN,
     OVERWRITTEN_BY_HALVES, PERSIST, SEVEN, SHARED_LINE, TWO_LINES, TWO_NUMBERS,
 };
-use crate::runs::{AMPLE, assert_reports, checked, in_chunks, input, record, replayed};
-use hip_examples::{COPY, ENDLESS_LOOP, EVEN_AND_ODD, ONE_STORE, REACH};
+use crate::runs::{assert_reports, checked, in_chunks, input, record, replayed};
+use hip_examples::{AMPLE, COPY, ENDLESS_LOOP, EVEN_AND_ODD, ONE_STORE, REACH};
 use hip_io::MemSink;
 use hip_replay::Recorded;
 use hip_runs::{Ending, TrapKind};

@@ -2,6 +2,7 @@
 
 ghost use Rattle.std.specs.Prelude.{◌≤◌};
 
+use hip_examples::AMPLE;
 use hip_io::{Cabinet, Fetched, MemCabinet, MemSink, NamedFile};
 use hip_parse::parse;
 use hip_replay::{Recorded, ReplayRefusal, Replayed, record_run, replay};
@@ -13,9 +14,6 @@ use hip_types::Row;
 use hip_typing::{Checked, check};
 use std::alloc::Global;
 use std::process::Abort;
-
-/// What is said where a call that was given ample memory found none.
-pub const AMPLE: &str = "there is memory";
 
 /// Where the region begins.
 const BASE: u64 = 4_294_967_296;

@@ -26,8 +26,7 @@ pub struct Notes {
     pub header: u128,
     pub steps: u128,
     pub entries: u128,
-    // How many of the next steps are known to be at instructions that are neither stores nor calls, unless the run
-    // ends.
+    // How many of the next steps are known to be at plain places, unless the run ends.
     pub plain: usize,
     // The step of the last fence.
     pub fence: Option<u128>,

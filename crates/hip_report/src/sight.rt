@@ -25,7 +25,7 @@ pub struct Sight {
     pub ended: bool,
     pub site: Option<Site>,
     pub depth: usize,
-    // How many instructions are next that are neither stores nor calls.
+    // How many plain places are next.
     pub plain: usize,
     // The marks of the step, if it is taken without a trap, without some that are noted.
     pub marks: Row<Mark>,
@@ -68,7 +68,7 @@ fn ahead_of(machine: &Machine<'_>, site: Option<Site>) -> Ahead
     }
 }
 
-// The marks of the next step, where this is ahead. A plain instruction has none.
+// The marks of the next step, where this is ahead. A plain place has none.
 #[inline(always)]
 fn marks_of_next(
     alloc: Global,

@@ -314,7 +314,7 @@ fn note_change(
     Ok(())
 }
 
-// How many plain instructions are next after a step with this event, before which so many were.
+// How many plain places are next after a step with this event, before which so many were.
 fn plain_after(event: Event, plain: usize) -> usize
     ensures { 0 < result → (event ≡ Event.Quiet) × (0 < plain) × (result ≡ plain - 1) }
 {
@@ -324,7 +324,7 @@ fn plain_after(event: Event, plain: usize) -> usize
     }
 }
 
-// Notes the step that a machine has taken, and how many plain instructions are next.
+// Notes the step that a machine has taken, and how many plain places are next.
 #[inline(always)]
 fn note_taken(
     alloc: Global,
@@ -373,7 +373,7 @@ fn note_seen(alloc: Global, notes: &mut Notes, machine: &mut Machine<'_>) -> Res
     Ok(event)
 }
 
-// A quiet step at a plain instruction.
+// A quiet step at a plain place.
 #[inline(always)]
 fn pass_plain(notes: &mut Notes)
     requires { notes.old.steps + 1 < 2 ^ 128 }
@@ -383,7 +383,7 @@ fn pass_plain(notes: &mut Notes)
     notes.plain = notes.plain.saturating_sub(1);
 }
 
-// Notes the step that a machine has taken at a plain instruction.
+// Notes the step that a machine has taken at a plain place.
 #[inline(always)]
 fn note_plain(notes: &mut Notes, seen: Event, machine: &Machine<'_>)
     requires taken { 0 < machine.now.taken }
@@ -407,7 +407,7 @@ fn note_plain(notes: &mut Notes, seen: Event, machine: &Machine<'_>)
     }
 }
 
-// Takes a step at a plain instruction and notes it.
+// Takes a step at a plain place and notes it.
 #[inline(always)]
 fn pass(notes: &mut Notes, machine: &mut Machine<'_>) -> Result<Event, NoMemory>
     requires plain { 0 < notes.old.plain }

@@ -1,6 +1,7 @@
 //! How runs end, and after how many turns: each kind of trap, cuts and the steps that take no turn.
 
-use crate::machines::{AMPLE, checked, input, machine};
+use crate::machines::{checked, input, machine};
+use hip_examples::AMPLE;
 use hip_step::{Ending, Event, Machine, TrapKind};
 use std::alloc::Global;
 use std::process::Abort;

@@ -2,8 +2,9 @@
 
 ghost use Rattle.std.specs.Prelude.{◌≡◌};
 
-use crate::machines::{AMPLE, checked, input};
+use crate::machines::{checked, input};
 use hip_crash::{Bounds, CrashLog, Pick, PickRefusal};
+use hip_examples::AMPLE;
 use hip_step::{Input, Machine, why_not};
 use hip_types::Row;
 use hip_typing::Checked;

@@ -1,5 +1,6 @@
 //! Programs of texts, their inputs, and machines at the start of their runs.
 
+use hip_examples::AMPLE;
 use hip_parse::parse;
 use hip_step::{Input, Machine, why_not};
 use hip_types::Row;
@@ -9,9 +10,6 @@ use std::process::Abort;
 
 /// Where the region begins.
 pub const BASE: u64 = 4_294_967_296;
-
-/// What is said where a call that was given ample memory found none.
-pub const AMPLE: &str = "there is memory";
 
 /// The program of a text that is sound.
 pub fn checked(rt: &impl Abort, alloc: Global, text: &str) -> Checked {

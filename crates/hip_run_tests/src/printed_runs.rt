@@ -1,6 +1,7 @@
 //! What programs print, and how their runs end.
 
-use crate::machines::{AMPLE, checked, input};
+use crate::machines::{checked, input};
+use hip_examples::AMPLE;
 use hip_io::MemSink;
 use hip_replay::print_run;
 use hip_step::{Ending, TrapKind, why_not};

@@ -1,6 +1,7 @@
 //! What a machine shows before each step, and the events of the steps.
 
-use crate::machines::{AMPLE, BASE, checked, input, machine};
+use crate::machines::{BASE, checked, input, machine};
+use hip_examples::AMPLE;
 use hip_ir::Site;
 use hip_step::{Ending, Event, Machine, Object};
 use std::alloc::Global;

@@ -2,7 +2,8 @@
 
 ghost use Rattle.std.specs.Prelude.{◌≤◌};
 
-use crate::machines::{AMPLE, BASE, checked, input};
+use crate::machines::{BASE, checked, input};
+use hip_examples::AMPLE;
 use hip_lines::LooseByte;
 use hip_runs::{Event, TrapKind};
 use hip_step::why_not;

@@ -2,7 +2,7 @@
 
 ghost use Rattle.std.specs.Prelude.{◌≡◌, ◌≤◌, ◌*◌, length};
 
-use crate::AMPLE;
+use hip_examples::AMPLE;
 use hip_lines::{Lines, LooseByte};
 use std::alloc::Global;
 use std::process::Abort;

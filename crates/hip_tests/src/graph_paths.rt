@@ -1,6 +1,6 @@
 //! Paths in graphs of numbered nodes, from node 0 on.
 
-use crate::AMPLE;
+use hip_examples::AMPLE;
 use hip_paths::Paths;
 use hip_types::Row;
 use std::alloc::Global;

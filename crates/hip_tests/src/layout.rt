@@ -1,6 +1,6 @@
 //! Types and their layout.
 
-use crate::AMPLE;
+use hip_examples::AMPLE;
 use hip_types::{Link, Row, Ty, Width, align, copy_ty, fits, gep_offset, same_ty, size};
 use std::alloc::Global;
 use std::process::Abort;

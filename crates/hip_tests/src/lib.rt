@@ -24,7 +24,3 @@ mod name_tables;
 mod number_texts;
 #[cfg(test)]
 mod tokens;
-
-/// What is said where a call that was given ample memory found none.
-#[cfg(test)]
-const AMPLE: &str = "there is memory";

@@ -1,6 +1,6 @@
 //! Lists and texts on the heap.
 
-use crate::AMPLE;
+use hip_examples::AMPLE;
 use hip_types::{Bits, Row, Text, Width};
 
 #[test]

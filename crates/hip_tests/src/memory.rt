@@ -2,7 +2,7 @@
 
 ghost use Rattle.std.specs.Prelude.{◌≤◌};
 
-use crate::AMPLE;
+use hip_examples::AMPLE;
 use hip_mem::{MemTrap, PushRefusal, Ram, StoreRefusal};
 use std::process::Abort;
 

@@ -1,6 +1,6 @@
 //! Names: sets that number them, and tables of values.
 
-use crate::AMPLE;
+use hip_examples::AMPLE;
 use hip_names::{NameSet, NameTable};
 
 /// A name that is put into a set, and whether it is new there.

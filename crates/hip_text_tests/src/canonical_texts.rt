@@ -1,8 +1,7 @@
 //! Programs that are read, and written in their canonical text.
 
-use crate::AMPLE;
 use hip_examples::{
-    COPY, ENDLESS_LOOP, EVEN_AND_ODD, KEY_VALUE_LOG, ONE_STORE, ONE_STORE_REPAIRED, REACH,
+    AMPLE, COPY, ENDLESS_LOOP, EVEN_AND_ODD, KEY_VALUE_LOG, ONE_STORE, ONE_STORE_REPAIRED, REACH,
 };
 use hip_io::MemSink;
 use hip_ir::{same, spelled};

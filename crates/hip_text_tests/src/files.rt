@@ -2,7 +2,7 @@
 
 ghost use Rattle.std.specs.Prelude.{◌≤◌};
 
-use crate::AMPLE;
+use hip_examples::AMPLE;
 use hip_io::{
     Cabinet, FailAt, FailingCabinet, Fetched, MemCabinet, MemSink, NamedFile, Put, ReadRefusal,
     Sink, read_all,

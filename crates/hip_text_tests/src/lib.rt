@@ -22,7 +22,3 @@ mod spelling;
 mod trace_entries;
 #[cfg(test)]
 mod trees;
-
-/// What is said where a call that was given ample memory found none.
-#[cfg(test)]
-const AMPLE: &str = "there is memory";

@@ -1,6 +1,6 @@
 //! Types and constants nested as deep as the language allows, and one level deeper.
 
-use crate::AMPLE;
+use hip_examples::AMPLE;
 use hip_parse::{ParseRefusal, parse};
 use std::alloc::Global;
 use std::process::Abort;

@@ -2,7 +2,7 @@
 
 ghost use Rattle.std.specs.Prelude.{◌≡◌, length};
 
-use crate::AMPLE;
+use hip_examples::AMPLE;
 use hip_ir::same;
 use hip_parse::parse;
 use hip_typing::{Checked, check};

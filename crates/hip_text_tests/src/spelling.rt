@@ -1,7 +1,7 @@
 //! Which programs some text reads as.
 
-use crate::AMPLE;
 use crate::trees::{global, name, number, one_store, program_of};
+use hip_examples::AMPLE;
 use hip_ir::{Case, Const, End, Flags, Instr, Operand, Phi, spelled};
 use hip_types::{BinaryOp, Bits, CastOp, Link, Row, Scalar, Ty, Width};
 use std::alloc::Global;

@@ -1,6 +1,6 @@
 //! Programs that are built as trees: copies, comparisons, and instructions at sites.
 
-use crate::AMPLE;
+use hip_examples::AMPLE;
 use hip_ir::{
     Arg, Block, Const, ConstGep, End, Function, GlobalVar, Instr, Operand, Phi, Program, Site,
     copy, copy_const, instr_at, same, same_const,

@@ -1,9 +1,7 @@
 //! What `hippo` answers to words, files and faults of files.
 
-use crate::commands::{
-    AMPLE, assert_outcome, outcome_in_chunks, outcome_in_room, outcome_of_fault,
-};
-use hip_examples::{ONE_STORE, ONE_STORE_TRACE};
+use crate::commands::{assert_outcome, outcome_in_chunks, outcome_in_room, outcome_of_fault};
+use hip_examples::{AMPLE, ONE_STORE, ONE_STORE_TRACE};
 use hip_io::FailAt;
 use hip_tool::Status;
 use std::alloc::Global;

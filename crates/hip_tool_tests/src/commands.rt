@@ -2,14 +2,12 @@
 
 ghost use Rattle.std.specs.Prelude.{◌≤◌};
 
+use hip_examples::AMPLE;
 use hip_io::{Cabinet, FailAt, FailingCabinet, MemCabinet, MemSink, NamedFile};
 use hip_tool::hippo;
 use hip_types::Row;
 use std::alloc::Global;
 use std::process::Abort;
-
-/// What is said where a call that was given ample memory found none.
-pub const AMPLE: &str = "there is memory";
 
 /// How many bytes the output and the notes have room for, where a test says nothing else.
 const ROOM: u64 = 100_000;

@@ -1,9 +1,9 @@
 //! Files that fail at each byte, sinks that have room for each number of bytes, and programs that are cut anywhere.
 
 use crate::commands::{
-    AMPLE, assert_outcome, outcome_in_chunks, outcome_in_room, outcome_of_bytes, outcome_of_fault,
+    assert_outcome, outcome_in_chunks, outcome_in_room, outcome_of_bytes, outcome_of_fault,
 };
-use hip_examples::{COPY, ONE_STORE, ONE_STORE_REPAIRED, ONE_STORE_TRACE};
+use hip_examples::{AMPLE, COPY, ONE_STORE, ONE_STORE_REPAIRED, ONE_STORE_TRACE};
 use hip_gen::generate;
 use hip_io::FailAt;
 use std::alloc::Global;

@@ -1,8 +1,8 @@
 //! Programs that `repair` refuses, with the line that says why: their text, their globals and externs, and which of two
 //! faults comes first.
 
-use crate::commands::{AMPLE, assert_outcome, outcome_in_chunks};
-use hip_examples::ONE_STORE_TRACE;
+use crate::commands::{assert_outcome, outcome_in_chunks};
+use hip_examples::{AMPLE, ONE_STORE_TRACE};
 use std::alloc::Global;
 use std::process::Abort;
 

@@ -1,7 +1,7 @@
 //! The first entry of a trace that is none of the run.
 
-use crate::commands::{AMPLE, assert_outcome, outcome_in_chunks};
-use hip_examples::ONE_STORE;
+use crate::commands::{assert_outcome, outcome_in_chunks};
+use hip_examples::{AMPLE, ONE_STORE};
 use std::alloc::Global;
 use std::process::Abort;
 

@@ -1,6 +1,9 @@
--- A step at a plain instruction moves on in its frame, or it ends the run.
+-- A step at a plain place moves on in its frame, or it ends the run.
 use Rattle.std.proofs.Common.{◌≡◌, ◌⊎◌, inl, inr, ℕ, suc, ◌+◌, ◌-◌, ◌<◌, ◌%◌, Bool, true, false, cond, nat_eq, nat_le, List, [], ◌∷◌, drop, length, map, Option, Some, None, slice_get, Result, Ok, Err, refl, sym, ap, ◌∙◌, subst, arith}
 use Rattle.std.specs.Prelude.{is_some}
+use Rattle.std.proofs.lemmas.Option.{slice_get_past}
+use Rattle.hip_ir.specs.declared.block.End.{End}
+use Rattle.hip_ir.specs.declared.block.End.TheVariants as ends
 use Rattle.hip_ir.specs.declared.instr.Instr.{Instr}
 use Rattle.hip_ir.specs.declared.instr.Instr.TheVariants.{Binary, Compare, Select, Cast, Alloca, Load, Store, Gep, Call}
 use Rattle.hip_ir.specs.declared.program.Program.{Program}
@@ -10,9 +13,9 @@ use Rattle.hip_num.specs.Arithmetic.{binary_of}
 use Rattle.hip_types.specs.Numbers.{bits}
 use Rattle.hip_types.specs.declared.number.Bits.{Bits}
 use Rattle.std.specs.Int.{next_multiple_of}
-use Rattle.hip_runs.specs.Actions.{Action, Traps, Assigns, Allocates, Deed, accessed, allocated, are_valid, calculated, deed_of, instr_action}
+use Rattle.hip_runs.specs.Actions.{Action, Traps, Assigns, Allocates, Jumps, Deed, accessed, allocated, are_valid, calculated, deed_of, end_action, instr_action, jump, jump_to}
 use Rattle.hip_runs.specs.Operands.{value_of}
-use Rattle.hip_runs.specs.Places.{body_at, code_at, end_at}
+use Rattle.hip_runs.specs.Places.{block_at, block_number, blocks_of, body_at, code_at, end_at, end_of}
 use Rattle.hip_runs.specs.State.{Counts, Frame, Registers, State, World}
 use Rattle.hip_runs.specs.Step.{carry_out, counted, deed_at, event, event_at, event_of, event_on_ending, event_on_frames, has_ended, is_cut, on_ending, on_frames, perform, run, step, stop, with_turn}
 use Rattle.hip_lines.specs.Line.{Line}
@@ -32,7 +35,7 @@ use Rattle.hip_runs.specs.StoredParts.Since.{fences}
 use Rattle.hip_step.specs.Seen.{Seen, after_step, state_of}
 use Rattle.hip_report.specs.MarkKeys.{mark_of}
 use Rattle.hip_report.specs.Noted.{AreNoted}
-use Rattle.hip_report.specs.Plain.{AreTracked, IsPlainFor, PlainAhead, is_plain, is_plain_at}
+use Rattle.hip_report.specs.Plain.{AreTracked, IsPlain, IsPlainFor, PlainAhead, is_plain, is_plain_at, stays}
 use Rattle.hip_report.specs.Sights.{is_still, leaves, marks_ahead}
 use Rattle.hip_report.specs.declared.notes.Notes.{Notes}
 use Rattle.hip_report.proofs.noting.Still.{left_noted, still_counted}
@@ -40,33 +43,53 @@ use Rattle.hip_report.proofs.MarksAhead.{drop_at}
 
 -- ---- actions
 
-pub data IsPlainAction (x : Action) : Type 0 where
-  trapping : (kind : TrapKind) → x ≡ Traps kind → IsPlainAction x
-  assigning : (dest : Option (List ℕ)) (v : ℕ) → x ≡ Assigns dest v → IsPlainAction x
-  allocating : (dest : List ℕ) (a n : ℕ) → x ≡ Allocates dest a n → IsPlainAction x
+-- what a plain place does, where L says that its block ends there
+pub data IsPlainAction (L : Type 0) (x : Action) : Type 0 where
+  trapping : (kind : TrapKind) → x ≡ Traps kind → IsPlainAction L x
+  assigning : (dest : Option (List ℕ)) (v : ℕ) → x ≡ Assigns dest v → IsPlainAction L x
+  allocating : (dest : List ℕ) (a n : ℕ) → x ≡ Allocates dest a n → IsPlainAction L x
+  jumping : L → (b : ℕ) (rs : Registers) → x ≡ Jumps b rs → IsPlainAction L x
 
-either_plain : (b : Bool) (x y : Action) → IsPlainAction x → IsPlainAction y → IsPlainAction (cond b x y)
+either_plain : {L : Type 0} (b : Bool) (x y : Action) → IsPlainAction L x → IsPlainAction L y → IsPlainAction L (cond b x y)
 either_plain true x y p q = p
 either_plain false x y p q = q
 
-module _ (P : Program) (I : Input) (w : World) (below : ℕ) (rs : Registers) where
-  access_plain : (a n align : ℕ) (x : Action) → IsPlainAction x → IsPlainAction (accessed P I w a n align x)
+module _ (L : Type 0) (P : Program) (I : Input) (f : Frame) (last : L) where
+  jump_plain : (label : List ℕ) → IsPlainAction L (jump P I f label)
+  unfolding jump
+  jump_plain label = by (block_number (blocks_of P f.function) label)
+    where
+      by : (o : Option ℕ) → IsPlainAction L (jump_to P I f o)
+      by None = trapping _ refl
+      by (Some b) = jumping last _ _ refl
+
+  pub end_plain : (end : Option End) → stays end ≡ true → IsPlainAction L (end_action P I f end)
+  unfolding end_action
+  end_plain None e = trapping _ refl
+  end_plain (Some (ends.Br label)) e = jump_plain label
+  end_plain (Some (ends.CondBr test first second)) e = jump_plain _
+  end_plain (Some (ends.Switch width value other cases)) e = jump_plain _
+  end_plain (Some (ends.Ret arg)) e = absurd (let z : ⊥ = cc in z)
+  end_plain (Some ends.Unreachable) e = trapping _ refl
+
+module _ (L : Type 0) (P : Program) (I : Input) (w : World) (below : ℕ) (rs : Registers) where
+  access_plain : (a n align : ℕ) (x : Action) → IsPlainAction L x → IsPlainAction L (accessed P I w a n align x)
   unfolding accessed
   access_plain a n align x h =
       either_plain (nat_eq (a % align) 0) (cond (are_valid P I w a n) x (Traps traps.Address)) (Traps traps.Misaligned)
       (either_plain (are_valid P I w a n) x (Traps traps.Address) h (trapping _ refl)) (trapping _ refl)
 
-  allocation_plain : (dest : List ℕ) (size align : ℕ) → IsPlainAction (allocated w dest size align)
+  allocation_plain : (dest : List ℕ) (size align : ℕ) → IsPlainAction L (allocated w dest size align)
   unfolding allocated
   allocation_plain dest size align =
       either_plain (nat_le (next_multiple_of w.mark align + size) stack_end)
       (Allocates dest (next_multiple_of w.mark align) size) (Traps traps.Stack) (allocating _ _ _ refl) (trapping _ refl)
 
-  calculation_plain : (dest : List ℕ) (r : Result Bits NumTrap) → IsPlainAction (calculated dest r)
+  calculation_plain : (dest : List ℕ) (r : Result Bits NumTrap) → IsPlainAction L (calculated dest r)
   calculation_plain dest (Ok b) = assigning _ _ refl
   calculation_plain dest (Err t) = trapping _ refl
 
-  pub action_plain : (i : Instr) → is_plain i ≡ true → IsPlainAction (instr_action P I w below rs i)
+  pub action_plain : (i : Instr) → is_plain i ≡ true → IsPlainAction L (instr_action P I w below rs i)
   unfolding instr_action
   action_plain (Binary dest op flags width a b) e =
       calculation_plain dest (binary_of op (bits width (value_of P.globals I.base rs a))
@@ -88,73 +111,88 @@ pub record IsNextFrame (f f' : Frame) : Type 0 where
   pub block : f'.block ≡ f.block
   pub place : f'.place ≡ suc f.place
 
-pub data PlainMove (f : Frame) (fs : List Frame) (e : Event) (s : State) : Type 0 where
-  moved : e ≡ events.Quiet → has_ended s ≡ false → (f' : Frame) → s.frames ≡ f' ∷ fs → IsNextFrame f f' → PlainMove f fs e s
-  trapped : (kind : TrapKind) → e ≡ events.End (Trap kind) → s.frames ≡ f ∷ fs → PlainMove f fs e s
-  stopped : e ≡ events.End Cut → s.frames ≡ f ∷ fs → PlainMove f fs e s
+pub data PlainMove (L : Type 0) (f : Frame) (fs : List Frame) (e : Event) (s : State) : Type 0 where
+  moved : e ≡ events.Quiet → has_ended s ≡ false → (f' : Frame) → s.frames ≡ f' ∷ fs → IsNextFrame f f' → PlainMove L f fs e s
+  jumped : L → e ≡ events.Quiet → has_ended s ≡ false → (f' : Frame) → s.frames ≡ f' ∷ fs → PlainMove L f fs e s
+  trapped : (kind : TrapKind) → e ≡ events.End (Trap kind) → s.frames ≡ f ∷ fs → PlainMove L f fs e s
+  stopped : e ≡ events.End Cut → s.frames ≡ f ∷ fs → PlainMove L f fs e s
 
-module _ (I : Input) (w : World) (going : w.ending ≡ None) (f : Frame) (fs : List Frame) (ls : List (Line StorePart)) (before after : Counts) where
-  does : (v : World) → v.ending ≡ None → (x : Action) → IsPlainAction x → PlainMove f fs (event_of I fs x) (perform I v f fs ls before after x)
+module _ (L : Type 0) (I : Input) (w : World) (going : w.ending ≡ None) (f : Frame) (fs : List Frame) (ls : List (Line StorePart)) (before after : Counts) where
+  does : (v : World) → v.ending ≡ None → (x : Action) → IsPlainAction L x → PlainMove L f fs (event_of I fs x) (perform I v f fs ls before after x)
   unfolding perform
-  does v g x (trapping kind e) = subst (λ (y : Action). PlainMove f fs (event_of I fs y) (perform I v f fs ls before after y)) (sym e) (trapped kind refl refl)
-  does v g x (assigning dest a e) = subst (λ (y : Action). PlainMove f fs (event_of I fs y) (perform I v f fs ls before after y)) (sym e)
+  does v g x (trapping kind e) = subst (λ (y : Action). PlainMove L f fs (event_of I fs y) (perform I v f fs ls before after y)) (sym e) (trapped kind refl refl)
+  does v g x (assigning dest a e) = subst (λ (y : Action). PlainMove L f fs (event_of I fs y) (perform I v f fs ls before after y)) (sym e)
       (moved refl (ap is_some g) _ refl (record { function = refl; block = refl; place = refl }))
-  does v g x (allocating dest a n e) = subst (λ (y : Action). PlainMove f fs (event_of I fs y) (perform I v f fs ls before after y)) (sym e)
+  does v g x (allocating dest a n e) = subst (λ (y : Action). PlainMove L f fs (event_of I fs y) (perform I v f fs ls before after y)) (sym e)
       (moved refl (ap is_some g) _ refl (record { function = refl; block = refl; place = refl }))
+  does v g x (jumping last b rs e) = subst (λ (y : Action). PlainMove L f fs (event_of I fs y) (perform I v f fs ls before after y)) (sym e)
+      (jumped last refl (ap is_some g) _ refl)
 
-  carried : (d : Deed) → IsPlainAction d.action → PlainMove f fs (event_at I w fs d) (carry_out I w f fs ls before after d)
+  carried : (d : Deed) → IsPlainAction L d.action → PlainMove L f fs (event_at I w fs d) (carry_out I w f fs ls before after d)
   unfolding carry_out
   carried d h = by (is_cut I w d) d.turn
     where
-      by : (b t : Bool) → PlainMove f fs (cond b (events.End Cut) (event_of I fs d.action))
+      by : (b t : Bool) → PlainMove L f fs (cond b (events.End Cut) (event_of I fs d.action))
           (cond b (stop Cut w (f ∷ fs) ls after) (perform I (cond t (with_turn w) w) f fs ls before after d.action))
       by true t = stopped refl refl
       by false true = does (with_turn w) going d.action h
       by false false = does w going d.action h
 
+-- the block of a frame ends at its place
+abbrev pub IsLast : Program → Frame → Type 0
+IsLast P f = f.place ≡ length (body_at P f.function f.block)
+
+-- what is left of the body of a frame's block
+pub data IsPlainCode (P : Program) (f : Frame) : Type 0 where
+  at_instr : (i : Instr) (rest : List Instr) → code_at P f ≡ i ∷ rest → is_plain i ≡ true → IsPlainCode P f
+  at_end : code_at P f ≡ [] → IsLast P f → stays (end_at P f) ≡ true → IsPlainCode P f
+
 module _ (P : Program) (I : Input) (s : State) (going : has_ended s ≡ false) (f : Frame) (fs : List Frame) (at : s.frames ≡ f ∷ fs)
-    (i : Instr) (there : slice_get (body_at P f.function f.block) f.place ≡ Some i) (plain : is_plain i ≡ true) where
-  code_here : (rest : List Instr) × (code_at P f ≡ i ∷ rest)
-  code_here = by (drop_at (body_at P f.function f.block) f.place)
+    (plain : IsPlain (body_at P f.function f.block) (end_at P f) f.place) where
+  pub plain_code : IsPlainCode P f
+  plain_code = by (drop_at (body_at P f.function f.block) f.place) plain
     where
       by : ((drop f.place (body_at P f.function f.block) ≡ []) × (slice_get (body_at P f.function f.block) f.place ≡ None) × (drop (suc f.place) (body_at P f.function f.block) ≡ []))
           ⊎ ((x : Instr) × (drop f.place (body_at P f.function f.block) ≡ x ∷ drop (suc f.place) (body_at P f.function f.block)) × (slice_get (body_at P f.function f.block) f.place ≡ Some x))
-          → (rest : List Instr) × (code_at P f ≡ i ∷ rest)
-      by (inl h) = absurd (let z : None ≡ Some i = sym h.1 ∙ there in let w : ⊥ = cc in w)
-      by (inr h) = let z : Some h.0 ≡ Some i = sym h.2 ∙ there in let same : h.0 ≡ i = cc in (_, h.1 ∙ ap (λ (x : Instr). x ∷ drop (suc f.place) (body_at P f.function f.block)) same)
+          → IsPlain (body_at P f.function f.block) (end_at P f) f.place → IsPlainCode P f
+      by (inl h) (inl e) = absurd (let z : is_plain_at None ≡ true = sym (ap is_plain_at h.1) ∙ e in let w : ⊥ = cc in w)
+      by (inl h) (inr e) = at_end h.0 e.0 e.1
+      by (inr h) (inl e) = at_instr h.0 _ h.1 (sym (ap is_plain_at h.2) ∙ e)
+      by (inr h) (inr e) =
+          let past = slice_get_past (body_at P f.function f.block) f.place (let q = e.0 in omega (arith, q)) in
+          absurd (let z : None ≡ Some h.0 = sym past ∙ h.2 in let w : ⊥ = cc in w)
 
-  plain_deed : IsPlainAction (deed_at P I s.world f fs).action
-  plain_deed = subst (λ (code : List Instr). IsPlainAction (deed_of P I s.world (length fs) f (end_at P f) code).action) (sym code_here.1)
-      (action_plain P I s.world (length fs) f.registers i plain)
+  plain_deed : IsPlainAction (IsLast P f) (deed_at P I s.world f fs).action
+  plain_deed = by plain_code
+    where
+      by : IsPlainCode P f → IsPlainAction (IsLast P f) (deed_at P I s.world f fs).action
+      by (at_instr i rest code e) = subst (λ (code : List Instr). IsPlainAction (IsLast P f) (deed_of P I s.world (length fs) f (end_at P f) code).action) (sym code)
+          (action_plain (IsLast P f) P I s.world (length fs) f.registers i e)
+      by (at_end code last e) = subst (λ (code : List Instr). IsPlainAction (IsLast P f) (deed_of P I s.world (length fs) f (end_at P f) code).action) (sym code)
+          (end_plain (IsLast P f) P I f last (end_at P f) e)
 
-  pub plain_move : PlainMove f fs (event P I s) (step P I s)
+  pub plain_move : PlainMove (IsLast P f) f fs (event P I s) (step P I s)
   unfolding event step on_ending on_frames
   plain_move = by s.world.ending refl
     where
       on_them : s.world.ending ≡ None → (gs : List Frame) → s.frames ≡ gs → gs ≡ f ∷ fs
-          → PlainMove f fs (event_on_frames P I s.world gs) (on_frames P I s.world s.lines s.counts gs)
-      on_them g gs p q = subst (λ (hs : List Frame). PlainMove f fs (event_on_frames P I s.world hs) (on_frames P I s.world s.lines s.counts hs)) (sym q)
-          (carried I s.world g f fs s.lines s.counts (counted (event_at I s.world fs (deed_at P I s.world f fs)) s.counts) (deed_at P I s.world f fs) plain_deed)
+          → PlainMove (IsLast P f) f fs (event_on_frames P I s.world gs) (on_frames P I s.world s.lines s.counts gs)
+      on_them g gs p q = subst (λ (hs : List Frame). PlainMove (IsLast P f) f fs (event_on_frames P I s.world hs) (on_frames P I s.world s.lines s.counts hs)) (sym q)
+          (carried (IsLast P f) I s.world g f fs s.lines s.counts (counted (event_at I s.world fs (deed_at P I s.world f fs)) s.counts) (deed_at P I s.world f fs) plain_deed)
 
-      by : (o : Option Ending) → s.world.ending ≡ o → PlainMove f fs (event_on_ending P I s o) (on_ending P I s o)
+      by : (o : Option Ending) → s.world.ending ≡ o → PlainMove (IsLast P f) f fs (event_on_ending P I s o) (on_ending P I s o)
       by None g = on_them g s.frames refl at
       by (Some x) g = absurd (let z : true ≡ false = sym (ap is_some g) ∙ going in let w : ⊥ = cc in w)
 
 -- ---- what is plain next
 
-some_plain : (o : Option Instr) → is_plain_at o ≡ true → (i : Instr) × (o ≡ Some i) × (is_plain i ≡ true)
-some_plain None e = absurd (let z : ⊥ = cc in z)
-some_plain (Some i) e = (i, refl, e)
-
--- a step that is known to be at a plain instruction
+-- a step that is known to be at a plain place
 pub record IsPlainStep (P : Program) (s next : State) (e : Event) (count : ℕ) : Type 0 where
   pub top : Frame
   pub below : List Frame
   pub frames : s.frames ≡ top ∷ below
-  pub instr : Instr
-  pub there : slice_get (body_at P top.function top.block) top.place ≡ Some instr
-  pub plain : is_plain instr ≡ true
-  pub move : PlainMove top below e next
+  pub plain : IsPlain (body_at P top.function top.block) (end_at P top) top.place
+  pub move : PlainMove (IsLast P top) top below e next
 
 pub plain_step : (P : Program) (I : Input) (n count : ℕ) → 0 < count → IsPlainFor P (run P I n) count
     → IsPlainStep P (run P I n) (run P I (suc n)) (event P I (run P I n)) count
@@ -164,22 +202,32 @@ plain_step P I n count some h = by (run P I n).frames refl h.ahead
     by : (fs : List Frame) → (run P I n).frames ≡ fs → PlainAhead P fs count → IsPlainStep P (run P I n) (step P I (run P I n)) (event P I (run P I n)) count
     by [] q a = absurd (omega (arith, some, a))
     by (f ∷ fs) q a =
-        let p = some_plain (slice_get (body_at P f.function f.block) f.place) (a f.place (omega arith) (omega (arith, some))) in
+        let p = a f.place (omega arith) (omega (arith, some)) in
         record {
           top = f;
           below = fs;
           frames = q;
-          instr = p.0;
-          there = p.1;
-          plain = p.2;
-          move = plain_move P I (run P I n) (h.going some) f fs q p.0 p.1 p.2;
+          plain = p;
+          move = plain_move P I (run P I n) (h.going some) f fs q p;
         }
 
--- after a quiet step at a plain instruction one less is known to be next
+-- after a quiet step at a plain place one less is known to be next
 fewer_plain : (P : Program) (f f' : Frame) (fs : List Frame) (count : ℕ) → 0 < count → IsNextFrame f f' → PlainAhead P (f ∷ fs) count → PlainAhead P (f' ∷ fs) (count - 1)
 fewer_plain P f f' fs count some next a j low high =
-    ap (λ i. is_plain_at (slice_get (body_at P i f'.block) j)) next.function ∙ ap (λ i. is_plain_at (slice_get (body_at P f.function i) j)) next.block
-    ∙ (let place = next.place in a j (omega (arith, low, place)) (omega (arith, high, place, some)))
+    let place = next.place in
+    subst (λ i. IsPlain (body_at P i f'.block) (end_of (block_at P i f'.block)) j) (sym next.function)
+    (subst (λ i. IsPlain (body_at P f.function i) (end_of (block_at P f.function i)) j) (sym next.block)
+    (a j (omega (arith, low, place)) (omega (arith, high, place, some))))
+
+-- behind a block's end nothing is known to be next
+none_plain : (P : Program) (f f' : Frame) (fs : List Frame) (count : ℕ) → IsLast P f → PlainAhead P (f ∷ fs) count → PlainAhead P (f' ∷ fs) (count - 1)
+none_plain P f f' fs count last a j low high = absurd (by (a (suc f.place) (omega arith) (omega (arith, low, high))))
+  where
+    by : IsPlain (body_at P f.function f.block) (end_at P f) (suc f.place) → ⊥
+    by (inl e) =
+        let past = slice_get_past (body_at P f.function f.block) (suc f.place) (omega (arith, last)) in
+        let z : is_plain_at None ≡ true = sym (ap is_plain_at past) ∙ e in let w : ⊥ = cc in w
+    by (inr e) = let q = e.0 in omega (arith, last, q)
 
 pub plain_after : (P : Program) (I : Input) (n count : ℕ) → 0 < count → IsPlainFor P (run P I n) count → event P I (run P I n) ≡ events.Quiet
     → IsPlainFor P (run P I (suc n)) (count - 1)
@@ -187,15 +235,19 @@ plain_after P I n count some h quiet =
     let s = plain_step P I n count some h in by s (subst (λ (fs : List Frame). PlainAhead P fs count) s.frames h.ahead) s.move
   where
     by : (s : IsPlainStep P (run P I n) (run P I (suc n)) (event P I (run P I n)) count) → PlainAhead P (s.top ∷ s.below) count
-        → PlainMove s.top s.below (event P I (run P I n)) (run P I (suc n)) → IsPlainFor P (run P I (suc n)) (count - 1)
+        → PlainMove (IsLast P s.top) s.top s.below (event P I (run P I n)) (run P I (suc n)) → IsPlainFor P (run P I (suc n)) (count - 1)
     by s a (moved e going f' q next) = record {
       going = λ _. going;
       ahead = subst (λ (fs : List Frame). PlainAhead P fs (count - 1)) (sym q) (fewer_plain P s.top f' s.below count some next a);
     }
+    by s a (jumped last e going f' q) = record {
+      going = λ _. going;
+      ahead = subst (λ (fs : List Frame). PlainAhead P fs (count - 1)) (sym q) (none_plain P s.top f' s.below count last a);
+    }
     by s a (trapped kind e q) = absurd (let z : events.Quiet ≡ events.End (Trap kind) = sym quiet ∙ e in let w : ⊥ = cc in w)
     by s a (stopped e q) = absurd (let z : events.Quiet ≡ events.End Cut = sym quiet ∙ e in let w : ⊥ = cc in w)
 
--- ---- the notes after a step at a plain instruction
+-- ---- the notes after a step at a plain place
 
 with_plain : (P : Program) (I : Input) (n k : ℕ) (c : Notes) → AreNoted P I n c → AreNoted P I n (record c { plain = k })
 with_plain P I n k c h = record {
@@ -223,16 +275,18 @@ module _ (P : Program) (I : Input) (n count : ℕ) (some : 0 < count) (h : IsPla
   pub plain_leaves : leaves E ≡ true
   plain_leaves = let s = plain_step P I n count some h in by s.top s.below s.move
     where
-      by : (f : Frame) (fs : List Frame) → PlainMove f fs E (run P I (suc n)) → leaves E ≡ true
+      by : {L : Type 0} (f : Frame) (fs : List Frame) → PlainMove L f fs E (run P I (suc n)) → leaves E ≡ true
       by f fs (moved e going f' q next) = ap leaves e
+      by f fs (jumped last e going f' q) = ap leaves e
       by f fs (trapped kind e q) = ap leaves e
       by f fs (stopped e q) = ap leaves e
 
   pub plain_depth : length (run P I (suc n)).frames ≡ length (run P I n).frames
   plain_depth = let s = plain_step P I n count some h in by s.top s.below s.frames s.move
     where
-      by : (f : Frame) (fs : List Frame) → (run P I n).frames ≡ f ∷ fs → PlainMove f fs E (run P I (suc n)) → length (run P I (suc n)).frames ≡ length (run P I n).frames
+      by : {L : Type 0} (f : Frame) (fs : List Frame) → (run P I n).frames ≡ f ∷ fs → PlainMove L f fs E (run P I (suc n)) → length (run P I (suc n)).frames ≡ length (run P I n).frames
       by f fs p (moved e going f' q next) = ap length q ∙ sym (ap length p)
+      by f fs p (jumped last e going f' q) = ap length q ∙ sym (ap length p)
       by f fs p (trapped kind e q) = ap length q ∙ sym (ap length p)
       by f fs p (stopped e q) = ap length q ∙ sym (ap length p)
 
@@ -250,11 +304,13 @@ module _ (P : Program) (I : Input) (n count : ℕ) (some : 0 < count) (h : IsPla
   pub plain_marks : marks_ahead P I (run P I n) ≡ []
   plain_marks =
       let s = plain_step P I n count some h in
-      let code = code_here P I (run P I n) (h.going some) s.top s.below s.frames s.instr s.there s.plain in
       ap (λ t. cond t [] (frame_marks P I (run P I n).frames)) (h.going some)
       ∙ ap (frame_marks P I) s.frames
-      ∙ ap (code_marks P I (s.top ∷ s.below) s.top) code.1
-      ∙ ap (operand_marks P I (s.top ∷ s.below) s.top 0) (no_operands s.instr s.plain)
+      ∙ by s.top s.below (plain_code P I (run P I n) (h.going some) s.top s.below s.frames s.plain)
+    where
+      by : (f : Frame) (fs : List Frame) → IsPlainCode P f → code_marks P I (f ∷ fs) f (code_at P f) ≡ []
+      by f fs (at_instr i rest code e) = ap (code_marks P I (f ∷ fs) f) code ∙ ap (operand_marks P I (f ∷ fs) f 0) (no_operands i e)
+      by f fs (at_end code last e) = ap (code_marks P I (f ∷ fs) f) code
 
   pub plain_noted : have_calls (run P I n).frames → (c c' : Notes) → AreNoted P I n c
       → c' ≡ record c { steps = c.steps + 1; entries = cond (has_entry E) (c.entries + 1) c.entries; fence = cond (fences E) (Some c.steps) c.fence }

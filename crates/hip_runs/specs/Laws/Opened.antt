@@ -7,5 +7,7 @@ use Rattle.hip_runs.specs.Found.Reports.{reports}
 use Rattle.hip_runs.specs.Found.Marks.{pointed, hit}
 
 unfoldable pub run_opened : Unit {0}
-unfolding zeros fresh_lines accessed allocated entered flushing instr_action jump end_action leave perform carry_out on_frames on_ending step event run reports pointed hit
+unfolding
+    zeros fresh_lines accessed allocated entered flushing instr_action jump end_action leave perform carry_out on_frames
+    on_ending step event run reports pointed hit
 run_opened = tt

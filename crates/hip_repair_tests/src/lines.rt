@@ -137,22 +137,30 @@ const LINES_OF_TWO: &str = "report flush entry 237 check 243 closed 0 path @main
 report both entry 242 check 243 closed 1 path @fill:entry:3 @main:loop:6
 ";
 
+/// These two reports of the log.
+fn two_reports(rt: &impl Abort, alloc: Global) -> Row<Report> {
+    let mut reports = Row::new(alloc);
+    let flush = report(rt, alloc, &OF_KEY_VALUE_LOG[1]);
+    reports.push(flush).expect(rt, AMPLE);
+    let both = report(rt, alloc, &OF_KEY_VALUE_LOG[3]);
+    reports.push(both).expect(rt, AMPLE);
+    reports
+}
+
+/// These reports have these lines.
+fn assert_put(rt: &impl Abort, alloc: Global, program: &Checked, reports: &[Report], lines: &str) {
+    let mut sink = MemSink::new(alloc, 1_000).expect(rt, AMPLE);
+    let put = put_reports(&mut sink, program.program(), reports);
+    assert!(rt; put == Put::Done);
+    assert!(rt; sink.bytes() == lines.as_bytes());
+}
+
 /// The lines of two reports stand in their order.
 #[test]
 fn lines_of_two_reports(rt: HostRuntime) {
-    let alloc = rt.alloc();
-    let program = checked(&rt, alloc, KEY_VALUE_LOG);
-    let mut reports = Row::new(alloc);
-    reports
-        .push(report(&rt, alloc, &OF_KEY_VALUE_LOG[1]))
-        .expect(&rt, AMPLE);
-    reports
-        .push(report(&rt, alloc, &OF_KEY_VALUE_LOG[3]))
-        .expect(&rt, AMPLE);
-    let mut sink = MemSink::new(alloc, 1_000).expect(&rt, AMPLE);
-    let put = put_reports(&mut sink, program.program(), reports.as_slice());
-    assert!(rt; put == Put::Done);
-    assert_eq!(rt; sink.bytes(), LINES_OF_TWO.as_bytes());
+    let program = checked(&rt, rt.alloc(), KEY_VALUE_LOG);
+    let reports = two_reports(&rt, rt.alloc());
+    assert_put(&rt, rt.alloc(), &program, reports.as_slice(), LINES_OF_TWO);
 }
 
 const COUNTS: &str = "reports 82

@@ -1,6 +1,7 @@
 //! Repaired programs, by plans.
 
 use crate::programs::{Place, assert_written, checked, site, sites};
+use hip_calls::{callees, fresh_names};
 use hip_examples::{AMPLE, COPY, EVEN_AND_ODD, REACH};
 use hip_fix::{CloneOf, Plan, apply, apply_skipping, suits};
 use std::alloc::Global;
@@ -34,7 +35,7 @@ fn assert_repaired(
     assert!(rt; suits(&checked, plan));
     let answer = apply(alloc, &checked, plan).expect(rt, AMPLE);
     assert_written(rt, alloc, answer.checked.program(), repaired);
-    assert_eq!(rt; answer.clones.as_slice(), clones);
+    assert!(rt; answer.clones.as_slice() == clones);
 }
 
 const COPY_FLUSHED: &str = "@p = global i64 0, section \".pm\"
@@ -271,19 +272,18 @@ fn hoists_inside_clones(rt: HostRuntime) {
     );
 }
 
+/// No call site reaches no function, and no function needs no name.
+fn assert_no_names(rt: &impl Abort, alloc: Global) {
+    let program = checked(rt, alloc, COPY);
+    let reached = callees(alloc, program.program(), &[]).expect(rt, AMPLE);
+    assert!(rt; reached.is_empty());
+    let names = fresh_names(alloc, program.program(), &[]).expect(rt, AMPLE);
+    assert!(rt; names.is_empty());
+}
+
 #[test]
 fn no_calls_no_clones(rt: HostRuntime) {
-    let program = checked(&rt, rt.alloc(), COPY);
-    assert!(rt;
-        hip_calls::callees(rt.alloc(), program.program(), &[])
-            .expect(&rt, AMPLE)
-            .is_empty()
-    );
-    assert!(rt;
-        hip_calls::fresh_names(rt.alloc(), program.program(), &[])
-            .expect(&rt, AMPLE)
-            .is_empty()
-    );
+    assert_no_names(&rt, rt.alloc());
     let nothing = plan(&rt, rt.alloc(), &[], &[], &[]);
     assert_repaired(&rt, rt.alloc(), COPY, &nothing, COPY, &[]);
 }
@@ -378,6 +378,13 @@ entry:
 }
 ";
 
+/// The clones of the repair have no flush of the store into the block of the stack.
+fn assert_skipped(rt: &impl Abort, alloc: Global, plan: &Plan) {
+    let program = checked(rt, alloc, REACH);
+    let skipped = apply_skipping(alloc, &program, plan, &[site((0, 0, 2))]).expect(rt, AMPLE);
+    assert_written(rt, alloc, skipped.checked.program(), REACH_REPAIRED);
+}
+
 #[test]
 fn alloca_gets_no_flush(rt: HostRuntime) {
     let plan = plan(&rt, rt.alloc(), &[], &[], &[(1, 0, 1)]);
@@ -386,11 +393,7 @@ fn alloca_gets_no_flush(rt: HostRuntime) {
         copy: 2,
     };
     assert_repaired(&rt, rt.alloc(), REACH, &plan, REACH_REPAIRED, &[clone]);
-    let program = checked(&rt, rt.alloc(), REACH);
-    let skipping = apply_skipping(rt.alloc(), &program, &plan, &[site((0, 0, 2))]).expect(
-        &rt, AMPLE,
-    );
-    assert_written(&rt, rt.alloc(), skipping.checked.program(), REACH_REPAIRED);
+    assert_skipped(&rt, rt.alloc(), &plan);
 }
 
 const TWO_LINES: &str = "@a = global [16 x i64] zeroinitializer, section \".pm\"

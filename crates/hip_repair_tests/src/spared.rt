@@ -5,6 +5,7 @@ use hip_examples::AMPLE;
 use hip_fix::{CloneOf, Plan, apply, apply_skipping, suits};
 use hip_ir::same;
 use hip_types::Row;
+use hip_typing::Checked;
 use hip_vol::{apply_quiet, quiet_stores};
 use std::alloc::Global;
 use std::process::Abort;
@@ -87,24 +88,39 @@ const CLONES: [CloneOf; 2] = [
     },
 ];
 
+/// The stores of the callee are never in the region.
+fn assert_quiet(rt: &impl Abort, alloc: Global, checked: &Checked) {
+    let quiet = quiet_stores(alloc, checked).expect(rt, AMPLE);
+    assert!(rt; quiet == sites(rt, alloc, &[(0, 0, 0)]));
+}
+
+/// The clones of the one repair have no flush that cannot matter.
+fn assert_spared(rt: &impl Abort, alloc: Global, checked: &Checked) {
+    let plan = plan(rt, alloc);
+    assert!(rt; suits(checked, &plan));
+    let repaired = apply_quiet(alloc, checked, &plan).expect(rt, AMPLE);
+    assert_written(rt, alloc, repaired.checked.program(), NOTE_SPARED);
+    assert!(rt; repaired.clones.as_slice() == CLONES.as_slice());
+}
+
 #[test]
 fn spared_flush(rt: HostRuntime) {
     let checked = checked(&rt, rt.alloc(), NOTE);
-    let plan = plan(&rt, rt.alloc());
-    assert!(rt; suits(&checked, &plan));
-    let quiet = quiet_stores(rt.alloc(), &checked).expect(&rt, AMPLE);
-    assert_eq!(rt; quiet, sites(&rt, rt.alloc(), &[(0, 0, 0)]));
-    let repaired = apply_quiet(rt.alloc(), &checked, &plan).expect(&rt, AMPLE);
-    assert_written(&rt, rt.alloc(), repaired.checked.program(), NOTE_SPARED);
-    assert_eq!(rt; repaired.clones.as_slice(), CLONES.as_slice());
+    assert_quiet(&rt, rt.alloc(), &checked);
+    assert_spared(&rt, rt.alloc(), &checked);
+}
+
+/// Where no store is skipped, the program is the one of the usual repair.
+fn assert_nothing_skipped(rt: &impl Abort, alloc: Global, checked: &Checked) {
+    let plan = plan(rt, alloc);
+    let usual = apply(alloc, checked, &plan).expect(rt, AMPLE);
+    let none = apply_skipping(alloc, checked, &plan, &[]).expect(rt, AMPLE);
+    assert!(rt; same(usual.checked.program(), none.checked.program()));
 }
 
 /// No address operand is a register assigned by `alloca` or a volatile global there, so that nothing is skipped.
 #[test]
 fn no_direct_store(rt: HostRuntime) {
     let checked = checked(&rt, rt.alloc(), NOTE);
-    let plan = plan(&rt, rt.alloc());
-    let usual = apply(rt.alloc(), &checked, &plan).expect(&rt, AMPLE);
-    let none = apply_skipping(rt.alloc(), &checked, &plan, &[]).expect(&rt, AMPLE);
-    assert!(rt; same(usual.checked.program(), none.checked.program()));
+    assert_nothing_skipped(&rt, rt.alloc(), &checked);
 }

@@ -76,18 +76,26 @@ fn push_reasons(rt: &impl Abort, sort: Sort, united: &[(Place, u64)], reasons: &
     }
 }
 
-fn assert_case(rt: &impl Abort, alloc: Global, case: &Case) {
-    let plans = plans(rt, alloc, case.stores);
-    let union = plan_many(alloc, plans.as_slice()).expect(rt, AMPLE);
+fn assert_union(rt: &impl Abort, alloc: Global, union: &Plan, case: &Case) {
     let stores = stores_in(rt, alloc, case.united);
     assert!(rt; union.flush_after == stores, "{}", case.name);
     assert!(rt; union.fence_after == stores, "{}", case.name);
     assert!(rt; union.hoist.is_empty(), "{}", case.name);
-    let told = reasons(alloc, plans.as_slice(), &union).expect(rt, AMPLE);
+}
+
+fn assert_reasons(rt: &impl Abort, alloc: Global, plans: &[Plan], union: &Plan, case: &Case) {
+    let told = reasons(alloc, plans, union).expect(rt, AMPLE);
     let mut expected = Row::new(alloc);
     push_reasons(rt, Sort::Flush, case.united, &mut expected);
     push_reasons(rt, Sort::Fence, case.united, &mut expected);
     assert!(rt; told.as_slice() == expected.as_slice(), "{}", case.name);
+}
+
+fn assert_case(rt: &impl Abort, alloc: Global, case: &Case) {
+    let plans = plans(rt, alloc, case.stores);
+    let union = plan_many(alloc, plans.as_slice()).expect(rt, AMPLE);
+    assert_union(rt, alloc, &union, case);
+    assert_reasons(rt, alloc, plans.as_slice(), &union, case);
 }
 
 #[test]

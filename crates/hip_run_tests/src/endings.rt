@@ -2,7 +2,8 @@
 
 use crate::machines::{checked, input, machine};
 use hip_examples::AMPLE;
-use hip_step::{Ending, Event, Machine, TrapKind};
+use hip_step::{Ending, Event, Input, Machine, TrapKind};
+use hip_typing::Checked;
 use std::alloc::Global;
 use std::process::Abort;
 
@@ -27,14 +28,22 @@ fn run_to_end(rt: &impl Abort, machine: &mut Machine<'_>) -> Option<Ending> {
     None
 }
 
+fn assert_ends(rt: &impl Abort, machine: &mut Machine<'_>, case: &Ended) {
+    let ending = run_to_end(rt, machine);
+    assert!(rt; ending == Some(case.ending), "{}", case.program);
+    assert!(rt; machine.ending() == ending, "{}", case.program);
+    assert!(rt; machine.turns() == case.turns, "{}", case.program);
+}
+
+fn assert_run(rt: &impl Abort, alloc: Global, checked: &Checked, input: &Input, case: &Ended) {
+    let mut machine = machine(rt, alloc, checked, input);
+    assert_ends(rt, &mut machine, case);
+}
+
 fn assert_ended(rt: &impl Abort, alloc: Global, case: &Ended) {
     let checked = checked(rt, alloc, case.program);
     let input = input(rt, alloc, &checked, &[], case.limit);
-    let mut machine = machine(rt, alloc, &checked, &input);
-    let ending = run_to_end(rt, &mut machine);
-    assert!(rt; ending == Some(case.ending), "{}", case.program);
-    assert!(rt; machine.ending() == ending, "{}", case.program);
-    assert_eq!(rt; machine.turns(), case.turns, "{}", case.program);
+    assert_run(rt, alloc, &checked, &input, case);
 }
 
 fn assert_all(rt: &impl Abort, alloc: Global, cases: &[Ended]) {

@@ -293,24 +293,29 @@ fn assert_found(
     }
 }
 
-fn assert_picked(rt: &impl Abort, alloc: Global, picked: &Picked) {
-    let checked = checked(rt, alloc, picked.program);
-    let input = input(rt, alloc, &checked, &[], 100);
-    let log = log_at(rt, alloc, &checked, &input, picked.entry);
+fn assert_answer(rt: &impl Abort, alloc: Global, log: &CrashLog, input: &Input, picked: &Picked)
+    requires { log.now.input ≡ input.now }
+{
     match (log.pick_image(alloc, picked.picks), picked.answer) {
         (Ok(image), Ok(bytes)) => {
             assert_bytes(rt, image.as_slice(), bytes, picked.name);
-            assert_found(rt, alloc, &log, &input, image.as_slice(), picked.name);
+            assert_found(rt, alloc, log, input, image.as_slice(), picked.name);
         }
         (Err(refusal), Err(wanted)) => assert!(rt; refusal == wanted, "{}", picked.name),
         _ => assert!(rt; false, "{}", picked.name),
     }
 }
 
-fn assert_bounded(rt: &impl Abort, alloc: Global, bounded: &Bounded) {
-    let checked = checked(rt, alloc, bounded.program);
+fn assert_picked(rt: &impl Abort, alloc: Global, picked: &Picked) {
+    let checked = checked(rt, alloc, picked.program);
     let input = input(rt, alloc, &checked, &[], 100);
-    let log = log_at(rt, alloc, &checked, &input, bounded.entry);
+    let log = log_at(rt, alloc, &checked, &input, picked.entry);
+    assert_answer(rt, alloc, &log, &input, picked);
+}
+
+fn assert_bounds(rt: &impl Abort, log: &CrashLog, input: &Input, bounded: &Bounded)
+    requires { log.now.input ≡ input.now }
+{
     assert!(rt;
         bounded.line < input.image.len() as u64 / 64,
         "{}",
@@ -321,6 +326,13 @@ fn assert_bounded(rt: &impl Abort, alloc: Global, bounded: &Bounded) {
         "{}",
         bounded.name
     );
+}
+
+fn assert_bounded(rt: &impl Abort, alloc: Global, bounded: &Bounded) {
+    let checked = checked(rt, alloc, bounded.program);
+    let input = input(rt, alloc, &checked, &[], 100);
+    let log = log_at(rt, alloc, &checked, &input, bounded.entry);
+    assert_bounds(rt, &log, &input, bounded);
 }
 
 #[test]
@@ -347,14 +359,19 @@ fn seven_in_front(rt: &impl Abort, alloc: Global, len: usize) -> Row<u8> {
     image
 }
 
+fn assert_not_found(rt: &impl Abort, alloc: Global, log: &CrashLog, input: &Input, image: &[u8])
+    requires { log.now.input ≡ input.now }
+{
+    assert!(rt; image.len() == input.image.len());
+    let found = log.find_picks(alloc, image).expect(rt, AMPLE);
+    assert!(rt; found.is_none());
+}
+
 #[test]
 fn what_no_crash_leaves_is_not_found(rt: HostRuntime) {
-    let alloc = rt.alloc();
-    let checked = checked(&rt, alloc, TWO_STORES);
-    let input = input(&rt, alloc, &checked, &[], 100);
-    let log = log_at(&rt, alloc, &checked, &input, 4);
-    let image = seven_in_front(&rt, alloc, input.image.len());
-    assert!(rt; image.len() == input.image.len());
-    let found = log.find_picks(alloc, image.as_slice()).expect(&rt, AMPLE);
-    assert!(rt; found.is_none());
+    let checked = checked(&rt, rt.alloc(), TWO_STORES);
+    let input = input(&rt, rt.alloc(), &checked, &[], 100);
+    let log = log_at(&rt, rt.alloc(), &checked, &input, 4);
+    let image = seven_in_front(&rt, rt.alloc(), input.image.len());
+    assert_not_found(&rt, rt.alloc(), &log, &input, image.as_slice());
 }

@@ -4,7 +4,8 @@ use crate::machines::{checked, input};
 use hip_examples::AMPLE;
 use hip_io::MemSink;
 use hip_replay::print_run;
-use hip_step::{Ending, TrapKind, why_not};
+use hip_step::{Ending, Input, TrapKind, why_not};
+use hip_typing::Checked;
 use std::alloc::Global;
 use std::process::Abort;
 
@@ -19,14 +20,18 @@ pub struct Run {
 }
 
 /// Asserts what a program prints and how its run ends.
+fn assert_prints(rt: &impl Abort, alloc: Global, checked: &Checked, input: &Input, run: &Run) {
+    assert!(rt; why_not(checked, input).is_none(), "{}", run.name);
+    let mut out = MemSink::new(alloc, 1_000).expect(rt, AMPLE);
+    let ending = print_run(alloc, checked, input, &mut out);
+    assert!(rt; ending == Ok(run.ending), "{}", run.name);
+    assert!(rt; out.bytes() == run.printed.as_bytes(), "{}", run.name);
+}
+
 fn assert_run(rt: &impl Abort, alloc: Global, run: &Run) {
     let checked = checked(rt, alloc, run.program);
     let input = input(rt, alloc, &checked, run.numbers, run.limit);
-    assert!(rt; why_not(&checked, &input).is_none(), "{}", run.name);
-    let mut out = MemSink::new(alloc, 1_000).expect(rt, AMPLE);
-    let ending = print_run(alloc, &checked, &input, &mut out);
-    assert!(rt; ending == Ok(run.ending), "{}", run.name);
-    assert!(rt; out.bytes() == run.printed.as_bytes(), "{}", run.name);
+    assert_prints(rt, alloc, &checked, &input, run);
 }
 
 /// Asserts what each program prints and how its run ends.

@@ -3,7 +3,8 @@
 use crate::machines::{BASE, checked, input, machine};
 use hip_examples::AMPLE;
 use hip_ir::Site;
-use hip_step::{Ending, Event, Machine, Object};
+use hip_step::{Ending, Event, Input, Machine, Object};
+use hip_typing::Checked;
 use std::alloc::Global;
 use std::process::Abort;
 
@@ -479,17 +480,31 @@ const OF_BLOCKS: &[Pointed] = &[
 ];
 
 /// Asserts what the addresses point into, by the number of steps.
-fn assert_objects(rt: &impl Abort, alloc: Global, cases: &[Pointed]) {
-    let checked = checked(rt, alloc, BLOCKS);
-    let input = input(rt, alloc, &checked, &[7], 100);
-    let mut machine = machine(rt, alloc, &checked, &input);
+fn assert_pointed(rt: &impl Abort, machine: &mut Machine<'_>, cases: &[Pointed]) {
     let mut steps = 0;
     for case in cases {
-        take_steps(rt, &mut machine, steps, case.steps);
+        take_steps(rt, machine, steps, case.steps);
         steps = case.steps;
         let object = machine.object_at(case.addr);
         assert!(rt; object == case.object, "{} after {}", case.addr, case.steps);
     }
+}
+
+fn assert_objects_in(
+    rt: &impl Abort,
+    alloc: Global,
+    checked: &Checked,
+    input: &Input,
+    cases: &[Pointed],
+) {
+    let mut machine = machine(rt, alloc, checked, input);
+    assert_pointed(rt, &mut machine, cases);
+}
+
+fn assert_objects(rt: &impl Abort, alloc: Global, cases: &[Pointed]) {
+    let checked = checked(rt, alloc, BLOCKS);
+    let input = input(rt, alloc, &checked, &[7], 100);
+    assert_objects_in(rt, alloc, &checked, &input, cases);
 }
 
 fn take_steps(rt: &impl Abort, machine: &mut Machine<'_>, from: usize, to: usize) {

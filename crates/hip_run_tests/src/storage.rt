@@ -160,14 +160,18 @@ fn assert_call(rt: &impl Abort, alloc: Global, storage: &mut Storage, call: Call
 }
 
 /// The calls in turn, before the first step of a run; each is tagged with its number.
+fn assert_calls_in(rt: &impl Abort, alloc: Global, storage: &mut Storage, calls: &[Call]) {
+    for (number, call) in calls.iter().enumerate() {
+        assert_call(rt, alloc, storage, *call, number as u128);
+    }
+}
+
 fn assert_calls(rt: &impl Abort, alloc: Global, calls: &[Call]) {
     let checked = checked(rt, alloc, PROGRAM);
     let input = input(rt, alloc, &checked, &[], 1);
     assert!(rt; why_not(&checked, &input).is_none(), "the input is valid");
     let mut storage = Storage::new(alloc, &checked, &input).expect(rt, AMPLE);
-    'calls: for (number, call) in calls.iter().enumerate() {
-        assert_call(rt, alloc, &mut storage, *call, number as u128);
-    }
+    assert_calls_in(rt, alloc, &mut storage, calls);
 }
 
 /// A store that lies in two cache lines is durable line by line.

@@ -50,6 +50,25 @@ enum Call {
     },
 }
 
+fn assert_stack_call(rt: &impl Abort, ram: &mut Ram, call: Call) {
+    match call {
+        Call::Push {
+            size,
+            align,
+            answer,
+        } => {
+            assert!(rt; 0 < align);
+            assert!(rt; ram.push_stack(size, align) == answer, "block of {size}");
+        }
+        Call::Pop { mark } => {
+            assert!(rt; STACK <= mark && mark <= ram.mark());
+            ram.pop_stack(mark);
+        }
+        Call::Mark { answer } => assert!(rt; ram.mark() == answer),
+        Call::Load { .. } | Call::Store { .. } | Call::Valid { .. } | Call::ValidRange { .. } => {}
+    }
+}
+
 fn assert_call(rt: &impl Abort, ram: &mut Ram, call: Call) {
     match call {
         Call::Load {
@@ -74,23 +93,11 @@ fn assert_call(rt: &impl Abort, ram: &mut Ram, call: Call) {
                 "store at {addr}"
             );
         }
-        Call::Push {
-            size,
-            align,
-            answer,
-        } => {
-            assert!(rt; 0 < align);
-            assert!(rt; ram.push_stack(size, align) == answer, "block of {size}");
-        }
-        Call::Pop { mark } => {
-            assert!(rt; STACK <= mark && mark <= ram.mark());
-            ram.pop_stack(mark);
-        }
-        Call::Mark { answer } => assert!(rt; ram.mark() == answer),
         Call::Valid { addr, answer } => assert!(rt; ram.valid(addr) == answer, "byte {addr}"),
         Call::ValidRange { addr, len, answer } => {
             assert!(rt; ram.valid_range(addr, len) == answer, "{len} from {addr}");
         }
+        of_the_stack => assert_stack_call(rt, ram, of_the_stack),
     }
 }
 

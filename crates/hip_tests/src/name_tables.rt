@@ -2,6 +2,8 @@
 
 use hip_examples::AMPLE;
 use hip_names::{NameSet, NameTable};
+use std::alloc::Global;
+use std::process::Abort;
 
 /// A name that is put into a set, and whether it is new there.
 struct Inserted {
@@ -61,7 +63,7 @@ fn names_are_numbered(rt: HostRuntime) {
     }
     for case in NUMBERED {
         let name = case.name.as_bytes();
-        assert_eq!(rt; names.number_of(name), case.number, "{}", case.name);
+        assert!(rt; names.number_of(name) == case.number, "{}", case.name);
         assert!(rt;
             names.contains(name) == case.number.is_some(),
             "{}",
@@ -70,13 +72,18 @@ fn names_are_numbered(rt: HostRuntime) {
     }
 }
 
+fn names_of<'a>(rt: &impl Abort, alloc: Global, names: &[&'a str]) -> NameSet<'a> {
+    let mut set = NameSet::new(alloc);
+    for name in names {
+        set.insert(name.as_bytes()).expect(rt, AMPLE);
+    }
+    set
+}
+
 #[test]
 fn set_within_another(rt: HostRuntime) {
-    let mut names = NameSet::new(rt.alloc());
-    names.insert(b"main").expect(&rt, AMPLE);
-    names.insert(b"copy").expect(&rt, AMPLE);
-    let mut others = NameSet::new(rt.alloc());
-    others.insert(b"copy").expect(&rt, AMPLE);
+    let names = names_of(&rt, rt.alloc(), &["main", "copy"]);
+    let others = names_of(&rt, rt.alloc(), &["copy"]);
     assert!(rt; others.is_within(&names));
     assert!(rt; !names.is_within(&others));
 }
@@ -92,6 +99,6 @@ fn first_value_counts(rt: HostRuntime) {
         table.add(name.as_bytes(), *value).expect(&rt, AMPLE);
     }
     for (name, value) in FIRST_VALUES {
-        assert_eq!(rt; table.get(name.as_bytes()), *value, "{name}");
+        assert!(rt; table.get(name.as_bytes()) == *value, "{name}");
     }
 }

@@ -4,22 +4,32 @@ use hip_examples::{
     AMPLE, COPY, ENDLESS_LOOP, EVEN_AND_ODD, KEY_VALUE_LOG, ONE_STORE, ONE_STORE_REPAIRED, REACH,
 };
 use hip_io::MemSink;
-use hip_ir::{same, spelled};
+use hip_ir::{Program, same, spelled};
 use hip_parse::parse;
 use hip_types::Row;
 use hip_write::write;
 use std::alloc::Global;
 use std::process::Abort;
 
+/// The program is written as this text.
+fn assert_written(rt: &impl Abort, alloc: Global, program: &Program, text: &str) {
+    let mut sink = MemSink::new(alloc, 10_000).expect(rt, AMPLE);
+    assert!(rt; write(program, &mut sink).is_ok(), "{text}");
+    assert_eq!(rt; sink.bytes(), text.as_bytes());
+}
+
+/// The program of this text is the same.
+fn assert_read(rt: &impl Abort, alloc: Global, text: &str, program: &Program) {
+    let again = parse(alloc, text.as_bytes()).expect(rt, "the canonical text is read");
+    assert!(rt; same(program, &again), "{text}");
+}
+
 /// A text is read, its program is spelled and written as the canonical text, and that text is read as the same program.
 fn assert_written_as(rt: &impl Abort, alloc: Global, text: &str, canonical: &str) {
     let program = parse(alloc, text.as_bytes()).expect(rt, "the text is read");
     assert!(rt; spelled(&program), "{text}");
-    let mut sink = MemSink::new(alloc, 10_000).expect(rt, AMPLE);
-    assert!(rt; write(&program, &mut sink).is_ok(), "{text}");
-    assert_eq!(rt; sink.bytes(), canonical.as_bytes(), "{text}");
-    let again = parse(alloc, sink.bytes()).expect(rt, "the canonical text is read");
-    assert!(rt; same(&program, &again), "{text}");
+    assert_written(rt, alloc, &program, canonical);
+    assert_read(rt, alloc, canonical, &program);
 }
 
 const TABLE: &str = "@t = private constant [2 x { i8, ptr }] [ { i8, ptr } { i8 255, ptr @t },

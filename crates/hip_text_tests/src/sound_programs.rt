@@ -45,14 +45,29 @@ fn checked(rt: &impl Abort, alloc: Global, text: &str) -> Checked {
     check(alloc, program).expect(rt, "the program is sound")
 }
 
+/// Names, and the number of the function of each name that is one.
+const NUMBERS: &[(&str, Option<usize>)] = &[
+    ("f", Some(0)),
+    ("main", Some(1)),
+    ("read_i64", None),
+    ("v", None),
+];
+
+#[test]
+fn functions_by_name(rt: HostRuntime) {
+    let checked = checked(&rt, rt.alloc(), SOUND);
+    for (name, number) in NUMBERS {
+        assert!(rt;
+            checked.function_number(name.as_bytes()) == *number,
+            "{name}"
+        );
+    }
+}
+
 #[test]
 fn sound_program(rt: HostRuntime) {
     let checked = checked(&rt, rt.alloc(), SOUND);
-    assert_eq!(rt; checked.function_number(b"f"), Some(0));
-    assert_eq!(rt; checked.function_number(b"main"), Some(1));
-    assert_eq!(rt; checked.function_number(b"read_i64"), None);
-    assert_eq!(rt; checked.function_number(b"v"), None);
-    assert_eq!(rt; checked.region_size(), 320);
+    assert!(rt; checked.region_size() == 320);
     let program = parse(rt.alloc(), SOUND.as_bytes()).expect(&rt, "the text is read");
     assert!(rt; same(checked.program(), &program));
 }
@@ -94,23 +109,31 @@ entry:
 
 const VOLATILE_BYTES: [u8; 16] = [1, 0, 1, 2, 0, 0, 0, 0, 0, 0, 1, 0, 0, 0, 0, 0];
 
+fn assert_volatile(rt: &impl Abort, alloc: Global, checked: &Checked) {
+    let volatile = checked.volatile_bytes(alloc, BASE).expect(rt, AMPLE);
+    assert!(rt; volatile.as_slice() == VOLATILE_BYTES.as_slice());
+}
+
 #[test]
 fn initial_bytes(rt: HostRuntime) {
     let checked = checked(&rt, rt.alloc(), VOLATILE);
-    let volatile = checked.volatile_bytes(rt.alloc(), BASE).expect(&rt, AMPLE);
-    assert_eq!(rt; volatile.as_slice(), VOLATILE_BYTES.as_slice());
+    assert_volatile(&rt, rt.alloc(), &checked);
     assert_addresses(&rt, &checked, [65_536, 65_544].as_slice());
+}
+
+/// The first bytes of the region; the others are 0.
+const REGION_BYTES: [u8; 16] = [255, 255, 2, 0, 0, 0, 0, 0, 12, 0, 0, 0, 1, 0, 0, 0];
+
+fn assert_region(rt: &impl Abort, alloc: Global, checked: &Checked) {
+    let region = checked.region_bytes(alloc, BASE).expect(rt, AMPLE);
+    let bytes = region.as_slice();
+    assert!(rt; bytes.len() == 64 && bytes.starts_with(REGION_BYTES.as_slice()));
+    assert!(rt; bytes.iter().filter(|byte| **byte != 0).count() == 5);
 }
 
 #[test]
 fn initial_bytes_of_a_region(rt: HostRuntime) {
     let checked = checked(&rt, rt.alloc(), PERSISTENT);
-    let volatile = checked.volatile_bytes(rt.alloc(), BASE).expect(&rt, AMPLE);
-    assert_eq!(rt; volatile.as_slice(), VOLATILE_BYTES.as_slice());
-    let region = checked.region_bytes(rt.alloc(), BASE).expect(&rt, AMPLE);
-    assert_eq!(rt; region.len(), 64);
-    let first = [255, 255, 2, 0, 0, 0, 0, 0, 12, 0, 0, 0, 1, 0, 0, 0];
-    assert!(rt; region.as_slice().starts_with(first.as_slice()));
-    let others = region.as_slice().iter().filter(|byte| **byte != 0).count();
-    assert_eq!(rt; others, 5);
+    assert_volatile(&rt, rt.alloc(), &checked);
+    assert_region(&rt, rt.alloc(), &checked);
 }

@@ -23,22 +23,29 @@ fn file(rt: &impl Abort, alloc: Global, text: &[u8], chunk: usize) -> MemCabinet
     MemCabinet::new(files, chunk)
 }
 
+/// What a reader answers.
+type Answer = Result<Option<Entry>, TraceRefusal>;
+
+fn assert_answer(rt: &impl Abort, found: Answer, expected: Answer, case: &str) {
+    assert_eq!(rt; found, expected, "{case}");
+}
+
 /// Reads the entries of the file `t`, and what comes behind them twice.
 fn assert_reads<C: Cabinet>(
     rt: &impl Abort,
     cabinet: &mut C,
     entries: &[Entry],
-    end: Result<Option<Entry>, TraceRefusal>,
+    end: Answer,
     case: &str,
 ) {
     let fetched = cabinet.fetch("t");
     assert!(rt; matches!(fetched, Fetched::Ready), "{case}");
     let mut reader = Reader::new();
     for entry in entries {
-        assert_eq!(rt; reader.next(cabinet), Ok(Some(*entry)), "{case}");
+        assert_answer(rt, reader.next(cabinet), Ok(Some(*entry)), case);
     }
-    assert_eq!(rt; reader.next(cabinet), end, "{case}");
-    assert_eq!(rt; reader.next(cabinet), end, "{case}");
+    assert_answer(rt, reader.next(cabinet), end, case);
+    assert_answer(rt, reader.next(cabinet), end, case);
 }
 
 /// A text that spells an entry, and the entry's canonical text.
@@ -160,18 +167,18 @@ const SPELLINGS: &[Spelling] = &[
     },
 ];
 
+fn assert_written(rt: &impl Abort, alloc: Global, entry: &Entry, text: &str) {
+    let mut sink = MemSink::new(alloc, 200).expect(rt, AMPLE);
+    assert!(rt; write_entry(entry, &mut sink).is_ok(), "{text}");
+    assert_eq!(rt; sink.bytes(), text.as_bytes());
+}
+
 #[test]
 fn read_and_written(rt: HostRuntime) {
     for case in SPELLINGS {
         let mut cabinet = file(&rt, rt.alloc(), case.text, 7);
         assert_reads(&rt, &mut cabinet, &[case.entry], Ok(None), case.canonical);
-        let mut sink = MemSink::new(rt.alloc(), 200).expect(&rt, AMPLE);
-        assert!(rt;
-            write_entry(&case.entry, &mut sink).is_ok(),
-            "{}",
-            case.canonical
-        );
-        assert_eq!(rt; sink.bytes(), case.canonical.as_bytes());
+        assert_written(&rt, rt.alloc(), &case.entry, case.canonical);
     }
 }
 
@@ -302,6 +309,27 @@ fn longest_entry(rt: HostRuntime) {
     }
 }
 
+/// The text of a line with the one byte, 62 zeros and the other, and of an image that begins within a line.
+fn two_images(rt: &impl Abort, alloc: Global) -> Vec<u8> {
+    let mut text = Vec::new(alloc);
+    text.extend_from_slice(b"IMAGE;0x40;AB").expect(rt, AMPLE);
+    for _ in 0..62 {
+        text.extend_from_slice(b"00").expect(rt, AMPLE);
+    }
+    text.extend_from_slice(b"05|IMAGE;0x41;00")
+        .expect(rt, AMPLE);
+    text
+}
+
+fn assert_image_written(rt: &impl Abort, alloc: Global, image: &Entry) {
+    let mut sink = MemSink::new(alloc, 200).expect(rt, AMPLE);
+    assert!(rt; write_entry(image, &mut sink).is_ok());
+    let bytes = sink.bytes();
+    assert!(rt; bytes.len() == 140);
+    assert!(rt; bytes.starts_with(b"IMAGE;0x40;ab00"));
+    assert!(rt; bytes.ends_with(b"005\n"));
+}
+
 /// A line whose first byte is 171 and whose last is 5; the text has upper case and then lower case.
 #[test]
 fn images(rt: HostRuntime) {
@@ -309,13 +337,7 @@ fn images(rt: HostRuntime) {
     bytes[0] = 171;
     bytes[63] = 5;
     let image = Entry::Image { addr: 64, bytes };
-    let mut text = Vec::new(rt.alloc());
-    text.extend_from_slice(b"IMAGE;0x40;AB").expect(&rt, AMPLE);
-    for _ in 0..62 {
-        text.extend_from_slice(b"00").expect(&rt, AMPLE);
-    }
-    text.extend_from_slice(b"05|IMAGE;0x41;00")
-        .expect(&rt, AMPLE);
+    let text = two_images(&rt, rt.alloc());
     let mut cabinet = file(&rt, rt.alloc(), text.as_slice(), 100);
     assert_reads(
         &rt,
@@ -324,11 +346,7 @@ fn images(rt: HostRuntime) {
         Err(TraceRefusal::Malformed),
         "image",
     );
-    let mut sink = MemSink::new(rt.alloc(), 200).expect(&rt, AMPLE);
-    assert!(rt; write_entry(&image, &mut sink).is_ok());
-    assert_eq!(rt; sink.bytes().len(), 140);
-    assert_eq!(rt; &sink.bytes()[..15], b"IMAGE;0x40;ab00".as_slice());
-    assert_eq!(rt; &sink.bytes()[136..], b"005\n".as_slice());
+    assert_image_written(&rt, rt.alloc(), &image);
 }
 
 /// The file fails behind its ninth byte: the first entry is read before that.
@@ -353,13 +371,15 @@ fn texts_are_counted(rt: HostRuntime) {
     let fetched = cabinet.fetch("t");
     assert!(rt; matches!(fetched, Fetched::Ready));
     let mut reader = Reader::new();
-    assert_eq!(rt; reader.count(), 0);
-    assert_eq!(rt; reader.next(&mut cabinet), Ok(Some(Entry::Cut)));
-    assert_eq!(rt; reader.next(&mut cabinet), Ok(Some(Entry::Cut)));
-    assert_eq!(rt; reader.count(), 2);
-    assert_eq!(rt; reader.next(&mut cabinet), Err(TraceRefusal::Malformed));
-    assert_eq!(rt; reader.next(&mut cabinet), Err(TraceRefusal::Malformed));
-    assert_eq!(rt; reader.count(), 3);
+    assert!(rt; reader.count() == 0);
+    let cut = Ok(Some(Entry::Cut));
+    assert_answer(&rt, reader.next(&mut cabinet), cut, "first");
+    assert_answer(&rt, reader.next(&mut cabinet), cut, "second");
+    assert!(rt; reader.count() == 2);
+    let malformed = Err(TraceRefusal::Malformed);
+    assert_answer(&rt, reader.next(&mut cabinet), malformed, "empty");
+    assert_answer(&rt, reader.next(&mut cabinet), malformed, "empty again");
+    assert!(rt; reader.count() == 3);
 }
 
 #[test]

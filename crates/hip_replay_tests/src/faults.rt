@@ -5,8 +5,9 @@ use crate::runs::{checked, in_chunks, input, replayed};
 use hip_examples::{AMPLE, ONE_STORE};
 use hip_io::{FailAt, FailingCabinet, MemSink};
 use hip_replay::{MisfitKind, RecordRefusal, ReplayRefusal, record_run};
-use hip_step::why_not;
+use hip_step::{Input, why_not};
 use hip_types::Row;
+use hip_typing::Checked;
 use std::alloc::Global;
 use std::process::Abort;
 
@@ -57,18 +58,23 @@ const FAULTS: &[Fault] = &[
 ];
 
 /// The refusal of a trace with the program of one store, where a read fails.
-fn refused(rt: &impl Abort, alloc: Global, case: &Fault) -> Option<ReplayRefusal> {
-    let checked = checked(rt, alloc, ONE_STORE);
+fn refused(
+    rt: &impl Abort,
+    alloc: Global,
+    checked: &Checked,
+    case: &Fault,
+) -> Option<ReplayRefusal> {
     let files = in_chunks(rt, alloc, case.trace.as_bytes(), 10);
     let name = Row::from_slice(alloc, b"trace").expect(rt, AMPLE);
     let mut cabinet = FailingCabinet::new(files, name, FailAt::Byte(case.at));
-    replayed(alloc, &checked, &mut cabinet).err()
+    replayed(alloc, checked, &mut cabinet).err()
 }
 
 #[test]
 fn read_faults(rt: HostRuntime) {
+    let checked = checked(&rt, rt.alloc(), ONE_STORE);
     for case in FAULTS {
-        let refusal = refused(&rt, rt.alloc(), case);
+        let refusal = refused(&rt, rt.alloc(), &checked, case);
         assert!(rt; refusal == Some(case.refusal), "{} {}", case.trace, case.at);
     }
 }
@@ -80,17 +86,22 @@ STORE;0x100000000;0x6;0x8
 STOP;0
 ";
 
-/// Whether a sink with so much room is full, and has what fits of the trace.
-fn is_cut(rt: &impl Abort, alloc: Global, room: u64) -> bool {
-    let checked = checked(rt, alloc, OVERWRITTEN);
-    let input = input(rt, alloc, &checked, &[], 9);
-    assert!(rt; why_not(&checked, &input).is_none(), "the input is valid");
+/// Whether a sink with so much room is full where the run is recorded, and has what fits of the trace.
+fn is_cut_of(rt: &impl Abort, alloc: Global, checked: &Checked, input: &Input, room: u64) -> bool {
+    assert!(rt; why_not(checked, input).is_none(), "the input is valid");
     let mut out = MemSink::new(alloc, room).expect(rt, AMPLE);
-    let refused = match record_run(alloc, &checked, &input, &mut out) {
+    let refused = match record_run(alloc, checked, input, &mut out) {
         Err(refusal) => refusal == RecordRefusal::WriteFault,
         Ok(_) => false,
     };
     refused && TRACE.as_bytes().starts_with(out.bytes()) && out.bytes().len() as u64 == room
+}
+
+/// Whether a sink with so much room is full, and has what fits of the trace.
+fn is_cut(rt: &impl Abort, alloc: Global, room: u64) -> bool {
+    let checked = checked(rt, alloc, OVERWRITTEN);
+    let input = input(rt, alloc, &checked, &[], 9);
+    is_cut_of(rt, alloc, &checked, &input, room)
 }
 
 #[test]

@@ -65,18 +65,17 @@ entry:
 ";
 
 /// How many entries and reports a recorded run has, and how many globals were stored to.
-#[derive(Clone, Copy)]
+#[derive(Clone, Copy, PartialEq)]
 struct Counts {
     entries: u128,
     reports: usize,
     hit: usize,
 }
 
-/// Records the run of a program, whose trace has at most so many bytes.
-fn counts_of(rt: &impl Abort, alloc: Global, program: &str, out: &mut MemSink) -> Counts {
-    let checked = checked(rt, alloc, program);
-    let input = input(rt, alloc, &checked, &[], 1_000_000_000);
-    let recorded = record(rt, alloc, &checked, &input, out);
+/// Records the run of a program.
+fn counts_of(rt: &impl Abort, alloc: Global, checked: &Checked, out: &mut MemSink) -> Counts {
+    let input = input(rt, alloc, checked, &[], 1_000_000_000);
+    let recorded = record(rt, alloc, checked, &input, out);
     Counts {
         entries: recorded.entries,
         reports: recorded.findings.reports.len(),
@@ -88,25 +87,38 @@ fn counts_of(rt: &impl Abort, alloc: Global, program: &str, out: &mut MemSink) -
 fn assert_replayed(rt: &impl Abort, alloc: Global, checked: &Checked, trace: &[u8], entries: u128) {
     let mut cabinet = in_chunks(rt, alloc, trace, 4_096);
     let found = replayed(alloc, checked, &mut cabinet).expect(rt, "the trace fits");
-    assert_eq!(rt; found.entries, entries);
+    assert!(rt; found.entries == entries);
 }
+
+const OF_MANY_FENCES: Counts = Counts {
+    entries: 300_003,
+    reports: 0,
+    hit: 1,
+};
 
 #[test]
 fn many_fences(rt: HostRuntime) {
-    let mut out = MemSink::new(rt.alloc(), 10_000_000).expect(&rt, AMPLE);
-    let counts = counts_of(&rt, rt.alloc(), MANY_FENCES, &mut out);
-    assert_eq!(rt; counts.entries, 300_003);
-    assert_eq!(rt; counts.reports, 0);
-    assert_eq!(rt; counts.hit, 1);
     let checked = checked(&rt, rt.alloc(), MANY_FENCES);
-    assert_replayed(&rt, rt.alloc(), &checked, out.bytes(), 300_003);
+    let mut out = MemSink::new(rt.alloc(), 10_000_000).expect(&rt, AMPLE);
+    assert!(rt; counts_of(&rt, rt.alloc(), &checked, &mut out) == OF_MANY_FENCES);
+    assert_replayed(
+        &rt,
+        rt.alloc(),
+        &checked,
+        out.bytes(),
+        OF_MANY_FENCES.entries,
+    );
 }
+
+const OF_DEEP_STORES: Counts = Counts {
+    entries: 1_125_004,
+    reports: 0,
+    hit: 1,
+};
 
 #[test]
 fn deep_shared_paths(rt: HostRuntime) {
+    let checked = checked(&rt, rt.alloc(), DEEP_STORES);
     let mut out = MemSink::new(rt.alloc(), 50_000_000).expect(&rt, AMPLE);
-    let counts = counts_of(&rt, rt.alloc(), DEEP_STORES, &mut out);
-    assert_eq!(rt; counts.entries, 1_125_004);
-    assert_eq!(rt; counts.reports, 0);
-    assert_eq!(rt; counts.hit, 1);
+    assert!(rt; counts_of(&rt, rt.alloc(), &checked, &mut out) == OF_DEEP_STORES);
 }

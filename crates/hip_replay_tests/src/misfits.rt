@@ -7,6 +7,7 @@ use crate::runs::{assert_reports, checked, in_chunks, replayed};
 use hip_examples::{AMPLE, ENDLESS_LOOP, ONE_STORE};
 use hip_replay::{MisfitKind, ReplayRefusal};
 use hip_run_traces::MisfitKind::{Differs, Early, Extra, Malformed};
+use hip_typing::Checked;
 use std::alloc::Global;
 use std::process::Abort;
 
@@ -17,21 +18,35 @@ struct Misfit {
     kind: MisfitKind,
 }
 
+/// Asserts how a trace is refused, of which so many bytes come at a time.
+fn assert_refused(
+    rt: &impl Abort,
+    alloc: Global,
+    checked: &Checked,
+    trace: &str,
+    misfit: ReplayRefusal,
+    chunk: usize,
+)
+    requires { 1 ≤ chunk }
+{
+    let mut cabinet = in_chunks(rt, alloc, trace.as_bytes(), chunk);
+    match replayed(alloc, checked, &mut cabinet) {
+        Err(refusal) => assert!(rt; refusal == misfit, "{trace}"),
+        Ok(_) => assert!(rt; false, "{trace}"),
+    }
+}
+
 /// Asserts the misfit of each trace with a program, where so many bytes come at a time.
 fn assert_misfits(rt: &impl Abort, alloc: Global, program: &str, cases: &[Misfit], chunk: usize)
     requires { 1 ≤ chunk }
 {
     let checked = checked(rt, alloc, program);
     for case in cases {
-        let mut cabinet = in_chunks(rt, alloc, case.trace.as_bytes(), chunk);
         let misfit = ReplayRefusal::Misfit {
             entry: case.entry,
             kind: case.kind,
         };
-        match replayed(alloc, &checked, &mut cabinet) {
-            Err(refusal) => assert!(rt; refusal == misfit, "{}", case.trace),
-            Ok(_) => assert!(rt; false, "{}", case.trace),
-        }
+        assert_refused(rt, alloc, &checked, case.trace, misfit, chunk);
     }
 }
 
@@ -279,13 +294,9 @@ fn longest_entry(rt: HostRuntime) {
     assert_fits(&rt, rt.alloc(), longest.as_str(), 100);
     let checked = checked(&rt, rt.alloc(), ONE_STORE);
     let longer = with_zeros(&rt, rt.alloc(), 232);
-    let mut cabinet = in_chunks(&rt, rt.alloc(), longer.as_str().as_bytes(), 100);
     let misfit = ReplayRefusal::Misfit {
         entry: 3,
         kind: Malformed,
     };
-    match replayed(rt.alloc(), &checked, &mut cabinet) {
-        Err(refusal) => assert!(rt; refusal == misfit),
-        Ok(_) => assert!(rt; false, "a longer entry is read"),
-    }
+    assert_refused(&rt, rt.alloc(), &checked, longer.as_str(), misfit, 100);
 }

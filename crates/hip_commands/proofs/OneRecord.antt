@@ -4,9 +4,10 @@ use Rattle.hip_answers.specs.Answers.{Answer}
 use Rattle.hip_answers.specs.Endings.{ending_line, status_of_ending}
 use Rattle.hip_answers.specs.Same.{IsSameAnswer, pathless}
 use Rattle.hip_commands.proofs.OneProgram.{one_answer, one_ending, same_program}
-use Rattle.hip_commands.specs.FirstInput.{first_input}
+use Rattle.hip_runs.specs.FirstInput.{first_input}
 use Rattle.hip_commands.specs.Laws.{RecordsAreOne}
-use Rattle.hip_commands.specs.Record.{HasRecorded, IsTraceText}
+use Rattle.hip_commands.specs.Record.{HasRecorded}
+use Rattle.hip_run_traces.specs.TraceTexts.{IsTraceText}
 use Rattle.hip_io.specs.Cabinets.{CabinetState}
 use Rattle.hip_io.specs.declared.cabinet.NamedFile.{NamedFile}
 use Rattle.hip_ir.specs.declared.program.Program.{Program}

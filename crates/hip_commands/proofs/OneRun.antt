@@ -4,7 +4,7 @@ use Rattle.hip_answers.specs.Answers.{Answer}
 use Rattle.hip_answers.specs.Endings.{ending_line, status_of_ending}
 use Rattle.hip_answers.specs.Same.{IsSameAnswer, pathless}
 use Rattle.hip_commands.proofs.OneProgram.{one_answer, one_end, one_ending, same_program}
-use Rattle.hip_commands.specs.FirstInput.{first_input}
+use Rattle.hip_runs.specs.FirstInput.{first_input}
 use Rattle.hip_commands.specs.Laws.{RunsAreOne}
 use Rattle.hip_commands.specs.Run.{HasRun}
 use Rattle.hip_io.specs.Cabinets.{CabinetState}

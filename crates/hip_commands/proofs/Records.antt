@@ -7,8 +7,9 @@ use Rattle.hip_answers.specs.Laws.{cut_out, finished, ran_out_later}
 use Rattle.hip_answers.specs.declared.status.Status.{Status}
 use Rattle.hip_answers.specs.declared.status.Status.TheVariants as statuses
 use Rattle.hip_commands.proofs.Runs.{answer_of, is_carried_out}
-use Rattle.hip_commands.specs.FirstInput.{first_input}
-use Rattle.hip_commands.specs.Record.{IsTraceText, RecordAnswers}
+use Rattle.hip_runs.specs.FirstInput.{first_input}
+use Rattle.hip_commands.specs.Record.{RecordAnswers}
+use Rattle.hip_run_traces.specs.TraceTexts.{IsTraceText}
 use Rattle.hip_io.specs.Cabinets.{CabinetState}
 use Rattle.hip_io.specs.Sinks.{SinkState, Writes}
 use Rattle.hip_io.specs.declared.sink.Put.{Put}

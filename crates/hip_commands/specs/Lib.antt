@@ -1,4 +1,3 @@
-pub mod FirstInput
 pub mod Laws
 pub mod Record
 pub mod Run

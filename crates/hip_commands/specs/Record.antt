@@ -1,26 +1,15 @@
 -- The answers of `record`.
-use Rattle.std.specs.Prelude.{ℕ, ℤ, ◌≡◌, false, List, Some, ◌⊎◌}
+use Rattle.std.specs.Prelude.{ℕ, ℤ, ◌≡◌, false, List, ◌⊎◌}
 use Rattle.hip_answers.specs.Answers.{Answer}
 use Rattle.hip_answers.specs.Endings.{ending_line, status_of_ending}
 use Rattle.hip_answers.specs.Programs.{LacksProgram}
-use Rattle.hip_commands.specs.FirstInput.{first_input}
+use Rattle.hip_runs.specs.FirstInput.{first_input}
 use Rattle.hip_io.specs.Cabinets.{CabinetState}
 use Rattle.hip_ir.specs.declared.program.Program.{Program}
 use Rattle.hip_loading.specs.Loading.{IsProgramOf}
 use Rattle.hip_loading.specs.Outside.{HasMet}
-use Rattle.hip_run_traces.specs.Traces.{IsTrace}
-use Rattle.hip_runs.specs.Step.{run}
+use Rattle.hip_run_traces.specs.TraceTexts.{IsTraceText}
 use Rattle.hip_runs.specs.declared.event.Ending.{Ending}
-use Rattle.hip_runs.specs.declared.input.Input.{Input}
-use Rattle.hip_trace.specs.Texts.{lines_of}
-use Rattle.hip_trace.specs.declared.entry.Entry.{Entry}
-
--- the text is the trace of the run, a line for each entry, and the run has ended in this way
-pub record IsTraceText (P : Program) (I : Input) (text : List ℕ) (ending : Ending) : Type 0 where
-  pub trace : List Entry
-  pub is_trace : IsTrace P I trace
-  pub ended : (run P I is_trace.steps).world.ending ≡ Some ending
-  pub is : text ≡ lines_of trace
 
 -- The program of the file has run on the initialisers' bytes: out has the trace of the run, and notes how the run has
 -- ended.

@@ -5,12 +5,11 @@ ghost use Rattle.hip_commands.specs.Record.{RecordAnswers};
 ghost use Rattle.hip_globals.specs.Addresses.{IsBase};
 ghost use Rattle.std.specs.Prelude.{◌≤◌, true, length};
 
-use crate::inputs::first_input;
 use hip_answers::{Status, finish, put_ending, refuse, status_of_ending, status_of_failure};
 use hip_io::{Cabinet, Sink};
 use hip_loading::load_program;
 use hip_replay::{RecordRefusal, record_run};
-use hip_runs::{MOST_NUMBERS, MOST_TURNS};
+use hip_runs::{MOST_NUMBERS, MOST_TURNS, first_input};
 use hip_types::{NoMemory, Row};
 use std::alloc::Global;
 

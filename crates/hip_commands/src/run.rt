@@ -4,12 +4,11 @@ ghost use Rattle.std.specs.Prelude.{◌≤◌, true, length};
 ghost use Rattle.hip_answers.specs.Answers.{HasAnswered, sinks};
 ghost use Rattle.hip_commands.specs.Run.{RunAnswers};
 
-use crate::inputs::first_input;
 use hip_answers::{Status, finish, put_ending, refuse, status_of_ending, status_of_failure};
 use hip_io::{Cabinet, Sink};
 use hip_loading::load_program;
 use hip_replay::{RecordRefusal, print_run};
-use hip_runs::{MOST_NUMBERS, MOST_TURNS};
+use hip_runs::{MOST_NUMBERS, MOST_TURNS, first_input};
 use hip_types::{LOWEST_BASE, NoMemory, Row};
 use std::alloc::Global;
 

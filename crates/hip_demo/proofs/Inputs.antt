@@ -1,7 +1,7 @@
 -- The initial bytes of a generated program's region are zeros.
 use Rattle.std.proofs.Common.{◌≡◌, ◌<◌, ◌++◌, ◌∙◌, ℕ, ℤ, true, zero, suc, codes, List, [], All, take, replicate, sym, ap, subst, arith}
 use Rattle.std.proofs.lemmas.List.Elements.{All-append, All-cons, All-nil, All-take}
-use Rattle.hip_commands.specs.FirstInput.{first_input}
+use Rattle.hip_runs.specs.FirstInput.{first_input}
 use Rattle.hip_runs.specs.declared.limits.TheConstants.{DEFAULT_LIMIT}
 use Rattle.hip_gen.specs.Generated.{array_of, generated_program, zeroed_array}
 use Rattle.hip_globals.specs.Addresses.{global_align}

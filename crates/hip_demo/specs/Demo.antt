@@ -3,7 +3,7 @@ use Rattle.std.specs.Prelude.{ℕ, ◌≡◌, List, [], ◌++◌, codes, length}
 use Rattle.std.specs.Fmt.{decimal}
 use Rattle.hip_answers.specs.Answers.{Answer}
 use Rattle.hip_answers.specs.declared.status.Status.TheVariants.{Done}
-use Rattle.hip_commands.specs.FirstInput.{first_input}
+use Rattle.hip_runs.specs.FirstInput.{first_input}
 use Rattle.hip_demo.specs.declared.shown.Shown.{Shown}
 use Rattle.hip_runs.specs.declared.limits.TheConstants.{DEFAULT_LIMIT}
 use Rattle.hip_gen.specs.Generated.{generated_program}

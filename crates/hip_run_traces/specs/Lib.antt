@@ -1,4 +1,5 @@
 pub mod Headers
 pub mod Laws
 pub mod Misfits
+pub mod TraceTexts
 pub mod Traces

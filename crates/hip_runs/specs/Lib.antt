@@ -1,5 +1,6 @@
 pub mod State
 pub mod Validity
+pub mod FirstInput
 pub mod Places
 pub mod Operands
 pub mod Actions

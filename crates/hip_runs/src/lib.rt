@@ -6,6 +6,7 @@ mod event;
 mod findings;
 mod history;
 mod images;
+mod initial;
 mod input;
 mod laws;
 mod limits;
@@ -28,6 +29,7 @@ pub use images::{
     bytes_follow_the_durable, entries_find_one_state, images_are_decided_by_lines,
     images_make_valid_inputs,
 };
+pub use initial::first_input;
 pub use input::{Input, InputFault};
 pub use laws::{parts_carry_their_history, runs_end};
 pub use limits::{DEFAULT_LIMIT, MOST_FRAMES, MOST_NUMBERS, MOST_TURNS};

@@ -251,7 +251,8 @@ module _ (P : Program) (s : IsSound P) (I : Input) (L : Levels) (closed : IsClos
   instr_fact_of g w rs h (Compare dest pred ty a b) c = record { is = free_within _ _ c }
   instr_fact_of g w rs h (Select dest test ty a b) c = record {
     is =
-        chosen_within (L.register g dest) _ _ _ (within_higher (operand_level P L g a) _ _ c.0 (operand_within g rs h a))
+        chosen_within (L.register g dest) _ _ _
+        (within_higher (operand_level P L g a) _ _ c.0 (operand_within g rs h a))
         (within_higher (operand_level P L g b) _ _ c.1 (operand_within g rs h b));
   }
   instr_fact_of g w rs h (Cast dest op from a to) c = record { is = free_within _ _ c }

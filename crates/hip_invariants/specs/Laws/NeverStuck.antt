@@ -54,7 +54,8 @@ module _ (P : Program) (s : IsSound P) where
               earlier = r.earlier;
               is = refl;
               none =
-                  λ h. both_ways _ e (among-whole (assigned_names f.registers) q (has_now P f.registers q (r.among q h)));
+                  λ h. both_ways _ e (among-whole (assigned_names f.registers) q
+                  (has_now P f.registers q (r.among q h)));
             }))
 
     assigned_at_end : drop f.place r.block.body ≡ [] → (q : List ℕ) → IsAssigned r.fn f.block AtEnd q

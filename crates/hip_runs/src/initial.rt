@@ -1,9 +1,10 @@
 ghost use Rattle.std.specs.Prelude.{◌≤◌, length, IfOk, ◌≡◌};
 ghost use Rattle.hip_globals.specs.Addresses.{IsBase};
-ghost use Rattle.hip_commands.specs.FirstInput.{first_input};
+ghost use Rattle.hip_runs.specs.FirstInput.{first_input};
 ghost use Rattle.hip_runs.specs.Validity.{IsValid};
 
-use hip_runs::{Input, MOST_NUMBERS, MOST_TURNS};
+use crate::input::Input;
+use crate::limits::{MOST_NUMBERS, MOST_TURNS};
 use hip_types::{NoMemory, Row};
 use hip_typing::Checked;
 use std::alloc::Global;

@@ -63,12 +63,8 @@ pub fn holds_of(test: Comparison, a: Bits, b: Bits) -> bool
 pub fn extend(width: Width, value: u64) -> u64
     ensures { result ≡ extended width value }
 {
-    let cut = Bits::new(width, value);
     match width {
         Width::W64 => value,
-        Width::W32 => widen(cut, Width::W64, true).value,
-        Width::W16 => widen(cut, Width::W64, true).value,
-        Width::W8 => widen(cut, Width::W64, true).value,
-        Width::W1 => widen(cut, Width::W64, true).value,
+        _ => widen(Bits::new(width, value), Width::W64, true).value,
     }
 }

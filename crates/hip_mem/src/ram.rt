@@ -1,4 +1,4 @@
-ghost use Rattle.std.specs.Prelude.{◌≡◌, ℕ, ◌+◌, ◌-◌, ◌*◌, ◌/◌, ◌%◌, ◌^◌, ◌<◌, ◌≤◌, ◌↔◌, [], length, slice_index, IfOk, IfErr, OnOk, OnErr, Some, None, Err, IsTrue};
+ghost use Rattle.std.specs.Prelude.{◌≡◌, ◌==◌, ℕ, ◌+◌, ◌-◌, ◌*◌, ◌/◌, ◌%◌, ◌^◌, ◌<◌, ◌≤◌, ◌↔◌, [], length, slice_index, IfOk, IfErr, OnOk, OnErr, Some, None, Err, IsTrue};
 ghost use Rattle.hip_mem.specs.Memory.{byte_written};
 ghost use Rattle.hip_mem.specs.Bytes.{little_endian};
 ghost use Rattle.hip_mem.specs.Pages.{page_byte, page_bytes};
@@ -173,7 +173,7 @@ impl Ram {
         requires align { 0 < align }
         ensures { result ≡ access_trap self.now addr size align }
     {
-        if addr % align as u64 != 0 {
+        if !is_aligned(addr, align as u64) {
             return Some(MemTrap::Misaligned);
         }
         if !self.are_valid(addr, size as u64) {
@@ -194,6 +194,21 @@ impl Ram {
             return true;
         }
         lies_in(self.base, self.region, addr, size)
+    }
+}
+
+// Whether an address is a multiple of an alignment. Three usual alignments are told apart, since their rest needs no
+// division; of four there would be a table of jumps.
+#[inline(always)]
+fn is_aligned(addr: u64, align: u64) -> bool
+    requires { 0 < align }
+    ensures { result ≡ (addr % align == 0) }
+{
+    match align {
+        8 => addr % 8 == 0,
+        4 => addr % 4 == 0,
+        1 => true,
+        _ => addr % align == 0,
     }
 }
 

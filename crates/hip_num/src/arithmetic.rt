@@ -3,7 +3,7 @@ ghost use Rattle.std.specs.Option.{SomeIff};
 ghost use Rattle.hip_types.specs.Widths.{bits_of};
 ghost use Rattle.hip_num.specs.Arithmetic.{binary_of, division_fault};
 
-use crate::sign::{all_bits, from_signed, signed_value};
+use crate::sign::{from_signed, signed_value};
 use hip_types::{BinaryOp, Bits};
 
 /// Why an operation on two integers has no result.
@@ -18,6 +18,7 @@ pub enum NumTrap {
 }
 
 /// The result of an operation on two integers of one width, or why there is none.
+#[inline(always)]
 pub fn binary(op: BinaryOp, a: Bits, b: Bits) -> Result<Bits, NumTrap>
     requires { a.width ≡ b.width }
     ensures { result ≡ binary_of op a b }
@@ -64,7 +65,7 @@ fn divisor_fault(a: Bits, b: Bits) -> Option<NumTrap>
 {
     if b.value == 0 {
         Some(NumTrap::DivZero)
-    } else if a.value == a.width.sign_bit() && b.value == all_bits(a.width) {
+    } else if a.value == a.width.sign_bit() && b.value == a.width.all_bits() {
         Some(NumTrap::DivOverflow)
     } else {
         None

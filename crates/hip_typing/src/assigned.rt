@@ -17,7 +17,7 @@ use hip_types::{Name, NoMemory, Row};
 use std::alloc::Global;
 
 /// Where a use of a register stands in its block.
-#[derive(Clone, Copy, Debug)]
+#[derive(Clone, Copy)]
 pub enum Point {
     /// Before the instruction of that number in the body.
     Before(usize),
@@ -25,7 +25,7 @@ pub enum Point {
 }
 
 /// A use of a register that some path reaches before it is assigned, with such a path.
-#[derive(Debug, Drop)]
+#[derive(Drop)]
 pub enum NotAssigned {
     Use { place: Place, path: Row<usize> },
     NoMemory,

@@ -39,7 +39,7 @@ pub struct TypeRefusal {
 }
 
 /// The faults that the rules find, all but those of paths and of spelling by one look at a place.
-#[derive(Clone, Copy, Debug, PartialEq, Eq)]
+#[derive(Clone, Copy)]
 pub enum Fault {
     Duplicate,
     Unknown,
@@ -52,7 +52,7 @@ pub enum Fault {
 }
 
 /// A fault and its place.
-#[derive(Clone, Copy, Debug, PartialEq, Eq)]
+#[derive(Clone, Copy)]
 pub struct Finding {
     pub fault: Fault,
     pub place: Place,

@@ -4,7 +4,7 @@ use crate::fault::{Fault, Finding, Place};
 use hip_types::NoMemory;
 
 /// Why a check stopped.
-#[derive(Debug, Drop)]
+#[derive(Drop)]
 pub enum Refused {
     Found(Finding),
     NoMemory,

@@ -10,7 +10,7 @@ use hip_names::NameSet;
 use hip_types::Name;
 
 /// The labels that the end of a block names: up to two, and then those of cases.
-#[derive(Clone, Copy, Debug)]
+#[derive(Clone, Copy)]
 pub struct Targets<'a> {
     pub first: Option<&'a Name>,
     pub second: Option<&'a Name>,

@@ -8,14 +8,14 @@ use hip_ir::{Arg, End, Instr, Operand};
 use hip_types::{Scalar, Width};
 
 /// An operand and the type that its place states.
-#[derive(Clone, Copy, Debug)]
+#[derive(Clone, Copy)]
 pub struct OperandUse<'a> {
     pub operand: &'a Operand,
     pub ty: Scalar,
 }
 
 /// What a place uses: up to three operands, and then arguments.
-#[derive(Clone, Copy, Debug)]
+#[derive(Clone, Copy)]
 pub struct Uses<'a> {
     pub first: Option<OperandUse<'a>>,
     pub second: Option<OperandUse<'a>>,

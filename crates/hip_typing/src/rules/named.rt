@@ -12,7 +12,7 @@ use hip_types::{NoMemory, Row};
 use std::alloc::Global;
 
 /// A name and the place at which it is declared.
-#[derive(Clone, Copy, Debug)]
+#[derive(Clone, Copy)]
 pub struct NamedPlace<'a> {
     pub name: &'a [u8],
     pub place: Place,

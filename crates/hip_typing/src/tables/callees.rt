@@ -7,14 +7,14 @@ use hip_types::{NoMemory, Scalar};
 use std::alloc::Global;
 
 /// The parameters of an extern or of a function.
-#[derive(Clone, Copy, Debug)]
+#[derive(Clone, Copy)]
 pub enum Params<'a> {
     Scalars(&'a [Scalar]),
     Named(&'a [Param]),
 }
 
 /// The result and the parameters of what a call names.
-#[derive(Clone, Copy, Debug)]
+#[derive(Clone, Copy)]
 pub struct Callee<'a> {
     pub ret: Option<Scalar>,
     pub params: Params<'a>,

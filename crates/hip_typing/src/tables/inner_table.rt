@@ -13,7 +13,7 @@ use hip_types::{Name, NoMemory};
 use std::alloc::Global;
 
 /// What a name of a function stands for, blocks being numbered from 0.
-#[derive(Clone, Copy, Debug)]
+#[derive(Clone, Copy)]
 pub enum Inner {
     Parameter,
     Label(usize),

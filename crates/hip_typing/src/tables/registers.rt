@@ -10,7 +10,7 @@ use hip_types::{Name, NoMemory, Scalar, Width};
 use std::alloc::Global;
 
 /// A register with its type; the register of a void call has none.
-#[derive(Clone, Copy, Debug)]
+#[derive(Clone, Copy)]
 pub struct Register<'a> {
     pub name: &'a Name,
     pub ty: Option<Scalar>,

@@ -1,9 +1,10 @@
 -- Sets of names that know a list.
-use Rattle.std.proofs.Common.{ℕ, ◌+◌, ◌≡◌, ◌<◌, ◌&&◌, ◌||◌, not, Bool, true, false, List, [], ◌∷◌, ◌++◌, map, take, length, get_or, refl, sym, ap, subst, ◌∙◌}
+use Rattle.std.proofs.Common.{ℕ, ◌+◌, ◌≡◌, ◌<◌, ◌&&◌, ◌||◌, not, Bool, true, false, List, [], ◌∷◌, ◌++◌, map, take, length, get_or, ◌≤◌, refl, sym, ap, subst, ◌∙◌}
 use Rattle.std.specs.Prelude.{if◌then◌else◌}
 use Rattle.std.specs.List.{list_all}
 use Rattle.std.specs.Str.{bytes_eq}
 use Rattle.std.proofs.lemmas.List.{take_more, map-append}
+use Rattle.std.proofs.Math.Seq.{take_all}
 use Rattle.std.proofs.lemmas.Slice.Eq.{bytes_eq-Decides}
 use Rattle.hip_names.specs.Names.{is_among, Knows}
 
@@ -40,6 +41,10 @@ knows_more name_of items i item known added is_new within is knows new grown nam
     let names : map name_of (take (i + 1) items) ≡ map name_of (take i items) ++ name_of item ∷ [] = ap (map name_of) prefix ∙ map-append name_of (take i items) (item ∷ []) in
     let at_new : added ≡ (if not (is_among known (name_of item)) then known ++ name_of item ∷ [] else known) = grown ∙ ap (λ b. if b then known ++ name_of item ∷ [] else known) new in
     ap (λ ns. is_among ns name) at_new ∙ add_known known (map name_of (take i items)) (name_of item) name (is_among known (name_of item)) refl knows ∙ ap (λ ns. is_among ns name) (sym names)
+
+-- all names of a list
+pub knows_all : {A : Type 0} (name_of : A → List ℕ) (items : List A) (i : ℕ) (known : List (List ℕ)) → length items ≤ i → Knows known (map name_of (take i items)) → Knows known (map name_of items)
+knows_all name_of items i known past knows name = knows name ∙ ap (λ xs. is_among (map name_of xs) name) (take_all i items past)
 
 -- what is known of a list of names is known of the other list
 pub all_known : (known names asked : List (List ℕ)) → Knows known names → list_all (is_among known) asked ≡ list_all (is_among names) asked

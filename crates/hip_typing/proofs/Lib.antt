@@ -14,3 +14,4 @@ pub mod EntryLemmas
 pub mod AssignedLemmas
 pub mod UseLists
 pub mod DifferLemmas
+pub mod ListTests

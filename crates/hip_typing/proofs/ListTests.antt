@@ -16,6 +16,10 @@ rest_decides test rest so_far whole split is passes = ap (λ (t : Bool). t && re
 pub item_decides : (test rest so_far whole : Bool) → so_far ≡ (test && rest) → so_far ≡ whole → test ≡ false → false ≡ whole
 item_decides test rest so_far whole split is fails = ap (λ (t : Bool). t && rest) (sym fails) ∙ sym split ∙ is
 
+pub list_next : {A B : Type 0} (test : B → Bool) (part : A → B) (xs : List A) (i : ℕ) (x : A) → i < length xs → x ≡ get_or xs i x → list_all test (map part (drop i xs)) ≡ (test (part x) && list_all test (map part (drop (i + 1) xs)))
+list_next test part xs i x within is =
+    at_drop_more (λ ys. list_all test (map part ys)) xs i x within ∙ ap (λ y. test (part y) && list_all test (map part (drop (i + 1) xs))) (sym is)
+
 pub joined_next : {A B : Type 0} (test : B → Bool) (parts : A → List B) (xs : List A) (i : ℕ) (x : A) → i < length xs → x ≡ get_or xs i x → list_all test (joined (map parts (drop i xs))) ≡ (list_all test (parts x) && list_all test (joined (map parts (drop (i + 1) xs))))
 joined_next test parts xs i x within is =
     at_drop_more (λ ys. list_all test (joined (map parts ys))) xs i x within

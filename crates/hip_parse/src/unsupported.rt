@@ -2,6 +2,7 @@
 
 ghost use Rattle.std.specs.Prelude.{◌≡◌, codes};
 ghost use Rattle.std.specs.List.{list_all};
+ghost use Rattle.std.specs.Str.{bytes_eq};
 ghost use Rattle.hip_tokens.specs.Bytes.{is_digit};
 ghost use Rattle.hip_tokens.specs.Seen.{seen};
 ghost use Rattle.hip_ir.specs.Unsupported.{is_int_name, one_of, type_words, other_type_words, constant_words, float_words, cast_words, aggregate_words, memory_words, control_words, call_words, linkage_words, flag_words, attribute_words, function_words, is_unsupported_word, is_unsupported_byte, is_unsupported};
@@ -23,149 +24,152 @@ fn is_int_name(t: &[u8]) -> bool
     }
 }
 
+fn is_word(t: &[u8], word: &[u8]) -> bool
+    ensures { result ≡ bytes_eq t.now word.now }
+{
+    t == word
+}
+
 fn is_type(t: &[u8]) -> bool
     ensures { result ≡ one_of type_words t.now }
 {
-    t == b"half".as_slice()
-        || t == b"bfloat".as_slice()
-        || t == b"float".as_slice()
-        || t == b"double".as_slice()
-        || t == b"fp128".as_slice()
-        || t == b"x86_fp80".as_slice()
-        || t == b"ppc_fp128".as_slice()
+    is_word(t, b"half")
+        || is_word(t, b"bfloat")
+        || is_word(t, b"float")
+        || is_word(t, b"double")
+        || is_word(t, b"fp128")
+        || is_word(t, b"x86_fp80")
+        || is_word(t, b"ppc_fp128")
 }
 
 fn is_other_type(t: &[u8]) -> bool
     ensures { result ≡ one_of other_type_words t.now }
 {
-    t == b"metadata".as_slice()
-        || t == b"label".as_slice()
-        || t == b"token".as_slice()
-        || t == b"vector".as_slice()
-        || t == b"opaque".as_slice()
-        || t == b"type".as_slice()
+    is_word(t, b"metadata")
+        || is_word(t, b"label")
+        || is_word(t, b"token")
+        || is_word(t, b"vector")
+        || is_word(t, b"opaque")
+        || is_word(t, b"type")
 }
 
 fn is_constant(t: &[u8]) -> bool
     ensures { result ≡ one_of constant_words t.now }
 {
-    t == b"undef".as_slice()
-        || t == b"poison".as_slice()
-        || t == b"freeze".as_slice()
-        || t == b"c".as_slice()
-        || t == b"none".as_slice()
+    is_word(t, b"undef")
+        || is_word(t, b"poison")
+        || is_word(t, b"freeze")
+        || is_word(t, b"c")
+        || is_word(t, b"none")
 }
 
 fn is_float_operation(t: &[u8]) -> bool
     ensures { result ≡ one_of float_words t.now }
 {
-    t == b"fadd".as_slice()
-        || t == b"fsub".as_slice()
-        || t == b"fmul".as_slice()
-        || t == b"fdiv".as_slice()
-        || t == b"frem".as_slice()
-        || t == b"fneg".as_slice()
-        || t == b"fcmp".as_slice()
+    is_word(t, b"fadd")
+        || is_word(t, b"fsub")
+        || is_word(t, b"fmul")
+        || is_word(t, b"fdiv")
+        || is_word(t, b"frem")
+        || is_word(t, b"fneg")
+        || is_word(t, b"fcmp")
 }
 
 fn is_cast(t: &[u8]) -> bool
     ensures { result ≡ one_of cast_words t.now }
 {
-    t == b"fptoui".as_slice()
-        || t == b"fptosi".as_slice()
-        || t == b"uitofp".as_slice()
-        || t == b"sitofp".as_slice()
-        || t == b"fpext".as_slice()
-        || t == b"fptrunc".as_slice()
-        || t == b"bitcast".as_slice()
-        || t == b"addrspacecast".as_slice()
+    is_word(t, b"fptoui")
+        || is_word(t, b"fptosi")
+        || is_word(t, b"uitofp")
+        || is_word(t, b"sitofp")
+        || is_word(t, b"fpext")
+        || is_word(t, b"fptrunc")
+        || is_word(t, b"bitcast")
+        || is_word(t, b"addrspacecast")
 }
 
 fn is_aggregate_operation(t: &[u8]) -> bool
     ensures { result ≡ one_of aggregate_words t.now }
 {
-    t == b"extractelement".as_slice()
-        || t == b"insertelement".as_slice()
-        || t == b"shufflevector".as_slice()
-        || t == b"extractvalue".as_slice()
-        || t == b"insertvalue".as_slice()
+    is_word(t, b"extractelement")
+        || is_word(t, b"insertelement")
+        || is_word(t, b"shufflevector")
+        || is_word(t, b"extractvalue")
+        || is_word(t, b"insertvalue")
 }
 
 fn is_memory_operation(t: &[u8]) -> bool
     ensures { result ≡ one_of memory_words t.now }
 {
-    t == b"atomicrmw".as_slice()
-        || t == b"cmpxchg".as_slice()
-        || t == b"fence".as_slice()
-        || t == b"atomic".as_slice()
-        || t == b"volatile".as_slice()
+    is_word(t, b"atomicrmw")
+        || is_word(t, b"cmpxchg")
+        || is_word(t, b"fence")
+        || is_word(t, b"atomic")
+        || is_word(t, b"volatile")
 }
 
 fn is_control(t: &[u8]) -> bool
     ensures { result ≡ one_of control_words t.now }
 {
-    t == b"invoke".as_slice()
-        || t == b"resume".as_slice()
-        || t == b"landingpad".as_slice()
-        || t == b"catchswitch".as_slice()
-        || t == b"cleanupret".as_slice()
-        || t == b"callbr".as_slice()
-        || t == b"indirectbr".as_slice()
-        || t == b"va_arg".as_slice()
+    is_word(t, b"invoke")
+        || is_word(t, b"resume")
+        || is_word(t, b"landingpad")
+        || is_word(t, b"catchswitch")
+        || is_word(t, b"cleanupret")
+        || is_word(t, b"callbr")
+        || is_word(t, b"indirectbr")
+        || is_word(t, b"va_arg")
 }
 
 fn is_call_or_module(t: &[u8]) -> bool
     ensures { result ≡ one_of call_words t.now }
 {
-    t == b"asm".as_slice()
-        || t == b"musttail".as_slice()
-        || t == b"notail".as_slice()
-        || t == b"attributes".as_slice()
-        || t == b"module".as_slice()
-        || t == b"comdat".as_slice()
-        || t == b"alias".as_slice()
-        || t == b"ifunc".as_slice()
+    is_word(t, b"asm")
+        || is_word(t, b"musttail")
+        || is_word(t, b"notail")
+        || is_word(t, b"attributes")
+        || is_word(t, b"module")
+        || is_word(t, b"comdat")
+        || is_word(t, b"alias")
+        || is_word(t, b"ifunc")
 }
 
 fn is_linkage(t: &[u8]) -> bool
     ensures { result ≡ one_of linkage_words t.now }
 {
-    t == b"external".as_slice()
-        || t == b"extern_weak".as_slice()
-        || t == b"weak".as_slice()
-        || t == b"linkonce".as_slice()
-        || t == b"common".as_slice()
-        || t == b"thread_local".as_slice()
-        || t == b"addrspace".as_slice()
+    is_word(t, b"external")
+        || is_word(t, b"extern_weak")
+        || is_word(t, b"weak")
+        || is_word(t, b"linkonce")
+        || is_word(t, b"common")
+        || is_word(t, b"thread_local")
+        || is_word(t, b"addrspace")
 }
 
 fn is_flag(t: &[u8]) -> bool
     ensures { result ≡ one_of flag_words t.now }
 {
-    t == b"disjoint".as_slice()
-        || t == b"nneg".as_slice()
-        || t == b"samesign".as_slice()
-        || t == b"nusw".as_slice()
+    is_word(t, b"disjoint") || is_word(t, b"nneg") || is_word(t, b"samesign") || is_word(t, b"nusw")
 }
 
 fn is_attribute(t: &[u8]) -> bool
     ensures { result ≡ one_of attribute_words t.now }
 {
-    t == b"noundef".as_slice()
-        || t == b"nonnull".as_slice()
-        || t == b"nocapture".as_slice()
-        || t == b"readonly".as_slice()
-        || t == b"writeonly".as_slice()
-        || t == b"nounwind".as_slice()
+    is_word(t, b"noundef")
+        || is_word(t, b"nonnull")
+        || is_word(t, b"nocapture")
+        || is_word(t, b"readonly")
+        || is_word(t, b"writeonly")
+        || is_word(t, b"nounwind")
 }
 
 fn is_function_attribute(t: &[u8]) -> bool
     ensures { result ≡ one_of function_words t.now }
 {
-    t == b"noinline".as_slice()
-        || t == b"alwaysinline".as_slice()
-        || t == b"optnone".as_slice()
-        || t == b"uselistorder".as_slice()
+    is_word(t, b"noinline")
+        || is_word(t, b"alwaysinline")
+        || is_word(t, b"optnone")
+        || is_word(t, b"uselistorder")
 }
 
 fn is_unsupported_word(t: &[u8]) -> bool

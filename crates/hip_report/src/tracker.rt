@@ -1,8 +1,9 @@
-ghost use Rattle.std.specs.Prelude.{◌≡◌, ◌⊎◌, ◌≤◌, ◌<◌, ◌^◌, Some, None, true, false, IfOk, OnErr, OnOk, IsErr};
+ghost use Rattle.std.specs.Prelude.{◌≡◌, ◌⊎◌, ◌≤◌, ◌<◌, ◌^◌, Some, None, true, false, map, IfOk, OnErr, OnOk, IsErr};
 ghost use Rattle.hip_runs.specs.Ends.{longest};
 ghost use Rattle.hip_runs.specs.Found.Marks.{IsFound};
 ghost use Rattle.hip_runs.specs.Step.{event, has_ended, header_entries};
 ghost use Rattle.hip_step.specs.Seen.{after_step, state_of};
+ghost use Rattle.hip_report.specs.MarkKeys.{mark_of};
 ghost use Rattle.hip_report.specs.Plain.{AreTracked};
 ghost use Rattle.hip_report.specs.Tracking.{HasNoted, IsSource, MayAdvance, NotesOf, notes_all, seen_in};
 
@@ -98,19 +99,22 @@ impl<'a> Tracker<'a> {
         ensures { IfOk result (λ found. IsFound machine.now.program machine.now.input found) }
     {
         let Tracker { alloc, notes, .. } = self;
-        let Notes {
-            marks,
-            hit,
-            reports,
-            ..
-        } = notes;
-        let pointed = marks_of(alloc, &marks)?;
-        let hit = globals_of(alloc, &hit)?;
+        let marks = marks_in(alloc, &notes)?;
         Ok(Findings {
-            reports,
-            marks: Marks { pointed, hit },
+            reports: notes.reports,
+            marks,
         })
     }
+}
+
+// The marks of the run that is noted.
+fn marks_in(alloc: Global, notes: &Notes) -> Result<Marks, NoMemory>
+    ensures pointed { IfOk result (λ marks. marks.pointed ≡ map mark_of notes.now.marks.keys) }
+    ensures hit { IfOk result (λ marks. marks.hit ≡ notes.now.hit.keys) }
+{
+    let pointed = marks_of(alloc, &notes.marks)?;
+    let hit = globals_of(alloc, &notes.hit)?;
+    Ok(Marks { pointed, hit })
 }
 
 // Takes a machine's program and input, where nothing was noted yet.

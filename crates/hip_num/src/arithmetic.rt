@@ -18,7 +18,6 @@ pub enum NumTrap {
 }
 
 /// The result of an operation on two integers of one width, or why there is none.
-#[inline(always)]
 pub fn binary(op: BinaryOp, a: Bits, b: Bits) -> Result<Bits, NumTrap>
     requires { a.width ≡ b.width }
     ensures { result ≡ binary_of op a b }

@@ -6,7 +6,6 @@ use crate::sign::{from_signed, signed_value};
 use hip_types::{Bits, Width};
 
 /// The same number at a greater width: zeros come in before it or, if it is read with a sign, its sign.
-#[inline(always)]
 pub fn widen(a: Bits, to: Width, signed: bool) -> Bits
     requires { bits_of a.width < bits_of to }
     ensures { result ≡ widened a to signed }

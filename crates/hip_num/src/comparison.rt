@@ -5,7 +5,6 @@ use crate::sign::signed_value;
 use hip_types::{Bits, Pred};
 
 /// Whether a comparison holds of two integers of one width.
-#[inline(always)]
 pub fn compare(pred: Pred, a: Bits, b: Bits) -> bool
     requires { a.width ≡ b.width }
     ensures { result ≡ holds pred a.width a.value b.value }

@@ -4,7 +4,6 @@ ghost use Rattle.hip_types.specs.Numbers.{bits, signed, wrapped};
 use hip_types::{Bits, Width};
 
 /// The integer read with a sign.
-#[inline(always)]
 pub fn signed_value(a: Bits) -> i64
     ensures { result ≡ signed a.width a.value }
 {
@@ -17,7 +16,6 @@ pub fn signed_value(a: Bits) -> i64
 }
 
 /// The integer that a number with a sign leaves modulo 2 to the width.
-#[inline(always)]
 pub fn from_signed(width: Width, value: i64) -> Bits
     ensures { result ≡ bits width (wrapped width value) }
 {

@@ -396,8 +396,7 @@ fn append_zeros(bytes: &mut Vec<u8>) -> Result<(), NoMemory>
     }
 }
 
-// Copies bytes to the front of a slice. Three usual sizes are told apart, since a copy of a fixed size is one move; of
-// four there would be a table of jumps.
+// Copies bytes to the front of a slice. The usual sizes are told apart, since a copy of a fixed size is one move.
 #[inline(always)]
 fn copy_front(into: &mut [u8], bytes: &[u8], from: usize, size: usize)
     requires few { size ≤ length into.old }
@@ -409,6 +408,7 @@ fn copy_front(into: &mut [u8], bytes: &[u8], from: usize, size: usize)
     match size {
         8 => copy_bytes(into, bytes, from, 8),
         4 => copy_bytes(into, bytes, from, 4),
+        2 => copy_bytes(into, bytes, from, 2),
         1 => copy_bytes(into, bytes, from, 1),
         _ => copy_bytes(into, bytes, from, size),
     }
@@ -437,6 +437,7 @@ fn put(area: &mut [u8], at: usize, bytes: &[u8])
     match bytes.len() {
         8 => put_bytes(area, at, &bytes[..8]),
         4 => put_bytes(area, at, &bytes[..4]),
+        2 => put_bytes(area, at, &bytes[..2]),
         1 => put_bytes(area, at, &bytes[..1]),
         _ => put_bytes(area, at, bytes),
     }

@@ -197,8 +197,7 @@ impl Ram {
     }
 }
 
-// Whether an address is a multiple of an alignment. Three usual alignments are told apart, since their rest needs no
-// division; of four there would be a table of jumps.
+// Whether an address is a multiple of an alignment. The most usual ones are told apart, since their rest needs no division.
 #[inline(always)]
 fn is_aligned(addr: u64, align: u64) -> bool
     requires { 0 < align }

@@ -22,7 +22,6 @@ use Rattle.hip_code.specs.declared.op.Call.{Call}
 use Rattle.hip_code.specs.declared.op.Case.{Case}
 use Rattle.hip_code.specs.declared.op.Edge.{Edge}
 use Rattle.hip_code.specs.declared.op.Move.{Move}
-use Rattle.hip_code.specs.declared.op.Operand.{Operand}
 
 -- the operand that a phi has for control from a label
 abbrev pub edge_from : List named_edge.Edge → List ℕ → Option named.Operand

@@ -1,5 +1,5 @@
 -- What the indices of a `getelementptr` add to its base: an offset, and terms for the indices that registers hold.
-use Rattle.std.specs.Prelude.{ℕ, ◌⊎◌, ◌+◌, ◌*◌, ◌≡◌, List, [], ◌∷◌, Option, Some}
+use Rattle.std.specs.Prelude.{ℕ, ◌⊎◌, ◌+◌, ◌*◌, ◌≡◌, List, [], ◌∷◌, Some}
 use Rattle.hip_types.specs.Layout.{Part, enter, size_of}
 use Rattle.hip_types.specs.declared.ty.Ty.{Ty, out-Ty}
 use Rattle.hip_types.specs.declared.ty.Ty.TheOpen.{Ty-F}

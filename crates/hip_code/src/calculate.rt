@@ -3,7 +3,7 @@ ghost use Rattle.hip_code.specs.Numbers.{HasSpan, entries_of, numbers, operand_v
 ghost use Rattle.hip_code.specs.Values.{value_result, gep_value, rest_result, other_result, sum_of, GepWithin, OtherWithin, ReadsWithin, RestWithin, TermsWithin};
 
 use crate::code::Code;
-use crate::integers::{divide, extend, holds_of, operate};
+use crate::integers::{compared, divide, extend, operated};
 use crate::op::{Gep, Operand, Other, Rest, Span, Value};
 use hip_num::NumTrap;
 use hip_types::{Bits, Width};
@@ -39,12 +39,14 @@ fn sum_of_terms(code: &Code, slots: &[u64], base: usize, terms: Span) -> u64
 }
 
 #[inline(always)]
-fn address_of(code: &Code, slots: &[u64], base: usize, gep: Gep) -> u64
-    requires { GepWithin (numbers code.now slots.now base) gep }
-    ensures { result ≡ gep_value (numbers code.now slots.now base) gep }
+fn address_of(code: &Code, slots: &[u64], base: usize, gep: &Gep) -> u64
+    requires { GepWithin (numbers code.now slots.now base) gep.now }
+    ensures { result ≡ gep_value (numbers code.now slots.now base) gep.now }
 {
     match gep {
-        Gep::Fixed { base: from, offset } => read(code, slots, base, from).wrapping_add(offset),
+        Gep::Fixed { base: from, offset } => {
+            read(code, slots, base, *from).wrapping_add(*offset)
+        }
         Gep::Scaled {
             base: from,
             index,
@@ -52,9 +54,11 @@ fn address_of(code: &Code, slots: &[u64], base: usize, gep: Gep) -> u64
             scale,
             offset,
         } => {
-            let start = read(code, slots, base, from);
-            let steps = extend(width, read(code, slots, base, index));
-            let far = steps.wrapping_mul(scale as u64).wrapping_add(offset as u64);
+            let start = read(code, slots, base, *from);
+            let steps = extend(*width, read(code, slots, base, *index));
+            let far = steps
+                .wrapping_mul(*scale as u64)
+                .wrapping_add(*offset as u64);
             start.wrapping_add(far)
         }
         Gep::Terms {
@@ -62,29 +66,29 @@ fn address_of(code: &Code, slots: &[u64], base: usize, gep: Gep) -> u64
             offset,
             terms,
         } => {
-            let start = read(code, slots, base, from);
-            let far = sum_of_terms(code, slots, base, terms).wrapping_add(offset);
+            let start = read(code, slots, base, *from);
+            let far = sum_of_terms(code, slots, base, *terms).wrapping_add(*offset);
             start.wrapping_add(far)
         }
     }
 }
 
-fn other_of(code: &Code, slots: &[u64], base: usize, other: Other) -> Result<u64, NumTrap>
-    requires { OtherWithin (numbers code.now slots.now base) other }
-    ensures { result ≡ other_result (numbers code.now slots.now base) other }
+fn other_of(code: &Code, slots: &[u64], base: usize, other: &Other) -> Result<u64, NumTrap>
+    requires { OtherWithin (numbers code.now slots.now base) other.now }
+    ensures { result ≡ other_result (numbers code.now slots.now base) other.now }
 {
     match other {
         Other::Select { test, a, b } => {
-            if read(code, slots, base, test) == 1 {
-                Ok(read(code, slots, base, a))
+            if read(code, slots, base, *test) == 1 {
+                Ok(read(code, slots, base, *a))
             } else {
-                Ok(read(code, slots, base, b))
+                Ok(read(code, slots, base, *b))
             }
         }
         Other::Divide { op, width, a, b } => {
-            let left = read(code, slots, base, a);
-            let right = read(code, slots, base, b);
-            match divide(op, Bits::new(width, left), Bits::new(width, right)) {
+            let left = read(code, slots, base, *a);
+            let right = read(code, slots, base, *b);
+            match divide(*op, Bits::new(*width, left), Bits::new(*width, right)) {
                 Ok(bits) => Ok(bits.value),
                 Err(trap) => Err(trap),
             }
@@ -93,9 +97,9 @@ fn other_of(code: &Code, slots: &[u64], base: usize, other: Other) -> Result<u64
 }
 
 #[inline(always)]
-fn rest_of(code: &Code, slots: &[u64], base: usize, rest: Rest) -> Result<u64, NumTrap>
-    requires { RestWithin (numbers code.now slots.now base) rest }
-    ensures { result ≡ rest_result (numbers code.now slots.now base) rest }
+fn rest_of(code: &Code, slots: &[u64], base: usize, rest: &Rest) -> Result<u64, NumTrap>
+    requires { RestWithin (numbers code.now slots.now base) rest.now }
+    ensures { result ≡ rest_result (numbers code.now slots.now base) rest.now }
 {
     match rest {
         Rest::Compare {
@@ -105,9 +109,9 @@ fn rest_of(code: &Code, slots: &[u64], base: usize, rest: Rest) -> Result<u64, N
             a,
             b,
         } => {
-            let left = Bits::new(width, read(code, slots, base, a));
-            let right = Bits::new(width, read(code, slots, base, b));
-            Ok((holds_of(test, left, right) != negated) as u64)
+            let left = read(code, slots, base, *a);
+            let right = read(code, slots, base, *b);
+            Ok((compared(*test, *width, left, right) != *negated) as u64)
         }
         Rest::Cast {
             signed,
@@ -115,9 +119,9 @@ fn rest_of(code: &Code, slots: &[u64], base: usize, rest: Rest) -> Result<u64, N
             to,
             a,
         } => {
-            let value = read(code, slots, base, a);
-            let wide = if signed { extend(from, value) } else { value };
-            Ok(Bits::new(to, wide).value)
+            let value = read(code, slots, base, *a);
+            let wide = if *signed { extend(*from, value) } else { value };
+            Ok(Bits::new(*to, wide).value)
         }
         Rest::Other(other) => other_of(code, slots, base, other),
     }
@@ -125,18 +129,15 @@ fn rest_of(code: &Code, slots: &[u64], base: usize, rest: Rest) -> Result<u64, N
 
 /// What an op gives, or why it traps.
 #[inline(always)]
-pub fn result_of(code: &Code, slots: &[u64], base: usize, value: Value) -> Result<u64, NumTrap>
-    requires { ReadsWithin (numbers code.now slots.now base) value }
-    ensures { result ≡ value_result (numbers code.now slots.now base) value }
+pub fn result_of(code: &Code, slots: &[u64], base: usize, value: &Value) -> Result<u64, NumTrap>
+    requires { ReadsWithin (numbers code.now slots.now base) value.now }
+    ensures { result ≡ value_result (numbers code.now slots.now base) value.now }
 {
     match value {
         Value::Integer { op, width, a, b } => {
-            let left = read(code, slots, base, a);
-            let right = read(code, slots, base, b);
-            match operate(op, Bits::new(width, left), Bits::new(width, right)) {
-                Ok(bits) => Ok(bits.value),
-                Err(trap) => Err(trap),
-            }
+            let left = read(code, slots, base, *a);
+            let right = read(code, slots, base, *b);
+            operated(*op, *width, left, right)
         }
         Value::Gep(gep) => Ok(address_of(code, slots, base, gep)),
         Value::Rest(rest) => rest_of(code, slots, base, rest),

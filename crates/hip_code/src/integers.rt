@@ -1,15 +1,16 @@
-ghost use Rattle.std.specs.Prelude.{◌≡◌};
+ghost use Rattle.std.specs.Prelude.{◌≡◌, ◌<◌};
+ghost use Rattle.hip_types.specs.Widths.{bits_of};
 ghost use Rattle.hip_num.specs.Arithmetic.{binary_of};
 ghost use Rattle.hip_num.specs.Comparisons.{holds};
-ghost use Rattle.hip_code.specs.Values.{operation_of, division_of, predicate_of, extended};
+ghost use Rattle.hip_code.specs.Values.{operation_of, division_of, predicate_of, extended, compared, number_in, operated};
 
 use crate::op::{BitOp, Comparison, DivisionOp, IntegerOp, ShiftOp, SumOp};
 use hip_num::{NumTrap, binary, compare, widen};
 use hip_types::{BinaryOp, Bits, Pred, Width};
 
-/// The result of an operation on two integers of one width, or why there is none.
+// The result of an operation on two integers of one width, or why there is none.
 #[inline(always)]
-pub fn operate(op: IntegerOp, a: Bits, b: Bits) -> Result<Bits, NumTrap>
+fn operate(op: IntegerOp, a: Bits, b: Bits) -> Result<Bits, NumTrap>
     requires { a.width ≡ b.width }
     ensures { result ≡ binary_of (operation_of op) a b }
 {
@@ -32,6 +33,36 @@ pub fn operate(op: IntegerOp, a: Bits, b: Bits) -> Result<Bits, NumTrap>
     }
 }
 
+// The number that an operation gives on two numbers that are cut to a width, or why it traps.
+#[inline(always)]
+fn cut_and_operated(op: IntegerOp, width: Width, left: u64, right: u64) -> Result<u64, NumTrap>
+    ensures { result ≡ number_in (operated (operation_of op) width left right) }
+{
+    match operate(op, Bits::new(width, left), Bits::new(width, right)) {
+        Ok(bits) => Ok(bits.value),
+        Err(trap) => Err(trap),
+    }
+}
+
+#[inline(never)]
+fn operated_narrow(op: IntegerOp, width: Width, left: u64, right: u64) -> Result<u64, NumTrap>
+    ensures { result ≡ number_in (operated (operation_of op) width left right) }
+{
+    cut_and_operated(op, width, left, right)
+}
+
+/// The number that an operation gives on two numbers that are cut to a width, or why it traps. Numbers of 64 bits,
+/// which need no cut, are told apart.
+#[inline(always)]
+pub fn operated(op: IntegerOp, width: Width, left: u64, right: u64) -> Result<u64, NumTrap>
+    ensures { result ≡ number_in (operated (operation_of op) width left right) }
+{
+    match width {
+        Width::W64 => cut_and_operated(op, Width::W64, left, right),
+        _ => operated_narrow(op, width, left, right),
+    }
+}
+
 /// The result of a division, or why there is none.
 pub fn divide(op: DivisionOp, a: Bits, b: Bits) -> Result<Bits, NumTrap>
     requires { a.width ≡ b.width }
@@ -45,9 +76,9 @@ pub fn divide(op: DivisionOp, a: Bits, b: Bits) -> Result<Bits, NumTrap>
     }
 }
 
-/// Whether a comparison holds of two integers of one width.
+// Whether a comparison holds of two integers of one width.
 #[inline(always)]
-pub fn holds_of(test: Comparison, a: Bits, b: Bits) -> bool
+fn holds_of(test: Comparison, a: Bits, b: Bits) -> bool
     requires { a.width ≡ b.width }
     ensures { result ≡ holds (predicate_of test) a.width a.value b.value }
 {
@@ -58,6 +89,37 @@ pub fn holds_of(test: Comparison, a: Bits, b: Bits) -> bool
     }
 }
 
+#[inline(never)]
+fn compared_narrow(test: Comparison, width: Width, left: u64, right: u64) -> bool
+    ensures { result ≡ compared (predicate_of test) width left right }
+{
+    holds_of(test, Bits::new(width, left), Bits::new(width, right))
+}
+
+/// Whether a comparison holds of two numbers that are cut to a width. Numbers of 64 bits, which need no cut, are told
+/// apart.
+#[inline(always)]
+pub fn compared(test: Comparison, width: Width, left: u64, right: u64) -> bool
+    ensures { result ≡ compared (predicate_of test) width left right }
+{
+    match width {
+        Width::W64 => holds_of(
+            test,
+            Bits::new(Width::W64, left),
+            Bits::new(Width::W64, right),
+        ),
+        _ => compared_narrow(test, width, left, right),
+    }
+}
+
+#[inline(never)]
+fn extend_narrow(width: Width, value: u64) -> u64
+    requires { bits_of width < 64 }
+    ensures { result ≡ extended width value }
+{
+    widen(Bits::new(width, value), Width::W64, true).value
+}
+
 /// A number that is cut to a width, with its sign in front of it up to 64 bits.
 #[inline(always)]
 pub fn extend(width: Width, value: u64) -> u64
@@ -65,6 +127,6 @@ pub fn extend(width: Width, value: u64) -> u64
 {
     match width {
         Width::W64 => value,
-        _ => widen(Bits::new(width, value), Width::W64, true).value,
+        _ => extend_narrow(width, value),
     }
 }

@@ -138,6 +138,28 @@ done:
         ending: Ending::Stop(0),
     },
     Run {
+        name: "two phis alone that take each other's values",
+        program: "declare void @print_i64(i64)
+define i32 @main() {
+entry:
+  br label %loop
+loop:
+  %a = phi i64 [ 1, %entry ], [ %b, %loop ]
+  %b = phi i64 [ 2, %entry ], [ %a, %loop ]
+  call void @print_i64(i64 %a)
+  call void @print_i64(i64 %b)
+  %c = icmp eq i64 %a, 2
+  br i1 %c, label %done, label %loop
+done:
+  ret i32 0
+}
+",
+        numbers: &[],
+        limit: 100,
+        printed: "1\n2\n2\n1\n",
+        ending: Ending::Stop(0),
+    },
+    Run {
         name: "a stack that is full",
         program: "define i32 @main() {
 entry:

@@ -1,6 +1,5 @@
 -- What the code of a branch does to what the machine stands for.
-use Rattle.std.proofs.Common.{◌≡◌, ℕ, suc, ◌+◌, ◌≤◌, Bool, true, false, cond, nat_eq, length, List, [], ◌∷◌, Some, slice_get, refl, sym, ap, ◌∙◌, subst, arith, add-zero}
-use Rattle.std.proofs.lemmas.Option.{same_Some}
+use Rattle.std.proofs.Common.{◌≡◌, ℕ, suc, ◌+◌, ◌≤◌, Bool, true, false, cond, nat_eq, length, List, [], ◌∷◌, Some, slice_get, refl, sym, ◌∙◌, subst, arith, add-zero}
 use Rattle.hip_runs.specs.declared.event.Event.{Event}
 use Rattle.hip_runs.specs.declared.event.Event.TheVariants as events
 use Rattle.hip_runs.specs.State.{Frame}
@@ -18,7 +17,7 @@ use Rattle.hip_code.specs.declared.op.Edge.{Edge}
 use Rattle.hip_code.specs.declared.op.Go.{Go}
 use Rattle.hip_code.specs.declared.op.Op.TheVariants as ops
 use Rattle.hip_step.specs.declared.core_parts.Core.{Core}
-use Rattle.hip_step.specs.Acts.{Acts, Follows, Keeps, acted, numbers_of, seen_of}
+use Rattle.hip_step.specs.Acts.{Acts, Follows, acted, numbers_of, seen_of}
 use Rattle.hip_step.specs.Below.{AreSaved}
 use Rattle.hip_step.specs.Stands.{Stands, Stepped}
 use Rattle.hip_step.proofs.Arms.{counted_next, turn_next}
@@ -29,9 +28,6 @@ pub record EdgeIs (n : Numbers) (edge : Edge) : Type 0 where
   pub span : HasSpan edge.moves n.tables.moves
   pub read : AreRead n (entries_of edge.moves n.tables.moves)
   pub written : AreWritten n.base (length n.slots) (entries_of edge.moves n.tables.moves)
-
-pub edge_is : (n : Numbers) (number : ℕ) (edge : Edge) → EdgeWithin n number → slice_get n.tables.edges number ≡ Some edge → EdgeIs n edge
-edge_is n number edge w here = subst (EdgeIs n) (same_Some _ _ (sym w.here ∙ here)) (record { span = w.span; read = w.read; written = w.written })
 
 pub case_within : (n : Numbers) (v : ℕ) (cs : List Case) (other : ℕ) → CasesWithin n cs → EdgeWithin n other → EdgeWithin n (case_edge v cs other)
 case_within n v [] other c w = w
@@ -78,22 +74,3 @@ follows {code} {old} {new} {number} mid edge here made is = record {
 -- the op is a branch along that edge
 pub acts_branch : {code : Code} {old new : Core} {e : Event} {go : Go} (number : ℕ) → number ≡ edge_taken (numbers_of code old) go → Follows code old new e number → Acts code old new e (ops.Control (controls.Go go))
 acts_branch {code} {old} {new} {e} {go} number is f = record { acts = λ m b placed behind. (subst (Follows code old new e) is f).follows m b placed }
-
--- what is kept for moves is not part of a state
-pub keeps_scratch : {old new : Core} → new ≡ record old { values = new.values; slots = new.slots } → new.slots ≡ old.slots → Keeps old new
-keeps_scratch {old} {new} is same = record {
-  keeps = λ P I w f fs ls n s. subst (λ (c : Core). Stands P I c w f fs ls n) (sym (is ∙ ap (λ xs. record old { values = new.values; slots = xs }) same)) (record {
-    limit = s.limit;
-    turns = s.turns;
-    taken = s.taken;
-    ending = s.ending;
-    left = s.left;
-    placed = s.placed;
-    registers = s.registers;
-    mark = s.mark;
-    saved = s.saved;
-    blocks = s.blocks;
-    storage = s.storage;
-  });
-  taken = ap (λ (c : Core). c.taken) is;
-}

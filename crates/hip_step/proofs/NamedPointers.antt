@@ -45,14 +45,8 @@ rest_is : (args : List Arg) (i : ℕ) (a : Arg) → i < length args → a ≡ ge
 rest_is args i a below is =
     ap (flat_map pointer_arg) (drop-cons args i a below) ∙ ap₂ (λ x n. pointer_arg x ++ flat_map pointer_arg (drop n args)) (sym is) (sym (add-one i))
 
-pub pointer_skipped : (args : List Arg) (i k : ℕ) (a : Arg) → i < length args → a ≡ get_or args i a → is_pointer a.ty ≡ false → slice_get (flat_map pointer_arg (drop i args)) k ≡ slice_get (flat_map pointer_arg (drop (i + 1) args)) k
-pointer_skipped args i k a below is off = ap (λ xs. slice_get xs k) (rest_is args i a below is ∙ ap (λ xs. xs ++ flat_map pointer_arg (drop (i + 1) args)) (pointer_arg_is a false off))
-
 pub pointer_found : (args : List Arg) (i : ℕ) (a : Arg) → i < length args → a ≡ get_or args i a → is_pointer a.ty ≡ true → slice_get (flat_map pointer_arg (drop i args)) 0 ≡ Some a.value
 pointer_found args i a below is on = ap (λ xs. slice_get xs 0) (rest_is args i a below is ∙ ap (λ xs. xs ++ flat_map pointer_arg (drop (i + 1) args)) (pointer_arg_is a true on))
-
-pub pointer_passed : (args : List Arg) (i k : ℕ) (a : Arg) → i < length args → a ≡ get_or args i a → is_pointer a.ty ≡ true → slice_get (flat_map pointer_arg (drop i args)) (suc k) ≡ slice_get (flat_map pointer_arg (drop (i + 1) args)) k
-pointer_passed args i k a below is on = ap (λ xs. slice_get xs (suc k)) (rest_is args i a below is ∙ ap (λ xs. xs ++ flat_map pointer_arg (drop (i + 1) args)) (pointer_arg_is a true on))
 
 -- ---- the operands of an instruction
 

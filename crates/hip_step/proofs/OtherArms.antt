@@ -1,8 +1,5 @@
 -- What the code of an op on cache lines or on the outside does to what the machine stands for.
-use Rattle.std.proofs.Common.{◌≡◌, ℕ, zero, suc, ◌+◌, ◌^◌, ◌<◌, ◌≤◌, Bool, true, false, cond, length, List, [], ◌∷◌, drop, get_or, Option, Some, ℤ, refl, sym, ap, ◌∙◌, subst, arith, add-one, drop-cons}
-use Rattle.std.specs.Prelude.{pos, negsuc, FitsSigned}
-use Rattle.std.specs.Int.{cast_unsigned, w64}
-use Rattle.std.proofs.Math.Nat.{mod-eq_of_lt}
+use Rattle.std.proofs.Common.{◌≡◌, ℕ, zero, suc, ◌+◌, ◌<◌, ◌≤◌, Bool, true, false, cond, length, List, [], ◌∷◌, drop, get_or, Option, Some, ℤ, refl, sym, ap, ◌∙◌, subst, arith, add-one, drop-cons}
 use Rattle.hip_types.specs.Numbers.{signed, wrapped}
 use Rattle.hip_types.specs.declared.number.Width.TheVariants.{W64}
 use Rattle.hip_runs.specs.Actions.{Action, Traps, Flushes, Persists, Fences, Asserts, Prints, flushing, in_region, read_next}
@@ -112,11 +109,6 @@ acts_print {I} {code} {old} {new} {e} {value} v is d = record {
 
 -- ---- input numbers
 
--- a number with a sign as one without
-pub unsigned_is : (z : ℤ) → FitsSigned w64 z → cast_unsigned w64 z ≡ wrapped W64 z
-unsigned_is (pos n) h = sym (mod-eq_of_lt (let q : n < 2 ^ 64 = omega arith in q))
-unsigned_is (negsuc n) h = omega arith
-
 none_behind : {A : Type 0} (xs : List A) (k : ℕ) → length xs ≤ k → drop k xs ≡ []
 none_behind [] zero h = refl
 none_behind [] (suc k) h = refl
@@ -157,14 +149,4 @@ acts_read {I} {old} {new} {e} {dest} d z there number quiet is slots code = reco
         });
         event = quiet;
       });
-}
-
-pub acts_read_trap : {I : Input} {old new : Core} {e : Event} {dest : Option ℕ} → length I.numbers ≤ old.read → Does old new e true (λ m. Traps traps.InputEnd) → (code : Code) →
-    ActsOn I code old new e (ops.Memory (memories.Effect (effects.Outside (outsides.Read dest))))
-acts_read_trap {I} {old} {new} {e} {dest} none d code = record {
-  acts = λ m same b placed behind.
-      let name = result_name (names_at m.program m.top.function) dest in
-      let past : length m.input.numbers ≤ old.read = subst (λ (J : Input). length J.numbers ≤ old.read) (sym same) none in
-      let left : m.world.left ≡ [] = sym b.stands.left ∙ none_behind m.input.numbers old.read past in
-      subst (λ zs. let x = read_next name zs in Stepped m.program m.input new e (acted m true x) (seen_of m x)) (sym left) (d.does m b);
 }

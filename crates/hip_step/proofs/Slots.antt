@@ -21,10 +21,6 @@ pub put_is : (n : Numbers) (base : ℕ) (ms : List Move) (xs : List ℕ) → put
 put_is n base [] xs = refl
 put_is n base (m ∷ ms) xs = ap (λ ys. slice_set ys (base + m.dest) (operand_value n m.value)) (put_is n base ms xs)
 
-pub length-put : (n : Numbers) (base : ℕ) (ms : List Move) (xs : List ℕ) → length (put n base ms xs) ≡ length xs
-length-put n base [] xs = refl
-length-put n base (m ∷ ms) xs = length-set (put n base ms xs) (base + m.dest) (operand_value n m.value) ∙ length-put n base ms xs
-
 -- ---- frames that stay
 
 pub not_empty : (xs : List Activation) (x : Activation) → xs ++ x ∷ [] ≡ [] → ⊥

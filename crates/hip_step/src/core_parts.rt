@@ -40,7 +40,7 @@ pub struct Core {
 }
 
 impl Core {
-    // The run ends here, before the op.
+    /// The run ends here, before the op.
     #[inline(always)]
     pub fn cut(&mut self, ending: Ending)
         requires { self.old.taken + 1 < 2 ^ 128 }
@@ -50,7 +50,7 @@ impl Core {
         self.taken += 1;
     }
 
-    // The run ends here, in a turn.
+    /// The run ends here, in a turn.
     #[inline(always)]
     pub fn stop(&mut self, ending: Ending)
         requires taken { self.old.taken + 1 < 2 ^ 128 }
@@ -66,7 +66,7 @@ impl Core {
         self.turns += 1;
     }
 
-    // A turn is taken, and control goes along an edge.
+    /// A turn is taken, and control goes along an edge.
     #[inline(always)]
     pub fn go(&mut self, edge: Edge)
         requires taken { self.old.taken + 1 < 2 ^ 128 }
@@ -88,7 +88,7 @@ impl Core {
         self.turns += 1;
     }
 
-    // The next op, in a turn.
+    /// The next op, in a turn.
     #[inline(always)]
     pub fn pass(&mut self)
         requires taken { self.old.taken + 1 < 2 ^ 128 }
@@ -105,7 +105,7 @@ impl Core {
         self.turns += 1;
     }
 
-    // The next op, in no turn.
+    /// The next op, in no turn.
     #[inline(always)]
     pub fn move_on(&mut self)
         requires taken { self.old.taken + 1 < 2 ^ 128 }
@@ -119,7 +119,7 @@ impl Core {
         self.taken += 1;
     }
 
-    // The site of the top frame's place.
+    /// The site of the top frame's place.
     #[inline(always)]
     pub fn site(&self) -> Site
         requires { self.now.top.entry ≤ self.now.top.place }
@@ -136,7 +136,7 @@ impl Core {
         }
     }
 
-    // A slot takes a value, in a turn.
+    /// A slot takes a value, in a turn.
     #[inline(always)]
     pub fn assign(&mut self, slot: u32, value: u64)
         requires taken { self.old.taken + 1 < 2 ^ 128 }

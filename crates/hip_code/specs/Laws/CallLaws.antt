@@ -1,6 +1,6 @@
 -- The law of calls of defined functions.
-use Rattle.std.specs.Prelude.{ℕ, ◌+◌, ◌-◌, ◌≤◌, ◌≡◌, Bool, true, false, cond, not, nat_lt, List, [], ◌∷◌, length, Option, Some, None, slice_get}
-use Rattle.std.proofs.Common.{refl, sym, ap, ap₂, ◌∙◌, subst, arith}
+use Rattle.std.specs.Prelude.{ℕ, ◌+◌, ◌-◌, ◌≤◌, ◌≡◌, cond, not, nat_lt, List, length, Option, None}
+use Rattle.std.proofs.Common.{sym, ap, ap₂, ◌∙◌, subst, arith}
 use Rattle.std.proofs.lemmas.List.{length-map}
 use Rattle.std.proofs.lemmas.Option.{same_Some}
 use Rattle.hip_types.specs.declared.number.Scalar.{Scalar}
@@ -13,10 +13,9 @@ use Rattle.hip_runs.specs.declared.event.TrapKind.TheVariants as traps
 use Rattle.hip_runs.specs.declared.input.Input.{Input}
 use Rattle.hip_runs.specs.declared.limits.TheConstants.{MOST_FRAMES}
 use Rattle.hip_runs.specs.Actions.{Calls, Traps, bound_call, call_action, entered, instr_action, is_flush_or_fence, numbered_call}
-use Rattle.hip_runs.specs.Operands.{bound, value_of, values_of}
+use Rattle.hip_runs.specs.Operands.{value_of, values_of}
 use Rattle.hip_code.specs.Edges.{IsCall}
 use Rattle.hip_code.specs.Frames.{names_at}
-use Rattle.hip_code.specs.Moves.{moved}
 use Rattle.hip_code.specs.Named.{IsCallWith, passes_or_effects}
 use Rattle.hip_code.specs.Numbers.{Tables, entries_of}
 use Rattle.hip_code.specs.Resolved.{Resolves, numbers_at}

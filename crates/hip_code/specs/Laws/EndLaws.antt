@@ -1,13 +1,10 @@
 -- The laws of the ends of blocks.
-use Rattle.std.specs.Prelude.{ℕ, ◌+◌, ◌<◌, ◌≡◌, Bool, true, false, cond, nat_eq, List, [], ◌∷◌, length, Option, Some, None, slice_get}
+use Rattle.std.specs.Prelude.{ℕ, ◌≡◌, Bool, true, false, cond, nat_eq, List, [], ◌∷◌, Some, None, slice_get}
 use Rattle.std.proofs.Common.{zero, suc, refl, sym, ap, ap₂, ◌∙◌, subst}
 use Rattle.hip_types.specs.declared.number.Scalar.{Scalar}
 use Rattle.hip_types.specs.declared.number.Width.{Width}
-use Rattle.hip_ir.specs.declared.block.Block.{Block}
 use Rattle.hip_ir.specs.declared.block.Case as named_case
-use Rattle.hip_ir.specs.declared.block.Edge as named_edge
 use Rattle.hip_ir.specs.declared.block.End.TheVariants as ends
-use Rattle.hip_ir.specs.declared.block.Phi.{Phi}
 use Rattle.hip_ir.specs.declared.instr.Operand as named
 use Rattle.hip_ir.specs.declared.program.Program.{Program}
 use Rattle.hip_runs.specs.declared.input.Input.{Input}
@@ -17,7 +14,7 @@ use Rattle.hip_runs.specs.Places.{blocks_of, block_at, block_number, phis_of, la
 use Rattle.hip_runs.specs.State.{Registers, Frame, World}
 use Rattle.hip_code.specs.Edges.{IsEdge, are_cases}
 use Rattle.hip_code.specs.Frames.{HoldsFrame, names_at}
-use Rattle.hip_code.specs.Numbers.{Numbers, Tables, operand_value, entries_of, HasSpan}
+use Rattle.hip_code.specs.Numbers.{Tables, entries_of, HasSpan}
 use Rattle.hip_code.specs.Ops.{CasesWithin, EdgeWithin, GoWithin, case_edge, edge_action, edge_taken}
 use Rattle.hip_code.specs.Resolved.{IsOperand, Acting, EdgePlaced, EndResolves, GoPlaced, KnowsPhis, numbers_at}
 use Rattle.hip_code.specs.Laws.MoveLaws.{phis_are, phis_move}

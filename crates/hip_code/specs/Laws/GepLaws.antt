@@ -1,21 +1,18 @@
 -- The law of `getelementptr`.
-use Rattle.std.specs.Prelude.{ℕ, ◌⊎◌, ◌+◌, ◌*◌, ◌%◌, ◌^◌, ◌≤◌, ◌<◌, ◌≡◌, Bool, List, [], ◌∷◌, length, map, Option, Some, None, Ok, option_map, option_and_then, unwrap_or, slice_get}
+use Rattle.std.specs.Prelude.{ℕ, ◌+◌, ◌*◌, ◌%◌, ◌^◌, ◌≡◌, Bool, List, [], ◌∷◌, Some, Ok, option_map, option_and_then, unwrap_or, slice_get}
 use Rattle.std.proofs.Common.{refl, sym, ap, ap₂, ◌∙◌, subst, arith, inl, inr, zero, suc, add-zero}
 use Rattle.std.proofs.Math.Nat.{add-mod-mod, mod-add-mod, mul_comm}
 use Rattle.hip_types.specs.Layout.{Part, enter, enter_level, further, part_at, gep_of, size_of}
 use Rattle.hip_types.specs.declared.number.Width.{Width}
-use Rattle.hip_types.specs.declared.ty.Ty.{Ty, out-Ty}
-use Rattle.hip_types.specs.declared.ty.Ty.TheOpen.{Ty-F}
-use Rattle.hip_ir.specs.declared.constant.Const.{Const}
+use Rattle.hip_types.specs.declared.ty.Ty.{Ty}
 use Rattle.hip_ir.specs.declared.instr.Arg.{Arg}
 use Rattle.hip_ir.specs.declared.instr.Instr.TheVariants as instrs
 use Rattle.hip_ir.specs.declared.instr.Operand as named
-use Rattle.hip_ir.specs.declared.instr.Operand.TheVariants.{Fixed}
 use Rattle.hip_ir.specs.declared.program.GlobalVar.{GlobalVar}
 use Rattle.hip_ir.specs.declared.program.Program.{Program}
 use Rattle.hip_names.specs.Names.{number_of}
 use Rattle.hip_typing.specs.Registers.{arg_uses}
-use Rattle.hip_globals.specs.Values.{const_value, element_address}
+use Rattle.hip_globals.specs.Values.{element_address}
 use Rattle.hip_runs.specs.declared.input.Input.{Input}
 use Rattle.hip_runs.specs.Actions.{index_value, index_values, instr_action}
 use Rattle.hip_runs.specs.Operands.{value_of}
@@ -24,8 +21,8 @@ use Rattle.hip_runs.specs.State.{Registers}
 use Rattle.hip_code.specs.Frames.{are_known, HoldsFrame, names_at}
 use Rattle.hip_code.specs.Numbers.{Numbers, Tables, operand_value, is_within, entries_of, HasSpan}
 use Rattle.hip_code.specs.Paths.{IsFixed, IsScaled, is_path, is_gep, IsGep}
-use Rattle.hip_code.specs.Resolved.{IsOperand, Acting, Resolves, numbers_at}
-use Rattle.hip_code.specs.Values.{extended, term_value, sum_of, gep_value, GepWithin, TermsWithin}
+use Rattle.hip_code.specs.Resolved.{IsOperand, Resolves, numbers_at}
+use Rattle.hip_code.specs.Values.{extended, term_value, sum_of, TermsWithin}
 use Rattle.hip_code.specs.Laws.Operands.{operand_same, operand_within, gives}
 use Rattle.hip_code.specs.declared.op.Gep.TheVariants as geps
 use Rattle.hip_code.specs.declared.op.Op.TheVariants as ops

@@ -1,5 +1,5 @@
 -- The laws of loads, stores, blocks on the stack, and external functions.
-use Rattle.std.specs.Prelude.{ℕ, ◌+◌, ◌%◌, ◌<◌, ◌≤◌, ◌≡◌, Bool, true, false, cond, not, List, [], ◌∷◌, Option, Some, None}
+use Rattle.std.specs.Prelude.{ℕ, ◌%◌, ◌<◌, ◌≤◌, ◌≡◌, Bool, true, false, cond, not, List, [], ◌∷◌, Option, Some}
 use Rattle.std.proofs.Common.{refl, sym, ap, ap₂, ◌∙◌, subst, arith, inl, inr}
 use Rattle.hip_types.specs.Layout.{shape}
 use Rattle.hip_types.specs.Numbers.{modulus, signed}
@@ -30,7 +30,7 @@ use Rattle.hip_runs.specs.State.{Registers, World}
 use Rattle.hip_code.specs.Calls.{extern_op, are_taken, are_passed, line_op}
 use Rattle.hip_code.specs.Frames.{are_known, HoldsFrame, names_at}
 use Rattle.hip_code.specs.Named.{passes_or_effects}
-use Rattle.hip_code.specs.Numbers.{Numbers, Tables, operand_value}
+use Rattle.hip_code.specs.Numbers.{Numbers, Tables}
 use Rattle.hip_code.specs.Ops.{IsSize, EffectWithin, effect_action, op_turn, PersistenceWithin, persistence_action}
 use Rattle.hip_code.specs.Resolved.{IsOperand, is_result, effect_placed, Resolves, numbers_at}
 use Rattle.hip_code.specs.Laws.Operands.{operand_same, result_is}

@@ -1,5 +1,5 @@
 -- The laws of moves: those of phis at an edge, and those of arguments at a call.
-use Rattle.std.specs.Prelude.{ℕ, ◌+◌, ◌<◌, ◌≤◌, ◌≡◌, Bool, true, false, cond, List, [], ◌∷◌, length, map, Option, Some, None, slice_get}
+use Rattle.std.specs.Prelude.{ℕ, ◌+◌, ◌<◌, ◌≤◌, ◌≡◌, Bool, true, false, cond, List, [], ◌∷◌, length, map, Some, slice_get}
 use Rattle.std.specs.Str.{bytes_eq}
 use Rattle.std.proofs.Common.{zero, suc, refl, sym, ap, ap₂, ◌∙◌, subst, arith}
 use Rattle.std.proofs.lemmas.Slice.Eq.{bytes_eq-Decides}
@@ -9,7 +9,6 @@ use Rattle.hip_ir.specs.declared.instr.Arg.{Arg}
 use Rattle.hip_ir.specs.declared.instr.Operand as named
 use Rattle.hip_ir.specs.declared.program.GlobalVar.{GlobalVar}
 use Rattle.hip_ir.specs.declared.program.Param.{Param}
-use Rattle.hip_names.specs.Names.{number_of}
 use Rattle.hip_typing.specs.Registers.{arg_uses}
 use Rattle.hip_runs.specs.Actions.{after_phis}
 use Rattle.hip_runs.specs.Operands.{bound, value_of, values_of}
@@ -17,9 +16,9 @@ use Rattle.hip_runs.specs.State.{Registers}
 use Rattle.hip_code.specs.Frames.{are_known, IsKnown, HoldsFrame}
 use Rattle.hip_code.specs.Moves.{name_at, moved, put, AreRead, AreWritten}
 use Rattle.hip_code.specs.Numbers.{Numbers, operand_value, is_within}
-use Rattle.hip_code.specs.Resolved.{IsOperand, IsSlot, MovesPlaced}
-use Rattle.hip_code.specs.Edges.{edge_from, IsMove, are_moves, are_arguments}
-use Rattle.hip_code.specs.Laws.Operands.{SameValue, operand_same, operand_within}
+use Rattle.hip_code.specs.Resolved.{IsSlot, MovesPlaced}
+use Rattle.hip_code.specs.Edges.{edge_from, are_moves, are_arguments}
+use Rattle.hip_code.specs.Laws.Operands.{operand_same, operand_within}
 use Rattle.hip_code.specs.Laws.Slots.{holds_assigned, name_there, name_placed, slot_within}
 use Rattle.hip_code.specs.declared.op.Move.{Move}
 

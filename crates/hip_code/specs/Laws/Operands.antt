@@ -1,5 +1,5 @@
 -- Laws of resolved operands, and the law of an op that gives a value.
-use Rattle.std.specs.Prelude.{ℕ, ◌+◌, ◌<◌, ◌≡◌, true, List, [], ◌∷◌, length, Option, Some, None, Result, Ok, Err}
+use Rattle.std.specs.Prelude.{ℕ, ◌≡◌, true, List, Option, Some, None, Result}
 use Rattle.std.proofs.Common.{refl, ap, ap₂, arith}
 use Rattle.std.proofs.lemmas.Option.{slice_get_within, get_or_from_slice_get}
 use Rattle.hip_ir.specs.declared.instr.Operand as named
@@ -14,7 +14,7 @@ use Rattle.hip_runs.specs.State.{Registers, World}
 use Rattle.hip_code.specs.Frames.{IsKnown, HoldsFrame, names_at}
 use Rattle.hip_code.specs.Numbers.{Numbers, operand_value, is_within}
 use Rattle.hip_code.specs.Ops.{gave, result_name, HasResult}
-use Rattle.hip_code.specs.Resolved.{IsOperand, is_operand, is_result, result_placed, Acting}
+use Rattle.hip_code.specs.Resolved.{IsOperand, is_result, result_placed, Acting}
 use Rattle.hip_code.specs.Values.{value_result, ReadsWithin}
 use Rattle.hip_code.specs.Laws.Slots.{slot_within, name_there, name_placed}
 use Rattle.hip_code.specs.declared.op.Op.TheVariants as ops

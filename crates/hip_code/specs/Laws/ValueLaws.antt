@@ -1,5 +1,5 @@
 -- The laws of arithmetic, divisions, comparisons, selects and changes of type.
-use Rattle.std.specs.Prelude.{ℕ, ◌-◌, ◌%◌, ◌≡◌, Bool, true, false, cond, not, nat_eq, nat_lt, nat_le, int_lt, int_le, List, [], ◌∷◌, Some, Result, Ok, Err, ℤ, pos, negsuc}
+use Rattle.std.specs.Prelude.{ℕ, ◌%◌, ◌≡◌, true, cond, not, nat_eq, nat_lt, nat_le, int_lt, int_le, List, Some, Result, Ok, Err, ℤ, pos, negsuc}
 use Rattle.std.proofs.Common.{refl, sym, ap, ap₂, ◌∙◌, subst, arith}
 use Rattle.std.proofs.lemmas.Bool.Decides.{nat_tests}
 use Rattle.std.proofs.Math.Pow.{mod-mod-pow}
@@ -20,9 +20,8 @@ use Rattle.hip_ir.specs.declared.program.Program.{Program}
 use Rattle.hip_names.specs.Names.{number_of}
 use Rattle.hip_num.specs.Comparisons.{holds}
 use Rattle.hip_num.specs.declared.arithmetic.NumTrap.{NumTrap}
-use Rattle.hip_num.specs.declared.arithmetic.NumTrap.TheVariants as num_traps
 use Rattle.hip_runs.specs.declared.input.Input.{Input}
-use Rattle.hip_runs.specs.Actions.{Action, calculated, instr_action, truth, cast_value}
+use Rattle.hip_runs.specs.Actions.{calculated, instr_action, truth, cast_value}
 use Rattle.hip_runs.specs.Operands.{value_of}
 use Rattle.hip_types.specs.Scalars.{width_of}
 use Rattle.hip_code.specs.Frames.{names_at}
@@ -30,7 +29,7 @@ use Rattle.hip_code.specs.Numbers.{Numbers, Tables, operand_value, is_within}
 use Rattle.hip_code.specs.Ops.{gave}
 use Rattle.hip_code.specs.Resolved.{IsOperand, Acting, Resolves, numbers_at}
 use Rattle.hip_code.specs.Translated.{compare_op, cast_op}
-use Rattle.hip_code.specs.Values.{operation_of, division_of, operated, compared, extended, number_in, rest_result, RestWithin}
+use Rattle.hip_code.specs.Values.{operation_of, division_of, operated, compared, number_in, rest_result, RestWithin}
 use Rattle.hip_code.specs.Laws.Operands.{operand_same, gives}
 use Rattle.hip_code.specs.declared.op.DivisionOp.{DivisionOp}
 use Rattle.hip_code.specs.declared.op.IntegerOp.{IntegerOp}

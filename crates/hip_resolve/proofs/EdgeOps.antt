@@ -15,7 +15,6 @@ use Rattle.hip_names.specs.Names.{IsAmong, number_of}
 use Rattle.hip_names.specs.declared.table.NameTable.{NameTable}
 use Rattle.hip_calls.specs.Numbered.{Numbers}
 use Rattle.hip_types.specs.Laws.DistinctLaws.{get_kept}
-use Rattle.hip_typing.specs.Laws.Decided.{all-at}
 use Rattle.hip_code.specs.Edges.{IsMove, are_moves, edge_from}
 use Rattle.hip_code.specs.Numbers.{Tables}
 use Rattle.hip_code.specs.Resolved.{IsOperand}
@@ -26,15 +25,14 @@ use Rattle.hip_runs.specs.Places.{block_at, block_number, blocks_in, blocks_of, 
 use Rattle.hip_typing.specs.Registers.{end_labels}
 use Rattle.hip_typing.specs.Sound.{IsBlockAt, label_names}
 use Rattle.hip_code.specs.declared.op.Operand.{Operand}
-use Rattle.hip_resolve.specs.Edged.{Earlier, HasEdge, IsSource, IsTarget, LeadFrom, Leads, Moves, NewEdge, PhiKnown, moves_of}
+use Rattle.hip_resolve.specs.Edged.{HasEdge, IsSource, IsTarget, LeadFrom, Leads, Moves, NewEdge, PhiKnown, moves_of}
 use Rattle.hip_resolve.specs.PhiNumbers.{HasNumbers}
 use Rattle.hip_resolve.specs.Growth.{Grows, Makes, OnlyConstants}
-use Rattle.hip_resolve.specs.Known.{OperandKnown}
 use Rattle.hip_resolve.specs.Scopes.{Describes, names_of}
 use Rattle.hip_resolve.specs.declared.edges.Source.{Source}
 use Rattle.hip_resolve.specs.declared.scope.Scope.{Scope}
 use Rattle.hip_resolve.proofs.CallOps.{grows_moves}
-use Rattle.hip_resolve.proofs.Growth.{extends_by, extends_same, get_extended, get_last, grows_on, grows_same, makes_same, span_is, span_within}
+use Rattle.hip_resolve.proofs.Growth.{extends_by, extends_same, get_extended, get_last, grows_on, makes_same, span_is, span_within}
 use Rattle.hip_resolve.proofs.Names.{known_number}
 use Rattle.hip_resolve.proofs.Sound.{among_all, phi_known}
 
@@ -80,12 +78,6 @@ edge_found (e ∷ es) from k h =
 
 pub edge_numbered : (names : List (List ℕ)) (from : List ℕ) (p : Phi) (t : NameTable ℕ) → PhiKnown names from p → Numbers t.names t.values (map (λ e. e.label) p.edges) → number_of (map (λ e. e.label) p.edges) from ≡ None → ⊥
 edge_numbered names from p t known n e = let r = known_number (map (λ e. e.label) p.edges) from known.from_is in let q : ⊥ = cc (e, r.1) in q
-
-pub edge_there : (p : Phi) (from : List ℕ) (k : ℕ) → number_of (map (λ e. e.label) p.edges) from ≡ Some k → slice_get p.edges k ≡ None → ⊥
-edge_there p from k h e = let r = edge_found p.edges from k h in let there = r.here in let q : ⊥ = cc (e, there) in q
-
-pub edge_known : (names : List (List ℕ)) (from : List ℕ) (p : Phi) (k : ℕ) (e : named_edge.Edge) → PhiKnown names from p → slice_get p.edges k ≡ Some e → OperandKnown names e.value
-edge_known names from p k e known h = all-at (λ e. OperandKnown names e.value) p.edges k e known.edges h
 
 pub is_move : (globals : List GlobalVar) (base : ℕ) (names : List (List ℕ)) (constants from : List ℕ) (p : Phi) (k dest : ℕ) (o : Operand) (e : named_edge.Edge) → number_of (map (λ e. e.label) p.edges) from ≡ Some k → slice_get p.edges k ≡ Some e →
     number_of names p.dest ≡ Some dest → IsOperand globals base names constants o e.value → IsMove globals base names constants from (record { dest = dest; value = o }) p
@@ -221,17 +213,6 @@ lead_more s t u b first number target lead new = record { at = at }
         now q =
             let same : new.edge ≡ e = same_Some new.edge e (sym (subst (λ i. slice_get (t.edges ++ new.edge ∷ []) i ≡ Some new.edge) (sym q) (get_last t.edges new.edge)) ∙ h2) in
             subst (λ (x : Edge). Leads s v b k x.block) same (subst (λ z. Leads s v b k z) (sym new.block) (subst (λ i. Leads s v b i target) (new.number_is ∙ sym q) (new.makes.lasts v g)))
-
-pub edge_again : (s : Scope) (t : Tables) (source : Source) (number target : ℕ) (label : List ℕ) → LeadFrom s source.number source.first t → Earlier t source.first target number →
-    block_number (blocks_of s.program.now s.number) label ≡ Some target → HasEdge s t t source number label
-edge_again s t source number target label lead e n = record {
-  lead = lead;
-  cases = refl;
-  makes = record {
-    grows = grows_same t;
-    lasts = λ v g. record { target = target; numbered = n; leads = subst (λ z. Leads s v source.number number z) e.block (lead.at number e.edge e.from e.here v g) };
-  };
-}
 
 pub edge_new : (s : Scope) (t u : Tables) (source : Source) (number target : ℕ) (label : List ℕ) → LeadFrom s source.number source.first t → NewEdge s t u source.number number target →
     block_number (blocks_of s.program.now s.number) label ≡ Some target → HasEdge s t u source number label

@@ -2,7 +2,6 @@
 use Rattle.std.proofs.Common.{◌≡◌, ℕ, zero, suc, ◌+◌, ◌<◌, ◌≤◌, List, [], ◌∷◌, ◌++◌, length, take, drop, map, get_or, Some, slice_get, refl, sym, ap, ap₂, ◌∙◌, subst, inl, inr, arith, append_assoc, add-one}
 use Rattle.std.specs.Prelude.{slice_range}
 use Rattle.std.proofs.lemmas.List.{append-nil, length-append}
-use Rattle.std.proofs.lemmas.Option.{slice_get_within}
 use Rattle.std.proofs.Math.Seq.{drop-append_seam}
 use Rattle.hip_types.specs.declared.number.Width.{Width}
 use Rattle.hip_ir.specs.declared.block.Case as named_case
@@ -34,9 +33,6 @@ use Rattle.hip_resolve.proofs.Growth.{extends_by, extends_same, grows_on, makes_
 use Rattle.hip_resolve.proofs.ValueOps.{on_base}
 
 -- ---- edges from a block
-
-pub lead_none : (s : Scope) (b first : ℕ) (t : Tables) → first ≡ length t.edges → LeadFrom s b first t
-lead_none s b first t e = record { at = λ k x le h u g. absurd (let w = slice_get_within t.edges k x h in let q : ⊥ = omega (arith, w, le, e) in q) }
 
 pub lead_kept : (s : Scope) (b first : ℕ) (t u : Tables) → LeadFrom s b first t → Grows t u → u.edges ≡ t.edges → LeadFrom s b first u
 lead_kept s b first t u l g e = record { at = λ k x le h v more. l.at k x le (subst (λ es. slice_get es k ≡ Some x) e h) v (grows_on g more) }

@@ -1,5 +1,5 @@
 -- What the ops of `getelementptr` do.
-use Rattle.std.proofs.Common.{◌≡◌, ℕ, ◌<◌, ◌%◌, ◌^◌, Bool, List, [], ◌∷◌, length, get_or, arith, Some, sym, ap, ◌∙◌, subst}
+use Rattle.std.proofs.Common.{◌≡◌, ℕ, ◌<◌, ◌%◌, ◌^◌, Bool, List, [], Some, sym, ◌∙◌, subst}
 use Rattle.std.proofs.Math.Nat.{mod-eq_of_lt}
 use Rattle.hip_types.specs.declared.ty.Ty.{Ty}
 use Rattle.hip_ir.specs.declared.instr.Arg.{Arg}
@@ -47,9 +47,3 @@ module _ (s : Scope) (t : Tables) (name : List ℕ) (dest : ℕ) (ty : Ty) (x : 
         resolves_terms s.program.now I s.number t name dest b x ty args inbounds o l.whole span d (on_base q (subst (λ z. StandsFor s t z x) (sym a.is.0) h)) a.is.2
         (led l _ (sym a.is.3) I q) (a.is.1 ∙ offset_is small l);
   }
-
--- one term alone
-pub one_term : (xs : List Term) (x : Term) → length xs ≡ 1 → x ≡ get_or xs 0 x → xs ≡ x ∷ []
-one_term [] x l e = absurd (omega arith)
-one_term (y ∷ []) x l e = ap (λ z. z ∷ []) (sym e)
-one_term (y ∷ z ∷ ys) x l e = absurd (omega arith)

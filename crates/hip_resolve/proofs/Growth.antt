@@ -1,5 +1,5 @@
 -- Laws of tables that grow.
-use Rattle.std.proofs.Common.{◌≡◌, ℕ, ◌+◌, ◌-◌, ◌≤◌, List, take, drop, ap₂, arith, [], ◌∷◌, ◌++◌, length, Some, slice_get, refl, sym, ap, ◌∙◌, subst, append_assoc}
+use Rattle.std.proofs.Common.{◌≡◌, ℕ, ◌+◌, ◌-◌, ◌≤◌, List, take, drop, ap₂, arith, [], ◌∷◌, ◌++◌, length, Some, Result, Ok, Err, IfOk, slice_get, refl, sym, ap, ◌∙◌, subst, append_assoc}
 use Rattle.std.specs.Prelude.{slice_range}
 use Rattle.std.proofs.lemmas.List.{append-nil, drop-append-le, length-append, length-drop, take-append-le, take_rest}
 use Rattle.std.proofs.Math.Seq.{drop-append_seam}
@@ -45,6 +45,17 @@ makes_same t Fact h = record { grows = grows_same t; lasts = λ v g. h v }
 
 pub makes_also : {t u : Tables} {Fact Other : Tables → Type 0} → Makes t u Fact → ((v : Tables) → Fact v → Other v) → Makes t u Other
 makes_also m f = record { grows = m.grows; lasts = λ v g. f v (m.lasts v g) }
+
+-- the same of what a call gives where it gives something
+pub given_also : {A E : Type 0} (t u : Tables) {Fact Other : A → Tables → Type 0} (r : Result A E) → IfOk r (λ o. Makes t u (Fact o))
+    → ((o : A) (v : Tables) → Fact o v → Other o v) → IfOk r (λ o. Makes t u (Other o))
+given_also t u (Ok o) m f = makes_also m (f o)
+given_also t u (Err e) m f = m
+
+pub given_same : {A E : Type 0} (t : Tables) {Fact Other : A → Tables → Type 0} (r : Result A E) → IfOk r (λ o. (v : Tables) → Fact o v)
+    → ((o : A) (v : Tables) → Fact o v → Other o v) → IfOk r (λ o. Makes t t (Other o))
+given_same t (Ok o) m f = makes_same t _ (λ v. f o v (m v))
+given_same t (Err e) m f = m
 
 pub makes_both : {t u v : Tables} {Fact Other : Tables → Type 0} → Makes t u Fact → Makes u v Other → Makes t v (λ w. Fact w × Other w)
 makes_both m n = record { grows = grows_on m.grows n.grows; lasts = λ w g. (m.lasts w (grows_on n.grows g), n.lasts w g) }

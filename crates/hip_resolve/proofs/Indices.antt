@@ -1,7 +1,6 @@
 -- How far the indices of a `getelementptr` lead.
 use Rattle.std.proofs.Common.{◌≡◌, ℕ, zero, suc, ◌+◌, ◌*◌, ◌%◌, ◌^◌, ◌<◌, ◌≤◌, true, List, [], ◌∷◌, ◌++◌, length, drop, get_or, Option, Some, None, slice_get, option_map, refl, sym, ap, ◌∙◌, subst, inl, inr, arith, rules, append_assoc, add-one}
 use Rattle.std.specs.Prelude.{IsSome}
-use Rattle.std.specs.List.{list_all}
 use Rattle.std.proofs.lemmas.Bool.{and_parts}
 use Rattle.std.proofs.lemmas.List.{append-nil}
 use Rattle.std.proofs.lemmas.Option.{slice_get_within, get_or_from_slice_get}
@@ -246,11 +245,6 @@ goes_somewhere args k a t rest h = by_option (entered_by a.value (out-Ty t)) (ap
     by_option : (o : Option Ty) → goes_in (args_enter (drop (k + 1) args)) o ≡ true → IsSome o
     by_option None e = absurd (let q : ⊥ = cc in q)
     by_option (Some u) e = search rules
-
-pub index_spelled : (args : List Arg) (k : ℕ) (a : Arg) → list_all spelled_index args ≡ true → k < length args → a ≡ get_or args k a → spelled_index a ≡ true
-index_spelled [] k a h lt is = absurd (let q : ⊥ = omega (arith, lt) in q)
-index_spelled (x ∷ args) zero a h lt is = subst (λ z. spelled_index z ≡ true) (sym is) (and_parts (spelled_index x) (list_all spelled_index args) h).0
-index_spelled (x ∷ args) (suc k) a h lt is = index_spelled args k a (and_parts (spelled_index x) (list_all spelled_index args) h).1 (omega (arith, lt)) is
 
 -- there is a first index, and the others enter the type
 pub first_agrees : (args : List Arg) (t : Ty) → gep_agrees args t ≡ true → (0 < length args) × (args_enter (drop 1 args) t ≡ true)

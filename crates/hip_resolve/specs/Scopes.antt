@@ -21,9 +21,6 @@ use Rattle.hip_resolve.specs.Listed.{Lists}
 use Rattle.hip_resolve.specs.PhiNumbers.{HasTables}
 use Rattle.hip_resolve.specs.declared.scope.Scope.{Scope}
 
-abbrev pub program_of : Scope → Program
-program_of s = s.program.now
-
 -- the names of the function's registers
 abbrev pub names_of : Scope → List (List ℕ)
 names_of s = names_at s.program.now s.number

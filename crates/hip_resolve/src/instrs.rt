@@ -36,14 +36,8 @@ fn any_call(
         (λ t. (ret : Option Scalar) → DoesHere scope.now t o (instrs.Call dest.now ret callee.now args.now))) }
 {
     match ExternCall::named(callee.as_slice()) {
-        Some(named) => {
-            let op = extern_call(scope, tables, dest, callee, named, args)?;
-            Ok(op)
-        }
-        None => {
-            let op = call(scope, tables, dest, callee, args)?;
-            Ok(op)
-        }
+        Some(named) => { extern_call(scope, tables, dest, callee, named, args) }
+        None => { call(scope, tables, dest, callee, args) }
     }
 }
 
@@ -61,62 +55,41 @@ pub fn instr_op(scope: &Scope<'_, '_>, tables: &mut Growing, instr: &Instr) -> R
             a,
             b,
             ..
-        } => {
-            let made = binary(scope, tables, dest, *op, *width, a, b)?;
-            Ok(made)
-        }
+        } => { binary(scope, tables, dest, *op, *width, a, b) }
         Instr::Compare {
             dest,
             pred,
             ty,
             a,
             b,
-        } => {
-            let made = compare(scope, tables, dest, *pred, *ty, a, b)?;
-            Ok(made)
-        }
+        } => { compare(scope, tables, dest, *pred, *ty, a, b) }
         Instr::Select {
             dest,
             cond,
             a,
             b,
             ..
-        } => {
-            let made = select(scope, tables, dest, cond, a, b)?;
-            Ok(made)
-        }
+        } => { select(scope, tables, dest, cond, a, b) }
         Instr::Cast {
             dest,
             op,
             from,
             a,
             to,
-        } => {
-            let made = cast(scope, tables, dest, *op, *from, a, *to)?;
-            Ok(made)
-        }
-        Instr::Alloca { dest, ty, .. } => {
-            let made = alloca(scope, dest, ty)?;
-            Ok(made)
-        }
+        } => { cast(scope, tables, dest, *op, *from, a, *to) }
+        Instr::Alloca { dest, ty, .. } => { alloca(scope, dest, ty) }
         Instr::Load {
             dest,
             ty,
             addr,
             align,
-        } => {
-            let made = load(scope, tables, dest, *ty, addr, *align)?;
-            Ok(made)
-        }
+        } => { load(scope, tables, dest, *ty, addr, *align) }
         Instr::Store {
             ty,
             value,
             addr,
             align,
-        } => {
-            let made = store(scope, tables, *ty, value, addr, *align)?;
-            Ok(made)
-        }
+        } => { store(scope, tables, *ty, value, addr, *align) }
         Instr::Gep {
             dest,
             ty,
@@ -125,8 +98,7 @@ pub fn instr_op(scope: &Scope<'_, '_>, tables: &mut Growing, instr: &Instr) -> R
             ..
         } => {
             let chosen = indices.as_slice();
-            let made = gep(scope, tables, dest, ty, base, chosen)?;
-            Ok(made)
+            gep(scope, tables, dest, ty, base, chosen)
         }
         Instr::Call {
             dest,
@@ -135,8 +107,7 @@ pub fn instr_op(scope: &Scope<'_, '_>, tables: &mut Growing, instr: &Instr) -> R
             ..
         } => {
             let given = args.as_slice();
-            let made = any_call(scope, tables, dest, callee, given)?;
-            Ok(made)
+            any_call(scope, tables, dest, callee, given)
         }
     }
 }

@@ -33,14 +33,30 @@ pub fn resolve(alloc: Global, checked: &Checked, base: u64) -> Result<Code, NoMe
     let program = checked.program();
     let addresses = checked.addresses(alloc, base)?;
     let functions = function_names(alloc, program)?;
+    with_names(alloc, program, base, &addresses, &functions)
+}
+
+/// The code of a program whose addresses and function names are known.
+fn with_names<'p, 'a>(
+    alloc: Global,
+    program: &'p Program,
+    base: u64,
+    addresses: &'a GlobalAddresses<'p>,
+    functions: &'a NameSet<'p>,
+) -> Result<Code, NoMemory>
+    requires sound { IsSound program.now }
+    requires addresses { address_beside addresses.now ≡ global_address program.now.globals base }
+    requires functions { functions.now ≡ function_names program.now.functions }
+    ensures { IfOk result (λ code. IsResolved program.now base code) }
+{
     let starts = starts(alloc, program)?;
     let sizes = sizes(alloc, program)?;
     code_of(
         alloc,
         program,
         base,
-        &addresses,
-        &functions,
+        addresses,
+        functions,
         starts.as_slice(),
         sizes.as_slice(),
     )

@@ -1,16 +1,14 @@
 -- Marks that are at hand were met, and stay so.
-use Rattle.std.proofs.Common.{◌≡◌, ◌⊎◌, inl, inr, ℕ, Bool, true, cond, nat_eq, List, [], ◌∷◌, ◌++◌, Option, Some, slice_get, arith, refl, sym, ap, ◌∙◌}
+use Rattle.std.proofs.Common.{◌≡◌, ◌⊎◌, inl, inr, ℕ, Bool, true, cond, nat_eq, List, [], ◌∷◌, ◌++◌, Option, Some, slice_get, refl, sym, ap, ◌∙◌}
 use Rattle.std.specs.List.{list_any}
 use Rattle.hip_types.specs.Distinct.{met}
 use Rattle.hip_types.specs.Laws.DistinctLaws.{met-first, met-second, or_first}
-use Rattle.std.specs.Cmp.{nat_eq_equiv}
-use Rattle.std.proofs.lemmas.Bool.Decides.{nat_tests}
 use Rattle.hip_runs.specs.Found.Marks.{same_mark, unless_ended}
 use Rattle.hip_runs.specs.Laws.Found.FoundLaws.{mark_same, met-append, same_mark-equivalence}
 use Rattle.hip_runs.specs.declared.event.Event.{Event}
 use Rattle.hip_runs.specs.declared.event.Event.TheVariants as events
 use Rattle.hip_runs.specs.declared.report.Mark.{Mark}
-use Rattle.hip_report.specs.MarkKeys.{AreMet, mark_of, WereHit}
+use Rattle.hip_report.specs.MarkKeys.{AreMet, mark_of}
 use Rattle.hip_report.specs.Sights.{AddAlike}
 use Rattle.hip_report.specs.declared.marks.MarkKey.{MarkKey}
 
@@ -41,9 +39,6 @@ unless_alike (events.Assert a m) before xs ys h = h
 
 -- ---- what is at hand after a mark was met
 
-one_key : (x y : MarkKey) → Some x ≡ Some y → x ≡ y
-one_key x y e = cc
-
 pub met_at_hand : (before after : List Mark) (recent recent' : List (Option MarkKey)) (key : MarkKey) → AreMet before recent
     → after ≡ met same_mark before (mark_of key ∷ [])
     → ((i : ℕ) → (k : MarkKey) → slice_get recent' i ≡ Some (Some k) → (k ≡ key) ⊎ (slice_get recent i ≡ Some (Some k)))
@@ -65,13 +60,3 @@ at_hand_adds before ms recent m known h = known_adds before ms m (ap (λ (x : Ma
 
 pub hit_known : (hs : List ℕ) (g : ℕ) → list_any (nat_eq g) hs ≡ true → met nat_eq hs (g ∷ []) ≡ hs
 hit_known hs g e = met_known nat_eq hs g e
-
-pub hit_at_hand : (before after : List ℕ) (flags flags' : List Bool) (number : ℕ) → WereHit before flags → after ≡ met nat_eq before (number ∷ [])
-    → ((g : ℕ) → slice_get flags' g ≡ Some true → (g ≡ number) ⊎ (slice_get flags g ≡ Some true)) → WereHit after flags'
-hit_at_hand before after flags flags' number known is h g e = by (h g e)
-  where
-    by : (g ≡ number) ⊎ (slice_get flags g ≡ Some true) → list_any (nat_eq g) after ≡ true
-    by (inl same) =
-        let e : nat_eq g number ≡ true = grind (arith, nat_tests) in
-        ap (list_any (nat_eq g)) is ∙ met-second nat_eq_equiv g before (number ∷ []) (or_first _ _ e)
-    by (inr q) = ap (list_any (nat_eq g)) is ∙ met-first nat_eq_equiv g before (number ∷ []) (known g q)

@@ -192,13 +192,12 @@ fn region_of(machine: &Machine<'_>) -> u64
     machine.input().image.len() as u64
 }
 
-// Whether nothing is to be noted of a step with this event but that it was taken, where so many frames stood before it
-// and stand after it, and these are its new marks.
+// Whether nothing is to be noted of a step with this event and these new marks but the calls after it.
 #[inline(always)]
-fn is_nothing(event: Event, before: usize, after: usize, marks: &Row<Mark>) -> bool
-    ensures { result ≡ true → (is_still event ≡ true) × (after ≡ before) × (marks.now ≡ []) }
+fn changes_calls_alone(event: Event, marks: &Row<Mark>) -> bool
+    ensures { result ≡ true → (is_still event ≡ true) × (marks.now ≡ []) }
 {
-    is_still(event) && after == before && marks.is_empty()
+    is_still(event) && marks.is_empty()
 }
 
 #[inline(always)]
@@ -237,11 +236,14 @@ fn note_event(
     ensures header { OnOk result (notes.new.header ≡ notes.old.header) }
 {
     let after = machine.depth();
-    if is_nothing(seen, sight.depth, after, &sight.marks) {
-        note_still(notes, seen, machine);
-        return Ok(());
+    if !changes_calls_alone(seen, &sight.marks) {
+        return note_change(alloc, notes, sight, seen, machine, after);
     }
-    note_change(alloc, notes, sight, seen, machine, after)
+    if after != sight.depth {
+        return note_calls_alone(notes, sight, seen, machine, after);
+    }
+    note_still(notes, seen, machine);
+    Ok(())
 }
 
 // Notes a step of which nothing is to be noted but that it was taken.
@@ -265,6 +267,45 @@ fn note_still(notes: &mut Notes, seen: Event, machine: &Machine<'_>)
     stack_keeps_its_shape();
     let _input = machine.input();
     notes.steps += 1;
+}
+
+// Notes a step of which nothing is to be noted but the calls after it.
+#[inline(always)]
+fn note_calls_alone(
+    notes: &mut Notes,
+    sight: &Sight,
+    seen: Event,
+    machine: &Machine<'_>,
+    after: usize,
+) -> Result<(), NoMemory>
+    requires taken { 0 < machine.now.taken }
+    requires noted { AreNoted machine.now.program machine.now.input (machine.now.taken - 1) notes.old }
+    requires short { longest machine.now.program < 2 ^ 64 }
+    requires going { has_ended (run machine.now.program machine.now.input (machine.now.taken - 1)) ≡ false }
+    requires event { seen ≡ event machine.now.program machine.now.input (run machine.now.program machine.now.input
+        (machine.now.taken - 1)) }
+    requires still { is_still seen ≡ true }
+    requires site { sight.now.site ≡ next_site machine.now.program (run machine.now.program machine.now.input
+        (machine.now.taken - 1)) }
+    requires depth { sight.now.depth ≡ length (run machine.now.program machine.now.input
+        (machine.now.taken - 1)).frames }
+    requires after { after ≡ length (state_of machine.now).frames }
+    requires marks { AddAlike (map mark_of notes.old.marks.keys) [] (marks_ahead machine.now.program
+        machine.now.input (run machine.now.program machine.now.input (machine.now.taken - 1))) }
+    ensures noted { OnOk result (AreNoted machine.now.program machine.now.input machine.now.taken notes.new) }
+    ensures header { OnOk result (notes.new.header ≡ notes.old.header) }
+{
+    runs_are_bounded();
+    stack_keeps_its_shape();
+    let _input = machine.input();
+    let moment = Moment {
+        site: sight.site,
+        step: notes.steps,
+        entry: notes.entries + 1,
+    };
+    step_calls(notes, moment, sight.depth, after)?;
+    notes.steps += 1;
+    Ok(())
 }
 
 // Notes a step of which more is to be noted.

@@ -15,10 +15,6 @@ inside_length [] ls = let z : length {A = StandingCall} [] ≡ 0 = refl in omega
 inside_length (x ∷ xs) ls =
     let r = inside_length xs (record { call = x.site; birth = x.birth } ∷ ls) in omega (arith, r)
 
-pub inside_none : (cs : List StandingCall) (ls : List Level) → length cs ≡ 0 → calls_inside cs ls ≡ ls
-inside_none [] ls e = refl
-inside_none (x ∷ xs) ls e = absurd (omega (arith, e))
-
 shorter : (cs : List StandingCall) (n : ℕ) (ls : List Level) → length cs ≡ suc n
     → calls_inside (take n cs) ls ≡ drop 1 (calls_inside cs ls)
 shorter [] n ls e = absurd (omega (arith, e))

@@ -349,9 +349,3 @@ taken_before m m' c e going h =
     let back : suc m.taken - 1 ≡ m.taken = omega arith in
     subst (λ (x : Seen). AreNoted x.program x.input (x.taken - 1) c) (sym e)
     (subst (λ t. AreNoted m.program m.input (cond t m.taken (suc m.taken) - 1) c) (sym going) (subst (λ i. AreNoted m.program m.input i c) (sym back) h))
-
-pub tracked_before : (m m' : Seen) (c : Notes) → m' ≡ after_step m → has_ended (state_of m) ≡ false → AreTracked m.program m.input m.taken c → AreTracked m'.program m'.input (m'.taken - 1) c
-tracked_before m m' c e going h =
-    let back : suc m.taken - 1 ≡ m.taken = omega arith in
-    subst (λ (x : Seen). AreTracked x.program x.input (x.taken - 1) c) (sym e)
-    (subst (λ t. AreTracked m.program m.input (cond t m.taken (suc m.taken) - 1) c) (sym going) (subst (λ i. AreTracked m.program m.input i c) (sym back) h))

@@ -1,5 +1,5 @@
 -- The notes after a step of which nothing is to be noted but that it was taken.
-use Rattle.std.proofs.Common.{◌≡◌, ℕ, suc, ◌+◌, ◌-◌, true, false, cond, nat_eq, nat_lt, List, [], ◌∷◌, ◌++◌, length, map, drop, take, Option, Some, None, refl, sym, ap, ap₂, ◌∙◌, arith}
+use Rattle.std.proofs.Common.{◌≡◌, ℕ, suc, ◌+◌, ◌-◌, true, false, cond, nat_eq, nat_lt, List, [], ◌∷◌, ◌++◌, length, map, drop, take, Option, Some, None, refl, sym, ap, ap₂, ◌∙◌, subst, arith}
 use Rattle.std.proofs.lemmas.Bool.Decides.{nat_tests}
 use Rattle.hip_types.specs.Distinct.{met}
 use Rattle.hip_ir.specs.declared.program.Program.{Program}
@@ -19,7 +19,7 @@ use Rattle.hip_runs.specs.declared.event.Event.TheVariants as events
 use Rattle.hip_runs.specs.declared.input.Input.{Input}
 use Rattle.hip_runs.specs.declared.report.Mark.{Mark}
 use Rattle.hip_step.specs.Seen.{next_site}
-use Rattle.hip_report.specs.MarkKeys.{mark_of}
+use Rattle.hip_report.specs.MarkKeys.{AreMet, WereHit, mark_of}
 use Rattle.hip_report.specs.Noted.{AreNoted, Follows, Reported, births_after, calls_after, range_of}
 use Rattle.hip_report.specs.Sights.{AddAlike, is_still, leaves, marks_ahead}
 use Rattle.hip_report.specs.declared.notes.Notes.{Notes}
@@ -158,3 +158,33 @@ pub still_noted : (P : Program) (I : Input) (n : ℕ) → has_ended (run P I n) 
     → AddAlike (map mark_of c.marks.keys) [] (marks_ahead P I (run P I n)) → c' ≡ record c { steps = c.steps + 1 } → AreNoted P I (suc n) c'
 still_noted P I n going shaped c c' h still depth alike is =
     left_noted P I n going shaped c c' h (still_leaves (event P I (run P I n)) still) depth alike (is ∙ still_counted (event P I (run P I n)) still c)
+
+-- where no notes but those of the calls and the count of steps are changed
+pub calls_noted : (P : Program) (I : Input) (n : ℕ) → has_ended (run P I n) ≡ false → have_calls (run P I n).frames → (c c' c'' : Notes) → AreNoted P I n c
+    → is_still (event P I (run P I n)) ≡ true
+    → c'.calls ≡ calls_after (length (run P I n).frames) (length (run P I (suc n)).frames) c.steps (next_site P (run P I n)) c.calls
+    → c'.births.items ≡ births_after (length (run P I n).frames) (length (run P I (suc n)).frames) c.steps (next_site P (run P I n)) c.births.items
+    → c' ≡ record c { calls = c'.calls; births = c'.births }
+    → AddAlike (map mark_of c.marks.keys) [] (marks_ahead P I (run P I n)) → c'' ≡ record c' { steps = c'.steps + 1 } → AreNoted P I (suc n) c''
+calls_noted P I n going shaped c c' c'' h still calls births rest alike is =
+    let e = event P I (run P I n) in
+    let left = still_leaves e still in
+    let top = first_frame (run P I n).frames (standing-frame P I n) in
+    let same_marks : c.marks ≡ c'.marks = sym (ap (λ (x : Notes). x.marks) rest) in
+    let did : Did P I c c c c' c' c' c'' (shown (run P I (suc n)).lines) I.base (length I.image) e (next_site P (run P I n)) (length (run P I n).frames) (length (run P I (suc n)).frames) (marks_ahead P I (run P I n)) = record {
+      told = nothing_told e left I.base (length I.image) (shown (run P I (suc n)).lines) c;
+      r1 = refl;
+      follows = nothing_follows e left (next_site P (run P I n)) I.base c;
+      r2 = refl;
+      calls = calls;
+      births = births;
+      r3 = rest;
+      marks = nothing_marked e (map mark_of c'.marks.keys) (marks_ahead P I (run P I n)) (subst (λ x. AddAlike (map mark_of x.keys) [] (marks_ahead P I (run P I n))) same_marks alike);
+      known = subst (λ (x : Notes). AreMet (map mark_of x.marks.keys) x.recent.items) (sym rest) h.recent;
+      r4 = refl;
+      hits = nothing_hit e left P I c'.hit.keys;
+      flags = subst (λ (x : Notes). WereHit x.hit.keys x.flags.items) (sym rest) h.flags;
+      r5 = refl;
+      r6 = is ∙ still_counted e still c';
+    } in
+    assembled P I n going c c c c' c' c' c'' h I.base (length I.image) refl refl shaped top.0 top.1 top.2 did

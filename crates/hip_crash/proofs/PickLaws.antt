@@ -156,9 +156,6 @@ pub record AreFound (I : Input) (s : State) (image : List ℕ) (count : ℕ) (pi
   pub lines : (k : ℕ) (p : Pick) → slice_get picks k ≡ Some p → p.line ≡ k
   pub numbers : (k : ℕ) (p : Pick) → slice_get picks k ≡ Some p → IsNumberOf I s image k (Some p.upto)
 
-pub found-start : (I : Input) (s : State) (image : List ℕ) → AreFound I s image 0 []
-found-start I s image = record { many = refl; lines = λ k p e. absurd (let z : ⊥ = cc in z); numbers = λ k p e. absurd (let z : ⊥ = cc in z) }
-
 pub found-more : (I : Input) (s : State) (image : List ℕ) (count : ℕ) (picks : List Pick) (upto : ℕ) → AreFound I s image count picks → IsNumberOf I s image count (Some upto) → AreFound I s image (count + 1) (picks ++ record { line = count; upto = upto } ∷ [])
 found-more I s image count picks upto f n = record {
   many = length-append picks (new ∷ []) ∙ ap (λ k. k + 1) f.many;
@@ -329,6 +326,3 @@ module _ (S : State) (picks : List Pick) (place : ℕ) (d : Pick) (lt : place < 
   numbers-next ns h e =
       let k = failed-none S (take place picks) (place + 1) (get_or picks place d) e in
       subst (λ xs. AreNumbers (length S.lines) xs (slice_set ns (get_or picks place d).line (Some (get_or picks place d).upto))) (sym taken) (numbers-more (length S.lines) (take place picks) (get_or picks place d) ns h k.0 k.1)
-
-pub pick-line : (S : State) (earlier : List Pick) (at : ℕ) (p : Pick) → failure S earlier at p ≡ None → p.line < length S.lines
-pick-line S earlier at p e = (failed-none S earlier at p e).0

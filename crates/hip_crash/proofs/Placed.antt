@@ -153,14 +153,6 @@ changes-nothing m m' line c j = go (equal_or_not j line)
     go (inl s) = ap (kept_at m') s.1 ∙ c.here ∙ same (kept_at m line) ∙ ap (kept_at m) (sym s.1)
     go (inr s) = c.others j s.1
 
--- a cache line of which nothing is kept
-pub changes-none : (f : Kept → Kept) (m m' : KeptLines) (line : ℕ) → m' ≡ m → number_at m.directory line ≡ 0 → ChangesLine f line m m'
-unfolding line_at
-changes-none f m m' line e z = record {
-  here = ap (λ x. kept_at x line) e ∙ ap (λ n. option_map kept_in (at_place m.lines.items n)) z ∙ ap (λ n. option_map f (option_map kept_in (at_place m.lines.items n))) (sym z);
-  others = λ j ne. ap (λ x. kept_at x j) e;
-}
-
 -- ---- a line is added
 
 module _ (d d' : Directory) (xs : List KeptLine) (line : ℕ) (x : KeptLine) (h : ArePlaced d xs) (l : x.line ≡ line)

@@ -1,5 +1,5 @@
 -- What is read of a kept line.
-use Rattle.std.proofs.Common.{◌≡◌, ◌≢◌, ◌⊎◌, inl, inr, ℕ, ◌+◌, ◌<◌, ◌≤◌, List, [], ◌∷◌, ◌++◌, length, min, take, get_or, Option, Some, None, option_to_list, slice_get, refl, sym, ap, ◌∙◌, arith, length-append}
+use Rattle.std.proofs.Common.{◌≡◌, ◌≢◌, ◌⊎◌, inl, inr, ℕ, ◌+◌, ◌<◌, ◌≤◌, List, [], ◌∷◌, ◌++◌, length, min, take, get_or, Option, Some, None, option_to_list, slice_get, sym, ap, ◌∙◌, arith, length-append}
 use Rattle.std.proofs.lemmas.List.{take_all}
 use Rattle.std.proofs.lemmas.Option.{slice_get-get_or}
 use Rattle.hip_lines.specs.Laws.LooseLaws.{get-append_left, get-append_end}
@@ -27,9 +27,6 @@ pub record IsSearched (v : LineView) (start place : ℕ) (wanted bytes : List �
   pub at : bytes ≡ bytes_after (take place (later_in v)) start v.bytes
   pub none : (q : ℕ) → q < place → bytes_after (take q (later_in v)) start v.bytes ≢ wanted
 
-pub search-start : (v : LineView) (start : ℕ) (wanted : List ℕ) → IsSearched v start 0 wanted v.bytes
-search-start v start wanted = record { at = refl; none = λ q lt. absurd (omega (arith, lt)) }
-
 none-more : (v : LineView) (start place : ℕ) (wanted bytes : List ℕ) → IsSearched v start place wanted bytes → bytes ≢ wanted → (q : ℕ) → q < place + 1 → bytes_after (take q (later_in v)) start v.bytes ≢ wanted
 none-more v start place wanted bytes s ne q lt e = go (split q place lt) e
   where
@@ -47,9 +44,6 @@ search-more v start place wanted bytes new d lt s ne e = record {
   at = e ∙ ap (bytes_with (get_or v.later.now place d) start) s.at ∙ sym (after-more (later_in v) place (get_or v.later.now place d) start v.bytes (get-append_left v.later.now (option_to_list v.last) place lt ∙ slice_get-get_or v.later.now place d lt));
   none = none-more v start place wanted bytes s ne;
 }
-
-pub found-within : (v : LineView) (place : ℕ) → place ≤ length v.later.now → place ≤ length (later_in v)
-found-within v place h = omega (arith, h, length-append v.later.now (option_to_list v.last))
 
 -- the store that stands apart
 module _ (v : LineView) (start : ℕ) (wanted bytes : List ℕ) (place : ℕ) (all : place ≡ length v.later.now) (s : IsSearched v start place wanted bytes) (ne : bytes ≢ wanted) where

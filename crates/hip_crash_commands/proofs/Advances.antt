@@ -99,23 +99,6 @@ module _ {P : Program} {I : Input} {entry : ℕ} (has : HasEntry P I entry) {m :
       go n ended (inr (inl less)) = less
       go n ended (inr (inr more)) = absurd (no n ended (omega (arith, more)))
 
--- before the first step
-pub starts : (m : Seen) (entry : ℕ) → m.taken ≡ 0 → IsBefore m.program m.input entry m
-starts m entry none = record {
-  program = refl;
-  input = refl;
-  least = λ k less. absurd (omega (arith, less, none));
-}
-
--- with as many entries as are wanted, the run stands at the entry
-pub arrived : (start m : Seen) (entry : ℕ) → IsBefore start.program start.input entry m
-    → entry ≤ (run start.program start.input m.taken).counts.entries → Reaches start m entry
-arrived start m entry is enough = record {
-  program = is.program;
-  input = is.input;
-  at = record { enough = enough; least = is.least };
-}
-
 -- the entries that a log counts are those of the run
 pub counts_of : (start m : Seen) (entry : ℕ) → IsBefore start.program start.input entry m
     → (state_of m).counts.entries ≡ (run start.program start.input m.taken).counts.entries

@@ -1,5 +1,5 @@
 -- A trace in memory is replayed whole.
-use Rattle.std.proofs.Common.{◌≡◌, ℕ, List, [], ◌∷◌, Some, None, codes, refl, sym, ap, ◌∙◌, subst, length}
+use Rattle.std.proofs.Common.{◌≡◌, ℕ, List, [], ◌∷◌, Some, codes, refl, sym, ap, ◌∙◌, subst, length}
 use Rattle.std.specs.Prelude.{IfOk, IfSome, true, Option, Result, Ok, Err}
 use Rattle.hip_demo.specs.Replays as spec
 use Rattle.hip_demo.specs.declared.replayed.Kept.{Kept}
@@ -34,12 +34,6 @@ one_file text = record { name = codes "trace"; bytes = text } ∷ []
 
 found_there : (text : List ℕ) → file_of (one_file text) (codes "trace") ≡ Some text
 found_there text = refl
-
--- the file is there
-pub not_missing : (files : List NamedFile) (text : List ℕ) → files ≡ one_file text
-    → file_of files (codes "trace") ≡ None → ⊥
-not_missing files text same none =
-    let no : Some text ≡ None = sym (found_there text) ∙ ap (λ fs. file_of fs (codes "trace")) (sym same) ∙ none in cc
 
 -- and its whole text is ahead
 pub ahead_is : (files : List NamedFile) (text : List ℕ) (new : CabinetState) → files ≡ one_file text

@@ -5,7 +5,6 @@ use Rattle.std.specs.List.{All}
 use Rattle.std.specs.Prelude.{IfSome}
 use Rattle.hip_answers.specs.Answers.{Answer, Finishes, HasAnswered, PutsLine, Refused, Sinks, outcome_of}
 use Rattle.hip_answers.specs.Laws as answers
-use Rattle.hip_answers.specs.Statuses.{status_of_failure}
 use Rattle.hip_answers.specs.declared.status.Status.{Status}
 use Rattle.hip_answers.specs.declared.status.Status.TheVariants as statuses
 use Rattle.hip_io.specs.Cabinets.{CabinetState}
@@ -16,11 +15,10 @@ use Rattle.hip_io.specs.declared.sink.Put.TheVariants as puts
 use Rattle.hip_ir.specs.Show.{show}
 use Rattle.hip_ir.specs.declared.program.Program.{Program}
 use Rattle.hip_loading.specs.Laws.{met_then}
-use Rattle.hip_loading.specs.Loading.{IsProgramOf, Loads}
+use Rattle.hip_loading.specs.Loading.{IsProgramOf}
 use Rattle.hip_loading.specs.Outside.{HasMet}
 use Rattle.hip_loading.specs.declared.failure.Failure.{Failure}
 use Rattle.hip_loading.specs.declared.failure.Failure.TheVariants as failures
-use Rattle.hip_loading.specs.declared.refusal.LoadRefusal.{LoadRefusal}
 use Rattle.hip_many.specs.declared.reason.Reason.{Reason}
 use Rattle.hip_many_commands.specs.Asking.{AsksAll, HasAskedAll, status_of_traces}
 use Rattle.hip_many_commands.specs.Many.{HasRepairedMany, ManyAnswers, status_in}
@@ -40,13 +38,6 @@ use Rattle.hip_repairs.specs.declared.plan.CloneOf.{CloneOf}
 use Rattle.hip_trace_loading.specs.Runs.{AnswersOnRun}
 
 -- ---- no program
-
-pub unloaded : {old new : CabinetState} {p : List ℕ} {names : List (List ℕ)} (s : Sinks) (failure : Failure LoadRefusal)
-    → Loads p old new (Err failure) → s.out_new ≡ s.out → PutsLine (status_of_failure failure) s.notes s.notes_new
-    → HasAnswered (ManyAnswers old new p names) false old new s (status_of_failure failure)
-unloaded {old} {new} {p} {names} s failure h kept line =
-    answers.unloaded_by {table = ManyAnswers old new p names} s p failure (λ a u. inl u)
-    (λ u. inr (inl (record { met = u.met; current = u.current; is = refl }))) h kept line
 
 -- ---- a trace that is none
 

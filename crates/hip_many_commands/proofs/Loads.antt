@@ -1,6 +1,6 @@
 -- Traces that are loaded one after the other.
-use Rattle.std.proofs.Common.{◌≡◌, ◌⊎◌, ◌<◌, ◌+◌, ℕ, suc, false, List, [], ◌∷◌, ◌++◌, length, take, drop, get_or, Option, Err, refl, sym, ap, ◌∙◌, subst, arith}
-use Rattle.std.proofs.Math.Seq.{drop-cons, take-length}
+use Rattle.std.proofs.Common.{◌≡◌, ◌⊎◌, ◌<◌, ◌+◌, ℕ, suc, false, List, [], ◌∷◌, ◌++◌, length, take, drop, get_or, Option, Err, sym, ap, ◌∙◌, subst, arith}
+use Rattle.std.proofs.Math.Seq.{drop-cons}
 use Rattle.std.proofs.lemmas.List.{length-take-le, map-append, take-append-drop, take_more}
 use Rattle.std.proofs.lemmas.List.Elements.{All-append, All-cons, All-nil}
 use Rattle.std.specs.Prelude.{IfSome}
@@ -11,9 +11,8 @@ use Rattle.hip_loading.specs.Laws.{met_then}
 use Rattle.hip_loading.specs.Outside.{HasMet}
 use Rattle.hip_loading.specs.declared.failure.Failure.{Failure}
 use Rattle.hip_loading.specs.declared.failure.Failure.TheVariants as failures
-use Rattle.hip_many_commands.specs.Asking.{Asks, AsksAll, HasAsked, HasAskedAll, numbered}
+use Rattle.hip_many_commands.specs.Asking.{Asks, AsksAll, HasAsked, numbered}
 use Rattle.hip_many_commands.specs.Runs.{AreRunsOf, ComesBehindRuns, IsRunOf, TracedRun, plans_of, reports_of}
-use Rattle.hip_many_commands.specs.declared.loading.AllAsked.{AllAsked}
 use Rattle.hip_many_commands.specs.declared.loading.Asked.{Asked}
 use Rattle.hip_repair_answers.specs.TraceFiles.{HasNoTrace, ShowsNoMisfit}
 use Rattle.hip_repair_answers.specs.declared.refusal.TraceRefusal.{TraceRefusal}
@@ -116,26 +115,3 @@ module _ {P : Program} {names : List (List ℕ)} {start mid : CabinetState} {cou
     };
   }
   lacked new number failures.NoMemory same h = met_then some.met h
-
--- before the first
-pub asked_none : (P : Program) (names : List (List ℕ)) (start : CabinetState) → HasAskedSome P names start 0 [] 0 start
-asked_none P names start = record {
-  runs = [];
-  are = record { named = refl; each = All-nil (IsRunOf start.files P) };
-  met = record { files = refl; misses = refl; faults = refl };
-  plans_are = refl;
-  reports_are = refl;
-}
-
--- behind the last
-pub asked_all : (P : Program) (names : List (List ℕ)) (start now : CabinetState) (count : ℕ) (asked : AllAsked)
-    → count ≡ length names → HasAskedSome P names start count asked.plans asked.reports now
-    → HasAskedAll P names start now asked
-asked_all P names start now count asked over some = record {
-  runs = some.runs;
-  are =
-      subst (λ (ns : List (List ℕ)). AreRunsOf start.files P ns some.runs)
-      (ap (λ n. take n names) over ∙ take-length names) some.are;
-  met = some.met;
-  asked_are = record { plans_are = some.plans_are; reports_are = some.reports_are };
-}

@@ -1,5 +1,5 @@
 -- What was recorded of the repaired program's run, as an answer of `rerun`.
-use Rattle.std.proofs.Common.{◌≡◌, true, List, ◌++◌, length, refl, sym, ap, ◌∙◌, subst}
+use Rattle.std.proofs.Common.{◌≡◌, true, List, ◌++◌, length, refl, ap, ◌∙◌, subst}
 use Rattle.std.proofs.lemmas.Grind.{flat_map-append}
 use Rattle.hip_answers.specs.Answers.{Answer, Finishes, PutsLine, Sinks, WritesFront}
 use Rattle.hip_answers.specs.Laws.{cut_out, finished, ran_out_later}
@@ -11,26 +11,17 @@ use Rattle.hip_io.specs.declared.sink.Put.TheVariants as puts
 use Rattle.hip_ir.specs.declared.program.Program.{Program}
 use Rattle.hip_repair_answers.specs.Answers.{HasRerun}
 use Rattle.hip_repair_answers.specs.Cured.{IsCured, repaired_for}
-use Rattle.hip_repairs.specs.Choice.{plan_for}
-use Rattle.hip_repairs.specs.Direct.{direct}
-use Rattle.hip_repairs.specs.Laws.Unchanged.{valid_again}
 use Rattle.hip_replay.specs.Recording.{HasFailedRecording, HasRecorded, HasStoppedRecording}
 use Rattle.hip_replay.specs.declared.record.Recorded.{Recorded}
 use Rattle.hip_report_lines.specs.Counts.{rerun_counts}
 use Rattle.hip_run_traces.specs.Traces.{IsTrace}
 use Rattle.hip_runs.specs.Found.Marks.{IsFound}
 use Rattle.hip_runs.specs.Laws.Found.FoundLaws.{found_exists}
-use Rattle.hip_runs.specs.Validity.{IsValid}
 use Rattle.hip_runs.specs.declared.input.Input.{Input}
 use Rattle.hip_runs.specs.declared.report.Findings.{Findings}
 use Rattle.hip_trace.specs.Texts.{line_of, lines_of}
 use Rattle.hip_trace.specs.declared.entry.Entry.{Entry}
 use Rattle.hip_trace_loading.specs.Runs.{AnswersOnRun}
-
--- the input is valid for the repaired program too
-pub repaired_valid : (P Q : Program) (I : Input) (found : Findings) → Q ≡ repaired_for P found → IsValid P I → IsValid Q I
-repaired_valid P Q I found same valid =
-    subst (λ (R : Program). IsValid R I) (sym same) (valid_again P (plan_for P found) (direct P) I valid)
 
 abbrev pub answer : Findings → List Entry → Findings → Answer
 answer found trace after =

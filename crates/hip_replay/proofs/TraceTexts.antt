@@ -55,9 +55,6 @@ trace_zero P I = refl
 pub begins : (P : Program) (I : Input) (old new : SinkState) → AppendsAll old new (lines_of (header_of I)) → IsRecording P I (record { program = P; input = I; taken = 0 }) old new
 begins P I old new p = record { on = starts P I; written = subst (λ es. AppendsAll old new (lines_of es)) (sym (trace_zero P I)) p }
 
-pub begins_counted : (P : Program) (I : Input) (n : ℕ) → n ≡ length (header_of I) → n ≡ length (trace P I 0)
-begins_counted P I n e = e ∙ ap (λ es. length es) (sym (trace_zero P I))
-
 failed_at : (P : Program) (I : Input) (old new : SinkState) (n : ℕ) → AppendsPrefix old new (lines_of (trace P I n)) → HasFailedRecording P I old new
 failed_at P I old new n p =
     let whole = whole-trace P I in

@@ -36,8 +36,8 @@ pub(crate) struct Followed {
 }
 
 /// Compares the rest of the current file with the trace of the run on the input that its header gives: one entry is
-/// read for each that the run makes, and at most one behind the run's end. Memory is taken by the input and the machine
-/// alone, whatever the number of entries.
+/// read for each that the run makes, and at most one behind the run's end. Memory is taken by the input and the machine,
+/// and by what is noted: stores that are not durable, marks and reports.
 pub fn replay<C: Cabinet>(
     alloc: Global,
     checked: &Checked,

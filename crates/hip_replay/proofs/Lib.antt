@@ -1,4 +1,5 @@
 pub mod Followed
+pub mod Gatherings
 pub mod Going
 pub mod Noted
 pub mod Outputs

@@ -1,11 +1,11 @@
 -- What was written of a run's trace after some steps is the front of the trace.
 use Rattle.std.proofs.Common.{◌≡◌, ℕ, suc, ◌+◌, ◌^◌, ◌<◌, List, [], ◌++◌, length, Option, Some, None, is_some, length-append, append-nil, refl, sym, ap, ◌∙◌, subst, arith}
-use Rattle.std.specs.Prelude.{if◌then◌else◌}
+use Rattle.std.specs.Prelude.{Ok, Err, if◌then◌else◌}
 use Rattle.std.proofs.lemmas.Grind.{flat_map-append}
 use Rattle.hip_ir.specs.declared.program.Program.{Program}
-use Rattle.hip_io.specs.Laws.SinkLaws.{and_then, prefix_of_more, writes_nothing}
-use Rattle.hip_io.specs.Sinks.{SinkState, AppendsAll, AppendsPrefix, Writes}
-use Rattle.hip_io.specs.declared.sink.Put.TheVariants.{Done, Failed}
+use Rattle.hip_io.specs.Laws.SinkLaws.{prefix_of_more, writes_nothing}
+use Rattle.hip_io.specs.Sinks.{SinkState, AppendsAll, AppendsPrefix}
+use Rattle.hip_io.specs.declared.sink.Put.TheVariants.{Done}
 use Rattle.hip_run_traces.specs.Laws.TraceLaws.{length-trace, next-trace, whole-front, whole-trace}
 use Rattle.hip_run_traces.specs.Traces.{IsTrace, entry_list, entry_of_event, header_of, trace}
 use Rattle.hip_runs.specs.Outputs.{ending_by}
@@ -17,9 +17,11 @@ use Rattle.hip_invariants.specs.Bounds.{CountsFit}
 use Rattle.hip_step.specs.Seen.{Seen, after_step}
 use Rattle.hip_trace.specs.Texts.{line_of, lines_of}
 use Rattle.hip_trace.specs.declared.entry.Entry.{Entry}
-use Rattle.hip_replay.proofs.Going.{IsGoing, IsTold, ending_next, goes_on, starts, taken_next}
-use Rattle.hip_replay.proofs.Outputs.{written_all, written_part}
+use Rattle.hip_replay.proofs.Gatherings.{fails_behind, fails_last, gathers_more, puts_last}
+use Rattle.hip_replay.proofs.Going.{IsGoing, IsTold, ending_next, goes_on, taken_next}
+use Rattle.hip_replay.specs.Gathering.{HasPutBut, LeavesLast}
 use Rattle.hip_replay.specs.declared.ended.Ended.{Ended}
+use Rattle.hip_replay.specs.declared.refusal.RecordRefusal.TheVariants.{NoMemory}
 use Rattle.hip_replay.specs.Recording.{HasPutTrace, HasFailedRecording, HasStoppedRecording}
 
 -- ---- lines one after another
@@ -27,33 +29,19 @@ use Rattle.hip_replay.specs.Recording.{HasPutTrace, HasFailedRecording, HasStopp
 pub both_lines : (es fs : List Entry) → lines_of (es ++ fs) ≡ lines_of es ++ lines_of fs
 both_lines es fs = flat_map-append line_of es fs
 
-pub then_all : {old mid new : SinkState} (es fs : List Entry) → AppendsAll old mid (lines_of es) → AppendsAll mid new (lines_of fs) → AppendsAll old new (lines_of (es ++ fs))
-then_all {old} {mid} {new} es fs p q =
-    let both : Writes Done Done old new (lines_of es ++ lines_of fs) = and_then (written_all p) (written_all q) in
-    subst (λ text. AppendsAll old new text) (sym (both_lines es fs)) both.how
-
-pub then_part : {old mid new : SinkState} (es fs : List Entry) → AppendsAll old mid (lines_of es) → AppendsPrefix mid new (lines_of fs) → AppendsPrefix old new (lines_of (es ++ fs))
-then_part {old} {mid} {new} es fs p q =
-    let both : Writes Done Failed old new (lines_of es ++ lines_of fs) = and_then (written_all p) (written_part q) in
-    subst (λ text. AppendsPrefix old new text) (sym (both_lines es fs)) both.how
-
 pub part_of_more : {old new : SinkState} (es fs : List Entry) → AppendsPrefix old new (lines_of es) → AppendsPrefix old new (lines_of (es ++ fs))
 part_of_more {old} {new} es fs p = subst (λ text. AppendsPrefix old new text) (sym (both_lines es fs)) (prefix_of_more old new (lines_of es) (lines_of fs) p)
 
 -- ---- the run
 
--- a machine that goes on, and the lines of the trace of its steps
-pub record IsRecording (P : Program) (I : Input) (m : Seen) (old new : SinkState) : Type 0 where
+-- a machine that goes on, and the lines of the trace of its steps, of which the end is gathered
+pub record IsRecording (P : Program) (I : Input) (m : Seen) (old new : SinkState) (gathered : List ℕ) : Type 0 where
   pub on : IsGoing P I m
-  pub written : AppendsAll old new (lines_of (trace P I m.taken))
+  pub written : HasPutBut old new gathered (lines_of (trace P I m.taken))
 
 trace_zero : (P : Program) (I : Input) → trace P I 0 ≡ header_of I
 unfolding trace
 trace_zero P I = refl
-
--- the header was written
-pub begins : (P : Program) (I : Input) (old new : SinkState) → AppendsAll old new (lines_of (header_of I)) → IsRecording P I (record { program = P; input = I; taken = 0 }) old new
-begins P I old new p = record { on = starts P I; written = subst (λ es. AppendsAll old new (lines_of es)) (sym (trace_zero P I)) p }
 
 failed_at : (P : Program) (I : Input) (old new : SinkState) (n : ℕ) → AppendsPrefix old new (lines_of (trace P I n)) → HasFailedRecording P I old new
 failed_at P I old new n p =
@@ -99,31 +87,46 @@ module _ {P : Program} {I : Input} {m : Seen} (told : IsTold P I) (on : IsGoing 
   pub counted_on : (e : Event) (n more : ℕ) → event P I (run P I m.taken) ≡ e → n ≡ length (trace P I m.taken) → more ≡ length (entry_list (entry_of_event e)) → n + more ≡ length (trace P I (after_step m).taken)
   counted_on e n more at all one = counted e n more at all one ∙ ap (λ k. length (trace P I k)) (sym (taken_next told on))
 
-module _ {P : Program} {I : Input} {m : Seen} {old mid : SinkState} (told : IsTold P I) (is : IsRecording P I m old mid) where
-  pub stopped : HasStoppedRecording P I old mid
-  stopped = stopped_at P I old mid (trace P I m.taken) (whole-front P I m.taken) is.written
+-- the lines of the trace behind one step more
+lines_next : {P : Program} {I : Input} {m : Seen} (told : IsTold P I) (on : IsGoing P I m) (e : Event) → event P I (run P I m.taken) ≡ e → lines_of (trace P I m.taken) ++ lines_of (entry_list (entry_of_event e)) ≡ lines_of (trace P I (suc m.taken))
+lines_next {P} {I} {m} told on e at = sym (ap (λ es. lines_of es) (next_trace told on e at) ∙ both_lines (trace P I m.taken) (entry_list (entry_of_event e)))
 
-  pub more : (e : Event) (new : SinkState) → event P I (run P I m.taken) ≡ e → ending_by e ≡ None → AppendsAll mid new (lines_of (entry_list (entry_of_event e))) → IsRecording P I (after_step m) old new
-  more e new at goes put = record {
-    on = goes_on told is.on e at goes;
-    written = subst (λ n. AppendsAll old new (lines_of (trace P I n))) (sym (taken_next told is.on))
-        (subst (λ es. AppendsAll old new (lines_of es)) (sym (next_trace told is.on e at)) (then_all (trace P I m.taken) (entry_list (entry_of_event e)) is.written put));
+module _ {P : Program} {I : Input} {m : Seen} {old mid : SinkState} {gathered : List ℕ} (told : IsTold P I) (is : IsRecording P I m old mid gathered) where
+  next_written : (e : Event) (new : SinkState) (now : List ℕ) → event P I (run P I m.taken) ≡ e → HasPutBut mid new now (gathered ++ lines_of (entry_list (entry_of_event e))) → HasPutBut old new now (lines_of (trace P I (suc m.taken)))
+  next_written e new now at put = subst (λ text. HasPutBut old new now text) (lines_next told is.on e at) (gathers_more (lines_of (entry_list (entry_of_event e))) is.written put)
+
+  pub stopped : LeavesLast P I old mid gathered (Err NoMemory)
+  stopped = record {
+    whole = λ last h. stopped_at P I old last (trace P I m.taken) (whole-front P I m.taken) (puts_last is.written h);
+    part = λ last h. failed_at P I old last m.taken (fails_last is.written h);
   }
 
-  pub failed : (e : Event) (new : SinkState) → event P I (run P I m.taken) ≡ e → AppendsPrefix mid new (lines_of (entry_list (entry_of_event e))) → HasFailedRecording P I old new
-  failed e new at put =
-      failed_at P I old new (suc m.taken) (subst (λ es. AppendsPrefix old new (lines_of es)) (sym (next_trace told is.on e at)) (then_part (trace P I m.taken) (entry_list (entry_of_event e)) is.written put))
+  pub more : (e : Event) (new : SinkState) (now : List ℕ) → event P I (run P I m.taken) ≡ e → ending_by e ≡ None → HasPutBut mid new now (gathered ++ lines_of (entry_list (entry_of_event e))) → IsRecording P I (after_step m) old new now
+  more e new now at goes put = record {
+    on = goes_on told is.on e at goes;
+    written = subst (λ n. HasPutBut old new now (lines_of (trace P I n))) (sym (taken_next told is.on)) (next_written e new now at put);
+  }
 
-  pub recorded : (e : Event) (new : SinkState) (ending : Ending) (n more : ℕ) → event P I (run P I m.taken) ≡ e → ending_by e ≡ Some ending → AppendsAll mid new (lines_of (entry_list (entry_of_event e))) → n ≡ length (trace P I m.taken) → more ≡ length (entry_list (entry_of_event e)) → HasPutTrace P I old new (record { ending = ending; entries = n + more })
-  recorded e new ending n more at ends put all one =
+  pub failed : (e : Event) (new : SinkState) → event P I (run P I m.taken) ≡ e → AppendsPrefix mid new (gathered ++ lines_of (entry_list (entry_of_event e))) → HasFailedRecording P I old new
+  failed e new at put = failed_at P I old new (suc m.taken) (subst (λ text. AppendsPrefix old new text) (lines_next told is.on e at) (fails_behind (lines_of (entry_list (entry_of_event e))) is.written put))
+
+  pub recorded : (e : Event) (new : SinkState) (now : List ℕ) (ending : Ending) (n more : ℕ) → event P I (run P I m.taken) ≡ e → ending_by e ≡ Some ending → HasPutBut mid new now (gathered ++ lines_of (entry_list (entry_of_event e))) → n ≡ length (trace P I m.taken) → more ≡ length (entry_list (entry_of_event e)) → LeavesLast P I old new now (Ok (record { ending = ending; entries = n + more }))
+  recorded e new now ending n more at ends put all one =
       let ended : (run P I (suc m.taken)).world.ending ≡ Some ending = ending_next told is.on e at ∙ ends in
       record {
-        trace = trace P I (suc m.taken);
-        is_trace = record { steps = suc m.taken; ended = ap is_some ended; are = refl };
-        ended = ended;
-        entries = counted told is.on e n more at all one;
-        written = subst (λ es. AppendsAll old new (lines_of es)) (sym (next_trace told is.on e at)) (then_all (trace P I m.taken) (entry_list (entry_of_event e)) is.written put);
+        whole = λ last h. record {
+          trace = trace P I (suc m.taken);
+          is_trace = record { steps = suc m.taken; ended = ap is_some ended; are = refl };
+          ended = ended;
+          entries = counted told is.on e n more at all one;
+          written = puts_last (next_written e new now at put) h;
+        };
+        part = λ last h. failed_at P I old last (suc m.taken) (fails_last (next_written e new now at put) h);
       }
+
+-- there was no memory to gather, where the lines of the first steps were written
+pub stopped_behind : (P : Program) (I : Input) (old new : SinkState) (n : ℕ) → AppendsAll old new (lines_of (trace P I n)) → HasStoppedRecording P I old new
+stopped_behind P I old new n p = stopped_at P I old new (trace P I n) (whole-front P I n) p
 
 -- nothing was written
 pub stopped_first : (P : Program) (I : Input) (s : SinkState) → HasStoppedRecording P I s s
@@ -132,7 +135,7 @@ stopped_first P I s = stopped_at P I s s [] (λ es t. (es, refl)) (writes_nothin
 -- there was no memory behind the header
 pub stopped_header : (P : Program) (I : Input) (old new : SinkState) → AppendsAll old new (lines_of (header_of I)) → HasStoppedRecording P I old new
 stopped_header P I old new p =
-    stopped_at P I old new (trace P I 0) (whole-front P I 0) (subst (λ es. AppendsAll old new (lines_of es)) (sym (trace_zero P I)) p)
+    stopped_behind P I old new 0 (subst (λ es. AppendsAll old new (lines_of es)) (sym (trace_zero P I)) p)
 
 -- there was no memory behind the whole trace
 pub stopped_whole : (P : Program) (I : Input) (old new : SinkState) (done : Ended) → HasPutTrace P I old new done → HasStoppedRecording P I old new

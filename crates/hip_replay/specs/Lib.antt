@@ -1,3 +1,4 @@
+pub mod Gathering
 pub mod Noting
 pub mod Printing
 pub mod Recording

@@ -3,6 +3,7 @@
 
 mod compared;
 mod ended;
+mod gathered;
 mod print;
 mod record;
 mod refusal;

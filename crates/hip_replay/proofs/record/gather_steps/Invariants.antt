@@ -1,16 +1,17 @@
 use Rattle.std.proofs.Common.{◌≡◌, length}
-use Rattle.hip_io.specs.Sinks.{AppendsAll, SinkState}
+use Rattle.hip_io.specs.Sinks.{SinkState}
 use Rattle.hip_run_traces.specs.Traces.{trace}
 use Rattle.hip_trace.specs.Texts.{lines_of}
 use Rattle.hip_report.specs.Tracking.{HasNoted}
 use Rattle.hip_replay.proofs.Going.{IsGoing, steps_ahead}
-use Rattle.hip_replay.proofs.record.put_steps.Given as goal
+use Rattle.hip_replay.specs.Gathering.{HasPutBut}
+use Rattle.hip_replay.proofs.record.gather_steps.Given as goal
 
 abbrev pub invariant-steps : goal.invariant-steps
 invariant-steps g l = record {
   on : IsGoing l.fn.machine.program l.fn.machine.input l.machine;
   counted : l.entries ≡ length (trace l.fn.machine.program l.fn.machine.input l.machine.taken);
-  so_far : (start : SinkState) → AppendsAll start (g.S.Sink.state l.fn.out) (lines_of (trace l.fn.machine.program l.fn.machine.input l.fn.machine.taken)) → AppendsAll start (g.S.Sink.state l.out) (lines_of (trace l.fn.machine.program l.fn.machine.input l.machine.taken));
+  so_far : (start : SinkState) → HasPutBut start (g.S.Sink.state l.fn.out) l.fn.gathered (lines_of (trace l.fn.machine.program l.fn.machine.input l.fn.machine.taken)) → HasPutBut start (g.S.Sink.state l.out) l.gathered (lines_of (trace l.fn.machine.program l.fn.machine.input l.machine.taken));
   noted : HasNoted l.tracker l.machine;
   header : l.tracker.header ≡ l.fn.tracker.header;
 }

@@ -30,7 +30,8 @@ pub record LeavesLast (P : Program) (I : Input) (old new : SinkState) (gathered 
   pub part : (last : SinkState) → AppendsPrefix new last gathered → HasFailedRecording P I old last
 
 -- what was written of a run by the answer, and what is gathered
-abbrev pub GathersSteps : Program → Input → SinkState → SinkState → List ℕ → Result Ended RecordRefusal → Type 0
+abbrev pub GathersSteps : Program → Input → SinkState → SinkState → List ℕ → Result Ended RecordRefusal
+    → Type 0
 GathersSteps P I old new gathered (Ok done) = LeavesLast P I old new gathered (Ok done)
 GathersSteps P I old new gathered (Err refusals.NoMemory) =
     LeavesLast P I old new gathered (Err refusals.NoMemory)

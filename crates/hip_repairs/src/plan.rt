@@ -1,7 +1,7 @@
 use hip_ir::Site;
 use hip_types::Row;
 
-/// Where a program is repaired. Each list is strictly ascending.
+/// Where a program is repaired. In a plan that suits a program, each list is strictly ascending.
 #[derive(Debug, Drop)]
 pub struct Plan {
     /// The stores that a flush is put after.

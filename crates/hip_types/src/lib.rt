@@ -11,7 +11,7 @@ mod structural;
 mod text;
 mod ty;
 
-pub use layout::{FieldPlace, align, field_offset, field_place, fits, gep_offset, size};
+pub use layout::{align, field_offset, fits, gep_offset, size};
 pub use limits::{
     BASE_ALIGNMENT, DEEPEST_NESTING, HIGHEST_BASE, LARGEST_ALIGNMENT, LARGEST_COUNT,
     LARGEST_REGION, LARGEST_TYPE, LARGEST_VOLATILE, LOWEST_BASE,

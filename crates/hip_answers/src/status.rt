@@ -7,7 +7,7 @@ use hip_run_traces::MisfitKind;
 use hip_runs::TrapKind;
 
 /// Which file.
-#[derive(Clone, Copy, Debug, PartialEq, Eq)]
+#[derive(Clone, Copy, PartialEq, Eq)]
 pub enum FileRole {
     Program,
     Trace,
@@ -16,7 +16,7 @@ pub enum FileRole {
 }
 
 /// What came of a command.
-#[derive(Debug, Drop)]
+#[derive(Drop)]
 pub enum Status {
     /// It was carried out.
     Done,

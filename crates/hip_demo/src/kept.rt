@@ -9,7 +9,7 @@ use std::alloc::Global;
 use std::marker::Model;
 
 /// A sink whose bytes are kept; a piece for which there is no memory is not written.
-#[derive(Debug, Drop)]
+#[derive(Drop)]
 pub(crate) struct KeptText {
     text: Row<u8>,
     faults: u64,

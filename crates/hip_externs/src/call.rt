@@ -5,7 +5,7 @@ ghost use Rattle.hip_externs.specs.Externs.{call_of, row_of};
 use hip_types::{Scalar, Width};
 
 /// The external functions that a program may declare. One that is added stands here, in `CALLS` and in the table.
-#[derive(Clone, Copy, Debug, PartialEq, Eq)]
+#[derive(Clone, Copy, PartialEq, Eq)]
 pub enum ExternCall {
     ReadI64,
     PrintI64,
@@ -36,7 +36,7 @@ pub const CALLS: [ExternCall; 11] = [
 ];
 
 /// What an external function does to cache lines.
-#[derive(Clone, Copy, Debug, PartialEq, Eq)]
+#[derive(Clone, Copy, PartialEq, Eq)]
 pub enum LineEffect {
     Nothing,
     /// The lines are being written back; they are durable at the next fence.
@@ -47,7 +47,7 @@ pub enum LineEffect {
 }
 
 /// What is known of an external function before it runs.
-#[derive(Clone, Copy, Debug)]
+#[derive(Clone, Copy)]
 pub struct ExternRow {
     pub name: &'static [u8],
     pub ret: Option<Scalar>,

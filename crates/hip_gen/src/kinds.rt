@@ -7,7 +7,7 @@ ghost use Rattle.hip_gen.specs.declared.limits.TheConstants.{SEED_END};
 use crate::limits::SEED_END;
 
 /// What a group of instructions does.
-#[derive(Clone, Copy, Debug, PartialEq, Eq)]
+#[derive(Clone, Copy, PartialEq, Eq)]
 pub enum Kind {
     /// It stores into the persistent array.
     Store,

@@ -10,7 +10,7 @@ use hip_types::{NoMemory, Row, Scalar};
 use std::alloc::Global;
 
 /// Which functions inserted calls name.
-#[derive(Clone, Copy, Debug)]
+#[derive(Clone, Copy)]
 pub struct Needed {
     pub clwb: bool,
     pub sfence: bool,

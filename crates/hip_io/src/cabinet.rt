@@ -4,7 +4,7 @@ ghost use Rattle.hip_io.specs.Cabinets.{HasFetched, HasTaken};
 use hip_types::{Name, Row};
 
 /// A file with its name, both as bytes.
-#[derive(Debug, Drop)]
+#[derive(Drop)]
 pub struct NamedFile {
     pub name: Name,
     pub bytes: Row<u8>,
@@ -19,7 +19,7 @@ pub enum Fetched {
 }
 
 /// What came of a read of the current file. `Got` has how many bytes were taken, at least one.
-#[derive(Clone, Copy, Debug, PartialEq, Eq)]
+#[derive(Clone, Copy, PartialEq, Eq)]
 pub enum Taken {
     Got(usize),
     End,

@@ -9,14 +9,14 @@ use hip_types::Name;
 use std::marker::Model;
 
 /// Where a file fails: at each fetch, or at each read once that many of its bytes were taken.
-#[derive(Clone, Copy, Debug)]
+#[derive(Clone, Copy)]
 pub enum FailAt {
     Fetch,
     Byte(u64),
 }
 
 /// Files in memory of which one fails. It gives no byte past the place where it fails.
-#[derive(Debug, Drop)]
+#[derive(Drop)]
 pub struct FailingCabinet {
     inner: MemCabinet,
     name: Name,

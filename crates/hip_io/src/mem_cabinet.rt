@@ -7,14 +7,14 @@ use hip_types::Row;
 use std::marker::Model;
 
 /// Where a file is read: its number, and how many of its bytes were taken.
-#[derive(Clone, Copy, Debug)]
+#[derive(Clone, Copy)]
 pub struct Place {
     pub file: usize,
     pub taken: usize,
 }
 
 /// Files in memory. Of two files of one name the first counts.
-#[derive(Debug, Drop)]
+#[derive(Drop)]
 pub struct MemCabinet {
     files: Row<NamedFile>,
     chunk: usize,

@@ -4,7 +4,7 @@ use hip_types::{Bits, Name, NoMemory, Row, Scalar, Structural, Width};
 use std::alloc::Global;
 
 /// What a phi instruction takes where control comes from one block.
-#[derive(Debug, Drop)]
+#[derive(Drop)]
 pub struct Edge {
     pub value: Operand,
     /// The predecessor's label.
@@ -12,7 +12,7 @@ pub struct Edge {
 }
 
 /// A phi instruction, which chooses a value by the block that control comes from.
-#[derive(Debug, Drop)]
+#[derive(Drop)]
 pub struct Phi {
     pub dest: Name,
     pub ty: Scalar,
@@ -20,14 +20,14 @@ pub struct Phi {
 }
 
 /// Where a switch goes at one value.
-#[derive(Debug, Drop)]
+#[derive(Drop)]
 pub struct Case {
     pub value: Bits,
     pub label: Name,
 }
 
 /// The instruction that ends a basic block.
-#[derive(Debug, Drop)]
+#[derive(Drop)]
 pub enum End {
     /// A branch to a block.
     Br {
@@ -53,7 +53,7 @@ pub enum End {
 }
 
 /// A basic block: its phi instructions, then its other instructions, then its end.
-#[derive(Debug, Drop)]
+#[derive(Drop)]
 pub struct Block {
     pub label: Name,
     pub phis: Row<Phi>,

@@ -5,7 +5,7 @@ use std::alloc::Global;
 
 /// A constant; the type beside it says which forms may stand there.
 #[cycle(constant)]
-#[derive(Debug, Drop)]
+#[derive(Drop)]
 pub enum Const {
     Int(Bits),
     /// The pointer `null`.
@@ -21,7 +21,7 @@ pub enum Const {
 
 /// A constant `getelementptr`: the address of an element.
 #[cycle(constant)]
-#[derive(Debug, Drop)]
+#[derive(Drop)]
 pub struct ConstGep {
     pub inbounds: bool,
     pub ty: Ty,
@@ -31,7 +31,7 @@ pub struct ConstGep {
 
 /// A member of an aggregate constant.
 #[cycle(constant)]
-#[derive(Debug, Drop)]
+#[derive(Drop)]
 pub struct TypedConst {
     pub ty: Ty,
     pub value: Const,

@@ -4,14 +4,14 @@ use hip_types::{BinaryOp, CastOp, Name, NoMemory, Pred, Row, Scalar, Structural,
 use std::alloc::Global;
 
 /// A value that an instruction takes: a register's or a constant.
-#[derive(Debug, Drop)]
+#[derive(Drop)]
 pub enum Operand {
     Reg(Name),
     Fixed(Const),
 }
 
 /// An operand with its type.
-#[derive(Debug, Drop)]
+#[derive(Drop)]
 pub struct Arg {
     pub ty: Scalar,
     pub value: Operand,
@@ -19,7 +19,7 @@ pub struct Arg {
 
 /// A flag of an operation on integers: the result does not wrap as a number without sign, or as one with a sign;
 /// nothing is lost by a division or a shift to the right. It changes no value.
-#[derive(Clone, Copy, Debug, PartialEq, Eq)]
+#[derive(Clone, Copy, PartialEq, Eq)]
 pub enum Flag {
     Nuw,
     Nsw,
@@ -27,7 +27,7 @@ pub enum Flag {
 }
 
 /// Which flags an operation on integers has.
-#[derive(Clone, Copy, Debug, PartialEq, Eq)]
+#[derive(Clone, Copy, PartialEq, Eq)]
 pub struct Flags {
     pub nuw: bool,
     pub nsw: bool,
@@ -36,7 +36,7 @@ pub struct Flags {
 
 /// An instruction that neither stands at the head of a block nor ends it. `dest` is the register that
 /// it assigns, `align` the alignment that is written, in bytes.
-#[derive(Debug, Drop)]
+#[derive(Drop)]
 pub enum Instr {
     Binary {
         dest: Name,

@@ -7,7 +7,7 @@ use hip_types::{Name, NoMemory, Row, Scalar, Structural, Ty};
 use std::alloc::Global;
 
 /// A global variable.
-#[derive(Debug, Drop)]
+#[derive(Drop)]
 pub struct GlobalVar {
     pub name: Name,
     /// Whether it is a `constant`.
@@ -22,7 +22,7 @@ pub struct GlobalVar {
 }
 
 /// A declared function, which the machine knows by its name.
-#[derive(Debug, Drop)]
+#[derive(Drop)]
 pub struct Extern {
     /// The type of its result; none for `void`.
     pub ret: Option<Scalar>,
@@ -31,14 +31,14 @@ pub struct Extern {
 }
 
 /// A parameter of a function.
-#[derive(Debug, Drop)]
+#[derive(Drop)]
 pub struct Param {
     pub ty: Scalar,
     pub name: Name,
 }
 
 /// A function with its basic blocks.
-#[derive(Debug, Drop)]
+#[derive(Drop)]
 pub struct Function {
     /// The type of its result; none for `void`.
     pub ret: Option<Scalar>,
@@ -49,7 +49,7 @@ pub struct Function {
 }
 
 /// A program: its globals, declared functions and functions, each in the order of the text.
-#[derive(Debug, Drop)]
+#[derive(Drop)]
 pub struct Program {
     pub globals: Row<GlobalVar>,
     pub externs: Row<Extern>,

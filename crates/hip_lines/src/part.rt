@@ -1,5 +1,5 @@
 /// A store's bytes in one line: their offset in the region, their number, and the store's tag.
-#[derive(Clone, Copy, Debug, PartialEq, Eq, Drop)]
+#[derive(Clone, Copy, PartialEq, Eq, Drop)]
 pub struct Part {
     pub offset: u64,
     pub size: u32,
@@ -7,7 +7,7 @@ pub struct Part {
 }
 
 /// A byte of the region that is not durable, by the last part over it.
-#[derive(Clone, Copy, Debug, PartialEq, Eq, Drop)]
+#[derive(Clone, Copy, PartialEq, Eq, Drop)]
 pub struct LooseByte {
     /// The byte's offset in the region.
     pub offset: u64,

@@ -14,7 +14,7 @@ use hip_runs::{Ending, Event};
 use hip_trace::{Entry, Reader};
 
 /// How many entries of a trace are those of the steps that were taken, and the entry that was read behind them.
-#[derive(Clone, Copy, Debug)]
+#[derive(Clone, Copy)]
 pub struct Lockstep {
     pub next: Entry,
     pub entries: u128,

@@ -9,7 +9,7 @@ use hip_types::{NoMemory, Row};
 use std::alloc::Global;
 
 /// What a plan does at a site.
-#[derive(Debug, Clone, Copy, PartialEq, Eq)]
+#[derive(Clone, Copy, PartialEq, Eq)]
 pub enum Sort {
     /// A flush is put after it.
     Flush,
@@ -35,7 +35,7 @@ impl Sort {
 }
 
 /// Why the union of plans has a site.
-#[derive(Debug, Clone, Copy, PartialEq, Eq)]
+#[derive(Clone, Copy, PartialEq, Eq)]
 pub struct Reason {
     pub sort: Sort,
     pub site: Site,

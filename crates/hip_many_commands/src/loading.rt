@@ -15,14 +15,14 @@ use hip_typing::Checked;
 use std::alloc::Global;
 
 /// What a run asks for: the plan for it, and how many reports it has.
-#[derive(Debug, Drop)]
+#[derive(Drop)]
 pub(crate) struct Asked {
     pub plan: Plan,
     pub reports: usize,
 }
 
 /// What runs ask for: the plan for each, and how many reports they have together.
-#[derive(Debug, Drop)]
+#[derive(Drop)]
 pub(crate) struct AllAsked {
     pub plans: Row<Plan>,
     pub reports: u128,

@@ -11,7 +11,7 @@ use hip_typing::Checked;
 use std::alloc::Global;
 
 /// The union of plans, the reasons for its sites, and the program that is repaired by it.
-#[derive(Debug, Drop)]
+#[derive(Drop)]
 pub(crate) struct ManyRepair {
     pub plan: Plan,
     pub reasons: Row<Reason>,

@@ -8,7 +8,7 @@ use std::alloc::Global;
 use std::marker::Model;
 
 /// A block on the stack: its address and its size in bytes, and the site of the `alloca` that made it.
-#[derive(Clone, Copy, Debug)]
+#[derive(Clone, Copy)]
 pub struct Block {
     pub addr: u64,
     pub size: u64,

@@ -1,5 +1,5 @@
 /// How many first parts of its stores a cache line has in a crash image.
-#[derive(Debug, Clone, Copy, PartialEq, Eq, Drop)]
+#[derive(Clone, Copy, PartialEq, Eq, Drop)]
 pub struct Pick {
     /// The line's number in the region, counted from 0.
     pub line: u64,
@@ -7,7 +7,7 @@ pub struct Pick {
 }
 
 /// From how many first parts of its stores to how many a crash may leave in a cache line.
-#[derive(Debug, Clone, Copy, PartialEq, Eq, Drop)]
+#[derive(Clone, Copy, PartialEq, Eq, Drop)]
 pub struct Bounds {
     /// How many are durable.
     pub least: u64,

@@ -2,7 +2,7 @@ use hip_ir::Site;
 use hip_types::Row;
 
 /// Where a program is repaired. In a plan that suits a program, each list is strictly ascending.
-#[derive(Debug, Drop)]
+#[derive(Drop)]
 pub struct Plan {
     /// The stores that a flush is put after.
     pub flush_after: Row<Site>,
@@ -13,7 +13,7 @@ pub struct Plan {
 }
 
 /// A clone: the numbers of the function that it was made of and of itself.
-#[derive(Debug, Clone, Copy, PartialEq, Eq)]
+#[derive(Clone, Copy, PartialEq, Eq)]
 pub struct CloneOf {
     pub original: usize,
     pub copy: usize,

@@ -3,7 +3,7 @@ use hip_types::Row;
 use hip_typing::Checked;
 
 /// What a repair made of a program.
-#[derive(Debug, Drop)]
+#[derive(Drop)]
 pub struct Repaired {
     /// The repaired program.
     pub checked: Checked,

@@ -13,7 +13,7 @@ pub(crate) const PIECE: usize = 4_096;
 pub(crate) const ROOM: usize = 8_192;
 
 /// The end of a text that goes to a sink in pieces.
-#[derive(Debug, Drop)]
+#[derive(Drop)]
 pub(crate) struct Gathered {
     bytes: Vec<u8>,
 }

@@ -24,7 +24,7 @@ use hip_typing::Checked;
 use std::alloc::Global;
 
 /// How a recorded run has ended, how many entries its trace has, and what it found.
-#[derive(Debug, Drop)]
+#[derive(Drop)]
 pub struct Recorded {
     pub ending: Ending,
     pub entries: u128,

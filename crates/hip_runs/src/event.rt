@@ -1,7 +1,7 @@
 use hip_ir::Site;
 
 /// Why a run stopped short.
-#[derive(Debug, Clone, Copy, PartialEq, Eq)]
+#[derive(Clone, Copy, PartialEq, Eq)]
 pub enum TrapKind {
     /// A division by 0.
     DivZero,
@@ -24,7 +24,7 @@ pub enum TrapKind {
 }
 
 /// How a run ended.
-#[derive(Debug, Clone, Copy, PartialEq, Eq)]
+#[derive(Clone, Copy, PartialEq, Eq)]
 pub enum Ending {
     /// `main` returned this number.
     Stop(i32),
@@ -34,7 +34,7 @@ pub enum Ending {
 }
 
 /// What a step did that can be seen from outside. Stores, flushes and asserts are of the persistent region.
-#[derive(Debug, Clone, Copy, PartialEq, Eq)]
+#[derive(Clone, Copy, PartialEq, Eq)]
 pub enum Event {
     /// Nothing of the below.
     Quiet,
@@ -54,7 +54,7 @@ pub enum Event {
 }
 
 /// What an address may point into.
-#[derive(Debug, Clone, Copy, PartialEq, Eq)]
+#[derive(Clone, Copy, PartialEq, Eq)]
 pub enum Object {
     /// The global of that number.
     Global(usize),

@@ -1,7 +1,7 @@
 use hip_types::Row;
 
 /// What a run is given: where the persistent region lies and what it holds, the numbers that are read, and a limit.
-#[derive(Debug, Drop)]
+#[derive(Drop)]
 pub struct Input {
     /// The address of the region's first byte: a multiple of 4,096 from 2^32 to 2^46.
     pub base: u64,

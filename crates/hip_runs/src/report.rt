@@ -3,7 +3,7 @@ use hip_ir::Site;
 use hip_types::Row;
 
 /// What a store lacks to be durable, as the Hippocrates paper distinguishes it.
-#[derive(Debug, Clone, Copy, PartialEq, Eq)]
+#[derive(Clone, Copy, PartialEq, Eq)]
 pub enum Kind {
     /// A fence came after the store, and no flush before the check.
     MissingFlush,
@@ -14,7 +14,7 @@ pub enum Kind {
 }
 
 /// A store that a check found not durable.
-#[derive(Debug, Drop)]
+#[derive(Drop)]
 pub struct Report {
     /// The number of the store's entry in the trace, from 1.
     pub entry: u128,
@@ -30,7 +30,7 @@ pub struct Report {
 }
 
 /// That a pointer operand of an instruction pointed into an object.
-#[derive(Debug, Clone, Copy, PartialEq, Eq)]
+#[derive(Clone, Copy, PartialEq, Eq)]
 pub struct Mark {
     pub site: Site,
     /// Counted from 0 among the pointer operands of the instruction.
@@ -39,7 +39,7 @@ pub struct Mark {
 }
 
 /// What the pointers of a run pointed into, without repeats, in the order of first meeting.
-#[derive(Debug, Drop)]
+#[derive(Drop)]
 pub struct Marks {
     pub pointed: Row<Mark>,
     /// The numbers of the persistent globals that were stored into.
@@ -47,7 +47,7 @@ pub struct Marks {
 }
 
 /// What a run found.
-#[derive(Debug, Drop)]
+#[derive(Drop)]
 pub struct Findings {
     pub reports: Row<Report>,
     pub marks: Marks,

@@ -2,7 +2,7 @@ ghost use Rattle.std.specs.Prelude.{◌≡◌, ◌↔◌, IsTrue};
 ghost use Rattle.hip_trace.specs.Entries.{trap_text};
 
 /// The word for the reason why a run trapped.
-#[derive(Clone, Copy, Debug, PartialEq, Eq)]
+#[derive(Clone, Copy, PartialEq, Eq)]
 pub enum TrapWord {
     DivZero,
     DivOverflow,
@@ -16,7 +16,7 @@ pub enum TrapWord {
 }
 
 /// An entry of a trace. Addresses and sizes are in bytes.
-#[derive(Clone, Copy, Debug, PartialEq, Eq)]
+#[derive(Clone, Copy, PartialEq, Eq)]
 pub enum Entry {
     /// The limit of turns.
     Start { limit: u64 },

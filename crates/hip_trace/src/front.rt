@@ -7,7 +7,7 @@ use crate::held::Held;
 use hip_io::{Cabinet, Taken};
 
 /// What stands first in the bytes that a reader holds.
-#[derive(Clone, Copy, Debug)]
+#[derive(Clone, Copy)]
 pub(crate) enum Front {
     /// A piece of so many bytes, with a separator behind it.
     Piece(usize),

@@ -9,7 +9,7 @@ use hip_io::{Cabinet, Taken};
 use std::marker::Model;
 
 /// Bytes that were taken from a file and stand ahead of the reader, with room for more.
-#[derive(Debug, Drop)]
+#[derive(Drop)]
 pub(crate) struct Held {
     bytes: [u8; 4096],
     start: usize,

@@ -14,7 +14,7 @@ use hip_io::Cabinet;
 use std::marker::Model;
 
 /// Reads the entries of a cabinet's current file. It holds up to 4,096 bytes of the file inside its value.
-#[derive(Debug, Drop)]
+#[derive(Drop)]
 pub struct Reader {
     held: Held,
     count: u128,

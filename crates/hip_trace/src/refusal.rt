@@ -8,7 +8,7 @@ pub enum TraceRefusal {
 }
 
 /// Whether a reader reads on, or answers the same for good.
-#[derive(Clone, Copy, Debug, PartialEq, Eq)]
+#[derive(Clone, Copy, PartialEq, Eq)]
 pub enum Progress {
     Reading,
     /// The file has ended.

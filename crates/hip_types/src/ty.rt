@@ -7,7 +7,7 @@ use crate::row::Row;
 use std::alloc::Global;
 
 /// The type of a value in memory.
-#[derive(Debug, Drop)]
+#[derive(Drop)]
 pub enum Ty {
     Int(Width),
     /// A pointer, of 64 bits.

@@ -23,7 +23,7 @@ use std::alloc::Global;
 use std::marker::Model;
 
 /// A program that is sound.
-#[derive(Debug, Drop)]
+#[derive(Drop)]
 pub struct Checked {
     program: Program,
 }

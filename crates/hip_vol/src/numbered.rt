@@ -8,14 +8,14 @@ pub const FREE: u8 = 33;
 const LEVEL_SIZE: u64 = 67_108_864;
 
 /// The least level that a rule allows: one that is known, or the one behind an offset from that of a variable.
-#[derive(Clone, Copy, Debug)]
+#[derive(Clone, Copy)]
 pub enum Least {
     Known(u8),
     Behind { offset: u64, variable: usize },
 }
 
 /// A variable, by its number, and the least level that it may have.
-#[derive(Clone, Copy, Debug)]
+#[derive(Clone, Copy)]
 pub struct Rule {
     pub variable: usize,
     pub least: Least,

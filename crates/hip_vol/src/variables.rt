@@ -9,14 +9,14 @@ use std::alloc::Global;
 use std::marker::Model;
 
 /// What has a level: a register of a function, or the result of a function, each by the function's number.
-#[derive(Clone, Copy, Debug, PartialEq, Eq, Hash)]
+#[derive(Clone, Copy, PartialEq, Eq, Hash)]
 pub enum Variable<'p> {
     Register(usize, &'p [u8]),
     Result(usize),
 }
 
 /// The least level that a rule allows: one that is known, or the one behind an offset from that of a variable.
-#[derive(Clone, Copy, Debug)]
+#[derive(Clone, Copy)]
 pub enum Bound<'p> {
     Known(u8),
     Behind(u64, Variable<'p>),

@@ -1,5 +1,5 @@
 /// How many first parts of its stores a cache line has in a crash image.
-#[derive(Clone, Copy, PartialEq, Eq, Drop)]
+#[derive(Debug, Clone, Copy, PartialEq, Eq, Drop)]
 pub struct Pick {
     /// The line's number in the region, counted from 0.
     pub line: u64,

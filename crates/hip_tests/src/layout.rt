@@ -64,27 +64,44 @@ const ARRAY_PLACES: &[Place] = &[Place {
 fn assert_offsets(rt: &impl Abort, ty: &Ty, places: &[Place]) {
     for place in places {
         assert!(rt; fits(ty) && !place.indices.is_empty());
-        assert_eq!(rt; gep_offset(ty, place.indices), place.offset);
+        assert!(rt; gep_offset(ty, place.indices) == place.offset);
     }
+}
+
+/// Asserts that a type fits, and how many bytes it takes.
+fn assert_size(rt: &impl Abort, ty: &Ty, bytes: u64) {
+    assert!(rt; fits(ty));
+    assert_eq!(rt; size(ty), bytes);
+}
+
+/// An array type.
+fn array(rt: &impl Abort, alloc: Global, length: u64, element: Ty) -> Ty {
+    Ty::Array(length, Link::new(alloc, element).expect(rt, AMPLE))
+}
+
+fn assert_mixed(rt: &impl Abort, ty: &Ty) {
+    assert_size(rt, ty, 24);
+    assert!(rt; fits(ty) && align(ty) == 8);
+    assert_offsets(rt, ty, MIXED_PLACES);
 }
 
 #[test]
 fn layout_edges(rt: HostRuntime) {
-    let ty = mixed(&rt, rt.alloc());
-    assert!(rt; fits(&ty));
-    assert_eq!(rt; size(&ty), 24);
-    assert_eq!(rt; align(&ty), 8);
-    assert_offsets(&rt, &ty, MIXED_PLACES);
+    assert_mixed(&rt, &mixed(&rt, rt.alloc()));
     assert_offsets(&rt, &int(Width::W64), WORD_PLACES);
-    let words = Ty::Array(3, Link::new(rt.alloc(), int(Width::W32)).expect(&rt, AMPLE));
+    let words = array(&rt, rt.alloc(), 3, int(Width::W32));
     assert_offsets(&rt, &words, ARRAY_PLACES);
+}
+
+fn assert_copied(rt: &impl Abort, alloc: Global, ty: &Ty) {
+    let copy = copy_ty(alloc, ty).expect(rt, AMPLE);
+    assert!(rt; same_ty(ty, &copy));
 }
 
 #[test]
 fn copied_type(rt: HostRuntime) {
     let ty = mixed(&rt, rt.alloc());
-    let copy = copy_ty(rt.alloc(), &ty).expect(&rt, AMPLE);
-    assert!(rt; same_ty(&ty, &copy));
+    assert_copied(&rt, rt.alloc(), &ty);
     assert!(rt; !same_ty(&ty, &int(Width::W8)));
 }
 
@@ -92,35 +109,47 @@ fn copied_type(rt: HostRuntime) {
 fn nested(rt: &impl Abort, alloc: Global, depth: u8) -> Ty {
     let mut ty = int(Width::W8);
     for _ in 0..depth {
-        ty = Ty::Array(1, Link::new(alloc, ty).expect(rt, AMPLE));
+        ty = array(rt, alloc, 1, ty);
     }
     ty
 }
 
+/// The largest array type.
+fn largest(rt: &impl Abort, alloc: Global) -> Ty {
+    array(rt, alloc, 67_108_864, int(Width::W8))
+}
+
+/// No element of a type that is too large.
+fn none_of_large(rt: &impl Abort, alloc: Global) -> Ty {
+    let two = array(rt, alloc, 2, largest(rt, alloc));
+    array(rt, alloc, 0, two)
+}
+
+fn is_small(ty: Ty) -> bool {
+    fits(&ty)
+}
+
 #[test]
 fn deepest_types(rt: HostRuntime) {
-    assert!(rt; fits(&nested(&rt, rt.alloc(), 32)));
-    assert!(rt; !fits(&nested(&rt, rt.alloc(), 33)));
-    let largest = Ty::Array(
-        67_108_864,
-        Link::new(rt.alloc(), int(Width::W8)).expect(&rt, AMPLE),
-    );
-    assert!(rt; fits(&largest));
-    let two = Ty::Array(2, Link::new(rt.alloc(), largest).expect(&rt, AMPLE));
-    let none_of_large = Ty::Array(0, Link::new(rt.alloc(), two).expect(&rt, AMPLE));
-    assert!(rt; !fits(&none_of_large));
+    assert!(rt; is_small(nested(&rt, rt.alloc(), 32)));
+    assert!(rt; !is_small(nested(&rt, rt.alloc(), 33)));
+    assert!(rt; is_small(largest(&rt, rt.alloc())));
+    assert!(rt; !is_small(none_of_large(&rt, rt.alloc())));
+}
+
+/// `{ i8, i32, i8, i32, .. }`
+fn large_struct(rt: &impl Abort, alloc: Global) -> Ty {
+    let mut fields = Row::new(alloc);
+    for _ in 0..100_000u32 {
+        fields.push(int(Width::W8)).expect(rt, AMPLE);
+        fields.push(int(Width::W32)).expect(rt, AMPLE);
+    }
+    Ty::Struct(fields)
 }
 
 #[test]
 fn many_fields(rt: HostRuntime) {
-    let mut fields = Row::new(rt.alloc());
-    for _ in 0..100_000u32 {
-        fields.push(int(Width::W8)).expect(&rt, AMPLE);
-        fields.push(int(Width::W32)).expect(&rt, AMPLE);
-    }
-    let ty = Ty::Struct(fields);
-    assert!(rt; fits(&ty));
-    assert_eq!(rt; size(&ty), 800_000);
-    let copy = copy_ty(rt.alloc(), &ty).expect(&rt, AMPLE);
-    assert!(rt; same_ty(&ty, &copy));
+    let ty = large_struct(&rt, rt.alloc());
+    assert_size(&rt, &ty, 800_000);
+    assert_copied(&rt, rt.alloc(), &ty);
 }

@@ -4,6 +4,7 @@ ghost use Rattle.std.specs.Prelude.{◌≤◌};
 
 use hip_examples::AMPLE;
 use hip_mem::{MemTrap, PushRefusal, Ram, StoreRefusal};
+use std::alloc::Global;
 use std::process::Abort;
 
 /// Where the region begins.
@@ -50,60 +51,46 @@ enum Call {
     },
 }
 
-fn assert_stack_call(rt: &impl Abort, ram: &mut Ram, call: Call) {
-    match call {
-        Call::Push {
-            size,
-            align,
-            answer,
-        } => {
-            assert!(rt; 0 < align);
-            assert!(rt; ram.push_stack(size, align) == answer, "block of {size}");
-        }
-        Call::Pop { mark } => {
-            assert!(rt; STACK <= mark && mark <= ram.mark());
-            ram.pop_stack(mark);
-        }
-        Call::Mark { answer } => assert!(rt; ram.mark() == answer),
-        Call::Load { .. } | Call::Store { .. } | Call::Valid { .. } | Call::ValidRange { .. } => {}
+/// Takes blocks of the stack away down to a mark, if they reach that far.
+fn has_popped(ram: &mut Ram, mark: u64) -> bool {
+    let reaches = STACK <= mark && mark <= ram.mark();
+    if reaches {
+        ram.pop_stack(mark);
     }
+    reaches
 }
 
-fn assert_call(rt: &impl Abort, ram: &mut Ram, call: Call) {
+/// Makes a call, and gives whether the answer is the one that it names.
+fn has_answered(ram: &mut Ram, call: Call) -> bool {
     match call {
         Call::Load {
             addr,
             size,
             align,
             answer,
-        } => {
-            assert!(rt; 0 < size && size <= 8 && 0 < align);
-            assert!(rt; ram.load(addr, size, align) == answer, "load at {addr}");
-        }
+        } => 0 < size && size <= 8 && 0 < align && ram.load(addr, size, align) == answer,
         Call::Store {
             addr,
             size,
             align,
             value,
             answer,
-        } => {
-            assert!(rt; 0 < size && size <= 8 && 0 < align);
-            assert!(rt;
-                ram.store(addr, size, align, value) == answer,
-                "store at {addr}"
-            );
-        }
-        Call::Valid { addr, answer } => assert!(rt; ram.valid(addr) == answer, "byte {addr}"),
-        Call::ValidRange { addr, len, answer } => {
-            assert!(rt; ram.valid_range(addr, len) == answer, "{len} from {addr}");
-        }
-        of_the_stack => assert_stack_call(rt, ram, of_the_stack),
+        } => 0 < size && size <= 8 && 0 < align && ram.store(addr, size, align, value) == answer,
+        Call::Push {
+            size,
+            align,
+            answer,
+        } => 0 < align && ram.push_stack(size, align) == answer,
+        Call::Pop { mark } => has_popped(ram, mark),
+        Call::Mark { answer } => ram.mark() == answer,
+        Call::Valid { addr, answer } => ram.valid(addr) == answer,
+        Call::ValidRange { addr, len, answer } => ram.valid_range(addr, len) == answer,
     }
 }
 
 fn assert_calls(rt: &impl Abort, ram: &mut Ram, calls: &[Call]) {
-    for call in calls {
-        assert_call(rt, ram, *call);
+    for (number, call) in calls.iter().enumerate() {
+        assert!(rt; has_answered(ram, *call), "call {number}");
     }
 }
 
@@ -367,14 +354,24 @@ const LEFT: &[Call] = &[
     },
 ];
 
+/// A memory whose stack is full.
+fn full_ram(rt: &impl Abort, alloc: Global) -> Ram {
+    let mut ram = Ram::new(alloc, BASE, &[], &[]).expect(rt, AMPLE);
+    assert_calls(rt, &mut ram, FULL_STACK);
+    ram
+}
+
+fn full_rams(rt: &impl Abort, alloc: Global, count: u32) -> Vec<Ram> {
+    let mut rams = Vec::new(alloc);
+    for _ in 0..count {
+        rams.push(full_ram(rt, alloc)).expect(rt, AMPLE);
+    }
+    rams
+}
+
 #[test]
 fn pages_on_demand(rt: HostRuntime) {
-    let mut rams = Vec::new(rt.alloc());
-    for _ in 0..4000u32 {
-        let mut ram = Ram::new(rt.alloc(), BASE, &[], &[]).expect(&rt, AMPLE);
-        assert_calls(&rt, &mut ram, FULL_STACK);
-        rams.push(ram).expect(&rt, AMPLE);
-    }
+    let mut rams = full_rams(&rt, rt.alloc(), 4000);
     assert!(rt; rams.len() == 4000);
     for ram in &mut rams {
         assert_calls(&rt, ram, LEFT);

@@ -51,17 +51,15 @@ const NUMBERED: &[Numbered] = &[
     },
 ];
 
-#[test]
-fn names_are_numbered(rt: HostRuntime) {
-    let mut names = NameSet::new(rt.alloc());
-    for case in INSERTED {
-        assert!(rt;
-            names.insert(case.name.as_bytes()).expect(&rt, AMPLE) == case.is_new,
-            "{}",
-            case.name
-        );
+fn assert_inserted(rt: &impl Abort, names: &mut NameSet<'static>, cases: &[Inserted]) {
+    for case in cases {
+        let is_new = names.insert(case.name.as_bytes()).expect(rt, AMPLE);
+        assert!(rt; is_new == case.is_new, "{}", case.name);
     }
-    for case in NUMBERED {
+}
+
+fn assert_numbered(rt: &impl Abort, names: &NameSet<'_>, cases: &[Numbered]) {
+    for case in cases {
         let name = case.name.as_bytes();
         assert!(rt; names.number_of(name) == case.number, "{}", case.name);
         assert!(rt;
@@ -70,6 +68,13 @@ fn names_are_numbered(rt: HostRuntime) {
             case.name
         );
     }
+}
+
+#[test]
+fn names_are_numbered(rt: HostRuntime) {
+    let mut names = NameSet::new(rt.alloc());
+    assert_inserted(&rt, &mut names, INSERTED);
+    assert_numbered(&rt, &names, NUMBERED);
 }
 
 fn names_of<'a>(rt: &impl Abort, alloc: Global, names: &[&'a str]) -> NameSet<'a> {
@@ -92,12 +97,17 @@ const VALUES: &[(&str, u64)] = &[("x", 7), ("y", 8), ("x", 9)];
 
 const FIRST_VALUES: &[(&str, Option<u64>)] = &[("x", Some(7)), ("y", Some(8)), ("z", None)];
 
+fn table_of<'a>(rt: &impl Abort, alloc: Global, values: &[(&'a str, u64)]) -> NameTable<'a, u64> {
+    let mut table = NameTable::new(alloc);
+    for (name, value) in values {
+        table.add(name.as_bytes(), *value).expect(rt, AMPLE);
+    }
+    table
+}
+
 #[test]
 fn first_value_counts(rt: HostRuntime) {
-    let mut table = NameTable::new(rt.alloc());
-    for (name, value) in VALUES {
-        table.add(name.as_bytes(), *value).expect(&rt, AMPLE);
-    }
+    let table = table_of(&rt, rt.alloc(), VALUES);
     for (name, value) in FIRST_VALUES {
         assert!(rt; table.get(name.as_bytes()) == *value, "{name}");
     }

@@ -1,21 +1,41 @@
 use crate::files::FileCabinet;
 use hip_io::{ReadRefusal, read_all};
-use std::test::Fail;
+use std::process::Abort;
 use std::{fs, process};
 
+const BYTES: &str = "the bytes of a file";
+
+fn assert_read(rt: &impl Abort, host: &HostRuntime, cabinet: &mut FileCabinet<'_>, path: &str) {
+    let bytes = read_all(host.alloc(), cabinet, path, 100).expect(rt, "the file is read");
+    assert!(rt; bytes.as_slice() == BYTES.as_bytes());
+}
+
+fn assert_refused(
+    rt: &impl Abort,
+    host: &HostRuntime,
+    cabinet: &mut FileCabinet<'_>,
+    path: &str,
+    refusal: ReadRefusal,
+) {
+    let found = read_all(host.alloc(), cabinet, path, 100).err();
+    assert!(rt; found == Some(refusal), "{path}");
+}
+
+/// Asserts what is read of a file, of the same file once it is removed, and of a directory.
+fn assert_answers(rt: &impl Abort, host: &HostRuntime, path: &str) {
+    let mut cabinet = FileCabinet::new(host);
+    fs::write(host, path, BYTES).expect(rt, "the file is written");
+    assert_read(rt, host, &mut cabinet, path);
+    fs::remove_file(host, path).expect(rt, "the file is removed");
+    assert_refused(rt, host, &mut cabinet, path, ReadRefusal::Missing);
+    assert_refused(rt, host, &mut cabinet, "/tmp", ReadRefusal::ReadFault);
+}
+
 #[test]
-fn reads_back_a_file_that_was_written(rt: HostRuntime) -> Result<(), Fail> {
-    let path = format!(in rt.alloc(); "/tmp/hippo-adapter-test-{}", process::id(rt.process()))?;
-    fs::write(&rt, path.as_str(), "the bytes of a file")?;
-    let mut cabinet = FileCabinet::new(&rt);
-    let bytes = read_all(rt.alloc(), &mut cabinet, path.as_str(), 100)
-        .ok()
-        .ok_or("refused")?;
-    assert_eq!(rt; bytes.as_slice(), b"the bytes of a file".as_slice());
-    fs::remove_file(&rt, path.as_str())?;
-    let refusal = read_all(rt.alloc(), &mut cabinet, path.as_str(), 100).err();
-    assert_eq!(rt; refusal, Some(ReadRefusal::Missing));
-    let directory = read_all(rt.alloc(), &mut cabinet, "/tmp", 100).err();
-    assert_eq!(rt; directory, Some(ReadRefusal::ReadFault));
-    Ok(())
+fn reads_back_a_file_that_was_written(rt: HostRuntime) {
+    let path = format!(in rt.alloc();
+        "/tmp/hippo-adapter-test-{}",
+        process::id(rt.process())
+    ).expect(&rt, "there is memory");
+    assert_answers(&rt, &rt, path.as_str());
 }

@@ -1,47 +1,47 @@
 //! Which programs some text reads as.
 
-use crate::trees::{global, name, number, one_store, program_of};
+use crate::trees::{global, name, number, one, one_store, program_of};
 use hip_examples::AMPLE;
-use hip_ir::{Case, Const, End, Flags, Instr, Operand, Phi, spelled};
+use hip_ir::{Case, Const, End, Flags, Instr, Operand, Phi, Program, spelled};
 use hip_types::{BinaryOp, Bits, CastOp, Link, Row, Scalar, Ty, Width};
 use std::alloc::Global;
 use std::process::Abort;
 
 fn is_spelled_instr(rt: &impl Abort, alloc: Global, instr: Instr) -> bool {
-    let mut body = Row::new(alloc);
-    body.push(instr).expect(rt, AMPLE);
+    let body = one(rt, alloc, instr);
     let program = program_of(rt, alloc, "entry", Row::new(alloc), body, End::Unreachable);
     spelled(&program)
 }
 
-fn is_spelled_end(rt: &impl Abort, alloc: Global, end: End) -> bool {
-    let program = program_of(rt, alloc, "entry", Row::new(alloc), Row::new(alloc), end);
+fn is_spelled_end(rt: &impl Abort, alloc: Global, label: &str, end: End) -> bool {
+    let program = program_of(rt, alloc, label, Row::new(alloc), Row::new(alloc), end);
+    spelled(&program)
+}
+
+/// Whether a program with a global of this name besides is spelled.
+fn is_spelled_global(rt: &impl Abort, alloc: Global, text: &str) -> bool {
+    let mut program = one_store(rt, alloc, Some(64));
+    program
+        .globals
+        .push(global(rt, alloc, text, None))
+        .expect(rt, AMPLE);
     spelled(&program)
 }
 
 #[test]
 fn names_are_spelled(rt: HostRuntime) {
     let alloc = rt.alloc();
-    let mut program = one_store(&rt, alloc, Some(64));
+    let program = one_store(&rt, alloc, Some(64));
     assert!(rt; spelled(&program));
-    program
-        .globals
-        .push(global(&rt, alloc, "", None))
-        .expect(&rt, AMPLE);
-    assert!(rt; !spelled(&program));
+    assert!(rt; !is_spelled_global(&rt, alloc, ""));
     for label in ["", "1st", "a b"] {
-        let program = program_of(
-            &rt,
-            alloc,
-            label,
-            Row::new(alloc),
-            Row::new(alloc),
-            End::Unreachable,
+        assert!(rt;
+            !is_spelled_end(&rt, alloc, label, End::Unreachable),
+            "{label}"
         );
-        assert!(rt; !spelled(&program), "{label}");
     }
     let label = name(&rt, alloc, "%entry");
-    assert!(rt; !is_spelled_end(&rt, alloc, End::Br { label }));
+    assert!(rt; !is_spelled_end(&rt, alloc, "entry", End::Br { label }));
 }
 
 /// `add i64 1, 1` with these flags, and a second operand of this width.
@@ -97,25 +97,33 @@ fn additions_are_spelled(rt: HostRuntime) {
     }
 }
 
-#[test]
-fn pointers_are_spelled(rt: HostRuntime) {
-    let alloc = rt.alloc();
-    let narrowed = Instr::Cast {
-        dest: name(&rt, alloc, "r"),
+/// `ptrtoint` of a number of 64 bits to one of 32.
+fn narrowed(rt: &impl Abort, alloc: Global) -> Instr {
+    Instr::Cast {
+        dest: name(rt, alloc, "r"),
         op: CastOp::Ptrtoint,
         from: Scalar::Int(Width::W64),
         a: number(Width::W64),
         to: Scalar::Int(Width::W32),
-    };
-    assert!(rt; !is_spelled_instr(&rt, alloc, narrowed));
-    let without_index = Instr::Gep {
-        dest: name(&rt, alloc, "r"),
+    }
+}
+
+/// `getelementptr` without an index.
+fn without_index(rt: &impl Abort, alloc: Global) -> Instr {
+    Instr::Gep {
+        dest: name(rt, alloc, "r"),
         inbounds: true,
         ty: Ty::Ptr,
         base: Operand::Fixed(Const::Null),
         indices: Row::new(alloc),
-    };
-    assert!(rt; !is_spelled_instr(&rt, alloc, without_index));
+    }
+}
+
+#[test]
+fn pointers_are_spelled(rt: HostRuntime) {
+    let alloc = rt.alloc();
+    assert!(rt; !is_spelled_instr(&rt, alloc, narrowed(&rt, alloc)));
+    assert!(rt; !is_spelled_instr(&rt, alloc, without_index(&rt, alloc)));
 }
 
 /// An `alloca` of arrays of one element, so many deep, at this alignment.
@@ -153,52 +161,66 @@ const BLOCKS: &[Block] = &[
     },
 ];
 
+/// Arrays of one element, so many deep.
+fn nested(rt: &impl Abort, alloc: Global, depth: u32) -> Ty {
+    let mut ty = Ty::Ptr;
+    for _level in 0..depth {
+        ty = Ty::Array(1, Link::new(alloc, ty).expect(rt, AMPLE));
+    }
+    ty
+}
+
+fn alloca(rt: &impl Abort, alloc: Global, case: &Block) -> Instr {
+    Instr::Alloca {
+        dest: name(rt, alloc, "r"),
+        ty: nested(rt, alloc, case.depth),
+        align: Some(case.align),
+    }
+}
+
 #[test]
 fn limits_of_spelling(rt: HostRuntime) {
     let alloc = rt.alloc();
     for case in BLOCKS {
-        let mut ty = Ty::Ptr;
-        for _level in 0..case.depth {
-            ty = Ty::Array(1, Link::new(alloc, ty).expect(&rt, AMPLE));
-        }
-        let alloca = Instr::Alloca {
-            dest: name(&rt, alloc, "r"),
-            ty,
-            align: Some(case.align),
-        };
+        let alloca = alloca(&rt, alloc, case);
         assert!(rt; is_spelled_instr(&rt, alloc, alloca) == case.is_spelled);
     }
 }
 
 /// `switch i64 1, label %entry [ .. ]` with one case of this width
 fn switch(rt: &impl Abort, alloc: Global, width: Width) -> End {
-    let mut cases = Row::new(alloc);
-    cases
-        .push(Case {
-            value: Bits::new(width, 1),
-            label: name(rt, alloc, "entry"),
-        })
-        .expect(rt, AMPLE);
+    let case = Case {
+        value: Bits::new(width, 1),
+        label: name(rt, alloc, "entry"),
+    };
     End::Switch {
         width: Width::W64,
         value: number(Width::W64),
         other: name(rt, alloc, "entry"),
-        cases,
+        cases: one(rt, alloc, case),
     }
+}
+
+/// A program with a phi that has no edges.
+fn without_edges(rt: &impl Abort, alloc: Global) -> Program {
+    let phi = Phi {
+        dest: name(rt, alloc, "p"),
+        ty: Scalar::Ptr,
+        edges: Row::new(alloc),
+    };
+    let phis = one(rt, alloc, phi);
+    program_of(rt, alloc, "entry", phis, Row::new(alloc), End::Unreachable)
+}
+
+fn is_spelled_switch(rt: &impl Abort, alloc: Global, width: Width) -> bool {
+    is_spelled_end(rt, alloc, "entry", switch(rt, alloc, width))
 }
 
 #[test]
 fn blocks_are_spelled(rt: HostRuntime) {
     let alloc = rt.alloc();
-    assert!(rt; is_spelled_end(&rt, alloc, switch(&rt, alloc, Width::W64)));
-    assert!(rt; !is_spelled_end(&rt, alloc, switch(&rt, alloc, Width::W8)));
-    let mut phis = Row::new(alloc);
-    phis.push(Phi {
-        dest: name(&rt, alloc, "p"),
-        ty: Scalar::Ptr,
-        edges: Row::new(alloc),
-    })
-    .expect(&rt, AMPLE);
-    let without_edges = program_of(&rt, alloc, "entry", phis, Row::new(alloc), End::Unreachable);
+    assert!(rt; is_spelled_switch(&rt, alloc, Width::W64));
+    assert!(rt; !is_spelled_switch(&rt, alloc, Width::W8));
+    let without_edges = without_edges(&rt, alloc);
     assert!(rt; !spelled(&without_edges));
 }

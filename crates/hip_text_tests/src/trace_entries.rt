@@ -14,12 +14,11 @@ fn file(rt: &impl Abort, alloc: Global, text: &[u8], chunk: usize) -> MemCabinet
     requires { 1 ≤ chunk }
 {
     let mut files = Row::new(alloc);
-    files
-        .push(NamedFile {
-            name: Row::from_slice(alloc, b"t").expect(rt, AMPLE),
-            bytes: Row::from_slice(alloc, text).expect(rt, AMPLE),
-        })
-        .expect(rt, AMPLE);
+    let file = NamedFile {
+        name: Row::from_slice(alloc, b"t").expect(rt, AMPLE),
+        bytes: Row::from_slice(alloc, text).expect(rt, AMPLE),
+    };
+    files.push(file).expect(rt, AMPLE);
     MemCabinet::new(files, chunk)
 }
 
@@ -47,6 +46,26 @@ fn assert_reads<C: Cabinet>(
     assert_answer(rt, reader.next(cabinet), end, case);
     assert_answer(rt, reader.next(cabinet), end, case);
 }
+
+/// Reads the entries of a text that is given in chunks, and what comes behind them twice.
+fn assert_text(
+    rt: &impl Abort,
+    alloc: Global,
+    text: &[u8],
+    chunk: usize,
+    entries: &[Entry],
+    end: Answer,
+    case: &str,
+)
+    requires { 1 ≤ chunk }
+{
+    let mut cabinet = file(rt, alloc, text, chunk);
+    assert_reads(rt, &mut cabinet, entries, end, case);
+}
+
+const NO_MORE: Answer = Ok(None);
+
+const MALFORMED: Answer = Err(TraceRefusal::Malformed);
 
 /// A text that spells an entry, and the entry's canonical text.
 struct Spelling {
@@ -176,13 +195,14 @@ fn assert_written(rt: &impl Abort, alloc: Global, entry: &Entry, text: &str) {
 #[test]
 fn read_and_written(rt: HostRuntime) {
     for case in SPELLINGS {
-        let mut cabinet = file(&rt, rt.alloc(), case.text, 7);
-        assert_reads(&rt, &mut cabinet, &[case.entry], Ok(None), case.canonical);
-        assert_written(&rt, rt.alloc(), &case.entry, case.canonical);
+        let entries = &[case.entry];
+        let alloc = rt.alloc();
+        assert_text(&rt, alloc, case.text, 7, entries, NO_MORE, case.canonical);
+        assert_written(&rt, alloc, &case.entry, case.canonical);
     }
 }
 
-const MALFORMED: &[&str] = &[
+const MALFORMED_TEXTS: &[&str] = &[
     "",
     "start;1",
     "START",
@@ -220,20 +240,28 @@ const MALFORMED: &[&str] = &[
 ];
 
 /// A text and a separator behind it, with an entry in front.
+fn behind_an_entry(rt: &impl Abort, alloc: Global, text: &str) -> Vec<u8> {
+    let mut bytes = Vec::new(alloc);
+    bytes.extend_from_slice(b"CUT|").expect(rt, AMPLE);
+    bytes.extend_from_slice(text.as_bytes()).expect(rt, AMPLE);
+    bytes.push(b'\n').expect(rt, AMPLE);
+    bytes
+}
+
 #[test]
 fn malformed(rt: HostRuntime) {
-    for text in MALFORMED {
-        let mut bytes = Vec::new(rt.alloc());
-        bytes.extend_from_slice(b"CUT|").expect(&rt, AMPLE);
-        bytes.extend_from_slice(text.as_bytes()).expect(&rt, AMPLE);
-        bytes.push(b'\n').expect(&rt, AMPLE);
-        let mut cabinet = file(&rt, rt.alloc(), bytes.as_slice(), 4096);
-        assert_reads(
+    for text in MALFORMED_TEXTS {
+        let alloc = rt.alloc();
+        let bytes = behind_an_entry(&rt, alloc, *text);
+        let entries = &[Entry::Cut];
+        assert_text(
             &rt,
-            &mut cabinet,
-            &[Entry::Cut],
-            Err(TraceRefusal::Malformed),
-            text,
+            alloc,
+            bytes.as_slice(),
+            4096,
+            entries,
+            MALFORMED,
+            *text,
         );
     }
 }
@@ -259,17 +287,17 @@ const TWO_STORES_ENTRIES: &[Entry] = &[
 #[test]
 fn cut_anywhere(rt: HostRuntime) {
     for chunk in 1..60 {
-        let mut cabinet = file(&rt, rt.alloc(), TWO_STORES, chunk);
-        assert_reads(
+        assert_text(
             &rt,
-            &mut cabinet,
+            rt.alloc(),
+            TWO_STORES,
+            chunk,
             TWO_STORES_ENTRIES,
-            Ok(None),
+            NO_MORE,
             "two stores",
         );
     }
-    let mut cabinet = file(&rt, rt.alloc(), b"", 1);
-    assert_reads(&rt, &mut cabinet, &[], Ok(None), "no byte");
+    assert_text(&rt, rt.alloc(), b"", 1, &[], NO_MORE, "no byte");
 }
 
 /// A store of which the address has as many leading zeros as make the text that long.
@@ -285,6 +313,31 @@ fn long_store(rt: &impl Abort, alloc: Global, len: usize) -> Vec<u8>
     text
 }
 
+/// Asserts what is read of a store whose text is that long.
+fn assert_long_store(
+    rt: &impl Abort,
+    alloc: Global,
+    len: usize,
+    chunk: usize,
+    entries: &[Entry],
+    end: Answer,
+)
+    requires long { len ≤ 1000 }
+    requires some { 1 ≤ chunk }
+{
+    let text = long_store(rt, alloc, len);
+    assert!(rt; text.len() == len);
+    assert_text(
+        rt,
+        alloc,
+        text.as_slice(),
+        chunk,
+        entries,
+        end,
+        "long store",
+    );
+}
+
 #[test]
 fn longest_entry(rt: HostRuntime) {
     let store = Entry::Store {
@@ -293,19 +346,8 @@ fn longest_entry(rt: HostRuntime) {
         size: 8,
     };
     for chunk in [1, 7, 4096] {
-        let text = long_store(&rt, rt.alloc(), 256);
-        assert_eq!(rt; text.len(), 256);
-        let mut cabinet = file(&rt, rt.alloc(), text.as_slice(), chunk);
-        assert_reads(&rt, &mut cabinet, &[store], Ok(None), "256 bytes");
-        let text = long_store(&rt, rt.alloc(), 257);
-        let mut cabinet = file(&rt, rt.alloc(), text.as_slice(), chunk);
-        assert_reads(
-            &rt,
-            &mut cabinet,
-            &[],
-            Err(TraceRefusal::Malformed),
-            "257 bytes",
-        );
+        assert_long_store(&rt, rt.alloc(), 256, chunk, &[store], NO_MORE);
+        assert_long_store(&rt, rt.alloc(), 257, chunk, &[], MALFORMED);
     }
 }
 
@@ -338,31 +380,33 @@ fn images(rt: HostRuntime) {
     bytes[63] = 5;
     let image = Entry::Image { addr: 64, bytes };
     let text = two_images(&rt, rt.alloc());
-    let mut cabinet = file(&rt, rt.alloc(), text.as_slice(), 100);
-    assert_reads(
+    let entries = &[image];
+    assert_text(
         &rt,
-        &mut cabinet,
-        &[image],
-        Err(TraceRefusal::Malformed),
+        rt.alloc(),
+        text.as_slice(),
+        100,
+        entries,
+        MALFORMED,
         "image",
     );
     assert_image_written(&rt, rt.alloc(), &image);
 }
 
-/// The file fails behind its ninth byte: the first entry is read before that.
+/// The two stores in a file that fails behind its ninth byte.
+fn failing_file(rt: &impl Abort, alloc: Global) -> FailingCabinet {
+    let inner = file(rt, alloc, TWO_STORES, 4);
+    let name = Row::from_slice(alloc, b"t").expect(rt, AMPLE);
+    FailingCabinet::new(inner, name, FailAt::Byte(9))
+}
+
+/// The first entry is read before the fault.
 #[test]
 fn fault_in_the_middle(rt: HostRuntime) {
-    let inner = file(&rt, rt.alloc(), TWO_STORES, 4);
-    let name = Row::from_slice(rt.alloc(), b"t").expect(&rt, AMPLE);
-    let mut cabinet = FailingCabinet::new(inner, name, FailAt::Byte(9));
+    let mut cabinet = failing_file(&rt, rt.alloc());
     let first = Entry::Start { limit: 7 };
-    assert_reads(
-        &rt,
-        &mut cabinet,
-        &[first],
-        Err(TraceRefusal::ReadFault),
-        "fault",
-    );
+    let fault = Err(TraceRefusal::ReadFault);
+    assert_reads(&rt, &mut cabinet, &[first], fault, "fault");
 }
 
 #[test]
@@ -376,9 +420,8 @@ fn texts_are_counted(rt: HostRuntime) {
     assert_answer(&rt, reader.next(&mut cabinet), cut, "first");
     assert_answer(&rt, reader.next(&mut cabinet), cut, "second");
     assert!(rt; reader.count() == 2);
-    let malformed = Err(TraceRefusal::Malformed);
-    assert_answer(&rt, reader.next(&mut cabinet), malformed, "empty");
-    assert_answer(&rt, reader.next(&mut cabinet), malformed, "empty again");
+    assert_answer(&rt, reader.next(&mut cabinet), MALFORMED, "empty");
+    assert_answer(&rt, reader.next(&mut cabinet), MALFORMED, "empty again");
     assert!(rt; reader.count() == 3);
 }
 

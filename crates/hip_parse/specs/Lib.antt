@@ -2,3 +2,4 @@ pub mod Left
 pub mod Items
 pub mod Lengths
 pub mod Meaning
+pub mod Shared

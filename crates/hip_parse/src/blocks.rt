@@ -8,6 +8,7 @@ ghost use Rattle.hip_ir.specs.Grammar.{is_width};
 ghost use Rattle.hip_ir.specs.Bodies.{assigned, edge, phi, instr, begins_instr, target, jump, branch, br, case, switch, ret_void, ret_arg, ret_end, unreachable, end, closing, after_first, after_name, from_effect, after_phis, block};
 ghost use Rattle.hip_parse.specs.Lengths.{edge_within, case_some, instr_some};
 ghost use Rattle.hip_parse.specs.Left.{left, Gives, Takes};
+ghost use Rattle.hip_parse.specs.Shared.{edge_label, cases};
 
 use crate::error::ReadError;
 use crate::parser::Parser;
@@ -80,16 +81,24 @@ impl Repeated for Instructions {
 impl<'a> Parser<'a> {
     // ---- phis
 
-    #[tactic(auto, unfolding(hip_ir::specs::Bodies::edge))]
+    /// The label of an edge behind a comma, and the bracket that closes the edge.
+    #[tactic(auto, unfolding(crate::specs::Shared::edge_label))]
+    fn edge_label(&mut self, alloc: Global) -> Result<Name, ReadError>
+        ensures { Takes (λ x. x) result (edge_label.read (left self.old)) (left self.new) }
+    {
+        self.mark(b',')?;
+        let label = self.local()?;
+        self.mark(b']')?;
+        Ok(Row::from_slice(alloc, label)?)
+    }
+
+    #[tactic(auto, using(crate::proofs::Regrouped::regrouped), unfolding(hip_ir::specs::Bodies::edge, crate::specs::Shared::edge_label))]
     fn edge(&mut self, alloc: Global, scalar: Scalar) -> Result<Edge, ReadError>
         ensures { Takes (λ x. x) result ((edge scalar).read (left self.old)) (left self.new) }
     {
         self.mark(b'[')?;
         let value = self.operand(alloc, scalar)?;
-        self.mark(b',')?;
-        let label = self.local()?;
-        self.mark(b']')?;
-        let label = Row::from_slice(alloc, label)?;
+        let label = self.edge_label(alloc)?;
         Ok(Edge { value, label })
     }
 
@@ -140,18 +149,24 @@ impl<'a> Parser<'a> {
         Ok(End::Br { label })
     }
 
-    #[tactic(auto, unfolding(hip_ir::specs::Bodies::branch))]
+    /// The label behind a comma.
+    #[tactic(auto, unfolding(hip_rules::specs::Part::one_more_by))]
+    fn next_target(&mut self, alloc: Global) -> Result<Name, ReadError>
+        ensures { Takes (λ x. x) result ((one_more_by comma target).read (left self.old)) (left self.new) }
+    {
+        self.mark(b',')?;
+        let label = self.target()?;
+        Ok(Row::from_slice(alloc, label)?)
+    }
+
+    #[tactic(auto, using(crate::proofs::Regrouped::regrouped), unfolding(hip_ir::specs::Bodies::branch, hip_rules::specs::Part::one_more_by))]
     fn branch(&mut self, alloc: Global) -> Result<End, ReadError>
         ensures { Takes (λ x. x) result (branch.read (left self.old)) (left self.new) }
     {
         self.word(b"i1")?;
         let cond = self.operand(alloc, Scalar::Int(Width::W1))?;
-        self.mark(b',')?;
-        let yes = self.target()?;
-        self.mark(b',')?;
-        let no = self.target()?;
-        let yes = Row::from_slice(alloc, yes)?;
-        let no = Row::from_slice(alloc, no)?;
+        let yes = self.next_target(alloc)?;
+        let no = self.next_target(alloc)?;
         Ok(End::CondBr { cond, yes, no })
     }
 
@@ -167,31 +182,36 @@ impl<'a> Parser<'a> {
         }
     }
 
-    #[tactic(auto, unfolding(hip_ir::specs::Bodies::case))]
+    #[tactic(auto, using(crate::proofs::Regrouped::regrouped), unfolding(hip_ir::specs::Bodies::case, hip_rules::specs::Part::one_more_by))]
     fn case(&mut self, alloc: Global, width: Width) -> Result<Case, ReadError>
         ensures { Takes (λ x. x) result ((case width).read (left self.old)) (left self.new) }
     {
         self.word(width.keyword())?;
         let value = self.literal(width)?;
-        self.mark(b',')?;
-        let label = self.target()?;
-        let label = Row::from_slice(alloc, label)?;
+        let label = self.next_target(alloc)?;
         Ok(Case { value, label })
     }
 
-    #[tactic(auto, using(crate::proofs::Loops::nothing_before), unfolding(hip_ir::specs::Bodies::switch))]
+    /// The cases of a switch, with their brackets.
+    #[tactic(auto, using(crate::proofs::Loops::nothing_before), unfolding(crate::specs::Shared::cases))]
+    fn cases(&mut self, alloc: Global, width: Width) -> Result<Row<Case>, ReadError>
+        ensures { Takes (λ x. x) result ((cases width).read (left self.old)) (left self.new) }
+    {
+        self.mark(b'[')?;
+        let cases = self.repeated(alloc, CaseOf(width), Row::new(alloc))?;
+        self.mark(b']')?;
+        Ok(cases)
+    }
+
+    #[tactic(auto, using(crate::proofs::Regrouped::regrouped), unfolding(hip_ir::specs::Bodies::switch, hip_rules::specs::Part::one_more_by, crate::specs::Shared::cases))]
     fn switch(&mut self, alloc: Global) -> Result<End, ReadError>
         ensures { Takes (λ x. x) result (switch.read (left self.old)) (left self.new) }
     {
         self.word(b"switch")?;
         let width = self.keyword(Widths)?;
         let value = self.operand(alloc, Scalar::Int(width))?;
-        self.mark(b',')?;
-        let other = self.target()?;
-        self.mark(b'[')?;
-        let cases = self.repeated(alloc, CaseOf(width), Row::new(alloc))?;
-        self.mark(b']')?;
-        let other = Row::from_slice(alloc, other)?;
+        let other = self.next_target(alloc)?;
+        let cases = self.cases(alloc, width)?;
         Ok(End::Switch {
             width,
             value,

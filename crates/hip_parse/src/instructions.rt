@@ -1,16 +1,19 @@
 //! Instructions.
 
 ghost use Rattle.std.specs.Prelude.{◌≡◌, ℕ, List, [], ◌∷◌, ◌++◌, codes, None};
-ghost use Rattle.hip_rules.specs.Part.{token};
+ghost use Rattle.hip_rules.specs.Part.{token, one_more_by, separated};
 ghost use Rattle.hip_rules.specs.Reader.{many_at, next};
+ghost use Rattle.hip_ir.specs.Words.{comma};
+ghost use Rattle.hip_ir.specs.Grammar.{operand, index};
 ghost use Rattle.hip_ir.specs.Bodies.{align, maybe_align, assigned, with_flag, flags, binary, compare, select, int_cast, ptrtoint, inttoptr, alloca, load, gep, plain_call, call, store, memory_instr, cast_instr, value_instr, effect_instr, assigning_instr, instr, begins_effect, begins_instr};
 ghost use Rattle.hip_parse.specs.Left.{left, Gives, Takes};
+ghost use Rattle.hip_parse.specs.Shared.{source, next_of_type, alternatives, next_address, aligned_address};
 
 use crate::constants::{Argument, Index};
 use crate::error::ReadError;
 use crate::parser::Parser;
 use crate::words::{BinaryOps, FlagsAfter, IntCasts, Preds, Results, Scalars, Widths};
-use hip_ir::{Fault, Flag, Flags, Instr, Keyword};
+use hip_ir::{Arg, Fault, Flag, Flags, Instr, Keyword, Operand};
 use hip_types::{BinaryOp, CastOp, DEEPEST_NESTING, Name, Row, Scalar, Width};
 use std::alloc::Global;
 
@@ -65,7 +68,16 @@ impl<'a> Parser<'a> {
         Ok(set)
     }
 
-    #[tactic(auto, unfolding(hip_ir::specs::Bodies::binary))]
+    /// The operand behind a comma.
+    #[tactic(auto, unfolding(hip_rules::specs::Part::one_more_by))]
+    fn next_operand(&mut self, alloc: Global, scalar: Scalar) -> Result<Operand, ReadError>
+        ensures { Takes (λ x. x) result ((one_more_by comma (operand scalar)).read (left self.old)) (left self.new) }
+    {
+        self.mark(b',')?;
+        self.operand(alloc, scalar)
+    }
+
+    #[tactic(auto, using(crate::proofs::Regrouped::regrouped), unfolding(hip_ir::specs::Bodies::binary, hip_rules::specs::Part::one_more_by))]
     fn binary(&mut self, alloc: Global, dest: Name) -> Result<Instr, ReadError>
         ensures { Takes (λ x. x) result ((binary dest).read (left self.old)) (left self.new) }
     {
@@ -73,8 +85,7 @@ impl<'a> Parser<'a> {
         let flags = self.flags(op)?;
         let width = self.keyword(Widths)?;
         let a = self.operand(alloc, Scalar::Int(width))?;
-        self.mark(b',')?;
-        let b = self.operand(alloc, Scalar::Int(width))?;
+        let b = self.next_operand(alloc, Scalar::Int(width))?;
         Ok(Instr::Binary {
             dest,
             op,
@@ -85,7 +96,7 @@ impl<'a> Parser<'a> {
         })
     }
 
-    #[tactic(auto, unfolding(hip_ir::specs::Bodies::compare))]
+    #[tactic(auto, using(crate::proofs::Regrouped::regrouped), unfolding(hip_ir::specs::Bodies::compare, hip_rules::specs::Part::one_more_by))]
     fn compare(&mut self, alloc: Global, dest: Name) -> Result<Instr, ReadError>
         ensures { Takes (λ x. x) result ((compare dest).read (left self.old)) (left self.new) }
     {
@@ -93,8 +104,7 @@ impl<'a> Parser<'a> {
         let pred = self.keyword(Preds)?;
         let ty = self.keyword(Scalars)?;
         let a = self.operand(alloc, ty)?;
-        self.mark(b',')?;
-        let b = self.operand(alloc, ty)?;
+        let b = self.next_operand(alloc, ty)?;
         Ok(Instr::Compare {
             dest,
             pred,
@@ -104,19 +114,36 @@ impl<'a> Parser<'a> {
         })
     }
 
-    #[tactic(auto, unfolding(hip_ir::specs::Bodies::select))]
+    /// The operand behind a comma and this type.
+    #[tactic(auto, unfolding(crate::specs::Shared::next_of_type))]
+    fn next_of_type(&mut self, alloc: Global, ty: Scalar) -> Result<Operand, ReadError>
+        ensures { Takes (λ x. x) result ((next_of_type ty).read (left self.old)) (left self.new) }
+    {
+        self.mark(b',')?;
+        self.word(ty.keyword())?;
+        self.operand(alloc, ty)
+    }
+
+    /// The operands of which one is selected, behind their type.
+    #[tactic(auto, unfolding(crate::specs::Shared::alternatives))]
+    fn alternatives(&mut self, alloc: Global) -> Result<(Scalar, Operand, Operand), ReadError>
+        ensures { Takes (λ x. x) result (alternatives.read (left self.old)) (left self.new) }
+    {
+        self.mark(b',')?;
+        let ty = self.keyword(Scalars)?;
+        let a = self.operand(alloc, ty)?;
+        let b = self.next_of_type(alloc, ty)?;
+        Ok((ty, a, b))
+    }
+
+    #[tactic(auto, using(crate::proofs::Regrouped::regrouped), unfolding(hip_ir::specs::Bodies::select, crate::specs::Shared::alternatives, crate::specs::Shared::next_of_type))]
     fn select(&mut self, alloc: Global, dest: Name) -> Result<Instr, ReadError>
         ensures { Takes (λ x. x) result ((select dest).read (left self.old)) (left self.new) }
     {
         self.word(b"select")?;
         self.word(b"i1")?;
         let cond = self.operand(alloc, Scalar::Int(Width::W1))?;
-        self.mark(b',')?;
-        let ty = self.keyword(Scalars)?;
-        let a = self.operand(alloc, ty)?;
-        self.mark(b',')?;
-        self.word(ty.keyword())?;
-        let b = self.operand(alloc, ty)?;
+        let (ty, a, b) = self.alternatives(alloc)?;
         Ok(Instr::Select {
             dest,
             cond,
@@ -126,15 +153,24 @@ impl<'a> Parser<'a> {
         })
     }
 
-    #[tactic(auto, unfolding(hip_ir::specs::Bodies::int_cast))]
+    /// The operand of a cast, and the word that stands before the type of the result.
+    #[tactic(auto, unfolding(crate::specs::Shared::source))]
+    fn source(&mut self, alloc: Global, scalar: Scalar) -> Result<Operand, ReadError>
+        ensures { Takes (λ x. x) result ((source scalar).read (left self.old)) (left self.new) }
+    {
+        let a = self.operand(alloc, scalar)?;
+        self.word(b"to")?;
+        Ok(a)
+    }
+
+    #[tactic(auto, using(crate::proofs::Regrouped::regrouped), unfolding(hip_ir::specs::Bodies::int_cast, crate::specs::Shared::source))]
     fn int_cast(&mut self, alloc: Global, dest: Name) -> Result<Instr, ReadError>
         ensures { Takes (λ x. x) result ((int_cast dest).read (left self.old)) (left self.new) }
     {
         let op = self.keyword(IntCasts)?;
         let width = self.keyword(Widths)?;
         let from = Scalar::Int(width);
-        let a = self.operand(alloc, from)?;
-        self.word(b"to")?;
+        let a = self.source(alloc, from)?;
         let width = self.keyword(Widths)?;
         let to = Scalar::Int(width);
         Ok(Instr::Cast {
@@ -146,14 +182,13 @@ impl<'a> Parser<'a> {
         })
     }
 
-    #[tactic(auto, unfolding(hip_ir::specs::Bodies::ptrtoint))]
+    #[tactic(auto, using(crate::proofs::Regrouped::regrouped), unfolding(hip_ir::specs::Bodies::ptrtoint, crate::specs::Shared::source))]
     fn ptrtoint(&mut self, alloc: Global, dest: Name) -> Result<Instr, ReadError>
         ensures { Takes (λ x. x) result ((ptrtoint dest).read (left self.old)) (left self.new) }
     {
         self.word(b"ptrtoint")?;
         self.word(b"ptr")?;
-        let a = self.operand(alloc, Scalar::Ptr)?;
-        self.word(b"to")?;
+        let a = self.source(alloc, Scalar::Ptr)?;
         let width = self.keyword(Widths)?;
         Ok(Instr::Cast {
             dest,
@@ -164,14 +199,13 @@ impl<'a> Parser<'a> {
         })
     }
 
-    #[tactic(auto, unfolding(hip_ir::specs::Bodies::inttoptr))]
+    #[tactic(auto, using(crate::proofs::Regrouped::regrouped), unfolding(hip_ir::specs::Bodies::inttoptr, crate::specs::Shared::source))]
     fn inttoptr(&mut self, alloc: Global, dest: Name) -> Result<Instr, ReadError>
         ensures { Takes (λ x. x) result ((inttoptr dest).read (left self.old)) (left self.new) }
     {
         self.word(b"inttoptr")?;
         let width = self.keyword(Widths)?;
-        let a = self.operand(alloc, Scalar::Int(width))?;
-        self.word(b"to")?;
+        let a = self.source(alloc, Scalar::Int(width))?;
         self.word(b"ptr")?;
         Ok(Instr::Cast {
             dest,
@@ -192,16 +226,33 @@ impl<'a> Parser<'a> {
         Ok(Instr::Alloca { dest, ty, align })
     }
 
-    #[tactic(auto, unfolding(hip_ir::specs::Bodies::load))]
+    /// The address behind a comma.
+    #[tactic(auto, unfolding(crate::specs::Shared::next_address))]
+    fn next_address(&mut self, alloc: Global) -> Result<Operand, ReadError>
+        ensures { Takes (λ x. x) result (next_address.read (left self.old)) (left self.new) }
+    {
+        self.mark(b',')?;
+        self.word(b"ptr")?;
+        self.operand(alloc, Scalar::Ptr)
+    }
+
+    /// The address behind a comma, and the alignment that is written.
+    #[tactic(auto, unfolding(crate::specs::Shared::aligned_address))]
+    fn aligned_address(&mut self, alloc: Global) -> Result<(Operand, Option<u64>), ReadError>
+        ensures { Takes (λ x. x) result (aligned_address.read (left self.old)) (left self.new) }
+    {
+        let addr = self.next_address(alloc)?;
+        let align = self.maybe_align()?;
+        Ok((addr, align))
+    }
+
+    #[tactic(auto, using(crate::proofs::Regrouped::regrouped), unfolding(hip_ir::specs::Bodies::load, crate::specs::Shared::aligned_address, crate::specs::Shared::next_address))]
     fn load(&mut self, alloc: Global, dest: Name) -> Result<Instr, ReadError>
         ensures { Takes (λ x. x) result ((load dest).read (left self.old)) (left self.new) }
     {
         self.word(b"load")?;
         let ty = self.keyword(Scalars)?;
-        self.mark(b',')?;
-        self.word(b"ptr")?;
-        let addr = self.operand(alloc, Scalar::Ptr)?;
-        let align = self.maybe_align()?;
+        let (addr, align) = self.aligned_address(alloc)?;
         Ok(Instr::Load {
             dest,
             ty,
@@ -210,17 +261,14 @@ impl<'a> Parser<'a> {
         })
     }
 
-    #[tactic(auto, unfolding(hip_ir::specs::Bodies::store))]
+    #[tactic(auto, using(crate::proofs::Regrouped::regrouped), unfolding(hip_ir::specs::Bodies::store, crate::specs::Shared::aligned_address, crate::specs::Shared::next_address))]
     fn store(&mut self, alloc: Global) -> Result<Instr, ReadError>
         ensures { Takes (λ x. x) result (store.read (left self.old)) (left self.new) }
     {
         self.word(b"store")?;
         let ty = self.keyword(Scalars)?;
         let value = self.operand(alloc, ty)?;
-        self.mark(b',')?;
-        self.word(b"ptr")?;
-        let addr = self.operand(alloc, Scalar::Ptr)?;
-        let align = self.maybe_align()?;
+        let (addr, align) = self.aligned_address(alloc)?;
         Ok(Instr::Store {
             ty,
             value,
@@ -229,18 +277,26 @@ impl<'a> Parser<'a> {
         })
     }
 
-    #[tactic(auto, unfolding(hip_ir::specs::Bodies::gep))]
+    /// The indices behind a comma.
+    #[tactic(auto, unfolding(hip_rules::specs::Part::one_more_by))]
+    fn next_indices(&mut self, alloc: Global) -> Result<Row<Arg>, ReadError>
+        ensures { Takes (λ x. x) result
+            ((one_more_by comma (separated comma index)).read (left self.old))
+            (left self.new) }
+    {
+        self.mark(b',')?;
+        self.separated(alloc, Index)
+    }
+
+    #[tactic(auto, using(crate::proofs::Regrouped::regrouped), unfolding(hip_ir::specs::Bodies::gep, hip_rules::specs::Part::one_more_by, crate::specs::Shared::next_address))]
     fn gep(&mut self, alloc: Global, dest: Name) -> Result<Instr, ReadError>
         ensures { Takes (λ x. x) result ((gep dest).read (left self.old)) (left self.new) }
     {
         self.word(b"getelementptr")?;
         let inbounds = self.maybe_word(b"inbounds")?;
         let ty = self.ty(alloc, DEEPEST_NESTING)?;
-        self.mark(b',')?;
-        self.word(b"ptr")?;
-        let base = self.operand(alloc, Scalar::Ptr)?;
-        self.mark(b',')?;
-        let indices = self.separated(alloc, Index)?;
+        let base = self.next_address(alloc)?;
+        let indices = self.next_indices(alloc)?;
         Ok(Instr::Gep {
             dest,
             inbounds,

@@ -1,3 +1,4 @@
+use crate::comparisons::{same_five, same_four, same_three, same_two};
 use crate::constant::Const;
 use crate::copies::{copy_four, copy_three, copy_two};
 use hip_types::{BinaryOp, CastOp, Name, NoMemory, Pred, Row, Scalar, Structural, Ty, Width};
@@ -142,13 +143,14 @@ macro_rules! copy_variant {
     };
 }
 
-/// Compares two values of one variant field by field: the fields in braces by `same`, those in brackets by `==`.
+/// Compares two values of one variant: the fields in braces by the function behind them, those in brackets by `==`.
 /// Behind each field stands the name of the other value's.
 macro_rules! same_variant {
-    ($a:expr, $b:expr, $($variant:ident { $($x:ident $y:ident),* } [ $($p:ident $q:ident),* ],)*) => {
+    ($a:expr, $b:expr,
+        $($variant:ident { $($x:ident $y:ident),* } by $same:ident [ $($p:ident $q:ident),* ],)*) => {
         match ($a, $b) {
             $((Instr::$variant { $($x,)* $($p,)* }, Instr::$variant { $($x: $y,)* $($p: $q,)* }) => {
-                true $(&& $x.same($y))* $(&& *$p == *$q)*
+                $(*$p == *$q &&)* $same($($x, $y),*)
             })*
             _ => false,
         }
@@ -172,15 +174,15 @@ impl Structural for Instr {
 
     fn same(&self, other: &Instr) -> bool {
         same_variant!(self, other,
-            Binary { dest to, op by, width wide, a x, b y } [flags marks],
-            Compare { dest to, pred by, ty at, a x, b y } [],
-            Select { dest to, cond test, ty at, a x, b y } [],
-            Cast { dest place, op by, from first, a x, to last } [],
-            Alloca { dest to, ty at } [align bytes],
-            Load { dest to, ty at, addr from } [align bytes],
-            Store { ty at, value x, addr to } [align bytes],
-            Gep { dest to, ty at, base from, indices by } [inbounds bound],
-            Call { dest to, ret gives, callee called, args with } [],
+            Binary { dest to, op by, width wide, a x, b y } by same_five [flags marks],
+            Compare { dest to, pred by, ty at, a x, b y } by same_five [],
+            Select { dest to, cond test, ty at, a x, b y } by same_five [],
+            Cast { dest place, op by, from first, a x, to last } by same_five [],
+            Alloca { dest to, ty at } by same_two [align bytes],
+            Load { dest to, ty at, addr from } by same_three [align bytes],
+            Store { ty at, value x, addr to } by same_three [align bytes],
+            Gep { dest to, ty at, base from, indices by } by same_four [inbounds bound],
+            Call { dest to, ret gives, callee called, args with } by same_four [],
         )
     }
 }

@@ -2,7 +2,7 @@
 use Rattle.std.specs.Prelude.{ℕ, ℤ, ◌^◌, Bool, ◌&&◌, ◌==◌, nat_le, nat_lt, List, [], ◌∷◌, Option, Some, None, if◌then◌else◌, codes, length, option_map, option_and_then, unwrap_or}
 use Rattle.std.specs.List.{after_first, before_first, position_or_len}
 use Rattle.std.specs.Str.{bytes_eq}
-use Rattle.clap.specs.Words.{Row, Text, all_of, first_of}
+use Rattle.clap.specs.Words.{App, Row, Text, all_of, first_of}
 use Rattle.hip_gen.specs.declared.limits.TheConstants.{LARGEST_SIZE, SEED_END}
 use Rattle.hip_globals.specs.Addresses.{is_base}
 use Rattle.hip_picks.specs.declared.pick.Pick.{Pick}
@@ -129,6 +129,30 @@ order_by verbs.Demo words = option_and_then demo_in (reads demo_app words)
 order_by verbs.Many words = option_and_then many_in (reads many_app words)
 order_by verbs.Crash words = option_and_then crash_in (reads crash_app words)
 order_by verbs.Thin words = option_map (λ p. Thin p.0 p.1) (files_of (codes "thin") words)
+
+-- the command of a verb, as clap knows it
+abbrev pub command_of : Verb → App
+command_of verbs.Run = run_app
+command_of verbs.Record = record_app
+command_of verbs.Check = files_app (codes "check")
+command_of verbs.Repair = files_app (codes "repair")
+command_of verbs.Rerun = files_app (codes "rerun")
+command_of verbs.Demo = demo_app
+command_of verbs.Many = many_app
+command_of verbs.Crash = crash_app
+command_of verbs.Thin = files_app (codes "thin")
+
+-- the order of a verb, of what clap reads
+abbrev pub order_in : Verb → List Row → Option Order
+order_in verbs.Run rows = run_in rows
+order_in verbs.Record rows = record_in rows
+order_in verbs.Check rows = option_map (λ p. Check p.0 p.1) (files_in rows)
+order_in verbs.Repair rows = option_map (λ p. Repair p.0 p.1) (files_in rows)
+order_in verbs.Rerun rows = option_map (λ p. Rerun p.0 p.1) (files_in rows)
+order_in verbs.Demo rows = demo_in rows
+order_in verbs.Many rows = many_in rows
+order_in verbs.Crash rows = crash_in rows
+order_in verbs.Thin rows = option_map (λ p. Thin p.0 p.1) (files_in rows)
 
 -- the command that a word names
 unfoldable pub verb_of : Text → Option Verb

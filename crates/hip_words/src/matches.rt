@@ -1,5 +1,5 @@
 //! What clap makes of the words.
-ghost use Rattle.std.specs.Prelude.{◌≡◌, ◌^◌, IfOk, true, map, string_bytes, option_map};
+ghost use Rattle.std.specs.Prelude.{◌≡◌, ◌^◌, Some, true, map, string_bytes, option_map};
 ghost use Rattle.clap.specs.Words.{all_of, app_of, first_of, found_of, is_simple_and_free, rows_of};
 ghost use Rattle.hip_words.specs.Answers.{Answers};
 ghost use Rattle.hip_words.specs.Commands.{GivesRows, reads};
@@ -13,7 +13,7 @@ use clap::error::ErrorKind;
 use clap::{ArgMatches, Command};
 use hip_picks::Pick;
 use hip_runs::MOST_NUMBERS;
-use hip_types::{NoMemory, Row, Text};
+use hip_types::{Row, Text};
 use std::alloc::Global;
 
 /// The matches of the words, of which the first is the command's.
@@ -41,8 +41,10 @@ pub fn first_text<'a>(matches: &ArgMatches<'a>, id: &str) -> Option<&'a str>
 pub fn text_of(alloc: Global, matches: &ArgMatches<'_>, id: &str) -> Result<Text, WordsRefusal>
     ensures { Answers (first_of id.now (rows_of (found_of matches.now))) result }
 {
-    let text = first_text(matches, id).ok_or(WordsRefusal::Usage)?;
-    Ok(Text::new(alloc, text)?)
+    match first_text(matches, id) {
+        Some(text) => Ok(Text::new(alloc, text)?),
+        None => Err(WordsRefusal::Usage),
+    }
 }
 
 /// All texts of an argument.
@@ -53,13 +55,22 @@ fn all_texts<'m, 'a: 'm>(matches: &'m ArgMatches<'a>, id: &str) -> Option<&'m [&
     matches.get_raw(id)
 }
 
+// The number that a text writes.
+fn number_of(text: &str) -> Option<i64>
+    ensures { result ≡ signed_of (2 ^ 63) text.now }
+{
+    hip_num::read_signed(text.as_bytes())
+}
+
 fn each_signed(alloc: Global, texts: &[&str]) -> Result<Row<i64>, WordsRefusal>
     ensures { Answers (each (signed_of (2 ^ 63)) (map (λ text. text.now) texts.now)) result }
 {
     let mut numbers = Row::new(alloc);
     'each: for text in texts {
-        let number = hip_num::read_signed(text.as_bytes()).ok_or(WordsRefusal::Usage)?;
-        numbers.push(number)?;
+        match number_of(*text) {
+            Some(number) => numbers.push(number)?,
+            None => return Err(WordsRefusal::Usage),
+        }
     }
     Ok(numbers)
 }
@@ -93,8 +104,10 @@ fn each_pick(alloc: Global, texts: &[&str]) -> Result<Row<Pick>, WordsRefusal>
 {
     let mut picks = Row::new(alloc);
     'each: for text in texts {
-        let pick = pick_of(*text).ok_or(WordsRefusal::Usage)?;
-        picks.push(pick)?;
+        match pick_of(*text) {
+            Some(pick) => picks.push(pick)?,
+            None => return Err(WordsRefusal::Usage),
+        }
     }
     Ok(picks)
 }
@@ -123,8 +136,8 @@ pub fn picks_in(
     }
 }
 
-fn copies(alloc: Global, texts: &[&str]) -> Result<Row<Text>, NoMemory>
-    ensures { IfOk result (λ copies. copies ≡ map (λ text. text.now) texts.now) }
+fn copies(alloc: Global, texts: &[&str]) -> Result<Row<Text>, WordsRefusal>
+    ensures { Answers (Some (map (λ text. text.now) texts.now)) result }
 {
     let mut copies = Row::new(alloc);
     'each: for text in texts {
@@ -137,7 +150,7 @@ fn traces_of(alloc: Global, texts: &[&str]) -> Result<Row<Text>, WordsRefusal>
     ensures { Answers (traces_of (map (λ text. text.now) texts.now)) result }
 {
     if !texts.is_empty() && texts.len() as u64 <= MOST_TRACES {
-        Ok(copies(alloc, texts)?)
+        copies(alloc, texts)
     } else {
         Err(WordsRefusal::Usage)
     }

@@ -1,15 +1,11 @@
-//! The orders, each from its command's words.
-ghost use Rattle.std.specs.Prelude.{◌≡◌, map, string_bytes, codes, option_and_then};
+//! The orders, each from what clap reads of its command's words.
+ghost use Rattle.std.specs.Prelude.{◌≡◌, codes};
 ghost use Rattle.clap.specs.Words.{found_of, rows_of};
 ghost use Rattle.hip_words.specs.Answers.{Answers};
-ghost use Rattle.hip_words.specs.Commands.{crash_app, demo_app, many_app, reads, record_app, run_app};
 ghost use Rattle.hip_globals.specs.Addresses.{is_base};
-ghost use Rattle.hip_words.specs.Order.{crash_in, decimal_in, demo_in, files_of, is_limit, is_seed, is_size, many_in, number_in, record_in, run_in};
+ghost use Rattle.hip_words.specs.Order.{crash_in, decimal_in, demo_in, files_in, is_limit, is_seed, is_size, many_in, number_in, record_in, run_in};
 
-use crate::commands::{
-    crash_command, demo_command, files_command, many_command, record_command, run_command,
-};
-use crate::matches::{first_text, numbers_in, parse, picks_in, text_of, traces_in};
+use crate::matches::{first_text, numbers_in, picks_in, text_of, traces_in};
 use crate::order::Order;
 use crate::refusal::WordsRefusal;
 use clap::ArgMatches;
@@ -66,13 +62,12 @@ fn size_in(matches: &ArgMatches<'_>) -> Result<u64, WordsRefusal>
 }
 
 /// `run PROGRAM [--limit N] [NUMBERS]`
-pub fn read_run(alloc: Global, words: &[String]) -> Result<Order, WordsRefusal>
-    ensures { Answers (option_and_then run_in (reads run_app (map string_bytes words.now))) result }
+pub fn run_in(alloc: Global, matches: &ArgMatches<'_>) -> Result<Order, WordsRefusal>
+    ensures { Answers (run_in (rows_of (found_of matches.now))) result }
 {
-    let matches = parse(run_command(alloc)?, words)?;
-    let program = text_of(alloc, &matches, "program")?;
-    let limit = limit_in(&matches)?;
-    let numbers = numbers_in(alloc, &matches, "numbers")?;
+    let program = text_of(alloc, matches, "program")?;
+    let limit = limit_in(matches)?;
+    let numbers = numbers_in(alloc, matches, "numbers")?;
     Ok(Order::Run {
         program,
         limit,
@@ -81,14 +76,13 @@ pub fn read_run(alloc: Global, words: &[String]) -> Result<Order, WordsRefusal>
 }
 
 /// `record PROGRAM [--base N] [--limit N] [NUMBERS]`
-pub fn read_record(alloc: Global, words: &[String]) -> Result<Order, WordsRefusal>
-    ensures { Answers (option_and_then record_in (reads record_app (map string_bytes words.now))) result }
+pub fn record_in(alloc: Global, matches: &ArgMatches<'_>) -> Result<Order, WordsRefusal>
+    ensures { Answers (record_in (rows_of (found_of matches.now))) result }
 {
-    let matches = parse(record_command(alloc)?, words)?;
-    let program = text_of(alloc, &matches, "program")?;
-    let base = base_in(&matches)?;
-    let limit = limit_in(&matches)?;
-    let numbers = numbers_in(alloc, &matches, "numbers")?;
+    let program = text_of(alloc, matches, "program")?;
+    let base = base_in(matches)?;
+    let limit = limit_in(matches)?;
+    let numbers = numbers_in(alloc, matches, "numbers")?;
     Ok(Order::Record {
         program,
         base,
@@ -98,44 +92,40 @@ pub fn read_record(alloc: Global, words: &[String]) -> Result<Order, WordsRefusa
 }
 
 /// `demo SEED SIZE`
-pub fn read_demo(alloc: Global, words: &[String]) -> Result<Order, WordsRefusal>
-    ensures { Answers (option_and_then demo_in (reads demo_app (map string_bytes words.now))) result }
+pub fn demo_in(matches: &ArgMatches<'_>) -> Result<Order, WordsRefusal>
+    ensures { Answers (demo_in (rows_of (found_of matches.now))) result }
 {
-    let matches = parse(demo_command(alloc)?, words)?;
-    let seed = seed_in(&matches)?;
-    let size = size_in(&matches)?;
+    let seed = seed_in(matches)?;
+    let size = size_in(matches)?;
     Ok(Order::Demo { seed, size })
 }
 
 /// The program and the trace of a command that takes these two.
-pub fn read_files(alloc: Global, name: &str, words: &[String]) -> Result<(Text, Text), WordsRefusal>
-    ensures { Answers (files_of name.now (map string_bytes words.now)) result }
+pub fn files_in(alloc: Global, matches: &ArgMatches<'_>) -> Result<(Text, Text), WordsRefusal>
+    ensures { Answers (files_in (rows_of (found_of matches.now))) result }
 {
-    let matches = parse(files_command(alloc, name)?, words)?;
-    let program = text_of(alloc, &matches, "program")?;
-    let trace = text_of(alloc, &matches, "trace")?;
+    let program = text_of(alloc, matches, "program")?;
+    let trace = text_of(alloc, matches, "trace")?;
     Ok((program, trace))
 }
 
 /// `many PROGRAM TRACES...`
-pub fn read_many(alloc: Global, words: &[String]) -> Result<Order, WordsRefusal>
-    ensures { Answers (option_and_then many_in (reads many_app (map string_bytes words.now))) result }
+pub fn many_in(alloc: Global, matches: &ArgMatches<'_>) -> Result<Order, WordsRefusal>
+    ensures { Answers (many_in (rows_of (found_of matches.now))) result }
 {
-    let matches = parse(many_command(alloc)?, words)?;
-    let program = text_of(alloc, &matches, "program")?;
-    let traces = traces_in(alloc, &matches, "traces")?;
+    let program = text_of(alloc, matches, "program")?;
+    let traces = traces_in(alloc, matches, "traces")?;
     Ok(Order::Many { program, traces })
 }
 
 /// `crash PROGRAM TRACE ENTRY [PICKS...]`
-pub fn read_crash(alloc: Global, words: &[String]) -> Result<Order, WordsRefusal>
-    ensures { Answers (option_and_then crash_in (reads crash_app (map string_bytes words.now))) result }
+pub fn crash_in(alloc: Global, matches: &ArgMatches<'_>) -> Result<Order, WordsRefusal>
+    ensures { Answers (crash_in (rows_of (found_of matches.now))) result }
 {
-    let matches = parse(crash_command(alloc)?, words)?;
-    let program = text_of(alloc, &matches, "program")?;
-    let trace = text_of(alloc, &matches, "trace")?;
-    let entry = decimal_in(&matches, "entry").ok_or(WordsRefusal::Usage)?;
-    let picks = picks_in(alloc, &matches, "picks")?;
+    let program = text_of(alloc, matches, "program")?;
+    let trace = text_of(alloc, matches, "trace")?;
+    let entry = decimal_in(matches, "entry").ok_or(WordsRefusal::Usage)?;
+    let picks = picks_in(alloc, matches, "picks")?;
     Ok(Order::Crash {
         program,
         trace,

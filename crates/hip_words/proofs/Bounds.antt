@@ -6,11 +6,11 @@ use Rattle.clap.specs.Words.{Row, Text, first_of}
 use Rattle.hip_gen.specs.declared.limits.TheConstants.{LARGEST_SIZE, SEED_END}
 use Rattle.hip_globals.specs.Addresses.{IsBase, is_base}
 use Rattle.hip_runs.specs.declared.limits.TheConstants.{MOST_NUMBERS, MOST_TURNS}
-use Rattle.hip_words.specs.Commands.{crash_app, demo_app, many_app, reads, record_app, run_app}
+use Rattle.hip_words.specs.Commands.{reads}
 use Rattle.hip_words.proofs.Bases.{base_valid}
 use Rattle.hip_words.specs.Laws.{DemosAreValid, RecordsAreValid, RunsAreValid}
 use Rattle.hip_num.specs.Texts.{signed_of}
-use Rattle.hip_words.specs.Order.{crash_in, decimal_in, demo_in, each, files_of, is_limit, is_seed, is_size, many_in, number_in, numbers_of, order, order_by, picks_of, record_in, run_in, texts_in, traces_of, verb_of, where_so}
+use Rattle.hip_words.specs.Order.{command_of, crash_in, decimal_in, demo_in, each, files_in, is_limit, is_seed, is_size, many_in, number_in, numbers_of, order, order_by, order_in, picks_of, record_in, run_in, texts_in, traces_of, verb_of, where_so}
 use Rattle.hip_words.specs.declared.order.Order.{Order}
 use Rattle.hip_words.specs.declared.order.Order.TheVariants.{Check, Crash, Demo, Many, Record, Repair, Rerun, Run, Thin}
 use Rattle.hip_words.specs.declared.order.Verb.{Verb}
@@ -127,21 +127,23 @@ demo_within rows =
     made (λ size. (1 ≤ size) × (size ≤ LARGEST_SIZE)) (number_in is_size (codes "size") rows) (λ size. Demo seed size) (size_within (decimal_in (codes "size") rows)) (λ size z.
     record { bounds = (s, z.0, z.1) }))
 
-by_within : (verb : Verb) (words : List Text) → IsWithin (order_by verb words)
-by_within verbs.Run words = any_given (reads run_app words) run_in run_within
-by_within verbs.Record words = any_given (reads record_app words) record_in record_within
-by_within verbs.Check words = any_made (files_of (codes "check") words) (λ p. Check p.0 p.1) (λ p. record { bounds = tt })
-by_within verbs.Repair words = any_made (files_of (codes "repair") words) (λ p. Repair p.0 p.1) (λ p. record { bounds = tt })
-by_within verbs.Rerun words = any_made (files_of (codes "rerun") words) (λ p. Rerun p.0 p.1) (λ p. record { bounds = tt })
-by_within verbs.Demo words = any_given (reads demo_app words) demo_in demo_within
-by_within verbs.Many words = any_given (reads many_app words) many_in many_within
-by_within verbs.Crash words = any_given (reads crash_app words) crash_in crash_within
-by_within verbs.Thin words = any_made (files_of (codes "thin") words) (λ p. Thin p.0 p.1) (λ p. record { bounds = tt })
+in_within : (verb : Verb) (rows : List Row) → IsWithin (order_in verb rows)
+in_within verbs.Run rows = run_within rows
+in_within verbs.Record rows = record_within rows
+in_within verbs.Check rows = any_made (files_in rows) (λ p. Check p.0 p.1) (λ p. record { bounds = tt })
+in_within verbs.Repair rows = any_made (files_in rows) (λ p. Repair p.0 p.1) (λ p. record { bounds = tt })
+in_within verbs.Rerun rows = any_made (files_in rows) (λ p. Rerun p.0 p.1) (λ p. record { bounds = tt })
+in_within verbs.Demo rows = demo_within rows
+in_within verbs.Many rows = many_within rows
+in_within verbs.Crash rows = crash_within rows
+in_within verbs.Thin rows = any_made (files_in rows) (λ p. Thin p.0 p.1) (λ p. record { bounds = tt })
 
 order_within : (words : List Text) → IsWithin (order words)
 unfolding order
 order_within [] = record { bounds = tt }
-order_within (word ∷ rest) = any_given (verb_of word) (λ verb. order_by verb (word ∷ rest)) (λ verb. by_within verb (word ∷ rest))
+order_within (word ∷ rest) =
+    any_given (verb_of word) (λ verb. order_by verb (word ∷ rest)) (λ verb.
+    any_given (reads (command_of verb) (word ∷ rest)) (order_in verb) (in_within verb))
 
 pub runs_valid : RunsAreValid
 runs_valid words program limit numbers e = subst within e (order_within words).bounds

@@ -118,18 +118,6 @@ files_in rows = option_and_then (λ program. option_map (λ trace. (program, tra
 abbrev pub files_of : Text → List Text → Option (Text × Text)
 files_of name words = option_and_then files_in (reads (files_app name) words)
 
--- each command's definition takes the words after the first
-abbrev pub order_by : Verb → List Text → Option Order
-order_by verbs.Run words = option_and_then run_in (reads run_app words)
-order_by verbs.Record words = option_and_then record_in (reads record_app words)
-order_by verbs.Check words = option_map (λ p. Check p.0 p.1) (files_of (codes "check") words)
-order_by verbs.Repair words = option_map (λ p. Repair p.0 p.1) (files_of (codes "repair") words)
-order_by verbs.Rerun words = option_map (λ p. Rerun p.0 p.1) (files_of (codes "rerun") words)
-order_by verbs.Demo words = option_and_then demo_in (reads demo_app words)
-order_by verbs.Many words = option_and_then many_in (reads many_app words)
-order_by verbs.Crash words = option_and_then crash_in (reads crash_app words)
-order_by verbs.Thin words = option_map (λ p. Thin p.0 p.1) (files_of (codes "thin") words)
-
 -- the command of a verb, as clap knows it
 abbrev pub command_of : Verb → App
 command_of verbs.Run = run_app
@@ -153,6 +141,10 @@ order_in verbs.Demo rows = demo_in rows
 order_in verbs.Many rows = many_in rows
 order_in verbs.Crash rows = crash_in rows
 order_in verbs.Thin rows = option_map (λ p. Thin p.0 p.1) (files_in rows)
+
+-- the order of a verb, of all words
+abbrev pub order_by : Verb → List Text → Option Order
+order_by verb words = option_and_then (order_in verb) (reads (command_of verb) words)
 
 -- the command that a word names
 unfoldable pub verb_of : Text → Option Verb

@@ -39,6 +39,7 @@ use Rattle.hip_typing.specs.declared.assigned.Point.TheVariants.{Before, AtEnd}
 
 -- ---- names
 
+-- the names of a program's globals, in order
 abbrev pub global_names : Program → List (List ℕ)
 global_names P = map (λ g. g.name) P.globals
 
@@ -46,9 +47,11 @@ global_names P = map (λ g. g.name) P.globals
 abbrev pub callee_names : Program → List (List ℕ)
 callee_names P = map (λ e. e.name) P.externs ++ map (λ f. f.name) P.functions
 
+-- the names of globals, of external functions and of functions, in this order
 abbrev pub top_names : Program → List (List ℕ)
 top_names P = global_names P ++ callee_names P
 
+-- the labels of a function's blocks, each at the number of its block
 abbrev pub label_names : Function → List (List ℕ)
 label_names fn = map (λ b. b.label) fn.blocks
 
@@ -56,6 +59,7 @@ label_names fn = map (λ b. b.label) fn.blocks
 abbrev pub label_number : Function → List ℕ → Option ℕ
 label_number fn label = number_of (label_names fn) label
 
+-- the names of a function's registers: its parameters, then what its blocks assign
 abbrev pub register_names : Function → List (List ℕ)
 register_names fn = names_of (registers_of fn)
 
@@ -69,9 +73,11 @@ names_in_function fn = names_of (parameter_registers fn) ++ flat_map names_in_bl
 
 -- ---- globals
 
+-- the initialiser of the global has the shape of the global's type
 abbrev pub HasItsShape : GlobalVar → Type 0
 HasItsShape g = IsTrue (has_shape g.init g.ty)
 
+-- each name in the initialiser is that of a global, so that no address of a function stands there
 abbrev pub NamesGlobals : Program → GlobalVar → Type 0
 NamesGlobals P g = All (IsAmong (global_names P)) (names_in g.init)
 
@@ -93,6 +99,7 @@ pub record KeepsToTable (P : Program) : Type 0 where
 
 -- ---- sizes
 
+-- the region has at most 67,108,864 bytes, and the volatile globals end at most 16,777,216 bytes behind their start
 pub record KeepsToSizes (P : Program) : Type 0 where
   pub region : region_size P ≤ LARGEST_REGION
   pub volatile : volatile_end P ≤ volatile_start + LARGEST_VOLATILE
@@ -122,15 +129,18 @@ uses_of (PhiItem p) = phi_uses p
 uses_of (InstrItem i) = instr_uses i
 uses_of (EndItem e) = end_uses e
 
+-- the labels that are named there, by the edges of a phi or by an end; an instruction names none
 abbrev pub labels_of : Item → List (List ℕ)
 labels_of (PhiItem p) = edge_labels p.edges
 labels_of (InstrItem i) = []
 labels_of (EndItem e) = end_labels e
 
+-- the callee's name where a call stands; none anywhere else
 abbrev pub callees_of : Item → List (List ℕ)
 callees_of (InstrItem (Call dest ret callee args)) = callee ∷ []
 callees_of _ = []
 
+-- the type that an `alloca` makes room for or a `getelementptr` steps over; none anywhere else
 abbrev own_types : Item → List Ty
 own_types (InstrItem i) = written_types i
 own_types _ = []
@@ -162,6 +172,7 @@ pub record NamesExist (P : Program) (fn : Function) (x : Item) : Type 0 where
   pub callees : All (IsAmong (callee_names P)) (callees_of x)
   pub labels : All (IsAmong (label_names fn)) (labels_of x)
 
+-- each type that is written there, in constants too, fits
 abbrev pub TypesFit : Item → Type 0
 TypesFit x = All Fits (types_of x)
 
@@ -170,6 +181,7 @@ abbrev pub operand_is_typed : List Register → Operand → Scalar → Type 0
 operand_is_typed registers (Reg name) ty = find_register registers name ≡ Some (Some ty)
 operand_is_typed registers (Fixed value) ty = IsTrue (has_shape value (type_of ty))
 
+-- the operand of the use has the type that its place states, a register by the registers of the function
 abbrev pub IsTyped : Function → Use → Type 0
 IsTyped fn u = operand_is_typed (registers_of fn) u.operand u.ty
 
@@ -188,6 +200,7 @@ OwnTypesAgree P fn (InstrItem (Call dest ret callee args)) = CallAgrees P dest r
 OwnTypesAgree P fn (EndItem (Ret arg)) = option_map (λ a. a.ty) arg ≡ fn.ret
 OwnTypesAgree P fn _ = Unit {0}
 
+-- each operand has the type that its place states, and what the place itself asks of types holds
 pub record TypesAgree (P : Program) (fn : Function) (x : Item) : Type 0 where
   pub operands : All (IsTyped fn) (uses_of x)
   pub own : OwnTypesAgree P fn x
@@ -231,12 +244,15 @@ pub record UsesAreAssigned (fn : Function) (b : ℕ) (block : Block) : Type 0 wh
       All (IsAssigned fn b (Before i)) (used_registers (instr_uses instr))
   pub last : All (IsAssigned fn b AtEnd) (used_registers (end_uses block.end))
 
+-- Each register that is used in a block has been assigned on every path to the use; where no path comes to the use,
+-- any register of the function may stand. (LLVM, "Well-Formedness": a definition dominates its uses.)
 abbrev pub RegistersAssigned : Program → Type 0
 RegistersAssigned P = (f b : ℕ) (fn : Function) (block : Block) → IsBlockAt P f b fn block
     → UsesAreAssigned fn b block
 
 -- ---- soundness
 
+-- A program is sound where each of these rules holds.
 pub record IsSound (P : Program) : Type 0 where
   -- it is what its canonical text reads as
   pub spelled : IsSpelled P

@@ -8,9 +8,11 @@ use Rattle.hip_types.specs.declared.ty.Ty.TheOpen.{Ty-F}
 use Rattle.hip_types.specs.declared.ty.Ty.TheFolds.{fold-Ty}
 use Rattle.hip_types.specs.Widths.{bits_of}
 
+-- two integer types have the same number of bits
 abbrev pub same_width : Width → Width → Bool
 same_width v w = bits_of v == bits_of w
 
+-- two scalars are both pointers, or both integers of one width
 abbrev pub same_scalar : Scalar → Scalar → Bool
 same_scalar (scalars.Int v) (scalars.Int w) = same_width v w
 same_scalar scalars.Ptr scalars.Ptr = true
@@ -28,18 +30,22 @@ all_pass [] [] = true
 all_pass (test ∷ tests) (x ∷ xs) = test x && all_pass tests xs
 all_pass _ _ = false
 
+-- one level of a type is an integer of that width
 abbrev is_int : Width → Ty-F Ty → Bool
 is_int w (Ty-F.Int v) = same_width w v
 is_int w _ = false
 
+-- one level of a type is a pointer
 abbrev is_ptr : Ty-F Ty → Bool
 is_ptr Ty-F.Ptr = true
 is_ptr _ = false
 
+-- one level of a type is an array of n elements whose type passes the test, also where n is 0
 abbrev is_array : ℕ → (Ty → Bool) → Ty-F Ty → Bool
 is_array n item (Ty-F.Array m t) = n == m && item t
 is_array n item _ = false
 
+-- one level of a type is a struct with a field for each test, whose type passes that test
 abbrev is_struct : List (Ty → Bool) → Ty-F Ty → Bool
 is_struct tests (Ty-F.Struct ts) = all_pass tests ts
 is_struct tests _ = false
@@ -51,8 +57,11 @@ same_level Ty-F.Ptr t = is_ptr t
 same_level (Ty-F.Array n item) t = is_array n item t
 same_level (Ty-F.Struct tests) t = is_struct tests t
 
+-- a whole type is like one that is given by its outermost level, with a test of each type inside
 abbrev pub same_step : Ty-F (Ty → Bool) → Ty → Bool
 same_step tests t = same_level tests (out-Ty t)
 
+-- Two types are one where they are alike level by level; so a struct is told by its fields alone. (LLVM, "Structure
+-- Type": literal types are uniqued by their contents.)
 abbrev pub same_type : Ty → Ty → Bool
 same_type = fold-Ty (Ty → Bool) same_step

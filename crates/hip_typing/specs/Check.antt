@@ -14,10 +14,12 @@ pub record IsExact (c : Check) : Type 0 where
   pub sound : c.found ≡ None → c.Holds
   pub whole : c.Holds → c.found ≡ None
 
+-- the earlier finding, or else the later one; none where neither is there
 abbrev pub or_else : Option Finding → Option Finding → Option Finding
 or_else None later = later
 or_else (Some f) later = Some f
 
+-- the check that asks nothing: it always holds and finds nothing
 abbrev pub nothing_asked : Check
 nothing_asked = record { Holds = Unit {0}; found = None }
 
@@ -26,6 +28,7 @@ abbrev pub asks : Type 0 → Bool → Fault → Place → Check
 asks fact test fault place =
     record { Holds = fact; found = if test then None else Some (record { fault = fault; place = place }) }
 
+-- the check that a test passes, which finds this fault at this place where it does not
 abbrev pub asks_true : Bool → Fault → Place → Check
 asks_true test fault place = asks (IsTrue test) test fault place
 
@@ -38,5 +41,6 @@ abbrev pub each_from : {A : Type 0} → ℕ → (ℕ → A → Check) → List A
 each_from n check [] = nothing_asked
 each_from n check (x ∷ xs) = and_then (check n x) (each_from (n + 1) check xs)
 
+-- a check of each item with its number from 0, in order; an empty list asks nothing
 abbrev pub each : {A : Type 0} → (ℕ → A → Check) → List A → Check
 each check xs = each_from 0 check xs

@@ -23,6 +23,7 @@ use Rattle.hip_typing.specs.declared.fault.TypeRefusal.{TypeRefusal}
 use Rattle.hip_typing.specs.declared.refused.Refused.{Refused}
 use Rattle.hip_typing.specs.declared.refused.Refused.TheVariants as refused
 
+-- a check's fault among the faults of a program; those of spelling, of paths and of memory come from no check
 abbrev pub fault_of : Fault → TypeFault
 fault_of breaks.Duplicate = faults.Duplicate
 fault_of breaks.Unknown = faults.Unknown
@@ -33,10 +34,13 @@ fault_of breaks.BadGlobal = faults.BadGlobal
 fault_of breaks.BadEdge = faults.BadEdge
 fault_of breaks.TooLarge = faults.TooLarge
 
+-- the refusal that a stopped check gives: its finding, or want of memory at the whole program
 abbrev pub refusal_of : Refused → TypeRefusal
 refusal_of (refused.Found f) = record { fault = fault_of f.fault; place = f.place }
 refusal_of refused.NoMemory = record { fault = faults.NoMemory; place = places.Whole }
 
+-- the refusal that the check of paths gives: the place of a use and a path to it on which nothing assigns its
+-- register, or want of memory at the whole program
 abbrev pub refusal_on_paths : NotAssigned → TypeRefusal
 refusal_on_paths (unassigned.Use place path) = record { fault = faults.Unassigned path; place = place }
 refusal_on_paths unassigned.NoMemory = record { fault = faults.NoMemory; place = places.Whole }
@@ -51,6 +55,8 @@ abbrev refuses : Program → TypeFault → Place → Type 0
 refuses P faults.NoMemory place = place ≡ places.Whole
 refuses P fault place = IsRefused P (record { fault = fault; place = place })
 
+-- The program is not sound, and the refusal is its first fault. Want of memory says nothing of the program, and its
+-- place is the whole program.
 abbrev pub Refuses : Program → TypeRefusal → Type 0
 Refuses P refusal = refuses P refusal.fault refusal.place
 

@@ -12,7 +12,7 @@ use Rattle.hip_ir.specs.declared.constant.Const.TheFolds.{fold-Const, fold-Const
 use Rattle.hip_globals.specs.Constants.{index_of, joined}
 use Rattle.hip_typing.specs.Types.{same_type, same_width, all_pass}
 
--- the names of globals in it
+-- the names at one level of a constant, with the names in each part inside in its place
 abbrev names_step : Const-F (List (List ℕ)) (List (List ℕ)) (List (List ℕ)) → List (List ℕ)
 names_step (Const-F.Address name) = name ∷ []
 names_step (Const-F.Gep names) = names
@@ -20,19 +20,24 @@ names_step (Const-F.Array items) = joined items
 names_step (Const-F.Struct items) = joined items
 names_step _ = []
 
+-- the names in a constant `getelementptr`: its indices are integers, so they are those in its base
 abbrev gep_names_step : ConstGep-F (List (List ℕ)) (List (List ℕ)) (List (List ℕ)) → List (List ℕ)
 gep_names_step gep = gep.base
 
+-- the names in a member of an aggregate constant: those in its value, since types have none
 abbrev item_names_step : TypedConst-F (List (List ℕ)) (List (List ℕ)) (List (List ℕ)) → List (List ℕ)
 item_names_step item = item.value
 
+-- the names whose addresses stand in a constant, in the order of its text, each as often as it stands there
 abbrev pub names_in : Const → List (List ℕ)
 names_in = fold-Const (List (List ℕ)) (List (List ℕ)) (List (List ℕ)) names_step gep_names_step item_names_step
 
+-- the names whose addresses stand in a constant `getelementptr`, in the order of its text
 abbrev pub gep_names : ConstGep → List (List ℕ)
 gep_names = fold-ConstGep (List (List ℕ)) (List (List ℕ))
     (List (List ℕ)) names_step gep_names_step item_names_step
 
+-- the names whose addresses stand in a member of an aggregate constant, in the order of its text
 abbrev pub item_names : TypedConst → List (List ℕ)
 item_names = fold-TypedConst (List (List ℕ)) (List (List ℕ))
     (List (List ℕ)) names_step gep_names_step item_names_step
@@ -43,6 +48,7 @@ entered i (Ty-F.Array n element) = Some element
 entered i (Ty-F.Struct fields) = slice_get fields i
 entered i _ = None
 
+-- an index enters a type, and the test of the further indices passes there; false where it enters none
 abbrev pub goes_in : (Ty → Bool) → Option Ty → Bool
 goes_in rest None = false
 goes_in rest (Some t) = rest t
@@ -57,26 +63,35 @@ abbrev pub path_exists : List Bits → Ty → Bool
 path_exists [] t = false
 path_exists (first ∷ further) t = enters further t
 
+-- each of the tests passes at this one type; true where there are no tests
 abbrev pub all_have : List (Ty → Bool) → Ty → Bool
 all_have [] t = true
 all_have (item ∷ items) t = item t && all_have items t
 
+-- the tests of a constant's members pass at an array type: as many as it has elements, each at the element type;
+-- false at any other type
 abbrev array_has : List (Ty → Bool) → Ty-F Ty → Bool
 array_has items (Ty-F.Array n t) = length items == n && all_have items t
 array_has items _ = false
 
+-- the tests of a constant's members pass at a struct type: one for each field, in order; false at any other type
 abbrev struct_has : List (Ty → Bool) → Ty-F Ty → Bool
 struct_has items (Ty-F.Struct ts) = all_pass items ts
 struct_has items _ = false
 
+-- the type is the integer type of this integer's width
 abbrev is_int_of : Bits → Ty-F Ty → Bool
 is_int_of b (Ty-F.Int w) = same_width b.width w
 is_int_of b _ = false
 
+-- the type is `ptr`
 abbrev is_pointer : Ty-F Ty → Bool
 is_pointer Ty-F.Ptr = true
 is_pointer _ = false
 
+-- Whether one level of a constant has the shape of a type, with the test of each part inside in its place. An integer
+-- has that of the type of its width; `null`, an address and a `getelementptr` that of `ptr`; lists those of arrays
+-- and structs; `zeroinitializer` that of every type. (LLVM, "Constants".)
 abbrev shape_step : Const-F (Ty → Bool) Bool (Ty → Bool) → Ty → Bool
 shape_step (Const-F.Int b) t = is_int_of b (out-Ty t)
 shape_step Const-F.Null t = is_pointer (out-Ty t)
@@ -86,9 +101,12 @@ shape_step (Const-F.Gep path) t = is_pointer (out-Ty t) && path
 shape_step (Const-F.Array items) t = array_has items (out-Ty t)
 shape_step (Const-F.Struct items) t = struct_has items (out-Ty t)
 
+-- One level of a constant `getelementptr`: its base has the shape of `ptr`, and its path exists in its type; without
+-- an index there is no path. (LLVM, "getelementptr".)
 abbrev gep_shape : ConstGep-F (Ty → Bool) Bool (Ty → Bool) → Bool
 gep_shape gep = gep.base Ptr && path_exists gep.indices gep.ty
 
+-- one level of a member of an aggregate constant: it is written under this type, and its value has the shape
 abbrev item_shape : TypedConst-F (Ty → Bool) Bool (Ty → Bool) → Ty → Bool
 item_shape item t = same_type item.ty t && item.value t
 
@@ -96,8 +114,10 @@ item_shape item t = same_type item.ty t && item.value t
 abbrev pub has_shape : Const → Ty → Bool
 has_shape = fold-Const (Ty → Bool) Bool (Ty → Bool) shape_step gep_shape item_shape
 
+-- the base of the constant `getelementptr` has the shape of `ptr`, and its path exists in its type
 abbrev pub gep_is_sound : ConstGep → Bool
 gep_is_sound = fold-ConstGep (Ty → Bool) Bool (Ty → Bool) shape_step gep_shape item_shape
 
+-- the member of an aggregate constant is written under this type, and its value has the type's shape
 abbrev pub item_has_shape : TypedConst → Ty → Bool
 item_has_shape = fold-TypedConst (Ty → Bool) Bool (Ty → Bool) shape_step gep_shape item_shape

@@ -18,18 +18,23 @@ pub record Declares (A : Type 0) : Type 0 where
   pub phi : ℕ → ℕ → Phi → A
   pub instr : ℕ → ℕ → Register → A
 
+-- what is made of the register that the instruction of that number assigns; empty where it assigns none
 abbrev pub instr_declared : {A : Type 0} → (ℕ → Register → A) → ℕ → Instr → List A
 instr_declared each i instr = map (each i) (assigned_by instr)
 
+-- what is made of the registers that a body's instructions assign, in order, each with its instruction's number
 abbrev pub body_declared : {A : Type 0} → (ℕ → Register → A) → List Instr → List A
 body_declared each body = joined (numbered (instr_declared each) body)
 
+-- what is made of the block of that number: of its label, of its phis, and of the registers that its body assigns
 abbrev pub block_declared : {A : Type 0} → Declares A → ℕ → Block → List A
 block_declared d b block =
     d.label b block.label ∷ (numbered (d.phi b) block.phis ++ body_declared (d.instr b) block.body)
 
+-- what is made of blocks, one after another, each with its number
 abbrev pub blocks_declared : {A : Type 0} → Declares A → List Block → List A
 blocks_declared d blocks = joined (numbered (block_declared d) blocks)
 
+-- what is made of a function: of its parameters, and then of its blocks
 abbrev pub declared_by : {A : Type 0} → Declares A → Function → List A
 declared_by d fn = map d.parameter fn.params ++ blocks_declared d fn.blocks

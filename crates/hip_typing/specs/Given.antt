@@ -49,6 +49,7 @@ pub record IsTypedBlock (fn : Function) (block : Block) : Type 0 where
   pub body : (i : ℕ) (instr : Instr) → slice_get block.body i ≡ Some instr → All (IsTyped fn) (instr_uses instr)
   pub last : All (IsTyped fn) (end_uses block.end)
 
+-- each operand of each block of the program has the type that its place states
 abbrev pub OperandsAgree : Program → Type 0
 OperandsAgree P = (f b : ℕ) (fn : Function) (block : Block) → IsBlockAt P f b fn block → IsTypedBlock fn block
 
@@ -61,6 +62,7 @@ pub record HasBlock (fn : Function) (label : List ℕ) : Type 0 where
   pub here : slice_get fn.blocks number ≡ Some block
   pub named : block.label ≡ label
 
+-- each label that the end of a block names is that of a block of the same function
 abbrev pub LabelsExist : Program → Type 0
 LabelsExist P =
     (f b : ℕ) (fn : Function) (block : Block) → IsBlockAt P f b fn block

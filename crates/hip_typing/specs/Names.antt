@@ -17,6 +17,7 @@ differ_after earlier (x ∷ xs) =
     and_then (asks (¬ IsAmong earlier x.name) (not (is_among earlier x.name)) breaks.Duplicate x.place)
     (differ_after (earlier ++ x.name ∷ []) xs)
 
+-- each name differs from those before it; the first that does not is found, at its own place
 abbrev pub all_differ : List Named → Check
 all_differ names = differ_after [] names
 
@@ -25,5 +26,6 @@ abbrev pub numbered_from : {A B : Type 0} → ℕ → (ℕ → A → B) → List
 numbered_from n make [] = []
 numbered_from n make (x ∷ xs) = make n x ∷ numbered_from (n + 1) make xs
 
+-- the items of a list, each with its number from 0, made into something else
 abbrev pub numbered : {A B : Type 0} → (ℕ → A → B) → List A → List B
 numbered make xs = numbered_from 0 make xs

@@ -4,6 +4,7 @@ use Rattle.hip_ir.specs.declared.program.Function.{Function}
 use Rattle.hip_ir.specs.declared.program.Program.{Program}
 use Rattle.hip_names.specs.Names.{number_of}
 
+-- the names of functions, in their order
 abbrev pub function_names : List Function → List (List ℕ)
 function_names functions = map (λ f. f.name) functions
 

@@ -23,6 +23,7 @@ use Rattle.hip_typing.specs.declared.fault.Place.{Place}
 use Rattle.hip_typing.specs.declared.fault.Place.TheVariants as places
 use Rattle.hip_typing.specs.Sound.{top_names, names_in_block, names_in_function}
 
+-- the names of declarations, in order, without their places
 abbrev place_names : List Named → List (List ℕ)
 place_names ns = map (λ n. n.name) ns
 

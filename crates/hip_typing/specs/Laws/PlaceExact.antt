@@ -176,6 +176,7 @@ uses-decides P fn us =
     all-decides (λ u. use_agrees (registers_of fn) u.operand u.ty) (IsTyped fn) us
     (λ u. use-decides (registers_of fn) u.operand u.ty)
 
+-- the signature that a call states: its result, and its arguments' types as parameters
 abbrev call_of : Option Scalar → List Arg → Signature
 call_of ret args = record { ret = ret; params = map (λ a. a.ty) args }
 
@@ -285,6 +286,7 @@ ends-decides fn block e =
     none-decides (is_entry fn.blocks) (λ label. label_at fn 0 ≡ Some label) (end_labels e)
     (λ label. entry-decides fn label)
 
+-- some block of the list has the first label, and its end names the second
 abbrev IsPredecessor : List Block → List ℕ → List ℕ → Type 0
 IsPredecessor bs from to =
     (n : ℕ) × (b : Block) × (slice_get bs n ≡ Some b) × (b.label ≡ from) × IsAmong (end_labels b.end) to

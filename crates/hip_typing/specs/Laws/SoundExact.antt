@@ -36,11 +36,14 @@ use Rattle.hip_globals.specs.Addresses.{TypesFitIn}
 
 -- ---- globals
 
+-- the types of globals and those in their initialisers fit, the initialisers have the shape of their globals' types,
+-- and they name globals
 pub record GlobalsAreSound (P : Program) : Type 0 where
   pub fit : All TypesFitIn P.globals
   pub shape : All HasItsShape P.globals
   pub names : All (NamesGlobals P) P.globals
 
+-- the types of one global and of its initialiser fit, and the initialiser has its shape and names globals
 abbrev global_facts : Program → GlobalVar → Type 0
 global_facts P g = TypesFitIn g × HasItsShape g × NamesGlobals P g
 

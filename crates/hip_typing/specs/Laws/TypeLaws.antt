@@ -27,15 +27,19 @@ same_width-refl W16 = refl
 same_width-refl W32 = refl
 same_width-refl W64 = refl
 
+-- each type that passes the test of being this one is equal to it
 abbrev IsEqual : Ty → Type 0
 IsEqual a = (b : Ty) → same_type a b ≡ true → a ≡ b
 
+-- a type, with the proof that what passes its test is equal to it
 abbrev Known : Type 0
 Known = (t : Ty) × IsEqual t
 
+-- one level of a type, each type inside without the proof that what passes its test is equal to it
 abbrev types : Ty-F Known → Ty-F Ty
 types y = map-Ty Known Ty (λ e. e.0) y
 
+-- one level of a type, with the test of each type inside in its place
 abbrev tests : Ty-F Known → Ty-F (Ty → Bool)
 tests y = map-Ty Ty (Ty → Bool) same_type (types y)
 
@@ -79,12 +83,15 @@ same_type-equal = ind-Ty IsEqual (λ x y is b h.
     let there : P (types y) = subst P (sym is) here in
     ap roll-Ty (sym is ∙ level_equal y (out-Ty b) there) ∙ roll-out-Ty b)
 
+-- the type passes the test of being itself
 abbrev IsReflexive : Ty → Type 0
 IsReflexive a = same_type a a ≡ true
 
+-- a type, with the proof that it passes its own test
 abbrev Passing : Type 0
 Passing = (t : Ty) × IsReflexive t
 
+-- one level of a type, each type inside without the proof that it passes its own test
 abbrev bare : Ty-F Passing → Ty-F Ty
 bare y = map-Ty Passing Ty (λ e. e.0) y
 

@@ -12,5 +12,6 @@ Answers (Ok _) found = found ≡ None
 Answers (Err (refused.Found f)) found = found ≡ Some f
 Answers (Err refused.NoMemory) found = Unit {0}
 
+-- what a rule with this test finds at the place: nothing where it passes, else the fault
 abbrev pub asked : Bool → Fault → Place → Option Finding
 asked test fault place = if test then None else Some (record { fault = fault; place = place })

@@ -12,6 +12,7 @@ abbrev pub found_at : {S : Type 0} → IndexMap (Bor (List ℕ)) (List (List ℕ
     → Option (List (List ℕ))
 found_at m label = get_by (λ k. bytes_eq label k.now) m
 
+-- the set of names at a name, empty where the table has none
 abbrev pub names_at : {S : Type 0} → IndexMap (Bor (List ℕ)) (List (List ℕ)) S → List ℕ → List (List ℕ)
 names_at m label = unwrap_or (found_at m label) []
 

@@ -13,9 +13,11 @@ abbrev pub carries_again : Option (Bor Operand) → Operand → Bool
 carries_again None o = true
 carries_again (Some first) o = same_operand first.now o
 
+-- the operand of a phi's edge, under the edge's label
 abbrev pub edge_entry : Edge → Entry Operand
 edge_entry e = record { name = e.label; value = e.value }
 
+-- an entry of the code's table, with the operand that is borrowed there
 abbrev pub carried_seen : Entry (Bor Operand) → Entry Operand
 carried_seen e = record { name = e.name; value = e.value.now }
 

@@ -17,6 +17,8 @@ use Rattle.hip_typing.specs.declared.fault.Fault.TheVariants as breaks
 use Rattle.hip_typing.specs.declared.fault.Finding.{Finding}
 use Rattle.hip_typing.specs.declared.fault.Place.{Place}
 
+-- what is found first at the end of a block, given whether its names exist, the types written there fit and its types
+-- agree, and then whether the values of its cases differ and no label that it names is the entry block's
 abbrev pub end_found_by : Bool → Bool → Bool → Function → End → Place → Option Finding
 end_found_by known fit agree function e place =
     or_else (asked known breaks.Unknown place)
@@ -25,6 +27,7 @@ end_found_by known fit agree function e place =
     (or_else (asked (cases_differ (end_cases e)) breaks.Duplicate place)
     (asked (not (list_any (is_entry function.blocks) (end_labels e))) breaks.BadEdge place))))
 
+-- what the check of a block's end finds by the tables of registers, of globals and of labels
 abbrev pub end_found : List (List ℕ) → List (Option Scalar) → List (List ℕ) → List (List ℕ) → Function
     → End → Place →
     Option Finding

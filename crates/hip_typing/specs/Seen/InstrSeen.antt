@@ -20,11 +20,14 @@ use Rattle.hip_typing.specs.declared.fault.Fault.TheVariants as breaks
 use Rattle.hip_typing.specs.declared.fault.Finding.{Finding}
 use Rattle.hip_typing.specs.declared.fault.Place.{Place}
 
+-- what is found first at an instruction, given whether its names exist, the types written there fit and its types
+-- agree, in this order
 abbrev pub found_by : Bool → Bool → Bool → Place → Option Finding
 found_by known fits agrees place =
     or_else (asked known breaks.Unknown place)
     (or_else (asked fits breaks.TooLarge place) (asked agrees breaks.Mismatch place))
 
+-- what the check of an instruction finds by the tables of registers, of globals and of callees
 abbrev pub instr_found : List (List ℕ) → List (Option Scalar) → List (List ℕ) → List (List ℕ)
     → List Callee → Instr →
     Place → Option Finding

@@ -22,12 +22,16 @@ use Rattle.hip_typing.specs.declared.fault.Fault.TheVariants as breaks
 use Rattle.hip_typing.specs.declared.fault.Finding.{Finding}
 use Rattle.hip_typing.specs.declared.fault.Place.{Place}
 
+-- what is found first at a phi, given whether its names exist, the types written there fit, its types agree and its
+-- edges agree, in this order
 abbrev pub phi_found_by : Bool → Bool → Bool → Bool → Place → Option Finding
 phi_found_by known fit agree edges place =
     or_else (asked known breaks.Unknown place)
     (or_else (asked fit breaks.TooLarge place)
     (or_else (asked agree breaks.Mismatch place) (asked edges breaks.BadEdge place)))
 
+-- what the check of a phi finds by the tables of registers, of globals and of labels, and by the labels of its
+-- block's predecessors
 abbrev pub phi_found : List (List ℕ) → List (Option Scalar) → List (List ℕ) → List (List ℕ)
     → List (List ℕ) → Phi →
     Place → Option Finding

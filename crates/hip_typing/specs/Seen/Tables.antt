@@ -14,6 +14,7 @@ use Rattle.hip_typing.specs.declared.tables.callees.Params.TheVariants.{Scalars,
 
 -- ---- registers
 
+-- a register's type under its name
 abbrev pub register_entry : Register → Entry (Option Scalar)
 register_entry r = record { name = r.name; value = r.ty }
 
@@ -29,19 +30,24 @@ pub record Finds (names : List (List ℕ)) (values : List (Option Scalar)) (regi
 
 -- ---- callees
 
+-- an external function's signature under its name
 abbrev pub extern_entry : Extern → Entry Signature
 extern_entry e = record { name = e.name; value = record { ret = e.ret; params = e.params } }
 
+-- a function's signature under its name, its parameters by their types
 abbrev pub function_entry : Function → Entry Signature
 function_entry f = record { name = f.name; value = record { ret = f.ret; params = map (λ p. p.ty) f.params } }
 
+-- the types of parameters, in order, whether they are an external function's or a function's, which have names too
 abbrev pub params_seen : Params → List Scalar
 params_seen (Scalars types) = types.now
 params_seen (Named params) = map (λ p. p.ty) params.now
 
+-- the signature that a callee in the code's table stands for
 abbrev pub callee_seen : Callee → Signature
 callee_seen c = record { ret = c.ret; params = params_seen c.params }
 
+-- a name in the code's table of callees, with the signature that its callee stands for
 abbrev pub entry_seen : Entry Callee → Entry Signature
 entry_seen e = record { name = e.name; value = callee_seen e.value }
 

@@ -11,6 +11,7 @@ use Rattle.hip_runs.specs.declared.limits.TheConstants.{MOST_NUMBERS, MOST_TURNS
 use Rattle.hip_trace.specs.declared.entry.Entry.{Entry}
 use Rattle.hip_trace.specs.declared.entry.Entry.TheVariants.{Start, Register, Input as Number, Image}
 
+-- how many entries of a trace are its header, and the input that they give, if they give one
 pub data Header : Type 0 where
   -- only so many entries are valid, which is less than two
   Stops : (entries : ℕ) → Header
@@ -29,6 +30,7 @@ abbrev pub valid_base : Program → Option Entry → Option ℕ
 valid_base P (Some (Register base size)) = if is_base base && (size == region_size P) then Some base else None
 valid_base P _ = None
 
+-- whether there are no bytes
 abbrev pub is_empty : List ℕ → Bool
 is_empty [] = true
 is_empty (b ∷ bs) = false
@@ -51,6 +53,7 @@ with_line P I addr bytes =
     if is_next_line P I addr bytes
     then Some (record I { image = I.image ++ (zeros (addr - (I.base + length I.image)) ++ bytes) }) else None
 
+-- the input so far with what the next piece gives; none where that is no INPUT or IMAGE that is valid there
 abbrev pub with_entry : Program → Input → Option Entry → Option Input
 with_entry P I (Some (Number number)) = with_number I number
 with_entry P I (Some (Image addr bytes)) = with_line P I addr bytes
@@ -62,20 +65,24 @@ filled P I = record I { image = I.image ++ zeros (region_size P - length I.image
 
 -- ---- the header
 
--- Behind so many entries: the INPUT and IMAGE entries, as long as they are valid.
+-- the header ends behind so many entries where the next piece gives no input, and else goes on with the one it gives
 abbrev pub go_on : Program → Input → ℕ → (Input → Header) → Option Input → Header
 go_on P I count rest None = Gives count (filled P I)
 go_on P I count rest (Some more) = rest more
 
+-- the header where so many entries gave the input so far and these pieces follow
 abbrev pub header_from : Program → Input → ℕ → List (Option Entry) → Header
 header_from P I count [] = Gives count (filled P I)
 header_from P I count (e ∷ es) = go_on P I count (λ more. header_from P more (suc count) es) (with_entry P I e)
 
+-- the header where the second piece gave this base and these pieces follow; of one entry where it gave none
 abbrev pub behind_register : Program → ℕ → List (Option Entry) → Option ℕ → Header
 behind_register P limit es None = Stops 1
 behind_register P limit es (Some base) =
     header_from P (record { base = base; image = []; numbers = []; limit = limit }) 2 es
 
+-- the header where the first piece gave this limit and these pieces follow; of no entry where it gave none, and of
+-- one where no piece follows
 abbrev pub behind_start : Program → List (Option Entry) → Option ℕ → Header
 behind_start P es None = Stops 0
 behind_start P [] (Some limit) = Stops 1

@@ -42,6 +42,8 @@ pub record DiffersFromRun (P : Program) (I : Input) (whole : Bool) (pieces : Lis
   pub number : entry ≡ count + 1
   pub differs : FirstDiffers whole pieces trace count kind
 
+-- Behind a header that gives no input the misfit is the next entry, which is missing or not valid there; behind
+-- another it is the first one at which the pieces differ from the trace of the run on the input.
 abbrev pub MisfitBehind : Header → Program → Bool → List (Option Entry) → ℕ → MisfitKind → Type 0
 MisfitBehind (Stops count) P whole pieces entry kind = (entry ≡ count + 1)
     × StopsAt whole (slice_get pieces count) kind

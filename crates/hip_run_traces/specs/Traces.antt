@@ -18,6 +18,7 @@ use Rattle.hip_trace.specs.declared.entry.TrapWord.TheVariants as words
 
 -- ---- events
 
+-- the word of a TRAP entry for each kind of trap
 abbrev pub trap_word : TrapKind → TrapWord
 trap_word traps.DivZero = words.DivZero
 trap_word traps.DivOverflow = words.DivOverflow
@@ -29,6 +30,7 @@ trap_word traps.Depth = words.Depth
 trap_word traps.InputEnd = words.InputEnd
 trap_word traps.Unreachable = words.Unreachable
 
+-- the entry of a run's ending: STOP with the number that `main` returned, TRAP with its word, or CUT
 abbrev pub entry_of_ending : Ending → Entry
 entry_of_ending (endings.Stop code) = entries.Stop code
 entry_of_ending (endings.Trap kind) = entries.Trap (trap_word kind)
@@ -65,6 +67,7 @@ header_of I =
 
 -- ---- the trace
 
+-- an entry, as a list; empty where there is none
 abbrev pub entry_list : Option Entry → List Entry
 entry_list None = []
 entry_list (Some e) = e ∷ []

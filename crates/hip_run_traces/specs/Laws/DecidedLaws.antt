@@ -22,6 +22,7 @@ use Rattle.hip_trace.specs.declared.entry.TrapWord.{TrapWord}
 
 -- ---- whether two entries are equal
 
+-- two values are equal or they are not
 abbrev Same : {A : Type 0} → A → A → Type 0
 Same a b = (a ≡ b) ⊎ (a ≡ b → ⊥)
 
@@ -119,6 +120,7 @@ record Agree (whole : Bool) (ps : List (Option Entry)) (es : List Entry) : Type 
   spell : ps ≡ told (take (length ps) es)
   all : whole ≡ true → ps ≡ told es
 
+-- pieces and entries differ first at some number, in some way, or they agree
 abbrev Compared : Bool → List (Option Entry) → List Entry → Type 0
 Compared whole ps es = ((c : ℕ) × (k : MisfitKind) × FirstDiffers whole ps es c k) ⊎ Agree whole ps es
 
@@ -149,9 +151,11 @@ compare whole (p ∷ ps) (e ∷ es) = go (piece_same p e) (compare whole ps es)
 
 -- ---- files
 
+-- some entry of the bytes is a misfit, in some way
 abbrev SomeMisfit : Program → List ℕ → Bool → Type 0
 SomeMisfit P bytes whole = (e : ℕ) × (k : MisfitKind) × IsMisfit P bytes whole e k
 
+-- no entry of the bytes is a misfit, in whatever way
 abbrev NoMisfit : Program → List ℕ → Bool → Type 0
 NoMisfit P bytes whole = (e : ℕ) (k : MisfitKind) → IsMisfit P bytes whole e k → ⊥
 

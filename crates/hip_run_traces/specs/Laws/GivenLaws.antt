@@ -27,10 +27,12 @@ use Rattle.hip_trace.specs.declared.entry.Entry.TheVariants.{Start, Register, In
 
 -- ---- what is spelled fits
 
+-- the values of the entry that a piece spells fit the fields of its text; nothing is asked where it spells none
 abbrev pub FitsIfThere : Option Entry → Type 0
 FitsIfThere None = Unit {0}
 FitsIfThere (Some e) = ValuesFit e
 
+-- the values of each entry that the pieces spell fit the fields of its text
 abbrev pub FitAll : List (Option Entry) → Type 0
 FitAll [] = Unit {0}
 FitAll (e ∷ es) = FitsIfThere e × FitAll es
@@ -52,6 +54,8 @@ fit_pieces whole bytes = fit_texts (pieces whole bytes)
 abbrev so_far : Input → List Entry
 so_far J = map (λ z. Number z) J.numbers ++ image_entries (length J.image / 64) J.base J.image
 
+-- What a header has given so far is within the bounds of a valid input, and its initial bytes are whole cache lines,
+-- at most as many bytes as the region has.
 record IsGood (P : Program) (J : Input) : Type 0 where
   base : IsBase J.base
   limit : J.limit ≤ 2 ^ 40

@@ -22,11 +22,13 @@ use Rattle.hip_run_traces.specs.Traces.{entry_of_ending, entry_of_event, entry_l
 use Rattle.hip_trace.specs.declared.entry.Entry.{Entry}
 use Rattle.hip_trace.specs.declared.entry.Entry.TheVariants.{Start, Register, Input as Number, Image}
 
+-- entries as pieces that spell them
 abbrev pub told : List Entry → List (Option Entry)
 told es = map (λ e. Some e) es
 
 -- ---- the entries of steps belong to no header
 
+-- no input goes on with the first of the entries, so that a header ends before it; true where there are none
 abbrev StopsIt : Program → List Entry → Type 0
 StopsIt P [] = Unit {0}
 StopsIt P (e ∷ es) = (J : Input) → with_entry P J (Some e) ≡ None

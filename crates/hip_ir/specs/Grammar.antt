@@ -27,6 +27,7 @@ use Rattle.hip_ir.specs.Numbers.{a_literal, an_int_const, a_count}
 abbrev pub word : List ℕ → Part Fault (Unit {0})
 word w = passing (is_word w)
 
+-- a mark, by its byte
 abbrev pub mark : ℕ → Part Fault (Unit {0})
 mark b = passing (is_mark b)
 
@@ -50,6 +51,7 @@ scalar = token (a_word_of scalar_word)
 abbrev pub is_width : Width → Tok → Bool
 is_width w = is_word (width_text w)
 
+-- the same for any scalar type, as before the second value of a `select`
 abbrev pub is_scalar : Scalar → Tok → Bool
 is_scalar s = is_word (scalar_text s)
 
@@ -80,6 +82,7 @@ unfoldable pub type_within : ℕ → Part Fault Ty
 type_within zero = type_by (token (too_deep (byte "["))) (token (too_deep (byte "{")))
 type_within (suc n) = type_by (array_type (type_within n)) (struct_type (type_within n))
 
+-- a type, with arrays and structs nested at most `DEEPEST_NESTING` deep, where `{}` is one level
 abbrev pub type : Part Fault Ty
 type = type_within DEEPEST_NESTING
 
@@ -129,6 +132,7 @@ unfoldable pub pointer_within : ℕ → Part Fault Const
 pointer_within zero = pointer_by (λ inbounds. token (too_deep (byte "(")))
 pointer_within (suc n) = pointer_by (gep_inside (pointer_within n))
 
+-- a constant under `ptr`, with at most `DEEPEST_NESTING` `getelementptr` in one another
 abbrev pub pointer_const : Part Fault Const
 pointer_const = pointer_within DEEPEST_NESTING
 
@@ -149,11 +153,13 @@ const_list open_mark close_mark value = do
   _ ← mark open_mark
   listed comma (is_mark close_mark) (typed_const value)
 
+-- a bracketed list, as the constant of an array
 unfoldable pub array_const : Part Fault (List TypedConst) → Part Fault Const
 array_const items = do
   elements ← items
   gives (consts.Array elements)
 
+-- a braced list, as the constant of a struct
 unfoldable pub struct_const : Part Fault (List TypedConst) → Part Fault Const
 struct_const items = do
   fields ← items
@@ -175,20 +181,24 @@ const_within (suc n) ty =
     (const_list (byte "{") (byte "}") (const_within n))
     (out-Ty ty)
 
+-- const, by the type before it, with lists nested at most `DEEPEST_NESTING` deep
 abbrev pub const : Ty → Part Fault Const
 const = const_within DEEPEST_NESTING
 
 -- ---- operands
 
+-- const under an integer type or `ptr`, where no list may stand
 unfoldable pub scalar_const : Scalar → Part Fault Const
 scalar_const (scalars.Int w) = token (an_int_const w)
 scalar_const scalars.Ptr = pointer_const
 
+-- LOCAL, as an operand
 unfoldable pub register : Part Fault Operand
 register = do
   name ← token a_local
   gives (operands.Reg name)
 
+-- const under the scalar type, as an operand
 unfoldable pub fixed_operand : Scalar → Part Fault Operand
 fixed_operand s = do
   value ← scalar_const s

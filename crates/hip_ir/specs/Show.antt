@@ -44,6 +44,7 @@ abbrev pub commas : List (List ℕ) → List ℕ
 commas [] = []
 commas (t ∷ ts) = t ++ after_commas ts
 
+-- `[a, b]`, and `[]` of nothing
 abbrev pub bracketed : List (List ℕ) → List ℕ
 bracketed ts = codes "[" ++ (commas ts ++ codes "]")
 
@@ -52,6 +53,7 @@ abbrev pub braced : List (List ℕ) → List ℕ
 braced [] = codes "{}"
 braced (t ∷ ts) = codes "{ " ++ (commas (t ∷ ts) ++ codes " }")
 
+-- `(a, b)`, and `()` of nothing
 abbrev pub parenthesized : List (List ℕ) → List ℕ
 parenthesized ts = codes "(" ++ (commas ts ++ codes ")")
 
@@ -64,11 +66,13 @@ type_step Ty-F.Ptr = codes "ptr"
 type_step (Ty-F.Array n e) = codes "[" ++ (decimal n ++ (codes " x " ++ (e ++ codes "]")))
 type_step (Ty-F.Struct fs) = braced fs
 
+-- the canonical text of a type (LLVM, "Type System")
 abbrev pub type_text : Ty → List ℕ
 type_text = fold-Ty (List ℕ) type_step
 
 -- ---- constants
 
+-- an integer of one bit: `false` for 0, else `true`
 abbrev pub truth_text : ℕ → List ℕ
 truth_text n = if n == 0 then codes "false" else codes "true"
 
@@ -84,6 +88,7 @@ number_text W16 n = signed_text 16 n
 number_text W32 n = signed_text 32 n
 number_text W64 n = signed_text 64 n
 
+-- an integer by its own width, without its type
 abbrev pub literal_text : Bits → List ℕ
 literal_text b = number_text b.width b.value
 
@@ -91,10 +96,12 @@ literal_text b = number_text b.width b.value
 abbrev pub index_text : Bits → List ℕ
 index_text b = width_text b.width ++ (codes " " ++ literal_text b)
 
+-- `inbounds ` where it is set, else nothing
 abbrev pub inbounds_text : Bool → List ℕ
 inbounds_text true = codes "inbounds "
 inbounds_text false = []
 
+-- a constant without its type, by the texts of its items or of its `getelementptr`
 abbrev pub const_step : Const-F (List ℕ) (List ℕ) (List ℕ) → List ℕ
 const_step (Const-F.Int b) = literal_text b
 const_step Const-F.Null = codes "null"
@@ -110,21 +117,26 @@ gep_step gep =
     codes "getelementptr " ++ (inbounds_text gep.inbounds ++ (codes "(" ++ (type_text gep.ty ++ (codes ", ptr "
     ++ (gep.base ++ (after_commas (map index_text gep.indices) ++ codes ")"))))))
 
+-- `i64 5`, as it stands in a list: the type of an item and its constant
 abbrev pub typed_step : TypedConst-F (List ℕ) (List ℕ) (List ℕ) → List ℕ
 typed_step item = type_text item.ty ++ (codes " " ++ item.value)
 
+-- the canonical text of a constant, without the type before it (LLVM, "Constants")
 abbrev pub const_text : Const → List ℕ
 const_text = fold-Const (List ℕ) (List ℕ) (List ℕ) const_step gep_step typed_step
 
 -- ---- operands
 
+-- `%x`, or a constant without its type
 abbrev pub operand_text : Operand → List ℕ
 operand_text (operands.Reg name) = codes "%" ++ name
 operand_text (operands.Fixed value) = const_text value
 
+-- `i64 %x`, an operand behind its type
 abbrev pub arg_text : Arg → List ℕ
 arg_text arg = scalar_text arg.ty ++ (codes " " ++ operand_text arg.value)
 
+-- `, align 8`, in bytes, or nothing where no alignment is written
 abbrev pub align_text : Option ℕ → List ℕ
 align_text None = []
 align_text (Some n) = codes ", align " ++ decimal n
@@ -144,10 +156,12 @@ flags_text flags = flag_if Nuw flags.nuw ++ (flag_if Nsw flags.nsw ++ flag_if Ex
 abbrev pub assigned_text : List ℕ → List ℕ
 assigned_text dest = codes "%" ++ (dest ++ codes " = ")
 
+-- `%x = ` before a call whose result goes into a register, else nothing
 abbrev pub result_text : Option (List ℕ) → List ℕ
 result_text None = []
 result_text (Some dest) = assigned_text dest
 
+-- an instruction, without its line feed; `tail` is never written before `call` (LLVM, "Instruction Reference")
 abbrev pub instr_text : Instr → List ℕ
 instr_text (instrs.Binary dest op flags w a b) =
     assigned_text dest ++ (binary_text op ++ (codes " " ++ (flags_text flags ++ (width_text w ++ (codes " "
@@ -180,6 +194,7 @@ instr_text (instrs.Call dest ret callee args) =
 abbrev pub edge_text : Edge → List ℕ
 edge_text edge = codes "[ " ++ (operand_text edge.value ++ (codes ", %" ++ (edge.label ++ codes " ]")))
 
+-- `%x = phi i64 [ 0, %entry ], [ %y, %loop ]`
 abbrev pub phi_text : Phi → List ℕ
 phi_text phi =
     assigned_text phi.dest ++ (codes "phi " ++ (scalar_text phi.ty ++ (codes " " ++ commas (map edge_text phi.edges))))
@@ -188,6 +203,7 @@ phi_text phi =
 abbrev pub case_text : Case → List ℕ
 case_text case = index_text case.value ++ (codes ", label %" ++ (case.label ++ codes " "))
 
+-- the instruction that ends a block, a `switch` with all its cases on one line (LLVM, "Terminator Instructions")
 abbrev pub end_text : End → List ℕ
 end_text (ends.Br label) = codes "br label %" ++ label
 end_text (ends.CondBr cond yes_label no_label) =
@@ -203,6 +219,7 @@ end_text ends.Unreachable = codes "unreachable"
 abbrev pub line_of : List ℕ → List ℕ
 line_of t = codes "  " ++ (t ++ codes "\n")
 
+-- `entry:` on a line, then a line each for the phis, the instructions and the end
 abbrev pub block_text : Block → List ℕ
 block_text block =
     block.label ++ (codes ":\n" ++ (flat_map (λ p. line_of (phi_text p)) block.phis
@@ -210,27 +227,33 @@ block_text block =
 
 -- ---- programs
 
+-- `, section ".pm"` of a persistent global, nothing of a volatile one
 abbrev pub section_text : Bool → List ℕ
 section_text true = codes ", section \".pm\""
 section_text false = []
 
+-- `constant ` where the global is one, else `global `
 abbrev pub fixed_text : Bool → List ℕ
 fixed_text true = codes "constant "
 fixed_text false = codes "global "
 
+-- `@x = global i64 0, section ".pm", align 8` and a line feed; no linkage is written
 abbrev pub global_text : GlobalVar → List ℕ
 global_text g =
     codes "@" ++ (g.name ++ (codes " = " ++ (fixed_text g.fixed ++ (type_text g.ty ++ (codes " " ++ (const_text g.init
     ++ (section_text g.persistent ++ (align_text g.align ++ codes "\n"))))))))
 
+-- `declare i64 @f(ptr, i64)` and a line feed
 abbrev pub extern_text : Extern → List ℕ
 extern_text e =
     codes "declare " ++ (ret_text e.ret ++ (codes " @" ++ (e.name ++ (parenthesized (map scalar_text e.params)
     ++ codes "\n"))))
 
+-- `i64 %x`, a parameter by its type and its name
 abbrev pub param_text : Param → List ℕ
 param_text p = scalar_text p.ty ++ (codes " %" ++ p.name)
 
+-- `define i64 @f(i64 %x) {`, its blocks and `}`, the first and the last on a line each
 abbrev pub function_text : Function → List ℕ
 function_text f =
     codes "define " ++ (ret_text f.ret ++ (codes " @" ++ (f.name ++ (parenthesized (map param_text f.params)

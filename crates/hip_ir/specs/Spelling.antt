@@ -70,11 +70,13 @@ unfoldable pub spelled_type_within : ℕ → Ty → Bool
 spelled_type_within zero t = spelled_flat (out-Ty t)
 spelled_type_within (suc n) t = spelled_level (spelled_type_within n) (out-Ty t)
 
+-- a type: arrays and structs nested at most `DEEPEST_NESTING` deep, `{}` being one level, and no array too long
 abbrev pub spelled_type : Ty → Bool
 spelled_type = spelled_type_within DEEPEST_NESTING
 
 -- ---- constants
 
+-- whether the integer is one of this width
 abbrev pub of_width : Width → Bits → Bool
 of_width w b = bits_of b.width == bits_of w
 
@@ -97,6 +99,7 @@ unfoldable pub spelled_pointer_within : ℕ → Const → Bool
 spelled_pointer_within zero c = spelled_pointer_level (λ gep. false) (out-Const c)
 spelled_pointer_within (suc n) c = spelled_pointer_level (spelled_gep (spelled_pointer_within n)) (out-Const c)
 
+-- a constant under `ptr`, with at most `DEEPEST_NESTING` `getelementptr` in one another
 abbrev pub spelled_pointer : Const → Bool
 spelled_pointer = spelled_pointer_within DEEPEST_NESTING
 
@@ -138,6 +141,7 @@ spelled_const_by inner Ty-F.Ptr c = spelled_pointer c
 spelled_const_by inner (Ty-F.Array n element) c = spelled_array inner (out-Const c)
 spelled_const_by inner (Ty-F.Struct fields) c = spelled_struct inner (out-Const c)
 
+-- an item of a list has a type of its own, under which its constant stands
 abbrev pub spelled_item : (Ty → Const → Bool) → TypedConst → Bool
 spelled_item value item = spelled_type item.ty && value item.ty item.value
 
@@ -146,11 +150,13 @@ unfoldable pub spelled_const_within : ℕ → Ty → Const → Bool
 spelled_const_within zero ty c = spelled_const_by (λ items. false) (out-Ty ty) c
 spelled_const_within (suc n) ty c = spelled_const_by (list_all (spelled_item (spelled_const_within n))) (out-Ty ty) c
 
+-- a constant under a type, with lists nested at most `DEEPEST_NESTING` deep
 abbrev pub spelled_const : Ty → Const → Bool
 spelled_const = spelled_const_within DEEPEST_NESTING
 
 -- ---- operands
 
+-- a constant under an integer type or `ptr`, where no list may stand
 abbrev pub spelled_scalar_const : Scalar → Const → Bool
 spelled_scalar_const (scalars.Int w) c = spelled_int w (out-Const c)
 spelled_scalar_const scalars.Ptr c = spelled_pointer c
@@ -160,9 +166,11 @@ abbrev pub spelled_operand : Scalar → Operand → Bool
 spelled_operand s (operands.Reg name) = is_name name
 spelled_operand s (operands.Fixed value) = spelled_scalar_const s value
 
+-- an operand under the type that is written before it
 abbrev pub spelled_arg : Arg → Bool
 spelled_arg arg = spelled_operand arg.ty arg.value
 
+-- whether a scalar is an integer type, and so not `ptr`
 abbrev pub is_int_type : Scalar → Bool
 is_int_type (scalars.Int w) = true
 is_int_type scalars.Ptr = false
@@ -204,6 +212,7 @@ spelled_memory_instr (instrs.Call dest ret callee args) =
     spelled_result dest && (is_name callee && list_all spelled_arg args)
 spelled_memory_instr _ = false
 
+-- any instruction: its names can be written, its operands stand under their types, a `select`'s condition under i1
 abbrev pub spelled_instr : Instr → Bool
 spelled_instr (instrs.Binary dest op flags w a b) =
     is_name dest && (spelled_flags op flags && (spelled_operand (scalars.Int w) a && spelled_operand (scalars.Int w) b))
@@ -215,9 +224,11 @@ spelled_instr instr = spelled_memory_instr instr
 
 -- ---- blocks
 
+-- an edge of a phi has an operand of the phi's type, and a label
 abbrev pub spelled_edge : Scalar → Edge → Bool
 spelled_edge s edge = spelled_operand s edge.value && is_name edge.label
 
+-- a phi has at least one edge
 abbrev pub spelled_phi : Phi → Bool
 spelled_phi phi = is_name phi.dest && (not_empty phi.edges && list_all (spelled_edge phi.ty) phi.edges)
 
@@ -225,6 +236,7 @@ spelled_phi phi = is_name phi.dest && (not_empty phi.edges && list_all (spelled_
 abbrev pub spelled_case : Width → Case → Bool
 spelled_case w case = of_width w case.value && is_name case.label
 
+-- the condition of a `br` is an operand of type i1, the value of a `switch` one of its width
 abbrev pub spelled_end : End → Bool
 spelled_end (ends.Br label) = is_name label
 spelled_end (ends.CondBr cond yes_label no_label) =
@@ -235,6 +247,7 @@ spelled_end (ends.Ret None) = true
 spelled_end (ends.Ret (Some arg)) = spelled_arg arg
 spelled_end ends.Unreachable = true
 
+-- a block has a label and an end; phis and instructions may be absent
 abbrev pub spelled_block : Block → Bool
 spelled_block block =
     is_name block.label && (list_all spelled_phi block.phis && (list_all spelled_instr block.body
@@ -242,19 +255,24 @@ spelled_block block =
 
 -- ---- programs
 
+-- the initialiser of a global is a constant under the global's type
 abbrev pub spelled_global : GlobalVar → Bool
 spelled_global g = is_name g.name && (spelled_type g.ty && (spelled_const g.ty g.init && spelled_align g.align))
 
+-- an external function has a name; each type that the tree may have as its result or a parameter can be written
 abbrev pub spelled_extern : Extern → Bool
 spelled_extern e = is_name e.name
 
+-- a parameter has a name; each type that the tree may have for it can be written
 abbrev pub spelled_param : Param → Bool
 spelled_param p = is_name p.name
 
+-- a function has at least one block; parameters may be absent
 abbrev pub spelled_function : Function → Bool
 spelled_function f =
     is_name f.name && (list_all spelled_param f.params && (not_empty f.blocks && list_all spelled_block f.blocks))
 
+-- what is asked of each global, external function and function by itself; that names differ is no rule here
 abbrev pub spelled_program : Program → Bool
 spelled_program p =
     list_all spelled_global p.globals && (list_all spelled_extern p.externs && list_all spelled_function p.functions)

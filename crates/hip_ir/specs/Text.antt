@@ -16,6 +16,7 @@ use Rattle.hip_ir.specs.Numbers.{an_alignment}
 use Rattle.hip_ir.specs.Grammar.{word, mark, scalar, type, const}
 use Rattle.hip_ir.specs.Bodies.{ret, maybe_align, block}
 
+-- what a text is a list of; `source_filename` and `target` are read and dropped
 pub data Item : Type 0 where
   GlobalItem : GlobalVar → Item
   ExternItem : Extern → Item
@@ -70,10 +71,12 @@ placement = do
   _ ← mark (byte ",")
   either (is_word (codes "section")) section only_align
 
+-- persistence and alignment as they are written; volatile and without an alignment where nothing is
 abbrev pub placed : Option (Bool × Option ℕ) → Bool × Option ℕ
 placed (Some p) = p
 placed None = (false, None)
 
+-- [ "," "section" STRING ] [ align ], which gives whether the global is persistent, and its alignment
 unfoldable pub place : Part Fault (Bool × Option ℕ)
 place = do
   found ← optional comma placement
@@ -100,6 +103,7 @@ global = do
 
 -- ---- externs and functions
 
+-- [ unnamed ], of which nothing is kept
 abbrev pub maybe_unnamed : Part Fault (Option (Unit {0}))
 maybe_unnamed = optional (is_word_of unnamed_word) (token (a_word_of unnamed_word))
 
@@ -154,11 +158,13 @@ item =
     (either (is_word (codes "source_filename")) source_filename
     target_item)))
 
+-- whether the token begins a global, an extern, a function, or what is dropped
 abbrev pub begins_item : Tok → Bool
 begins_item t =
     is_global t || (is_word (codes "declare") t || (is_word (codes "define") t || (is_word (codes "source_filename") t
     || is_word (codes "target") t)))
 
+-- the program of a text without items
 abbrev pub no_items : Program
 no_items = record { globals = []; externs = []; functions = [] }
 

@@ -28,6 +28,7 @@ maybe_word_exact w =
 
 -- ---- types
 
+-- `[`, `{` or the word of a scalar type
 abbrev pub begins_type : Tok → Bool
 begins_type = joined (is_mark 91) (joined (is_mark 123) (is_word_of type_word))
 
@@ -88,9 +89,11 @@ unfolding literal_index
 literal_index_read =
     token_begins (a_word_of width_word) _ _ _ (not_word_of width_word) (λ w. token_exact (a_literal w) never)
 
+-- `null` or `zeroinitializer`
 abbrev pub is_pointer_word : List ℕ → Bool
 is_pointer_word t = bytes_eq t (codes "null") || bytes_eq t (codes "zeroinitializer")
 
+-- `null`, `zeroinitializer` or a GLOBAL
 abbrev pub begins_pointer : Tok → Bool
 begins_pointer (Word t) = is_pointer_word t
 begins_pointer (Global t) = true
@@ -243,6 +246,7 @@ fixed_operand_read : (s : Scalar) → IsRead (fixed_operand s) begins_const neve
 unfolding fixed_operand
 fixed_operand_read s = maps_read (scalar_const s) _ _ _ (scalar_const_read s)
 
+-- a LOCAL, a number, any word or a GLOBAL, which is more than begins an operand
 abbrev pub begins_operand : Tok → Bool
 begins_operand = joined is_local begins_const
 

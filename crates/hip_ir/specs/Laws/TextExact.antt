@@ -17,7 +17,7 @@ use Rattle.hip_ir.specs.Laws.Apart.{mark_apart, word_apart, global_apart, label_
 use Rattle.hip_ir.specs.Laws.Exactness.{type_read, const_exact}
 use Rattle.hip_ir.specs.Laws.BodiesExact.{maybe_align_exact, block_read}
 
--- what may follow a whole item and belong to it: `, align`, or `unnamed_addr`
+-- what may follow a whole item and belong to it: `, section`, `, align`, `unnamed_addr` or `local_unnamed_addr`
 abbrev pub goes_on_item : Tok → Bool
 goes_on_item = joined comma (is_word_of unnamed_word)
 
@@ -164,6 +164,7 @@ item_apart = joined_apart comma (is_word_of unnamed_word) begins_item (mark_apar
             apart_joined (is_word_of unnamed_word) (is_word w) d
             (apart_sym (is_word w) (is_word_of unnamed_word) (word_apart w (is_word_of unnamed_word) h)) p
 
+-- what may follow the items of a text and belong to it: what begins one more item, or goes on the last one
 abbrev pub goes_on_text : Tok → Bool
 goes_on_text = joined begins_item goes_on_item
 
@@ -180,6 +181,7 @@ abbrev pub ended : Program → List At → Outcome Fault Program
 ended program [] = Ok (program, [])
 ended program (t ∷ ts) = Err (None, t ∷ ts)
 
+-- the program that all of these tokens read as, or the refused place, perhaps with a reason of that place
 unfoldable pub whole_text : List At → Outcome Fault Program
 whole_text ts = on_ok (text.read ts) ended
 
@@ -188,6 +190,7 @@ abbrev pub fault_at : Option Fault → List At → Fault
 fault_at (Some why) rest = why
 fault_at None rest = usual rest
 
+-- what an outcome says: the tokens derive the program, with none left, or are refused at its place for its fault
 abbrev Says : List At → Outcome Fault Program → Type 0
 Says ts (Ok x) = text.rule.Derives ts x.0 [] × (x.1 ≡ [])
 Says ts (Err e) = IsRefusedAt ts (fault_at e.0 e.1) e.1

@@ -19,6 +19,7 @@ use Rattle.hip_ir.specs.Spelling.{not_empty, spelled_align, spelled_global, spel
 use Rattle.hip_ir.specs.Laws.SpellingLaws.{local_is, global_is, alignment_is, type_yields, const_yields}
 use Rattle.hip_ir.specs.Laws.BodiesSpelling.{maybe_align_yields, block_yields}
 
+-- an item meets the rules of its kind; for one that is dropped there are none
 abbrev spelled_as_item : Item → Bool
 spelled_as_item (GlobalItem g) = spelled_global g
 spelled_as_item (ExternItem e) = spelled_extern e

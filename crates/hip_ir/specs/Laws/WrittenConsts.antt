@@ -33,12 +33,15 @@ use Rattle.hip_ir.specs.Laws.WrittenTypes.{int_is, scalar_is, type_is}
 
 -- ---- texts by levels
 
+-- the text of a constant `getelementptr`
 abbrev gep_text : ConstGep → List ℕ
 gep_text = fold-ConstGep (List ℕ) (List ℕ) (List ℕ) const_step gep_step typed_step
 
+-- the text of an item of a list: its type and its constant
 abbrev item_text : TypedConst → List ℕ
 item_text = fold-TypedConst (List ℕ) (List ℕ) (List ℕ) const_step gep_step typed_step
 
+-- the text of a constant that is opened one level
 abbrev level_text : Const-F Const ConstGep TypedConst → List ℕ
 level_text level =
     const_step (map-Const Const ConstGep TypedConst (List ℕ) (List ℕ)

@@ -26,6 +26,7 @@ use Rattle.hip_ir.specs.Spelling.{of_width}
 
 -- ---- digits
 
+-- one or more decimal digits, of value n; leading zeros may be among them
 record IsNumber (n : ℕ) (ds : List ℕ) : Type 0 where
   all : list_all is_digit ds ≡ true
   value : digits_from 0 ds ≡ n

@@ -3,6 +3,7 @@ use Rattle.hip_ir.specs.Text.{Item, GlobalItem, ExternItem, FunctionItem, Droppe
 use Rattle.hip_parse.specs.declared.items.Item.{Item as CodeItem}
 use Rattle.hip_parse.specs.declared.items.Item.TheVariants as code
 
+-- an item as the code has it, as the item of the grammar
 abbrev pub item_of : CodeItem → Item
 item_of (code.Global g) = GlobalItem g
 item_of (code.Extern e) = ExternItem e

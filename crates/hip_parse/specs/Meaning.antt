@@ -24,6 +24,7 @@ GivesProgram (Err (refusals.Unsupported line)) program = ⊥
 GivesProgram (Err (refusals.Range line)) program = ⊥
 GivesProgram (Err (refusals.TooDeep line)) program = ⊥
 
+-- the refusal for a fault on that line
 abbrev pub refusal_of : Fault → ℕ → ParseRefusal
 refusal_of faults.Syntax line = refusals.Syntax line
 refusal_of faults.Unsupported line = refusals.Unsupported line

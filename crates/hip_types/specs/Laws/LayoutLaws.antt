@@ -72,9 +72,11 @@ pub record IsRegular (s : Shape) : Type 0 where
   pub whole : s.size % s.align ≡ 0
   pub held : s.size ≤ s.largest
 
+-- a type whose shape is regular: what an induction over types has of each type inside
 abbrev Regular : Type 0
 Regular = (t : Ty) × IsRegular (shape t)
 
+-- the shapes of these types, in their order
 abbrev shapes_of : List Regular → List Shape
 shapes_of fs = map shape (map (λ f. f.0) fs)
 

@@ -11,6 +11,7 @@ use Rattle.hip_types.specs.Layout.{Shape, shape, shape_of_level, shapes, size_of
 use Rattle.hip_types.specs.Laws.LayoutLaws.{align_of-alignment, multiple_of_multiple, shape-level, sum_of_multiples, times_multiple, size_of-multiple, size_of-le, size_of-Struct, offset_in-multiple, greatest_align-multiple, field-inside, field-fits}
 use Rattle.hip_types.specs.declared.limits.TheConstants.{DEEPEST_NESTING, LARGEST_TYPE}
 
+-- an index that enters an array at this level of a type is below its count; at any other level nothing is asked
 abbrev pub level_is_inside : ℕ → Ty-F Ty → Type 0
 level_is_inside i (Ty-F.Array n e) = i < n
 level_is_inside i _ = Unit {0}
@@ -107,6 +108,7 @@ part_of_part t i p q rest is part =
       fits = λ f. part.fits (first.fits f.small f.shallow);
     }
 
+-- whatever part these indices lead to, in whatever type, the facts of a part of that type hold of it
 abbrev ArePartsAt : List ℕ → Type 0
 ArePartsAt is = (t : Ty) (p : Part) → part_at is t ≡ Some p → IsPartOf t p (AreInside is t)
 

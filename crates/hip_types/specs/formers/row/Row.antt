@@ -23,12 +23,14 @@ use Rattle.hip_types.specs.contracts.row.Row.TheInside as inside
 abbrev pub the_former : Former {0} → Former {0}
 the_former item = list item
 
+-- the measure of a row is the greatest of its items', 0 if there is no item
 abbrev pub the_weighed : {item : Former {0}} → Weighed item → Weighed (the_former item)
 the_weighed weight = w_list weight
 
 pub the_empty : List ⊥
 the_empty = []
 
+-- the items of a row, in their order: a row is their list already
 abbrev pub the_items : (Item : Type 0) → List Item → List Item
 the_items Item items = items
 

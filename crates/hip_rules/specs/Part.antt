@@ -4,16 +4,20 @@ use Rattle.hip_tokens.specs.Tokens.{Tok}
 use Rattle.hip_rules.specs.Rule.{Rule, Verdict, Yes, No, done, one, both, ◌or◌, many, perhaps}
 use Rattle.hip_rules.specs.Reader.{Reader, done_at, one_at, both_at, either_at, many_at, perhaps_at, leaders_at, on_ok, by_head}
 
+-- a rule that derives values of type A, and a reader of them; that the reader is exact for it is left to the laws
 pub record Part (F A : Type 0) : Type 1 where
   pub rule : Rule F A
   pub read : Reader F A
 
+-- no token, and this value
 abbrev pub gives : {F A : Type 0} → A → Part F A
 gives a = record { rule = done a; read = done_at a }
 
+-- one token, by what the test says of it: a value, or that it is refused
 abbrev pub token : {F A : Type 0} → (Tok → Verdict F A) → Part F A
 token p = record { rule = one p; read = one_at p }
 
+-- one part, and then the part that its value asks for
 infixl 10 ◌>>=◌
 abbrev pub ◌>>=◌ : {F A B : Type 0} → Part F A → (A → Part F B) → Part F B
 l >>= f = record { rule = both l.rule (λ x. (f x).rule); read = both_at l.read (λ x. (f x).read) }
@@ -34,6 +38,7 @@ optional k l = record { rule = perhaps l.rule; read = perhaps_at k l.read }
 abbrev pub the : {F : Type 0} → (Tok → Bool) → Tok → Verdict F (Unit {0})
 the k t = if k t then Yes tt else No
 
+-- one token that passes, of which nothing is kept; any other is refused without a reason
 abbrev pub passing : {F : Type 0} → (Tok → Bool) → Part F (Unit {0})
 passing k = token (the k)
 
@@ -45,10 +50,11 @@ one_more_by k l = passing k >>= λ _. l
 unfoldable pub separated : {F A : Type 0} → (Tok → Bool) → Part F A → Part F (List A)
 separated k l = l >>= λ first. repeated k (one_more_by k l) >>= λ others. gives (first ∷ others)
 
--- none
+-- no part, up to a closing token
 unfoldable pub none_up_to : {F A : Type 0} → (Tok → Bool) → Part F (List A)
 none_up_to close = passing close >>= λ _. gives []
 
+-- parts, one at least, with such a token between each two, up to a closing token
 unfoldable pub some_up_to : {F A : Type 0} → (Tok → Bool) → (Tok → Bool) → Part F A → Part F (List A)
 some_up_to k close l = separated k l >>= λ items. passing close >>= λ _. gives items
 

@@ -49,6 +49,7 @@ both {F} {A} {B} l f = record {
       × (f x).Refuses why m rest);
 }
 
+-- `both`, written between the two parts
 infixl 10 ◌>>=◌
 abbrev pub ◌>>=◌ : {F A B : Type 0} → Rule F A → (A → Rule F B) → Rule F B
 l >>= f = both l f

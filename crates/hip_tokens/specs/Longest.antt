@@ -4,14 +4,18 @@ use Rattle.std.specs.List.{list_all}
 use Rattle.hip_tokens.specs.Bytes.{byte, is_digit, begins_name, goes_on_name, is_mark, in_string}
 use Rattle.hip_tokens.specs.Tokens.{Tok, Word, Label, Local, Global, Num, Str, Mark, Odd, Piece}
 
+-- A letter, `$`, `.` or `_`, and then any of these, digits and `-`; no empty text. (LLVM, "Identifiers", but that `-`
+-- may not stand first.)
 abbrev pub is_name : List ℕ → Bool
 is_name [] = false
 is_name (b ∷ bs) = begins_name b && list_all goes_on_name bs
 
+-- one or more decimal digits
 abbrev pub are_digits : List ℕ → Bool
 are_digits [] = false
 are_digits (d ∷ ds) = is_digit d && list_all is_digit ds
 
+-- one or more decimal digits, after a `-` or none
 abbrev pub is_number : List ℕ → Bool
 is_number [] = false
 is_number (d ∷ ds) = ((d == byte "-") && are_digits ds) || are_digits (d ∷ ds)

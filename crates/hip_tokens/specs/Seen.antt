@@ -4,6 +4,7 @@ use Rattle.hip_tokens.specs.declared.lexer.Token.{Token}
 use Rattle.hip_tokens.specs.declared.lexer.Token.TheVariants as code
 use Rattle.hip_tokens.specs.Tokens.{Tok, Word, Label, Local, Global, Num, Str, Mark, Odd, At}
 
+-- the code's token as a token of the definitions: the same kind, with the same text or byte
 abbrev pub seen : Token → Tok
 seen (code.Word t) = Word t.now
 seen (code.Label t) = Label t.now

@@ -3,6 +3,8 @@ use Rattle.std.specs.Prelude.{ℕ, zero, suc, ◌+◌, Bool, false, List, [], �
 use Rattle.std.specs.List.{prefix_len}
 use Rattle.hip_tokens.specs.Bytes.{byte, is_blank, is_digit, begins_name, goes_on_name, is_mark, in_string, in_comment}
 
+-- A token by its kind, with its text: without a label's `:`, a LOCAL's `%`, a GLOBAL's `@` and a string's quotes, but
+-- with a number's `-`. A mark is its byte, and so is an odd byte, with which no other token begins there.
 pub data Tok : Type 0 where
   Word : List ℕ → Tok
   Label : List ℕ → Tok
@@ -18,6 +20,7 @@ pub record Piece : Type 0 where
   pub tok : Tok
   pub more : ℕ
 
+-- this token, with so many bytes after its first
 abbrev pub piece : Tok → ℕ → Piece
 piece t n = record { tok = t; more = n }
 
@@ -40,12 +43,14 @@ local_piece bs =
     then piece (Local (take (prefix_len goes_on_name bs) bs)) (prefix_len goes_on_name bs)
     else piece (Odd (byte "%")) 0
 
+-- behind `@`: the GLOBAL of the name that begins with these bytes, or `@` alone as an odd byte
 unfoldable pub global_piece : List ℕ → Piece
 global_piece bs =
     if name_here bs
     then piece (Global (take (prefix_len goes_on_name bs) bs)) (prefix_len goes_on_name bs)
     else piece (Odd (byte "@")) 0
 
+-- a number whose first byte is b, a digit or `-`, with all digits that follow it
 unfoldable pub number_piece : ℕ → List ℕ → Piece
 number_piece b bs = piece (Num (b ∷ take (prefix_len is_digit bs) bs)) (prefix_len is_digit bs)
 
@@ -72,6 +77,7 @@ piece_at b bs =
     else (if is_mark b then piece (Mark b) 0
     else piece (Odd b) 0))))))
 
+-- the line behind byte b of this line: the next one where b is a line feed, else the same
 abbrev pub line_after : ℕ → ℕ → ℕ
 line_after line b = if b == byte "\n" then line + 1 else line
 

@@ -21,6 +21,7 @@ pub record Rejects {F A : Type 0} (l : Rule F A) (c : Tok → Bool) (ts : List A
   pub refused : (w : F) (m : List At) → l.Refuses w ts m → (m ≡ rest) × (why ≡ Some w)
   pub reason : (w : F) → why ≡ Some w → l.Refuses w ts rest
 
+-- the outcome is right for the rule: the value that was read is accepted, or the place that was refused is rejected
 abbrev pub Exactly : {F A : Type 0} → Rule F A → (Tok → Bool) → List At → Outcome F A → Type 0
 Exactly l c ts (Ok x) = Accepts l c ts x.0 x.1
 Exactly l c ts (Err e) = Rejects l c ts e.0 e.1
@@ -54,6 +55,8 @@ later_order ts a b p q = later_compare a b p.0 q.0 (sym p.1 ∙ q.1)
 abbrev pub ClosedFronts : {F A : Type 0} → Rule F A → Type 0
 ClosedFronts l = (ts m at : List At) → l.Front ts m → Later ts at → Later at m → l.Front ts at
 
+-- The reader's outcome is right wherever it begins. No tokens at all are a front of the rule, and what derives a
+-- value is one; a front ends where it begins or later, and each place up to its end is the end of one.
 pub record IsExact {F A : Type 0} (l : Rule F A) (r : Reader F A) (c : Tok → Bool) : Type 0 where
   pub empty : (ts : List At) → l.Front ts ts
   pub whole : (ts : List At) (a : A) (rest : List At) → l.Derives ts a rest → l.Front ts rest
@@ -68,6 +71,7 @@ pub record IsAbsent {F A : Type 0} (l : Rule F A) (ts : List At) : Type 0 where
   pub front : (m : List At) → l.Front ts m → m ≡ ts
   pub refused : (why : F) (m : List At) → l.Refuses why ts m → ⊥
 
+-- the test of a rule whose values never go on: no token passes
 abbrev pub never : Tok → Bool
 never t = false
 

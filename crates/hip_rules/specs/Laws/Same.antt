@@ -5,6 +5,7 @@ use Rattle.hip_rules.specs.Rule.{Rule, both, many, AllDerive, ◌or◌}
 use Rattle.hip_rules.specs.Reader.{Reader, Outcome}
 use Rattle.hip_rules.specs.Laws.Exact.{IsExact, Exactly, IsAbsent}
 
+-- both rules derive the same values, have the same fronts, and refuse the same tokens for the same reasons
 pub record IsSame {F A : Type 0} (l m : Rule F A) : Type 0 where
   pub derives : (ts : List At) (a : A) (rest : List At) → l.Derives ts a rest → m.Derives ts a rest
   pub derives_back : (ts : List At) (a : A) (rest : List At) → m.Derives ts a rest → l.Derives ts a rest

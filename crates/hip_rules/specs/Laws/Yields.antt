@@ -12,6 +12,7 @@ abbrev pub RuleYields : {F A : Type 0} → Rule F A → (A → Type 0) → Type 
 RuleYields {F} {A} l Q =
     (ts : List At) (a : A) (rest : List At) → AreFormed ts → l.Derives ts a rest → Q a × AreFormed rest
 
+-- the same of a part, by its rule
 pub record Yields {F A : Type 0} (p : Part F A) (Q : A → Type 0) : Type 0 where
   pub yields : RuleYields p.rule Q
 

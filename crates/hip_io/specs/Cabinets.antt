@@ -60,6 +60,7 @@ pub record HasFailedFetch (old new : CabinetState) : Type 0 where
   pub rose : Rose old.faults new.faults
   pub current : new.is_current ≡ false
 
+-- what a fetch of that name does, by its answer
 abbrev pub HasFetched : CabinetState → CabinetState → List ℕ → Fetched → Type 0
 HasFetched old new name fetched.Ready = IsFetched old new name
 HasFetched old new name fetched.Missing = IsMissed old new name
@@ -94,6 +95,7 @@ pub record HasFailedTake (old new : CabinetState) : Type 0 where
   pub rose : Rose old.faults new.faults
   pub rest : new.rest ≡ old.rest
 
+-- what a `take` does, by its answer; the buffer is the one after it
 abbrev pub HasTaken : CabinetState → CabinetState → List ℕ → Taken → Type 0
 HasTaken old new buffer (taken.Got n) = HasGot old new buffer n
 HasTaken old new buffer taken.End = IsAtEnd old new

@@ -23,6 +23,7 @@ pub record MemFiles : Type 0 where
   pub current : Option OpenFile
   pub misses : ℕ
 
+-- what a cabinet in memory tells: all its files, and the name and the rest of the current one; it counts no faults
 abbrev pub mem_cabinet_state : MemFiles → CabinetState
 mem_cabinet_state m = record {
   files = Some m.files;
@@ -49,6 +50,7 @@ pub record MemBytes : Type 0 where
   pub room : ℕ
   pub faults : ℕ
 
+-- what a sink in memory tells: all bytes that it was given, but not the room
 abbrev pub mem_sink_state : MemBytes → SinkState
 mem_sink_state m = record { bytes = Some m.bytes; faults = m.faults }
 
@@ -66,6 +68,7 @@ pub record IsFirstAt (files : List NamedFile) (name : List ℕ) (at : ℕ) : Typ
   pub named : file.name ≡ name
   pub first : file_of files name ≡ Some file.bytes
 
+-- a `take` gave at most so many bytes; at the end, and where it failed, it gave none
 abbrev pub GotAtMost : ℕ → Taken → Type 0
 GotAtMost most (Got n) = n ≤ most
 GotAtMost most End = Unit {0}
@@ -80,12 +83,14 @@ pub record FailingFiles : Type 0 where
   pub left : Option ℕ
   pub faults : ℕ
 
+-- what a cabinet that fails tells: what its files in memory do, with the faults that it has counted
 abbrev pub failing_cabinet_state : FailingFiles → CabinetState
 failing_cabinet_state f = record (mem_cabinet_state f.inner) { faults = f.faults }
 
 pub failing_told : (f : FailingFiles) → IsTold (failing_cabinet_state f)
 failing_told f = memory_told f.inner
 
+-- how many bytes a file gives before it fails, where it does not fail at its fetch
 abbrev limit_of : FailAt → Option ℕ
 limit_of Fetch = None
 limit_of (Byte n) = Some n

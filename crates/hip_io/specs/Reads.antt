@@ -18,6 +18,8 @@ pub record IsWholeFile (files : List NamedFile) (name bytes : List ℕ) (new : C
   pub named : new.name ≡ Some name
   pub rest : new.rest ≡ Some []
 
+-- The named file is current and was read to its end, as far as the cabinet tells: these bytes, at most as many as the
+-- limit. Nothing failed.
 pub record HasReadWhole (old new : CabinetState) (name : List ℕ) (limit : ℕ) (bytes : List ℕ) : Type 0 where
   pub files : new.files ≡ old.files
   pub misses : new.misses ≡ old.misses
@@ -35,6 +37,7 @@ pub record IsLongFile (files : List NamedFile) (name : List ℕ) (limit : ℕ) (
   pub named : new.name ≡ Some name
   pub rest : new.rest ≡ Some (drop (limit + 1) bytes)
 
+-- The named file is current and has more bytes than the limit, as far as the cabinet tells. Nothing failed.
 pub record HasReadTooMuch (old new : CabinetState) (name : List ℕ) (limit : ℕ) : Type 0 where
   pub files : new.files ≡ old.files
   pub misses : new.misses ≡ old.misses
@@ -66,6 +69,7 @@ pub record HasFailedRead (old new : CabinetState) (name : List ℕ) (limit : ℕ
   pub rose : Rose old.faults new.faults
   pub begun : (new.is_current ≡ false) ⊎ HasBegun old new name limit
 
+-- No memory was left: the named file is current and was read in part, and no fault was counted.
 pub record HasReadPart (old new : CabinetState) (name : List ℕ) (limit : ℕ) : Type 0 where
   pub files : new.files ≡ old.files
   pub misses : new.misses ≡ old.misses
@@ -99,15 +103,18 @@ pub record HasTakenPart (old new : CabinetState) (limit : ℕ) : Type 0 where
   pub few : length bytes ≤ limit + 1
   pub rest : old.rest ≡ option_map (λ rest. bytes ++ rest) new.rest
 
+-- A read failed, and at most one byte more than the limit was taken before.
 pub record HasFailedRest (old new : CabinetState) (limit : ℕ) : Type 0 where
   pub part : HasTakenPart old new limit
   pub later : old.faults ≤ new.faults
   pub rose : Rose old.faults new.faults
 
+-- No memory was left: at most one byte more than the limit was taken, and no fault was counted.
 pub record HasStopped (old new : CabinetState) (limit : ℕ) : Type 0 where
   pub part : HasTakenPart old new limit
   pub faults : new.faults ≡ old.faults
 
+-- what reading the rest of the current file does, by its answer, which is never that no file has the name
 abbrev pub HasReadRest : CabinetState → CabinetState → ℕ → Result (List ℕ) ReadRefusal → Type 0
 HasReadRest old new limit (Ok bytes) = HasTakenRest old new limit bytes
 HasReadRest old new limit (Err refusals.Missing) = ⊥

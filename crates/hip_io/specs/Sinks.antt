@@ -38,6 +38,7 @@ pub record StaysFailed (after : Put) (old new : SinkState) : Type 0 where
   pub answer : after ≡ Failed
   pub state : new ≡ old
 
+-- what a stage does, by the outcome of those before it: a `put` of the text if none has failed, else nothing
 abbrev pub writes_from : Put → Put → SinkState → SinkState → List ℕ → Type 0
 writes_from Done after old new text = HasPut old new text after
 writes_from Failed after old new text = StaysFailed after old new

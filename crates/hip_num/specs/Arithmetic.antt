@@ -20,6 +20,7 @@ abbrev pub division_fault : Width → ℕ → ℕ → Option NumTrap
 division_fault w a b =
     if b == 0 then Some DivZero else (if a == sign_of w && b == modulus w - 1 then Some DivOverflow else None)
 
+-- the trap if there is one, else the value
 abbrev pub unless : Option NumTrap → ℕ → Result ℕ NumTrap
 unless (Some trap) value = Err trap
 unless None value = Ok value
@@ -45,6 +46,7 @@ value_of Shl w a b = shifted w b (a * 2 ^ b)
 value_of Lshr w a b = shifted w b (a / 2 ^ b)
 value_of Ashr w a b = shifted w b (wrapped w (int_shr (signed w a) b))
 
+-- the value as an integer of N bits, taken modulo 2 ^ N; a trap stays
 abbrev pub modulo : Width → Result ℕ NumTrap → Result Bits NumTrap
 modulo w (Ok n) = Ok (bits w n)
 modulo w (Err trap) = Err trap

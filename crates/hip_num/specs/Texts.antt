@@ -14,6 +14,7 @@ hexadecimal n = codes "0x" ++ digits 16 false n
 
 -- ---- read
 
+-- whether there is a byte
 abbrev pub is_nonempty : List ℕ → Bool
 is_nonempty [] = false
 is_nonempty (b ∷ bs) = true
@@ -22,6 +23,7 @@ is_nonempty (b ∷ bs) = true
 abbrev pub are_digits : ℕ → List ℕ → Bool
 are_digits base text = is_nonempty text && list_all (λ c. nat_lt (digit_value c) base) text
 
+-- whether these are one or more digits to a base, of a number below 2 ^ 64
 abbrev pub is_number : ℕ → List ℕ → Bool
 is_number base text = are_digits base text && nat_lt (digits_value base text) (2 ^ 64)
 
@@ -29,6 +31,7 @@ is_number base text = are_digits base text && nat_lt (digits_value base text) (2
 abbrev pub number_of : ℕ → List ℕ → Option ℕ
 number_of base text = if is_number base text then Some (digits_value base text) else None
 
+-- one or more decimal digits, of a number below 2 ^ 64
 abbrev pub decimal_of : List ℕ → Option ℕ
 decimal_of text = number_of 10 text
 
@@ -36,9 +39,11 @@ decimal_of text = number_of 10 text
 abbrev pub hex_of : List ℕ → Option ℕ
 hex_of text = if starts_with nat_eq text (codes "0x") then number_of 16 (drop 2 text) else None
 
+-- whether a `-` stands first
 abbrev pub has_minus : List ℕ → Bool
 has_minus text = starts_with nat_eq text (codes "-")
 
+-- what stands behind a `-`, or the whole text where none stands first
 abbrev pub signed_digits : List ℕ → List ℕ
 signed_digits text = if has_minus text then drop 1 text else text
 
@@ -53,6 +58,7 @@ abbrev pub in_range : ℕ → ℤ → Bool
 in_range limit (pos n) = nat_lt n limit
 in_range limit (negsuc n) = nat_lt n limit
 
+-- whether these are one or more decimal digits, after a `-` or none, of a number from -limit to limit - 1
 abbrev pub is_signed : ℕ → List ℕ → Bool
 is_signed limit text = are_digits 10 (signed_digits text) && in_range limit (signed_value text)
 

@@ -16,9 +16,11 @@ use Rattle.hip_num.specs.Texts.{hexadecimal, is_nonempty, are_digits, is_number,
 
 -- ---- what the tests decide
 
+-- one or more digits to a base, of a number below 2 ^ 64: what `is_number` decides
 abbrev pub IsNumber : ℕ → List ℕ → Type 0
 IsNumber base text = IsNumeral base text × (digits_value base text < 2 ^ 64)
 
+-- one or more decimal digits, after a `-` or none, of a number from -2 ^ 63 to 2 ^ 63 - 1
 abbrev pub IsSignedNumber : List ℕ → Type 0
 IsSignedNumber text = IsNumeral 10 (signed_digits text) × FitsSigned w64 (signed_value text)
 

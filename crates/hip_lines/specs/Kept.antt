@@ -24,13 +24,16 @@ abbrev pub pending_by : Option Queue → Pending Part
 pending_by None = none_pending
 pending_by (Some q) = pending_in q
 
+-- the pending parts of line j, none where it has no queue
 abbrev pub pending_at : Queues → ℕ → Pending Part
 pending_at m j = pending_by (queue_at m j)
 
+-- there is a queue, and it has room for one more part
 abbrev pub HasRoomBy : Option Queue → Type 0
 HasRoomBy None = ⊥
 HasRoomBy (Some q) = HasRoom q
 
+-- line j has a queue, with room for one more part
 abbrev pub HasRoomAt : Queues → ℕ → Type 0
 HasRoomAt m j = HasRoomBy (queue_at m j)
 

@@ -14,23 +14,30 @@ pub record Line (P : Type 0) : Type 0 where
   pub flushed : ℕ
   pub durable : ℕ
 
+-- the durable number is at most the flushed one, and that at most the number of parts
 pub record IsOrdered {P : Type 0} (l : Line P) : Type 0 where
   pub durable : l.durable ≤ l.flushed
   pub flushed : l.flushed ≤ length l.parts
 
+-- the same of each line
 abbrev pub AreOrdered : {P : Type 0} → List (Line P) → Type 0
 AreOrdered [] = Unit {0}
 AreOrdered (l ∷ ls) = IsOrdered l × AreOrdered ls
 
+-- a line into which nothing was stored
 abbrev pub fresh_line : {P : Type 0} → Line P
 fresh_line = record { parts = []; flushed = 0; durable = 0 }
 
+-- after a store, whose part becomes the last one; both numbers stay
 abbrev pub with_part : {P : Type 0} → P → Line P → Line P
 with_part x l = record { parts = l.parts ++ x ∷ []; flushed = l.flushed; durable = l.durable }
 
+-- After a flush: all its parts are flushed. (Intel's manual, CLWB and CLFLUSHOPT; that CLFLUSH waits for a fence too
+-- is this project's choice.)
 abbrev pub flushed_line : {P : Type 0} → Line P → Line P
 flushed_line l = record { parts = l.parts; flushed = length l.parts; durable = l.durable }
 
+-- After a fence: all flushed parts are durable. (Intel's manual, SFENCE.)
 abbrev pub fenced_line : {P : Type 0} → Line P → Line P
 fenced_line l = record { parts = l.parts; flushed = l.flushed; durable = l.flushed }
 
@@ -42,6 +49,7 @@ map_line f l = record { parts = map f l.parts; flushed = l.flushed; durable = l.
 abbrev pub start_in : ℕ → ℕ → ℕ
 start_in j o = max o (LINE_SIZE * j)
 
+-- the end of line j, or that of the range of n bytes from o where this one comes first
 abbrev pub end_in : ℕ → ℕ → ℕ → ℕ
 end_in j o n = min (o + n) (LINE_SIZE * j + LINE_SIZE)
 

@@ -24,12 +24,15 @@ part_in o n tag j = record { offset = start_in j o; size = end_in j o n - start_
 abbrev pub pending_stored : ℕ → ℕ → ℕ → List (Pending Part) → List (Pending Part)
 pending_stored o n tag ws = change_range (λ j w. pending_with (part_in o n tag j) w) o n ws
 
+-- the pending parts of all lines after a flush of the n bytes at offset o
 abbrev pub pending_flushed_all : ℕ → ℕ → List (Pending Part) → List (Pending Part)
 pending_flushed_all o n ws = change_range (λ _ w. pending_flushed w) o n ws
 
+-- the pending parts of all lines after a fence
 abbrev pub pending_fenced_all : List (Pending Part) → List (Pending Part)
 pending_fenced_all ws = map pending_fenced ws
 
+-- n lines without pending parts
 unfoldable pub none_pending_all : ℕ → List (Pending Part)
 none_pending_all n = replicate n none_pending
 
@@ -37,9 +40,11 @@ none_pending_all n = replicate n none_pending
 abbrev pub loose_by : Pending Part → ℕ → (ℕ × Part) → LooseByte
 loose_by w b f = record { offset = b; tag = f.1.tag; flushed = nat_lt f.0 w.flushed }
 
+-- the loose byte at offset b, by the last pending part over it in its line; none where no pending part covers it
 abbrev pub loose_in : Pending Part → ℕ → Option LooseByte
 loose_in w b = option_map (loose_by w b) (last_over part_covers b w.parts)
 
+-- the same by the lines of a region: by the line that has the byte; none behind the last line
 abbrev pub loose_at : List (Pending Part) → ℕ → Option LooseByte
 loose_at ws b = option_and_then (λ w. loose_in w b) (slice_get ws (b / LINE_SIZE))
 

@@ -16,7 +16,7 @@ at_place qs (suc n) = slice_get qs n
 abbrev pub queue_in : Directory → List Queue → ℕ → Option Queue
 queue_in d qs j = at_place qs (number_at d j)
 
--- each queue that a line has is there, and stands at its line's number
+-- each queue that a line has is there, and says which line that is
 pub record ArePlaced (d : Directory) (qs : List Queue) : Type 0 where
   pub within : (j : ℕ) → number_at d j ≤ length qs
   pub numbered : (j : ℕ) (q : Queue) → queue_in d qs j ≡ Some q → q.line ≡ j

@@ -4,6 +4,7 @@ use Rattle.hip_lines.specs.declared.part.Part.{Part}
 use Rattle.hip_lines.specs.declared.queue.Queue.{Queue}
 use Rattle.hip_lines.specs.Pending.{Pending}
 
+-- the pending parts of a queue's line
 abbrev pub pending_in : Queue → Pending Part
 pending_in q = record { parts = q.parts.items; flushed = q.flushed }
 

@@ -12,12 +12,16 @@ abbrev pub table_from : {A : Type 0} → (ℕ → A) → ℕ → ℕ → List A
 table_from f j zero = []
 table_from f j (suc n) = f j ∷ table_from f (suc j) n
 
+-- the pending parts of each of the first n lines, in their order
 unfoldable pub lines_of : ℕ → Queues → List (Pending Part)
 lines_of n m = table_from (pending_at m) 0 n
 
+-- the pending parts of each line of the region, and the room that was made
 abbrev pub held_of : Inside → Held
 held_of s = record { lines = lines_of s.count s.queues; room = s.room }
 
+-- There are at most 2 ^ 20 lines, and no other has a queue; the list has those with flushed parts, each once, with
+-- capacity for as many as queues were made; and there is room for the store that room was made for.
 pub record IsKept (s : Inside) : Type 0 where
   pub small : s.count ≤ 2 ^ 20
   pub below : AreBelow s.count s.queues

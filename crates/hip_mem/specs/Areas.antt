@@ -28,6 +28,7 @@ pub record IsLaidOut (r : Areas) : Type 0 where
 abbrev pub mark_of : Areas → ℕ
 mark_of r = stack_start + length r.stack
 
+-- whether the byte at address a is one of the volatile globals, of the stack below the mark, or of the region
 abbrev pub is_valid : Areas → ℕ → Bool
 is_valid r a = is_in volatile_start r.volatile a || (is_in stack_start r.stack a || is_in r.base r.region a)
 
@@ -42,6 +43,7 @@ byte_in r a =
     cond (is_in volatile_start r.volatile a) (slice_index r.volatile (a - volatile_start))
     (cond (is_in stack_start r.stack a) (slice_index r.stack (a - stack_start)) (slice_index r.region (a - r.base)))
 
+-- the n bytes from address a on, which are to be valid
 abbrev pub bytes_in : Areas → ℕ → ℕ → List ℕ
 bytes_in r a zero = []
 bytes_in r a (suc n) = byte_in r a ∷ bytes_in r (suc a) n
@@ -50,6 +52,7 @@ bytes_in r a (suc n) = byte_in r a ∷ bytes_in r (suc a) n
 abbrev pub access_trap : Areas → ℕ → ℕ → ℕ → Option MemTrap
 access_trap r a n align = cond (a % align == 0) (cond (are_valid r a n) None (Some BadAddress)) (Some Misaligned)
 
+-- the trap if there is one, else the value
 abbrev pub or_trap : {A : Type 0} → Option MemTrap → A → Result A MemTrap
 or_trap None x = Ok x
 or_trap (Some t) x = Err t
@@ -63,6 +66,7 @@ abbrev pub area_written : Write → ℕ → List ℕ → List ℕ
 area_written w start [] = []
 area_written w start (x ∷ xs) = byte_written w start x ∷ area_written w (suc start) xs
 
+-- after a write, of which bytes that lie in none of the areas change nothing
 abbrev pub after_write : Write → Areas → Areas
 after_write w r =
     record {
@@ -76,6 +80,7 @@ after_write w r =
 abbrev pub block_address : Areas → ℕ → ℕ
 block_address r align = next_multiple_of (mark_of r) align
 
+-- the mark after a new stack block of a size: the end of the block, which may lie behind the stack's end
 abbrev pub pushed_mark : Areas → ℕ → ℕ → ℕ
 pushed_mark r size align = block_address r align + size
 
@@ -84,6 +89,7 @@ abbrev pub after_push : ℕ → Areas → Areas
 after_push mark r =
     record { base = r.base; volatile = r.volatile; stack = r.stack ++ zeros (mark - mark_of r); region = r.region }
 
+-- the bytes from a new mark on are gone
 abbrev pub after_pop : ℕ → Areas → Areas
 after_pop mark r =
     record { base = r.base; volatile = r.volatile; stack = take (mark - stack_start) r.stack; region = r.region }

@@ -7,6 +7,7 @@ pub record Write : Type 0 where
   pub addr : ℕ
   pub bytes : List ℕ
 
+-- whether a write has a byte at address a
 abbrev pub write_covers : Write → ℕ → Bool
 write_covers w a = nat_le w.addr a && nat_lt a (w.addr + length w.bytes)
 
@@ -14,7 +15,7 @@ write_covers w a = nat_le w.addr a && nat_lt a (w.addr + length w.bytes)
 abbrev pub byte_written : Write → ℕ → ℕ → ℕ
 byte_written w a old = cond (write_covers w a) (slice_index w.bytes (a - w.addr)) old
 
--- the byte at address a after writes in order: that of the last one that covers it, else the first one
+-- the byte at address a after writes in order: that of the last one that covers it, else `first`, which it was before
 abbrev pub byte_from : List Write → ℕ → ℕ → ℕ
 byte_from [] a first = first
 byte_from (w ∷ ws) a first = byte_from ws a (byte_written w a first)
@@ -27,6 +28,7 @@ volatile_start = VOLATILE_START
 abbrev pub stack_start : ℕ
 stack_start = STACK_START
 
+-- the address behind the stack's last byte
 abbrev pub stack_end : ℕ
 stack_end = STACK_END
 
@@ -41,11 +43,13 @@ pub record Memory : Type 0 where
 abbrev pub is_in : ℕ → List ℕ → ℕ → Bool
 is_in start xs a = nat_le start a && nat_lt a (start + length xs)
 
+-- the byte at address a before all writes: an initial one of the volatile globals or of the region, 0 anywhere else
 abbrev pub initial_byte : Memory → ℕ → ℕ
 initial_byte m a =
     cond (is_in volatile_start m.volatile a) (slice_index m.volatile (a - volatile_start))
     (cond (is_in m.base m.region a) (slice_index m.region (a - m.base)) 0)
 
+-- the byte at address a after all writes
 abbrev pub byte_at : Memory → ℕ → ℕ
 byte_at m a = byte_from m.writes a (initial_byte m a)
 
@@ -54,5 +58,6 @@ abbrev pub bytes_at : Memory → ℕ → ℕ → List ℕ
 bytes_at m a zero = []
 bytes_at m a (suc n) = byte_at m a ∷ bytes_at m (suc a) n
 
+-- after one more write
 abbrev pub with_write : Write → Memory → Memory
 with_write w m = record { base = m.base; volatile = m.volatile; region = m.region; writes = m.writes ++ w ∷ [] }

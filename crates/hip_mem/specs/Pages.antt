@@ -9,6 +9,7 @@ use Rattle.hip_mem.specs.Paging.{key_of}
 unfoldable pub place_of : Pages → ℕ → ℕ
 place_of m n = number_at m.directory (key_of m.region n)
 
+-- page n was made: it does not lie at 0, where the page of zeros does
 abbrev pub IsMade : Pages → ℕ → Type 0
 IsMade m n = 0 < place_of m n
 

@@ -11,6 +11,7 @@ use Rattle.hip_types.specs.declared.limits.TheConstants.{LARGEST_REGION, LARGEST
 unfoldable pub area : Pages → ℕ → ℕ → List ℕ
 area m start n = page_bytes m start n
 
+-- the bytes of the volatile globals, of the stack up to the mark, and of the region, as the pages hold them
 abbrev pub areas_of : Inside → Areas
 areas_of s =
     record {
@@ -20,6 +21,7 @@ areas_of s =
       region = area s.pages s.base s.region;
     }
 
+-- the base is one that a region may have, both sizes are within their limits, and the mark is within the stack
 pub record IsRam (s : Inside) : Type 0 where
   pub low : 2 ^ 32 ≤ s.base
   pub high : s.base ≤ 2 ^ 46

@@ -14,6 +14,7 @@ pub record IsAhead {P : Type 0} (l l' : Line P) : Type 0 where
   pub ordered : IsOrdered l
   pub ordered_too : IsOrdered l'
 
+-- as many lines in either list, each of the second ahead of the one at its place in the first
 abbrev pub AreAhead : {P : Type 0} → List (Line P) → List (Line P) → Type 0
 AreAhead [] [] = Unit {0}
 AreAhead (l ∷ ls) (l' ∷ ls') = IsAhead l l' × AreAhead ls ls'

@@ -435,6 +435,7 @@ bytes_in-after_write w r e =
 abbrev pub Fits : ℕ → List ℕ → ℕ → ℕ → Type 0
 Fits start xs a n = (start ≤ a) × (a + n ≤ start + length xs)
 
+-- the n bytes from a on lie in one of the three areas
 abbrev pub FitsOne : Areas → ℕ → ℕ → Type 0
 FitsOne r a n = Fits volatile_start r.volatile a n ⊎ (Fits stack_start r.stack a n ⊎ Fits r.base r.region a n)
 

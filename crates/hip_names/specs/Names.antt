@@ -8,6 +8,7 @@ abbrev pub IsAmong : List (List ℕ) → List ℕ → Type 0
 IsAmong [] name = ⊥
 IsAmong (x ∷ xs) name = (x ≡ name) ⊎ IsAmong xs name
 
+-- whether one of the names is this one, by their bytes
 abbrev pub is_among : List (List ℕ) → List ℕ → Bool
 is_among names name = list_any (bytes_eq name) names
 

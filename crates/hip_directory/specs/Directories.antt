@@ -4,6 +4,7 @@ use Rattle.hip_directory.specs.declared.directory.Directory.{Directory}
 use Rattle.hip_directory.specs.declared.TheConstants.{GROUP_SIZE}
 use Rattle.hip_directory.specs.Tables.{number_in}
 
+-- the number at key k, 0 where none was set
 unfoldable pub number_at : Directory → ℕ → ℕ
 number_at d k = number_in d.groups.items d.entries.items k
 

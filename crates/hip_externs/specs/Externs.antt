@@ -19,9 +19,11 @@ pub record ExternFunction : Type 0 where
   pub params : List Scalar
   pub effect : LineEffect
 
+-- a row of the table: a name, the result if there is one, the parameters, and what it does to cache lines
 abbrev external : List ℕ → Option Scalar → List Scalar → LineEffect → ExternFunction
 external name ret params effect = record { name = name; ret = ret; params = params; effect = effect }
 
+-- a row of the table for a function without a result
 abbrev procedure : List ℕ → List Scalar → LineEffect → ExternFunction
 procedure name params effect = external name None params effect
 
@@ -50,24 +52,29 @@ is_extern_name name = is_some (call_of name)
 
 -- ---- signatures
 
+-- the type of a function's result, if it has one, and those of its parameters in order
 pub record Signature : Type 0 where
   pub ret : Option Scalar
   pub params : List Scalar
 
+-- the signature of an external function, as the table has it
 abbrev pub signature : ExternCall → Signature
 signature c = record { ret = (row_of c).ret; params = (row_of c).params }
 
+-- the signature that the table has for a name; none where no external function has it
 abbrev pub known_signature : List ℕ → Option Signature
 known_signature name = option_map signature (call_of name)
 
 -- ---- flushes, fences and turns
 
+-- whether the effect flushes cache lines, with a fence behind it or without
 abbrev has_flush : LineEffect → Bool
 has_flush effects.Nothing = false
 has_flush effects.Flush = true
 has_flush effects.Fence = false
 has_flush effects.FlushAndFence = true
 
+-- whether the effect takes a fence, behind a flush or alone
 abbrev has_fence : LineEffect → Bool
 has_fence effects.Nothing = false
 has_fence effects.Flush = false

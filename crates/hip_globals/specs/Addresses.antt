@@ -10,6 +10,7 @@ use Rattle.hip_lines.specs.declared.TheConstants.{LINE_SIZE}
 use Rattle.hip_mem.specs.Memory.{volatile_start}
 use Rattle.hip_globals.specs.Constants.{types_in}
 
+-- whether both are true or both are false
 abbrev pub same : Bool → Bool → Bool
 same true b = b
 same false true = false
@@ -30,9 +31,11 @@ abbrev with_own : Option ℕ → ℕ → ℕ
 with_own None natural = natural
 with_own (Some n) natural = max n natural
 
+-- the alignment of a global: the greater of its type's and the one that is written, if one is
 abbrev pub global_align : GlobalVar → ℕ
 global_align g = with_own g.align (shape g.ty).align
 
+-- where a global begins that is laid from `at` on: at the next multiple of its alignment
 abbrev pub global_start : ℕ → GlobalVar → ℕ
 global_start at g = next_multiple_of at (global_align g)
 
@@ -42,13 +45,15 @@ end_of persistent at [] = at
 end_of persistent at (g ∷ gs) =
     end_of persistent (if same g.persistent persistent then global_start at g + (shape g.ty).size else at) gs
 
--- where the one of that number begins
+-- where the global of that number, counted from 0 among all, begins, if those before it that are persistent, or that
+-- are not, are laid from `at` on; where these end if no global has the number
 abbrev pub start_of : Bool → ℕ → List GlobalVar → ℕ → ℕ
 start_of persistent at [] number = at
 start_of persistent at (g ∷ gs) zero = global_start at g
 start_of persistent at (g ∷ gs) (suc number) =
     start_of persistent (if same g.persistent persistent then global_start at g + (shape g.ty).size else at) gs number
 
+-- whether the global of that number is persistent; false where no global has it
 abbrev pub is_persistent : List GlobalVar → ℕ → Bool
 is_persistent [] number = false
 is_persistent (g ∷ gs) zero = g.persistent
@@ -60,9 +65,11 @@ address_in globals base number =
     if is_persistent globals number then start_of true base globals number
     else start_of false volatile_start globals number
 
+-- the address of a program's global of that number, where the region begins at a base
 abbrev pub address : Program → ℕ → ℕ → ℕ
 address P base number = address_in P.globals base number
 
+-- where the last volatile global ends, 65,536 if there is none
 abbrev pub volatile_end : Program → ℕ
 volatile_end P = end_of false volatile_start P.globals
 

@@ -6,6 +6,7 @@ use Rattle.hip_globals.specs.Addresses.{global_start}
 use Rattle.hip_names.specs.Tables.{Entry, value_beside}
 use Rattle.hip_names.specs.declared.table.NameTable.{NameTable}
 
+-- a name with its address
 abbrev pub address_entry : List ℕ → ℕ → Entry ℕ
 address_entry name value = record { name = name; value = value }
 

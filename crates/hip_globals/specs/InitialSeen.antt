@@ -17,6 +17,7 @@ gep_address address_of = fold-ConstGep Written ℕ Piece (written_step address_o
 abbrev pub item_piece : (List ℕ → ℕ) → TypedConst → Piece
 item_piece address_of = fold-TypedConst Written ℕ Piece (written_step address_of) gep_step item_step
 
+-- each of these types fits
 pub record AllFit (types : List Ty) : Type 0 where
   pub fit : All Fits types
 

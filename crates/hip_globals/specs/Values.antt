@@ -67,6 +67,7 @@ bytes_step value (Const-F.Array items) = joined (map (λ p. p.bytes) items)
 bytes_step value (Const-F.Struct items) = placed [] items
 bytes_step value _ = bytes_of 8 value
 
+-- the value and the bytes of a constant, by those of the constants inside, where names have these addresses
 abbrev pub written_step : (List ℕ → ℕ) → Const-F Written ℕ Piece → Written
 written_step address_of c = record { value = value_step address_of c; bytes = bytes_step (value_step address_of c) c }
 

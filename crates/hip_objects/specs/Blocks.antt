@@ -8,9 +8,11 @@ use Rattle.hip_runs.specs.declared.event.Object.TheVariants as objects
 use Rattle.hip_objects.specs.Order.{AreInOrder}
 use Rattle.hip_objects.specs.declared.blocks.Block.{Block}
 
+-- a block of the code as a block of a frame: the same address, size and site
 abbrev pub slot_of : Block → Slot
 slot_of b = record { addr = b.addr; size = b.size; site = b.site }
 
+-- the same of each block, in their order
 abbrev pub slots_of : List Block → List Slot
 slots_of bs = map slot_of bs
 
@@ -26,6 +28,7 @@ IsBehind a xs = All (λ x. x.addr + x.size ≤ a) xs
 abbrev pub object_in : List Slot → ℕ → Option Object
 object_in xs a = slot_in (reverse xs) a
 
+-- the block that the `alloca` at a site made, as an object; none where there is no site
 abbrev pub sited : Option Site → Option Object
 sited None = None
 sited (Some site) = Some (objects.Slot site)

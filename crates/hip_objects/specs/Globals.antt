@@ -38,9 +38,11 @@ pub record Laid : Type 0 where
 abbrev pub global_in : Laid → ℕ → Option ℕ
 global_in l a = cond (nat_lt a l.base) (number_at a l.volatile) (number_at a l.persistent)
 
+-- what a table holds: the base, and the places of the volatile globals and of the persistent ones
 abbrev pub laid_of : Inside → Laid
 laid_of t = record { base = t.base; volatile = t.volatile.items; persistent = t.persistent.items }
 
+-- the volatile globals are in the order of their addresses and do not overlap, and so are the persistent ones
 pub record IsTable (t : Inside) : Type 0 where
   pub volatile : AreLaid t.volatile.items
   pub persistent : AreLaid t.persistent.items

@@ -78,6 +78,7 @@ after_store a n value tag s =
 abbrev pub after_push : ℕ → ℕ → Contents → Contents
 after_push size align s = record s { areas = areas.after_push (pushed_mark s.areas size align) s.areas }
 
+-- the stack with its mark set back to this one: its bytes from there on are gone, and the cache lines stay
 abbrev pub after_pop : ℕ → Contents → Contents
 after_pop mark s = record s { areas = areas.after_pop mark s.areas }
 
@@ -88,18 +89,22 @@ after_flush a n s =
       lines = cond (flushes_lines (region_of s) a n) (pending_flushed_all (a - s.areas.base) n s.lines) s.lines;
     }
 
+-- what is flushed becomes durable, in every cache line: it is no longer pending
 abbrev pub after_fence : Contents → Contents
 after_fence s = record s { lines = pending_fenced_all s.lines }
 
 -- ---- what is seen from outside
 
+-- a store within the region is seen with the number that its n bytes are; any other is not seen
 abbrev pub store_event : Contents → ℕ → ℕ → ℕ → Event
 store_event s a n value =
     cond (lies_in_region s a n) (events.Store a (little_endian (bytes_of n value)) n) events.Quiet
 
+-- a flush is seen with the lines that have a byte of the range; one of no bytes, or not within the region, is not
 abbrev pub flush_event : Contents → ℕ → ℕ → Event
 flush_event s a n = event_of (region_of s) [] (Flushes a n)
 
+-- a persist is seen with the lines that have a byte of the range; one that flushes no line is seen as a fence
 abbrev pub persist_event : Contents → ℕ → ℕ → Event
 persist_event s a n = event_of (region_of s) [] (Persists a n)
 

@@ -5,6 +5,7 @@ use Rattle.hip_lines.specs.declared.TheConstants.{LINE_SIZE}
 use Rattle.hip_storage.specs.Contents.{Contents}
 use Rattle.hip_storage.specs.declared.storage.Storage.TheInside.{Inside}
 
+-- the bytes of the memory, and the pending parts of each line, without the room that was made for a store
 abbrev pub contents_of : Inside → Contents
 contents_of s = record { areas = s.ram; lines = s.lines.lines }
 

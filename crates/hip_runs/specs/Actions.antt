@@ -45,6 +45,7 @@ use Rattle.hip_externs.specs.declared.call.ExternCall.TheVariants as calls
 use Rattle.hip_runs.specs.declared.event.TrapKind.TheVariants as traps
 use Rattle.hip_runs.specs.declared.limits.TheConstants.{MOST_FRAMES}
 
+-- what an instruction or the end of a block does, with the values of its operands in place of the operands
 pub data Action : Type 0 where
   Traps : TrapKind → Action
   -- a register takes a value
@@ -71,6 +72,7 @@ pub data Action : Type 0 where
 
 -- ---- addresses that are valid
 
+-- whether the n bytes from address a on all lie from `from` to below `to`; of no bytes, whether a lies so or is `to`
 abbrev pub is_within : ℕ → ℕ → ℕ → ℕ → Bool
 is_within from to a n = nat_le from a && nat_le (a + n) to
 
@@ -95,11 +97,13 @@ accessed P I w a n align go =
 
 -- ---- values
 
+-- the trap of a run for each trap of an integer operation
 abbrev pub trap_of : NumTrap → TrapKind
 trap_of num_traps.DivZero = traps.DivZero
 trap_of num_traps.DivOverflow = traps.DivOverflow
 trap_of num_traps.ShiftRange = traps.ShiftRange
 
+-- a register takes the result of an integer operation, or the run traps as the operation does
 abbrev pub calculated : List ℕ → Result Bits NumTrap → Action
 calculated dest (Ok b) = Assigns (Some dest) b.value
 calculated dest (Err trap) = Traps (trap_of trap)
@@ -122,6 +126,7 @@ cast_value casts.Inttoptr from to v = v % modulus (width_of to)
 abbrev pub index_value : Scalar → ℕ → ℕ
 index_value s v = wrapped W64 (signed (width_of s) (bits (width_of s) v).value)
 
+-- The values of the indices of a `getelementptr` in order, each sign-extended to 64 bits. (LLVM, "getelementptr".)
 abbrev pub index_values : List GlobalVar → ℕ → Registers → List Arg → List ℕ
 index_values globals base registers args = map (λ a. index_value a.ty (value_of globals base registers a.value)) args
 
@@ -139,10 +144,13 @@ allocated w dest size align =
 
 -- ---- calls
 
+-- the call of the function of number g, given that function if there is one: its parameters take the values in order;
+-- a trap where there is none
 abbrev pub bound_call : Option Function → ℕ → List ℕ → Option (List ℕ) → Action
 bound_call None g values dest = Traps traps.Unreachable
 bound_call (Some f) g values dest = Calls g (bound f.params values) dest
 
+-- the call of the function whose number the callee's name has; a trap where no function has the name
 abbrev pub numbered_call : Program → Option ℕ → List ℕ → Option (List ℕ) → Action
 numbered_call P None values dest = Traps traps.Unreachable
 numbered_call P (Some g) values dest = bound_call (slice_get P.functions g) g values dest
@@ -153,6 +161,7 @@ unfoldable pub entered : Program → ℕ → List ℕ → List ℕ → Option (L
 entered P below callee values dest =
     cond (nat_lt below (MOST_FRAMES - 1)) (numbered_call P (function_number P callee) values dest) (Traps traps.Depth)
 
+-- the value of argument k of a call, counted from 0; 0 where there are not so many
 abbrev pub arg_value : List ℕ → ℕ → ℕ
 arg_value values k = unwrap_or (slice_get values k) 0
 
@@ -160,6 +169,7 @@ arg_value values k = unwrap_or (slice_get values k) 0
 unfoldable pub flushing : Program → Input → World → ℕ → ℕ → Action → Action
 flushing P I w a n go = cond (nat_eq n 0) go (cond (are_valid P I w a n) go (Traps traps.Address))
 
+-- what `read_i64` does with these input numbers left: it gives the first of them, and traps where none is left
 abbrev pub read_next : Option (List ℕ) → List ℤ → Action
 read_next dest [] = Traps traps.InputEnd
 read_next dest (z ∷ rest) = Reads dest z rest
@@ -228,7 +238,8 @@ instr_action P I w below rs (Call dest ret callee args) =
 
 -- ---- ends of blocks
 
--- the operand that a phi has for control that comes from the block with a label
+-- the value of the operand that a phi has for control from the block with a label, by its first edge of that label; 0
+-- where no edge has it
 abbrev pub edge_value : List GlobalVar → ℕ → Registers → List Edge → List ℕ → ℕ
 edge_value globals base rs [] from = 0
 edge_value globals base rs (e ∷ es) from =
@@ -240,6 +251,7 @@ after_phis globals base rs from [] = rs
 after_phis globals base rs from (p ∷ ps) =
     (p.dest, edge_value globals base rs p.edges from) ∷ after_phis globals base rs from ps
 
+-- control goes from the frame's block to that of a number, whose phis take their values; a trap without a number
 abbrev pub jump_to : Program → Input → Frame → Option ℕ → Action
 jump_to P I f None = Traps traps.Unreachable
 jump_to P I f (Some b) =
@@ -255,6 +267,7 @@ abbrev pub case_label : ℕ → List Case → List ℕ → List ℕ
 case_label v [] other = other
 case_label v (c ∷ cs) other = cond (nat_eq c.value.value v) c.label (case_label v cs other)
 
+-- The value that a `ret` returns: its operand's, and 0 for `ret void`. (LLVM, "ret".)
 abbrev pub returned : List GlobalVar → ℕ → Registers → Option Arg → ℕ
 returned globals base rs None = 0
 returned globals base rs (Some arg) = value_of globals base rs arg.value

@@ -11,6 +11,7 @@ use Rattle.hip_lines.specs.declared.TheConstants.{LINE_SIZE}
 abbrev pub covers : StorePart → ℕ → Bool
 covers p b = nat_le p.offset b && nat_lt b (p.offset + length p.bytes)
 
+-- the value that a part gives the byte at an offset of the region, where it covers that byte
 abbrev pub byte_of : StorePart → ℕ → ℕ
 byte_of p b = slice_index p.bytes (b - p.offset)
 
@@ -23,6 +24,7 @@ IsCrashImage I s content = IsImage covers byte_of I.image s.lines content
 abbrev pub IsCrashPick : State → (ℕ → ℕ) → Type 0
 IsCrashPick s pick = IsPick covers byte_of s.lines pick
 
+-- the crash image of a pick: in each line the initial bytes, changed by as many first parts as the pick says
 abbrev pub crash_image : Input → State → (ℕ → ℕ) → List ℕ
 crash_image I s pick = image_of covers byte_of s.lines pick I.image
 
@@ -45,5 +47,6 @@ abbrev pub are_line_images : List ℕ → List ℕ → ℕ → List (Line StoreP
 are_line_images first content j [] = true
 are_line_images first content j (l ∷ ls) = is_line_image first content j l && are_line_images first content (suc j) ls
 
+-- `IsCrashImage` as a test: the content is as long as the initial region, and each line is one that a crash may leave
 abbrev pub is_crash_image : Input → State → List ℕ → Bool
 is_crash_image I s content = nat_eq (length content) (length I.image) && are_line_images I.image content 0 s.lines

@@ -27,6 +27,7 @@ abbrev pub value_of : List GlobalVar → ℕ → Registers → Operand → ℕ
 value_of globals base registers (Reg name) = look_up registers name
 value_of globals base registers (Fixed constant) = const_value globals base constant
 
+-- the values of a call's arguments, in order, where the region begins at a base
 abbrev pub values_of : List GlobalVar → ℕ → Registers → List Arg → List ℕ
 values_of globals base registers args = map (λ a. value_of globals base registers a.value) args
 

@@ -10,6 +10,7 @@ abbrev pub printed_by : Event → List ℕ
 printed_by (events.Print z) = signed_decimal z ++ codes "\n"
 printed_by _ = []
 
+-- how the run ended, where the event tells its end; none for every other event
 abbrev pub ending_by : Event → Option Ending
 ending_by (events.End e) = Some e
 ending_by _ = None

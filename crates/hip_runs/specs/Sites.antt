@@ -13,6 +13,7 @@ use Rattle.hip_runs.specs.State.{Level, Flush, StorePart, State, levels_of}
 
 -- ---- what an instruction is
 
+-- whether an instruction is there and is a `store`
 abbrev pub is_store : Option Instr → Bool
 is_store (Some (Store ty value addr align)) = true
 is_store _ = false
@@ -27,10 +28,13 @@ abbrev pub persists : Option ExternCall → Bool
 persists None = false
 persists (Some c) = is_flush c && is_fence c
 
+-- Whether an instruction calls an external function that flushes and takes no fence. (Intel's manual: CLWB,
+-- CLFLUSHOPT, CLFLUSH; libpmem: `pmem_flush`.)
 abbrev pub is_flush_call : Option Instr → Bool
 is_flush_call (Some (Call dest ret callee args)) = only_flushes (call_of callee)
 is_flush_call _ = false
 
+-- Whether an instruction calls an external function that flushes and then fences. (libpmem: `pmem_persist`.)
 abbrev pub is_persist_call : Option Instr → Bool
 is_persist_call (Some (Call dest ret callee args)) = persists (call_of callee)
 is_persist_call _ = false

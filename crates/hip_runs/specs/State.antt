@@ -73,6 +73,7 @@ pub record State : Type 0 where
   pub lines : List (Line StorePart)
   pub counts : Counts
 
+-- the calls with one more in front, where there is one; the bottom frame has none
 abbrev pub level_list : Option Level → List Level → List Level
 level_list None rest = rest
 level_list (Some l) rest = l ∷ rest
@@ -82,5 +83,6 @@ abbrev pub levels_of : List Frame → List Level
 levels_of [] = []
 levels_of (f ∷ fs) = level_list f.level (levels_of fs)
 
+-- the site of a frame's place; at the end of a block no instruction is there
 abbrev pub site_of : Frame → Site
 site_of f = record { function = f.function; block = f.block; index = f.place }

@@ -20,6 +20,7 @@ use Rattle.hip_runs.specs.StoredParts.Persistence.{stored_lines, flushes_lines, 
 use Rattle.hip_runs.specs.declared.event.Event.TheVariants as events
 use Rattle.hip_lines.specs.declared.TheConstants.{LINE_SIZE}
 
+-- the state of a world, frames from the top one down, cache lines and counts
 abbrev pub state : World → List Frame → List (Line StorePart) → Counts → State
 state w fs ls counts = record { world = w; frames = fs; lines = ls; counts = counts }
 
@@ -29,9 +30,11 @@ state w fs ls counts = record { world = w; frames = fs; lines = ls; counts = cou
 abbrev pub first_line : Input → ℕ → ℕ
 first_line I a = I.base + LINE_SIZE * ((a - I.base) / LINE_SIZE)
 
+-- 64 times the number of the region's cache lines that have a byte of the n bytes from a on, where n is at least 1
 abbrev pub lines_size : Input → ℕ → ℕ → ℕ
 lines_size I a n = LINE_SIZE * (((a - I.base) + n - 1) / LINE_SIZE + 1) - LINE_SIZE * ((a - I.base) / LINE_SIZE)
 
+-- whether the frame that stands on these is the bottom one
 abbrev pub is_bottom : List Frame → Bool
 is_bottom [] = true
 is_bottom (f ∷ fs) = false
@@ -57,11 +60,13 @@ has_entry events.Quiet = false
 has_entry (events.Print z) = false
 has_entry _ = true
 
+-- the counts after a step with this event: a step more, and an entry more where the event has one
 abbrev pub counted : Event → Counts → Counts
 counted e c = record { steps = suc c.steps; entries = cond (has_entry e) (suc c.entries) c.entries }
 
 -- ---- effects
 
+-- one turn more was taken
 abbrev pub with_turn : World → World
 with_turn w = record w { turns = suc w.turns }
 
@@ -73,6 +78,7 @@ stop e w fs ls after = state (record w { ending = Some e }) fs ls after
 abbrev pub next : Frame → Frame
 next f = record f { place = suc f.place }
 
+-- a register of the frame takes a value; the frame stays as it is where the value goes into none
 abbrev pub with_register : Option (List ℕ) → ℕ → Frame → Frame
 with_register dest value f = record f { registers = assigned dest value f.registers }
 
@@ -81,9 +87,11 @@ abbrev pub with_block : ℕ → ℕ → World → World
 with_block a n w =
     record w { writes = w.writes ++ record { addr = w.mark; bytes = zeros ((a + n) - w.mark) } ∷ []; mark = a + n }
 
+-- the frame has one block on the stack more, of n bytes from address a, made by the `alloca` at its place
 abbrev pub with_slot : ℕ → ℕ → Frame → Frame
 with_slot a n f = record f { slots = record { addr = a; size = n; site = site_of f } ∷ f.slots }
 
+-- bytes were written from an address on, after all writes before
 abbrev pub with_bytes : ℕ → List ℕ → World → World
 with_bytes a bytes w = record w { writes = w.writes ++ record { addr = a; bytes = bytes } ∷ [] }
 
@@ -91,6 +99,7 @@ with_bytes a bytes w = record w { writes = w.writes ++ record { addr = a; bytes 
 abbrev pub with_output : ℤ → World → World
 with_output z w = record w { output = w.output ++ (signed_decimal z ++ codes "\n") }
 
+-- these input numbers are left
 abbrev pub with_left : List ℤ → World → World
 with_left rest w = record w { left = rest }
 
@@ -142,9 +151,12 @@ perform I w f fs ls before after (Returns v) = leave v w f fs ls after
 abbrev pub is_cut : Input → World → Deed → Bool
 is_cut I w d = d.turn && not (nat_lt w.turns I.limit)
 
+-- the event of what a frame does above these frames: the end of the run where it is cut, else that of the action
 abbrev pub event_at : Input → World → List Frame → Deed → Event
 event_at I w fs d = cond (is_cut I w d) (events.End Cut) (event_of I fs d.action)
 
+-- the state after the top frame's deed: where the run is cut, only its ending and the counts are new; else the action
+-- is done, behind one turn more where the deed is one
 unfoldable pub carry_out : Input → World → Frame → List Frame → List (Line StorePart) → Counts → Counts
     → Deed → State
 carry_out I w f fs ls before after d =
@@ -155,6 +167,7 @@ carry_out I w f fs ls before after d =
 abbrev pub deed_at : Program → Input → World → Frame → List Frame → Deed
 deed_at P I w f fs = deed_of P I w (length fs) f (end_at P f) (code_at P f)
 
+-- the state after the top frame did what comes next; where no frame stands all stays as it is, the counts too
 unfoldable pub on_frames : Program → Input → World → List (Line StorePart) → Counts → List Frame → State
 on_frames P I w ls counts [] = state w [] ls counts
 on_frames P I w ls counts (f ∷ fs) =
@@ -165,13 +178,16 @@ unfoldable pub on_ending : Program → Input → State → Option Ending → Sta
 on_ending P I s (Some e) = s
 on_ending P I s None = on_frames P I s.world s.lines s.counts s.frames
 
+-- the state after one step more of a run on an input; the same state where the run has ended
 unfoldable pub step : Program → Input → State → State
 step P I s = on_ending P I s s.world.ending
 
+-- the event of what the top frame does next; nothing is seen where no frame stands
 abbrev pub event_on_frames : Program → Input → World → List Frame → Event
 event_on_frames P I w [] = events.Quiet
 event_on_frames P I w (f ∷ fs) = event_at I w fs (deed_at P I w f fs)
 
+-- the ending again where the run has ended so, else the event of what the top frame does next
 abbrev pub event_on_ending : Program → Input → State → Option Ending → Event
 event_on_ending P I s (Some e) = events.End e
 event_on_ending P I s None = event_on_frames P I s.world s.frames
@@ -187,9 +203,11 @@ abbrev pub numbered_main : Option ℕ → ℕ
 numbered_main None = 0
 numbered_main (Some f) = f
 
+-- the number of the first function of the name `main`; 0 where none has it, which never comes in a sound program
 abbrev pub main_number : Program → ℕ
 main_number P = numbered_main (function_number P (codes "main"))
 
+-- whether one of the bytes is other than 0
 abbrev pub some_byte : List ℕ → Bool
 some_byte [] = false
 some_byte (zero ∷ bs) = some_byte bs
@@ -205,9 +223,13 @@ image_lines (suc n) bytes = cond (some_byte (take LINE_SIZE bytes)) 1 0 + image_
 abbrev pub header_entries : Input → ℕ
 header_entries I = 2 + length I.numbers + image_lines (length I.image / LINE_SIZE) I.image
 
+-- the world before the first step: nothing was printed or written, no turn was taken, all input numbers are left, and
+-- the stack is empty
 abbrev pub start_world : Input → World
 start_world I = record { output = []; writes = []; turns = 0; left = I.numbers; mark = stack_start; ending = None }
 
+-- the bottom frame before the first step: at the start of the entry block of the function `main`, whose number this
+-- is, with no value in a register
 abbrev pub start_frame : ℕ → Frame
 start_frame main =
     record {
@@ -232,5 +254,6 @@ unfoldable pub run : Program → Input → ℕ → State
 run P I zero = start P I
 run P I (suc n) = step P I (run P I n)
 
+-- whether a run has ended: it stopped, trapped or was cut
 abbrev pub has_ended : State → Bool
 has_ended s = is_some s.world.ending

@@ -9,6 +9,7 @@ use Rattle.hip_runs.specs.declared.event.Object.{Object}
 use Rattle.hip_runs.specs.State.{Slot, Frame}
 use Rattle.hip_runs.specs.declared.event.Object.TheVariants as objects
 
+-- whether address a is one of so many bytes from address `at` on; nothing is in an object of 0 bytes
 abbrev pub contains : ℕ → ℕ → ℕ → Bool
 contains at size a = nat_le at a && nat_lt a (at + size)
 
@@ -18,17 +19,21 @@ global_from globals base a n [] = None
 global_from globals base a n (g ∷ gs) =
     cond (contains (address_in globals base n) (shape g.ty).size a) (Some n) (global_from globals base a (suc n) gs)
 
+-- the number of the first global that contains address a, where the region begins at a base; none where none does
 abbrev pub global_at : Program → ℕ → ℕ → Option ℕ
 global_at P base a = global_from P.globals base a 0 P.globals
 
+-- the first of these blocks that contains address a, told by the site of its `alloca`; none where none does
 abbrev pub slot_in : List Slot → ℕ → Option Object
 slot_in [] a = None
 slot_in (x ∷ xs) a = cond (contains x.addr x.size a) (Some (objects.Slot x.site)) (slot_in xs a)
 
+-- the first object if there is one, else the second
 abbrev pub or_else : Option Object → Option Object → Option Object
 or_else None later = later
 or_else (Some o) later = Some o
 
+-- the first block on the stack that contains address a, from the top frame's blocks down; none where none does
 abbrev pub slot_at : List Frame → ℕ → Option Object
 slot_at [] a = None
 slot_at (f ∷ fs) a = or_else (slot_in f.slots a) (slot_at fs a)

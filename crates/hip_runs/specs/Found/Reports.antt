@@ -43,9 +43,11 @@ loose_from o n made durable flushed k (p ∷ later) =
     (record { part = p; flushed = nat_lt k flushed } ∷ loose_from o n made durable flushed (suc k) later)
     (loose_from o n made durable flushed (suc k) later)
 
+-- the loose parts of a step's store in a cache line, in a range of n bytes from o
 abbrev pub loose_in : ℕ → ℕ → ℕ → Line StorePart → List LoosePart
 loose_in o n made l = loose_from o n made l.durable l.flushed 0 l.parts
 
+-- the loose parts of a step's store in these cache lines, line by line, in a range of n bytes from o
 abbrev pub loose_parts : ℕ → ℕ → List (Line StorePart) → ℕ → List LoosePart
 loose_parts o n ls made = flat_map (loose_in o n made) ls
 
@@ -68,6 +70,7 @@ kind_of true fenced = MissingFence
 kind_of false true = MissingFlush
 kind_of false false = MissingBoth
 
+-- whether each of these loose parts is flushed; so it is where there is none
 abbrev pub all_flushed : List LoosePart → Bool
 all_flushed ps = list_all (λ p. p.flushed) ps
 
@@ -85,6 +88,8 @@ abbrev pub closed_count : List Level → List Level → ℕ
 closed_count standing [] = 0
 closed_count standing (l ∷ ls) = cond (is_open standing l) (closed_count standing ls) (suc (closed_count standing ls))
 
+-- the report of a store from its loose parts, of which p is one, at the check whose entry has that number, where
+-- these calls stand
 abbrev pub report_by : List Level → ℕ → StorePart → List LoosePart → Report
 report_by standing check p ps =
     record {

@@ -19,6 +19,7 @@ abbrev pub is_marked : List ℕ → Object → Bool
 is_marked hit (objects.Global g) = list_any (nat_eq g) hit
 is_marked hit (objects.Slot s) = false
 
+-- 1 for an object that is marked, -1 for any other
 abbrev pub worth_of : Bool → ℤ
 worth_of true = pos 1
 worth_of false = negsuc 0
@@ -34,14 +35,17 @@ worth_in hit site operand (m ∷ ms) sum =
 abbrev pub worth : Marks → Site → ℕ → ℤ
 worth marks site operand = worth_in marks.hit site operand marks.pointed (pos 0)
 
+-- the greater of a number and one that there may be
 abbrev pub greater : ℤ → Option ℤ → Option ℤ
 greater a None = Some a
 greater a (Some b) = Some (cond (int_lt a b) b a)
 
+-- the greatest worth of these operands of a site, the first of which has number k; none where there is no operand
 abbrev pub greatest_worth : Marks → Site → ℕ → List Operand → Option ℤ
 greatest_worth marks site k [] = None
 greatest_worth marks site k (o ∷ os) = greater (worth marks site k) (greatest_worth marks site (suc k) os)
 
+-- the pointer operands of an instruction; none where there is no instruction
 abbrev pub operands_at : Program → Option Instr → List Operand
 operands_at P None = []
 operands_at P (Some i) = pointer_operands P i
@@ -58,6 +62,7 @@ pub record Worth : Type 0 where
   pub operand : ℕ
   pub worth : ℤ
 
+-- whether a row of the table is that of an operand of a site
 abbrev pub is_worth_of : Worth → Site → ℕ → Bool
 is_worth_of w site operand = same_site w.site site && nat_eq w.operand operand
 
@@ -75,6 +80,7 @@ with_mark hit (w ∷ ws) m =
     (record { site = w.site; operand = w.operand; worth = w.worth +ℤ worth_of (is_marked hit m.object) } ∷ ws)
     (w ∷ with_mark hit ws m)
 
+-- the table after these marks more, taken in order, where the globals of these numbers were stored into
 abbrev pub worths_from : List ℕ → List Worth → List Mark → List Worth
 worths_from hit ws [] = ws
 worths_from hit ws (m ∷ ms) = worths_from hit (with_mark hit ws m) ms

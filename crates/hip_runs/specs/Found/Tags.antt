@@ -39,6 +39,7 @@ has_tag made bs = list_any (λ b. nat_eq b.tag made) bs
 abbrev pub tag_flushed : ℕ → List LooseByte → Bool
 tag_flushed made bs = list_all (λ b. not (nat_eq b.tag made) || b.flushed) bs
 
+-- whether a list has an item
 abbrev pub has_some : {A : Type 0} → List A → Bool
 has_some [] = false
 has_some (x ∷ xs) = true

@@ -98,6 +98,7 @@ is_still (Persists a n) = Unit {0}
 is_still Fences = Unit {0}
 is_still _ = ⊥
 
+-- the action flushes, fences or traps, as that of an instruction does that is no turn
 record IsStill (x : Action) : Type 0 where
   is : is_still x
 

@@ -42,6 +42,8 @@ use Rattle.hip_runs.specs.declared.event.Event.TheVariants as events
 
 -- ---- actions of instructions
 
+-- A store is of a `store`, and each of its bytes is below 256; a flush is of a call that flushes and takes no fence,
+-- a persist of a call that does both; a call is of a call of that function. Nothing is said of other actions.
 abbrev fits : Program → Action → Option Instr → Type 0
 fits P (Stores a bytes) o = (is_store o ≡ true) × (bytes_of (length bytes) (little_endian bytes) ≡ bytes)
 fits P (Flushes a n) o = is_flush_call o ≡ true
@@ -172,6 +174,8 @@ fits_end P I f (Some ends.Unreachable) o = record { is = tt {0} }
 
 -- ---- events
 
+-- A store is of a `store`, a flush of a call that flushes and takes no fence, a persist of a call that does both.
+-- Nothing is said of other events.
 abbrev told : Event → Option Instr → Type 0
 told (events.Store a v n) o = is_store o ≡ true
 told (events.Flush l n) o = is_flush_call o ≡ true

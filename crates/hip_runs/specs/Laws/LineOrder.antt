@@ -163,6 +163,7 @@ well_store n m y l o inside at_line step none h = record {
 
 -- ---- all lines
 
+-- what is kept of a line of a state after n steps holds of each of these lines, the first of which has number 0
 abbrev pub AreWell : ℕ → List (Line StorePart) → Type 0
 AreWell n ls = (m : ℕ) (l : Line StorePart) → slice_get ls m ≡ Some l → IsWell n m l
 

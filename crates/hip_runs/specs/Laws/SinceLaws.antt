@@ -150,6 +150,7 @@ module _ (P : Program) (I : Input) (n j : ℕ) where
 
 -- ---- the parts of a line
 
+-- the line is there and has this part, at whatever place
 abbrev pub InLine : Option (Line StorePart) → StorePart → Type 0
 InLine None x = ⊥
 InLine (Some l) x = In x l.parts

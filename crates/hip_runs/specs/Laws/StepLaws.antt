@@ -30,6 +30,7 @@ pub record IsTop (s : State) (f : Frame) (fs : List Frame) : Type 0 where
   pub going : s.world.ending ≡ None
   pub frames : s.frames ≡ f ∷ fs
 
+-- the flush of a state's next step, if that is one, where this frame is on top
 abbrev pub flush_here : State → Frame → Flush
 flush_here s f = record { step = s.counts.steps; site = site_of f }
 
@@ -150,6 +151,7 @@ length-lines P I (suc n) =
 
 -- ---- how many steps were counted
 
+-- whether a frame stands
 abbrev pub has_frame : List Frame → Bool
 has_frame [] = false
 has_frame (f ∷ fs) = true

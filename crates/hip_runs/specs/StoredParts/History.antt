@@ -23,12 +23,14 @@ pub record IsParted (standing levels : List Level) : Type 0 where
   pub outermost : standing ≡ above ++ open_ones
   pub returned : (v : Level) → In v closed → is_open standing v ≡ false
 
+-- What each state of a run keeps of the parts in its cache lines: when they were made and first flushed, what those
+-- of one store share, that their sites are there, and which of their calls stand.
 pub record HasHistory (P : Program) (s : State) : Type 0 where
-  -- a part was made by an earlier step, and first flushed by a later one
+  -- a part was made by an earlier step, and so was its first flush
   pub made : (x : StorePart) → PartOf s.lines x → x.step < s.counts.steps
   pub flush_made : (x : StorePart) (f : Flush) → PartOf s.lines x → x.first_flush ≡ Some f
       → f.step < s.counts.steps
-  -- the parts of one store have one history of fences
+  -- the parts of one store have one site, the same calls, one entry and one history of fences
   pub site : (x y : StorePart) → PartOf s.lines x → PartOf s.lines y → x.step ≡ y.step → x.site ≡ y.site
   pub levels : (x y : StorePart) → PartOf s.lines x → PartOf s.lines y → x.step ≡ y.step
       → x.levels ≡ y.levels

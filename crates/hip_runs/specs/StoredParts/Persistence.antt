@@ -28,6 +28,7 @@ stored_lines I counts site levels a bytes ls =
     cond (in_region I a (length bytes))
     (stored (part_of_store counts site levels (a - I.base) bytes) (a - I.base) (length bytes) ls) ls
 
+-- the first flush of a part that a flush meets: the one before if there is one, else this one
 abbrev pub earlier : Option Flush → Flush → Option Flush
 earlier None flush = Some flush
 earlier (Some first) flush = Some first
@@ -40,9 +41,13 @@ noted_flush flush p = record p { first_flush = earlier p.first_flush flush }
 abbrev pub noted_fence : StorePart → StorePart
 noted_fence p = record p { fenced = true }
 
+-- A line after a flush: all its parts are flushed, and each that had no first flush has this one. (Intel's manual:
+-- CLWB, CLFLUSHOPT, CLFLUSH.)
 abbrev pub flush_line : Flush → Line StorePart → Line StorePart
 flush_line flush l = flushed_line (map_line (noted_flush flush) l)
 
+-- A line after a fence: its flushed parts are durable, and each part notes that a fence came after its store.
+-- (Intel's manual: SFENCE.)
 abbrev pub fence_line : Line StorePart → Line StorePart
 fence_line l = fenced_line (map_line noted_fence l)
 
@@ -50,9 +55,12 @@ fence_line l = fenced_line (map_line noted_fence l)
 abbrev pub flushes_lines : Input → ℕ → ℕ → Bool
 flushes_lines I a n = nat_lt 0 n && in_region I a n
 
+-- the region's lines after a flush of the n bytes from address a: each that has one of them is flushed; none is where
+-- they are not all in the region
 abbrev pub flushed_lines : Input → Flush → ℕ → ℕ → List (Line StorePart) → List (Line StorePart)
 flushed_lines I flush a n ls =
     cond (flushes_lines I a n) (change_range (λ _ l. flush_line flush l) (a - I.base) n ls) ls
 
+-- the lines of the region after a fence, which acts on each of them
 abbrev pub fenced_lines : List (Line StorePart) → List (Line StorePart)
 fenced_lines ls = map fence_line ls

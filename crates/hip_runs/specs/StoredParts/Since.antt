@@ -76,6 +76,7 @@ pub record IsFlushedThenFenced (P : Program) (I : Input) (j from n : ℕ) : Type
 
 -- ---- parts at their places
 
+-- the line is there and has the part at place k
 abbrev pub IsPartIn : Option (Line StorePart) → ℕ → StorePart → Type 0
 IsPartIn None k x = ⊥
 IsPartIn (Some l) k x = slice_get l.parts k ≡ Some x
@@ -84,6 +85,7 @@ IsPartIn (Some l) k x = slice_get l.parts k ≡ Some x
 abbrev pub IsPartAt : State → ℕ → ℕ → StorePart → Type 0
 IsPartAt s m k x = IsPartIn (slice_get s.lines m) k x
 
+-- the line is there and has the part at place k, which is before its durable number
 abbrev pub IsDurableIn : Option (Line StorePart) → ℕ → StorePart → Type 0
 IsDurableIn None k x = ⊥
 IsDurableIn (Some l) k x = (slice_get l.parts k ≡ Some x) × (k < l.durable)

@@ -222,6 +222,7 @@ found_next P I n e =
     ∙ ap (λ ms. made_of (reports P I n) ms (hit P I (suc n))) (same_pointed P I n e)
     ∙ ap (λ hs. made_of (reports P I n) (pointed P I n) hs) (same_hit P I n e)
 
+-- after n steps the run has ended, and has found what it had found after m steps
 record StaysFound (P : Program) (I : Input) (m n : ℕ) : Type 0 where
   ended : has_ended (run P I n) ≡ true
   same : findings P I n ≡ findings P I m

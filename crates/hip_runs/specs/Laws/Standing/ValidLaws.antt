@@ -48,12 +48,15 @@ same_test true y f g = sym (f refl)
 same_test false true f g = absurd (let e = g refl in let z : ⊥ = cc in z)
 same_test false false f g = refl
 
+-- the n bytes from address a on lie in the area of the volatile globals
 abbrev in_volatile : Program → ℕ → ℕ → Bool
 in_volatile P a n = within volatile_start (volatile_end P) a n
 
+-- the n bytes from address a on lie in the stack below the mark
 abbrev in_stack : World → ℕ → ℕ → Bool
 in_stack w a n = within stack_start w.mark a n
 
+-- the n bytes from address a on lie in the region
 abbrev inside : Input → ℕ → ℕ → Bool
 inside I a n = within I.base (I.base + length I.image) a n
 

@@ -18,6 +18,7 @@ abbrev pub GlobalHas : Program → ℕ → ℕ → GlobalVar → ℕ → Type 0
 GlobalHas P base k g a = (slice_get P.globals k ≡ Some g)
     × (contains (address P base k) (shape g.ty).size a ≡ true)
 
+-- block j of all frames, counted from the newest one as 0, is there and contains an address
 abbrev pub SlotHas : List Frame → ℕ → Slot → ℕ → Type 0
 SlotHas frames j x a = (slice_get (slots_of frames) j ≡ Some x) × (contains x.addr x.size a ≡ true)
 

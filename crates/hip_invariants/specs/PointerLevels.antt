@@ -57,6 +57,7 @@ behind_offset (Some t) offset =
 
 -- ---- constants
 
+-- the level of the global of a number: none where it is persistent, else 0; 0 too where the name has no number
 abbrev pub number_level : List GlobalVar → Option ℕ → PointerLevel
 number_level globals None = Some 0
 number_level globals (Some k) = cond (is_persistent globals k) None (Some 0)
@@ -65,6 +66,8 @@ number_level globals (Some k) = cond (is_persistent globals k) None (Some 0)
 abbrev pub global_level : List GlobalVar → List ℕ → PointerLevel
 global_level globals name = number_level globals (number_of (map (λ g. g.name) globals) name)
 
+-- the level of a constant, from the levels of names and of its `getelementptr`: 0 for `null` and `zeroinitializer`,
+-- none for an integer, an array and a struct
 abbrev pub level_step : (List ℕ → PointerLevel) → Const-F PointerLevel PointerLevel PointerLevel → PointerLevel
 level_step names Const-F.Null = Some 0
 level_step names Const-F.Zero = Some 0
@@ -72,9 +75,11 @@ level_step names (Const-F.Address name) = names name
 level_step names (Const-F.Gep level) = level
 level_step names _ = None
 
+-- the level of a constant `getelementptr`, from its base's: that behind its offset, 0 where there is no such element
 abbrev pub gep_level_step : ConstGep-F PointerLevel PointerLevel PointerLevel → PointerLevel
 gep_level_step gep = behind_offset gep.base (unwrap_or (gep_of gep.ty (map index_of gep.indices)) 0)
 
+-- the level of an item of an array or a struct: its constant's, on which no level depends
 abbrev pub item_level_step : TypedConst-F PointerLevel PointerLevel PointerLevel → PointerLevel
 item_level_step item = item.value
 
@@ -91,24 +96,27 @@ pub record Levels : Type 0 where
   pub register : ℕ → List ℕ → PointerLevel
   pub result : ℕ → PointerLevel
 
+-- the value of an integer as an index, sign-extended to 64 bits; none of another constant, not of `zeroinitializer`
 abbrev pub literal : Scalar → Const-F Const ConstGep TypedConst → Option ℕ
 literal ty (Const-F.Int b) = Some (index_value ty b.value)
 literal ty _ = None
 
+-- the value of an index that is an integer; none of a register and of any other constant
 abbrev pub fixed_index : Scalar → Operand → Option ℕ
 fixed_index ty (Reg name) = None
 fixed_index ty (Fixed c) = literal ty (out-Const c)
 
+-- the value of an index in front of those behind it, where all of them have one
 abbrev pub both : Option ℕ → Option (List ℕ) → Option (List ℕ)
 both (Some i) (Some is) = Some (i ∷ is)
 both _ _ = None
 
--- the values of indices that are all numbers; none where one is a register
+-- the values of indices that are all integers; none where one is a register or another constant
 abbrev pub fixed_path : List Arg → Option (List ℕ)
 fixed_path [] = Some []
 fixed_path (a ∷ args) = both (fixed_index a.ty a.value) (fixed_path args)
 
--- The level of a `getelementptr` from a level on: none by a register as index, else that behind its offset.
+-- The level of a `getelementptr` from a level on: none where an index is no integer, else that behind its offset.
 abbrev pub gep_level : PointerLevel → Ty → Option (List ℕ) → PointerLevel
 gep_level a ty None = None
 gep_level a ty (Some path) = behind_offset a (unwrap_or (gep_of ty path) 0)

@@ -30,6 +30,7 @@ called_frame g registers dest mark level =
           level;
     }
 
+-- the frame at the start of block b of its function, with these registers; all else in it stays
 abbrev pub frame_in_block : ℕ → Registers → Frame → Frame
 frame_in_block b registers f = record f { block = b; place = 0; registers = registers }
 

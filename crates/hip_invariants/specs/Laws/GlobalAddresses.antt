@@ -7,6 +7,7 @@ use Rattle.hip_types.specs.Laws.LayoutLaws.{next-le}
 use Rattle.hip_ir.specs.declared.program.GlobalVar.{GlobalVar}
 use Rattle.hip_globals.specs.Addresses.{same, global_align, global_start, end_of, start_of, is_persistent}
 
+-- where a global ends that is laid at the next multiple of its alignment from an address on
 abbrev behind : ℕ → GlobalVar → ℕ
 behind at g = global_start at g + (shape g.ty).size
 

@@ -74,15 +74,18 @@ offset_within (Some t) offset v m = same (nat_eq offset 0) refl
     same true e = let none : offset ≡ 0 = eqb-true offset 0 e in omega arith
     same false e = near (nat_lt offset 67108864) refl
 
+-- the level of a constant `getelementptr`: its base's behind the offset of its indices
 abbrev const_gep_level : List GlobalVar → ConstGep → Option ℕ
 const_gep_level globals = fold-ConstGep (Option ℕ) (Option ℕ) (Option ℕ)
     (level_step (global_level globals)) gep_level_step item_level_step
 
+-- the address that a constant `getelementptr` gives, where names have these addresses
 abbrev written_gep : (List ℕ → ℕ) → ConstGep → ℕ
 written_gep address_of = fold-ConstGep Written ℕ Piece (written_step address_of) gep_step item_step
 
 -- ---- values
 
+-- A value that the function of number g returns is within the level of its result.
 pub record ResultIsWithin (L : Levels) (g v : ℕ) : Type 0 where
   pub is : within_level (L.result g) v
 

@@ -33,6 +33,7 @@ allowed mark below (Allocates dest a n) = (mark ≤ a) × (a + n ≤ stack_end)
 allowed mark below (Calls g registers dest) = below < 16383
 allowed mark below _ = Unit {0}
 
+-- the action asks no more of the stack than it may, at this mark and with so many frames below
 record Allowed (mark below : ℕ) (x : Action) : Type 0 where
   is : allowed mark below x
 

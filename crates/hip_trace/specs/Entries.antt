@@ -16,14 +16,17 @@ use Rattle.hip_trace.specs.declared.entry.TrapWord.TheVariants as traps
 abbrev pub fields : List ℕ → List (List ℕ)
 fields text = slice_split (λ b. b == byte ";") text
 
+-- the field behind an entry's word, where there is exactly one
 abbrev pub one_field : List (List ℕ) → Option (List ℕ)
 one_field (a ∷ []) = Some a
 one_field _ = None
 
+-- the fields behind an entry's word, where there are exactly two
 abbrev pub two_fields : List (List ℕ) → Option (List ℕ × List ℕ)
 two_fields (a ∷ b ∷ []) = Some (a, b)
 two_fields _ = None
 
+-- the fields behind an entry's word, where there are exactly three
 abbrev pub three_fields : List (List ℕ) → Option (List ℕ × List ℕ × List ℕ)
 three_fields (a ∷ b ∷ c ∷ []) = Some (a, b, c)
 three_fields _ = None
@@ -80,6 +83,7 @@ store fs =
 abbrev pub are_lines : ℕ → ℕ → Bool
 are_lines addr size = (addr % 64 == 0) && ((size % 64 == 0) && (nat_lt 0 size && nat_le (addr + size) (2 ^ 64)))
 
+-- an address and a size, where they are those of one or more whole cache lines
 abbrev pub some_lines : ℕ × ℕ → Option (ℕ × ℕ)
 some_lines n = if are_lines n.0 n.1 then Some n else None
 
@@ -111,9 +115,11 @@ trap_text traps.Depth = codes "depth"
 trap_text traps.InputEnd = codes "input"
 trap_text traps.Unreachable = codes "unreachable"
 
+-- whether a text is the word for that reason of a trap
 abbrev pub is_trap_text : List ℕ → TrapWord → Bool
 is_trap_text text kind = bytes_eq text (trap_text kind)
 
+-- the reason of a trap whose word a text is; none where it is no such word
 unfoldable pub trap_of : List ℕ → Option TrapWord
 trap_of text =
     if is_trap_text text traps.DivZero then Some traps.DivZero
@@ -136,6 +142,7 @@ abbrev pub alone : Entry → List (List ℕ) → Option Entry
 alone e [] = Some e
 alone e (f ∷ fs) = None
 
+-- the entry that a word and the fields behind it spell; none where no entry has that word with such fields
 unfoldable pub entry_by : List (List ℕ) → Option Entry
 entry_by [] = None
 entry_by (word ∷ fs) =

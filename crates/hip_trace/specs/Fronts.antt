@@ -22,16 +22,19 @@ pub record HoldsMore (held held' : List ℕ) (s s' : CabinetState) : Type 0 wher
   pub reading : IsReading s s'
   pub ahead : after_held held' s' ≡ after_held held s
 
+-- At least one byte more is held, and what is ahead is as before.
 pub record HasTakenSome (held held' : List ℕ) (s s' : CabinetState) : Type 0 where
   pub more : HoldsMore held held' s s'
   pub longer : length held + 1 ≤ length held'
 
+-- The file has ended: the bytes held are those from before, and nothing failed.
 pub record HasTakenNothing (held held' : List ℕ) (s s' : CabinetState) : Type 0 where
   pub same : held' ≡ held
   pub reading : IsReading s s'
   pub rest : s'.rest ≡ s.rest
   pub ended : IfSome s.rest (λ rest. rest ≡ [])
 
+-- A read failed: the bytes held are those from before, and the count of faults rose.
 pub record HasFailedMore (held held' : List ℕ) (s s' : CabinetState) : Type 0 where
   pub same : held' ≡ held
   pub stays : StaysOpen s s'
@@ -39,6 +42,7 @@ pub record HasFailedMore (held held' : List ℕ) (s s' : CabinetState) : Type 0 
   pub rose : Rose s.faults s'.faults
   pub rest : s'.rest ≡ s.rest
 
+-- what an attempt to take more bytes did, by its answer
 abbrev pub HasTakenMore : List ℕ → List ℕ → CabinetState → CabinetState → Taken → Type 0
 HasTakenMore held held' s s' (taken.Got n) = HasTakenSome held held' s s'
 HasTakenMore held held' s s' taken.End = HasTakenNothing held held' s s'
@@ -72,6 +76,7 @@ pub record HasFailedFirst (held held' : List ℕ) (s s' : CabinetState) : Type 0
   pub rose : Rose s.faults s'.faults
   pub ahead : after_held held' s' ≡ after_held held s
 
+-- what is held and what stands first in it, once enough bytes were taken to know it, by the answer
 abbrev pub FindsFront : List ℕ → List ℕ → CabinetState → CabinetState → Front → Type 0
 FindsFront held held' s s' (fronts.Piece n) = HasPieceFirst held held' s s' n
 FindsFront held held' s s' fronts.Rest = HasRestFirst held held' s s'
@@ -98,13 +103,17 @@ answers_piece (Some e) r r' taken result =
           Reading;
     })
 
+-- The answer to a piece, which is the first n bytes that are held: the entry that it spells, or the refusal as
+-- malformed. `taken` bytes are let go only with an entry.
 abbrev pub AnswersPiece : ReaderState → ReaderState → ℕ → ℕ → Result (Option Entry) TraceRefusal → Type 0
 AnswersPiece r r' n taken result = answers_piece (entry_of (take n r.held)) r r' taken result
 
+-- The file has ended: what is held is the last piece, and where nothing is held there is no entry more.
 abbrev pub answers_rest : List ℕ → ReaderState → ReaderState → Result (Option Entry) TraceRefusal → Type 0
 answers_rest [] r r' result = (result ≡ Ok None) × (r' ≡ record { held = []; count = r.count; progress = Ended })
 answers_rest (b ∷ bs) r r' result = AnswersPiece r r' (length (b ∷ bs)) (length (b ∷ bs)) result
 
+-- the reader after a read that failed, from then on refusing; a text was begun where it holds a byte
 abbrev pub failed : ReaderState → ReaderState
 failed r =
     record {
@@ -113,6 +122,7 @@ failed r =
       progress = Refused ReadFault;
     }
 
+-- the answer and the reader after it, by what stood first in the bytes that it held
 abbrev pub AnswersFront : ReaderState → ReaderState → Front → Result (Option Entry) TraceRefusal → Type 0
 AnswersFront r r' (fronts.Piece n) result = AnswersPiece r r' n (n + 1) result
 AnswersFront r r' fronts.Rest result = answers_rest r.held r r' result

@@ -20,6 +20,7 @@ abbrev pub counts_last : Bool → List ℕ → Bool
 counts_last true last = is_nonempty last
 counts_last false last = nat_lt 256 (length last)
 
+-- the parts that are pieces: all before the last one, and the last one where it counts
 abbrev pub counted : Bool → List (List ℕ) → List (List ℕ)
 counted whole [] = []
 counted whole (part ∷ []) = if counts_last whole part then part ∷ [] else []

@@ -22,6 +22,7 @@ pub record ReaderState : Type 0 where
 abbrev pub after_held : List ℕ → CabinetState → Option (List ℕ)
 after_held held s = option_map (λ rest. held ++ rest) s.rest
 
+-- the bytes that are ahead of a reader, where the cabinet tells its file
 abbrev pub ahead : ReaderState → CabinetState → Option (List ℕ)
 ahead r s = after_held r.held s
 
@@ -54,6 +55,7 @@ pub record EndsWithFile (piece : List ℕ) (old new : Option (List ℕ)) : Type 
   pub bytes : old ≡ option_map (λ rest. piece ++ rest) new
   pub left : IfSome new (λ rest. rest ≡ [])
 
+-- The piece was taken off what was ahead, with its separator, or up to the end of the file.
 abbrev pub TakesPiece : List ℕ → Option (List ℕ) → Option (List ℕ) → Type 0
 TakesPiece piece old new = EndsAtSeparator piece old new ⊎ EndsWithFile piece old new
 
@@ -96,6 +98,7 @@ pub record HasFailed (r r' : ReaderState) (s s' : CabinetState) : Type 0 where
   pub count : r'.count ≡ (if is_nonempty r'.held then one_more r.count else r.count)
   pub progress : r'.progress ≡ Refused ReadFault
 
+-- what `next` does where it has given neither the end nor a refusal before, by its answer
 abbrev pub ReadsOn : ReaderState → ReaderState → CabinetState → CabinetState
     → Result (Option Entry) TraceRefusal
     → Type 0
@@ -111,6 +114,7 @@ pub record Repeats (r r' : ReaderState) (s s' : CabinetState)
   pub reader : r' ≡ r
   pub cabinet : s' ≡ s
 
+-- what `next` does, by how far the reader is: it reads on, or repeats the end, or repeats its refusal
 abbrev pub reads_from : Progress → ReaderState → ReaderState → CabinetState → CabinetState
     → Result (Option Entry) TraceRefusal → Type 0
 reads_from Reading r r' s s' result = ReadsOn r r' s s' result

@@ -8,8 +8,10 @@ abbrev pub behind : Option (Bor (List ℕ)) → List (List ℕ)
 behind None = []
 behind (Some text) = fields text.now
 
+-- two borrowed fields as the texts that they are
 abbrev pub pair_seen : Bor (List ℕ) × Bor (List ℕ) → List ℕ × List ℕ
 pair_seen p = (p.0.now, p.1.now)
 
+-- three borrowed fields as the texts that they are
 abbrev pub triple_seen : Bor (List ℕ) × Bor (List ℕ) × Bor (List ℕ) → List ℕ × List ℕ × List ℕ
 triple_seen p = (p.0.now, p.1.now, p.2.now)

@@ -9,6 +9,7 @@ use Rattle.hip_trace.specs.Entries.{trap_text}
 use Rattle.hip_trace.specs.declared.entry.Entry.{Entry}
 use Rattle.hip_trace.specs.declared.entry.Entry.TheVariants.{Start, Register, Input, Image, Store, Flush, Fence, Persist, Assert, Stop, Trap, Cut}
 
+-- the word that begins the text of an entry
 abbrev pub word_of : Entry → List ℕ
 word_of (Start limit) = codes "START"
 word_of (Register base size) = codes "REGISTER"
@@ -23,6 +24,8 @@ word_of (Stop code) = codes "STOP"
 word_of (Trap kind) = codes "TRAP"
 word_of Cut = codes "CUT"
 
+-- the fields behind the word of an entry, in order: a limit, an input and a code in decimal, other numbers in
+-- hexadecimal with `0x`, the bytes of a line as two hexadecimal digits each, a trap by its word
 abbrev pub fields_of : Entry → List (List ℕ)
 fields_of (Start limit) = decimal limit ∷ []
 fields_of (Register base size) = hexadecimal base ∷ hexadecimal size ∷ []
@@ -42,6 +45,7 @@ abbrev pub with_fields : List ℕ → List (List ℕ) → List ℕ
 with_fields text [] = text
 with_fields text (f ∷ fs) = with_fields (text ++ byte ";" ∷ f) fs
 
+-- the canonical text of an entry: its word, and each field behind a semicolon
 unfoldable pub text_of : Entry → List ℕ
 text_of e = with_fields (word_of e) (fields_of e)
 

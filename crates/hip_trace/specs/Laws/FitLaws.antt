@@ -97,6 +97,7 @@ line_field bytes len h =
 
 -- ---- entries that fit are spelled
 
+-- An entry's word and fields are read as that entry, no field has a semicolon, and the text has at most 256 bytes.
 record EntryOf (e : Entry) : Type 0 where
   by : entry_by (word_of e ∷ fields_of e) ≡ Some e
   plain : ArePlain (fields_of e)

@@ -32,12 +32,15 @@ use Rattle.hip_trace.specs.Laws.FieldLaws.{some_field}
 
 -- ---- fields and lengths
 
+-- the byte that stands between the fields of an entry's text
 abbrev pub is_semicolon : ℕ → Bool
 is_semicolon b = b == byte ";"
 
+-- a text without a semicolon, which is one field; the empty one too
 abbrev pub IsPlain : List ℕ → Type 0
 IsPlain f = list_any is_semicolon f ≡ false
 
+-- none of these fields has a semicolon
 abbrev pub ArePlain : List (List ℕ) → Type 0
 ArePlain [] = Unit {0}
 ArePlain (f ∷ fs) = IsPlain f × ArePlain fs
@@ -367,6 +370,7 @@ three_length (x ∷ y ∷ z ∷ []) f e = let k : (x, y, z) ≡ f = cc in
     + length g.2 + 3) k (omega arith)
 three_length (x ∷ y ∷ z ∷ w ∷ ws) f e = absurd (let v : ⊥ = cc in v)
 
+-- two numbers in their canonical text are read again, no longer than what spelled them, and without a semicolon
 record NumbersAgain (fs : List (List ℕ)) (n : ℕ × ℕ) : Type 0 where
   again : two_numbers (hexadecimal n.0 ∷ hexadecimal n.1 ∷ []) ≡ Some n
   short : length (hexadecimal n.0) + length (hexadecimal n.1) + 2 ≤ total fs
@@ -666,6 +670,7 @@ spelled_fields text e k = go (nat_lt 256 (length text)) refl k
     go true t h = absurd (let z : ⊥ = cc in z)
     go false t h = (ltb-false _ _ t, h)
 
+-- the canonical text of an entry is read as the entry, and is no longer than the text that spelled it
 record TextAgain (text : List ℕ) (e : Entry) : Type 0 where
   again : entry_by (fields (text_of e)) ≡ Some e
   short : length (text_of e) ≤ length text

@@ -24,9 +24,11 @@ use Rattle.hip_trace.specs.Laws.PieceLaws.{first_none, spelled_at}
 
 -- ---- texts without separators
 
+-- no `|` and no line feed stands in the text, so that it lies in one piece
 abbrev IsWhole : List ℕ → Type 0
 IsWhole text = list_any is_separator text ≡ false
 
+-- none of these fields has a `|` or a line feed
 abbrev AreWhole : List (List ℕ) → Type 0
 AreWhole [] = Unit {0}
 AreWhole (f ∷ fs) = IsWhole f × AreWhole fs

@@ -58,16 +58,19 @@ pub record HasHeader (P : Program) (start : CabinetState) (r : ReaderState) (s :
     pub header : IfSome start.rest
         (λ bytes. header P (spelled true bytes) ≡ Gives (header_entries begun.input) begun.input)
 
+-- the limit of turns that a valid START gives as the first entry, or the cause why there is none
 abbrev pub ReadsLimit : Program → CabinetState → ReaderState → CabinetState → Result ℕ ReplayRefusal
     → Type 0
 ReadsLimit P start r s (Ok limit) = HasLimit start r s limit
 ReadsLimit P start r s (Err refusal) = Refuses P r start s refusal
 
+-- the base of the region that a valid REGISTER gives as the second entry, or the cause why there is none
 abbrev pub ReadsBase : Program → CabinetState → ReaderState → CabinetState → ℕ → Result ℕ ReplayRefusal
     → Type 0
 ReadsBase P start r s limit (Ok base) = HasBase P start r s limit base
 ReadsBase P start r s limit (Err refusal) = Refuses P r start s refusal
 
+-- all that valid INPUT and IMAGE entries give, with the first entry behind them, or the cause why that was not read
 abbrev pub ReadsValues : Program → CabinetState → ReaderState → CabinetState → Input
     → Result Lockstep ReplayRefusal
     → Type 0

@@ -38,6 +38,7 @@ fresh_for taken (name ∷ names) = fresh_name taken name ∷ fresh_for (fresh_na
 abbrev pub names_taken : Program → List (List ℕ)
 names_taken P = map (λ g. g.name) P.globals ++ (map (λ e. e.name) P.externs ++ map (λ f. f.name) P.functions)
 
+-- the name of a function; the empty name where there is none
 abbrev pub name_in : Option Function → List ℕ
 name_in None = []
 name_in (Some f) = f.name

@@ -29,6 +29,7 @@ pub record AreReached (P : Program) (sites : List Site) (reached : List ℕ) : T
   pub onward : (f g : ℕ) → Has reached f → Has (called_from P f) g → Has reached g
   pub least : (test : ℕ → Bool) → PassesOn P sites test → (f : ℕ) → Has reached f → test f ≡ true
 
+-- For every program and any sites, `callees` gives the functions that calls reach from the calls at these sites.
 abbrev pub CalleesAreReached : Type 0
 CalleesAreReached = (P : Program) (sites : List Site) → AreReached P sites (callees P sites)
 
@@ -43,5 +44,6 @@ pub record AreFresh (P : Program) (functions : List ℕ) (names : List (List ℕ
       → IsFirstFree (take k names ++ names_taken P) (name_of P f) name
   pub no_extern : (k : ℕ) (name : List ℕ) → slice_get names k ≡ Some name → call_of name ≡ None
 
+-- For every program and any numbers of functions, `fresh_names` gives fresh names for their copies.
 abbrev pub FreshNamesAreFresh : Type 0
 FreshNamesAreFresh = (P : Program) (functions : List ℕ) → AreFresh P functions (fresh_names P functions)

@@ -9,6 +9,8 @@ use Rattle.hip_names.specs.Names.{number_of}
 use Rattle.hip_names.specs.Laws.NumberLaws.{number_of-cons}
 use Rattle.hip_names.specs.Tables.{Entry, StandsFor, value_beside, value_of}
 
+-- the table of these names and numbers gives each name its first place in `names`, from 0, and no number to a name
+-- that is not there
 pub record Numbers (known : List (List ℕ)) (numbers : List ℕ) (names : List (List ℕ)) : Type 0 where
   pub finds : (name : List ℕ) → value_beside known numbers name ≡ number_of names name
 

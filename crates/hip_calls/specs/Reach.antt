@@ -15,6 +15,7 @@ abbrev pub called_by : Program → Instr → List ℕ
 called_by P (Call dest ret callee args) = option_to_list (function_number P callee)
 called_by P _ = []
 
+-- the numbers of the functions that a function calls, one a call, in the order of its text; none without a function
 abbrev pub called_in : Program → Option Function → List ℕ
 called_in P None = []
 called_in P (Some f) = flat_map (λ b. flat_map (called_by P) b.body) f.blocks
@@ -34,6 +35,7 @@ abbrev pub reached : Program → ℕ → ℕ → List ℕ → List ℕ
 reached P zero place seen = seen
 reached P (suc steps) place seen = reached P steps (suc place) (extended P seen (slice_get seen place))
 
+-- the number of the defined function that an instruction calls, as a list of one; none where it calls none
 abbrev pub called_at : Program → Option Instr → List ℕ
 called_at P None = []
 called_at P (Some i) = called_by P i

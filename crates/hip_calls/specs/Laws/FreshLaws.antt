@@ -319,6 +319,7 @@ candidate-marked : (name : List ℕ) (k : ℕ) → has_mark (candidate name k) �
 candidate-marked name zero = marked_at name []
 candidate-marked name (suc k) = marked_at name (numeral (suc k))
 
+-- the name of an external function has no `.pm` in it
 abbrev unmarked : ExternCall → Bool
 unmarked c = not (has_mark (row_of c).name)
 

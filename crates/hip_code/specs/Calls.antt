@@ -31,10 +31,12 @@ extern_op calls.PrintI64 dest a b = effects.Outside (Print a)
 extern_op calls.PmAssert dest a b = effects.Outside (Assert a b)
 extern_op call dest a b = effects.Persistence (line_op (row_of call).effect (row_of call).params a b)
 
+-- the operand stands for the first of the arguments; never where there is none
 abbrev pub is_first : List GlobalVar → ℕ → List (List ℕ) → List ℕ → List Arg → Operand → Type 0
 is_first globals region names constants [] a = ⊥
 is_first globals region names constants (x ∷ xs) a = IsOperand globals region names constants a x.value
 
+-- the operands stand for the first two of the arguments; never where there are fewer
 abbrev pub are_both : List GlobalVar → ℕ → List (List ℕ) → List ℕ → List Arg → Operand → Operand
     → Type 0
 are_both globals region names constants [] a b = ⊥

@@ -33,11 +33,12 @@ pub record IsCallWith (P : Program) (n : Numbers) (callee : List ℕ) (values : 
       → length values ≤ length g.params →
       values_passed n call ≡ values
 
+-- the op is a call of the function of that name with these values; an op of another kind never is
 abbrev pub passes : Program → Numbers → List ℕ → List ℕ → Op → Type 0
 passes P n callee values (ops.Control (controls.Call call)) = IsCallWith P n callee values call
 passes P n callee values _ = ⊥
 
--- the op is none of control
+-- the op acts on memory, on cache lines or on the outside
 abbrev pub is_memory : Op → Type 0
 is_memory (ops.Memory memory) = Unit {0}
 is_memory _ = ⊥
@@ -47,6 +48,7 @@ abbrev pub passes_or_effects : Program → Numbers → Option ExternCall → Lis
 passes_or_effects P n None callee values o = passes P n callee values o
 passes_or_effects P n (Some call) callee values o = is_memory o
 
+-- what is asked of the op, by its instruction: a store's address, what a call passes, and of all others nothing
 abbrev pub names_operands : Program → Input → Numbers → Registers → Op → Instr → Type 0
 names_operands P I n rs o (instrs.Store ty value addr align) = stores_at n (value_of P.globals I.base rs addr) o
 names_operands P I n rs o (instrs.Call dest ret callee args) =

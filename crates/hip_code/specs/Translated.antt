@@ -21,6 +21,7 @@ use Rattle.hip_code.specs.declared.op.SumOp.TheVariants as sums
 use Rattle.hip_code.specs.declared.op.Value.{Value}
 use Rattle.hip_code.specs.declared.op.Value.TheVariants as values
 
+-- the op that gives 1 where a test of two integers of a width holds or, if it is negated, where it does not
 abbrev pub compares : Comparison → Bool → Width → Operand → Operand → Rest
 compares test negated w a b = Compare test negated w a b
 
@@ -45,9 +46,11 @@ cast_op casts.Trunc from to a = Cast false from to a
 cast_op casts.Ptrtoint from to a = Cast false from to a
 cast_op casts.Inttoptr from to a = Cast false from to a
 
+-- the op of an operation that is no division, on two integers of a width
 abbrev pub integer_value : IntegerOp → Width → Operand → Operand → Value
 integer_value op w a b = values.Integer op w a b
 
+-- the op of a division, with a sign or without one, for the rest or for the quotient
 abbrev pub division_value : Bool → Bool → Width → Operand → Operand → Value
 division_value signed rest w a b = values.Rest (Other (others.Divide (record { signed = signed; rest = rest }) w a b))
 

@@ -88,6 +88,7 @@ holds_moved n base names slots rs (m ∷ ms) p h =
 
 -- ---- phis
 
+-- the value that a phi has for control from a label: that of the first edge with the label, 0 where none has it
 abbrev value_from : List GlobalVar → ℕ → Registers → List Edge → List ℕ → ℕ
 value_from globals base rs [] from = 0
 value_from globals base rs (e ∷ es) from =

@@ -33,6 +33,7 @@ operand_within globals region names n rs (Constant place) (Fixed value) r h =
 operand_within globals region names n rs (Register slot) (Fixed value) r h = absurd r.is
 operand_within globals region names n rs (Constant place) (Reg name) r h = absurd r.is
 
+-- what the operand names is there, and this is its value
 pub record SameValue (n : Numbers) (o : Operand) (v : ℕ) : Type 0 where
   pub within : is_within n o
   pub same : operand_value n o ≡ v
@@ -65,6 +66,7 @@ gives P I w below f n rs name dest value r d h reads e = record {
   acts = ap₂ gave (name_there (names_at P f) name dest d) e;
 }
 
+-- the slot of a result is there and is that of the register of this name, or there is neither slot nor name
 pub record ResultIs (names : List (List ℕ)) (n : Numbers) (slot : Option ℕ)
     (name : Option (List ℕ)) : Type 0 where
   pub name_is : result_name names slot ≡ name

@@ -21,9 +21,11 @@ pub record PhiKnown (names : List (List ℕ)) (from : List ℕ) (p : Phi) : Type
   pub edges : All (λ e. OperandKnown names e.value) p.edges
   pub from_is : IsAmong (map (λ e. e.label) p.edges) from
 
+-- of each of the phis the register and the operands are known, and it has an operand for control from a label
 pub record PhisKnown (names : List (List ℕ)) (from : List ℕ) (ps : List Phi) : Type 0 where
   pub at : (k : ℕ) (p : Phi) → slice_get ps k ≡ Some p → PhiKnown names from p
 
+-- the moves are those of phis of the function for control from a label, one for each
 abbrev pub moves_of : Scope → Tables → List ℕ → List Move → List Phi → Type 0
 moves_of s t from ms ps = are_moves s.program.now.globals s.base (names_of s) t.constants from ms ps
 

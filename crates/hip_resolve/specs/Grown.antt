@@ -2,5 +2,6 @@
 use Rattle.hip_code.specs.Numbers.{Tables}
 use Rattle.hip_resolve.specs.declared.growing.Growing.{Growing}
 
+-- the entries that the tables have so far
 abbrev pub grown : Growing → Tables
 grown g = record { constants = g.constants; terms = g.terms; moves = g.moves; edges = g.edges; cases = g.cases }

@@ -22,6 +22,7 @@ abbrev pub OperandKnown : List (List ℕ) → named.Operand → Type 0
 OperandKnown names (Reg name) = IsAmong names name
 OperandKnown names (Fixed value) = All Fits (types_in value)
 
+-- the operand of each argument is known: a register of the function, or a constant whose types fit
 abbrev pub ArgsKnown : List (List ℕ) → List Arg → Type 0
 ArgsKnown names args = All (λ a. OperandKnown names a.value) args
 

@@ -52,6 +52,7 @@ StandsFor s t o x = IsOperand s.program.now.globals s.base (names_at s.program.n
 pub record Does (P : Program) (base f : ℕ) (t : Tables) (o : Op) (i : Instr) : Type 0 where
   pub on : (I : Input) → I.base ≡ base → Resolves P I f t o i
 
+-- the op does what the end of block b does, on each input whose region begins at the base
 pub record Ends (P : Program) (base f b : ℕ) (t : Tables) (o : Op) (e : End) : Type 0 where
   pub on : (I : Input) → I.base ≡ base → EndResolves P I f b t o e
 

@@ -30,6 +30,7 @@ pub record IsSaved (P : Program) (slots : List ℕ) (base : ℕ) (slot : Option 
   pub blocks : x.blocks ≡ length (blocks_of gs)
   pub call : IsCallOf g level
 
+-- each of the frames, from the top one down, is kept by the last activation that is left; for no frames there is none
 abbrev pub are_saved : Program → List ℕ → ℕ → Option ℕ → Option (List ℕ) → Option Level
     → List Activation →
     List Frame → Type 0

@@ -2,6 +2,7 @@
 use Rattle.std.specs.Prelude.{◌≡◌, ℕ, List, [], ◌∷◌, ◌++◌, length, reverse}
 use Rattle.hip_runs.specs.State.{Slot, Frame}
 
+-- the blocks of frames that stand from the top one down: the bottom frame's first, and of each frame the oldest first
 abbrev pub blocks_of : List Frame → List Slot
 blocks_of [] = []
 blocks_of (f ∷ fs) = blocks_of fs ++ reverse f.slots

@@ -22,6 +22,7 @@ use Rattle.hip_code.specs.Numbers.{Numbers}
 use Rattle.hip_step.specs.declared.core_parts.Core.{Core}
 use Rattle.hip_step.specs.Acts.{numbers_of}
 
+-- whether a scalar type is `ptr`
 abbrev pub is_pointer : Scalar → Bool
 is_pointer Ptr = true
 is_pointer (Int width) = false

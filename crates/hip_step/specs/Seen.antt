@@ -11,6 +11,7 @@ use Rattle.hip_runs.specs.Places.{code_at}
 use Rattle.hip_runs.specs.State.{Frame, State, levels_of, site_of}
 use Rattle.hip_runs.specs.Step.{has_ended, run}
 
+-- what contracts see of a machine, and of a log of its steps: the program, the input, and how many steps were taken
 pub record Seen : Type 0 where
   pub program : Program
   pub input : Input
@@ -29,6 +30,7 @@ abbrev pub site_in : Frame → List Instr → Option Site
 site_in f [] = None
 site_in f (i ∷ rest) = Some (site_of f)
 
+-- the site of the top frame's next instruction; none at its block's end, and none without a frame
 abbrev pub top_site : Program → List Frame → Option Site
 top_site P [] = None
 top_site P (f ∷ fs) = site_in f (code_at P f)
@@ -46,6 +48,8 @@ abbrev pub operands_in : Program → List Instr → List Operand
 operands_in P [] = []
 operands_in P (i ∷ rest) = pointer_operands P i
 
+-- the value of the pointer operand of that number, counted from 0, of the top frame's next instruction; none where it
+-- has no such operand, and none without a frame
 abbrev pub top_pointer : Program → Input → List Frame → ℕ → Option ℕ
 top_pointer P I [] operand = None
 top_pointer P I (f ∷ fs) operand =

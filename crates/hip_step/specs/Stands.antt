@@ -27,10 +27,12 @@ pub record Stands (P : Program) (I : Input) (c : Core) (w : World) (f : Frame) (
   pub blocks : HoldsBlocks c.blocks c.top.blocks f.slots fs
   pub storage : HoldsRun P I c.storage w.writes w.mark ls
 
+-- the parts stand for a state with these frames, the top one first, after so many steps; never without a frame
 abbrev pub StandsOn : Program → Input → Core → World → List Frame → List (Line StorePart) → ℕ → Type 0
 StandsOn P I c w [] ls n = ⊥
 StandsOn P I c w (f ∷ fs) ls n = Stands P I c w f fs ls n
 
+-- the parts stand for a state, after as many steps as it counts
 abbrev pub StandsFor : Program → Input → Core → State → Type 0
 StandsFor P I c s = StandsOn P I c s.world s.frames s.lines s.counts.steps
 

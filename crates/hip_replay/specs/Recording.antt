@@ -44,6 +44,7 @@ abbrev pub StopsRecording : Program → Input → SinkState → SinkState → Re
 StopsRecording P I old new refusals.WriteFault = HasFailedRecording P I old new
 StopsRecording P I old new refusals.NoMemory = HasStoppedRecording P I old new
 
+-- what is written by the answer, which has the ending and the number of entries but not what the run found
 abbrev pub PutsSteps : Program → Input → SinkState → SinkState → Result Ended RecordRefusal → Type 0
 PutsSteps P I old new (Ok done) = HasPutTrace P I old new done
 PutsSteps P I old new (Err refusal) = StopsRecording P I old new refusal

@@ -47,6 +47,8 @@ pub record HasFound (P : Program) (I : Input) (start : CabinetState) (r : Reader
   pub over : HasFollowed P I start steps r s followed.entries followed.ending
   pub found : IsFound P I followed.findings
 
+-- what is known of a run whose steps were compared and noted, since a cabinet stood in a state; at its end, what it
+-- found too
 abbrev pub Follows : Program → Input → CabinetState → ReaderState → CabinetState
     → Result Followed ReplayRefusal
     → Type 0

@@ -5,6 +5,7 @@ use Rattle.hip_report.specs.declared.call_path.Link.{Link}
 use Rattle.hip_report.specs.declared.call_path.Link.TheVariants.{End, Call}
 use Rattle.hip_report.specs.declared.calls.StandingCall.{StandingCall}
 
+-- the calls from a node outward, the innermost one first; none at the end
 abbrev pub levels_in : Link → List Level
 levels_in End = []
 levels_in (Call site birth depth outer) = record { call = site; birth = birth } ∷ outer.value
@@ -24,6 +25,7 @@ abbrev pub births_of : List Level → List ℕ
 births_of [] = []
 births_of (l ∷ ls) = births_of ls ++ l.birth ∷ []
 
+-- whether there is a birth, that of the call that stands at a depth, and it is this one
 abbrev pub is_birth : ℕ → Option ℕ → Bool
 is_birth birth None = false
 is_birth birth (Some b) = nat_eq b birth

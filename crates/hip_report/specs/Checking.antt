@@ -34,6 +34,7 @@ group_from lines tag g [] = g
 group_from lines tag g (b ∷ bs) =
     group_from lines tag (cond (nat_eq b.tag tag) (Some (joined b.flushed (flush_told lines b) g)) g) bs
 
+-- the site of the flush that lacks a fence: the latest one, where all loose bytes of the store are flushed; else none
 abbrev pub site_told : Bool → Option FlushNote → Option Site
 site_told flushed latest = cond flushed (option_map (λ f. f.site) latest) None
 
@@ -49,6 +50,7 @@ report_told births check fence note g =
       closed = closed_by births note.calls.value;
     }
 
+-- the report of a store that has a note; none where there is no note
 abbrev pub report_in : List ℕ → ℕ → Option ℕ → Option StoreNote → Group → List Report
 report_in births check fence None g = []
 report_in births check fence (Some note) g = report_told births check fence note g ∷ []

@@ -9,10 +9,12 @@ use Rattle.hip_report.specs.declared.marks.MarkKey.{MarkKey}
 use Rattle.hip_report.specs.declared.marks.ObjectKey.{ObjectKey}
 use Rattle.hip_report.specs.declared.marks.ObjectKey.TheVariants as keys
 
+-- the object that a key names: a global by its number, or a block on the stack by the site of its `alloca`
 abbrev pub object_of : ObjectKey → Object
 object_of (keys.Global g) = objects.Global g
 object_of (keys.Slot f b i) = objects.Slot (record { function = f; block = b; index = i })
 
+-- the mark that a key stands for: a site, the number of a pointer operand there, and an object that it pointed into
 abbrev pub mark_of : MarkKey → Mark
 mark_of k = record {
   site = record { function = k.function; block = k.block; index = k.index };

@@ -58,6 +58,7 @@ abbrev pub ChangeLines : (Option LineNote → Option LineNote) → ℕ → ℕ �
 ChangeLines to o n old new = (j : ℕ)
     → lines_of new.lines j ≡ cond (has_bytes j o n) (to (lines_of old.lines j)) (lines_of old.lines j)
 
+-- the notes of stores and those of lines are as they were
 abbrev pub StaySame : Pending → Pending → Type 0
 StaySame old new = (new.stores.items ≡ old.stores.items)
     × ((j : ℕ) → lines_of new.lines j ≡ lines_of old.lines j)
@@ -69,6 +70,8 @@ pub record IsNoteOf (step entry : ℕ) (site : Site) (calls : List Level) (note 
   pub site_is : note.site ≡ site
   pub calls_are : note.calls.value ≡ calls
 
+-- a store of m bytes at offset o puts its note behind the others, and its lines have a store since their last flush;
+-- nothing is asked without a site
 abbrev pub StoredAt : Option Site → ℕ → ℕ → List Level → ℕ → ℕ → Pending → Pending → Type 0
 StoredAt None step entry calls o m old new = Unit {0}
 StoredAt (Some site) step entry calls o m old new =
@@ -76,12 +79,16 @@ StoredAt (Some site) step entry calls o m old new =
     × (new.stores.items ≡ old.stores.items ++ note ∷ []))
     × ChangeLines (λ l. Some (with_store l)) o m old new
 
+-- a flush of n bytes at offset o goes into the notes of its lines into which a store came since the flush before, and
+-- the stores stay; nothing is asked without a site
 abbrev pub FlushedAt : Option Site → ℕ → ℕ → ℕ → Pending → Pending → Type 0
 FlushedAt None step o n old new = Unit {0}
 FlushedAt (Some site) step o n old new =
     (new.stores.items ≡ old.stores.items)
     × ChangeLines (option_map (with_flush (record { step = step; site = site }))) o n old new
 
+-- What a step with this event does to what is kept, in a region from a base on: a store and a flush are noted, all
+-- else changes nothing, a persist too, behind which its lines have no loose byte.
 abbrev pub Follows : Event → Option Site → ℕ → ℕ → ℕ → List Level → Pending → Pending → Type 0
 Follows (events.Store a v m) site base step entry calls old new = StoredAt site step entry calls (a - base) m old new
 Follows (events.Flush line size) site base step entry calls old new = FlushedAt site step (line - base) size old new
@@ -109,6 +116,8 @@ births_after before after step (Some site) bs =
 
 -- ---- what an event checks
 
+-- the range that an event checks, by its offset in the region: an assert's own, the whole region where the run stops,
+-- and none by any other event
 abbrev pub range_of : ℕ → ℕ → Event → Option Range
 range_of base region (events.Assert a n) = Some (record { offset = a - base; size = n })
 range_of base region (events.End (Stop code)) = Some (record { offset = 0; size = region })

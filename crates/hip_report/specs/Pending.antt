@@ -31,6 +31,7 @@ abbrev pub first_after : ℕ → List FlushNote → Option FlushNote
 first_after step [] = None
 first_after step (f ∷ fs) = cond (nat_lt step f.step) (Some f) (first_after step fs)
 
+-- the note of cache line j, if it has one
 abbrev pub lines_of : BTreeMap ℕ LineNote → ℕ → Option LineNote
 lines_of m j = tree.get nat_cmp m j
 
@@ -38,6 +39,7 @@ lines_of m j = tree.get nat_cmp m j
 abbrev pub is_between : ℕ → ℕ → ℕ → Bool
 is_between first end j = nat_le first j && nat_lt j end
 
+-- the flushes that are noted of a line, the earliest first; none where it has no note
 abbrev pub flushes_in : Option LineNote → List FlushNote
 flushes_in None = []
 flushes_in (Some l) = l.flushes

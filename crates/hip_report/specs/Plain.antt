@@ -18,6 +18,7 @@ is_plain (Store ty value addr align) = false
 is_plain (Call dest ret callee args) = false
 is_plain _ = true
 
+-- there is an instruction, and it is plain
 abbrev pub is_plain_at : Option Instr → Bool
 is_plain_at None = false
 is_plain_at (Some i) = is_plain i
@@ -36,6 +37,7 @@ IsPlain body end place =
 abbrev pub ArePlain : List Instr → Option End → ℕ → ℕ → Type 0
 ArePlain body end from count = (j : ℕ) → from ≤ j → j < from + count → IsPlain body end j
 
+-- so many places from the top frame's on are plain, in its block; without a frame there are none
 abbrev pub PlainAhead : Program → List Frame → ℕ → Type 0
 PlainAhead P [] count = count ≡ 0
 PlainAhead P (f ∷ fs) count = ArePlain (body_at P f.function f.block) (end_at P f) f.place count

@@ -23,6 +23,8 @@ abbrev pub mark_by : Program → Input → State → Site → ℕ → Option ℕ
 mark_by P I s site k None = []
 mark_by P I s site k (Some a) = mark_of site k (object_at P I.base s.frames a)
 
+-- the mark of the pointer operand of that number of the next instruction; none where it has no such operand, or that
+-- points into no object
 abbrev pub mark_at : Program → Input → State → Site → ℕ → List Mark
 mark_at P I s site k = mark_by P I s site k (pointer_of P I s k)
 
@@ -41,7 +43,8 @@ is_still events.Quiet = true
 is_still (events.Print z) = true
 is_still _ = false
 
--- whether no notes but the counts change by a step with this event
+-- whether a step with this event takes no fence, checks nothing, and changes neither the notes of stores and of lines
+-- nor which globals were hit
 abbrev pub leaves : Event → Bool
 leaves events.Quiet = true
 leaves (events.Print z) = true

@@ -32,10 +32,13 @@ MayAdvance t m = (t.failed ≡ true) ⊎ HasNoted t m
 
 -- ---- the inside
 
+-- the machine of a source after n steps; none where there is no source yet
 abbrev pub seen_in : Option Source → ℕ → Option Seen
 seen_in None n = None
 seen_in (Some s) n = Some (record { program = s.checked.now; input = s.input.now; taken = n })
 
+-- what contracts see of a tracker: the entries of its header, the machine that it noted, and whether memory was
+-- wanting
 abbrev pub tracked_of : Inside → Tracked
 tracked_of t = record { header = t.notes.header; noted = seen_in t.source t.notes.steps; failed = t.failed }
 
@@ -49,5 +52,6 @@ abbrev pub IsSource : Option Source → Seen → Type 0
 IsSource None m = ⊥
 IsSource (Some s) m = (s.checked.now ≡ m.program) × (s.input.now ≡ m.input)
 
+-- Where memory was not wanting, the notes are those of the run that was noted.
 pub record IsTracking (t : Inside) : Type 0 where
   pub notes : t.failed ≡ false → NotesOf t.source t.notes

@@ -6,6 +6,7 @@ use Rattle.hip_crash.specs.Places.{line_in}
 use Rattle.hip_crash.specs.declared.kept_line.KeptLine.{KeptLine}
 use Rattle.hip_crash.specs.declared.kept_lines.KeptLines.{KeptLines}
 
+-- the kept line of cache line j, with its number; none where nothing is kept of that line
 unfoldable pub line_at : KeptLines → ℕ → Option KeptLine
 line_at m j = line_in m.directory m.lines.items j
 

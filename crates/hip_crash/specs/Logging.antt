@@ -10,9 +10,12 @@ use Rattle.hip_crash.specs.Region.{seen_at}
 use Rattle.hip_crash.specs.Waiting.{WaitsWithin}
 use Rattle.hip_crash.specs.declared.log.CrashLog.TheInside.{Inside}
 
+-- what contracts see of a log: its program, its input, and how many steps it noted
 abbrev pub view_of : Inside → Seen
 view_of c = record { program = c.checked.now; input = c.input.now; taken = c.taken }
 
+-- The program is sound and the input valid, and what the log keeps and counts is that of the state after the steps
+-- that it noted.
 pub record IsLogging (c : Inside) : Type 0 where
   pub sound : IsSound c.checked.now
   pub valid : IsValid c.checked.now c.input.now

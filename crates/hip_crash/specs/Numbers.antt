@@ -14,6 +14,7 @@ pub record AreNumbers (count : ℕ) (picks : List Pick) (numbers : List (Option 
   pub many : length numbers ≡ count
   pub are : (j : ℕ) → j < count → slice_get numbers j ≡ Some (number_for picks j)
 
+-- the number of first parts lies between the bounds, or is one of them
 pub record IsBetween (bounds : Bounds) (upto : ℕ) : Type 0 where
   pub least : bounds.least ≤ upto
   pub most : upto ≤ bounds.most
@@ -23,5 +24,7 @@ abbrev pub IsNumberIn : Input → State → List ℕ → ℕ → Line StorePart 
 IsNumberIn I s image j l None = (q : ℕ) → IsLineImageAt covers byte_of I.image image j l q → ⊥
 IsNumberIn I s image j l (Some q) = IsLineImageAt covers byte_of I.image image j l q
 
+-- so many first parts an image has in line j, or none where it is no crash image there; nothing is asked where the
+-- region has no line j
 pub record IsNumberOf (I : Input) (s : State) (image : List ℕ) (j : ℕ) (number : Option ℕ) : Type 0 where
   pub is : (l : Line StorePart) → slice_get s.lines j ≡ Some l → IsNumberIn I s image j l number

@@ -15,6 +15,7 @@ abbrev pub bounds_in : Option (Line StorePart) → Bounds
 bounds_in None = record { least = 0; most = 0 }
 bounds_in (Some l) = record { least = l.durable; most = length l.parts }
 
+-- the bounds of line j in a state; 0 and 0 where the region has no such line
 abbrev pub bounds_of : State → ℕ → Bounds
 bounds_of s j = bounds_in (slice_get s.lines j)
 
@@ -23,6 +24,7 @@ abbrev pub number_for : List Pick → ℕ → Option ℕ
 number_for [] j = None
 number_for (p ∷ ps) j = cond (nat_eq p.line j) (Some p.upto) (number_for ps j)
 
+-- the number that was picked, or the least one where none was
 abbrev pub number_or : ℕ → Option ℕ → ℕ
 number_or least None = least
 number_or least (Some upto) = upto
@@ -44,10 +46,12 @@ failure s earlier at p =
     (cond (is_some (number_for earlier p.line)) (Some (Repeated at)) (range_failure at (bounds_of s p.line) p.upto))
     (Some (NoLine at))
 
+-- the first refusal or, where there is none, the later one
 abbrev pub first_of : Option PickRefusal → Option PickRefusal → Option PickRefusal
 first_of None later = later
 first_of (Some refusal) later = Some refusal
 
+-- how the first of the picks behind earlier ones fails that does, if one does
 abbrev pub failure_behind : State → List Pick → List Pick → Option PickRefusal
 failure_behind s earlier [] = None
 failure_behind s earlier (p ∷ ps) =

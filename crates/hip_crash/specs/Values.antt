@@ -7,6 +7,7 @@ use Rattle.hip_crash.specs.declared.values.StoredValue.{StoredValue}
 abbrev pub stored_covers : StoredValue → ℕ → Bool
 stored_covers v b = nat_le v.offset b && nat_lt b (v.offset + v.size)
 
+-- the value of the byte at an offset that the stored value covers; the lowest byte is at its first offset
 abbrev pub stored_byte : StoredValue → ℕ → ℕ
 stored_byte v b = slice_index (bytes_of v.size v.value) (b - v.offset)
 

@@ -49,9 +49,11 @@ element name length index =
       indices = bits W64 0 ∷ bits W64 index ∷ [];
     })
 
+-- the element of `@data` that a group stores into: the one of its number
 abbrev pub persistent_element : ℕ → ℕ → Const
 persistent_element size group = element (codes "data") size group
 
+-- the element of `@temp` that a group stores into: the one of its number modulo the length
 abbrev pub volatile_element : ℕ → Const
 volatile_element group = element (codes "temp") VOLATILE_LENGTH (group % VOLATILE_LENGTH)
 

@@ -18,6 +18,7 @@ element_text name length index =
 abbrev pub persistent_element : ℕ → ℕ → List ℕ
 persistent_element size group = element_text (codes "data") size group
 
+-- the text of the element of `@temp` for a group
 abbrev pub volatile_element : ℕ → List ℕ
 volatile_element group = element_text (codes "temp") VOLATILE_LENGTH (group % VOLATILE_LENGTH)
 

@@ -9,6 +9,7 @@ pub data Variable : Type 0 where
   Register : ℕ → List ℕ → Variable
   Result : ℕ → Variable
 
+-- whether two variables are the same register of the same function, or the result of the same function
 abbrev pub same_variable : Variable → Variable → Bool
 same_variable (Register g name) (Register h other) = nat_eq g h && bytes_eq name other
 same_variable (Result g) (Result h) = nat_eq g h
@@ -28,6 +29,7 @@ pub record Rule : Type 0 where
 abbrev pub low : Bound
 low = Known (Some 0)
 
+-- the bound that only the level Free meets
 abbrev pub free : Bound
 free = Known None
 

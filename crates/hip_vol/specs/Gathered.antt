@@ -34,6 +34,8 @@ level_beside table name = persistence_level (value_beside table.names table.valu
 abbrev pub level_with : (List ℕ → PointerLevel) → Const → PointerLevel
 level_with names = fold-Const PointerLevel PointerLevel PointerLevel (level_step names) gep_level_step item_level_step
 
+-- the level of an element's address: its base's behind the element's offset, which is 0 where the indices lead
+-- nowhere
 abbrev pub element_with : (List ℕ → PointerLevel) → ConstGep → PointerLevel
 element_with names =
     fold-ConstGep PointerLevel PointerLevel PointerLevel (level_step names) gep_level_step item_level_step
@@ -53,17 +55,21 @@ InstrFits (Store ty value addr align) = OperandFits addr
 InstrFits (Call dest ret callee args) = All (λ a. OperandFits a.value) args
 InstrFits _ = Unit {0}
 
+-- the types in the operands of a phi fit
 abbrev pub PhiFits : Phi → Type 0
 PhiFits p = All (λ e. OperandFits e.value) p.edges
 
+-- the types in the value that a `ret` returns fit; nothing is asked of another end
 abbrev pub EndFits : End → Type 0
 EndFits (ends.Ret (Some a)) = OperandFits a.value
 EndFits _ = Unit {0}
 
+-- the types that the rules of a block speak of fit: those of its phis, its body and its end
 pub record BlockFits (b : Block) : Type 0 where
   pub phis : All PhiFits b.phis
   pub body : All InstrFits b.body
   pub last : EndFits b.end
 
+-- the types that the rules of a function speak of fit, in each of its blocks
 abbrev pub FunctionFits : Function → Type 0
 FunctionFits fn = All BlockFits fn.blocks

@@ -19,6 +19,7 @@ reached_by levels (least.Behind offset variable) = behind_rank (levels variable)
 abbrev pub at : List ℕ → ℕ → ℕ
 at levels k = slice_index levels k
 
+-- what the least level of a rule comes to, where variables have the levels of a table, and 0 past its end
 abbrev pub reached : List ℕ → Least → ℕ
 reached levels l = reached_by (at levels) l
 
@@ -26,6 +27,7 @@ reached levels l = reached_by (at levels) l
 abbrev pub rises : List ℕ → Rule → Bool
 rises levels r = nat_lt (at levels r.variable) (reached levels r.least)
 
+-- the levels behind a rule, which has raised its variable to its least level where that had less
 abbrev pub risen : List ℕ → Rule → List ℕ
 risen levels r = cond (rises levels r) (slice_set levels r.variable (reached levels r.least)) levels
 
@@ -34,10 +36,13 @@ abbrev pub LeastIsWithin : ℕ → Least → Type 0
 LeastIsWithin count (least.Known level) = level ≤ 33
 LeastIsWithin count (least.Behind offset variable) = variable < count
 
+-- the variable that a rule raises has a number below a count, and so has that of its least level; a known level is at
+-- most 33
 pub record IsWithin (count : ℕ) (r : Rule) : Type 0 where
   pub variable : r.variable < count
   pub least : LeastIsWithin count r.least
 
+-- each rule speaks of variables with numbers below the count alone, and of no known level above 33
 pub record AreWithin (count : ℕ) (rules : List Rule) : Type 0 where
   pub each : (r : Rule) → In r rules → IsWithin count r
 

@@ -33,6 +33,8 @@ constant_index ty (Const-F.Int b) = Some (index_value ty b.value)
 constant_index ty Const-F.Zero = Some (index_value ty 0)
 constant_index ty _ = None
 
+-- the value of an index that is an integer constant or `zeroinitializer`, sign-extended to 64 bits; none of a
+-- register
 abbrev pub known_index : Scalar → Operand → Option ℕ
 known_index ty (Reg name) = None
 known_index ty (Fixed c) = constant_index ty (out-Const c)
@@ -113,6 +115,7 @@ module _ (P : Program) (g : ℕ) where
   abbrev pub function_rules : Function → List Rule
   function_rules fn = flat_map block_rules fn.blocks
 
+-- the rules of functions in their order, the first of which has number g
 abbrev pub rules_from : Program → ℕ → List Function → List Rule
 rules_from P g [] = []
 rules_from P g (fn ∷ fns) = function_rules P g fn ++ rules_from P (suc g) fns

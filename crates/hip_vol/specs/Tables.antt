@@ -21,6 +21,7 @@ abbrev pub variable_of : held.Variable → Variable
 variable_of (variables.Register g name) = Register g name.now
 variable_of (variables.Result g) = Result g
 
+-- the bound that the code's is, with a known level by its number: from 33 on it is Free
 abbrev pub bound_of : held_bound.Bound → Bound
 bound_of (bounds.Known level) = Known (level_of level)
 bound_of (bounds.Behind offset variable) = Behind offset (variable_of variable)
@@ -34,6 +35,7 @@ IsSmall (bounds.Behind offset variable) = Unit {0}
 abbrev pub variable_at : List Variable → ℕ → Variable
 variable_at vs k = unwrap_or (slice_get vs k) (Result 0)
 
+-- the bound that one over numbers stands for, where the variables have these numbers
 abbrev pub least_named : List Variable → numbered_least.Least → Bound
 least_named vs (numbered.Known level) = Known (level_of level)
 least_named vs (numbered.Behind offset k) = Behind offset (variable_at vs k)

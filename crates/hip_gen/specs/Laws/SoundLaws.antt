@@ -130,6 +130,7 @@ gep_shape-is gep =
 
 -- ---- elements
 
+-- the names of the two arrays of a generated program
 abbrev arrays : List (List ℕ)
 arrays = codes "data" ∷ codes "temp" ∷ []
 
@@ -143,6 +144,7 @@ record IsElement (c : Const) : Type 0 where
   fits : Fits ty
   points : has_shape c types.Ptr ≡ true
 
+-- the constant expression `getelementptr ([LENGTH x i64], ptr @NAME, i64 0, i64 INDEX)`
 abbrev gep_of : List ℕ → ℕ → ℕ → ConstGep
 gep_of name length index =
     record {

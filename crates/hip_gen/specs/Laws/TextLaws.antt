@@ -109,6 +109,7 @@ element-is name length index h =
 
 -- ---- lines
 
+-- an instruction as a line of canonical text, with two spaces before it and a line feed behind
 abbrev line : Instr → List ℕ
 line i = line_of (instr_text i)
 

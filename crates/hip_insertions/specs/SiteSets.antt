@@ -8,6 +8,7 @@ use Rattle.hip_ir.specs.declared.site.Site.{Site}
 abbrev pub Key : Type 0
 Key = ℕ × ℕ × ℕ
 
+-- whether two keys are of the same site
 abbrev pub same_key : Key → Key → Bool
 same_key a b = nat_eq a.0 b.0 && nat_eq a.1 b.1 && nat_eq a.2 b.2
 

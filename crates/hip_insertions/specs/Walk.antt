@@ -61,6 +61,7 @@ marked_functions clones w f [] = []
 marked_functions clones w f (x ∷ xs) =
     marked_blocks clones w false f 0 x.blocks ++ marked_functions clones w (suc f) xs
 
+-- the repaired bodies of the clone of function f, block by block; none where there is no such function
 abbrev pub marked_clone : List Clone → Wanted → ℕ → Option Function → List Marked
 marked_clone clones w f None = []
 marked_clone clones w f (Some x) = marked_blocks clones w true f 0 x.blocks

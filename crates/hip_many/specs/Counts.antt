@@ -5,6 +5,7 @@ use Rattle.hip_ir.specs.declared.site.Site.{Site}
 use Rattle.hip_insertions.specs.SiteSets.{Key, same_key}
 use Rattle.hip_many.specs.declared.counts.Count.{Count}
 
+-- the count of a site that no plan has; the plans are numbered from 1
 abbrev pub none_met : Count
 none_met = record { plans = 0; last = 0 }
 

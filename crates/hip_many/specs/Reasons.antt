@@ -17,9 +17,11 @@ sites_in Hoist plan = plan.hoist
 abbrev pub plans_with : Sort → List Plan → Site → ℕ
 plans_with sort plans site = count_by (λ p. has_site (sites_in sort p) site) plans
 
+-- the reason of one site in one list: how many of the plans have it there
 abbrev pub reason_for : Sort → List Plan → Site → Reason
 reason_for sort plans site = record { sort = sort; site = site; traces = plans_with sort plans site }
 
+-- the reasons of one list of the plan, in that list's order
 abbrev pub reasons_in : Sort → List Plan → Plan → List Reason
 reasons_in sort plans plan = map (reason_for sort plans) (sites_in sort plan)
 

@@ -20,11 +20,15 @@ flush_asked MissingFence level path = None
 flush_asked MissingFlush level path = store_at level path
 flush_asked MissingBoth level path = store_at level path
 
+-- the site of the flush that lacks a fence, or of the store where both are missing and it is repaired there; none
+-- where a flush alone is missing, and none where a call is hoisted
 abbrev pub fence_asked : Kind → ℕ → Option Site → List Site → Option Site
 fence_asked MissingFence level flush path = flush
 fence_asked MissingFlush level flush path = None
 fence_asked MissingBoth level flush path = store_at level path
 
+-- the call of a level, where a flush is missing; none where a fence alone is, and none at level 0, which is the
+-- store's
 abbrev pub hoist_asked : Kind → ℕ → List Site → Option Site
 hoist_asked MissingFence level path = None
 hoist_asked MissingFlush level path = call_at level path

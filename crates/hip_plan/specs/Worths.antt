@@ -14,6 +14,7 @@ abbrev pub added_by : List ℕ → Mark → Site → ℕ → ℤ
 added_by hit mark site operand =
     cond (same_site mark.site site && nat_eq mark.operand operand) (worth_of (is_marked hit mark.object)) (pos 0)
 
+-- whether an argument has the type `ptr`
 abbrev pub is_pointer : Arg → Bool
 is_pointer a = has_pointer a.ty
   where
@@ -32,6 +33,7 @@ greatest (Some b) a = Some (cond (int_lt b a) a b)
 abbrev pub OperandKey : Type 0
 OperandKey = ℕ × ℕ × ℕ × ℕ
 
+-- whether two keys are of the same pointer operand of the same site
 abbrev pub same_operand : OperandKey → OperandKey → Bool
 same_operand a b = nat_eq a.0 b.0 && nat_eq a.1 b.1 && nat_eq a.2 b.2 && nat_eq a.3 b.3
 

@@ -20,11 +20,13 @@ use Rattle.hip_runs.specs.Validity.{IsValid}
 use Rattle.hip_repairs.specs.declared.plan.Plan.{Plan}
 use Rattle.hip_repairs.specs.Repaired.{wanted_by, clones_of, cloned, repaired, repaired_body}
 
+-- one of LLVM's intrinsics for SFENCE and MFENCE (Intel's manual); libpmem's functions that fence are not among them
 abbrev pub is_fence : Option ExternCall → Type 0
 is_fence (Some calls.Sfence) = Unit {0}
 is_fence (Some calls.Mfence) = Unit {0}
 is_fence _ = ⊥
 
+-- there is an instruction, and it is a call of one of these two intrinsics
 abbrev pub IsFenceCall : Option Instr → Type 0
 IsFenceCall (Some (Call dest ret callee args)) = is_fence (call_of callee)
 IsFenceCall _ = ⊥
@@ -34,6 +36,7 @@ abbrev pub is_numbered_from : ℕ → Option ℕ → Type 0
 is_numbered_from functions None = ⊥
 is_numbered_from functions (Some f) = functions ≤ f
 
+-- there is an instruction, and it is a call of a function of Q that is numbered from that number up
 abbrev pub IsCallFrom : Program → ℕ → Option Instr → Type 0
 IsCallFrom Q functions (Some (Call dest ret callee args)) = is_numbered_from functions (function_number Q callee)
 IsCallFrom Q functions _ = ⊥

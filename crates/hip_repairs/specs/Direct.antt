@@ -17,6 +17,7 @@ use Rattle.hip_ir.specs.declared.program.Program.{Program}
 use Rattle.hip_ir.specs.declared.site.Site.{Site}
 use Rattle.hip_runs.specs.Places.{blocks_of}
 
+-- the instruction is an `alloca` that assigns the register
 abbrev pub allocates : List ℕ → Instr → Bool
 allocates name (Alloca dest ty align) = bytes_eq dest name
 allocates name _ = false
@@ -25,17 +26,22 @@ allocates name _ = false
 abbrev pub allocates_in : List Block → List ℕ → Bool
 allocates_in blocks name = list_any (λ b. list_any (allocates name) b.body) blocks
 
+-- a global of that name is volatile; in a sound program one global has the name at most
 abbrev pub is_volatile_global : List GlobalVar → List ℕ → Bool
 is_volatile_global globals name = list_any (λ g. bytes_eq g.name name && not g.persistent) globals
 
+-- the constant is the address of a volatile global; a `getelementptr` from one is not taken for one
 abbrev pub names_volatile : List GlobalVar → Const-F Const ConstGep TypedConst → Bool
 names_volatile globals (Const-F.Address name) = is_volatile_global globals name
 names_volatile globals _ = false
 
+-- an address that is never in the region, as it is written: a register that an `alloca` of these blocks assigns, or
+-- the name of a volatile global
 abbrev pub is_outside : Program → List Block → Operand → Bool
 is_outside P blocks (Reg name) = allocates_in blocks name
 is_outside P blocks (Fixed value) = names_volatile P.globals (out-Const value)
 
+-- there is an instruction, and it is a store whose address is never in the region, as it is written
 abbrev pub stores_outside : Program → List Block → Option Instr → Bool
 stores_outside P blocks (Some (Store ty value addr align)) = is_outside P blocks addr
 stores_outside P blocks _ = false

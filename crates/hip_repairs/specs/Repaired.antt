@@ -26,12 +26,15 @@ use Rattle.hip_repairs.specs.declared.plan.Plan.{Plan}
 
 -- ---- inserted instructions
 
+-- LLVM's intrinsic for CLWB, the flush of the cache line that has an address (Intel's manual, CLWB)
 abbrev pub clwb_name : List ℕ
 clwb_name = codes "llvm.x86.clwb"
 
+-- LLVM's intrinsic for SFENCE, the fence that a CLWB needs behind it (Intel's manual, SFENCE)
 abbrev pub sfence_name : List ℕ
 sfence_name = codes "llvm.x86.sse.sfence"
 
+-- libpmem's flush of a range of bytes, which takes no fence (libpmem's manual page, `pmem_flush`)
 abbrev pub pmem_flush_name : List ℕ
 pmem_flush_name = codes "pmem_flush"
 
@@ -73,16 +76,18 @@ abbrev pub clone_name : List Clone → List ℕ → List ℕ
 clone_name [] name = name
 clone_name (c ∷ cs) name = cond (bytes_eq c.original name) c.name (clone_name cs name)
 
--- a call that is to name the clone of its callee
+-- the instruction, where a call names the clone of its callee if it is to; where there is no clone the callee stays
 abbrev pub renamed : List Clone → Instr → Bool → Instr
 renamed clones (Call dest ret callee args) to_clone =
     Call dest ret (cond to_clone (clone_name clones callee) callee) args
 renamed clones i to_clone = i
 
+-- the flush behind a store, where it is wanted; nothing behind any other instruction
 abbrev pub flush_behind : Instr → Bool → List Marked
 flush_behind (Store ty value addr align) wanted = cond wanted ((flush_of ty addr align, true) ∷ []) []
 flush_behind i wanted = []
 
+-- the fence behind an instruction, where it is wanted
 abbrev pub fence_behind : Bool → List Marked
 fence_behind wanted = cond wanted ((the_fence, true) ∷ []) []
 
@@ -94,6 +99,7 @@ pub record Wanted : Type 0 where
   pub hoist : Site → Bool
   pub skip : Site → Bool
 
+-- what a plan wants, by its three lists; the stores to skip are given beside it
 abbrev pub wanted_by : Plan → (Site → Bool) → Wanted
 wanted_by plan skip =
     record {
@@ -118,9 +124,11 @@ repaired_body clones w clone f b k (i ∷ is) =
     ∷ (inserted_behind w clone (record { function = f; block = b; index = k }) i
     ++ repaired_body clones w clone f b (suc k) is)
 
+-- the instructions of a repaired body, without their marks
 abbrev pub instrs_of : List Marked → List Instr
 instrs_of ms = map (λ m. m.0) ms
 
+-- block b of function f, or of its clone, with its repaired body; its label, its phis and its end stay
 abbrev pub repaired_block : List Clone → Wanted → Bool → ℕ → ℕ → Block → Block
 repaired_block clones w clone f b block =
     record {
@@ -130,6 +138,7 @@ repaired_block clones w clone f b block =
       end = block.end;
     }
 
+-- the blocks of function f, or of its clone, the first of which has number b, each repaired
 abbrev pub repaired_blocks : List Clone → Wanted → Bool → ℕ → ℕ → List Block → List Block
 repaired_blocks clones w clone f b [] = []
 repaired_blocks clones w clone f b (x ∷ xs) =
@@ -147,11 +156,13 @@ repaired_function clones w clone f name function =
       blocks = repaired_blocks clones w clone f 0 function.blocks;
     }
 
+-- functions, the first of which has number f, each repaired under its own name; no clone is among them
 abbrev pub repaired_functions : List Clone → Wanted → ℕ → List Function → List Function
 repaired_functions clones w f [] = []
 repaired_functions clones w f (x ∷ xs) =
     repaired_function clones w false f x.name x ∷ repaired_functions clones w (suc f) xs
 
+-- the clone of function f under a name; nothing where there is no such function
 abbrev pub clone_in : List Clone → Wanted → ℕ → List ℕ → Option Function → List Function
 clone_in clones w f name None = []
 clone_in clones w f name (Some x) = repaired_function clones w true f name x ∷ []
@@ -166,15 +177,18 @@ clone_functions P clones w _ _ = []
 abbrev pub cloned : Program → Plan → List ℕ
 cloned P plan = callees P plan.hoist
 
+-- the names of the functions of these numbers, each with the name of its clone, as far as both lists go
 abbrev pub clones_from : Program → List ℕ → List (List ℕ) → List Clone
 clones_from P (f ∷ fs) (name ∷ names) = record { name = name; original = name_of P f } ∷ clones_from P fs names
 clones_from P _ _ = []
 
+-- the functions that a plan clones, each with a fresh name for its clone
 abbrev pub clones_of : Program → Plan → List Clone
 clones_of P plan = clones_from P (cloned P plan) (fresh_names P (cloned P plan))
 
 -- ---- declarations
 
+-- the instruction is a call of the function of that name
 abbrev pub is_call_of : List ℕ → Instr → Bool
 is_call_of name (Call dest ret callee args) = bytes_eq callee name
 is_call_of name _ = false
@@ -183,16 +197,20 @@ is_call_of name _ = false
 abbrev pub inserts : List ℕ → List Marked → Bool
 inserts name ms = list_any (λ m. m.1 && is_call_of name m.0) ms
 
+-- whether a call of that function is inserted in the blocks of function f, or of its clone, the first of which has
+-- number b
 abbrev pub inserts_in : List ℕ → List Clone → Wanted → Bool → ℕ → ℕ → List Block → Bool
 inserts_in name clones w clone f b [] = false
 inserts_in name clones w clone f b (x ∷ xs) =
     inserts name (repaired_body clones w clone f b 0 x.body) || inserts_in name clones w clone f (suc b) xs
 
+-- whether one is inserted in functions, the first of which has number f; their clones do not count
 abbrev pub inserts_from : List ℕ → List Clone → Wanted → ℕ → List Function → Bool
 inserts_from name clones w f [] = false
 inserts_from name clones w f (x ∷ xs) =
     inserts_in name clones w false f 0 x.blocks || inserts_from name clones w (suc f) xs
 
+-- whether one is inserted in the clone of function f; not so where there is no such function
 abbrev pub inserts_cloned : List ℕ → Program → List Clone → Wanted → ℕ → Option Function → Bool
 inserts_cloned name P clones w f None = false
 inserts_cloned name P clones w f (Some x) = inserts_in name clones w true f 0 x.blocks
@@ -203,6 +221,8 @@ needs P plan w name =
     inserts_from name (clones_of P plan) w 0 P.functions
     || list_any (λ f. inserts_cloned name P (clones_of P plan) w f (slice_get P.functions f)) (cloned P plan)
 
+-- the declaration of a function without a result, if some inserted call names it and the program declares none of
+-- that name; else nothing
 abbrev missing : Program → Plan → Wanted → List ℕ → List Scalar → List Extern
 missing P plan w name params =
     cond (needs P plan w name && not (is_among (map (λ e. e.name) P.externs) name))
@@ -216,6 +236,8 @@ added_externs P plan w =
 
 -- ---- the program
 
+-- The program repaired where this is wanted, with the clones of the plan. Clones stand behind all functions, and new
+-- declarations behind the program's.
 abbrev pub repaired_by : Program → Plan → Wanted → Program
 repaired_by P plan w =
     record {

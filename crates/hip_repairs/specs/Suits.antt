@@ -18,6 +18,7 @@ pub record IsStrictOrder : Type 0 where
   pub trans : (a b c : Site) → site_before a b ≡ true → site_before b c ≡ true → site_before a c ≡ true
   pub total : (a b : Site) → (site_before a b ≡ true) ⊎ ((a ≡ b) ⊎ (site_before b a ≡ true))
 
+-- each site is before the next, so that none is there twice; an empty list and one of a single site ascend
 abbrev pub is_ascending : List Site → Bool
 is_ascending [] = true
 is_ascending (a ∷ []) = true

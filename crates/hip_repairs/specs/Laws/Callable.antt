@@ -37,6 +37,7 @@ pub record IsCallable (P : Program) : Type 0 where
 
 -- ---- `main`
 
+-- one of the functions has the name; the number is the place of the first that has it
 abbrev pub HasNumber : List Function → List ℕ → Type 0
 HasNumber fs name = (j : ℕ) × (number_of (function_names fs) name ≡ Some j)
 
@@ -106,6 +107,7 @@ of_table e name same h = by_call (call_of e.name) (ap call_of (sym same)) h
     by_call None f g = cc
     by_call (Some c) f g = (c, f)
 
+-- function f, its block b and the instruction at place k of the block's body are there, and it is this instruction
 abbrev pub IsInstrAt : Program → (f b k : ℕ) → Instr → Type 0
 IsInstrAt P f b k i =
     (fn : Function) × (block : Block) × (slice_get P.functions f ≡ Some fn)
@@ -127,6 +129,7 @@ instr_place P f b k i h = in_function (slice_get P.functions f) refl h
     in_function None e c = cc
     in_function (Some fn) e c = in_block fn e (slice_get fn.blocks b) refl c
 
+-- the name is that of an external function of the table, or of a function of the program
 abbrev pub IsCalled : Program → List ℕ → Type 0
 IsCalled P callee = ((e : ExternCall) × (call_of callee ≡ Some e))
     ⊎ ((g : ℕ) × (function_number P callee ≡ Some g))

@@ -149,6 +149,7 @@ plan_asked P found = record {
 
 -- ---- the order
 
+-- the order that `site_before` tests: by function, then by block, then by index
 abbrev Before : Site → Site → Type 0
 Before a b =
     (a.function < b.function) ⊎ ((a.function ≡ b.function)
@@ -240,9 +241,11 @@ strict_order = record {
 
 -- ---- lists that ascend
 
+-- each site of the list comes behind this one in that order, and is not equal to it
 abbrev AllAfter : Site → List Site → Type 0
 AllAfter a xs = (s : Site) → In s xs → Before a s
 
+-- each site comes before all that stand behind it in the list, where `is_ascending` compares it with the next alone
 abbrev Sorted : List Site → Type 0
 Sorted [] = Unit {0}
 Sorted (x ∷ xs) = AllAfter x xs × Sorted xs
@@ -284,6 +287,7 @@ sorted_append (x ∷ xs) ys h g b =
     after s (inl i) = h.0 s i
     after s (inr i) = b x s (inl refl) i
 
+-- the site is in block b of function f, at index k or behind it
 record InBody (f b k : ℕ) (s : Site) : Type 0 where
   function : s.function ≡ f
   block : s.block ≡ b
@@ -311,6 +315,7 @@ sorted_body f b k (x ∷ is) = (
   sorted_body f b (suc k) is,
 )
 
+-- the site is in function f, in block b or in one behind it
 record InBlocks (f b : ℕ) (s : Site) : Type 0 where
   function : s.function ≡ f
   block : b ≤ s.block

@@ -82,6 +82,7 @@ mutual_recursion =
           ∷ counting_main (count_in_region (codes "even") ∷ []) ∷ [];
     }
 
+-- the site of an instruction by its function, its block and its index in the block's body
 abbrev pub site_in : ℕ → ℕ → ℕ → Site
 site_in function block index = record { function = function; block = block; index = index }
 
@@ -97,9 +98,13 @@ mutual_recursion_report =
       closed = 2;
     }
 
--- @p = global i64 0, section ".pm" declare void @llvm.x86.clwb(ptr) declare void @llvm.x86.sse.sfence() @even and @odd
--- as before, @main with these two at last, and @even.pm and @odd.pm, which call one another and have a clwb of %d
--- behind the store call void @even.pm(ptr @p, i64 2) call void @llvm.x86.sse.sfence()
+-- @p = global i64 0, section ".pm"
+-- declare void @llvm.x86.clwb(ptr)
+-- declare void @llvm.x86.sse.sfence()
+-- @even and @odd as before, @main with these two at last, and @even.pm and @odd.pm, which call one another and have a
+-- clwb of %d behind the store
+--   call void @even.pm(ptr @p, i64 2)
+--   call void @llvm.x86.sse.sfence()
 abbrev pub mutual_recursion_repaired : Program
 mutual_recursion_repaired =
     record {

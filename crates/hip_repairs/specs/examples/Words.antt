@@ -30,15 +30,19 @@ use Rattle.hip_repairs.specs.Repaired.{repaired}
 abbrev pub at : List ℕ → Operand
 at name = Fixed (consts.Address name)
 
+-- `%NAME`
 abbrev pub reg : List ℕ → Operand
 reg name = Reg name
 
+-- a constant of 64 bits, which is the number modulo 2^64
 abbrev pub number : ℕ → Operand
 number n = Fixed (consts.Int (bits W64 n))
 
+-- `ptr VALUE` as an argument
 abbrev pub ptr_arg : Operand → Arg
 ptr_arg value = record { ty = Ptr; value = value }
 
+-- `i64 VALUE` as an argument
 abbrev pub i64_arg : Operand → Arg
 i64_arg value = record { ty = Int W64; value = value }
 
@@ -62,6 +66,7 @@ store_i64 value addr = instrs.Store (Int W64) value addr None
 abbrev pub alloca_i64 : List ℕ → Instr
 alloca_i64 name = instrs.Alloca name (types.Int W64) None
 
+-- `%NAME = load i64, ptr ADDR`
 abbrev pub load_i64 : List ℕ → Operand → Instr
 load_i64 name addr = instrs.Load name (Int W64) addr None
 
@@ -73,6 +78,7 @@ call_void name args = instrs.Call None None name args
 abbrev pub clwb : Operand → Instr
 clwb addr = call_void (codes "llvm.x86.clwb") (ptr_arg addr ∷ [])
 
+-- `declare void @llvm.x86.clwb(ptr)`
 abbrev pub declare_clwb : Extern
 declare_clwb = record { ret = None; name = codes "llvm.x86.clwb"; params = Ptr ∷ [] }
 
@@ -80,6 +86,7 @@ declare_clwb = record { ret = None; name = codes "llvm.x86.clwb"; params = Ptr �
 abbrev pub sfence : Instr
 sfence = call_void (codes "llvm.x86.sse.sfence") []
 
+-- `declare void @llvm.x86.sse.sfence()`
 abbrev pub declare_sfence : Extern
 declare_sfence = record { ret = None; name = codes "llvm.x86.sse.sfence"; params = [] }
 
@@ -104,6 +111,7 @@ main_of body =
 abbrev pub ptr_param : List ℕ → Param
 ptr_param name = record { ty = Ptr; name = name }
 
+-- `i64 %NAME` as a parameter
 abbrev pub i64_param : List ℕ → Param
 i64_param name = record { ty = Int W64; name = name }
 

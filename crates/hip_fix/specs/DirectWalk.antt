@@ -18,6 +18,7 @@ use Rattle.hip_ir.specs.declared.program.GlobalVar.{GlobalVar}
 use Rattle.hip_ir.specs.declared.site.Site.{Site}
 use Rattle.hip_names.specs.Names.{is_among}
 
+-- the names of the volatile globals, in their order
 abbrev pub volatile_names : List GlobalVar → List (List ℕ)
 volatile_names [] = []
 volatile_names (g ∷ gs) = cond g.persistent (volatile_names gs) (g.name ∷ volatile_names gs)
@@ -27,12 +28,15 @@ abbrev pub allocated : Instr → List (List ℕ)
 allocated (Alloca dest ty align) = dest ∷ []
 allocated _ = []
 
+-- the registers that the `alloca` of a body assign, in their order
 abbrev pub body_allocas : List Instr → List (List ℕ)
 body_allocas is = flat_map allocated is
 
+-- the registers that the `alloca` of blocks assign, in their order
 abbrev pub alloca_names : List Block → List (List ℕ)
 alloca_names blocks = flat_map (λ b. body_allocas b.body) blocks
 
+-- the constant is the address of one of these globals; a `getelementptr` from one is not taken for one
 abbrev pub names_one_of : List (List ℕ) → Const-F Const ConstGep TypedConst → Bool
 names_one_of volatile (Const-F.Address name) = is_among volatile name
 names_one_of volatile _ = false
@@ -42,6 +46,7 @@ abbrev pub lies_by : List (List ℕ) → List (List ℕ) → Operand → Bool
 lies_by volatile registers (Reg name) = is_among registers name
 lies_by volatile registers (Fixed value) = names_one_of volatile (out-Const value)
 
+-- the instruction is a store whose address is one of these registers or globals
 abbrev pub stores_by : List (List ℕ) → List (List ℕ) → Instr → Bool
 stores_by volatile registers (Store ty value addr align) = lies_by volatile registers addr
 stores_by volatile registers _ = false
@@ -54,14 +59,17 @@ outside_in_body volatile registers f b k (i ∷ is) =
     cond (stores_by volatile registers i) (record { function = f; block = b; index = k } ∷ []) []
     ++ outside_in_body volatile registers f b (suc k) is
 
+-- those of blocks of function f, the first of which has number b
 abbrev pub outside_in_blocks : List (List ℕ) → List (List ℕ) → ℕ → ℕ → List Block → List Site
 outside_in_blocks volatile registers f b [] = []
 outside_in_blocks volatile registers f b (x ∷ xs) =
     outside_in_body volatile registers f b 0 x.body ++ outside_in_blocks volatile registers f (suc b) xs
 
+-- those of function f, by the registers that its own `alloca` assign
 abbrev pub outside_in_function : List (List ℕ) → ℕ → Function → List Site
 outside_in_function volatile f x = outside_in_blocks volatile (met bytes_eq [] (alloca_names x.blocks)) f 0 x.blocks
 
+-- those of functions, the first of which has number f
 abbrev pub outside_in_functions : List (List ℕ) → ℕ → List Function → List Site
 outside_in_functions volatile f [] = []
 outside_in_functions volatile f (x ∷ xs) =

@@ -11,6 +11,7 @@ use Rattle.hip_runs.specs.Sites.{is_flush_call, is_store}
 use Rattle.hip_repairs.specs.Suits.{site_before, is_ascending}
 use Rattle.hip_repairs.specs.declared.plan.Plan.{Plan}
 
+-- the site is before the first of the list, if there is one
 abbrev pub is_before_first : Site → List Site → Bool
 is_before_first s [] = true
 is_before_first s (x ∷ xs) = site_before s x
@@ -20,6 +21,7 @@ abbrev pub not_before : Site → List Site → List Site
 not_before s [] = []
 not_before s (x ∷ xs) = cond (site_before x s) (not_before s xs) (x ∷ xs)
 
+-- the first site of the list is this one; an empty list begins with none
 abbrev pub begins_with : List Site → Site → Bool
 begins_with [] s = false
 begins_with (x ∷ xs) s = same_site s x
@@ -35,9 +37,11 @@ fences_pass P flushes [] = true
 fences_pass P flushes (s ∷ ss) =
     (is_flush_call (instr_of P s) || begins_with (not_before s flushes) s) && fences_pass P (not_before s flushes) ss
 
+-- each of the three lists of a plan ascends
 abbrev pub ascend : Plan → Bool
 ascend plan = is_ascending plan.flush_after && is_ascending plan.fence_after && is_ascending plan.hoist
 
+-- The test of a plan: a plan passes it exactly where it suits the program, if that is sound.
 abbrev pub passes : Program → Plan → Bool
 passes P plan =
     ascend plan && list_all (λ s. is_store (instr_of P s)) plan.flush_after

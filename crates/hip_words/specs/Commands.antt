@@ -25,9 +25,11 @@ one_or_more id = record (new_rule id) { action = Some Append; required = true }
 abbrev pub with_default : Text → Text → Rule
 with_default id value = record (new_rule id) { long = Some id; defaults = value ∷ [] }
 
+-- `--limit N`, how many turns the run may take; 1,000,000,000 where it is not used
 abbrev pub limit : Rule
 limit = with_default (codes "limit") (codes "1000000000")
 
+-- `--base N`, the address at which the region begins; 2^32, the lowest base, where it is not used
 abbrev pub base : Rule
 base = with_default (codes "base") (codes "4294967296")
 
@@ -37,11 +39,13 @@ base = with_default (codes "base") (codes "4294967296")
 abbrev pub bare : Text → App
 bare name = on_top (λ s. record s { disable_help_flag = true }) (new_app name)
 
+-- `run PROGRAM [--limit N] [NUMBERS...]`
 abbrev pub run_app : App
 run_app =
     with_rule (with_rule (with_rule (bare (codes "run")) (required (codes "program"))) limit)
     (any_number (codes "numbers"))
 
+-- `record PROGRAM [--base N] [--limit N] [NUMBERS...]`
 abbrev pub record_app : App
 record_app =
     with_rule (with_rule (with_rule (with_rule (bare (codes "record")) (required (codes "program"))) base) limit)
@@ -51,12 +55,15 @@ record_app =
 abbrev pub files_app : Text → App
 files_app name = with_rule (with_rule (bare name) (required (codes "program"))) (required (codes "trace"))
 
+-- `demo SEED SIZE`
 abbrev pub demo_app : App
 demo_app = with_rule (with_rule (bare (codes "demo")) (required (codes "seed"))) (required (codes "size"))
 
+-- `many PROGRAM TRACES...`, with one trace or more
 abbrev pub many_app : App
 many_app = with_rule (with_rule (bare (codes "many")) (required (codes "program"))) (one_or_more (codes "traces"))
 
+-- `crash PROGRAM TRACE ENTRY [PICKS...]`
 abbrev pub crash_app : App
 crash_app =
     with_rule (with_rule (with_rule (with_rule (bare (codes "crash"))
@@ -65,6 +72,7 @@ crash_app =
 
 -- ---- what clap reads
 
+-- the rows, if there are no kinds of error
 abbrev pub where_none : Kinds → List Row → Option (List Row)
 where_none [] rows = Some rows
 where_none (k ∷ ks) rows = None
@@ -73,6 +81,7 @@ where_none (k ∷ ks) rows = None
 unfoldable pub reads : App → List Text → Option (List Row)
 reads app words = where_none (fault_of app words) (matches_of app words)
 
+-- what clap answers: matches with these rows, Usage exactly where none are given, and NoMemory at any time
 abbrev pub GivesRows : Option (List Row) → Result ArgMatches WordsRefusal → Type 0
 GivesRows given (Ok matches) = given ≡ Some (rows_of (found_of matches))
 GivesRows given (Err refusals.Usage) = given ≡ None

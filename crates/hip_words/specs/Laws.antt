@@ -14,17 +14,21 @@ abbrev pub is_plain : Text → Bool
 is_plain [] = true
 is_plain (b ∷ bs) = not (b == 45)
 
+-- where neither begins with `-`, a program and a trace behind the word of the command are read as they stand
 abbrev pub FilesArePlain : Type 0
 FilesArePlain =
     (name command program trace : Text) → is_plain program ≡ true → is_plain trace ≡ true
     → files_of name (command ∷ program ∷ trace ∷ []) ≡ Some (program, trace)
 
+-- Where no word behind `run` begins with `-`, the first is the program, the others are the numbers, and the limit is
+-- 1,000,000,000 turns. There is no order where the numbers are too many or one of them is not read.
 abbrev pub RunsArePlain : Type 0
 RunsArePlain =
     (program : Text) (numbers : List Text) → is_plain program ≡ true → list_all is_plain numbers ≡ true
     → order (codes "run" ∷ program ∷ numbers)
     ≡ option_map (λ ns. Run program DEFAULT_LIMIT ns) (numbers_of numbers)
 
+-- a number that passes the test of a base is one
 abbrev pub BasesAreValid : Type 0
 BasesAreValid = (base : ℕ) → is_base base ≡ true → IsBase base
 

@@ -17,15 +17,19 @@ use Rattle.hip_words.specs.declared.order.Verb.TheVariants as verbs
 
 -- ---- bounds
 
+-- a run may be given so many turns: at most 2^40
 abbrev pub is_limit : ℕ → Bool
 is_limit limit = nat_le limit MOST_TURNS
 
+-- a program may be generated from this seed, which is below 2^31
 abbrev pub is_seed : ℕ → Bool
 is_seed seed = nat_lt seed SEED_END
 
+-- a generated program may have this size, from 1 to 50,000 groups of instructions
 abbrev pub is_size : ℕ → Bool
 is_size size = nat_le 1 size && nat_le size LARGEST_SIZE
 
+-- the value, if it passes the test
 abbrev pub where_so : {A : Type 0} → (A → Bool) → A → Option A
 where_so test x = if test x then Some x else None
 
@@ -39,7 +43,7 @@ texts_in id rows = unwrap_or (all_of id rows) []
 abbrev pub decimal_in : Text → List Row → Option ℕ
 decimal_in id rows = option_and_then decimal_of (first_of id rows)
 
--- and within bounds
+-- the number that an argument's word writes, if it is within bounds
 abbrev pub number_in : (ℕ → Bool) → Text → List Row → Option ℕ
 number_in test id rows = option_and_then (where_so test) (decimal_in id rows)
 
@@ -48,18 +52,23 @@ abbrev pub each : {A : Type 0} → (Text → Option A) → List Text → Option 
 each read [] = Some []
 each read (t ∷ ts) = option_and_then (λ x. option_map (λ xs. x ∷ xs) (each read ts)) (read t)
 
+-- the texts, if there are at most so many
 abbrev pub at_most : ℕ → List Text → Option (List Text)
 at_most most = where_so (λ texts. nat_le (length texts) most)
 
+-- at most 1,048,576 numbers, each from -2^63 to 2^63 - 1; nothing where there are more, or a text is no such number
 abbrev pub numbers_of : List Text → Option (List ℤ)
 numbers_of texts = option_and_then (each (signed_of (2 ^ 63))) (at_most MOST_NUMBERS texts)
 
+-- the names of traces, if there are from 1 to 1,024 of them
 abbrev pub traces_of : List Text → Option (List Text)
 traces_of = where_so (λ texts. nat_le 1 (length texts) && nat_le (length texts) MOST_TRACES)
 
+-- the byte is `:`
 abbrev pub is_colon : ℕ → Bool
 is_colon b = b == 58
 
+-- the pick of a line's number and of how many first parts it has, if both were read
 abbrev pub pick_from : Option ℕ → Option ℕ → Option Pick
 pick_from (Some line) (Some upto) = Some (record { line = line; upto = upto })
 pick_from _ _ = None
@@ -69,11 +78,13 @@ abbrev pub pick_of : Text → Option Pick
 pick_of text = if nat_lt (position_or_len is_colon text) (length text)
     then pick_from (decimal_of (before_first is_colon text)) (decimal_of (after_first is_colon text)) else None
 
+-- at most 1,048,576 picks; nothing where there are more, or a text is none
 abbrev pub picks_of : List Text → Option (List Pick)
 picks_of texts = option_and_then (each pick_of) (at_most MOST_NUMBERS texts)
 
 -- ---- the orders
 
+-- `run`: a program, a limit within its bound, and numbers
 abbrev pub run_in : List Row → Option Order
 run_in rows =
     option_and_then (λ program. option_and_then (λ limit. option_map (λ numbers. Run program limit numbers)
@@ -81,6 +92,7 @@ run_in rows =
     (number_in is_limit (codes "limit") rows))
     (first_of (codes "program") rows)
 
+-- `record`: a program, a base and a limit within their bounds, and numbers
 abbrev pub record_in : List Row → Option Order
 record_in rows =
     option_and_then (λ program. option_and_then (λ base. option_and_then (λ limit.
@@ -90,11 +102,13 @@ record_in rows =
     (number_in is_base (codes "base") rows))
     (first_of (codes "program") rows)
 
+-- `many`: a program, and from 1 to 1,024 traces
 abbrev pub many_in : List Row → Option Order
 many_in rows = option_and_then (λ program. option_map (λ traces. Many program traces)
     (traces_of (texts_in (codes "traces") rows)))
     (first_of (codes "program") rows)
 
+-- `crash`: a program, a trace, the number of an entry, which is any below 2^64, and picks
 abbrev pub crash_in : List Row → Option Order
 crash_in rows =
     option_and_then (λ program. option_and_then (λ trace. option_and_then (λ entry.
@@ -104,11 +118,13 @@ crash_in rows =
     (first_of (codes "trace") rows))
     (first_of (codes "program") rows)
 
+-- `demo`: a seed and a size within their bounds
 abbrev pub demo_in : List Row → Option Order
 demo_in rows = option_and_then (λ seed. option_map (λ size. Demo seed size)
     (number_in is_size (codes "size") rows))
     (number_in is_seed (codes "seed") rows)
 
+-- `check`, `repair`, `rerun` and `thin`: a program and a trace
 abbrev pub files_in : List Row → Option (Text × Text)
 files_in rows = option_and_then (λ program. option_map (λ trace. (program, trace))
     (first_of (codes "trace") rows))

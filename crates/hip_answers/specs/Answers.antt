@@ -27,6 +27,8 @@ pub data Outcome : Type 0 where
   CutShort : Outcome
   RanOut : Outcome
 
+-- A command is carried out also where its run trapped or was cut. Each other status but a write fault and want of
+-- memory is that of a refusal.
 abbrev pub outcome_of : Status → Outcome
 outcome_of Done = CarriedOut
 outcome_of (Trapped kind) = CarriedOut
@@ -44,6 +46,7 @@ pub record Sinks : Type 0 where
   pub notes : SinkState
   pub notes_new : SinkState
 
+-- the sinks of a call: that of out before and after it, then that of notes before and after it
 abbrev pub sinks : SinkState → SinkState → SinkState → SinkState → Sinks
 sinks out out_new notes notes_new =
     record { out = out; out_new = out_new; notes = notes; notes_new = notes_new }
@@ -110,6 +113,8 @@ pub record HasRunOut (table : Answer → Type 0) (begins : Bool) (old new : Cabi
   pub out : (s.out_new ≡ s.out) ⊎ HasBegun begins table s
   pub line : PutsLine NoMemory s.notes s.notes_new
 
+-- what a call does, by the outcome of its status: it writes both texts, writes the line of a refusal alone, is cut
+-- short, or runs out of memory
 abbrev pub answered : Outcome → (Answer → Type 0) → Bool → CabinetState → CabinetState → Sinks → Status
     → Type 0
 answered CarriedOut table begins old new s status = HasAnswer table status (WritesBoth s)

@@ -14,6 +14,7 @@ pathless (statuses.BadProgram (refusals.Form why)) =
     statuses.BadProgram (refusals.Form (record { fault = without_path why.fault; place = why.place }))
 pathless status = status
 
+-- both texts are equal, and so are the statuses but for the path that shows a register without an assignment
 pub record IsSameAnswer (a b : Answer) : Type 0 where
   pub status : pathless a.status ≡ pathless b.status
   pub out : a.out ≡ b.out

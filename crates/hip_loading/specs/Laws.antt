@@ -38,6 +38,7 @@ abbrev pub without_path : TypeFault → TypeFault
 without_path (faults.Unassigned path) = faults.Unassigned []
 without_path fault = fault
 
+-- the refusal without that path; any other refusal as it is
 abbrev pub without_paths : LoadRefusal → LoadRefusal
 without_paths (loads.Bad (refusals.Form why)) =
     loads.Bad (refusals.Form (record { fault = without_path why.fault; place = why.place }))

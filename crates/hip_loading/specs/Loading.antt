@@ -68,11 +68,13 @@ pub record IsProgramOf (files : Option (List NamedFile)) (name : List ℕ) (prog
   pub reads : Reads text program
   pub sound : IsSound program
 
+-- the file is there and has more than 16,777,216 bytes
 pub record IsTooLong (files : List NamedFile) (name : List ℕ) : Type 0 where
   pub text : List ℕ
   pub found : file_of files name ≡ Some text
   pub long : TEXT_LIMIT < length text
 
+-- the file's text, which is not too long, reads as no program, or as one that is not sound, for this reason
 pub record IsBadProgram (files : Option (List NamedFile)) (name : List ℕ) (why : ProgramRefusal) : Type 0 where
   pub text : List ℕ
   pub is_text : IsTextOf files name text
@@ -84,6 +86,7 @@ HasNoProgram files name loads.Missing = IfSome files (λ fs. file_of fs name ≡
 HasNoProgram files name loads.TooLarge = IfSome files (λ fs. IsTooLong fs name)
 HasNoProgram files name (loads.Bad why) = IsBadProgram files name why
 
+-- whether the refusal is that no file has the name of the program
 abbrev pub is_missing : LoadRefusal → Bool
 is_missing loads.Missing = true
 is_missing loads.TooLarge = false

@@ -76,11 +76,14 @@ pub record HasRerun (P : Program) (I : Input) (found : Findings) (answer : Answe
   pub out_is : answer.out ≡ lines_of trace
   pub notes_is : answer.notes ≡ rerun_counts (length found.reports) (length after.reports)
 
+-- the answers of `check`: where there is a run, the reports of it
 abbrev pub CheckAnswers : CabinetState → CabinetState → List ℕ → List ℕ → Answer → Type 0
 CheckAnswers = TraceAnswers HasChecked
 
+-- the answers of `repair`: where there is a run, the program repaired for it
 abbrev pub RepairAnswers : CabinetState → CabinetState → List ℕ → List ℕ → Answer → Type 0
 RepairAnswers = TraceAnswers HasRepaired
 
+-- the answers of `rerun`: where there is a run, the trace of the repaired program's on the same input
 abbrev pub RerunAnswers : CabinetState → CabinetState → List ℕ → List ℕ → Answer → Type 0
 RerunAnswers = TraceAnswers HasRerun

@@ -48,14 +48,17 @@ abbrev pub HasNoTrace : Option (List NamedFile) → List ℕ → Program → Tra
 HasNoTrace files name P traces.Missing = IfSome files (λ fs. file_of fs name ≡ None)
 HasNoTrace files name P (traces.Misfit entry kind) = IfSome files (λ fs. IsMisfitFile fs name P entry kind)
 
+-- whether the refusal is that no file has the name of the trace
 abbrev pub is_missing : TraceRefusal → Bool
 is_missing traces.Missing = true
 is_missing (traces.Misfit entry kind) = false
 
+-- the status that says why the one trace of a command is none of a run
 abbrev pub status_of_refusal : TraceRefusal → Status
 status_of_refusal traces.Missing = statuses.Missing roles.Trace
 status_of_refusal (traces.Misfit entry kind) = statuses.Misfit entry kind
 
+-- the status of a trace that is not loaded: why it is refused, a read fault, or want of memory
 abbrev pub status_of_trace : Failure TraceRefusal → Status
 status_of_trace (failures.Refused why) = status_of_refusal why
 status_of_trace failures.ReadFault = statuses.ReadFault

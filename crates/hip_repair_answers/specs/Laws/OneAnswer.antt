@@ -43,11 +43,13 @@ same_input P bytes I J t u = let k : Gives t.entries I ≡ Gives u.entries J = s
 
 -- ---- the answers on files that are told
 
+-- there is no program in file p, and the answer says why
 pub record Unloaded (files : List NamedFile) (p : List ℕ) (a : Answer) : Type 0 where
   why : LoadRefusal
   cause : HasNoProgram (Some files) p why
   is : a ≡ refusal (programs.status_of_refusal why)
 
+-- there is a program in file p, and file t is not the trace of a run of it; the answer says why
 pub record Untraced (files : List NamedFile) (p t : List ℕ) (a : Answer) : Type 0 where
   program : Program
   loaded : IsProgramOf (Some files) p program
@@ -55,6 +57,8 @@ pub record Untraced (files : List NamedFile) (p t : List ℕ) (a : Answer) : Typ
   cause : HasNoTrace (Some files) t program why
   is : a ≡ refusal (status_of_refusal why)
 
+-- There is a program in file p, and file t is the trace of its run on the input, which found this; the answer has the
+-- texts of that.
 pub record Carried (Texts : Program → Input → Findings → Answer → Type 0) (files : List NamedFile)
     (p t : List ℕ) (a : Answer) : Type 0 where
   program : Program
@@ -65,6 +69,7 @@ pub record Carried (Texts : Program → Input → Findings → Answer → Type 0
   found_is : IsFound program input found
   texts : Texts program input found a
 
+-- how an answer comes about, as far as the files tell: a read fault, no program, no trace of a run of it, or a run
 pub data View (Texts : Program → Input → Findings → Answer → Type 0) (files : List NamedFile) (p t : List ℕ)
     (a : Answer) : Type 0 where
   Faulted : a.status ≡ statuses.ReadFault → View Texts files p t a

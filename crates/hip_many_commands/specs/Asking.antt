@@ -67,6 +67,7 @@ pub record HasFailedIn (P : Program) (names : List (List ℕ)) (old new : Cabine
   pub behind : ComesBehindRuns old.files P names number name
   pub failed : HasFailedTrace P name old new
 
+-- what loading all traces and planning for their runs answers; want of memory is free
 abbrev pub AsksAll : Program → List (List ℕ) → CabinetState → CabinetState
     → Result AllAsked (Failure NumberedRefusal) → Type 0
 AsksAll P names old new (Ok asked) = HasAskedAll P names old new asked
@@ -82,6 +83,7 @@ numbered number (failures.Refused why) = failures.Refused (record { number = num
 numbered number failures.ReadFault = failures.ReadFault
 numbered number failures.NoMemory = failures.NoMemory
 
+-- the status where not every trace is loaded: why the first such one is refused, a read fault, or want of memory
 abbrev pub status_of_traces : Failure NumberedRefusal → Status
 status_of_traces (failures.Refused refusal) = status_in refusal.number refusal.why
 status_of_traces failures.ReadFault = statuses.ReadFault

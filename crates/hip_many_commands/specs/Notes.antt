@@ -9,6 +9,7 @@ use Rattle.hip_repairs.specs.declared.plan.Plan.{Plan}
 use Rattle.hip_report_lines.specs.Counts.{count_line, repair_counts}
 use Rattle.hip_report_lines.specs.Reports.{numbered, site_text}
 
+-- the word for what a plan does at a site
 abbrev pub sort_word : Sort → List ℕ
 sort_word Flush = codes "flush"
 sort_word Fence = codes "fence"

@@ -18,6 +18,7 @@ abbrev pub function_name : Option Function → List ℕ
 function_name None = []
 function_name (Some f) = f.name
 
+-- the label of a block; no bytes where there is no block
 abbrev pub block_label : Option Block → List ℕ
 block_label None = []
 block_label (Some b) = b.label
@@ -30,6 +31,7 @@ site_text P s =
 
 -- ---- reports
 
+-- the word for what the store of a report lacks to be durable
 abbrev pub kind_word : Kind → List ℕ
 kind_word MissingFlush = codes "flush"
 kind_word MissingFence = codes "fence"
@@ -44,6 +46,7 @@ flush_text P (Some s) = codes " flush " ++ site_text P s
 abbrev pub path_text : Program → List Site → List ℕ
 path_text P sites = flat_map (λ s. codes " " ++ site_text P s) sites
 
+-- words and the decimal digits of a number, with no blank put between them
 abbrev pub numbered : List ℕ → ℕ → List ℕ
 numbered words n = words ++ decimal n
 

@@ -10,6 +10,7 @@ RunsAreOne =
     (name : List ℕ) (limit : ℕ) (numbers : List ℤ)
     → AreOne (λ old new answer. RunAnswers old new name limit numbers answer)
 
+-- where the files are told, two answers of `record` on them are the same, unless one is a read fault
 abbrev pub RecordsAreOne : Type 0
 RecordsAreOne =
     (name : List ℕ) (base limit : ℕ) (numbers : List ℤ)

@@ -23,6 +23,7 @@ pub record HasRecorded (old new : CabinetState) (name : List ℕ) (base limit : 
   pub status_is : answer.status ≡ status_of_ending ending
   pub notes_is : answer.notes ≡ ending_line ending
 
+-- the answers of `record`: there is no program in the file, or its run at the order's base was recorded
 abbrev pub RecordAnswers : CabinetState → CabinetState → List ℕ → ℕ → ℕ → List ℤ → Answer → Type 0
 RecordAnswers old new name base limit numbers answer =
     LacksProgram old new name answer ⊎ HasRecorded old new name base limit numbers answer

@@ -76,6 +76,7 @@ HasNoImage P I entry ps (images.BadPick why) = LacksPick P I entry ps why
 
 -- ---- what is answered
 
+-- the status that says why there is no image
 abbrev pub status_of_refusal : ImageRefusal → Status
 status_of_refusal (images.NoEntry entries) = statuses.NoEntry entries
 status_of_refusal (images.BadPick why) = statuses.BadPick why

@@ -40,5 +40,6 @@ pub record HasThinned (P : Program) (I : Input) (found : Findings) (answer : Ans
       (spared_count P (plan_for P found))
   pub cured : IsThinned P I found
 
+-- the answers of `thin`: where there is a run, the program repaired for it, whose clones do not flush the low stores
 abbrev pub ThinAnswers : CabinetState → CabinetState → List ℕ → List ℕ → Answer → Type 0
 ThinAnswers = TraceAnswers HasThinned

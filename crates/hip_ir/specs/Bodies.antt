@@ -9,7 +9,7 @@ use Rattle.hip_types.specs.declared.number.Width.TheVariants.{W1}
 use Rattle.hip_tokens.specs.Bytes.{byte}
 use Rattle.hip_tokens.specs.Tokens.{Tok}
 use Rattle.hip_rules.specs.Reader.{folded}
-use Rattle.hip_rules.specs.Part.{Part, gives, token, ◌>>=◌, either, repeated, optional, passing, separated, listed, phased}
+use Rattle.hip_rules.specs.Part.{Part, gives, token, ◌>>=◌, either, repeated, optional, passing, one_more_by, separated, listed, phased}
 use Rattle.hip_ir.specs.declared.block.Block.{Block}
 use Rattle.hip_ir.specs.declared.block.Case.{Case}
 use Rattle.hip_ir.specs.declared.block.Edge.{Edge}
@@ -22,6 +22,7 @@ use Rattle.hip_ir.specs.declared.instr.Flag.TheVariants.{Nuw, Nsw, Exact}
 use Rattle.hip_ir.specs.declared.instr.Flags.{Flags}
 use Rattle.hip_ir.specs.declared.instr.Instr.{Instr}
 use Rattle.hip_ir.specs.declared.instr.Instr.TheVariants as instrs
+use Rattle.hip_ir.specs.declared.instr.Operand.{Operand}
 use Rattle.hip_ir.specs.Words.{is_word, is_mark, is_local, comma, a_local, a_global, a_label, a_word_of, is_word_of, ret_word, binary_word, pred_word, cast_text, int_cast_word, flag_word}
 use Rattle.hip_ir.specs.Numbers.{a_literal, an_alignment}
 use Rattle.hip_ir.specs.Grammar.{word, mark, maybe_word, int, scalar, type, is_width, is_scalar, operand, arg, index}
@@ -49,14 +50,20 @@ assigned = do
   _ ← mark (byte "=")
   gives name
 
+-- "," LOCAL "]"
+unfoldable pub edge_label : Part Fault (List ℕ)
+edge_label = do
+  _ ← mark (byte ",")
+  label ← token a_local
+  _ ← mark (byte "]")
+  gives label
+
 -- edge = "[" operand "," LOCAL "]"
 unfoldable pub edge : Scalar → Part Fault Edge
 edge s = do
   _ ← mark (byte "[")
   value ← operand s
-  _ ← mark (byte ",")
-  label ← token a_local
-  _ ← mark (byte "]")
+  label ← edge_label
   gives (record { value = value; label = label })
 
 -- phi = LOCAL "=" "phi" scalar edge { "," edge }, behind its LOCAL "="
@@ -89,8 +96,7 @@ binary dest = do
   set ← flags op
   w ← int
   a ← operand (scalars.Int w)
-  _ ← mark (byte ",")
-  b ← operand (scalars.Int w)
+  b ← one_more_by comma (operand (scalars.Int w))
   gives (instrs.Binary dest op set w a b)
 
 -- "icmp" pred scalar operand "," operand
@@ -100,9 +106,24 @@ compare dest = do
   pred ← token (a_word_of pred_word)
   s ← scalar
   a ← operand s
-  _ ← mark (byte ",")
-  b ← operand s
+  b ← one_more_by comma (operand s)
   gives (instrs.Compare dest pred s a b)
+
+-- "," scalar operand, where the type is this one
+unfoldable pub next_of_type : Scalar → Part Fault Operand
+next_of_type s = do
+  _ ← mark (byte ",")
+  _ ← passing (is_scalar s)
+  operand s
+
+-- "," arg "," arg, where the second type is the first again
+unfoldable pub alternatives : Part Fault (Scalar × Operand × Operand)
+alternatives = do
+  _ ← mark (byte ",")
+  s ← scalar
+  a ← operand s
+  b ← next_of_type s
+  gives (s, a, b)
 
 -- "select" "i1" operand "," arg "," arg, where the second type is the first again
 unfoldable pub select : List ℕ → Part Fault Instr
@@ -110,13 +131,14 @@ select dest = do
   _ ← word (codes "select")
   _ ← word (codes "i1")
   cond ← operand (scalars.Int W1)
-  _ ← mark (byte ",")
-  s ← scalar
-  a ← operand s
-  _ ← mark (byte ",")
-  _ ← passing (is_scalar s)
-  b ← operand s
-  gives (instrs.Select dest cond s a b)
+  chosen ← alternatives
+  gives (instrs.Select dest cond chosen.0 chosen.1 chosen.2)
+
+-- "to" int
+unfoldable pub to_int : Part Fault Width
+to_int = do
+  _ ← word (codes "to")
+  int
 
 -- ("zext" | "sext" | "trunc") int operand "to" int
 unfoldable pub int_cast : List ℕ → Part Fault Instr
@@ -124,8 +146,7 @@ int_cast dest = do
   op ← token (a_word_of int_cast_word)
   w ← int
   a ← operand (scalars.Int w)
-  _ ← word (codes "to")
-  v ← int
+  v ← to_int
   gives (instrs.Cast dest op (scalars.Int w) a (scalars.Int v))
 
 -- "ptrtoint" "ptr" operand "to" int
@@ -134,8 +155,7 @@ ptrtoint dest = do
   _ ← word (cast_text casts.Ptrtoint)
   _ ← word (codes "ptr")
   a ← operand scalars.Ptr
-  _ ← word (codes "to")
-  w ← int
+  w ← to_int
   gives (instrs.Cast dest casts.Ptrtoint scalars.Ptr a (scalars.Int w))
 
 -- "inttoptr" int operand "to" "ptr"
@@ -156,16 +176,27 @@ alloca dest = do
   n ← maybe_align
   gives (instrs.Alloca dest ty n)
 
+-- "," "ptr" operand
+unfoldable pub next_address : Part Fault Operand
+next_address = do
+  _ ← mark (byte ",")
+  _ ← word (codes "ptr")
+  operand scalars.Ptr
+
+-- "," "ptr" operand [ align ]
+unfoldable pub aligned_address : Part Fault (Operand × Option ℕ)
+aligned_address = do
+  addr ← next_address
+  n ← maybe_align
+  gives (addr, n)
+
 -- "load" scalar "," "ptr" operand [ align ]
 unfoldable pub load : List ℕ → Part Fault Instr
 load dest = do
   _ ← word (codes "load")
   s ← scalar
-  _ ← mark (byte ",")
-  _ ← word (codes "ptr")
-  addr ← operand scalars.Ptr
-  n ← maybe_align
-  gives (instrs.Load dest s addr n)
+  read ← aligned_address
+  gives (instrs.Load dest s read.0 read.1)
 
 -- "getelementptr" [ "inbounds" ] type "," "ptr" operand "," index { "," index }
 unfoldable pub gep : List ℕ → Part Fault Instr
@@ -173,11 +204,8 @@ gep dest = do
   _ ← word (codes "getelementptr")
   inbounds ← maybe_word (codes "inbounds")
   ty ← type
-  _ ← mark (byte ",")
-  _ ← word (codes "ptr")
-  base ← operand scalars.Ptr
-  _ ← mark (byte ",")
-  indices ← separated comma index
+  base ← next_address
+  indices ← one_more_by comma (separated comma index)
   gives (instrs.Gep dest inbounds ty base indices)
 
 -- [ "tail" ] "call" ret GLOBAL "(" [ arg { "," arg } ] ")"
@@ -201,11 +229,8 @@ store = do
   _ ← word (codes "store")
   s ← scalar
   value ← operand s
-  _ ← mark (byte ",")
-  _ ← word (codes "ptr")
-  addr ← operand scalars.Ptr
-  n ← maybe_align
-  gives (instrs.Store s value addr n)
+  written ← aligned_address
+  gives (instrs.Store s value written.0 written.1)
 
 -- the instructions on memory, and calls
 unfoldable pub memory_instr : List ℕ → Part Fault Instr
@@ -267,10 +292,8 @@ unfoldable pub branch : Part Fault End
 branch = do
   _ ← word (codes "i1")
   cond ← operand (scalars.Int W1)
-  _ ← mark (byte ",")
-  yes_label ← target
-  _ ← mark (byte ",")
-  no_label ← target
+  yes_label ← one_more_by comma target
+  no_label ← one_more_by comma target
   gives (ends.CondBr cond yes_label no_label)
 
 unfoldable pub br : Part Fault End
@@ -283,9 +306,16 @@ unfoldable pub case : Width → Part Fault Case
 case w = do
   _ ← passing (is_width w)
   value ← token (a_literal w)
-  _ ← mark (byte ",")
-  label ← target
+  label ← one_more_by comma target
   gives (record { value = value; label = label })
+
+-- "[" { int literal "," "label" LOCAL } "]", where each type is the switch's
+unfoldable pub cases : Width → Part Fault (List Case)
+cases w = do
+  _ ← mark (byte "[")
+  found ← repeated (is_width w) (case w)
+  _ ← mark (byte "]")
+  gives found
 
 -- "switch" int operand "," "label" LOCAL "[" { int literal "," "label" LOCAL } "]"
 unfoldable pub switch : Part Fault End
@@ -293,12 +323,9 @@ switch = do
   _ ← word (codes "switch")
   w ← int
   value ← operand (scalars.Int w)
-  _ ← mark (byte ",")
-  other ← target
-  _ ← mark (byte "[")
-  cases ← repeated (is_width w) (case w)
-  _ ← mark (byte "]")
-  gives (ends.Switch w value other cases)
+  other ← one_more_by comma target
+  found ← cases w
+  gives (ends.Switch w value other found)
 
 unfoldable pub ret_void : Part Fault End
 ret_void = do

@@ -3,4 +3,3 @@ pub mod Consts
 pub mod Loops
 pub mod Some
 pub mod Causes
-pub mod Regrouped

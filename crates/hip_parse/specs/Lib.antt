@@ -2,4 +2,3 @@ pub mod Left
 pub mod Items
 pub mod Lengths
 pub mod Meaning
-pub mod Shared

@@ -5,10 +5,9 @@ ghost use Rattle.hip_rules.specs.Part.{one_more_by, separated};
 ghost use Rattle.hip_rules.specs.Reader.{many_at, next, with_front, leaders_at};
 ghost use Rattle.hip_ir.specs.Words.{comma, is_local, is_word};
 ghost use Rattle.hip_ir.specs.Grammar.{is_width};
-ghost use Rattle.hip_ir.specs.Bodies.{assigned, edge, phi, instr, begins_instr, target, jump, branch, br, case, switch, ret_void, ret_arg, ret_end, unreachable, end, closing, after_first, after_name, from_effect, after_phis, block};
+ghost use Rattle.hip_ir.specs.Bodies.{assigned, edge_label, edge, phi, instr, begins_instr, target, jump, branch, br, case, cases, switch, ret_void, ret_arg, ret_end, unreachable, end, closing, after_first, after_name, from_effect, after_phis, block};
 ghost use Rattle.hip_parse.specs.Lengths.{edge_within, case_some, instr_some};
 ghost use Rattle.hip_parse.specs.Left.{left, Gives, Takes};
-ghost use Rattle.hip_parse.specs.Shared.{edge_label, cases};
 
 use crate::error::ReadError;
 use crate::parser::Parser;
@@ -82,7 +81,7 @@ impl<'a> Parser<'a> {
     // ---- phis
 
     /// The label of an edge behind a comma, and the bracket that closes the edge.
-    #[tactic(auto, unfolding(crate::specs::Shared::edge_label))]
+    #[tactic(auto, unfolding(hip_ir::specs::Bodies::edge_label))]
     fn edge_label(&mut self, alloc: Global) -> Result<Name, ReadError>
         ensures { Takes (λ x. x) result (edge_label.read (left self.old)) (left self.new) }
     {
@@ -92,7 +91,7 @@ impl<'a> Parser<'a> {
         Ok(Row::from_slice(alloc, label)?)
     }
 
-    #[tactic(auto, using(crate::proofs::Regrouped::regrouped), unfolding(hip_ir::specs::Bodies::edge, crate::specs::Shared::edge_label))]
+    #[tactic(auto, unfolding(hip_ir::specs::Bodies::edge))]
     fn edge(&mut self, alloc: Global, scalar: Scalar) -> Result<Edge, ReadError>
         ensures { Takes (λ x. x) result ((edge scalar).read (left self.old)) (left self.new) }
     {
@@ -159,7 +158,7 @@ impl<'a> Parser<'a> {
         Ok(Row::from_slice(alloc, label)?)
     }
 
-    #[tactic(auto, using(crate::proofs::Regrouped::regrouped), unfolding(hip_ir::specs::Bodies::branch, hip_rules::specs::Part::one_more_by))]
+    #[tactic(auto, unfolding(hip_ir::specs::Bodies::branch))]
     fn branch(&mut self, alloc: Global) -> Result<End, ReadError>
         ensures { Takes (λ x. x) result (branch.read (left self.old)) (left self.new) }
     {
@@ -182,7 +181,7 @@ impl<'a> Parser<'a> {
         }
     }
 
-    #[tactic(auto, using(crate::proofs::Regrouped::regrouped), unfolding(hip_ir::specs::Bodies::case, hip_rules::specs::Part::one_more_by))]
+    #[tactic(auto, unfolding(hip_ir::specs::Bodies::case))]
     fn case(&mut self, alloc: Global, width: Width) -> Result<Case, ReadError>
         ensures { Takes (λ x. x) result ((case width).read (left self.old)) (left self.new) }
     {
@@ -193,7 +192,7 @@ impl<'a> Parser<'a> {
     }
 
     /// The cases of a switch, with their brackets.
-    #[tactic(auto, using(crate::proofs::Loops::nothing_before), unfolding(crate::specs::Shared::cases))]
+    #[tactic(auto, using(crate::proofs::Loops::nothing_before), unfolding(hip_ir::specs::Bodies::cases))]
     fn cases(&mut self, alloc: Global, width: Width) -> Result<Row<Case>, ReadError>
         ensures { Takes (λ x. x) result ((cases width).read (left self.old)) (left self.new) }
     {
@@ -203,7 +202,7 @@ impl<'a> Parser<'a> {
         Ok(cases)
     }
 
-    #[tactic(auto, using(crate::proofs::Regrouped::regrouped), unfolding(hip_ir::specs::Bodies::switch, hip_rules::specs::Part::one_more_by, crate::specs::Shared::cases))]
+    #[tactic(auto, unfolding(hip_ir::specs::Bodies::switch))]
     fn switch(&mut self, alloc: Global) -> Result<End, ReadError>
         ensures { Takes (λ x. x) result (switch.read (left self.old)) (left self.new) }
     {

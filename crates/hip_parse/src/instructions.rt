@@ -5,9 +5,8 @@ ghost use Rattle.hip_rules.specs.Part.{token, one_more_by, separated};
 ghost use Rattle.hip_rules.specs.Reader.{many_at, next};
 ghost use Rattle.hip_ir.specs.Words.{comma};
 ghost use Rattle.hip_ir.specs.Grammar.{operand, index};
-ghost use Rattle.hip_ir.specs.Bodies.{align, maybe_align, assigned, with_flag, flags, binary, compare, select, int_cast, ptrtoint, inttoptr, alloca, load, gep, plain_call, call, store, memory_instr, cast_instr, value_instr, effect_instr, assigning_instr, instr, begins_effect, begins_instr};
+ghost use Rattle.hip_ir.specs.Bodies.{align, maybe_align, assigned, with_flag, flags, binary, compare, next_of_type, alternatives, select, to_int, int_cast, ptrtoint, inttoptr, alloca, next_address, aligned_address, load, gep, plain_call, call, store, memory_instr, cast_instr, value_instr, effect_instr, assigning_instr, instr, begins_effect, begins_instr};
 ghost use Rattle.hip_parse.specs.Left.{left, Gives, Takes};
-ghost use Rattle.hip_parse.specs.Shared.{source, next_of_type, alternatives, next_address, aligned_address};
 
 use crate::constants::{Argument, Index};
 use crate::error::ReadError;
@@ -77,7 +76,7 @@ impl<'a> Parser<'a> {
         self.operand(alloc, scalar)
     }
 
-    #[tactic(auto, using(crate::proofs::Regrouped::regrouped), unfolding(hip_ir::specs::Bodies::binary, hip_rules::specs::Part::one_more_by))]
+    #[tactic(auto, unfolding(hip_ir::specs::Bodies::binary))]
     fn binary(&mut self, alloc: Global, dest: Name) -> Result<Instr, ReadError>
         ensures { Takes (λ x. x) result ((binary dest).read (left self.old)) (left self.new) }
     {
@@ -96,7 +95,7 @@ impl<'a> Parser<'a> {
         })
     }
 
-    #[tactic(auto, using(crate::proofs::Regrouped::regrouped), unfolding(hip_ir::specs::Bodies::compare, hip_rules::specs::Part::one_more_by))]
+    #[tactic(auto, unfolding(hip_ir::specs::Bodies::compare))]
     fn compare(&mut self, alloc: Global, dest: Name) -> Result<Instr, ReadError>
         ensures { Takes (λ x. x) result ((compare dest).read (left self.old)) (left self.new) }
     {
@@ -115,7 +114,7 @@ impl<'a> Parser<'a> {
     }
 
     /// The operand behind a comma and this type.
-    #[tactic(auto, unfolding(crate::specs::Shared::next_of_type))]
+    #[tactic(auto, unfolding(hip_ir::specs::Bodies::next_of_type))]
     fn next_of_type(&mut self, alloc: Global, ty: Scalar) -> Result<Operand, ReadError>
         ensures { Takes (λ x. x) result ((next_of_type ty).read (left self.old)) (left self.new) }
     {
@@ -125,7 +124,7 @@ impl<'a> Parser<'a> {
     }
 
     /// The operands of which one is selected, behind their type.
-    #[tactic(auto, unfolding(crate::specs::Shared::alternatives))]
+    #[tactic(auto, unfolding(hip_ir::specs::Bodies::alternatives))]
     fn alternatives(&mut self, alloc: Global) -> Result<(Scalar, Operand, Operand), ReadError>
         ensures { Takes (λ x. x) result (alternatives.read (left self.old)) (left self.new) }
     {
@@ -136,7 +135,7 @@ impl<'a> Parser<'a> {
         Ok((ty, a, b))
     }
 
-    #[tactic(auto, using(crate::proofs::Regrouped::regrouped), unfolding(hip_ir::specs::Bodies::select, crate::specs::Shared::alternatives, crate::specs::Shared::next_of_type))]
+    #[tactic(auto, unfolding(hip_ir::specs::Bodies::select))]
     fn select(&mut self, alloc: Global, dest: Name) -> Result<Instr, ReadError>
         ensures { Takes (λ x. x) result ((select dest).read (left self.old)) (left self.new) }
     {
@@ -153,25 +152,24 @@ impl<'a> Parser<'a> {
         })
     }
 
-    /// The operand of a cast, and the word that stands before the type of the result.
-    #[tactic(auto, unfolding(crate::specs::Shared::source))]
-    fn source(&mut self, alloc: Global, scalar: Scalar) -> Result<Operand, ReadError>
-        ensures { Takes (λ x. x) result ((source scalar).read (left self.old)) (left self.new) }
+    /// The type behind `to`.
+    #[tactic(auto, unfolding(hip_ir::specs::Bodies::to_int))]
+    fn to_int(&mut self) -> Result<Width, Option<Fault>>
+        ensures { Gives (λ x. x) result (to_int.read (left self.old)) (left self.new) }
     {
-        let a = self.operand(alloc, scalar)?;
         self.word(b"to")?;
-        Ok(a)
+        self.keyword(Widths)
     }
 
-    #[tactic(auto, using(crate::proofs::Regrouped::regrouped), unfolding(hip_ir::specs::Bodies::int_cast, crate::specs::Shared::source))]
+    #[tactic(auto, unfolding(hip_ir::specs::Bodies::int_cast))]
     fn int_cast(&mut self, alloc: Global, dest: Name) -> Result<Instr, ReadError>
         ensures { Takes (λ x. x) result ((int_cast dest).read (left self.old)) (left self.new) }
     {
         let op = self.keyword(IntCasts)?;
         let width = self.keyword(Widths)?;
         let from = Scalar::Int(width);
-        let a = self.source(alloc, from)?;
-        let width = self.keyword(Widths)?;
+        let a = self.operand(alloc, from)?;
+        let width = self.to_int()?;
         let to = Scalar::Int(width);
         Ok(Instr::Cast {
             dest,
@@ -182,14 +180,14 @@ impl<'a> Parser<'a> {
         })
     }
 
-    #[tactic(auto, using(crate::proofs::Regrouped::regrouped), unfolding(hip_ir::specs::Bodies::ptrtoint, crate::specs::Shared::source))]
+    #[tactic(auto, unfolding(hip_ir::specs::Bodies::ptrtoint))]
     fn ptrtoint(&mut self, alloc: Global, dest: Name) -> Result<Instr, ReadError>
         ensures { Takes (λ x. x) result ((ptrtoint dest).read (left self.old)) (left self.new) }
     {
         self.word(b"ptrtoint")?;
         self.word(b"ptr")?;
-        let a = self.source(alloc, Scalar::Ptr)?;
-        let width = self.keyword(Widths)?;
+        let a = self.operand(alloc, Scalar::Ptr)?;
+        let width = self.to_int()?;
         Ok(Instr::Cast {
             dest,
             op: CastOp::Ptrtoint,
@@ -199,13 +197,14 @@ impl<'a> Parser<'a> {
         })
     }
 
-    #[tactic(auto, using(crate::proofs::Regrouped::regrouped), unfolding(hip_ir::specs::Bodies::inttoptr, crate::specs::Shared::source))]
+    #[tactic(auto, unfolding(hip_ir::specs::Bodies::inttoptr))]
     fn inttoptr(&mut self, alloc: Global, dest: Name) -> Result<Instr, ReadError>
         ensures { Takes (λ x. x) result ((inttoptr dest).read (left self.old)) (left self.new) }
     {
         self.word(b"inttoptr")?;
         let width = self.keyword(Widths)?;
-        let a = self.source(alloc, Scalar::Int(width))?;
+        let a = self.operand(alloc, Scalar::Int(width))?;
+        self.word(b"to")?;
         self.word(b"ptr")?;
         Ok(Instr::Cast {
             dest,
@@ -227,7 +226,7 @@ impl<'a> Parser<'a> {
     }
 
     /// The address behind a comma.
-    #[tactic(auto, unfolding(crate::specs::Shared::next_address))]
+    #[tactic(auto, unfolding(hip_ir::specs::Bodies::next_address))]
     fn next_address(&mut self, alloc: Global) -> Result<Operand, ReadError>
         ensures { Takes (λ x. x) result (next_address.read (left self.old)) (left self.new) }
     {
@@ -237,7 +236,7 @@ impl<'a> Parser<'a> {
     }
 
     /// The address behind a comma, and the alignment that is written.
-    #[tactic(auto, unfolding(crate::specs::Shared::aligned_address))]
+    #[tactic(auto, unfolding(hip_ir::specs::Bodies::aligned_address))]
     fn aligned_address(&mut self, alloc: Global) -> Result<(Operand, Option<u64>), ReadError>
         ensures { Takes (λ x. x) result (aligned_address.read (left self.old)) (left self.new) }
     {
@@ -246,7 +245,7 @@ impl<'a> Parser<'a> {
         Ok((addr, align))
     }
 
-    #[tactic(auto, using(crate::proofs::Regrouped::regrouped), unfolding(hip_ir::specs::Bodies::load, crate::specs::Shared::aligned_address, crate::specs::Shared::next_address))]
+    #[tactic(auto, unfolding(hip_ir::specs::Bodies::load))]
     fn load(&mut self, alloc: Global, dest: Name) -> Result<Instr, ReadError>
         ensures { Takes (λ x. x) result ((load dest).read (left self.old)) (left self.new) }
     {
@@ -261,7 +260,7 @@ impl<'a> Parser<'a> {
         })
     }
 
-    #[tactic(auto, using(crate::proofs::Regrouped::regrouped), unfolding(hip_ir::specs::Bodies::store, crate::specs::Shared::aligned_address, crate::specs::Shared::next_address))]
+    #[tactic(auto, unfolding(hip_ir::specs::Bodies::store))]
     fn store(&mut self, alloc: Global) -> Result<Instr, ReadError>
         ensures { Takes (λ x. x) result (store.read (left self.old)) (left self.new) }
     {
@@ -288,7 +287,7 @@ impl<'a> Parser<'a> {
         self.separated(alloc, Index)
     }
 
-    #[tactic(auto, using(crate::proofs::Regrouped::regrouped), unfolding(hip_ir::specs::Bodies::gep, hip_rules::specs::Part::one_more_by, crate::specs::Shared::next_address))]
+    #[tactic(auto, unfolding(hip_ir::specs::Bodies::gep))]
     fn gep(&mut self, alloc: Global, dest: Name) -> Result<Instr, ReadError>
         ensures { Takes (λ x. x) result ((gep dest).read (left self.old)) (left self.new) }
     {

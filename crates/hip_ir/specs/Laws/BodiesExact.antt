@@ -7,10 +7,10 @@ use Rattle.hip_types.specs.declared.number.Width.{Width}
 use Rattle.hip_types.specs.declared.number.Width.TheVariants.{W1}
 use Rattle.hip_tokens.specs.Tokens.{Tok, Word}
 use Rattle.hip_rules.specs.Rule.{both, ◌or◌}
-use Rattle.hip_rules.specs.Part.{token, ◌>>=◌, repeated, separated, listed}
+use Rattle.hip_rules.specs.Part.{token, ◌>>=◌, repeated, one_more_by, separated, listed}
 use Rattle.hip_rules.specs.Laws.Exact.{never, joined}
 use Rattle.hip_rules.specs.Laws.Same.{IsSame, head_or_other}
-use Rattle.hip_rules.specs.Laws.Parts.{Exact, IsRead, Apart, apart_sym, apart_joined, joined_apart, begins, token_begins, link, part_link, token_read, token_exact, closed_exact, gives_exact, next_exact, next_read, then_read, maps_exact, maps_read, either_read, optional_then_read, repeated_then_read, optional_same, repeated_same, separated_read, listed_read, passing_read, phased_exact}
+use Rattle.hip_rules.specs.Laws.Parts.{Exact, IsRead, Apart, apart_sym, apart_joined, joined_apart, begins, token_begins, link, part_link, token_read, token_exact, closed_exact, gives_exact, next_exact, next_read, then_read, maps_exact, maps_read, either_read, optional_then_read, repeated_then_read, optional_same, repeated_same, one_more_exact, separated_read, listed_read, passing_read, phased_exact}
 use Rattle.hip_ir.specs.declared.block.Block.{Block}
 use Rattle.hip_ir.specs.declared.block.Phi.{Phi}
 use Rattle.hip_ir.specs.declared.fault.Fault.{Fault}
@@ -20,8 +20,8 @@ use Rattle.std.specs.Prelude.{if◌then◌else◌}
 use Rattle.std.specs.List.{list_all}
 use Rattle.hip_ir.specs.Words.{is_word, is_mark, is_local, is_label, comma, a_local, a_label, a_word_of, is_word_of, width_word, width_text, scalar_word, binary_word, cast_text, int_casts, int_cast_word, is_there, flag_text, may_wrap, may_be_exact, flags_after, flag_word}
 use Rattle.hip_ir.specs.Numbers.{an_alignment}
-use Rattle.hip_ir.specs.Grammar.{word, maybe_word, type, is_width, arg, index}
-use Rattle.hip_ir.specs.Bodies.{align, maybe_align, assigned, edge, phi, flags, binary, compare, select, int_cast, ptrtoint, inttoptr, alloca, load, gep, plain_call, call, store, memory_instr, cast_instr, value_instr, effect_instr, assigning_instr, instr, begins_effect, begins_instr, target, jump, branch, br, case, switch, ret_void, ret_arg, ret_end, unreachable, end, closing, instrs_and_end, after_first, after_name, from_effect, after_phis, block}
+use Rattle.hip_ir.specs.Grammar.{word, maybe_word, type, is_width, operand, arg, index}
+use Rattle.hip_ir.specs.Bodies.{align, maybe_align, assigned, edge_label, edge, phi, flags, binary, compare, next_of_type, alternatives, select, to_int, int_cast, ptrtoint, inttoptr, alloca, next_address, aligned_address, load, gep, plain_call, call, store, memory_instr, cast_instr, value_instr, effect_instr, assigning_instr, instr, begins_effect, begins_instr, target, jump, branch, br, case, cases, switch, ret_void, ret_arg, ret_end, unreachable, end, closing, instrs_and_end, after_first, after_name, from_effect, after_phis, block}
 use Rattle.hip_ir.specs.Laws.Apart.{mark_apart, word_apart, local_apart, table_apart, not_local, not_label, not_word_of}
 use Rattle.hip_ir.specs.Laws.Exactness.{maybe_word_exact, type_read, begins_type, operand_read, arg_read, index_read}
 
@@ -38,11 +38,15 @@ pub assigned_read : IsRead assigned is_local never
 unfolding assigned
 assigned_read = token_begins a_local _ _ _ not_local (λ name. link _ _ _ (λ _. gives_exact _ _))
 
+edge_label_exact : Exact edge_label never
+unfolding edge_label
+edge_label_exact = link _ _ _ (λ _. link _ _ _ (λ label. link _ _ _ (λ _. gives_exact _ _)))
+
 pub edge_read : (s : Scalar) → IsRead (edge s) (is_mark 91) never
 unfolding edge
 edge_read s =
     begins _ _ _ (λ _. part_link _ _ _ (operand_read s).exact
-    (λ value. link _ _ _ (λ _. link _ _ _ (λ label. link _ _ _ (λ _. gives_exact _ _)))))
+    (λ value. part_link _ _ _ edge_label_exact (λ label. gives_exact _ _)))
 
 pub phi_read : (dest : List ℕ) → IsRead (phi dest) (is_word (codes "phi")) comma
 unfolding phi
@@ -51,6 +55,9 @@ phi_read dest =
     (separated_read (edge s) comma (is_mark 91) (edge_read s)).exact))
 
 -- ---- instructions, each of which may be followed by any token but perhaps a comma
+
+next_operand_exact : (s : Scalar) → Exact (one_more_by comma (operand s)) never
+next_operand_exact s = one_more_exact (operand s) comma never (operand_read s).exact
 
 -- a test is apart from a word and from what comes after it
 from_word : {A : Type 0} (f : List ℕ → Option A) (w : List ℕ) (d : Tok → Bool)
@@ -87,7 +94,7 @@ binary_read dest =
     (λ op. next_exact (flags op) _ _ (is_word_of width_word) comma (flags_exact op)
     (λ set. token_begins (a_word_of width_word) _ _ _ (not_word_of width_word)
     (λ w. part_link _ _ _ (operand_read (scalars.Int w)).exact
-    (λ a. link _ _ _ (λ _. part_link _ _ _ (operand_read (scalars.Int w)).exact (λ b. gives_exact _ _)))))
+    (λ a. part_link _ _ _ (next_operand_exact (scalars.Int w)) (λ b. gives_exact _ _))))
     (flag_apart op))
 
 compare_read : (dest : List ℕ) → IsRead (compare dest) (is_word (codes "icmp")) comma
@@ -95,28 +102,40 @@ unfolding compare
 compare_read dest =
     begins _ _ _ (λ _. link _ _ _ (λ pred. link _ _ _
     (λ s. part_link _ _ _ (operand_read s).exact
-    (λ a. link _ _ _ (λ _. part_link _ _ _ (operand_read s).exact (λ b. gives_exact _ _))))))
+    (λ a. part_link _ _ _ (next_operand_exact s) (λ b. gives_exact _ _)))))
+
+next_of_type_exact : (s : Scalar) → Exact (next_of_type s) never
+unfolding next_of_type
+next_of_type_exact s = link _ _ _ (λ _. link _ _ _ (λ _. (operand_read s).exact))
+
+alternatives_exact : Exact alternatives never
+unfolding alternatives
+alternatives_exact =
+    link _ _ _ (λ _. link _ _ _ (λ s. part_link _ _ _ (operand_read s).exact
+    (λ a. part_link _ _ _ (next_of_type_exact s) (λ b. gives_exact _ _))))
 
 select_read : (dest : List ℕ) → IsRead (select dest) (is_word (codes "select")) comma
 unfolding select
 select_read dest =
     begins _ _ _ (λ _. link _ _ _ (λ _. part_link _ _ _ (operand_read (scalars.Int W1)).exact
-    (λ cond. link _ _ _ (λ _. link _ _ _ (λ s. part_link _ _ _ (operand_read s).exact
-    (λ a. link _ _ _ (λ _. link _ _ _ (λ _.
-    part_link _ _ _ (operand_read s).exact (λ b. gives_exact _ _)))))))))
+    (λ cond. part_link _ _ _ alternatives_exact (λ chosen. gives_exact _ _))))
+
+to_int_exact : Exact to_int never
+unfolding to_int
+to_int_exact = link _ _ _ (λ _. token_exact (a_word_of width_word) never)
 
 int_cast_read : (dest : List ℕ) → IsRead (int_cast dest) (is_word_of int_cast_word) comma
 unfolding int_cast
 int_cast_read dest =
     token_begins (a_word_of int_cast_word) _ _ _ (not_word_of int_cast_word)
     (λ op. link _ _ _ (λ w. part_link _ _ _ (operand_read (scalars.Int w)).exact
-    (λ a. link _ _ _ (λ _. link _ _ _ (λ v. gives_exact _ _)))))
+    (λ a. part_link _ _ _ to_int_exact (λ v. gives_exact _ _))))
 
 ptrtoint_read : (dest : List ℕ) → IsRead (ptrtoint dest) (is_word (codes "ptrtoint")) comma
 unfolding ptrtoint
 ptrtoint_read dest =
     begins _ _ _ (λ _. link _ _ _ (λ _. part_link _ _ _ (operand_read scalars.Ptr).exact
-    (λ a. link _ _ _ (λ _. link _ _ _ (λ w. gives_exact _ _)))))
+    (λ a. part_link _ _ _ to_int_exact (λ w. gives_exact _ _))))
 
 inttoptr_read : (dest : List ℕ) → IsRead (inttoptr dest) (is_word (codes "inttoptr")) comma
 unfolding inttoptr
@@ -129,19 +148,25 @@ unfolding alloca
 alloca_read dest =
     begins _ _ _ (λ _. part_link _ _ _ (type_read 32).exact (λ ty. maps_exact maybe_align _ comma maybe_align_exact))
 
+next_address_exact : Exact next_address never
+unfolding next_address
+next_address_exact = link _ _ _ (λ _. link _ _ _ (λ _. (operand_read scalars.Ptr).exact))
+
+aligned_address_exact : Exact aligned_address comma
+unfolding aligned_address
+aligned_address_exact =
+    part_link _ _ _ next_address_exact (λ addr. maps_exact maybe_align _ comma maybe_align_exact)
+
 load_read : (dest : List ℕ) → IsRead (load dest) (is_word (codes "load")) comma
 unfolding load
 load_read dest =
-    begins _ _ _ (λ _. link _ _ _ (λ s. link _ _ _
-    (λ _. link _ _ _ (λ _. part_link _ _ _ (operand_read scalars.Ptr).exact
-    (λ addr. maps_exact maybe_align _ comma maybe_align_exact)))))
+    begins _ _ _ (λ _. link _ _ _ (λ s. maps_exact aligned_address _ comma aligned_address_exact))
 
 store_read : IsRead store (is_word (codes "store")) comma
 unfolding store
 store_read =
     begins _ _ _ (λ _. link _ _ _ (λ s. part_link _ _ _ (operand_read s).exact
-    (λ value. link _ _ _ (λ _. link _ _ _ (λ _. part_link _ _ _ (operand_read scalars.Ptr).exact
-    (λ addr. maps_exact maybe_align _ comma maybe_align_exact))))))
+    (λ value. maps_exact aligned_address _ comma aligned_address_exact)))
 
 gep_read : (dest : List ℕ) → IsRead (gep dest) (is_word (codes "getelementptr")) comma
 unfolding gep
@@ -149,10 +174,10 @@ gep_read dest =
     begins _ _ _ (λ _. next_exact (maybe_word (codes "inbounds")) _ _ begins_type comma
     (maybe_word_exact (codes "inbounds"))
     (λ inbounds. then_read type _ begins_type comma (type_read 32)
-    (λ ty. link _ _ _ (λ _. link _ _ _ (λ _. part_link _ _ _ (operand_read scalars.Ptr).exact
-    (λ base. link _ _ _ (λ _.
-    maps_exact (separated comma index) _ comma
-    (separated_read index comma (is_word_of width_word) index_read).exact))))))
+    (λ ty. part_link _ _ _ next_address_exact
+    (λ base. maps_exact (one_more_by comma (separated comma index)) _ comma
+    (one_more_exact (separated comma index) comma comma
+    (separated_read index comma (is_word_of width_word) index_read).exact))))
     (word_apart (codes "inbounds") begins_type refl))
 
 plain_call_read : (dest : Option (List ℕ)) → IsRead (plain_call dest) (is_word (codes "call")) comma
@@ -255,6 +280,9 @@ target_exact : Exact target never
 unfolding target
 target_exact = link _ _ _ (λ _. token_exact a_local never)
 
+next_target_exact : Exact (one_more_by comma target) never
+next_target_exact = one_more_exact target comma never target_exact
+
 jump_read : IsRead jump (is_word (codes "label")) never
 unfolding jump target
 jump_read =
@@ -265,8 +293,8 @@ branch_read : IsRead branch (is_word (codes "i1")) never
 unfolding branch
 branch_read =
     begins _ _ _ (λ _. part_link _ _ _ (operand_read (scalars.Int W1)).exact
-    (λ cond. link _ _ _ (λ _. part_link _ _ _ target_exact
-    (λ yes_label. link _ _ _ (λ _. part_link _ _ _ target_exact (λ no_label. gives_exact _ _))))))
+    (λ cond. part_link _ _ _ next_target_exact
+    (λ yes_label. part_link _ _ _ next_target_exact (λ no_label. gives_exact _ _))))
 
 br_read : IsRead br (is_word (codes "br")) never
 unfolding br
@@ -277,17 +305,21 @@ br_read =
 pub case_read : (w : Width) → IsRead (case w) (is_width w) never
 unfolding case
 case_read w =
-    begins _ _ _ (λ _. link _ _ _ (λ value.
-    link _ _ _ (λ _. part_link _ _ _ target_exact (λ label. gives_exact _ _))))
+    begins _ _ _ (λ _. link _ _ _ (λ value. part_link _ _ _ next_target_exact (λ label. gives_exact _ _)))
+
+cases_exact : (w : Width) → Exact (cases w) never
+unfolding cases
+cases_exact w =
+    link _ _ _ (λ _. next_exact (repeated (is_width w) (case w)) _ (is_width w) (is_mark 93) never
+    (repeated_same (case w) (is_width w) (case_read w)) (λ found. begins _ _ _ (λ _. gives_exact _ _))
+    (word_apart (width_text w) (is_mark 93) refl))
 
 switch_read : IsRead switch (is_word (codes "switch")) never
 unfolding switch
 switch_read =
     begins _ _ _ (λ _. link _ _ _ (λ w. part_link _ _ _ (operand_read (scalars.Int w)).exact
-    (λ value. link _ _ _ (λ _. part_link _ _ _ target_exact (λ other. link _ _ _ (λ _.
-    next_exact (repeated (is_width w) (case w)) _ (is_width w) (is_mark 93) never
-    (repeated_same (case w) (is_width w) (case_read w)) (λ cases. begins _ _ _ (λ _. gives_exact _ _))
-    (word_apart (width_text w) (is_mark 93) refl)))))))
+    (λ value. part_link _ _ _ next_target_exact
+    (λ other. part_link _ _ _ (cases_exact w) (λ found. gives_exact _ _)))))
 
 ret_void_read : IsRead ret_void (is_word (codes "void")) never
 unfolding ret_void

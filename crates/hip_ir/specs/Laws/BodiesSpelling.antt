@@ -13,16 +13,17 @@ use Rattle.hip_types.specs.declared.number.Width.TheVariants.{W1}
 use Rattle.hip_tokens.specs.Longest.{is_name}
 use Rattle.hip_rules.specs.Rule.{Yes}
 use Rattle.hip_rules.specs.Reader.{folded}
-use Rattle.hip_rules.specs.Laws.Yields.{Yields, Any, token_yields, gives_yields, then_yields, after_token, either_yields, repeated_yields, optional_yields, separated_yields, listed_yields, phased_yields}
+use Rattle.hip_rules.specs.Part.{one_more_by, separated}
+use Rattle.hip_rules.specs.Laws.Yields.{Yields, Any, token_yields, gives_yields, then_yields, after_token, either_yields, repeated_yields, optional_yields, one_more_yields, separated_yields, listed_yields, phased_yields}
 use Rattle.hip_ir.specs.declared.block.Phi.{Phi}
 use Rattle.hip_ir.specs.declared.instr.Flag.{Flag}
 use Rattle.hip_ir.specs.declared.instr.Flag.TheVariants.{Nuw, Nsw, Exact}
 use Rattle.hip_ir.specs.declared.instr.Flags.{Flags}
 use Rattle.hip_ir.specs.Words.{is_word, is_mark, is_local, comma, a_local, a_global, a_label, a_word_of, or_no, cast_text, int_casts, int_cast_word, flag_text, may_wrap, may_be_exact, flags_after, flag_word}
 use Rattle.hip_ir.specs.Numbers.{a_literal, an_alignment}
-use Rattle.hip_ir.specs.Grammar.{index, arg}
-use Rattle.hip_ir.specs.Bodies.{align, maybe_align, assigned, edge, phi, no_flags, with_flag, flags, binary, compare, select, int_cast, ptrtoint, inttoptr, alloca, load, gep, plain_call, call, store, memory_instr, cast_instr, value_instr, effect_instr, assigning_instr, instr, begins_instr, target, jump, branch, br, case, switch, ret_void, ret_arg, ret_end, unreachable, end, closing, instrs_and_end, after_name, after_phis, block}
-use Rattle.hip_ir.specs.Spelling.{not_empty, spelled_align, spelled_arg, spelled_index, spelled_flags, spelled_cast, spelled_result, spelled_instr, spelled_edge, spelled_phi, spelled_case, spelled_end, spelled_block}
+use Rattle.hip_ir.specs.Grammar.{operand, index, arg}
+use Rattle.hip_ir.specs.Bodies.{align, maybe_align, assigned, edge_label, edge, phi, no_flags, with_flag, flags, binary, compare, next_of_type, alternatives, select, to_int, int_cast, ptrtoint, inttoptr, alloca, next_address, aligned_address, load, gep, plain_call, call, store, memory_instr, cast_instr, value_instr, effect_instr, assigning_instr, instr, begins_instr, target, jump, branch, br, case, cases, switch, ret_void, ret_arg, ret_end, unreachable, end, closing, instrs_and_end, after_name, after_phis, block}
+use Rattle.hip_ir.specs.Spelling.{not_empty, spelled_align, spelled_operand, spelled_arg, spelled_index, spelled_flags, spelled_cast, spelled_result, spelled_instr, spelled_edge, spelled_phi, spelled_case, spelled_end, spelled_block}
 use Rattle.hip_ir.specs.Laws.SpellingLaws.{local_is, global_is, label_is, word_is, table_is, alignment_is, literal_is, type_yields, maybe_word_yields, operand_yields, arg_yields, index_yields}
 
 align_yields : Yields align (λ n. spelled_align (Some n) ≡ true)
@@ -39,12 +40,17 @@ unfolding assigned
 assigned_yields =
     then_yields _ _ _ _ (token_yields a_local _ local_is) (λ name n. after_token _ _ _ (λ _. gives_yields _ _ n))
 
+edge_label_yields : Yields edge_label (λ n. is_name n ≡ true)
+unfolding edge_label
+edge_label_yields =
+    after_token _ _ _ (λ _. then_yields _ _ _ _ (token_yields a_local _ local_is)
+    (λ label l. after_token _ _ _ (λ _. gives_yields _ _ l)))
+
 edge_yields : (s : Scalar) → Yields (edge s) (λ e. spelled_edge s e ≡ true)
 unfolding edge
 edge_yields s =
     after_token _ _ _ (λ _. then_yields _ _ _ _ (operand_yields s)
-    (λ value v. after_token _ _ _ (λ _. then_yields _ _ _ _ (token_yields a_local _ local_is)
-    (λ label l. after_token _ _ _ (λ _. gives_yields _ _ (both_true v l))))))
+    (λ value v. then_yields _ _ _ _ edge_label_yields (λ label l. gives_yields _ _ (both_true v l))))
 
 phi_yields : (dest : List ℕ) → is_name dest ≡ true → Yields (phi dest) (λ p. spelled_phi p ≡ true)
 unfolding phi
@@ -106,31 +112,46 @@ flags_yields op =
     (λ found h. gives_yields _ _ (all_suit (may_wrap op) (may_be_exact op) no_flags found
     (none_suits (may_wrap op) (may_be_exact op)) h))
 
+next_operand_yields : (s : Scalar) → Yields (one_more_by comma (operand s)) (λ o. spelled_operand s o ≡ true)
+next_operand_yields s = one_more_yields comma (operand s) _ (operand_yields s)
+
 binary_yields : (dest : List ℕ) → is_name dest ≡ true → Yields (binary dest) (λ i. spelled_instr i ≡ true)
 unfolding binary
 binary_yields dest d =
     after_token _ _ _ (λ op. then_yields _ _ _ _ (flags_yields op)
     (λ set f. after_token _ _ _ (λ w. then_yields _ _ _ _ (operand_yields (scalars.Int w))
-    (λ a x. after_token _ _ _ (λ _. then_yields _ _ _ _ (operand_yields (scalars.Int w)) (λ b y.
-    gives_yields _ _ (both_true d (both_true f (both_true x y)))))))))
+    (λ a x. then_yields _ _ _ _ (next_operand_yields (scalars.Int w)) (λ b y.
+    gives_yields _ _ (both_true d (both_true f (both_true x y))))))))
 
 compare_yields : (dest : List ℕ) → is_name dest ≡ true → Yields (compare dest) (λ i. spelled_instr i ≡ true)
 unfolding compare
 compare_yields dest d =
     after_token _ _ _ (λ _. after_token _ _ _
     (λ pred. after_token _ _ _ (λ s. then_yields _ _ _ _ (operand_yields s)
-    (λ a x. after_token _ _ _ (λ _. then_yields _ _ _ _ (operand_yields s) (λ b y.
-    gives_yields _ _ (both_true d (both_true x y))))))))
+    (λ a x. then_yields _ _ _ _ (next_operand_yields s) (λ b y.
+    gives_yields _ _ (both_true d (both_true x y)))))))
+
+next_of_type_yields : (s : Scalar) → Yields (next_of_type s) (λ o. spelled_operand s o ≡ true)
+unfolding next_of_type
+next_of_type_yields s = after_token _ _ _ (λ _. after_token _ _ _ (λ _. operand_yields s))
+
+alternatives_yields : Yields alternatives (λ c. (spelled_operand c.0 c.1 && spelled_operand c.0 c.2) ≡ true)
+unfolding alternatives
+alternatives_yields =
+    after_token _ _ _ (λ _. after_token _ _ _ (λ s. then_yields _ _ _ _ (operand_yields s)
+    (λ a x. then_yields _ _ _ _ (next_of_type_yields s) (λ b y. gives_yields _ _ (both_true x y)))))
 
 select_yields : (dest : List ℕ) → is_name dest ≡ true → Yields (select dest) (λ i. spelled_instr i ≡ true)
 unfolding select
 select_yields dest d =
     after_token _ _ _ (λ _. after_token _ _ _
     (λ _. then_yields _ _ _ _ (operand_yields (scalars.Int W1))
-    (λ cond c. after_token _ _ _ (λ _. after_token _ _ _
-    (λ s. then_yields _ _ _ _ (operand_yields s) (λ a x. after_token _ _ _ (λ _. after_token _ _ _ (λ _.
-    then_yields _ _ _ _ (operand_yields s) (λ b y.
-    gives_yields _ _ (both_true d (both_true c (both_true x y))))))))))))
+    (λ cond c. then_yields _ _ _ _ alternatives_yields
+    (λ chosen a. gives_yields _ _ (both_true d (both_true c a))))))
+
+to_int_yields : Yields to_int Any
+unfolding to_int
+to_int_yields = after_token _ _ _ (λ _. token_yields _ Any (λ t w f e. tt))
 
 int_cast_by : (v w : Width) (t : List ℕ) (op : CastOp) → or_no (int_cast_word t) ≡ Yes op
     → spelled_cast op (scalars.Int v) (scalars.Int w) ≡ true
@@ -144,8 +165,8 @@ int_cast_yields dest d =
     (word_is int_cast_word (λ op. (v w : Width) → spelled_cast op (scalars.Int v) (scalars.Int w) ≡ true)
     (λ t op e v w. int_cast_by v w t op e))) (λ op c.
     after_token _ _ _ (λ w. then_yields _ _ _ _ (operand_yields (scalars.Int w))
-    (λ a x. after_token _ _ _ (λ _. after_token _ _ _
-    (λ v. gives_yields _ _ (both_true d (both_true (c w v) x)))))))
+    (λ a x. then_yields _ _ _ _ to_int_yields
+    (λ v _. gives_yields _ _ (both_true d (both_true (c w v) x))))))
 
 ptrtoint_yields : (dest : List ℕ) → is_name dest ≡ true
     → Yields (ptrtoint dest) (λ i. spelled_instr i ≡ true)
@@ -153,7 +174,7 @@ unfolding ptrtoint
 ptrtoint_yields dest d =
     after_token _ _ _ (λ _. after_token _ _ _
     (λ _. then_yields _ _ _ _ (operand_yields scalars.Ptr)
-    (λ a x. after_token _ _ _ (λ _. after_token _ _ _ (λ w. gives_yields _ _ (both_true d x))))))
+    (λ a x. then_yields _ _ _ _ to_int_yields (λ w _. gives_yields _ _ (both_true d x)))))
 
 inttoptr_yields : (dest : List ℕ) → is_name dest ≡ true
     → Yields (inttoptr dest) (λ i. spelled_instr i ≡ true)
@@ -169,33 +190,39 @@ alloca_yields dest d =
     after_token _ _ _ (λ _. then_yields _ _ _ _ (type_yields 32)
     (λ ty t. then_yields _ _ _ _ maybe_align_yields (λ n a. gives_yields _ _ (both_true d (both_true t a)))))
 
+next_address_yields : Yields next_address (λ o. spelled_operand scalars.Ptr o ≡ true)
+unfolding next_address
+next_address_yields = after_token _ _ _ (λ _. after_token _ _ _ (λ _. operand_yields scalars.Ptr))
+
+aligned_address_yields : Yields aligned_address (λ p. (spelled_operand scalars.Ptr p.0 && spelled_align p.1) ≡ true)
+unfolding aligned_address
+aligned_address_yields =
+    then_yields _ _ _ _ next_address_yields
+    (λ addr x. then_yields _ _ _ _ maybe_align_yields (λ n a. gives_yields _ _ (both_true x a)))
+
 load_yields : (dest : List ℕ) → is_name dest ≡ true → Yields (load dest) (λ i. spelled_instr i ≡ true)
 unfolding load
 load_yields dest d =
     after_token _ _ _ (λ _. after_token _ _ _
-    (λ s. after_token _ _ _ (λ _. after_token _ _ _
-    (λ _. then_yields _ _ _ _ (operand_yields scalars.Ptr)
-    (λ addr x. then_yields _ _ _ _ maybe_align_yields (λ n a. gives_yields _ _ (both_true d (both_true x a))))))))
+    (λ s. then_yields _ _ _ _ aligned_address_yields (λ read a. gives_yields _ _ (both_true d a))))
 
 store_yields : Yields store (λ i. spelled_instr i ≡ true)
 unfolding store
 store_yields =
     after_token _ _ _ (λ _. after_token _ _ _
     (λ s. then_yields _ _ _ _ (operand_yields s)
-    (λ value v. after_token _ _ _ (λ _. after_token _ _ _
-    (λ _. then_yields _ _ _ _ (operand_yields scalars.Ptr) (λ addr x.
-    then_yields _ _ _ _ maybe_align_yields (λ n a. gives_yields _ _ (both_true v (both_true x a)))))))))
+    (λ value v. then_yields _ _ _ _ aligned_address_yields (λ written a. gives_yields _ _ (both_true v a)))))
 
 gep_yields : (dest : List ℕ) → is_name dest ≡ true → Yields (gep dest) (λ i. spelled_instr i ≡ true)
 unfolding gep
 gep_yields dest d =
     after_token _ _ _ (λ _. then_yields _ _ _ _ (maybe_word_yields (codes "inbounds"))
     (λ inbounds _. then_yields _ _ _ _ (type_yields 32)
-    (λ ty t. after_token _ _ _ (λ _. after_token _ _ _
-    (λ _. then_yields _ _ _ _ (operand_yields scalars.Ptr) (λ base b. after_token _ _ _ (λ _.
-    then_yields _ _ _ _ (separated_yields comma index spelled_index
-    (λ is. (not_empty is && list_all spelled_index is) ≡ true) index_yields (λ x xs h. h))
-    (λ indices i. gives_yields _ _ (both_true d (both_true t (both_true b i)))))))))))
+    (λ ty t. then_yields _ _ _ _ next_address_yields
+    (λ base b. then_yields _ _ _ _ (one_more_yields comma (separated comma index) _
+    (separated_yields comma index spelled_index
+    (λ is. (not_empty is && list_all spelled_index is) ≡ true) index_yields (λ x xs h. h)))
+    (λ indices i. gives_yields _ _ (both_true d (both_true t (both_true b i))))))))
 
 plain_call_yields : (dest : Option (List ℕ)) → spelled_result dest ≡ true
     → Yields (plain_call dest) (λ i. spelled_instr i ≡ true)
@@ -253,6 +280,9 @@ target_yields : Yields target (λ n. is_name n ≡ true)
 unfolding target
 target_yields = after_token _ _ _ (λ _. token_yields a_local _ local_is)
 
+next_target_yields : Yields (one_more_by comma target) (λ n. is_name n ≡ true)
+next_target_yields = one_more_yields comma target _ target_yields
+
 jump_yields : Yields jump (λ e. spelled_end e ≡ true)
 unfolding jump
 jump_yields = then_yields _ _ _ _ target_yields (λ label l. gives_yields _ _ l)
@@ -261,9 +291,9 @@ branch_yields : Yields branch (λ e. spelled_end e ≡ true)
 unfolding branch
 branch_yields =
     after_token _ _ _ (λ _. then_yields _ _ _ _ (operand_yields (scalars.Int W1))
-    (λ cond c. after_token _ _ _ (λ _. then_yields _ _ _ _ target_yields
-    (λ yes_label y. after_token _ _ _ (λ _. then_yields _ _ _ _ target_yields (λ no_label n.
-    gives_yields _ _ (both_true c (both_true y n))))))))
+    (λ cond c. then_yields _ _ _ _ next_target_yields
+    (λ yes_label y. then_yields _ _ _ _ next_target_yields (λ no_label n.
+    gives_yields _ _ (both_true c (both_true y n))))))
 
 br_yields : Yields br (λ e. spelled_end e ≡ true)
 unfolding br
@@ -273,17 +303,22 @@ case_yields : (w : Width) → Yields (case w) (λ c. spelled_case w c ≡ true)
 unfolding case
 case_yields w =
     after_token _ _ _ (λ _. then_yields _ _ _ _ (token_yields (a_literal w) _ (literal_is w))
-    (λ value v. after_token _ _ _ (λ _. then_yields _ _ _ _ target_yields
-    (λ label l. gives_yields _ _ (both_true v l)))))
+    (λ value v. then_yields _ _ _ _ next_target_yields (λ label l. gives_yields _ _ (both_true v l))))
+
+cases_yields : (w : Width) → Yields (cases w) (λ cs. list_all (spelled_case w) cs ≡ true)
+unfolding cases
+cases_yields w =
+    after_token _ _ _ (λ _. then_yields _ _ _ _ (repeated_yields _ (case w) (spelled_case w) (case_yields w))
+    (λ found c. after_token _ _ _ (λ _. gives_yields _ _ c)))
 
 switch_yields : Yields switch (λ e. spelled_end e ≡ true)
 unfolding switch
 switch_yields =
     after_token _ _ _ (λ _. after_token _ _ _
     (λ w. then_yields _ _ _ _ (operand_yields (scalars.Int w))
-    (λ value v. after_token _ _ _ (λ _. then_yields _ _ _ _ target_yields (λ other o. after_token _ _ _ (λ _.
-    then_yields _ _ _ _ (repeated_yields _ (case w) (spelled_case w) (case_yields w))
-    (λ cases c. after_token _ _ _ (λ _. gives_yields _ _ (both_true v (both_true o c))))))))))
+    (λ value v. then_yields _ _ _ _ next_target_yields
+    (λ other o. then_yields _ _ _ _ (cases_yields w)
+    (λ found c. gives_yields _ _ (both_true v (both_true o c)))))))
 
 ret_end_yields : Yields ret_end (λ e. spelled_end e ≡ true)
 unfolding ret_end ret_void ret_arg

@@ -17,6 +17,7 @@ use Rattle.hip_tokens.specs.Longest.{is_name}
 use Rattle.hip_tokens.specs.Tokens.{Word}
 use Rattle.hip_tokens.specs.Written.{ends_word}
 use Rattle.hip_rules.specs.Rule.{Yes, one, many}
+use Rattle.hip_rules.specs.Part.{one_more_by, separated}
 use Rattle.hip_rules.specs.Laws.Texts.{IsTextOf, Leaves, anything, then_text, last_text, nothing_text, anywhere_text, word_text, word_then, local_text, global_text, mark_text, mark_then, blank_text, blank_behind, left_text, right_text, none_text, some_text, no_more_text, more_text}
 use Rattle.hip_ir.specs.declared.instr.Arg.{Arg}
 use Rattle.hip_ir.specs.declared.instr.Flag.{Flag}
@@ -25,13 +26,13 @@ use Rattle.hip_ir.specs.declared.instr.Flags.{Flags}
 use Rattle.hip_ir.specs.declared.instr.Instr.{Instr}
 use Rattle.hip_ir.specs.declared.instr.Instr.TheVariants as instrs
 use Rattle.hip_ir.specs.declared.instr.Operand.{Operand}
-use Rattle.hip_ir.specs.Words.{a_word_of, scalar_text, width_text, ret_text, binary_text, binary_word, pred_text, pred_word, cast_text, int_cast_word, flag_text, may_wrap, may_be_exact, flags_after, flag_word}
-use Rattle.hip_ir.specs.Grammar.{arg, index}
-use Rattle.hip_ir.specs.Bodies.{align, maybe_align, assigned, flags, binary, compare, select, int_cast, ptrtoint, inttoptr, alloca, load, gep, plain_call, call, store, memory_instr, cast_instr, value_instr, effect_instr, assigning_instr, instr}
+use Rattle.hip_ir.specs.Words.{comma, a_word_of, scalar_text, width_text, ret_text, binary_text, binary_word, pred_text, pred_word, cast_text, int_cast_word, flag_text, may_wrap, may_be_exact, flags_after, flag_word}
+use Rattle.hip_ir.specs.Grammar.{operand, arg, index}
+use Rattle.hip_ir.specs.Bodies.{align, maybe_align, assigned, flags, binary, compare, next_of_type, alternatives, select, to_int, int_cast, ptrtoint, inttoptr, alloca, next_address, aligned_address, load, gep, plain_call, call, store, memory_instr, cast_instr, value_instr, effect_instr, assigning_instr, instr}
 use Rattle.hip_ir.specs.Show.{after_commas, type_text, inbounds_text, operand_text, arg_text, align_text, flag_if, flags_text, assigned_text, instr_text, parenthesized}
 use Rattle.hip_ir.specs.Spelling.{not_empty, spelled_align, spelled_type, spelled_operand, spelled_arg, spelled_index, spelled_flags, spelled_cast, spelled_instr}
 use Rattle.hip_ir.specs.Laws.WrittenNumbers.{alignment_text}
-use Rattle.hip_ir.specs.Laws.WrittenLists.{separated_are, listed_are}
+use Rattle.hip_ir.specs.Laws.WrittenLists.{after_comma, separated_are, listed_are}
 use Rattle.hip_ir.specs.Laws.WrittenTypes.{int_is, scalar_is, same_scalar_is, ret_is, type_is}
 use Rattle.hip_ir.specs.Laws.WrittenConsts.{inbounds_then, operand_is, arg_is, index_is}
 
@@ -170,6 +171,10 @@ flags_are op set e =
 abbrev two_operands : Operand → Operand → List ℕ
 two_operands a b = operand_text a ++ (codes ", " ++ operand_text b)
 
+next_operand_is : (s : Scalar) (o : Operand) → spelled_operand s o ≡ true
+    → IsTextOf ends_word (one_more_by comma (operand s)).rule (codes ", " ++ operand_text o) o
+next_operand_is s o e = after_comma (operand s) (operand_is s o e)
+
 binary_instr_is : (dest : List ℕ) (op : BinaryOp) (set : Flags) (w : Width) (a b : Operand)
     → spelled_flags op set ≡ true → spelled_operand (scalars.Int w) a ≡ true
     → spelled_operand (scalars.Int w) b ≡ true
@@ -181,8 +186,7 @@ binary_instr_is dest op set w a b e f g =
     then_text _ (binary_is op) (blank_text 32 refl
     (then_text _ (flags_are op set e) (then_text _ (int_is w) (blank_text 32 refl
     (then_text _ (operand_is (scalars.Int w) a f)
-    (mark_then _ _ 44 refl refl (blank_text 32 refl
-    (last_text _ (operand_is (scalars.Int w) b g) (nothing_text anything)))) (λ rest h. refl))) (λ rest h. refl))
+    (last_text _ (next_operand_is (scalars.Int w) b g) (nothing_text anything)) (λ rest h. refl))) (λ rest h. refl))
     (λ rest h. refl))) (λ rest h. refl)
 
 compare_is : (dest : List ℕ) (p : Pred) (s : Scalar) (a b : Operand) → spelled_operand s a ≡ true
@@ -193,9 +197,25 @@ unfolding compare
 compare_is dest p s a b f g =
     word_then _ _ (codes "icmp") refl refl (then_text _ (pred_is p)
     (blank_text 32 refl (then_text _ (scalar_is s) (blank_text 32 refl
-    (then_text _ (operand_is s a f) (mark_then _ _ 44 refl refl
-    (blank_text 32 refl (last_text _ (operand_is s b g) (nothing_text anything)))) (λ rest h. refl)))
+    (then_text _ (operand_is s a f) (last_text _ (next_operand_is s b g) (nothing_text anything)) (λ rest h. refl)))
     (λ rest h. refl))) (λ rest h. refl))
+
+next_of_type_is : (s : Scalar) (o : Operand) → spelled_operand s o ≡ true
+    → IsTextOf ends_word (next_of_type s).rule (codes ", " ++ (scalar_text s ++ (codes " " ++ operand_text o))) o
+unfolding next_of_type
+next_of_type_is s o e =
+    mark_then _ _ 44 refl refl (blank_text 32 refl
+    (then_text _ (same_scalar_is s) (blank_text 32 refl (operand_is s o e)) (λ rest h. refl)))
+
+alternatives_are : (s : Scalar) (a b : Operand) → spelled_operand s a ≡ true → spelled_operand s b ≡ true
+    → IsTextOf ends_word alternatives.rule (codes ", " ++
+    (scalar_text s ++
+    (codes " " ++ (operand_text a ++ (codes ", " ++ (scalar_text s ++ (codes " " ++ operand_text b))))))) (s, a, b)
+unfolding alternatives
+alternatives_are s a b f g =
+    mark_then _ _ 44 refl refl (blank_text 32 refl (then_text _ (scalar_is s)
+    (blank_text 32 refl (then_text _ (operand_is s a f)
+    (last_text _ (next_of_type_is s b g) (nothing_text anything)) (λ rest h. refl))) (λ rest h. refl)))
 
 select_is : (dest : List ℕ) (cond : Operand) (s : Scalar) (a b : Operand)
     → spelled_operand (scalars.Int W1) cond ≡ true
@@ -209,17 +229,18 @@ select_is : (dest : List ℕ) (cond : Operand) (s : Scalar) (a b : Operand)
 unfolding select
 select_is dest cond s a b e f g =
     word_then _ _ (codes "select") refl refl (word_then _ _ (codes "i1") refl refl
-    (then_text _ (operand_is (scalars.Int W1) cond e) (mark_then _ _ 44 refl refl (blank_text 32 refl
-    (then_text _ (scalar_is s) (blank_text 32 refl
-    (then_text _ (operand_is s a f) (mark_then _ _ 44 refl refl (blank_text 32 refl
-    (then_text _ (same_scalar_is s) (blank_text 32 refl (last_text _ (operand_is s b g) (nothing_text anything)))
-    (λ rest h. refl)))) (λ rest h. refl))) (λ rest h. refl)))) (λ rest h. refl)))
+    (then_text _ (operand_is (scalars.Int W1) cond e)
+    (last_text _ (alternatives_are s a b f g) (nothing_text anything)) (λ rest h. refl)))
 
 -- ---- casts
 
 abbrev cast_form : List ℕ → Scalar → Operand → Scalar → List ℕ
 cast_form word from a to =
     word ++ (codes " " ++ (scalar_text from ++ (codes " " ++ (operand_text a ++ (codes " to " ++ scalar_text to)))))
+
+to_int_is : (v : Width) → IsTextOf ends_word to_int.rule (codes "to " ++ width_text v) v
+unfolding to_int
+to_int_is v = word_then _ _ (codes "to") refl refl (int_is v)
 
 int_cast_is : (dest : List ℕ) (op : CastOp) (word : List ℕ) (w v : Width) (a : Operand) → is_name word ≡ true
     → a_word_of int_cast_word (Word word) ≡ Yes op → spelled_operand (scalars.Int w) a ≡ true
@@ -228,8 +249,7 @@ int_cast_is : (dest : List ℕ) (op : CastOp) (word : List ℕ) (w v : Width) (a
 unfolding int_cast
 int_cast_is dest op word w v a n e f =
     word_then _ _ word n e (then_text _ (int_is w) (blank_text 32 refl (then_text _ (operand_is (scalars.Int w) a f)
-    (blank_text 32 refl (word_then _ _ (codes "to") refl refl (last_text _ (int_is v) (nothing_text anything))))
-    (λ rest h. refl))) (λ rest h. refl))
+    (blank_text 32 refl (last_text _ (to_int_is v) (nothing_text anything))) (λ rest h. refl))) (λ rest h. refl))
 
 ptrtoint_is : (dest : List ℕ) (v : Width) (a : Operand) → spelled_operand scalars.Ptr a ≡ true
     → IsTextOf ends_word (ptrtoint dest).rule (cast_form (cast_text casts.Ptrtoint) scalars.Ptr a (scalars.Int v))
@@ -238,8 +258,7 @@ unfolding ptrtoint
 ptrtoint_is dest v a f =
     word_then _ _ (cast_text casts.Ptrtoint) refl refl
     (word_then _ _ (codes "ptr") refl refl (then_text _ (operand_is scalars.Ptr a f)
-    (blank_text 32 refl (word_then _ _ (codes "to") refl refl (last_text _ (int_is v) (nothing_text anything))))
-    (λ rest h. refl)))
+    (blank_text 32 refl (last_text _ (to_int_is v) (nothing_text anything))) (λ rest h. refl)))
 
 inttoptr_is : (dest : List ℕ) (w : Width) (a : Operand) → spelled_operand (scalars.Int w) a ≡ true
     → IsTextOf ends_word (inttoptr dest).rule (cast_form (cast_text casts.Inttoptr) (scalars.Int w) a scalars.Ptr)
@@ -287,6 +306,20 @@ alloca_is dest ty n e f =
     word_then _ _ (codes "alloca") refl refl (then_text _ (type_is 32 ty e)
     (last_text _ (align_is n f) (nothing_text anything)) (align_leaves n))
 
+next_address_is : (addr : Operand) → spelled_operand scalars.Ptr addr ≡ true
+    → IsTextOf ends_word next_address.rule (codes ", ptr " ++ operand_text addr) addr
+unfolding next_address
+next_address_is addr e =
+    mark_then _ _ 44 refl refl (blank_text 32 refl
+    (word_then _ _ (codes "ptr") refl refl (operand_is scalars.Ptr addr e)))
+
+aligned_address_is : (addr : Operand) (n : Option ℕ) → spelled_operand scalars.Ptr addr ≡ true
+    → spelled_align n ≡ true
+    → IsTextOf ends_word aligned_address.rule (codes ", ptr " ++ (operand_text addr ++ align_text n)) (addr, n)
+unfolding aligned_address
+aligned_address_is addr n e f =
+    then_text _ (next_address_is addr e) (last_text _ (align_is n f) (nothing_text anything)) (align_leaves n)
+
 load_is : (dest : List ℕ) (s : Scalar) (addr : Operand) (n : Option ℕ) → spelled_operand scalars.Ptr addr ≡ true
     → spelled_align n ≡ true
     → IsTextOf ends_word (load dest).rule (codes "load " ++
@@ -294,9 +327,7 @@ load_is : (dest : List ℕ) (s : Scalar) (addr : Operand) (n : Option ℕ) → s
 unfolding load
 load_is dest s addr n e f =
     word_then _ _ (codes "load") refl refl (then_text _ (scalar_is s)
-    (mark_then _ _ 44 refl refl (blank_text 32 refl (word_then _ _ (codes "ptr") refl refl
-    (then_text _ (operand_is scalars.Ptr addr e) (last_text _ (align_is n f) (nothing_text anything))
-    (align_leaves n))))) (λ rest h. refl))
+    (last_text _ (aligned_address_is addr n e f) (nothing_text anything)) (λ rest h. refl))
 
 store_is : (s : Scalar) (value addr : Operand) (n : Option ℕ) → spelled_operand s value ≡ true
     → spelled_operand scalars.Ptr addr ≡ true → spelled_align n ≡ true
@@ -307,9 +338,7 @@ unfolding store
 store_is s value addr n e f g =
     word_then _ _ (codes "store") refl refl (then_text _ (scalar_is s)
     (blank_text 32 refl (then_text _ (operand_is s value e)
-    (mark_then _ _ 44 refl refl (blank_text 32 refl (word_then _ _ (codes "ptr") refl refl
-    (then_text _ (operand_is scalars.Ptr addr f) (last_text _ (align_is n g) (nothing_text anything))
-    (align_leaves n))))) (λ rest h. refl))) (λ rest h. refl))
+    (last_text _ (aligned_address_is addr n f g) (nothing_text anything)) (λ rest h. refl))) (λ rest h. refl))
 
 gep_is : (dest : List ℕ) (inbounds : Bool) (ty : Ty) (base : Operand) (indices : List Arg)
     → spelled_type ty ≡ true
@@ -324,11 +353,9 @@ gep_is dest inbounds ty base [] e f some g = absurd cc
 gep_is dest inbounds ty base (i ∷ is) e f some g =
     word_then _ _ (codes "getelementptr") refl refl
     (inbounds_then _ ends_word _ _ inbounds (then_text _ (type_is 32 ty e)
-    (mark_then _ _ 44 refl refl (blank_text 32 refl (word_then _ _ (codes "ptr") refl refl
-    (then_text _ (operand_is scalars.Ptr base f)
-    (mark_then _ _ 44 refl refl (blank_text 32 refl
-    (last_text _ (separated_are index arg_text spelled_index index_is i is g) (nothing_text anything))))
-    (λ rest h. refl))))) (λ rest h. refl)))
+    (then_text _ (next_address_is base f)
+    (last_text _ (after_comma (separated comma index) (separated_are index arg_text spelled_index index_is i is g))
+    (nothing_text anything)) (λ rest h. refl)) (λ rest h. refl)))
 
 call_is : (dest : Option (List ℕ)) (ret : Option Scalar) (callee : List ℕ) (args : List Arg)
     → is_name callee ≡ true

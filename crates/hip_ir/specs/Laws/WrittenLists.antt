@@ -10,14 +10,19 @@ use Rattle.hip_ir.specs.declared.fault.Fault.{Fault}
 use Rattle.hip_ir.specs.Words.{comma, is_mark}
 use Rattle.hip_ir.specs.Show.{commas, after_commas}
 
+-- what stands behind a comma and a space
+pub after_comma : {A : Type 0} (l : Part Fault A) {c : List ℕ → Bool} {s : List ℕ} {x : A} → IsTextOf c l.rule s x
+    → IsTextOf c (one_more_by comma l).rule (codes ", " ++ s) x
+unfolding one_more_by
+after_comma l p = mark_then _ _ 44 refl refl (blank_text 32 refl p)
+
 module _ {A : Type 0} (l : Part Fault A) (text : A → List ℕ) (test : A → Bool)
     (each : (x : A) → test x ≡ true → IsTextOf ends_word l.rule (text x) x) where
   abbrev behind_comma : A → List ℕ
   behind_comma x = codes ", " ++ text x
 
   one_more_is : (x : A) → test x ≡ true → IsTextOf ends_word (one_more_by comma l).rule (behind_comma x) x
-  unfolding one_more_by
-  one_more_is x e = mark_then _ _ 44 refl refl (blank_text 32 refl (each x e))
+  one_more_is x e = after_comma l (each x e)
 
   after_commas_are : (xs : List A) → flat_map behind_comma xs ≡ after_commas (map text xs)
   after_commas_are [] = refl

@@ -226,10 +226,17 @@ by_never k t e = left_is (k t) e
     left_is true h = refl
     left_is false h = h
 
+-- behind a separator
+one_more_by_read : {F A : Type 0} (l : Part F A) (k c : Tok → Bool) → Exact l c → IsRead (one_more_by k l) k c
+unfolding one_more_by
+one_more_by_read {F} l k c p = then_read (passing {F = F} k) (λ _. l) k c (passing_read k never) (λ _. p)
+
+pub one_more_exact : {F A : Type 0} (l : Part F A) (k c : Tok → Bool) → Exact l c → Exact (one_more_by k l) c
+one_more_exact l k c p = (one_more_by_read l k c p).exact
+
 pub one_more_read : {F A : Type 0} (l : Part F A) (k first c : Tok → Bool) → IsRead l first c
     → IsRead (one_more_by k l) k c
-unfolding one_more_by
-one_more_read {F} l k first c p = then_read (passing {F = F} k) (λ _. l) k c (passing_read k never) (λ _. p.exact)
+one_more_read l k first c p = one_more_by_read l k c p.exact
 
 -- any number more, behind a separator each
 pub more_exact : {F A : Type 0} (l : Part F A) (k first : Tok → Bool) → IsRead l first never

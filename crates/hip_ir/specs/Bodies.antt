@@ -38,6 +38,7 @@ align = do
   _ ← word (codes "align")
   token an_alignment
 
+-- [ align ]
 abbrev pub maybe_align : Part Fault (Option ℕ)
 maybe_align = optional comma align
 
@@ -76,14 +77,17 @@ phi dest = do
 
 -- ---- instructions, those that assign a register behind LOCAL "="
 
+-- no flag is set
 abbrev pub no_flags : Flags
 no_flags = record { nuw = false; nsw = false; exact = false }
 
+-- these flags and one more; a flag that is set stays set
 abbrev pub with_flag : Flags → Flag → Flags
 with_flag f Nuw = record f { nuw = true }
 with_flag f Nsw = record f { nsw = true }
 with_flag f Exact = record f { exact = true }
 
+-- { flag }, each of which may stand after the operation; which of them stand counts, not how often or in which order
 unfoldable pub flags : BinaryOp → Part Fault Flags
 flags op = do
   found ← repeated (is_word_of (flag_word op)) (token (a_word_of (flag_word op)))
@@ -218,6 +222,7 @@ plain_call dest = do
   args ← listed comma (is_mark (byte ")")) arg
   gives (instrs.Call dest result callee args)
 
+-- [ "tail" ] "call" .., where "tail" says nothing that is kept (LLVM, "call": a hint)
 unfoldable pub call : Option (List ℕ) → Part Fault Instr
 call dest = do
   _ ← optional (is_word (codes "tail")) (word (codes "tail"))
@@ -240,6 +245,7 @@ memory_instr dest =
     (either (is_word (codes "getelementptr")) (gep dest)
     (call (Some dest))))
 
+-- a conversion, or what `memory_instr` reads
 unfoldable pub cast_instr : List ℕ → Part Fault Instr
 cast_instr dest =
     either (is_word_of int_cast_word) (int_cast dest)
@@ -265,12 +271,15 @@ assigning_instr = do
   dest ← assigned
   value_instr dest
 
+-- instr: LOCAL "=" and one that assigns, or one that does not
 unfoldable pub instr : Part Fault Instr
 instr = either is_local assigning_instr effect_instr
 
+-- the tokens by which an instruction without a register begins
 abbrev pub begins_effect : Tok → Bool
 begins_effect t = is_word (codes "store") t || (is_word (codes "tail") t || is_word (codes "call") t)
 
+-- the tokens by which an instruction begins
 abbrev pub begins_instr : Tok → Bool
 begins_instr t = is_local t || begins_effect t
 
@@ -282,6 +291,7 @@ target = do
   _ ← word (codes "label")
   token a_local
 
+-- "label" LOCAL, behind "br"
 unfoldable pub jump : Part Fault End
 jump = do
   label ← target
@@ -296,6 +306,7 @@ branch = do
   no_label ← one_more_by comma target
   gives (ends.CondBr cond yes_label no_label)
 
+-- "br" "label" LOCAL | "br" "i1" operand "," "label" LOCAL "," "label" LOCAL
 unfoldable pub br : Part Fault End
 br = do
   _ ← word (codes "br")
@@ -327,11 +338,13 @@ switch = do
   found ← cases w
   gives (ends.Switch w value other found)
 
+-- "void", behind "ret"
 unfoldable pub ret_void : Part Fault End
 ret_void = do
   _ ← word (codes "void")
   gives (ends.Ret None)
 
+-- scalar operand, behind "ret"
 unfoldable pub ret_arg : Part Fault End
 ret_arg = do
   value ← arg
@@ -343,11 +356,13 @@ ret_end = do
   _ ← word (codes "ret")
   either (is_word (codes "void")) ret_void ret_arg
 
+-- "unreachable"
 unfoldable pub unreachable : Part Fault End
 unreachable = do
   _ ← word (codes "unreachable")
   gives ends.Unreachable
 
+-- end = br | switch | ret | unreachable
 unfoldable pub end : Part Fault End
 end =
     either (is_word (codes "br")) br (either (is_word (codes "switch")) switch
@@ -355,6 +370,7 @@ end =
 
 -- ---- blocks
 
+-- end, behind the label, the phis and the instructions of its block
 unfoldable pub closing : List ℕ → List Phi → List Instr → Part Fault Block
 closing label phis body = do
   last ← end
@@ -372,16 +388,19 @@ after_first label phis first = do
   body ← repeated begins_instr instr
   closing label phis (first ∷ body)
 
+-- the rest of a block behind a LOCAL "=" that no phi follows: its first instruction assigns that register
 unfoldable pub after_name : List ℕ → List Phi → List ℕ → Part Fault Block
 after_name label phis dest = do
   first ← value_instr dest
   after_first label phis first
 
+-- the rest of a block whose first instruction assigns no register
 unfoldable pub from_effect : List ℕ → List Phi → Part Fault Block
 from_effect label phis = do
   first ← effect_instr
   after_first label phis first
 
+-- the rest of a block where no LOCAL stands behind its phis
 unfoldable pub after_phis : List ℕ → List Phi → Part Fault Block
 after_phis label phis = either begins_effect (from_effect label phis) (closing label phis [])
 

@@ -34,7 +34,7 @@ clwb_name = codes "llvm.x86.clwb"
 abbrev pub sfence_name : List ℕ
 sfence_name = codes "llvm.x86.sse.sfence"
 
--- libpmem's flush of a range of bytes, which takes no fence (libpmem's manual page, `pmem_flush`)
+-- libpmem's flush of a range of bytes, with no fence of its own (libpmem's manual page, `pmem_flush`)
 abbrev pub pmem_flush_name : List ℕ
 pmem_flush_name = codes "pmem_flush"
 

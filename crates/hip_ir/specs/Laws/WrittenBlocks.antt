@@ -159,9 +159,11 @@ line_is : {A : Type 0} {l : Rule Fault A} {s : List ℕ} {x : A} → IsTextOf en
     → IsTextOf anything l (line_of s) x
 line_is p = blank_text 32 refl (blank_text 32 refl (blank_behind 10 refl (λ rest h. refl) p))
 
+-- a phi on a line of its own, as it stands in a block
 abbrev phi_line : Phi → List ℕ
 phi_line p = line_of (phi_text p)
 
+-- an instruction on a line of its own, as it stands in a block
 abbrev instr_line : Instr → List ℕ
 instr_line i = line_of (instr_text i)
 

@@ -168,6 +168,7 @@ flags_are op set e =
 
 -- ---- arithmetic, comparison and choice
 
+-- two operands with a comma between them, as they are written
 abbrev two_operands : Operand → Operand → List ℕ
 two_operands a b = operand_text a ++ (codes ", " ++ operand_text b)
 
@@ -234,6 +235,7 @@ select_is dest cond s a b e f g =
 
 -- ---- casts
 
+-- a conversion as it is written behind LOCAL "="
 abbrev cast_form : List ℕ → Scalar → Operand → Scalar → List ℕ
 cast_form word from a to =
     word ++ (codes " " ++ (scalar_text from ++ (codes " " ++ (operand_text a ++ (codes " to " ++ scalar_text to)))))

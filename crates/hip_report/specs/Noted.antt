@@ -13,7 +13,6 @@ use Rattle.hip_lines.specs.declared.part.LooseByte.{LooseByte}
 use Rattle.hip_lines.specs.declared.part.Part.{Part}
 use Rattle.hip_runs.specs.Found.Marks.{hit, pointed}
 use Rattle.hip_runs.specs.Found.Reports.{Range, reports}
-use Rattle.hip_runs.specs.declared.event.Ending.TheVariants.{Stop}
 use Rattle.hip_runs.specs.declared.report.Report.{Report}
 use Rattle.hip_runs.specs.State.{Level, levels_of}
 use Rattle.hip_runs.specs.Step.{header_entries, run}
@@ -115,13 +114,6 @@ births_after before after step (Some site) bs =
     cond (nat_lt before after) (bs ++ step ∷ []) (cond (nat_lt after before) (take (length bs - 1) bs) bs)
 
 -- ---- what an event checks
-
--- the range that an event checks, by its offset in the region: an assert's own, the whole region where the run stops,
--- and none by any other event
-abbrev pub range_of : ℕ → ℕ → Event → Option Range
-range_of base region (events.Assert a n) = Some (record { offset = a - base; size = n })
-range_of base region (events.End (Stop code)) = Some (record { offset = 0; size = region })
-range_of base region _ = None
 
 -- the reports behind others, of a check of a range if there is one
 abbrev pub Reported : Option Range → List ℕ → ℕ → Option ℕ → Pending → List (Waiting Part)

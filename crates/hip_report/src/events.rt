@@ -2,9 +2,10 @@ ghost use Rattle.std.specs.Prelude.{◌≡◌, ℕ, ◌+◌, ◌-◌, ◌*◌, �
 ghost use Rattle.hip_lines.specs.Parts.{loose_from};
 ghost use Rattle.hip_types.specs.Distinct.{met};
 ghost use Rattle.hip_runs.specs.Found.Marks.{same_mark};
+ghost use Rattle.hip_runs.specs.Found.Reports.{checked_range};
 ghost use Rattle.hip_report.specs.MarkKeys.{AreMet, mark_of};
 ghost use Rattle.hip_report.specs.declared.pending.LineNote.{LineNote as Line};
-ghost use Rattle.hip_report.specs.Noted.{EndsBelow, FlushedAt, Follows, Reported, StoredAt, births_after, calls_after, range_of};
+ghost use Rattle.hip_report.specs.Noted.{EndsBelow, FlushedAt, Follows, Reported, StoredAt, births_after, calls_after};
 ghost use Rattle.hip_report.specs.Pending.{FlushesAscend, StoresAscend, lines_of};
 
 use crate::calls::Calls;
@@ -174,7 +175,7 @@ pub fn note_check(
     requires flushes { (j : ℕ) → (l : Line) → lines_of pending.now.lines j ≡ Some l
         → FlushesAscend 0 (2 ^ 128) l.flushes }
     ensures { OnOk result (Reported
-        (range_of base region event) check.now.births.now check.now.entry check.now.fence pending.now lines.now.lines
+        (checked_range base region event) check.now.births.now check.now.entry check.now.fence pending.now lines.now.lines
         reports.old reports.new) }
 {
     match event {

@@ -3,12 +3,13 @@ ghost use Rattle.hip_types.specs.Distinct.{met};
 ghost use Rattle.hip_runs.specs.Ends.{longest};
 ghost use Rattle.hip_runs.specs.Found.Marks.{event_hits, same_mark, unless_ended};
 ghost use Rattle.hip_runs.specs.Found.Objects.{global_at};
+ghost use Rattle.hip_runs.specs.Found.Reports.{checked_range};
 ghost use Rattle.hip_runs.specs.Step.{event, has_ended, has_entry, run};
 ghost use Rattle.hip_runs.specs.StoredParts.Since.{fences};
 ghost use Rattle.hip_step.specs.Seen.{after_step, next_site, state_of};
 ghost use Rattle.hip_report.specs.MarkKeys.{AreMet, mark_of, WereHit};
 ghost use Rattle.hip_report.specs.declared.pending.LineNote.{LineNote as Line};
-ghost use Rattle.hip_report.specs.Noted.{AreNoted, EndsBelow, Follows, IsForgotten, Reported, births_after, calls_after, range_of};
+ghost use Rattle.hip_report.specs.Noted.{AreNoted, EndsBelow, Follows, IsForgotten, Reported, births_after, calls_after};
 ghost use Rattle.hip_lines.specs.Parts.{loose_from};
 ghost use Rattle.hip_report.specs.Pending.{FlushesAscend, StoresAscend, lines_of};
 ghost use Rattle.hip_report.specs.Plain.{AreTracked, IsPlainFor};
@@ -42,7 +43,7 @@ fn step_check(
     requires flushes { (j : ℕ) → (l : Line) → lines_of notes.old.pending.lines j ≡ Some l
         → FlushesAscend 0 (2 ^ 128) l.flushes }
     ensures told { OnOk result (Reported
-        (range_of base region event) notes.old.births.items entry notes.old.fence notes.old.pending lines.now.lines
+        (checked_range base region event) notes.old.births.items entry notes.old.fence notes.old.pending lines.now.lines
         notes.old.reports notes.new.reports) }
     ensures rest { OnOk result (notes.new ≡ record notes.old { reports = notes.new.reports }) }
 {

@@ -7,6 +7,7 @@ use Rattle.hip_ir.specs.declared.site.Site.{Site}
 use Rattle.hip_lines.specs.Pending.{Pending as Waiting}
 use Rattle.hip_lines.specs.declared.part.Part.{Part}
 use Rattle.hip_runs.specs.Found.Marks.{event_hits, same_mark, unless_ended}
+use Rattle.hip_runs.specs.Found.Reports.{checked_range}
 use Rattle.hip_runs.specs.Laws.NextLaws.{next_lines}
 use Rattle.hip_runs.specs.State.{Frame, levels_of}
 use Rattle.hip_runs.specs.Step.{event, has_ended, has_entry, run}
@@ -26,7 +27,7 @@ use Rattle.hip_runs.specs.Laws.StepLaws.{has_frame}
 use Rattle.hip_step.specs.Seen.{next_site}
 use Rattle.hip_report.specs.CallPaths.{births_of}
 use Rattle.hip_report.specs.MarkKeys.{AreMet, mark_of, WereHit}
-use Rattle.hip_report.specs.Noted.{AreNoted, EndsBelow, Follows, Reported, births_after, calls_after, range_of}
+use Rattle.hip_report.specs.Noted.{AreNoted, EndsBelow, Follows, Reported, births_after, calls_after}
 use Rattle.hip_report.specs.Pending.{lines_of}
 use Rattle.hip_runs.specs.Found.Tags.{loose_bytes}
 use Rattle.hip_report.specs.Noted.{IsForgotten, IsLetGo}
@@ -58,7 +59,7 @@ ends_below I lines (events.End x) h w s = tt
 -- ---- what the parts of a step did
 
 pub record Did (P : Program) (I : Input) (c0 c1 c2 c3 c4 c5 c6 : Notes) (lines : List (Waiting Part)) (base region : ℕ) (e : Event) (site : Option Site) (before after : ℕ) (ahead : List Mark) : Type 0 where
-  pub told : Reported (range_of base region e) c0.births.items (c0.entries + 1) c0.fence c0.pending lines c0.reports c1.reports
+  pub told : Reported (checked_range base region e) c0.births.items (c0.entries + 1) c0.fence c0.pending lines c0.reports c1.reports
   pub r1 : c1 ≡ record c0 { reports = c1.reports }
   pub follows : Follows e site base c0.steps (c0.entries + 1) c1.calls c1.pending c2.pending
   pub r2 : c2 ≡ record c1 { pending = c2.pending }
@@ -84,7 +85,7 @@ module _ (P : Program) (I : Input) (n : ℕ) (going : has_ended (run P I n) ≡ 
   same_lines e p l = next_lines P I n ∙ ap (λ (x : Event). lines_after I x (run P I n).counts (since.top_site (run P I n).frames) (levels_of (run P I n).frames) (run P I n).lines) p ∙ l
 
   abbrev Tell : List (Waiting Part) → Event → Type 0
-  Tell ls e = Reported (range_of base region e) c0.births.items (c0.entries + 1) c0.fence c0.pending ls c0.reports c1.reports
+  Tell ls e = Reported (checked_range base region e) c0.births.items (c0.entries + 1) c0.fence c0.pending ls c0.reports c1.reports
 
   before : (e : Event) → event P I (run P I n) ≡ e → Tell (shown (run P I (suc n)).lines) e → Tell (shown (run P I n).lines) e
   before events.Quiet p k = k

@@ -9,7 +9,7 @@ use Rattle.hip_ir.specs.declared.program.Program.{Program}
 use Rattle.hip_ir.specs.declared.site.Site.{Site}
 use Rattle.hip_mem.specs.Laws.BytesLaws.{length-bytes_of}
 use Rattle.hip_runs.specs.Found.Marks.{event_hits, frame_marks, hit, pointed, same_mark, unless_ended}
-use Rattle.hip_runs.specs.Found.Reports.{Range, check_reports, checked_by, next_check, reports}
+use Rattle.hip_runs.specs.Found.Reports.{Range, check_reports, checked_by, checked_range, next_check, reports}
 use Rattle.hip_runs.specs.Laws.CallLaws.{run_moves}
 use Rattle.hip_runs.specs.Laws.Fits.{Told, site_told}
 use Rattle.hip_runs.specs.Laws.HistoryLaws.{instr_at_place}
@@ -23,7 +23,6 @@ use Rattle.hip_runs.specs.StoredParts.Order.{last_fence}
 use Rattle.hip_runs.specs.StoredParts.Shown.{shown}
 use Rattle.hip_runs.specs.StoredParts.Since.{fences}
 use Rattle.hip_runs.specs.StoredParts.Since as since
-use Rattle.hip_runs.specs.declared.event.Ending.TheVariants as endings
 use Rattle.hip_runs.specs.declared.event.Event.{Event}
 use Rattle.hip_runs.specs.declared.event.Event.TheVariants as events
 use Rattle.hip_runs.specs.declared.input.Input.{Input}
@@ -33,7 +32,7 @@ use Rattle.hip_invariants.specs.StackShape.{have_calls}
 use Rattle.hip_step.specs.Seen.{next_site, site_in, top_site}
 use Rattle.hip_report.specs.CallPaths.{births_of}
 use Rattle.hip_report.specs.Checking.{reports_told}
-use Rattle.hip_report.specs.Noted.{AreNoted, Follows, Reported, StaySame, births_after, calls_after, range_of}
+use Rattle.hip_report.specs.Noted.{AreNoted, Follows, Reported, StaySame, births_after, calls_after}
 use Rattle.hip_report.specs.Pending.{lines_of}
 use Rattle.hip_report.specs.Sights.{marks_ahead}
 use Rattle.hip_report.specs.Standing.{Tells}
@@ -229,22 +228,13 @@ module _ (P : Program) (I : Input) (n : ℕ) (going : has_ended (run P I n) ≡ 
 
   -- ---- reports
 
-  range_is : (base region : ℕ) → base ≡ I.base → region ≡ length I.image → (e : Event) → range_of base region e ≡ checked_by I e
-  range_is base region b r events.Quiet = refl
-  range_is base region b r (events.Print z) = refl
-  range_is base region b r (events.Store a v m) = refl
-  range_is base region b r (events.Flush l s) = refl
-  range_is base region b r (events.Persist l s) = refl
-  range_is base region b r events.Fence = refl
-  range_is base region b r (events.Assert a m) = ap (λ x. Some (record { offset = a - x; size = m })) b
-  range_is base region b r (events.End (endings.Stop code)) = ap (λ x. Some (record { offset = 0; size = x })) r
-  range_is base region b r (events.End (endings.Trap kind)) = refl
-  range_is base region b r (events.End endings.Cut) = refl
+  range_is : (base region : ℕ) → base ≡ I.base → region ≡ length I.image → (e : Event) → checked_range base region e ≡ checked_by I e
+  range_is base region b r e = ap₂ (λ (x : ℕ) (y : ℕ). checked_range x y e) b r
 
   pub reports_next : (c : Notes) → AreNoted P I n c → c.header ≡ header_entries I → (base region : ℕ) → base ≡ I.base → region ≡ length I.image → (new : List Report)
-      → Reported (range_of base region E) c.births.items (c.entries + 1) c.fence c.pending (shown Now.lines) c.reports new → new ≡ reports P I (suc n)
+      → Reported (checked_range base region E) c.births.items (c.entries + 1) c.fence c.pending (shown Now.lines) c.reports new → new ≡ reports P I (suc n)
   unfolding reports
-  reports_next c h header base region b r new k = go (range_of base region E) (range_is base region b r E) k
+  reports_next c h header base region b r new k = go (checked_range base region E) (range_is base region b r E) k
     where
       check : next_check P I Now ≡ checked_by I E
       check = ap (λ t. cond t None (checked_by I E)) going

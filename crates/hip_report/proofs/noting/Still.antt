@@ -8,6 +8,7 @@ use Rattle.hip_lines.specs.Pending.{Pending as Waiting}
 use Rattle.hip_lines.specs.declared.part.Part.{Part}
 use Rattle.hip_invariants.specs.StackShape.{have_calls}
 use Rattle.hip_runs.specs.Found.Marks.{event_hits, same_mark, unless_ended}
+use Rattle.hip_runs.specs.Found.Reports.{checked_range}
 use Rattle.hip_runs.specs.Laws.StepLaws.{standing-frame}
 use Rattle.hip_runs.specs.State.{Level}
 use Rattle.hip_runs.specs.Step.{event, has_ended, has_entry, run}
@@ -20,7 +21,7 @@ use Rattle.hip_runs.specs.declared.input.Input.{Input}
 use Rattle.hip_runs.specs.declared.report.Mark.{Mark}
 use Rattle.hip_step.specs.Seen.{next_site}
 use Rattle.hip_report.specs.MarkKeys.{AreMet, WereHit, mark_of}
-use Rattle.hip_report.specs.Noted.{AreNoted, Follows, Reported, births_after, calls_after, range_of}
+use Rattle.hip_report.specs.Noted.{AreNoted, Follows, Reported, births_after, calls_after}
 use Rattle.hip_report.specs.Sights.{AddAlike, is_still, leaves, marks_ahead}
 use Rattle.hip_report.specs.declared.notes.Notes.{Notes}
 use Rattle.hip_report.proofs.noting.Assembled.{Did, assembled, first_frame}
@@ -68,7 +69,7 @@ still_leaves (events.Assert a n) s = absurd (let z : ⊥ = cc in z)
 still_leaves (events.End x) s = absurd (let z : ⊥ = cc in z)
 
 nothing_told : (e : Event) → leaves e ≡ true → (base region : ℕ) (lines : List (Waiting Part)) (c : Notes)
-    → Reported (range_of base region e) c.births.items (c.entries + 1) c.fence c.pending lines c.reports c.reports
+    → Reported (checked_range base region e) c.births.items (c.entries + 1) c.fence c.pending lines c.reports c.reports
 nothing_told events.Quiet s base region lines c = refl
 nothing_told (events.Print z) s base region lines c = refl
 nothing_told (events.Store a v m) s base region lines c = absurd (let z : ⊥ = cc in z)

@@ -113,12 +113,16 @@ pub record Range : Type 0 where
   pub offset : ℕ
   pub size : ℕ
 
--- What a step checks: `pm_assert` its range, and the return of the bottom frame the whole region. A trap or a cut
--- checks nothing.
+-- What a step with this event checks in a region of that base and that size: `pm_assert` its range, and the return of
+-- the bottom frame the whole region. A trap or a cut checks nothing.
+abbrev pub checked_range : ℕ → ℕ → Event → Option Range
+checked_range base region (events.Assert a n) = Some (record { offset = a - base; size = n })
+checked_range base region (events.End (Stop code)) = Some (record { offset = 0; size = region })
+checked_range base region _ = None
+
+-- what a step with this event checks in a run on an input
 abbrev pub checked_by : Input → Event → Option Range
-checked_by I (events.Assert a n) = Some (record { offset = a - I.base; size = n })
-checked_by I (events.End (Stop code)) = Some (record { offset = 0; size = length I.image })
-checked_by I _ = None
+checked_by I e = checked_range I.base (length I.image) e
 
 -- the range that the next step checks, where the run has not ended
 abbrev pub next_check : Program → Input → State → Option Range

@@ -10,7 +10,7 @@ use Rattle.hip_ir.specs.declared.instr.Operand as named
 use Rattle.hip_ir.specs.declared.program.GlobalVar.{GlobalVar}
 use Rattle.hip_ir.specs.declared.program.Param.{Param}
 use Rattle.hip_typing.specs.Registers.{arg_uses}
-use Rattle.hip_runs.specs.Actions.{after_phis}
+use Rattle.hip_runs.specs.Actions.{after_phis, edge_value}
 use Rattle.hip_runs.specs.Operands.{bound, value_of, values_of}
 use Rattle.hip_runs.specs.State.{Registers}
 use Rattle.hip_code.specs.Frames.{are_known, IsKnown, HoldsFrame}
@@ -88,22 +88,16 @@ holds_moved n base names slots rs (m ∷ ms) p h =
 
 -- ---- phis
 
--- the value that a phi has for control from a label: that of the first edge with the label, 0 where none has it
-abbrev value_from : List GlobalVar → ℕ → Registers → List Edge → List ℕ → ℕ
-value_from globals base rs [] from = 0
-value_from globals base rs (e ∷ es) from =
-    cond (bytes_eq e.label from) (value_of globals base rs e.value) (value_from globals base rs es from)
-
 from_edge : (globals : List GlobalVar) (region : ℕ) (rs : Registers) (from : List ℕ) (es : List Edge)
     (x : named.Operand) → edge_from es from ≡ Some x
-    → value_of globals region rs x ≡ value_from globals region rs es from
+    → value_of globals region rs x ≡ edge_value globals region rs es from
 from_edge globals region rs from [] x e = cc
 from_edge globals region rs from (d ∷ es) x e = go (bytes_eq d.label from) e (from_edge globals region rs from es x)
   where
     go : (b : Bool) → cond b (Some d.value) (edge_from es from) ≡ Some x
-        → (edge_from es from ≡ Some x → value_of globals region rs x ≡ value_from globals region rs es from) →
+        → (edge_from es from ≡ Some x → value_of globals region rs x ≡ edge_value globals region rs es from) →
         value_of globals region rs x ≡ cond b (value_of globals region rs d.value)
-        (value_from globals region rs es from)
+        (edge_value globals region rs es from)
     go true q rest = let same : d.value ≡ x = cc in ap (value_of globals region rs) (sym same)
     go false q rest = rest q
 

@@ -14,7 +14,7 @@ use Rattle.hip_runs.specs.Places.{block_at, blocks_of}
 use Rattle.hip_code.specs.Entries.{entry}
 use Rattle.hip_code.specs.Frames.{names_at}
 use Rattle.hip_code.specs.Numbers.{Tables}
-use Rattle.hip_code.specs.Resolved.{IsOperand, Resolves, EndResolves}
+use Rattle.hip_code.specs.Resolved.{IsOperandIn, Resolves, EndResolves}
 use Rattle.hip_code.specs.declared.op.Op.{Op}
 use Rattle.hip_code.specs.declared.op.Operand.{Operand}
 use Rattle.hip_resolve.specs.Listed.{Lists}
@@ -46,7 +46,7 @@ pub record Describes (s : Scope) : Type 0 where
 
 -- the operand stands for one of the function
 abbrev pub StandsFor : Scope → Tables → Operand → named.Operand → Type 0
-StandsFor s t o x = IsOperand s.program.now.globals s.base (names_at s.program.now s.number) t.constants o x
+StandsFor s t o x = IsOperandIn s.program.now s.base s.number t o x
 
 -- the op does what the instruction does, on each input whose region begins at the base
 pub record Does (P : Program) (base f : ℕ) (t : Tables) (o : Op) (i : Instr) : Type 0 where

@@ -16,7 +16,7 @@ use Rattle.hip_code.specs.Edges.{IsEdge, are_cases}
 use Rattle.hip_code.specs.Frames.{HoldsFrame, names_at}
 use Rattle.hip_code.specs.Numbers.{Tables, entries_of, HasSpan}
 use Rattle.hip_code.specs.Ops.{CasesWithin, EdgeWithin, GoWithin, case_edge, edge_action, edge_taken}
-use Rattle.hip_code.specs.Resolved.{IsOperand, Acting, EdgePlaced, EndResolves, GoPlaced, KnowsPhis, numbers_at}
+use Rattle.hip_code.specs.Resolved.{IsOperandIn, Acting, EdgePlaced, EndResolves, GoPlaced, KnowsPhis, numbers_at}
 use Rattle.hip_code.specs.Laws.MoveLaws.{phis_are, phis_move}
 use Rattle.hip_code.specs.Laws.Operands.{operand_same}
 use Rattle.hip_code.specs.declared.op.Case.{Case}
@@ -32,9 +32,6 @@ use Rattle.hip_code.specs.declared.op.Span.{Span}
 module _ (P : Program) (I : Input) (f b : ℕ) (tables : Tables) where
   abbrev names : List (List ℕ)
   names = names_at P f
-
-  abbrev stands_for : Operand → named.Operand → Type 0
-  stands_for o x = IsOperand P.globals I.base (names_at P f) tables.constants o x
 
   -- ---- edges
 
@@ -109,7 +106,8 @@ module _ (P : Program) (I : Input) (f b : ℕ) (tables : Tables) where
   chosen true one other first second p q = p
   chosen false one other first second p q = q
 
-  pub resolves_cond : (t : Operand) (x : named.Operand) (one other : ℕ) (first second : List ℕ) → stands_for t x
+  pub resolves_cond : (t : Operand) (x : named.Operand) (one other : ℕ) (first second : List ℕ)
+      → IsOperandIn P I.base f tables t x
       → IsEdge P I f b tables one first → IsEdge P I f b tables other second →
       EndResolves P I f b tables (ops.Control (controls.Go (goes.Cond t one other))) (ends.CondBr x first second)
   unfolding end_action
@@ -156,7 +154,8 @@ module _ (P : Program) (I : Input) (f b : ℕ) (tables : Tables) where
 
   pub resolves_switch : (width : Width) (t : Operand) (x : named.Operand) (cases : Span) (ds : List named_case.Case)
       (other : ℕ) (label : List ℕ) →
-      stands_for t x → HasSpan cases tables.cases → are_cases P I f b tables (entries_of cases tables.cases) ds
+      IsOperandIn P I.base f tables t x → HasSpan cases tables.cases
+      → are_cases P I f b tables (entries_of cases tables.cases) ds
       → IsEdge P I f b tables other label →
       EndResolves P I f b tables (ops.Control (controls.Go (goes.Switch t cases other))) (ends.Switch width x label ds)
   unfolding end_action
@@ -177,7 +176,7 @@ module _ (P : Program) (I : Input) (f b : ℕ) (tables : Tables) where
 
   -- ---- returns
 
-  pub resolves_return : (ty : Scalar) (a : Operand) (x : named.Operand) → stands_for a x
+  pub resolves_return : (ty : Scalar) (a : Operand) (x : named.Operand) → IsOperandIn P I.base f tables a x
       → EndResolves P I f b tables (ops.Control (controls.Exit (exits.Value a)))
       (ends.Ret (Some (record { ty = ty; value = x })))
   unfolding end_action

@@ -21,7 +21,7 @@ use Rattle.hip_runs.specs.State.{Registers}
 use Rattle.hip_code.specs.Frames.{are_known, HoldsFrame, names_at}
 use Rattle.hip_code.specs.Numbers.{Numbers, Tables, operand_value, is_within, entries_of, HasSpan}
 use Rattle.hip_code.specs.Paths.{IsFixed, IsScaled, is_path, is_gep, IsGep}
-use Rattle.hip_code.specs.Resolved.{IsOperand, Resolves, numbers_at}
+use Rattle.hip_code.specs.Resolved.{IsOperandIn, Resolves, numbers_at}
 use Rattle.hip_code.specs.Values.{extended, term_value, sum_of, TermsWithin}
 use Rattle.hip_code.specs.Laws.Operands.{operand_same, operand_within, gives}
 use Rattle.hip_code.specs.declared.op.Gep.TheVariants as geps
@@ -157,13 +157,10 @@ module _ (P : Program) (I : Input) (f : ℕ) (tables : Tables) where
   abbrev names_here : List (List ℕ)
   names_here = names_at P f
 
-  abbrev stands_for : Operand → named.Operand → Type 0
-  stands_for o x = IsOperand P.globals I.base (names_at P f) tables.constants o x
-
   -- with constant indices alone
   pub resolves_fixed : (name : List ℕ) (dest : ℕ) (base : Operand) (x : named.Operand) (ty : Ty) (args : List Arg)
       (inbounds : Bool) (offset whole : ℕ) →
-      number_of names_here name ≡ Some dest → stands_for base x
+      number_of names_here name ≡ Some dest → IsOperandIn P I.base f tables base x
       → IsGep P.globals I.base names_here tables.constants ty args whole [] → offset ≡ whole % 2 ^ 64 →
       Resolves P I f tables (ops.Value dest (values.Gep (geps.Fixed base offset))) (instrs.Gep name inbounds ty x args)
   unfolding instr_action
@@ -185,7 +182,7 @@ module _ (P : Program) (I : Input) (f : ℕ) (tables : Tables) where
   -- with one index that is no constant
   pub resolves_scaled : (name : List ℕ) (dest : ℕ) (base : Operand) (x : named.Operand) (ty : Ty) (args : List Arg)
       (inbounds : Bool) (offset whole : ℕ) (term : Term) →
-      number_of names_here name ≡ Some dest → stands_for base x
+      number_of names_here name ≡ Some dest → IsOperandIn P I.base f tables base x
       → IsGep P.globals I.base names_here tables.constants ty args whole (term ∷ [])
       → offset ≡ whole % 2 ^ 64 →
       Resolves P I f tables (ops.Value dest (values.Gep (geps.Scaled base term.index term.width term.scale offset)))
@@ -209,7 +206,7 @@ module _ (P : Program) (I : Input) (f : ℕ) (tables : Tables) where
   -- with any indices
   pub resolves_terms : (name : List ℕ) (dest : ℕ) (base : Operand) (x : named.Operand) (ty : Ty) (args : List Arg)
       (inbounds : Bool) (offset whole : ℕ) (span : Span) →
-      number_of names_here name ≡ Some dest → stands_for base x → HasSpan span tables.terms →
+      number_of names_here name ≡ Some dest → IsOperandIn P I.base f tables base x → HasSpan span tables.terms →
       IsGep P.globals I.base names_here tables.constants ty args whole (entries_of span tables.terms)
       → offset ≡ whole % 2 ^ 64 →
       Resolves P I f tables (ops.Value dest (values.Gep (geps.Terms base offset span)))

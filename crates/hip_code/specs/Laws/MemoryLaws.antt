@@ -32,7 +32,7 @@ use Rattle.hip_code.specs.Frames.{are_known, HoldsFrame, names_at}
 use Rattle.hip_code.specs.Named.{passes_or_effects}
 use Rattle.hip_code.specs.Numbers.{Numbers, Tables}
 use Rattle.hip_code.specs.Ops.{IsSize, EffectWithin, effect_action, op_turn, PersistenceWithin, persistence_action}
-use Rattle.hip_code.specs.Resolved.{IsOperand, is_result, effect_placed, Resolves, numbers_at}
+use Rattle.hip_code.specs.Resolved.{IsOperandIn, is_result, effect_placed, Resolves, numbers_at}
 use Rattle.hip_code.specs.Laws.Operands.{operand_same, result_is}
 use Rattle.hip_code.specs.Laws.Slots.{slot_within, name_there, name_placed}
 use Rattle.hip_code.specs.declared.op.Effect.TheVariants as effects
@@ -56,12 +56,9 @@ module _ (P : Program) (I : Input) (f : ℕ) (tables : Tables) where
   abbrev names : List (List ℕ)
   names = names_at P f
 
-  abbrev stands_for : Operand → named.Operand → Type 0
-  stands_for o x = IsOperand P.globals I.base (names_at P f) tables.constants o x
-
   pub resolves_load : (name : List ℕ) (dest : ℕ) (ty : Scalar) (align : Option ℕ) (a : Operand)
       (x : named.Operand) →
-      0 < access_align ty align → number_of names name ≡ Some dest → stands_for a x →
+      0 < access_align ty align → number_of names name ≡ Some dest → IsOperandIn P I.base f tables a x →
       Resolves P I f tables (ops.Memory (memories.Load dest (width_of ty) (access_align ty align) a))
       (instrs.Load name ty x align)
   unfolding instr_action
@@ -84,7 +81,7 @@ module _ (P : Program) (I : Input) (f : ℕ) (tables : Tables) where
   }
 
   pub resolves_store : (ty : Scalar) (align : Option ℕ) (v a : Operand) (x y : named.Operand) →
-      0 < access_align ty align → stands_for v x → stands_for a y →
+      0 < access_align ty align → IsOperandIn P I.base f tables v x → IsOperandIn P I.base f tables a y →
       Resolves P I f tables (ops.Memory (memories.Store (scalar_size ty) (access_align ty align) v a))
       (instrs.Store ty x y align)
   unfolding instr_action

@@ -27,7 +27,7 @@ use Rattle.hip_types.specs.Scalars.{width_of}
 use Rattle.hip_code.specs.Frames.{names_at}
 use Rattle.hip_code.specs.Numbers.{Numbers, Tables, operand_value, is_within}
 use Rattle.hip_code.specs.Ops.{gave}
-use Rattle.hip_code.specs.Resolved.{IsOperand, Acting, Resolves, numbers_at}
+use Rattle.hip_code.specs.Resolved.{IsOperandIn, Acting, Resolves, numbers_at}
 use Rattle.hip_code.specs.Translated.{compare_op, cast_op}
 use Rattle.hip_code.specs.Values.{operation_of, division_of, operated, compared, number_in, rest_result, RestWithin}
 use Rattle.hip_code.specs.Laws.Operands.{operand_same, gives}
@@ -126,12 +126,10 @@ module _ (P : Program) (I : Input) (f : ℕ) (tables : Tables) where
   abbrev names : List (List ℕ)
   names = names_at P f
 
-  abbrev stands_for : Operand → named.Operand → Type 0
-  stands_for o x = IsOperand P.globals I.base (names_at P f) tables.constants o x
-
   pub resolves_binary : (name : List ℕ) (dest : ℕ) (op : IntegerOp) (named_op : BinaryOp) (flags : Flags)
       (width : Width) (a b : Operand) (x y : named.Operand) →
-      operation_of op ≡ named_op → number_of names name ≡ Some dest → stands_for a x → stands_for b y →
+      operation_of op ≡ named_op → number_of names name ≡ Some dest → IsOperandIn P I.base f tables a x
+      → IsOperandIn P I.base f tables b y →
       Resolves P I f tables (ops.Value dest (values.Integer op width a b)) (instrs.Binary name named_op flags width x y)
   unfolding instr_action
   resolves_binary name dest op named_op flags width a b x y is d p q = record {
@@ -149,7 +147,8 @@ module _ (P : Program) (I : Input) (f : ℕ) (tables : Tables) where
 
   pub resolves_division : (name : List ℕ) (dest : ℕ) (op : DivisionOp) (named_op : BinaryOp) (flags : Flags)
       (width : Width) (a b : Operand) (x y : named.Operand) →
-      division_of op ≡ named_op → number_of names name ≡ Some dest → stands_for a x → stands_for b y →
+      division_of op ≡ named_op → number_of names name ≡ Some dest → IsOperandIn P I.base f tables a x
+      → IsOperandIn P I.base f tables b y →
       Resolves P I f tables (ops.Value dest (values.Rest (rests.Other (others.Divide op width a b))))
       (instrs.Binary name named_op flags width x y)
   unfolding instr_action
@@ -169,7 +168,7 @@ module _ (P : Program) (I : Input) (f : ℕ) (tables : Tables) where
 
   pub resolves_compare : (name : List ℕ) (dest : ℕ) (pred : Pred) (ty : Scalar) (a b : Operand)
       (x y : named.Operand) →
-      number_of names name ≡ Some dest → stands_for a x → stands_for b y →
+      number_of names name ≡ Some dest → IsOperandIn P I.base f tables a x → IsOperandIn P I.base f tables b y →
       Resolves P I f tables (ops.Value dest (values.Rest (compare_op pred (width_of ty) a b)))
       (instrs.Compare name pred ty x y)
   unfolding instr_action
@@ -188,7 +187,8 @@ module _ (P : Program) (I : Input) (f : ℕ) (tables : Tables) where
   }
 
   pub resolves_select : (name : List ℕ) (dest : ℕ) (ty : Scalar) (t a b : Operand) (z x y : named.Operand) →
-      number_of names name ≡ Some dest → stands_for t z → stands_for a x → stands_for b y →
+      number_of names name ≡ Some dest → IsOperandIn P I.base f tables t z → IsOperandIn P I.base f tables a x
+      → IsOperandIn P I.base f tables b y →
       Resolves P I f tables (ops.Value dest (values.Rest (rests.Other (others.Select t a b))))
       (instrs.Select name z ty x y)
   unfolding instr_action
@@ -209,7 +209,7 @@ module _ (P : Program) (I : Input) (f : ℕ) (tables : Tables) where
 
   pub resolves_cast : (name : List ℕ) (dest : ℕ) (op : CastOp) (from to : Scalar) (a : Operand)
       (x : named.Operand) →
-      number_of names name ≡ Some dest → stands_for a x →
+      number_of names name ≡ Some dest → IsOperandIn P I.base f tables a x →
       Resolves P I f tables (ops.Value dest (values.Rest (cast_op op (width_of from) (width_of to) a)))
       (instrs.Cast name op from x to)
   unfolding instr_action

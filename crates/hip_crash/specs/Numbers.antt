@@ -20,11 +20,11 @@ pub record IsBetween (bounds : Bounds) (upto : ℕ) : Type 0 where
   pub most : upto ≤ bounds.most
 
 -- so many first parts an image has in line j, if it is a crash image there
-abbrev pub IsNumberIn : Input → State → List ℕ → ℕ → Line StorePart → Option ℕ → Type 0
-IsNumberIn I s image j l None = (q : ℕ) → IsLineImageAt covers byte_of I.image image j l q → ⊥
-IsNumberIn I s image j l (Some q) = IsLineImageAt covers byte_of I.image image j l q
+abbrev pub IsNumberIn : Input → List ℕ → ℕ → Line StorePart → Option ℕ → Type 0
+IsNumberIn I image j l None = (q : ℕ) → IsLineImageAt covers byte_of I.image image j l q → ⊥
+IsNumberIn I image j l (Some q) = IsLineImageAt covers byte_of I.image image j l q
 
 -- so many first parts an image has in line j, or none where it is no crash image there; nothing is asked where the
 -- region has no line j
 pub record IsNumberOf (I : Input) (s : State) (image : List ℕ) (j : ℕ) (number : Option ℕ) : Type 0 where
-  pub is : (l : Line StorePart) → slice_get s.lines j ≡ Some l → IsNumberIn I s image j l number
+  pub is : (l : Line StorePart) → slice_get s.lines j ≡ Some l → IsNumberIn I image j l number

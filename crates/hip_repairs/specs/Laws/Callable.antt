@@ -25,13 +25,17 @@ use Rattle.hip_runs.specs.Places.{blocks_in, body_of, body_at}
 use Rattle.hip_types.specs.declared.number.Scalar.{Scalar}
 use Rattle.hip_ir.specs.declared.instr.Arg.{Arg}
 
+-- the name is that of an external function of the table, or of a function of the program
+abbrev pub IsCalled : Program → List ℕ → Type 0
+IsCalled P callee = ((e : ExternCall) × (call_of callee ≡ Some e))
+    ⊎ ((g : ℕ) × (function_number P callee ≡ Some g))
+
 -- What the theorems use of soundness: `main` is there, and each call is one of an external or a defined function.
 pub record IsCallable (P : Program) : Type 0 where
   pub main_at : ℕ
   pub main : function_number P (codes "main") ≡ Some main_at
   pub calls : (f b k : ℕ) (dest : Option (List ℕ)) (ret : Option Scalar) (callee : List ℕ) (args : List Arg) →
-      slice_get (body_at P f b) k ≡ Some (Call dest ret callee args) →
-      ((e : ExternCall) × (call_of callee ≡ Some e)) ⊎ ((g : ℕ) × (function_number P callee ≡ Some g))
+      slice_get (body_at P f b) k ≡ Some (Call dest ret callee args) → IsCalled P callee
   -- no function has the name of an external one
   pub free : (callee : List ℕ) (g : ℕ) → function_number P callee ≡ Some g → call_of callee ≡ None
 
@@ -128,11 +132,6 @@ instr_place P f b k i h = in_function (slice_get P.functions f) refl h
         → slice_get (body_of (slice_get (blocks_in o) b)) k ≡ Some i → IsInstrAt P f b k i
     in_function None e c = cc
     in_function (Some fn) e c = in_block fn e (slice_get fn.blocks b) refl c
-
--- the name is that of an external function of the table, or of a function of the program
-abbrev pub IsCalled : Program → List ℕ → Type 0
-IsCalled P callee = ((e : ExternCall) × (call_of callee ≡ Some e))
-    ⊎ ((g : ℕ) × (function_number P callee ≡ Some g))
 
 pub callee_there : (P : Program) (callee : List ℕ) → (externs_check P).Holds
     → is_some (callee_of P callee) ≡ true

@@ -1,6 +1,7 @@
 -- The run of two functions that call one another, and its repair by two clones.
 use Rattle.std.proofs.Common.{◌≡◌, true, [], ◌∷◌, List, Some, None, codes, refl, ap, ◌∙◌, false}
 use Rattle.hip_types.specs.Laws.LayoutLaws.{shape-Int}
+use Rattle.hip_typing.specs.Rules.{site}
 use Rattle.hip_runs.specs.declared.event.Object.TheVariants.{Global, Slot}
 use Rattle.hip_runs.specs.declared.report.Mark.{Mark}
 use Rattle.hip_runs.specs.Actions.{Deed, Allocates, Assigns, Calls, Jumps, Returns, Stores}
@@ -13,7 +14,7 @@ use Rattle.hip_repairs.specs.Choice.{plan_for}
 use Rattle.hip_repairs.specs.Repaired.{repaired}
 use Rattle.hip_repairs.specs.declared.plan.Plan.{Plan}
 use Rattle.hip_repairs.specs.examples.Words.{zeroed, IsHoisted}
-use Rattle.hip_repairs.specs.examples.MutualRecursion.{site_in, mutual_recursion, mutual_recursion_report, mutual_recursion_repaired}
+use Rattle.hip_repairs.specs.examples.MutualRecursion.{mutual_recursion, mutual_recursion_report, mutual_recursion_repaired}
 use Rattle.hip_repairs.proofs.worked.Runs.{Follows, done_opened, int_value, address_value, run_is, reports_are}
 use Rattle.hip_repairs.proofs.worked.Marked.{Seen, Sees, pointed_is, hit_is}
 
@@ -207,35 +208,35 @@ nothing_seen = record { marks = []; hits = [] }
 abbrev all_seen : List Seen
 all_seen =
     nothing_seen
-    ∷ record { marks = record { site = site_in 2 0 1; operand = 0; object = Slot (site_in 2 0 0) } ∷ []; hits = [] }
+    ∷ record { marks = record { site = site 2 0 1; operand = 0; object = Slot (site 2 0 0) } ∷ []; hits = [] }
     ∷ nothing_seen
     ∷ nothing_seen
-    ∷ record { marks = record { site = site_in 0 1 0; operand = 0; object = Slot (site_in 2 0 0) } ∷ []; hits = [] }
+    ∷ record { marks = record { site = site 0 1 0; operand = 0; object = Slot (site 2 0 0) } ∷ []; hits = [] }
     ∷ nothing_seen
-    ∷ record { marks = record { site = site_in 0 1 2; operand = 0; object = Slot (site_in 2 0 0) } ∷ []; hits = [] }
-    ∷ nothing_seen
-    ∷ nothing_seen
-    ∷ record { marks = record { site = site_in 1 1 0; operand = 0; object = Slot (site_in 2 0 0) } ∷ []; hits = [] }
-    ∷ nothing_seen
-    ∷ record { marks = record { site = site_in 1 1 2; operand = 0; object = Slot (site_in 2 0 0) } ∷ []; hits = [] }
+    ∷ record { marks = record { site = site 0 1 2; operand = 0; object = Slot (site 2 0 0) } ∷ []; hits = [] }
     ∷ nothing_seen
     ∷ nothing_seen
+    ∷ record { marks = record { site = site 1 1 0; operand = 0; object = Slot (site 2 0 0) } ∷ []; hits = [] }
     ∷ nothing_seen
+    ∷ record { marks = record { site = site 1 1 2; operand = 0; object = Slot (site 2 0 0) } ∷ []; hits = [] }
     ∷ nothing_seen
     ∷ nothing_seen
     ∷ nothing_seen
     ∷ nothing_seen
-    ∷ record { marks = record { site = site_in 2 0 2; operand = 0; object = Global 0 } ∷ []; hits = [] }
     ∷ nothing_seen
     ∷ nothing_seen
-    ∷ record { marks = record { site = site_in 0 1 0; operand = 0; object = Global 0 } ∷ []; hits = 0 ∷ [] }
     ∷ nothing_seen
-    ∷ record { marks = record { site = site_in 0 1 2; operand = 0; object = Global 0 } ∷ []; hits = [] }
+    ∷ record { marks = record { site = site 2 0 2; operand = 0; object = Global 0 } ∷ []; hits = [] }
     ∷ nothing_seen
     ∷ nothing_seen
-    ∷ record { marks = record { site = site_in 1 1 0; operand = 0; object = Global 0 } ∷ []; hits = 0 ∷ [] }
+    ∷ record { marks = record { site = site 0 1 0; operand = 0; object = Global 0 } ∷ []; hits = 0 ∷ [] }
     ∷ nothing_seen
-    ∷ record { marks = record { site = site_in 1 1 2; operand = 0; object = Global 0 } ∷ []; hits = [] }
+    ∷ record { marks = record { site = site 0 1 2; operand = 0; object = Global 0 } ∷ []; hits = [] }
+    ∷ nothing_seen
+    ∷ nothing_seen
+    ∷ record { marks = record { site = site 1 1 0; operand = 0; object = Global 0 } ∷ []; hits = 0 ∷ [] }
+    ∷ nothing_seen
+    ∷ record { marks = record { site = site 1 1 2; operand = 0; object = Global 0 } ∷ []; hits = [] }
     ∷ nothing_seen
     ∷ nothing_seen
     ∷ nothing_seen
@@ -348,16 +349,16 @@ sees = (
 
 abbrev marks : List Mark
 marks =
-    record { site = site_in 2 0 1; operand = 0; object = Slot (site_in 2 0 0) }
-    ∷ record { site = site_in 0 1 0; operand = 0; object = Slot (site_in 2 0 0) }
-    ∷ record { site = site_in 0 1 2; operand = 0; object = Slot (site_in 2 0 0) }
-    ∷ record { site = site_in 1 1 0; operand = 0; object = Slot (site_in 2 0 0) }
-    ∷ record { site = site_in 1 1 2; operand = 0; object = Slot (site_in 2 0 0) }
-    ∷ record { site = site_in 2 0 2; operand = 0; object = Global 0 }
-    ∷ record { site = site_in 0 1 0; operand = 0; object = Global 0 }
-    ∷ record { site = site_in 0 1 2; operand = 0; object = Global 0 }
-    ∷ record { site = site_in 1 1 0; operand = 0; object = Global 0 }
-    ∷ record { site = site_in 1 1 2; operand = 0; object = Global 0 }
+    record { site = site 2 0 1; operand = 0; object = Slot (site 2 0 0) }
+    ∷ record { site = site 0 1 0; operand = 0; object = Slot (site 2 0 0) }
+    ∷ record { site = site 0 1 2; operand = 0; object = Slot (site 2 0 0) }
+    ∷ record { site = site 1 1 0; operand = 0; object = Slot (site 2 0 0) }
+    ∷ record { site = site 1 1 2; operand = 0; object = Slot (site 2 0 0) }
+    ∷ record { site = site 2 0 2; operand = 0; object = Global 0 }
+    ∷ record { site = site 0 1 0; operand = 0; object = Global 0 }
+    ∷ record { site = site 0 1 2; operand = 0; object = Global 0 }
+    ∷ record { site = site 1 1 0; operand = 0; object = Global 0 }
+    ∷ record { site = site 1 1 2; operand = 0; object = Global 0 }
     ∷ []
 
 points : pointed mutual_recursion (zeroed 1) 38 ≡ marks
@@ -374,7 +375,7 @@ findings_are = λ i. record { reports = found i; marks = record { pointed = poin
 
 -- the plan, and what it makes of the program
 abbrev hoist_second : Plan
-hoist_second = record { flush_after = []; fence_after = []; hoist = site_in 2 0 2 ∷ [] }
+hoist_second = record { flush_after = []; fence_after = []; hoist = site 2 0 2 ∷ [] }
 
 planned : plan_for mutual_recursion all_found ≡ hoist_second
 planned = refl

@@ -8,6 +8,7 @@ use Rattle.hip_ir.specs.declared.instr.Instr.{Instr}
 use Rattle.hip_ir.specs.declared.program.Function.{Function}
 use Rattle.hip_ir.specs.declared.program.Program.{Program}
 use Rattle.hip_ir.specs.declared.site.Site.{Site}
+use Rattle.hip_typing.specs.Rules.{site}
 use Rattle.hip_runs.specs.declared.report.Findings.{Findings}
 use Rattle.hip_runs.specs.StoredParts.Parts.{In}
 use Rattle.hip_runs.specs.Laws.PartLaws.{in-append, append-left, append-right}
@@ -18,11 +19,7 @@ use Rattle.std.specs.Prelude.{None, option_and_then, slice_get}
 use Rattle.hip_runs.specs.Laws.Found.FoundLaws.{same_site_equal, site_same}
 use Rattle.hip_runs.specs.Laws.Members.{both_true, true_both, equal_true, true_equal, lt_true, true_lt}
 
-site : ℕ → ℕ → ℕ → Site
-site f b k = record { function = f; block = b; index = k }
-
 site_is : (a b : Site) → a.function ≡ b.function → a.block ≡ b.block → a.index ≡ b.index → a ≡ b
-unfolding site
 site_is a b e f g =
     ap (λ n. site n a.block a.index) e ∙ ap (λ n. site b.function n a.index) f
     ∙ ap (λ n. site b.function b.block n) g

@@ -9,7 +9,7 @@ use Rattle.hip_ir.specs.declared.instr.Instr.{Instr}
 use Rattle.hip_ir.specs.declared.instr.Instr.TheVariants as instrs
 use Rattle.hip_ir.specs.declared.program.Function.{Function}
 use Rattle.hip_ir.specs.declared.program.Program.{Program}
-use Rattle.hip_ir.specs.declared.site.Site.{Site}
+use Rattle.hip_typing.specs.Rules.{site}
 use Rattle.hip_runs.specs.declared.report.Kind.TheVariants.{MissingBoth}
 use Rattle.hip_runs.specs.declared.report.Report.{Report}
 use Rattle.hip_repairs.specs.examples.Words.{at, reg, number, ptr_arg, i64_arg, ptr_param, i64_param, persistent_i64, alloca_i64, store_i64, call_void, clwb, declare_clwb, sfence, declare_sfence, ret_void, define_void, main_of}
@@ -82,10 +82,6 @@ mutual_recursion =
           ∷ counting_main (count_in_region (codes "even") ∷ []) ∷ [];
     }
 
--- the site of an instruction by its function, its block and its index in the block's body
-abbrev pub site_in : ℕ → ℕ → ℕ → Site
-site_in function block index = record { function = function; block = block; index = index }
-
 -- report both entry 4 check 5 closed 2 path @odd:more:0 @even:more:2 @main:entry:2
 abbrev pub mutual_recursion_report : Report
 mutual_recursion_report =
@@ -94,7 +90,7 @@ mutual_recursion_report =
       check_entry = 5;
       kind = MissingBoth;
       flush_site = None;
-      path = site_in 1 1 0 ∷ site_in 0 1 2 ∷ site_in 2 0 2 ∷ [];
+      path = site 1 1 0 ∷ site 0 1 2 ∷ site 2 0 2 ∷ [];
       closed = 2;
     }
 

@@ -14,8 +14,8 @@ use Rattle.hip_ir.specs.declared.site.Site.{Site}
 use Rattle.hip_calls.specs.Fresh.{fresh_names, names_taken, name_of}
 use Rattle.hip_calls.specs.Laws.FreshLaws.{length-fresh_for}
 use Rattle.hip_repairs.specs.declared.plan.Plan.{Plan}
-use Rattle.hip_repairs.specs.Repaired.{Marked, Clone, Wanted, is_call_of, inserts, inserts_in, inserts_from, inserts_cloned, needs, repaired_by, repaired_body, repaired_functions, clone_functions, clones_of, clones_from, cloned, repaired, wanted_by, clwb_name, sfence_name, pmem_flush_name}
-use Rattle.hip_insertions.specs.Walk.{declared_if, marked_blocks, marked_functions, marked_clone, marked_clones}
+use Rattle.hip_repairs.specs.Repaired.{Marked, Clone, Wanted, is_call_of, inserts, inserts_in, inserts_from, inserts_cloned, needs, repaired_by, repaired_body, repaired_functions, clone_functions, clones_of, clones_from, cloned, repaired, wanted_by, clwb_name, sfence_name, pmem_flush_name, declared_if}
+use Rattle.hip_insertions.specs.Walk.{marked_blocks, marked_functions, marked_clone, marked_clones}
 use Rattle.hip_fix.specs.Walked.{walked}
 
 module _ (name : List ℕ) (clones : List Clone) (w : Wanted) where
@@ -35,19 +35,19 @@ module _ (name : List ℕ) (clones : List Clone) (w : Wanted) where
       ∙ ap (λ t. t || inserts name (marked_functions clones w (suc f) xs)) (in_blocks false f 0 x.blocks)
       ∙ ap (λ t. inserts_in name clones w false f 0 x.blocks || t) (in_functions (suc f) xs)
 
-  in_clone : (P : Program) (f : ℕ) (o : Option Function) → inserts name (marked_clone clones w f o) ≡ inserts_cloned name P clones w f o
-  in_clone P f None = refl
-  in_clone P f (Some x) = in_blocks true f 0 x.blocks
+  in_clone : (f : ℕ) (o : Option Function) → inserts name (marked_clone clones w f o) ≡ inserts_cloned name clones w f o
+  in_clone f None = refl
+  in_clone f (Some x) = in_blocks true f 0 x.blocks
 
-  in_clones : (P : Program) (fs : List ℕ) → inserts name (marked_clones P clones w fs) ≡ list_any (λ f. inserts_cloned name P clones w f (slice_get P.functions f)) fs
+  in_clones : (P : Program) (fs : List ℕ) → inserts name (marked_clones P clones w fs) ≡ list_any (λ f. inserts_cloned name clones w f (slice_get P.functions f)) fs
   in_clones P [] = refl
   in_clones P (f ∷ fs) =
       inserts-append (marked_clone clones w f (slice_get P.functions f)) (marked_clones P clones w fs)
-      ∙ ap (λ t. t || inserts name (marked_clones P clones w fs)) (in_clone P f (slice_get P.functions f))
-      ∙ ap (λ t. inserts_cloned name P clones w f (slice_get P.functions f) || t) (in_clones P fs)
+      ∙ ap (λ t. t || inserts name (marked_clones P clones w fs)) (in_clone f (slice_get P.functions f))
+      ∙ ap (λ t. inserts_cloned name clones w f (slice_get P.functions f) || t) (in_clones P fs)
 
   pub in_program : (P : Program) (fs : List ℕ) → (inserts name (marked_functions clones w 0 P.functions) || inserts name (marked_clones P clones w fs))
-      ≡ (inserts_from name clones w 0 P.functions || list_any (λ f. inserts_cloned name P clones w f (slice_get P.functions f)) fs)
+      ≡ (inserts_from name clones w 0 P.functions || list_any (λ f. inserts_cloned name clones w f (slice_get P.functions f)) fs)
   in_program P fs = ap (λ t. t || inserts name (marked_clones P clones w fs)) (in_functions 0 P.functions) ∙ ap (λ t. inserts_from name clones w 0 P.functions || t) (in_clones P fs)
 
 pub walked-repaired : (P : Program) (plan : Plan) (w : Wanted) → walked P (clones_of P plan) w (cloned P plan) (fresh_names P (cloned P plan)) ≡ repaired_by P plan w

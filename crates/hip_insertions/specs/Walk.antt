@@ -1,8 +1,7 @@
 -- The repaired program as one walk makes it: what is put behind one another, and which functions the inserted calls
 -- name.
-use Rattle.std.specs.Prelude.{ℕ, suc, Bool, true, false, cond, not, ◌&&◌, ◌||◌, List, [], ◌∷◌, ◌++◌, map, Option, Some, None, slice_get}
+use Rattle.std.specs.Prelude.{ℕ, suc, Bool, true, false, ◌||◌, List, [], ◌∷◌, ◌++◌, Option, Some, None, slice_get}
 use Rattle.std.specs.List.{flat_map}
-use Rattle.hip_types.specs.declared.number.Scalar.{Scalar}
 use Rattle.hip_types.specs.declared.number.Scalar.TheVariants.{Int, Ptr}
 use Rattle.hip_types.specs.declared.number.Width.TheVariants.{W64}
 use Rattle.hip_ir.specs.Sites.{has_site}
@@ -12,8 +11,7 @@ use Rattle.hip_ir.specs.declared.program.Extern.{Extern}
 use Rattle.hip_ir.specs.declared.program.Function.{Function}
 use Rattle.hip_ir.specs.declared.program.Program.{Program}
 use Rattle.hip_ir.specs.declared.site.Site.{Site}
-use Rattle.hip_names.specs.Names.{is_among}
-use Rattle.hip_repairs.specs.Repaired.{Marked, Clone, Wanted, clwb_name, sfence_name, pmem_flush_name, renamed, inserted_behind, repaired_body, instrs_of, inserts}
+use Rattle.hip_repairs.specs.Repaired.{Marked, Clone, Wanted, clwb_name, sfence_name, pmem_flush_name, declared_if, renamed, inserted_behind, repaired_body, instrs_of, inserts}
 use Rattle.hip_insertions.specs.declared.body.Body.{Body}
 use Rattle.hip_insertions.specs.declared.body.Needed.{Needed}
 use Rattle.hip_insertions.specs.declared.repair.Repair.{Repair}
@@ -71,12 +69,6 @@ abbrev pub marked_clones : Program → List Clone → Wanted → List ℕ → Li
 marked_clones P clones w fs = flat_map (λ f. marked_clone clones w f (slice_get P.functions f)) fs
 
 -- ---- declarations
-
--- the declaration of a function without a result, if it is wanted and absent
-abbrev pub declared_if : Bool → List Extern → List ℕ → List Scalar → List Extern
-declared_if wanted externs name params =
-    cond (wanted && not (is_among (map (λ e. e.name) externs) name))
-    (record { ret = None; name = name; params = params } ∷ []) []
 
 -- the declarations that inserted calls need and that are absent
 abbrev pub added : List Extern → Needed → List Extern

@@ -211,28 +211,29 @@ inserts_from name clones w f (x ∷ xs) =
     inserts_in name clones w false f 0 x.blocks || inserts_from name clones w (suc f) xs
 
 -- whether one is inserted in the clone of function f; not so where there is no such function
-abbrev pub inserts_cloned : List ℕ → Program → List Clone → Wanted → ℕ → Option Function → Bool
-inserts_cloned name P clones w f None = false
-inserts_cloned name P clones w f (Some x) = inserts_in name clones w true f 0 x.blocks
+abbrev pub inserts_cloned : List ℕ → List Clone → Wanted → ℕ → Option Function → Bool
+inserts_cloned name clones w f None = false
+inserts_cloned name clones w f (Some x) = inserts_in name clones w true f 0 x.blocks
 
 -- whether some inserted call names that function
 abbrev pub needs : Program → Plan → Wanted → List ℕ → Bool
 needs P plan w name =
     inserts_from name (clones_of P plan) w 0 P.functions
-    || list_any (λ f. inserts_cloned name P (clones_of P plan) w f (slice_get P.functions f)) (cloned P plan)
+    || list_any (λ f. inserts_cloned name (clones_of P plan) w f (slice_get P.functions f)) (cloned P plan)
 
--- the declaration of a function without a result, if some inserted call names it and the program declares none of
--- that name; else nothing
-abbrev missing : Program → Plan → Wanted → List ℕ → List Scalar → List Extern
-missing P plan w name params =
-    cond (needs P plan w name && not (is_among (map (λ e. e.name) P.externs) name))
+-- the declaration of a function without a result, if it is wanted and none of these declarations has its name; else
+-- nothing
+abbrev pub declared_if : Bool → List Extern → List ℕ → List Scalar → List Extern
+declared_if wanted externs name params =
+    cond (wanted && not (is_among (map (λ e. e.name) externs) name))
     (record { ret = None; name = name; params = params } ∷ []) []
 
 -- the declarations that inserted calls need and that are absent
 abbrev pub added_externs : Program → Plan → Wanted → List Extern
 added_externs P plan w =
-    missing P plan w clwb_name (Ptr ∷ [])
-    ++ (missing P plan w sfence_name [] ++ missing P plan w pmem_flush_name (Ptr ∷ Int W64 ∷ []))
+    declared_if (needs P plan w clwb_name) P.externs clwb_name (Ptr ∷ [])
+    ++ (declared_if (needs P plan w sfence_name) P.externs sfence_name []
+    ++ declared_if (needs P plan w pmem_flush_name) P.externs pmem_flush_name (Ptr ∷ Int W64 ∷ []))
 
 -- ---- the program
 

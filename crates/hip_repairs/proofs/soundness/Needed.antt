@@ -93,8 +93,8 @@ module _ (P : Program) (plan : Plan) (skip : Site → Bool) where
   needed_by name f' fn' o true e h =
       let high = o.high e in
       or_second (inserts_from name (clones_of P plan) w 0 P.functions) _
-      (any_at (λ f. inserts_cloned name P (clones_of P plan) w f (slice_get P.functions f)) (cloned P plan) high.0 o.f high.2
-      (ap (inserts_cloned name P (clones_of P plan) w o.f) o.at ∙ h))
+      (any_at (λ f. inserts_cloned name (clones_of P plan) w f (slice_get P.functions f)) (cloned P plan) high.0 o.f high.2
+      (ap (inserts_cloned name (clones_of P plan) w o.f) o.at ∙ h))
 
   -- an inserted call is one that the repair needs
   pub inserted_needed : (name : List ℕ) (f' : ℕ) (fn' : Function) (o : Origin P plan skip f' fn') (b : ℕ) (block : Block) (j k : ℕ) (i i' : Instr) → slice_get o.fn.blocks b ≡ Some block → slice_get block.body j ≡ Some i →

@@ -135,9 +135,9 @@ module _ (skip : Site → Bool) where
   module _ (P : Program) where
     none_needed : (name : List ℕ) → needs P no_repairs w name ≡ false
     none_needed name =
-        ap (λ t. t || list_any (λ f. inserts_cloned name P (clones_of P no_repairs) w f (slice_get P.functions f))
+        ap (λ t. t || list_any (λ f. inserts_cloned name (clones_of P no_repairs) w f (slice_get P.functions f))
         (cloned P no_repairs)) (none_from (clones_of P no_repairs) name 0 P.functions)
-        ∙ ap (list_any (λ f. inserts_cloned name P (clones_of P no_repairs) w f (slice_get P.functions f)))
+        ∙ ap (list_any (λ f. inserts_cloned name (clones_of P no_repairs) w f (slice_get P.functions f)))
         (none_cloned P)
 
     not_missing : (t c : Bool) (x : Extern) → t ≡ false → cond (t && not c) (x ∷ []) [] ≡ []

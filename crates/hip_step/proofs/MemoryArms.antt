@@ -2,7 +2,6 @@
 use Rattle.std.proofs.Common.{◌≡◌, inl, inr, ℕ, suc, ◌+◌, ◌-◌, ◌%◌, ◌<◌, ◌≤◌, Bool, true, false, cond, length, List, [], ◌∷◌, ◌++◌, drop, reverse, Option, Some, slice_set, ℤ, refl, sym, ap, ap₂, ◌∙◌, subst, arith, append_assoc}
 use Rattle.std.proofs.lemmas.List.{reverse-append, take_at}
 use Rattle.std.proofs.lemmas.List.Elements.{All-weaker}
-use Rattle.hip_ir.specs.declared.site.Site.{Site}
 use Rattle.hip_types.specs.Numbers.{modulus}
 use Rattle.hip_types.specs.Widths.{bytes_of}
 use Rattle.hip_types.specs.declared.number.Width.{Width}
@@ -44,6 +43,7 @@ use Rattle.hip_step.specs.Blocks.{blocks_of}
 use Rattle.hip_step.specs.Stands.{Stands, Stepped}
 use Rattle.hip_step.proofs.Arms.{assigns, counted_next, placed_next, turn_next}
 use Rattle.hip_step.proofs.Slots.{kept_set, saved_kept}
+use Rattle.hip_step.proofs.Told.{site_here}
 
 pub size_some : (n : ℕ) → IsSize n → 0 < n
 size_some n (inl e) = omega (arith, e)
@@ -254,11 +254,8 @@ taken_back {x} {st} {block} {size} {align} p =
     let short : length x.areas.stack ≡ mark_of x.areas - stack_start = omega arith in
     ap (after_pop (mark_of x.areas)) p.contents ∙ ap (λ xs. record x { areas = record x.areas { stack = xs } }) (take_at x.areas.stack _ (mark_of x.areas - stack_start) short)
 
-abbrev pub site_in : Core → Site
-site_in c = record { function = c.top.function; block = c.top.block; index = c.top.place - c.top.entry }
-
 pub acts_alloca : {old new : Core} {dest size align : ℕ} (st : Contents) (a : ℕ) → HasPushed old.storage st a size align →
-    new ≡ record old { storage = st; blocks = old.blocks ++ record { addr = a; size = size; site = site_in old } ∷ []; slots = new.slots; top = record old.top { place = old.top.place + 1 }; taken = old.taken + 1; turns = old.turns + 1 } →
+    new ≡ record old { storage = st; blocks = old.blocks ++ record { addr = a; size = size; site = site_here old } ∷ []; slots = new.slots; top = record old.top { place = old.top.place + 1 }; taken = old.taken + 1; turns = old.turns + 1 } →
     new.slots.items ≡ slice_set old.slots.items (old.top.base + dest) a → (code : Code) → Acts code old new events.Quiet (ops.Memory (memories.Effect (effects.Alloca dest size align)))
 unfolding perform
 acts_alloca {old} {new} {dest} {size} {align} st a pushed is slots code = record {
@@ -274,7 +271,7 @@ acts_alloca {old} {new} {dest} {size} {align} st a pushed is slots code = record
       let at_place = s.placed.stands.is in
       let at_entry = s.placed.begins in
       let index : old.top.place - old.top.entry ≡ m.top.place = omega (arith, at_place, at_entry) in
-      let site : site_in old ≡ site_of m.top = ap₂ (λ g k. record { function = g; block = old.top.block; index = k }) s.placed.function index ∙ ap (λ j. record { function = m.top.function; block = j; index = m.top.place }) s.placed.block in
+      let site : site_here old ≡ site_of m.top = ap₂ (λ g k. record { function = g; block = old.top.block; index = k }) s.placed.function index ∙ ap (λ j. record { function = m.top.function; block = j; index = m.top.place }) s.placed.block in
       let same : old.top.base ≤ old.top.base = omega arith in
       let high : old.top.base ≤ old.top.base + dest = omega arith in
       subst (λ x. Stepped P m.input new events.Quiet (acted m true x) (seen_of m x)) (sym done.is) (record {

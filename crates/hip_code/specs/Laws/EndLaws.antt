@@ -30,6 +30,7 @@ use Rattle.hip_code.specs.declared.op.Operand.{Operand}
 use Rattle.hip_code.specs.declared.op.Span.{Span}
 
 module _ (P : Program) (I : Input) (f b : ℕ) (tables : Tables) where
+  -- the names of the registers of function f, in the order of their slots
   abbrev names : List (List ℕ)
   names = names_at P f
 

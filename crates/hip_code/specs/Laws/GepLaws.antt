@@ -49,6 +49,7 @@ pub record Comes (n : Numbers) (t : Ty) (indices : List ℕ) (offset : ℕ) (ter
 
 module _ (globals : List GlobalVar) (region : ℕ) (names : List (List ℕ)) (n : Numbers) (rs : Registers)
     (h : HoldsFrame names n.slots n.base rs) where
+  -- the values of these indices, each sign-extended to 64 bits
   abbrev indices_of : List Arg → List ℕ
   indices_of args = index_values globals region rs args
 
@@ -104,6 +105,8 @@ module _ (globals : List GlobalVar) (region : ℕ) (names : List (List ℕ)) (n 
             (operand_within globals region names n rs p.2.index a.value p.4.index h) c.within);
       }
 
+  -- the offset that these indices give in a type is a constant one and the sum of the terms, modulo 2^64, and what the
+  -- terms name is there
   pub record Far (t : Ty) (args : List Arg) (offset : ℕ) (terms : List Term) : Type 0 where
     pub far : unwrap_or (gep_of t (indices_of args)) 0 ≡ (offset + sum_of n terms) % 2 ^ 64
     pub within : TermsWithin n terms
@@ -154,6 +157,7 @@ cut_far b o m s e =
     (ap (λ x. (x + s) % 2 ^ 64) e ∙ mod-add-mod m (2 ^ 64) s)
 
 module _ (P : Program) (I : Input) (f : ℕ) (tables : Tables) where
+  -- the names of the registers of function f, in the order of their slots
   abbrev names_here : List (List ℕ)
   names_here = names_at P f
 

@@ -53,6 +53,7 @@ sizes (scalars.Int W32) = inr (inr (inl refl))
 sizes (scalars.Int W64) = inr (inr (inr refl))
 
 module _ (P : Program) (I : Input) (f : ℕ) (tables : Tables) where
+  -- the names of the registers of function f, in the order of their slots
   abbrev names : List (List ℕ)
   names = names_at P f
 
@@ -133,6 +134,8 @@ module _ (P : Program) (I : Input) (f : ℕ) (tables : Tables) where
   has_op lines.FlushAndFence (x ∷ []) = false
   has_op lines.FlushAndFence (x ∷ y ∷ more) = true
 
+  -- the op for a function with this effect on cache lines does what a call of the function does with these arguments,
+  -- and its operands are there
   record Lines (w : World) (n : Numbers) (rs : Registers) (effect : LineEffect) (params : List Scalar) (a b : Operand)
       (args : List Arg) : Type 0 where
     within : PersistenceWithin n (line_op effect params a b)
@@ -166,6 +169,8 @@ module _ (P : Program) (I : Input) (f : ℕ) (tables : Tables) where
   lines_of w slots base rs lines.FlushAndFence (p ∷ []) a b args h k t some = absurd (let z : ⊥ = cc in z)
   lines_of w slots base rs lines.Nothing params a b args h k t some = absurd (let z : ⊥ = cc in z)
 
+  -- the op for an external function does what a call of the function does with these arguments: what it reads and
+  -- writes is there, its result goes to a register's slot or nowhere, and it is a turn unless it is a flush or a fence
   record Effects (w : World) (n : Numbers) (rs : Registers) (c : ExternCall) (slot : Option ℕ) (a b : Operand)
       (args : List Arg) (dest : Option (List ℕ)) : Type 0 where
     within : EffectWithin n (extern_op c slot a b)

@@ -123,6 +123,7 @@ cast_within casts.Inttoptr n from to a h = h
 -- ---- the laws
 
 module _ (P : Program) (I : Input) (f : ℕ) (tables : Tables) where
+  -- the names of the registers of function f, in the order of their slots
   abbrev names : List (List ℕ)
   names = names_at P f
 

@@ -239,9 +239,11 @@ one_fits c e =
     subst (λ (ts : List Ty). All Fits (ts ++ [])) (sym e.written) (All-cons Fits e.ty [] e.fits (All-nil Fits))
 
 module _ (size : ℕ) (small : size ≤ LARGEST_SIZE) (body : List Instr) where
+  -- the program of a size whose `main` has this body
   abbrev P : Program
   P = program_of size body
 
+  -- what the rules of places know in `main`
   abbrev s : Scope
   s = scope_of P (define_main body)
 
@@ -268,6 +270,7 @@ module _ (size : ℕ) (small : size ≤ LARGEST_SIZE) (body : List Instr) where
     ),
   )
 
+  -- the rules of places hold of the instruction in `main`, wherever it stands
   abbrev IsChecked : Instr → Type 0
   IsChecked i = (place : Place) → (instr_check s i place).Holds
 

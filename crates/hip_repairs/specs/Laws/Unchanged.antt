@@ -73,6 +73,7 @@ abbrev program_with : Program → List Extern → List Function → Program
 program_with P es fs = record { globals = P.globals; externs = es; functions = fs }
 
 module _ (skip : Site → Bool) where
+  -- what the plan without repairs wants, where these stores are skipped
   abbrev w : Wanted
   w = wanted_by no_repairs skip
 

@@ -15,8 +15,10 @@ use Rattle.hip_ir.specs.declared.block.End.{End}
 use Rattle.hip_ir.specs.declared.block.End.TheVariants as ends
 use Rattle.hip_ir.specs.declared.block.Phi.{Phi}
 use Rattle.hip_ir.specs.declared.constant.Const.{Const}
-use Rattle.hip_ir.specs.declared.constant.Const.TheFolds.{fold-Const}
+use Rattle.hip_ir.specs.declared.constant.Const.TheFolds.{fold-Const, fold-ConstGep, fold-TypedConst}
 use Rattle.hip_ir.specs.declared.constant.Const.TheOpen.{Const-F, ConstGep-F, TypedConst-F}
+use Rattle.hip_ir.specs.declared.constant.ConstGep.{ConstGep}
+use Rattle.hip_ir.specs.declared.constant.TypedConst.{TypedConst}
 use Rattle.hip_ir.specs.declared.instr.Arg.{Arg}
 use Rattle.hip_ir.specs.declared.instr.Flag.{Flag}
 use Rattle.hip_ir.specs.declared.instr.Flag.TheVariants.{Nuw, Nsw, Exact}
@@ -125,6 +127,14 @@ typed_step item = type_text item.ty ++ (codes " " ++ item.value)
 abbrev pub const_text : Const → List ℕ
 const_text = fold-Const (List ℕ) (List ℕ) (List ℕ) const_step gep_step typed_step
 
+-- the text of a constant `getelementptr`
+abbrev pub gep_text : ConstGep → List ℕ
+gep_text = fold-ConstGep (List ℕ) (List ℕ) (List ℕ) const_step gep_step typed_step
+
+-- the text of an item of a list: its type and its constant
+abbrev pub item_text : TypedConst → List ℕ
+item_text = fold-TypedConst (List ℕ) (List ℕ) (List ℕ) const_step gep_step typed_step
+
 -- ---- operands
 
 -- `%x`, or a constant without its type
@@ -219,11 +229,19 @@ end_text ends.Unreachable = codes "unreachable"
 abbrev pub line_of : List ℕ → List ℕ
 line_of t = codes "  " ++ (t ++ codes "\n")
 
+-- a phi on its line
+abbrev pub phi_line : Phi → List ℕ
+phi_line p = line_of (phi_text p)
+
+-- an instruction on its line
+abbrev pub instr_line : Instr → List ℕ
+instr_line i = line_of (instr_text i)
+
 -- `entry:` on a line, then a line each for the phis, the instructions and the end
 abbrev pub block_text : Block → List ℕ
 block_text block =
-    block.label ++ (codes ":\n" ++ (flat_map (λ p. line_of (phi_text p)) block.phis
-    ++ (flat_map (λ i. line_of (instr_text i)) block.body ++ line_of (end_text block.end))))
+    block.label ++ (codes ":\n" ++ (flat_map phi_line block.phis
+    ++ (flat_map instr_line block.body ++ line_of (end_text block.end))))
 
 -- ---- programs
 

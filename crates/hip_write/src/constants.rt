@@ -3,8 +3,7 @@
 ghost use Rattle.std.specs.Prelude.{◌≡◌, ◌++◌, ◌+◌, ◌-◌, ◌≤◌, ◌<◌, nat_lt, if◌then◌else◌, codes, map};
 ghost use Rattle.std.specs.Fmt.{decimal};
 ghost use Rattle.hip_io.specs.Sinks.{Writes};
-ghost use Rattle.hip_ir.specs.Show.{truth_text, literal_text, index_text, inbounds_text, const_text, bracketed, braced, commas, after_commas};
-ghost use Rattle.hip_write.specs.Parts.{gep_text, item_text};
+ghost use Rattle.hip_ir.specs.Show.{truth_text, literal_text, index_text, inbounds_text, const_text, gep_text, item_text, bracketed, braced, commas, after_commas};
 
 use crate::lists::{Written, put_more};
 use crate::text::{put_address, put_natural};

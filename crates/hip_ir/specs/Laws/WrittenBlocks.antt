@@ -22,7 +22,7 @@ use Rattle.hip_ir.specs.declared.instr.Instr.{Instr}
 use Rattle.hip_ir.specs.declared.instr.Operand.{Operand}
 use Rattle.hip_ir.specs.Words.{comma, width_text, scalar_text}
 use Rattle.hip_ir.specs.Bodies.{assigned, edge_label, edge, phi, instr, target, jump, branch, br, case, cases, switch, ret_void, ret_arg, ret_end, unreachable, end, closing, instrs_and_end, block}
-use Rattle.hip_ir.specs.Show.{commas, operand_text, assigned_text, literal_text, instr_text, edge_text, phi_text, case_text, end_text, line_of, block_text}
+use Rattle.hip_ir.specs.Show.{commas, operand_text, assigned_text, literal_text, edge_text, phi_text, case_text, end_text, line_of, phi_line, instr_line, block_text}
 use Rattle.hip_ir.specs.Spelling.{not_empty, of_width, spelled_operand, spelled_instr, spelled_edge, spelled_phi, spelled_case, spelled_end, spelled_block}
 use Rattle.hip_ir.specs.Laws.WrittenNumbers.{literal_is, own_width, same_width}
 use Rattle.hip_ir.specs.Laws.WrittenLists.{after_comma, separated_are}
@@ -158,14 +158,6 @@ end_is ends.Unreachable h =
 line_is : {A : Type 0} {l : Rule Fault A} {s : List ℕ} {x : A} → IsTextOf ends_word l s x
     → IsTextOf anything l (line_of s) x
 line_is p = blank_text 32 refl (blank_text 32 refl (blank_behind 10 refl (λ rest h. refl) p))
-
--- a phi on a line of its own, as it stands in a block
-abbrev phi_line : Phi → List ℕ
-phi_line p = line_of (phi_text p)
-
--- an instruction on a line of its own, as it stands in a block
-abbrev instr_line : Instr → List ℕ
-instr_line i = line_of (instr_text i)
 
 block_by : (label : List ℕ) (phis : List Phi) (body : List Instr) (last : End) → is_name label ≡ true
     → list_all spelled_phi phis ≡ true → list_all spelled_instr body ≡ true → spelled_end last ≡ true

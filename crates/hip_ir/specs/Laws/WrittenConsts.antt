@@ -13,7 +13,7 @@ use Rattle.hip_rules.specs.Rule.{Rule, one, both}
 use Rattle.hip_rules.specs.Part.{Part}
 use Rattle.hip_rules.specs.Laws.Texts.{IsTextOf, anything, then_text, last_text, nothing_text, anywhere_text, word_text, word_then, local_text, global_text, mark_text, mark_then, blank_text, left_text, right_text, none_text, some_text}
 use Rattle.hip_ir.specs.declared.constant.Const.{Const, out-Const, roll-Const, roll-out-Const}
-use Rattle.hip_ir.specs.declared.constant.Const.TheFolds.{fold_out-Const, fold_out-ConstGep, fold_out-TypedConst, fold-ConstGep, fold-TypedConst, map-Const}
+use Rattle.hip_ir.specs.declared.constant.Const.TheFolds.{fold_out-Const, fold_out-ConstGep, fold_out-TypedConst, map-Const}
 use Rattle.hip_ir.specs.declared.constant.Const.TheOpen.{Const-F}
 use Rattle.hip_ir.specs.declared.constant.Const.TheVariants as consts
 use Rattle.hip_ir.specs.declared.constant.Const.TheVariants.{rolls-Int, rolls-Null, rolls-Zero, rolls-Address, rolls-Gep, rolls-Array, rolls-Struct}
@@ -25,21 +25,13 @@ use Rattle.hip_ir.specs.declared.instr.Operand.{Operand}
 use Rattle.hip_ir.specs.declared.instr.Operand.TheVariants as operands
 use Rattle.hip_ir.specs.Numbers.{an_int_const}
 use Rattle.hip_ir.specs.Grammar.{maybe_word, literal_index, gep_inside, gep_const, pointer_by, pointer_within, typed_const, const_list, array_const, struct_const, const_by, const_within, scalar_const, register, fixed_operand, operand, arg, index}
-use Rattle.hip_ir.specs.Show.{type_text, after_commas, bracketed, braced, inbounds_text, index_text, const_step, gep_step, typed_step, const_text, operand_text, arg_text}
+use Rattle.hip_ir.specs.Show.{type_text, after_commas, bracketed, braced, inbounds_text, index_text, const_step, gep_step, typed_step, const_text, gep_text, item_text, operand_text, arg_text}
 use Rattle.hip_ir.specs.Spelling.{not_empty, spelled_type, spelled_gep, spelled_pointer_level, spelled_pointer_within, spelled_int, spelled_array, spelled_struct, spelled_const_by, spelled_item, spelled_const_within, spelled_scalar_const, spelled_operand, spelled_arg, spelled_index, is_int_type}
 use Rattle.hip_ir.specs.Laws.WrittenNumbers.{literal_is, int_const_is, own_width}
 use Rattle.hip_ir.specs.Laws.WrittenLists.{separated_are, none_listed, some_listed, listed_are}
 use Rattle.hip_ir.specs.Laws.WrittenTypes.{int_is, scalar_is, type_is}
 
 -- ---- texts by levels
-
--- the text of a constant `getelementptr`
-abbrev gep_text : ConstGep → List ℕ
-gep_text = fold-ConstGep (List ℕ) (List ℕ) (List ℕ) const_step gep_step typed_step
-
--- the text of an item of a list: its type and its constant
-abbrev item_text : TypedConst → List ℕ
-item_text = fold-TypedConst (List ℕ) (List ℕ) (List ℕ) const_step gep_step typed_step
 
 -- the text of a constant that is opened one level
 abbrev level_text : Const-F Const ConstGep TypedConst → List ℕ

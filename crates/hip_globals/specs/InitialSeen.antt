@@ -1,17 +1,12 @@
--- What the functions that lay the bytes of globals go by: an element and an item of a constant, and types that fit.
+-- What the functions that lay the bytes of globals go by: an item of a constant, and types that fit.
 use Rattle.std.specs.Prelude.{ℕ, ◌<◌, List, ◌∷◌, All, length, get_or}
 use Rattle.hip_types.specs.declared.ty.Ty.{Ty}
 use Rattle.hip_types.specs.Layout.{Fits}
-use Rattle.hip_ir.specs.declared.constant.ConstGep.{ConstGep}
 use Rattle.hip_ir.specs.declared.constant.TypedConst.{TypedConst}
-use Rattle.hip_ir.specs.declared.constant.Const.TheFolds.{fold-ConstGep, fold-TypedConst}
+use Rattle.hip_ir.specs.declared.constant.Const.TheFolds.{fold-TypedConst}
 use Rattle.hip_ir.specs.declared.program.GlobalVar.{GlobalVar}
 use Rattle.hip_globals.specs.Constants.{types_in}
 use Rattle.hip_globals.specs.Values.{Written, Piece, written_step, gep_step, item_step}
-
--- the address of an element, where names have these addresses
-abbrev pub gep_address : (List ℕ → ℕ) → ConstGep → ℕ
-gep_address address_of = fold-ConstGep Written ℕ Piece (written_step address_of) gep_step item_step
 
 -- an item's bytes, with its alignment
 abbrev pub item_piece : (List ℕ → ℕ) → TypedConst → Piece

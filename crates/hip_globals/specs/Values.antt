@@ -5,7 +5,8 @@ use Rattle.hip_types.specs.declared.ty.Ty.{Ty}
 use Rattle.hip_types.specs.Layout.{size_of, align_of, gep_of}
 use Rattle.hip_ir.specs.declared.constant.Const.{Const}
 use Rattle.hip_ir.specs.declared.constant.Const.TheOpen.{Const-F, ConstGep-F, TypedConst-F}
-use Rattle.hip_ir.specs.declared.constant.Const.TheFolds.{fold-Const}
+use Rattle.hip_ir.specs.declared.constant.Const.TheFolds.{fold-Const, fold-ConstGep}
+use Rattle.hip_ir.specs.declared.constant.ConstGep.{ConstGep}
 use Rattle.hip_ir.specs.declared.program.GlobalVar.{GlobalVar}
 use Rattle.hip_mem.specs.Bytes.{bytes_of}
 use Rattle.hip_globals.specs.Addresses.{address_in}
@@ -82,6 +83,10 @@ item_step item = record { align = align_of item.ty; bytes = sized (size_of item.
 -- what a constant is, where names have these addresses
 abbrev pub written : (List ℕ → ℕ) → Const → Written
 written address_of = fold-Const Written ℕ Piece (written_step address_of) gep_step item_step
+
+-- the address that a constant `getelementptr` gives, where names have these addresses
+abbrev pub gep_address : (List ℕ → ℕ) → ConstGep → ℕ
+gep_address address_of = fold-ConstGep Written ℕ Piece (written_step address_of) gep_step item_step
 
 -- the value of a constant under an integer type or `ptr`, where the region begins at a base
 abbrev pub const_value : List GlobalVar → ℕ → Const → ℕ

@@ -3,8 +3,8 @@ ghost use Rattle.hip_types.specs.Layout.{Fits, gep_of};
 ghost use Rattle.hip_mem.specs.Bytes.{bytes_of};
 ghost use Rattle.hip_globals.specs.AddressesSeen.{address_beside};
 ghost use Rattle.hip_globals.specs.Constants.{index_of, joined, types_in, gep_types, item_types};
-ghost use Rattle.hip_globals.specs.InitialSeen.{AllFit, gep_address, item_piece};
-ghost use Rattle.hip_globals.specs.Values.{aligned, sized, placed, written};
+ghost use Rattle.hip_globals.specs.InitialSeen.{AllFit, item_piece};
+ghost use Rattle.hip_globals.specs.Values.{aligned, sized, placed, written, gep_address};
 
 use crate::indices::index;
 use crate::table::{AddressTable, address_of};

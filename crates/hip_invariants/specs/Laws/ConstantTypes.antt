@@ -12,7 +12,7 @@ use Rattle.hip_types.specs.declared.ty.Ty.TheVariants as types
 use Rattle.hip_ir.specs.Laws.Levels.{out-Ty-Int, out-Ty-Ptr}
 use Rattle.hip_ir.specs.declared.constant.Const.{Const, out-Const, roll-Const, roll-out-Const}
 use Rattle.hip_ir.specs.declared.constant.Const.TheOpen.{Const-F}
-use Rattle.hip_ir.specs.declared.constant.Const.TheFolds.{fold-ConstGep, fold-roll-Const, fold_out-ConstGep}
+use Rattle.hip_ir.specs.declared.constant.Const.TheFolds.{fold-roll-Const, fold_out-ConstGep}
 use Rattle.hip_ir.specs.declared.constant.ConstGep.{ConstGep}
 use Rattle.hip_ir.specs.declared.constant.TypedConst.{TypedConst}
 use Rattle.hip_ir.specs.declared.program.Program.{Program}
@@ -25,13 +25,9 @@ use Rattle.hip_typing.specs.Laws.TypeLaws.{same_width-equal}
 use Rattle.hip_ir.specs.Words.{type_of}
 use Rattle.hip_typing.specs.Types.{same_width}
 use Rattle.hip_typing.specs.Sound.{IsSound}
-use Rattle.hip_globals.specs.Values.{Written, Piece, global_address, written_step, gep_step, item_step, const_value}
+use Rattle.hip_globals.specs.Values.{Written, global_address, gep_address, const_value}
 use Rattle.hip_types.specs.Scalars.{width_of}
 use Rattle.hip_invariants.specs.Laws.GlobalAddresses.{start_before_end}
-
--- the address of a `getelementptr` in a constant
-abbrev written_gep : (List ℕ → ℕ) → ConstGep → ℕ
-written_gep address_of = fold-ConstGep Written ℕ Piece (written_step address_of) gep_step item_step
 
 module _ (P : Program) (s : IsSound P) (base : ℕ) (is_base : IsBase base) where
   region_low : end_of true base P.globals ≤ 2 ^ 46 + 67108864
@@ -99,7 +95,7 @@ module _ (P : Program) (s : IsSound P) (base : ℕ) (is_base : IsBase base) wher
       go Const-F.Zero q ty h = none_below (width_of ty) _
           (value_is c Const-F.Zero q ∙ ap (λ (x : Written). x.value) (fold-roll-Const _ _ _ _ _ _ _))
       go (Const-F.Gep gep) q Ptr h =
-          let is : const_value P.globals base c ≡ written_gep (global_address P.globals base) gep =
+          let is : const_value P.globals base c ≡ gep_address (global_address P.globals base) gep =
           value_is c (Const-F.Gep gep) q ∙ ap (λ (x : Written). x.value) (fold-roll-Const _ _ _ _ _ _ _) in
           rw (is, fold_out-ConstGep) (mod-lt _ (let k : 0 < 2 ^ 64 = omega arith in k))
       go (Const-F.Gep gep) q (Int w) h =

@@ -31,7 +31,7 @@ use Rattle.hip_names.specs.Names.{number_of}
 use Rattle.hip_globals.specs.Addresses.{start_of, is_persistent, address_in}
 use Rattle.hip_globals.specs.Constants.{index_of}
 use Rattle.hip_typing.specs.Sound.{IsSound}
-use Rattle.hip_globals.specs.Values.{Written, Piece, global_address, written_step, gep_step, item_step, const_value}
+use Rattle.hip_globals.specs.Values.{Written, global_address, gep_address, const_value}
 use Rattle.hip_runs.specs.declared.input.Input.{Input}
 use Rattle.hip_runs.specs.Actions.{index_value, index_values, edge_value, returned}
 use Rattle.hip_runs.specs.Operands.{value_of, values_of, bound}
@@ -79,10 +79,6 @@ abbrev const_gep_level : List GlobalVar → ConstGep → Option ℕ
 const_gep_level globals = fold-ConstGep (Option ℕ) (Option ℕ) (Option ℕ)
     (level_step (global_level globals)) gep_level_step item_level_step
 
--- the address that a constant `getelementptr` gives, where names have these addresses
-abbrev written_gep : (List ℕ → ℕ) → ConstGep → ℕ
-written_gep address_of = fold-ConstGep Written ℕ Piece (written_step address_of) gep_step item_step
-
 -- ---- values
 
 -- A value that the function of number g returns is within the level of its result.
@@ -109,7 +105,7 @@ module _ (P : Program) (s : IsSound P) (base : ℕ) where
   IsWithin c = within_level (const_level P.globals c) (const_value P.globals base c)
 
   abbrev IsWithinGep : ConstGep → Type 0
-  IsWithinGep gep = within_level (const_gep_level P.globals gep) (written_gep (global_address P.globals base) gep)
+  IsWithinGep gep = within_level (const_gep_level P.globals gep) (gep_address (global_address P.globals base) gep)
 
   abbrev IsWithinItem : TypedConst → Type 0
   IsWithinItem item = Unit {0}
@@ -127,10 +123,10 @@ module _ (P : Program) (s : IsSound P) (base : ℕ) where
       let level : const_gep_level P.globals (roll-ConstGep x)
       ≡ behind_offset (const_level P.globals x.base) (unwrap_or (gep_of x.ty (map index_of x.indices)) 0) =
       fold-roll-ConstGep _ _ _ _ _ _ x in
-      let value : written_gep (global_address P.globals base) (roll-ConstGep x)
+      let value : gep_address (global_address P.globals base) (roll-ConstGep x)
       ≡ (const_value P.globals base x.base + unwrap_or (gep_of x.ty (map index_of x.indices)) 0) % 2 ^ 64 =
       fold-roll-ConstGep _ _ _ _ _ _ x in
-      subst (λ a. within_level a (written_gep (global_address P.globals base) (roll-ConstGep x))) (sym level)
+      subst (λ a. within_level a (gep_address (global_address P.globals base) (roll-ConstGep x))) (sym level)
       (subst (within_level (behind_offset (const_level P.globals x.base)
       (unwrap_or (gep_of x.ty (map index_of x.indices)) 0))) (sym value)
       (offset_within (const_level P.globals x.base) _ (const_value P.globals base x.base) base_most)))
@@ -148,7 +144,7 @@ module _ (P : Program) (s : IsSound P) (base : ℕ) where
           (fold-roll-Const _ _ _ _ _ _ _) (ap (λ (x : Written). x.value) (fold-roll-Const _ _ _ _ _ _ _))
           (address_within name)
       of_level (Const-F.Gep e) = within_by _ (const_gep_level P.globals e.0)
-          (written_gep (global_address P.globals base) e.0) (fold-roll-Const _ _ _ _ _ _ _)
+          (gep_address (global_address P.globals base) e.0) (fold-roll-Const _ _ _ _ _ _ _)
           (ap (λ (x : Written). x.value) (fold-roll-Const _ _ _ _ _ _ _)) e.1
       of_level (Const-F.Array items) = within_by _ None _ (fold-roll-Const _ _ _ _ _ _ _) refl tt
       of_level (Const-F.Struct items) = within_by _ None _ (fold-roll-Const _ _ _ _ _ _ _) refl tt

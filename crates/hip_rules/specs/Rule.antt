@@ -49,11 +49,6 @@ both {F} {A} {B} l f = record {
       × (f x).Refuses why m rest);
 }
 
--- `both`, written between the two parts
-infixl 10 ◌>>=◌
-abbrev pub ◌>>=◌ : {F A B : Type 0} → Rule F A → (A → Rule F B) → Rule F B
-l >>= f = both l f
-
 -- One case or the other. A front is one of either case.
 infixr 5 ◌or◌
 unfoldable pub ◌or◌ : {F A : Type 0} → Rule F A → Rule F A → Rule F A

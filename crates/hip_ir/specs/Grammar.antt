@@ -1,5 +1,5 @@
 -- The grammar of programs: types, constants and operands. Each part is named as its production, which stands above it.
-use Rattle.std.specs.Prelude.{ℕ, zero, suc, Bool, List, codes, if◌then◌else◌}
+use Rattle.std.specs.Prelude.{ℕ, zero, suc, Bool, List, is_some, codes, if◌then◌else◌}
 use Rattle.std.specs.Str.{bytes_eq}
 use Rattle.hip_types.specs.declared.number.Bits.{Bits}
 use Rattle.hip_types.specs.declared.number.Width.{Width}
@@ -20,7 +20,7 @@ use Rattle.hip_ir.specs.declared.fault.Fault.{Fault}
 use Rattle.hip_ir.specs.declared.instr.Arg.{Arg}
 use Rattle.hip_ir.specs.declared.instr.Operand.{Operand}
 use Rattle.hip_ir.specs.declared.instr.Operand.TheVariants as operands
-use Rattle.hip_ir.specs.Words.{is_word, is_mark, is_local, comma, a_local, too_deep, a_word_of, is_there, width_word, width_text, scalar_word, scalar_text, type_word}
+use Rattle.hip_ir.specs.Words.{is_word, is_mark, is_local, comma, a_local, too_deep, a_word_of, width_word, width_text, scalar_word, scalar_text, type_word}
 use Rattle.hip_ir.specs.Numbers.{a_literal, an_int_const, a_count}
 
 -- this word, this mark
@@ -35,7 +35,7 @@ mark b = passing (is_mark b)
 unfoldable pub maybe_word : List ℕ → Part Fault Bool
 maybe_word w = do
   found ← optional (is_word w) (word w)
-  gives (is_there found)
+  gives (is_some found)
 
 -- ---- types
 

@@ -1,5 +1,5 @@
 -- The tokens that the grammar names.
-use Rattle.std.specs.Prelude.{ℕ, Bool, true, false, List, [], ◌∷◌, Option, Some, None, ◌==◌, if◌then◌else◌, codes, option_map}
+use Rattle.std.specs.Prelude.{ℕ, Bool, true, false, List, [], ◌∷◌, Option, Some, None, is_some, ◌==◌, if◌then◌else◌, codes, option_map}
 use Rattle.std.specs.Str.{bytes_eq}
 use Rattle.hip_types.specs.declared.number.Width.{Width}
 use Rattle.hip_types.specs.declared.number.Width.TheVariants.{W1, W8, W16, W32, W64}
@@ -84,11 +84,6 @@ abbrev pub or_no : {A : Type 0} → Option A → Verdict Fault A
 or_no (Some x) = Yes x
 or_no None = No
 
--- whether there is a value
-abbrev pub is_there : {A : Type 0} → Option A → Bool
-is_there (Some x) = true
-is_there None = false
-
 -- a word that has a meaning by f, by its meaning; any other token is refused without a reason of its own
 abbrev pub a_word_of : {A : Type 0} → (List ℕ → Option A) → Tok → Verdict Fault A
 a_word_of f (Word t) = or_no (f t)
@@ -96,7 +91,7 @@ a_word_of f _ = No
 
 -- whether the token is a word that has a meaning by f
 abbrev pub is_word_of : {A : Type 0} → (List ℕ → Option A) → Tok → Bool
-is_word_of f (Word t) = is_there (f t)
+is_word_of f (Word t) = is_some (f t)
 is_word_of f _ = false
 
 -- the first of these values that is written as the word
@@ -264,7 +259,7 @@ unnamed_word t =
 
 -- a word of either kind, as it may stand behind the `=` of a global
 abbrev pub linkage_word : List ℕ → Option (Unit {0})
-linkage_word t = if is_there (link_word t) then Some tt else unnamed_word t
+linkage_word t = if is_some (link_word t) then Some tt else unnamed_word t
 
 -- what `target` states: the triple or the data layout (LLVM, "Target Triple", "Data Layout")
 abbrev pub target_word : List ℕ → Option (Unit {0})

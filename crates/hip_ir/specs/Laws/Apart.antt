@@ -1,5 +1,5 @@
 -- Tests that no token passes both.
-use Rattle.std.proofs.Common.{◌≡◌, ℕ, true, false, Bool, cond, not, List, [], ◌∷◌, Option, Some, None, refl, ap}
+use Rattle.std.proofs.Common.{◌≡◌, ℕ, true, false, Bool, cond, not, List, [], ◌∷◌, Option, Some, None, is_some, refl, ap}
 use Rattle.std.specs.List.{list_all}
 use Rattle.std.proofs.lemmas.Bool.{and_parts}
 use Rattle.std.specs.Str.{bytes_eq}
@@ -8,7 +8,7 @@ use Rattle.std.proofs.lemmas.Slice.Eq.{bytes_eq-Decides}
 use Rattle.hip_tokens.specs.Tokens.{Tok, Word, Label, Local, Global, Num, Str, Mark, Odd}
 use Rattle.hip_rules.specs.Rule.{No}
 use Rattle.hip_rules.specs.Laws.Parts.{Apart}
-use Rattle.hip_ir.specs.Words.{is_word, is_mark, is_local, is_global, is_label, a_local, a_global, a_label, a_word_of, is_word_of, is_there, or_no, written_as}
+use Rattle.hip_ir.specs.Words.{is_word, is_mark, is_local, is_global, is_label, a_local, a_global, a_label, a_word_of, is_word_of, or_no, written_as}
 
 not-true : (b : Bool) → not b ≡ true → b ≡ false
 not-true true e = absurd cc
@@ -85,13 +85,13 @@ words_apart f d h (Odd b) e = absurd cc
 
 -- a table of words, by its first entry
 pub entry_apart : {A B : Type 0} (f : List ℕ → Option A) (w : List ℕ) (x : B) (g : List ℕ → Option B)
-    → is_there (f w) ≡ false → Apart (is_word_of f) (is_word_of g)
+    → is_some (f w) ≡ false → Apart (is_word_of f) (is_word_of g)
     → Apart (is_word_of f) (is_word_of (λ t. cond (bytes_eq t w) (Some x) (g t)))
 entry_apart f w x g h p (Word t) e = by_test (bytes_eq t w) refl
   where
-    by_test : (b : Bool) → bytes_eq t w ≡ b → is_there (cond b (Some x) (g t)) ≡ false
+    by_test : (b : Bool) → bytes_eq t w ≡ b → is_some (cond b (Some x) (g t)) ≡ false
     by_test true k =
-        absurd (let same = (bytes_eq-Decides t w).0 k in let none : is_there (f t) ≡ false = rw same h in cc)
+        absurd (let same = (bytes_eq-Decides t w).0 k in let none : is_some (f t) ≡ false = rw same h in cc)
     by_test false k = p (Word t) e
 entry_apart f w x g h p (Label t) e = refl
 entry_apart f w x g h p (Global t) e = refl
@@ -114,12 +114,12 @@ no_entry_apart B f (Odd b) e = refl
 
 -- a table of values, none of which is written as a word of the first
 pub table_apart : {A B : Type 0} (f : List ℕ → Option A) (text : B → List ℕ) (xs : List B)
-    → list_all (λ x. not (is_there (f (text x)))) xs ≡ true
+    → list_all (λ x. not (is_some (f (text x)))) xs ≡ true
     → Apart (is_word_of f) (is_word_of (written_as text xs))
 table_apart {A} {B} f text [] h = no_entry_apart B f
 table_apart f text (x ∷ xs) h =
-    let p = and_parts (not (is_there (f (text x)))) (list_all (λ y. not (is_there (f (text y)))) xs) h in
-    entry_apart f (text x) x (written_as text xs) (not-true (is_there (f (text x))) p.0) (table_apart f text xs p.1)
+    let p = and_parts (not (is_some (f (text x)))) (list_all (λ y. not (is_some (f (text y)))) xs) h in
+    entry_apart f (text x) x (written_as text xs) (not-true (is_some (f (text x))) p.0) (table_apart f text xs p.1)
 
 -- ---- where a token is not
 
@@ -153,7 +153,7 @@ not_label (Str t) e = refl
 not_label (Mark b) e = refl
 not_label (Odd b) e = refl
 
-none_is_no : {A : Type 0} (o : Option A) → is_there o ≡ false → or_no o ≡ No
+none_is_no : {A : Type 0} (o : Option A) → is_some o ≡ false → or_no o ≡ No
 none_is_no (Some x) e = absurd cc
 none_is_no None e = refl
 

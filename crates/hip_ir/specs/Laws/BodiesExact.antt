@@ -1,5 +1,5 @@
 -- The reading of instructions and blocks is exact for its rule.
-use Rattle.std.proofs.Common.{◌≡◌, ℕ, true, false, Bool, not, List, [], ◌∷◌, Option, Some, None, refl, codes}
+use Rattle.std.proofs.Common.{◌≡◌, ℕ, true, false, Bool, not, List, [], ◌∷◌, Option, Some, None, is_some, refl, codes}
 use Rattle.hip_types.specs.declared.number.BinaryOp.{BinaryOp}
 use Rattle.hip_types.specs.declared.number.Scalar.{Scalar}
 use Rattle.hip_types.specs.declared.number.Scalar.TheVariants as scalars
@@ -18,7 +18,7 @@ use Rattle.hip_ir.specs.declared.instr.Flag.TheVariants as flag
 use Rattle.hip_ir.specs.declared.instr.Instr.{Instr}
 use Rattle.std.specs.Prelude.{if◌then◌else◌}
 use Rattle.std.specs.List.{list_all}
-use Rattle.hip_ir.specs.Words.{is_word, is_mark, is_local, is_label, comma, a_local, a_label, a_word_of, is_word_of, width_word, width_text, scalar_word, binary_word, cast_text, int_casts, int_cast_word, is_there, flag_text, may_wrap, may_be_exact, flags_after, flag_word}
+use Rattle.hip_ir.specs.Words.{is_word, is_mark, is_local, is_label, comma, a_local, a_label, a_word_of, is_word_of, width_word, width_text, scalar_word, binary_word, cast_text, int_casts, int_cast_word, flag_text, may_wrap, may_be_exact, flags_after, flag_word}
 use Rattle.hip_ir.specs.Numbers.{an_alignment}
 use Rattle.hip_ir.specs.Grammar.{word, maybe_word, type, is_width, operand, arg, index}
 use Rattle.hip_ir.specs.Bodies.{align, maybe_align, assigned, edge_label, edge, phi, flags, binary, compare, next_of_type, alternatives, select, to_int, int_cast, ptrtoint, inttoptr, alloca, next_address, aligned_address, load, gep, plain_call, call, store, memory_instr, cast_instr, value_instr, effect_instr, assigning_instr, instr, begins_effect, begins_instr, target, jump, branch, br, case, cases, switch, ret_void, ret_arg, ret_end, unreachable, end, closing, instrs_and_end, after_first, after_name, from_effect, after_phis, block}
@@ -66,11 +66,11 @@ from_word : {A : Type 0} (f : List ℕ → Option A) (w : List ℕ) (d : Tok →
 from_word f w d h p =
     apart_joined (is_word_of f) (is_word w) d (apart_sym (is_word w) (is_word_of f) (word_apart w (is_word_of f) h)) p
 
-no_width : (op : BinaryOp) → list_all (λ f. not (is_there (width_word (flag_text f)))) (flags_after op) ≡ true
+no_width : (op : BinaryOp) → list_all (λ f. not (is_some (width_word (flag_text f)))) (flags_after op) ≡ true
 no_width op = by_kind (may_wrap op) (may_be_exact op)
   where
     by_kind : (wraps exact : Bool)
-        → list_all (λ f. not (is_there (width_word (flag_text f))))
+        → list_all (λ f. not (is_some (width_word (flag_text f))))
         (if wraps then flag.Nuw ∷ flag.Nsw ∷ [] else (if exact then flag.Exact ∷ [] else [])) ≡ true
     by_kind true exact = refl
     by_kind false true = refl

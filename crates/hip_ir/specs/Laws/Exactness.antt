@@ -1,5 +1,5 @@
 -- The reading of types, constants and operands is exact for its rule.
-use Rattle.std.proofs.Common.{◌≡◌, ℕ, zero, suc, true, false, Bool, List, refl, codes, ◌||◌}
+use Rattle.std.proofs.Common.{◌≡◌, ℕ, zero, suc, true, false, Bool, List, is_some, refl, codes, ◌||◌}
 use Rattle.std.specs.Str.{bytes_eq}
 use Rattle.hip_types.specs.declared.number.Scalar.{Scalar}
 use Rattle.hip_types.specs.declared.number.Scalar.TheVariants as scalars
@@ -14,7 +14,7 @@ use Rattle.hip_rules.specs.Laws.Parts.{Exact, IsRead, Apart, begins, token_begin
 use Rattle.hip_ir.specs.declared.constant.Const.{Const}
 use Rattle.hip_ir.specs.declared.constant.TypedConst.{TypedConst}
 use Rattle.hip_ir.specs.declared.fault.Fault.{Fault}
-use Rattle.hip_ir.specs.Words.{is_word, is_mark, is_local, comma, a_local, too_deep, a_word_of, is_word_of, is_there, width_word, scalar_word, type_word}
+use Rattle.hip_ir.specs.Words.{is_word, is_mark, is_local, comma, a_local, too_deep, a_word_of, is_word_of, width_word, scalar_word, type_word}
 use Rattle.hip_ir.specs.Numbers.{a_literal, an_int_const}
 use Rattle.hip_ir.specs.Grammar.{word, maybe_word, array_type, struct_type, type_by, type_within, type, literal_index, a_pointer, gep_inside, gep_const, pointer_by, pointer_within, zero_const, typed_const, const_list, array_const, struct_const, const_by, const_within, scalar_const, register, fixed_operand, operand, arg, index}
 use Rattle.hip_ir.specs.Laws.Apart.{mark_apart, word_apart, local_apart, not_local, not_word_of}
@@ -23,7 +23,7 @@ use Rattle.hip_ir.specs.Laws.Apart.{mark_apart, word_apart, local_apart, not_loc
 pub maybe_word_exact : (w : List ℕ) → Exact (maybe_word w) (is_word w)
 unfolding maybe_word
 maybe_word_exact w =
-    maps_exact (optional (is_word w) (word w)) is_there (is_word w)
+    maps_exact (optional (is_word w) (word w)) is_some (is_word w)
     (optional_same (word w) (is_word w) (passing_read (is_word w) never))
 
 -- ---- types

@@ -78,9 +78,9 @@ volatile_end P = end_of false volatile_start P.globals
 abbrev pub region_size : Program → ℕ
 region_size P = next_multiple_of (end_of true 0 P.globals) LINE_SIZE
 
--- the types of the globals fit
-abbrev pub AllFit : List GlobalVar → Type 0
-AllFit globals = All (λ g. Fits g.ty) globals
+-- the type of each global fits, whatever types its initialiser has
+abbrev pub OwnTypesFit : List GlobalVar → Type 0
+OwnTypesFit globals = All (λ g. Fits g.ty) globals
 
 -- the type of the global fits, and those in its initialiser
 abbrev pub TypesFitIn : GlobalVar → Type 0

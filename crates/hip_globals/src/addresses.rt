@@ -2,7 +2,7 @@ ghost use Rattle.std.specs.Prelude.{◌≡◌, ◌+◌, ◌%◌, ◌<◌, ◌≤
 ghost use Rattle.std.specs.Option.{SomeIff};
 ghost use Rattle.hip_types.specs.Layout.{Fits, size_of};
 ghost use Rattle.hip_globals.specs.Addresses as spec;
-ghost use Rattle.hip_globals.specs.Addresses.{AllFit, global_align, global_start};
+ghost use Rattle.hip_globals.specs.Addresses.{OwnTypesFit, global_align, global_start};
 ghost use Rattle.hip_ir.specs.Reading.{IsSpelled};
 
 use hip_ir::{GlobalVar, Program};
@@ -49,7 +49,7 @@ fn end_after(at: u64, global: &GlobalVar) -> Option<u64>
 
 /// Where those of the globals end that are persistent, or that are not; none from 2^64 on.
 fn end_of(globals: &[GlobalVar], persistent: bool, start: u64) -> Option<u64>
-    requires { AllFit globals.now }
+    requires { OwnTypesFit globals.now }
     ensures { SomeIff result (spec.end_of persistent start globals.now < 2 ^ 64)
         (spec.end_of persistent start globals.now) }
 {
@@ -67,7 +67,7 @@ fn end_of(globals: &[GlobalVar], persistent: bool, start: u64) -> Option<u64>
 
 /// Whether the globals that are persistent, or that are not, end at most at a limit.
 fn end_within(globals: &[GlobalVar], persistent: bool, start: u64, limit: u64) -> bool
-    requires { AllFit globals.now }
+    requires { OwnTypesFit globals.now }
     ensures { result ≡ nat_le (spec.end_of persistent start globals.now) limit }
 {
     match end_of(globals, persistent, start) {
@@ -78,7 +78,7 @@ fn end_within(globals: &[GlobalVar], persistent: bool, start: u64, limit: u64) -
 
 /// Whether the region and the volatile globals have at most as many bytes as they may.
 pub fn are_within_limits(globals: &[GlobalVar]) -> bool
-    requires { AllFit globals.now }
+    requires { OwnTypesFit globals.now }
     ensures { result ≡ spec.are_within_limits globals.now }
 {
     end_within(globals, true, 0, LARGEST_REGION)
@@ -87,7 +87,7 @@ pub fn are_within_limits(globals: &[GlobalVar]) -> bool
 
 /// How many bytes the persistent globals take, rounded up to whole cache lines.
 pub fn region_size(program: &Program) -> u64
-    requires fit { AllFit program.now.globals }
+    requires fit { OwnTypesFit program.now.globals }
     requires small { spec.region_size program.now ≤ LARGEST_REGION }
     ensures { result ≡ spec.region_size program.now }
 {
@@ -100,7 +100,7 @@ pub fn region_size(program: &Program) -> u64
 /// Where the global of that number begins, where those that are persistent as it is, or are not, are laid from a
 /// place on.
 fn start_of(globals: &[GlobalVar], persistent: bool, start: u64, number: usize) -> u64
-    requires fit { AllFit globals.now }
+    requires fit { OwnTypesFit globals.now }
     requires there { number < length globals.now }
     requires one { persistent ≡ spec.is_persistent globals.now number }
     requires end { spec.end_of persistent start globals.now < 2 ^ 64 }
@@ -125,7 +125,7 @@ fn start_of(globals: &[GlobalVar], persistent: bool, start: u64, number: usize) 
 /// The address of the global of that number, where the region begins at a base.
 pub fn address(program: &Program, base: u64, number: usize) -> u64
     requires spelled { IsSpelled program.now }
-    requires fit { AllFit program.now.globals }
+    requires fit { OwnTypesFit program.now.globals }
     requires base { base % BASE_ALIGNMENT ≡ 0 }
     requires persistent { spec.end_of true base program.now.globals < 2 ^ 64 }
     requires volatile { spec.volatile_end program.now < 2 ^ 64 }

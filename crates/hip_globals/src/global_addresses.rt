@@ -1,7 +1,7 @@
 ghost use Rattle.std.specs.Prelude.{◌≡◌, ◌<◌, ◌^◌, All, IfOk, true, false};
 ghost use Rattle.hip_types.specs.Layout.{Fits};
 ghost use Rattle.hip_mem.specs.Memory.{volatile_start};
-ghost use Rattle.hip_globals.specs.Addresses.{AllFit, end_of};
+ghost use Rattle.hip_globals.specs.Addresses.{OwnTypesFit, end_of};
 ghost use Rattle.hip_globals.specs.AddressesSeen.{address_beside};
 ghost use Rattle.hip_globals.specs.Constants.{types_in};
 ghost use Rattle.hip_globals.specs.Values.{global_address, written};
@@ -36,7 +36,7 @@ impl<'a> GlobalAddresses<'a> {
         globals: &'a [GlobalVar],
         base: u64,
     ) -> Result<GlobalAddresses<'a>, NoMemory>
-        requires fit { AllFit globals.now }
+        requires fit { OwnTypesFit globals.now }
         requires persistent { end_of true base globals.now < 2 ^ 64 }
         requires volatile { end_of false volatile_start globals.now < 2 ^ 64 }
         ensures { IfOk result (λ addresses. address_beside addresses ≡ global_address globals.now base) }

@@ -2,7 +2,7 @@ ghost use Rattle.std.specs.Prelude.{[], ◌∷◌, ◌≡◌, ◌<◌, ◌+◌, 
 ghost use Rattle.hip_types.specs.Layout.{Fits, size_of};
 ghost use Rattle.hip_globals.specs.Addresses as spec;
 ghost use Rattle.hip_mem.specs.Memory.{volatile_start};
-ghost use Rattle.hip_globals.specs.Addresses.{AllFit, global_start};
+ghost use Rattle.hip_globals.specs.Addresses.{OwnTypesFit, global_start};
 ghost use Rattle.hip_globals.specs.AddressesSeen.{address_entry, address_beside, laid_entries};
 ghost use Rattle.hip_names.specs.Tables.{Gains};
 ghost use Rattle.hip_names.specs.Tables.{StandsFor};
@@ -50,7 +50,7 @@ pub fn address_table(
     globals: &[GlobalVar],
     base: u64,
 ) -> Result<AddressTable<'_>, NoMemory>
-    requires fit { AllFit globals.now }
+    requires fit { OwnTypesFit globals.now }
     requires persistent { spec.end_of true base globals.now < 2 ^ 64 }
     requires volatile { spec.end_of false volatile_start globals.now < 2 ^ 64 }
     ensures { IfOk result (λ table. StandsFor table.names table.values

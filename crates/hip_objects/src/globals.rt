@@ -1,6 +1,6 @@
 ghost use Rattle.std.specs.Prelude.{ℕ, ◌≡◌, ◌≤◌, ◌+◌, ◌<◌, ◌^◌, [], ◌∷◌, ◌++◌, OnOk, cond, length, nat_le, nat_lt, true, false, IfOk, Some, None};
 ghost use Rattle.hip_types.specs.Layout.{Fits, size_of};
-ghost use Rattle.hip_globals.specs.Addresses.{AllFit, IsBase, end_of, global_start};
+ghost use Rattle.hip_globals.specs.Addresses.{OwnTypesFit, IsBase, end_of, global_start};
 ghost use Rattle.hip_runs.specs.Found.Objects.{global_at};
 ghost use Rattle.hip_objects.specs.Globals.{AreLaid, number_at, place_of, places_from};
 ghost use Rattle.hip_objects.specs.Order.{AreSplit};
@@ -78,7 +78,7 @@ fn places(
     persistent: bool,
     start: u64,
 ) -> Result<Vec<Place>, NoMemory>
-    requires fit { AllFit globals.now }
+    requires fit { OwnTypesFit globals.now }
     requires end { end_of persistent start globals.now < 2 ^ 64 }
     ensures { IfOk result (λ places. places.items ≡ places_from persistent start 0 globals.now) }
 {

@@ -14,7 +14,7 @@ use Rattle.hip_ir.specs.declared.program.Program.{Program}
 use Rattle.hip_ir.specs.Reading.{IsSpelled}
 use Rattle.hip_ir.specs.Spelling.{spelled_align, spelled_type, spelled_const, spelled_global}
 use Rattle.hip_ir.specs.Laws.SpellingExact.{spelled_exact}
-use Rattle.hip_globals.specs.Addresses.{AllFit, TypesFitIn, same, global_align, global_start, start_of, end_of}
+use Rattle.hip_globals.specs.Addresses.{OwnTypesFit, TypesFitIn, same, global_align, global_start, start_of, end_of}
 
 -- ---- alignments divide a page
 
@@ -117,5 +117,5 @@ end_of-from persistent base at (g ∷ gs) page all =
 -- ---- types
 
 -- the types of globals fit, where those in their initialisers do too
-pub globals-fit : (globals : List GlobalVar) → All TypesFitIn globals → AllFit globals
+pub globals-fit : (globals : List GlobalVar) → All TypesFitIn globals → OwnTypesFit globals
 globals-fit globals h = λ k d within. h k d within 0 (get_or globals k d).ty (omega arith)

@@ -1,5 +1,5 @@
 ghost use Rattle.std.specs.Prelude.{◌≡◌};
-ghost use Rattle.hip_globals.specs.Addresses.{AllFit};
+ghost use Rattle.hip_globals.specs.Addresses.{OwnTypesFit};
 ghost use Rattle.hip_typing.specs.Seen.Answers.{Answers};
 ghost use Rattle.hip_typing.specs.Rules.{sizes_check};
 
@@ -10,7 +10,7 @@ use hip_ir::Program;
 
 /// The region and the volatile globals are not too large.
 pub fn check_sizes(program: &Program) -> Result<(), Refused>
-    requires { AllFit program.now.globals }
+    requires { OwnTypesFit program.now.globals }
     ensures { Answers result (sizes_check program.now).found }
 {
     let fit = are_within_limits(program.globals.as_slice());

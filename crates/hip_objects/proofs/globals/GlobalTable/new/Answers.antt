@@ -1,5 +1,5 @@
 use Rattle.std.proofs.Common.{◌<◌, ◌^◌, true, false, cond, nat_lt, subst, sym, ap, ap₂, ◌∙◌}
-use Rattle.hip_globals.specs.Addresses.{AllFit, end_of}
+use Rattle.hip_globals.specs.Addresses.{OwnTypesFit, end_of}
 use Rattle.hip_globals.specs.Laws.AddressLaws.{globals-fit}
 use Rattle.hip_mem.specs.Memory.{volatile_start}
 use Rattle.hip_objects.specs.Globals.{AreLaid, number_at, places_from}
@@ -8,12 +8,12 @@ use Rattle.hip_objects.proofs.globals.GlobalTable.new.Goals as goal
 
 pub places-requires-clause-fit : goal.places-requires-clause-fit
 places-requires-clause-fit c =
-    subst (λ globals. AllFit globals) (sym (c.as_slice-globals.ensures ∙ ap (λ p. p.globals) c.program.ensures.is))
+    subst (λ globals. OwnTypesFit globals) (sym (c.as_slice-globals.ensures ∙ ap (λ p. p.globals) c.program.ensures.is))
     (globals-fit c.args.checked.now.globals c.program.ensures.sound.global_types_fit)
 
 pub places-requires-2-clause-fit : goal.places-requires-2-clause-fit
 places-requires-2-clause-fit c =
-    subst (λ globals. AllFit globals) (sym (c.as_slice-globals.ensures ∙ ap (λ p. p.globals) c.program.ensures.is))
+    subst (λ globals. OwnTypesFit globals) (sym (c.as_slice-globals.ensures ∙ ap (λ p. p.globals) c.program.ensures.is))
     (globals-fit c.args.checked.now.globals c.program.ensures.sound.global_types_fit)
 
 pub places-requires-2-clause-end : goal.places-requires-2-clause-end

@@ -2,3 +2,4 @@
 pub mod DistinctLaws
 pub mod LayoutLaws
 pub mod PartLaws
+pub mod WidthLaws

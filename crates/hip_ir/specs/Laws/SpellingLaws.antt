@@ -6,7 +6,7 @@ use Rattle.std.specs.List.{list_all}
 use Rattle.std.proofs.lemmas.Bool.{and_parts}
 use Rattle.std.specs.Cmp.Derive.{both_true}
 use Rattle.hip_types.specs.Numbers.{bits}
-use Rattle.hip_types.specs.Widths.{bits_of}
+use Rattle.hip_types.specs.Laws.WidthLaws.{own_width}
 use Rattle.hip_types.specs.declared.number.Bits.{Bits}
 use Rattle.hip_types.specs.declared.number.Scalar.{Scalar}
 use Rattle.hip_types.specs.declared.number.Scalar.TheVariants as scalars
@@ -99,15 +99,8 @@ pub alignment_is : (t : Tok) (n : ℕ) → is_formed t ≡ true → an_alignment
 alignment_is (Num t) n f e = alignment_by (not (is_negative t)) (is_alignment (magnitude t)) (magnitude t) n refl e
 alignment_is t n f e = absurd cc
 
-same_width : (w : Width) → (bits_of w == bits_of w) ≡ true
-same_width W1 = refl
-same_width W8 = refl
-same_width W16 = refl
-same_width W32 = refl
-same_width W64 = refl
-
 in_range_is : (w : Width) (o : Option ℕ) (b : Bits) → bits_in_range w o ≡ Yes b → of_width w b ≡ true
-in_range_is w (Some n) b e = subst (λ z. of_width w z ≡ true) (yes_is (bits w n) b e) (same_width w)
+in_range_is w (Some n) b e = subst (λ z. of_width w z ≡ true) (yes_is (bits w n) b e) (own_width w)
 in_range_is w None b e = absurd cc
 
 truth_is : (w : Width) (t : List ℕ) (b : Bits) → or_no (truth_word w t) ≡ Yes b → of_width w b ≡ true

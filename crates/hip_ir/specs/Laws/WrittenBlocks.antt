@@ -6,6 +6,7 @@ use Rattle.hip_types.specs.declared.number.Scalar.{Scalar}
 use Rattle.hip_types.specs.declared.number.Scalar.TheVariants as scalars
 use Rattle.hip_types.specs.declared.number.Width.{Width}
 use Rattle.hip_types.specs.declared.number.Width.TheVariants.{W1}
+use Rattle.hip_types.specs.Laws.WidthLaws.{own_width, equal_widths}
 use Rattle.hip_tokens.specs.Longest.{is_name}
 use Rattle.hip_tokens.specs.Written.{ends_word}
 use Rattle.hip_rules.specs.Rule.{Rule, both}
@@ -24,7 +25,7 @@ use Rattle.hip_ir.specs.Words.{comma, width_text, scalar_text}
 use Rattle.hip_ir.specs.Bodies.{assigned, edge_label, edge, phi, instr, target, jump, branch, br, case, cases, switch, ret_void, ret_arg, ret_end, unreachable, end, closing, instrs_and_end, block}
 use Rattle.hip_ir.specs.Show.{commas, operand_text, assigned_text, literal_text, edge_text, phi_text, case_text, end_text, line_of, phi_line, instr_line, block_text}
 use Rattle.hip_ir.specs.Spelling.{not_empty, of_width, spelled_operand, spelled_instr, spelled_edge, spelled_phi, spelled_case, spelled_end, spelled_block}
-use Rattle.hip_ir.specs.Laws.WrittenNumbers.{literal_is, own_width, same_width}
+use Rattle.hip_ir.specs.Laws.WrittenNumbers.{literal_is}
 use Rattle.hip_ir.specs.Laws.WrittenLists.{after_comma, separated_are}
 use Rattle.hip_ir.specs.Laws.WrittenTypes.{int_is, width_is, scalar_is}
 use Rattle.hip_ir.specs.Laws.WrittenConsts.{operand_is, arg_is}
@@ -102,7 +103,7 @@ own_case c e =
 case_is : (w : Width) (c : Case) → spelled_case w c ≡ true → IsTextOf anything (case w).rule (case_text c) c
 case_is w c e =
     let p = and_parts (of_width w c.value) (is_name c.label) e in
-    subst (λ v. IsTextOf anything (case v).rule (case_text c) c) (same_width c.value.width w p.0) (own_case c p.1)
+    subst (λ v. IsTextOf anything (case v).rule (case_text c) c) (equal_widths c.value.width w p.0) (own_case c p.1)
 
 cases_are : (w : Width) (cs : List Case) → list_all (spelled_case w) cs ≡ true
     → IsTextOf anything (cases w).rule (codes "[ " ++ (flat_map case_text cs ++ codes "]")) cs

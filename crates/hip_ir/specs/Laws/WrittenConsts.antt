@@ -6,6 +6,7 @@ use Rattle.hip_types.specs.declared.number.Bits.{Bits}
 use Rattle.hip_types.specs.declared.number.Scalar.{Scalar}
 use Rattle.hip_types.specs.declared.number.Scalar.TheVariants as scalars
 use Rattle.hip_types.specs.declared.number.Width.{Width}
+use Rattle.hip_types.specs.Laws.WidthLaws.{own_width}
 use Rattle.hip_types.specs.declared.ty.Ty.{Ty, out-Ty}
 use Rattle.hip_types.specs.declared.ty.Ty.TheOpen.{Ty-F}
 use Rattle.hip_tokens.specs.Written.{ends_word}
@@ -27,7 +28,7 @@ use Rattle.hip_ir.specs.Numbers.{an_int_const}
 use Rattle.hip_ir.specs.Grammar.{maybe_word, literal_index, gep_inside, gep_const, pointer_by, pointer_within, typed_const, const_list, array_const, struct_const, const_by, const_within, scalar_const, register, fixed_operand, operand, arg, index}
 use Rattle.hip_ir.specs.Show.{type_text, after_commas, bracketed, braced, inbounds_text, index_text, const_step, gep_step, typed_step, const_text, gep_text, item_text, operand_text, arg_text}
 use Rattle.hip_ir.specs.Spelling.{not_empty, spelled_type, spelled_gep, spelled_pointer_level, spelled_pointer_within, spelled_int, spelled_array, spelled_struct, spelled_const_by, spelled_item, spelled_const_within, spelled_scalar_const, spelled_operand, spelled_arg, spelled_index, is_int_type}
-use Rattle.hip_ir.specs.Laws.WrittenNumbers.{literal_is, int_const_is, own_width}
+use Rattle.hip_ir.specs.Laws.WrittenNumbers.{literal_is, int_const_is}
 use Rattle.hip_ir.specs.Laws.WrittenLists.{separated_are, none_listed, some_listed, listed_are}
 use Rattle.hip_ir.specs.Laws.WrittenTypes.{int_is, scalar_is, type_is}
 

@@ -1,6 +1,6 @@
 -- A number that is written is read again.
 use Rattle.std.proofs.Common.{◌≡◌, ◌⊎◌, inl, inr, ℕ, zero, suc, ◌+◌, ◌-◌, ◌*◌, ◌/◌, ◌%◌, ◌^◌, ◌≤◌, ◌<◌, Bool, true, false, eqb, leb, List, [], ◌∷◌, ◌++◌, length, length-append, refl, subst, ◌∙◌, arith, codes}
-use Rattle.std.specs.Prelude.{◌==◌, nat_lt}
+use Rattle.std.specs.Prelude.{nat_lt}
 use Rattle.std.specs.List.{list_all}
 use Rattle.std.specs.Fmt.{decimal}
 use Rattle.std.proofs.lemmas.Fmt.{decimal_by_steps}
@@ -9,6 +9,7 @@ use Rattle.std.proofs.Math.Nat.{mod-eq_of_lt}
 use Rattle.std.proofs.lemmas.Bool.Decides.{nat_tests}
 use Rattle.hip_types.specs.Widths.{bits_of}
 use Rattle.hip_types.specs.Numbers.{bits, bits-value, modulus_is}
+use Rattle.hip_types.specs.Laws.WidthLaws.{equal_widths}
 use Rattle.hip_types.specs.declared.number.Bits.{Bits}
 use Rattle.hip_types.specs.declared.number.Width.{Width}
 use Rattle.hip_types.specs.declared.number.Width.TheVariants.{W1, W8, W16, W32, W64}
@@ -185,42 +186,8 @@ number_literal W64 n lt = signed_literal W64 n lt
 own_literal : (b : Bits) → IsLiteral b.width (literal_text b) b
 own_literal b = subst (IsLiteral b.width (literal_text b)) (bits-value b) (number_literal b.width b.value b.in_range)
 
-pub own_width : (w : Width) → (bits_of w == bits_of w) ≡ true
-own_width W1 = refl
-own_width W8 = refl
-own_width W16 = refl
-own_width W32 = refl
-own_width W64 = refl
-
-pub same_width : (v w : Width) → (bits_of v == bits_of w) ≡ true → v ≡ w
-same_width W1 W1 e = refl
-same_width W8 W8 e = refl
-same_width W16 W16 e = refl
-same_width W32 W32 e = refl
-same_width W64 W64 e = refl
-same_width W1 W8 e = absurd cc
-same_width W1 W16 e = absurd cc
-same_width W1 W32 e = absurd cc
-same_width W1 W64 e = absurd cc
-same_width W8 W1 e = absurd cc
-same_width W8 W16 e = absurd cc
-same_width W8 W32 e = absurd cc
-same_width W8 W64 e = absurd cc
-same_width W16 W1 e = absurd cc
-same_width W16 W8 e = absurd cc
-same_width W16 W32 e = absurd cc
-same_width W16 W64 e = absurd cc
-same_width W32 W1 e = absurd cc
-same_width W32 W8 e = absurd cc
-same_width W32 W16 e = absurd cc
-same_width W32 W64 e = absurd cc
-same_width W64 W1 e = absurd cc
-same_width W64 W8 e = absurd cc
-same_width W64 W16 e = absurd cc
-same_width W64 W32 e = absurd cc
-
 literal_of : (w : Width) (b : Bits) → of_width w b ≡ true → IsLiteral w (literal_text b) b
-literal_of w b e = subst (λ v. IsLiteral v (literal_text b) b) (same_width b.width w e) (own_literal b)
+literal_of w b e = subst (λ v. IsLiteral v (literal_text b) b) (equal_widths b.width w e) (own_literal b)
 
 pub literal_is : (w : Width) (b : Bits) → of_width w b ≡ true
     → IsTextOf ends_word (one (a_literal w)) (literal_text b) b

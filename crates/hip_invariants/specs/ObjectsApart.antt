@@ -5,8 +5,9 @@ use Rattle.hip_types.specs.Layout.{shape}
 use Rattle.hip_ir.specs.declared.program.GlobalVar.{GlobalVar}
 use Rattle.hip_ir.specs.declared.program.Program.{Program}
 use Rattle.hip_globals.specs.Addresses.{address}
+use Rattle.hip_mem.specs.Memory.{range_contains}
 use Rattle.hip_runs.specs.declared.event.Object.TheVariants as objects
-use Rattle.hip_runs.specs.Found.Objects.{contains, object_at}
+use Rattle.hip_runs.specs.Found.Objects.{object_at}
 use Rattle.hip_runs.specs.State.{Slot, Frame}
 
 -- the blocks of all frames, the newest first
@@ -16,11 +17,11 @@ slots_of frames = flat_map (λ f. f.slots) frames
 -- the global of a number is there and contains an address; so for a block on the stack
 abbrev pub GlobalHas : Program → ℕ → ℕ → GlobalVar → ℕ → Type 0
 GlobalHas P base k g a = (slice_get P.globals k ≡ Some g)
-    × (contains (address P base k) (shape g.ty).size a ≡ true)
+    × (range_contains (address P base k) (shape g.ty).size a ≡ true)
 
 -- block j of all frames, counted from the newest one as 0, is there and contains an address
 abbrev pub SlotHas : List Frame → ℕ → Slot → ℕ → Type 0
-SlotHas frames j x a = (slice_get (slots_of frames) j ≡ Some x) × (contains x.addr x.size a ≡ true)
+SlotHas frames j x a = (slice_get (slots_of frames) j ≡ Some x) × (range_contains x.addr x.size a ≡ true)
 
 -- Two globals that contain an address are one, and so are two blocks of these frames; a global and a block do not both
 -- contain one; and the object that an address points into is the one that contains it. (This project's own.)

@@ -2,6 +2,10 @@
 use Rattle.std.specs.Prelude.{ℕ, suc, zero, ◌+◌, ◌-◌, Bool, cond, ◌&&◌, nat_lt, nat_le, List, [], ◌∷◌, ◌++◌, length, slice_index}
 use Rattle.hip_mem.specs.declared.TheConstants.{STACK_END, STACK_START, VOLATILE_START}
 
+-- whether a number, say an address, is one of so many from `start` on; a range of 0 contains nothing
+abbrev pub range_contains : ℕ → ℕ → ℕ → Bool
+range_contains start size a = nat_le start a && nat_lt a (start + size)
+
 -- bytes that were written from an address on: a store's, or the zeros of a new stack block
 pub record Write : Type 0 where
   pub addr : ℕ

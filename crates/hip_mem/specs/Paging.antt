@@ -1,21 +1,18 @@
 -- Pages side by side in one list of bytes, and the directory that says where each lies.
-use Rattle.std.specs.Prelude.{◌≡◌, ◌≢◌, ℕ, ◌+◌, ◌-◌, ◌*◌, ◌%◌, ◌<◌, ◌≤◌, Bool, true, false, cond, ◌&&◌, nat_le, nat_lt, List, length, slice_index, slice_index_or}
+use Rattle.std.specs.Prelude.{◌≡◌, ◌≢◌, ℕ, ◌+◌, ◌-◌, ◌*◌, ◌%◌, ◌<◌, ◌≤◌, Bool, true, false, cond, List, length, slice_index, slice_index_or}
 use Rattle.hip_directory.specs.declared.directory.Directory.{Directory}
 use Rattle.hip_directory.specs.Directories.{number_at}
 use Rattle.hip_mem.specs.declared.TheConstants.{PAGE_SIZE}
 use Rattle.hip_mem.specs.declared.keys.TheConstants.{STACK_PAGE, STACK_PAGES, VOLATILE_PAGE, VOLATILE_PAGES, REGION_PAGES}
-
--- page n is one of so many from another on
-abbrev pub is_among : ℕ → ℕ → ℕ → Bool
-is_among start count n = nat_le start n && nat_lt n (start + count)
+use Rattle.hip_mem.specs.Memory.{range_contains}
 
 -- the key of page n, where the region begins with page `region`: the stack's pages come first, then those of the
 -- volatile globals, those of the region, and all others
 unfoldable pub key_of : ℕ → ℕ → ℕ
 key_of region n =
-    cond (is_among STACK_PAGE STACK_PAGES n) (n - STACK_PAGE)
-    (cond (is_among VOLATILE_PAGE VOLATILE_PAGES n) (n - VOLATILE_PAGE + STACK_PAGES)
-    (cond (is_among region REGION_PAGES n) (n - region + (STACK_PAGES + VOLATILE_PAGES))
+    cond (range_contains STACK_PAGE STACK_PAGES n) (n - STACK_PAGE)
+    (cond (range_contains VOLATILE_PAGE VOLATILE_PAGES n) (n - VOLATILE_PAGE + STACK_PAGES)
+    (cond (range_contains region REGION_PAGES n) (n - region + (STACK_PAGES + VOLATILE_PAGES))
     (n + (STACK_PAGES + VOLATILE_PAGES + REGION_PAGES))))
 
 -- the bytes are whole pages of which the first is zeros, and no other is of two keys

@@ -7,13 +7,13 @@ use Rattle.std.proofs.lemmas.Bool.{ltb-true, ltb-false}
 use Rattle.std.specs.Int.{next_multiple_of}
 use Rattle.std.specs.Prelude.{if◌then◌else◌}
 use Rattle.hip_ir.specs.declared.program.Program.{Program}
-use Rattle.hip_mem.specs.Memory.{volatile_start}
+use Rattle.hip_mem.specs.Memory.{volatile_start, range_contains}
 use Rattle.hip_globals.specs.Laws.AddressLaws.{end_of-from, spelled-divide}
 use Rattle.hip_typing.specs.Sound.{IsSound}
 use Rattle.hip_types.specs.Layout.{size_of}
 use Rattle.hip_ir.specs.declared.program.GlobalVar.{GlobalVar}
 use Rattle.hip_globals.specs.Addresses.{IsBase, end_of, start_of, is_persistent, address_in, global_start, same}
-use Rattle.hip_runs.specs.Found.Objects.{contains, global_at, global_from}
+use Rattle.hip_runs.specs.Found.Objects.{global_at, global_from}
 use Rattle.hip_objects.specs.Globals.{AreLaid, number_at, place_of, places_from}
 use Rattle.hip_objects.specs.declared.globals.Place.{Place}
 use Rattle.hip_objects.proofs.Search.{contains-before, contains-behind}
@@ -89,29 +89,29 @@ pub volatile-found : (globals : List GlobalVar) (base a n v p : ℕ) (gs : List 
     global_from globals base a n gs ≡ number_at a (places_from false v n gs)
 volatile-found globals base a n v p [] left low = refl
 volatile-found globals base a n v p (g ∷ gs) left low =
-    ap (λ x. cond (contains x (size_of g.ty) a) (Some n) (global_from globals base a (suc n) gs)) (here-at globals base n v p g gs left)
+    ap (λ x. cond (range_contains x (size_of g.ty) a) (Some n) (global_from globals base a (suc n) gs)) (here-at globals base n v p g gs left)
     ∙ go g.persistent (volatile-found globals base a (suc n) _ _ gs (next-left globals base n v p g gs left) (let up = later (same g.persistent true) p g in omega (arith, low, up)))
   where
     go : (b : Bool) →
         global_from globals base a (suc n) gs ≡ number_at a (places_from false (if same b false then global_start v g + size_of g.ty else v) (suc n) gs) →
-        cond (contains (if b then global_start p g else global_start v g) (size_of g.ty) a) (Some n) (global_from globals base a (suc n) gs)
+        cond (range_contains (if b then global_start p g else global_start v g) (size_of g.ty) a) (Some n) (global_from globals base a (suc n) gs)
         ≡ number_at a (cond (same b false) (place_of v g n ∷ places_from false (global_start v g + size_of g.ty) (suc n) gs) (places_from false v (suc n) gs))
     go true e = ap (λ c. cond c (Some n) (global_from globals base a (suc n) gs)) (contains-before (global_start p g) (size_of g.ty) a (omega (arith, low))) ∙ e
-    go false e = ap (λ x. cond (contains (global_start v g) (size_of g.ty) a) (Some n) x) e
+    go false e = ap (λ x. cond (range_contains (global_start v g) (size_of g.ty) a) (Some n) x) e
 
 -- an address from the end of the volatile globals on lies in none of them
 pub persistent-found : (globals : List GlobalVar) (base a n v p : ℕ) (gs : List GlobalVar) → AreLeft globals base n v p gs → end_of false v gs ≤ a →
     global_from globals base a n gs ≡ number_at a (places_from true p n gs)
 persistent-found globals base a n v p [] left high = refl
 persistent-found globals base a n v p (g ∷ gs) left high =
-    ap (λ x. cond (contains x (size_of g.ty) a) (Some n) (global_from globals base a (suc n) gs)) (here-at globals base n v p g gs left)
+    ap (λ x. cond (range_contains x (size_of g.ty) a) (Some n) (global_from globals base a (suc n) gs)) (here-at globals base n v p g gs left)
     ∙ go g.persistent high (persistent-found globals base a (suc n) _ _ gs (next-left globals base n v p g gs left) high)
   where
     go : (b : Bool) → end_of false (if same b false then global_start v g + size_of g.ty else v) gs ≤ a →
         global_from globals base a (suc n) gs ≡ number_at a (places_from true (if same b true then global_start p g + size_of g.ty else p) (suc n) gs) →
-        cond (contains (if b then global_start p g else global_start v g) (size_of g.ty) a) (Some n) (global_from globals base a (suc n) gs)
+        cond (range_contains (if b then global_start p g else global_start v g) (size_of g.ty) a) (Some n) (global_from globals base a (suc n) gs)
         ≡ number_at a (cond (same b true) (place_of p g n ∷ places_from true (global_start p g + size_of g.ty) (suc n) gs) (places_from true p (suc n) gs))
-    go true end e = ap (λ x. cond (contains (global_start p g) (size_of g.ty) a) (Some n) x) e
+    go true end e = ap (λ x. cond (range_contains (global_start p g) (size_of g.ty) a) (Some n) x) e
     go false end e = ap (λ c. cond c (Some n) (global_from globals base a (suc n) gs))
         (contains-behind (global_start v g) (size_of g.ty) a (let up = end_of-ge false (global_start v g + size_of g.ty) gs in omega (arith, end, up))) ∙ e
 

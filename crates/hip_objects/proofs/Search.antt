@@ -4,16 +4,16 @@ use Rattle.std.proofs.Math.Seq.{get_or-append_seam}
 use Rattle.std.specs.List.Sorted.{IsPartitionPoint, IsPartitionedBy}
 use Rattle.std.proofs.lemmas.Bool.{leb-true, leb-false, le-leb, ltb-true, ltb-false}
 use Rattle.std.proofs.lemmas.List.{get_or_append_left, get_or_default}
-use Rattle.hip_runs.specs.Found.Objects.{contains}
+use Rattle.hip_mem.specs.Memory.{range_contains}
 use Rattle.hip_objects.specs.Order.{AreInOrder, AreSplit, first_at}
 
-pub contains-before : (at size a : ℕ) → a < at → contains at size a ≡ false
+pub contains-before : (at size a : ℕ) → a < at → range_contains at size a ≡ false
 contains-before at size a h = grind (arith, h)
 
-pub contains-behind : (at size a : ℕ) → at + size ≤ a → contains at size a ≡ false
+pub contains-behind : (at size a : ℕ) → at + size ≤ a → range_contains at size a ≡ false
 contains-behind at size a h = grind (arith, h)
 
-contains-within : (at size a : ℕ) → at ≤ a → a < at + size → contains at size a ≡ true
+contains-within : (at size a : ℕ) → at ≤ a → a < at + size → range_contains at size a ≡ true
 contains-within at size a h k = grind (arith, h, k)
 
 pub split : (i k : ℕ) → (i < k) ⊎ ((i ≡ k) ⊎ (k < i))
@@ -22,7 +22,7 @@ split i k = grind arith
 module _ {X B : Type 0} (start size : X → ℕ) (told : X → B) where
   -- none of them has the byte
   abbrev pub NoneHas : ℕ → List X → Type 0
-  NoneHas a xs = (i : ℕ) (d : X) → i < length xs → contains (start (slice_index_or xs i d)) (size (slice_index_or xs i d)) a ≡ false
+  NoneHas a xs = (i : ℕ) (d : X) → i < length xs → range_contains (start (slice_index_or xs i d)) (size (slice_index_or xs i d)) a ≡ false
 
   pub first_at-none : (xs : List X) (a : ℕ) → NoneHas a xs → first_at start size told a xs ≡ None
   first_at-none [] a h = refl
@@ -51,11 +51,11 @@ module _ {X B : Type 0} (start size : X → ℕ) (told : X → B) where
       ((d : X) → start (slice_index_or xs k d) + size (slice_index_or xs k d) ≤ a) → first_at start size told a xs ≡ None
   none-but-last xs a k s p within end = first_at-none xs a (λ i d inside. go i d inside (split i k))
     where
-      go : (i : ℕ) (d : X) → i < length xs → (i < k) ⊎ ((i ≡ k) ⊎ (k < i)) → contains (start (slice_index_or xs i d)) (size (slice_index_or xs i d)) a ≡ false
+      go : (i : ℕ) (d : X) → i < length xs → (i < k) ⊎ ((i ≡ k) ⊎ (k < i)) → range_contains (start (slice_index_or xs i d)) (size (slice_index_or xs i d)) a ≡ false
       go i d inside (inl before) = contains-behind _ _ a (
           let first = s.order i k d before within in
           let at = p.before k d (omega arith) within in omega (arith, first, at))
-      go i d inside (inr (inl same)) = subst (λ j. contains (start (slice_index_or xs j d)) (size (slice_index_or xs j d)) a ≡ false) (sym same) (contains-behind _ _ a (end d))
+      go i d inside (inr (inl same)) = subst (λ j. range_contains (start (slice_index_or xs j d)) (size (slice_index_or xs j d)) a ≡ false) (sym same) (contains-behind _ _ a (end d))
       go i d inside (inr (inr behind)) = contains-before _ _ a (p.behind i d (omega (arith, behind)) inside)
 
   pub last_by : (xs : List X) (a n k : ℕ) (d : X) → AreInOrder start size xs → AreSplit start xs a n → n ≤ length xs → n ≡ suc k →

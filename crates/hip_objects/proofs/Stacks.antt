@@ -2,8 +2,9 @@
 use Rattle.std.proofs.Common.{ℕ, suc, ◌+◌, ◌<◌, ◌≤◌, ◌≡◌, Bool, true, false, cond, List, [], ◌∷◌, ◌++◌, Option, Some, None, reverse, refl, sym, ap, ◌∙◌, arith, subst}
 use Rattle.std.proofs.lemmas.List.{length-map, get_or-map, reverse-append}
 use Rattle.hip_ir.specs.declared.site.Site.{Site}
+use Rattle.hip_mem.specs.Memory.{range_contains}
 use Rattle.hip_runs.specs.State.{Slot}
-use Rattle.hip_runs.specs.Found.Objects.{contains, or_else, slot_in}
+use Rattle.hip_runs.specs.Found.Objects.{or_else, slot_in}
 use Rattle.hip_runs.specs.declared.event.Object.{Object}
 use Rattle.hip_runs.specs.declared.event.Object.TheVariants as objects
 use Rattle.hip_objects.specs.Blocks.{AreStacked, IsBehind, object_in, sited, slot_of, slots_of}
@@ -28,12 +29,12 @@ else-cond false o x after = refl
 slot_in-append : (xs ys : List Slot) (a : ℕ) → slot_in (xs ++ ys) a ≡ or_else (slot_in xs a) (slot_in ys a)
 slot_in-append [] ys a = refl
 slot_in-append (x ∷ xs) ys a =
-    over (contains x.addr x.size a) _ _ _ (slot_in-append xs ys a)
-    ∙ sym (else-cond (contains x.addr x.size a) (objects.Slot x.site) (slot_in xs a) (slot_in ys a))
+    over (range_contains x.addr x.size a) _ _ _ (slot_in-append xs ys a)
+    ∙ sym (else-cond (range_contains x.addr x.size a) (objects.Slot x.site) (slot_in xs a) (slot_in ys a))
 
 -- of the oldest block, and the ones after it
 object_in-older : (x : Block) (xs : List Block) (a : ℕ) →
-    object_in (slots_of (x ∷ xs)) a ≡ or_else (object_in (slots_of xs) a) (chosen x.site (contains x.addr x.size a))
+    object_in (slots_of (x ∷ xs)) a ≡ or_else (object_in (slots_of xs) a) (chosen x.site (range_contains x.addr x.size a))
 object_in-older x xs a =
     ap (λ l. slot_in l a) (reverse-append (slot_of x ∷ []) (slots_of xs)) ∙ slot_in-append (reverse (slots_of xs)) (slot_of x ∷ []) a
 
@@ -41,15 +42,15 @@ or_else-none : (o : Option Object) → or_else o None ≡ o
 or_else-none None = refl
 or_else-none (Some o) = refl
 
-contains-high : (at size a : ℕ) → contains at size a ≡ true → a < at + size
+contains-high : (at size a : ℕ) → range_contains at size a ≡ true → a < at + size
 contains-high at size a h = grind (arith, h)
 
 pub first_is_newest : (xs : List Block) (a : ℕ) → AreStacked xs → sited (site_first a xs) ≡ object_in (slots_of xs) a
 first_is_newest [] a s = refl
 first_is_newest (x ∷ xs) a s =
-    go (contains x.addr x.size a) refl (first_is_newest xs a (later (λ b. b.addr) (λ b. b.size) (λ b. b.site) x xs s)) ∙ sym (object_in-older x xs a)
+    go (range_contains x.addr x.size a) refl (first_is_newest xs a (later (λ b. b.addr) (λ b. b.size) (λ b. b.site) x xs s)) ∙ sym (object_in-older x xs a)
   where
-    go : (b : Bool) → contains x.addr x.size a ≡ b → sited (site_first a xs) ≡ object_in (slots_of xs) a →
+    go : (b : Bool) → range_contains x.addr x.size a ≡ b → sited (site_first a xs) ≡ object_in (slots_of xs) a →
         sited (cond b (Some x.site) (site_first a xs)) ≡ or_else (object_in (slots_of xs) a) (chosen x.site b)
     go true has e = sym (ap (λ o. or_else o (Some (objects.Slot x.site))) (sym e ∙ ap sited (first_at-none (λ b. b.addr) (λ b. b.size) (λ b. b.site) xs a (λ i d within.
         contains-before _ _ a (let high = contains-high x.addr x.size a has in let behind = s.order 0 (suc i) d (omega arith) (omega (arith, within)) in omega (arith, high, behind))))))

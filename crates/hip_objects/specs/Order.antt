@@ -1,6 +1,6 @@
 -- Things that lie one behind the other in memory, each from its first byte on.
 use Rattle.std.specs.Prelude.{ℕ, ◌+◌, ◌<◌, ◌≤◌, cond, List, [], ◌∷◌, Option, Some, None, length, slice_index_or}
-use Rattle.hip_runs.specs.Found.Objects.{contains}
+use Rattle.hip_mem.specs.Memory.{range_contains}
 
 -- each ends before a later one begins
 pub record AreInOrder {X : Type 0} (start size : X → ℕ) (xs : List X) : Type 0 where
@@ -16,4 +16,4 @@ pub record AreSplit {X : Type 0} (start : X → ℕ) (xs : List X) (a n : ℕ) :
 abbrev pub first_at : {X B : Type 0} → (X → ℕ) → (X → ℕ) → (X → B) → ℕ → List X → Option B
 first_at start size told a [] = None
 first_at start size told a (x ∷ xs) =
-    cond (contains (start x) (size x) a) (Some (told x)) (first_at start size told a xs)
+    cond (range_contains (start x) (size x) a) (Some (told x)) (first_at start size told a xs)

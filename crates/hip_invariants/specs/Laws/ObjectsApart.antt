@@ -6,12 +6,12 @@ use Rattle.std.proofs.lemmas.Option.{same_Some}
 use Rattle.hip_types.specs.Layout.{shape}
 use Rattle.hip_ir.specs.declared.program.GlobalVar.{GlobalVar}
 use Rattle.hip_ir.specs.declared.program.Program.{Program}
-use Rattle.hip_mem.specs.Memory.{volatile_start, stack_start, stack_end}
+use Rattle.hip_mem.specs.Memory.{volatile_start, stack_start, stack_end, range_contains}
 use Rattle.hip_globals.specs.Addresses.{IsBase, start_of, is_persistent, address}
 use Rattle.hip_typing.specs.Sound.{IsSound}
 use Rattle.hip_runs.specs.declared.event.Object.TheVariants as objects
 use Rattle.hip_runs.specs.declared.input.Input.{Input}
-use Rattle.hip_runs.specs.Found.Objects.{contains, global_from, slot_in, or_else, slot_at}
+use Rattle.hip_runs.specs.Found.Objects.{global_from, slot_in, or_else, slot_at}
 use Rattle.hip_runs.specs.State.{Slot, Frame}
 use Rattle.hip_runs.specs.Step.{run}
 use Rattle.hip_runs.specs.Validity.{IsValid}
@@ -25,7 +25,7 @@ record IsInside (at size a : ℕ) : Type 0 where
   from : at ≤ a
   to : a < at + size
 
-inside : (at size a : ℕ) → contains at size a ≡ true → IsInside at size a
+inside : (at size a : ℕ) → range_contains at size a ≡ true → IsInside at size a
 inside at size a e =
     let parts = and_parts (nat_le at a) (nat_lt a (at + size)) e in
     record { from = leb-true at a parts.0; to = ltb-true a (at + size) parts.1 }
@@ -88,24 +88,24 @@ module _ (P : Program) (s : IsSound P) (base : ℕ) (is_base : IsBase base) wher
   -- ---- the global that is found
 
   global_search : (a : ℕ) (gs : List GlobalVar) (n k m : ℕ) (g : GlobalVar) → m ≡ n + k
-      → slice_get gs k ≡ Some g → contains (address P base m) (shape g.ty).size a ≡ true →
+      → slice_get gs k ≡ Some g → range_contains (address P base m) (shape g.ty).size a ≡ true →
       ((j l : ℕ) (h : GlobalVar) → l ≡ n + j → slice_get gs j ≡ Some h
-      → contains (address P base l) (shape h.ty).size a ≡ true → l ≡ m)
+      → range_contains (address P base l) (shape h.ty).size a ≡ true → l ≡ m)
       → global_from P.globals base a n gs ≡ Some m
   global_search a [] n k m g e q c only = cc
   global_search a (x ∷ gs) n zero m g e q c only =
       let same : n ≡ m = omega (arith, e) in
-      let found : contains (address P base n) (shape x.ty).size a ≡ true =
-      subst (λ i. contains (address P base i) (shape x.ty).size a ≡ true) (sym same)
-      (subst (λ (y : GlobalVar). contains (address P base m) (shape y.ty).size a ≡ true)
+      let found : range_contains (address P base n) (shape x.ty).size a ≡ true =
+      subst (λ i. range_contains (address P base i) (shape x.ty).size a ≡ true) (sym same)
+      (subst (λ (y : GlobalVar). range_contains (address P base m) (shape y.ty).size a ≡ true)
       (sym (same_Some x g q)) c) in
       ap (λ b. cond b (Some n) (global_from P.globals base a (suc n) gs)) found ∙ ap Some same
   global_search a (x ∷ gs) n (suc k) m g e q c only =
-      go (contains (address P base n) (shape x.ty).size a) refl
+      go (range_contains (address P base n) (shape x.ty).size a) refl
       (global_search a gs (suc n) k m g (omega (arith, e)) q c
       (λ j l h r there d. only (suc j) l h (omega (arith, r)) there d))
     where
-      go : (b : Bool) → contains (address P base n) (shape x.ty).size a ≡ b
+      go : (b : Bool) → range_contains (address P base n) (shape x.ty).size a ≡ b
           → global_from P.globals base a (suc n) gs ≡ Some m
           → cond b (Some n) (global_from P.globals base a (suc n) gs) ≡ Some m
       go true d rest = ap Some (only 0 n x (omega arith) refl d)
@@ -113,14 +113,14 @@ module _ (P : Program) (s : IsSound P) (base : ℕ) (is_base : IsBase base) wher
 
   none_found : (a : ℕ) (gs : List GlobalVar) (n : ℕ)
       → ((j l : ℕ) (h : GlobalVar) → l ≡ n + j → slice_get gs j ≡ Some h
-      → contains (address P base l) (shape h.ty).size a ≡ true → ⊥)
+      → range_contains (address P base l) (shape h.ty).size a ≡ true → ⊥)
       → global_from P.globals base a n gs ≡ None
   none_found a [] n none = refl
   none_found a (x ∷ gs) n none =
-      go (contains (address P base n) (shape x.ty).size a) refl
+      go (range_contains (address P base n) (shape x.ty).size a) refl
       (none_found a gs (suc n) (λ j l h r there d. none (suc j) l h (omega (arith, r)) there d))
     where
-      go : (b : Bool) → contains (address P base n) (shape x.ty).size a ≡ b
+      go : (b : Bool) → range_contains (address P base n) (shape x.ty).size a ≡ b
           → global_from P.globals base a (suc n) gs ≡ None
           → cond b (Some n) (global_from P.globals base a (suc n) gs) ≡ None
       go true d rest = absurd (none 0 n x (omega arith) refl d)
@@ -169,7 +169,7 @@ slot_below low high (z ∷ xs) (suc j) (suc k) x y b q r lt =
 
 slot_in_both : (a : ℕ) (xs ys : List Slot) → slot_in (xs ++ ys) a ≡ or_else (slot_in xs a) (slot_in ys a)
 slot_in_both a [] ys = refl
-slot_in_both a (x ∷ xs) ys = go (contains x.addr x.size a) (slot_in_both a xs ys)
+slot_in_both a (x ∷ xs) ys = go (range_contains x.addr x.size a) (slot_in_both a xs ys)
   where
     go : (b : Bool) → slot_in (xs ++ ys) a ≡ or_else (slot_in xs a) (slot_in ys a)
         → cond b (Some (objects.Slot x.site)) (slot_in (xs ++ ys) a)
@@ -183,19 +183,19 @@ slot_at_all a (f ∷ fs) = ap (or_else (slot_in f.slots a)) (slot_at_all a fs)
     ∙ sym (slot_in_both a f.slots (slots_of fs))
 
 slot_search : (a : ℕ) (xs : List Slot) (j : ℕ) (x : Slot) → slice_get xs j ≡ Some x
-    → contains x.addr x.size a ≡ true →
-    ((i : ℕ) (y : Slot) → slice_get xs i ≡ Some y → contains y.addr y.size a ≡ true → i ≡ j)
+    → range_contains x.addr x.size a ≡ true →
+    ((i : ℕ) (y : Slot) → slice_get xs i ≡ Some y → range_contains y.addr y.size a ≡ true → i ≡ j)
     → slot_in xs a ≡ Some (objects.Slot x.site)
 slot_search a [] j x q c only = cc
 slot_search a (y ∷ xs) zero x q c only =
     subst (λ (z : Slot). slot_in (y ∷ xs) a ≡ Some (objects.Slot z.site)) (same_Some y x q)
     (ap (λ b. cond b (Some (objects.Slot y.site)) (slot_in xs a))
-    (subst (λ (z : Slot). contains z.addr z.size a ≡ true) (sym (same_Some y x q)) c))
+    (subst (λ (z : Slot). range_contains z.addr z.size a ≡ true) (sym (same_Some y x q)) c))
 slot_search a (y ∷ xs) (suc j) x q c only =
-    go (contains y.addr y.size a) refl (slot_search a xs j x q c
+    go (range_contains y.addr y.size a) refl (slot_search a xs j x q c
     (λ i z r d. let same : suc i ≡ suc j = only (suc i) z r d in omega (arith, same)))
   where
-    go : (b : Bool) → contains y.addr y.size a ≡ b → slot_in xs a ≡ Some (objects.Slot x.site)
+    go : (b : Bool) → range_contains y.addr y.size a ≡ b → slot_in xs a ≡ Some (objects.Slot x.site)
         → cond b (Some (objects.Slot y.site)) (slot_in xs a) ≡ Some (objects.Slot x.site)
     go true d rest = absurd (let same : 0 ≡ suc j = only 0 y refl d in let z : ⊥ = omega (arith, same) in z)
     go false d rest = rest

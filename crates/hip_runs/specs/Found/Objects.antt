@@ -1,23 +1,21 @@
 -- The objects of a program in a run: its globals, and the live blocks on the stack. An address points into the object
 -- whose bytes contain it.
-use Rattle.std.specs.Prelude.{ℕ, suc, ◌+◌, cond, Bool, ◌&&◌, nat_le, nat_lt, List, [], ◌∷◌, Option, Some, None, option_map}
+use Rattle.std.specs.Prelude.{ℕ, suc, cond, List, [], ◌∷◌, Option, Some, None, option_map}
 use Rattle.hip_types.specs.Layout.{shape}
 use Rattle.hip_ir.specs.declared.program.GlobalVar.{GlobalVar}
 use Rattle.hip_ir.specs.declared.program.Program.{Program}
 use Rattle.hip_globals.specs.Addresses.{address_in}
+use Rattle.hip_mem.specs.Memory.{range_contains}
 use Rattle.hip_runs.specs.declared.event.Object.{Object}
 use Rattle.hip_runs.specs.State.{Slot, Frame}
 use Rattle.hip_runs.specs.declared.event.Object.TheVariants as objects
-
--- whether address a is one of so many bytes from address `at` on; nothing is in an object of 0 bytes
-abbrev pub contains : ℕ → ℕ → ℕ → Bool
-contains at size a = nat_le at a && nat_lt a (at + size)
 
 -- the number of the global that contains the address, of these from number n on
 abbrev pub global_from : List GlobalVar → ℕ → ℕ → ℕ → List GlobalVar → Option ℕ
 global_from globals base a n [] = None
 global_from globals base a n (g ∷ gs) =
-    cond (contains (address_in globals base n) (shape g.ty).size a) (Some n) (global_from globals base a (suc n) gs)
+    cond (range_contains (address_in globals base n) (shape g.ty).size a) (Some n)
+    (global_from globals base a (suc n) gs)
 
 -- the number of the first global that contains address a, where the region begins at a base; none where none does
 abbrev pub global_at : Program → ℕ → ℕ → Option ℕ
@@ -26,7 +24,7 @@ global_at P base a = global_from P.globals base a 0 P.globals
 -- the first of these blocks that contains address a, told by the site of its `alloca`; none where none does
 abbrev pub slot_in : List Slot → ℕ → Option Object
 slot_in [] a = None
-slot_in (x ∷ xs) a = cond (contains x.addr x.size a) (Some (objects.Slot x.site)) (slot_in xs a)
+slot_in (x ∷ xs) a = cond (range_contains x.addr x.size a) (Some (objects.Slot x.site)) (slot_in xs a)
 
 -- the first object if there is one, else the second
 abbrev pub or_else : Option Object → Option Object → Option Object

@@ -1,5 +1,6 @@
 use Rattle.std.proofs.Common.{◌≡◌, ℕ, Bool, true, false, cond, List, [], ◌∷◌, Option, Some, None, option_map, refl, sym, ap, ◌∙◌}
-use Rattle.hip_runs.specs.Found.Objects.{contains, global_at, or_else, slot_at, slot_in}
+use Rattle.hip_mem.specs.Memory.{range_contains}
+use Rattle.hip_runs.specs.Found.Objects.{global_at, or_else, slot_at, slot_in}
 use Rattle.hip_runs.specs.State.{Frame, Slot}
 use Rattle.hip_runs.specs.declared.event.Object.{Object}
 use Rattle.hip_runs.specs.declared.event.Object.TheVariants as objects
@@ -8,7 +9,7 @@ use Rattle.hip_report.proofs.step.global_at.Goals as goal
 
 no_slot : (xs : List Slot) (a g : ℕ) → slot_in xs a ≡ Some (objects.Global g) → ⊥
 no_slot [] a g e = let z : ⊥ = cc in z
-no_slot (x ∷ xs) a g e = go (λ q. no_slot xs a g q) (contains x.addr x.size a) e
+no_slot (x ∷ xs) a g e = go (λ q. no_slot xs a g q) (range_contains x.addr x.size a) e
   where
     go : (slot_in xs a ≡ Some (objects.Global g) → ⊥) → (t : Bool) → cond t (Some (objects.Slot x.site)) (slot_in xs a) ≡ Some (objects.Global g) → ⊥
     go rest true e = let z : ⊥ = cc in z

@@ -11,10 +11,10 @@ use Rattle.hip_mem.specs.Laws.AreasLaws.{FitsOne, are_valid-fits, fits-are_valid
 use Rattle.hip_mem.specs.declared.ram.Ram.TheInside.{Inside}
 use Rattle.hip_mem.specs.declared.pages.Pages.{Pages}
 use Rattle.hip_mem.specs.Pages.{page_byte, page_bytes}
-use Rattle.hip_mem.specs.Rams.{area, areas_of, IsRam}
+use Rattle.hip_mem.specs.Rams.{areas_of, IsRam}
 use Rattle.hip_mem.proofs.Fills.{written}
 use Rattle.hip_mem.proofs.PageKeys.{in_or_out}
-use Rattle.hip_mem.proofs.RamAreas.{length-area, area-same, area-written, area-zeros, area-more, area-take, area-is, laid_out, mark-is, bytes_in-pages, fits-below}
+use Rattle.hip_mem.proofs.RamAreas.{length-page_bytes, page_bytes-same, page_bytes-written, page_bytes-zeros, page_bytes-more, page_bytes-take, page_bytes-is, laid_out, mark-is, bytes_in-pages, fits-below}
 
 -- ---- valid bytes
 
@@ -25,14 +25,14 @@ abbrev pub LiesOne : Inside → ℕ → ℕ → Type 0
 LiesOne s a n = Lies volatile_start s.volatile a n ⊎ (Lies stack_start (s.mark - stack_start) a n ⊎ Lies s.base s.region a n)
 
 lies-fits : (s : Inside) (a n : ℕ) → LiesOne s a n → FitsOne (areas_of s) a n
-lies-fits s a n (inl x) = inl (x.0, omega (arith, x.1, length-area s.pages volatile_start s.volatile))
-lies-fits s a n (inr (inl x)) = inr (inl (x.0, omega (arith, x.1, length-area s.pages stack_start (s.mark - stack_start))))
-lies-fits s a n (inr (inr x)) = inr (inr (x.0, omega (arith, x.1, length-area s.pages s.base s.region)))
+lies-fits s a n (inl x) = inl (x.0, omega (arith, x.1, length-page_bytes s.pages volatile_start s.volatile))
+lies-fits s a n (inr (inl x)) = inr (inl (x.0, omega (arith, x.1, length-page_bytes s.pages stack_start (s.mark - stack_start))))
+lies-fits s a n (inr (inr x)) = inr (inr (x.0, omega (arith, x.1, length-page_bytes s.pages s.base s.region)))
 
 fits-lies : (s : Inside) (a n : ℕ) → FitsOne (areas_of s) a n → LiesOne s a n
-fits-lies s a n (inl x) = inl (x.0, omega (arith, x.1, length-area s.pages volatile_start s.volatile))
-fits-lies s a n (inr (inl x)) = inr (inl (x.0, omega (arith, x.1, length-area s.pages stack_start (s.mark - stack_start))))
-fits-lies s a n (inr (inr x)) = inr (inr (x.0, omega (arith, x.1, length-area s.pages s.base s.region)))
+fits-lies s a n (inl x) = inl (x.0, omega (arith, x.1, length-page_bytes s.pages volatile_start s.volatile))
+fits-lies s a n (inr (inl x)) = inr (inl (x.0, omega (arith, x.1, length-page_bytes s.pages stack_start (s.mark - stack_start))))
+fits-lies s a n (inr (inr x)) = inr (inr (x.0, omega (arith, x.1, length-page_bytes s.pages s.base s.region)))
 
 pub valid-fits : (s : Inside) (a n : ℕ) → IsRam s → 0 < n → are_valid (areas_of s) a n ≡ true → FitsOne (areas_of s) a n
 valid-fits s a zero h p e = absurd (omega arith)
@@ -60,11 +60,8 @@ valid_last s r a n false e h p v k t = valid_nowhere s r a n e h p nowhere
 
 -- ---- numbers
 
-pub page_bytes-length : (m : Pages) (a n : ℕ) → length (page_bytes m a n) ≡ n
-page_bytes-length m a zero = refl
-page_bytes-length m a (suc n) = ap suc (page_bytes-length m (suc a) n)
-
 take-page_bytes : (m : Pages) (n a : ℕ) (xs : List ℕ) → n ≤ length xs → ((i : ℕ) → i < n → slice_index xs i ≡ page_byte m (a + i)) → take n xs ≡ page_bytes m a n
+unfolding page_bytes
 take-page_bytes m zero a xs h f = refl
 take-page_bytes m (suc n) a [] h f = absurd (omega arith)
 take-page_bytes m (suc n) a (x ∷ xs) h f =
@@ -85,16 +82,16 @@ same_areas b b' v v' k k' r r' e f g h = ap (λ x. areas x v k r) e ∙ ap (λ x
 pub areas-same : (s s' : Inside) → s'.base ≡ s.base → s'.volatile ≡ s.volatile → s'.region ≡ s.region → s'.mark ≡ s.mark → ((a : ℕ) → page_byte s'.pages a ≡ page_byte s.pages a) → areas_of s' ≡ areas_of s
 areas-same s s' b v r k h =
     same_areas _ _ _ _ _ _ _ _ b
-    (ap (area s'.pages volatile_start) v ∙ area-same s.pages s'.pages volatile_start s.volatile (λ a _ _. h a))
-    (ap (λ n. area s'.pages stack_start (n - stack_start)) k ∙ area-same s.pages s'.pages stack_start (s.mark - stack_start) (λ a _ _. h a))
-    (ap₂ (area s'.pages) b r ∙ area-same s.pages s'.pages s.base s.region (λ a _ _. h a))
+    (ap (page_bytes s'.pages volatile_start) v ∙ page_bytes-same s.pages s'.pages volatile_start s.volatile (λ a _ _. h a))
+    (ap (λ n. page_bytes s'.pages stack_start (n - stack_start)) k ∙ page_bytes-same s.pages s'.pages stack_start (s.mark - stack_start) (λ a _ _. h a))
+    (ap₂ (page_bytes s'.pages) b r ∙ page_bytes-same s.pages s'.pages s.base s.region (λ a _ _. h a))
 
 pub areas-written : (w : Write) (s s' : Inside) → s'.base ≡ s.base → s'.volatile ≡ s.volatile → s'.region ≡ s.region → s'.mark ≡ s.mark → ((a : ℕ) → page_byte s'.pages a ≡ byte_written w a (page_byte s.pages a)) → areas_of s' ≡ after_write w (areas_of s)
 areas-written w s s' b v r k h =
     same_areas _ _ _ _ _ _ _ _ b
-    (ap (area s'.pages volatile_start) v ∙ area-written w s.pages s'.pages h volatile_start s.volatile)
-    (ap (λ n. area s'.pages stack_start (n - stack_start)) k ∙ area-written w s.pages s'.pages h stack_start (s.mark - stack_start))
-    (ap₂ (area s'.pages) b r ∙ area-written w s.pages s'.pages h s.base s.region)
+    (ap (page_bytes s'.pages volatile_start) v ∙ page_bytes-written w s.pages s'.pages h volatile_start s.volatile)
+    (ap (λ n. page_bytes s'.pages stack_start (n - stack_start)) k ∙ page_bytes-written w s.pages s'.pages h stack_start (s.mark - stack_start))
+    (ap₂ (page_bytes s'.pages) b r ∙ page_bytes-written w s.pages s'.pages h s.base s.region)
 
 -- a byte outside a cleared range, and one inside it
 cleared_outside : (m m' : Pages) (from to a : ℕ) → page_byte m' a ≡ cond (nat_le from a && nat_lt a to) 0 (page_byte m a) → (a < from) ⊎ (to ≤ a) → page_byte m' a ≡ page_byte m a
@@ -122,33 +119,33 @@ cleared_inside m m' from to a h low high = go (in_or_out from a to)
 pub areas-pushed : (mark : ℕ) (s s' : Inside) → IsRam s → s'.base ≡ s.base → s'.volatile ≡ s.volatile → s'.region ≡ s.region → s'.mark ≡ mark → s.mark ≤ mark → mark ≤ stack_end → ((a : ℕ) → page_byte s'.pages a ≡ cond (nat_le s.mark a && nat_lt a mark) 0 (page_byte s.pages a)) → areas_of s' ≡ after_push mark (areas_of s)
 areas-pushed mark s s' i b v r k low high h =
     same_areas _ _ _ _ _ _ _ _ b
-    (ap (area s'.pages volatile_start) v ∙ area-same s.pages s'.pages volatile_start s.volatile (λ a from to. cleared_outside s.pages s'.pages s.mark mark a (h a) (inl (omega (arith, to, i.volatile, i.start)))))
-    (ap (λ n. area s'.pages stack_start (n - stack_start)) k
-    ∙ ap (area s'.pages stack_start) (let e : mark - stack_start ≡ (s.mark - stack_start) + (mark - s.mark) = omega (arith, i.start) in e)
-    ∙ area-more s'.pages stack_start (s.mark - stack_start) (mark - s.mark)
+    (ap (page_bytes s'.pages volatile_start) v ∙ page_bytes-same s.pages s'.pages volatile_start s.volatile (λ a from to. cleared_outside s.pages s'.pages s.mark mark a (h a) (inl (omega (arith, to, i.volatile, i.start)))))
+    (ap (λ n. page_bytes s'.pages stack_start (n - stack_start)) k
+    ∙ ap (page_bytes s'.pages stack_start) (let e : mark - stack_start ≡ (s.mark - stack_start) + (mark - s.mark) = omega (arith, i.start) in e)
+    ∙ page_bytes-more s'.pages stack_start (s.mark - stack_start) (mark - s.mark)
     ∙ ap₂ (λ xs ys. xs ++ ys)
-    (area-same s.pages s'.pages stack_start (s.mark - stack_start) (λ a from to. cleared_outside s.pages s'.pages s.mark mark a (h a) (inl (omega (arith, to, i.start)))))
-    (area-zeros s'.pages (stack_start + (s.mark - stack_start)) (mark - s.mark) (λ a from to. cleared_inside s.pages s'.pages s.mark mark a (h a) (omega (arith, from, i.start)) (omega (arith, to, i.start, low)))
+    (page_bytes-same s.pages s'.pages stack_start (s.mark - stack_start) (λ a from to. cleared_outside s.pages s'.pages s.mark mark a (h a) (inl (omega (arith, to, i.start)))))
+    (page_bytes-zeros s'.pages (stack_start + (s.mark - stack_start)) (mark - s.mark) (λ a from to. cleared_inside s.pages s'.pages s.mark mark a (h a) (omega (arith, from, i.start)) (omega (arith, to, i.start, low)))
     ∙ ap (λ n. zeros (mark - n)) (sym (mark-is s i))))
-    (ap₂ (area s'.pages) b r ∙ area-same s.pages s'.pages s.base s.region (λ a from to. cleared_outside s.pages s'.pages s.mark mark a (h a) (inr (omega (arith, from, i.low, high)))))
+    (ap₂ (page_bytes s'.pages) b r ∙ page_bytes-same s.pages s'.pages s.base s.region (λ a from to. cleared_outside s.pages s'.pages s.mark mark a (h a) (inr (omega (arith, from, i.low, high)))))
 
 pub areas-popped : (mark : ℕ) (s s' : Inside) → IsRam s → s'.base ≡ s.base → s'.volatile ≡ s.volatile → s'.region ≡ s.region → s'.pages ≡ s.pages → s'.mark ≡ mark → mark ≤ s.mark → areas_of s' ≡ after_pop mark (areas_of s)
 areas-popped mark s s' i b v r p k high =
     same_areas _ _ _ _ _ _ _ _ b
-    (ap₂ (λ m n. area m volatile_start n) p v)
-    (ap₂ (λ m n. area m stack_start (n - stack_start)) p k ∙ sym (area-take s.pages stack_start (s.mark - stack_start) (mark - stack_start) (omega arith)))
-    (ap₂ (λ m n. area m s'.base n) p r ∙ ap (λ x. area s.pages x s.region) b)
+    (ap₂ (λ m n. page_bytes m volatile_start n) p v)
+    (ap₂ (λ m n. page_bytes m stack_start (n - stack_start)) p k ∙ sym (page_bytes-take s.pages stack_start (s.mark - stack_start) (mark - stack_start) (omega arith)))
+    (ap₂ (λ m n. page_bytes m s'.base n) p r ∙ ap (λ x. page_bytes s.pages x s.region) b)
 
-none : (m : Pages) → area m stack_start (stack_start - stack_start) ≡ []
-unfolding area
+none : (m : Pages) → page_bytes m stack_start (stack_start - stack_start) ≡ []
+unfolding page_bytes
 none m = refl
 
 pub areas-new : (base : ℕ) (volatile region : List ℕ) (s : Inside) (empty m : Pages) → stack_end ≤ base → volatile_start + length volatile ≤ stack_start → s.base ≡ base → s.volatile ≡ length volatile → s.region ≡ length region → s.mark ≡ stack_start → ((a : ℕ) → page_byte m a ≡ byte_written (record { addr = volatile_start; bytes = volatile }) a (page_byte empty a)) → ((a : ℕ) → page_byte s.pages a ≡ byte_written (record { addr = base; bytes = region }) a (page_byte m a)) → areas_of s ≡ areas base volatile [] region
 areas-new base volatile region s empty m low high b v r k f g =
     same_areas _ _ _ _ _ _ _ _ b
-    (ap (area s.pages volatile_start) v ∙ area-is s.pages volatile_start volatile (λ i lt. g (volatile_start + i) ∙ not_written (record { addr = base; bytes = region }) (volatile_start + i) (page_byte m (volatile_start + i)) (inl (omega arith)) ∙ f (volatile_start + i) ∙ written volatile_start volatile (volatile_start + i) (page_byte empty (volatile_start + i)) (omega arith) (omega arith) ∙ ap (slice_index volatile) (let e : volatile_start + i - volatile_start ≡ i = omega arith in e)))
-    (ap (λ n. area s.pages stack_start (n - stack_start)) k ∙ none s.pages)
-    (ap₂ (area s.pages) b r ∙ area-is s.pages base region (λ i lt. g (base + i) ∙ written base region (base + i) (page_byte m (base + i)) (omega arith) (omega arith) ∙ ap (slice_index region) (let e : base + i - base ≡ i = omega arith in e)))
+    (ap (page_bytes s.pages volatile_start) v ∙ page_bytes-is s.pages volatile_start volatile (λ i lt. g (volatile_start + i) ∙ not_written (record { addr = base; bytes = region }) (volatile_start + i) (page_byte m (volatile_start + i)) (inl (omega arith)) ∙ f (volatile_start + i) ∙ written volatile_start volatile (volatile_start + i) (page_byte empty (volatile_start + i)) (omega arith) (omega arith) ∙ ap (slice_index volatile) (let e : volatile_start + i - volatile_start ≡ i = omega arith in e)))
+    (ap (λ n. page_bytes s.pages stack_start (n - stack_start)) k ∙ none s.pages)
+    (ap₂ (page_bytes s.pages) b r ∙ page_bytes-is s.pages base region (λ i lt. g (base + i) ∙ written base region (base + i) (page_byte m (base + i)) (omega arith) (omega arith) ∙ ap (slice_index region) (let e : base + i - base ≡ i = omega arith in e)))
 
 -- ---- accesses
 

@@ -22,7 +22,7 @@ abbrev pub page_byte : Pages → ℕ → ℕ
 page_byte m a = byte_of m (a / PAGE_SIZE) (a % PAGE_SIZE)
 
 -- the n bytes from address a on
-abbrev pub page_bytes : Pages → ℕ → ℕ → List ℕ
+unfoldable pub page_bytes : Pages → ℕ → ℕ → List ℕ
 page_bytes m a zero = []
 page_bytes m a (suc n) = page_byte m a ∷ page_bytes m (suc a) n
 

@@ -1,24 +1,19 @@
 -- What a `Ram` shows.
-use Rattle.std.specs.Prelude.{◌≡◌, ℕ, ◌-◌, ◌%◌, ◌^◌, ◌≤◌, List}
+use Rattle.std.specs.Prelude.{◌≡◌, ◌-◌, ◌%◌, ◌^◌, ◌≤◌}
 use Rattle.hip_mem.specs.declared.ram.Ram.TheInside.{Inside}
 use Rattle.hip_mem.specs.Memory.{volatile_start, stack_start, stack_end}
 use Rattle.hip_mem.specs.Areas.{Areas}
-use Rattle.hip_mem.specs.declared.pages.Pages.{Pages}
 use Rattle.hip_mem.specs.Pages.{page_bytes}
 use Rattle.hip_types.specs.declared.limits.TheConstants.{LARGEST_REGION, LARGEST_VOLATILE}
-
--- the n bytes from an address on
-unfoldable pub area : Pages → ℕ → ℕ → List ℕ
-area m start n = page_bytes m start n
 
 -- the bytes of the volatile globals, of the stack up to the mark, and of the region, as the pages hold them
 abbrev pub areas_of : Inside → Areas
 areas_of s =
     record {
       base = s.base;
-      volatile = area s.pages volatile_start s.volatile;
-      stack = area s.pages stack_start (s.mark - stack_start);
-      region = area s.pages s.base s.region;
+      volatile = page_bytes s.pages volatile_start s.volatile;
+      stack = page_bytes s.pages stack_start (s.mark - stack_start);
+      region = page_bytes s.pages s.base s.region;
     }
 
 -- the base is one that a region may have, both sizes are within their limits, and the mark is within the stack

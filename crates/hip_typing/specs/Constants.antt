@@ -32,11 +32,6 @@ item_names_step item = item.value
 abbrev pub names_in : Const → List (List ℕ)
 names_in = fold-Const (List (List ℕ)) (List (List ℕ)) (List (List ℕ)) names_step gep_names_step item_names_step
 
--- the names whose addresses stand in a constant `getelementptr`, in the order of its text
-abbrev pub gep_names : ConstGep → List (List ℕ)
-gep_names = fold-ConstGep (List (List ℕ)) (List (List ℕ))
-    (List (List ℕ)) names_step gep_names_step item_names_step
-
 -- the names whose addresses stand in a member of an aggregate constant, in the order of its text
 abbrev pub item_names : TypedConst → List (List ℕ)
 item_names = fold-TypedConst (List (List ℕ)) (List (List ℕ))

@@ -1,7 +1,7 @@
 ghost use Rattle.std.specs.Prelude.{◌≡◌, ◌↔◌, IsTrue, map};
 ghost use Rattle.std.specs.List.{list_all};
 ghost use Rattle.hip_globals.specs.Constants.{joined, types_in, gep_types, item_types};
-ghost use Rattle.hip_typing.specs.Constants.{names_in, gep_names, item_names};
+ghost use Rattle.hip_typing.specs.Constants.{names_in, item_names};
 ghost use Rattle.hip_names.specs.Names.{is_among};
 ghost use Rattle.hip_typing.specs.Places.{fits_test};
 

@@ -5,7 +5,7 @@ use Rattle.hip_ir.specs.declared.program.Program.{Program}
 use Rattle.hip_run_traces.specs.Headers.{Gives, header}
 use Rattle.hip_run_traces.specs.Laws.TraceLaws.{whole-front, whole-trace}
 use Rattle.hip_run_traces.specs.Misfits.{IsMisfit, IsTraceOf}
-use Rattle.hip_run_traces.specs.Traces.{IsTrace, entry_list, entry_of_event, trace}
+use Rattle.hip_run_traces.specs.Traces.{IsTrace, entry_list, entry_of_event, trace, told}
 use Rattle.hip_run_traces.specs.declared.misfit.MisfitKind.TheVariants.{Malformed, Differs, Early, Extra}
 use Rattle.hip_runs.specs.Outputs.{ending_by}
 use Rattle.hip_runs.specs.Step.{event, header_entries, run}
@@ -19,7 +19,7 @@ use Rattle.hip_lockstep.specs.Laws.Readings.{next_read, reads_more, told_at, tol
 use Rattle.hip_lockstep.specs.Laws.RunSteps.{differs_run, ending_after, fits_more, no_entry, no_entry_goes_on, read_fault, spelled_malformed, spelled_next, spelled_none, trace_after}
 use Rattle.hip_lockstep.specs.InStep.{IsInStep, HasFollowed}
 use Rattle.hip_lockstep.specs.Nexts.{ReadsEnd, ReadsEntry}
-use Rattle.hip_lockstep.specs.Reading.{HasReadEntries, IsRead, told}
+use Rattle.hip_lockstep.specs.Reading.{HasReadEntries, IsRead}
 use Rattle.hip_lockstep.specs.Refusals.{HasMisfit, Refuses}
 use Rattle.hip_lockstep.specs.declared.refusal.ReplayRefusal.{ReplayRefusal}
 use Rattle.hip_lockstep.specs.declared.refusal.ReplayRefusal.TheVariants as refusals

@@ -3,14 +3,14 @@ use Rattle.std.specs.Prelude.{◌≡◌, ℕ, true, List, [], ◌∷◌, ◌++�
 use Rattle.hip_io.specs.Cabinets.{CabinetState}
 use Rattle.hip_ir.specs.declared.program.Program.{Program}
 use Rattle.hip_run_traces.specs.Headers.{Gives, header, header_from, valid_base, valid_limit, with_entry}
-use Rattle.hip_run_traces.specs.Traces.{header_of}
+use Rattle.hip_run_traces.specs.Traces.{header_of, told}
 use Rattle.hip_runs.specs.Step.{header_entries}
 use Rattle.hip_runs.specs.Validity.{IsValid}
 use Rattle.hip_runs.specs.declared.input.Input.{Input}
 use Rattle.hip_trace.specs.Pieces.{spelled}
 use Rattle.hip_trace.specs.Reads.{ReaderState}
 use Rattle.hip_trace.specs.declared.entry.Entry.{Entry}
-use Rattle.hip_lockstep.specs.Reading.{HasReadEntries, told}
+use Rattle.hip_lockstep.specs.Reading.{HasReadEntries}
 use Rattle.hip_lockstep.specs.Refusals.{Refuses}
 use Rattle.hip_lockstep.specs.declared.opening.Begun.{Begun}
 use Rattle.hip_lockstep.specs.declared.refusal.ReplayRefusal.{ReplayRefusal}

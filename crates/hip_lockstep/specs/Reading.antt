@@ -1,15 +1,12 @@
 -- What was read of a trace, entry by entry.
-use Rattle.std.specs.Prelude.{◌≡◌, ◌⊎◌, ℕ, Bool, true, false, List, [], ◌++◌, length, map, Option, Some, IfSome}
+use Rattle.std.specs.Prelude.{◌≡◌, ◌⊎◌, ℕ, Bool, true, false, List, [], ◌++◌, length, Option, Some, IfSome}
 use Rattle.hip_io.specs.Cabinets.{CabinetState}
 use Rattle.hip_run_traces.specs.Laws.GivenLaws.{FitAll}
+use Rattle.hip_run_traces.specs.Traces.{told}
 use Rattle.hip_trace.specs.Pieces.{spelled}
 use Rattle.hip_trace.specs.Reads.{ReaderState, IsReading, ahead}
 use Rattle.hip_trace.specs.declared.entry.Entry.{Entry}
 use Rattle.hip_trace.specs.declared.refusal.Progress.TheVariants.{Reading}
-
--- entries as pieces that spell them
-abbrev pub told : List Entry → List (Option Entry)
-told es = map (λ e. Some e) es
 
 -- The text ended at a separator: its pieces stay the same, whatever follows.
 pub record StopsAtSeparator (text : List ℕ) (entries : List Entry) : Type 0 where

@@ -81,6 +81,10 @@ unfoldable pub trace : Program → Input → ℕ → List Entry
 trace P I zero = header_of I
 trace P I (suc n) = trace P I n ++ next_entries P I (run P I n)
 
+-- entries as pieces that spell them
+abbrev pub told : List Entry → List (Option Entry)
+told es = map (λ e. Some e) es
+
 -- The trace of a run: that of so many steps that it has ended.
 pub record IsTrace (P : Program) (I : Input) (es : List Entry) : Type 0 where
   pub steps : ℕ

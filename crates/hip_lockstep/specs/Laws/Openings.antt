@@ -13,7 +13,7 @@ use Rattle.hip_run_traces.specs.Laws.GivenLaws.{FitAll, header-given}
 use Rattle.hip_run_traces.specs.Laws.MisfitLaws.{front-stops}
 use Rattle.hip_run_traces.specs.Laws.TraceLaws.{length-header_of}
 use Rattle.hip_run_traces.specs.Misfits.{MisfitBehind, IsMisfit, StopsAt}
-use Rattle.hip_run_traces.specs.Traces.{header_of, trace}
+use Rattle.hip_run_traces.specs.Traces.{header_of, trace, told}
 use Rattle.hip_run_traces.specs.declared.misfit.MisfitKind.{MisfitKind}
 use Rattle.hip_run_traces.specs.declared.misfit.MisfitKind.TheVariants.{Malformed, Differs, Early, Extra}
 use Rattle.hip_runs.specs.Laws.Members.{le_true, lt_true}
@@ -31,7 +31,7 @@ use Rattle.hip_lockstep.specs.Laws.Readings.{next_read, reads_more, stays_more, 
 use Rattle.hip_lockstep.specs.Laws.RunSteps.{IsUnspelled, fits_more, front_taken, later_faults, no_entry, spelled_malformed, spelled_next, spelled_none}
 use Rattle.hip_lockstep.specs.Nexts.{ReadsEntry}
 use Rattle.hip_lockstep.specs.Opening.{HasBase, HasGiven, HasAllGiven, HasHeader}
-use Rattle.hip_lockstep.specs.Reading.{HasReadEntries, IsRead, told}
+use Rattle.hip_lockstep.specs.Reading.{HasReadEntries, IsRead}
 use Rattle.hip_lockstep.specs.Refusals.{HasMisfit, HasStoppedReplay, ShowsNone, Refuses, begun_at}
 use Rattle.hip_lockstep.specs.declared.refusal.ReplayRefusal.{ReplayRefusal}
 use Rattle.hip_lockstep.specs.declared.refusal.ReplayRefusal.TheVariants as refusals

@@ -5,6 +5,7 @@ use Rattle.std.specs.List.{list_any}
 use Rattle.std.proofs.lemmas.Bool.{ltb-false}
 use Rattle.hip_io.specs.Cabinets.{CabinetState, StaysOpen}
 use Rattle.hip_run_traces.specs.Laws.GivenLaws.{FitAll}
+use Rattle.hip_run_traces.specs.Traces.{told}
 use Rattle.hip_trace.specs.Laws.FitLaws.{spelled_fits}
 use Rattle.hip_trace.specs.Laws.PieceLaws.{no_piece, spelled_first, spelled_last}
 use Rattle.hip_trace.specs.Entries.{entry_by, entry_of, fields}
@@ -13,7 +14,7 @@ use Rattle.hip_trace.specs.Pieces.{is_separator, pieces, spelled}
 use Rattle.hip_trace.specs.Reads.{ReaderState, IsReading, TakesPiece, HasNext, ahead, one_more}
 use Rattle.hip_trace.specs.declared.entry.Entry.{Entry}
 use Rattle.hip_trace.specs.declared.refusal.Progress.TheVariants.{Reading}
-use Rattle.hip_lockstep.specs.Reading.{StopsAtSeparator, StopsAtEnd, IsRead, HasReadEntries, told}
+use Rattle.hip_lockstep.specs.Reading.{StopsAtSeparator, StopsAtEnd, IsRead, HasReadEntries}
 
 -- ---- what is told
 

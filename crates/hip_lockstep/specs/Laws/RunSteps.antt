@@ -9,7 +9,7 @@ use Rattle.hip_run_traces.specs.Laws.MisfitLaws.{differs-behind, run-front}
 use Rattle.hip_runs.specs.Laws.NextLaws.{rests-ended}
 use Rattle.hip_run_traces.specs.Laws.TraceLaws.{next-trace, whole-front, whole-trace}
 use Rattle.hip_run_traces.specs.Misfits.{DiffersAt, FirstDiffers, MisfitBehind, IsMisfit}
-use Rattle.hip_run_traces.specs.Traces.{IsTrace, entry_list, entry_of_ending, entry_of_event, trace}
+use Rattle.hip_run_traces.specs.Traces.{IsTrace, entry_list, entry_of_ending, entry_of_event, trace, told}
 use Rattle.hip_run_traces.specs.declared.misfit.MisfitKind.{MisfitKind}
 use Rattle.hip_run_traces.specs.declared.misfit.MisfitKind.TheVariants.{Malformed, Differs, Early, Extra}
 use Rattle.hip_runs.specs.Laws.OutputLaws.{run_told}
@@ -26,7 +26,7 @@ use Rattle.hip_trace.specs.Reads.{ReaderState, IsReading, HasFailed, ahead, entr
 use Rattle.hip_trace.specs.declared.entry.Entry.{Entry}
 use Rattle.hip_lockstep.specs.Laws.Readings.{read_front, read_whole, reads_more, stays_more, told_append, told_at, told_map}
 use Rattle.hip_lockstep.specs.Nexts.{ReadsEntry}
-use Rattle.hip_lockstep.specs.Reading.{HasReadEntries, IsRead, told}
+use Rattle.hip_lockstep.specs.Reading.{HasReadEntries, IsRead}
 use Rattle.hip_lockstep.specs.Refusals.{HasMisfit, HasReadFault, IsTaken, ShowsNone, Refuses, begun_at}
 use Rattle.hip_lockstep.specs.declared.refusal.ReplayRefusal.{ReplayRefusal}
 use Rattle.hip_lockstep.specs.declared.refusal.ReplayRefusal.TheVariants as refusals

@@ -6,11 +6,10 @@ use Rattle.hip_ir.specs.declared.program.Program.{Program}
 use Rattle.hip_runs.specs.Laws.Members.{equal_true, true_equal}
 use Rattle.hip_runs.specs.declared.input.Input.{Input}
 use Rattle.hip_run_traces.specs.Headers.{Header, Stops, Gives, header}
-use Rattle.hip_run_traces.specs.Laws.HeaderLaws.{told}
 use Rattle.hip_run_traces.specs.Laws.MisfitLaws.{agree-never, no_stop}
 use Rattle.hip_run_traces.specs.Laws.TraceLaws.{one-trace, whole-trace}
 use Rattle.hip_run_traces.specs.Misfits.{kind_of, FirstDiffers, StopsAt, DiffersFromRun, MisfitBehind, IsMisfit, IsTraceOf}
-use Rattle.hip_run_traces.specs.Traces.{IsTrace}
+use Rattle.hip_run_traces.specs.Traces.{IsTrace, told}
 use Rattle.hip_run_traces.specs.declared.misfit.MisfitKind.{MisfitKind}
 use Rattle.hip_run_traces.specs.declared.misfit.MisfitKind.TheVariants.{Differs, Early, Extra}
 use Rattle.hip_trace.specs.Laws.TextLaws.{trap_word}

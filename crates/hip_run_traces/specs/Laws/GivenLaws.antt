@@ -14,10 +14,10 @@ use Rattle.hip_runs.specs.Step.{header_entries, some_byte}
 use Rattle.hip_runs.specs.Validity.{IsInput, IsValid}
 use Rattle.hip_runs.specs.declared.input.Input.{Input}
 use Rattle.hip_run_traces.specs.Headers.{Gives, valid_limit, is_empty, valid_base, is_next_line, with_number, with_line, with_entry, filled, go_on, header_from, behind_register, behind_start, header}
-use Rattle.hip_run_traces.specs.Laws.HeaderLaws.{told, whole_lines}
+use Rattle.hip_run_traces.specs.Laws.HeaderLaws.{whole_lines}
 use Rattle.hip_run_traces.specs.Laws.LineLaws.{lines_append, no_lines}
 use Rattle.hip_run_traces.specs.Laws.TraceLaws.{length-header_of}
-use Rattle.hip_run_traces.specs.Traces.{header_of, image_entries}
+use Rattle.hip_run_traces.specs.Traces.{header_of, image_entries, told}
 use Rattle.hip_trace.specs.Laws.FitLaws.{spelled_fits}
 use Rattle.hip_trace.specs.Entries.{entry_of}
 use Rattle.hip_trace.specs.Fits.{IsLine, ValuesFit}

@@ -18,13 +18,9 @@ use Rattle.hip_runs.specs.declared.event.Event.TheVariants as events
 use Rattle.hip_runs.specs.declared.input.Input.{Input}
 use Rattle.hip_run_traces.specs.Headers.{Gives, valid_limit, valid_base, is_next_line, with_number, with_line, with_entry, filled, go_on, header_from, behind_register, behind_start, header}
 use Rattle.hip_run_traces.specs.Laws.LineLaws.{no_byte, zeros-add}
-use Rattle.hip_run_traces.specs.Traces.{entry_of_ending, entry_of_event, entry_list, header_of, image_entries, next_entries, trace}
+use Rattle.hip_run_traces.specs.Traces.{entry_of_ending, entry_of_event, entry_list, header_of, image_entries, next_entries, trace, told}
 use Rattle.hip_trace.specs.declared.entry.Entry.{Entry}
 use Rattle.hip_trace.specs.declared.entry.Entry.TheVariants.{Start, Register, Input as Number, Image}
-
--- entries as pieces that spell them
-abbrev pub told : List Entry → List (Option Entry)
-told es = map (λ e. Some e) es
 
 -- ---- the entries of steps belong to no header
 

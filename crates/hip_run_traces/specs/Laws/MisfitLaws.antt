@@ -9,10 +9,10 @@ use Rattle.hip_runs.specs.declared.input.Input.{Input}
 use Rattle.hip_run_traces.specs.Headers.{Header, Stops, Gives, valid_limit, valid_base, with_entry, go_on, header_from, behind_register, behind_start, header}
 use Rattle.hip_run_traces.specs.Laws.FrontLaws.{front_spelled}
 use Rattle.hip_run_traces.specs.Laws.GivenLaws.{fit_pieces, header-given}
-use Rattle.hip_run_traces.specs.Laws.HeaderLaws.{header-trace, told}
+use Rattle.hip_run_traces.specs.Laws.HeaderLaws.{header-trace}
 use Rattle.hip_run_traces.specs.Laws.TraceLaws.{length-header_of, one-trace, whole-front, whole-trace}
 use Rattle.hip_run_traces.specs.Misfits.{DiffersAt, FirstDiffers, StopsAt, DiffersFromRun, MisfitBehind, IsMisfit, IsTraceOf}
-use Rattle.hip_run_traces.specs.Traces.{header_of, trace, IsTrace}
+use Rattle.hip_run_traces.specs.Traces.{header_of, trace, IsTrace, told}
 use Rattle.hip_run_traces.specs.declared.misfit.MisfitKind.{MisfitKind}
 use Rattle.hip_trace.specs.Pieces.{spelled}
 use Rattle.hip_trace.specs.declared.entry.Entry.{Entry}

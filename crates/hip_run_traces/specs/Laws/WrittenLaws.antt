@@ -6,10 +6,10 @@ use Rattle.hip_runs.specs.Step.{header_entries}
 use Rattle.hip_runs.specs.Validity.{IsInput, IsValid}
 use Rattle.hip_runs.specs.declared.input.Input.{Input}
 use Rattle.hip_run_traces.specs.Headers.{header}
-use Rattle.hip_run_traces.specs.Laws.HeaderLaws.{header-trace, told}
+use Rattle.hip_run_traces.specs.Laws.HeaderLaws.{header-trace}
 use Rattle.hip_run_traces.specs.Laws.RangeLaws.{trace_fits}
 use Rattle.hip_run_traces.specs.Misfits.{IsTraceOf}
-use Rattle.hip_run_traces.specs.Traces.{IsTrace}
+use Rattle.hip_run_traces.specs.Traces.{IsTrace, told}
 use Rattle.hip_trace.specs.Laws.WrittenLaws.{read_back}
 use Rattle.hip_trace.specs.Fits.{ValuesFit}
 use Rattle.hip_trace.specs.Pieces.{spelled}

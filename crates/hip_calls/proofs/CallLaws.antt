@@ -7,7 +7,8 @@ use Rattle.std.proofs.lemmas.Bool.{and_parts}
 use Rattle.hip_types.specs.Laws.DistinctLaws.{any_found, any_at}
 use Rattle.hip_ir.specs.Sites.{same_site}
 use Rattle.hip_ir.specs.declared.site.Site.{Site}
-use Rattle.hip_calls.specs.Fresh.{names_taken, name_of, fresh_names}
+use Rattle.hip_typing.specs.Sound.{top_names}
+use Rattle.hip_calls.specs.Fresh.{name_of, fresh_names}
 use Rattle.hip_calls.specs.Laws.FreshLaws.{IsFirstFree, length-fresh_for, fresh_for-distinct, fresh_for-free, fresh_for-first, fresh_for-extern}
 use Rattle.hip_calls.specs.Meaning.{CalleesAreReached, FreshNamesAreFresh}
 use Rattle.hip_calls.specs.Laws.ReachLaws.{callees-within, callees-distinct, callees-first, callees-closed, callees-least}
@@ -35,12 +36,12 @@ callees_reached P sites = record {
 
 pub names_fresh : FreshNamesAreFresh
 names_fresh P functions = record {
-  each = length-fresh_for (names_taken P) (map (name_of P) functions) ∙ length-map functions (name_of P);
-  distinct = fresh_for-distinct (names_taken P) (map (name_of P) functions);
-  free = λ k name e. fresh_for-free (names_taken P) (map (name_of P) functions) k name e;
+  each = length-fresh_for (top_names P) (map (name_of P) functions) ∙ length-map functions (name_of P);
+  distinct = fresh_for-distinct (top_names P) (map (name_of P) functions);
+  free = λ k name e. fresh_for-free (top_names P) (map (name_of P) functions) k name e;
   first = λ k f name e at.
-      let found = fresh_for-first (names_taken P) (map (name_of P) functions) k name e in
+      let found = fresh_for-first (top_names P) (map (name_of P) functions) k name e in
       let named : Some (name_of P f) ≡ Some found.0 = ap (option_map (name_of P)) (sym at) ∙ sym (slice_get-map (name_of P) functions k) ∙ found.1 in
-      subst (λ n. IsFirstFree (take k (fresh_names P functions) ++ names_taken P) n name) (sym (same_Some (name_of P f) found.0 named)) found.2;
-  no_extern = λ k name e. fresh_for-extern (names_taken P) (map (name_of P) functions) k name e;
+      subst (λ n. IsFirstFree (take k (fresh_names P functions) ++ top_names P) n name) (sym (same_Some (name_of P f) found.0 named)) found.2;
+  no_extern = λ k name e. fresh_for-extern (top_names P) (map (name_of P) functions) k name e;
 }

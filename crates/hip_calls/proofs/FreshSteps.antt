@@ -9,7 +9,8 @@ use Rattle.std.proofs.lemmas.List.{at_drop_more}
 use Rattle.std.proofs.lemmas.List.Folds.{list_any-append}
 use Rattle.hip_ir.specs.declared.program.Program.{Program}
 use Rattle.hip_names.specs.Names.{is_among}
-use Rattle.hip_calls.specs.Fresh.{candidate, fresh_from, fresh_name, fresh_for, names_taken, name_of, numeral}
+use Rattle.hip_typing.specs.Sound.{top_names}
+use Rattle.hip_calls.specs.Fresh.{candidate, fresh_from, fresh_name, fresh_for, name_of, numeral}
 use Rattle.hip_calls.specs.Laws.FreshLaws.{IsFirstFree, fresh-first, fresh-free, first_alike, among_alike}
 
 -- the same names are taken
@@ -57,19 +58,19 @@ fresh-next taken name limit k b h e =
 -- ---- the next fresh name
 
 pub fresh_for-next : (earlier set : List (List ℕ)) (functions : List ℕ) (P : Program) (k f d : ℕ) →
-    Alike set (names_taken P) → k < length functions → f ≡ get_or functions k d →
-    (earlier ++ fresh_name (earlier ++ set) (name_of P f) ∷ []) ++ fresh_for ((earlier ++ fresh_name (earlier ++ set) (name_of P f) ∷ []) ++ names_taken P) (map (name_of P) (drop (k + 1) functions))
-    ≡ earlier ++ fresh_for (earlier ++ names_taken P) (map (name_of P) (drop k functions))
+    Alike set (top_names P) → k < length functions → f ≡ get_or functions k d →
+    (earlier ++ fresh_name (earlier ++ set) (name_of P f) ∷ []) ++ fresh_for ((earlier ++ fresh_name (earlier ++ set) (name_of P f) ∷ []) ++ top_names P) (map (name_of P) (drop (k + 1) functions))
+    ≡ earlier ++ fresh_for (earlier ++ top_names P) (map (name_of P) (drop k functions))
 fresh_for-next earlier set functions P k f d alike h e =
     let x = fresh_name (earlier ++ set) (name_of P f) in
-    let y = fresh_name (earlier ++ names_taken P) (name_of P f) in
-    let same : x ≡ y = fresh_name-alike (earlier ++ set) (earlier ++ names_taken P) (name_of P f) (behind-alike earlier set (names_taken P) alike) in
+    let y = fresh_name (earlier ++ top_names P) (name_of P f) in
+    let same : x ≡ y = fresh_name-alike (earlier ++ set) (earlier ++ top_names P) (name_of P f) (behind-alike earlier set (top_names P) alike) in
     let rest = map (name_of P) (drop (k + 1) functions) in
-    append_assoc earlier (x ∷ []) (fresh_for ((earlier ++ x ∷ []) ++ names_taken P) rest)
-    ∙ ap (λ z. earlier ++ z ∷ fresh_for ((earlier ++ z ∷ []) ++ names_taken P) rest) same
-    ∙ ap (λ ns. earlier ++ y ∷ ns) (fresh_for-alike ((earlier ++ y ∷ []) ++ names_taken P) (y ∷ (earlier ++ names_taken P)) rest (λ q. ap (λ zs. is_among zs q) (append_assoc earlier (y ∷ []) (names_taken P)) ∙ among_alike earlier (names_taken P) y q))
-    ∙ ap (λ g. earlier ++ fresh_for (earlier ++ names_taken P) (name_of P g ∷ rest)) e
-    ∙ sym (at_drop_more (λ fs. earlier ++ fresh_for (earlier ++ names_taken P) (map (name_of P) fs)) functions k d h)
+    append_assoc earlier (x ∷ []) (fresh_for ((earlier ++ x ∷ []) ++ top_names P) rest)
+    ∙ ap (λ z. earlier ++ z ∷ fresh_for ((earlier ++ z ∷ []) ++ top_names P) rest) same
+    ∙ ap (λ ns. earlier ++ y ∷ ns) (fresh_for-alike ((earlier ++ y ∷ []) ++ top_names P) (y ∷ (earlier ++ top_names P)) rest (λ q. ap (λ zs. is_among zs q) (append_assoc earlier (y ∷ []) (top_names P)) ∙ among_alike earlier (top_names P) y q))
+    ∙ ap (λ g. earlier ++ fresh_for (earlier ++ top_names P) (name_of P g ∷ rest)) e
+    ∙ sym (at_drop_more (λ fs. earlier ++ fresh_for (earlier ++ top_names P) (map (name_of P) fs)) functions k d h)
 
 -- a fresh name is put behind the earlier ones
 pub fresh-put : (earlier set : List (List ℕ)) (name : List ℕ) → (if list_any (bytes_eq (fresh_name (earlier ++ set) name)) earlier then earlier else earlier ++ fresh_name (earlier ++ set) name ∷ []) ≡ earlier ++ fresh_name (earlier ++ set) name ∷ []

@@ -3,6 +3,7 @@ use Rattle.std.specs.Prelude.{ℕ, zero, suc, ◌+◌, ◌/◌, ◌%◌, nat_lt,
 use Rattle.hip_ir.specs.declared.program.Function.{Function}
 use Rattle.hip_ir.specs.declared.program.Program.{Program}
 use Rattle.hip_names.specs.Names.{is_among}
+use Rattle.hip_typing.specs.Sound.{top_names}
 
 -- the digits of a number of at most so many
 abbrev pub numeral_in : ℕ → ℕ → List ℕ
@@ -34,10 +35,6 @@ abbrev pub fresh_for : List (List ℕ) → List (List ℕ) → List (List ℕ)
 fresh_for taken [] = []
 fresh_for taken (name ∷ names) = fresh_name taken name ∷ fresh_for (fresh_name taken name ∷ taken) names
 
--- the names of a program's globals, externs and functions
-abbrev pub names_taken : Program → List (List ℕ)
-names_taken P = map (λ g. g.name) P.globals ++ (map (λ e. e.name) P.externs ++ map (λ f. f.name) P.functions)
-
 -- the name of a function; the empty name where there is none
 abbrev pub name_in : Option Function → List ℕ
 name_in None = []
@@ -49,4 +46,4 @@ name_of P f = name_in (slice_get P.functions f)
 
 -- fresh names for copies of the functions of these numbers
 abbrev pub fresh_names : Program → List ℕ → List (List ℕ)
-fresh_names P functions = fresh_for (names_taken P) (map (name_of P) functions)
+fresh_names P functions = fresh_for (top_names P) (map (name_of P) functions)

@@ -7,7 +7,8 @@ use Rattle.hip_ir.specs.declared.program.Program.{Program}
 use Rattle.hip_ir.specs.declared.site.Site.{Site}
 use Rattle.hip_externs.specs.Externs.{call_of}
 use Rattle.hip_names.specs.Names.{is_among}
-use Rattle.hip_calls.specs.Fresh.{names_taken, name_of, fresh_names}
+use Rattle.hip_typing.specs.Sound.{top_names}
+use Rattle.hip_calls.specs.Fresh.{name_of, fresh_names}
 use Rattle.hip_calls.specs.Laws.FreshLaws.{IsFirstFree}
 use Rattle.hip_calls.specs.Reach.{called_at, called_from, callees}
 use Rattle.hip_calls.specs.Laws.ReachLaws.{Has}
@@ -39,9 +40,9 @@ CalleesAreReached = (P : Program) (sites : List Site) → AreReached P sites (ca
 pub record AreFresh (P : Program) (functions : List ℕ) (names : List (List ℕ)) : Type 0 where
   pub each : length names ≡ length functions
   pub distinct : IsDistinct bytes_eq names
-  pub free : (k : ℕ) (name : List ℕ) → slice_get names k ≡ Some name → is_among (names_taken P) name ≡ false
+  pub free : (k : ℕ) (name : List ℕ) → slice_get names k ≡ Some name → is_among (top_names P) name ≡ false
   pub first : (k f : ℕ) (name : List ℕ) → slice_get names k ≡ Some name → slice_get functions k ≡ Some f
-      → IsFirstFree (take k names ++ names_taken P) (name_of P f) name
+      → IsFirstFree (take k names ++ top_names P) (name_of P f) name
   pub no_extern : (k : ℕ) (name : List ℕ) → slice_get names k ≡ Some name → call_of name ≡ None
 
 -- For every program and any numbers of functions, `fresh_names` gives fresh names for their copies.

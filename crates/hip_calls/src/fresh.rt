@@ -2,8 +2,9 @@ ghost use Rattle.std.specs.Prelude.{◌≡◌, [], ◌++◌, map, IfOk, OnOk};
 ghost use Rattle.std.specs.Str.{bytes_eq};
 ghost use Rattle.hip_types.specs.Distinct.{met};
 ghost use Rattle.hip_names.specs.Names.{is_among};
+ghost use Rattle.hip_typing.specs.Sound.{top_names};
 ghost use Rattle.hip_calls.specs.Fresh as spec;
-ghost use Rattle.hip_calls.specs.Fresh.{name_of, names_taken, numeral};
+ghost use Rattle.hip_calls.specs.Fresh.{name_of, numeral};
 
 use hip_ir::{Extern, Function, GlobalVar, Program};
 use hip_names::NameSet;
@@ -41,7 +42,7 @@ fn add_functions<'a>(names: &mut NameSet<'a>, functions: &'a [Function]) -> Resu
 
 /// The names of a program's globals, externs and functions.
 fn taken_names(alloc: Global, program: &Program) -> Result<NameSet<'_>, NoMemory>
-    ensures { IfOk result (λ names. names ≡ met bytes_eq [] (names_taken program.now)) }
+    ensures { IfOk result (λ names. names ≡ met bytes_eq [] (top_names program.now)) }
 {
     let mut names = NameSet::new(alloc);
     add_globals(&mut names, program.globals.as_slice())?;

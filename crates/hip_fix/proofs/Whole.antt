@@ -11,7 +11,8 @@ use Rattle.hip_ir.specs.declared.block.Block.{Block}
 use Rattle.hip_ir.specs.declared.program.Function.{Function}
 use Rattle.hip_ir.specs.declared.program.Program.{Program}
 use Rattle.hip_ir.specs.declared.site.Site.{Site}
-use Rattle.hip_calls.specs.Fresh.{fresh_names, names_taken, name_of}
+use Rattle.hip_typing.specs.Sound.{top_names}
+use Rattle.hip_calls.specs.Fresh.{fresh_names, name_of}
 use Rattle.hip_calls.specs.Laws.FreshLaws.{length-fresh_for}
 use Rattle.hip_repairs.specs.declared.plan.Plan.{Plan}
 use Rattle.hip_repairs.specs.Repaired.{Marked, Clone, Wanted, is_call_of, inserts, inserts_in, inserts_from, inserts_cloned, needs, repaired_by, repaired_body, repaired_functions, clone_functions, clones_of, clones_from, cloned, repaired, wanted_by, clwb_name, sfence_name, pmem_flush_name, declared_if}
@@ -73,4 +74,4 @@ walked_is P plan skip fs names clones w e_fs e_names e_clones e_w =
     (λ i. walked P (same i) (e_w i) (e_fs i) (fresh i)) ∙ walked-repaired P plan (wanted_by plan skip)
 
 pub names_as_long : (P : Program) (fs : List ℕ) (names : List (List ℕ)) → names ≡ fresh_names P fs → length names ≡ length fs
-names_as_long P fs names e = ap length e ∙ length-fresh_for (names_taken P) (map (name_of P) fs) ∙ length-map fs (name_of P)
+names_as_long P fs names e = ap length e ∙ length-fresh_for (top_names P) (map (name_of P) fs) ∙ length-map fs (name_of P)

@@ -26,7 +26,8 @@ use Rattle.hip_names.specs.Names.{number_of}
 use Rattle.hip_typing.specs.Numbering.{function_names, function_number}
 use Rattle.hip_names.specs.Laws.NumberLaws.{number_of-first, number_of-behind, number_of-known, number_of-there}
 use Rattle.hip_typing.specs.Laws.NumberingLaws.{function_number-there}
-use Rattle.hip_calls.specs.Fresh.{fresh_names, names_taken, name_in, name_of}
+use Rattle.hip_typing.specs.Sound.{top_names}
+use Rattle.hip_calls.specs.Fresh.{fresh_names, name_in, name_of}
 use Rattle.hip_calls.specs.Laws.FreshLaws.{length-fresh_for, fresh_for-free, fresh_for-distinct, fresh_for-extern}
 use Rattle.hip_calls.specs.Reach.{called_at, callees}
 use Rattle.hip_calls.specs.Laws.ReachLaws.{Has, IsNamed, called-has, callees-first, callees-closed, callees-named}
@@ -184,7 +185,7 @@ module _ (P : Program) (plan : Plan) (skip : Site → Bool) where
   fresh = fresh_names P (cloned P plan)
 
   length-fresh : length fresh ≡ length (cloned P plan)
-  length-fresh = length-fresh_for (names_taken P) (map (name_of P) (cloned P plan)) ∙ length-map (cloned P plan) (name_of P)
+  length-fresh = length-fresh_for (top_names P) (map (name_of P) (cloned P plan)) ∙ length-map (cloned P plan) (name_of P)
 
   pub cloned_there : AreThere P (cloned P plan)
   unfolding AreThere
@@ -201,11 +202,11 @@ module _ (P : Program) (plan : Plan) (skip : Site → Bool) where
       ∙ ap₂ (λ xs ys. xs ++ ys) (names-repaired_functions (clones_of P plan) (wanted_by plan skip) 0 P.functions) (names_of_clones P (clones_of P plan) (wanted_by plan skip) (cloned P plan) fresh length-fresh cloned_there)
 
   fresh_number : (k : ℕ) (name : List ℕ) → slice_get fresh k ≡ Some name → number_of fresh name ≡ Some k
-  fresh_number k name e = number_of-first fresh name k e (λ j below f. absurd (one_place nat_list_eq_equiv fresh j k name (fresh_for-distinct (names_taken P) (map (name_of P) (cloned P plan))) f e below))
+  fresh_number k name e = number_of-first fresh name k e (λ j below f. absurd (one_place nat_list_eq_equiv fresh j k name (fresh_for-distinct (top_names P) (map (name_of P) (cloned P plan))) f e below))
 
   not_before : (k : ℕ) (name : List ℕ) → slice_get fresh k ≡ Some name → (j : ℕ) → ¬ (slice_get (function_names P.functions) j ≡ Some name)
   not_before k name e j f =
-      let free = fresh_for-free (names_taken P) (map (name_of P) (cloned P plan)) k name e in
+      let free = fresh_for-free (top_names P) (map (name_of P) (cloned P plan)) k name e in
       let here = any_at (bytes_eq name) (function_names P.functions) j name f (nat_list_eq_equiv.refl name) in
       let there = any_back (bytes_eq name) (map (λ g. g.name) P.globals) _ (any_back (bytes_eq name) (map (λ e. e.name) P.externs) _ here) in
       cc
@@ -218,7 +219,7 @@ module _ (P : Program) (plan : Plan) (skip : Site → Bool) where
       ∙ ap (λ n. Some (n + k)) (length-map P.functions (λ f. f.name))
 
   pub fresh_extern : (k : ℕ) (name : List ℕ) → slice_get fresh k ≡ Some name → call_of name ≡ None
-  fresh_extern k name e = fresh_for-extern (names_taken P) (map (name_of P) (cloned P plan)) k name e
+  fresh_extern k name e = fresh_for-extern (top_names P) (map (name_of P) (cloned P plan)) k name e
 
   -- each cloned function has a name for its clone
   pub fresh_there : (k g : ℕ) → slice_get (cloned P plan) k ≡ Some g → (name : List ℕ) × (slice_get fresh k ≡ Some name)

@@ -20,7 +20,8 @@ use Rattle.hip_names.specs.Names.{AllDiffer, IsAmong, is_among}
 use Rattle.hip_typing.specs.Numbering as numbers
 use Rattle.hip_typing.specs.Rules.{Passes, names_check, is_of, declared, free_function, externs_check, is_main, has_main, main_check}
 use Rattle.hip_typing.specs.Laws.Decided.{holds-at, holds-made}
-use Rattle.hip_calls.specs.Fresh.{name_of, names_taken}
+use Rattle.hip_typing.specs.Sound.{top_names}
+use Rattle.hip_calls.specs.Fresh.{name_of}
 use Rattle.hip_calls.specs.Laws.FreshLaws.{fresh_for-distinct, fresh_for-free}
 use Rattle.hip_repairs.specs.declared.plan.Plan.{Plan}
 use Rattle.hip_repairs.specs.Repaired.{wanted_by, clones_of, cloned, added_externs, repaired, repaired_functions}
@@ -107,8 +108,8 @@ module _ (P : Program) (plan : Plan) (skip : Site → Bool) (sound : Passes P) w
   fresh_free : AreFree N
   fresh_free q h = let at = fresh_at q h in fresh_extern P plan skip at.0 q at.1
 
-  fresh_not_taken : Apart N (names_taken P)
-  fresh_not_taken q h t = let at = fresh_at q h in both_ways _ (fresh_for-free (names_taken P) (map (name_of P) (cloned P plan)) at.0 q at.1) (among-whole (names_taken P) q t)
+  fresh_not_taken : Apart N (top_names P)
+  fresh_not_taken q h t = let at = fresh_at q h in both_ways _ (fresh_for-free (top_names P) (map (name_of P) (cloned P plan)) at.0 q at.1) (among-whole (top_names P) q t)
 
   added_taken : AreTaken A
   added_taken q h =
@@ -123,7 +124,7 @@ module _ (P : Program) (plan : Plan) (skip : Site → Bool) (sound : Passes P) w
   differ_before : AllDiffer (G ++ (E ++ F))
   differ_before = names-sound P sound.names
 
-  fresh_apart_from : (xs : List (List ℕ)) → ((q : List ℕ) → IsAmong xs q → IsAmong (names_taken P) q) → Apart xs N
+  fresh_apart_from : (xs : List (List ℕ)) → ((q : List ℕ) → IsAmong xs q → IsAmong (top_names P) q) → Apart xs N
   fresh_apart_from xs there q h t = fresh_not_taken q t (there q h)
 
   differ_after_repair : AllDiffer (G ++ ((E ++ A) ++ (F ++ N)))
@@ -138,7 +139,7 @@ module _ (P : Program) (plan : Plan) (skip : Site → Bool) (sound : Passes P) w
       differ_append G ((E ++ A) ++ (F ++ N)) (differ_first G (E ++ F) differ_before)
       (differ_append (E ++ A) (F ++ N)
       (differ_append E A (differ_first E F rest) (differ_distinct _ (added_distinct _ _ _)) (apart_sym A E added_apart))
-      (differ_append F N (differ_second E F rest) (differ_distinct N (fresh_for-distinct (names_taken P) (map (name_of P) (cloned P plan)))) FN)
+      (differ_append F N (differ_second E F rest) (differ_distinct N (fresh_for-distinct (top_names P) (map (name_of P) (cloned P plan)))) FN)
       (append_apart E A (F ++ N) (apart_append E F N (differ_apart E F rest) EN) (apart_append A F N (apart_sym F A (free_apart F A functions_free added_taken)) (apart_sym N A (free_apart N A fresh_free added_taken)))))
       (apart_append G (E ++ A) (F ++ N) (apart_append G E A GE (free_apart G A globals_free added_taken)) (apart_append G F N GF GN))
 

@@ -21,7 +21,8 @@ use Rattle.hip_ir.specs.declared.program.Extern.{Extern}
 use Rattle.hip_ir.specs.declared.program.Function.{Function}
 use Rattle.hip_ir.specs.declared.program.Program.{Program}
 use Rattle.hip_ir.specs.declared.site.Site.{Site}
-use Rattle.hip_calls.specs.Fresh.{name_in, name_of, names_taken}
+use Rattle.hip_typing.specs.Sound.{top_names}
+use Rattle.hip_calls.specs.Fresh.{name_in, name_of}
 use Rattle.hip_calls.specs.Laws.FreshLaws.{fresh_for-first, candidate-name}
 use Rattle.hip_runs.specs.Operands.{scalar_size}
 use Rattle.hip_repairs.specs.declared.plan.Plan.{Plan}
@@ -118,7 +119,7 @@ module _ (P : Program) (plan : Plan) (skip : Site → Bool) (spelled : spelled_p
 
   pub fresh_named : (k : ℕ) (name : List ℕ) → slice_get (fresh P plan skip) k ≡ Some name → is_name name ≡ true
   fresh_named k name e =
-      let first = fresh_for-first (names_taken P) (map (name_of P) (cloned P plan)) k name e in
+      let first = fresh_for-first (top_names P) (map (name_of P) (cloned P plan)) k name e in
       let original = map_at (name_of P) (cloned P plan) k first.0 first.1 in
       let there = cloned_is_there P plan skip original.0 k original.1 in
       let named : is_name first.0 ≡ true = ap is_name (original.2 ∙ ap name_in there.1) ∙ original_named original.0 there.0 there.1 in

@@ -1,8 +1,9 @@
 use Rattle.std.proofs.Common.{◌≡◌, ◌++◌, drop, map}
-use Rattle.hip_calls.specs.Fresh.{fresh_for, fresh_names, names_taken, name_of}
+use Rattle.hip_typing.specs.Sound.{top_names}
+use Rattle.hip_calls.specs.Fresh.{fresh_for, fresh_names, name_of}
 use Rattle.hip_calls.proofs.fresh.fresh_names.Given as goal
 
 abbrev pub invariant-each : goal.invariant-each
 invariant-each l =
-    l.fresh.keys ++ fresh_for (l.fresh.keys ++ names_taken l.program) (map (name_of l.program) (drop l.number-index l.functions))
+    l.fresh.keys ++ fresh_for (l.fresh.keys ++ top_names l.program) (map (name_of l.program) (drop l.number-index l.functions))
     ≡ fresh_names l.program l.functions

@@ -10,7 +10,7 @@ use Rattle.hip_ir.specs.declared.constant.ConstGep.{ConstGep}
 use Rattle.hip_ir.specs.declared.constant.TypedConst.{TypedConst}
 use Rattle.hip_ir.specs.declared.constant.Const.TheFolds.{fold-Const, fold-ConstGep, fold-TypedConst}
 use Rattle.hip_globals.specs.Constants.{index_of, joined}
-use Rattle.hip_typing.specs.Types.{same_type, same_width, all_pass}
+use Rattle.hip_typing.specs.Types.{is_int, is_ptr, is_struct, same_type}
 
 -- the names at one level of a constant, with the names in each part inside in its place
 abbrev names_step : Const-F (List (List ℕ)) (List (List ℕ)) (List (List ℕ)) → List (List ℕ)
@@ -69,32 +69,17 @@ abbrev array_has : List (Ty → Bool) → Ty-F Ty → Bool
 array_has items (Ty-F.Array n t) = length items == n && all_have items t
 array_has items _ = false
 
--- the tests of a constant's members pass at a struct type: one for each field, in order; false at any other type
-abbrev struct_has : List (Ty → Bool) → Ty-F Ty → Bool
-struct_has items (Ty-F.Struct ts) = all_pass items ts
-struct_has items _ = false
-
--- the type is the integer type of this integer's width
-abbrev is_int_of : Bits → Ty-F Ty → Bool
-is_int_of b (Ty-F.Int w) = same_width b.width w
-is_int_of b _ = false
-
--- the type is `ptr`
-abbrev is_pointer : Ty-F Ty → Bool
-is_pointer Ty-F.Ptr = true
-is_pointer _ = false
-
 -- Whether one level of a constant has the shape of a type, with the test of each part inside in its place. An integer
 -- has that of the type of its width; `null`, an address and a `getelementptr` that of `ptr`; lists those of arrays
 -- and structs; `zeroinitializer` that of every type. (LLVM, "Constants".)
 abbrev shape_step : Const-F (Ty → Bool) Bool (Ty → Bool) → Ty → Bool
-shape_step (Const-F.Int b) t = is_int_of b (out-Ty t)
-shape_step Const-F.Null t = is_pointer (out-Ty t)
+shape_step (Const-F.Int b) t = is_int b.width (out-Ty t)
+shape_step Const-F.Null t = is_ptr (out-Ty t)
 shape_step Const-F.Zero t = true
-shape_step (Const-F.Address name) t = is_pointer (out-Ty t)
-shape_step (Const-F.Gep path) t = is_pointer (out-Ty t) && path
+shape_step (Const-F.Address name) t = is_ptr (out-Ty t)
+shape_step (Const-F.Gep path) t = is_ptr (out-Ty t) && path
 shape_step (Const-F.Array items) t = array_has items (out-Ty t)
-shape_step (Const-F.Struct items) t = struct_has items (out-Ty t)
+shape_step (Const-F.Struct items) t = is_struct items (out-Ty t)
 
 -- One level of a constant `getelementptr`: its base has the shape of `ptr`, and its path exists in its type; without
 -- an index there is no path. (LLVM, "getelementptr".)

@@ -31,12 +31,12 @@ all_pass (test ∷ tests) (x ∷ xs) = test x && all_pass tests xs
 all_pass _ _ = false
 
 -- one level of a type is an integer of that width
-abbrev is_int : Width → Ty-F Ty → Bool
+abbrev pub is_int : Width → Ty-F Ty → Bool
 is_int w (Ty-F.Int v) = same_width w v
 is_int w _ = false
 
 -- one level of a type is a pointer
-abbrev is_ptr : Ty-F Ty → Bool
+abbrev pub is_ptr : Ty-F Ty → Bool
 is_ptr Ty-F.Ptr = true
 is_ptr _ = false
 
@@ -46,7 +46,7 @@ is_array n item (Ty-F.Array m t) = n == m && item t
 is_array n item _ = false
 
 -- one level of a type is a struct with a field for each test, whose type passes that test
-abbrev is_struct : List (Ty → Bool) → Ty-F Ty → Bool
+abbrev pub is_struct : List (Ty → Bool) → Ty-F Ty → Bool
 is_struct tests (Ty-F.Struct ts) = all_pass tests ts
 is_struct tests _ = false
 

@@ -10,7 +10,7 @@ use Rattle.hip_types.specs.Layout.{size_of}
 use Rattle.hip_ir.specs.declared.program.GlobalVar.{GlobalVar}
 use Rattle.hip_ir.specs.declared.program.Program.{Program}
 use Rattle.hip_mem.specs.Memory.{volatile_start}
-use Rattle.hip_globals.specs.Addresses.{start_of, global_align, global_start, same}
+use Rattle.hip_globals.specs.Addresses.{start_of, global_align, global_start, same_truth}
 use Rattle.hip_globals.specs.Initial.{laid_bytes, region_bytes, volatile_bytes}
 use Rattle.hip_globals.specs.Values.{global_address, aligned, constant_bytes}
 use Rattle.hip_globals.specs.Held.{HoldsAt, HoldsGlobals}
@@ -31,8 +31,8 @@ next_front false a start so_far g = ([], sym (append-nil so_far))
 laid_goes_on : (a : List ℕ → ℕ) (k : Bool) (start : ℕ) (so_far : List ℕ) (gs : List GlobalVar) → GoesOn (laid_bytes a k start so_far gs) so_far
 laid_goes_on a k start so_far [] = record { rest = []; is = sym (append-nil so_far) }
 laid_goes_on a k start so_far (g ∷ gs) =
-    let next = if same g.persistent k then aligned start (global_align g) so_far ++ constant_bytes a g.init g.ty else so_far in
-    let more = next_front (same g.persistent k) a start so_far g in
+    let next = if same_truth g.persistent k then aligned start (global_align g) so_far ++ constant_bytes a g.init g.ty else so_far in
+    let more = next_front (same_truth g.persistent k) a start so_far g in
     goes_further (laid_bytes a k start next gs) so_far more.0 (subst (λ (front : List ℕ). GoesOn (laid_bytes a k start next gs) front) more.1 (laid_goes_on a k start next gs))
 
 -- bytes behind others
@@ -43,7 +43,7 @@ held_behind whole front bytes g = record {
       ∙ ap (λ (w : List ℕ). take (length bytes) w) (drop-append_seam front (bytes ++ g.rest)) ∙ take-append_seam bytes g.rest;
 }
 
-held_first : (a : List ℕ → ℕ) (k : Bool) (start at : ℕ) (so_far : List ℕ) (g : GlobalVar) (gs : List GlobalVar) → start + length so_far ≡ at → same g.persistent k ≡ true → HoldsAt (laid_bytes a k start so_far (g ∷ gs)) (global_start at g - start) (constant_bytes a g.init g.ty)
+held_first : (a : List ℕ → ℕ) (k : Bool) (start at : ℕ) (so_far : List ℕ) (g : GlobalVar) (gs : List GlobalVar) → start + length so_far ≡ at → same_truth g.persistent k ≡ true → HoldsAt (laid_bytes a k start so_far (g ∷ gs)) (global_start at g - start) (constant_bytes a g.init g.ty)
 held_first a k start at so_far g gs e kind =
     let front = aligned start (global_align g) so_far in
     let bytes = constant_bytes a g.init g.ty in
@@ -51,15 +51,15 @@ held_first a k start at so_far g gs e kind =
     let on : GoesOn (laid_bytes a k start so_far (g ∷ gs)) (front ++ bytes) = rw kind (laid_goes_on a k start (front ++ bytes) gs) in
     subst (λ (n : ℕ). HoldsAt (laid_bytes a k start so_far (g ∷ gs)) n bytes) place (held_behind (laid_bytes a k start so_far (g ∷ gs)) front bytes on)
 
-pub held : (a : List ℕ → ℕ) (k : Bool) (start at : ℕ) (so_far : List ℕ) (gs : List GlobalVar) (n : ℕ) (g : GlobalVar) → start + length so_far ≡ at → slice_get gs n ≡ Some g → same g.persistent k ≡ true → HoldsAt (laid_bytes a k start so_far gs) (start_of k at gs n - start) (constant_bytes a g.init g.ty)
+pub held : (a : List ℕ → ℕ) (k : Bool) (start at : ℕ) (so_far : List ℕ) (gs : List GlobalVar) (n : ℕ) (g : GlobalVar) → start + length so_far ≡ at → slice_get gs n ≡ Some g → same_truth g.persistent k ≡ true → HoldsAt (laid_bytes a k start so_far gs) (start_of k at gs n - start) (constant_bytes a g.init g.ty)
 held a k start at so_far [] n g e here kind = cc
 held a k start at so_far (x ∷ xs) zero g e here kind =
     let it : x ≡ g = cc in
     subst (λ (y : GlobalVar). HoldsAt (laid_bytes a k start so_far (x ∷ xs)) (global_start at x - start) (constant_bytes a y.init y.ty)) it (held_first a k start at so_far x xs e (rw it kind))
 held a k start at so_far (x ∷ xs) (suc n) g e here kind =
-    let next = if same x.persistent k then aligned start (global_align x) so_far ++ constant_bytes a x.init x.ty else so_far in
-    let after = if same x.persistent k then global_start at x + size_of x.ty else at in
-    let moved : start + length next ≡ after = length_more (same x.persistent k) a start so_far x ∙ ap (λ m. if same x.persistent k then global_start m x + size_of x.ty else m) e in
+    let next = if same_truth x.persistent k then aligned start (global_align x) so_far ++ constant_bytes a x.init x.ty else so_far in
+    let after = if same_truth x.persistent k then global_start at x + size_of x.ty else at in
+    let moved : start + length next ≡ after = length_more (same_truth x.persistent k) a start so_far x ∙ ap (λ m. if same_truth x.persistent k then global_start m x + size_of x.ty else m) e in
     held a k start after next xs n g moved here kind
 
 holds_more_by : (whole more bytes : List ℕ) (place : ℕ) → (place ≤ length whole) ⊎ (length whole < place) → HoldsAt whole place bytes → HoldsAt (whole ++ more) place bytes

@@ -11,7 +11,7 @@ use Rattle.hip_types.specs.Layout.{size_of}
 use Rattle.hip_ir.specs.declared.program.GlobalVar.{GlobalVar}
 use Rattle.hip_ir.specs.declared.program.Program.{Program}
 use Rattle.hip_mem.specs.Memory.{volatile_start}
-use Rattle.hip_globals.specs.Addresses.{end_of, start_of, is_persistent, global_align, global_start, same, region_size, volatile_end}
+use Rattle.hip_globals.specs.Addresses.{end_of, start_of, is_persistent, global_align, global_start, same_truth, region_size, volatile_end}
 use Rattle.hip_globals.specs.AddressesSeen.{address_beside, laid_entries}
 use Rattle.hip_globals.specs.Constants.{types_in}
 use Rattle.hip_globals.specs.Initial.{laid_bytes, volatile_bytes, region_bytes}
@@ -33,18 +33,18 @@ global_fits gs i g all low is = subst (λ (x : GlobalVar). AllFit (x.ty ∷ type
 -- ---- one global more
 
 pub laid_next : (a : List ℕ → ℕ) (persistent : Bool) (start : ℕ) (so_far : List ℕ) (gs : List GlobalVar) (i : ℕ) (g : GlobalVar) → i < length gs → g ≡ get_or gs i g →
-    laid_bytes a persistent start so_far (drop i gs) ≡ laid_bytes a persistent start (if same g.persistent persistent then aligned start (global_align g) so_far ++ constant_bytes a g.init g.ty else so_far) (drop (i + 1) gs)
+    laid_bytes a persistent start so_far (drop i gs) ≡ laid_bytes a persistent start (if same_truth g.persistent persistent then aligned start (global_align g) so_far ++ constant_bytes a g.init g.ty else so_far) (drop (i + 1) gs)
 laid_next a persistent start so_far gs i g low is =
     at_drop_more (λ ys. laid_bytes a persistent start so_far ys) gs i g low
-    ∙ ap (λ (x : GlobalVar). laid_bytes a persistent start (if same x.persistent persistent then aligned start (global_align x) so_far ++ constant_bytes a x.init x.ty else so_far) (drop (i + 1) gs)) (sym is)
+    ∙ ap (λ (x : GlobalVar). laid_bytes a persistent start (if same_truth x.persistent persistent then aligned start (global_align x) so_far ++ constant_bytes a x.init x.ty else so_far) (drop (i + 1) gs)) (sym is)
 
-same-true : (b c : Bool) → beq b c ≡ true → same b c ≡ true
+same-true : (b c : Bool) → beq b c ≡ true → same_truth b c ≡ true
 same-true true true e = refl
 same-true true false e = cc
 same-true false true e = cc
 same-true false false e = refl
 
-same-false : (b c : Bool) → beq b c ≡ false → same b c ≡ false
+same-false : (b c : Bool) → beq b c ≡ false → same_truth b c ≡ false
 same-false true true e = cc
 same-false true false e = refl
 same-false false true e = refl
@@ -128,8 +128,8 @@ length_more false a start so_far g = refl
 pub length-laid : (a : List ℕ → ℕ) (persistent : Bool) (start : ℕ) (so_far : List ℕ) (gs : List GlobalVar) → start + length (laid_bytes a persistent start so_far gs) ≡ end_of persistent (start + length so_far) gs
 length-laid a persistent start so_far [] = refl
 length-laid a persistent start so_far (g ∷ gs) =
-    length-laid a persistent start (if same g.persistent persistent then aligned start (global_align g) so_far ++ constant_bytes a g.init g.ty else so_far) gs
-    ∙ ap (λ n. end_of persistent n gs) (length_more (same g.persistent persistent) a start so_far g)
+    length-laid a persistent start (if same_truth g.persistent persistent then aligned start (global_align g) so_far ++ constant_bytes a g.init g.ty else so_far) gs
+    ∙ ap (λ n. end_of persistent n gs) (length_more (same_truth g.persistent persistent) a start so_far g)
 
 pub length-volatile : (P : Program) (base : ℕ) → volatile_start + length (volatile_bytes P base) ≡ volatile_end P
 length-volatile P base =

@@ -10,11 +10,11 @@ use Rattle.hip_lines.specs.declared.TheConstants.{LINE_SIZE}
 use Rattle.hip_mem.specs.Memory.{volatile_start}
 use Rattle.hip_globals.specs.Constants.{types_in}
 
--- whether both are true or both are false
-abbrev pub same : Bool → Bool → Bool
-same true b = b
-same false true = false
-same false false = true
+-- whether two truth values are equal
+abbrev pub same_truth : Bool → Bool → Bool
+same_truth true b = b
+same_truth false true = false
+same_truth false false = true
 
 -- A base of the persistent region is a multiple of its alignment, from the lowest base to the highest.
 pub record IsBase (base : ℕ) : Type 0 where
@@ -43,7 +43,7 @@ global_start at g = next_multiple_of at (global_align g)
 abbrev pub end_of : Bool → ℕ → List GlobalVar → ℕ
 end_of persistent at [] = at
 end_of persistent at (g ∷ gs) =
-    end_of persistent (if same g.persistent persistent then global_start at g + (shape g.ty).size else at) gs
+    end_of persistent (if same_truth g.persistent persistent then global_start at g + (shape g.ty).size else at) gs
 
 -- where the global of that number, counted from 0 among all, begins, if those before it that are persistent, or that
 -- are not, are laid from `at` on; where these end if no global has the number
@@ -51,7 +51,8 @@ abbrev pub start_of : Bool → ℕ → List GlobalVar → ℕ → ℕ
 start_of persistent at [] number = at
 start_of persistent at (g ∷ gs) zero = global_start at g
 start_of persistent at (g ∷ gs) (suc number) =
-    start_of persistent (if same g.persistent persistent then global_start at g + (shape g.ty).size else at) gs number
+    start_of persistent
+    (if same_truth g.persistent persistent then global_start at g + (shape g.ty).size else at) gs number
 
 -- whether the global of that number is persistent; false where no global has it
 abbrev pub is_persistent : List GlobalVar → ℕ → Bool

@@ -2,7 +2,7 @@
 use Rattle.std.specs.Prelude.{ℕ, ◌-◌, ◌≡◌, Bool, true, List, take, drop, length, Some, slice_get}
 use Rattle.hip_ir.specs.declared.program.GlobalVar.{GlobalVar}
 use Rattle.hip_ir.specs.declared.program.Program.{Program}
-use Rattle.hip_globals.specs.Addresses.{same, start_of}
+use Rattle.hip_globals.specs.Addresses.{same_truth, start_of}
 use Rattle.hip_globals.specs.Values.{global_address, constant_bytes}
 
 -- these bytes stand at a place among others
@@ -13,6 +13,6 @@ pub record HoldsAt (whole : List ℕ) (place : ℕ) (bytes : List ℕ) : Type 0 
 -- place of the first byte.
 pub record HoldsGlobals (P : Program) (base : ℕ) (persistent : Bool) (start : ℕ) (bytes : List ℕ) : Type 0 where
   pub holds : (number : ℕ) (g : GlobalVar) → slice_get P.globals number ≡ Some g
-      → same g.persistent persistent ≡ true
+      → same_truth g.persistent persistent ≡ true
       → HoldsAt bytes (start_of persistent start P.globals number - start)
       (constant_bytes (global_address P.globals base) g.init g.ty)

@@ -5,7 +5,7 @@ use Rattle.hip_ir.specs.declared.program.GlobalVar.{GlobalVar}
 use Rattle.hip_ir.specs.declared.program.Program.{Program}
 use Rattle.hip_lines.specs.declared.TheConstants.{LINE_SIZE}
 use Rattle.hip_mem.specs.Memory.{volatile_start}
-use Rattle.hip_globals.specs.Addresses.{global_align, same}
+use Rattle.hip_globals.specs.Addresses.{global_align, same_truth}
 use Rattle.hip_globals.specs.Values.{global_address, aligned, constant_bytes}
 
 -- those that are persistent, or those that are not, behind the bytes so far, the first of which lies at a place
@@ -13,7 +13,7 @@ abbrev pub laid_bytes : (List ℕ → ℕ) → Bool → ℕ → List ℕ → Lis
 laid_bytes address_of persistent start so_far [] = so_far
 laid_bytes address_of persistent start so_far (g ∷ gs) =
     laid_bytes address_of persistent start
-    (if same g.persistent persistent
+    (if same_truth g.persistent persistent
     then aligned start (global_align g) so_far ++ constant_bytes address_of g.init g.ty else so_far) gs
 
 -- the bytes of the volatile globals, from the first one's place to the end of the last one

@@ -12,7 +12,7 @@ use Rattle.hip_globals.specs.Laws.AddressLaws.{end_of-from, spelled-divide}
 use Rattle.hip_typing.specs.Sound.{IsSound}
 use Rattle.hip_types.specs.Layout.{size_of}
 use Rattle.hip_ir.specs.declared.program.GlobalVar.{GlobalVar}
-use Rattle.hip_globals.specs.Addresses.{IsBase, end_of, start_of, is_persistent, address_in, global_start, same}
+use Rattle.hip_globals.specs.Addresses.{IsBase, end_of, start_of, is_persistent, address_in, global_start, same_truth}
 use Rattle.hip_runs.specs.Found.Objects.{global_at, global_from}
 use Rattle.hip_objects.specs.Globals.{AreLaid, number_at, place_of, places_from}
 use Rattle.hip_objects.specs.declared.globals.Place.{Place}
@@ -26,8 +26,8 @@ later false at g = omega arith
 end_of-ge : (kind : Bool) (at : ℕ) (gs : List GlobalVar) → at ≤ end_of kind at gs
 end_of-ge kind at [] = omega arith
 end_of-ge kind at (g ∷ gs) =
-    let next = if same g.persistent kind then global_start at g + size_of g.ty else at in
-    omega (arith, later (same g.persistent kind) at g, end_of-ge kind next gs)
+    let next = if same_truth g.persistent kind then global_start at g + size_of g.ty else at in
+    omega (arith, later (same_truth g.persistent kind) at g, end_of-ge kind next gs)
 
 -- ---- they lie in order
 
@@ -44,7 +44,7 @@ from-lower at next ps low h i d within = let here = h i d within in omega (arith
 starts-from : (kind : Bool) (at n : ℕ) (gs : List GlobalVar) → AllFrom at (places_from kind at n gs)
 starts-from kind at n [] = λ i d within. absurd (omega (arith, within))
 starts-from kind at n (g ∷ gs) =
-    go (same g.persistent kind) (starts-from kind (global_start at g + size_of g.ty) (suc n) gs) (starts-from kind at (suc n) gs)
+    go (same_truth g.persistent kind) (starts-from kind (global_start at g + size_of g.ty) (suc n) gs) (starts-from kind at (suc n) gs)
   where
     go : (b : Bool) → AllFrom (global_start at g + size_of g.ty) (places_from kind (global_start at g + size_of g.ty) (suc n) gs) → AllFrom at (places_from kind at (suc n) gs) →
         AllFrom at (cond b (place_of at g n ∷ places_from kind (global_start at g + size_of g.ty) (suc n) gs) (places_from kind at (suc n) gs))
@@ -61,7 +61,7 @@ laid-cons p ps from laid = record { order = go }
 
 pub are-laid : (kind : Bool) (at n : ℕ) (gs : List GlobalVar) → AreLaid (places_from kind at n gs)
 are-laid kind at n [] = record { order = λ i j d before within. absurd (omega (arith, within)) }
-are-laid kind at n (g ∷ gs) = go (same g.persistent kind) (are-laid kind (global_start at g + size_of g.ty) (suc n) gs) (are-laid kind at (suc n) gs)
+are-laid kind at n (g ∷ gs) = go (same_truth g.persistent kind) (are-laid kind (global_start at g + size_of g.ty) (suc n) gs) (are-laid kind at (suc n) gs)
   where
     go : (b : Bool) → AreLaid (places_from kind (global_start at g + size_of g.ty) (suc n) gs) → AreLaid (places_from kind at (suc n) gs) →
         AreLaid (cond b (place_of at g n ∷ places_from kind (global_start at g + size_of g.ty) (suc n) gs) (places_from kind at (suc n) gs))
@@ -75,7 +75,7 @@ pub record AreLeft (globals : List GlobalVar) (base n v p : ℕ) (gs : List Glob
   pub at : (k : ℕ) → k < length gs → address_in globals base (n + k) ≡ (if is_persistent gs k then start_of true p gs k else start_of false v gs k)
 
 next-left : (globals : List GlobalVar) (base n v p : ℕ) (g : GlobalVar) (gs : List GlobalVar) → AreLeft globals base n v p (g ∷ gs) →
-    AreLeft globals base (suc n) (if same g.persistent false then global_start v g + size_of g.ty else v) (if same g.persistent true then global_start p g + size_of g.ty else p) gs
+    AreLeft globals base (suc n) (if same_truth g.persistent false then global_start v g + size_of g.ty else v) (if same_truth g.persistent true then global_start p g + size_of g.ty else p) gs
 next-left globals base n v p g gs left = record {
   at = λ k within. ap (λ m. address_in globals base m) (let e : suc n + k ≡ n + suc k = omega arith in e) ∙ left.at (suc k) (omega (arith, within));
 }
@@ -90,12 +90,12 @@ pub volatile-found : (globals : List GlobalVar) (base a n v p : ℕ) (gs : List 
 volatile-found globals base a n v p [] left low = refl
 volatile-found globals base a n v p (g ∷ gs) left low =
     ap (λ x. cond (range_contains x (size_of g.ty) a) (Some n) (global_from globals base a (suc n) gs)) (here-at globals base n v p g gs left)
-    ∙ go g.persistent (volatile-found globals base a (suc n) _ _ gs (next-left globals base n v p g gs left) (let up = later (same g.persistent true) p g in omega (arith, low, up)))
+    ∙ go g.persistent (volatile-found globals base a (suc n) _ _ gs (next-left globals base n v p g gs left) (let up = later (same_truth g.persistent true) p g in omega (arith, low, up)))
   where
     go : (b : Bool) →
-        global_from globals base a (suc n) gs ≡ number_at a (places_from false (if same b false then global_start v g + size_of g.ty else v) (suc n) gs) →
+        global_from globals base a (suc n) gs ≡ number_at a (places_from false (if same_truth b false then global_start v g + size_of g.ty else v) (suc n) gs) →
         cond (range_contains (if b then global_start p g else global_start v g) (size_of g.ty) a) (Some n) (global_from globals base a (suc n) gs)
-        ≡ number_at a (cond (same b false) (place_of v g n ∷ places_from false (global_start v g + size_of g.ty) (suc n) gs) (places_from false v (suc n) gs))
+        ≡ number_at a (cond (same_truth b false) (place_of v g n ∷ places_from false (global_start v g + size_of g.ty) (suc n) gs) (places_from false v (suc n) gs))
     go true e = ap (λ c. cond c (Some n) (global_from globals base a (suc n) gs)) (contains-before (global_start p g) (size_of g.ty) a (omega (arith, low))) ∙ e
     go false e = ap (λ x. cond (range_contains (global_start v g) (size_of g.ty) a) (Some n) x) e
 
@@ -107,10 +107,10 @@ persistent-found globals base a n v p (g ∷ gs) left high =
     ap (λ x. cond (range_contains x (size_of g.ty) a) (Some n) (global_from globals base a (suc n) gs)) (here-at globals base n v p g gs left)
     ∙ go g.persistent high (persistent-found globals base a (suc n) _ _ gs (next-left globals base n v p g gs left) high)
   where
-    go : (b : Bool) → end_of false (if same b false then global_start v g + size_of g.ty else v) gs ≤ a →
-        global_from globals base a (suc n) gs ≡ number_at a (places_from true (if same b true then global_start p g + size_of g.ty else p) (suc n) gs) →
+    go : (b : Bool) → end_of false (if same_truth b false then global_start v g + size_of g.ty else v) gs ≤ a →
+        global_from globals base a (suc n) gs ≡ number_at a (places_from true (if same_truth b true then global_start p g + size_of g.ty else p) (suc n) gs) →
         cond (range_contains (if b then global_start p g else global_start v g) (size_of g.ty) a) (Some n) (global_from globals base a (suc n) gs)
-        ≡ number_at a (cond (same b true) (place_of p g n ∷ places_from true (global_start p g + size_of g.ty) (suc n) gs) (places_from true p (suc n) gs))
+        ≡ number_at a (cond (same_truth b true) (place_of p g n ∷ places_from true (global_start p g + size_of g.ty) (suc n) gs) (places_from true p (suc n) gs))
     go true end e = ap (λ x. cond (range_contains (global_start p g) (size_of g.ty) a) (Some n) x) e
     go false end e = ap (λ c. cond c (Some n) (global_from globals base a (suc n) gs))
         (contains-behind (global_start v g) (size_of g.ty) a (let up = end_of-ge false (global_start v g + size_of g.ty) gs in omega (arith, end, up))) ∙ e
@@ -128,7 +128,7 @@ module _ {kind : Bool} {start : ℕ} {gs : List GlobalVar} {i at : ℕ} {ps : Li
       at_drop_more (λ ys. ys) gs i g within ∙ ap (λ (x : GlobalVar). x ∷ drop (i + 1) gs) (sym here)
       ∙ ap (λ k. g ∷ drop k gs) (let e : i + 1 ≡ suc i = omega arith in e)
 
-  pub ends-within : same g.persistent kind ≡ true → global_start at g + size_of g.ty ≤ end_of kind start gs
+  pub ends-within : same_truth g.persistent kind ≡ true → global_start at g + size_of g.ty ≤ end_of kind start gs
   ends-within is =
       let rest : end_of kind at (drop i gs) ≡ end_of kind (global_start at g + size_of g.ty) (drop (suc i) gs) =
       ap (λ l. end_of kind at l) next ∙ ap (λ b. end_of kind (if b then global_start at g + size_of g.ty else at) (drop (suc i) gs)) is in
@@ -137,7 +137,7 @@ module _ {kind : Bool} {start : ℕ} {gs : List GlobalVar} {i at : ℕ} {ps : Li
   counted : suc i ≡ i + 1
   counted = omega arith
 
-  pub one-laid : same g.persistent kind ≡ true → IsPlaced kind start gs (i + 1) (global_start at g + size_of g.ty) (ps ++ place_of at g i ∷ [])
+  pub one-laid : same_truth g.persistent kind ≡ true → IsPlaced kind start gs (i + 1) (global_start at g + size_of g.ty) (ps ++ place_of at g i ∷ [])
   one-laid is = subst (λ k. IsPlaced kind start gs k (global_start at g + size_of g.ty) (ps ++ place_of at g i ∷ [])) counted (record {
     all = append_assoc ps (place_of at g i ∷ []) (places_from kind (global_start at g + size_of g.ty) (suc i) (drop (suc i) gs))
         ∙ ap (λ l. ps ++ l) (sym (ap (λ l. places_from kind at i l) next
@@ -146,7 +146,7 @@ module _ {kind : Bool} {start : ℕ} {gs : List GlobalVar} {i at : ℕ} {ps : Li
     end = sym (ap (λ l. end_of kind at l) next ∙ ap (λ b. end_of kind (if b then global_start at g + size_of g.ty else at) (drop (suc i) gs)) is) ∙ placed.end;
   })
 
-  pub one-left-out : same g.persistent kind ≡ false → IsPlaced kind start gs (i + 1) at ps
+  pub one-left-out : same_truth g.persistent kind ≡ false → IsPlaced kind start gs (i + 1) at ps
   one-left-out is = subst (λ k. IsPlaced kind start gs k at ps) counted (record {
     all = ap (λ l. ps ++ l) (sym (ap (λ l. places_from kind at i l) next
         ∙ ap (λ b. cond b (place_of at g i ∷ places_from kind (global_start at g + size_of g.ty) (suc i) (drop (suc i) gs)) (places_from kind at (suc i) (drop (suc i) gs))) is))
@@ -154,13 +154,13 @@ module _ {kind : Bool} {start : ℕ} {gs : List GlobalVar} {i at : ℕ} {ps : Li
     end = sym (ap (λ l. end_of kind at l) next ∙ ap (λ b. end_of kind (if b then global_start at g + size_of g.ty else at) (drop (suc i) gs)) is) ∙ placed.end;
   })
 
-pub same-true : (b c : Bool) → beq b c ≡ true → same b c ≡ true
+pub same-true : (b c : Bool) → beq b c ≡ true → same_truth b c ≡ true
 same-true true true e = refl
 same-true true false e = cc
 same-true false true e = cc
 same-true false false e = refl
 
-pub same-false : (b c : Bool) → beq b c ≡ false → same b c ≡ false
+pub same-false : (b c : Bool) → beq b c ≡ false → same_truth b c ≡ false
 same-false true true e = cc
 same-false true false e = refl
 same-false false true e = refl

@@ -2,7 +2,7 @@
 use Rattle.std.specs.Prelude.{ℕ, suc, ◌+◌, Bool, cond, nat_lt, List, [], ◌∷◌, Option}
 use Rattle.hip_types.specs.Layout.{shape}
 use Rattle.hip_ir.specs.declared.program.GlobalVar.{GlobalVar}
-use Rattle.hip_globals.specs.Addresses.{global_start, same}
+use Rattle.hip_globals.specs.Addresses.{global_start, same_truth}
 use Rattle.hip_objects.specs.Order.{AreInOrder, first_at}
 use Rattle.hip_objects.specs.declared.globals.GlobalTable.TheInside.{Inside}
 use Rattle.hip_objects.specs.declared.globals.Place.{Place}
@@ -16,7 +16,7 @@ place_of at g number = record { start = global_start at g; size = (shape g.ty).s
 abbrev pub places_from : Bool → ℕ → ℕ → List GlobalVar → List Place
 places_from persistent at n [] = []
 places_from persistent at n (g ∷ gs) =
-    cond (same g.persistent persistent)
+    cond (same_truth g.persistent persistent)
     (place_of at g n ∷ places_from persistent (global_start at g + (shape g.ty).size) (suc n) gs)
     (places_from persistent at (suc n) gs)
 

@@ -9,6 +9,7 @@ use Rattle.hip_ir.specs.declared.constant.Const.TheOpen.{Const-F, ConstGep-F, Ty
 use Rattle.hip_ir.specs.declared.constant.Const.TheFolds.{fold-Const, fold-ConstGep, fold-TypedConst}
 use Rattle.hip_ir.specs.declared.instr.Operand.{Operand}
 use Rattle.hip_ir.specs.declared.instr.Operand.TheVariants.{Reg, Fixed}
+use Rattle.hip_globals.specs.Addresses.{same_truth}
 use Rattle.hip_typing.specs.Types.{same_type, same_width, all_pass}
 
 -- whether two integers have the same width and the same value
@@ -20,12 +21,6 @@ abbrev pub same_list : {A : Type 0} → (A → A → Bool) → List A → List A
 same_list same [] [] = true
 same_list same (x ∷ xs) (y ∷ ys) = same x y && same_list same xs ys
 same_list same _ _ = false
-
--- whether two truth values are equal
-abbrev pub same_truth : Bool → Bool → Bool
-same_truth true b = b
-same_truth false true = false
-same_truth false false = true
 
 -- whether the constant is this integer, in width and value
 abbrev pub is_int : Bits → Const-F Const ConstGep TypedConst → Bool

@@ -14,7 +14,7 @@ use Rattle.hip_ir.specs.declared.program.Program.{Program}
 use Rattle.hip_ir.specs.Reading.{IsSpelled}
 use Rattle.hip_ir.specs.Spelling.{spelled_align, spelled_type, spelled_const, spelled_global}
 use Rattle.hip_ir.specs.Laws.SpellingExact.{spelled_exact}
-use Rattle.hip_globals.specs.Addresses.{OwnTypesFit, TypesFitIn, same, global_align, global_start, start_of, end_of}
+use Rattle.hip_globals.specs.Addresses.{OwnTypesFit, TypesFitIn, same_truth, global_align, global_start, start_of, end_of}
 
 -- ---- alignments divide a page
 
@@ -101,8 +101,8 @@ pub start_of-from : (persistent : Bool) (base at : ℕ) (gs : List GlobalVar) (n
 start_of-from persistent base at [] number page all = refl
 start_of-from persistent base at (g ∷ gs) zero page all = start_from base at g page all.0
 start_of-from persistent base at (g ∷ gs) (suc number) page all =
-    ap (λ n. start_of persistent n gs number) (after (same g.persistent persistent) base at g page all.0)
-    ∙ start_of-from persistent base (if same g.persistent persistent then global_start at g
+    ap (λ n. start_of persistent n gs number) (after (same_truth g.persistent persistent) base at g page all.0)
+    ∙ start_of-from persistent base (if same_truth g.persistent persistent then global_start at g
     + size_of g.ty else at) gs number page all.1
 
 pub end_of-from : (persistent : Bool) (base at : ℕ) (gs : List GlobalVar) → base % BASE_ALIGNMENT ≡ 0
@@ -110,8 +110,8 @@ pub end_of-from : (persistent : Bool) (base at : ℕ) (gs : List GlobalVar) → 
     → end_of persistent (base + at) gs ≡ base + end_of persistent at gs
 end_of-from persistent base at [] page all = refl
 end_of-from persistent base at (g ∷ gs) page all =
-    ap (λ n. end_of persistent n gs) (after (same g.persistent persistent) base at g page all.0)
-    ∙ end_of-from persistent base (if same g.persistent persistent then global_start at g
+    ap (λ n. end_of persistent n gs) (after (same_truth g.persistent persistent) base at g page all.0)
+    ∙ end_of-from persistent base (if same_truth g.persistent persistent then global_start at g
     + size_of g.ty else at) gs page all.1
 
 -- ---- types

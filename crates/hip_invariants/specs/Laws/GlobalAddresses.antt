@@ -5,7 +5,7 @@ use Rattle.std.proofs.lemmas.Option.{same_Some}
 use Rattle.hip_types.specs.Layout.{shape}
 use Rattle.hip_types.specs.Laws.LayoutLaws.{next-le}
 use Rattle.hip_ir.specs.declared.program.GlobalVar.{GlobalVar}
-use Rattle.hip_globals.specs.Addresses.{same, global_align, global_start, end_of, start_of, is_persistent}
+use Rattle.hip_globals.specs.Addresses.{same_truth, global_align, global_start, end_of, start_of, is_persistent}
 
 -- where a global ends that is laid at the next multiple of its alignment from an address on
 abbrev behind : ℕ → GlobalVar → ℕ
@@ -13,14 +13,14 @@ behind at g = global_start at g + (shape g.ty).size
 
 pub later_end : (persistent : Bool) (at : ℕ) (gs : List GlobalVar) → at ≤ end_of persistent at gs
 later_end persistent at [] = omega arith
-later_end persistent at (g ∷ gs) = go (same g.persistent persistent) (λ n. later_end persistent n gs)
+later_end persistent at (g ∷ gs) = go (same_truth g.persistent persistent) (λ n. later_end persistent n gs)
   where
     go : (t : Bool) → ((n : ℕ) → n ≤ end_of persistent n gs)
         → at ≤ end_of persistent (if t then behind at g else at) gs
     go true rest = omega (arith, rest (behind at g), next-le at (global_align g))
     go false rest = rest at
 
-same_self : (b c : Bool) → b ≡ c → same b c ≡ true
+same_self : (b c : Bool) → b ≡ c → same_truth b c ≡ true
 same_self true true e = refl
 same_self false false e = refl
 same_self true false e = cc
@@ -31,13 +31,13 @@ pub start_before_end : (persistent : Bool) (at : ℕ) (gs : List GlobalVar) (k :
     → is_persistent gs k ≡ persistent → start_of persistent at gs k ≤ end_of persistent at gs
 start_before_end persistent at [] k e = omega arith
 start_before_end persistent at (g ∷ gs) zero e =
-    go (same g.persistent persistent) (same_self g.persistent persistent e)
+    go (same_truth g.persistent persistent) (same_self g.persistent persistent e)
   where
     go : (t : Bool) → t ≡ true → global_start at g ≤ end_of persistent (if t then behind at g else at) gs
     go true h = omega (arith, later_end persistent (behind at g) gs)
     go false h = cc
 start_before_end persistent at (g ∷ gs) (suc k) e =
-    start_before_end persistent (if same g.persistent persistent then behind at g else at) gs k e
+    start_before_end persistent (if same_truth g.persistent persistent then behind at g else at) gs k e
 
 -- and ends there at most
 pub ends_before_end : (persistent : Bool) (at : ℕ) (gs : List GlobalVar) (k : ℕ) (g : GlobalVar)
@@ -46,14 +46,14 @@ pub ends_before_end : (persistent : Bool) (at : ℕ) (gs : List GlobalVar) (k : 
 ends_before_end persistent at [] k g q e = cc
 ends_before_end persistent at (x ∷ gs) zero g q e =
     subst (λ (y : GlobalVar). global_start at x + (shape y.ty).size ≤ end_of persistent at (x ∷ gs))
-    (same_Some x g q) (go (same x.persistent persistent) (same_self x.persistent persistent e))
+    (same_Some x g q) (go (same_truth x.persistent persistent) (same_self x.persistent persistent e))
   where
     go : (t : Bool) → t ≡ true → global_start at x + (shape x.ty).size
         ≤ end_of persistent (if t then behind at x else at) gs
     go true h = later_end persistent (behind at x) gs
     go false h = cc
 ends_before_end persistent at (x ∷ gs) (suc k) g q e =
-    ends_before_end persistent (if same x.persistent persistent then behind at x else at) gs k g q e
+    ends_before_end persistent (if same_truth x.persistent persistent then behind at x else at) gs k g q e
 
 -- a global that is there begins behind the start of all of them
 pub starts_behind : (persistent : Bool) (at : ℕ) (gs : List GlobalVar) (k : ℕ) (g : GlobalVar)
@@ -61,7 +61,7 @@ pub starts_behind : (persistent : Bool) (at : ℕ) (gs : List GlobalVar) (k : �
 starts_behind persistent at [] k g q = cc
 starts_behind persistent at (x ∷ gs) zero g q = next-le at (global_align x)
 starts_behind persistent at (x ∷ gs) (suc k) g q =
-    go (same x.persistent persistent) (λ n. starts_behind persistent n gs k g q)
+    go (same_truth x.persistent persistent) (λ n. starts_behind persistent n gs k g q)
   where
     go : (t : Bool) → ((n : ℕ) → n ≤ start_of persistent n gs k)
         → at ≤ start_of persistent (if t then behind at x else at) gs k
@@ -76,12 +76,12 @@ one_behind_another persistent at [] j k g h q r e lt = cc
 one_behind_another persistent at (x ∷ gs) j zero g h q r e lt = absurd (let z : ⊥ = omega (arith, lt) in z)
 one_behind_another persistent at (x ∷ gs) zero (suc k) g h q r e lt =
     subst (λ (y : GlobalVar). global_start at x + (shape y.ty).size ≤ start_of persistent at (x ∷ gs) (suc k))
-    (same_Some x g q) (go (same x.persistent persistent) (same_self x.persistent persistent e))
+    (same_Some x g q) (go (same_truth x.persistent persistent) (same_self x.persistent persistent e))
   where
     go : (t : Bool) → t ≡ true → global_start at x + (shape x.ty).size
         ≤ start_of persistent (if t then behind at x else at) gs k
     go true s = starts_behind persistent (behind at x) gs k h r
     go false s = cc
 one_behind_another persistent at (x ∷ gs) (suc j) (suc k) g h q r e lt =
-    one_behind_another persistent (if same x.persistent persistent then behind at x else at) gs j k g h q r e
+    one_behind_another persistent (if same_truth x.persistent persistent then behind at x else at) gs j k g h q r e
     (omega (arith, lt))

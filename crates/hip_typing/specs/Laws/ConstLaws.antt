@@ -14,7 +14,8 @@ use Rattle.hip_ir.specs.declared.constant.TypedConst.{TypedConst, map-TypedConst
 use Rattle.hip_ir.specs.declared.constant.Const.TheFolds.{ind-Const, fold-roll-Const, fold-roll-ConstGep, fold-roll-TypedConst}
 use Rattle.hip_ir.specs.declared.instr.Operand.{Operand}
 use Rattle.hip_ir.specs.declared.instr.Operand.TheVariants.{Reg, Fixed}
-use Rattle.hip_typing.specs.Equal.{same_bits, same_list, same_truth, is_int, is_null, is_zero, is_address, is_gep, is_array, is_struct, same_level, same_step, same_gep_step, same_item_step, same_const, same_gep, same_item, same_operand}
+use Rattle.hip_globals.specs.Addresses.{same_truth}
+use Rattle.hip_typing.specs.Equal.{same_bits, same_list, is_int, is_null, is_zero, is_address, is_gep, is_array, is_struct, same_level, same_step, same_gep_step, same_item_step, same_const, same_gep, same_item, same_operand}
 use Rattle.hip_typing.specs.Types.{same_width, same_type, all_pass}
 use Rattle.hip_typing.specs.Laws.TypeLaws.{same_width-equal, same_width-refl, same_type-equal, same_type-refl}
 

@@ -23,7 +23,8 @@ use Rattle.hip_code.specs.declared.op.Edge.{Edge}
 use Rattle.hip_code.specs.declared.op.Move.{Move}
 use Rattle.hip_runs.specs.Places.{block_at, block_number, blocks_in, blocks_of, label_of, phis_of}
 use Rattle.hip_typing.specs.Registers.{end_labels}
-use Rattle.hip_typing.specs.Sound.{IsBlockAt, label_names}
+use Rattle.hip_typing.specs.Sound.{IsBlockAt}
+use Rattle.hip_typing.specs.Numbering.{label_names}
 use Rattle.hip_code.specs.declared.op.Operand.{Operand}
 use Rattle.hip_resolve.specs.Edged.{HasEdge, IsSource, IsTarget, LeadFrom, Leads, Moves, NewEdge, PhiKnown, moves_of}
 use Rattle.hip_resolve.specs.PhiNumbers.{HasNumbers}

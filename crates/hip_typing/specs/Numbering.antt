@@ -1,8 +1,16 @@
--- The numbers of functions by their names.
+-- The names of globals, of labels and of functions, and the numbers of functions by their names.
 use Rattle.std.specs.Prelude.{ℕ, List, map, Option}
 use Rattle.hip_ir.specs.declared.program.Function.{Function}
 use Rattle.hip_ir.specs.declared.program.Program.{Program}
 use Rattle.hip_names.specs.Names.{number_of}
+
+-- the names of a program's globals, in order
+abbrev pub global_names : Program → List (List ℕ)
+global_names P = map (λ g. g.name) P.globals
+
+-- the labels of a function's blocks, each at the number of its block
+abbrev pub label_names : Function → List (List ℕ)
+label_names fn = map (λ b. b.label) fn.blocks
 
 -- the names of functions, in their order
 abbrev pub function_names : List Function → List (List ℕ)

@@ -37,6 +37,7 @@ use Rattle.hip_typing.specs.Equal.{same_bits, same_operand}
 use Rattle.hip_externs.specs.Externs.{Signature}
 use Rattle.hip_typing.specs.declared.fault.Fault.TheVariants as breaks
 use Rattle.hip_names.specs.Names.{is_among}
+use Rattle.hip_typing.specs.Numbering.{global_names, label_names}
 use Rattle.hip_typing.specs.Registers.{Register, Use, find_register, registers_of, instr_uses, end_uses, phi_uses, end_labels, used_registers, used_globals, used_types}
 use Rattle.hip_typing.specs.Types.{same_scalar, same_result, all_pass}
 use Rattle.hip_typing.specs.declared.fault.Place.{Place}
@@ -77,14 +78,6 @@ pub record Scope : Type 0 where
 abbrev pub scope_of : Program → Function → Scope
 scope_of P f = record { program = P; function = f; registers = registers_of f }
 
--- the names of the program's globals, in order
-abbrev pub global_names : Scope → List (List ℕ)
-global_names s = map (λ g. g.name) s.program.globals
-
--- the labels of the function's blocks, in order
-abbrev pub labels : Scope → List (List ℕ)
-labels s = map (λ b. b.label) s.function.blocks
-
 -- each name of the second list is one of the first, as all are where the second is empty
 abbrev pub are_among : List (List ℕ) → List (List ℕ) → Bool
 are_among known names = list_all (is_among known) names
@@ -93,7 +86,7 @@ are_among known names = list_all (is_among known) names
 abbrev pub uses_known : Scope → List Use → Bool
 uses_known s us =
     list_all (λ n. is_some (find_register s.registers n)) (used_registers us)
-    && are_among (global_names s) (used_globals us)
+    && are_among (global_names s.program) (used_globals us)
 
 -- `Fits` as a test: neither the type nor a type in it has too many bytes, and it is not nested too deep
 abbrev pub fits_test : Ty → Bool
@@ -249,7 +242,8 @@ is_entry (b ∷ bs) label = bytes_eq b.label label
 -- does not name the entry block (BadEdge; LLVM, "Functions": the entry block has no predecessors)
 abbrev pub end_check : Scope → End → Place → Check
 end_check s e place =
-    and_then (asks_true (uses_known s (end_uses e) && are_among (labels s) (end_labels e)) breaks.Unknown place)
+    and_then
+    (asks_true (uses_known s (end_uses e) && are_among (label_names s.function) (end_labels e)) breaks.Unknown place)
     (and_then (types_fit (used_types (end_uses e)) place)
     (and_then (asks_true (uses_agree s (end_uses e) && end_agrees s e) breaks.Mismatch place)
     (and_then (asks_true (cases_differ (end_cases e)) breaks.Duplicate place)
@@ -290,7 +284,9 @@ edges_agree before edges =
 -- the predecessors of the block (BadEdge)
 abbrev pub phi_check : Scope → List ℕ → Phi → Place → Check
 phi_check s label p place =
-    and_then (asks_true (uses_known s (phi_uses p) && are_among (labels s) (edge_labels p.edges)) breaks.Unknown place)
+    and_then
+    (asks_true (uses_known s (phi_uses p) && are_among (label_names s.function) (edge_labels p.edges)) breaks.Unknown
+    place)
     (and_then (types_fit (used_types (phi_uses p)) place)
     (and_then (asks_true (uses_agree s (phi_uses p)) breaks.Mismatch place)
     (asks_true (edges_agree (predecessors s.function.blocks label) p.edges) breaks.BadEdge place)))

@@ -28,6 +28,7 @@ use Rattle.hip_typing.specs.declared.fault.Fault.{Fault}
 use Rattle.hip_typing.specs.declared.fault.Fault.TheVariants as breaks
 use Rattle.hip_names.specs.Names.{is_among}
 use Rattle.hip_typing.specs.Names.{Named, all_differ, numbered}
+use Rattle.hip_typing.specs.Numbering.{global_names}
 use Rattle.hip_typing.specs.Paths.{IsAssigned, IsUnassigned}
 use Rattle.hip_typing.specs.declared.assigned.Point.{Point}
 use Rattle.hip_typing.specs.declared.assigned.Point.TheVariants.{Before, AtEnd}
@@ -79,7 +80,7 @@ global_check known n g =
 
 -- the rules of each global, in order; an initialiser may name every global, its own and later ones too
 abbrev pub globals_check : Program → Check
-globals_check P = each (global_check (map (λ g. g.name) P.globals)) P.globals
+globals_check P = each (global_check (global_names P)) P.globals
 
 -- ---- externs are of the table, and nothing else has a name of the table
 

@@ -30,7 +30,7 @@ use Rattle.hip_globals.specs.Addresses.{TypesFitIn}
 use Rattle.hip_typing.specs.Constants.{has_shape, names_in}
 use Rattle.hip_externs.specs.Externs.{known_signature, call_of}
 use Rattle.hip_names.specs.Names.{IsAmong, number_of, AllDiffer}
-use Rattle.hip_typing.specs.Numbering.{function_number}
+use Rattle.hip_typing.specs.Numbering.{function_number, global_names, label_names}
 use Rattle.hip_typing.specs.Paths.{IsAssigned, label_at, names_of}
 use Rattle.hip_ir.specs.Words.{type_of}
 use Rattle.hip_typing.specs.Places.{callee_of, cast_agrees, gep_agrees, written_types, edge_labels}
@@ -39,10 +39,6 @@ use Rattle.hip_typing.specs.declared.assigned.Point.TheVariants.{Before, AtEnd}
 
 -- ---- names
 
--- the names of a program's globals, in order
-abbrev pub global_names : Program → List (List ℕ)
-global_names P = map (λ g. g.name) P.globals
-
 -- the names that a call may have
 abbrev pub callee_names : Program → List (List ℕ)
 callee_names P = map (λ e. e.name) P.externs ++ map (λ f. f.name) P.functions
@@ -50,10 +46,6 @@ callee_names P = map (λ e. e.name) P.externs ++ map (λ f. f.name) P.functions
 -- the names of globals, of external functions and of functions, in this order
 abbrev pub top_names : Program → List (List ℕ)
 top_names P = global_names P ++ callee_names P
-
--- the labels of a function's blocks, each at the number of its block
-abbrev pub label_names : Function → List (List ℕ)
-label_names fn = map (λ b. b.label) fn.blocks
 
 -- the number of the block of that label
 abbrev pub label_number : Function → List ℕ → Option ℕ

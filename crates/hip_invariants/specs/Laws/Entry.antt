@@ -18,7 +18,8 @@ use Rattle.hip_names.specs.Laws.NumberLaws.{number_of-first, number_of-known, nu
 use Rattle.hip_typing.specs.Laws.Decided.{all-at}
 use Rattle.hip_typing.specs.Paths.{label_at, names_of}
 use Rattle.hip_typing.specs.Registers.{end_labels, parameter_registers}
-use Rattle.hip_typing.specs.Sound.{IsSound, Precedes, EdgesAgree, PhiItem, EdgesAreSound, label_names, label_number, names_in_block, names_in_function}
+use Rattle.hip_typing.specs.Sound.{IsSound, Precedes, EdgesAgree, PhiItem, EdgesAreSound, label_number, names_in_block, names_in_function}
+use Rattle.hip_typing.specs.Numbering.{label_names}
 use Rattle.hip_names.specs.Laws.DifferLaws.{differ_second}
 
 -- ---- what is spelled

@@ -24,7 +24,8 @@ use Rattle.hip_typing.specs.Constants.{has_shape, names_in}
 use Rattle.hip_globals.specs.Constants.{types_in}
 use Rattle.hip_externs.specs.Externs.{known_signature}
 use Rattle.hip_names.specs.Names.{is_among}
-use Rattle.hip_typing.specs.Places.{Scope, global_names, callee_of, uses_known, use_agrees, uses_agree, signature_agrees, instr_check}
+use Rattle.hip_typing.specs.Places.{Scope, callee_of, uses_known, use_agrees, uses_agree, signature_agrees, instr_check}
+use Rattle.hip_typing.specs.Numbering.{global_names}
 use Rattle.hip_typing.specs.Registers.{Use, uses, find_register, used_registers, used_globals, used_types}
 use Rattle.hip_typing.specs.Laws.AssignedExact.{all-back}
 use Rattle.hip_typing.specs.declared.fault.Place.{Place}
@@ -47,7 +48,7 @@ abbrev registered : Scope → List Use → Bool
 registered s us = list_all (λ n. is_some (find_register s.registers n)) (used_registers us)
 
 abbrev among_globals : Scope → List (List ℕ) → Bool
-among_globals s names = list_all (is_among (global_names s)) names
+among_globals s names = list_all (is_among (global_names s.program)) names
 
 known_second : (s : Scope) (value addr : Operand) (ty : Scalar) → uses_known s (uses value ty ∷ uses addr Ptr ∷ []) ≡ true → uses_known s (uses addr Ptr ∷ []) ≡ true
 known_second s (Reg v) addr ty h =
@@ -56,7 +57,7 @@ known_second s (Reg v) addr ty h =
 known_second s (Fixed v) addr ty h =
     let both = and_parts (registered s (uses addr Ptr ∷ [])) (among_globals s (names_in v ++ used_globals (uses addr Ptr ∷ []))) h in
     and_from (registered s (uses addr Ptr ∷ [])) _ both.0
-    (and_parts (among_globals s (names_in v)) (among_globals s (used_globals (uses addr Ptr ∷ []))) (sym (list_all-append (is_among (global_names s)) (names_in v) (used_globals (uses addr Ptr ∷ []))) ∙ both.1)).1
+    (and_parts (among_globals s (names_in v)) (among_globals s (used_globals (uses addr Ptr ∷ []))) (sym (list_all-append (is_among (global_names s.program)) (names_in v) (used_globals (uses addr Ptr ∷ []))) ∙ both.1)).1
 
 types_second : (value addr : Operand) (ty : Scalar) → All Fits (used_types (uses value ty ∷ uses addr Ptr ∷ [])) → All Fits (used_types (uses addr Ptr ∷ []))
 types_second (Reg v) addr ty h = h

@@ -19,8 +19,8 @@ use Rattle.hip_ir.specs.declared.site.Site.{Site}
 use Rattle.hip_typing.specs.Check.{each}
 use Rattle.hip_externs.specs.Externs.{known_signature}
 use Rattle.hip_names.specs.Names.{is_among}
-use Rattle.hip_typing.specs.Numbering.{function_number}
-use Rattle.hip_typing.specs.Places.{Scope, scope_of, callee_of, labels, are_among, uses_known, uses_agree, use_agrees, signature_agrees, register_agrees, instr_agrees, callee_known, instr_check, end_agrees, is_entry, end_check, predecessors, phi_check}
+use Rattle.hip_typing.specs.Numbering.{function_number, label_names}
+use Rattle.hip_typing.specs.Places.{Scope, scope_of, callee_of, are_among, uses_known, uses_agree, use_agrees, signature_agrees, register_agrees, instr_agrees, callee_known, instr_check, end_agrees, is_entry, end_check, predecessors, phi_check}
 use Rattle.hip_typing.specs.Registers.{Use, registers_of, parameter_registers, find_register, instr_uses, arg_uses, end_uses, end_labels, phi_uses, used_registers, used_globals}
 use Rattle.hip_typing.specs.Rules.{Passes, block_check, places_check}
 use Rattle.hip_typing.specs.declared.fault.Place.{Place}
@@ -90,7 +90,7 @@ module _ (P : Program) (plan : Plan) (skip : Site → Bool) (sound : Passes P) w
     agree_again : (us : List Use) → uses_agree s' us ≡ uses_agree s us
     agree_again us = ap (λ rs. list_all (λ (u : Use). use_agrees rs u.operand u.ty) us) regs
 
-    labels_again : (ls : List (List ℕ)) → are_among (labels s') ls ≡ are_among (labels s) ls
+    labels_again : (ls : List (List ℕ)) → are_among (label_names R) ls ≡ are_among (label_names o.fn) ls
     labels_again ls = ap (λ known. are_among known ls) (same_labels clones w o.clone o.f 0 o.fn.blocks)
 
     phi_again : (label : List ℕ) (p : Phi) (place place' : Place) → (phi_check s label p place).Holds → (phi_check s' label p place').Holds

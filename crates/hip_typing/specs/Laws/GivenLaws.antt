@@ -16,11 +16,11 @@ use Rattle.hip_externs.specs.Externs.{Signature, known_signature}
 use Rattle.hip_typing.specs.Given.{CallsFunction, CallsExtern, CallsAgree, OperandsAgree, HasBlock, LabelsExist, PhisAgree}
 use Rattle.hip_names.specs.Laws.NameLaws.{bytes_eq-sym}
 use Rattle.hip_names.specs.Names.{IsAmong, number_of}
-use Rattle.hip_typing.specs.Numbering.{function_names}
+use Rattle.hip_typing.specs.Numbering.{function_names, label_names}
 use Rattle.hip_names.specs.Laws.NumberLaws.{number_of-cons}
 use Rattle.hip_typing.specs.Places.{callee_of, extern_of, function_of, first_of}
 use Rattle.hip_typing.specs.Registers.{end_labels}
-use Rattle.hip_typing.specs.Sound.{IsOfTable, EdgesAgree, PhiItem, InstrItem, TypesAgree, label_names, IsSound}
+use Rattle.hip_typing.specs.Sound.{IsOfTable, EdgesAgree, PhiItem, InstrItem, TypesAgree, IsSound}
 
 some_is : {A : Type 0} (x y : A) → Some x ≡ Some y → x ≡ y
 some_is x y e = cc

@@ -32,7 +32,8 @@ use Rattle.hip_typing.specs.Laws.Decided.{both-decides, all-decides, not-decides
 use Rattle.hip_names.specs.Laws.NameLaws.{among-decides, among-left, among-right, among-either}
 use Rattle.hip_typing.specs.Laws.EqualLaws.{same_scalar-decides, same_scalars-decides, same_result-decides, same_bits-decides, same_operand-decides}
 use Rattle.hip_typing.specs.Sound as sound
-use Rattle.hip_typing.specs.Sound.{Item, PhiItem, InstrItem, EndItem, uses_of, global_names, callee_names, label_names, register_names, NamesExist, TypesFit, operand_is_typed, IsTyped, CallAgrees, OwnTypesAgree, TypesAgree, Precedes, EdgesAgree}
+use Rattle.hip_typing.specs.Sound.{Item, PhiItem, InstrItem, EndItem, uses_of, callee_names, register_names, NamesExist, TypesFit, operand_is_typed, IsTyped, CallAgrees, OwnTypesAgree, TypesAgree, Precedes, EdgesAgree}
+use Rattle.hip_typing.specs.Numbering.{global_names, label_names}
 
 -- ---- what is found by its name
 

@@ -9,7 +9,8 @@ use Rattle.hip_ir.specs.declared.instr.Operand.TheVariants.{Reg, Fixed}
 use Rattle.hip_typing.specs.Constants.{names_in}
 use Rattle.hip_globals.specs.Constants.{types_in}
 use Rattle.hip_names.specs.Names.{is_among, Knows}
-use Rattle.hip_typing.specs.Places.{Scope, global_names, uses_known, uses_agree, use_agrees, fits_test, has_type}
+use Rattle.hip_typing.specs.Places.{Scope, uses_known, uses_agree, use_agrees, fits_test, has_type}
+use Rattle.hip_typing.specs.Numbering.{global_names}
 use Rattle.hip_typing.specs.Registers.{Use, find_register, used_registers, used_globals, used_types}
 use Rattle.hip_typing.specs.Seen.Tables.{Finds}
 use Rattle.hip_typing.specs.Seen.UsesSeen.{operand_known, operands_known, operand_agrees, operands_agree, operand_fits, operands_fit}
@@ -33,12 +34,12 @@ known_alike known names (x ∷ xs) knows =
     ∙ ap (λ b. is_among names x && b) (known_alike known names xs knows)
 
 module _ (s : Scope) (names : List (List ℕ)) (values : List (Option Scalar)) (globals : List (List ℕ))
-    (finds : Finds names values s.registers) (knows : Knows globals (global_names s)) where
+    (finds : Finds names values s.registers) (knows : Knows globals (global_names s.program)) where
   abbrev registered : List (List ℕ) → Bool
   registered ns = list_all (λ n. is_some (find_register s.registers n)) ns
 
   abbrev global : List (List ℕ) → Bool
-  global ns = list_all (is_among (global_names s)) ns
+  global ns = list_all (is_among (global_names s.program)) ns
 
   one_more : (o : Operand) (ty : Scalar) (us : List Use)
       → (operand_known names values globals o && (registered (used_registers us) && global (used_globals us))) ≡
@@ -49,10 +50,10 @@ module _ (s : Scope) (names : List (List ℕ)) (values : List (Option Scalar)) (
       (global (used_globals us)))
   one_more (Fixed value) ty us =
       ap (λ b. b && (registered (used_registers us) && global (used_globals us)))
-      (known_alike globals (global_names s) (names_in value) knows)
+      (known_alike globals (global_names s.program) (names_in value) knows)
       ∙ and_swap (global (names_in value)) (registered (used_registers us)) (global (used_globals us))
       ∙ ap (λ b. registered (used_registers us) && b)
-      (sym (list_all-append (is_among (global_names s)) (names_in value) (used_globals us)))
+      (sym (list_all-append (is_among (global_names s.program)) (names_in value) (used_globals us)))
 
   -- registers and globals that are used exist
   pub uses_known-by_tables : (us : List Use) → operands_known names values globals us ≡ uses_known s us

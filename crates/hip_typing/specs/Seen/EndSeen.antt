@@ -8,7 +8,8 @@ use Rattle.hip_ir.specs.declared.program.Function.{Function}
 use Rattle.hip_typing.specs.Seen.Answers.{asked}
 use Rattle.hip_typing.specs.Check.{or_else}
 use Rattle.hip_names.specs.Names.{Knows}
-use Rattle.hip_typing.specs.Places.{Scope, global_names, labels, are_among, uses_known, uses_agree, returns, end_agrees, cases_differ, end_cases, is_entry, fits_test, end_check}
+use Rattle.hip_typing.specs.Places.{Scope, are_among, uses_known, uses_agree, returns, end_agrees, cases_differ, end_cases, is_entry, fits_test, end_check}
+use Rattle.hip_typing.specs.Numbering.{global_names, label_names}
 use Rattle.hip_typing.specs.Registers.{end_uses, end_labels, used_types}
 use Rattle.hip_typing.specs.Seen.Tables.{Finds}
 use Rattle.hip_typing.specs.Laws.UseLaws.{uses_known-by_tables, uses_agree-by_tables, uses_fit-is, known_alike}
@@ -37,15 +38,16 @@ end_found names values globals known_labels function e place =
     (operands_agree names values (end_uses e) && returns function.ret e) function e place
 
 module _ (s : Scope) (names : List (List ℕ)) (values : List (Option Scalar)) (globals known_labels : List (List ℕ))
-    (finds : Finds names values s.registers) (knows : Knows globals (global_names s))
-    (knows_labels : Knows known_labels (labels s)) where
+    (finds : Finds names values s.registers) (knows : Knows globals (global_names s.program))
+    (knows_labels : Knows known_labels (label_names s.function)) where
   known : (e : End) →
       (operands_known names values globals (end_uses e) && are_among known_labels (end_labels e))
-      ≡ (uses_known s (end_uses e) && are_among (labels s) (end_labels e))
+      ≡ (uses_known s (end_uses e) && are_among (label_names s.function) (end_labels e))
   known e =
       ap (λ b. b && are_among known_labels (end_labels e))
       (uses_known-by_tables s names values globals finds knows (end_uses e))
-      ∙ ap (λ b. uses_known s (end_uses e) && b) (known_alike known_labels (labels s) (end_labels e) knows_labels)
+      ∙ ap (λ b. uses_known s (end_uses e) && b)
+      (known_alike known_labels (label_names s.function) (end_labels e) knows_labels)
 
   agree : (e : End) →
       (operands_agree names values (end_uses e) && returns s.function.ret e)
@@ -60,9 +62,9 @@ module _ (s : Scope) (names : List (List ℕ)) (values : List (Option Scalar)) (
       (λ b. end_found_by b (operands_fit (end_uses e))
       (operands_agree names values (end_uses e) && returns s.function.ret e) s.function e place) (known e)
       ∙ ap
-      (λ b. end_found_by (uses_known s (end_uses e) && are_among (labels s) (end_labels e)) b
+      (λ b. end_found_by (uses_known s (end_uses e) && are_among (label_names s.function) (end_labels e)) b
       (operands_agree names values (end_uses e) && returns s.function.ret e) s.function e place)
       (uses_fit-is (end_uses e))
       ∙ ap
-      (λ b. end_found_by (uses_known s (end_uses e) && are_among (labels s) (end_labels e))
+      (λ b. end_found_by (uses_known s (end_uses e) && are_among (label_names s.function) (end_labels e))
       (list_all fits_test (used_types (end_uses e))) b s.function e place) (agree e)

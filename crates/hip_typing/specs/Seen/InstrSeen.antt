@@ -9,7 +9,8 @@ use Rattle.hip_ir.specs.declared.instr.Instr.TheVariants.{Binary, Compare, Selec
 use Rattle.hip_typing.specs.Seen.Answers.{asked}
 use Rattle.hip_typing.specs.Check.{or_else}
 use Rattle.hip_names.specs.Names.{Knows}
-use Rattle.hip_typing.specs.Places.{Scope, global_names, uses_known, uses_agree, callee_known, instr_agrees, written_types, signature_agrees, register_agrees, fits_test, instr_check}
+use Rattle.hip_typing.specs.Places.{Scope, uses_known, uses_agree, callee_known, instr_agrees, written_types, signature_agrees, register_agrees, fits_test, instr_check}
+use Rattle.hip_typing.specs.Numbering.{global_names}
 use Rattle.hip_typing.specs.Registers.{instr_uses, used_types}
 use Rattle.hip_names.specs.Tables.{value_beside}
 use Rattle.hip_typing.specs.Seen.Tables.{Finds, FindsCallees, callee_seen}
@@ -41,7 +42,7 @@ is_some_seen None = refl
 is_some_seen (Some c) = refl
 
 module _ (s : Scope) (names : List (List ℕ)) (values : List (Option Scalar)) (globals callee_names : List (List ℕ))
-    (callees : List Callee) (finds : Finds names values s.registers) (knows : Knows globals (global_names s))
+    (callees : List Callee) (finds : Finds names values s.registers) (knows : Knows globals (global_names s.program))
     (calls : FindsCallees callee_names callees s.program) where
   callee_alike : (i : Instr) → callee_known_in callee_names callees i ≡ callee_known s i
   callee_alike (Binary dest op flags width a b) = refl

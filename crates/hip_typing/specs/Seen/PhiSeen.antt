@@ -13,7 +13,8 @@ use Rattle.hip_ir.specs.declared.block.Phi.{Phi}
 use Rattle.hip_typing.specs.Seen.Answers.{asked}
 use Rattle.hip_typing.specs.Check.{or_else}
 use Rattle.hip_names.specs.Names.{is_among, Knows}
-use Rattle.hip_typing.specs.Places.{Scope, global_names, labels, are_among, edge_labels, edges_agree, repeats_agree, predecessors, uses_known, uses_agree, fits_test, phi_check}
+use Rattle.hip_typing.specs.Places.{Scope, are_among, edge_labels, edges_agree, repeats_agree, predecessors, uses_known, uses_agree, fits_test, phi_check}
+use Rattle.hip_typing.specs.Numbering.{global_names, label_names}
 use Rattle.hip_typing.specs.Registers.{phi_uses, used_types}
 use Rattle.hip_typing.specs.Seen.Tables.{Finds}
 use Rattle.hip_typing.specs.Laws.UseLaws.{uses_known-by_tables, uses_agree-by_tables, uses_fit-is, known_alike}
@@ -89,16 +90,16 @@ edges_alike before names edges knows =
 
 module _ (s : Scope) (names : List (List ℕ)) (values : List (Option Scalar))
     (globals known_labels before : List (List ℕ)) (label : List ℕ) (finds : Finds names values s.registers)
-    (knows : Knows globals (global_names s)) (knows_labels : Knows known_labels (labels s))
+    (knows : Knows globals (global_names s.program)) (knows_labels : Knows known_labels (label_names s.function))
     (comes : Knows before (predecessors s.function.blocks label)) where
   known : (p : Phi) →
       (operands_known names values globals (phi_uses p) && are_among known_labels (edge_labels p.edges))
-      ≡ (uses_known s (phi_uses p) && are_among (labels s) (edge_labels p.edges))
+      ≡ (uses_known s (phi_uses p) && are_among (label_names s.function) (edge_labels p.edges))
   known p =
       ap (λ b. b && are_among known_labels (edge_labels p.edges))
       (uses_known-by_tables s names values globals finds knows (phi_uses p))
       ∙ ap (λ b. uses_known s (phi_uses p) && b)
-      (known_alike known_labels (labels s) (edge_labels p.edges) knows_labels)
+      (known_alike known_labels (label_names s.function) (edge_labels p.edges) knows_labels)
 
   -- by the tables a phi is checked as the rules say
   pub phi_found-is : (p : Phi) (place : Place) →
@@ -108,13 +109,13 @@ module _ (s : Scope) (names : List (List ℕ)) (values : List (Option Scalar))
       (λ b. phi_found_by b (operands_fit (phi_uses p)) (operands_agree names values (phi_uses p))
       (edges_agree before p.edges) place) (known p)
       ∙ ap
-      (λ b. phi_found_by (uses_known s (phi_uses p) && are_among (labels s) (edge_labels p.edges)) b
+      (λ b. phi_found_by (uses_known s (phi_uses p) && are_among (label_names s.function) (edge_labels p.edges)) b
       (operands_agree names values (phi_uses p)) (edges_agree before p.edges) place) (uses_fit-is (phi_uses p))
       ∙ ap
-      (λ b. phi_found_by (uses_known s (phi_uses p) && are_among (labels s) (edge_labels p.edges))
+      (λ b. phi_found_by (uses_known s (phi_uses p) && are_among (label_names s.function) (edge_labels p.edges))
       (list_all fits_test (used_types (phi_uses p))) b (edges_agree before p.edges) place)
       (uses_agree-by_tables s names values finds (phi_uses p))
       ∙ ap
-      (λ b. phi_found_by (uses_known s (phi_uses p) && are_among (labels s) (edge_labels p.edges))
+      (λ b. phi_found_by (uses_known s (phi_uses p) && are_among (label_names s.function) (edge_labels p.edges))
       (list_all fits_test (used_types (phi_uses p))) (uses_agree s (phi_uses p)) b place)
       (edges_alike before (predecessors s.function.blocks label) p.edges comes)

@@ -34,7 +34,7 @@ use Rattle.hip_names.specs.Laws.NameLaws.{among-left, among-right, among-either}
 use Rattle.hip_typing.specs.Laws.Decided.{all-at}
 use Rattle.hip_typing.specs.Laws.GivenLaws.{sound-calls, sound-phis}
 use Rattle.hip_typing.specs.Paths.{names_of}
-use Rattle.hip_typing.specs.Registers.{Register, Use, parameter_registers, block_registers, body_registers, phi_registers, assigned_by, arg_uses, edge_uses, end_labels, phi_uses, instr_uses, used_registers, used_types, operand_registers, uses, end_uses}
+use Rattle.hip_typing.specs.Registers.{Register, Use, parameter_registers, block_registers, body_registers, phi_registers, assigned_by, arg_uses, edge_uses, end_labels, phi_uses, instr_uses, used_registers, used_constant_types, operand_registers, use_of, end_uses}
 use Rattle.hip_typing.specs.Sound.{IsSound, IsBlockAt, NamesExist, TypesFit, TypesAgree, InstrItem, PhiItem, register_names, names_in_block, names_in_function, types_of}
 use Rattle.hip_runs.specs.Operands.{access_align, scalar_size}
 use Rattle.hip_code.specs.Frames.{names_at, names_in}
@@ -76,15 +76,15 @@ named_in g (y ∷ xs) (suc k) x q e h = named_right (g y) (flat_map g xs) q (nam
 
 -- ---- operands
 
-first_known : (names : List (List ℕ)) (o : Operand) (ty : Scalar) (us : List Use) → All (IsAmong names) (used_registers (uses o ty ∷ us)) → All Fits (used_types (uses o ty ∷ us)) → OperandKnown names o
+first_known : (names : List (List ℕ)) (o : Operand) (ty : Scalar) (us : List Use) → All (IsAmong names) (used_registers (use_of o ty ∷ us)) → All Fits (used_constant_types (use_of o ty ∷ us)) → OperandKnown names o
 first_known names (Reg name) ty us h g = All-head (IsAmong names) name (used_registers us) h
-first_known names (Fixed value) ty us h g = all_front Fits (types_in value) (used_types us) g
+first_known names (Fixed value) ty us h g = all_front Fits (types_in value) (used_constant_types us) g
 
-later_types : (o : Operand) (ty : Scalar) (us : List Use) → All Fits (used_types (uses o ty ∷ us)) → All Fits (used_types us)
+later_types : (o : Operand) (ty : Scalar) (us : List Use) → All Fits (used_constant_types (use_of o ty ∷ us)) → All Fits (used_constant_types us)
 later_types (Reg name) ty us g = g
-later_types (Fixed value) ty us g = all_back Fits (types_in value) (used_types us) g
+later_types (Fixed value) ty us g = all_back Fits (types_in value) (used_constant_types us) g
 
-uses_known : (names : List (List ℕ)) (us : List Use) → All (IsAmong names) (used_registers us) → All Fits (used_types us) → All (λ u. OperandKnown names u.operand) us
+uses_known : (names : List (List ℕ)) (us : List Use) → All (IsAmong names) (used_registers us) → All Fits (used_constant_types us) → All (λ u. OperandKnown names u.operand) us
 uses_known names [] h g = All-nil (λ (u : Use). OperandKnown names u.operand)
 uses_known names (u ∷ us) h g =
     All-cons (λ (u : Use). OperandKnown names u.operand) u us (first_known names u.operand u.ty us h g)
@@ -174,7 +174,7 @@ module _ (P : Program) (s : IsSound P) (f b : ℕ) (fn : Function) (block : Bloc
   own_known k i e =
       let named = all-at (λ i. NamesExist P fn (InstrItem i)) block.body k i (s.names_exist f b fn block at).body e in
       let fit : All Fits (types_of (InstrItem i)) = all-at (λ i. TypesFit (InstrItem i)) block.body k i (s.types_fit f b fn block at).body e in
-      record { all = uses_known names (instr_uses i) named.registers (all_back Fits _ (used_types (instr_uses i)) fit) }
+      record { all = uses_known names (instr_uses i) named.registers (all_back Fits _ (used_constant_types (instr_uses i)) fit) }
 
   known_by : (k : ℕ) (i : Instr) → slice_get block.body k ≡ Some i → spelled_instr i ≡ true → TypesFit (InstrItem i) → TypesAgree P fn (InstrItem i) → UsesKnown names (instr_uses i) → InstrKnown P names i
   known_by k (Binary dest op flags width x y) e t g a h = (assigned_known k (Binary dest op flags width x y) dest e (inl refl), first_use h, second_use h)
@@ -204,7 +204,7 @@ module _ (P : Program) (s : IsSound P) (f b : ℕ) (fn : Function) (block : Bloc
   pub end_known : EndKnown (names_at P f) block.«end»
   end_known =
       let named = (s.names_exist f b fn block at).last in
-      let fit : All Fits (used_types (end_uses block.«end»)) = (s.types_fit f b fn block at).last in
+      let fit : All Fits (used_constant_types (end_uses block.«end»)) = (s.types_fit f b fn block at).last in
       let all : UsesKnown names (end_uses block.«end») = record { all = uses_known names (end_uses block.«end») named.registers fit } in
       subst (λ o. EndKnown (names_in o) block.«end») (sym at.function) (end_by names block.«end» all)
 

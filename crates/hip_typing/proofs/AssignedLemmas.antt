@@ -21,8 +21,8 @@ use Rattle.hip_typing.specs.Sound.{names_in_function}
 use Rattle.hip_typing.specs.Seen.Inner.{entries, inner_entries, block_number, successor_numbers, graph_of}
 use Rattle.hip_names.specs.Names.{AllDiffer, IsAmong}
 use Rattle.hip_typing.specs.Paths.{LeadsTo, IsChain, IsUnassigned, IsAssigned, names_of, registers_before, whole_block_names, names_before, assigned_on}
-use Rattle.hip_typing.specs.Registers.{parameter_registers, end_labels, uses, operand_registers, used_registers}
-use Rattle.hip_typing.specs.Rules.{use_at, block_numbers_from, edge_register_uses}
+use Rattle.hip_typing.specs.Registers.{parameter_registers, end_labels, use_of, operand_registers, used_registers}
+use Rattle.hip_typing.specs.Rules.{use_at, block_number_from, edge_register_uses}
 use Rattle.hip_typing.specs.declared.fault.Place.{Place}
 use Rattle.hip_names.specs.Tables.{value_of}
 use Rattle.hip_typing.specs.declared.assigned.Point.{Point}
@@ -346,18 +346,18 @@ numbers_found n b bs label false rest e is = record { only = λ c block here sam
     further : (c : ℕ) × (block : Block) × (slice_get bs c ≡ Some block) × (block.label ≡ label) × (rest ≡ (n + 1 + c) ∷ []) → (c : ℕ) × (block : Block) × (slice_get (b ∷ bs) c ≡ Some block) × (block.label ≡ label) × (rest ≡ (n + c) ∷ [])
     further g = (suc g.0, g.1, g.2, g.3, let z : n + suc g.0 ≡ n + 1 + g.0 = omega arith in rw z g.4)
 
-numbers_are : (n : ℕ) (blocks : List Block) (label : List ℕ) → NumbersAre n blocks label (block_numbers_from n blocks label)
+numbers_are : (n : ℕ) (blocks : List Block) (label : List ℕ) → NumbersAre n blocks label (block_number_from n blocks label)
 numbers_are n [] label = record { only = λ c block here same empty. cc; first = inl refl }
-numbers_are n (b ∷ bs) label = numbers_found n b bs label (bytes_eq b.label label) (block_numbers_from (n + 1) bs label) refl (numbers_are (n + 1) bs label)
+numbers_are n (b ∷ bs) label = numbers_found n b bs label (bytes_eq b.label label) (block_number_from (n + 1) bs label) refl (numbers_are (n + 1) bs label)
 
 -- it is what the label stands for
-pub number_of_label : (fn : Function) (label : List ℕ) (b : ℕ) → NamesDiffer fn → value_of (inner_entries fn) label ≡ Some (Label b) → block_numbers_from 0 fn.blocks label ≡ b ∷ []
+pub number_of_label : (fn : Function) (label : List ℕ) (b : ℕ) → NamesDiffer fn → value_of (inner_entries fn) label ≡ Some (Label b) → block_number_from 0 fn.blocks label ≡ b ∷ []
 number_of_label fn label b differ e =
     let at : BlockOfLabel fn label b = block_of_label fn label b e in
-    let are : NumbersAre 0 fn.blocks label (block_numbers_from 0 fn.blocks label) = numbers_are 0 fn.blocks label in
+    let are : NumbersAre 0 fn.blocks label (block_number_from 0 fn.blocks label) = numbers_are 0 fn.blocks label in
     ⊎_elim (λ none. absurd (are.only b at.block at.here at.is none)) (λ g. same g.0 g.1 g.2 g.3 g.4) are.first
   where
-    same : (c : ℕ) (block : Block) → slice_get fn.blocks c ≡ Some block → block.label ≡ label → block_numbers_from 0 fn.blocks label ≡ (0 + c) ∷ [] → block_numbers_from 0 fn.blocks label ≡ b ∷ []
+    same : (c : ℕ) (block : Block) → slice_get fn.blocks c ≡ Some block → block.label ≡ label → block_number_from 0 fn.blocks label ≡ (0 + c) ∷ [] → block_number_from 0 fn.blocks label ≡ b ∷ []
     same c block here is listed =
         let z : 0 + c ≡ c = omega arith in
         let found_c : value_of (inner_entries fn) label ≡ Some (Label c) = rw is at (label_found fn c block differ here) in
@@ -365,9 +365,9 @@ number_of_label fn label b differ e =
         listed ∙ ap (λ (k : ℕ). k ∷ []) (z ∙ one)
 
 -- what stands for no block is no label of one
-pub no_number : (fn : Function) (label : List ℕ) → NamesDiffer fn → block_number (value_of (inner_entries fn) label) ≡ [] → block_numbers_from 0 fn.blocks label ≡ []
+pub no_number : (fn : Function) (label : List ℕ) → NamesDiffer fn → block_number (value_of (inner_entries fn) label) ≡ [] → block_number_from 0 fn.blocks label ≡ []
 no_number fn label differ e =
-    let are : NumbersAre 0 fn.blocks label (block_numbers_from 0 fn.blocks label) = numbers_are 0 fn.blocks label in
+    let are : NumbersAre 0 fn.blocks label (block_number_from 0 fn.blocks label) = numbers_are 0 fn.blocks label in
     ⊎_elim (λ none. none) (λ g. let f : value_of (inner_entries fn) label ≡ Some (Label g.0) = rw g.3 at (label_found fn g.0 g.1 differ g.2) in let n : block_number (Some (Label g.0)) ≡ [] = rw f at e in cc) are.first
 
 -- the block that a label stands for is there
@@ -376,8 +376,8 @@ label_within fn label b e = let at : BlockOfLabel fn label b = block_of_label fn
 
 pub edge_used : (fn : Function) (place : Place) (ty : Scalar) (edge : Edge) (b : ℕ) → NamesDiffer fn → value_of (inner_entries fn) edge.label ≡ Some (Label b) → edge_register_uses fn.blocks place ty edge ≡ map (use_at place b AtEnd) (operand_registers edge.value)
 edge_used fn place ty edge b differ e =
-    ap (flat_map (λ n. map (use_at place n AtEnd) (used_registers (uses edge.value ty ∷ [])))) (number_of_label fn edge.label b differ e)
-    ∙ append-nil (map (use_at place b AtEnd) (used_registers (uses edge.value ty ∷ []))) ∙ ap (map (use_at place b AtEnd)) (append-nil (operand_registers edge.value))
+    ap (flat_map (λ n. map (use_at place n AtEnd) (used_registers (use_of edge.value ty ∷ [])))) (number_of_label fn edge.label b differ e)
+    ∙ append-nil (map (use_at place b AtEnd) (used_registers (use_of edge.value ty ∷ []))) ∙ ap (map (use_at place b AtEnd)) (append-nil (operand_registers edge.value))
 
 pub edge_unused : (fn : Function) (place : Place) (ty : Scalar) (edge : Edge) → NamesDiffer fn → block_number (value_of (inner_entries fn) edge.label) ≡ [] → edge_register_uses fn.blocks place ty edge ≡ []
-edge_unused fn place ty edge differ e = ap (flat_map (λ n. map (use_at place n AtEnd) (used_registers (uses edge.value ty ∷ [])))) (no_number fn edge.label differ e)
+edge_unused fn place ty edge differ e = ap (flat_map (λ n. map (use_at place n AtEnd) (used_registers (use_of edge.value ty ∷ [])))) (no_number fn edge.label differ e)

@@ -13,7 +13,7 @@ use Rattle.hip_typing.specs.Sound.{names_in_function}
 use Rattle.hip_typing.specs.Seen.Inner.{inner_entries, block_number, label_numbers, successor_numbers}
 use Rattle.hip_names.specs.Names.{AllDiffer}
 use Rattle.hip_typing.specs.Registers.{end_labels}
-use Rattle.hip_typing.specs.Rules.{inner_check, registers_check, AllAssigned, IsFirstUnassigned, register_uses}
+use Rattle.hip_typing.specs.Rules.{inner_check, inner_names_check, AllAssigned, IsFirstUnassigned, register_uses}
 use Rattle.hip_names.specs.Tables.{Entry, StandsFor, value_of}
 use Rattle.hip_typing.specs.declared.assigned.NotAssigned.{NotAssigned}
 use Rattle.hip_typing.specs.declared.assigned.NotAssigned.TheVariants as unassigned
@@ -21,7 +21,7 @@ use Rattle.hip_typing.specs.declared.fault.Place.{Place}
 use Rattle.hip_typing.specs.declared.tables.inner_table.Inner.{Inner}
 
 -- the names of each function of a program differ
-pub function_differs : (P : Program) (k : ℕ) (fn : Function) → (registers_check P).Holds → k < length P.functions → fn ≡ get_or P.functions k fn → AllDiffer (names_in_function fn)
+pub function_differs : (P : Program) (k : ℕ) (fn : Function) → (inner_names_check P).Holds → k < length P.functions → fn ≡ get_or P.functions k fn → AllDiffer (names_in_function fn)
 function_differs P k fn h within is = subst (λ (f : Function). AllDiffer (names_in_function f)) (sym is) (inner-sound k (get_or P.functions k fn) (each-holds inner_check P.functions k fn h within))
 
 -- ---- the table and the graph of a function

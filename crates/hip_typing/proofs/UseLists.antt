@@ -12,7 +12,7 @@ use Rattle.hip_ir.specs.declared.instr.Operand.{Operand}
 use Rattle.hip_ir.specs.declared.program.Function.{Function}
 use Rattle.hip_globals.specs.Constants.{joined}
 use Rattle.hip_typing.specs.Names.{numbered_from}
-use Rattle.hip_typing.specs.Registers.{Use, uses, arg_uses, operand_registers, used_registers}
+use Rattle.hip_typing.specs.Registers.{Use, use_of, arg_uses, operand_registers, used_registers}
 use Rattle.hip_typing.specs.Seen.AssignedSeen.{AnswersUses, IsFirstOf}
 use Rattle.hip_typing.specs.Paths.{IsUnassigned}
 use Rattle.hip_typing.specs.Rules.{RegisterUse, UseIsAssigned, use_at, site, phi_register_uses}
@@ -100,7 +100,7 @@ numbered_rest make xs i x within is = at_drop_more (λ ys. joined (numbered_from
 pub used_then : (g : List ℕ → RegisterUse) (xs ys : List Use) → map g (used_registers (xs ++ ys)) ≡ map g (used_registers xs) ++ map g (used_registers ys)
 used_then g xs ys = ap (map g) (flat_map-append (λ u. operand_registers u.operand) xs ys) ∙ map-append g (used_registers xs) (used_registers ys)
 
-pub used_one : (g : List ℕ → RegisterUse) (o : Operand) (ty : Scalar) → map g (used_registers (uses o ty ∷ [])) ≡ map g (operand_registers o)
+pub used_one : (g : List ℕ → RegisterUse) (o : Operand) (ty : Scalar) → map g (used_registers (use_of o ty ∷ [])) ≡ map g (operand_registers o)
 used_one g o ty = ap (map g) (append-nil (operand_registers o))
 
 pub args_rest : (g : List ℕ → RegisterUse) (args : List Arg) (i : ℕ) (a : Arg) → i < length args → a ≡ get_or args i a → map g (used_registers (arg_uses (drop i args))) ≡ map g (operand_registers a.value) ++ map g (used_registers (arg_uses (drop (i + 1) args)))

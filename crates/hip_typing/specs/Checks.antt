@@ -8,7 +8,7 @@ use Rattle.hip_typing.specs.Seen.Answers.{Answers}
 use Rattle.hip_typing.specs.Seen.AssignedSeen.{AnswersAssigned}
 use Rattle.hip_typing.specs.declared.assigned.NotAssigned.{NotAssigned}
 use Rattle.hip_typing.specs.declared.assigned.NotAssigned.TheVariants as unassigned
-use Rattle.hip_typing.specs.Rules.{Passes, registers_check, IsFirstFault, IsFirstUnassigned, RegisterUse, UseIsAssigned, AllAssigned, rules_check}
+use Rattle.hip_typing.specs.Rules.{Passes, inner_names_check, IsFirstFault, IsFirstUnassigned, RegisterUse, UseIsAssigned, AllAssigned, rules_check}
 use Rattle.hip_typing.specs.Sound.{IsSound}
 use Rattle.hip_typing.specs.Laws.SoundExact.{passes-sound, sound-passes}
 use Rattle.hip_typing.specs.Laws.SoundLaws.{rules-exact}
@@ -143,7 +143,7 @@ pub refuses-stopped : (P : Program) (r : Refused) → IsSpelled P
 refuses-stopped P (refused.Found f) s e = refuses-found P f.fault f.place s e
 refuses-stopped P refused.NoMemory s e = refl
 
-pub registers-hold : (P : Program) → (rules_check P).found ≡ None → (registers_check P).Holds
+pub registers-hold : (P : Program) → (rules_check P).found ≡ None → (inner_names_check P).Holds
 registers-hold P none = ((rules-exact P).sound none).1.1.1.1.1.0
 
 pub refuses-unassigned : (P : Program) (place : Place) (path : List ℕ) → IsSpelled P

@@ -23,9 +23,9 @@ same_list same (x ∷ xs) (y ∷ ys) = same x y && same_list same xs ys
 same_list same _ _ = false
 
 -- whether the constant is this integer, in width and value
-abbrev pub is_int : Bits → Const-F Const ConstGep TypedConst → Bool
-is_int a (Const-F.Int b) = same_bits a b
-is_int a _ = false
+abbrev pub is_int_constant : Bits → Const-F Const ConstGep TypedConst → Bool
+is_int_constant a (Const-F.Int b) = same_bits a b
+is_int_constant a _ = false
 
 -- whether the constant is `null`; `zeroinitializer` is not
 abbrev pub is_null : Const-F Const ConstGep TypedConst → Bool
@@ -48,25 +48,25 @@ is_gep test (Const-F.Gep gep) = test gep
 is_gep test _ = false
 
 -- whether the constant is an array whose members pass the tests in order, one test for each member
-abbrev pub is_array : List (TypedConst → Bool) → Const-F Const ConstGep TypedConst → Bool
-is_array tests (Const-F.Array items) = all_pass tests items
-is_array tests _ = false
+abbrev pub is_array_constant : List (TypedConst → Bool) → Const-F Const ConstGep TypedConst → Bool
+is_array_constant tests (Const-F.Array items) = all_pass tests items
+is_array_constant tests _ = false
 
 -- whether the constant is a struct whose members pass the tests in order, one test for each member
-abbrev pub is_struct : List (TypedConst → Bool) → Const-F Const ConstGep TypedConst → Bool
-is_struct tests (Const-F.Struct items) = all_pass tests items
-is_struct tests _ = false
+abbrev pub is_struct_constant : List (TypedConst → Bool) → Const-F Const ConstGep TypedConst → Bool
+is_struct_constant tests (Const-F.Struct items) = all_pass tests items
+is_struct_constant tests _ = false
 
 -- one level of a constant, with the test of each constant inside in its place
 abbrev pub same_level : Const-F (Const → Bool) (ConstGep → Bool) (TypedConst → Bool) →
     Const-F Const ConstGep TypedConst → Bool
-same_level (Const-F.Int b) c = is_int b c
+same_level (Const-F.Int b) c = is_int_constant b c
 same_level Const-F.Null c = is_null c
 same_level Const-F.Zero c = is_zero c
 same_level (Const-F.Address name) c = is_address name c
 same_level (Const-F.Gep test) c = is_gep test c
-same_level (Const-F.Array tests) c = is_array tests c
-same_level (Const-F.Struct tests) c = is_struct tests c
+same_level (Const-F.Array tests) c = is_array_constant tests c
+same_level (Const-F.Struct tests) c = is_struct_constant tests c
 
 -- whether a constant is of this level, with the test of each constant inside in its place
 abbrev pub same_step : Const-F (Const → Bool) (ConstGep → Bool) (TypedConst → Bool) → Const → Bool

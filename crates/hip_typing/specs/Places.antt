@@ -38,7 +38,7 @@ use Rattle.hip_externs.specs.Externs.{Signature}
 use Rattle.hip_typing.specs.declared.fault.Fault.TheVariants as breaks
 use Rattle.hip_names.specs.Names.{is_among}
 use Rattle.hip_typing.specs.Numbering.{global_names, label_names}
-use Rattle.hip_typing.specs.Registers.{Register, Use, find_register, registers_of, instr_uses, end_uses, phi_uses, end_labels, used_registers, used_globals, used_types}
+use Rattle.hip_typing.specs.Registers.{Register, Use, find_register, registers_of, instr_uses, end_uses, phi_uses, end_labels, used_registers, used_globals, used_constant_types}
 use Rattle.hip_typing.specs.Types.{same_scalar, same_result, all_pass}
 use Rattle.hip_typing.specs.declared.fault.Place.{Place}
 
@@ -194,7 +194,7 @@ written_types _ = []
 abbrev pub instr_check : Scope → Instr → Place → Check
 instr_check s i place =
     and_then (asks_true (uses_known s (instr_uses i) && callee_known s i) breaks.Unknown place)
-    (and_then (types_fit (written_types i ++ used_types (instr_uses i)) place)
+    (and_then (types_fit (written_types i ++ used_constant_types (instr_uses i)) place)
     (asks_true (uses_agree s (instr_uses i) && instr_agrees s i) breaks.Mismatch place))
 
 -- ---- ends
@@ -244,7 +244,7 @@ abbrev pub end_check : Scope → End → Place → Check
 end_check s e place =
     and_then
     (asks_true (uses_known s (end_uses e) && are_among (label_names s.function) (end_labels e)) breaks.Unknown place)
-    (and_then (types_fit (used_types (end_uses e)) place)
+    (and_then (types_fit (used_constant_types (end_uses e)) place)
     (and_then (asks_true (uses_agree s (end_uses e) && end_agrees s e) breaks.Mismatch place)
     (and_then (asks_true (cases_differ (end_cases e)) breaks.Duplicate place)
     (asks_true (not (list_any (is_entry s.function.blocks) (end_labels e))) breaks.BadEdge place))))
@@ -287,6 +287,6 @@ phi_check s label p place =
     and_then
     (asks_true (uses_known s (phi_uses p) && are_among (label_names s.function) (edge_labels p.edges)) breaks.Unknown
     place)
-    (and_then (types_fit (used_types (phi_uses p)) place)
+    (and_then (types_fit (used_constant_types (phi_uses p)) place)
     (and_then (asks_true (uses_agree s (phi_uses p)) breaks.Mismatch place)
     (asks_true (edges_agree (predecessors s.function.blocks label) p.edges) breaks.BadEdge place)))

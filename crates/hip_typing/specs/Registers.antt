@@ -77,43 +77,43 @@ pub record Use : Type 0 where
   pub ty : Scalar
 
 -- the use of an operand at a place that states that type
-abbrev pub uses : Operand → Scalar → Use
-uses operand ty = record { operand = operand; ty = ty }
+abbrev pub use_of : Operand → Scalar → Use
+use_of operand ty = record { operand = operand; ty = ty }
 
 -- the operands of arguments, or of indices, each with the type that is written beside it
 abbrev pub arg_uses : List Arg → List Use
-arg_uses args = map (λ a. uses a.value a.ty) args
+arg_uses args = map (λ a. use_of a.value a.ty) args
 
 -- The operands of an instruction in the order of its text, each with the type that its place states: a pointer for an
 -- address and for the base of a `getelementptr`, an i1 for the condition of a `select`, else the one that is written.
 -- A callee is no operand.
 abbrev pub instr_uses : Instr → List Use
-instr_uses (Binary dest op flags width a b) = uses a (Int width) ∷ uses b (Int width) ∷ []
-instr_uses (Compare dest pred ty a b) = uses a ty ∷ uses b ty ∷ []
-instr_uses (Select dest cond ty a b) = uses cond (Int W1) ∷ uses a ty ∷ uses b ty ∷ []
-instr_uses (Cast dest op from a to) = uses a from ∷ []
+instr_uses (Binary dest op flags width a b) = use_of a (Int width) ∷ use_of b (Int width) ∷ []
+instr_uses (Compare dest pred ty a b) = use_of a ty ∷ use_of b ty ∷ []
+instr_uses (Select dest cond ty a b) = use_of cond (Int W1) ∷ use_of a ty ∷ use_of b ty ∷ []
+instr_uses (Cast dest op from a to) = use_of a from ∷ []
 instr_uses (Alloca dest ty align) = []
-instr_uses (Load dest ty addr align) = uses addr Ptr ∷ []
-instr_uses (Store ty value addr align) = uses value ty ∷ uses addr Ptr ∷ []
-instr_uses (Gep dest inbounds ty base indices) = uses base Ptr ∷ arg_uses indices
+instr_uses (Load dest ty addr align) = use_of addr Ptr ∷ []
+instr_uses (Store ty value addr align) = use_of value ty ∷ use_of addr Ptr ∷ []
+instr_uses (Gep dest inbounds ty base indices) = use_of base Ptr ∷ arg_uses indices
 instr_uses (Call dest ret callee args) = arg_uses args
 
 -- the operand that is returned, with the type written beside it; none at `ret void`
 abbrev returned_uses : Option Arg → List Use
 returned_uses None = []
-returned_uses (Some arg) = uses arg.value arg.ty ∷ []
+returned_uses (Some arg) = use_of arg.value arg.ty ∷ []
 
 -- the operand of a block's end, if it has one: a branch's condition (i1), a switch's value, or what is returned
 abbrev pub end_uses : End → List Use
 end_uses (Br label) = []
-end_uses (CondBr cond first second) = uses cond (Int W1) ∷ []
-end_uses (Switch width value other cases) = uses value (Int width) ∷ []
+end_uses (CondBr cond first second) = use_of cond (Int W1) ∷ []
+end_uses (Switch width value other cases) = use_of value (Int width) ∷ []
 end_uses (Ret arg) = returned_uses arg
 end_uses Unreachable = []
 
 -- the operands of edges, in order, all at the type of their phi
 abbrev pub edge_uses : Scalar → List Edge → List Use
-edge_uses ty edges = map (λ e. uses e.value ty) edges
+edge_uses ty edges = map (λ e. use_of e.value ty) edges
 
 -- the operands of a phi, one for each edge, at the phi's type
 abbrev pub phi_uses : Phi → List Use
@@ -151,5 +151,5 @@ abbrev pub used_globals : List Use → List (List ℕ)
 used_globals us = flat_map (λ u. operand_globals u.operand) us
 
 -- the types that are written inside the constants that are used, not the scalar types that the uses state
-abbrev pub used_types : List Use → List Ty
-used_types us = flat_map (λ u. operand_types u.operand) us
+abbrev pub used_constant_types : List Use → List Ty
+used_constant_types us = flat_map (λ u. operand_types u.operand) us

@@ -169,8 +169,8 @@ abbrev pub inner_check : ℕ → Function → Check
 inner_check f fn = all_differ (inner_names f fn)
 
 -- parameters, labels and registers differ in each function; two functions may have the same ones
-abbrev pub registers_check : Program → Check
-registers_check P = each inner_check P.functions
+abbrev pub inner_names_check : Program → Check
+inner_names_check P = each inner_check P.functions
 
 -- ---- each place of each function
 
@@ -210,15 +210,15 @@ abbrev pub use_at : Place → ℕ → Point → List ℕ → RegisterUse
 use_at place b point name = record { place = place; block = b; point = point; name = name }
 
 -- the number of the first block of that label, where blocks count from n, as a list: empty where no block has it
-abbrev pub block_numbers_from : ℕ → List Block → List ℕ → List ℕ
-block_numbers_from n [] label = []
-block_numbers_from n (b ∷ bs) label = if bytes_eq b.label label then n ∷ [] else block_numbers_from (n + 1) bs label
+abbrev pub block_number_from : ℕ → List Block → List ℕ → List ℕ
+block_number_from n [] label = []
+block_number_from n (b ∷ bs) label = if bytes_eq b.label label then n ∷ [] else block_number_from (n + 1) bs label
 
 -- a phi's operand is used at the end of the predecessor
 abbrev pub edge_register_uses : List Block → Place → Scalar → Edge → List RegisterUse
 edge_register_uses blocks place ty e =
     flat_map (λ b. map (use_at place b AtEnd) (used_registers (record { operand = e.value; ty = ty } ∷ [])))
-    (block_numbers_from 0 blocks e.label)
+    (block_number_from 0 blocks e.label)
 
 -- the registers that a phi takes, edge by edge, all placed at the phi; an edge whose label no block has gives none
 abbrev pub phi_register_uses : List Block → Place → Phi → List RegisterUse
@@ -261,7 +261,7 @@ pub record Passes (P : Program) : Type 0 where
   pub externs : (externs_check P).Holds
   pub sizes : (sizes_check P).Holds
   pub main : (main_check P).Holds
-  pub registers : (registers_check P).Holds
+  pub registers : (inner_names_check P).Holds
   pub places : (places_check P).Holds
   pub assigned : (f : ℕ) (fn : Function) → slice_get P.functions f ≡ Some fn → AllAssigned fn f
 
@@ -271,7 +271,7 @@ rules_check P =
     and_then (names_check P)
     (and_then (globals_check P)
     (and_then (externs_check P)
-    (and_then (sizes_check P) (and_then (main_check P) (and_then (registers_check P) (places_check P))))))
+    (and_then (sizes_check P) (and_then (main_check P) (and_then (inner_names_check P) (places_check P))))))
 
 -- The path shows that the use is not assigned; every use before it is.
 pub record IsFirstUnassigned (P : Program) (place : Place) (path : List ℕ) : Type 0 where

@@ -34,7 +34,7 @@ use Rattle.hip_typing.specs.Numbering.{function_number, global_names, label_name
 use Rattle.hip_typing.specs.Paths.{IsAssigned, label_at, names_of}
 use Rattle.hip_ir.specs.Words.{type_of}
 use Rattle.hip_typing.specs.Places.{callee_of, cast_agrees, gep_agrees, written_types, edge_labels}
-use Rattle.hip_typing.specs.Registers.{Register, Use, find_register, registers_of, parameter_registers, block_registers, instr_uses, end_uses, end_labels, phi_uses, operand_registers, used_registers, used_globals, used_types}
+use Rattle.hip_typing.specs.Registers.{Register, Use, find_register, registers_of, parameter_registers, block_registers, instr_uses, end_uses, end_labels, phi_uses, operand_registers, used_registers, used_globals, used_constant_types}
 use Rattle.hip_typing.specs.declared.assigned.Point.TheVariants.{Before, AtEnd}
 
 -- ---- names
@@ -139,7 +139,7 @@ own_types _ = []
 
 -- the types that are written there, in constants too
 abbrev pub types_of : Item → List Ty
-types_of x = own_types x ++ used_types (uses_of x)
+types_of x = own_types x ++ used_constant_types (uses_of x)
 
 -- the function and the block of these numbers
 pub record IsBlockAt (P : Program) (f b : ℕ) (fn : Function) (block : Block) : Type 0 where

@@ -18,7 +18,7 @@ use Rattle.hip_ir.specs.declared.instr.Operand.TheVariants.{Reg, Fixed}
 use Rattle.hip_ir.specs.declared.program.Function.{Function}
 use Rattle.hip_ir.specs.declared.program.Program.{Program}
 use Rattle.hip_globals.specs.Constants.{types_in}
-use Rattle.hip_typing.specs.Registers.{Use, uses, arg_uses, edge_uses, used_types}
+use Rattle.hip_typing.specs.Registers.{Use, use_of, arg_uses, edge_uses, used_constant_types}
 use Rattle.hip_typing.specs.Sound.{PhiItem, InstrItem, EndItem, IsBlockAt, TypesFit, IsSound}
 use Rattle.hip_vol.specs.Gathered.{OperandFits, InstrFits, PhiFits, EndFits, BlockFits, FunctionFits}
 use Rattle.std.proofs.lemmas.List.Elements.{All-nil, All-cons, All-head, All-tail}
@@ -32,15 +32,15 @@ all_back Q [] ys h = h
 all_back Q (x ∷ xs) ys h = all_back Q xs ys (All-tail Q x (xs ++ ys) h)
 
 abbrev UsesFit : List Use → Type 0
-UsesFit us = All Fits (used_types us)
+UsesFit us = All Fits (used_constant_types us)
 
-first_fits : (o : Operand) (ty : Scalar) (us : List Use) → UsesFit (uses o ty ∷ us) → OperandFits o
+first_fits : (o : Operand) (ty : Scalar) (us : List Use) → UsesFit (use_of o ty ∷ us) → OperandFits o
 first_fits (Reg name) ty us g = tt
-first_fits (Fixed value) ty us g = record { fit = all_front Fits (types_in value) (used_types us) g }
+first_fits (Fixed value) ty us g = record { fit = all_front Fits (types_in value) (used_constant_types us) g }
 
-later_fit : (o : Operand) (ty : Scalar) (us : List Use) → UsesFit (uses o ty ∷ us) → UsesFit us
+later_fit : (o : Operand) (ty : Scalar) (us : List Use) → UsesFit (use_of o ty ∷ us) → UsesFit us
 later_fit (Reg name) ty us g = g
-later_fit (Fixed value) ty us g = all_back Fits (types_in value) (used_types us) g
+later_fit (Fixed value) ty us g = all_back Fits (types_in value) (used_constant_types us) g
 
 args_fit : (args : List Arg) → UsesFit (arg_uses args) → All (λ a. OperandFits a.value) args
 args_fit [] g = All-nil (λ (a : Arg). OperandFits a.value)
@@ -52,11 +52,11 @@ edges_fit ty (e ∷ edges) g = All-cons (λ (e : Edge). OperandFits e.value) e e
 
 instr_fits : (i : Instr) → TypesFit (InstrItem i) → InstrFits i
 instr_fits (Select dest test ty a b) h =
-    let rest = later_fit test (Int W1) (uses a ty ∷ uses b ty ∷ []) h in
-    (first_fits a ty (uses b ty ∷ []) rest, first_fits b ty [] (later_fit a ty (uses b ty ∷ []) rest))
+    let rest = later_fit test (Int W1) (use_of a ty ∷ use_of b ty ∷ []) h in
+    (first_fits a ty (use_of b ty ∷ []) rest, first_fits b ty [] (later_fit a ty (use_of b ty ∷ []) rest))
 instr_fits (Gep dest inbounds ty base indices) h =
     (first_fits base Ptr (arg_uses indices) (All-tail Fits ty _ h), All-head Fits ty _ h)
-instr_fits (Store ty value addr align) h = first_fits addr Ptr [] (later_fit value ty (uses addr Ptr ∷ []) h)
+instr_fits (Store ty value addr align) h = first_fits addr Ptr [] (later_fit value ty (use_of addr Ptr ∷ []) h)
 instr_fits (Call dest ret callee args) h = args_fit args h
 instr_fits (Binary dest op flags width a b) h = tt
 instr_fits (Compare dest pred ty a b) h = tt

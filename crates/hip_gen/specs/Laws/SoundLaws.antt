@@ -35,7 +35,7 @@ use Rattle.hip_globals.specs.Constants.{types_in}
 use Rattle.hip_typing.specs.Constants.{has_shape, gep_is_sound, names_in}
 use Rattle.hip_typing.specs.Places.{Scope, scope_of, instr_check, end_check}
 use Rattle.hip_typing.specs.Registers.{assigned_by, body_registers, instr_uses, used_registers}
-use Rattle.hip_typing.specs.Rules.{RegisterUse, AllAssigned, UseIsAssigned, use_at, site, declarations, inner_names, global_check, globals_check, sizes_check, registers_check, instr_at, block_check, function_check, places_check}
+use Rattle.hip_typing.specs.Rules.{RegisterUse, AllAssigned, UseIsAssigned, use_at, site, declarations, inner_names, global_check, globals_check, sizes_check, inner_names_check, instr_at, block_check, function_check, places_check}
 use Rattle.hip_typing.specs.Sound.{IsSound, UsesAreAssigned, names_in_function}
 use Rattle.hip_typing.specs.declared.assigned.Point.TheVariants.{Before}
 use Rattle.hip_typing.specs.declared.fault.Place.{Place}
@@ -315,7 +315,7 @@ module _ (size : ℕ) (small : size ≤ LARGEST_SIZE) (body : List Instr) where
   names_differ : body_registers body ≡ [] → AllDiffer (names_in_function (define_main body))
   names_differ none = rw none ((λ h. h), tt)
 
-  registers_hold : body_registers body ≡ [] → (registers_check P).Holds
+  registers_hold : body_registers body ≡ [] → (inner_names_check P).Holds
   registers_hold none = (
     (differ_after-exact [] (inner_names 0 define_put)).sound refl,
     (inner-whole 1 (define_main body) (names_differ none), tt),

@@ -22,8 +22,8 @@ use Rattle.hip_globals.specs.Constants.{joined}
 use Rattle.hip_names.specs.Names.{IsAmong}
 use Rattle.hip_typing.specs.Names.{numbered_from}
 use Rattle.hip_typing.specs.Paths.{label_at, labels_named_at, LeadsTo, IsChain, IsPathTo, names_of, whole_block_names, names_before, IsAssigned}
-use Rattle.hip_typing.specs.Registers.{assigned_by, body_registers, block_registers, phi_registers, parameter_registers, uses, instr_uses, used_registers, operand_registers, end_labels, end_uses}
-use Rattle.hip_typing.specs.Rules.{Passes, use_at, block_numbers_from, edge_register_uses, phi_register_uses, instr_register_uses, end_register_uses, block_register_uses, UseIsAssigned, AllAssigned}
+use Rattle.hip_typing.specs.Registers.{assigned_by, body_registers, block_registers, phi_registers, parameter_registers, use_of, instr_uses, used_registers, operand_registers, end_labels, end_uses}
+use Rattle.hip_typing.specs.Rules.{Passes, use_at, block_number_from, edge_register_uses, phi_register_uses, instr_register_uses, end_register_uses, block_register_uses, UseIsAssigned, AllAssigned}
 use Rattle.hip_typing.specs.declared.assigned.Point.{Point}
 use Rattle.hip_typing.specs.declared.assigned.Point.TheVariants.{Before, AtEnd}
 use Rattle.hip_typing.specs.declared.fault.Place.{Place}
@@ -41,10 +41,10 @@ renamed_uses : (clones : List Clone) (i : Instr) (b : Bool) → instr_uses (rena
 renamed_uses clones (Call dest ret callee args) b = refl
 renamed_uses clones i b = refl
 
-flush_uses : (ty : Scalar) (addr : Operand) (align : Option ℕ) → used_registers (instr_uses (flush_of ty addr align)) ≡ used_registers (uses addr Ptr ∷ [])
+flush_uses : (ty : Scalar) (addr : Operand) (align : Option ℕ) → used_registers (instr_uses (flush_of ty addr align)) ≡ used_registers (use_of addr Ptr ∷ [])
 flush_uses ty addr align = by_width (is_wide ty align)
   where
-    by_width : (b : Bool) → used_registers (instr_uses (cond b (range_flush addr (scalar_size ty)) (line_flush addr))) ≡ used_registers (uses addr Ptr ∷ [])
+    by_width : (b : Bool) → used_registers (instr_uses (cond b (range_flush addr (scalar_size ty)) (line_flush addr))) ≡ used_registers (use_of addr Ptr ∷ [])
     by_width true = refl
     by_width false = refl
 
@@ -125,7 +125,7 @@ module _ (clones : List Clone) (w : Wanted) (clone : Bool) (f : ℕ) (name : Lis
       (assigned_again b point point' n same (All-head (UseIsAssigned fn) (use_at p b point n) (map (use_at p b point) names) h))
       (uses_again p p' b point point' same names (All-tail (UseIsAssigned fn) (use_at p b point n) (map (use_at p b point) names) h))
 
-  numbers_kept : (n : ℕ) (first : ℕ) (blocks : List Block) (label : List ℕ) → block_numbers_from n (repaired_blocks clones w clone f first blocks) label ≡ block_numbers_from n blocks label
+  numbers_kept : (n : ℕ) (first : ℕ) (blocks : List Block) (label : List ℕ) → block_number_from n (repaired_blocks clones w clone f first blocks) label ≡ block_number_from n blocks label
   numbers_kept n first [] label = refl
   numbers_kept n first (x ∷ xs) label = ap (λ ns. if bytes_eq x.label label then n ∷ [] else ns) (numbers_kept (n + 1) (suc first) xs label)
 
@@ -138,8 +138,8 @@ module _ (clones : List Clone) (w : Wanted) (clone : Bool) (f : ℕ) (name : Lis
 
   edge_again : (p p' : Place) (ty : Scalar) (e : Edge) → All (UseIsAssigned fn) (edge_register_uses fn.blocks p ty e) → All (UseIsAssigned R) (edge_register_uses R.blocks p' ty e)
   edge_again p p' ty e h =
-      subst (λ bs. All (UseIsAssigned R) (flat_map (λ b. map (use_at p' b AtEnd) (used_registers (uses e.value ty ∷ []))) bs)) (sym (numbers_kept 0 0 fn.blocks e.label))
-      (at_ends_again p p' (used_registers (uses e.value ty ∷ [])) (block_numbers_from 0 fn.blocks e.label) h)
+      subst (λ bs. All (UseIsAssigned R) (flat_map (λ b. map (use_at p' b AtEnd) (used_registers (use_of e.value ty ∷ []))) bs)) (sym (numbers_kept 0 0 fn.blocks e.label))
+      (at_ends_again p p' (used_registers (use_of e.value ty ∷ [])) (block_number_from 0 fn.blocks e.label) h)
 
   edges_again : (p p' : Place) (ty : Scalar) (es : List Edge) → All (UseIsAssigned fn) (flat_map (edge_register_uses fn.blocks p ty) es) → All (UseIsAssigned R) (flat_map (edge_register_uses R.blocks p' ty) es)
   edges_again p p' ty [] h = All-nil (UseIsAssigned R)
@@ -174,12 +174,12 @@ module _ (clones : List Clone) (w : Wanted) (clone : Bool) (f : ℕ) (name : Lis
     flush_again k j ty value addr align e same =
         let store = uses_of j (Store ty value addr align) e in
         let place = places.Body (record { function = f; block = b; index = j }) in
-        let parts : All (UseIsAssigned fn) (map (use_at place b (Before j)) (operand_registers value) ++ map (use_at place b (Before j)) (used_registers (uses addr Ptr ∷ []))) =
-        subst (All (UseIsAssigned fn)) (map-append (use_at place b (Before j)) (operand_registers value) (used_registers (uses addr Ptr ∷ []))) store in
+        let parts : All (UseIsAssigned fn) (map (use_at place b (Before j)) (operand_registers value) ++ map (use_at place b (Before j)) (used_registers (use_of addr Ptr ∷ []))) =
+        subst (All (UseIsAssigned fn)) (map-append (use_at place b (Before j)) (operand_registers value) (used_registers (use_of addr Ptr ∷ []))) store in
         subst (λ ns. All (UseIsAssigned R) (map (use_at (places.Body (record { function = f'; block = b; index = k })) b (Before k)) ns)) (sym (flush_uses ty addr align))
         (uses_again place (places.Body (record { function = f'; block = b; index = k })) b (Before j) (Before k)
         (before_kept b block k j there (same ∙ one_more block.body j (Store ty value addr align) e ∙ append-nil (body_registers (take j block.body))))
-        (used_registers (uses addr Ptr ∷ [])) (all-back (UseIsAssigned fn) (map (use_at place b (Before j)) (operand_registers value)) _ parts))
+        (used_registers (use_of addr Ptr ∷ [])) (all-back (UseIsAssigned fn) (map (use_at place b (Before j)) (operand_registers value)) _ parts))
 
     inserted_again : (k : ℕ) (i' : Instr) → IsInserted clones w clone f b 0 block.body k i' → All (UseIsAssigned R) (instr_register_uses f' b k i')
     inserted_again k i' o =

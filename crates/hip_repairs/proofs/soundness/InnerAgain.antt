@@ -10,7 +10,7 @@ use Rattle.hip_typing.specs.Laws.NameLaws.{inner-sound, inner-whole}
 use Rattle.hip_names.specs.Names.{AllDiffer}
 use Rattle.hip_typing.specs.Paths.{names_of}
 use Rattle.hip_typing.specs.Registers.{phi_registers, parameter_registers}
-use Rattle.hip_typing.specs.Rules.{Passes, inner_check, registers_check}
+use Rattle.hip_typing.specs.Rules.{Passes, inner_check, inner_names_check}
 use Rattle.hip_typing.specs.Sound.{names_in_block, names_in_function}
 use Rattle.hip_repairs.specs.declared.plan.Plan.{Plan}
 use Rattle.hip_repairs.specs.Repaired.{Clone, Wanted, wanted_by, clones_of, repaired, repaired_blocks, repaired_function}
@@ -30,5 +30,5 @@ module _ (P : Program) (plan : Plan) (skip : Site → Bool) (sound : Passes P) w
       ap (λ xs. names_of (parameter_registers o.fn) ++ xs) (same_blocks_names (clones_of P plan) (wanted_by plan skip) o.clone o.f 0 o.fn.blocks) in
       inner-whole f' fn' (subst AllDiffer (sym (ap names_in_function o.is ∙ same)) before)
 
-  pub registers_again : (registers_check (repaired P plan skip)).Holds
+  pub registers_again : (inner_names_check (repaired P plan skip)).Holds
   registers_again = holds-made inner_check (repaired P plan skip).functions (λ f' fn' e. inner_again f' fn' (origin P plan skip f' fn' e))

@@ -26,7 +26,7 @@ use Rattle.hip_externs.specs.Externs.{known_signature}
 use Rattle.hip_names.specs.Names.{is_among}
 use Rattle.hip_typing.specs.Places.{Scope, callee_of, uses_known, use_agrees, uses_agree, signature_agrees, instr_check}
 use Rattle.hip_typing.specs.Numbering.{global_names}
-use Rattle.hip_typing.specs.Registers.{Use, uses, find_register, used_registers, used_globals, used_types}
+use Rattle.hip_typing.specs.Registers.{Use, use_of, find_register, used_registers, used_globals, used_constant_types}
 use Rattle.hip_typing.specs.Laws.AssignedExact.{all-back}
 use Rattle.hip_typing.specs.declared.fault.Place.{Place}
 use Rattle.hip_repairs.specs.Repaired.{clwb_name, sfence_name, pmem_flush_name, is_wide, line_flush, range_flush, flush_of, the_fence, is_call_of}
@@ -50,34 +50,34 @@ registered s us = list_all (λ n. is_some (find_register s.registers n)) (used_r
 abbrev among_globals : Scope → List (List ℕ) → Bool
 among_globals s names = list_all (is_among (global_names s.program)) names
 
-known_second : (s : Scope) (value addr : Operand) (ty : Scalar) → uses_known s (uses value ty ∷ uses addr Ptr ∷ []) ≡ true → uses_known s (uses addr Ptr ∷ []) ≡ true
+known_second : (s : Scope) (value addr : Operand) (ty : Scalar) → uses_known s (use_of value ty ∷ use_of addr Ptr ∷ []) ≡ true → uses_known s (use_of addr Ptr ∷ []) ≡ true
 known_second s (Reg v) addr ty h =
-    let both = and_parts (is_some (find_register s.registers v) && registered s (uses addr Ptr ∷ [])) (among_globals s (used_globals (uses addr Ptr ∷ []))) h in
-    and_from (registered s (uses addr Ptr ∷ [])) _ (and_parts (is_some (find_register s.registers v)) _ both.0).1 both.1
+    let both = and_parts (is_some (find_register s.registers v) && registered s (use_of addr Ptr ∷ [])) (among_globals s (used_globals (use_of addr Ptr ∷ []))) h in
+    and_from (registered s (use_of addr Ptr ∷ [])) _ (and_parts (is_some (find_register s.registers v)) _ both.0).1 both.1
 known_second s (Fixed v) addr ty h =
-    let both = and_parts (registered s (uses addr Ptr ∷ [])) (among_globals s (names_in v ++ used_globals (uses addr Ptr ∷ []))) h in
-    and_from (registered s (uses addr Ptr ∷ [])) _ both.0
-    (and_parts (among_globals s (names_in v)) (among_globals s (used_globals (uses addr Ptr ∷ []))) (sym (list_all-append (is_among (global_names s.program)) (names_in v) (used_globals (uses addr Ptr ∷ []))) ∙ both.1)).1
+    let both = and_parts (registered s (use_of addr Ptr ∷ [])) (among_globals s (names_in v ++ used_globals (use_of addr Ptr ∷ []))) h in
+    and_from (registered s (use_of addr Ptr ∷ [])) _ both.0
+    (and_parts (among_globals s (names_in v)) (among_globals s (used_globals (use_of addr Ptr ∷ []))) (sym (list_all-append (is_among (global_names s.program)) (names_in v) (used_globals (use_of addr Ptr ∷ []))) ∙ both.1)).1
 
-types_second : (value addr : Operand) (ty : Scalar) → All Fits (used_types (uses value ty ∷ uses addr Ptr ∷ [])) → All Fits (used_types (uses addr Ptr ∷ []))
+types_second : (value addr : Operand) (ty : Scalar) → All Fits (used_constant_types (use_of value ty ∷ use_of addr Ptr ∷ [])) → All Fits (used_constant_types (use_of addr Ptr ∷ []))
 types_second (Reg v) addr ty h = h
-types_second (Fixed v) addr ty h = all-back Fits (types_in v) (used_types (uses addr Ptr ∷ [])) h
+types_second (Fixed v) addr ty h = all-back Fits (types_in v) (used_constant_types (use_of addr Ptr ∷ [])) h
 
 -- ---- with the size behind them
 
 module _ (n : ℕ) where
   abbrev size_use : Use
-  size_use = uses (Fixed (consts.Int (bits W64 n))) (Int W64)
+  size_use = use_of (Fixed (consts.Int (bits W64 n))) (Int W64)
 
-  known_sized : (s : Scope) (addr : Operand) → uses_known s (uses addr Ptr ∷ size_use ∷ []) ≡ uses_known s (uses addr Ptr ∷ [])
-  known_sized s (Reg name) = ap (λ ns. registered s (uses (Reg name) Ptr ∷ []) && among_globals s (ns ++ [])) (const_names (bits W64 n))
+  known_sized : (s : Scope) (addr : Operand) → uses_known s (use_of addr Ptr ∷ size_use ∷ []) ≡ uses_known s (use_of addr Ptr ∷ [])
+  known_sized s (Reg name) = ap (λ ns. registered s (use_of (Reg name) Ptr ∷ []) && among_globals s (ns ++ [])) (const_names (bits W64 n))
   known_sized s (Fixed v) = ap (λ ns. among_globals s (names_in v ++ (ns ++ []))) (const_names (bits W64 n))
 
-  types_sized : (addr : Operand) → used_types (uses addr Ptr ∷ size_use ∷ []) ≡ used_types (uses addr Ptr ∷ [])
+  types_sized : (addr : Operand) → used_constant_types (use_of addr Ptr ∷ size_use ∷ []) ≡ used_constant_types (use_of addr Ptr ∷ [])
   types_sized (Reg name) = ap (λ ts. ts ++ []) (const_types (bits W64 n))
   types_sized (Fixed v) = ap (λ ts. types_in v ++ (ts ++ [])) (const_types (bits W64 n))
 
-  agrees_sized : (s : Scope) (addr : Operand) → uses_agree s (uses addr Ptr ∷ []) ≡ true → uses_agree s (uses addr Ptr ∷ size_use ∷ []) ≡ true
+  agrees_sized : (s : Scope) (addr : Operand) → uses_agree s (use_of addr Ptr ∷ []) ≡ true → uses_agree s (use_of addr Ptr ∷ size_use ∷ []) ≡ true
   agrees_sized s addr h = and_from _ _ (and_parts _ _ h).0 (and_from _ _ (const_shape n) refl)
 
 -- ---- the rules of an inserted instruction
@@ -88,21 +88,21 @@ module _ (s : Scope) (place place' : Place) where
 
   line_check : (value addr : Operand) (ty : Scalar) (align : Option ℕ) → callee_of s.program clwb_name ≡ known_signature clwb_name → (instr_check s (Store ty value addr align) place').Holds → (instr_check s (line_flush addr) place).Holds
   line_check value addr ty align e h = (
-    and_from (uses_known s (uses addr Ptr ∷ [])) _ (known_second s value addr ty (and_parts (uses_known s (uses value ty ∷ uses addr Ptr ∷ [])) true h.0).0) (ap is_some e),
+    and_from (uses_known s (use_of addr Ptr ∷ [])) _ (known_second s value addr ty (and_parts (uses_known s (use_of value ty ∷ use_of addr Ptr ∷ [])) true h.0).0) (ap is_some e),
     (
       types_second value addr ty h.1.0,
-      and_from (uses_agree s (uses addr Ptr ∷ [])) _ (and_parts (use_agrees s.registers value ty) _ (and_parts (uses_agree s (uses value ty ∷ uses addr Ptr ∷ [])) true h.1.1).0).1
+      and_from (uses_agree s (use_of addr Ptr ∷ [])) _ (and_parts (use_agrees s.registers value ty) _ (and_parts (uses_agree s (use_of value ty ∷ use_of addr Ptr ∷ [])) true h.1.1).0).1
           (ap (λ o. signature_agrees None (record { ty = Ptr; value = addr } ∷ []) o && true) e),
     ),
   )
 
   range_check : (value addr : Operand) (ty : Scalar) (align : Option ℕ) (n : ℕ) → callee_of s.program pmem_flush_name ≡ known_signature pmem_flush_name → (instr_check s (Store ty value addr align) place').Holds → (instr_check s (range_flush addr n) place).Holds
   range_check value addr ty align n e h = (
-    and_from (uses_known s (uses addr Ptr ∷ size_use n ∷ [])) _ (known_sized n s addr ∙ known_second s value addr ty (and_parts (uses_known s (uses value ty ∷ uses addr Ptr ∷ [])) true h.0).0) (ap is_some e),
+    and_from (uses_known s (use_of addr Ptr ∷ size_use n ∷ [])) _ (known_sized n s addr ∙ known_second s value addr ty (and_parts (uses_known s (use_of value ty ∷ use_of addr Ptr ∷ [])) true h.0).0) (ap is_some e),
     (
       subst (All Fits) (sym (types_sized n addr)) (types_second value addr ty h.1.0),
-      and_from (uses_agree s (uses addr Ptr ∷ size_use n ∷ [])) _
-          (agrees_sized n s addr (and_parts (use_agrees s.registers value ty) _ (and_parts (uses_agree s (uses value ty ∷ uses addr Ptr ∷ [])) true h.1.1).0).1)
+      and_from (uses_agree s (use_of addr Ptr ∷ size_use n ∷ [])) _
+          (agrees_sized n s addr (and_parts (use_agrees s.registers value ty) _ (and_parts (uses_agree s (use_of value ty ∷ use_of addr Ptr ∷ [])) true h.1.1).0).1)
           (ap (λ o. signature_agrees None (record { ty = Ptr; value = addr } ∷ record { ty = Int W64; value = Fixed (consts.Int (bits W64 n)) } ∷ []) o && true) e),
     ),
   )

@@ -14,7 +14,7 @@ use Rattle.hip_typing.specs.Names.{numbered_from}
 use Rattle.hip_names.specs.Laws.NumberLaws.{number_of-cons}
 use Rattle.hip_typing.specs.Paths.{IsAssigned}
 use Rattle.hip_typing.specs.Registers.{instr_uses, end_uses, operand_registers, used_registers}
-use Rattle.hip_typing.specs.Rules.{UseIsAssigned, AllAssigned, use_at, site, block_numbers_from, edge_register_uses, phi_register_uses, instr_register_uses, end_register_uses, block_register_uses}
+use Rattle.hip_typing.specs.Rules.{UseIsAssigned, AllAssigned, use_at, site, block_number_from, edge_register_uses, phi_register_uses, instr_register_uses, end_register_uses, block_register_uses}
 use Rattle.hip_typing.specs.declared.assigned.Point.TheVariants.{Before, AtEnd}
 use Rattle.hip_typing.specs.declared.fault.Place.{Place}
 use Rattle.hip_typing.specs.declared.fault.Place.TheVariants as places
@@ -86,7 +86,7 @@ number_before None c e = cc
 number_before (Some d) c e = (d, refl, cc)
 
 all-numbers : (Q : ℕ → Type 0) (n : ℕ) (bs : List Block) (label : List ℕ)
-    → All Q (block_numbers_from n bs label)
+    → All Q (block_number_from n bs label)
     → (c : ℕ) → number_of (map (λ b. b.label) bs) label ≡ Some c → Q (n + c)
 all-numbers Q n [] label h c e = cc
 all-numbers Q n (b ∷ bs) label h c e =
@@ -94,22 +94,22 @@ all-numbers Q n (b ∷ bs) label h c e =
     (λ g d f. all-numbers Q (n + 1) bs label g d f)
   where
     by_test : (t : Bool) → bytes_eq label b.label ≡ t → (c : ℕ)
-        → All Q (if bytes_eq b.label label then n ∷ [] else block_numbers_from (n + 1) bs label)
+        → All Q (if bytes_eq b.label label then n ∷ [] else block_number_from (n + 1) bs label)
         → cond t (Some 0) (option_map suc (number_of (map (λ b. b.label) bs) label)) ≡ Some c →
-        (All Q (block_numbers_from (n + 1) bs label) → (d : ℕ)
+        (All Q (block_number_from (n + 1) bs label) → (d : ℕ)
         → number_of (map (λ b. b.label) bs) label ≡ Some d
         → Q (n + 1 + d)) → Q (n + c)
     by_test true is c h e rest =
         let there : bytes_eq b.label label ≡ true = bytes_eq-sym b.label label ∙ is in
         let here : All Q (n ∷ []) =
-        subst (λ t. All Q (if t then n ∷ [] else block_numbers_from (n + 1) bs label)) there h in
+        subst (λ t. All Q (if t then n ∷ [] else block_number_from (n + 1) bs label)) there h in
         let zeroth : 0 ≡ c = cc in
         let at : n ≡ n + c = omega (arith, zeroth) in
         subst Q at (All-head Q n [] here)
     by_test false is c h e rest =
         let there : bytes_eq b.label label ≡ false = bytes_eq-sym b.label label ∙ is in
-        let later : All Q (block_numbers_from (n + 1) bs label) =
-        subst (λ t. All Q (if t then n ∷ [] else block_numbers_from (n + 1) bs label)) there h in
+        let later : All Q (block_number_from (n + 1) bs label) =
+        subst (λ t. All Q (if t then n ∷ [] else block_number_from (n + 1) bs label)) there h in
         let d = number_before (number_of (map (λ b. b.label) bs) label) c e in
         let number = d.2 in
         let at : n + 1 + d.0 ≡ n + c = omega (arith, number) in
@@ -117,7 +117,7 @@ all-numbers Q n (b ∷ bs) label h c e =
 
 numbers-all : (Q : ℕ → Type 0) (n : ℕ) (bs : List Block) (label : List ℕ)
     → ((c : ℕ) → number_of (map (λ b. b.label) bs) label ≡ Some c → Q (n + c))
-    → All Q (block_numbers_from n bs label)
+    → All Q (block_number_from n bs label)
 numbers-all Q n [] label h = All-nil Q
 numbers-all Q n (b ∷ bs) label h = by_test (bytes_eq b.label label) refl (λ g. numbers-all Q (n + 1) bs label g)
   where
@@ -131,8 +131,8 @@ numbers-all Q n (b ∷ bs) label h = by_test (bytes_eq b.label label) refl (λ g
 
     by_test : (t : Bool) → bytes_eq b.label label ≡ t
         → (((c : ℕ) → number_of (map (λ b. b.label) bs) label ≡ Some c → Q (n + 1 + c))
-        → All Q (block_numbers_from (n + 1) bs label))
-        → All Q (if t then n ∷ [] else block_numbers_from (n + 1) bs
+        → All Q (block_number_from (n + 1) bs label))
+        → All Q (if t then n ∷ [] else block_number_from (n + 1) bs
         label)
     by_test true is rest =
         let first : n + 0 ≡ n = omega arith in All-cons Q n [] (subst Q first (h 0 (steps true is))) (All-nil Q)
@@ -147,7 +147,7 @@ edges-sound : (fn : Function) (place : Place) (p : Phi) (e : Edge)
 edges-sound fn place p e h c at =
     let each =
     all-flat (UseIsAssigned fn) (λ b. map (use_at place b AtEnd)
-    (used_registers (record { operand = e.value; ty = p.ty } ∷ []))) (block_numbers_from 0 fn.blocks e.label) h in
+    (used_registers (record { operand = e.value; ty = p.ty } ∷ []))) (block_number_from 0 fn.blocks e.label) h in
     let here =
     all-numbers (λ b. All (UseIsAssigned fn)
     (map (use_at place b AtEnd) (used_registers (record { operand = e.value; ty = p.ty } ∷ [])))) 0 fn.blocks
@@ -164,7 +164,7 @@ edges-whole : (fn : Function) (place : Place) (p : Phi) (e : Edge) → EdgeIsAss
     → All (UseIsAssigned fn) (edge_register_uses fn.blocks place p.ty e)
 edges-whole fn place p e h =
     flat-all (UseIsAssigned fn) (λ b. map (use_at place b AtEnd)
-    (used_registers (record { operand = e.value; ty = p.ty } ∷ []))) (block_numbers_from 0 fn.blocks e.label)
+    (used_registers (record { operand = e.value; ty = p.ty } ∷ []))) (block_number_from 0 fn.blocks e.label)
     (numbers-all (λ b. All (UseIsAssigned fn)
     (map (use_at place b AtEnd) (used_registers (record { operand = e.value; ty = p.ty } ∷ [])))) 0 fn.blocks
     e.label

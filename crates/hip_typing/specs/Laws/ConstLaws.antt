@@ -15,7 +15,7 @@ use Rattle.hip_ir.specs.declared.constant.Const.TheFolds.{ind-Const, fold-roll-C
 use Rattle.hip_ir.specs.declared.instr.Operand.{Operand}
 use Rattle.hip_ir.specs.declared.instr.Operand.TheVariants.{Reg, Fixed}
 use Rattle.hip_globals.specs.Addresses.{same_truth}
-use Rattle.hip_typing.specs.Equal.{same_bits, same_list, is_int, is_null, is_zero, is_address, is_gep, is_array, is_struct, same_level, same_step, same_gep_step, same_item_step, same_const, same_gep, same_item, same_operand}
+use Rattle.hip_typing.specs.Equal.{same_bits, same_list, is_int_constant, is_null, is_zero, is_address, is_gep, is_array_constant, is_struct_constant, same_level, same_step, same_gep_step, same_item_step, same_const, same_gep, same_item, same_operand}
 use Rattle.hip_typing.specs.Types.{same_width, same_type, all_pass}
 use Rattle.hip_typing.specs.Laws.TypeLaws.{same_width-equal, same_width-refl, same_type-equal, same_type-refl}
 
@@ -109,7 +109,7 @@ all_equal (e ∷ es) (i ∷ is) h =
     let first : e.0 ≡ i = e.1 i both.0 in
     ap (λ x. x ∷ map (λ z. z.0) es) first ∙ ap (λ xs. i ∷ xs) (all_equal es is both.1)
 
-int_equal : (a : Bits) (o : Const-F Const ConstGep TypedConst) → is_int a o ≡ true → Const-F.Int a ≡ o
+int_equal : (a : Bits) (o : Const-F Const ConstGep TypedConst) → is_int_constant a o ≡ true → Const-F.Int a ≡ o
 int_equal a (Const-F.Int b) h = ap (λ x. Const-F.Int x) (same_bits-equal a b h)
 int_equal a o h = cc
 
@@ -132,12 +132,12 @@ gep_equal e (Const-F.Gep g) h = ap (λ x. Const-F.Gep x) (e.1 g h)
 gep_equal e o h = cc
 
 array_equal : (es : List KnownItem) (o : Const-F Const ConstGep TypedConst)
-    → is_array (map same_item (map (λ e. e.0) es)) o ≡ true → Const-F.Array (map (λ e. e.0) es) ≡ o
+    → is_array_constant (map same_item (map (λ e. e.0) es)) o ≡ true → Const-F.Array (map (λ e. e.0) es) ≡ o
 array_equal es (Const-F.Array is) h = ap (λ x. Const-F.Array x) (all_equal es is h)
 array_equal es o h = cc
 
 struct_equal : (es : List KnownItem) (o : Const-F Const ConstGep TypedConst)
-    → is_struct (map same_item (map (λ e. e.0) es)) o ≡ true → Const-F.Struct (map (λ e. e.0) es) ≡ o
+    → is_struct_constant (map same_item (map (λ e. e.0) es)) o ≡ true → Const-F.Struct (map (λ e. e.0) es) ≡ o
 struct_equal es (Const-F.Struct is) h = ap (λ x. Const-F.Struct x) (all_equal es is h)
 struct_equal es o h = cc
 

@@ -178,16 +178,16 @@ uses-decides P fn us =
     (λ u. use-decides (registers_of fn) u.operand u.ty)
 
 -- the signature that a call states: its result, and its arguments' types as parameters
-abbrev call_of : Option Scalar → List Arg → Signature
-call_of ret args = record { ret = ret; params = map (λ a. a.ty) args }
+abbrev stated_signature : Option Scalar → List Arg → Signature
+stated_signature ret args = record { ret = ret; params = map (λ a. a.ty) args }
 
 signature-decides : (ret : Option Scalar) (args : List Arg) (o : Option Signature)
-    → Decides (signature_agrees ret args o) (o ≡ Some (call_of ret args))
+    → Decides (signature_agrees ret args o) (o ≡ Some (stated_signature ret args))
 signature-decides ret args None = (λ e. cc, λ h. cc)
 signature-decides ret args (Some s) =
     let d = both-decides _ _ (same_result-decides s.ret ret) (same_scalars-decides s.params (map (λ a. a.ty) args)) in (
       λ e. let h = d.0 e in λ i. Some (record { ret = h.0 i; params = h.1 i }),
-      λ h. let same : s ≡ call_of ret args = cc in d.1 (ap (λ t. t.ret) same, ap (λ t. t.params) same),
+      λ h. let same : s ≡ stated_signature ret args = cc in d.1 (ap (λ t. t.ret) same, ap (λ t. t.params) same),
     )
 
 register-agrees : (dest : Option (List ℕ)) (ret : Option Scalar)

@@ -23,7 +23,7 @@ use Rattle.hip_typing.specs.Numbering.{function_names}
 use Rattle.hip_names.specs.Laws.NumberLaws.{number_of-cons}
 use Rattle.hip_typing.specs.Places.{scope_of}
 use Rattle.hip_typing.specs.Rules as rules
-use Rattle.hip_typing.specs.Rules.{names_check, globals_check, global_check, externs_check, sizes_check, main_check, registers_check, places_check, function_check, block_check, phi_at, instr_at, site, is_of, is_main, is_i32, no_params, has_main, AllAssigned}
+use Rattle.hip_typing.specs.Rules.{names_check, globals_check, global_check, externs_check, sizes_check, main_check, inner_names_check, places_check, function_check, block_check, phi_at, instr_at, site, is_of, is_main, is_i32, no_params, has_main, AllAssigned}
 use Rattle.hip_typing.specs.declared.fault.Place.TheVariants as places
 use Rattle.hip_typing.specs.Laws.AssignedExact.{assigned-sound, assigned-whole, number_before}
 use Rattle.hip_typing.specs.Laws.Decided.{both-decides, all-decides, le-decides, each-sound, each-whole, holds-at, holds-made}

@@ -13,7 +13,7 @@ use Rattle.hip_globals.specs.Addresses.{end_of}
 use Rattle.hip_typing.specs.Sound.{KeepsToSizes}
 use Rattle.hip_typing.specs.Laws.CheckLaws.{asks_true-exact, and_then-exact, each_from-exact, differ_after-exact, types_fit-exact}
 use Rattle.hip_typing.specs.Places.{Scope, scope_of, instr_check, end_check, phi_check}
-use Rattle.hip_typing.specs.Rules.{global_check, globals_check, externs_check, registers_check, places_check, block_check, rules_check}
+use Rattle.hip_typing.specs.Rules.{global_check, globals_check, externs_check, inner_names_check, places_check, block_check, rules_check}
 use Rattle.hip_globals.specs.Constants.{types_in}
 use Rattle.hip_typing.specs.declared.fault.Fault.TheVariants as breaks
 use Rattle.hip_typing.specs.declared.fault.Place.{Place}
@@ -34,7 +34,7 @@ externs-exact P =
     (and_then-exact _ _ (each_from-exact 0 _ P.externs (λ n e. asks_true-exact _ _ _))
     (each_from-exact 0 _ P.functions (λ n f. asks_true-exact _ _ _)))
 
-pub registers-exact : (P : Program) → IsExact (registers_check P)
+pub registers-exact : (P : Program) → IsExact (inner_names_check P)
 registers-exact P = each_from-exact 0 _ P.functions (λ n f. differ_after-exact _ _)
 
 pub instr-exact : (s : Scope) (i : Instr) (place : Place) → IsExact (instr_check s i place)

@@ -11,7 +11,7 @@ use Rattle.hip_globals.specs.Constants.{types_in}
 use Rattle.hip_names.specs.Names.{is_among, Knows}
 use Rattle.hip_typing.specs.Places.{Scope, uses_known, uses_agree, use_agrees, fits_test, has_type}
 use Rattle.hip_typing.specs.Numbering.{global_names}
-use Rattle.hip_typing.specs.Registers.{Use, find_register, used_registers, used_globals, used_types}
+use Rattle.hip_typing.specs.Registers.{Use, find_register, used_registers, used_globals, used_constant_types}
 use Rattle.hip_typing.specs.Seen.Tables.{Finds}
 use Rattle.hip_typing.specs.Seen.UsesSeen.{operand_known, operands_known, operand_agrees, operands_agree, operand_fits, operands_fit}
 
@@ -76,12 +76,12 @@ module _ (s : Scope) (names : List (List ℕ)) (values : List (Option Scalar))
       ∙ ap (λ b. use_agrees s.registers u.operand u.ty && b) (uses_agree-by_tables us)
 
 fits_alike : (o : Operand) (ty : Scalar) (us : List Use)
-    → (operand_fits o && list_all fits_test (used_types us))
-    ≡ list_all fits_test (used_types (record { operand = o; ty = ty } ∷ us))
+    → (operand_fits o && list_all fits_test (used_constant_types us))
+    ≡ list_all fits_test (used_constant_types (record { operand = o; ty = ty } ∷ us))
 fits_alike (Reg name) ty us = refl
-fits_alike (Fixed value) ty us = sym (list_all-append fits_test (types_in value) (used_types us))
+fits_alike (Fixed value) ty us = sym (list_all-append fits_test (types_in value) (used_constant_types us))
 
 -- the types in the constants fit
-pub uses_fit-is : (us : List Use) → operands_fit us ≡ list_all fits_test (used_types us)
+pub uses_fit-is : (us : List Use) → operands_fit us ≡ list_all fits_test (used_constant_types us)
 uses_fit-is [] = refl
 uses_fit-is (u ∷ us) = ap (λ b. operand_fits u.operand && b) (uses_fit-is us) ∙ fits_alike u.operand u.ty us

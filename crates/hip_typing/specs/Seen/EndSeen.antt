@@ -10,7 +10,7 @@ use Rattle.hip_typing.specs.Check.{or_else}
 use Rattle.hip_names.specs.Names.{Knows}
 use Rattle.hip_typing.specs.Places.{Scope, are_among, uses_known, uses_agree, returns, end_agrees, cases_differ, end_cases, is_entry, fits_test, end_check}
 use Rattle.hip_typing.specs.Numbering.{global_names, label_names}
-use Rattle.hip_typing.specs.Registers.{end_uses, end_labels, used_types}
+use Rattle.hip_typing.specs.Registers.{end_uses, end_labels, used_constant_types}
 use Rattle.hip_typing.specs.Seen.Tables.{Finds}
 use Rattle.hip_typing.specs.Laws.UseLaws.{uses_known-by_tables, uses_agree-by_tables, uses_fit-is, known_alike}
 use Rattle.hip_typing.specs.Seen.UsesSeen.{operands_known, operands_agree, operands_fit}
@@ -67,4 +67,4 @@ module _ (s : Scope) (names : List (List ℕ)) (values : List (Option Scalar)) (
       (uses_fit-is (end_uses e))
       ∙ ap
       (λ b. end_found_by (uses_known s (end_uses e) && are_among (label_names s.function) (end_labels e))
-      (list_all fits_test (used_types (end_uses e))) b s.function e place) (agree e)
+      (list_all fits_test (used_constant_types (end_uses e))) b s.function e place) (agree e)

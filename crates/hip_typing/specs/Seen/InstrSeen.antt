@@ -11,7 +11,7 @@ use Rattle.hip_typing.specs.Check.{or_else}
 use Rattle.hip_names.specs.Names.{Knows}
 use Rattle.hip_typing.specs.Places.{Scope, uses_known, uses_agree, callee_known, instr_agrees, written_types, signature_agrees, register_agrees, fits_test, instr_check}
 use Rattle.hip_typing.specs.Numbering.{global_names}
-use Rattle.hip_typing.specs.Registers.{instr_uses, used_types}
+use Rattle.hip_typing.specs.Registers.{instr_uses, used_constant_types}
 use Rattle.hip_names.specs.Tables.{value_beside}
 use Rattle.hip_typing.specs.Seen.Tables.{Finds, FindsCallees, callee_seen}
 use Rattle.hip_typing.specs.Laws.UseLaws.{uses_known-by_tables, uses_agree-by_tables, uses_fit-is}
@@ -78,10 +78,10 @@ module _ (s : Scope) (names : List (List ℕ)) (values : List (Option Scalar)) (
 
   fit : (i : Instr) →
       (written_fits i && operands_fit (instr_uses i))
-      ≡ list_all fits_test (written_types i ++ used_types (instr_uses i))
+      ≡ list_all fits_test (written_types i ++ used_constant_types (instr_uses i))
   fit i =
       ap (λ b. written_fits i && b) (uses_fit-is (instr_uses i))
-      ∙ sym (list_all-append fits_test (written_types i) (used_types (instr_uses i)))
+      ∙ sym (list_all-append fits_test (written_types i) (used_constant_types (instr_uses i)))
 
   agree : (i : Instr) →
       (operands_agree names values (instr_uses i) && instr_agrees_in callee_names callees i)
@@ -102,4 +102,4 @@ module _ (s : Scope) (names : List (List ℕ)) (values : List (Option Scalar)) (
       (operands_agree names values (instr_uses i) && instr_agrees_in callee_names callees i) place) (fit i)
       ∙ ap
       (λ b. found_by (uses_known s (instr_uses i) && callee_known s i)
-      (list_all fits_test (written_types i ++ used_types (instr_uses i))) b place) (agree i)
+      (list_all fits_test (written_types i ++ used_constant_types (instr_uses i))) b place) (agree i)

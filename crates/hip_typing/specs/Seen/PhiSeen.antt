@@ -15,7 +15,7 @@ use Rattle.hip_typing.specs.Check.{or_else}
 use Rattle.hip_names.specs.Names.{is_among, Knows}
 use Rattle.hip_typing.specs.Places.{Scope, are_among, edge_labels, edges_agree, repeats_agree, predecessors, uses_known, uses_agree, fits_test, phi_check}
 use Rattle.hip_typing.specs.Numbering.{global_names, label_names}
-use Rattle.hip_typing.specs.Registers.{phi_uses, used_types}
+use Rattle.hip_typing.specs.Registers.{phi_uses, used_constant_types}
 use Rattle.hip_typing.specs.Seen.Tables.{Finds}
 use Rattle.hip_typing.specs.Laws.UseLaws.{uses_known-by_tables, uses_agree-by_tables, uses_fit-is, known_alike}
 use Rattle.hip_typing.specs.Seen.UsesSeen.{operands_known, operands_agree, operands_fit}
@@ -113,9 +113,9 @@ module _ (s : Scope) (names : List (List ℕ)) (values : List (Option Scalar))
       (operands_agree names values (phi_uses p)) (edges_agree before p.edges) place) (uses_fit-is (phi_uses p))
       ∙ ap
       (λ b. phi_found_by (uses_known s (phi_uses p) && are_among (label_names s.function) (edge_labels p.edges))
-      (list_all fits_test (used_types (phi_uses p))) b (edges_agree before p.edges) place)
+      (list_all fits_test (used_constant_types (phi_uses p))) b (edges_agree before p.edges) place)
       (uses_agree-by_tables s names values finds (phi_uses p))
       ∙ ap
       (λ b. phi_found_by (uses_known s (phi_uses p) && are_among (label_names s.function) (edge_labels p.edges))
-      (list_all fits_test (used_types (phi_uses p))) (uses_agree s (phi_uses p)) b place)
+      (list_all fits_test (used_constant_types (phi_uses p))) (uses_agree s (phi_uses p)) b place)
       (edges_alike before (predecessors s.function.blocks label) p.edges comes)

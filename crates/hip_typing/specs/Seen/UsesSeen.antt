@@ -11,7 +11,7 @@ use Rattle.hip_globals.specs.Constants.{types_in}
 use Rattle.hip_names.specs.Names.{is_among}
 use Rattle.hip_ir.specs.Words.{type_of}
 use Rattle.hip_typing.specs.Places.{fits_test, has_type, cast_agrees, gep_agrees, signature_agrees, register_agrees, written_types}
-use Rattle.hip_typing.specs.Registers.{Use, uses, arg_uses}
+use Rattle.hip_typing.specs.Registers.{Use, use_of, arg_uses}
 use Rattle.hip_names.specs.Tables.{value_beside}
 use Rattle.hip_typing.specs.Seen.Tables.{callee_seen}
 use Rattle.hip_typing.specs.declared.tables.callees.Callee.{Callee}
@@ -21,7 +21,7 @@ use Rattle.hip_typing.specs.declared.places.uses.Uses.{Uses}
 -- an operand with the type that its place states, as a list; empty where there is none
 abbrev pub use_seen : Option OperandUse → List Use
 use_seen None = []
-use_seen (Some u) = uses u.operand.now u.ty ∷ []
+use_seen (Some u) = use_of u.operand.now u.ty ∷ []
 
 -- the operands of a place, each with the type that it states, in order: up to three, and then arguments
 abbrev pub uses_seen : Uses → List Use

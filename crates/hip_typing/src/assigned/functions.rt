@@ -5,7 +5,7 @@ ghost use Rattle.hip_globals.specs.Constants.{joined};
 ghost use Rattle.hip_typing.specs.Sound.{names_in_function};
 ghost use Rattle.hip_names.specs.Names.{AllDiffer};
 ghost use Rattle.hip_typing.specs.Names.{numbered};
-ghost use Rattle.hip_typing.specs.Rules.{site, edge_register_uses, phi_register_uses, instr_register_uses, end_register_uses, block_register_uses, register_uses, registers_check};
+ghost use Rattle.hip_typing.specs.Rules.{site, edge_register_uses, phi_register_uses, instr_register_uses, end_register_uses, block_register_uses, register_uses, inner_names_check};
 ghost use Rattle.hip_typing.specs.declared.fault.Place.TheVariants as places;
 
 use crate::assigned::graph::{block_of, flow_graph};
@@ -207,7 +207,7 @@ fn check_function(alloc: Global, number: usize, function: &Function) -> Result<(
 
 /// Each use of a register is assigned on every path to it; the first that is not is refused, with such a path.
 pub fn check_assigned(alloc: Global, program: &Program) -> Result<(), NotAssigned>
-    requires { (registers_check program.now).Holds }
+    requires { (inner_names_check program.now).Holds }
     ensures { AnswersAssigned result program.now }
 {
     let functions = program.functions.as_slice();

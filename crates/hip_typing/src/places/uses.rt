@@ -1,7 +1,7 @@
 ghost use Rattle.std.specs.Prelude.{◌≡◌, [], ◌∷◌};
 ghost use Rattle.hip_types.specs.declared.number.Scalar.TheVariants.{Int, Ptr};
 ghost use Rattle.hip_types.specs.declared.number.Width.TheVariants.{W1};
-ghost use Rattle.hip_typing.specs.Registers.{uses, arg_uses, instr_uses, end_uses};
+ghost use Rattle.hip_typing.specs.Registers.{use_of, arg_uses, instr_uses, end_uses};
 ghost use Rattle.hip_typing.specs.Seen.UsesSeen.{uses_seen};
 
 use hip_ir::{Arg, End, Instr, Operand};
@@ -36,7 +36,7 @@ impl<'a> Uses<'a> {
     }
 
     fn one(operand: &'a Operand, ty: Scalar) -> Uses<'a>
-        ensures { uses_seen result ≡ uses operand.now ty ∷ [] }
+        ensures { uses_seen result ≡ use_of operand.now ty ∷ [] }
     {
         Uses {
             first: Some(OperandUse { operand, ty }),
@@ -47,7 +47,7 @@ impl<'a> Uses<'a> {
     }
 
     fn two(a: &'a Operand, a_ty: Scalar, b: &'a Operand, b_ty: Scalar) -> Uses<'a>
-        ensures { uses_seen result ≡ uses a.now a_ty ∷ uses b.now b_ty ∷ [] }
+        ensures { uses_seen result ≡ use_of a.now a_ty ∷ use_of b.now b_ty ∷ [] }
     {
         Uses {
             first: Some(OperandUse {
@@ -65,7 +65,7 @@ impl<'a> Uses<'a> {
 
     /// What a choice of one of two operands uses.
     fn choice(cond: &'a Operand, a: &'a Operand, b: &'a Operand, ty: Scalar) -> Uses<'a>
-        ensures { uses_seen result ≡ uses cond.now (Int W1) ∷ uses a.now ty ∷ uses b.now ty ∷ [] }
+        ensures { uses_seen result ≡ use_of cond.now (Int W1) ∷ use_of a.now ty ∷ use_of b.now ty ∷ [] }
     {
         Uses {
             first: Some(OperandUse {
@@ -80,7 +80,7 @@ impl<'a> Uses<'a> {
 
     /// What an address with indices uses.
     fn address(base: &'a Operand, indices: &'a [Arg]) -> Uses<'a>
-        ensures { uses_seen result ≡ uses base.now Ptr ∷ arg_uses indices.now }
+        ensures { uses_seen result ≡ use_of base.now Ptr ∷ arg_uses indices.now }
     {
         Uses {
             first: Some(OperandUse {

@@ -4,7 +4,7 @@ ghost use Rattle.hip_typing.specs.Check.{each};
 ghost use Rattle.hip_typing.specs.Seen.NamesSeen.{seen};
 ghost use Rattle.hip_typing.specs.Names.{numbered};
 ghost use Rattle.hip_typing.specs.Declarations.{instr_declared, body_declared, block_declared, blocks_declared};
-ghost use Rattle.hip_typing.specs.Rules.{named_in, inner_check, registers_check};
+ghost use Rattle.hip_typing.specs.Rules.{named_in, inner_check, inner_names_check};
 
 use crate::fault::Place;
 use crate::refused::Refused;
@@ -147,7 +147,7 @@ fn check_functions(alloc: Global, functions: &[Function]) -> Result<(), Refused>
 /// Parameters, labels and registers of a function differ: first the parameters, then block by block its label, its
 /// phis and its body.
 pub fn check_registers(alloc: Global, program: &Program) -> Result<(), Refused>
-    ensures { Answers result (registers_check program.now).found }
+    ensures { Answers result (inner_names_check program.now).found }
 {
     check_functions(alloc, program.functions.as_slice())
 }

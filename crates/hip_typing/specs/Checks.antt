@@ -143,8 +143,8 @@ pub refuses-stopped : (P : Program) (r : Refused) → IsSpelled P
 refuses-stopped P (refused.Found f) s e = refuses-found P f.fault f.place s e
 refuses-stopped P refused.NoMemory s e = refl
 
-pub registers-hold : (P : Program) → (rules_check P).found ≡ None → (inner_names_check P).Holds
-registers-hold P none = ((rules-exact P).sound none).1.1.1.1.1.0
+pub inner_names-hold : (P : Program) → (rules_check P).found ≡ None → (inner_names_check P).Holds
+inner_names-hold P none = ((rules-exact P).sound none).1.1.1.1.1.0
 
 pub refuses-unassigned : (P : Program) (place : Place) (path : List ℕ) → IsSpelled P
     → (rules_check P).found ≡ None →

@@ -13,6 +13,7 @@ use Rattle.hip_runs.specs.Laws.Members.{le_true, lt_true}
 use Rattle.hip_runs.specs.Step.{header_entries, some_byte}
 use Rattle.hip_runs.specs.Validity.{IsInput, IsValid}
 use Rattle.hip_runs.specs.declared.input.Input.{Input}
+use Rattle.hip_runs.specs.declared.limits.TheConstants.{MOST_NUMBERS, MOST_TURNS}
 use Rattle.hip_run_traces.specs.Headers.{Gives, valid_limit, is_empty, valid_base, is_next_line, with_number, with_line, with_entry, filled, go_on, header_from, behind_register, behind_start, header}
 use Rattle.hip_run_traces.specs.Laws.HeaderLaws.{whole_lines}
 use Rattle.hip_run_traces.specs.Laws.LineLaws.{lines_append, no_lines}
@@ -58,8 +59,8 @@ so_far J = map (λ z. Number z) J.numbers ++ image_entries (length J.image / 64)
 -- at most as many bytes as the region has.
 record IsGood (P : Program) (J : Input) : Type 0 where
   base : IsBase J.base
-  limit : J.limit ≤ 2 ^ 40
-  few : length J.numbers ≤ 1048576
+  limit : J.limit ≤ MOST_TURNS
+  few : length J.numbers ≤ MOST_NUMBERS
   fit : All (FitsSigned w64) J.numbers
   lines : length J.image % 64 ≡ 0
   within : length J.image ≤ region_size P
@@ -87,19 +88,19 @@ taken P e false there q h = absurd (let z : ⊥ = cc in z)
 takes_number : (P : Program) (J K : Input) (z : ℤ) → IsGood P J → FitsSigned w64 z → with_number J z ≡ Some K
     → Takes P J K (Number z)
 takes_number P J K z good fits q =
-    taken P (Number z) (is_empty J.image && nat_lt (length J.numbers) 1048576)
+    taken P (Number z) (is_empty J.image && nat_lt (length J.numbers) MOST_NUMBERS)
     (record J { numbers = J.numbers ++ z ∷ [] }) q make
   where
     none : (bs : List ℕ) → is_empty bs ≡ true → bs ≡ []
     none [] e = refl
     none (b ∷ bs) e = absurd (let y : ⊥ = cc in y)
 
-    make : is_empty J.image && nat_lt (length J.numbers) 1048576 ≡ true
+    make : is_empty J.image && nat_lt (length J.numbers) MOST_NUMBERS ≡ true
         → Takes P J (record J { numbers = J.numbers ++ z ∷ [] }) (Number z)
     make t =
-        let both = and_parts (is_empty J.image) (nat_lt (length J.numbers) 1048576) t in
+        let both = and_parts (is_empty J.image) (nat_lt (length J.numbers) MOST_NUMBERS) t in
         let empty : J.image ≡ [] = none J.image both.0 in
-        let room = lt_true (length J.numbers) 1048576 both.1 in
+        let room = lt_true (length J.numbers) MOST_NUMBERS both.1 in
         let long = length-append J.numbers (z ∷ []) in
         let lines : List ℕ → List Entry = λ bs. image_entries (length bs / 64) J.base bs in
         let nothing : image_entries (length J.image / 64) J.base J.image ≡ [] = ap lines empty in
@@ -310,14 +311,14 @@ given_from P (Some e ∷ es) J F c h fits good q =
 
 -- ---- START and REGISTER
 
-limit_of : (o : Option Entry) (l : ℕ) → valid_limit o ≡ Some l → (o ≡ Some (Start l)) × (l ≤ 2 ^ 40)
+limit_of : (o : Option Entry) (l : ℕ) → valid_limit o ≡ Some l → (o ≡ Some (Start l)) × (l ≤ MOST_TURNS)
 limit_of None l q = absurd (let z : ⊥ = cc in z)
-limit_of (Some (Start limit)) l q = go (nat_le limit 1099511627776) refl q
+limit_of (Some (Start limit)) l q = go (nat_le limit MOST_TURNS) refl q
   where
-    go : (t : Bool) → nat_le limit 1099511627776 ≡ t → (if t then Some limit else None) ≡ Some l
-        → (Some (Start limit) ≡ Some (Start l)) × (l ≤ 2 ^ 40)
+    go : (t : Bool) → nat_le limit MOST_TURNS ≡ t → (if t then Some limit else None) ≡ Some l
+        → (Some (Start limit) ≡ Some (Start l)) × (l ≤ MOST_TURNS)
     go true k r =
-        let same : limit ≡ l = cc in let le = le_true limit 1099511627776 k in
+        let same : limit ≡ l = cc in let le = le_true limit MOST_TURNS k in
         (ap (λ (x : ℕ). Some (Start x)) same, omega (arith, same, le))
     go false k r = absurd (let z : ⊥ = cc in z)
 limit_of (Some e) l q = absurd (let z : ⊥ = cc in z)
@@ -356,7 +357,7 @@ pub record IsHeader (P : Program) (es : List (Option Entry)) (h : ℕ) (F : Inpu
   pub rest : List (Option Entry)
   pub split : es ≡ told (header_of F) ++ rest
 
-behind : (P : Program) (limit base : ℕ) (es : List (Option Entry)) (h : ℕ) (F : Input) → limit ≤ 2 ^ 40
+behind : (P : Program) (limit base : ℕ) (es : List (Option Entry)) (h : ℕ) (F : Input) → limit ≤ MOST_TURNS
     → IsBase base
     → FitAll es → header_from P (record { base = base; image = []; numbers = []; limit = limit }) 2 es ≡ Gives h F
     → IsHeader P (Some (Start limit) ∷ Some (Register base (region_size P)) ∷ es) h F
@@ -399,7 +400,7 @@ unfolding header
 header-given P [] h F fits q = absurd (let z : ⊥ = cc in z)
 header-given P (e ∷ es) h F fits q = first (valid_limit e) refl q
   where
-    second : (limit : ℕ) (d : Option Entry) (ds : List (Option Entry)) → limit ≤ 2 ^ 40 → FitAll ds
+    second : (limit : ℕ) (d : Option Entry) (ds : List (Option Entry)) → limit ≤ MOST_TURNS → FitAll ds
         → (o : Option ℕ)
         → valid_base P d ≡ o → behind_register P limit ds o ≡ Gives h F
         → IsHeader P (Some (Start limit) ∷ d ∷ ds) h F
@@ -409,7 +410,7 @@ header-given P (e ∷ es) h F fits q = first (valid_limit e) refl q
         subst (λ (x : Option Entry). IsHeader P (Some (Start limit) ∷ x ∷ ds) h F) (sym b.0)
         (behind P limit base ds h F few b.1 fit q)
 
-    after : (limit : ℕ) (ds : List (Option Entry)) → limit ≤ 2 ^ 40 → FitAll ds
+    after : (limit : ℕ) (ds : List (Option Entry)) → limit ≤ MOST_TURNS → FitAll ds
         → behind_start P ds (Some limit) ≡ Gives h F → IsHeader P (Some (Start limit) ∷ ds) h F
     after limit [] few fit q = absurd (let z : ⊥ = cc in z)
     after limit (d ∷ ds) few fit q = second limit d ds few fit.1 (valid_base P d) refl q

@@ -16,6 +16,7 @@ use Rattle.hip_runs.specs.declared.event.Ending.TheVariants as endings
 use Rattle.hip_runs.specs.declared.event.Event.{Event}
 use Rattle.hip_runs.specs.declared.event.Event.TheVariants as events
 use Rattle.hip_runs.specs.declared.input.Input.{Input}
+use Rattle.hip_runs.specs.declared.limits.TheConstants.{MOST_NUMBERS, MOST_TURNS}
 use Rattle.hip_run_traces.specs.Headers.{Gives, valid_limit, valid_base, is_next_line, with_number, with_line, with_entry, filled, go_on, header_from, behind_register, behind_start, header}
 use Rattle.hip_run_traces.specs.Laws.LineLaws.{no_byte, zeros-add}
 use Rattle.hip_run_traces.specs.Traces.{entry_of_ending, entry_of_event, entry_list, header_of, image_entries, next_entries, trace, told}
@@ -161,7 +162,7 @@ module _ (P : Program) (base limit : ℕ) where
   abbrev numbered : List ℤ → Input
   numbered ns = record { base = base; image = []; numbers = ns; limit = limit }
 
-  numbers_read : (zs ns : List ℤ) (c : ℕ) (es : List Entry) → length ns + length zs ≤ 1048576
+  numbers_read : (zs ns : List ℤ) (c : ℕ) (es : List Entry) → length ns + length zs ≤ MOST_NUMBERS
       → header_from P (numbered ns) c (told (map (λ z. Number z) zs ++ es))
       ≡ header_from P (numbered (ns ++ zs)) (c + length zs) (told es)
   numbers_read [] ns c es few =
@@ -169,7 +170,7 @@ module _ (P : Program) (base limit : ℕ) where
       ap (λ (ms : List ℤ). header_from P (numbered ms) c (told es)) (sym (append-nil ns))
       ∙ ap (λ (j : ℕ). header_from P (numbered (ns ++ [])) j (told es)) same
   numbers_read (z ∷ zs) ns c es few =
-      let room : nat_lt (length ns) 1048576 ≡ true = true_lt (length ns) 1048576 (omega (arith, few)) in
+      let room : nat_lt (length ns) MOST_NUMBERS ≡ true = true_lt (length ns) MOST_NUMBERS (omega (arith, few)) in
       let read : with_number (numbered ns) z ≡ Some (numbered (ns ++ z ∷ [])) =
       ap (λ (t : Bool). if t then Some (numbered (ns ++ z ∷ [])) else None) room in
       let long = length-append ns (z ∷ []) in
@@ -189,7 +190,7 @@ module _ (P : Program) (I : Input) (valid : IsValid P I) where
       (true_both (true_le (2 ^ 32) I.base valid.base.low) (true_le I.base (2 ^ 46) valid.base.high))
 
   limit_read : valid_limit (Some (Start I.limit)) ≡ Some I.limit
-  limit_read = ap (λ (t : Bool). if t then Some I.limit else None) (true_le I.limit 1099511627776 valid.limit)
+  limit_read = ap (λ (t : Bool). if t then Some I.limit else None) (true_le I.limit MOST_TURNS valid.limit)
 
   base_read : valid_base P (Some (Register I.base (length I.image))) ≡ Some I.base
   base_read =

@@ -34,8 +34,8 @@ externs-exact P =
     (and_then-exact _ _ (each_from-exact 0 _ P.externs (λ n e. asks_true-exact _ _ _))
     (each_from-exact 0 _ P.functions (λ n f. asks_true-exact _ _ _)))
 
-pub registers-exact : (P : Program) → IsExact (inner_names_check P)
-registers-exact P = each_from-exact 0 _ P.functions (λ n f. differ_after-exact _ _)
+pub inner_names-exact : (P : Program) → IsExact (inner_names_check P)
+inner_names-exact P = each_from-exact 0 _ P.functions (λ n f. differ_after-exact _ _)
 
 pub instr-exact : (s : Scope) (i : Instr) (place : Place) → IsExact (instr_check s i place)
 instr-exact s i place =
@@ -69,7 +69,7 @@ rules-exact P =
     and_then-exact _ _ (differ_after-exact _ _)
     (and_then-exact _ _ (globals-exact P)
     (and_then-exact _ _ (externs-exact P) (and_then-exact _ _ (asks_true-exact _ _ _)
-    (and_then-exact _ _ (asks_true-exact _ _ _) (and_then-exact _ _ (registers-exact P) (places-exact P))))))
+    (and_then-exact _ _ (asks_true-exact _ _ _) (and_then-exact _ _ (inner_names-exact P) (places-exact P))))))
 
 -- where the persistent globals of a sound program end
 pub persistent-end : (P : Program) → KeepsToSizes P → end_of true 0 P.globals ≤ LARGEST_REGION

@@ -1,5 +1,5 @@
 use Rattle.std.proofs.Common.{sym, subst}
-use Rattle.hip_typing.specs.Checks.{Refuses, refuses-unspelled, refuses-stopped, refuses-on_paths, registers-hold, is_spelled, sound-is}
+use Rattle.hip_typing.specs.Checks.{Refuses, refuses-unspelled, refuses-stopped, refuses-on_paths, inner_names-hold, is_spelled, sound-is}
 use Rattle.hip_typing.proofs.checked.find_fault.Goals as goal
 
 pub returns-then-not-spelled : goal.returns-then-not-spelled
@@ -11,7 +11,7 @@ returns-in-Err c =
     subst (Refuses P) (sym c.refusal_of.ensures) (refuses-stopped P c.in-Err.refused (is_spelled P c.spelled.result c.spelled.ensures.read_back c.if-not-spelled.false) c.in-Err.ensures)
 
 pub check_assigned-requires : goal.check_assigned-requires
-check_assigned-requires c = registers-hold c.args.program.now c.in_default.ensures
+check_assigned-requires c = inner_names-hold c.args.program.now c.in_default.ensures
 
 pub returns-in-Ok : goal.returns-in-Ok
 returns-in-Ok c =

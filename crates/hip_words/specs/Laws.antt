@@ -6,19 +6,23 @@ use Rattle.clap.specs.Words.{Text}
 use Rattle.hip_gen.specs.declared.limits.TheConstants.{LARGEST_SIZE, SEED_END}
 use Rattle.hip_globals.specs.Addresses.{IsBase, is_base}
 use Rattle.hip_runs.specs.declared.limits.TheConstants.{DEFAULT_LIMIT, MOST_NUMBERS, MOST_TURNS}
-use Rattle.hip_words.specs.Order.{files_of, numbers_of, order}
-use Rattle.hip_words.specs.declared.order.Order.TheVariants.{Demo, Record, Run}
+use Rattle.hip_words.specs.Order.{numbers_of, order}
+use Rattle.hip_words.specs.declared.order.Order.TheVariants.{Check, Demo, Record, Repair, Rerun, Run, Thin}
 
 -- the word does not begin with `-`
 abbrev pub is_plain : Text → Bool
 is_plain [] = true
 is_plain (b ∷ bs) = not (b == 45)
 
--- where neither begins with `-`, a program and a trace behind the word of the command are read as they stand
+-- Where neither of the two words behind `check`, `repair`, `rerun` or `thin` begins with `-`, the first is the program
+-- and the second the trace.
 abbrev pub FilesArePlain : Type 0
 FilesArePlain =
-    (name command program trace : Text) → is_plain program ≡ true → is_plain trace ≡ true
-    → files_of name (command ∷ program ∷ trace ∷ []) ≡ Some (program, trace)
+    (program trace : Text) → is_plain program ≡ true → is_plain trace ≡ true
+    → (order (codes "check" ∷ program ∷ trace ∷ []) ≡ Some (Check program trace))
+    × (order (codes "repair" ∷ program ∷ trace ∷ []) ≡ Some (Repair program trace))
+    × (order (codes "rerun" ∷ program ∷ trace ∷ []) ≡ Some (Rerun program trace))
+    × (order (codes "thin" ∷ program ∷ trace ∷ []) ≡ Some (Thin program trace))
 
 -- Where no word behind `run` begins with `-`, the first is the program, the others are the numbers, and the limit is
 -- 1,000,000,000 turns. There is no order where the numbers are too many or one of them is not read.

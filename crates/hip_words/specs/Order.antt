@@ -130,10 +130,6 @@ files_in rows = option_and_then (λ program. option_map (λ trace. (program, tra
     (first_of (codes "trace") rows))
     (first_of (codes "program") rows)
 
--- a command that takes a program and a trace
-abbrev pub files_of : Text → List Text → Option (Text × Text)
-files_of name words = option_and_then files_in (reads (files_app name) words)
-
 -- the command of a verb, as clap knows it
 abbrev pub command_of : Verb → App
 command_of verbs.Run = run_app

@@ -3,10 +3,10 @@ use Rattle.std.specs.Prelude.{ℕ, List, [], ◌∷◌, ◌++◌, codes, Option,
 use Rattle.std.specs.Fmt.{decimal}
 use Rattle.std.specs.List.{flat_map}
 use Rattle.hip_ir.specs.Sites.{block_of}
-use Rattle.hip_ir.specs.declared.block.Block.{Block}
 use Rattle.hip_ir.specs.declared.program.Function.{Function}
 use Rattle.hip_ir.specs.declared.program.Program.{Program}
 use Rattle.hip_ir.specs.declared.site.Site.{Site}
+use Rattle.hip_runs.specs.Places.{label_of}
 use Rattle.hip_runs.specs.declared.report.Kind.{Kind}
 use Rattle.hip_runs.specs.declared.report.Kind.TheVariants.{MissingFlush, MissingFence, MissingBoth}
 use Rattle.hip_runs.specs.declared.report.Report.{Report}
@@ -18,16 +18,11 @@ abbrev pub function_name : Option Function → List ℕ
 function_name None = []
 function_name (Some f) = f.name
 
--- the label of a block; no bytes where there is no block
-abbrev pub block_label : Option Block → List ℕ
-block_label None = []
-block_label (Some b) = b.label
-
 -- `@function:label:index`
 abbrev pub site_text : Program → Site → List ℕ
 site_text P s =
     codes "@" ++ function_name (slice_get P.functions s.function) ++ codes ":"
-    ++ block_label (block_of P s.function s.block) ++ codes ":" ++ decimal s.index
+    ++ label_of (block_of P s.function s.block) ++ codes ":" ++ decimal s.index
 
 -- ---- reports
 

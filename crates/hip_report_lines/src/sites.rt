@@ -2,7 +2,8 @@ ghost use Rattle.std.specs.Prelude.{◌≡◌, ◌++◌, slice_get, codes};
 ghost use Rattle.std.specs.Fmt.{decimal};
 ghost use Rattle.hip_io.specs.Sinks.{Writes};
 ghost use Rattle.hip_ir.specs.Sites.{block_of};
-ghost use Rattle.hip_report_lines.specs.Reports.{block_label, function_name, site_text};
+ghost use Rattle.hip_report_lines.specs.Reports.{function_name, site_text};
+ghost use Rattle.hip_runs.specs.Places.{label_of};
 
 use hip_answers::put_number;
 use hip_io::{Put, Sink, put_after};
@@ -20,7 +21,7 @@ fn put_function<S: Sink>(before: Put, out: &mut S, program: &Program, function: 
 
 fn put_label<S: Sink>(before: Put, out: &mut S, program: &Program, site: Site) -> Put
     ensures { Writes before result (S.state out.old) (S.state out.new)
-        (block_label (block_of program.now site.function site.block)) }
+        (label_of (block_of program.now site.function site.block)) }
 {
     match program.functions.as_slice().get(site.function) {
         Some(function) => match function.blocks.as_slice().get(site.block) {

@@ -11,7 +11,7 @@ use Rattle.hip_io.specs.Cabinets.{CabinetState, file_of}
 use Rattle.hip_io.specs.declared.cabinet.NamedFile.{NamedFile}
 use Rattle.hip_ir.specs.Show.{show}
 use Rattle.hip_ir.specs.declared.program.Program.{Program}
-use Rattle.hip_loading.specs.Laws.OneAnswer.{loads_one}
+use Rattle.hip_loading.specs.Laws.OneAnswer.{loads_one, not_there, same_bytes}
 use Rattle.hip_loading.specs.Laws.{LoadsOne}
 use Rattle.hip_loading.specs.Loading.{HasNoProgram, IsProgramOf}
 use Rattle.hip_loading.specs.declared.refusal.LoadRefusal.{LoadRefusal}
@@ -23,7 +23,6 @@ use Rattle.hip_repairs.specs.Direct.{direct}
 use Rattle.hip_repairs.specs.Repaired.{repaired}
 use Rattle.hip_many_commands.specs.Notes.{many_notes}
 use Rattle.hip_many_commands.specs.Runs.{AreRunsOf, ComesBehindRuns, IsRunOf, TracedRun, plans_of, reports_of}
-use Rattle.hip_repair_answers.specs.Laws.OneAnswer.{not_there, same_bytes}
 use Rattle.hip_repair_answers.specs.Laws.Repairs.{answer_is}
 use Rattle.hip_repair_answers.specs.TraceFiles.{HasNoTrace, IsTraceFile}
 use Rattle.hip_repair_answers.specs.declared.refusal.TraceRefusal.{TraceRefusal}

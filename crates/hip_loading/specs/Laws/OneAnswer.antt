@@ -22,10 +22,12 @@ use Rattle.hip_typing.specs.declared.fault.Place.{Place}
 use Rattle.hip_typing.specs.declared.fault.TypeFault.{TypeFault}
 use Rattle.hip_typing.specs.declared.fault.TypeRefusal.{TypeRefusal}
 
-same_bytes : (o : Option (List ℕ)) (a b : List ℕ) → o ≡ Some a → o ≡ Some b → a ≡ b
+-- byte strings that one option holds are the same
+pub same_bytes : (o : Option (List ℕ)) (a b : List ℕ) → o ≡ Some a → o ≡ Some b → a ≡ b
 same_bytes o a b p q = let k : Some a ≡ Some b = sym p ∙ q in cc
 
-not_there : (o : Option (List ℕ)) (a : List ℕ) → o ≡ Some a → o ≡ None → ⊥
+-- an option that holds bytes is not None
+pub not_there : (o : Option (List ℕ)) (a : List ℕ) → o ≡ Some a → o ≡ None → ⊥
 not_there o a p q = let k : Some a ≡ None = sym p ∙ q in cc
 
 same_program : (text : List ℕ) (P Q : Program) → Reads text P → Reads text Q → P ≡ Q

@@ -1,5 +1,5 @@
 -- Where the files are told, a command has one answer, unless a read fails.
-use Rattle.std.proofs.Common.{◌≡◌, ◌⊎◌, ◌++◌, ℕ, true, false, List, Option, Some, None, inl, inr, refl, sym, ap, ◌∙◌, subst}
+use Rattle.std.proofs.Common.{◌≡◌, ◌⊎◌, ◌++◌, ℕ, true, false, List, Option, Some, inl, inr, refl, sym, ap, ◌∙◌, subst}
 use Rattle.std.specs.Prelude.{IfSome}
 use Rattle.hip_answers.specs.Answers.{Answer, refusal}
 use Rattle.hip_answers.specs.Same.{IsSameAnswer}
@@ -10,7 +10,7 @@ use Rattle.hip_answers.specs.declared.status.Status.TheVariants as statuses
 use Rattle.hip_io.specs.Cabinets.{CabinetState, file_of}
 use Rattle.hip_io.specs.declared.cabinet.NamedFile.{NamedFile}
 use Rattle.hip_ir.specs.declared.program.Program.{Program}
-use Rattle.hip_loading.specs.Laws.OneAnswer.{loads_one}
+use Rattle.hip_loading.specs.Laws.OneAnswer.{loads_one, not_there, same_bytes}
 use Rattle.hip_loading.specs.Laws.{LoadsOne}
 use Rattle.hip_loading.specs.Loading.{HasNoProgram, IsProgramOf}
 use Rattle.hip_loading.specs.declared.refusal.LoadRefusal.{LoadRefusal}
@@ -31,12 +31,6 @@ use Rattle.hip_runs.specs.declared.report.Findings.{Findings}
 use Rattle.hip_trace.specs.Pieces.{spelled}
 
 -- ---- what is the same
-
-pub same_bytes : (o : Option (List ℕ)) (a b : List ℕ) → o ≡ Some a → o ≡ Some b → a ≡ b
-same_bytes o a b p q = let k : Some a ≡ Some b = sym p ∙ q in cc
-
-pub not_there : (o : Option (List ℕ)) (a : List ℕ) → o ≡ Some a → o ≡ None → ⊥
-not_there o a p q = let k : Some a ≡ None = sym p ∙ q in cc
 
 same_input : (P : Program) (bytes : List ℕ) (I J : Input) → IsTraceOf P bytes I → IsTraceOf P bytes J → I ≡ J
 same_input P bytes I J t u = let k : Gives t.entries I ≡ Gives u.entries J = sym t.header_is ∙ u.header_is in cc

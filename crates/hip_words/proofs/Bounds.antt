@@ -5,9 +5,9 @@ use Rattle.std.proofs.lemmas.Bool.{and_parts, leb-true, ltb-true}
 use Rattle.clap.specs.Words.{Row, Text, first_of}
 use Rattle.hip_gen.specs.declared.limits.TheConstants.{LARGEST_SIZE, SEED_END}
 use Rattle.hip_globals.specs.Addresses.{IsBase, is_base}
+use Rattle.hip_globals.specs.Laws.BaseLaws.{base_valid}
 use Rattle.hip_runs.specs.declared.limits.TheConstants.{MOST_NUMBERS, MOST_TURNS}
 use Rattle.hip_words.specs.Commands.{reads}
-use Rattle.hip_words.proofs.Bases.{base_valid}
 use Rattle.hip_words.specs.Laws.{DemosAreValid, RecordsAreValid, RunsAreValid}
 use Rattle.hip_num.specs.Texts.{signed_of}
 use Rattle.hip_words.specs.Order.{command_of, crash_in, decimal_in, demo_in, each, files_in, is_limit, is_seed, is_size, many_in, number_in, numbers_of, order, order_by, order_in, picks_of, record_in, run_in, texts_in, traces_of, verb_of, where_so}

@@ -1,10 +1,10 @@
--- What the definition of an order says of words that do not begin with `-`, of bases, of the inputs of runs, and of
--- generated programs.
+-- What the definition of an order says of words that do not begin with `-`, of the inputs of runs, and of generated
+-- programs.
 use Rattle.std.specs.Prelude.{◌≡◌, ◌<◌, ◌≤◌, ℕ, ℤ, Bool, true, not, ◌==◌, List, [], ◌∷◌, Some, codes, length, option_map}
 use Rattle.std.specs.List.{list_all}
 use Rattle.clap.specs.Words.{Text}
 use Rattle.hip_gen.specs.declared.limits.TheConstants.{LARGEST_SIZE, SEED_END}
-use Rattle.hip_globals.specs.Addresses.{IsBase, is_base}
+use Rattle.hip_globals.specs.Addresses.{IsBase}
 use Rattle.hip_runs.specs.declared.limits.TheConstants.{DEFAULT_LIMIT, MOST_NUMBERS, MOST_TURNS}
 use Rattle.hip_words.specs.Order.{numbers_of, order}
 use Rattle.hip_words.specs.declared.order.Order.TheVariants.{Check, Demo, Record, Repair, Rerun, Run, Thin}
@@ -32,10 +32,6 @@ RunsArePlain =
     → order (codes "run" ∷ program ∷ numbers)
     ≡ option_map (λ ns. Run program DEFAULT_LIMIT ns) (numbers_of numbers)
 
--- a number that passes the test of a base is one
-abbrev pub BasesAreValid : Type 0
-BasesAreValid = (base : ℕ) → is_base base ≡ true → IsBase base
-
 -- a run has at most 2^40 turns and 1,048,576 numbers
 abbrev pub RunsAreValid : Type 0
 RunsAreValid =
@@ -43,7 +39,7 @@ RunsAreValid =
     → order words ≡ Some (Run program limit numbers)
     → (limit ≤ MOST_TURNS) × (length numbers ≤ MOST_NUMBERS)
 
--- so has one that is recorded, and its base is one
+-- so has one that is recorded, and the region may begin at its base
 abbrev pub RecordsAreValid : Type 0
 RecordsAreValid =
     (words : List Text) (program : Text) (base limit : ℕ) (numbers : List ℤ)

@@ -6,6 +6,7 @@ use Rattle.std.proofs.lemmas.Bool.{eqb-true, and_parts}
 use Rattle.std.proofs.lemmas.List.{append-nil, take_all}
 use Rattle.std.proofs.lemmas.List.Elements.{All-nil, All-append, All-push, All-replicate}
 use Rattle.hip_globals.specs.Addresses.{IsBase, end_of, region_size, is_base}
+use Rattle.hip_globals.specs.Laws.BaseLaws.{base_valid}
 use Rattle.hip_ir.specs.declared.program.Program.{Program}
 use Rattle.hip_mem.specs.Bytes.{zeros}
 use Rattle.hip_mem.specs.Laws.BytesLaws.{length-zeros}
@@ -334,15 +335,9 @@ base_of P (Some (Register base size)) b q = go (is_base base && (size == region_
     go true k r =
         let same : base ≡ b = cc in
         let both = and_parts (is_base base) (size == region_size P) k in
-        let sized = eqb-true size (region_size P) both.1 in
-        let p = and_parts (base % 4096 == 0) (nat_le (2 ^ 32) base && nat_le base (2 ^ 46)) both.0 in
-        let r = and_parts (nat_le (2 ^ 32) base) (nat_le base (2 ^ 46)) p.1 in (
+        let sized = eqb-true size (region_size P) both.1 in (
           ap (λ (x : ℕ). Some (Register x size)) same ∙ ap (λ (x : ℕ). Some (Register b x)) sized,
-          subst IsBase same (record {
-            page = eqb-true (base % 4096) 0 p.0;
-            low = le_true (2 ^ 32) base r.0;
-            high = le_true base (2 ^ 46) r.1;
-          }),
+          subst IsBase same (base_valid base both.0),
         )
     go false k r = absurd (let z : ⊥ = cc in z)
 base_of P (Some e) b q = absurd (let z : ⊥ = cc in z)

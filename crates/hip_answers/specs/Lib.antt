@@ -6,3 +6,4 @@ pub mod Programs
 pub mod Same
 pub mod SameLaws
 pub mod Statuses
+pub mod Traces

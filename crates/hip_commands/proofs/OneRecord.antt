@@ -27,15 +27,17 @@ module _ (one : (files : List NamedFile) (name : List ℕ) → LoadsOne files na
       → u.program ≡ v.program → IsSameAnswer a b
   both_recorded old new other other_new a b u v same =
       let I = first_input v.program base limit numbers in
-      let t : IsTraceText v.program I a.out u.ending =
-      subst (λ P. IsTraceText P (first_input P base limit numbers) a.out u.ending) same u.traced in
-      let ending = one_ending v.program I t.is_trace.steps v.traced.is_trace.steps u.ending v.ending t.ended
-      v.traced.ended in
+      let x = u.recorded in
+      let y = v.recorded in
+      let t : IsTraceText v.program I a.out x.ending =
+      subst (λ P. IsTraceText P (first_input P base limit numbers) a.out x.ending) same x.traced in
+      let ending = one_ending v.program I t.is_trace.steps y.traced.is_trace.steps x.ending y.ending t.ended
+      y.traced.ended in
       record {
-        status = ap pathless (u.status_is ∙ ap status_of_ending ending ∙ sym v.status_is);
-        out = t.is ∙ ap lines_of (traces v.program I t.trace v.traced.trace t.is_trace v.traced.is_trace)
-            ∙ sym v.traced.is;
-        notes = u.notes_is ∙ ap ending_line ending ∙ sym v.notes_is;
+        status = ap pathless (x.status_is ∙ ap status_of_ending ending ∙ sym y.status_is);
+        out = t.is ∙ ap lines_of (traces v.program I t.trace y.traced.trace t.is_trace y.traced.is_trace)
+            ∙ sym y.traced.is;
+        notes = x.notes_is ∙ ap ending_line ending ∙ sym y.notes_is;
       }
 
 pub one_record : ((files : List NamedFile) (name : List ℕ) → LoadsOne files name) → TracesAreOne → RecordsAreOne

@@ -45,10 +45,12 @@ module _ {old new : CabinetState} {name : List ℕ} {base limit : ℕ} {numbers 
     program = P;
     loaded = loaded;
     met = met;
-    ending = ending;
-    traced = subst (λ (i : Input). IsTraceText P i text ending) input traced;
-    status_is = refl;
-    notes_is = refl;
+    recorded = record {
+      ending = ending;
+      traced = subst (λ (i : Input). IsTraceText P i text ending) input traced;
+      status_is = refl;
+      notes_is = refl;
+    };
   })
 
   pub has_recorded : (recorded : Recorded) (status : Status) (tried : Put) (mid : SinkState) (result : Status)

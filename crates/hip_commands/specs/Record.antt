@@ -1,15 +1,13 @@
 -- The answers of `record`.
-use Rattle.std.specs.Prelude.{ℕ, ℤ, ◌≡◌, false, List, ◌⊎◌}
+use Rattle.std.specs.Prelude.{ℕ, ℤ, false, List, ◌⊎◌}
 use Rattle.hip_answers.specs.Answers.{Answer}
-use Rattle.hip_answers.specs.Endings.{ending_line, status_of_ending}
 use Rattle.hip_answers.specs.Programs.{LacksProgram}
+use Rattle.hip_answers.specs.Traces.{GivesTrace}
 use Rattle.hip_runs.specs.FirstInput.{first_input}
 use Rattle.hip_io.specs.Cabinets.{CabinetState}
 use Rattle.hip_ir.specs.declared.program.Program.{Program}
 use Rattle.hip_loading.specs.Loading.{IsProgramOf}
 use Rattle.hip_loading.specs.Outside.{HasMet}
-use Rattle.hip_run_traces.specs.TraceTexts.{IsTraceText}
-use Rattle.hip_runs.specs.declared.event.Ending.{Ending}
 
 -- The program of the file has run on the initialisers' bytes: out has the trace of the run, and notes how the run has
 -- ended.
@@ -18,10 +16,7 @@ pub record HasRecorded (old new : CabinetState) (name : List ℕ) (base limit : 
   pub program : Program
   pub loaded : IsProgramOf old.files name program
   pub met : HasMet false false old new
-  pub ending : Ending
-  pub traced : IsTraceText program (first_input program base limit numbers) answer.out ending
-  pub status_is : answer.status ≡ status_of_ending ending
-  pub notes_is : answer.notes ≡ ending_line ending
+  pub recorded : GivesTrace program (first_input program base limit numbers) answer
 
 -- the answers of `record`: there is no program in the file, or its run at the order's base was recorded
 abbrev pub RecordAnswers : CabinetState → CabinetState → List ℕ → ℕ → ℕ → List ℤ → Answer → Type 0

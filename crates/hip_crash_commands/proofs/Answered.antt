@@ -9,7 +9,7 @@ use Rattle.hip_crash_commands.proofs.Advances.{comes}
 use Rattle.hip_crash_commands.specs.Crash.{CrashTexts}
 use Rattle.hip_crash_commands.specs.Images.{HasEntries, HasEntry, HasImage, HasNoImage, StandsAt, begun_with, status_of_refusal}
 use Rattle.hip_crash_commands.specs.Laws.{CrashesAreAnswered}
-use Rattle.hip_crash_commands.specs.Traces.{GivesTrace}
+use Rattle.hip_answers.specs.Traces.{GivesTrace}
 use Rattle.hip_crash_commands.specs.declared.refusal.ImageRefusal.{ImageRefusal}
 use Rattle.hip_crash_commands.specs.declared.refusal.ImageRefusal.TheVariants as images
 use Rattle.hip_io.specs.declared.cabinet.NamedFile.{NamedFile}

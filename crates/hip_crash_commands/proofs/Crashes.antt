@@ -8,7 +8,7 @@ use Rattle.hip_crash.specs.Picks.{IsRefusal}
 use Rattle.hip_crash_commands.specs.Advancing.{Reaches}
 use Rattle.hip_crash_commands.specs.Crash.{CrashTexts}
 use Rattle.hip_crash_commands.specs.Images.{HasImage, PicksImage, StandsAt, begun_with, failure_of_picks, status_of_image, status_of_refusal}
-use Rattle.hip_crash_commands.specs.Traces.{GivesTrace}
+use Rattle.hip_answers.specs.Traces.{GivesTrace}
 use Rattle.hip_crash_commands.specs.declared.refusal.ImageRefusal.{ImageRefusal}
 use Rattle.hip_crash_commands.specs.declared.refusal.ImageRefusal.TheVariants as images
 use Rattle.hip_ir.specs.declared.program.Program.{Program}

@@ -7,7 +7,7 @@ use Rattle.hip_crash.specs.Picks.{first_failure, picked}
 use Rattle.hip_crash_commands.proofs.Advances.{later}
 use Rattle.hip_crash_commands.specs.Crash.{CrashTexts}
 use Rattle.hip_crash_commands.specs.Images.{HasEntries, HasEntry, HasImage, HasNoImage, LacksEntry, StandsAt, begun_with, status_of_refusal}
-use Rattle.hip_crash_commands.specs.Traces.{GivesTrace}
+use Rattle.hip_answers.specs.Traces.{GivesTrace}
 use Rattle.hip_crash_commands.specs.declared.refusal.ImageRefusal.{ImageRefusal}
 use Rattle.hip_crash_commands.specs.declared.refusal.ImageRefusal.TheVariants as images
 use Rattle.hip_ir.specs.declared.program.Program.{Program}

@@ -7,7 +7,7 @@ use Rattle.hip_answers.specs.Laws.{cut_out, finished, ran_out_later}
 use Rattle.hip_answers.specs.declared.status.Status.{Status}
 use Rattle.hip_answers.specs.declared.status.Status.TheVariants as statuses
 use Rattle.hip_run_traces.specs.TraceTexts.{IsTraceText}
-use Rattle.hip_crash_commands.specs.Traces.{GivesTrace}
+use Rattle.hip_answers.specs.Traces.{GivesTrace}
 use Rattle.hip_io.specs.Sinks.{SinkState, Writes}
 use Rattle.hip_io.specs.declared.sink.Put.{Put}
 use Rattle.hip_io.specs.declared.sink.Put.TheVariants as puts

@@ -2,7 +2,7 @@
 use Rattle.std.specs.Prelude.{ℕ, ◌≡◌, ◌⊎◌, List}
 use Rattle.hip_answers.specs.Answers.{Answer, refusal}
 use Rattle.hip_crash_commands.specs.Images.{HasImage, HasNoImage, begun_with, status_of_refusal}
-use Rattle.hip_crash_commands.specs.Traces.{GivesTrace}
+use Rattle.hip_answers.specs.Traces.{GivesTrace}
 use Rattle.hip_crash_commands.specs.declared.refusal.ImageRefusal.{ImageRefusal}
 use Rattle.hip_io.specs.Cabinets.{CabinetState}
 use Rattle.hip_ir.specs.declared.program.Program.{Program}

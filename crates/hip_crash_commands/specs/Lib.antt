@@ -2,4 +2,3 @@ pub mod Advancing
 pub mod Crash
 pub mod Images
 pub mod Laws
-pub mod Traces

@@ -1,6 +1,6 @@
 ghost use Rattle.std.specs.Prelude.{true};
 ghost use Rattle.hip_answers.specs.Answers.{sinks};
-ghost use Rattle.hip_crash_commands.specs.Traces.{GivesTrace};
+ghost use Rattle.hip_answers.specs.Traces.{GivesTrace};
 ghost use Rattle.hip_runs.specs.Validity.{IsValid};
 ghost use Rattle.hip_trace_loading.specs.Runs.{AnswersOnRun};
 

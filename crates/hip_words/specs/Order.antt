@@ -5,6 +5,7 @@ use Rattle.std.specs.Str.{bytes_eq}
 use Rattle.clap.specs.Words.{App, Row, Text, all_of, first_of}
 use Rattle.hip_gen.specs.declared.limits.TheConstants.{LARGEST_SIZE, SEED_END}
 use Rattle.hip_globals.specs.Addresses.{is_base}
+use Rattle.hip_picks.specs.declared.limits.TheConstants.{MOST_PICKS}
 use Rattle.hip_picks.specs.declared.pick.Pick.{Pick}
 use Rattle.hip_runs.specs.declared.limits.TheConstants.{MOST_NUMBERS, MOST_TURNS}
 use Rattle.hip_words.specs.declared.limits.TheConstants.{MOST_TRACES}
@@ -80,7 +81,7 @@ pick_of text = if nat_lt (position_or_len is_colon text) (length text)
 
 -- at most 1,048,576 picks; nothing where there are more, or a text is none
 abbrev pub picks_of : List Text → Option (List Pick)
-picks_of texts = option_and_then (each pick_of) (at_most MOST_NUMBERS texts)
+picks_of texts = option_and_then (each pick_of) (at_most MOST_PICKS texts)
 
 -- ---- the orders
 

@@ -11,7 +11,7 @@ use crate::pick::pick_of;
 use crate::refusal::WordsRefusal;
 use clap::error::ErrorKind;
 use clap::{ArgMatches, Command};
-use hip_picks::Pick;
+use hip_picks::{MOST_PICKS, Pick};
 use hip_runs::MOST_NUMBERS;
 use hip_types::{Row, Text};
 use std::alloc::Global;
@@ -115,7 +115,7 @@ fn each_pick(alloc: Global, texts: &[&str]) -> Result<Row<Pick>, WordsRefusal>
 fn picks_of(alloc: Global, texts: &[&str]) -> Result<Row<Pick>, WordsRefusal>
     ensures { Answers (picks_of (map (λ text. text.now) texts.now)) result }
 {
-    if texts.len() as u64 <= MOST_NUMBERS {
+    if texts.len() as u64 <= MOST_PICKS {
         each_pick(alloc, texts)
     } else {
         Err(WordsRefusal::Usage)

@@ -125,16 +125,17 @@ fn none_of_large(rt: &impl Abort, alloc: Global) -> Ty {
     array(rt, alloc, 0, two)
 }
 
-fn is_small(ty: Ty) -> bool {
+/// Whether a type fits. The type is taken.
+fn type_fits(ty: Ty) -> bool {
     fits(&ty)
 }
 
 #[test]
 fn deepest_types(rt: HostRuntime) {
-    assert!(rt; is_small(nested(&rt, rt.alloc(), 32)));
-    assert!(rt; !is_small(nested(&rt, rt.alloc(), 33)));
-    assert!(rt; is_small(largest(&rt, rt.alloc())));
-    assert!(rt; !is_small(none_of_large(&rt, rt.alloc())));
+    assert!(rt; type_fits(nested(&rt, rt.alloc(), 32)));
+    assert!(rt; !type_fits(nested(&rt, rt.alloc(), 33)));
+    assert!(rt; type_fits(largest(&rt, rt.alloc())));
+    assert!(rt; !type_fits(none_of_large(&rt, rt.alloc())));
 }
 
 /// `{ i8, i32, i8, i32, .. }`

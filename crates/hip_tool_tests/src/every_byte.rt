@@ -166,6 +166,7 @@ fn bad_entries(rt: HostRuntime) {
 fn program_prefixes(rt: HostRuntime) {
     let text = generate(rt.alloc(), 1, 100).expect(&rt, AMPLE);
     let text = text.as_slice();
+    assert!(rt; !text.is_empty());
     for length in 0..2_000 {
         if length < text.len() {
             let trace = ONE_STORE_TRACE.as_bytes();

@@ -110,9 +110,11 @@ many_runs files P names runs are =
 module _ (P : Program) (runs : List TracedRun) (traces reports : ℕ) (repair : ManyRepair)
     (many : traces ≡ length runs) (total : reports ≡ reports_of runs) (by : IsRepairBy P (plans_of P runs) repair)
     (cured : All (λ r. IsCuredBy P r.input repair.plan (direct P)) runs) (s : Sinks) where
+  -- how many traces there are, what `repair` writes, and the reasons
   abbrev pub counts : List ℕ
   counts = many_notes P traces reports repair.plan (length repair.repaired.clones) repair.reasons
 
+  -- the answer of `many`: the repaired program, and the notes
   abbrev answer : Answer
   answer = record { status = statuses.Done; out = show repair.repaired.checked; notes = counts }
 

@@ -102,6 +102,7 @@ module _ (files : List NamedFile) (P : Program) where
 
   -- ---- the first that is none
 
+  -- The file of that name is the trace of a run of the program.
   pub record IsTraced (name : List ℕ) : Type 0 where
     input : Input
     is : IsTraceFile files name P input
@@ -125,6 +126,7 @@ module _ (files : List NamedFile) (P : Program) where
   among [] behind name why h all = apart name why h (All-head IsTraced name behind all)
   among (x ∷ xs) behind name why h all = among xs behind name why h (All-tail IsTraced x (xs ++ name ∷ behind) all)
 
+  -- The same names stand before both names, and both names are the same.
   pub record SamePlace (before before' : List (List ℕ)) (name name' : List ℕ) : Type 0 where
     pub fronts : before ≡ before'
     pub names : name ≡ name'

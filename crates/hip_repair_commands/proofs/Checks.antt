@@ -16,6 +16,7 @@ use Rattle.hip_runs.specs.declared.report.Findings.{Findings}
 use Rattle.hip_trace_loading.specs.Runs.{AnswersOnRun}
 
 module _ (P : Program) (I : Input) (found : Findings) (s : Sinks) where
+  -- the answer of `check`: the reports, and on notes how many they are
   abbrev pub answer : Answer
   answer =
       record {

@@ -31,9 +31,11 @@ itself plan = record { flush_after = λ s h. h; fence_after = λ s h. h; hoist =
 
 module _ (P : Program) (I : Input) (found : Findings) (thinned : Thinned) (is : IsThinnedFor P found thinned)
     (cured : IsThinned P I found) (s : Sinks) where
+  -- how many reports, flushes, fences, hoisted calls, clones and spared stores there are
   abbrev counts : List ℕ
   counts = thin_counts (length found.reports) thinned.plan (length thinned.repaired.clones) thinned.spared
 
+  -- the answer of `thin`: the repaired program, and the counts on notes
   abbrev answer : Answer
   answer = record { status = statuses.Done; out = show thinned.repaired.checked; notes = counts }
 

@@ -96,27 +96,29 @@ pub record Levels : Type 0 where
   pub register : ℕ → List ℕ → PointerLevel
   pub result : ℕ → PointerLevel
 
--- the value of an integer as an index, sign-extended to 64 bits; none of another constant, not of `zeroinitializer`
-abbrev pub literal : Scalar → Const-F Const ConstGep TypedConst → Option ℕ
-literal ty (Const-F.Int b) = Some (index_value ty b.value)
-literal ty _ = None
+-- the value of an index that is an integer constant or `zeroinitializer`, sign-extended to 64 bits; none of another
+-- constant
+abbrev pub constant_index : Scalar → Const-F Const ConstGep TypedConst → Option ℕ
+constant_index ty (Const-F.Int b) = Some (index_value ty b.value)
+constant_index ty Const-F.Zero = Some (index_value ty 0)
+constant_index ty _ = None
 
--- the value of an index that is an integer; none of a register and of any other constant
-abbrev pub fixed_index : Scalar → Operand → Option ℕ
-fixed_index ty (Reg name) = None
-fixed_index ty (Fixed c) = literal ty (out-Const c)
+-- the value of an index that is such a constant; none of a register
+abbrev pub known_index : Scalar → Operand → Option ℕ
+known_index ty (Reg name) = None
+known_index ty (Fixed c) = constant_index ty (out-Const c)
 
 -- the value of an index in front of those behind it, where all of them have one
 abbrev pub both : Option ℕ → Option (List ℕ) → Option (List ℕ)
 both (Some i) (Some is) = Some (i ∷ is)
 both _ _ = None
 
--- the values of indices that are all integers; none where one is a register or another constant
-abbrev pub fixed_path : List Arg → Option (List ℕ)
-fixed_path [] = Some []
-fixed_path (a ∷ args) = both (fixed_index a.ty a.value) (fixed_path args)
+-- the values of indices that are all such constants; none where one is a register or another constant
+abbrev pub known_path : List Arg → Option (List ℕ)
+known_path [] = Some []
+known_path (a ∷ args) = both (known_index a.ty a.value) (known_path args)
 
--- The level of a `getelementptr` from a level on: none where an index is no integer, else that behind its offset.
+-- The level of a `getelementptr` from a level on: none where an index has no value, else that behind its offset.
 abbrev pub gep_level : PointerLevel → Ty → Option (List ℕ) → PointerLevel
 gep_level a ty None = None
 gep_level a ty (Some path) = behind_offset a (unwrap_or (gep_of ty path) 0)
@@ -154,7 +156,7 @@ module _ (P : Program) (L : Levels) (g : ℕ) where
   instr_is_closed (Load dest ty addr align) = is_at_most None (L.register g dest)
   instr_is_closed (Store ty value addr align) = Unit {0}
   instr_is_closed (Gep dest inbounds ty base indices) =
-      is_at_most (gep_level (operand_level base) ty (fixed_path indices)) (L.register g dest)
+      is_at_most (gep_level (operand_level base) ty (known_path indices)) (L.register g dest)
   instr_is_closed (Call dest ret callee args) = CallIsClosed dest callee args
 
 -- Each register and each result has at least the level of its rule, whatever the path that control takes.

@@ -41,13 +41,13 @@ use Rattle.hip_typing.specs.Sound.{IsBlockAt, IsSound, callee_names}
 use Rattle.hip_runs.specs.Places.{blocks_in, blocks_of}
 use Rattle.hip_runs.specs.StoredParts.Parts.{In}
 use Rattle.hip_runs.specs.Laws.PartLaws.{in-append, in-map}
-use Rattle.hip_invariants.specs.PointerLevels.{PointerLevel, is_at_most, number_level, const_level, behind_offset}
+use Rattle.hip_invariants.specs.PointerLevels.{PointerLevel, is_at_most, number_level, const_level, behind_offset, known_path}
 use Rattle.hip_repairs.specs.Direct.{allocates, allocates_in, is_volatile_global, names_volatile, stores_outside, direct}
 use Rattle.hip_repairs.proofs.quiet.AssignedOnce.{names_of_instr, only_alloca, no_phi, no_parameter, differ_inside, once}
 use Rattle.hip_vol.specs.Bounds.{Variable, Bound, Rule, Register, Result, low, free, same_as, Assignment, bound_in, same_variable}
 use Rattle.hip_vol.specs.Closed.{is_level, IsClosedUnder}
 use Rattle.hip_vol.specs.LowStores.{least_levels, stores_low, low_stores}
-use Rattle.hip_vol.specs.Rules.{operand_bound, element_bound, rule, rule_for_result, argument_rules, rules_into, entry_rules, call_rules, instr_rules, phi_rules, end_rules, level_rules, known_path}
+use Rattle.hip_vol.specs.Rules.{operand_bound, element_bound, rule, rule_for_result, argument_rules, rules_into, entry_rules, call_rules, instr_rules, phi_rules, end_rules, level_rules}
 use Rattle.hip_vol.proofs.KnownLevels.{program_is_least}
 use Rattle.hip_vol.proofs.LevelOrder.{at_most_same, at_most_next, zero_at_most, bound_more, same_variable_is, same_as_itself}
 use Rattle.hip_vol.proofs.RuleMembers.{rule_case}

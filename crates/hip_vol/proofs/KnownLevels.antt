@@ -28,11 +28,11 @@ use Rattle.hip_externs.specs.declared.call.ExternCall.{ExternCall}
 use Rattle.hip_typing.specs.Numbering.{function_number}
 use Rattle.hip_runs.specs.StoredParts.Parts.{In}
 use Rattle.hip_runs.specs.Laws.PartLaws.{in-append, in-map}
-use Rattle.hip_invariants.specs.PointerLevels.{PointerLevel, behind_offset, number_level, global_level, level_step, gep_level_step, item_level_step, const_level}
+use Rattle.hip_invariants.specs.PointerLevels.{PointerLevel, behind_offset, number_level, global_level, level_step, gep_level_step, item_level_step, const_level, known_path}
 use Rattle.hip_vol.specs.Bounds.{Bound, Rule, Result, low, free, same_as}
 use Rattle.hip_vol.specs.Closed.{is_level, IsLeast}
 use Rattle.hip_vol.specs.LowStores.{least_levels}
-use Rattle.hip_vol.specs.Rules.{operand_bound, element_bound, rule, rule_for_result, argument_rules, rules_into, entry_rules, call_rules, instr_rules, end_rules, level_rules, known_path}
+use Rattle.hip_vol.specs.Rules.{operand_bound, element_bound, rule, rule_for_result, argument_rules, rules_into, entry_rules, call_rules, instr_rules, end_rules, level_rules}
 use Rattle.hip_vol.proofs.LevelOrder.{behind_is_level}
 use Rattle.hip_vol.proofs.LeastLevels.{knows_level, KnowsLevel, least_is_least}
 use Rattle.hip_vol.proofs.RuleMembers.{rule_case}

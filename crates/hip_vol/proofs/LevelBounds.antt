@@ -1,22 +1,14 @@
 -- Where an assignment is closed, a value of level t is at most the stack's end and t times 64 MiB in every run.
-use Rattle.std.proofs.Common.{◌≡◌, inl, inr, ℕ, zero, suc, ◌+◌, ◌*◌, ◌%◌, ◌^◌, ◌<◌, ◌≤◌, Bool, true, false, cond, nat_eq, nat_lt, List, [], ◌∷◌, map, Option, Some, None, slice_get, refl, sym, ap, ap₂, ◌∙◌, subst, arith, ltb-true}
+use Rattle.std.proofs.Common.{◌≡◌, inl, inr, ℕ, zero, suc, ◌+◌, ◌*◌, ◌%◌, ◌^◌, ◌<◌, ◌≤◌, List, [], ◌∷◌, map, Option, Some, None, slice_get, refl, sym, ap, subst, arith}
 use Rattle.std.specs.Prelude.{unwrap_or}
-use Rattle.std.proofs.lemmas.Bool.{eqb-true}
-use Rattle.std.proofs.lemmas.Option.{same_Some}
 use Rattle.std.specs.Str.{bytes_eq}
 use Rattle.hip_types.specs.Layout.{gep_of}
 use Rattle.hip_types.specs.Numbers.{wrapped}
-use Rattle.hip_types.specs.declared.number.Scalar.{Scalar}
 use Rattle.hip_types.specs.declared.number.Width.TheVariants.{W64}
 use Rattle.hip_types.specs.declared.ty.Ty.{Ty}
 use Rattle.hip_ir.specs.declared.block.Edge.{Edge}
 use Rattle.hip_ir.specs.declared.block.End.{End}
 use Rattle.hip_ir.specs.declared.block.End.TheVariants as ends
-use Rattle.hip_ir.specs.declared.constant.Const.{Const, out-Const, roll-Const, roll-out-Const}
-use Rattle.hip_ir.specs.declared.constant.Const.TheOpen.{Const-F}
-use Rattle.hip_ir.specs.declared.constant.Const.TheFolds.{fold-roll-Const}
-use Rattle.hip_ir.specs.declared.constant.ConstGep.{ConstGep}
-use Rattle.hip_ir.specs.declared.constant.TypedConst.{TypedConst}
 use Rattle.hip_ir.specs.declared.instr.Arg.{Arg}
 use Rattle.hip_ir.specs.declared.instr.Instr.{Instr}
 use Rattle.hip_ir.specs.declared.instr.Instr.TheVariants.{Binary, Compare, Select, Cast, Alloca, Load, Store, Gep, Call}
@@ -30,9 +22,9 @@ use Rattle.hip_externs.specs.Externs.{call_of}
 use Rattle.hip_externs.specs.declared.call.ExternCall.{ExternCall}
 use Rattle.hip_typing.specs.Numbering.{function_number}
 use Rattle.hip_typing.specs.Sound.{IsSound}
-use Rattle.hip_globals.specs.Values.{Written, const_value}
+use Rattle.hip_globals.specs.Values.{const_value}
 use Rattle.hip_runs.specs.declared.input.Input.{Input}
-use Rattle.hip_runs.specs.Actions.{index_value, index_values, edge_value, returned}
+use Rattle.hip_runs.specs.Actions.{index_values, edge_value, returned}
 use Rattle.hip_runs.specs.Operands.{value_of, values_of, bound}
 use Rattle.hip_runs.specs.State.{Registers, Frame, World}
 use Rattle.hip_runs.specs.Step.{run}
@@ -40,41 +32,14 @@ use Rattle.hip_runs.specs.StoredParts.Parts.{In}
 use Rattle.hip_runs.specs.Validity.{IsValid}
 use Rattle.hip_runs.specs.Laws.PartLaws.{append-left, append-right}
 use Rattle.hip_runs.specs.Laws.StepLaws.{IsTop}
-use Rattle.hip_invariants.specs.PointerLevels.{PointerLevel, within_level, is_at_most, behind_offset, both}
+use Rattle.hip_invariants.specs.PointerLevels.{PointerLevel, within_level, is_at_most, behind_offset, known_path}
 use Rattle.hip_invariants.specs.Laws.InstrFacts.{instr_fact, CallFact, fact_holds}
 use Rattle.hip_invariants.specs.Laws.Registers.Facts.{ValuesHold, each_value, assigned_fact, fact_of_value, values_in_frames}
-use Rattle.hip_invariants.specs.Laws.LevelBounds.{const_within}
+use Rattle.hip_invariants.specs.Laws.LevelBounds.{within_higher, zero_within, offset_within, chosen_within, const_within, path_is}
 use Rattle.hip_vol.specs.Bounds.{Bound, Rule, Register, Result, free, low, same_as, Assignment, bound_in}
 use Rattle.hip_vol.specs.Closed.{IsMet, IsClosedUnder}
-use Rattle.hip_vol.specs.Rules.{constant_index, known_index, known_path, operand_bound, element_bound, rule, rule_for_result, argument_rules, rules_into, entry_rules, call_rules, instr_rules, end_rules, level_rules}
+use Rattle.hip_vol.specs.Rules.{operand_bound, element_bound, rule, rule_for_result, argument_rules, rules_into, entry_rules, call_rules, instr_rules, end_rules, level_rules}
 use Rattle.hip_vol.proofs.RuleMembers.{of_instr, of_phi, of_end}
-
--- ---- values within levels
-
-within_higher : (a b : PointerLevel) (v : ℕ) → is_at_most a b → within_level a v → within_level b v
-within_higher a None v h m = tt
-within_higher None (Some u) v h m = absurd h
-within_higher (Some t) (Some u) v h m = omega arith
-
-zero_within : (a : PointerLevel) → within_level a 0
-zero_within None = tt
-zero_within (Some t) = omega arith
-
-offset_within : (a : PointerLevel) (offset v : ℕ) → within_level a v → within_level (behind_offset a offset) ((v + offset) % 2 ^ 64)
-offset_within None offset v m = tt
-offset_within (Some t) offset v m = same (nat_eq offset 0) refl
-  where
-    up : (b : Bool) → offset < 67108864 → within_level (cond b (Some (suc t)) None) ((v + offset) % 2 ^ 64)
-    up true lt = let next : stack_end + 67108864 * suc t ≡ stack_end + 67108864 * t + 67108864 = omega arith in rw next (omega arith)
-    up false lt = tt
-
-    near : (b : Bool) → nat_lt offset 67108864 ≡ b → within_level (cond b (cond (nat_lt t 32) (Some (suc t)) None) None) ((v + offset) % 2 ^ 64)
-    near true e = up (nat_lt t 32) (ltb-true offset 67108864 e)
-    near false e = tt
-
-    same : (b : Bool) → nat_eq offset 0 ≡ b → within_level (cond b (Some t) (cond (nat_lt offset 67108864) (cond (nat_lt t 32) (Some (suc t)) None) None)) ((v + offset) % 2 ^ 64)
-    same true e = let none : offset ≡ 0 = eqb-true offset 0 e in omega arith
-    same false e = near (nat_lt offset 67108864) refl
 
 nowhere_behind : (a : PointerLevel) → behind_offset a 0 ≡ a
 nowhere_behind None = refl
@@ -102,42 +67,6 @@ module _ (P : Program) (s : IsSound P) (I : Input) (A : Assignment) where
 
   -- ---- elements
 
-  constant_is : (ty : Scalar) (c : Const) (i : ℕ) → constant_index ty (out-Const c) ≡ Some i → index_value ty (const_value P.globals I.base c) ≡ i
-  constant_is ty c i e = go (out-Const c) refl e
-    where
-      valued : (y : Const-F Const ConstGep TypedConst) → out-Const c ≡ y → const_value P.globals I.base c ≡ const_value P.globals I.base (roll-Const y)
-      valued y q = ap (const_value P.globals I.base) (sym (roll-out-Const c) ∙ ap roll-Const q)
-
-      go : (y : Const-F Const ConstGep TypedConst) → out-Const c ≡ y → constant_index ty y ≡ Some i → index_value ty (const_value P.globals I.base c) ≡ i
-      go (Const-F.Int b) q r =
-          let is : const_value P.globals I.base c ≡ b.value = valued _ q ∙ ap (λ (x : Written). x.value) (fold-roll-Const _ _ _ _ _ _ _) in
-          ap (index_value ty) is ∙ same_Some (index_value ty b.value) i r
-      go Const-F.Zero q r =
-          let is : const_value P.globals I.base c ≡ 0 = valued _ q ∙ ap (λ (x : Written). x.value) (fold-roll-Const _ _ _ _ _ _ _) in
-          ap (index_value ty) is ∙ same_Some (index_value ty 0) i r
-      go Const-F.Null q r = cc
-      go (Const-F.Address name) q r = cc
-      go (Const-F.Gep gep) q r = cc
-      go (Const-F.Array items) q r = cc
-      go (Const-F.Struct items) q r = cc
-
-  path_is : (rs : Registers) (args : List Arg) (path : List ℕ) → known_path args ≡ Some path → index_values P.globals I.base rs args ≡ path
-  path_is rs [] path e = same_Some [] path e
-  path_is rs (a ∷ args) path e = parts a.value (known_index a.ty a.value) (known_path args) refl (λ is q. path_is rs args is q) e
-    where
-      joined : (o : Operand) (i : ℕ) (is : List ℕ) → index_value a.ty (value_of P.globals I.base rs o) ≡ i → index_values P.globals I.base rs args ≡ is → i ∷ is ≡ path → index_value a.ty (value_of P.globals I.base rs o) ∷ index_values P.globals I.base rs args ≡ path
-      joined o i is p q r = ap₂ (λ x xs. x ∷ xs) p q ∙ r
-
-      value : (o : Operand) (i : ℕ) → known_index a.ty o ≡ Some i → index_value a.ty (value_of P.globals I.base rs o) ≡ i
-      value (Reg name) i q = cc
-      value (Fixed c) i q = constant_is a.ty c i q
-
-      parts : (o : Operand) (first : Option ℕ) (rest : Option (List ℕ)) → known_index a.ty o ≡ first → ((is : List ℕ) → rest ≡ Some is → index_values P.globals I.base rs args ≡ is) → both first rest ≡ Some path →
-          index_value a.ty (value_of P.globals I.base rs o) ∷ index_values P.globals I.base rs args ≡ path
-      parts o None rest p later r = cc
-      parts o (Some i) None p later r = cc
-      parts o (Some i) (Some is) p later r = joined o i is (value o i p) (later is refl) (same_Some (i ∷ is) path r)
-
   element_within : (g : ℕ) (rs : Registers) → Holds g rs → (base : Operand) (ty : Ty) (indices : List Arg) → within_level (bound_in A (element_bound P g base ty (known_path indices))) ((value_of P.globals I.base rs base + unwrap_or (gep_of ty (index_values P.globals I.base rs indices)) 0) % 2 ^ 64)
   element_within g rs h base ty indices = go (known_path indices) refl
     where
@@ -148,7 +77,7 @@ module _ (P : Program) (s : IsSound P) (I : Input) (A : Assignment) where
       go : (o : Option (List ℕ)) → known_path indices ≡ o → within_level (bound_in A (element_bound P g base ty o)) ((value_of P.globals I.base rs base + unwrap_or (gep_of ty (index_values P.globals I.base rs indices)) 0) % 2 ^ 64)
       go None e = tt
       go (Some path) e =
-          subst (λ is. within_level (bound_in A (element_bound P g base ty (Some path))) ((value_of P.globals I.base rs base + unwrap_or (gep_of ty is) 0) % 2 ^ 64)) (sym (path_is rs indices path e)) (by_base base path)
+          subst (λ is. within_level (bound_in A (element_bound P g base ty (Some path))) ((value_of P.globals I.base rs base + unwrap_or (gep_of ty is) 0) % 2 ^ 64)) (sym (path_is P.globals I.base rs indices path e)) (by_base base path)
 
   -- ---- instructions
 
@@ -165,10 +94,6 @@ module _ (P : Program) (s : IsSound P) (I : Input) (A : Assignment) where
   arguments_within g h rs holds (p ∷ ps) [] met = tt
   arguments_within g h rs holds (p ∷ ps) (a ∷ args) met =
       (ruled h p.name (operand_bound P g a.value) _ (met (record { variable = Register h p.name; least = operand_bound P g a.value }) (inl refl)) (operand_within g rs holds a.value), arguments_within g h rs holds ps args (λ r i. met r (inr i)))
-
-  chosen_within : (a : PointerLevel) (b : Bool) (x y : ℕ) → within_level a x → within_level a y → within_level a (cond b x y)
-  chosen_within a true x y p q = p
-  chosen_within a false x y p q = q
 
   call_within : (g : ℕ) (rs : Registers) → Holds g rs → (dest : Option (List ℕ)) (callee : List ℕ) (args : List Arg) → AreMet (call_rules P g dest callee args (call_of callee)) → CallFact (IsWithin A) (ResultIsWithin A) P I g rs dest callee args
   call_within g rs h dest callee args met = record {

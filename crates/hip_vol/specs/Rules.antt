@@ -2,16 +2,11 @@
 use Rattle.std.specs.Prelude.{ℕ, suc, List, [], ◌∷◌, ◌++◌, map, Option, Some, None, unwrap_or, slice_get}
 use Rattle.std.specs.List.{flat_map}
 use Rattle.hip_types.specs.Layout.{gep_of}
-use Rattle.hip_types.specs.declared.number.Scalar.{Scalar}
 use Rattle.hip_types.specs.declared.ty.Ty.{Ty}
 use Rattle.hip_ir.specs.declared.block.Block.{Block}
 use Rattle.hip_ir.specs.declared.block.End.{End}
 use Rattle.hip_ir.specs.declared.block.End.TheVariants as ends
 use Rattle.hip_ir.specs.declared.block.Phi.{Phi}
-use Rattle.hip_ir.specs.declared.constant.Const.{Const, out-Const}
-use Rattle.hip_ir.specs.declared.constant.Const.TheOpen.{Const-F}
-use Rattle.hip_ir.specs.declared.constant.ConstGep.{ConstGep}
-use Rattle.hip_ir.specs.declared.constant.TypedConst.{TypedConst}
 use Rattle.hip_ir.specs.declared.instr.Arg.{Arg}
 use Rattle.hip_ir.specs.declared.instr.Instr.{Instr}
 use Rattle.hip_ir.specs.declared.instr.Instr.TheVariants.{Binary, Compare, Select, Cast, Alloca, Load, Store, Gep, Call}
@@ -23,26 +18,8 @@ use Rattle.hip_ir.specs.declared.program.Program.{Program}
 use Rattle.hip_externs.specs.Externs.{call_of}
 use Rattle.hip_externs.specs.declared.call.ExternCall.{ExternCall}
 use Rattle.hip_typing.specs.Numbering.{function_number}
-use Rattle.hip_runs.specs.Actions.{index_value}
-use Rattle.hip_invariants.specs.PointerLevels.{behind_offset, const_level, both}
+use Rattle.hip_invariants.specs.PointerLevels.{behind_offset, const_level, known_path}
 use Rattle.hip_vol.specs.Bounds.{Bound, Rule, Register, Result, Known, Behind, low, free, same_as}
-
--- the value of an index that is a constant
-abbrev pub constant_index : Scalar → Const-F Const ConstGep TypedConst → Option ℕ
-constant_index ty (Const-F.Int b) = Some (index_value ty b.value)
-constant_index ty Const-F.Zero = Some (index_value ty 0)
-constant_index ty _ = None
-
--- the value of an index that is an integer constant or `zeroinitializer`, sign-extended to 64 bits; none of a
--- register
-abbrev pub known_index : Scalar → Operand → Option ℕ
-known_index ty (Reg name) = None
-known_index ty (Fixed c) = constant_index ty (out-Const c)
-
--- the values of indices that are all constants; none where one is a register
-abbrev pub known_path : List Arg → Option (List ℕ)
-known_path [] = Some []
-known_path (a ∷ args) = both (known_index a.ty a.value) (known_path args)
 
 module _ (P : Program) (g : ℕ) where
   -- an operand: `null`, `zeroinitializer` and a volatile global have level 0, a persistent global is free

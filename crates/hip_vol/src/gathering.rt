@@ -4,6 +4,7 @@ ghost use Rattle.hip_types.specs.Layout.{Fits};
 ghost use Rattle.hip_externs.specs.Externs.{call_of};
 ghost use Rattle.hip_calls.specs.Numbered.{Numbers};
 ghost use Rattle.hip_typing.specs.Numbering.{function_names, function_number};
+ghost use Rattle.hip_invariants.specs.PointerLevels as levels;
 ghost use Rattle.hip_vol.specs.Bounds.{Register};
 ghost use Rattle.hip_vol.specs.Describing.{Describes};
 ghost use Rattle.hip_vol.specs.Gathered.{BlockFits, EndFits, FunctionFits, InstrFits, OperandFits, PhiFits};
@@ -110,7 +111,7 @@ fn element_bound<'p>(
     requires base { OperandFits base.now }
     requires ty { Fits ty.now }
     ensures bound { IfOk result (λ bound. bound_of bound
-        ≡ spec.element_bound scope.now.program.now function base.now ty.now (spec.known_path indices.now)) }
+        ≡ spec.element_bound scope.now.program.now function base.now ty.now (levels.known_path indices.now)) }
     ensures small { IfOk result IsSmall }
 {
     match known_path(scope.alloc, indices)? {

@@ -42,18 +42,21 @@ use Rattle.hip_runs.specs.Validity.{IsValid}
 use Rattle.hip_invariants.specs.Laws.InstrFacts.{instr_fact, fact_holds}
 use Rattle.hip_invariants.specs.Laws.Registers.Facts.{each_told, ValuesHold, each_value, assigned_fact, fact_of_value, values_in_frames}
 use Rattle.hip_invariants.specs.Laws.GlobalAddresses.{start_before_end}
-use Rattle.hip_invariants.specs.PointerLevels.{within_level, is_at_most, behind_offset, number_level, global_level, level_step, gep_level_step, item_level_step, const_level, Levels, literal, fixed_index, both, fixed_path, gep_level, operand_level, goes_into, args_are_at_most, instr_is_closed, IsClosed, IsWithinLevel, RegistersAreWithin}
+use Rattle.hip_invariants.specs.PointerLevels.{within_level, is_at_most, behind_offset, number_level, global_level, level_step, gep_level_step, item_level_step, const_level, Levels, constant_index, known_index, both, known_path, gep_level, operand_level, goes_into, args_are_at_most, instr_is_closed, IsClosed, IsWithinLevel, RegistersAreWithin}
 
-within_higher : (a b : Option ℕ) (v : ℕ) → is_at_most a b → within_level a v → within_level b v
+-- what is within a level is within a higher one
+pub within_higher : (a b : Option ℕ) (v : ℕ) → is_at_most a b → within_level a v → within_level b v
 within_higher a None v h m = tt
 within_higher None (Some u) v h m = absurd h
 within_higher (Some t) (Some u) v h m = omega arith
 
-zero_within : (a : Option ℕ) → within_level a 0
+-- 0 is within each level
+pub zero_within : (a : Option ℕ) → within_level a 0
 zero_within None = tt
 zero_within (Some t) = omega arith
 
-offset_within : (a : Option ℕ) (offset v : ℕ) → within_level a v
+-- what lies behind an offset from a value within a level is within the level behind that offset
+pub offset_within : (a : Option ℕ) (offset v : ℕ) → within_level a v
     → within_level (behind_offset a offset) ((v + offset) % 2 ^ 64)
 offset_within None offset v m = tt
 offset_within (Some t) offset v m = same (nat_eq offset 0) refl
@@ -73,6 +76,12 @@ offset_within (Some t) offset v m = same (nat_eq offset 0) refl
         ((v + offset) % 2 ^ 64)
     same true e = let none : offset ≡ 0 = eqb-true offset 0 e in omega arith
     same false e = near (nat_lt offset 67108864) refl
+
+-- one of two values within a level is within it
+pub chosen_within : (a : Option ℕ) (b : Bool) (x y : ℕ) → within_level a x → within_level a y
+    → within_level a (cond b x y)
+chosen_within a true x y p q = p
+chosen_within a false x y p q = q
 
 -- the level of a constant `getelementptr`: its base's behind the offset of its indices
 abbrev const_gep_level : List GlobalVar → ConstGep → Option ℕ
@@ -149,17 +158,65 @@ module _ (P : Program) (s : IsSound P) (base : ℕ) where
       of_level (Const-F.Array items) = within_by _ None _ (fold-roll-Const _ _ _ _ _ _ _) refl tt
       of_level (Const-F.Struct items) = within_by _ None _ (fold-roll-Const _ _ _ _ _ _ _) refl tt
 
+-- ---- indices
+
+module _ (globals : List GlobalVar) (base : ℕ) where
+  valued : (c : Const) (y : Const-F Const ConstGep TypedConst) → out-Const c ≡ y
+      → const_value globals base c ≡ const_value globals base (roll-Const y)
+  valued c y q = ap (const_value globals base) (sym (roll-out-Const c) ∙ ap roll-Const q)
+
+  -- an index that is a constant is the value that it is known by
+  constant_is : (ty : Scalar) (c : Const) (i : ℕ) → constant_index ty (out-Const c) ≡ Some i
+      → index_value ty (const_value globals base c) ≡ i
+  constant_is ty c i e = go (out-Const c) refl e
+    where
+      go : (y : Const-F Const ConstGep TypedConst) → out-Const c ≡ y → constant_index ty y ≡ Some i
+          → index_value ty (const_value globals base c) ≡ i
+      go (Const-F.Int b) q r =
+          let is : const_value globals base c ≡ b.value =
+          valued c _ q ∙ ap (λ (x : Written). x.value) (fold-roll-Const _ _ _ _ _ _ _) in
+          ap (index_value ty) is ∙ same_Some (index_value ty b.value) i r
+      go Const-F.Zero q r =
+          let is : const_value globals base c ≡ 0 =
+          valued c _ q ∙ ap (λ (x : Written). x.value) (fold-roll-Const _ _ _ _ _ _ _) in
+          ap (index_value ty) is ∙ same_Some (index_value ty 0) i r
+      go Const-F.Null q r = cc
+      go (Const-F.Address name) q r = cc
+      go (Const-F.Gep gep) q r = cc
+      go (Const-F.Array items) q r = cc
+      go (Const-F.Struct items) q r = cc
+
+  -- indices that are all constants are the values that they are known by
+  pub path_is : (rs : Registers) (args : List Arg) (path : List ℕ) → known_path args ≡ Some path
+      → index_values globals base rs args ≡ path
+  path_is rs [] path e = same_Some [] path e
+  path_is rs (a ∷ args) path e = parts a.value (known_index a.ty a.value) (known_path args) refl
+      (λ is q. path_is rs args is q) e
+    where
+      joined : (o : Operand) (i : ℕ) (is : List ℕ) → index_value a.ty (value_of globals base rs o) ≡ i
+          → index_values globals base rs args ≡ is → i ∷ is ≡ path
+          → index_value a.ty (value_of globals base rs o) ∷ index_values globals base rs args ≡ path
+      joined o i is p q r = ap₂ (λ x xs. x ∷ xs) p q ∙ r
+
+      value : (o : Operand) (i : ℕ) → known_index a.ty o ≡ Some i
+          → index_value a.ty (value_of globals base rs o) ≡ i
+      value (Reg name) i q = cc
+      value (Fixed c) i q = constant_is a.ty c i q
+
+      parts : (o : Operand) (first : Option ℕ) (rest : Option (List ℕ)) → known_index a.ty o ≡ first
+          → ((is : List ℕ) → rest ≡ Some is → index_values globals base rs args ≡ is)
+          → both first rest ≡ Some path →
+          index_value a.ty (value_of globals base rs o) ∷ index_values globals base rs args ≡ path
+      parts o None rest p later r = cc
+      parts o (Some i) None p later r = cc
+      parts o (Some i) (Some is) p later r = joined o i is (value o i p) (later is refl) (same_Some (i ∷ is) path r)
+
 module _ (P : Program) (s : IsSound P) (I : Input) (L : Levels) (closed : IsClosed P L) where
   operand_within : (g : ℕ) (rs : Registers) → ValuesHold (IsWithinLevel L) (ResultIsWithin L) g rs → (o : Operand)
       → within_level (operand_level P L g o) (value_of P.globals I.base rs o)
   operand_within g rs h (Reg name) = (fact_of_value (IsWithinLevel L) (ResultIsWithin L) g rs name h
       (record { is = zero_within _ })).is
   operand_within g rs h (Fixed c) = const_within P s I.base c
-
-  chosen_within : (a : Option ℕ) (b : Bool) (x y : ℕ) → within_level a x → within_level a y
-      → within_level a (cond b x y)
-  chosen_within a true x y p q = p
-  chosen_within a false x y p q = q
 
   free_within : (a : Option ℕ) (v : ℕ) → is_at_most None a → within_level a v
   free_within None v h = tt
@@ -183,56 +240,14 @@ module _ (P : Program) (s : IsSound P) (I : Input) (L : Levels) (closed : IsClos
     bound_within g h rs holds ps args below.1,
   )
 
-  literal_is : (ty : Scalar) (c : Const) (i : ℕ) → literal ty (out-Const c) ≡ Some i
-      → index_value ty (const_value P.globals I.base c) ≡ i
-  literal_is ty c i e = go (out-Const c) refl e
-    where
-      go : (y : Const-F Const ConstGep TypedConst) → out-Const c ≡ y → literal ty y ≡ Some i
-          → index_value ty (const_value P.globals I.base c) ≡ i
-      go (Const-F.Int b) q r =
-          let is : const_value P.globals I.base c ≡ b.value =
-          ap (const_value P.globals I.base) (sym (roll-out-Const c) ∙ ap roll-Const q)
-          ∙ ap (λ (x : Written). x.value) (fold-roll-Const _ _ _ _ _ _ _) in
-          ap (index_value ty) is ∙ same_Some (index_value ty b.value) i r
-      go Const-F.Null q r = cc
-      go Const-F.Zero q r = cc
-      go (Const-F.Address name) q r = cc
-      go (Const-F.Gep gep) q r = cc
-      go (Const-F.Array items) q r = cc
-      go (Const-F.Struct items) q r = cc
-
-  fixed_is : (rs : Registers) (args : List Arg) (path : List ℕ) → fixed_path args ≡ Some path
-      → index_values P.globals I.base rs args ≡ path
-  fixed_is rs [] path e = same_Some [] path e
-  fixed_is rs (a ∷ args) path e = parts a.value (fixed_index a.ty a.value) (fixed_path args) refl
-      (λ is q. fixed_is rs args is q) e
-    where
-      joined : (o : Operand) (i : ℕ) (is : List ℕ) → index_value a.ty (value_of P.globals I.base rs o) ≡ i
-          → index_values P.globals I.base rs args ≡ is → i ∷ is ≡ path
-          → index_value a.ty (value_of P.globals I.base rs o) ∷ index_values P.globals I.base rs args ≡ path
-      joined o i is p q r = ap₂ (λ x xs. x ∷ xs) p q ∙ r
-
-      value : (o : Operand) (i : ℕ) → fixed_index a.ty o ≡ Some i
-          → index_value a.ty (value_of P.globals I.base rs o) ≡ i
-      value (Reg name) i q = cc
-      value (Fixed c) i q = literal_is a.ty c i q
-
-      parts : (o : Operand) (first : Option ℕ) (rest : Option (List ℕ)) → fixed_index a.ty o ≡ first
-          → ((is : List ℕ) → rest ≡ Some is → index_values P.globals I.base rs args ≡ is)
-          → both first rest ≡ Some path →
-          index_value a.ty (value_of P.globals I.base rs o) ∷ index_values P.globals I.base rs args ≡ path
-      parts o None rest p later r = cc
-      parts o (Some i) None p later r = cc
-      parts o (Some i) (Some is) p later r = joined o i is (value o i p) (later is refl) (same_Some (i ∷ is) path r)
-
   gep_within : (g : ℕ) (rs : Registers) → ValuesHold (IsWithinLevel L) (ResultIsWithin L) g rs
       → (base : Operand) (ty : Ty) (indices : List Arg)
-      → within_level (gep_level (operand_level P L g base) ty (fixed_path indices))
+      → within_level (gep_level (operand_level P L g base) ty (known_path indices))
       ((value_of P.globals I.base rs base + unwrap_or
       (gep_of ty (index_values P.globals I.base rs indices)) 0) % 2 ^ 64)
-  gep_within g rs h base ty indices = go (fixed_path indices) refl
+  gep_within g rs h base ty indices = go (known_path indices) refl
     where
-      go : (o : Option (List ℕ)) → fixed_path indices ≡ o
+      go : (o : Option (List ℕ)) → known_path indices ≡ o
           → within_level (gep_level (operand_level P L g base) ty o)
           ((value_of P.globals I.base rs base + unwrap_or
           (gep_of ty (index_values P.globals I.base rs indices)) 0) % 2 ^ 64)
@@ -240,7 +255,7 @@ module _ (P : Program) (s : IsSound P) (I : Input) (L : Levels) (closed : IsClos
       go (Some path) e =
           subst (λ is. within_level (behind_offset (operand_level P L g base) (unwrap_or (gep_of ty path) 0))
           ((value_of P.globals I.base rs base + unwrap_or (gep_of ty is) 0) % 2 ^ 64))
-          (sym (fixed_is rs indices path e))
+          (sym (path_is P.globals I.base rs indices path e))
           (offset_within (operand_level P L g base) (unwrap_or (gep_of ty path) 0) (value_of P.globals I.base rs base)
           (operand_within g rs h base))
 
@@ -261,7 +276,7 @@ module _ (P : Program) (s : IsSound P) (I : Input) (L : Levels) (closed : IsClos
   instr_fact_of g w rs h (Store ty value addr align) c = tt
   instr_fact_of g w rs h (Gep dest inbounds ty base indices) c = record {
     is =
-        within_higher (gep_level (operand_level P L g base) ty (fixed_path indices)) (L.register g dest) _ c
+        within_higher (gep_level (operand_level P L g base) ty (known_path indices)) (L.register g dest) _ c
         (gep_within g rs h base ty indices);
   }
   instr_fact_of g w rs h (Call dest ret callee args) c = record {

@@ -11,7 +11,7 @@ use Rattle.hip_runs.specs.Ends.{longest}
 use Rattle.hip_runs.specs.Laws.HistoryLaws.{lines_ordered}
 use Rattle.hip_runs.specs.Laws.NextLaws.{next_lines, counts-next}
 use Rattle.hip_runs.specs.Laws.OutputLaws.{run_told}
-use Rattle.hip_runs.specs.Laws.StepLaws.{Cases, is_plain, step-cases, ordered-met_lines, length-lines, standing-frame, counted-steps, has_frame}
+use Rattle.hip_runs.specs.Laws.StepLaws.{Cases, is_plain, step-cases, ordered-flushed_by, length-lines, standing-frame, counted-steps, has_frame}
 use Rattle.hip_runs.specs.Outputs.{ending_by}
 use Rattle.hip_runs.specs.State.{Counts, Frame, Level, State, StorePart, levels_of, site_of}
 use Rattle.hip_runs.specs.Step.{counted, event, has_ended, has_entry, run}
@@ -77,7 +77,7 @@ module _ (I : Input) (counts : Counts) (t : Site) (levels : List Level) (ls : Li
   kept-noted (events.Flush line size) q = kept-flushed I.image see see' ls ordered h (flush_at counts t) (line - I.base) size q
   kept-noted (events.Persist line size) q =
       let flushed = λ (j : ℕ). cond (has_bytes j (line - I.base) size) (with_flush (see j)) (see j) in
-      kept-fenced I.image flushed see' (flushed_by I (flush_at counts t) line size ls) (ordered-met_lines I (flush_at counts t) line size ls ordered) (kept-flushed I.image see flushed ls ordered h (flush_at counts t) (line - I.base) size (λ j. refl)) q
+      kept-fenced I.image flushed see' (flushed_by I (flush_at counts t) line size ls) (ordered-flushed_by I (flush_at counts t) line size ls ordered) (kept-flushed I.image see flushed ls ordered h (flush_at counts t) (line - I.base) size (λ j. refl)) q
   kept-noted events.Fence q = kept-fenced I.image see see' ls ordered h q
   kept-noted (events.Assert a n) q = kept-same I.image see see' ls h q
   kept-noted (events.End e) q = kept-same I.image see see' ls h q

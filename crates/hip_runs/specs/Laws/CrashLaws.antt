@@ -11,11 +11,12 @@ use Rattle.hip_globals.specs.Addresses.{end_of}
 use Rattle.hip_runs.specs.declared.input.Input.{Input}
 use Rattle.hip_runs.specs.Crash.{covers, byte_of, IsCrashImage, IsCrashPick, crash_image}
 use Rattle.hip_runs.specs.Laws.HistoryLaws.{lines_ordered}
+use Rattle.hip_runs.specs.StoredParts.After.{flushed_by}
 use Rattle.hip_runs.specs.StoredParts.Persistence.{noted_flush, noted_fence, flush_line, fence_line, fenced_lines}
 use Rattle.hip_runs.specs.StoredParts.Since.{stores, fences}
 use Rattle.hip_runs.specs.State.{Flush, StorePart, State}
 use Rattle.hip_runs.specs.Step.{event, run}
-use Rattle.hip_runs.specs.Laws.StepLaws.{Cases, met_lines, step-cases, length-lines, ordered-met_lines}
+use Rattle.hip_runs.specs.Laws.StepLaws.{Cases, step-cases, length-lines, ordered-flushed_by}
 use Rattle.hip_runs.specs.Validity.{IsValid}
 
 -- ---- every image is a choice of first parts, and every choice gives an image
@@ -126,7 +127,7 @@ module _ (I : Input) (ls : List (Line StorePart)) where
   AllOf ls' =
       (content : List ℕ) → IsImage covers byte_of I.image ls content → IsImage covers byte_of I.image ls' content
 
-  fewer_flushed : (flush : Flush) (a n : ℕ) → OnlyOf (met_lines I flush a n ls)
+  fewer_flushed : (flush : Flush) (a n : ℕ) → OnlyOf (flushed_by I flush a n ls)
   fewer_flushed flush a n content h = record { whole = h.whole; lines = at }
     where
       at : (j : ℕ) (l : Line StorePart) → slice_get ls j ≡ Some l
@@ -149,10 +150,10 @@ module _ (I : Input) (ls : List (Line StorePart)) where
             (h.lines j (fence_line l) (get-map fence_line ls j l e));
       }
 
-  all_flushed : (flush : Flush) (a n : ℕ) → AllOf (met_lines I flush a n ls)
+  all_flushed : (flush : Flush) (a n : ℕ) → AllOf (flushed_by I flush a n ls)
   all_flushed flush a n content h = record { whole = h.whole; lines = at }
     where
-      at : (j : ℕ) (l : Line StorePart) → slice_get (met_lines I flush a n ls) j ≡ Some l
+      at : (j : ℕ) (l : Line StorePart) → slice_get (flushed_by I flush a n ls) j ≡ Some l
           → IsLineImage covers byte_of I.image content j l
       at j l e =
           let b =
@@ -190,7 +191,7 @@ fewer I s o = record {
   flush = λ f fs t a n e q. fewer_flushed I s.lines _ a n;
   persist =
       λ f fs t a n e q content h. fewer_flushed I s.lines _ a n content
-      (fewer_fenced I _ (ordered-met_lines I _ a n s.lines o) content h);
+      (fewer_fenced I _ (ordered-flushed_by I _ a n s.lines o) content h);
   fence = λ q. fewer_fenced I s.lines o;
 }
 

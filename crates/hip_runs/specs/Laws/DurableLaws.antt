@@ -6,12 +6,13 @@ use Rattle.hip_lines.specs.Laws.LineLaws.{slice_get-change_range, ordered-at}
 use Rattle.hip_lines.specs.Laws.LooseLaws.{get-map, get-of_map}
 use Rattle.hip_runs.specs.declared.input.Input.{Input}
 use Rattle.hip_runs.specs.Laws.HistoryLaws.{has_history, lines_ordered}
+use Rattle.hip_runs.specs.StoredParts.After.{flushed_by}
 use Rattle.hip_runs.specs.StoredParts.Persistence.{earlier, noted_flush, noted_fence, flush_line, fence_line, fenced_lines}
 use Rattle.hip_runs.specs.StoredParts.Since.{IsDurableIn, IsDurableAt}
 use Rattle.hip_runs.specs.Laws.SinceLaws.{get_mapped}
 use Rattle.hip_runs.specs.State.{Flush, StorePart, State}
 use Rattle.hip_runs.specs.Step.{run}
-use Rattle.hip_runs.specs.Laws.StepLaws.{Cases, met_lines, step-cases, ordered-met_lines}
+use Rattle.hip_runs.specs.Laws.StepLaws.{Cases, step-cases, ordered-flushed_by}
 
 get_front : {A : Type 0} (xs : List A) (y x : A) (k : ℕ) → slice_get (xs ++ y ∷ []) k ≡ Some x → k < length xs
     → slice_get xs k ≡ Some x
@@ -40,7 +41,7 @@ abbrev AreFenced : List (Line StorePart) → Type 0
 AreFenced ls = (m k : ℕ) (x : StorePart) → IsDurableIn (slice_get ls m) k x → x.fenced ≡ true
 
 flush_kept : (I : Input) (flush : Flush) (a n : ℕ) (ls : List (Line StorePart)) → AreFenced ls
-    → AreFenced (met_lines I flush a n ls)
+    → AreFenced (flushed_by I flush a n ls)
 flush_kept I flush a n ls h m k x d =
     go (has_bytes m (a - I.base) n) (slice_get ls m) (λ y. h m k y)
     (subst (λ o. IsDurableIn o k x) (slice_get-change_range (λ _ l. flush_line flush l) (a - I.base) n ls m) d)
@@ -111,7 +112,7 @@ module _ (m k : ℕ) (x : StorePart) where
   Stays ls ls' = IsDurableIn (slice_get ls m) k x → IsDurableIn (slice_get ls' m) k x
 
   stays_flushed : (I : Input) (flush : Flush) (a n : ℕ) (ls : List (Line StorePart)) → IsSettled x
-      → Stays ls (met_lines I flush a n ls)
+      → Stays ls (flushed_by I flush a n ls)
   stays_flushed I flush a n ls s d =
       subst (λ o. IsDurableIn o k x) (sym (slice_get-change_range (λ _ l. flush_line flush l) (a - I.base) n ls m))
       (go (has_bytes m (a - I.base) n) (slice_get ls m) d)
@@ -151,7 +152,7 @@ module _ (m k : ℕ) (x : StorePart) where
     store = λ f fs t addr bytes e w. stays_stored _ (addr - I.base) (length bytes) s.lines;
     flush = λ f fs t addr n e. stays_flushed I _ addr n s.lines h;
     persist =
-        λ f fs t addr n e d. stays_fenced _ (ordered-met_lines I _ addr n s.lines a) h
+        λ f fs t addr n e d. stays_fenced _ (ordered-flushed_by I _ addr n s.lines a) h
         (stays_flushed I _ addr n s.lines h d);
     fence = stays_fenced s.lines a h;
   }

@@ -11,11 +11,12 @@ use Rattle.hip_runs.specs.declared.input.Input.{Input}
 use Rattle.hip_runs.specs.Crash.{covers}
 use Rattle.hip_runs.specs.Laws.HistoryLaws.{has_history, line_of_fresh, lines_ordered}
 use Rattle.hip_runs.specs.StoredParts.Order.{HasOrder, last_fence, is_before}
+use Rattle.hip_runs.specs.StoredParts.After.{flushed_by}
 use Rattle.hip_runs.specs.StoredParts.Persistence.{part_of_store, noted_flush, noted_fence, flush_line, fence_line, fenced_lines}
 use Rattle.hip_runs.specs.Laws.SinceLaws.{line_of_start, below, fence_told, told_by_fence}
 use Rattle.hip_runs.specs.State.{Level, Flush, StorePart, Counts, site_of, levels_of}
 use Rattle.hip_runs.specs.Step.{run, step, event}
-use Rattle.hip_runs.specs.Laws.StepLaws.{Cases, met_lines, step-cases, counted-steps}
+use Rattle.hip_runs.specs.Laws.StepLaws.{Cases, step-cases, counted-steps}
 use Rattle.hip_runs.specs.Laws.Found.LooseBytes.{AreInLines, true_over}
 use Rattle.hip_runs.specs.StoredParts.Parts.{PartOf}
 use Rattle.hip_runs.specs.StoredParts.Since.{fences, FencedSince}
@@ -175,7 +176,7 @@ all_fence n ls h m l e =
     let r = get-of_map fence_line ls m l e in subst (IsWell n m) r.2 (well_fence n m r.0 (h m r.0 r.1))
 
 all_flush : (n : ℕ) (I : Input) (flush : Flush) (a size : ℕ) (ls : List (Line StorePart)) → AreWell n ls
-    → AreWell n (met_lines I flush a size ls)
+    → AreWell n (flushed_by I flush a size ls)
 all_flush n I flush a size ls h m l e =
     go (has_bytes m (a - I.base) size) (slice_get ls m) (λ x q. h m x q)
     (sym (slice_get-change_range (λ _ l. flush_line flush l) (a - I.base) size ls m) ∙ e)

@@ -10,13 +10,13 @@ use Rattle.hip_runs.specs.declared.event.Ending.TheVariants.{Cut}
 use Rattle.hip_runs.specs.declared.event.Event.{Event}
 use Rattle.hip_runs.specs.declared.input.Input.{Input}
 use Rattle.hip_runs.specs.Actions.{Action, Traps, Assigns, Allocates, Stores, Flushes, Persists, Fences, Asserts, Prints, Reads, Calls, Jumps, Returns, Deed, in_region}
-use Rattle.hip_runs.specs.StoredParts.After.{flushed_by, lines_after}
+use Rattle.hip_runs.specs.StoredParts.After.{flush_at, flushed_by, lines_after}
 use Rattle.hip_runs.specs.Entry.{IsAtEntry}
 use Rattle.hip_runs.specs.StoredParts.Persistence.{part_of_store, flush_line, flushes_lines, fenced_lines}
 use Rattle.hip_runs.specs.StoredParts.Since.{top_site}
 use Rattle.hip_runs.specs.State.{Flush, StorePart, Frame, World, Counts, State, levels_of, site_of}
 use Rattle.hip_runs.specs.Step.{first_line, lines_size, stop, with_turn, leave, perform, is_cut, has_entry, counted, header_entries, carry_out, deed_at, on_frames, on_ending, step, event_on_frames, event_on_ending, event, run, has_ended}
-use Rattle.hip_runs.specs.Laws.StepLaws.{Cases, IsTop, is_plain, flush_here, met_lines, step-cases, has_frame, standing-frame}
+use Rattle.hip_runs.specs.Laws.StepLaws.{Cases, IsTop, is_plain, step-cases, has_frame, standing-frame}
 use Rattle.std.specs.Cmp.{both_ways}
 use Rattle.hip_runs.specs.declared.event.Event.TheVariants as events
 
@@ -49,7 +49,7 @@ same_changes f o n o' n' h j (l ∷ ls) =
     ap₂ (λ b rest. cond b (f j l) l ∷ rest) (h j) (same_changes f o n o' n' h (suc j) ls)
 
 flushed_alike : (I : Input) (flush : Flush) (a n : ℕ) (ls : List (Line StorePart)) → flushes_lines I a n ≡ true
-    → met_lines I flush a n ls ≡ flushed_by I flush (first_line I a) (lines_size I a n) ls
+    → flushed_by I flush a n ls ≡ flushed_by I flush (first_line I a) (lines_size I a n) ls
 flushed_alike I flush a n ls h =
     sym (same_changes (λ _ l. flush_line flush l) (first_line I a - I.base) (lines_size I a n) (a - I.base) n
     (λ j. same_lines I.base (a - I.base) n j (some_bytes n (in_region I a n) h)) 0 ls)
@@ -86,10 +86,10 @@ next_cases I s = record {
       (length bytes) s.lines) (sym w));
   flush =
       λ f fs t a n e. at_top I s f fs t (events.Flush (first_line I a) (lines_size I a n)) _
-      (flushed_alike I (flush_here s f) a n s.lines e);
+      (flushed_alike I (flush_at s.counts (site_of f)) a n s.lines e);
   persist =
       λ f fs t a n e. at_top I s f fs t (events.Persist (first_line I a) (lines_size I a n)) _
-      (ap fenced_lines (flushed_alike I (flush_here s f) a n s.lines e));
+      (ap fenced_lines (flushed_alike I (flush_at s.counts (site_of f)) a n s.lines e));
   fence = refl;
 }
 

@@ -10,11 +10,12 @@ use Rattle.hip_runs.specs.declared.input.Input.{Input}
 use Rattle.hip_runs.specs.Actions.{in_region}
 use Rattle.hip_runs.specs.StoredParts.Parts.{In, PartOf}
 use Rattle.hip_runs.specs.Laws.PartLaws.{in-map, in-append}
+use Rattle.hip_runs.specs.StoredParts.After.{flush_at, flushed_by}
 use Rattle.hip_runs.specs.StoredParts.Persistence.{part_of_store, earlier, noted_flush, noted_fence, flush_line, fence_line, flushes_lines, fenced_lines}
 use Rattle.hip_runs.specs.StoredParts.Since.{fences, flushes, has_line, FencedSince, NotFlushedSince, top_site, IsFirst, IsFirstFlush}
 use Rattle.hip_runs.specs.State.{Flush, StorePart, Frame, levels_of, site_of}
 use Rattle.hip_runs.specs.Step.{first_line, lines_size, event, run}
-use Rattle.hip_runs.specs.Laws.StepLaws.{Cases, IsTop, is_plain, flush_here, met_lines, step-cases, counted-steps}
+use Rattle.hip_runs.specs.Laws.StepLaws.{Cases, IsTop, is_plain, step-cases, counted-steps}
 use Rattle.hip_runs.specs.declared.event.Event.TheVariants as events
 
 -- ---- one step more
@@ -178,7 +179,7 @@ of_fenced ls j y i = go (slice_get ls j) (subst (λ o. InLine o y) (get_mapped f
     go (Some l) h = in-map noted_fence l.parts y h
 
 pub of_flushed : (I : Input) (flush : Flush) (a n : ℕ) (ls : List (Line StorePart)) (j : ℕ) (y : StorePart)
-    → InLine (slice_get (met_lines I flush a n ls) j) y
+    → InLine (slice_get (flushed_by I flush a n ls) j) y
     → (x : StorePart) × InLine (slice_get ls j) x
     × (y ≡ cond (has_bytes j (a - I.base) n) (noted_flush flush x) x)
 of_flushed I flush a n ls j y i =
@@ -266,7 +267,8 @@ module _ (P : Program) (I : Input) (n : ℕ) where
   abbrev AreTold : ℕ → List (Line StorePart) → Type 0
   AreTold m ls = (j : ℕ) (x : StorePart) → InLine (slice_get ls j) x → IsTold P I m j x
 
-  here : (f : Frame) (fs : List Frame) → IsTop (run P I n) f fs → IsHere P I n (flush_here (run P I n) f)
+  here : (f : Frame) (fs : List Frame) → IsTop (run P I n) f fs
+      → IsHere P I n (flush_at (run P I n).counts (site_of f))
   here f fs t = record { step = counted-steps P I n t.going; site = ap top_site t.frames }
 
   abbrev Next : Event → List (Line StorePart) → Type 0
@@ -312,7 +314,7 @@ module _ (P : Program) (I : Input) (n : ℕ) where
       by_flush : (f : Frame) (fs : List Frame) → IsTop (run P I n) f fs → (a m j : ℕ) (x : StorePart)
           → event P I (run P I n) ≡ events.Flush (first_line I a) (lines_size I a m) →
           (b : Bool) → has_line I.base j (first_line I a) (lines_size I a m) ≡ b → IsTold P I n j x
-          → IsTold P I (suc n) j (cond b (noted_flush (flush_here (run P I n) f) x) x)
+          → IsTold P I (suc n) j (cond b (noted_flush (flush_at (run P I n).counts (site_of f)) x) x)
       by_flush f fs t a m j x q true e h =
           told_flush P I n j _ (here f fs t) (ap fences q) (ap (flushes I.base j) q ∙ e) x h
       by_flush f fs t a m j x q false e h = told_same P I n j (ap fences q) (ap (flushes I.base j) q ∙ e) x h
@@ -320,7 +322,7 @@ module _ (P : Program) (I : Input) (n : ℕ) where
       by_persist : (f : Frame) (fs : List Frame) → IsTop (run P I n) f fs → (a m j : ℕ) (x : StorePart)
           → event P I (run P I n) ≡ events.Persist (first_line I a) (lines_size I a m) →
           (b : Bool) → has_line I.base j (first_line I a) (lines_size I a m) ≡ b → IsTold P I n j x
-          → IsTold P I (suc n) j (noted_fence (cond b (noted_flush (flush_here (run P I n) f) x) x))
+          → IsTold P I (suc n) j (noted_fence (cond b (noted_flush (flush_at (run P I n).counts (site_of f)) x) x))
       by_persist f fs t a m j x q true e h =
           told_persist P I n j _ (here f fs t) (ap fences q) (ap (flushes I.base j) q ∙ e) x h
       by_persist f fs t a m j x q false e h = told_fence P I n j (ap fences q) (ap (flushes I.base j) q ∙ e) x h

@@ -4,13 +4,14 @@ use Rattle.std.proofs.lemmas.List.{length-map, length-replicate}
 use Rattle.hip_ir.specs.Sites.{instr_of}
 use Rattle.hip_ir.specs.declared.program.Program.{Program}
 use Rattle.hip_mem.specs.Bytes.{little_endian, bytes_of}
-use Rattle.hip_lines.specs.Line.{Line, AreOrdered, map_line, change_range, stored, fresh_lines}
+use Rattle.hip_lines.specs.Line.{Line, AreOrdered, map_line, stored, fresh_lines}
 use Rattle.hip_lines.specs.Laws.LineLaws.{length-change_from, ordered-change_from, ordered-flushed_line, ordered-map_line}
 use Rattle.hip_runs.specs.declared.event.Ending.{Ending}
 use Rattle.hip_runs.specs.declared.event.Ending.TheVariants.{Cut}
 use Rattle.hip_runs.specs.declared.event.Event.{Event}
 use Rattle.hip_runs.specs.declared.input.Input.{Input}
 use Rattle.hip_runs.specs.Actions.{Action, Traps, Assigns, Allocates, Stores, Flushes, Persists, Fences, Asserts, Prints, Reads, Calls, Jumps, Returns, Deed, in_region}
+use Rattle.hip_runs.specs.StoredParts.After.{flush_at, flushed_by}
 use Rattle.hip_runs.specs.StoredParts.Persistence.{part_of_store, noted_flush, flush_line, flushes_lines, fenced_lines}
 use Rattle.hip_runs.specs.State.{Flush, StorePart, Frame, World, Counts, State, levels_of, site_of}
 use Rattle.hip_runs.specs.Step.{first_line, lines_size, event_of, stop, with_turn, leave, perform, is_cut, event_at, carry_out, deed_at, on_frames, on_ending, step, event_on_frames, event_on_ending, event, run}
@@ -30,14 +31,6 @@ pub record IsTop (s : State) (f : Frame) (fs : List Frame) : Type 0 where
   pub going : s.world.ending ≡ None
   pub frames : s.frames ≡ f ∷ fs
 
--- the flush of a state's next step, if that is one, where this frame is on top
-abbrev pub flush_here : State → Frame → Flush
-flush_here s f = record { step = s.counts.steps; site = site_of f }
-
--- the lines after a flush of a range at an address
-abbrev pub met_lines : Input → Flush → ℕ → ℕ → List (Line StorePart) → List (Line StorePart)
-met_lines I flush a n ls = change_range (λ _ l. flush_line flush l) (a - I.base) n ls
-
 -- A statement on an event and on the lines after it, at each kind of step.
 pub record Cases (I : Input) (s : State) (Q : Event → List (Line StorePart) → Type 0) : Type 0 where
   pub plain : (e : Event) → is_plain e ≡ true → Q e s.lines
@@ -48,9 +41,11 @@ pub record Cases (I : Input) (s : State) (Q : Event → List (Line StorePart) �
       (stored (part_of_store s.counts (site_of f) (levels_of (f ∷ fs)) (a - I.base) bytes) (a - I.base)
       (length bytes) s.lines)
   pub flush : (f : Frame) (fs : List Frame) → IsTop s f fs → (a n : ℕ) → flushes_lines I a n ≡ true →
-      Q (events.Flush (first_line I a) (lines_size I a n)) (met_lines I (flush_here s f) a n s.lines)
+      Q (events.Flush (first_line I a) (lines_size I a n))
+      (flushed_by I (flush_at s.counts (site_of f)) a n s.lines)
   pub persist : (f : Frame) (fs : List Frame) → IsTop s f fs → (a n : ℕ) → flushes_lines I a n ≡ true →
-      Q (events.Persist (first_line I a) (lines_size I a n)) (fenced_lines (met_lines I (flush_here s f) a n s.lines))
+      Q (events.Persist (first_line I a) (lines_size I a n))
+      (fenced_lines (flushed_by I (flush_at s.counts (site_of f)) a n s.lines))
   pub fence : Q events.Fence (fenced_lines s.lines)
 
 module _ (P : Program) (I : Input) (s : State) (Q : Event → List (Line StorePart) → Type 0) (c : Cases I s Q) where
@@ -78,14 +73,14 @@ module _ (P : Program) (I : Input) (s : State) (Q : Event → List (Line StorePa
     where
       go : (b : Bool) → flushes_lines I a n ≡ b
           → Q (cond b (events.Flush (first_line I a) (lines_size I a n)) events.Quiet)
-          (cond b (met_lines I (flush_here s f) a n s.lines) s.lines)
+          (cond b (flushed_by I (flush_at s.counts (site_of f)) a n s.lines) s.lines)
       go true e = c.flush f fs t a n e
       go false e = c.plain _ refl
   perform_case w f fs t after (Persists a n) h = go (flushes_lines I a n) refl
     where
       go : (b : Bool) → flushes_lines I a n ≡ b
           → Q (cond b (events.Persist (first_line I a) (lines_size I a n)) events.Fence)
-          (fenced_lines (cond b (met_lines I (flush_here s f) a n s.lines) s.lines))
+          (fenced_lines (cond b (flushed_by I (flush_at s.counts (site_of f)) a n s.lines) s.lines))
       go true e = c.persist f fs t a n e
       go false e = c.fence
   perform_case w f fs t after Fences h = c.fence
@@ -124,9 +119,9 @@ module _ (P : Program) (I : Input) (s : State) (Q : Event → List (Line StorePa
       go (Some e) q = c.plain _ refl
       go None q = on_them s.frames refl q
 
-pub ordered-met_lines : (I : Input) (flush : Flush) (a n : ℕ) (ls : List (Line StorePart)) → AreOrdered ls
-    → AreOrdered (met_lines I flush a n ls)
-ordered-met_lines I flush a n ls o =
+pub ordered-flushed_by : (I : Input) (flush : Flush) (a n : ℕ) (ls : List (Line StorePart)) → AreOrdered ls
+    → AreOrdered (flushed_by I flush a n ls)
+ordered-flushed_by I flush a n ls o =
     ordered-change_from (λ _ l. flush_line flush l) (a - I.base) n
     (λ _ l h. ordered-flushed_line (map_line (noted_flush flush) l) (ordered-map_line (noted_flush flush) l h)) 0 ls o
 

@@ -9,13 +9,13 @@ use Rattle.hip_runs.specs.StoredParts.Persistence.{part_of_store, flush_line, fe
 use Rattle.hip_runs.specs.State.{Level, Flush, StorePart, Counts}
 use Rattle.hip_runs.specs.declared.event.Event.TheVariants as events
 
--- the flush of a step at a site
+-- the flush of a step, from what was counted before it and its site
 abbrev pub flush_at : Counts → Site → Flush
 flush_at counts site = record { step = counts.steps; site = site }
 
--- the lines that an event names are flushed
+-- the lines after a flush of so many bytes from an address on: each that has one of them is flushed
 abbrev pub flushed_by : Input → Flush → ℕ → ℕ → List (Line StorePart) → List (Line StorePart)
-flushed_by I flush line size ls = change_range (λ _ l. flush_line flush l) (line - I.base) size ls
+flushed_by I flush a n ls = change_range (λ _ l. flush_line flush l) (a - I.base) n ls
 
 -- The lines after a step with an event, where the top frame stood at a site, under these calls, and so much was
 -- counted.

@@ -1,6 +1,7 @@
 -- The history that a part of a store carries is what the steps since its store tell.
 use Rattle.std.proofs.Common.{◌≡◌, ◌⊎◌, inl, inr, ℕ, zero, suc, ◌+◌, ◌-◌, ◌*◌, ◌/◌, ◌<◌, Bool, true, false, cond, ◌&&◌, nat_lt, nat_le, List, [], ◌∷◌, length, map, Option, Some, None, option_map, slice_get, refl, sym, ap, ap₂, ◌∙◌, subst, arith}
 use Rattle.std.proofs.lemmas.Bool.Decides.{nat_tests}
+use Rattle.std.specs.Cmp.{both_ways}
 use Rattle.hip_ir.specs.declared.program.Program.{Program}
 use Rattle.hip_ir.specs.declared.site.Site.{Site}
 use Rattle.hip_lines.specs.Line.{Line, with_part, start_in, has_bytes, stored, fresh_lines}
@@ -211,11 +212,6 @@ of_stored part o n ls j y i =
     go false (Some l) h = inl h
 
 -- ---- the lines that an event names
-
-both_ways : (a b : Bool) → (a ≡ true → b ≡ true) → (b ≡ true → a ≡ true) → a ≡ b
-both_ways true b h k = sym (h refl)
-both_ways false true h k = k refl
-both_ways false false h k = refl
 
 line_there : (base o n j : ℕ) → 0 < n
     → nat_le (base + 64 * (o / 64)) (base + 64 * j) && nat_lt (base + 64 * j)

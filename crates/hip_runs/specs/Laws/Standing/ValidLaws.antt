@@ -1,29 +1,26 @@
 -- The two tests on valid bytes are one.
-use Rattle.std.proofs.Common.{◌≡◌, ℕ, zero, suc, ◌+◌, ◌<◌, ◌≤◌, ◌⊎◌, inl, inr, Option, Some, None, cond, nat_eq, ◌%◌, Bool, true, false, ◌||◌, ◌&&◌, nat_le, List, length, ◌∷◌, [], ◌++◌, refl, sym, ap, ap₂, ◌∙◌, arith}
+use Rattle.std.proofs.Common.{◌≡◌, ℕ, zero, suc, ◌+◌, ◌<◌, ◌≤◌, ◌⊎◌, inl, inr, Option, Some, None, cond, nat_eq, ◌%◌, Bool, true, false, ◌||◌, List, length, ◌∷◌, [], ◌++◌, refl, sym, ap, ap₂, ◌∙◌, arith}
 use Rattle.std.proofs.lemmas.Bool.Decides.{nat_tests}
+use Rattle.std.specs.Cmp.{both_ways}
 use Rattle.hip_ir.specs.declared.program.Program.{Program}
 use Rattle.hip_mem.specs.declared.refusal.MemTrap.{MemTrap}
 use Rattle.hip_mem.specs.declared.refusal.MemTrap.TheVariants as mem_traps
 use Rattle.hip_runs.specs.declared.event.TrapKind.TheVariants as traps
-use Rattle.hip_mem.specs.Areas.{Areas, access_trap, IsLaidOut, Holds, mark_of, after_write}
+use Rattle.hip_mem.specs.Areas.{Areas, access_trap, after_write}
 use Rattle.hip_mem.specs.Areas as areas
 use Rattle.hip_mem.specs.Laws.AreasLaws.{FitsOne, are_valid-fits, fits-are_valid, holds-write, mark_of-after_write, laid_out-after_write}
 use Rattle.hip_mem.specs.Memory.{Write, volatile_start, stack_start}
 use Rattle.hip_globals.specs.Addresses.{volatile_end}
 use Rattle.hip_globals.specs.Initial.{volatile_bytes}
 use Rattle.hip_runs.specs.declared.input.Input.{Input}
-use Rattle.hip_runs.specs.Actions.{Action, Traps, accessed, are_valid}
+use Rattle.hip_runs.specs.Actions.{Action, Traps, accessed, are_valid, in_region, is_within}
 use Rattle.hip_runs.specs.State.{World}
 use Rattle.hip_runs.specs.Standing.{HoldsMemory}
 
--- n bytes from a on lie between two bounds
-abbrev within : ℕ → ℕ → ℕ → ℕ → Bool
-within from to a n = nat_le from a && nat_le (a + n) to
-
-within_true : (from to a n : ℕ) → from ≤ a → a + n ≤ to → within from to a n ≡ true
+within_true : (from to a n : ℕ) → from ≤ a → a + n ≤ to → is_within from to a n ≡ true
 within_true from to a n p q = grind (arith, nat_tests)
 
-within_is : (from to a n : ℕ) → within from to a n ≡ true → (from ≤ a) × (a + n ≤ to)
+within_is : (from to a n : ℕ) → is_within from to a n ≡ true → (from ≤ a) × (a + n ≤ to)
 within_is from to a n e = grind (arith, nat_tests)
 
 three : (x y z : Bool) → x || (y || z) ≡ true → (x ≡ true) ⊎ ((y ≡ true) ⊎ (z ≡ true))
@@ -43,27 +40,18 @@ third_true true y z e = refl
 third_true false true z e = refl
 third_true false false z e = e
 
-same_test : (x y : Bool) → (x ≡ true → y ≡ true) → (y ≡ true → x ≡ true) → x ≡ y
-same_test true y f g = sym (f refl)
-same_test false true f g = absurd (let e = g refl in let z : ⊥ = cc in z)
-same_test false false f g = refl
-
 -- the n bytes from address a on lie in the area of the volatile globals
 abbrev in_volatile : Program → ℕ → ℕ → Bool
-in_volatile P a n = within volatile_start (volatile_end P) a n
+in_volatile P a n = is_within volatile_start (volatile_end P) a n
 
 -- the n bytes from address a on lie in the stack below the mark
 abbrev in_stack : World → ℕ → ℕ → Bool
-in_stack w a n = within stack_start w.mark a n
-
--- the n bytes from address a on lie in the region
-abbrev inside : Input → ℕ → ℕ → Bool
-inside I a n = within I.base (I.base + length I.image) a n
+in_stack w a n = is_within stack_start w.mark a n
 
 valid_same : (P : Program) (I : Input) (w : World) (r : Areas) (a n : ℕ)
     → volatile_start + length (volatile_bytes P I.base) ≡ volatile_end P → HoldsMemory P I r w.writes w.mark
     → areas.are_valid r a (suc n) ≡ are_valid P I w a (suc n)
-valid_same P I w r a n v h = same_test (areas.are_valid r a (suc n)) (are_valid P I w a (suc n)) there back
+valid_same P I w r a n v h = both_ways (areas.are_valid r a (suc n)) (are_valid P I w a (suc n)) there back
   where
     volatile_is : volatile_start + length r.volatile ≡ volatile_end P
     volatile_is = ap (λ k. volatile_start + k) h.holds.volatile ∙ v
@@ -73,20 +61,20 @@ valid_same P I w r a n v h = same_test (areas.are_valid r a (suc n)) (are_valid 
 
     go : FitsOne r a (suc n) → are_valid P I w a (suc n) ≡ true
     go (inl x) =
-        first_true (in_volatile P a (suc n)) (in_stack w a (suc n)) (inside I a (suc n))
+        first_true (in_volatile P a (suc n)) (in_stack w a (suc n)) (in_region I a (suc n))
         (within_true volatile_start (volatile_end P) a (suc n) x.0 (omega (arith, x.1, volatile_is)))
     go (inr (inl x)) =
-        second_true (in_volatile P a (suc n)) (in_stack w a (suc n)) (inside I a (suc n))
+        second_true (in_volatile P a (suc n)) (in_stack w a (suc n)) (in_region I a (suc n))
         (within_true stack_start w.mark a (suc n) x.0 (omega (arith, x.1, h.mark_is)))
     go (inr (inr x)) =
-        third_true (in_volatile P a (suc n)) (in_stack w a (suc n)) (inside I a (suc n))
+        third_true (in_volatile P a (suc n)) (in_stack w a (suc n)) (in_region I a (suc n))
         (within_true I.base (I.base + length I.image) a (suc n) (omega (arith, x.0, h.holds.base))
         (omega (arith, x.1, region_is)))
 
     there : areas.are_valid r a (suc n) ≡ true → are_valid P I w a (suc n) ≡ true
     there e = go (are_valid-fits r n a h.laid_out e)
 
-    fits : (in_volatile P a (suc n) ≡ true) ⊎ ((in_stack w a (suc n) ≡ true) ⊎ (inside I a (suc n) ≡ true))
+    fits : (in_volatile P a (suc n) ≡ true) ⊎ ((in_stack w a (suc n) ≡ true) ⊎ (in_region I a (suc n) ≡ true))
         → FitsOne r a (suc n)
     fits (inl x) =
         let q = within_is volatile_start (volatile_end P) a (suc n) x in inl (q.0, omega (arith, q.1, volatile_is))
@@ -99,7 +87,7 @@ valid_same P I w r a n v h = same_test (areas.are_valid r a (suc n)) (are_valid 
     back : are_valid P I w a (suc n) ≡ true → areas.are_valid r a (suc n) ≡ true
     back e =
         fits-are_valid r (suc n) a (fits (three (in_volatile P a (suc n)) (in_stack w a (suc n))
-        (inside I a (suc n)) e))
+        (in_region I a (suc n)) e))
 
 pub valid_is : (P : Program) (I : Input) (w : World) (r : Areas) (a n : ℕ) → 0 < n
     → volatile_start + length (volatile_bytes P I.base) ≡ volatile_end P → HoldsMemory P I r w.writes w.mark

@@ -16,8 +16,8 @@ use Rattle.std.specs.Prelude.{is_some}
 use Rattle.hip_ir.specs.declared.program.Program.{Program}
 use Rattle.hip_ir.specs.declared.site.Site.{Site}
 use Rattle.hip_lines.specs.declared.part.LooseByte.{LooseByte}
-use Rattle.hip_runs.specs.Found.Reports.{LoosePart, all_flushed, check_reports, flush_site_of, kind_of, latest_flush, loose_parts, report_by, report_of}
-use Rattle.hip_runs.specs.Found.Tags.{AscendWithin, has_tag, loose_bytes, reports_for}
+use Rattle.hip_runs.specs.Found.Reports.{LoosePart, all_flushed, check_reports, flush_site_of, kind_of, latest_flush, loose_parts, report_by, report_of, reports_for}
+use Rattle.hip_runs.specs.Found.Tags.{AscendWithin, has_tag, loose_bytes}
 use Rattle.hip_runs.specs.Laws.Found.LooseBytes.{loose_part, loose_there, part_loose}
 use Rattle.hip_runs.specs.Laws.Found.TagLaws.{loose_told, reports_by_tags, tag_made}
 use Rattle.hip_runs.specs.Laws.HistoryLaws.{has_history}

@@ -128,12 +128,15 @@ checked_by I e = checked_range I.base (length I.image) e
 abbrev pub next_check : Program → Input → State → Option Range
 next_check P I s = cond (has_ended s) None (checked_by I (event P I s))
 
+-- the reports of a step's store at a check of a range: one where it has loose parts in the range
+abbrev pub reports_for : State → Range → ℕ → List Report
+reports_for s range made =
+    report_of (levels_of s.frames) (suc s.counts.entries) (loose_parts range.offset range.size s.lines made)
+
 -- the reports of a check, in the order of the stores' steps
 abbrev pub check_reports : State → Option Range → List Report
 check_reports s None = []
-check_reports s (Some range) =
-    flat_map (λ made. report_of (levels_of s.frames) (suc s.counts.entries)
-    (loose_parts range.offset range.size s.lines made)) (range_with_len 0 s.counts.steps)
+check_reports s (Some range) = flat_map (reports_for s range) (range_with_len 0 s.counts.steps)
 
 -- the reports of the first n steps, in the order of their checks
 unfoldable pub reports : Program → Input → ℕ → List Report

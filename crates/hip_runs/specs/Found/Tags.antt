@@ -1,16 +1,16 @@
 -- What the loose bytes of a range tell of loose parts and of reports: a loose byte's tag is the step of the store
 -- that it is of.
-use Rattle.std.specs.Prelude.{◌≡◌, ℕ, Some, slice_get, nat_lt, suc, ◌+◌, ◌<◌, ◌≤◌, Bool, true, false, not, ◌||◌, nat_eq, List, [], ◌∷◌}
+use Rattle.std.specs.Prelude.{◌≡◌, ℕ, Some, slice_get, nat_lt, ◌+◌, ◌<◌, ◌≤◌, Bool, not, ◌||◌, nat_eq, List, [], ◌∷◌}
 use Rattle.std.specs.List.{list_all, list_any}
+use Rattle.hip_ir.specs.Spelling.{not_empty}
 use Rattle.hip_lines.specs.Line.{Line}
 use Rattle.hip_lines.specs.Loose.{IsLooseBy}
 use Rattle.hip_lines.specs.declared.part.LooseByte.{LooseByte}
-use Rattle.hip_runs.specs.declared.report.Report.{Report}
 use Rattle.hip_runs.specs.Crash.{covers}
 use Rattle.hip_runs.specs.StoredParts.Parts.{In}
-use Rattle.hip_runs.specs.Found.Reports.{LoosePart, Range, loose_parts, all_flushed, report_of}
+use Rattle.hip_runs.specs.Found.Reports.{LoosePart, Range, all_flushed}
 use Rattle.hip_runs.specs.StoredParts.Shown.{shown}
-use Rattle.hip_runs.specs.State.{StorePart, State, levels_of}
+use Rattle.hip_runs.specs.State.{StorePart, State}
 use Rattle.hip_lines.specs.Parts as bytes
 
 -- the loose bytes of a range of a state's lines, as the code's lines yield them
@@ -39,11 +39,6 @@ has_tag made bs = list_any (λ b. nat_eq b.tag made) bs
 abbrev pub tag_flushed : ℕ → List LooseByte → Bool
 tag_flushed made bs = list_all (λ b. not (nat_eq b.tag made) || b.flushed) bs
 
--- whether a list has an item
-abbrev pub has_some : {A : Type 0} → List A → Bool
-has_some [] = false
-has_some (x ∷ xs) = true
-
 -- The loose parts of a store, and the loose bytes that have its tag: each of either has one of the other that is
 -- flushed alike.
 pub record AreAlike (ps : List LoosePart) (bs : List LooseByte) (made : ℕ) : Type 0 where
@@ -56,7 +51,7 @@ pub record AreAlike (ps : List LoosePart) (bs : List LooseByte) (made : ℕ) : T
 -- bytes are.
 pub record AreToldBy (ps : List LoosePart) (bs : List LooseByte) (made : ℕ) : Type 0 where
   pub alike : AreAlike ps bs made
-  pub some : has_some ps ≡ has_tag made bs
+  pub some : not_empty ps ≡ has_tag made bs
   pub flushed : all_flushed ps ≡ tag_flushed made bs
 
 -- the numbers ascend, the first of them at least a, and the last below b
@@ -72,8 +67,3 @@ IsNoneBeside f a b xs = (y : ℕ) → a ≤ y → y < b → ¬ In y xs → f y �
 pub record HoldsTags (s : State) (range : Range) (tags : List ℕ) : Type 0 where
   pub ascend : AscendWithin 0 s.counts.steps tags
   pub holds : (b : LooseByte) → In b (loose_bytes s range.offset range.size) → In b.tag tags
-
--- the reports of one store at a check
-abbrev pub reports_for : State → Range → ℕ → List Report
-reports_for s range made =
-    report_of (levels_of s.frames) (suc s.counts.entries) (loose_parts range.offset range.size s.lines made)

@@ -11,7 +11,7 @@ use Rattle.hip_runs.specs.StoredParts.History.{HasHistory}
 use Rattle.hip_runs.specs.Laws.HistoryLaws.{has_history}
 use Rattle.hip_runs.specs.StoredParts.Parts.{In, PartOf}
 use Rattle.hip_runs.specs.Laws.PartLaws.{in-append}
-use Rattle.hip_runs.specs.Found.Reports.{LoosePart, Range, loose_parts, later_flush, latest_flush, kind_of, all_flushed, flush_site_of, is_open, closed_count, report_by, report_of, next_check, check_reports, reports}
+use Rattle.hip_runs.specs.Found.Reports.{LoosePart, Range, loose_parts, later_flush, latest_flush, kind_of, all_flushed, flush_site_of, is_open, closed_count, report_by, report_of, next_check, reports_for, check_reports, reports}
 use Rattle.hip_runs.specs.Sites.{is_store, is_flush_call, is_defined_call, HasSites}
 use Rattle.hip_runs.specs.State.{Level, Flush, State, levels_of}
 use Rattle.hip_runs.specs.Step.{run}
@@ -137,9 +137,7 @@ module _ (P : Program) (s : State) (h : HasHistory P s) (at : HasSites P s) wher
   check_formed : (o : Option Range) (r : Report) → In r (check_reports s o) → IsWellFormed P r
   check_formed None r i = absurd i
   check_formed (Some range) r i =
-      let a =
-      of_flat (λ made. report_of (levels_of s.frames) (suc s.counts.entries)
-      (loose_parts range.offset range.size s.lines made)) _ r i in
+      let a = of_flat (reports_for s range) _ r i in
       of_formed (suc s.counts.entries) (loose_parts range.offset range.size s.lines a.1)
       (known range.offset range.size a.1) r a.3
 

@@ -1,17 +1,18 @@
 -- What a check asks of loose parts, told by the loose bytes of its range.
 use Rattle.std.proofs.Common.{◌≡◌, inl, ℕ, suc, ◌<◌, Bool, true, false, not, ◌||◌, nat_eq, List, [], ◌∷◌, Some, refl, sym, ap, ◌∙◌, subst, arith, ap₂, inr, zero, ◌++◌, ◌+◌, ◌≤◌, ◌⊎◌}
 use Rattle.std.specs.List.{flat_map, range_with_len}
+use Rattle.hip_ir.specs.Spelling.{not_empty}
 use Rattle.hip_ir.specs.declared.program.Program.{Program}
 use Rattle.hip_lines.specs.declared.part.LooseByte.{LooseByte}
 use Rattle.hip_runs.specs.declared.input.Input.{Input}
 use Rattle.hip_runs.specs.Laws.HistoryLaws.{has_history}
 use Rattle.hip_runs.specs.StoredParts.Parts.{In}
-use Rattle.hip_runs.specs.Found.Reports.{LoosePart, Range, loose_parts, all_flushed, report_of, check_reports}
+use Rattle.hip_runs.specs.Found.Reports.{LoosePart, Range, loose_parts, all_flushed, report_of, reports_for, check_reports}
 use Rattle.hip_runs.specs.State.{levels_of}
 use Rattle.hip_runs.specs.Step.{run}
 use Rattle.hip_runs.specs.Laws.Found.LooseBytes.{part_loose, loose_there, are_alike}
 use Rattle.hip_runs.specs.Laws.LineOrder.{in_lines}
-use Rattle.hip_runs.specs.Found.Tags.{AreAlike, AreToldBy, AscendWithin, HoldsTags, IsNoneBeside, has_some, has_tag, loose_bytes, reports_for, tag_flushed}
+use Rattle.hip_runs.specs.Found.Tags.{AreAlike, AreToldBy, AscendWithin, HoldsTags, IsNoneBeside, has_tag, loose_bytes, tag_flushed}
 use Rattle.hip_runs.specs.Laws.Members.{all_in, any_in, equal_true, in_all, in_any, true_equal}
 use Rattle.std.specs.Cmp.{both_ways}
 
@@ -61,22 +62,22 @@ module _ {A : Type 0} (f : ℕ → List A) where
 -- ---- tags
 
 module _ (ps : List LoosePart) (bs : List LooseByte) (made : ℕ) (h : AreAlike ps bs made) where
-  some_told : has_some ps ≡ has_tag made bs
+  some_told : not_empty ps ≡ has_tag made bs
   some_told = both_ways _ _ (λ e. to ps (λ p i. h.byte_of p i) e) (λ e. from (any_in (λ b. nat_eq b.tag made) bs e))
     where
       to : (qs : List LoosePart)
           → ((p : LoosePart) → In p qs → (b : LooseByte) × In b bs × (b.tag ≡ made)
           × (b.flushed ≡ p.flushed))
-          → has_some qs ≡ true → has_tag made bs ≡ true
+          → not_empty qs ≡ true → has_tag made bs ≡ true
       to [] f e = absurd (let z : ⊥ = cc in z)
       to (p ∷ qs) f e =
           let r = f p (inl refl) in in_any (λ b. nat_eq b.tag made) bs r.0 r.1 (true_equal r.0.tag made r.2)
 
-      there : (qs : List LoosePart) (p : LoosePart) → In p qs → has_some qs ≡ true
+      there : (qs : List LoosePart) (p : LoosePart) → In p qs → not_empty qs ≡ true
       there [] p i = absurd i
       there (q ∷ qs) p i = refl
 
-      from : (b : LooseByte) × In b bs × (nat_eq b.tag made ≡ true) → has_some ps ≡ true
+      from : (b : LooseByte) × In b bs × (nat_eq b.tag made ≡ true) → not_empty ps ≡ true
       from r = let q = h.part_of r.0 r.1 (equal_true r.0.tag made r.2) in there ps q.0 q.1
 
   flushed_told : all_flushed ps ≡ tag_flushed made bs

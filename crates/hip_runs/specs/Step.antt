@@ -26,7 +26,7 @@ state w fs ls counts = record { world = w; frames = fs; lines = ls; counts = cou
 
 -- ---- events
 
--- the first cache line of a range in the region, and the bytes of the lines that have a byte of it
+-- the address of the cache line that has address a of the region, where a range begins
 abbrev pub first_line : Input → ℕ → ℕ
 first_line I a = I.base + LINE_SIZE * ((a - I.base) / LINE_SIZE)
 
@@ -39,8 +39,8 @@ abbrev pub is_bottom : List Frame → Bool
 is_bottom [] = true
 is_bottom (f ∷ fs) = false
 
--- What an action shows from outside. Stores, flushes and asserts of other bytes than the region's show nothing, and a
--- persist that flushes no line is a fence.
+-- What an action shows from outside. Stores and flushes of other bytes than the region's show nothing, and a persist
+-- that flushes no line is a fence. Each assert shows its range, which lies in the region: another one is a trap.
 abbrev pub event_of : Input → List Frame → Action → Event
 event_of I fs (Traps kind) = events.End (Trap kind)
 event_of I fs (Stores a bytes) =

@@ -7,14 +7,14 @@ use Rattle.hip_runs.specs.declared.input.Input.{Input}
 use Rattle.hip_runs.specs.Step.{run, has_ended}
 
 -- the length of the longest body of these blocks, without phis and ends; 0 where there is no block
-abbrev pub longest_block : List Block → ℕ
-longest_block [] = 0
-longest_block (b ∷ bs) = max (length b.body) (longest_block bs)
+abbrev pub longest_body : List Block → ℕ
+longest_body [] = 0
+longest_body (b ∷ bs) = max (length b.body) (longest_body bs)
 
 -- the length of the longest body of all blocks of these functions; 0 where there is no block
 abbrev pub longest_in : List Function → ℕ
 longest_in [] = 0
-longest_in (f ∷ fs) = max (longest_block f.blocks) (longest_in fs)
+longest_in (f ∷ fs) = max (longest_body f.blocks) (longest_in fs)
 
 -- the length of the longest body of a program's blocks
 abbrev pub longest : Program → ℕ

@@ -1,12 +1,13 @@
 //! The lengths of bodies.
 
 ghost use Rattle.std.specs.Prelude.{◌≡◌};
-ghost use Rattle.hip_runs.specs.Ends.{longest, longest_block};
+ghost use Rattle.hip_runs.specs.Ends.{longest, longest_body};
 
 use hip_ir::{Block, Program};
 
-fn longest_block(blocks: &[Block]) -> usize
-    ensures { result ≡ longest_block blocks.now }
+/// The length of the longest body of these blocks.
+fn longest_body(blocks: &[Block]) -> usize
+    ensures { result ≡ longest_body blocks.now }
 {
     let mut most = 0;
     'each: for block in blocks {
@@ -22,7 +23,7 @@ pub fn longest(program: &Program) -> usize
 {
     let mut most = 0;
     'functions: for function in program.functions.as_slice() {
-        most = longest_block(function.blocks.as_slice()).max(most);
+        most = longest_body(function.blocks.as_slice()).max(most);
     }
     most
 }

@@ -14,7 +14,7 @@ use Rattle.hip_runs.specs.declared.event.Ending.TheVariants.{Cut}
 use Rattle.hip_runs.specs.declared.event.TrapKind.{TrapKind}
 use Rattle.hip_runs.specs.declared.input.Input.{Input}
 use Rattle.hip_runs.specs.Actions.{Action, Traps, Assigns, Allocates, Stores, Flushes, Persists, Fences, Asserts, Prints, Reads, Calls, Jumps, Returns, flushing, call_action, extern_action, instr_action, is_flush_or_fence, is_turn, deed_of, line_action, arg_value, flushed_size}
-use Rattle.hip_runs.specs.Ends.{longest_block, longest_in, longest, steps_left, Ends}
+use Rattle.hip_runs.specs.Ends.{longest_body, longest_in, longest, steps_left, Ends}
 use Rattle.hip_runs.specs.Operands.{values_of}
 use Rattle.hip_runs.specs.Places.{blocks_in, body_of, body_at, code_at, end_at}
 use Rattle.hip_runs.specs.State.{Registers, StorePart, Frame, World, Counts, State}
@@ -26,7 +26,7 @@ use Rattle.hip_runs.specs.declared.event.TrapKind.TheVariants as traps
 
 -- ---- the longest body
 
-block_short : (bs : List Block) (b : ℕ) → length (body_of (slice_get bs b)) ≤ longest_block bs
+block_short : (bs : List Block) (b : ℕ) → length (body_of (slice_get bs b)) ≤ longest_body bs
 block_short [] b = omega arith
 block_short (x ∷ bs) zero = omega arith
 block_short (x ∷ bs) (suc b) = omega (arith, block_short bs b)

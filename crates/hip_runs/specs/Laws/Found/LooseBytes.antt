@@ -93,9 +93,9 @@ byte_shown o n (suc count) b later c s = go (λ t. byte_shown o n count (suc b) 
 
 -- ---- the loose parts of a line, by their places
 
--- Loose part y comes of part p at place i of these parts, at place k + i of its line: it is of the store of step
+-- Loose part y is of part p at place i of these parts, at place k + i of its line: it is of the store of step
 -- `made`, behind the d durable parts, the last one over a byte of the range, and flushed if it is of the first f.
-pub record IsFound (o n made d f k : ℕ) (ps : List StorePart) (y : LoosePart) (i : ℕ) (p : StorePart) : Type 0 where
+pub record IsOfPart (o n made d f k : ℕ) (ps : List StorePart) (y : LoosePart) (i : ℕ) (p : StorePart) : Type 0 where
   pub at : slice_get ps i ≡ Some p
   pub step : p.step ≡ made
   pub loose : d ≤ k + i
@@ -103,14 +103,14 @@ pub record IsFound (o n made d f k : ℕ) (ps : List StorePart) (y : LoosePart) 
   pub is : y ≡ record { part = p; flushed = nat_lt (k + i) f }
 
 pub found_part : (o n made d f k : ℕ) (ps : List StorePart) (y : LoosePart) → In y (loose_from o n made d f k ps)
-    → (i : ℕ) × (p : StorePart) × IsFound o n made d f k ps y i p
+    → (i : ℕ) × (p : StorePart) × IsOfPart o n made d f k ps y i p
 found_part o n made d f k [] y h = absurd h
 found_part o n made d f k (x ∷ ps) y h =
     go (λ g. next (found_part o n made d f (suc k) ps y g)) (nat_eq x.step made) refl (nat_le d k) refl
     (is_last o n x ps) refl h
   where
-    next : (i : ℕ) × (p : StorePart) × IsFound o n made d f (suc k) ps y i p
-        → (i : ℕ) × (p : StorePart) × IsFound o n made d f k (x ∷ ps) y i p
+    next : (i : ℕ) × (p : StorePart) × IsOfPart o n made d f (suc k) ps y i p
+        → (i : ℕ) × (p : StorePart) × IsOfPart o n made d f k (x ∷ ps) y i p
     next r =
         let s = r.2 in
         let e : suc k + r.0 ≡ k + suc r.0 = omega arith in (
@@ -127,12 +127,12 @@ found_part o n made d f k (x ∷ ps) y h =
         )
 
     go : (In y (loose_from o n made d f (suc k) ps) → (i : ℕ) × (p : StorePart)
-        × IsFound o n made d f k (x ∷ ps) y i p)
+        × IsOfPart o n made d f k (x ∷ ps) y i p)
         → (a : Bool) → nat_eq x.step made ≡ a → (b : Bool) → nat_le d k ≡ b → (c : Bool)
         → is_last o n x ps ≡ c →
         In y (cond (a && (b && c)) (record { part = x; flushed = nat_lt k f } ∷ loose_from o n made d f (suc k) ps)
         (loose_from o n made d f (suc k) ps)) → (i : ℕ) × (p : StorePart)
-        × IsFound o n made d f k (x ∷ ps) y i p
+        × IsOfPart o n made d f k (x ∷ ps) y i p
     go after true p true q true r (inl e) =
         let z : k ≡ k + 0 = omega arith in (
           0,
@@ -152,7 +152,7 @@ found_part o n made d f k (x ∷ ps) y h =
     go after false p b q c r g = after g
 
 part_found : (o n made d f k : ℕ) (ps : List StorePart) (y : LoosePart) (i : ℕ) (p : StorePart)
-    → IsFound o n made d f k ps y i p → In y (loose_from o n made d f k ps)
+    → IsOfPart o n made d f k ps y i p → In y (loose_from o n made d f k ps)
 part_found o n made d f k [] y i p s = absurd (let e = s.at in let z : ⊥ = cc in z)
 part_found o n made d f k (x ∷ ps) y zero p s =
     let same : x ≡ p = (let e = s.at in let z : x ≡ p = cc in z) in

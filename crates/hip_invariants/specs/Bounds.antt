@@ -1,6 +1,7 @@
 -- How many steps and entries a run has at most.
 use Rattle.std.specs.Prelude.{ℕ, suc, ◌+◌, ◌*◌, ◌/◌, ◌≤◌, ◌<◌, ◌^◌, length}
 use Rattle.hip_ir.specs.declared.program.Program.{Program}
+use Rattle.hip_lines.specs.declared.TheConstants.{LINE_SIZE}
 use Rattle.hip_runs.specs.declared.input.Input.{Input}
 use Rattle.hip_runs.specs.Ends.{longest}
 use Rattle.hip_runs.specs.Step.{header_entries, run}
@@ -11,7 +12,7 @@ use Rattle.hip_runs.specs.Step.{header_entries, run}
 pub record IsBounded (P : Program) (I : Input) (n : ℕ) : Type 0 where
   pub steps : (run P I n).counts.steps ≤ suc I.limit * suc (longest P)
   pub entries : (run P I n).counts.entries ≤ header_entries I + (run P I n).counts.steps
-  pub header : header_entries I ≤ 2 + length I.numbers + length I.image / 64
+  pub header : header_entries I ≤ 2 + length I.numbers + length I.image / LINE_SIZE
 
 -- The counts of a run are numbers of 128 bits, where no body has 2^64 instructions.
 pub record CountsFit (P : Program) (I : Input) (n : ℕ) : Type 0 where

@@ -2,6 +2,7 @@
 use Rattle.std.specs.Prelude.{◌≡◌, ℕ, suc, ◌+◌, ◌≤◌, List, [], ◌∷◌, length, Some, None}
 use Rattle.hip_mem.specs.Memory.{stack_start, stack_end}
 use Rattle.hip_runs.specs.State.{Slot, Level, Frame, State, levels_of}
+use Rattle.hip_runs.specs.declared.limits.TheConstants.{MOST_FRAMES}
 
 -- Blocks, the newest first, lie in order between two addresses.
 abbrev pub lie_between : ℕ → ℕ → List Slot → Type 0
@@ -24,7 +25,7 @@ have_calls (f ∷ (g ∷ fs)) = ((l : Level) × (f.level ≡ Some l)) × have_ca
 pub record HasShape (mark : ℕ) (fs : List Frame) : Type 0 where
   pub in_order : lie_in_order mark fs
   pub within : mark ≤ stack_end
-  pub few : length fs ≤ 16384
+  pub few : length fs ≤ MOST_FRAMES
   pub calls : have_calls fs
 
 -- The stack of a state has this shape, and one call fewer than frames.

@@ -124,6 +124,7 @@ gep_level a ty None = None
 gep_level a ty (Some path) = behind_offset a (unwrap_or (gep_of ty path) 0)
 
 module _ (P : Program) (L : Levels) (g : ℕ) where
+  -- the level of an operand: its register's, or its constant's
   abbrev pub operand_level : Operand → PointerLevel
   operand_level (Reg name) = L.register g name
   operand_level (Fixed c) = const_level P.globals c

@@ -37,6 +37,7 @@ module _ (P : Program) (g : ℕ) where
   element_bound base ty None = free
   element_bound base ty (Some path) = offset_bound base (unwrap_or (gep_of ty path) 0)
 
+  -- the rule that a register has at least the level of a bound
   abbrev pub rule : List ℕ → Bound → Rule
   rule name least = record { variable = Register g name; least = least }
 
@@ -52,10 +53,12 @@ module _ (P : Program) (g : ℕ) where
   argument_rules h (p ∷ ps) (a ∷ args) =
       record { variable = Register h p.name; least = operand_bound a.value } ∷ argument_rules h ps args
 
+  -- the rules of a call of the function of number h, given that function if there is one
   abbrev pub rules_into : Option (List ℕ) → List Arg → ℕ → Option Function → List Rule
   rules_into dest args h None = []
   rules_into dest args h (Some fn) = rule_for_result dest (same_as (Result h)) ++ argument_rules h fn.params args
 
+  -- the rules of a call of a defined function by its number; none where no function has the name
   abbrev pub entry_rules : Option (List ℕ) → List Arg → Option ℕ → List Rule
   entry_rules dest args None = []
   entry_rules dest args (Some h) = rules_into dest args h (slice_get P.functions h)
@@ -86,9 +89,11 @@ module _ (P : Program) (g : ℕ) where
   end_rules (ends.Ret (Some a)) = record { variable = Result g; least = operand_bound a.value } ∷ []
   end_rules _ = []
 
+  -- the rules of a block: of its phis, its body and its end, in this order
   abbrev pub block_rules : Block → List Rule
   block_rules b = flat_map phi_rules b.phis ++ (flat_map instr_rules b.body ++ end_rules b.end)
 
+  -- the rules of a function, block by block
   abbrev pub function_rules : Function → List Rule
   function_rules fn = flat_map block_rules fn.blocks
 

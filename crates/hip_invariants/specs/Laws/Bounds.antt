@@ -75,6 +75,7 @@ module _ (P : Program) (I : Input) where
   code_left [] = 0
   code_left (f ∷ fs) = length (code_at P f)
 
+  -- the most steps that a run takes while it goes on
   abbrev most : ℕ
   most = I.limit * suc (longest P) + longest P
 
@@ -119,6 +120,7 @@ module _ (P : Program) (I : Input) where
   entry_more true n = omega arith
   entry_more false n = omega arith
 
+  -- the counts are within the bounds: the steps by the limit, and the entries by the steps
   record AreBounded (c : Counts) : Type 0 where
     steps : c.steps ≤ suc I.limit * suc (longest P)
     entries : c.entries ≤ header_entries I + c.steps

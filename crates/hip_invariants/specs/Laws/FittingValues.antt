@@ -56,6 +56,7 @@ none_fits (Some (Some ty)) = modulus_pos (width_of ty)
 
 module _ (P : Program) (s : IsSound P) (I : Input) (valid : IsValid P I) (g : ℕ) (fn : Function)
     (here : slice_get P.functions g ≡ Some fn) where
+  -- the values of these registers fit their types in the function
   abbrev TypesHold : Registers → Type 0
   TypesHold rs = ValuesHold (FitsType P) (FitsResult P) g rs
 

@@ -53,6 +53,7 @@ module _ (Top : Frame → Type 0) (Below : ℕ → Option (List ℕ) → Frame �
   keeps f (Jumps b registers) = Top (frame_in_block b registers f)
   keeps f (Returns v) = (g : Frame) → Below f.function f.dest g → Top (with_register f.dest v g)
 
+  -- An action of the frame keeps what it has to.
   pub record Keeps (f : Frame) (x : Action) : Type 0 where
     pub is : keeps f x
 

@@ -43,6 +43,7 @@ leaves_registers (Prints z) = Unit {0}
 leaves_registers _ = ⊥
 
 module _ (P : Program) (I : Input) (w : World) (below : ℕ) (rs : Registers) (Claim : Action → Type 0) where
+  -- the value of an operand by the registers
   abbrev value : Operand → ℕ
   value o = value_of P.globals I.base rs o
 

@@ -35,6 +35,7 @@ use Rattle.hip_invariants.specs.Laws.Registers.Facts.{ValuesHold, assigned_fact,
 
 module _ (Fact : ℕ → List ℕ → ℕ → Type 0) (Returned : ℕ → ℕ → Type 0) (P : Program)
     (I : Input) where
+  -- the value of an operand by these registers
   abbrev value : Registers → Operand → ℕ
   value rs o = value_of P.globals I.base rs o
 
@@ -70,10 +71,12 @@ module _ (Fact : ℕ → List ℕ → ℕ → Type 0) (Returned : ℕ → ℕ �
       Fact g dest (element_address (value rs base) ty (index_values P.globals I.base rs indices))
   instr_fact g w rs (Call dest ret callee args) = CallFact g rs dest callee args
 
+  -- What has to be shown of the instruction holds.
   pub record InstrFact (g : ℕ) (w : World) (rs : Registers) (i : Instr) : Type 0 where
     pub is : instr_fact g w rs i
 
   module _ (g : ℕ) where
+    -- what an action of the function gives to registers, or returns, has the fact
     abbrev GivesOn : Action → Type 0
     GivesOn x = GivesFacts Fact Returned g x
 

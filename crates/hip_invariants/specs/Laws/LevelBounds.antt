@@ -110,12 +110,15 @@ module _ (P : Program) (s : IsSound P) (base : ℕ) where
       go None = omega arith
       go (Some k) = at_number k (is_persistent P.globals k) refl
 
+  -- the value of the constant is within its level
   abbrev IsWithin : Const → Type 0
   IsWithin c = within_level (const_level P.globals c) (const_value P.globals base c)
 
+  -- the address that the constant `getelementptr` gives is within its level
   abbrev IsWithinGep : ConstGep → Type 0
   IsWithinGep gep = within_level (const_gep_level P.globals gep) (gep_address (global_address P.globals base) gep)
 
+  -- nothing is said of an item of an array or a struct, on which no level depends
   abbrev IsWithinItem : TypedConst → Type 0
   IsWithinItem item = Unit {0}
 

@@ -139,6 +139,7 @@ module _ (P : Program) where
 
     module _ (I : Input) (w : World) (f : Frame) (r : top_is_reached P f) (i : Instr)
         (at : slice_get r.block.body f.place ≡ Some i) where
+      -- the action keeps the invariant, and does not trap as unreachable
       abbrev InstrKeeps : Action → Type 0
       InstrKeeps x = StepKeeps ⊥ f x
 

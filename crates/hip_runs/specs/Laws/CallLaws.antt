@@ -131,6 +131,7 @@ module _ (P : Program) where
       → AreDefined P (levels_of (f' ∷ fs))
   same_calls f f' fs k h = subst (λ (o : Option Level). AreDefined P (level_list o (levels_of fs))) (sym k.level) h
 
+  -- the calls of these frames are of defined functions
   abbrev Defined : List Frame → Type 0
   Defined fs = AreDefined P (levels_of fs)
 

@@ -71,6 +71,7 @@ front_same f h q xs b first =
     ap (λ ys. byte_after covers byte_of ys b first) (take_map f q xs) ∙ byte_same f h (take q xs) b first
 
 module _ (first content : List ℕ) (j : ℕ) where
+  -- in cache line j the content is one that a crash may leave of this line
   abbrev At : Line StorePart → Type 0
   At l = IsLineImage covers byte_of first content j l
 
@@ -123,6 +124,7 @@ module _ (I : Input) (ls : List (Line StorePart)) where
   OnlyOf ls' =
       (content : List ℕ) → IsImage covers byte_of I.image ls' content → IsImage covers byte_of I.image ls content
 
+  -- each image of these lines is one of the other lines
   abbrev AllOf : List (Line StorePart) → Type 0
   AllOf ls' =
       (content : List ℕ) → IsImage covers byte_of I.image ls content → IsImage covers byte_of I.image ls' content

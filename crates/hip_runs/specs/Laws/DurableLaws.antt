@@ -108,6 +108,7 @@ fence_same : (x : StorePart) → IsSettled x → noted_fence x ≡ x
 fence_same x s = ap (λ (b : Bool). record x { fenced = b }) (sym s.fenced)
 
 module _ (m k : ℕ) (x : StorePart) where
+  -- what is durable at the place in the first lines is so in the second
   abbrev Stays : List (Line StorePart) → List (Line StorePart) → Type 0
   Stays ls ls' = IsDurableIn (slice_get ls m) k x → IsDurableIn (slice_get ls' m) k x
 

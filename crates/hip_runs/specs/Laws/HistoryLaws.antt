@@ -547,6 +547,7 @@ module _ (P : Program) where
 
   -- ---- a step
 
+  -- the state keeps what is kept of lines, under its calls and with the steps that it counts
   abbrev StateKept : State → Type 0
   StateKept s = IsKept P (levels_of s.frames) s.lines s.counts.steps
 

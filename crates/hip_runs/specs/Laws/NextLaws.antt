@@ -205,6 +205,7 @@ entries_rise P I n = go (step_counts P I (run P I n))
         (ap (λ (c : Counts). c.entries) e) in record { least = r.0; most = r.1 }
 
 module _ (P : Program) (I : Input) (entry : ℕ) where
+  -- how many entries are counted after so many steps
   abbrev entries : ℕ → ℕ
   entries n = (run P I n).counts.entries
 

@@ -17,6 +17,7 @@ use Rattle.hip_runs.specs.Laws.StepLaws.{Cases, step-cases, counted-steps}
 -- ---- one step more
 
 module _ (P : Program) (I : Input) (n j from : ℕ) where
+  -- the event of step n
   abbrev Now : Event
   Now = event P I (run P I n)
 
@@ -89,6 +90,7 @@ record IsSeen (P : Program) (I : Input) (n j from k flushed_ones durable_ones : 
   by_fence : IsFlushedThenFenced P I j from n → k < durable_ones
 
 module _ (P : Program) (I : Input) (n j from k : ℕ) where
+  -- the event of step n
   abbrev Now_too : Event
   Now_too = event P I (run P I n)
 
@@ -174,14 +176,17 @@ get_more (z ∷ xs) y x (suc k) e = go (get_more xs y x k e)
     go (inr h) = inr (ap suc h.0, h.1)
 
 module _ (P : Program) (I : Input) (n j : ℕ) where
+  -- what is flushed and durable in the line before step m follows the steps since the stores of its parts
   abbrev InSeen : ℕ → Line StorePart → Type 0
   InSeen m l = (k : ℕ) (x : StorePart) → slice_get l.parts k ≡ Some x
       → IsSeen P I m j x.step k l.flushed l.durable
 
+  -- the same of a line that there may be
   abbrev AllSeen : ℕ → Option (Line StorePart) → Type 0
   AllSeen m None = Unit {0}
   AllSeen m (Some l) = InSeen m l
 
+  -- the event of step n
   abbrev Now_there : Event
   Now_there = event P I (run P I n)
 
@@ -268,9 +273,11 @@ module _ (P : Program) (I : Input) (n j : ℕ) where
 -- ---- a step
 
 module _ (P : Program) (I : Input) (n : ℕ) where
+  -- the same of each of these lines
   abbrev AreSeen : ℕ → List (Line StorePart) → Type 0
   AreSeen m ls = (j : ℕ) → AllSeen P I n j m (slice_get ls j)
 
+  -- if this is the event of step n, the same of each of these lines behind it
   abbrev Next : Event → List (Line StorePart) → Type 0
   Next e ls = event P I (run P I n) ≡ e → AreSeen (suc n) ls
 

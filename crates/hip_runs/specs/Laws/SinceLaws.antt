@@ -25,6 +25,7 @@ pub below : (m n : ℕ) → m < suc n → (m < n) ⊎ (m ≡ n)
 below m n h = grind arith
 
 module _ (P : Program) (I : Input) (n : ℕ) where
+  -- the event of step n
   abbrev Now : Event
   Now = event P I (run P I n)
 
@@ -260,6 +261,7 @@ plain_flushes base j (events.End e) p = refl
 -- ---- a step
 
 module _ (P : Program) (I : Input) (n : ℕ) where
+  -- the history of each part of these lines is what the steps before step m tell
   abbrev AreTold : ℕ → List (Line StorePart) → Type 0
   AreTold m ls = (j : ℕ) (x : StorePart) → InLine (slice_get ls j) x → IsTold P I m j x
 
@@ -267,6 +269,7 @@ module _ (P : Program) (I : Input) (n : ℕ) where
       → IsHere P I n (flush_at (run P I n).counts (site_of f))
   here f fs t = record { step = counted-steps P I n t.going; site = ap top_site t.frames }
 
+  -- if this is the event of step n, the history of each part of these lines is what the steps up to it tell
   abbrev Next : Event → List (Line StorePart) → Type 0
   Next e ls = event P I (run P I n) ≡ e → AreTold (suc n) ls
 

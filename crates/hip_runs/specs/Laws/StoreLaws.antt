@@ -43,6 +43,7 @@ in_there : (I : Input) (a n : ℕ) → in_region I a n ≡ true → I.base ≤ a
 in_there I a n h = grind (arith, nat_tests)
 
 module _ (o : ℕ) (bytes : List ℕ) (j : ℕ) where
+  -- the bytes of a store at offset o that lie in cache line j
   abbrev Held : List ℕ
   Held = take (end_in j o (length bytes) - start_in j o) (drop (start_in j o - o) bytes)
 
@@ -131,6 +132,7 @@ module _ (P : Program) (I : Input) where
   of_flushes flush true x s = of_flush flush x s
   of_flushes flush false x s = s
 
+  -- each part of these lines is one of a store of the run
   abbrev AreOf : List (Line StorePart) → Type 0
   AreOf ls = (j : ℕ) (x : StorePart) → InLine (slice_get ls j) x → IsOfStore P I x
 
@@ -169,6 +171,7 @@ module _ (P : Program) (I : Input) where
               holds_byte (a - I.base) bytes j b r.0 r.1;
         }
 
+    -- if this is the event of step n, each part of these lines is one of a store of the run
     abbrev Next : Event → List (Line StorePart) → Type 0
     Next e ls = event P I (run P I n) ≡ e → AreOf ls
 

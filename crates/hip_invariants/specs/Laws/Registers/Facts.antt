@@ -65,6 +65,7 @@ module _ (Fact : ℕ → List ℕ → ℕ → Type 0) (Returned : ℕ → ℕ �
   gives_facts g (Returns v) = Returned g v
   gives_facts g _ = Unit {0}
 
+  -- What has to be shown of the action holds.
   pub record GivesFacts (g : ℕ) (x : Action) : Type 0 where
     pub is : gives_facts g x
 

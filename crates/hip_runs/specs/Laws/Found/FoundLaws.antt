@@ -95,6 +95,7 @@ hit-distinct P I (suc n) =
 -- ---- worths by one pass over the marks
 
 module _ (hit : List ℕ) (site : Site) (operand : ℕ) where
+  -- a sum with what a mark is worth, where it is of the site and the operand
   abbrev more : ℤ → Mark → ℤ
   more sum m = cond (same_site m.site site && nat_eq m.operand operand) (sum +ℤ worth_of (is_marked hit m.object)) sum
 

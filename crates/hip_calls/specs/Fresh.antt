@@ -1,8 +1,8 @@
 -- Names for copies of functions that nothing has yet.
-use Rattle.std.specs.Prelude.{ℕ, zero, suc, ◌+◌, ◌/◌, ◌%◌, nat_lt, cond, if◌then◌else◌, List, [], ◌∷◌, ◌++◌, map, length, codes, Option, Some, None, slice_get}
-use Rattle.hip_ir.specs.declared.program.Function.{Function}
+use Rattle.std.specs.Prelude.{ℕ, zero, suc, ◌+◌, ◌/◌, ◌%◌, nat_lt, cond, if◌then◌else◌, List, [], ◌∷◌, ◌++◌, map, length, codes, slice_get}
 use Rattle.hip_ir.specs.declared.program.Program.{Program}
 use Rattle.hip_names.specs.Names.{is_among}
+use Rattle.hip_typing.specs.Numbering.{name_in}
 use Rattle.hip_typing.specs.Sound.{top_names}
 
 -- the digits of a number of at most so many
@@ -34,11 +34,6 @@ fresh_name taken name = fresh_from taken name (length taken) 0
 abbrev pub fresh_for : List (List ℕ) → List (List ℕ) → List (List ℕ)
 fresh_for taken [] = []
 fresh_for taken (name ∷ names) = fresh_name taken name ∷ fresh_for (fresh_name taken name ∷ taken) names
-
--- the name of a function; the empty name where there is none
-abbrev pub name_in : Option Function → List ℕ
-name_in None = []
-name_in (Some f) = f.name
 
 -- the name of the function of a number
 abbrev pub name_of : Program → ℕ → List ℕ

@@ -3,9 +3,9 @@ use Rattle.std.specs.Prelude.{ℕ, List, [], ◌∷◌, ◌++◌, codes, Option,
 use Rattle.std.specs.Fmt.{decimal}
 use Rattle.std.specs.List.{flat_map}
 use Rattle.hip_ir.specs.Sites.{block_of}
-use Rattle.hip_ir.specs.declared.program.Function.{Function}
 use Rattle.hip_ir.specs.declared.program.Program.{Program}
 use Rattle.hip_ir.specs.declared.site.Site.{Site}
+use Rattle.hip_typing.specs.Numbering.{name_in}
 use Rattle.hip_runs.specs.Places.{label_of}
 use Rattle.hip_runs.specs.declared.report.Kind.{Kind}
 use Rattle.hip_runs.specs.declared.report.Kind.TheVariants.{MissingFlush, MissingFence, MissingBoth}
@@ -13,15 +13,10 @@ use Rattle.hip_runs.specs.declared.report.Report.{Report}
 
 -- ---- sites
 
--- no name for a function or a block that is not there
-abbrev pub function_name : Option Function → List ℕ
-function_name None = []
-function_name (Some f) = f.name
-
--- `@function:label:index`
+-- `@function:label:index`, with nothing in place of a name where the program has no such function or block
 abbrev pub site_text : Program → Site → List ℕ
 site_text P s =
-    codes "@" ++ function_name (slice_get P.functions s.function) ++ codes ":"
+    codes "@" ++ name_in (slice_get P.functions s.function) ++ codes ":"
     ++ label_of (block_of P s.function s.block) ++ codes ":" ++ decimal s.index
 
 -- ---- reports

@@ -2,8 +2,9 @@ ghost use Rattle.std.specs.Prelude.{◌≡◌, ◌++◌, slice_get, codes};
 ghost use Rattle.std.specs.Fmt.{decimal};
 ghost use Rattle.hip_io.specs.Sinks.{Writes};
 ghost use Rattle.hip_ir.specs.Sites.{block_of};
-ghost use Rattle.hip_report_lines.specs.Reports.{function_name, site_text};
+ghost use Rattle.hip_report_lines.specs.Reports.{site_text};
 ghost use Rattle.hip_runs.specs.Places.{label_of};
+ghost use Rattle.hip_typing.specs.Numbering.{name_in};
 
 use hip_answers::put_number;
 use hip_io::{Put, Sink, put_after};
@@ -11,7 +12,7 @@ use hip_ir::{Program, Site};
 
 fn put_function<S: Sink>(before: Put, out: &mut S, program: &Program, function: usize) -> Put
     ensures { Writes before result (S.state out.old) (S.state out.new)
-        (function_name (slice_get program.now.functions function)) }
+        (name_in (slice_get program.now.functions function)) }
 {
     match program.functions.as_slice().get(function) {
         Some(function) => put_after(before, out, function.name.as_slice()),

@@ -1,5 +1,5 @@
 -- The names of globals, of labels and of functions, and the numbers of functions by their names.
-use Rattle.std.specs.Prelude.{ℕ, List, map, Option}
+use Rattle.std.specs.Prelude.{ℕ, List, [], map, Option, Some, None}
 use Rattle.hip_ir.specs.declared.program.Function.{Function}
 use Rattle.hip_ir.specs.declared.program.Program.{Program}
 use Rattle.hip_names.specs.Names.{number_of}
@@ -15,6 +15,11 @@ label_names fn = map (λ b. b.label) fn.blocks
 -- the names of functions, in their order
 abbrev pub function_names : List Function → List (List ℕ)
 function_names functions = map (λ f. f.name) functions
+
+-- the name of a function; the empty name where there is none
+abbrev pub name_in : Option Function → List ℕ
+name_in None = []
+name_in (Some f) = f.name
 
 -- the number of the function of that name, if there is one
 abbrev pub function_number : Program → List ℕ → Option ℕ

@@ -19,9 +19,9 @@ use Rattle.hip_ir.specs.declared.program.Function.{Function}
 use Rattle.hip_ir.specs.declared.program.Program.{Program}
 use Rattle.hip_ir.specs.declared.site.Site.{Site}
 use Rattle.hip_types.specs.declared.number.Scalar.{Scalar}
-use Rattle.hip_typing.specs.Numbering.{function_number}
+use Rattle.hip_typing.specs.Numbering.{function_number, name_in}
 use Rattle.hip_typing.specs.Laws.NumberingLaws.{function_number-there, function_number-within}
-use Rattle.hip_calls.specs.Fresh.{name_in, name_of}
+use Rattle.hip_calls.specs.Fresh.{name_of}
 use Rattle.hip_calls.specs.Reach.{called_by, called_in, called_from, called_at, extended, reached, callees}
 
 -- the number is in the list

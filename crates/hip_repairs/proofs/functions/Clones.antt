@@ -23,11 +23,11 @@ use Rattle.hip_ir.specs.declared.program.Program.{Program}
 use Rattle.hip_ir.specs.declared.site.Site.{Site}
 use Rattle.hip_externs.specs.Externs.{call_of}
 use Rattle.hip_names.specs.Names.{number_of}
-use Rattle.hip_typing.specs.Numbering.{function_names, function_number}
+use Rattle.hip_typing.specs.Numbering.{function_names, function_number, name_in}
 use Rattle.hip_names.specs.Laws.NumberLaws.{number_of-first, number_of-behind, number_of-known, number_of-there}
 use Rattle.hip_typing.specs.Laws.NumberingLaws.{function_number-there}
 use Rattle.hip_typing.specs.Sound.{top_names}
-use Rattle.hip_calls.specs.Fresh.{fresh_names, name_in, name_of}
+use Rattle.hip_calls.specs.Fresh.{fresh_names, name_of}
 use Rattle.hip_calls.specs.Laws.FreshLaws.{length-fresh_for, fresh_for-free, fresh_for-distinct, fresh_for-extern}
 use Rattle.hip_calls.specs.Reach.{called_at, callees}
 use Rattle.hip_calls.specs.Laws.ReachLaws.{Has, IsNamed, called-has, callees-first, callees-closed, callees-named}

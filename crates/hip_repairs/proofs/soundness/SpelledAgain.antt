@@ -22,7 +22,8 @@ use Rattle.hip_ir.specs.declared.program.Function.{Function}
 use Rattle.hip_ir.specs.declared.program.Program.{Program}
 use Rattle.hip_ir.specs.declared.site.Site.{Site}
 use Rattle.hip_typing.specs.Sound.{top_names}
-use Rattle.hip_calls.specs.Fresh.{name_in, name_of}
+use Rattle.hip_typing.specs.Numbering.{name_in}
+use Rattle.hip_calls.specs.Fresh.{name_of}
 use Rattle.hip_calls.specs.Laws.FreshLaws.{fresh_for-first, candidate-name}
 use Rattle.hip_runs.specs.Operands.{scalar_size}
 use Rattle.hip_repairs.specs.declared.plan.Plan.{Plan}

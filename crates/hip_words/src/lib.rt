@@ -12,7 +12,9 @@ mod refusal;
 mod words;
 
 pub use hip_picks::Pick;
-pub use laws::{demos_are_valid, files_are_plain, records_are_valid, runs_are_plain, runs_are_valid};
+pub use laws::{
+    demos_are_valid, files_are_plain, records_are_valid, runs_are_plain, runs_are_valid,
+};
 pub use limits::MOST_TRACES;
 pub use order::Order;
 pub use refusal::WordsRefusal;

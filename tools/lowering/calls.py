@@ -1,135 +1,252 @@
-"""Calls: of the program's functions, of hippo's external functions, and of LLVM's intrinsics."""
-import re
+"""Calls of the program's functions, of hippo's external functions, and by pointer."""
+from __future__ import annotations
 
+from typing import TYPE_CHECKING, NamedTuple
+
+from .assembly import lower_assembly
+from .constants import zero_of
 from .externs import EXTERNS
-from .helpers import bits_helper, copy_helper, parts_helper, set_helper
-from .tokens import LINKAGE, Refused
+from .intrinsics import is_without_effect, lower_intrinsic
+from .layout import words
+from .refusals import Refused
+from .runtime import CHECK_REGION
+from .start import ENDS
+from .tokens import LINKAGE, Tokens
+from .types import Type, alignment, pieces, show_type, size
+from .values import read_operand
+from .writer import struct_of
 
-# Calls that say something to the optimiser and do nothing; a trap is followed by `unreachable`.
-WITHOUT_EFFECT = re.compile(
-    r'llvm\.(lifetime|dbg|assume|experimental\.noalias|donothing|invariant|trap|sideeffect|prefetch)\b')
+if TYPE_CHECKING:
+    from .function import Function, Signature
+
+FAST_MATH = set('fast nnan ninf nsz arcp contract afn reassoc'.split())
+
+# Calls after which nothing of their block runs; clang writes no `unreachable` after them at -O0.
+TRAPS = ('@llvm.trap', '@llvm.ubsantrap')
 
 
-def lower_call(function, tokens):
-    """The call in the subset, behind its word, or nothing where it has no effect."""
-    tokens.take_all(LINKAGE)
+class Argument(NamedTuple):
+    """An argument: its type, its pieces, its known alignment, and the type of what is passed by value."""
+
+    type: Type
+    values: list[str]
+    alignment: int
+    copied: Type | None
+
+
+class Call(NamedTuple):
+    """A call as clang has it; `fixed` is the number of arguments that are no variable ones."""
+
+    result: Type
+    arguments: list[Argument]
+    fixed: int
+    variadic: bool
+    target: str
+
+
+def lower_call(function: Function, tokens: Tokens, target: str, _word: str) -> None:
+    """`call`."""
+    tokens.take_all(LINKAGE | FAST_MATH)
     tokens.skip_attributes()
     result = function.type(tokens)
+    fixed = count_fixed(function, tokens) if tokens.peek() == '(' else None
     callee = tokens.take()
-    if callee == '(':
-        raise Refused('a call of a function with variable arguments')
     if callee == 'asm':
-        return lower_assembly(function, tokens)
+        lower_assembly(function, tokens, target)
+        return
+    callee = function.module.resolved(callee)
+    if callee in TRAPS:
+        function.trap()
+        return
+    if callee.startswith('@') and is_without_effect(callee[1:]):
+        return
+    pointer = ''
     if not callee.startswith('@'):
-        raise Refused('an indirect call')
-    name = callee[1:].strip('"')
-    if WITHOUT_EFFECT.match(name):
-        return None
-    if not isinstance(result, str):
-        raise Refused('a call answers an aggregate in a register (give the function a pointer)')
-    arguments, alignments = read_arguments(function, tokens)
-    if callee in function.module.function_names:
-        called = '@' + function.module.names[callee]
-    elif name in EXTERNS:
-        called = known_extern(function, name, result, arguments)
-    elif name.startswith('llvm.'):
-        return lower_intrinsic(function, name, result, arguments, alignments)
+        tokens.place -= 1
+        pointer = function.operand(tokens, 'ptr')
+    arguments = read_arguments(function, tokens)
+    call = Call(result, arguments, len(arguments) if fixed is None else fixed, fixed is not None, target)
+    if pointer:
+        call_by_pointer(function, pointer, call)
     else:
-        raise Refused(f'the function {callee} is not in the program')
-    return call_text(result, called, arguments)
+        call_by_name(function, callee, call)
 
 
-def call_text(result, called, arguments):
-    return f'call {result} {called}({", ".join(f"{type_} {value}" for type_, value in arguments)})'
-
-
-def read_arguments(function, tokens):
-    """Types with values of the arguments, and the alignments that are told of them."""
+def count_fixed(function: Function, tokens: Tokens) -> int | None:
+    """The number of parameters before `...` in the type of a function, which stands next; nothing where it has none."""
+    count, variadic = 0, None
     tokens.take('(')
-    arguments, alignments = [], []
     while tokens.peek() != ')':
-        type_ = function.scalar(tokens)
-        alignments.append(tokens.skip_attributes())
-        arguments.append((type_, function.operand(tokens, type_)))
+        if tokens.take_if('...'):
+            variadic = count
+            break
+        function.type(tokens)
+        tokens.skip_attributes()
+        count += 1
         tokens.take_if(',')
-    return arguments, alignments
-
-
-def known_extern(function, name, result, arguments):
-    if (result, [type_ for type_, _ in arguments]) != EXTERNS[name]:
-        raise Refused(f'hippo knows @{name} with another type')
-    function.module.extern(name)
-    return '@' + name
-
-
-def lower_assembly(function, tokens):
-    """An empty piece of assembly keeps the compiler from moving accesses; there is nothing left to be moved."""
-    while tokens.kind() == 'word':
-        tokens.take()
-    if tokens.take() != '""':
-        raise Refused('inline assembly (for persistent memory: _mm_clwb, _mm_sfence and their fellows)')
-    tokens.take(',')
-    tokens.take()
-    tokens.take('(')
     tokens.take(')')
-    function.module.notes.add('an empty asm statement was left out')
-    return None
+    return variadic
 
 
-def lower_intrinsic(function, name, result, arguments, alignments):
-    if kind := re.match(r'llvm\.(memcpy|memmove|memset)(\.inline)?\.', name):
-        return lower_block(function, kind[1], arguments, alignments)
-    if kind := re.match(r'llvm\.(fshl|fshr|ctpop|cttz|ctlz|bswap)\.i(\d+)$', name):
-        helper = function.module.helper(kind.expand(r'\1.\2'), lambda real: bits_helper(real, kind[1], int(kind[2])))
-        return call_text(result, helper, arguments[:3] if kind[1].startswith('fsh') else arguments[:1])
-    values = [value for _, value in arguments]
-    if kind := re.match(r'llvm\.([us])(min|max)\.i\d+$', name):
-        predicate = kind[1] + ('lt' if kind[2] == 'min' else 'gt')
-        return chosen(function, predicate, result, values, values)
-    if name.startswith('llvm.abs.'):
-        negated = function.emit(f'sub {result} 0, {values[0]}')
-        return chosen(function, 'slt', result, (values[0], 0), (negated, values[0]))
-    if name.startswith('llvm.usub.sat.'):
-        difference = function.emit(f'sub {result} {values[0]}, {values[1]}')
-        return chosen(function, 'ult', result, values, (0, difference))
-    if name.startswith('llvm.uadd.sat.'):
-        sum_ = function.emit(f'add {result} {values[0]}, {values[1]}')
-        return chosen(function, 'ult', result, (sum_, values[0]), (-1, sum_))
-    if kind := re.match(r'llvm\.([us])cmp\.', name):
-        operands = f'{arguments[0][0]} {values[0]}, {values[1]}'
-        above = function.emit(f'icmp {kind[1]}gt {operands}')
-        below = function.emit(f'icmp {kind[1]}lt {operands}')
-        above = function.emit(f'zext i1 {above} to {result}')
-        below = function.emit(f'zext i1 {below} to {result}')
-        return f'sub {result} {above}, {below}'
-    raise Refused(f'the intrinsic @{name} has no form in the subset')
+def read_arguments(function: Function, tokens: Tokens) -> list[Argument]:
+    """The arguments in parentheses."""
+    tokens.take('(')
+    arguments = []
+    while tokens.peek() != ')':
+        type_ = function.type(tokens)
+        known, copied = tokens.skip_attributes()
+        copied_type = copied and function.type(copied)
+        arguments.append(Argument(type_, read_operand(function, tokens, type_), known, copied_type))
+        tokens.take_if(',')
+    return arguments
 
 
-def chosen(function, predicate, type_, compared, values):
-    """The first of two values where the predicate holds of the two that are compared, or else the second."""
-    test = function.emit(f'icmp {predicate} {type_} {compared[0]}, {compared[1]}')
-    return f'select i1 {test}, {type_} {values[0]}, {type_} {values[1]}'
+def call_by_name(function: Function, callee: str, call: Call) -> None:
+    """A call of a function that is named."""
+    module, name = function.module, callee[1:].strip('"')
+    if function.written_name == '@main' and name in ENDS and name not in module.own_names:
+        module.start.end(function, name, call.arguments[0].values[0] if call.arguments else '1')
+    elif name == CHECK_REGION:
+        module.start.check_region(function)
+    elif callee in module.signatures:
+        put_call(function, callee, module.signatures[callee], call)
+    elif name in EXTERNS:
+        module.extern(name)
+        put_call(function, callee, module.extern_signature(name), call)
+    elif name.startswith('llvm.'):
+        lower_intrinsic(function, name, call)
+    elif callee in module.weak:
+        call_by_pointer(function, 'null', call)
+    else:
+        raise module.missing(callee)
 
 
-def lower_block(function, kind, arguments, alignments):
-    """A copy or a setting of memory, by words where the alignments that are told allow it."""
-    (count_type, count), operands = arguments[2], arguments[:2]
-    constant = count.isdigit()
-    if count_type != 'i64' and not constant:
-        count = function.emit(f'zext {count_type} {count} to i64')
-    told = alignments[0] if kind == 'memset' else min(alignments[:2])
-    step = min(told, 8)
-    while constant and int(count) % step:
-        step //= 2
-    helper = block_helper(function.module, kind, step)
-    if step > 1 and not constant:
-        by_bytes = block_helper(function.module, kind, 1)
-        helper = function.module.helper(
-            f'{kind}.{step}.1', lambda real: parts_helper(real, step, kind, helper, by_bytes))
-    return call_text('void', helper, operands + [('i64', count)])
+def put_call(function: Function, callee: str, signature: Signature, call: Call) -> None:
+    """The call of a function whose signature is known, with its result."""
+    types = pieces(signature.result)
+    slot = result_slot(function, types, call.target)
+    text = call_text(function, callee, signature, call, slot, variable_slots(function, call))
+    if slot:
+        function.put(text)
+        if call.target:
+            function.take_pieces(slot, types, function.results(call.target, signature.result))
+    elif types:
+        function.assign(call.target, text)
+    else:
+        function.put(text)
 
 
-def block_helper(module, kind, step):
-    if kind == 'memset':
-        return module.helper(f'memset.{step}', lambda real: set_helper(real, step))
-    return module.helper(f'{kind}.{step}', lambda real: copy_helper(real, step, kind == 'memmove'))
+def result_slot(function: Function, types: tuple[str, ...], target: str) -> str:
+    """The block through which a result of several pieces comes; an empty text where it comes in a register."""
+    if len(types) < 2:
+        return ''
+    slot = function.fresh(f'{target[1:]}.result' if target else 'result')
+    function.entry.append(f'{slot} = alloca {struct_of(types)}')
+    return slot
+
+
+def call_text(function: Function, callee: str, signature: Signature, call: Call, slot: str, variable: str) -> str:
+    """The text of a call; refused where the function has another type than the call."""
+    if not fits(signature, call):
+        raise Refused(f'a call of {callee} by another type than it has', 'mismatch')
+    given = [f'{piece} {value}' for argument in call.arguments[:call.fixed]
+             for piece, value in zip(pieces(argument.type), argument.values)]
+    given = given[:len(signature.parameters)]
+    if slot:
+        given.insert(0, f'ptr {slot}')
+    if signature.variadic:
+        given.append(f'ptr {variable or "null"}')
+    name = function.module.names.get(callee, callee[1:])
+    return f'call {signature.returned} @{name}({", ".join(given)})'
+
+
+def fits(signature: Signature, call: Call) -> bool:
+    """Whether a call has what a function expects. A call without a prototype may give more arguments."""
+    if call.result not in ('void', signature.result) and pieces(call.result) != pieces(signature.result):
+        return False
+    if signature.variadic and not call.variadic or signature.by_pointer and call.result == 'void':
+        return False
+    given = argument_types(call)
+    count = len(signature.parameters)
+    if signature.variadic or not call.variadic or call.fixed < len(call.arguments):
+        return given == list(zip(signature.parameters, signature.by_value))
+    return given[:count] == list(zip(signature.parameters, signature.by_value))
+
+
+def argument_types(call: Call) -> list[tuple[str, bool]]:
+    """The types of the fixed arguments' pieces, and whether each is passed by value."""
+    return [(piece, argument.copied is not None) for argument in call.arguments[:call.fixed]
+            for piece in pieces(argument.type)]
+
+
+def variable_slots(function: Function, call: Call) -> str:
+    """The block with the variable arguments, 8 bytes for each piece; an empty text where there are none."""
+    variable = call.arguments[call.fixed:]
+    if not variable:
+        return ''
+    slots, offset = function.fresh('variable.arguments'), 0
+    for argument in variable:
+        if argument.copied is not None:
+            count = size(argument.copied)
+            helper = function.module.copy_helper(min(8, alignment(argument.copied)), count)
+            at = slot_at(function, slots, offset)
+            function.put(f'call void {helper}(ptr {at}, ptr {argument.values[0]}, i64 {count})')
+            offset += -(-count // 8) * 8
+        else:
+            for piece, value in zip(pieces(argument.type), argument.values):
+                function.put(f'store {piece} {value}, ptr {slot_at(function, slots, offset)}')
+                offset += 8
+    function.entry.append(f'{slots} = alloca {show_type(words(offset, 8))}')
+    return slots
+
+
+def slot_at(function: Function, slots: str, offset: int) -> str:
+    """The address of a slot."""
+    return function.emit(f'getelementptr i8, ptr {slots}, i64 {offset}') if offset else slots
+
+
+def call_by_pointer(function: Function, pointer: str, call: Call) -> None:
+    """A switch over the functions that the pointer may name: those with the type of the call whose address is taken.
+
+    A pointer to no such function traps."""
+    module = function.module
+    number = function.emit(f'ptrtoint ptr {pointer} to i64')
+    slot, variable = result_slot(function, pieces(call.result), call.target), variable_slots(function, call)
+    chosen = [(callee, code) for callee, code in module.code.numbers() if fits(module.signature_of(callee), call)]
+    if not chosen and pointer != 'null':
+        module.notes.add(f'{function.place()}no function whose address is taken has the type of this call: it traps')
+    labels = [function.fresh(f'{function.origin}.{module.name_of(callee)}') for callee, _ in chosen]
+    done, trap = (function.fresh(f'{function.origin}.{word}') for word in ('called', 'no.function'))
+    cases = ''.join(f'i64 {code}, label {label} ' for (_, code), label in zip(chosen, labels))
+    function.put(f'switch i64 {number}, label {trap} [ {cases}]')
+    scalar = call.target and not slot and len(pieces(call.result)) == 1
+    edges = []
+    for (callee, _), label in zip(chosen, labels):
+        function.begin(label[1:])
+        text = call_text(function, callee, module.signature_of(callee), call, slot, variable)
+        if callee[1:] in EXTERNS and callee not in module.signatures:
+            module.extern(callee[1:])
+        if scalar:
+            edges.append((function.emit(text), label[1:]))
+        else:
+            function.put(text)
+        function.put(f'br label {done}')
+    function.begin(trap[1:])
+    function.put('unreachable')
+    function.go_on(done[1:])
+    finish_call(function, call, slot, edges)
+
+
+def finish_call(function: Function, call: Call, slot: str, edges: list[tuple[str, str]]) -> None:
+    """The result of a call by pointer, in the block behind it."""
+    types = pieces(call.result)
+    if slot and call.target:
+        function.take_pieces(slot, types, function.results(call.target, call.result))
+    elif call.target and not edges:
+        # No path comes here; what follows names the value all the same.
+        function.become(call.target, call.result, [zero_of(type_) for type_ in types])
+    elif edges:
+        function.put_phi(f'{function.results(call.target, call.result)[0]} = phi {types[0]}', edges)
+
+
+INSTRUCTIONS = {'call': lower_call}

@@ -1,113 +1,173 @@
-"""Constants, as the subset spells them."""
-import re
+"""Constants as operands: the texts of their pieces."""
+from __future__ import annotations
 
-from .tokens import Refused
-from .types import INTEGERS, read_type, show_type
+import re
+from typing import TYPE_CHECKING, Callable
+
+from .refusals import Refused
+from .tokens import Tokens
+from .types import INTEGERS, Type, bits, is_aggregate, pieces, read_type, show_type
+
+if TYPE_CHECKING:
+    from .module import Module
 
 BINARY = 'add sub mul udiv sdiv urem srem and or xor shl lshr ashr'.split()
 CASTS = 'zext sext trunc ptrtoint inttoptr'.split()
 # These make a value undefined in LLVM and change nothing in hippo, so they are left out.
-FLAGS = set('nuw nsw exact disjoint nneg samesign inbounds nusw'.split())
+FLAGS = set('nuw nsw exact disjoint nneg samesign inbounds nusw inrange'.split())
+ESCAPED = re.compile(rb'\\(\\|[0-9A-Fa-f]{2})')
+
+# Puts an instruction into the function and answers its register.
+Emit = Callable[[str], str]
 
 
-def read_constant(tokens, type_, module, emit=None):
-    """The text of the constant that stands next, under its type.
-
-    `emit` puts an instruction before the current one and answers its register; where it is given, expressions that the
-    subset has no constant for become instructions."""
-    kind, text = tokens.kind(), tokens.take()
-    if text in ('undef', 'poison'):
-        module.notes.add(f'{text} was written as zero')
-        text = 'zeroinitializer'
-    if text in ('zeroinitializer', 'null'):
-        return zero_of(type_)
-    if kind == 'number' or text in ('true', 'false'):
-        return text
-    if text.startswith('@'):
-        return module.constant_address(text)
-    if kind == 'bytes':
-        return byte_list(text)
-    if text in ('[', '{', '<'):
-        return read_list(tokens, text, module)
-    if text == 'getelementptr':
-        return read_element_address(tokens, module)
-    if emit is None:
-        raise Refused(f'the constant {text!r} is not in the subset here')
-    return read_expression(tokens, text, module, emit)
+def read_pieces(tokens: Tokens, type_: Type, module: Module, emit: Emit) -> list[str]:
+    """The pieces of the constant that stands next, under its type."""
+    if tokens.peek() in ('undef', 'poison', 'zeroinitializer'):
+        note_undefined(tokens.take(), module)
+        return [zero_of(piece) for piece in pieces(type_)]
+    if not is_aggregate(type_):
+        if bits(type_) <= 64:
+            return [read_scalar(tokens, type_, module, emit)]
+        return limbs(read_number(tokens, type_), bits(type_))
+    opening, closing = tokens.take(), tokens
+    if opening == '<':
+        opening = tokens.take('{')
+    if opening not in ('{', '['):
+        raise Refused(f'the constant {opening!r} of {show_type(type_)} is not in the subset', 'constant')
+    found = []
+    while closing.peek() not in ('}', ']'):
+        found += read_pieces(tokens, read_type(tokens, module.named_types), module, emit)
+        tokens.take_if(',')
+    tokens.take()
+    tokens.take_if('>')
+    return found
 
 
-def zero_of(type_):
+def note_undefined(word: str, module: Module) -> None:
+    """Says that an undefined value is zero from here on."""
+    if word != 'zeroinitializer':
+        module.notes.add(f'{word} was written as zero')
+
+
+def zero_of(type_: Type) -> str:
+    """The zero of a type of the subset."""
     if isinstance(type_, tuple):
         return 'zeroinitializer'
     return {'ptr': 'null', 'i1': 'false'}.get(type_, '0')
 
 
-def byte_list(text):
-    """`c"..."` as a list of i8."""
-    escaped = re.compile(rb'\\(\\|[0-9A-Fa-f]{2})')
-    written = escaped.sub(lambda match: b'\\' if match[1] == b'\\' else bytes([int(match[1], 16)]),
-                          text[2:-1].encode('latin-1'))
-    signed = (byte - 256 if byte > 127 else byte for byte in written)
-    return '[' + ', '.join(f'i8 {byte}' for byte in signed) + ']'
+def read_number(tokens: Tokens, type_: str) -> int:
+    """The integer that stands next."""
+    if tokens.kind() != 'number':
+        raise Refused(f'the constant {tokens.peek()!r} of {type_} is not in the subset', 'constant')
+    return int(tokens.take())
 
 
-def read_list(tokens, opening, module):
-    """An array's or a struct's constant, behind its opening mark."""
-    packed = opening == '<'
-    if packed:
-        tokens.take('{')
-    closing = ']' if opening == '[' else '}'
-    items = []
-    while tokens.peek() != closing:
-        item = read_type(tokens, module.named_types)
-        items.append(f'{show_type(item)} {read_constant(tokens, item, module)}')
-        if not tokens.take_if(','):
-            break
-    tokens.take(closing)
-    if packed:
-        tokens.take('>')
-    inside = ', '.join(items)
-    if closing == ']':
-        return f'[{inside}]'
-    return f'{{ {inside} }}' if items else '{}'
+def limbs(number: int, width: int) -> list[str]:
+    """An integer of more than 64 bits in pieces of 64, the lowest first."""
+    number &= (1 << width) - 1
+    return [str(signed(number >> place & 0xffffffffffffffff)) for place in range(0, width, 64)]
 
 
-def read_element_address(tokens, module):
+def signed(number: int) -> int:
+    """A number of 64 bits, read with a sign."""
+    return number - (1 << 64) if number >> 63 else number
+
+
+def read_scalar(tokens: Tokens, type_: str, module: Module, emit: Emit) -> str:
+    """The constant of one piece that stands next; expressions that the subset lacks become instructions."""
+    if tokens.peek() in ('undef', 'poison', 'zeroinitializer', 'null'):
+        note_undefined('zeroinitializer' if tokens.peek() == 'null' else tokens.peek(), module)
+        tokens.take()
+        return zero_of(pieces(type_)[0])
+    kind, text = tokens.kind(), tokens.take()
+    if text in ('true', 'false'):
+        return text
+    if kind == 'number':
+        return text if type_ in INTEGERS else str(int(text) & (1 << bits(type_)) - 1)
+    if text.startswith('@'):
+        return module.constant_address(text)
+    if text == 'getelementptr':
+        return read_element_address(tokens, module)
+    if text in ('blockaddress', 'dso_local_equivalent', 'no_cfi'):
+        return read_code_address(tokens, text, module)
+    return read_expression(tokens, text, module, emit)
+
+
+def read_code_address(tokens: Tokens, word: str, module: Module) -> str:
+    """The address of a function in another form, or of a label, behind its word."""
+    if word != 'blockaddress':
+        return module.constant_address(tokens.take())
+    tokens.take('(')
+    function = tokens.take()
+    tokens.take(',')
+    label = tokens.take()
+    tokens.take(')')
+    return module.code.label_address(function, label)
+
+
+def read_element_address(tokens: Tokens, module: Module) -> str:
     """A constant `getelementptr`, behind its word."""
     tokens.take_all(FLAGS)
+    if tokens.peek() == '(' and tokens.peek(1).lstrip('-').isdigit() and tokens.peek(2) == ',':
+        tokens.skip_parentheses()
     tokens.take('(')
     type_ = read_type(tokens, module.named_types)
     tokens.take(',')
     tokens.take('ptr')
-    base = read_constant(tokens, 'ptr', module)
+    base = read_scalar(tokens, 'ptr', module, refuse_expression)
     indices = []
     while tokens.take_if(','):
         index = read_type(tokens, module.named_types)
-        indices.append(f'{index} {read_constant(tokens, index, module)}')
+        indices.append((index, read_scalar(tokens, index, module, refuse_expression)))
     tokens.take(')')
-    return f'getelementptr ({show_type(type_)}, ptr {base}, {", ".join(indices)})'
+    return module.element_address(type_, base, indices)
 
 
-def read_expression(tokens, word, module, emit):
+def read_expression(tokens: Tokens, word: str, module: Module, emit: Emit) -> str:
     """A constant expression, behind its word, as an instruction; the register that it is in."""
     if word in CASTS:
         tokens.take('(')
         source = read_type(tokens, module.named_types)
-        value = read_constant(tokens, source, module, emit)
+        value = read_scalar(tokens, source, module, emit)
         tokens.take('to')
         target = read_type(tokens, module.named_types)
         tokens.take(')')
+        require_integers(source, target)
         return emit(f'{word} {source} {value} to {target}')
     if word in BINARY:
         tokens.take_all(FLAGS)
         tokens.take('(')
         type_ = read_type(tokens, module.named_types)
-        if type_ not in INTEGERS:
-            raise Refused(f'{show_type(type_)} where an integer of the subset stands')
-        first = read_constant(tokens, type_, module, emit)
+        require_integers(type_)
+        first = read_scalar(tokens, type_, module, emit)
         tokens.take(',')
         read_type(tokens, module.named_types)
-        second = read_constant(tokens, type_, module, emit)
+        second = read_scalar(tokens, type_, module, emit)
         tokens.take(')')
         return emit(f'{word} {type_} {first}, {second}')
-    raise Refused(f'the constant {word!r} is not in the subset')
+    raise Refused(f'the constant {word!r} is not in the subset', 'constant')
+
+
+def require_integers(*types: Type) -> None:
+    """Refuses types that are not of the subset in an expression."""
+    for type_ in types:
+        if type_ not in INTEGERS and type_ != 'ptr':
+            raise Refused(f'a constant expression of {show_type(type_)}', 'constant')
+
+
+def refuse_expression(instruction: str) -> str:
+    """In place of an instruction, where there can be none."""
+    raise Refused(f'the constant expression {instruction.split()[0]!r} stands where the subset has none', 'constant')
+
+
+def byte_list(text: str) -> str:
+    """`c"..."` as a list of i8."""
+    return '[' + ', '.join(f'i8 {byte - 256 if byte > 127 else byte}' for byte in bytes_of(text)) + ']'
+
+
+def bytes_of(text: str) -> bytes:
+    """The bytes of `c"..."`."""
+    return ESCAPED.sub(lambda match: b'\\' if match[1] == b'\\' else bytes([int(match[1], 16)]),
+                       text[2:-1].encode('latin-1'))

@@ -15,6 +15,7 @@ EXTERNS = {
 }
 
 
-def declaration(name):
+def declaration(name: str) -> str:
+    """The line that declares an external function."""
     result, parameters = EXTERNS[name]
     return f'declare {result} @{name}({", ".join(parameters)})'

@@ -1,33 +1,67 @@
 """A module: its globals, its functions, and what is added to them."""
+from __future__ import annotations
+
 import re
+from typing import TYPE_CHECKING, Callable
 
-from .constants import read_constant
+from .blocks import helper_for
+from .code import Code
 from .externs import EXTERNS, declaration
-from .function import Function
+from .front_end import Program, global_places
+from .function import Function, Signature
+from .globals import ALIAS, UNDEFINED, global_text
+from .layout import natural, room
+from .lines import LineTables, marked_added
+from .names import GLOBAL_NAME, clean_name
 from .places import Places
-from .tokens import LINKAGE, Refused, Tokens, clean_name
-from .types import read_type, show_type
+from .refusals import Refusals, Refused
+from .runtime import reason_for
+from .start import Start
+from .types import Type, element, show_type, size
 
-NAME = r'@("[^"]*"|[-A-Za-z$._0-9]+)'
-IGNORED = re.compile(r'[;!$]|source_filename|target |attributes |uselistorder')
+if TYPE_CHECKING:
+    from .options import Options
+
+IGNORED = re.compile(r'[;!$]|source_filename|target |attributes |uselistorder|module asm "\.symver')
 
 
 class Module:
     """The text of a module in, its text in the subset out."""
 
-    def __init__(self, text):
-        self.named_types, self.names, self.taken = {}, {}, set(EXTERNS)
-        self.global_names, self.function_names = set(), set()
-        self.externs, self.helpers, self.notes = [], {}, set()
-        self.places = Places(text)
-        globals_, functions = self.items(text)
+    def __init__(self, program: Program, options: Options):
+        self.options, self.own_names, self.gated_names = options, program.own_names, program.gated_names
+        self.public_names = set(program.public_names)
+        self.named_types: dict[str, str | Type] = {}
+        self.names: dict[str, str] = {}
+        self.taken = set(EXTERNS)
+        self.global_names: set[str] = set()
+        self.function_names: set[str] = set()
+        self.same_names: dict[str, str] = {}
+        self.weak: set[str] = set()
+        self.declared: set[str] = set()
+        self.externs: list[str] = []
+        self.persistent: list[tuple[str, int]] = []
+        self.helpers: dict[str, tuple[str, str]] = {}
+        self.notes: set[str] = set()
+        self.refusals = Refusals()
+        self.global_places: dict[str, str] | None = None
+        self.places = Places(program.text)
+        self.line_tables = LineTables(self.places) if options.lines else None
+        self.start, self.code = Start(self), Code(self)
+        globals_, functions = self.items(program.text)
         self.take_names(globals_, functions)
+        self.note_assumed(program)
+        self.code.take([*globals_, *(line for _, body in functions for line in body)])
+        found = [Function(self, head, body) for head, body in functions]
+        self.signatures = {function.written_name: function.signature for function in found}
         self.globals = [self.lower_global(line) for line in globals_]
-        self.functions = [Function(self, head, body).text() for head, body in functions]
+        self.functions = [self.lower_function(function) for function in found]
 
-    def items(self, text):
+    def items(self, text: str) -> tuple[list[str], list[tuple[str, list[str]]]]:
         """The lines of globals, and heads and bodies of functions."""
-        globals_, functions, body = [], [], None
+        globals_: list[str] = []
+        functions: list[tuple[str, list[str]]] = []
+        body: list[str] | None = None
         for line in text.split('\n'):
             stripped = line.strip()
             if body is not None:
@@ -35,8 +69,11 @@ class Module:
                     body = None
                 elif stripped and not stripped.startswith((';', '#dbg')):
                     body.append(stripped)
-            elif not stripped or IGNORED.match(stripped) or stripped.startswith('declare'):
+            elif not stripped or IGNORED.match(stripped):
                 continue
+            elif stripped.startswith('declare'):
+                name = '@' + re.search(GLOBAL_NAME + r'\(', stripped)[1]
+                (self.weak if ' extern_weak ' in stripped else self.declared).add(name)
             elif stripped.startswith('define'):
                 body = []
                 functions.append((stripped, body))
@@ -44,90 +81,156 @@ class Module:
                 self.named_types[named[1]] = named[2]
             elif stripped.startswith('@'):
                 self.keep_global(globals_, stripped)
+            elif stripped.startswith('module asm'):
+                self.refusals.add(Refused('inline assembly outside of functions', 'assembly'), '', stripped[:110])
             else:
-                raise Refused(f'unknown item: {stripped[:90]}')
+                self.refusals.add(Refused(f'unknown item: {stripped[:90]}'))
         return globals_, functions
 
-    @staticmethod
-    def keep_global(globals_, line):
-        name = re.match(NAME, line).group()
+    def keep_global(self, globals_: list[str], line: str) -> None:
+        """Notes a line of a global, by its kind."""
+        name = re.match(GLOBAL_NAME, line).group()
         if name in ('@llvm.global_ctors', '@llvm.global_dtors'):
-            raise Refused('constructors and destructors: hippo runs main alone')
-        if not name.startswith('@llvm.'):
+            self.start.read_list(line)
+        elif found := ALIAS.match(line):
+            self.same_names[name] = found[3] if found[2] == 'alias' and found[3] else ''
+        elif found := UNDEFINED.match(line):
+            if found[2] == 'extern_weak':
+                self.weak.add(name)
+        elif not name.startswith('@llvm.'):
             globals_.append(line)
 
-    def take_names(self, globals_, functions):
+    def take_names(self, globals_: list[str], functions: list[tuple[str, list[str]]]) -> None:
+        """Gives each global and each function its name in the subset."""
         for line in globals_:
-            self.global_names.add(self.take_name(re.match(NAME, line).group()))
+            self.global_names.add(self.take_name(re.match(GLOBAL_NAME, line).group()))
         for head, _ in functions:
-            self.function_names.add(self.take_name('@' + re.search(NAME + r'\(', head)[1]))
+            self.function_names.add(self.take_name('@' + re.search(GLOBAL_NAME + r'\(', head)[1]))
 
-    def take_name(self, written):
-        if written[1:] in EXTERNS:
-            raise Refused(f'{written} is an external function of hippo: declare it, and define it elsewhere')
-        self.names[written] = clean_name(written[1:], self.taken, 'g')
+    def take_name(self, written: str) -> str:
+        """Gives a name; what comes from the runtime has `hippo.` before its own."""
+        name = written[1:].strip('"')
+        if name in EXTERNS and name in self.public_names:
+            self.refusals.add(Refused(
+                f'{written} is an external function of hippo: declare it, and define it elsewhere', 'known'))
+            self.names[written] = name
+            return written
+        if name not in self.own_names:
+            name = f'hippo.{name}'
+        self.names[written] = clean_name(name, self.taken, 'g')
         return written
 
-    def constant_address(self, written):
+    def note_assumed(self, program: Program) -> None:
+        """Says which calls, and which accesses, an option was needed for."""
+        by_option: dict[str, list[str]] = {}
+        for name, option in sorted(program.assumed_names.items()):
+            if f'@{name}' in self.names:
+                by_option.setdefault(option, []).append(name)
+        self.notes |= {f'{", ".join(names)}: as {option} says' for option, names in by_option.items()}
+        if program.has_atomics:
+            self.notes.add('atomic accesses: as --single-thread says')
+
+    # What functions ask.
+
+    def resolved(self, written: str) -> str:
+        """The name behind an alias."""
+        seen = set()
+        while self.same_names.get(written) and written not in seen:
+            seen.add(written)
+            written = self.same_names[written]
+        return written
+
+    def constant_address(self, written: str) -> str:
+        """The address of a global or a function, as a constant."""
+        written = self.resolved(written)
         if written in self.global_names:
             return '@' + self.names[written]
-        if written in self.function_names:
-            raise Refused(f'the address of the function {written} is taken')
-        raise Refused(f'{written} is defined nowhere in the program')
+        if written in self.code.functions:
+            return self.code.address(written)
+        if written in self.weak:
+            return 'null'
+        if written in self.same_names:
+            raise Refused(f'{written} is an alias of an expression, or is chosen when the program is loaded')
+        raise self.missing(written)
 
-    def helper(self, name, make):
-        """The name of a function that is added; `make` writes it under that name when it is first asked for."""
+    def missing(self, written: str) -> Refused:
+        """Why there is no function or variable of a name."""
+        name = written[1:].strip('"')
+        if found := reason_for(name, self.gated_names):
+            return found
+        kind = 'function' if written in self.declared else 'variable'
+        return Refused(f'the {kind} {written} is not in the program', 'missing')
+
+    def element_address(self, type_: Type, base: str, indices: list[tuple[str, str]]) -> str:
+        """A constant `getelementptr`; by bytes where the subset has no type with the same layout."""
+        same = natural(type_)
+        if same is not None:
+            inside = ', '.join(f'{index} {value}' for index, value in indices)
+            return f'getelementptr ({show_type(same)}, ptr {base}, {inside})'
+        offset = int(indices[0][1]) * size(type_)
+        for _, value in indices[1:]:
+            begin, type_ = element(type_, int(value))
+            offset += begin
+        return f'getelementptr (i8, ptr {base}, i64 {offset})'
+
+    def signature_of(self, written: str) -> Signature:
+        """How a function of the program, or one that hippo knows, is called."""
+        return self.signatures.get(written) or self.extern_signature(written[1:])
+
+    @staticmethod
+    def extern_signature(name: str) -> Signature:
+        """How an external function of hippo is called."""
+        result, parameters = EXTERNS[name]
+        return Signature(result, tuple(parameters), (False,) * len(parameters), False)
+
+    def name_of(self, written: str) -> str:
+        """The name of a function in the subset."""
+        return self.names.get(written, written[1:])
+
+    @staticmethod
+    def room(type_: Type) -> str:
+        """The text of a type of the subset that has a type's size, and words."""
+        return show_type(room(type_, 8))
+
+    def copy_helper(self, least: int, count: int) -> str:
+        """The function that copies a number of bytes between addresses of an alignment."""
+        return helper_for(self, 'memcpy', min(least, 8), count)
+
+    def helper(self, name: str, make: Callable[[str], str]) -> str:
+        """The name of a function that is added; `make` writes it under that name at its first use."""
         if name not in self.helpers:
             real = '@' + clean_name(name, self.taken, 'g')
             self.helpers[name] = (real, make(real))
         return self.helpers[name][0]
 
-    def extern(self, name):
+    def extern(self, name: str) -> None:
+        """Notes that an external function of hippo is called."""
         if name not in self.externs:
             self.externs.append(name)
 
-    def lower_global(self, line):
+    # The text.
+
+    def lower_global(self, line: str) -> str:
+        """A global in the subset, or nothing where it is refused."""
         try:
-            return self.global_text(Tokens(self.places.without_metadata(line)[0]))
+            return global_text(self, self.places.without_metadata(line)[0])
         except Refused as refusal:
-            raise Refused(f'{refusal}: {line[:110]}') from None
+            if self.global_places is None:
+                self.global_places = global_places(self.options)
+            name = re.match(GLOBAL_NAME, line)[1].strip('"')
+            self.refusals.add(refusal, self.global_places.get(name, ''), line[:110])
+            return ''
 
-    def global_text(self, tokens):
-        name = self.names[tokens.take()]
-        tokens.take('=')
-        tokens.take_all(LINKAGE)
-        kind = tokens.take()
-        if kind not in ('global', 'constant'):
-            raise Refused(f'{kind}: a global of this kind is not in the subset')
-        type_ = read_type(tokens, self.named_types)
-        text = f'@{name} = {kind} {show_type(type_)} {read_constant(tokens, type_, self)}'
-        section = alignment = ''
-        while tokens.take_if(','):
-            word = tokens.take()
-            if word == 'section':
-                section = self.section(tokens.take())
-            elif word == 'align':
-                alignment = f', align {self.alignment(tokens.take())}'
-            elif word == 'comdat':
-                if tokens.peek() == '(':
-                    tokens.skip_parentheses()
-            else:
-                raise Refused(f'{word}: a property of globals that is not in the subset')
-        return text + section + alignment
+    def lower_function(self, function: Function) -> str:
+        """A function in the subset."""
+        if function.written_name == '@main':
+            self.start.begin(function)
+        return function.text()
 
-    def section(self, written):
-        if written == '".pm"':
-            return ', section ".pm"'
-        self.notes.add(f'section {written} was left out')
-        return ''
-
-    @staticmethod
-    def alignment(written):
-        if int(written) > 4096:
-            raise Refused(f'align {written}: at most 4096')
-        return written
-
-    def text(self):
+    def text(self) -> str:
+        """The program in the subset."""
         added = [text for _, text in self.helpers.values()]
-        parts = self.globals + [declaration(name) for name in self.externs] + self.functions + added
+        if self.line_tables:
+            added = [marked_added(text) for text in added]
+        parts = [*self.globals, *self.start.globals, *map(declaration, self.externs), *self.functions, *added]
         return '\n'.join(parts) + '\n'

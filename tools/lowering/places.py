@@ -5,20 +5,23 @@ METADATA = re.compile(r',? !([-\w.]+) !(\d+)(?=$| \{$|,? !)')
 
 
 class Places:
-    def __init__(self, text):
-        self.fields, self.names = {}, {}
+    """The places of a module's instructions and functions."""
+
+    def __init__(self, text: str):
+        self.fields: dict[str, str] = {}
+        self.names: dict[str, str] = {}
         for number, kind, fields in re.findall(r'^!(\d+) = (?:distinct )?!(DI\w+)\((.*)\)$', text, re.M):
             self.fields[number] = fields
             if kind == 'DIFile':
                 self.names[number] = re.search(r'filename: "([^"]*)"', fields)[1]
 
     @staticmethod
-    def without_metadata(line):
+    def without_metadata(line: str) -> tuple[str, dict[str, str]]:
         """A line without the metadata at its end, and that metadata by name."""
         metadata = dict(METADATA.findall(line))
         return METADATA.sub('', line), metadata
 
-    def of(self, metadata):
+    def of(self, metadata: dict[str, str]) -> str:
         """`FILE:LINE: ` of an instruction or a function, or nothing where that is not known."""
         place = metadata.get('dbg')
         while called := self.field(place, 'inlinedAt'):
@@ -27,7 +30,7 @@ class Places:
         file = self.field(place, 'file') or self.field(self.field(place, 'scope'), 'file')
         return f'{self.names[file]}:{line[1]}: ' if line and file in self.names else ''
 
-    def field(self, number, name):
+    def field(self, number: str | None, name: str) -> str | None:
         """The number of the metadata that a field names."""
         found = re.search(rf'\b{name}: !(\d+)', self.fields.get(number, ''))
         return found and found[1]

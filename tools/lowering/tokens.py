@@ -1,10 +1,9 @@
 """Tokens of LLVM's text form."""
+from __future__ import annotations
+
 import re
 
-
-class Refused(Exception):
-    """What stands there cannot be brought into the subset; the message says why."""
-
+from .refusals import Refused
 
 TOKEN = re.compile(r'''
     (?P<space>\s+|;[^\n]*)
@@ -21,9 +20,9 @@ TOKEN = re.compile(r'''
 
 # Attributes of parameters, results and calls that say something of a program and change nothing of what it does.
 PLAIN_ATTRIBUTES = set('''noundef nonnull nocapture readonly writeonly readnone returned noalias signext zeroext immarg
-    nofree noext dead_on_unwind writable nounwind willreturn allocptr allocalign'''.split())
+    nofree noext dead_on_unwind writable nounwind willreturn allocptr allocalign inreg swiftself nest'''.split())
 ATTRIBUTES_WITH_ARGUMENTS = set('''dereferenceable dereferenceable_or_null range sret align initializes captures memory
-    allocsize'''.split())
+    allocsize elementtype nofpclass'''.split())
 LINKAGE = set('''private internal dso_local dso_preemptable hidden protected default linkonce linkonce_odr weak weak_odr
     common available_externally unnamed_addr local_unnamed_addr fastcc ccc coldcc tailcc'''.split())
 
@@ -31,19 +30,22 @@ LINKAGE = set('''private internal dso_local dso_preemptable hidden protected def
 class Tokens:
     """The tokens of a text, one after another."""
 
-    def __init__(self, text):
+    def __init__(self, text: str):
         found = ((match.lastgroup, match.group()) for match in TOKEN.finditer(text))
         self.tokens = [token for token in found if token[0] != 'space']
         self.place = 0
 
-    def peek(self, ahead=0):
+    def peek(self, ahead: int = 0) -> str:
+        """The token that stands next, or one further ahead; an empty text where there is none."""
         place = self.place + ahead
         return self.tokens[place][1] if place < len(self.tokens) else ''
 
-    def kind(self):
+    def kind(self) -> str:
+        """The kind of the token that stands next."""
         return self.tokens[self.place][0] if self.place < len(self.tokens) else 'end'
 
-    def take(self, expected=None):
+    def take(self, expected: str | None = None) -> str:
+        """The token that stands next, which is the expected one where one is given."""
         text = self.peek()
         if expected is not None and text != expected:
             raise Refused(f'{expected!r} was expected where {text!r} stands')
@@ -52,18 +54,19 @@ class Tokens:
         self.place += 1
         return text
 
-    def take_if(self, *words):
+    def take_if(self, *words: str) -> str:
         """One of the words where it stands next, and else nothing."""
         return self.take() if self.peek() in words else ''
 
-    def take_all(self, words):
+    def take_all(self, words: set[str]) -> list[str]:
         """All of the words that stand next."""
         taken = []
         while self.peek() in words:
             taken.append(self.take())
         return taken
 
-    def skip_parentheses(self):
+    def skip_parentheses(self) -> None:
+        """Goes behind the parenthesis that closes the one that stands next."""
         depth = 0
         while True:
             text = self.take()
@@ -71,37 +74,32 @@ class Tokens:
             if depth == 0:
                 return
 
-    def skip_attributes(self):
-        """Attributes of a parameter, a result or a call; the alignment that they give, or 1."""
-        alignment = 1
+    def skip_attributes(self) -> tuple[int, Tokens | None]:
+        """Attributes of a parameter, a result or a call: the alignment that they give, or 1, and the tokens of the type
+        of an aggregate that is passed by value, where one is."""
+        alignment, by_value = 1, None
         while True:
             text = self.peek()
             if self.kind() == 'attributes' or text in PLAIN_ATTRIBUTES:
                 self.take()
-            elif text in ('byval', 'inalloca', 'preallocated'):
-                raise Refused('an aggregate is passed by value (give the function a pointer)')
-            elif text in ATTRIBUTES_WITH_ARGUMENTS:
+            elif text == 'byval':
                 self.take()
-                if self.kind() == 'number':
-                    alignment = int(self.take())
-                else:
-                    self.skip_parentheses()
+                by_value = Tokens('')
+                by_value.tokens, by_value.place = self.tokens, self.place + 1
+                self.skip_parentheses()
+            elif text in ATTRIBUTES_WITH_ARGUMENTS:
+                alignment = self.skip_argument() or alignment
             elif self.kind() == 'string':
                 self.take()
                 if self.take_if('='):
                     self.take()
             else:
-                return alignment
+                return alignment, by_value
 
-
-def clean_name(name, taken, first):
-    """A name that the subset can spell and that is not taken yet; it is taken then."""
-    base = re.sub(r'[^-A-Za-z$._0-9]', '_', name.strip('"'))
-    if not re.match(r'[A-Za-z$._]', base):
-        base = first + base
-    free, number = base, 0
-    while free in taken:
-        number += 1
-        free = f'{base}.{number}'
-    taken.add(free)
-    return free
+    def skip_argument(self) -> int:
+        """An attribute with its argument; the number that it is, or 0."""
+        self.take()
+        if self.kind() == 'number':
+            return int(self.take())
+        self.skip_parentheses()
+        return 0

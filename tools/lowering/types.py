@@ -1,11 +1,25 @@
-"""Types: a scalar is its word, an array is ('array', count, element), a struct is ('struct', fields)."""
-from .tokens import Refused, Tokens
+"""Types: a scalar is its word, an array ('array', count, element), a struct ('struct', fields) or ('packed', fields).
 
+Sizes and alignments are those of LLVM on x86-64. What a register holds is kept in *pieces*, scalars of the subset: an
+integer of another width in one of the next width, whose upper bits are zero, one above 64 bits in several of 64 bits,
+an aggregate in the pieces of its fields."""
+from __future__ import annotations
+
+import re
+from functools import lru_cache
+
+from .refusals import Refused
+from .tokens import Tokens
+
+Type = str | tuple
 INTEGERS = {'i1': 1, 'i8': 1, 'i16': 2, 'i32': 4, 'i64': 8}
 SCALARS = {**INTEGERS, 'ptr': 8}
+FLOATS = set('half bfloat float double x86_fp80 fp128 ppc_fp128'.split())
+MOST_PIECES = 64
+WIDEST = 64 * MOST_PIECES
 
 
-def read_type(tokens, named):
+def read_type(tokens: Tokens, named: dict[str, str | Type]) -> Type:
     """The type that stands next; `named` has the texts of the named types, which are written out in place."""
     text = tokens.take()
     if text in SCALARS or text == 'void':
@@ -19,64 +33,140 @@ def read_type(tokens, named):
     if text == '{':
         return ('struct', read_fields(tokens, named))
     if text == '<' and tokens.take_if('{'):
-        packed = ('struct', read_fields(tokens, named))
+        packed = ('packed', read_fields(tokens, named))
         tokens.take('>')
-        return natural_layout(packed)
-    if text in named:
+        return packed
+    if text.startswith('%') and text in named:
         if isinstance(named[text], str):
-            named[text] = read_type(Tokens(named[text]), named)
+            named[text] = ('opaque',) if named[text] == 'opaque' else read_type(Tokens(named[text]), named)
         return named[text]
-    raise Refused(f'the type {text} is not in the subset')
+    if re.fullmatch(r'i[1-9][0-9]*', text):
+        if int(text[1:]) > WIDEST:
+            raise Refused(f'the type {text} is not in the subset', 'width')
+        return text
+    if text == '<':
+        raise Refused(f'a vector of {tokens.peek()} x {tokens.peek(2)}', 'vector')
+    raise Refused(f'the type {text} is not in the subset', 'float' if text in FLOATS else 'form')
 
 
-def read_fields(tokens, named):
+def read_fields(tokens: Tokens, named: dict) -> tuple:
+    """The types of the fields of a struct, behind its opening brace, which is closed behind them."""
     fields = []
     while tokens.peek() != '}':
         fields.append(read_type(tokens, named))
         if not tokens.take_if(','):
             break
     tokens.take('}')
-    return fields
+    return tuple(fields)
 
 
-def natural_layout(packed):
-    """The struct without `packed`, where that moves no field."""
-    end = 0
-    for field in packed[1]:
-        if end % alignment(field):
-            raise Refused('a packed struct has a field that is not at its natural alignment')
-        end += size(field)
-    if size(packed) != end:
-        raise Refused('a packed struct has no padding at its end')
-    return packed
+def is_aggregate(type_: Type) -> bool:
+    """Whether the type is an array or a struct."""
+    return isinstance(type_, tuple)
 
 
-def alignment(type_):
+def bits(type_: Type) -> int:
+    """The width of an integer type, or 0."""
+    return int(type_[1:]) if isinstance(type_, str) and type_[0] == 'i' else 0
+
+
+def next_power(number: int) -> int:
+    """The least power of two that is not below the number."""
+    return 1 << max(number - 1, 0).bit_length()
+
+
+def container(type_: str) -> str:
+    """The integer type of the subset that holds an integer of up to 64 bits; `ptr` holds itself."""
+    if type_ in SCALARS:
+        return type_
+    return f'i{max(8, next_power(bits(type_)))}'
+
+
+@lru_cache(None)
+def pieces(type_: Type) -> tuple[str, ...]:
+    """The types of the scalars of the subset that hold a value in registers."""
+    if type_ == 'void':
+        return ()
     if isinstance(type_, str):
-        return SCALARS[type_]
+        return ('i64',) * -(-bits(type_) // 64) if bits(type_) > 64 else (container(type_),)
+    alignment(type_)
+    if type_[0] == 'array' and type_[1] > MOST_PIECES:
+        raise Refused(f'{show_type(type_)} is held in a register')
+    fields = (type_[2],) * type_[1] if type_[0] == 'array' else type_[1]
+    return tuple(piece for field in fields for piece in pieces(field))
+
+
+@lru_cache(None)
+def alignment(type_: Type) -> int:
+    """The alignment of a type in memory."""
+    if isinstance(type_, str):
+        if type_ in SCALARS:
+            return SCALARS[type_]
+        if not bits(type_):
+            raise Refused(f'the type {type_} has no size')
+        return min(max(1, next_power(bits(type_)) // 8), 16)
     if type_[0] == 'array':
         return alignment(type_[2])
-    return max([1] + [alignment(field) for field in type_[1]])
+    if type_[0] == 'opaque':
+        raise Refused('an incomplete struct has no size')
+    return 1 if type_[0] == 'packed' else max([1] + [alignment(field) for field in type_[1]])
 
 
-def size(type_):
+@lru_cache(None)
+def size(type_: Type) -> int:
+    """The distance of two values of a type in an array."""
     if isinstance(type_, str):
-        return SCALARS[type_]
+        return 8 if type_ == 'ptr' else round_up(-(-bits(type_) // 8), alignment(type_))
     if type_[0] == 'array':
         return type_[1] * size(type_[2])
-    end = 0
+    whole = alignment(type_)
+    return round_up(field_offsets(type_)[-1], whole)
+
+
+@lru_cache(None)
+def field_offsets(type_: Type) -> tuple[int, ...]:
+    """The offsets of the fields of a struct, and the end of the last one."""
+    offsets, end = [], 0
     for field in type_[1]:
-        end = round_up(end, alignment(field)) + size(field)
-    return round_up(end, alignment(type_))
+        begin = end if type_[0] == 'packed' else round_up(end, alignment(field))
+        offsets.append(begin)
+        end = begin + size(field)
+    return (*offsets, end)
 
 
-def round_up(number, multiple):
+def element(type_: Type, index: int) -> tuple[int, Type]:
+    """The offset and the type of an element of an array or a struct."""
+    if type_[0] == 'array':
+        return index * size(type_[2]), type_[2]
+    return field_offsets(type_)[index], type_[1][index]
+
+
+def leaves(type_: Type, offset: int = 0) -> list[tuple[int, str]]:
+    """The offset and the type of each scalar of a type that registers hold."""
+    if isinstance(type_, str):
+        return [(offset, type_)]
+    pieces(type_)
+    count = type_[1] if type_[0] == 'array' else len(type_[1])
+    return [leaf for index in range(count) for leaf in leaves_of_element(type_, index, offset)]
+
+
+def leaves_of_element(type_: Type, index: int, offset: int) -> list[tuple[int, str]]:
+    """The leaves of one element of an aggregate that lies at the offset."""
+    begin, inner = element(type_, index)
+    return leaves(inner, offset + begin)
+
+
+def round_up(number: int, multiple: int) -> int:
+    """The least multiple that is not below the number."""
     return -(-number // multiple) * multiple
 
 
-def show_type(type_):
+def show_type(type_: Type) -> str:
+    """The text of a type."""
     if isinstance(type_, str):
         return type_
     if type_[0] == 'array':
         return f'[{type_[1]} x {show_type(type_[2])}]'
+    if type_[0] == 'opaque':
+        return 'an incomplete struct'
     return '{ ' + ', '.join(map(show_type, type_[1])) + ' }' if type_[1] else '{}'

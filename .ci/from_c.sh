@@ -1,7 +1,7 @@
 #!/usr/bin/env bash
 # From C: what tools/lower makes of each program in examples/from_c is the text that is stored beside it; that text, the
-# repaired one and the C program, each built for the processor, print what is stored. Programs that cannot be lowered
-# are refused with their reason. Without the tools of LLVM 19 there is nothing to compare, and one line says so.
+# repaired one and the C program, each built for the processor, print what is stored. The tests of tools/lower run too.
+# Without the tools of LLVM 19 there is nothing to compare, and one line says so.
 cd "$(dirname "${BASH_SOURCE[0]}")/.." || exit 2
 for tool in python3 clang-19 opt-19 llvm-as-19 llvm-link-19 llc-19; do
   if ! command -v "$tool" >/dev/null; then
@@ -42,9 +42,9 @@ build() {
     clang-19 -Itools -o "$2" "$scratch/build.o" tools/external_functions.c
 }
 
-# compiled FILE TEXT: a C program as clang compiles it, in LLVM's text form
+# compiled FILE TEXT FLAG..: a C program as clang compiles it, in LLVM's text form
 compiled() {
-  clang-19 -O1 -fwrapv -fno-strict-aliasing -mclwb -Itools -S -emit-llvm -o "$2" "$1"
+  clang-19 -O1 -fwrapv -fno-strict-aliasing -mclwb -Itools "${@:3}" -S -emit-llvm -o "$2" "$1"
 }
 
 # prints TEXT INPUT OUTPUT: the program built from the text prints these bytes
@@ -60,21 +60,38 @@ shows() {
   [ "${page/"$block"/}" != "$page" ]
 }
 
-for name in log allocator undo; do
+# options NAME: what tools/lower is given for a program
+options() {
+  if [ "$1" = store ]; then echo --pool store.pool=64K; fi
+}
+
+# native NAME: a C program as clang compiles it; the runtime's files stand for libpmem, over this pool
+native() {
+  compiled "$folder/$1.c" "$scratch/c.ll"
+  if [ "$1" = store ]; then
+    for file in tools/runtime/pool.c tools/runtime/libpmem.c tools/tests/store_pool.c; do
+      compiled "$file" "$scratch/part.ll" -D_GNU_SOURCE -Itools/runtime
+      llvm-link-19 -S -o "$scratch/c.ll" "$scratch/c.ll" "$scratch/part.ll"
+    done
+  fi
+}
+
+for name in log allocator undo store; do
   input=/dev/null
   if [ -f "$folder/$name.in" ]; then input=$folder/$name.in; fi
-  tools/lower "$folder/$name.c" >"$scratch/$name.ll" 2>"$scratch/notes"
+  # shellcheck disable=SC2046  # the options are words
+  tools/lower $(options "$name") "$folder/$name.c" >"$scratch/$name.ll" 2>"$scratch/notes"
   count "$name.c is lowered to another text" cmp -s "$scratch/$name.ll" "$folder/$name.ll"
   count "$name.ll prints something else" prints "$folder/$name.ll" "$input" "$folder/$name.out"
   count "README.md shows another output of $name" shows "$folder/$name.out"
-  compiled "$folder/$name.c" "$scratch/c.ll"
+  native "$name"
   count "$name.c prints something else" prints "$scratch/c.ll" "$input" "$folder/$name.out"
   count "$name.repaired.ll prints something else" prints "$folder/$name.repaired.ll" "$input" "$folder/$name.out"
 done
 
 # Where hippo is built, its runs of the texts print the same, and stop with 0; and it makes the stored traces and
 # repaired texts.
-hippo=crates/hippo/out/hippo
+hippo=${HIPPO_PROGRAM:-out/hippo}
 # ends NOTES WORD..: a command's output, with code 0 and these notes
 ends() {
   local notes=$1
@@ -83,7 +100,7 @@ ends() {
 }
 runs() {
   local numbers=()
-  if [ -f "$folder/$1.in" ]; then read -ra numbers <"$folder/$1.in"; fi
+  if [ -f "$folder/$1.in" ]; then mapfile -t numbers < <(tr ' ' '\n' <"$folder/$1.in"); fi
   ends 'stop 0' run "$folder/$1.ll" "${numbers[@]}" && cmp -s "$scratch/printed" "$folder/$1.out" &&
     ends 'stop 0' run "$folder/$1.repaired.ll" "${numbers[@]}" && cmp -s "$scratch/printed" "$folder/$1.out" &&
     ends 'stop 0' record "$folder/$1.ll" "${numbers[@]}" && cmp -s "$scratch/printed" "$folder/$1.trace"
@@ -94,7 +111,7 @@ mends() {
     ends 'reports 0' check "$folder/$1.repaired.ll" "$folder/$1.repaired.trace"
 }
 if [ -x "$hippo" ]; then
-  for name in log allocator undo; do
+  for name in log allocator undo store; do
     count "hippo run $name.ll prints something else" runs "$name"
     count "hippo repair $name.ll gives something else" mends "$name"
   done
@@ -118,44 +135,18 @@ done
 tools/lower tools/tests/forms.ll >"$scratch/lowered.ll" 2>"$scratch/notes"
 count "forms.ll prints something else" prints "$scratch/lowered.ll" /dev/null "$scratch/forms.out"
 
-# refuse REASON TEXT: a C program, with its place and its reason on the first line of standard error
-refuse() {
-  printf '#include <hippo.h>\n%s\n' "$2" >"$scratch/refused.c"
-  tools/lower "$scratch/refused.c" >"$scratch/out" 2>"$scratch/notes"
-  local got=$? line
-  line=$(head -n 1 "$scratch/notes")
-  count "'$line', exit $got, where '$1' was expected" \
-    test "$got" -eq 1 -a ! -s "$scratch/out" -a "${line//"$1"/}" != "$line"
-}
+# The tests of tools/lower: C programs feature by feature at each level, what is refused, and the runtime.
+if [ -x "$hippo" ]; then export HIPPO=$PWD/$hippo; fi
+for tests in lowering refusals runtime; do
+  count "tools/tests/test_$tests.py fails" python3 "tools/tests/test_$tests.py"
+done
 
-refuse 'refused.c:3: the type double' 'double half(double x);
-int main(void) { print_i64((long long)half(3.0)); return 0; }'
-refuse 'refused.c:3: an atomic access' 'long long n;
-int main(void) { return (int)__atomic_load_n(&n, __ATOMIC_ACQUIRE); }'
-refuse 'refused.c:2: a fence between threads' 'int main(void) { __atomic_thread_fence(__ATOMIC_SEQ_CST); return 0; }'
-refuse 'refused.c:3: a non-temporal access' 'PERSISTENT long long n;
-int main(void) { _mm_stream_si64(&n, 3); return 0; }'
-refuse 'refused.c:2: inline assembly' 'int main(void) { __asm__ volatile("mfence" ::: "memory"); return 0; }'
-refuse 'refused.c:3: an indirect call' 'void (*volatile f)(long long);
-int main(void) { f(3); return 0; }'
-refuse 'the address of the function @print is taken' 'void print(void) {}
-void (*f)(void) = print;
-int main(void) { return 0; }'
-refuse 'refused.c:3: the function @malloc is not in the program' 'void *malloc(size_t size);
-int main(void) { *(volatile char *)malloc(8) = 1; return 0; }'
-refuse 'refused.c:3: a call of a function with variable arguments' 'int printf(const char *form, ...);
-int main(void) { printf("%d", 3); return 0; }'
-refuse 'refused.c:2: main uses its parameters' 'int main(int argc, char **argv) { (void)argv; return argc; }'
-refuse 'an array whose length is not constant' 'int main(void) { long long n = read_i64(); char a[n]; pm_assert(a, 1);
-return 0; }'
-refuse 'the type i128' '__int128 n;
-int main(void) { n = n + read_i64(); return 0; }'
-refuse '@print_i64 is an external function of hippo' 'void print_i64(long long n) { (void)n; }
-int main(void) { print_i64(3); return 0; }'
-refuse 'constructors' '__attribute__((constructor)) void begin(void) { print_i64(1); }
-int main(void) { return 0; }'
-refuse 'thread_local' '_Thread_local long long n;
-int main(void) { return (int)n++; }'
+# Random programs, where csmith is installed.
+if ! command -v csmith >/dev/null; then
+  echo "from C: random programs are skipped, csmith is not installed"
+elif [ -x "$hippo" ]; then
+  count "a random program differs" python3 tools/tests/random_programs.py --hippo "$PWD/$hippo" --count 6
+fi
 
 echo "from C: $passed passed, $failed failed"
 [ "$failed" -eq 0 ]

@@ -1,4 +1,4 @@
-"""Functions that are added to a program in place of LLVM's intrinsics, each once."""
+"""Functions that are added to a program to copy and to set memory, each once."""
 from string import Template
 
 FORWARD = Template('''\
@@ -69,60 +69,8 @@ ${source_rest}\
 ${calls}\
 }''')
 
-ROTATE = Template('''\
-define $type $name($type %high, $type %low, $type %amount) {
-entry:
-  %left = urem $type %amount, $bits
-  %none = icmp eq $type %left, 0
-  br i1 %none, label %same, label %shifted
-same:
-  ret $type $kept
-shifted:
-  %right = sub $type $bits, %left
-  %first = $towards $type $kept, %left
-  %second = $away $type $other, %right
-  %both = or $type %first, %second
-  ret $type %both
-}''')
 
-# The head of a function whose loop counts from 0 and has, in each turn, what is left of the number.
-OVER_BITS = '''\
-define $type $name($type %value) {
-entry:
-  br label %loop
-loop:
-  %i = phi $type [ 0, %entry ], [ %next, %$turn ]
-  %left = phi $type [ %value, %entry ], [ %rest, %$turn ]
-'''
-
-GATHER = Template(OVER_BITS + '''\
-  %sum = phi $type [ 0, %entry ], [ %result, %loop ]
-  %part = and $type %left, $mask
-$combine
-  %rest = lshr $type %left, $step
-  %next = add $type %i, $step
-  %more = icmp ult $type %next, $bits
-  br i1 %more, label %loop, label %done
-done:
-  ret $type %result
-}''')
-
-SEARCH = Template(OVER_BITS + '''\
-$test
-  br i1 %found, label %done, label %more
-more:
-  %rest = $shift $type %left, 1
-  %next = add $type %i, 1
-  %inside = icmp ult $type %next, $bits
-  br i1 %inside, label %loop, label %none
-done:
-  ret $type %i
-none:
-  ret $type $bits
-}''')
-
-
-def copy_helper(name, step, overlapping):
+def copy_helper(name: str, step: int, overlapping: bool) -> str:
     """Copies `count` bytes, a multiple of `step`; overlapping ranges in the direction that keeps the source."""
     names = {'type': f'i{8 * step}', 'step': step}
     if not overlapping:
@@ -132,7 +80,7 @@ def copy_helper(name, step, overlapping):
     return COPY.substitute(name=name, start='direction', direction=DIRECTION, loops=loops)
 
 
-def set_helper(name, step):
+def set_helper(name: str, step: int) -> str:
     """Sets `count` bytes, a multiple of `step`."""
     type_ = f'i{8 * step}'
     if step == 1:
@@ -141,7 +89,7 @@ def set_helper(name, step):
     return SET.substitute(name=name, type=type_, step=step, widen=widen, value='%word')
 
 
-def parts_helper(name, step, kind, words, bytes_):
+def parts_helper(name: str, step: int, kind: str, words: str, bytes_: str) -> str:
     """Copies or sets any number of bytes, by one helper for whole words and one for the bytes that are left."""
     if kind == 'memset':
         calls = f'  call void {words}(ptr %target, i8 %byte, i64 %whole)\n'
@@ -157,19 +105,75 @@ def parts_helper(name, step, kind, words, bytes_):
     return PARTS.substitute(name=name, step=step, operand='ptr %source', source_rest=source_rest, calls=calls)
 
 
-def bits_helper(name, kind, bits):
-    """The intrinsics on the bits of one number, and the two funnel shifts."""
-    names = {'name': name, 'type': f'i{bits}', 'bits': bits, 'turn': 'more' if kind in ('cttz', 'ctlz') else 'loop'}
-    if kind == 'fshl':
-        return ROTATE.substitute(names, kept='%high', other='%low', towards='shl', away='lshr')
-    if kind == 'fshr':
-        return ROTATE.substitute(names, kept='%low', other='%high', towards='lshr', away='shl')
-    if kind == 'ctpop':
-        return GATHER.substitute(names, mask=1, step=1, combine=f'  %result = add i{bits} %sum, %part')
-    if kind == 'bswap':
-        combine = f'  %moved = shl i{bits} %sum, 8\n  %result = or i{bits} %moved, %part'
-        return GATHER.substitute(names, mask=255, step=8, combine=combine)
-    if kind == 'cttz':
-        test = f'  %bit = and i{bits} %left, 1\n  %found = icmp ne i{bits} %bit, 0'
-        return SEARCH.substitute(names, test=test, shift='lshr')
-    return SEARCH.substitute(names, test=f'  %found = icmp slt i{bits} %left, 0', shift='shl')
+# Any alignment: single bytes up to the first word of the target, words that are read at any address, the bytes left.
+ANY = Template('''\
+define void $name(ptr %target, $operand, i64 %count) {
+entry:
+  %at = ptrtoint ptr %target to i64
+  %before = sub i64 0, %at
+  %odd = and i64 %before, 7
+  %short = icmp ult i64 %count, %odd
+  %head = select i1 %short, i64 %count, i64 %odd
+  %after.head = sub i64 %count, %head
+  %whole = and i64 %after.head, -8
+  %tail = and i64 %after.head, 7
+  %behind = add i64 %head, %whole
+  %target.words = getelementptr i8, ptr %target, i64 %head
+  %target.tail = getelementptr i8, ptr %target, i64 %behind
+${sources}\
+${order}\
+}''')
+
+ANY_FORWARD = Template('''\
+  call void $bytes_(ptr %target, ${head}, i64 %head)
+  %no.words = icmp eq i64 %whole, 0
+  br i1 %no.words, label %done, label %words
+words:
+  %i = phi i64 [ 0, %$before ], [ %next, %words ]
+  %to = getelementptr i8, ptr %target.words, i64 %i
+${word}\
+  store i64 %word, ptr %to
+  %next = add i64 %i, 8
+  %more = icmp ult i64 %next, %whole
+  br i1 %more, label %words, label %done
+done:
+  call void $bytes_(ptr %target.tail, ${tail}, i64 %tail)
+  ret void
+''')
+
+ANY_BACKWARD = Template('''\
+backward:
+  call void $bytes_(ptr %target.tail, ptr %source.tail, i64 %tail)
+  %none.back = icmp eq i64 %whole, 0
+  br i1 %none.back, label %first, label %back
+back:
+  %k = phi i64 [ %whole, %backward ], [ %last, %back ]
+  %last = sub i64 %k, 8
+  %from.back = getelementptr i8, ptr %source.words, i64 %last
+  %to.back = getelementptr i8, ptr %target.words, i64 %last
+  %word.back = load i64, ptr %from.back, align 1
+  store i64 %word.back, ptr %to.back
+  %is.first = icmp eq i64 %last, 0
+  br i1 %is.first, label %first, label %back
+first:
+  call void $bytes_(ptr %target, ptr %source, i64 %head)
+  ret void
+''')
+
+
+def any_helper(name: str, kind: str, bytes_: str) -> str:
+    """Copies or sets any number of bytes at any alignment, by words of the target."""
+    if kind == 'memset':
+        widen = f'  %wide = zext i8 %byte to i64\n  %word = mul i64 %wide, {int("01" * 8, 16)}\n'
+        order = ANY_FORWARD.substitute(bytes_=bytes_, head='i8 %byte', tail='i8 %byte', before='entry', word='')
+        return ANY.substitute(name=name, operand='i8 %byte', sources=widen, order=order)
+    sources = ('  %source.words = getelementptr i8, ptr %source, i64 %head\n'
+               '  %source.tail = getelementptr i8, ptr %source, i64 %behind\n')
+    word = '  %from = getelementptr i8, ptr %source.words, i64 %i\n  %word = load i64, ptr %from, align 1\n'
+    overlapping = kind == 'memmove'
+    order = ANY_FORWARD.substitute(bytes_=bytes_, head='ptr %source', tail='ptr %source.tail', word=word,
+                                   before='forward' if overlapping else 'entry')
+    if overlapping:
+        order = ('  %below = icmp ule ptr %target, %source\n  br i1 %below, label %forward, label %backward\n'
+                 f'forward:\n{order}{ANY_BACKWARD.substitute(bytes_=bytes_)}')
+    return ANY.substitute(name=name, operand='ptr %source', sources=sources, order=order)

@@ -1,0 +1,8 @@
+"""What lowers each instruction, by its word. Each is called with the function, the tokens behind the word, the register
+that is assigned (an empty text where there is none), and the word."""
+from .calls import INSTRUCTIONS as CALLS
+from .control import INSTRUCTIONS as CONTROL
+from .integers import INSTRUCTIONS as INTEGERS
+from .memory import INSTRUCTIONS as MEMORY
+
+INSTRUCTIONS = {**INTEGERS, **MEMORY, **CONTROL, **CALLS}

@@ -1,0 +1,108 @@
+"""The words of the command line of `lower`."""
+import argparse
+import re
+from dataclasses import dataclass, field
+
+from .commands import USAGE, Failure
+
+USAGE_LINE = 'lower [-O0|-O1|-O2|-O3|-Os] [OPTIONS] FILE... [--args WORD...] [-- CLANG-ARGUMENTS...]'
+UNITS = {'': 1, 'K': 1 << 10, 'M': 1 << 20}
+
+
+@dataclass
+class Pool:
+    """A file of persistent memory: its name, its size, and a file with its first bytes."""
+
+    name: str
+    size: int
+    content: str = ''
+
+
+@dataclass
+class Options:
+    """What the command line gives."""
+
+    files: list[str]
+    level: str = '-O1'
+    mem2reg: bool = False
+    heap: int | None = None
+    pools: list[Pool] = field(default_factory=list)
+    output: str = ''
+    time_from_input: bool = False
+    file_calls: bool = False
+    single_thread: bool = False
+    lines: bool = False
+    non_temporal: bool = False
+    array_bound: int | None = None
+    public: str = ''
+    unaligned: bool = False
+    arguments: list[str] | None = None
+    clang: list[str] = field(default_factory=list)
+
+
+class Parser(argparse.ArgumentParser):
+    """A parser whose errors have the exit code of a usage error."""
+
+    def error(self, message: str) -> None:
+        """Ends the command."""
+        raise Failure(f'usage: {USAGE_LINE}: {message}', USAGE)
+
+
+def parse(words: list[str], description: str) -> Options:
+    """The options; what follows `--` goes to clang, what follows `--args` to the program."""
+    words, clang = split(words, '--')
+    words, arguments = split(words, '--args')
+    levels = [word for word in words if re.fullmatch('-O[0123s]', word)]
+    given = build_parser(description).parse_args([word for word in words if word not in levels])
+    return Options(**vars(given), level=(levels or ['-O1'])[-1], arguments=arguments, clang=clang or [])
+
+
+def split(words: list[str], mark: str) -> tuple[list[str], list[str] | None]:
+    """The words before a mark, and those behind it where it stands."""
+    if mark not in words:
+        return words, None
+    place = words.index(mark)
+    return words[:place], words[place + 1:]
+
+
+def build_parser(description: str) -> Parser:
+    """Each option, with its help."""
+    parser = Parser(prog='lower', usage=USAGE_LINE, description=description,
+                    formatter_class=argparse.RawDescriptionHelpFormatter)
+    parser.add_argument('--mem2reg', action='store_true', help='keep locals in registers, after -O0')
+    parser.add_argument('--heap', type=size, metavar='SIZE', help='the size of the heap of malloc')
+    parser.add_argument('--pool', dest='pools', type=pool, action='append', default=[], metavar='NAME=SIZE[,FILE]',
+                        help='a file of persistent memory for pmem_map_file and others; FILE has its first bytes')
+    parser.add_argument('--ignore-output', dest='output', action='store_const', const='ignore', default='',
+                        help='text output has no effect but its result')
+    parser.add_argument('--print-numbers', dest='output', action='store_const', const='print', default='',
+                        help='text output prints its integers by print_i64')
+    parser.add_argument('--time-from-input', action='store_true', help='calls for the time read a number of the input')
+    parser.add_argument('--file-calls', action='store_true',
+                        help='open, mmap, msync and similar calls work on the pools')
+    parser.add_argument('--single-thread', action='store_true', help='take atomic accesses as those of one thread')
+    parser.add_argument('--unaligned', action='store_true', help='take accesses at any address, as x86-64 does')
+    parser.add_argument('--non-temporal', action='store_true',
+                        help='take a non-temporal store as a store with a flush behind it')
+    parser.add_argument('--array-bound', type=size, metavar='SIZE', help='the bytes of an array of variable length')
+    parser.add_argument('--public', metavar='FILE', default='',
+                        help="write the names that other object files may use, for opt's -internalize-public-api-file")
+    parser.add_argument('--lines', action='store_true', help='put the place in C behind each instruction, as a comment')
+    parser.add_argument('files', nargs='+', metavar='FILE')
+    return parser
+
+
+def size(text: str) -> int:
+    """A number of bytes, with K or M behind it for 1,024 or 1,048,576 of them."""
+    if not (read := re.fullmatch(r'([0-9]{1,9})([KM]?)', text)):
+        raise argparse.ArgumentTypeError(f'{text!r} is no size, such as 4096, 64K or 2M')
+    return int(read[1]) * UNITS[read[2]]
+
+
+def pool(text: str) -> Pool:
+    """`NAME=SIZE` or `NAME=SIZE,FILE`."""
+    name, mark, rest = text.partition('=')
+    bytes_, _, content = rest.partition(',')
+    if not (name and mark):
+        raise argparse.ArgumentTypeError(f'{text!r} is no pool, such as data.pool=1M')
+    return Pool(name, size(bytes_), content)

@@ -1,0 +1,146 @@
+"""The lines of a function in the subset, as they are written: names, instructions, blocks."""
+from __future__ import annotations
+
+from typing import NamedTuple
+
+from .lines import with_comment
+from .names import clean_name
+
+
+class Phi(NamedTuple):
+    """A phi, whose edges are known by name when all blocks are written."""
+
+    text: str
+    edges: list[tuple[str, str]]
+    comment: str
+
+
+class Writer:
+    """Writes a function line by line. `comment` stands behind each line; a block of clang's text may become several."""
+
+    def __init__(self, added_comment: str):
+        self.names: dict[str | tuple[str, int], str] = {}
+        self.taken: set[str] = set()
+        self.added = 0
+        self.out: list[str | Phi] = []
+        self.entry: list[str] = []
+        self.ends: dict[str, str] = {}
+        self.origin = self.comment = ''
+        self.added_comment = added_comment
+        self.has_ended = False
+        self.cut: set[str] = set()
+
+    # Names.
+
+    def register(self, written: str) -> str:
+        """The register or the label of a name in clang's text."""
+        if written not in self.names:
+            self.names[written] = clean_name(written[1:], self.taken, 'v')
+        return '%' + self.names[written]
+
+    def piece(self, written: str, number: int) -> str:
+        """The register of one of several pieces."""
+        key = (written, number)
+        if key not in self.names:
+            self.names[key] = clean_name(f'{written[1:]}.{number}', self.taken, 'v')
+        return '%' + self.names[key]
+
+    def fresh(self, name: str) -> str:
+        """A register or a label that clang's text does not have."""
+        return '%' + clean_name(name, self.taken, 'v')
+
+    def added_name(self) -> str:
+        """The register of an instruction that clang's text does not have."""
+        self.added += 1
+        return self.fresh(f'added.{self.added}')
+
+    # Instructions.
+
+    def put(self, instruction: str) -> None:
+        """Writes an instruction."""
+        self.out.append(with_comment('  ' + instruction, self.comment))
+
+    def assign(self, target: str, instruction: str) -> None:
+        """Writes an instruction that assigns a register of clang's text, or none."""
+        self.put(f'{self.register(target)} = {instruction}' if target else instruction)
+
+    def emit(self, instruction: str) -> str:
+        """Writes an instruction that serves another one; its register."""
+        register = self.added_name()
+        self.put(f'{register} = {instruction}')
+        return register
+
+    def emit_at_entry(self, instruction: str) -> str:
+        """The same at the start of the function."""
+        register = self.added_name()
+        self.entry.append(f'{register} = {instruction}')
+        return register
+
+    def put_phi(self, text: str, edges: list[tuple[str, str]]) -> None:
+        """Writes a phi, by values and blocks of clang's text."""
+        self.out.append(Phi(text, edges, self.comment))
+
+    def put_pieces(self, address: str, types: tuple[str, ...], values: list[str]) -> None:
+        """Stores pieces as the fields of a struct."""
+        for number, (type_, value) in enumerate(zip(types, values)):
+            self.put(f'store {type_} {value}, ptr {self.field(address, types, number)}')
+
+    def take_pieces(self, address: str, types: tuple[str, ...], registers: list[str]) -> None:
+        """Loads pieces from the fields of a struct."""
+        for number, (type_, register) in enumerate(zip(types, registers)):
+            at = self.field(address, types, number)
+            self.put(f'{register} = load {type_}, ptr {at}')
+
+    def field(self, address: str, types: tuple[str, ...], number: int) -> str:
+        """The address of a field of a struct of pieces."""
+        if not number:
+            return address
+        return self.emit(f'getelementptr {struct_of(types)}, ptr {address}, i64 0, i32 {number}')
+
+    # Blocks.
+
+    def begin(self, label: str) -> None:
+        """Begins a block."""
+        self.out.append(f'{label}:')
+        self.has_ended = False
+
+    def begin_origin(self, label: str) -> None:
+        """Begins a block of clang's text."""
+        self.begin(label)
+        self.origin = label
+
+    def go_on(self, label: str) -> None:
+        """Begins a block that goes on with what stood in the current block of clang's text."""
+        self.begin(label)
+        self.ends[self.origin] = label
+
+    def guard(self, condition: str, name: str) -> None:
+        """Goes on where a condition holds, and traps where it does not."""
+        inside, trap = self.fresh(f'{self.origin}.{name}'), self.fresh(f'{self.origin}.{name}.trap')
+        self.put(f'br i1 {condition}, label {inside}, label {trap}')
+        self.begin(trap[1:])
+        self.put('unreachable')
+        self.go_on(inside[1:])
+
+    def trap(self) -> None:
+        """Ends the block with a trap; what stands after it in clang's text is left out, with its edges."""
+        self.put('unreachable')
+        self.has_ended = True
+        self.cut.add(self.origin)
+
+    def body(self) -> list[str]:
+        """The lines, with those of the entry block behind its label."""
+        entry = [with_comment(f'  {line}', self.added_comment) for line in self.entry]
+        shown = [line if isinstance(line, str) else self.shown_phi(line) for line in self.out]
+        return [*shown[:1], *entry, *shown[1:]]
+
+    def shown_phi(self, phi: Phi) -> str:
+        """A phi; its edges come from the last parts of the blocks of clang's text."""
+        edges = ', '.join(f'[ {value}, %{self.ends.get(block, block)} ]' for value, block in phi.edges
+                          if block not in self.cut)
+        return with_comment(f'  {phi.text} {edges}', phi.comment)
+
+
+def struct_of(types: tuple[str, ...]) -> str:
+    """The struct of pieces."""
+    return '{ ' + ', '.join(types) + ' }'

@@ -1,0 +1,218 @@
+// malloc and kin over a volatile arena of HIPPO_HEAP_SIZE bytes. When no free block is large enough and the arena is used up,
+// the answer is a null pointer with ENOMEM, as C says. Blocks follow one another; a freed one joins its free neighbours, and
+// free blocks stand in lists by size. A second free of one block is a trap.
+#include "heap.h"
+#include <errno.h>
+#include <stddef.h>
+#include <stdint.h>
+#include <stdlib.h>
+#include <string.h>
+
+#ifndef HIPPO_HEAP_SIZE
+#define HIPPO_HEAP_SIZE 4194304
+#endif
+
+struct block {
+  size_t before; // the size of the block that ends where this one begins; 0 at the first
+  size_t size;   // of this block with its header; the lowest bit is set while it is in use
+  struct block *next, **link; // of a free block: the next one in its list, and the pointer to it
+};
+
+enum { HEADER = offsetof(struct block, next), SMALLEST = HIPPO_HEAP_SMALLEST, UNIT = HIPPO_HEAP_UNIT, USED = 1, LISTS = 32 };
+_Static_assert(SMALLEST == sizeof(struct block), "a free block has its links in it");
+
+static _Alignas(64) unsigned char arena[HIPPO_HEAP_SIZE / UNIT * UNIT];
+static size_t end;        // where the blocks end in the arena
+static size_t last_size;  // the size of the block that ends there
+static struct block *lists[LISTS]; // free blocks of up to SMALLEST << n bytes, that are too large for the list before
+
+static size_t size_of(const struct block *block) { return block->size & ~(size_t)USED; }
+
+static struct block *at(void *place) { return place; }
+
+static void *payload(struct block *block) { return (unsigned char *)block + HEADER; }
+
+static struct block *block_of(void *memory) { return at((unsigned char *)memory - HEADER); }
+
+static struct block *following(struct block *block) { return at((unsigned char *)block + size_of(block)); }
+
+static int is_last(struct block *block) { return (unsigned char *)following(block) == arena + end; }
+
+static int is_free(const struct block *block) { return !(block->size & USED); }
+
+// The size of the block that holds so many bytes, or 0 where the arena never has room for it.
+static size_t block_size(size_t size) {
+  if (size > sizeof arena) return 0;
+  size_t whole = (size + HEADER + UNIT - 1) / UNIT * UNIT;
+  return whole < SMALLEST ? SMALLEST : whole;
+}
+
+static int list_for(size_t size) {
+  int list = 0;
+  while (list < LISTS - 1 && ((size_t)SMALLEST << list) < size) list++;
+  return list;
+}
+
+static void put_into_list(struct block *block) {
+  struct block **head = &lists[list_for(block->size)];
+  block->next = *head;
+  block->link = head;
+  if (*head) (*head)->link = &block->next;
+  *head = block;
+}
+
+static void take_from_list(struct block *block) {
+  *block->link = block->next;
+  if (block->next) block->next->link = block->link;
+}
+
+// Gives a block a size, and tells the block after it.
+static void set_size(struct block *block, size_t size, size_t used) {
+  block->size = size | used;
+  if (is_last(block))
+    last_size = size;
+  else
+    following(block)->before = size;
+}
+
+// Makes a block free, with its free neighbours; the last block goes back to the part of the arena without blocks.
+static void release(struct block *block) {
+  if (!is_last(block) && is_free(following(block))) {
+    struct block *next = following(block);
+    take_from_list(next);
+    set_size(block, size_of(block) + next->size, 0);
+  }
+  struct block *before = at((unsigned char *)block - block->before);
+  if (before != block && is_free(before)) {
+    take_from_list(before);
+    set_size(before, before->size + size_of(block), 0);
+    block = before;
+  }
+  if (is_last(block)) {
+    end -= size_of(block);
+    last_size = block->before;
+  } else {
+    set_size(block, size_of(block), 0);
+    put_into_list(block);
+  }
+}
+
+// Takes a block into use with this size; what is left of it becomes free where it can be a block.
+static void use(struct block *block, size_t size) {
+  size_t left = size_of(block) - size;
+  if (left < SMALLEST) {
+    set_size(block, size_of(block), USED);
+    return;
+  }
+  struct block *rest = at((unsigned char *)block + size);
+  rest->size = left | USED;
+  set_size(rest, left, USED);
+  set_size(block, size, USED);
+  release(rest);
+}
+
+static struct block *block_from_lists(size_t size) {
+  for (int list = list_for(size); list < LISTS; list++)
+    for (struct block *block = lists[list]; block; block = block->next)
+      if (block->size >= size) {
+        take_from_list(block);
+        return block;
+      }
+  return NULL;
+}
+
+static struct block *block_from_end(size_t size) {
+  if (size > sizeof arena - end) return NULL;
+  struct block *block = at(arena + end);
+  block->before = last_size;
+  block->size = size;
+  end += size;
+  last_size = size;
+  return block;
+}
+
+void *malloc(size_t size) {
+  size_t whole = block_size(size);
+  struct block *block = whole ? block_from_lists(whole) : NULL;
+  if (whole && !block) block = block_from_end(whole);
+  if (!block) {
+    errno = ENOMEM;
+    return NULL;
+  }
+  use(block, whole);
+  return payload(block);
+}
+
+void free(void *memory) {
+  if (!memory) return;
+  struct block *block = block_of(memory);
+  if (is_free(block)) __builtin_trap();
+  release(block);
+}
+
+void cfree(void *memory) { free(memory); }
+
+void *calloc(size_t count, size_t size) {
+  size_t bytes;
+  if (__builtin_mul_overflow(count, size, &bytes)) {
+    errno = ENOMEM;
+    return NULL;
+  }
+  void *memory = malloc(bytes);
+  return memory ? memset(memory, 0, bytes) : NULL;
+}
+
+// Makes a block in use larger where it stands, by the free block after it or by the end of the arena.
+static void grow(struct block *block, size_t size) {
+  if (is_last(block)) {
+    size_t more = size - size_of(block);
+    if (more > sizeof arena - end) return;
+    end += more;
+    set_size(block, size, USED);
+  } else if (is_free(following(block)) && size_of(block) + following(block)->size >= size) {
+    struct block *next = following(block);
+    take_from_list(next);
+    set_size(block, size_of(block) + next->size, USED);
+  }
+}
+
+void *realloc(void *memory, size_t size) {
+  if (!memory) return malloc(size);
+  if (size == 0) {
+    free(memory);
+    return NULL;
+  }
+  struct block *block = block_of(memory);
+  size_t whole = block_size(size);
+  if (whole > size_of(block)) grow(block, whole);
+  if (whole && whole <= size_of(block)) {
+    use(block, whole);
+    return memory;
+  }
+  void *moved = malloc(size);
+  if (!moved) return NULL;
+  memcpy(moved, memory, size_of(block) - HEADER);
+  free(memory);
+  return moved;
+}
+
+void *reallocarray(void *memory, size_t count, size_t size) {
+  size_t bytes;
+  if (__builtin_mul_overflow(count, size, &bytes)) {
+    errno = ENOMEM;
+    return NULL;
+  }
+  return realloc(memory, bytes);
+}
+
+void *hippo_heap_cut(void *memory, void *place) {
+  struct block *block = block_of(memory), *second = block_of(place);
+  size_t first = (unsigned char *)second - (unsigned char *)block;
+  second->size = (size_of(block) - first) | USED;
+  set_size(second, size_of(block) - first, USED);
+  set_size(block, first, USED);
+  release(block);
+  return place;
+}
+
+size_t malloc_usable_size(void *memory) { return memory ? size_of(block_of(memory)) - HEADER : 0; }

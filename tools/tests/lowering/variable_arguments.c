@@ -1,0 +1,53 @@
+// Functions with variable arguments: numbers, pointers, structs, a list that is copied and passed on.
+#include <hippo.h>
+#include <stdarg.h>
+
+struct pair { long long a; int b; };
+struct large { long long words[4]; };
+
+static long long sum_list(int count, va_list list) {
+  long long sum = 0;
+  while (count--) sum += va_arg(list, int);
+  return sum;
+}
+
+static long long sum(int count, ...) {
+  va_list list, again;
+  va_start(list, count);
+  va_copy(again, list);
+  long long found = sum_list(count, list) * 1000 + sum_list(count, again);
+  va_end(list);
+  va_end(again);
+  return found;
+}
+
+static long long mixed(const char *form, ...) {
+  va_list list;
+  va_start(list, form);
+  long long found = 0;
+  for (; *form; form++) {
+    switch (*form) {
+    case 'i': found = found * 3 + va_arg(list, int); break;
+    case 'l': found = found * 3 + va_arg(list, long long); break;
+    case 'c': found = found * 3 + (char)va_arg(list, int); break;
+    case 's': found = found * 3 + va_arg(list, const char *)[0]; break;
+    case 'p': { struct pair p = va_arg(list, struct pair); found = found * 3 + p.a + p.b; break; }
+    case 'm': { struct large m = va_arg(list, struct large); found = found * 3 + m.words[0] + m.words[3]; break; }
+    }
+  }
+  va_end(list);
+  return found;
+}
+
+static long long (*volatile by_pointer)(int, ...) = sum;
+
+int main(void) {
+  print_i64(sum(0));
+  print_i64(sum(3, 1, -2, 7));
+  print_i64(sum(9, 1, 2, 3, 4, 5, 6, 7, 8, 9));
+  print_i64(mixed("ilcs", 5, 1ll << 40, 'x', "abc"));
+  print_i64(mixed("ipmi", 1, (struct pair){2, 3}, (struct large){{4, 5, 6, 7}}, -8));
+  print_i64(mixed("iiiiiip", 1, 2, 3, 4, 5, 6, (struct pair){7, 8}));
+  print_i64(by_pointer(2, 30, 12));
+  return 0;
+}

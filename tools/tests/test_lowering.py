@@ -1,0 +1,145 @@
+#!/usr/bin/env python3
+"""Each C program in `lowering/` prints, lowered at each level, what clang's own build of it prints.
+
+The lowered text is built by clang, with the linkage that C gave its names, and run by hippo where there is one: HIPPO
+names it, or crates/hippo/out/hippo is taken.
+In a program's comments stand what is needed beyond the usual: `// input: NUMBERS`, `// options: WORDS` of tools/lower,
+`// arguments: WORDS` of main, `// files: FILES` beside it, `// native: LEVEL` of clang's own build, and `// levels:
+LEVELS`. Run by `python3 -m unittest discover tools/tests`."""
+import glob
+import os
+import re
+import shutil
+import subprocess
+import sys
+import tempfile
+import unittest
+from concurrent.futures import ThreadPoolExecutor
+
+TESTS = os.path.dirname(os.path.abspath(__file__))
+TOOLS = os.path.dirname(TESTS)
+HIPPO = os.environ.get('HIPPO', os.path.join(os.path.dirname(TOOLS), 'crates/hippo/out/hippo'))
+LEVELS = '-O0 -O1 -O2 -O3'
+NATIVE = ['clang-19', '-w', '-fwrapv', '-fno-strict-aliasing', '-mclwb', '-mclflushopt', f'-I{TOOLS}']
+EXTERNALS = os.path.join(TOOLS, 'external_functions.c')
+
+ENDS = '''#include <hippo.h>
+#include <stdlib.h>
+PERSISTENT static long long number;
+PERSISTENT static _Alignas(64) long long flushed;
+static void last(void) { pmem_persist(&flushed, sizeof flushed); }
+static void stop(int code) { number = code; exit(code); }
+int main(void) { flushed = 3; atexit(last); stop(2); return 0; }
+'''
+
+
+def output_of(command: list[str], text: str = '') -> tuple[int, str, str]:
+    """The exit code of a command, and what it writes."""
+    done = subprocess.run(command, input=text, capture_output=True, encoding='latin-1', timeout=120, check=False)
+    return done.returncode, done.stdout, done.stderr
+
+
+def given(source: str, word: str, default: str = '') -> list[str]:
+    """The words of a comment of a program."""
+    found = re.search(rf'^// {word}: (.*)$', source, re.M)
+    return (found[1] if found else default).split()
+
+
+class Lowered(unittest.TestCase):
+    """One test for each program and level."""
+
+    @classmethod
+    def setUpClass(cls) -> None:
+        """Makes a folder."""
+        if shutil.which('clang-19') is None:
+            raise unittest.SkipTest('clang-19 is not installed')
+        cls.folder = tempfile.mkdtemp()
+
+    @classmethod
+    def tearDownClass(cls) -> None:
+        """Removes it."""
+        shutil.rmtree(cls.folder)
+
+    def built(self, files: list[str], name: str, level: str = '-O1') -> str:
+        """A program that clang builds, with hippo's external functions."""
+        program = os.path.join(self.folder, name)
+        code, _, errors = output_of([*NATIVE, level, '-o', program, *files, EXTERNALS, '-lpthread'])
+        self.assertEqual(code, 0, errors)
+        return program
+
+    def test_exit_below_main(self) -> None:
+        """`exit` below main runs what atexit was given, checks the region, and traps."""
+        if not os.access(HIPPO, os.X_OK):
+            self.skipTest('hippo is not built')
+        source, lowered = (os.path.join(self.folder, f'ends.{end}') for end in ('c', 'll'))
+        with open(source, 'w', encoding='utf-8') as file:
+            file.write(ENDS)
+        code, text, errors = output_of([os.path.join(TOOLS, 'lower'), source])
+        self.assertEqual(code, 0, errors)
+        with open(lowered, 'w', encoding='latin-1') as file:
+            file.write(text)
+        code, trace, errors = output_of([HIPPO, 'record', lowered])
+        self.assertEqual((code, errors), (9, 'trap unreachable\n'))
+        self.assertEqual([entry.split(';')[0] for entry in trace.split()[2:]],
+                         ['STORE', 'STORE', 'PERSIST', 'ASSERT', 'ASSERT', 'TRAP'])
+
+    def compare(self, file: str) -> None:
+        """A program's output natively, and lowered at each level."""
+        with open(file, encoding='utf-8') as text:
+            source = text.read()
+        name = os.path.splitext(os.path.basename(file))[0]
+        numbers, arguments = given(source, 'input', '0 1 2 3'), given(source, 'arguments')
+        more = [os.path.join(os.path.dirname(file), word) for word in given(source, 'files')]
+        native = self.built([file, *more], name, *given(source, 'native'))
+        code, wanted, _ = output_of([native, *arguments], '\n'.join(numbers))
+        self.assertNotEqual(wanted, '', f'{name} prints nothing')
+        options = [*given(source, 'options'), *(['--args', *arguments] if arguments else [])]
+
+        def at_level(level: str) -> list[str]:
+            """What is wrong at a level."""
+            return self.differences(name, [level, file, *more, *options], numbers, (code, wanted))
+        with ThreadPoolExecutor(4) as workers:
+            found = list(workers.map(at_level, given(source, 'levels', LEVELS)))
+        self.assertEqual([line for lines in found for line in lines], [])
+
+    def differences(self, name: str, words: list[str], numbers: list[str], wanted: tuple[int, str]) -> list[str]:
+        """What is wrong with a program that is lowered with these words."""
+        lowered = os.path.join(self.folder, f'{name}{words[0]}.ll')
+        public = f'{lowered}.public'
+        code, text, errors = output_of([os.path.join(TOOLS, 'lower'), '--public', public, *words])
+        if code:
+            return [f'{words[0]}: {errors}']
+        with open(lowered, 'w', encoding='latin-1') as file:
+            file.write(text)
+        output_of(['opt-19', '-mtriple=x86_64-pc-linux-gnu', '-passes=internalize',
+                   f'-internalize-public-api-file={public}', '-o', f'{lowered}.bc', lowered])
+        program = self.built([f'{lowered}.bc'], f'{name}{words[0]}')
+        code, printed, errors = output_of([program], '\n'.join(numbers))
+        found = []
+        if (code, printed) != wanted:
+            found.append(f'{words[0]}: built: {code} {first_difference(printed, wanted[1])}')
+        if os.access(HIPPO, os.X_OK):
+            code, printed, errors = output_of([HIPPO, 'run', lowered, *numbers])
+            if printed != wanted[1] or errors.split()[-2:] != ['stop', str(wanted[0])]:
+                found.append(f'{words[0]}: hippo: {errors.strip()} {first_difference(printed, wanted[1])}')
+        return found
+
+
+def first_difference(got: str, wanted: str) -> str:
+    """The first lines that differ."""
+    for number, (one, other) in enumerate(zip([*got.split('\n'), 'END'], [*wanted.split('\n'), 'END']), 1):
+        if one != other:
+            return f'line {number}: {one} where {other} is expected'
+    return ''
+
+
+def add_tests() -> None:
+    """A test for each program."""
+    for file in sorted(glob.glob(os.path.join(TESTS, 'lowering', '*.c'))):
+        name = os.path.splitext(os.path.basename(file))[0]
+        setattr(Lowered, f'test_{name}', lambda self, file=file: self.compare(file))
+
+
+add_tests()
+if __name__ == '__main__':
+    sys.exit(unittest.main())

@@ -1,0 +1,208 @@
+#!/usr/bin/env python3
+"""What tools/lower refuses: the place in C, the reason, what to do, the exit code, and nothing on standard output."""
+import os
+import shutil
+import subprocess
+import sys
+import tempfile
+import unittest
+
+TOOLS = os.path.dirname(os.path.dirname(os.path.abspath(__file__)))
+
+# The reason with its place, what is said to do, and the C behind `#include <hippo.h>`.
+REFUSED = {
+    'float': ('bad.c:3: the type double', 'integers',
+              'double half(double x);\nint main(void) { return (int)half(3.0); }'),
+    'float_parameter': ('bad.c:2: the type float', 'integers', 'float half(float x) { return x / 2; }\n'
+                        'int main(void) { return (int)half((float)read_i64()); }'),
+    'float_data': ('bad.c:2: the type double', 'integers',
+                   'double d = 2;\nint main(void) { return (int)*(volatile long *)&d; }'),
+    'vector': ("bad.c:3: the instruction 'insertelement'", 'scalars', 'PERSISTENT long long v[2];\n'
+               'int main(void) { _mm_store_si128((__m128i *)v, _mm_set1_epi64x(read_i64())); return 0; }'),
+    'width': ('bad.c:3: mul of i256', 'integers up to 128 bits',
+              '_BitInt(256) n;\nint main(void) { n = n * 3; return (int)n; }'),
+    'atomic': ('bad.c:3: an atomic access', '--single-thread',
+               'long long n;\nint main(void) { return (int)__atomic_load_n(&n, __ATOMIC_ACQUIRE); }'),
+    'exchange': ('bad.c:3: an atomic access', '--single-thread',
+                 'long long n;\nint main(void) { return (int)__atomic_exchange_n(&n, 3, __ATOMIC_ACQUIRE); }'),
+    'thread': ('bad.c:2: thread_local', '--single-thread',
+               '_Thread_local long long n;\nint main(void) { return (int)n++; }'),
+    'fence': ('bad.c:2: a fence between threads', '--single-thread',
+              'int main(void) { __atomic_thread_fence(__ATOMIC_SEQ_CST); return 0; }'),
+    'missing_function': ('bad.c:3: the function @open_pool is not in the program', 'add the C file',
+                         'int open_pool(void);\nint main(void) { return open_pool(); }'),
+    'missing_variable': ('the variable @state is not in the program', 'add the C file',
+                         'extern int state;\nint main(void) { return state; }'),
+    'output': ('bad.c:3: the function @puts: give --ignore-output or --print-numbers', 'where what it assumes holds',
+               'int puts(const char *);\nint main(void) { return puts("a"); }'),
+    'threads': ('bad.c:3: the function @pthread_mutex_lock: give --single-thread', 'where what it assumes holds',
+                'int pthread_mutex_lock(void *);\nint main(void) { return pthread_mutex_lock(0); }'),
+    'longjmp': ('bad.c:3: the function @longjmp: a jump out of a call', 'error code',
+                'void longjmp(void *, int);\nint main(void) { longjmp(0, 1); return 0; }'),
+    'mismatch': ('a call of @f by another type than it has', 'its own type',
+                 'static int f(int *a, int b) { return *a + b; }\nint main(void) { return ((int (*)(int))f)(1); }'),
+    'known': ('@print_i64 is an external function of hippo', 'declare the function',
+              'long long last;\nvoid print_i64(long long n) { last = n; }\nint main(void) { print_i64(3); return 0; }'),
+    'assembly': ("bad.c:2: inline assembly 'cpuid'", '<immintrin.h>',
+                 'int main(void) { __asm__ volatile("cpuid" ::: "eax", "ebx", "ecx", "edx"); return 0; }'),
+    'assembly_outside': ('inline assembly outside of functions', '<immintrin.h>',
+                         '__asm__(".globl other\\nother: ret");\nint main(void) { return 0; }'),
+    'nontemporal': ('bad.c:3: a non-temporal access', '--non-temporal',
+                    'PERSISTENT long long n;\nint main(void) { _mm_stream_si64(&n, 3); return 0; }'),
+    'array': ('an array whose length is not constant', '--array-bound',
+              'int main(void) { long long n = read_i64(); char a[n]; pm_assert(a, 1); return 0; }'),
+    'main': ('bad.c:2: main uses its parameters', '--args',
+             'int main(int argc, char **argv) { (void)argv; return argc; }'),
+    'address': ('bad.c:3: an address in a field', 'at the start of main',
+                'char a[4];\nstruct __attribute__((packed)) { char c; char *where; } b = {1, a};\n'
+                'int main(void) { return *b.where; }'),
+    'alignment': ('align 8192: at most 4096', 'this limit',
+                  '_Alignas(8192) char a[8];\nint main(void) { return a[1]++; }'),
+}
+
+
+def lower(*words: str) -> tuple[int, str, str]:
+    """The exit code of tools/lower, and what it writes."""
+    done = subprocess.run([os.path.join(TOOLS, 'lower'), *words], capture_output=True, encoding='latin-1', timeout=120,
+                          check=False)
+    return done.returncode, done.stdout, done.stderr
+
+
+class Refusals(unittest.TestCase):
+    """One test for each refusal."""
+
+    @classmethod
+    def setUpClass(cls) -> None:
+        """Makes a folder."""
+        if shutil.which('clang-19') is None:
+            raise unittest.SkipTest('clang-19 is not installed')
+        cls.folder = tempfile.mkdtemp()
+
+    @classmethod
+    def tearDownClass(cls) -> None:
+        """Removes it."""
+        shutil.rmtree(cls.folder)
+
+    def file(self, text: str, name: str = 'bad.c') -> str:
+        """A file with a text."""
+        path = os.path.join(self.folder, name)
+        with open(path, 'w', encoding='utf-8') as out:
+            out.write(text)
+        return path
+
+    def refuse(self, reason: str, advice: str, text: str) -> None:
+        """A program is refused for a reason, with what to do."""
+        code, out, errors = lower(self.file(f'#include <hippo.h>\n{text}\n'))
+        self.assertEqual((code, out), (5, ''), errors)
+        self.assertIn(reason, errors.split('\n', maxsplit=1)[0])
+        self.assertIn('what to do: ', errors)
+        self.assertIn(advice, errors)
+
+    def test_all_at_once(self):
+        """All places are named, those of one reason together, with one line for what to do."""
+        code, out, errors = lower(self.file('''#include <hippo.h>
+long long n, m;
+float f(float x) { return x + 1; }
+long long g(void) { return __atomic_load_n(&n, __ATOMIC_ACQUIRE); }
+int main(void) {
+  print_i64(__atomic_load_n(&m, __ATOMIC_ACQUIRE));
+  print_i64((long long)f((float)g()));
+  return 0;
+}
+'''))
+        self.assertEqual((code, out), (5, ''))
+        lines = errors.splitlines()
+        atomic = [line for line in lines if 'an atomic access' in line]
+        self.assertEqual([line.split('bad.c:')[1].split(':')[0] for line in atomic], ['4', '6'])
+        self.assertEqual(lines.index(atomic[1]), lines.index(atomic[0]) + 1)
+        self.assertEqual(sum('--single-thread' in line for line in lines), 1)
+        self.assertTrue(any('bad.c:3: the type float' in line for line in lines))
+
+    def test_many_places(self):
+        """A reason with many places is shown with some of them and the number of the others; no reason is left out."""
+        calls = '\n'.join(f'  n += open_pool({number}) + close_{number}();' for number in range(14))
+        declared = '\n'.join(f'int close_{number}(void);' for number in range(14))
+        code, out, errors = lower(self.file(
+            f'int open_pool(int);\n{declared}\nint main(void) {{\n  int n = 0;\n{calls}\n  return n;\n}}\n'))
+        self.assertEqual((code, out), (5, ''))
+        self.assertIn('the function @open_pool is not in the program: and 4 more places\n', errors)
+        for number in range(14):
+            self.assertIn(f'@close_{number} is not', errors)
+
+    def test_notes(self):
+        """What is taken under an assumption is said, and a call by pointer that can only trap is named with its place."""
+        code, _, errors = lower('--single-thread', self.file('''#include <hippo.h>
+void (*volatile f)(long long);
+_Thread_local long long own;
+int main(void) {
+  if (__atomic_load_n(&own, __ATOMIC_ACQUIRE)) {
+    f(3);
+  }
+  return 0;
+}
+'''))
+        self.assertEqual(code, 0, errors)
+        self.assertIn('note: atomic accesses: as --single-thread says', errors)
+        self.assertIn('note: thread-local data was taken as that of one thread', errors)
+        self.assertIn('bad.c:6: no function whose address is taken has the type of this call', errors)
+
+    def test_unreached(self):
+        """What main does not reach is not refused."""
+        code, out, errors = lower(self.file('''#include <hippo.h>
+double half(double x) { return x / 2; }
+static double table[2] = {1, 2};
+double *first(void) { return table; }
+int main(void) { return 3; }
+'''))
+        self.assertEqual(code, 0, errors)
+        self.assertNotIn('half', out)
+
+    def test_codes(self):
+        """Exit codes of words, files and tools."""
+        good = self.file('int main(void) { return 0; }\n', 'good.c')
+        self.assertEqual(lower('--no-such-option', good)[0], 1)
+        self.assertEqual(lower()[0], 1)
+        self.assertEqual(lower('--pool', 'x', good)[0], 1)
+        self.assertEqual(lower('--heap', '12G', good)[0], 1)
+        self.assertEqual(lower(os.path.join(self.folder, 'no.c'))[0], 2)
+        self.assertEqual(lower(self.folder)[0], 3)
+        self.assertEqual(lower(self.file('int main(void) { return', 'broken.c'))[0], 5)
+        self.assertEqual(lower(self.file('define nothing', 'broken.ll'))[0], 5)
+        self.assertEqual(lower(good)[0], 0)
+        for words in ((), ('--no-such-option', good)):
+            self.assertEqual(lower(*words)[2].count('\n'), 1)
+
+    @unittest.skipUnless(os.path.exists('/dev/full'), 'there is no /dev/full')
+    def test_write_fault(self):
+        """A text that cannot be written ends with one line, and no traceback."""
+        good = self.file('int main(void) { return 0; }\n', 'good.c')
+        with open('/dev/full', 'w', encoding='latin-1') as full:
+            done = subprocess.run([os.path.join(TOOLS, 'lower'), good], stdout=full, stderr=subprocess.PIPE,
+                                  encoding='latin-1', check=False)
+        self.assertEqual((done.returncode, done.stderr.count('\n')), (4, 1), done.stderr)
+
+    def test_public(self):
+        """The names that other object files may use, and not static, hidden or added ones."""
+        names = os.path.join(self.folder, 'names')
+        code, _, errors = lower('--public', names, self.file('''#include <hippo.h>
+#include <string.h>
+__attribute__((visibility("hidden"))) void *malloc(unsigned long n) { static char room[64]; return room + n; }
+static int helper(int x) { return x + 1; }
+long long shared = 5;
+int twice(int x) { return helper(x) * 2; }
+int main(void) { print_i64(twice((int)shared) + *(char *)malloc(3) + (long long)strlen(malloc(4))); return 0; }
+''', 'names.c'))
+        self.assertEqual(code, 0, errors)
+        with open(names, encoding='latin-1') as text:
+            self.assertEqual(sorted(text.read().split()), ['main', 'shared', 'twice'])
+
+
+def add_tests() -> None:
+    """A test for each refusal."""
+    for name, row in REFUSED.items():
+        setattr(Refusals, f'test_{name}', lambda self, row=row: self.refuse(*row))
+
+
+add_tests()
+if __name__ == '__main__':
+    sys.exit(unittest.main())

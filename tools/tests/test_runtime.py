@@ -1,0 +1,205 @@
+"""The runtime of lowered programs, against the system's C library.
+
+Each program of `runtime/` prints sums of what functions answer. Its native build, which calls the system's library, and
+`hippo run` of its lowered text, into which the runtime is linked, have to print the same, and so has the lowered text that is
+built for the processor. HIPPO names hippo, or crates/hippo/out/hippo is taken; without it what it would do is skipped.
+"""
+import os
+import re
+import subprocess
+import tempfile
+import unittest
+
+TESTS = os.path.dirname(os.path.abspath(__file__))
+TOP = os.path.dirname(os.path.dirname(TESTS))
+HIPPO = os.environ.get('HIPPO', f'{TOP}/crates/hippo/out/hippo')
+FLAGS = ['-w', '-D_GNU_SOURCE', '-fno-builtin', '-mclwb', '-mclflushopt', f'-I{TOP}/tools']
+OUTPUT = ['--ignore-output']
+FILES = ['--file-calls', '--pool', 'data.file=64K']
+POOL = ['--pool', 'data.pool=16K']
+
+
+def run(words: list[str], folder: str) -> subprocess.CompletedProcess:
+    """What a command answers; its exit code has to be 0."""
+    done = subprocess.run(words, cwd=folder, capture_output=True, encoding='latin-1')
+    if done.returncode:
+        raise AssertionError(f'{words[0]} ended with {done.returncode}: {done.stderr[:2000]}')
+    return done
+
+
+class Setting(unittest.TestCase):
+    """Programs lowered, run and built."""
+
+    def setUp(self) -> None:
+        self.scratch = tempfile.TemporaryDirectory()
+        self.folder = self.scratch.name
+        self.addCleanup(self.scratch.cleanup)
+
+    def lowered(self, source: str, level: str, options: list[str]) -> str:
+        """The file of the lowered text."""
+        text = f'{self.folder}/lowered.ll'
+        done = run([f'{TOP}/tools/lower', level, *options, source, '--', *FLAGS], self.folder)
+        with open(text, 'w', encoding='latin-1') as file:
+            file.write(done.stdout)
+        return text
+
+    def hippo(self, text: str) -> str:
+        """What `hippo run` prints; the run has to end with `stop 0`."""
+        done = run([HIPPO, 'run', text], self.folder)
+        self.assertEqual(done.stderr.strip().splitlines()[-1], 'stop 0')
+        return done.stdout
+
+    def built(self, text: str) -> str:
+        """What a lowered text prints that is built for the processor."""
+        with open(text, encoding='latin-1') as file:
+            content = re.sub(r'@llvm\.x86\.clwb\b', '@llvm.x86.sse2.clflush', file.read())
+        with open(f'{self.folder}/build.ll', 'w', encoding='latin-1') as file:
+            file.write(content)
+        run(['llc-19', '--trap-unreachable', '-mtriple=x86_64-pc-linux-gnu', '-relocation-model=pic', '-filetype=obj',
+             '-mattr=+clwb,+clflushopt', '-o', 'build.o', 'build.ll'], self.folder)
+        return self.output_of('build.o')
+
+    def output_of(self, source: str) -> str:
+        """What a native build prints."""
+        run(['clang-19', '-O1', *FLAGS, '-o', 'program', source, f'{TOP}/tools/external_functions.c', '-lpthread'],
+            self.folder)
+        return run([f'{self.folder}/program'], self.folder).stdout
+
+
+class Runtime(Setting):
+    """What a program prints natively, and in hippo with the runtime."""
+
+    def is_same(self, name: str, *options: str) -> None:
+        """A program prints the same natively, in hippo at two levels, and built from its lowered text."""
+        source = f'{TESTS}/runtime/{name}.c'
+        expected = self.output_of(source)
+        self.assertTrue(expected)
+        for level in ('-O0', '-O2'):
+            text = self.lowered(source, level, list(options))
+            if os.path.exists(HIPPO):
+                self.assertEqual(self.hippo(text), expected, f'{name} {level} in hippo')
+        self.assertEqual(self.built(text), expected, f'{name} built')
+
+    def test_memory(self) -> None:
+        self.is_same('memory')
+
+    def test_strings(self) -> None:
+        self.is_same('strings')
+
+    def test_numbers(self) -> None:
+        self.is_same('numbers')
+
+    def test_sorting(self) -> None:
+        self.is_same('sorting')
+
+    def test_heap(self) -> None:
+        self.is_same('heap')
+
+    def test_random(self) -> None:
+        self.is_same('random')
+
+    def test_formats(self) -> None:
+        self.is_same('formats')
+
+    def test_scans(self) -> None:
+        self.is_same('scans')
+
+    def test_threads(self) -> None:
+        self.is_same('threads', '--single-thread')
+
+    def test_output(self) -> None:
+        self.is_same('output', *OUTPUT, '--file-calls')
+
+    def test_files(self) -> None:
+        self.is_same('files', *FILES)
+
+    @unittest.skipUnless(os.path.exists(HIPPO), 'hippo is not built')
+    def is_durable(self, name: str, *options: str) -> None:
+        """A program prints what is stored beside it, and `hippo check` reports nothing."""
+        with open(f'{TESTS}/runtime/{name}.out', encoding='ascii') as file:
+            expected = file.read()
+        text, trace = self.lowered(f'{TESTS}/runtime/{name}.c', '-O1', list(options)), f'{self.folder}/trace'
+        self.assertEqual(self.hippo(text), expected)
+        with open(trace, 'w', encoding='ascii') as file:
+            file.write(run([HIPPO, 'record', text], self.folder).stdout)
+        done = run([HIPPO, 'check', text, trace], self.folder)
+        self.assertEqual(done.stderr.strip().splitlines()[-1], 'reports 0')
+
+    def test_libpmem(self) -> None:
+        self.is_durable('libpmem', *POOL)
+
+    def test_libpmem2(self) -> None:
+        self.is_durable('libpmem2', '--file-calls', *POOL)
+
+
+@unittest.skipUnless(os.path.exists(HIPPO), 'hippo is not built')
+class SmallPrograms(Setting):
+    """Programs of a few lines: how they end, and what a call of the runtime does to the region."""
+
+    def source(self, text: str) -> str:
+        """A file with this program."""
+        name = f'{self.folder}/small.c'
+        with open(name, 'w', encoding='ascii') as file:
+            file.write('#include <hippo.h>\n' + text)
+        return name
+
+    def end_of(self, text: str, *options: str) -> str:
+        """The last line of the notes of `hippo run`."""
+        lowered = self.lowered(self.source(text), '-O1', list(options))
+        done = subprocess.run([HIPPO, 'run', lowered], capture_output=True, encoding='latin-1')
+        return done.stderr.strip().splitlines()[-1]
+
+    def test_abort_and_assert_trap(self) -> None:
+        self.assertEqual(self.end_of('#include <stdlib.h>\nint main(void) { abort(); }'), 'trap unreachable')
+        self.assertEqual(self.end_of('#include <assert.h>\nint main(void) { assert(read_i64 == 0); return 0; }'),
+                         'trap unreachable')
+
+    def test_exit_in_main_is_a_return(self) -> None:
+        program = ('#include <stdlib.h>\nstatic void last(void) { print_i64(9); }\n'
+                   'int main(void) { atexit(last); print_i64(1); exit(3); }')
+        self.assertEqual(self.end_of(program), 'stop 3')
+
+    def test_exit_in_a_function_traps(self) -> None:
+        program = ('#include <stdlib.h>\n__attribute__((noinline)) static void leave(int n) { exit(n); }\n'
+                   'int main(void) { leave(3); return 0; }')
+        self.assertEqual(self.end_of(program), 'trap unreachable')
+
+    def test_heap_of_a_size(self) -> None:
+        program = ('#include <stdlib.h>\nint main(void) { int n = 0; while (malloc(1000)) n++; return n; }')
+        self.assertEqual(self.end_of(program, '--heap', '64K'), 'stop 64')
+
+    def test_second_free_traps(self) -> None:
+        program = ('#include <stdlib.h>\nint main(void) { void *volatile a = malloc(9), *volatile b = malloc(9); '
+                   'free(a); free(a); return b == 0; }')
+        self.assertEqual(self.end_of(program), 'trap unreachable')
+
+    def test_printed_numbers(self) -> None:
+        program = ('#include <stdio.h>\nint main(void) { printf("%d of %s, %lx\\n", -5, "text", 255l); '
+                   'fprintf(stderr, "%d", 1); return printf("%03u", 7u); }')
+        lowered = self.lowered(self.source(program), '-O1', ['--print-numbers'])
+        done = run([HIPPO, 'run', lowered], self.folder)
+        self.assertEqual(done.stdout, '-5\n255\n7\n')
+        self.assertEqual(done.stderr.strip().splitlines()[-1], 'stop 3')
+
+    def test_time_from_input(self) -> None:
+        program = '#include <time.h>\nint main(void) { print_i64(time(0)); return 0; }'
+        lowered = self.lowered(self.source(program), '-O1', ['--time-from-input'])
+        self.assertEqual(run([HIPPO, 'run', lowered, '77'], self.folder).stdout, '77\n')
+        lowered = self.lowered(self.source(program), '-O1', [])
+        self.assertEqual(run([HIPPO, 'run', lowered], self.folder).stdout, '0\n')
+
+    def test_clone_of_a_copy_flushes_words(self) -> None:
+        program = ('#include <string.h>\n#include <stdlib.h>\nPERSISTENT static _Alignas(64) char kept[80];\n'
+                   'int main(void) { char *text = malloc(80); memset(text, 1, 80); strncpy(kept, text, 72); return 0; }')
+        lowered = self.lowered(self.source(program), '-O1', [])
+        trace, mended = f'{self.folder}/trace', f'{self.folder}/mended.ll'
+        with open(trace, 'w', encoding='ascii') as file:
+            file.write(run([HIPPO, 'record', lowered], self.folder).stdout)
+        with open(mended, 'w', encoding='latin-1') as file:
+            file.write(run([HIPPO, 'repair', lowered, trace], self.folder).stdout)
+        flushes = run([HIPPO, 'record', mended], self.folder).stdout.count('FLUSH;')
+        self.assertEqual(flushes, 9)
+
+
+if __name__ == '__main__':
+    unittest.main()

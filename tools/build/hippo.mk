@@ -1,0 +1,22 @@
+# A program that is built from the text which hippo repaired. Set before the include:
+#   HIPPO_SOURCES   the C files of the program, driver included
+#   HIPPO_PARTS     those of them whose functions go into the object file (all of them where it is empty)
+#   HIPPO_INPUTS    a file with an input in each line (one input without numbers where it is empty)
+#   HIPPO_BASELINE  a file with known groups of reports, of `hippo-c check --write-baseline`
+#   HIPPO_FLAGS     more words for hippo-c, such as -O2 or --clflush; HIPPO_CLANG arguments for clang
+# `repaired.o` is the object file; `make hippo-check` fails on reports that the baseline does not list.
+.DELETE_ON_ERROR:
+
+HIPPO_C ?= hippo-c
+hippo_words = $(HIPPO_SOURCES) $(if $(HIPPO_INPUTS),--inputs $(HIPPO_INPUTS)) $(HIPPO_FLAGS)
+hippo_clang = $(if $(HIPPO_CLANG),-- $(HIPPO_CLANG))
+
+hippo.checked: $(HIPPO_SOURCES) $(HIPPO_INPUTS) $(HIPPO_BASELINE)
+	$(HIPPO_C) check $(filter-out --clflush,$(hippo_words)) $(if $(HIPPO_BASELINE),--baseline $(HIPPO_BASELINE)) $(hippo_clang)
+	touch $@
+
+repaired.o: hippo.checked
+	$(HIPPO_C) repair $(hippo_words) $(addprefix --for ,$(HIPPO_PARTS)) -o $@ $(hippo_clang)
+
+.PHONY: hippo-check
+hippo-check: hippo.checked

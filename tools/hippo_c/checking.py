@@ -1,0 +1,129 @@
+"""The commands check and run."""
+import json
+import os
+import sys
+
+from . import baseline, running
+from .answer import answer_of
+from .diagnostics import Printer, amount, print_checked, print_trap
+from .history import histories_of
+from .page import page_of
+from .progress import Progress
+from .sarif import sarif_of
+from .session import Checked, Request, Session
+from .suggesting import Suggestions, print_suggestion, print_verified, suggestions_for, verify, write_diff
+from .together import print_together
+from .traps import find_trap
+from .trouble import Trouble
+
+
+def add_options(command) -> None:
+    """The options that check has besides those of every command."""
+    command.add_argument('--inputs', metavar='FILE', help='a file with an input in each line; each is checked')
+    command.add_argument('--groups', type=int, default=50, metavar='N', help='show at most N groups, 0 for all (50)')
+    command.add_argument('--fix', action='store_true', help='suggest for each group what to add to the C')
+    command.add_argument('--diff', metavar='FILE', help='write the suggestions as a unified diff, - for standard output')
+    command.add_argument('--verify-fix', action='store_true', help='check the C again with the suggestions applied')
+    command.add_argument('--json', metavar='FILE', help='write the answer as JSON, - for standard output')
+    command.add_argument('--sarif', metavar='FILE', help='write the answer as SARIF 2.1.0')
+    command.add_argument('--html', metavar='FILE', help='write the answer as a page for a browser')
+    command.add_argument('--baseline', metavar='FILE', help='leave out the groups that this file lists')
+    command.add_argument('--write-baseline', metavar='FILE', help='list the groups of this check in a file')
+    command.add_argument('--no-coverage', action='store_true', help='do not count the lines of C that ran')
+
+
+def printer_of(options) -> Printer:
+    colour = options.color == 'always' or (
+        options.color == 'auto' and sys.stdout.isatty() and os.environ.get('TERM') != 'dumb' and 'NO_COLOR' not in os.environ)
+    return Printer(sys.stdout, colour, not options.no_source)
+
+
+def check(options, request: Request, progress: Progress) -> int:
+    """Checks the program on each input: 0 where nothing was found, 1 where something was, 2 where a run did not end."""
+    printer = printer_of(options)
+    if options.expand_macros and (options.diff or options.verify_fix):
+        raise Trouble('--diff and --verify-fix edit the files as they are: leave out --expand-macros')
+    with Session(request, progress) as session:
+        session.lower()
+        results = []
+        for number, numbers in enumerate(request.inputs, 1):
+            name = f'program.{number}.trace' if len(request.inputs) > 1 else 'program.trace'
+            results.append(session.check(numbers, name, not options.no_coverage))
+        wants_fix = options.fix or options.diff or options.verify_fix or options.html
+        known = baseline.read(options.baseline) if options.baseline else set()
+        if options.write_baseline:
+            baseline.write(options.write_baseline, session, results)
+        left_out = baseline.leave_out(session, results, known)
+        wants_notes = options.fix or options.verify_fix
+        found = suggestions_for(session, results) if wants_fix else None
+        write_forms(options, session, results, found, printer)
+        progress.wipe()
+        if '-' not in (options.diff, options.json, options.sarif):
+            print_all(printer, session, results, options.groups, found if wants_notes else None)
+            if left_out:
+                printer.line(f'{amount(left_out, "group")} of the baseline left out')
+            if len(results) > 1:
+                print_together(printer, session, results)
+        if found and options.diff:
+            write_diff(found, options.diff, printer)
+        if found and options.verify_fix:
+            after = verify(session, results, found)
+            progress.wipe()
+            print_verified(printer, after, found)
+    return code_of(results)
+
+
+def write_forms(options, session: Session, results: list[Checked], found: Suggestions | None, printer: Printer) -> None:
+    """Writes the answer in the forms that were asked for."""
+    if not (options.json or options.sarif or options.html):
+        return
+    answer = answer_of(session, results, found)
+    for path, form in ((options.json, lambda: answer), (options.sarif, lambda: sarif_of(answer))):
+        if path:
+            write_text(path, json.dumps(form(), indent=2) + '\n', printer)
+    if options.html:
+        write_text(options.html, page_of(answer, histories_of(session, results)), printer)
+
+
+def write_text(path: str, text: str, printer: Printer) -> None:
+    """A text into a file, or to standard output for `-`."""
+    if path == '-':
+        printer.stream.write(text)
+        return
+    with running.whole_file(path) as file:
+        file.write(text.encode('utf-8', 'replace'))
+
+
+def print_all(printer: Printer, session: Session, results: list[Checked], most: int, found: Suggestions | None) -> None:
+    for number, checked in enumerate(results, 1):
+        if len(results) > 1:
+            printer.line(f'input {number}: {" ".join(map(str, checked.numbers))}'.rstrip())
+        notes = (lambda group: print_suggestion(printer, found.of(group))) if found else None
+        print_checked(printer, session, checked, most, notes)
+
+
+def code_of(results: list[Checked]) -> int:
+    """1 where a run has a report, else 2 where a run did not return from main, else 0."""
+    if any(checked.groups for checked in results):
+        return 1
+    return 0 if all(checked.ended.startswith('stop') for checked in results) else 2
+
+
+def run(options, request: Request, progress: Progress) -> int:
+    """Runs the program: what it prints, and where it traps."""
+    printer = Printer(sys.stderr, printer_of(options).colour and sys.stderr.isatty(), not options.no_source)
+    with Session(request, progress) as session:
+        session.lower()
+        progress.wipe()
+        limit = ['--limit', str(request.limit)] if request.limit is not None else []
+        numbers = request.inputs[0]
+        words = ['run', session.text_path, *limit, '--', *map(str, numbers)]
+        process = running.start([running.hippo_program(), *words], stdout=None)
+        ended = running.accept(words, running.finish(process), (0, running.TRAPPED, running.CUT))
+        if kind := ended.word('trap'):
+            trap = find_trap(session.program, numbers, kind)
+            checked = Checked(numbers, '', [], None, ended.how, {}, trap)
+            print_trap(printer, session, checked)
+        else:
+            printer.line(ended.how)
+    return 0 if ended.code == 0 else 2

@@ -1,0 +1,149 @@
+"""What the images of a crash showed, by C lines."""
+import shlex
+import tempfile
+from dataclasses import dataclass
+
+from . import images, running
+from .diagnostics import Printer, amount
+from .entries import paths_of_entries
+from .places import Place
+from .program import GLOBAL, REGION_BASE, Program, Site
+from .session import Session
+from .traces import read_trace
+from .traps import MEANING, Trap, find_trap
+
+LARGEST_IMAGE = 1 << 20
+MOST_LOST = 4
+
+
+@dataclass
+class Row:
+    """The entries at one place after which a crash leaves an image that fails in one way."""
+    place: Place | None
+    ended: str
+    outcomes: list
+    failing: int = 0
+    tried: int = 0
+
+    @property
+    def best(self):
+        """The outcome with the smallest image."""
+        return min(self.outcomes, key=lambda outcome: (len(outcome.point.picks), outcome.point.entry))
+
+
+def print_crashes(printer: Printer, session: Session, path: str, found, smallest: list, again: list[str]) -> None:
+    """The table of failing points by C line; the first has its smallest image and the command that shows it again."""
+    paths = paths_of_entries(session.places, session.request.inputs[0], path) if found.failing else {}
+    rows = rows_of(session, found, smallest, paths)
+    session.progress.wipe()
+    for number, row in enumerate(rows):
+        print_row(printer, row, number == 0)
+        if number == 0:
+            print_recovery_trap(printer, session, path, row.best)
+            print_lost(printer, session, path, row.best.point, paths)
+        printer.line(f'  see it again: {shlex.join([*again, *again_words(session, row.best.point)])}')
+    entries = amount(len(found.tried), 'entry').replace('entrys', 'entries')
+    limit = '' if found.whole else ' (the time was over before all were tried)'
+    printer.line(f'{amount(found.count, "crash image")} after {entries} tried{limit}; {amount(len(found.failing), "run")} failed')
+
+
+def again_words(session: Session, point: images.Point) -> list[str]:
+    words = ['--entries', str(point.entry), '--pick', *(f'{line}:{upto}' for line, upto in point.picks)]
+    return words + (['--', *session.request.clang] if session.request.clang else [])
+
+
+def rows_of(session: Session, found, smallest: list, paths: dict[int, tuple[Site, ...]]) -> list[Row]:
+    """Rows by the place of the entry and the ending, in the order of their first entries."""
+    rows: dict[tuple, Row] = {}
+    by_entry = {}
+    for outcome in smallest:
+        place = session.places.first(paths.get(outcome.point.entry, ()))
+        row = rows.setdefault((place, outcome.ended), Row(place, outcome.ended, []))
+        row.outcomes.append(outcome)
+        row.tried += found.tried[outcome.point.entry]
+        by_entry[outcome.point.entry] = row
+    for outcome in found.failing:
+        by_entry[outcome.point.entry].failing += 1
+    return list(rows.values())
+
+
+def print_row(printer: Printer, row: Row, with_source: bool) -> None:
+    where = 'here' if row.place else f'after entry {row.best.point.entry} of the trace'
+    printer.diagnostic(row.place, 'error', f'after a power cut {where} the next run fails: {meaning(row.ended)} '
+                       f'[{row.failing:,} of {amount(row.tried, "image")}]', with_source)
+
+
+def meaning(ended: str) -> str:
+    word, _, kind = ended.partition(' ')
+    if word == 'trap':
+        return MEANING.get(kind, kind)
+    return 'it does not end within the limit of turns' if word == 'cut' else f'main returns {kind}'
+
+
+def print_recovery_trap(printer: Printer, session: Session, path: str, outcome) -> None:
+    """Where the run from the image trapped, by the program with the image as its initial bytes."""
+    if not outcome.ended.startswith('trap'):
+        return
+    trap = trap_from_image(session, path, outcome)
+    places = session.places.along(trap.path) if trap else []
+    for place in places[:1]:
+        printer.diagnostic(place, 'note', 'the run from that image ends here')
+    for inner, outer in list(zip(places, places[1:]))[:4]:
+        printer.diagnostic(outer, 'note', f"'{inner.function}' is called here, by '{outer.function}'")
+
+
+def trap_from_image(session: Session, path: str, outcome) -> Trap | None:
+    if session.program.region_size() > LARGEST_IMAGE:
+        return None
+    image = image_of(session, path, outcome.point)
+    program = with_image(session.program, image)
+    return find_trap(program, session.request.inputs[0], outcome.ended.split(' ')[1])
+
+
+def image_of(session: Session, path: str, point: images.Point) -> bytearray:
+    """The bytes that hippo makes of a point, from the header of the trace of its run."""
+    image = bytearray(session.program.region_size())
+    words = ['crash', session.text_path, path, str(point.entry), *(f'{line}:{upto}' for line, upto in point.picks)]
+    with tempfile.TemporaryFile() as out:
+        running.finish(running.start([running.hippo_program(), *words], stdout=out))
+        out.seek(0)
+        for line in out:
+            if not line.startswith((b'START', b'REGISTER', b'INPUT', b'IMAGE')):
+                break
+            if line.startswith(b'IMAGE'):
+                _, address, digits = line.decode('ascii').strip().split(';')
+                at = int(address, 16) - REGION_BASE
+                image[at:at + 64] = bytes.fromhex(digits)
+    return image
+
+
+def with_image(program: Program, image: bytearray) -> Program:
+    """The program whose persistent globals begin with the bytes of an image."""
+    changed = Program('')
+    changed.functions, changed.blocks = program.functions, program.blocks
+    where = {item.name: item for item in program.persistent}
+    for line in program.head:
+        found = GLOBAL.match(line)
+        if found and found[1] in where:
+            item = where[found[1]]
+            at = item.address - REGION_BASE
+            values = ', '.join(f'i8 {byte - 256 * (byte > 127)}' for byte in image[at:at + item.size])
+            line = f'@{found[1]} = global [{item.size} x i8] [{values}], section ".pm", align {item.alignment}'
+        changed.head.append(line)
+    return changed
+
+
+def print_lost(printer: Printer, session: Session, path: str, point: images.Point, paths) -> None:
+    """The stores that the image does not have, by C lines."""
+    lost = images.lost_stores(path, point)
+    stores = read_trace(path, session.program, set(lost)).wanted
+    by_place: dict[Place | None, list[int]] = {}
+    for entry in lost:
+        by_place.setdefault(session.places.first(paths.get(entry, ())), []).append(entry)
+    for place, entries in list(by_place.items())[:MOST_LOST]:
+        name = session.names.of(stores[entries[0]][0])
+        count = 'this store is' if len(entries) == 1 else f'{len(entries):,} stores of this line are'
+        first = 'it is' if len(entries) == 1 else 'the first is'
+        printer.diagnostic(place, 'note', f"{count} not in the image; {first} to '{name}'")
+    if len(by_place) > MOST_LOST:
+        printer.line(f'  (stores of {amount(len(by_place) - MOST_LOST, "more line")} are not in the image)')

@@ -1,0 +1,154 @@
+"""What was found, as text in the form of clang's diagnostics."""
+import sys
+
+from .places import Place
+from .program import show_site
+from .reports import Group
+from .session import Checked, Session
+from .sources import line_of
+from .traps import MEANING
+
+COLOURS = {'warning': '\x1b[0;1;35m', 'error': '\x1b[0;1;31m', 'note': '\x1b[0;1;36m', 'bold': '\x1b[1m',
+           'caret': '\x1b[0;1;32m', 'off': '\x1b[0m'}
+
+
+class Printer:
+    """Writes diagnostics to a stream, with clang's colours where it is asked to."""
+
+    def __init__(self, stream=sys.stdout, colour: bool = False, source: bool = True):
+        self.stream, self.colour, self.source = stream, colour, source
+
+    def paint(self, name: str, text: str) -> str:
+        return f'{COLOURS[name]}{text}{COLOURS["off"]}' if self.colour else text
+
+    def line(self, text: str = '') -> None:
+        print(text, file=self.stream)
+
+    def diagnostic(self, place: Place | None, level: str, message: str, with_source: bool = False, site: str = '') -> None:
+        """`file:line:column: level: message`, and on demand the line of C with a caret; a site stands where no place is known."""
+        where = f'{show_place(place) if place else site or "hippo-c"}: '
+        text = self.paint('bold', message) if level != 'note' else message
+        self.line(self.paint('bold', where) + self.paint(level, f'{level}: ') + text)
+        if with_source and self.source and place and place.exact:
+            self.snippet(place)
+
+    def snippet(self, place: Place) -> None:
+        code = line_of(place.file, place.line)
+        if code is None:
+            return
+        margin = f'{place.line:5} | '
+        self.line(margin + code)
+        if place.column:
+            blank = ''.join('\t' if letter == '\t' else ' ' for letter in code[:place.column - 1])
+            self.line(' ' * 5 + ' | ' + blank + self.paint('caret', '^'))
+
+
+def show_place(place: Place) -> str:
+    return str(place) if place.column else place.short
+
+
+def amount(number: int, word: str) -> str:
+    """`1 report`, `1,010 reports`."""
+    return f'{number:,} {word}{"" if number == 1 else "s"}'
+
+
+def object_of(session: Session, checked: Checked, group: Group) -> tuple[str, int]:
+    """The name and the size of what the first store of a group stores."""
+    address, size = checked.trace.wanted[group.entry]
+    return session.names.of(address), size
+
+
+def message_of(session: Session, checked: Checked, group: Group) -> str:
+    """What a group says, without its place."""
+    name, size = object_of(session, checked, group)
+    by = helper_of(session, group)
+    check = checked.check_places.get(group.check)
+    at_end = group.check == checked.trace.entries
+    where = 'the return of main' if at_end else 'the check'
+    where += f' in {check.short}' if check else ''
+    count = f', {amount(group.count, "report")}' if group.count > 1 else ''
+    return (f"store of {amount(size, 'byte')} to '{name}'{by} is not durable at {where} "
+            f"[{group.missing}{count}]")
+
+
+def helper_of(session: Session, group: Group) -> str:
+    """` by 'memcpy'` where the store stands in a function that is not the user's, which the user's code calls."""
+    level = next((level for level, site in enumerate(group.path) if session.places.of(site)), 0)
+    if level == 0:
+        return ''
+    callee = session.program.instruction(group.path[level]).callee
+    return f" by '{session.program.functions[callee].name_in_c}'"
+
+
+def print_group(printer: Printer, session: Session, checked: Checked, group: Group) -> None:
+    """A warning for a group, with notes for its flush and for each call of its path."""
+    places = session.places.along(group.path)
+    place = places[0] if places else None
+    printer.diagnostic(place, 'warning', message_of(session, checked, group), True, show_site(group.path[0]))
+    if place and not place.exact:
+        printer.diagnostic(place, 'note', f"clang merged lines of '{place.function}' here; -O0 keeps them apart")
+    if group.flush:
+        flushed = session.places.along((group.flush,))
+        printer.diagnostic(flushed[0] if flushed else None, 'note', 'no fence follows this flush', site=show_site(group.flush))
+    for inner, outer in zip(places, places[1:]):
+        printer.diagnostic(outer, 'note', f"'{inner.function}' is called here, by '{outer.function}'")
+
+
+def print_trap(printer: Printer, session: Session, checked: Checked) -> None:
+    """Where the run trapped, and by which calls."""
+    kind = checked.ended.split(' ')[-1]
+    if checked.trap is None:
+        printer.diagnostic(None, 'error', f'the run trapped: {MEANING.get(kind, kind)} [{kind}]')
+        return
+    places = session.places.along(checked.trap.path)
+    printer.diagnostic(places[0] if places else None, 'error', f'the run trapped: {MEANING.get(kind, kind)} [{kind}]', True)
+    shown = list(zip(places, places[1:]))
+    for inner, outer in shown[:12]:
+        printer.diagnostic(outer, 'note', f"'{inner.function}' is called here, by '{outer.function}'")
+    if len(shown) > 12:
+        printer.line(f'  ({len(shown) - 12:,} more calls outwards)')
+
+
+def warnings_of(session: Session, checked: Checked) -> list[str]:
+    """What makes an answer without reports worth less than it seems."""
+    found = []
+    persistent = session.program.persistent
+    if not persistent:
+        found.append('no global is persistent, so nothing is checked: put PERSISTENT before the definitions of those '
+                     'that are')
+    elif checked.trace.asserts == 0:
+        found.append('no pm_assert ran, so stores are checked at the return of main alone')
+    for item in persistent:
+        if item.name not in checked.trace.stored and item.size:
+            found.append(f"nothing was stored to the persistent global '{item.name}' in this run")
+    return found
+
+
+def counts_of(checked: Checked) -> str:
+    """What ran."""
+    trace = checked.trace
+    text = f'{amount(trace.stores, "store")} to persistent memory, {amount(trace.asserts, "assert")}'
+    if checked.lines_ran and checked.lines_ran[1]:
+        ran, lines, whole = checked.lines_ran
+        text += f', {"" if whole else "at least "}{ran:,} of {amount(lines, "line")} of C ran'
+    return text
+
+
+def print_checked(printer: Printer, session: Session, checked: Checked, most: int = 0, notes=None) -> None:
+    """All that a check of one input found; at most `most` groups, where it is not 0.
+
+    `notes(group)` adds what belongs under a group."""
+    shown = checked.groups[:most] if most else checked.groups
+    for group in shown:
+        print_group(printer, session, checked, group)
+        if notes:
+            notes(group)
+    if len(shown) < len(checked.groups):
+        printer.line(f'({amount(len(checked.groups) - len(shown), "more group")}; --groups 0 shows them all)')
+    for text in warnings_of(session, checked):
+        printer.diagnostic(None, 'warning', text)
+    if checked.ended.startswith('trap'):
+        print_trap(printer, session, checked)
+    if checked.ended == 'cut':
+        printer.diagnostic(None, 'error', f'the run was cut after {checked.trace.limit:,} turns; --limit N gives it more')
+    printer.line(f'{amount(checked.reports, "report")} in {amount(len(checked.groups), "group")}; {counts_of(checked)}')

@@ -1,0 +1,108 @@
+"""The history of a cache line over a run: the stores into it, its flushes, the fences and the check of a report."""
+from collections import deque
+from dataclasses import dataclass, field
+
+from .entries import paths_of_entries
+from .images import LINE
+from .program import REGION_BASE
+from .session import Checked, Session
+from .traces import pieces
+
+MOST_EVENTS = 40
+DURABLE, STORED, FLUSHED = '.', 's', 'f'
+
+
+@dataclass
+class History:
+    """The last events of a line before a check; `state` has a letter for each byte before the first of them."""
+    line: int
+    check: int
+    state: list[str] = field(default_factory=lambda: [DURABLE] * LINE)
+    now: list[str] = field(default_factory=lambda: [DURABLE] * LINE)
+    events: deque = field(default_factory=deque)
+    left_out: int = 0
+
+    def take(self, event: tuple) -> None:
+        """Takes in `(entry, kind, offset, size)`; the oldest event goes where there are too many."""
+        changed = applied(self.now, event)
+        if event[1] == 'fence' and changed == self.now and STORED not in changed:
+            return
+        self.now = changed
+        self.events.append(event)
+        if len(self.events) > MOST_EVENTS:
+            self.state = applied(self.state, self.events.popleft())
+            self.left_out += 1
+
+    def data(self, places: dict[int, str]) -> dict:
+        rows = [[*event, places.get(event[0], '')] for event in self.events]
+        return {'state': ''.join(self.state), 'left_out': self.left_out, 'events': rows,
+                'address': REGION_BASE + self.line * LINE, 'check': self.check}
+
+
+def applied(state: list[str], event: tuple) -> list[str]:
+    """The bytes of a line after an event."""
+    _, kind, offset, size = event
+    if kind == 'store':
+        return state[:offset] + [STORED] * size + state[offset + size:]
+    before, after = (STORED, FLUSHED) if kind == 'flush' else (FLUSHED, DURABLE)
+    return [after if letter == before else letter for letter in state]
+
+
+def histories_of(session: Session, results: list[Checked]) -> list[list[dict]]:
+    """For each input the history of each group's cache line, up to the check of its first report."""
+    found = []
+    for checked in results:
+        session.progress.say('reading the history of cache lines')
+        found.append(histories(session, checked))
+    return found
+
+
+def histories(session: Session, checked: Checked) -> list[dict]:
+    by_group = [History((checked.trace.wanted[group.entry][0] - REGION_BASE) // LINE, group.check)
+                for group in checked.groups]
+    unique = {(history.line, history.check): history for history in sorted(by_group, key=lambda one: one.check)}
+    by_line: dict[int, list[History]] = {}
+    for history in unique.values():
+        by_line.setdefault(history.line, []).append(history)
+    active: set[int] = set()
+    for number, entry in enumerate(pieces(checked.path), 1):
+        for line, event in events_of(number, entry, by_line, active):
+            for history in by_line[line]:
+                if number < history.check:
+                    history.take(event)
+            settle(active, line, event, by_line[line][-1])
+    places = entry_places(session, checked) if checked.groups else {}
+    return [unique[history.line, history.check].data(places) for history in by_group]
+
+
+def settle(active: set[int], line: int, event: tuple, history: History) -> None:
+    """Keeps the lines that have bytes which are not durable."""
+    if event[1] == 'store':
+        active.add(line)
+    elif event[1] == 'fence' and event[0] < history.check and set(history.now) == {DURABLE}:
+        active.discard(line)
+
+
+def events_of(number: int, entry: str, lines, active: set[int]):
+    """The events of an entry in the lines that are wanted; a fence is one in those with bytes that are not durable."""
+    word, *rest = entry.split(';')
+    if word in ('STORE', 'FLUSH', 'PERSIST'):
+        start, size = int(rest[0], 16) - REGION_BASE, int(rest[-1], 16)
+        for line in range(start // LINE, (start + max(size, 1) - 1) // LINE + 1):
+            if line in lines:
+                first = max(start - line * LINE, 0)
+                last = min(start + size - line * LINE, LINE)
+                yield line, (number, 'store' if word == 'STORE' else 'flush', first, last - first)
+    if word in ('FENCE', 'PERSIST'):
+        for line in list(active):
+            yield line, (number, 'fence', 0, 0)
+
+
+def entry_places(session: Session, checked: Checked) -> dict[int, str]:
+    """`FILE:LINE` of each entry that a marked copy shows."""
+    paths = paths_of_entries(session.places, checked.numbers, checked.path)
+    short: dict[tuple, str] = {}
+    for path in set(paths.values()):
+        place = session.places.first(path)
+        short[path] = place.short if place else ''
+    return {entry: short[path] for entry, path in paths.items()}

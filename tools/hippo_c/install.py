@@ -1,0 +1,83 @@
+"""The command install: program, tools, header, pages and completions under one folder."""
+import os
+import shutil
+import stat
+
+from . import completions, running
+from .progress import Progress
+from .trouble import Trouble
+
+WRAPPER = '''#!/bin/sh
+here=$(dirname "$(readlink -f "$0")")
+exec python3 -B "$here/../lib/hippo/{name}" "$@"
+'''
+TOOLS = ('hippo-c', 'lower', 'hippo.h', 'external_functions.c')
+FOLDERS = ('lowering', 'hippo_c', 'runtime', 'build')
+
+
+def add_options(command) -> None:
+    """The words of install."""
+    command.add_argument('prefix', metavar='PREFIX', help='the folder, such as /usr/local')
+    command.add_argument('--program', metavar='FILE', help='the built hippo; otherwise the one that hippo-c runs')
+
+
+def install(options, parser) -> int:
+    """Copies everything; a file that is there already is replaced."""
+    program = options.program or running.hippo_program()
+    if not is_program(program):
+        raise Trouble(f'{program} is not a built program', 'build it by ./hippo --build, or name it by --program')
+    prefix = os.path.abspath(options.prefix)
+    try:
+        put(program, f'{prefix}/bin/hippo', executable=True)
+        for name in ('hippo-c', 'lower'):
+            write(f'{prefix}/bin/{name if name != "lower" else "hippo-lower"}', WRAPPER.format(name=name), executable=True)
+        copy_tools(prefix)
+        for page in ('hippo.1', 'hippo-c.1'):
+            put(os.path.join(manual_folder(), page), f'{prefix}/share/man/man1/{page}')
+        for path, text in completions.files(parser).items():
+            write(f'{prefix}/share/{path}', text)
+    except OSError as error:
+        raise Trouble(f'{error.filename}: {error.strerror}') from None
+    Progress().wipe()
+    print(f'installed: hippo, hippo-c and hippo-lower in {prefix}/bin')
+    return 0
+
+
+def is_program(path: str) -> bool:
+    """Whether a file is a program for the processor, not a script that builds one."""
+    try:
+        with open(path, 'rb') as file:
+            return file.read(4) == b'\x7fELF'
+    except OSError as error:
+        raise Trouble(f'{path}: {error.strerror}') from None
+
+
+def copy_tools(prefix: str) -> None:
+    library = f'{prefix}/lib/hippo'
+    for name in TOOLS:
+        put(os.path.join(running.TOOLS, name), f'{library}/{name}')
+    put(os.path.join(running.TOOLS, 'hippo.h'), f'{prefix}/include/hippo.h')
+    for folder in FOLDERS:
+        shutil.rmtree(f'{library}/{folder}', ignore_errors=True)
+        shutil.copytree(os.path.join(running.TOOLS, folder), f'{library}/{folder}', ignore=shutil.ignore_patterns('__pycache__'))
+    for page in ('hippo.1', 'hippo-c.1'):
+        put(os.path.join(manual_folder(), page), f'{library}/man/{page}')
+
+
+def manual_folder() -> str:
+    """Where the manual pages stand: in the repository, or in an installation."""
+    folder = os.path.join(os.path.dirname(running.TOOLS), 'docs', 'man')
+    return folder if os.path.isdir(folder) else os.path.join(running.TOOLS, 'man')
+
+
+def put(source: str, target: str, executable: bool = False) -> None:
+    with open(source, 'rb') as file:
+        write(target, file.read(), executable)
+
+
+def write(target: str, content: str | bytes, executable: bool = False) -> None:
+    os.makedirs(os.path.dirname(target), exist_ok=True)
+    with running.whole_file(target) as file:
+        file.write(content.encode() if isinstance(content, str) else content)
+    if executable:
+        os.chmod(target, os.stat(target).st_mode | stat.S_IXUSR | stat.S_IXGRP | stat.S_IXOTH)

@@ -1,0 +1,118 @@
+"""Copies of a program that print numbers where they come by: which checks, blocks and calls ran, and in which order.
+
+A copy has the program's memory, blocks and depth of calls, so it does what the program does. It prints no numbers of
+the program's own, and it takes more turns."""
+import contextlib
+import itertools
+import os
+import tempfile
+from collections.abc import Callable, Iterator
+
+from .program import Program, Site
+from .running import finish, hippo_program, start, stop
+
+MOST_TURNS = 1 << 40
+PRINTS = 'print_i64'
+# What is printed before an instruction, as operands, and what after it.
+Marks = tuple[list[str], list[str]]
+
+
+def marked_text(program: Program, marks: Callable[[Site, object], Marks]) -> str:
+    """The program with the prints that `marks` asks for at each instruction, in place of its own."""
+    out = [line for line in program.head if not line.startswith(f'declare void @{PRINTS}(')]
+    out.append(f'declare void @{PRINTS}(i64)')
+    counter = itertools.count()
+    for function in program.functions.values():
+        out.append(function.head)
+        for block in function.blocks:
+            out += [f'{block.label}:', *(f'  {phi}' for phi in block.phis)]
+            for index, instruction in enumerate(block.instructions):
+                before, after = marks((function.name, block.label, index), instruction)
+                out += print_lines(before, counter)
+                if instruction.callee != PRINTS:
+                    out.append(f'  {instruction.text}')
+                out += print_lines(after, counter)
+        out.append('}')
+    return '\n'.join(out) + '\n'
+
+
+def print_lines(operands: list[str], counter: Iterator[int]) -> Iterator[str]:
+    """The prints of operands: numbers, `i64 X`, and `ptr X`, whose address is printed."""
+    for operand in operands:
+        if operand.startswith('ptr '):
+            register = f'%hippo.address.{next(counter)}'
+            yield f'  {register} = ptrtoint {operand} to i64'
+            operand = register
+        yield f'  call void @{PRINTS}(i64 {operand.removeprefix("i64 ")})'
+
+
+@contextlib.contextmanager
+def marked_run(text: str, numbers: list[int]) -> Iterator:
+    """The output of a run of a marked text, as a binary file, and afterwards how it ended: `run.ended`."""
+    with tempfile.NamedTemporaryFile('w', suffix='.ll', delete=False) as file:
+        file.write(text)
+    run = MarkedRun(file.name, numbers)
+    try:
+        yield run
+    finally:
+        stop(run.process)
+        os.unlink(file.name)
+
+
+class MarkedRun:
+    """A run whose marks are read while it goes on."""
+
+    def __init__(self, path: str, numbers: list[int]):
+        words = ['run', path, '--limit', str(MOST_TURNS), '--', *map(str, numbers)]
+        self.process = start([hippo_program(), *words], stdout=-1)
+
+    def marks(self) -> Iterator[int]:
+        """The marks one by one."""
+        return map(int, self.process.stdout)
+
+    def chunks(self, seen: Callable[[], bool] = lambda: True) -> Iterator[list[bytes]]:
+        """The marks in large pieces, for what is done in bulk, while `seen` holds."""
+        rest = b''
+        while seen() and (piece := self.process.stdout.read(1 << 20)):
+            *whole, rest = (rest + piece).split(b'\n')
+            yield whole
+
+    def ended(self):
+        """How the run ended, after its last mark."""
+        return finish(self.process)
+
+
+def checks_of(program: Program) -> list[Site]:
+    """The sites at which a range is asserted, or main returns."""
+    return [site for site, instruction in program.sites() if instruction.callee == 'pm_assert'
+            or site[0] == 'main' and instruction.text.startswith('ret ')]
+
+
+def sites_of_checks(program: Program, numbers: list[int], asserts: int, ends: bool) -> list[Site]:
+    """The site of each assert that ran, in order, and then that of the last return of main where the run ends."""
+    sites = checks_of(program)
+    by_site = {site: [str(number)] for number, site in enumerate(sites)}
+    text = marked_text(program, lambda site, _: (by_site.get(site, []), []))
+    found: list[Site] = []
+    returned: list[Site] = []
+    with marked_run(text, numbers) as run:
+        for mark in run.marks():
+            is_assert = program.instruction(sites[mark]).callee == 'pm_assert'
+            (found if is_assert else returned).append(sites[mark])
+            if len(found) == asserts and not ends:
+                break
+    return found[:asserts] + returned[-1:]
+
+
+def blocks_that_ran(program: Program, numbers: list[int], most: int) -> tuple[set[tuple[str, str]], bool]:
+    """The blocks that a run enters, and whether its end was seen within about `most` marks."""
+    blocks = list(program.blocks)
+    by_block = {block: [str(number)] for number, block in enumerate(blocks)}
+    text = marked_text(program, lambda site, _: (by_block[site[:2]] if site[2] == 0 else [], []))
+    seen: set[bytes] = set()
+    count = 0
+    with marked_run(text, numbers) as run:
+        for chunk in run.chunks(lambda: count < most):
+            seen.update(chunk)
+            count += len(chunk)
+    return {blocks[int(mark)] for mark in seen if mark}, count < most

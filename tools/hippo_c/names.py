@@ -1,0 +1,112 @@
+"""Names of persistent objects as C has them, by the debug information of clang: `ring.slots[3].text[8]`."""
+import re
+import subprocess
+from concurrent.futures import ThreadPoolExecutor
+
+from .program import Program
+
+NODE = re.compile(r'^!(\d+) = (?:distinct )?!(DI\w+|)(?:\((.*)\)|\{(.*)\})$', re.M)
+VARIABLE = re.compile(r'^@("[^"]*"|[-\w$.]+) = .*!dbg !(\d+)', re.M | re.ASCII)
+SAME_TYPE = ('DW_TAG_typedef', 'DW_TAG_const_type', 'DW_TAG_volatile_type', 'DW_TAG_atomic_type')
+
+
+class Types:
+    """The types of the globals of one C file."""
+
+    def __init__(self, text: str):
+        self.nodes = {number: fields or items or '' for number, _, fields, items in NODE.findall(text)}
+        self.variables = {}
+        for name, number in VARIABLE.findall(text):
+            variable = self.link(number, 'var') or number
+            self.variables[name.strip('"')] = self.link(variable, 'type')
+
+    def link(self, number, name):
+        found = re.search(rf'\b{name}: !(\d+)', self.nodes.get(number, ''))
+        return found and found[1]
+
+    def value(self, number, name):
+        found = re.search(rf'\b{name}: (-?\d+)', self.nodes.get(number, ''))
+        return int(found[1]) if found else 0
+
+    def items(self, number):
+        return re.findall(r'!(\d+)', self.nodes.get(self.link(number, 'elements'), ''))
+
+    def plain(self, number):
+        """A type without its other names."""
+        while number and self.tag(number) in SAME_TYPE:
+            number = self.link(number, 'baseType')
+        return number
+
+    def tag(self, number):
+        found = re.search(r'\btag: (\w+)', self.nodes.get(number, ''))
+        return found and found[1]
+
+    def bytes(self, number):
+        number = self.plain(number)
+        return self.value(number, 'size') // 8
+
+    def within(self, number, offset: int) -> str:
+        """The path of fields and elements to the innermost object at an offset."""
+        number = self.plain(number)
+        tag = number and self.tag(number)
+        if tag == 'DW_TAG_array_type':
+            return self.in_array(number, offset)
+        if tag not in ('DW_TAG_structure_type', 'DW_TAG_union_type'):
+            return ''
+        for member in self.items(number):
+            start, size = self.value(member, 'offset') // 8, self.value(member, 'size') // 8
+            if start <= offset < start + size:
+                name = re.search(r'\bname: "([^"]*)"', self.nodes[member])
+                inner = self.within(self.link(member, 'baseType'), offset - start)
+                return (f'.{name[1]}' if name else '') + inner
+        return ''
+
+    def in_array(self, number, offset: int) -> str:
+        element = self.link(number, 'baseType')
+        size, text = self.bytes(element), ''
+        counts = [self.value(item, 'count') for item in self.items(number)]
+        if not size:
+            return ''
+        index, offset = offset // size, offset % size
+        for count in reversed(counts[1:]):
+            text = f'[{index % max(count, 1)}]' + text
+            index //= max(count, 1)
+        return f'[{index}]' + text + self.within(element, offset)
+
+
+class Names:
+    """The names of persistent objects of a program; the C files are compiled when a name is first asked for."""
+
+    def __init__(self, program: Program, files: list[str], clang: list[str], include: str):
+        self.program, self.include = program, include
+        self.files, self.clang = [file for file in files if file.endswith('.c')], clang
+        self.units: list[Types] | None = None
+
+    def of(self, address: int) -> str:
+        """The name of the object at an address, as near as it is known."""
+        found = self.program.object_at(address)
+        if not found:
+            return f'{address:#x}'
+        item, offset = found
+        types, number = self.type_of(item.name, item.size)
+        if not number:
+            return item.name + (f'+{offset}' if offset else '')
+        return re.sub(r'\.\d+$', '', item.name) + types.within(number, offset)
+
+    def type_of(self, name: str, size: int):
+        """The type of the one global that has this name, or this name before a linker's number, and this size."""
+        if self.units is None:
+            with ThreadPoolExecutor() as pool:
+                self.units = [Types(text) for text in pool.map(self.debug_text, self.files)]
+        for wanted in (name, re.sub(r'\.\d+$', '', name)):
+            found = {unit: unit.variables[wanted] for unit in self.units
+                     if wanted in unit.variables and unit.bytes(unit.variables[wanted]) == size}
+            if len(found) == 1:
+                return next(iter(found.items()))
+        return None, None
+
+    def debug_text(self, file: str) -> str:
+        command = ['clang-19', '-w', '-g', '-O0', '-S', '-emit-llvm', '-target', 'x86_64-pc-linux-gnu', '-mclwb',
+                   '-mclflushopt', f'-I{self.include}', *self.clang, '-o', '-', file]
+        ran = subprocess.run(command, stdout=subprocess.PIPE, stderr=subprocess.DEVNULL, stdin=subprocess.DEVNULL)
+        return ran.stdout.decode('latin-1')

@@ -1,0 +1,99 @@
+"""The answer as one page for a browser: the C with the reports at their lines, and pictures of cache lines."""
+import html
+import json
+import os
+from collections import defaultdict
+
+from .diagnostics import amount
+from .sources import lines_of
+
+FOLDER = os.path.dirname(os.path.abspath(__file__))
+
+
+def page_of(answer: dict, histories: list[list[dict]]) -> str:
+    """The page; it needs no network and no other file."""
+    groups = []
+    for number, (item, lines) in enumerate(zip(answer['inputs'], histories), 1):
+        for group, history in zip(item['groups'], lines):
+            groups.append({**group, 'input': number, 'history': history})
+    files = sorted({place['file'] for group in groups for place in places_in(group)} | {
+        file for file in answer['files'] if file.endswith('.c')})
+    numbers = {file: number for number, file in enumerate(files)}
+    parts = {
+        'title': html.escape(f'hippo-c: {", ".join(answer["files"])}'), 'style': part('page.css'), 'script': part('page.js'),
+        'summary': summary(answer), 'list': ''.join(row(number, group) for number, group in enumerate(groups)),
+        'sources': ''.join(source(file, numbers[file], groups) for file in files),
+        'about': html.escape(answer['about']),
+        'data': json.dumps({'groups': groups, 'files': numbers}).replace('</', '<\\/'),
+    }
+    return part('page.html').format(**parts)
+
+
+def part(name: str) -> str:
+    with open(os.path.join(FOLDER, name), encoding='utf-8') as file:
+        return file.read()
+
+
+def places_in(group: dict):
+    """The places of the user's that a group has."""
+    suggestion = group['suggestion'] and group['suggestion']['place']
+    return [place for place in (group['store'], group['flush'], group['check'], suggestion, *group['calls']) if place]
+
+
+def summary(answer: dict) -> str:
+    """The first lines: counts for each input, and warnings."""
+    rows = []
+    for number, item in enumerate(answer['inputs'], 1):
+        which = f'Input {number}: ' if len(answer['inputs']) > 1 else ''
+        lines = item['lines']
+        ran = f', {lines["ran"]:,} of {amount(lines["all"], "line")} of C ran' if lines else ''
+        rows.append(f'<p>{which}<b>{amount(item["reports"], "report")}</b> in {amount(len(item["groups"]), "group")}; '
+                    f'{amount(item["stores"], "store")} to persistent memory, {amount(item["asserts"], "assert")}{ran}; '
+                    f'{html.escape(item["ended"])}</p>')
+        rows += [f'<p class="warning">{html.escape(text)}</p>' for text in item['warnings']]
+        if item['trap']:
+            place = item['trap']['place']
+            where = f' at {place["file"]}:{place["line"]}' if place else ''
+            rows.append(f'<p class="warning">The run ended with a trap{html.escape(where)}: {html.escape(item["trap"]["meaning"])}</p>')
+    return ''.join(rows)
+
+
+def row(number: int, group: dict) -> str:
+    """A group in the list."""
+    place = group['store']
+    where = f'{os.path.basename(place["file"])}:{place["line"]}' if place else 'no line'
+    return (f'<li id="g{number}"><button data-group="{number}"><span class="kind {group["kind"]}">{group["kind"]}</span>'
+            f'<span class="where">{html.escape(where)}</span><span class="count">{group["reports"]:,}</span>'
+            f'<span class="object">{html.escape(group["object"])}</span></button></li>')
+
+
+def source(file: str, number: int, groups: list[dict]) -> str:
+    """A file: a row for each line, with the counts of its groups, and the suggested statements after it."""
+    at, added = defaultdict(list), defaultdict(list)
+    for index, group in enumerate(groups):
+        if group['store'] and group['store']['file'] == file:
+            at[group['store']['line']].append(index)
+        suggestion = group['suggestion']
+        if suggestion and suggestion['place'] and suggestion['place']['file'] == file:
+            texts = suggestion['statements'] if not suggestion['by_hand'] else [f'// {suggestion["text"]}']
+            added[suggestion['place']['line']] += [text for text in texts if text not in added[suggestion['place']['line']]]
+    rows = []
+    lines = lines_of(file)
+    for line, code in enumerate(lines[:-1] if lines and not lines[-1] else lines, 1):
+        rows.append(line_row(number, line, code, at[line] if line in at else [], groups))
+        indent = code[:len(code) - len(code.lstrip())]
+        rows += [f'<div class="line added"><span></span><span>+</span><code>{html.escape(indent + text)}</code></div>'
+                 for text in added.get(line, [])]
+    return f'<section><h2>{html.escape(file)}</h2><div class="source">{"".join(rows)}</div></section>'
+
+
+def line_row(file: int, line: int, code: str, here: list[int], groups: list[dict]) -> str:
+    mark = ''
+    if here:
+        count = sum(groups[index]['reports'] for index in here)
+        title = ', '.join(sorted({groups[index]['kind'] for index in here}))
+        mark = (f'<button class="badge" data-group="{here[0]}" data-all="{" ".join(map(str, here))}" '
+                f'title="{title}" aria-label="{amount(count, "report")}, {title}">{count:,}</button>')
+    kind = ' reported' if here else ''
+    return (f'<div class="line{kind}" id="f{file}l{line}"><span>{mark}</span><span>{line}</span>'
+            f'<code>{html.escape(code)}</code></div>')

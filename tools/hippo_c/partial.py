@@ -1,0 +1,89 @@
+"""The part of a repaired program that some C files have: what goes into the build of a library without its driver."""
+import re
+import subprocess
+from dataclasses import dataclass
+
+from .plan import Repair
+from .program import GLOBAL, HEAD, Function, type_text
+from .session import Session
+from .trouble import Trouble
+
+DEFINED = re.compile(r'^define ([^@]*)@("[^"]*"|[-\w$.]+)\(|^@("[^"]*"|[-\w$.]+) = ([^=]*?)(?:global|constant) ', re.M | re.ASCII)
+HIDDEN = re.compile(r'\b(internal|private|external|available_externally|linkonce\w*)\b')
+USED = re.compile(r'@([-\w$.]+)', re.ASCII)
+
+
+@dataclass
+class Part:
+    """The lines before the functions, and the functions with their heads."""
+    head: list[str]
+    functions: list[tuple[Function, str]]
+
+
+def visible_names(session: Session, file: str) -> set[str]:
+    """The names that a C file defines for the linker."""
+    command = ['clang-19', '-w', '-O0', '-S', '-emit-llvm', '-target', 'x86_64-pc-linux-gnu', '-mclwb', '-mclflushopt',
+               f'-I{session.names.include}', *session.request.clang, '-o', '-', file]
+    text = subprocess.run(command, stdout=subprocess.PIPE, stdin=subprocess.DEVNULL).stdout.decode('latin-1')
+    found = set()
+    for before, function, variable, kind in DEFINED.findall(text):
+        if not HIDDEN.search(before + kind):
+            found.add((function or variable).strip('"'))
+    return found
+
+
+def part_for(session: Session, repair: Repair, files: list[str]) -> Part:
+    """The functions of these files and all that they need and no other file defines."""
+    given = [file for file in session.request.files if file.endswith('.c')]
+    if strange := [file for file in files if file not in given]:
+        raise Trouble(f'{strange[0]}: not one of the files of the program', 'name it as it is named before --for')
+    own = set().union(*(visible_names(session, file) for file in files))
+    others = set().union(*(visible_names(session, file) for file in given if file not in files)) - own
+    repaired = repair.repaired
+    kept = closure(repair, [name for name in repaired.functions if name in own], others)
+    functions = [(function, shown_head(function, own)) for name, function in repaired.functions.items() if name in kept]
+    used = set().union(*(names_in(function) for function, _ in functions)) | own
+    head = [line for line in map(lambda text: head_line(text, own, others, used), repaired.head) if line]
+    head += [declaration(repaired.functions[name]) for name in sorted(used & others & set(repaired.functions))]
+    return Part(head, functions)
+
+
+def names_in(function: Function) -> set[str]:
+    return {name for block in function.blocks for instruction in block.instructions
+            for name in USED.findall(instruction.text)} | {
+                name for block in function.blocks for phi in block.phis for name in USED.findall(phi)}
+
+
+def closure(repair: Repair, roots: list[str], others: set[str]) -> set[str]:
+    """The functions that calls reach, up to those that other files define."""
+    kept, waiting = set(roots), list(roots)
+    while waiting:
+        for name in names_in(repair.repaired.functions[waiting.pop()]) - kept - others:
+            if name in repair.repaired.functions:
+                kept.add(name)
+                waiting.append(name)
+    return kept
+
+
+def shown_head(function: Function, own: set[str]) -> str:
+    return function.head if function.name in own else function.head.replace('define ', 'define internal ', 1)
+
+
+def head_line(line: str, own: set[str], others: set[str], used: set[str]) -> str:
+    """A line before the functions as the part has it; nothing where it is not used."""
+    found = GLOBAL.match(line)
+    if not found:
+        return line
+    name = found[1]
+    if name in others:
+        text = type_text(line, found.end())
+        return f'@{name} = external {found[2]} {text.strip()}' if name in used else ''
+    if name in own:
+        return line
+    return line.replace(f'@{name} = ', f'@{name} = internal ', 1) if name in used else ''
+
+
+def declaration(function: Function) -> str:
+    head = re.sub(r' %[-\w$.]+(?=[,)])', '', function.head[len('define '):].removesuffix(' {'))
+    assert HEAD.match(function.head)
+    return f'declare {head}'

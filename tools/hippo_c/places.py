@@ -1,0 +1,76 @@
+"""Which places in C stand for an instruction and for a path of calls."""
+import os
+from typing import NamedTuple
+
+from lowering.lines import Frame
+
+from .program import Program, Site
+from .running import TOOLS
+
+OWN = (f'{TOOLS}/runtime/', f'{TOOLS}/hippo.h')
+SYSTEM = ('/usr/include/', '/usr/lib/', '/usr/local/include/')
+
+
+class Place(NamedTuple):
+    """A place in the user's C, in which function it is, and whether it is that of an instruction itself.
+
+    Where clang gives no line, the place is the line of the function's head, and `exact` is false."""
+    file: str
+    line: int
+    column: int
+    function: str
+    exact: bool = True
+
+    def __str__(self) -> str:
+        return f'{self.file}:{self.line}:{self.column}'
+
+    @property
+    def short(self) -> str:
+        return f'{self.file}:{self.line}'
+
+
+def is_users(file: str) -> bool:
+    """Whether a file is the user's, not a header of the system and not part of hippo's tools."""
+    return not file.startswith(SYSTEM) and not os.path.abspath(file).startswith(OWN)
+
+
+class Places:
+    """The places of a program."""
+
+    def __init__(self, program: Program):
+        self.program = program
+        self.users: dict[str, bool] = {}
+
+    def is_users(self, file: str) -> bool:
+        if file not in self.users:
+            self.users[file] = is_users(file)
+        return self.users[file]
+
+    def of(self, site: Site) -> list[Place]:
+        """The user's places of an instruction, from the innermost function that was inlined outwards."""
+        function = self.program.functions.get(site[0])
+        instruction = self.program.instruction(site)
+        if function is None or instruction is None or not self.is_users_function(function):
+            return []
+        named = [frame._replace(function=frame.function or function.name_in_c) for frame in instruction.frames]
+        found = [Place(*frame) for frame in named if frame.line and self.is_users(frame.file)]
+        return found or [head_of(function)]
+
+    def is_users_function(self, function) -> bool:
+        return function.place is not None and self.is_users(function.place.file)
+
+    def first(self, path: tuple[Site, ...]) -> Place | None:
+        """The innermost place of the user's on a path of sites."""
+        return next((place for site in path for place in self.of(site)), None)
+
+    def along(self, path: tuple[Site, ...]) -> list[Place]:
+        """All of the user's places on a path, from the innermost outwards."""
+        return [place for site in path for place in self.of(site)]
+
+
+def head_of(function) -> Place:
+    return Place(function.place.file, function.place.line, 1, function.name_in_c, exact=False)
+
+
+def frame_text(frame: Frame) -> str:
+    return f'{frame.file}:{frame.line}:{frame.column}'

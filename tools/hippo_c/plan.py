@@ -1,0 +1,86 @@
+"""What a repair put in: the repaired program beside the program, instruction by instruction."""
+import re
+from collections.abc import Callable
+from dataclasses import dataclass
+
+from .program import Instruction, Program, Site
+
+FENCES = ('llvm.x86.sse.sfence', 'llvm.x86.sse2.mfence', 'pmem_drain', 'pmem_persist')
+CALLEE = re.compile(r'(call \S+ @)[-\w$.]+\(', re.ASCII)
+
+
+@dataclass
+class Insertion:
+    """An instruction that was put after a site: in the function itself, or in the clone that is named."""
+    site: Site
+    instruction: Instruction
+    clone: str = ''
+
+    @property
+    def is_fence(self) -> bool:
+        return self.instruction.callee in FENCES
+
+
+class Repair:
+    """The insertions, the hoisted calls with their clones, and the site in the program of each repaired one."""
+
+    def __init__(self, program: Program, repaired: Program):
+        self.program, self.repaired = program, repaired
+        self.insertions: list[Insertion] = []
+        self.hoists: dict[Site, str] = {}
+        self.clones: dict[str, str] = {}
+        self.sites: dict[Site, Site] = {}
+        waiting = [(name, name) for name in program.functions]
+        while waiting:
+            name, original = waiting.pop(0)
+            for clone, called in self.match(name, original):
+                if clone not in self.clones:
+                    self.clones[clone] = called
+                    waiting.append((clone, called))
+
+    def match(self, name: str, original: str) -> list[tuple[str, str]]:
+        """Pairs a function with its original; the clones that it calls, with their originals."""
+        found = []
+        clone = name if name != original else ''
+        for new, old in zip(self.repaired.functions[name].blocks, self.program.functions[original].blocks):
+            for index, site, is_new, instruction in paired(new.instructions, old.instructions, self.is_clone):
+                place = (original, old.label, site)
+                self.sites[(name, new.label, index)] = place
+                called = old.instructions[site].callee
+                if is_new:
+                    self.insertions.append(Insertion(place, instruction, clone))
+                elif instruction.callee != called:
+                    found.append((instruction.callee, called))
+                    if not clone:
+                        self.hoists[place] = instruction.callee
+        return found
+
+    def is_clone(self, name: str) -> bool:
+        return name in self.repaired.functions and name not in self.program.functions
+
+    def site_of(self, site: Site) -> Site:
+        """The site in the program that a site of the repaired program stands for."""
+        return self.sites.get(site, site)
+
+
+def inserted(new: list[Instruction], old: list[Instruction], is_clone: Callable[[str], bool]) -> set[int]:
+    """The numbers of the instructions of `new` that are not in `old`.
+
+    What a repair puts in stands directly after its site, so the two are compared from their ends."""
+    left, found = len(old) - 1, set()
+    for index in range(len(new) - 1, -1, -1):
+        one = new[index]
+        plain = CALLEE.sub(r'\1(', one.text) if is_clone(one.callee) else one.text
+        if left >= 0 and plain in (old[left].text, CALLEE.sub(r'\1(', old[left].text)):
+            left -= 1
+        else:
+            found.add(index)
+    return found
+
+
+def paired(new: list[Instruction], old: list[Instruction], is_clone: Callable[[str], bool]):
+    """Each number of `new`, the number of `old` that it stands for or that it follows, whether it was put in, and it itself."""
+    extra, site = inserted(new, old, is_clone), -1
+    for index, instruction in enumerate(new):
+        site += index not in extra
+        yield index, site, index in extra, instruction

@@ -1,0 +1,63 @@
+"""What goes on, in one line of a terminal; nothing is said where standard error is no terminal."""
+import contextlib
+import os
+import subprocess
+import sys
+import time
+from collections.abc import Iterable, Iterator
+
+EVERY = 0.2
+
+
+class Progress:
+    """The current line of progress; it is wiped before anything else is written."""
+
+    def __init__(self, stream=sys.stderr, shown: bool | None = None):
+        self.stream = stream
+        self.shown = stream.isatty() if shown is None else shown
+        self.last, self.width, self.step, self.began = 0.0, 0, '', time.monotonic()
+
+    def say(self, text: str) -> None:
+        """Shows what goes on now."""
+        self.step = text
+        self.show(text)
+
+    def show(self, text: str) -> None:
+        if not self.shown:
+            return
+        self.stream.write('\r' + f'hippo-c: {text}'.ljust(self.width)[:100])
+        self.stream.flush()
+        self.width, self.last = len(text) + 9, time.monotonic()
+
+    def wipe(self) -> None:
+        if self.shown and self.width:
+            self.stream.write('\r' + ' ' * self.width + '\r')
+            self.stream.flush()
+            self.width = 0
+
+    def often(self) -> bool:
+        """Whether it is time to show something again."""
+        return self.shown and time.monotonic() - self.last >= EVERY
+
+    @contextlib.contextmanager
+    def growing(self, step: str) -> Iterator[None]:
+        self.say(step)
+        self.began = time.monotonic()
+        yield
+
+    def watch(self, process: subprocess.Popen, path: str) -> None:
+        """Shows how large the file is that a command writes, until the command ends."""
+        while self.shown:
+            with contextlib.suppress(subprocess.TimeoutExpired):
+                process.wait(EVERY)
+                return
+            with contextlib.suppress(OSError):
+                size = os.path.getsize(path)
+                self.show(f'{self.step}: {size / 1e6:.1f} MB, {time.monotonic() - self.began:.0f} s')
+
+    def counted(self, items: Iterable, step: str, what: str) -> Iterator:
+        """The items, with their count shown now and then."""
+        for number, item in enumerate(items, 1):
+            if number % 4096 == 0 and self.often():
+                self.show(f'{step}: {number:,} {what}')
+            yield item

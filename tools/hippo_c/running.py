@@ -1,0 +1,146 @@
+"""Runs hippo and tools/lower: their output into files that appear whole, their refusals as troubles."""
+import contextlib
+import os
+import re
+import subprocess
+import sys
+from collections.abc import Iterator
+
+from .trouble import Trouble
+
+TOOLS = os.path.dirname(os.path.dirname(os.path.abspath(__file__)))
+TRAPPED, CUT = 9, 10
+HINTS = (
+    (r'program line 1: (syntax|unsupported)', 'hippo reads LLVM text of its subset; give a .c file to hippo-c'),
+    (r'trace .*(differs|early|extra|malformed)', 'the trace is of another program or was cut short; record it again'),
+    (r'program too large', 'hippo reads at most 16 MiB of program text'),
+    (r'usage', 'the installed hippo does not know this command; install hippo and hippo-c of one version'),
+    (r'not built', 'set HIPPO_PROGRAM to a hippo that is built'),
+    (r'function (@\S+) is not in the program', 'give the file that defines it, too'),
+    (r'fatal error: .* file not found', 'give the folder of the header to clang: -- -Ifolder'),
+)
+
+
+def hippo_program() -> str:
+    """The program to run: HIPPO_PROGRAM, or the one of this repository or of this installation."""
+    named = os.environ.get('HIPPO_PROGRAM')
+    if named:
+        return named
+    for folder in (os.path.dirname(TOOLS), os.path.join(TOOLS, '..', '..', 'bin')):
+        program = os.path.join(folder, 'hippo')
+        if os.access(program, os.X_OK) and not os.path.isdir(program):
+            return program
+    raise Trouble('hippo is not found', 'set HIPPO_PROGRAM to the program')
+
+
+def hint_for(message: str) -> str:
+    """What to do about a message of a step, or nothing."""
+    return next((hint for pattern, hint in HINTS if re.search(pattern, message)), '')
+
+
+@contextlib.contextmanager
+def whole_file(path: str) -> Iterator:
+    """A binary file to write to; it gets its name when all is written, and there is none after a failure."""
+    half = f'{path}.{os.getpid()}.part'
+    try:
+        with open(half, 'wb') as file:
+            yield file
+        os.replace(half, path)
+    except OSError as error:
+        raise Trouble(f'{path}: {error.strerror}') from None
+    finally:
+        with contextlib.suppress(OSError):
+            os.unlink(half)
+
+
+class Ended:
+    """How a command ended: its exit code and what it wrote to standard error."""
+
+    def __init__(self, code: int, notes: str):
+        self.code, self.notes = code, notes
+
+    @property
+    def how(self) -> str:
+        """`stop C`, `trap K` or `cut`, of a command that runs a program."""
+        found = re.findall(r'^(stop -?\d+|trap \w+|cut)$', self.notes, re.M)
+        return found[-1] if found else ''
+
+    def word(self, name: str) -> str:
+        """What stands after a word at the start of a line of the notes."""
+        found = re.search(rf'^{name}\b ?(.*)$', self.notes, re.M)
+        return found[1] if found else ''
+
+
+def start(command: list[str], **more) -> subprocess.Popen:
+    """Starts a command, with its standard error in a pipe."""
+    try:
+        return subprocess.Popen(command, stdin=subprocess.DEVNULL, stderr=subprocess.PIPE, **more)
+    except OSError as error:
+        raise Trouble(f'{command[0]}: {error.strerror}', 'set HIPPO_PROGRAM to a hippo that is built') from None
+
+
+def finish(process: subprocess.Popen) -> Ended:
+    """Waits for a command whose output goes to a file or was read; standard error is short."""
+    try:
+        _, notes = process.communicate()
+    except BaseException:
+        stop(process)
+        raise
+    return Ended(process.returncode, notes.decode('utf-8', 'replace'))
+
+
+def stop(process: subprocess.Popen) -> None:
+    """Ends a command that is not needed any more."""
+    with contextlib.suppress(OSError):
+        process.kill()
+    process.wait()
+    for pipe in (process.stdout, process.stderr):
+        if pipe:
+            pipe.close()
+
+
+def hippo(words: list[str], path: str, accepted: tuple[int, ...] = (0,), watch=None) -> Ended:
+    """Runs hippo with its standard output in a file; another exit code than the accepted ones is a trouble.
+
+    `watch(file)` is called while it runs, with the file that grows."""
+    with whole_file(path) as file:
+        process = start([hippo_program(), *words], stdout=file)
+        if watch:
+            watch(process, file.name)
+        ended = finish(process)
+        accept(words, ended, accepted)
+    return ended
+
+
+def accept(words: list[str], ended: Ended, accepted: tuple[int, ...] = (0,)) -> Ended:
+    """Refuses an exit code that is not accepted, with hippo's own message."""
+    if ended.code in accepted:
+        return ended
+    if ended.code < 0:
+        raise Trouble(f'hippo was ended by signal {-ended.code}', '', words[0])
+    # A launcher may say first which build answers.
+    said = re.findall(r'^hippo: .*$', ended.notes, re.M) or [f'hippo {words[0]} answered {ended.code}']
+    message = said[-1]
+    raise Trouble(message, hint_for(message), words[0])
+
+
+def lines_of(words: list[str], accepted: tuple[int, ...] = (0,)) -> Iterator[str]:
+    """The lines that hippo writes, one by one; the exit code is looked at after the last."""
+    process = start([hippo_program(), *words], stdout=subprocess.PIPE)
+    try:
+        for line in process.stdout:
+            yield line.decode('ascii', 'replace').rstrip('\n')
+        accept(words, finish(process), accepted)
+    finally:
+        stop(process)
+
+
+def lower(request, path: str) -> str:
+    """Lowers the files of a request into one text with places; what tools/lower notes."""
+    clang = ['--', *request.clang] if request.clang else []
+    command = [sys.executable, os.path.join(TOOLS, 'lower'), '--lines', *request.lower, *request.files, *request.arguments, *clang]
+    with whole_file(path) as file:
+        ended = finish(start(command, stdout=file))
+        if ended.code:
+            raise Trouble(f'not lowered:\n{ended.notes.rstrip()}', hint_for(ended.notes), 'lowering')
+    return ended.notes

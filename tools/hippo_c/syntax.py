@@ -1,0 +1,183 @@
+"""Statements of C by clang's syntax tree: where a place stands, what is stored there, where a line can be added."""
+import re
+from dataclasses import dataclass, field
+from functools import cache
+
+BODIES = {'IfStmt': (1, 2), 'WhileStmt': (1,), 'DoStmt': (0,), 'ForStmt': (4,), 'SwitchStmt': ()}
+LABELS = ('CaseStmt', 'DefaultStmt', 'LabelStmt', 'AttributedStmt')
+CONDITIONS = ('ConditionalOperator', 'BinaryConditionalOperator', 'StmtExpr')
+COMMENT_OR_TEXT = re.compile(rb'\s+|//[^\n]*|/\*.*?\*/|"(?:[^"\\]|\\.)*"|\'(?:[^\'\\]|\\.)*\'|.', re.S)
+# Which arguments of a C library's function are the place and the number of the bytes that it stores.
+RANGES = {'memcpy': ('{0}', '{2}'), 'memmove': ('{0}', '{2}'), 'memset': ('{0}', '{2}'), 'bzero': ('{0}', '{1}'),
+          'strncpy': ('{0}', '{2}'), 'strcpy': ('{0}', 'strlen({0}) + 1'), 'strcat': ('{0}', 'strlen({0}) + 1'),
+          'sprintf': ('{0}', 'strlen({0}) + 1'), 'snprintf': ('{0}', 'strlen({0}) + 1')}
+
+
+@dataclass
+class Node:
+    """A node of the tree, with the bytes of its file that it takes; `macro` says that one end is in an expansion."""
+    kind: str
+    begin: int
+    end: int
+    macro: bool
+    opcode: str = ''
+    name: str = ''
+    inner: list['Node'] = field(default_factory=list)
+
+    def walk(self):
+        yield self
+        for child in self.inner:
+            yield from child.walk()
+
+    @property
+    def stores(self) -> bool:
+        return (self.kind == 'BinaryOperator' and self.opcode == '=' or self.kind == 'CompoundAssignOperator'
+                or self.kind == 'UnaryOperator' and self.opcode in ('++', '--'))
+
+
+@dataclass
+class Statement:
+    """A statement that a place stands in; `role` is 'list' in braces, 'body' alone under an `if` or a loop, or 'other'."""
+    node: Node
+    begin: int
+    end: int
+    role: str
+
+
+class Tree:
+    """A function as clang parsed it, and the bytes of its file."""
+
+    def __init__(self, file: str, source: bytes, function: Node):
+        self.file, self.source, self.function = file, source, function
+
+    def offset(self, line: int, column: int) -> int:
+        starts = line_starts(self.source)
+        return starts[line - 1] + max(column, 1) - 1 if 0 < line <= len(starts) else -1
+
+    def statement(self, place: int) -> Statement | None:
+        """The innermost statement around a place."""
+        found, node = None, next((node for node in self.function.inner if node.kind == 'CompoundStmt'), None)
+        while node is not None and not node.macro:
+            number, inner = next(((number, child) for number, child in enumerate(node.inner)
+                                  if child.begin <= place < self.reach(child)), (0, None))
+            role = inner and role_of(node, number)
+            if role and not (found and found.role == 'other'):
+                found = Statement(inner, inner.begin, inner.end if role == 'other' else self.stop(inner), role)
+            node = inner
+        return found
+
+    def reach(self, node: Node) -> int:
+        """Where a node ends, and a statement out of a macro after its semicolon."""
+        return self.semicolon(node.begin) if node.macro else node.end
+
+    def stop(self, node: Node) -> int:
+        """Where a statement ends: after its semicolon, where it has one."""
+        if node.kind.endswith('Stmt') and node.kind not in ('DeclStmt', 'ReturnStmt', 'DoStmt') and not node.macro:
+            return node.end
+        return self.semicolon(node.begin if node.macro else node.end - 1)
+
+    def semicolon(self, place: int) -> int:
+        """After the first semicolon from a place on that is in no parentheses."""
+        depth = 0
+        for token in COMMENT_OR_TEXT.finditer(self.source, place):
+            depth += (token[0] in (b'(', b'[', b'{')) - (token[0] in (b')', b']', b'}'))
+            if token[0] == b';' and depth <= 0:
+                return token.end()
+        return len(self.source)
+
+    def text(self, begin: int, end: int) -> str:
+        return self.source[begin:end].decode('utf-8', 'surrogateescape')
+
+    def indent(self, place: int) -> str:
+        """The blanks before the first word of the line."""
+        start = self.source.rfind(b'\n', 0, place) + 1
+        return re.match(rb'[ \t]*', self.source[start:place])[0].decode()
+
+    def stored(self, statement: Statement, place: int) -> str | None:
+        """The expression that the statement stores to at a place, where it stands there and can be said again."""
+        if any(node.kind in CONDITIONS or node.opcode in ('&&', '||') for node in statement.node.walk()):
+            return None
+        stores = [node for node in statement.node.walk() if node.stores]
+        exact = [node for node in stores if self.operator(node) == place]
+        target = (exact or (stores if len(stores) == 1 else [None]))[0]
+        if target is None:
+            return None
+        left = target.inner[0]
+        others = [node for node in stores if node is not target]
+        if any(node.stores or node.kind == 'CallExpr' for node in left.walk()) or changes(others, left):
+            return None
+        end = self.operator(target) if left.macro and exact else left.end
+        if left.macro and not (exact and statement.node is target):
+            return None
+        return self.text(left.begin, end).strip()
+
+    def operator(self, node: Node) -> int:
+        """Where the operator of an assignment stands."""
+        left = node.inner[0]
+        if node.kind == 'UnaryOperator':
+            return node.begin if node.begin < left.begin else self.after(left.end)
+        if not left.macro:
+            return self.after(left.end)
+        found = self.source.find(node.opcode.encode(), left.begin, node.inner[1].begin)
+        return found
+
+    def after(self, place: int) -> int:
+        """The first place from here on that is in no comment and no blank."""
+        for token in COMMENT_OR_TEXT.finditer(self.source, place):
+            if not token[0].isspace() and not token[0].startswith((b'//', b'/*')):
+                return token.start()
+        return place
+
+    def range(self, statement: Statement, place: int) -> tuple[str, str] | None:
+        """The address and the size of what a call of the C library or a copy of a struct stores at a place."""
+        calls = [node for node in statement.node.walk() if node.kind == 'CallExpr' and node.begin == place]
+        if not calls:
+            left = self.stored(statement, place)
+            return (address_of(left), f'sizeof({left})') if left else None
+        names = [node.name for node in calls[0].inner[0].walk() if node.name]
+        form = RANGES.get(re.sub(r'^__builtin_(?:___)?|_chk$', '', names[0])) if names else None
+        arguments = calls[0].inner[1:]
+        if not form or any(node.macro or has_effect(node) for node in arguments):
+            return None
+        texts = [self.text(node.begin, node.end) for node in arguments]
+        return form[0].format(*texts), form[1].format(*texts)
+
+    def call_of(self, place: int) -> Node | None:
+        """The call that begins at a place."""
+        return next((node for node in self.function.walk() if node.kind == 'CallExpr' and node.begin == place), None)
+
+
+def role_of(parent: Node, number: int) -> str:
+    """What a child of a node is as a statement; nothing where it is none."""
+    if parent.kind == 'CompoundStmt':
+        return 'list'
+    if parent.kind in LABELS:
+        return 'list' if number == len(parent.inner) - 1 else ''
+    if parent.kind in BODIES:
+        if number in BODIES[parent.kind] or parent.kind == 'SwitchStmt' and number == len(parent.inner) - 1:
+            return 'body'
+        return 'other'
+    return 'other' if parent.kind == 'ReturnStmt' else ''
+
+
+def has_effect(node: Node) -> bool:
+    return any(part.stores or part.kind == 'CallExpr' for part in node.walk())
+
+
+def changes(stores: list[Node], left: Node) -> bool:
+    """Whether other stores of a statement change a variable that an expression names."""
+    named = {node.name for node in left.walk() if node.kind == 'DeclRefExpr'}
+    return any(store.inner[0].kind == 'DeclRefExpr' and store.inner[0].name in named for store in stores)
+
+
+def address_of(expression: str) -> str:
+    """The address of what an expression names."""
+    return expression[1:].strip() if expression.startswith('*') else f'&{expression}'
+
+
+@cache
+def line_starts(source: bytes) -> list[int]:
+    starts = [0]
+    for found in re.finditer(rb'\n', source):
+        starts.append(found.end())
+    return starts

@@ -1,0 +1,82 @@
+"""Where a run traps: the instruction and the calls above it, as a marked copy of the program shows them."""
+from dataclasses import dataclass
+
+from .marking import marked_run, marked_text
+from .program import Instruction, Program, Site
+
+ACCESSES = ('load ', 'store ')
+FLUSHES = {'llvm.x86.clwb', 'llvm.x86.clflushopt', 'llvm.x86.sse2.clflush', 'pmem_flush', 'pmem_persist', 'pm_assert'}
+WORDS = {
+    'divzero': {'udiv', 'sdiv', 'urem', 'srem'}, 'divoverflow': {'sdiv', 'srem'}, 'shift': {'shl', 'lshr', 'ashr'},
+    'stack': {'alloca'}, 'unreachable': {'unreachable'},
+}
+MEANING = {
+    'divzero': 'a division by zero', 'divoverflow': 'a quotient that does not fit',
+    'shift': 'a shift by the width of the number or more', 'address': 'an access to an address that is in no object',
+    'misaligned': 'an access at less than its alignment', 'stack': 'the stack has more than 16 MiB',
+    'depth': 'calls are nested more than 16,384 deep', 'input': 'no number of the input is left',
+    'unreachable': '__builtin_trap, abort or a failed assert was reached',
+}
+
+
+@dataclass
+class Trap:
+    """The kind of a trap and the path of sites to it: the instruction, then the calls outwards."""
+    kind: str
+    path: tuple[Site, ...]
+
+
+def may_trap(instruction: Instruction, kind: str, program: Program) -> bool:
+    """Whether an instruction is of those that can end with a trap of this kind."""
+    text = instruction.text
+    if kind in ('address', 'misaligned'):
+        word = text.partition(' = ')[2] or text
+        return word.startswith(ACCESSES) or instruction.callee in FLUSHES
+    if kind == 'depth':
+        return instruction.callee in program.functions
+    if kind == 'input':
+        return instruction.callee == 'read_i64'
+    word = (text.partition(' = ')[2] or text).split(' ', 1)[0]
+    return word in WORDS.get(kind, ())
+
+
+def find_trap(program: Program, numbers: list[int], kind: str) -> Trap | None:
+    """The path to the trap that ends the run on these numbers, or nothing where the copies end in another way."""
+    calls = standing_calls(program, numbers, kind)
+    if calls is None:
+        return None
+    if kind == 'depth':
+        return Trap(kind, tuple(reversed(calls)))
+    top = program.instruction(calls[-1]).callee if calls else 'main'
+    site = last_candidate(program, numbers, kind, top)
+    return site and Trap(kind, (site, *reversed(calls)))
+
+
+def standing_calls(program: Program, numbers: list[int], kind: str) -> list[Site] | None:
+    """The calls that have not returned when the run ends."""
+    sites = [site for site, instruction in program.sites() if instruction.callee in program.functions]
+    by_site = {site: ([str(number)], ['-1']) for number, site in enumerate(sites)}
+    text = marked_text(program, lambda site, _: by_site.get(site, ([], [])))
+    standing: list[int] = []
+    with marked_run(text, numbers) as run:
+        push, pop = standing.append, standing.pop
+        for mark in run.marks():
+            if mark >= 0:
+                push(mark)
+            else:
+                pop()
+        ended = run.ended()
+    return [sites[number] for number in standing] if ended.word('trap') == kind else None
+
+
+def last_candidate(program: Program, numbers: list[int], kind: str, function: str) -> Site | None:
+    """The last instruction of a function, of those that can trap so, that the run comes to."""
+    sites = [site for site, instruction in program.sites() if site[0] == function and may_trap(instruction, kind, program)]
+    by_site = {site: ([str(number)], []) for number, site in enumerate(sites)}
+    text = marked_text(program, lambda site, _: by_site.get(site, ([], [])))
+    last = b''
+    with marked_run(text, numbers) as run:
+        for chunk in run.chunks():
+            last = next((mark for mark in reversed(chunk) if mark), last)
+        ended = run.ended()
+    return sites[int(last)] if last and ended.word('trap') == kind else None

@@ -1,0 +1,14 @@
+"""What keeps a command from being carried out."""
+
+
+class Trouble(Exception):
+    """A step failed: its message, what the user can do about it, and the step where a program of ours answered."""
+
+    def __init__(self, message: str, hint: str = '', step: str = ''):
+        super().__init__(message)
+        self.hint, self.step = hint, step
+
+    def lines(self, files: list[str]) -> list[str]:
+        """The lines for standard error."""
+        where = f'{self.step} of {" ".join(files)}: ' if self.step else ''
+        return [f'hippo-c: error: {where}{self}'] + ([f'hippo-c: hint: {self.hint}'] if self.hint else [])

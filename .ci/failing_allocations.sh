@@ -1,14 +1,14 @@
 #!/usr/bin/env bash
-# Want of memory, by hand: each command is run over the examples with its Nth allocation failing, for one N after the
-# other. It either answers as with ample memory, or with exit code 7, its line, and nothing on standard output but, for
-# the commands that write as they run, a front of the ample text. Where the words themselves find no memory, there is
-# the exit code alone. One line a command says how often.
-# usage: .ci/memory [--try] [FIRST [LAST [STEP]]]
+# Out-of-memory paths, run manually: each command runs over the examples with its n-th allocation failing, for one n after
+# another. It answers either as with ample memory, or with exit code 7, its line, and nothing on standard output except, for
+# the commands that write while they run, a front of the ample text. If the words themselves find no memory, there is only
+# the exit code. One line for each command gives the counts.
+# usage: .ci/failing_allocations.sh [--try] [FIRST [LAST [STEP]]]
 # It runs the built program over a malloc that fails (a C compiler is needed); where no FIRST is given, for the first
 # 100 allocations and for 200 of the others. With --try it runs the unproved program by `rt try --fail-alloc N`, which
 # takes more than a minute for each N; where no FIRST is given, for the 40th alone.
 top=$(cd "$(dirname "${BASH_SOURCE[0]}")/.." && pwd) || exit 2
-program=$top/crates/hippo/out/hippo
+program=${HIPPO_PROGRAM:-$top/out/hippo}
 by=preload
 if [ "${1-}" = --try ]; then
   by=try
@@ -104,7 +104,7 @@ lacks() {
 
 # starves WORD..: a command's line
 starves() {
-  local n code ample all= tried=0 short=0
+  local n code ample all='' tried=0 short=0
   "run_$by" 1000000000 "$@"
   ample=$?
   mv out ample

@@ -1,13 +1,23 @@
 #!/usr/bin/env bash
 # The program over real files. Each console block of the README and of the pages of examples is run, in a copy of the
 # page's folder: what comes on standard output and standard error is the block's text, and a file that is written is the
-# one that stands there. Then come bad input and the exit codes that no page shows.
+# one that stands there. Then come bad input and the exit codes that no page shows, and the answers of a fresh clone.
+# With --quick: what an unproved build can do too, which needs more memory and time.
+case $* in
+  '') is_whole=true size=50000 ;;
+  --quick) is_whole=false size=200 ;;
+  *)
+    echo 'usage: .ci/pages_and_exit_codes.sh [--quick]' >&2
+    exit 2
+    ;;
+esac
 top=$(cd "$(dirname "${BASH_SOURCE[0]}")/.." && pwd) || exit 2
 cd "$top" || exit 2
 scratch=$(mktemp -d) || exit 2
 trap 'rm -rf "$scratch"' EXIT
 passed=0
 failed=0
+PATH=$top/tools:$PATH
 hippo() { "$top/hippo" "$@"; }
 export top
 export -f hippo
@@ -49,19 +59,30 @@ keeps() {
 # page FILE FOLDER: the console blocks of a page, over a copy of the folder
 page() {
   local block
-  rm -rf "$scratch/folder" "$scratch"/block.*
-  cp -r "$2" "$scratch/folder"
+  rm -rf "$scratch/room" "$scratch"/block.*
+  mkdir "$scratch/room"
+  ln -sfn "$top/tools" "$scratch/room/tools"
+  ln -sfn "$top/tools" "$scratch/tools"
+  cp -r "$2" "$scratch/room/folder"
   awk -v name="$scratch/block." '/^```console$/ { n++; on = 1; next } /^```$/ { on = 0 } on { print > (name n) }' "$1"
   for block in "$scratch"/block.*; do
-    if [ -e "$block" ]; then count "$1: block ${block##*.}" runs "$block" "$scratch/folder"; fi
+    if [ -e "$block" ] && grep -q '^\$ hippo-c ' "$block" && ! command -v clang-19 >/dev/null; then
+      echo "case: $1: block ${block##*.} skipped, clang-19 is not installed"
+    elif [ -e "$block" ]; then count "$1: block ${block##*.}" runs "$block" "$scratch/room/folder"; fi
   done
-  count "$2: its files" keeps "$2" "$scratch/folder"
+  count "$2: its files" keeps "$2" "$scratch/room/folder"
 }
 
 page README.md examples
 for folder in examples/*/; do
   if [ -e "${folder}README.md" ]; then page "${folder}README.md" "${folder%/}"; fi
 done
+
+# helps LINE: the example of a line of the help runs in examples/, and ends with 0
+helps() { (cd examples && eval "hippo ${1##* hippo }") >/dev/null 2>"$scratch/notes"; }
+"$top/hippo" --help | grep '  hippo ' >"$scratch/help"
+count 'a line of the help for each command' [ "$(wc -l <"$scratch/help")" -eq 9 ]
+while IFS= read -r line; do count "help: ${line##* hippo }" helps "$line" </dev/null; done <"$scratch/help"
 
 # answers CODE LINE WORD..: nothing on standard output, and the first line on standard error
 answers() {
@@ -189,13 +210,67 @@ starves() {
   (ulimit -v 40000 && hippo "$@") >"$scratch/out" 2>"$scratch/notes"
   [ $? -eq 7 ] && [ ! -s "$scratch/out" ] && [ "$(cat "$scratch/notes")" = 'hippo: out of memory' ]
 }
-count 'demo in little memory' starves demo 1 50000
+if $is_whole; then count 'demo in little memory' starves demo 1 "$size"; fi
 
 # repeats WORD..: a command writes the same twice
 repeats() {
   hippo "$@" >"$scratch/first" && hippo "$@" >"$scratch/second" && cmp "$scratch/first" "$scratch/second"
 }
-count 'a large demo' repeats demo 1 50000
+count 'a large demo' repeats demo 1 "$size"
 count 'a large demo leaves no report' [ "$(tail -n 1 "$scratch/first")" = 'after 0' ]
+
+# fresh_clone FOLDER: what a clone has, and nothing that was built
+fresh_clone() { mkdir "$1" && tar -c --exclude=./.git --exclude=out . | tar -x -C "$1"; }
+
+# unproved WORD..: the answer of the fresh clone, without the one line in which the launcher says what it is
+unproved() {
+  local status
+  "$scratch/clone/hippo" "$@" 2>"$scratch/told"
+  status=$?
+  if ! sed -n 1p "$scratch/told" | grep -q '^hippo: the program is not proved here yet; .*unproved build.* \./hippo --build '; then
+    echo "no line of the launcher: $(head -n 1 "$scratch/told")"
+  fi >&2
+  sed 1d "$scratch/told" >&2
+  return "$status"
+}
+
+# agrees WORD..: the fresh clone answers as the program does
+agrees() {
+  local status other
+  hippo "$@" >"$scratch/out" 2>"$scratch/notes" </dev/null
+  status=$?
+  unproved "$@" >"$scratch/other.out" 2>"$scratch/other.notes" </dev/null
+  other=$?
+  [ $status -eq $other ] && cmp "$scratch/out" "$scratch/other.out" && cmp "$scratch/notes" "$scratch/other.notes"
+}
+
+# agrees_in_folder: from the folder of the files, by relative paths, and the same file twice
+agrees_in_folder() {
+  cd "${program%/*}" && agrees repair one_store.ll ../one_store/one_store.trace && agrees repair one_store.ll one_store.ll
+}
+
+# agrees_on_pipes: files that are read from pipes
+agrees_on_pipes() {
+  repaired() { "$1" repair <(cat "$program") <(cat "$trace"); }
+  repaired hippo >"$scratch/out" 2>/dev/null && repaired unproved >"$scratch/other.out" 2>/dev/null &&
+    cmp "$scratch/out" "$scratch/other.out"
+}
+
+if $is_whole; then
+  unset HIPPO_PROGRAM
+  fresh_clone "$scratch/clone" || exit 2
+  for words in "run $program" "record $program" "check $program $trace" "repair $program $trace" "rerun $program $trace" \
+    "thin $program $trace" "many $program $trace $trace" "crash $program $trace 3" "demo 1 8" "" "repair $program" \
+    "repair $scratch/none.ll $trace" "repair $PWD/$program $scratch/other.trace" "run $scratch/loop.ll --limit 1000"; do
+    # shellcheck disable=SC2086 # the words of a command
+    count "not proved: hippo $words" agrees $words
+  done
+  count 'not proved: relative paths' eval '(agrees_in_folder)'
+  count 'not proved: pipes' agrees_on_pipes
+  hippo() { unproved "$@"; }
+  export scratch
+  export -f hippo unproved
+  page examples/one_store/README.md examples/one_store
+fi
 echo "$passed cases passed, $failed failed"
 [ "$failed" -eq 0 ]

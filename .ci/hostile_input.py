@@ -6,7 +6,7 @@ an answer."""
 import concurrent.futures, os, re, subprocess, sys, tempfile, threading
 
 TOP = os.path.dirname(os.path.dirname(os.path.realpath(__file__)))
-HIPPO = f"{TOP}/crates/hippo/out/hippo"
+HIPPO = os.environ.get("HIPPO_PROGRAM", f"{TOP}/out/hippo")
 TELLING = b"\0\n \";%@,({]-09z\xff"
 SOUNDNESS = "shape|duplicate|unknown|mismatch|no main|unassigned|bad extern|bad global|bad edge|too large"
 TEXT_LINE = re.compile(r"hippo: program line (\d+): (syntax|unsupported|range|depth)\n")

@@ -1,0 +1,98 @@
+"""A program that is kept with a stamp of the contents that it was made from."""
+
+from __future__ import annotations
+
+import contextlib
+import hashlib
+import os
+import shutil
+import tempfile
+import time
+from pathlib import Path
+from typing import Callable, Iterable
+
+# Where the proved program is, below the top.
+PROVED = "out/hippo"
+FIELDS = ("sources", "program", "commit", "toolchain", "time")
+# Above the step of the clock by which a file system dates a change.
+CLOCK_STEP = 0.02
+
+
+def digest_of(file: Path) -> str:
+    """The digest of a file's contents."""
+    total = hashlib.sha256()
+    with file.open("rb") as opened:
+        for piece in iter(lambda: opened.read(1 << 20), b""):
+            total.update(piece)
+    return total.hexdigest()
+
+
+class Kept:
+    """An executable and its stamp, a file beside it with a line `FIELD VALUE` for each field."""
+
+    def __init__(self, program: Path) -> None:
+        self.program = program
+        self.stamp = program.with_name(program.name + ".stamp")
+
+    def read_stamp(self) -> dict[str, str]:
+        """The fields of the stamp; nothing where there is none or a field is missing."""
+        try:
+            lines = self.stamp.read_text(encoding="utf-8").splitlines()
+        except (OSError, UnicodeDecodeError):
+            return {}
+        fields = dict(line.partition(" ")[::2] for line in lines)
+        return fields if set(FIELDS) <= set(fields) else {}
+
+    def is_made_from(self, sources: str) -> bool:
+        """Whether the program is whole, and its stamp names these sources."""
+        fields = self.read_stamp()
+        try:
+            return (fields.get("sources") == sources and os.access(self.program, os.X_OK)
+                    and digest_of(self.program) == fields["program"])
+        except OSError:
+            return False
+
+    def keep(self, made: Path, sources: str, commit: str, toolchain: str) -> None:
+        """Puts a made program in this place. Whenever it is interrupted, a stamp stands only beside the program that it names."""
+        self.program.parent.mkdir(parents=True, exist_ok=True)
+        with tempfile.TemporaryDirectory(dir=self.program.parent, prefix=".new-") as room:
+            program, stamp = Path(room, "program"), Path(room, "stamp")
+            shutil.copyfile(made, program)
+            program.chmod(0o755)
+            now = time.strftime("%Y-%m-%d %H:%M UTC", time.gmtime())
+            values = (sources, digest_of(program), commit, toolchain, now)
+            stamp.write_text("".join(f"{name} {value}\n" for name, value in zip(FIELDS, values)), encoding="utf-8")
+            for file in (program, stamp):
+                with file.open("rb") as opened:
+                    os.fsync(opened.fileno())
+            self.stamp.unlink(missing_ok=True)
+            os.replace(program, self.program)
+            os.replace(stamp, self.stamp)
+
+
+class Mark:
+    """By which the launcher's shell script knows, without reading them, that the sources are what the proved program was made from.
+
+    The script trusts the mark until the state of a path that `watched` lists has changed since the mark was made. The mark is listed too,
+    since its own state changes where it is unpacked or copied to another place. Without a mark each call reads the sources."""
+
+    def __init__(self, program: Path) -> None:
+        self.mark = program.with_name(program.name + ".unchanged")
+        self.watched = program.with_name(program.name + ".watched")
+
+    def make(self, paths: Iterable[Path], is_unchanged: Callable[[], bool]) -> None:
+        """Makes the mark where the sources are unchanged once it is made, so that no change escapes it."""
+        with contextlib.suppress(OSError):
+            self.remove()
+            new = self.watched.with_name(self.watched.name + ".new")
+            new.write_bytes(b"".join(os.fsencode(path) + b"\0" for path in paths))
+            os.replace(new, self.watched)
+            self.mark.touch()
+            time.sleep(CLOCK_STEP)
+            if not is_unchanged():
+                self.remove()
+
+    def remove(self) -> None:
+        """Removes the mark."""
+        if self.mark.exists():
+            self.mark.unlink()

@@ -1,0 +1,121 @@
+"""How far a build is: what is proved, how long the rest takes, and what each crate costs."""
+
+from __future__ import annotations
+
+import contextlib
+import os
+import statistics
+from pathlib import Path
+
+import crate_schedule
+from sources import Failed, Sources
+
+WEIGHTS = "tools/crate_weights.txt"
+# Seconds for a crate where nothing is known of any.
+USUAL = 60.0
+
+
+def weights_of(sources: Sources) -> dict[str, float]:
+    """The seconds of each crate below the program; what has no weight is given the middle one."""
+    try:
+        known = crate_schedule.read_weights((sources.top / WEIGHTS).read_text(encoding="utf-8"))
+    except (OSError, crate_schedule.Refused) as fault:
+        raise Failed(f"{WEIGHTS}: {fault}") from None
+    middle = statistics.median(known.values()) if known else USUAL
+    return {name: known.get(name, middle) for name in sources.crates}
+
+
+def spoken(seconds: float) -> str:
+    """A time as a person says it."""
+    minutes, rest = divmod(int(seconds), 60)
+    return f"{minutes} min {rest:02d} s" if minutes else f"{rest} s"
+
+
+def minutes(seconds: float) -> str:
+    """A time that is expected, in whole minutes."""
+    count = max(1, round(seconds / 60))
+    return f"{count} minute{'s' * (count > 1)}"
+
+
+class Plan:
+    """When each crate is expected to be proved, corrected by when those before it were."""
+
+    def __init__(self, sources: Sources, processors: int) -> None:
+        self.sources, self.processors = sources, processors
+        self.weights = weights_of(sources)
+        self.schedule(frozenset())
+
+    def schedule(self, kept: frozenset[str]) -> None:
+        """Lays out the proofs, of which these take no time since an earlier run kept them."""
+        self.kept = kept
+        weights = {name: 0.0 if name in kept else self.weights[name] for name in self.sources.crates}
+        graph = crate_schedule.graph_of(self.sources.libraries, weights, self.sources.crates[-1])
+        pieces = crate_schedule.schedule(graph, self.processors)
+        self.expected = {piece.name: piece.end for piece in pieces}
+        self.whole = crate_schedule.makespan(pieces)
+
+    def remaining(self, now: float, ended: dict[str, float], kept: frozenset[str]) -> float:
+        """The seconds that are left, where these crates ended at these times, and these were kept by an earlier run."""
+        if kept != self.kept:
+            self.schedule(kept)
+        left = [self.expected[name] for name in self.expected if name not in ended]
+        if not left:
+            return 0.0
+        told = [name for name in ended if name not in kept and self.expected[name]]
+        pace = sum(ended[name] for name in told) / sum(self.expected[name] for name in told) if told else 1.0
+        return max(pace * max(left) - now, 1.0)
+
+
+class Meter:
+    """The seconds of processor that each crate's proof takes, as its processes are seen while they run."""
+
+    def __init__(self, ancestor: int) -> None:
+        self.ancestor = ancestor
+        self.seen: dict[tuple[int, str], float] = {}
+
+    def look(self) -> None:
+        """Reads what each process below the ancestor has used so far."""
+        parents, used = {}, {}
+        for process in Path("/proc").iterdir():
+            with contextlib.suppress(OSError, ValueError):
+                fields = (process / "stat").read_text(encoding="utf-8", errors="replace").rpartition(")")[2].split()
+                number = int(process.name)
+                parents[number], used[number] = int(fields[1]), sum(map(int, fields[11:15]))
+        for number in used:
+            if self.is_below(number, parents):
+                name = crate_of(number)
+                if name:
+                    self.seen[number, name] = used[number] / os.sysconf("SC_CLK_TCK")
+
+    def is_below(self, number: int, parents: dict[int, int]) -> bool:
+        """Whether the process was started by the ancestor, or by one that it started."""
+        while number in parents and number != self.ancestor:
+            number = parents[number]
+        return number == self.ancestor
+
+    def seconds(self) -> dict[str, float]:
+        """The seconds of each crate that was seen."""
+        total: dict[str, float] = {}
+        for (_, name), used in self.seen.items():
+            total[name] = total.get(name, 0.0) + used
+        return total
+
+
+def crate_of(number: int) -> str | None:
+    """The crate that a process proves, if it proves one; a pass over the sources that proves nothing does not count."""
+    try:
+        words = Path(f"/proc/{number}/cmdline").read_bytes().decode(errors="replace").split("\0")
+    except OSError:
+        return None
+    if "--crate-name" not in words or "--only" in words:
+        return None
+    return words[words.index("--crate-name") + 1]
+
+
+def write_weights(sources: Sources, measured: dict[str, float]) -> None:
+    """Writes the file of weights anew: what was measured, and what was known of a crate that was not proved in this run."""
+    file = sources.top / WEIGHTS
+    weights = {**weights_of(sources), **measured}
+    comments = [line for line in file.read_text(encoding="utf-8").splitlines() if line.startswith("#")]
+    lines = [f"{name} {weights[name]:.0f}" for name in sources.crates]
+    file.write_text("".join(f"{line}\n" for line in [*comments, *lines]), encoding="utf-8")

@@ -1,0 +1,233 @@
+"""How the launcher builds the proved program, when that answers, and the words that are the launcher's own."""
+
+from __future__ import annotations
+
+import os
+import re
+import shutil
+import signal
+import subprocess
+import sys
+import time
+import unittest
+
+from launcher_repository import RT, TOP, Repository, small_files
+
+
+class Proved(Repository):
+    """The proved program: how it is built, and when it answers."""
+
+    def build(self, *words: str) -> subprocess.CompletedProcess:
+        """Builds the program."""
+        ran = self.hippo("--build", *words)
+        self.assertEqual((ran.returncode, ran.stdout), (0, ""), ran.stderr)
+        return ran
+
+    def is_proved(self, **how) -> bool:
+        """Whether the proved program answers, and nothing is said beside it."""
+        ran = self.hippo("repair", "/dev/null", **how)
+        if ran.returncode == 3:
+            return False
+        self.assertEqual((ran.returncode, ran.stdout, ran.stderr), (7, "proved repair /dev/null\n", ""))
+        return True
+
+    def test_build_tells_how_far_it_is(self) -> None:
+        (self.kit / "waits").touch()
+        lines = self.lines(self.build("--jobs", "1"))
+        self.assertRegex(lines[0], "proving 2 crates, 1 side by side.* about 3 minutes")
+        self.assertRegex(lines[1], r"1 of 2 crates proved, \d s so far, about .* left")
+        self.assertRegex(lines[-2], "2 of 2 crates proved")
+        self.assertRegex(lines[-1], "proved and built in .*out/hippo")
+
+    def test_answers_alone_once_built(self) -> None:
+        self.build()
+        self.assertTrue(self.is_proved())
+        self.assertTrue((self.top / "out" / "hippo.unchanged").exists())
+        (self.kit / "rt").unlink()
+        self.assertTrue(self.is_proved(more={"PATH": "/usr/bin:/bin"}))
+
+    def test_build_of_a_built_program_does_nothing(self) -> None:
+        self.build()
+        self.assertRegex(self.lines(self.build())[0], "is proved and built")
+        self.assertEqual(self.calls("all"), 1)
+
+    def test_does_not_answer_for_other_sources(self) -> None:
+        self.build()
+        for file in ("crates/hip_low/src/lib", "crates/hippo/specs/lib", "crates.txt", "HANDLES"):
+            was = (self.top / file).read_bytes()
+            self.assertTrue(self.is_proved())
+            if file == "crates.txt":
+                (self.top / file).write_text("hip_low:\nhippo: hip_low # the tool\n")
+            else:
+                self.change(file)
+            ran = self.hippo("repair", "/dev/null")
+            self.assertEqual(ran.returncode, 3, file)
+            self.assertRegex(self.lines(ran)[0], "a source changed")
+            (self.top / file).write_bytes(was)
+            self.assertTrue(self.is_proved(), file)
+
+    def test_sees_new_and_lost_files(self) -> None:
+        self.build()
+        self.assertTrue(self.is_proved())
+        (self.top / "crates" / "hippo" / "proofs").mkdir()
+        self.assertTrue(self.is_proved())
+        (self.top / "crates" / "hippo" / "proofs" / "new").touch()
+        self.assertFalse(self.is_proved())
+        shutil.rmtree(self.top / "crates" / "hippo" / "proofs")
+        self.assertTrue(self.is_proved())
+        (self.top / "crates" / "hip_low" / "specs" / "lib").unlink()
+        self.assertFalse(self.is_proved())
+
+    def test_goes_by_contents_and_not_by_times(self) -> None:
+        self.build()
+        for path in self.top.rglob("*"):
+            os.utime(path)
+        self.assertTrue(self.is_proved())
+
+    def test_answers_in_a_fresh_clone_with_the_kept_program(self) -> None:
+        self.build()
+        self.assertTrue(self.is_proved())
+        clone = self.room / "fresh"
+        shutil.copytree(self.top, clone, symlinks=True)
+        self.assertTrue(self.is_proved(script=clone / "hippo"))
+        other = self.room / "other"
+        shutil.copytree(self.top, other, ignore=shutil.ignore_patterns("out"))
+        with (other / "crates" / "hippo" / "src" / "lib").open("a") as opened:
+            opened.write("more\n")
+        # The kept program is of later than the change, as where a cache is unpacked over an older clone.
+        (self.top / "HANDLES").touch()
+        self.assertTrue(self.is_proved())
+        shutil.copytree(self.top / "out", other / "out")
+        self.assertFalse(self.is_proved(script=other / "hippo"))
+
+    def test_runs_no_damaged_program(self) -> None:
+        self.build()
+        self.assertTrue(self.is_proved())
+        with (self.top / "out" / "hippo").open("a") as opened:
+            opened.write("echo more\n")
+        ran = self.hippo("repair", "/dev/null")
+        self.assertEqual(ran.returncode, 3)
+        self.assertRegex(self.lines(ran)[0], "not the program that was proved")
+
+    def test_a_proof_that_fails_is_named(self) -> None:
+        (self.kit / "fails").touch()
+        self.fails(self.hippo("--build"), "not built: hip_low is not proved; .*build.log")
+        self.assertFalse((self.top / "out" / "hippo").exists())
+
+    def test_keeps_nothing_that_was_cut(self) -> None:
+        (self.kit / "rt").write_text(RT.replace("echo proved", "echo proved # %0200000d"))
+        self.fails(self.hippo("--build", preexec_fn=small_files), "hippo: ")
+        self.assertFalse((self.top / "out" / "hippo").exists())
+
+    def test_an_interrupt_ends_the_proofs(self) -> None:
+        (self.kit / "slow").touch()
+        command = [str(self.top / "hippo"), "--build"]
+        ran = subprocess.Popen(command, cwd=self.work, env=self.environment(), stderr=subprocess.PIPE, text=True)
+        self.assertIn("proving 2 crates", ran.stderr.readline())
+        self.wait_for(lambda: self.calls("all") == 1)
+        ran.send_signal(signal.SIGINT)
+        said = ran.communicate(timeout=30)[1]
+        self.assertEqual(ran.returncode, 130)
+        self.assertIn("interrupted; 0 of 2 crates are proved and kept", said)
+
+    def test_a_second_build_waits_for_the_first(self) -> None:
+        (self.kit / "waits").touch()
+        command = [str(self.top / "hippo"), "--build"]
+        first = subprocess.Popen(command, cwd=self.work, env=self.environment(), stderr=subprocess.DEVNULL)
+        self.wait_for(lambda: self.calls("all") == 1)
+        second = self.lines(self.build())
+        self.assertEqual(first.wait(timeout=60), 0)
+        self.assertRegex(second[0], rf"another --build \(process {first.pid}\).*waiting")
+        self.assertRegex(second[1], "is proved and built")
+        self.assertEqual(self.calls("all"), 1)
+
+    def test_build_says_that_it_waits_for_another_proof(self) -> None:
+        (self.kit / "locked").touch()
+        self.assertIn("hippo: waiting for another proof in /a/b", self.lines(self.build()))
+
+    def test_a_change_during_the_build_is_seen(self) -> None:
+        (self.kit / "rt").write_text(RT.replace("mkdir -p out", "mkdir -p out; echo more >>src/lib"))
+        self.fails(self.hippo("--build"), "a source changed meanwhile")
+        self.assertFalse((self.top / "out" / "hippo").exists())
+
+    def test_build_writes_the_weights_anew(self) -> None:
+        self.build("--write-weights")
+        self.assertEqual((self.top / "tools" / "crate_weights.txt").read_text(), "# Seconds.\nhip_low 60\nhippo 120\n")
+
+    def wait_for(self, holds) -> None:
+        """Waits until something holds."""
+        until = time.monotonic() + 60
+        while not holds():
+            self.assertLess(time.monotonic(), until)
+            time.sleep(0.05)
+
+
+class Gate(Repository):
+    """The program that the gate proved."""
+
+    def keep(self) -> subprocess.CompletedProcess:
+        """Does what the gate does at its end."""
+        command = [sys.executable, "-B", str(self.top / "tools" / "launcher" / "gate.py")]
+        return subprocess.run(command, env=self.environment(), capture_output=True, text=True, timeout=120)
+
+    def prove(self) -> None:
+        """Makes the program as `rt ci` does."""
+        subprocess.run([self.kit / "rt", "run"], cwd=self.top / "crates" / "hippo", check=True)
+
+    def test_is_kept(self) -> None:
+        self.prove()
+        self.assertEqual(self.keep().returncode, 0)
+        self.assertEqual(self.hippo("run").stdout, "proved run\n")
+
+    def test_is_not_kept_where_a_source_changed_later(self) -> None:
+        self.prove()
+        self.change("crates/hip_low/specs/lib")
+        ran = self.keep()
+        self.assertEqual(ran.returncode, 2)
+        self.assertRegex(ran.stderr, "specs/lib changed during the gate")
+        self.assertFalse((self.top / "out" / "hippo").exists())
+
+    def test_is_not_kept_where_there_is_none(self) -> None:
+        self.assertEqual(self.keep().returncode, 2)
+
+
+class Words(Repository):
+    """The words that the launcher answers itself, and the program that the caller names."""
+
+    def test_help_is_on_standard_output(self) -> None:
+        ran = self.hippo("--help")
+        self.assertEqual((ran.returncode, ran.stderr), (0, ""))
+        for command in ("run", "record", "check", "repair", "rerun", "many", "crash", "thin", "demo"):
+            self.assertRegex(ran.stdout, rf"(?m)^  {command} .* hippo {command} ")
+
+    def test_version_says_whether_the_program_is_proved(self) -> None:
+        version = (TOP / "VERSION").read_text().strip()
+        before = self.hippo("--version").stdout
+        self.assertEqual(before, f"hippo {version}\ncommit: unknown\ntoolchain: kit of tests\nproved: no, ./hippo --build proves it\n")
+        self.hippo("--build")
+        self.assertRegex(self.hippo("--version").stdout, r"(?m)^proved: yes, \d{4}-.* UTC, by kit of tests$")
+        self.change("crates/hippo/src/lib")
+        self.assertRegex(self.hippo("--version").stdout, "(?m)^proved: no, a source changed")
+
+    def test_other_words_of_build_are_refused(self) -> None:
+        for words in (["more"], ["--jobs", "0"], ["--jobs", "x"]):
+            ran = self.hippo("--build", *words)
+            self.assertEqual((ran.returncode, ran.stdout), (2, ""))
+        self.assertEqual(self.calls("all"), 0)
+
+    def test_runs_the_program_that_is_named(self) -> None:
+        ran = self.hippo("a b", more={"HIPPO_PROGRAM": "/bin/echo"})
+        self.assertEqual((ran.returncode, ran.stdout, ran.stderr), (0, "a b\n", ""))
+        (self.work / "echo").symlink_to("/bin/echo")
+        self.assertEqual(self.hippo("a", more={"HIPPO_PROGRAM": "echo"}).stdout, "a\n")
+        self.fails(self.hippo("x", more={"HIPPO_PROGRAM": str(self.work)}), re.escape(f"names no program: {self.work}"))
+
+    def test_runs_through_a_link_and_by_a_relative_path(self) -> None:
+        self.hippo("--build")
+        (self.room / "link").symlink_to(self.top / "hippo")
+        for script in (self.room / "link", "../clone/hippo"):
+            self.assertEqual(self.hippo("run", script=script).stdout, "proved run\n")
+
+
+if __name__ == "__main__":
+    unittest.main()

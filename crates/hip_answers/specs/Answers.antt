@@ -7,7 +7,7 @@ use Rattle.hip_io.specs.Cabinets.{CabinetState}
 use Rattle.hip_io.specs.Sinks.{SinkState, AppendsAll, AppendsPrefix}
 use Rattle.hip_io.specs.declared.sink.Put.{Put}
 use Rattle.hip_io.specs.declared.sink.Put.TheVariants as puts
-use Rattle.hip_loading.specs.Outside.{HasMet}
+use Rattle.hip_program_files.specs.Outside.{HasMet}
 
 -- A status, the text for out and the text for notes. Which answers there are, each command defines by a table.
 pub record Answer : Type 0 where

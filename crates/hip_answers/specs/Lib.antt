@@ -7,3 +7,6 @@ pub mod Same
 pub mod SameLaws
 pub mod Statuses
 pub mod Traces
+pub mod TraceFiles
+pub mod RunAnswers
+pub mod RunLaws

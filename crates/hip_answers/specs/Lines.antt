@@ -3,18 +3,18 @@ use Rattle.std.specs.Prelude.{ℕ, List, [], ◌++◌, codes}
 use Rattle.std.specs.Fmt.{decimal}
 use Rattle.hip_run_traces.specs.declared.misfit.MisfitKind.{MisfitKind}
 use Rattle.hip_run_traces.specs.declared.misfit.MisfitKind.TheVariants as kinds
-use Rattle.hip_parse.specs.declared.error.ParseRefusal.{ParseRefusal}
-use Rattle.hip_parse.specs.declared.error.ParseRefusal.TheVariants as parse
+use Rattle.hip_grammar.specs.declared.refusal.ParseRefusal.{ParseRefusal}
+use Rattle.hip_grammar.specs.declared.refusal.ParseRefusal.TheVariants as parse
 use Rattle.hip_picks.specs.declared.pick.PickRefusal.{PickRefusal}
 use Rattle.hip_picks.specs.declared.pick.PickRefusal.TheVariants as picks
-use Rattle.hip_typing.specs.declared.fault.TypeFault.{TypeFault}
-use Rattle.hip_typing.specs.declared.fault.TypeFault.TheVariants as fault
-use Rattle.hip_typing.specs.declared.fault.Place.{Place}
-use Rattle.hip_typing.specs.declared.fault.Place.TheVariants as place
+use Rattle.hip_sound.specs.declared.fault.TypeFault.{TypeFault}
+use Rattle.hip_sound.specs.declared.fault.TypeFault.TheVariants as fault
+use Rattle.hip_sound.specs.declared.fault.Place.{Place}
+use Rattle.hip_sound.specs.declared.fault.Place.TheVariants as place
 use Rattle.hip_answers.specs.declared.status.FileRole.{FileRole}
 use Rattle.hip_answers.specs.declared.status.FileRole.TheVariants as role
-use Rattle.hip_loading.specs.declared.refusal.ProgramRefusal.{ProgramRefusal}
-use Rattle.hip_loading.specs.declared.refusal.ProgramRefusal.TheVariants as refusal
+use Rattle.hip_program_files.specs.declared.refusal.ProgramRefusal.{ProgramRefusal}
+use Rattle.hip_program_files.specs.declared.refusal.ProgramRefusal.TheVariants as refusal
 use Rattle.hip_answers.specs.declared.status.Status.{Status}
 use Rattle.hip_answers.specs.declared.status.Status.TheVariants as status
 

@@ -4,9 +4,9 @@ use Rattle.hip_answers.specs.Answers.{Answer, refusal}
 use Rattle.hip_answers.specs.Statuses.{status_of_refusal}
 use Rattle.hip_answers.specs.declared.status.Status.TheVariants as statuses
 use Rattle.hip_io.specs.Cabinets.{CabinetState}
-use Rattle.hip_loading.specs.Loading.{HasNoProgram, is_missing}
-use Rattle.hip_loading.specs.Outside.{HasMet}
-use Rattle.hip_loading.specs.declared.refusal.LoadRefusal.{LoadRefusal}
+use Rattle.hip_program_files.specs.Loading.{HasNoProgram, is_missing}
+use Rattle.hip_program_files.specs.Outside.{HasMet}
+use Rattle.hip_program_files.specs.declared.refusal.LoadRefusal.{LoadRefusal}
 
 -- There is no program in the file, and the answer says why.
 pub record IsUnloaded (old new : CabinetState) (name : List ℕ) (answer : Answer) : Type 0 where

@@ -5,8 +5,8 @@ use Rattle.hip_answers.specs.declared.status.Status.{Status}
 use Rattle.hip_answers.specs.declared.status.Status.TheVariants as statuses
 use Rattle.hip_io.specs.Cabinets.{CabinetState}
 use Rattle.hip_io.specs.declared.cabinet.NamedFile.{NamedFile}
-use Rattle.hip_loading.specs.Laws.{without_path}
-use Rattle.hip_loading.specs.declared.refusal.ProgramRefusal.TheVariants as refusals
+use Rattle.hip_program_files.specs.Laws.{without_path}
+use Rattle.hip_program_files.specs.declared.refusal.ProgramRefusal.TheVariants as refusals
 
 -- the status without that path: one path or another may show the register
 abbrev pub pathless : Status → Status

@@ -5,12 +5,12 @@ use Rattle.hip_answers.specs.Answers.{Answer, refusal}
 use Rattle.hip_answers.specs.Lines.{fault_words, form_refusal, line_of}
 use Rattle.hip_answers.specs.Same.{IsSameAnswer, pathless}
 use Rattle.hip_answers.specs.Statuses.{status_of_refusal}
-use Rattle.hip_loading.specs.Laws.{without_path, without_paths}
-use Rattle.hip_loading.specs.declared.refusal.LoadRefusal.{LoadRefusal}
-use Rattle.hip_loading.specs.declared.refusal.LoadRefusal.TheVariants as loads
-use Rattle.hip_loading.specs.declared.refusal.ProgramRefusal.TheVariants as refusals
-use Rattle.hip_typing.specs.declared.fault.TypeFault.{TypeFault}
-use Rattle.hip_typing.specs.declared.fault.TypeFault.TheVariants as faults
+use Rattle.hip_program_files.specs.Laws.{without_path, without_paths}
+use Rattle.hip_program_files.specs.declared.refusal.LoadRefusal.{LoadRefusal}
+use Rattle.hip_program_files.specs.declared.refusal.LoadRefusal.TheVariants as loads
+use Rattle.hip_program_files.specs.declared.refusal.ProgramRefusal.TheVariants as refusals
+use Rattle.hip_sound.specs.declared.fault.TypeFault.{TypeFault}
+use Rattle.hip_sound.specs.declared.fault.TypeFault.TheVariants as faults
 
 pub same_answer : {a b : Answer} → a ≡ b → IsSameAnswer a b
 same_answer e = record {

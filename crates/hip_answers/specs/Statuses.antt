@@ -3,10 +3,10 @@ use Rattle.std.specs.Prelude.{ℕ}
 use Rattle.hip_answers.specs.declared.status.FileRole.TheVariants as roles
 use Rattle.hip_answers.specs.declared.status.Status.{Status}
 use Rattle.hip_answers.specs.declared.status.Status.TheVariants as statuses
-use Rattle.hip_loading.specs.declared.failure.Failure.{Failure}
-use Rattle.hip_loading.specs.declared.failure.Failure.TheVariants as failures
-use Rattle.hip_loading.specs.declared.refusal.LoadRefusal.{LoadRefusal}
-use Rattle.hip_loading.specs.declared.refusal.LoadRefusal.TheVariants as loads
+use Rattle.hip_program_files.specs.declared.failure.Failure.{Failure}
+use Rattle.hip_program_files.specs.declared.failure.Failure.TheVariants as failures
+use Rattle.hip_program_files.specs.declared.refusal.LoadRefusal.{LoadRefusal}
+use Rattle.hip_program_files.specs.declared.refusal.LoadRefusal.TheVariants as loads
 
 -- the exit status of the process: 0 for Done alone, and for each other kind of status one of its own, from 1 to 13
 abbrev pub code_of : Status → ℕ

@@ -3,7 +3,7 @@ use Rattle.std.specs.Prelude.{◌≡◌}
 use Rattle.hip_answers.specs.Answers.{Answer}
 use Rattle.hip_answers.specs.Endings.{ending_line, status_of_ending}
 use Rattle.hip_run_traces.specs.TraceTexts.{IsTraceText}
-use Rattle.hip_ir.specs.declared.program.Program.{Program}
+use Rattle.hip_tree.specs.declared.program.Program.{Program}
 use Rattle.hip_runs.specs.declared.event.Ending.{Ending}
 use Rattle.hip_runs.specs.declared.input.Input.{Input}
 

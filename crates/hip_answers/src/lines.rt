@@ -7,12 +7,12 @@ ghost use Rattle.hip_answers.specs.Lines.{line_of, usage_text, missing_text, mis
 
 use crate::status::{FileRole, Status};
 use crate::texts::put_number;
+use hip_grammar::ParseRefusal;
 use hip_io::{Put, Sink, put_after};
-use hip_loading::ProgramRefusal;
-use hip_parse::ParseRefusal;
 use hip_picks::PickRefusal;
+use hip_program_files::ProgramRefusal;
 use hip_run_traces::MisfitKind;
-use hip_typing::{Place, TypeFault};
+use hip_sound::{Place, TypeFault};
 
 fn kind_word(kind: MisfitKind) -> &'static [u8]
     ensures { result.now ≡ kind_word kind }

@@ -1,8 +1,8 @@
 ghost use Rattle.std.specs.Prelude.{◌≡◌};
 ghost use Rattle.hip_answers.specs.Statuses.{code_of, status_of_failure};
 
-use hip_loading::{Failure, LoadRefusal, ProgramRefusal};
 use hip_picks::PickRefusal;
+use hip_program_files::{Failure, LoadRefusal, ProgramRefusal};
 use hip_run_traces::MisfitKind;
 use hip_runs::TrapKind;
 

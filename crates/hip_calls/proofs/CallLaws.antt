@@ -5,9 +5,9 @@ use Rattle.std.proofs.lemmas.List.{length-map}
 use Rattle.std.proofs.lemmas.Option.{slice_get-map, same_Some}
 use Rattle.std.proofs.lemmas.Bool.{and_parts}
 use Rattle.hip_types.specs.Laws.DistinctLaws.{any_found, any_at}
-use Rattle.hip_ir.specs.Sites.{same_site}
-use Rattle.hip_ir.specs.declared.site.Site.{Site}
-use Rattle.hip_typing.specs.Sound.{top_names}
+use Rattle.hip_tree.specs.Sites.{same_site}
+use Rattle.hip_tree.specs.declared.site.Site.{Site}
+use Rattle.hip_sound.specs.Sound.{top_names}
 use Rattle.hip_calls.specs.Fresh.{name_of, fresh_names}
 use Rattle.hip_calls.specs.Laws.FreshLaws.{IsFirstFree, length-fresh_for, fresh_for-distinct, fresh_for-free, fresh_for-first, fresh_for-extern}
 use Rattle.hip_calls.specs.Meaning.{CalleesAreReached, FreshNamesAreFresh}

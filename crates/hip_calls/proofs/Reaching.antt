@@ -2,7 +2,7 @@
 use Rattle.std.proofs.Common.{ℕ, zero, suc, ◌+◌, ◌-◌, ◌<◌, ◌≡◌, List, [], ◌∷◌, Some, None, refl, sym, ap, ◌∙◌, arith}
 use Rattle.std.specs.Prelude.{nat_eq, slice_get}
 use Rattle.hip_types.specs.Distinct.{met}
-use Rattle.hip_ir.specs.declared.program.Program.{Program}
+use Rattle.hip_tree.specs.declared.program.Program.{Program}
 use Rattle.hip_calls.specs.Reach.{called_from, extended, reached}
 
 nothing_behind : (xs : List ℕ) (k : ℕ) → slice_get xs k ≡ None → slice_get xs (suc k) ≡ None

@@ -1,9 +1,9 @@
 -- Names for copies of functions that nothing has yet.
 use Rattle.std.specs.Prelude.{ℕ, zero, suc, ◌+◌, ◌/◌, ◌%◌, nat_lt, cond, if◌then◌else◌, List, [], ◌∷◌, ◌++◌, map, length, codes, slice_get}
-use Rattle.hip_ir.specs.declared.program.Program.{Program}
+use Rattle.hip_tree.specs.declared.program.Program.{Program}
 use Rattle.hip_names.specs.Names.{is_among}
-use Rattle.hip_typing.specs.Numbering.{name_in}
-use Rattle.hip_typing.specs.Sound.{top_names}
+use Rattle.hip_sound.specs.Numbering.{name_in}
+use Rattle.hip_sound.specs.Sound.{top_names}
 
 -- the digits of a number of at most so many
 abbrev pub numeral_in : ℕ → ℕ → List ℕ

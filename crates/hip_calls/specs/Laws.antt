@@ -1,4 +1,3 @@
 -- Laws of the definitions.
 pub mod FreshLaws
 pub mod ReachLaws
-pub mod MetLaws

@@ -1,4 +1,3 @@
-pub mod Numbered
 pub mod Reach
 pub mod Fresh
 pub mod Meaning

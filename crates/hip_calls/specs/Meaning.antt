@@ -2,12 +2,12 @@
 use Rattle.std.specs.Prelude.{◌≡◌, ◌<◌, ℕ, nat_eq, Bool, true, false, List, ◌++◌, length, take, Some, None, slice_get}
 use Rattle.std.specs.List.{IsDistinct}
 use Rattle.std.specs.Str.{bytes_eq}
-use Rattle.hip_ir.specs.Sites.{instr_of, has_site}
-use Rattle.hip_ir.specs.declared.program.Program.{Program}
-use Rattle.hip_ir.specs.declared.site.Site.{Site}
+use Rattle.hip_tree.specs.Sites.{instr_of, has_site}
+use Rattle.hip_tree.specs.declared.program.Program.{Program}
+use Rattle.hip_tree.specs.declared.site.Site.{Site}
 use Rattle.hip_externs.specs.Externs.{call_of}
 use Rattle.hip_names.specs.Names.{is_among}
-use Rattle.hip_typing.specs.Sound.{top_names}
+use Rattle.hip_sound.specs.Sound.{top_names}
 use Rattle.hip_calls.specs.Fresh.{name_of, fresh_names}
 use Rattle.hip_calls.specs.Laws.FreshLaws.{IsFirstFree}
 use Rattle.hip_calls.specs.Reach.{called_at, called_from, callees}

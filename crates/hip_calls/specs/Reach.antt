@@ -2,13 +2,13 @@
 use Rattle.std.specs.Prelude.{ℕ, zero, suc, nat_eq, List, [], Option, Some, None, slice_get, option_to_list, length}
 use Rattle.std.specs.List.{flat_map}
 use Rattle.hip_types.specs.Distinct.{met}
-use Rattle.hip_ir.specs.Sites.{instr_of}
-use Rattle.hip_ir.specs.declared.instr.Instr.{Instr}
-use Rattle.hip_ir.specs.declared.instr.Instr.TheVariants.{Call}
-use Rattle.hip_ir.specs.declared.program.Function.{Function}
-use Rattle.hip_ir.specs.declared.program.Program.{Program}
-use Rattle.hip_ir.specs.declared.site.Site.{Site}
-use Rattle.hip_typing.specs.Numbering.{function_number}
+use Rattle.hip_tree.specs.Sites.{instr_of}
+use Rattle.hip_tree.specs.declared.instr.Instr.{Instr}
+use Rattle.hip_tree.specs.declared.instr.Instr.TheVariants.{Call}
+use Rattle.hip_tree.specs.declared.program.Function.{Function}
+use Rattle.hip_tree.specs.declared.program.Program.{Program}
+use Rattle.hip_tree.specs.declared.site.Site.{Site}
+use Rattle.hip_sound.specs.Numbering.{function_number}
 
 -- the number of the defined function that an instruction calls, if it does
 abbrev pub called_by : Program → Instr → List ℕ

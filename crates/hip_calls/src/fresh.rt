@@ -2,13 +2,13 @@ ghost use Rattle.std.specs.Prelude.{◌≡◌, [], ◌++◌, map, IfOk, OnOk};
 ghost use Rattle.std.specs.Str.{bytes_eq};
 ghost use Rattle.hip_types.specs.Distinct.{met};
 ghost use Rattle.hip_names.specs.Names.{is_among};
-ghost use Rattle.hip_typing.specs.Sound.{top_names};
+ghost use Rattle.hip_sound.specs.Sound.{top_names};
 ghost use Rattle.hip_calls.specs.Fresh as spec;
 ghost use Rattle.hip_calls.specs.Fresh.{name_of, numeral};
 
-use hip_ir::{Extern, Function, GlobalVar, Program};
 use hip_names::NameSet;
 use hip_num::natural_into;
+use hip_tree::{Extern, Function, GlobalVar, Program};
 use hip_types::{Name, NoMemory, Row};
 use indexmap::IndexSet;
 use std::alloc::Global;

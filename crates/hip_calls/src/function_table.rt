@@ -1,9 +1,9 @@
 ghost use Rattle.std.specs.Prelude.{◌≡◌, IfOk, OnOk};
-ghost use Rattle.hip_calls.specs.Numbered.{Numbers};
-ghost use Rattle.hip_typing.specs.Numbering.{function_names, function_number};
+ghost use Rattle.hip_names.specs.Numbered.{Numbers};
+ghost use Rattle.hip_sound.specs.Numbering.{function_names, function_number};
 
-use hip_ir::{Function, Program};
 use hip_names::NameTable;
+use hip_tree::{Function, Program};
 use hip_types::NoMemory;
 use std::alloc::Global;
 use std::marker::Model;
@@ -16,10 +16,10 @@ pub struct FunctionTable<'a> {
 }
 
 impl<'a> Model for FunctionTable<'a> {
-    ghost use Rattle.hip_ir.specs.declared.program.Program.{Program};
-    ghost use Rattle.hip_ir.specs.contracts.program.Program as told;
-    ghost use Rattle.hip_calls.specs.Numbered.{Numbers};
-    ghost use Rattle.hip_typing.specs.Numbering.{function_names};
+    ghost use Rattle.hip_tree.specs.declared.program.Program.{Program};
+    ghost use Rattle.hip_tree.specs.contracts.program.Program as told;
+    ghost use Rattle.hip_names.specs.Numbered.{Numbers};
+    ghost use Rattle.hip_sound.specs.Numbering.{function_names};
 
     ghost Value = { Program };
 

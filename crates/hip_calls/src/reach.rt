@@ -1,12 +1,12 @@
 ghost use Rattle.std.specs.Prelude.{◌≡◌, length, nat_eq, slice_get, IfOk, OnOk};
 ghost use Rattle.std.specs.List.{flat_map};
 ghost use Rattle.hip_types.specs.Distinct.{met};
-ghost use Rattle.hip_ir.specs.Sites.{instr_of};
+ghost use Rattle.hip_tree.specs.Sites.{instr_of};
 ghost use Rattle.hip_calls.specs.Reach as spec;
 ghost use Rattle.hip_calls.specs.Reach.{called_at, called_by, called_from, reached};
 
 use crate::function_table::FunctionTable;
-use hip_ir::{Block, Instr, Program, Site, instr_at};
+use hip_tree::{Block, Instr, Program, Site, instr_at};
 use hip_types::{NoMemory, Row};
 use indexmap::IndexSet;
 use std::alloc::Global;

@@ -1,7 +1,7 @@
 -- The ops that calls of external functions become.
 use Rattle.std.specs.Prelude.{ℕ, true, false, List, [], ◌∷◌, Option}
-use Rattle.hip_ir.specs.declared.instr.Arg.{Arg}
-use Rattle.hip_ir.specs.declared.program.GlobalVar.{GlobalVar}
+use Rattle.hip_tree.specs.declared.instr.Arg.{Arg}
+use Rattle.hip_tree.specs.declared.program.GlobalVar.{GlobalVar}
 use Rattle.hip_types.specs.declared.number.Scalar.{Scalar}
 use Rattle.hip_externs.specs.Externs.{row_of}
 use Rattle.hip_externs.specs.declared.call.ExternCall.{ExternCall}

@@ -3,10 +3,10 @@ use Rattle.std.specs.Prelude.{ℕ, ◌⊎◌, ◌+◌, ◌*◌, ◌≡◌, List,
 use Rattle.hip_types.specs.Layout.{Part, enter, size_of}
 use Rattle.hip_types.specs.declared.ty.Ty.{Ty, out-Ty}
 use Rattle.hip_types.specs.declared.ty.Ty.TheOpen.{Ty-F}
-use Rattle.hip_ir.specs.declared.constant.Const.{Const}
-use Rattle.hip_ir.specs.declared.instr.Arg.{Arg}
-use Rattle.hip_ir.specs.declared.instr.Operand.TheVariants.{Fixed}
-use Rattle.hip_ir.specs.declared.program.GlobalVar.{GlobalVar}
+use Rattle.hip_tree.specs.declared.constant.Const.{Const}
+use Rattle.hip_tree.specs.declared.instr.Arg.{Arg}
+use Rattle.hip_tree.specs.declared.instr.Operand.TheVariants.{Fixed}
+use Rattle.hip_tree.specs.declared.program.GlobalVar.{GlobalVar}
 use Rattle.hip_globals.specs.Values.{const_value}
 use Rattle.hip_runs.specs.Actions.{index_value}
 use Rattle.hip_types.specs.Scalars.{width_of}

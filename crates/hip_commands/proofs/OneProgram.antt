@@ -10,10 +10,10 @@ use Rattle.hip_answers.specs.Statuses.{status_of_refusal}
 use Rattle.hip_answers.specs.declared.status.Status.TheVariants.{ReadFault}
 use Rattle.hip_io.specs.Cabinets.{CabinetState}
 use Rattle.hip_io.specs.declared.cabinet.NamedFile.{NamedFile}
-use Rattle.hip_ir.specs.declared.program.Program.{Program}
-use Rattle.hip_loading.specs.Laws.{LoadsOne}
-use Rattle.hip_loading.specs.Loading.{HasNoProgram, IsProgramOf}
-use Rattle.hip_loading.specs.declared.refusal.LoadRefusal.{LoadRefusal}
+use Rattle.hip_tree.specs.declared.program.Program.{Program}
+use Rattle.hip_program_files.specs.Laws.{LoadsOne}
+use Rattle.hip_program_files.specs.Loading.{HasNoProgram, IsProgramOf}
+use Rattle.hip_program_files.specs.declared.refusal.LoadRefusal.{LoadRefusal}
 use Rattle.hip_runs.specs.Laws.NextLaws.{rests-ended}
 use Rattle.hip_runs.specs.State.{State}
 use Rattle.hip_runs.specs.Step.{has_ended, run}

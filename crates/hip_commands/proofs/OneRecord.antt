@@ -10,8 +10,8 @@ use Rattle.hip_commands.specs.Record.{HasRecorded}
 use Rattle.hip_run_traces.specs.TraceTexts.{IsTraceText}
 use Rattle.hip_io.specs.Cabinets.{CabinetState}
 use Rattle.hip_io.specs.declared.cabinet.NamedFile.{NamedFile}
-use Rattle.hip_ir.specs.declared.program.Program.{Program}
-use Rattle.hip_loading.specs.Laws.{LoadsOne}
+use Rattle.hip_tree.specs.declared.program.Program.{Program}
+use Rattle.hip_program_files.specs.Laws.{LoadsOne}
 use Rattle.hip_run_traces.specs.Traces.{IsTrace}
 use Rattle.hip_runs.specs.declared.input.Input.{Input}
 use Rattle.hip_trace.specs.Texts.{lines_of}

@@ -9,9 +9,9 @@ use Rattle.hip_commands.specs.Laws.{RunsAreOne}
 use Rattle.hip_commands.specs.Run.{HasRun}
 use Rattle.hip_io.specs.Cabinets.{CabinetState}
 use Rattle.hip_io.specs.declared.cabinet.NamedFile.{NamedFile}
-use Rattle.hip_ir.specs.declared.program.Program.{Program}
-use Rattle.hip_loading.specs.Laws.{LoadsOne}
-use Rattle.hip_replay.specs.Printing.{IsPrinted}
+use Rattle.hip_tree.specs.declared.program.Program.{Program}
+use Rattle.hip_program_files.specs.Laws.{LoadsOne}
+use Rattle.hip_recording.specs.Printing.{IsPrinted}
 use Rattle.hip_runs.specs.State.{State}
 use Rattle.hip_runs.specs.declared.event.Ending.{Ending}
 use Rattle.hip_runs.specs.declared.input.Input.{Input}

@@ -11,10 +11,10 @@ use Rattle.hip_io.specs.Cabinets.{CabinetState}
 use Rattle.hip_io.specs.Sinks.{SinkState, Writes}
 use Rattle.hip_io.specs.declared.sink.Put.{Put}
 use Rattle.hip_io.specs.declared.sink.Put.TheVariants as puts
-use Rattle.hip_ir.specs.declared.program.Program.{Program}
-use Rattle.hip_loading.specs.Loading.{IsProgramOf}
-use Rattle.hip_loading.specs.Outside.{HasMet}
-use Rattle.hip_replay.specs.Printing.{HasFailed, HasPrinted, HasStopped, IsPrinted}
+use Rattle.hip_tree.specs.declared.program.Program.{Program}
+use Rattle.hip_program_files.specs.Loading.{IsProgramOf}
+use Rattle.hip_program_files.specs.Outside.{HasMet}
+use Rattle.hip_recording.specs.Printing.{HasFailed, HasPrinted, HasStopped, IsPrinted}
 use Rattle.hip_runs.specs.declared.event.Ending.{Ending}
 use Rattle.hip_runs.specs.declared.event.Ending.TheVariants as endings
 use Rattle.hip_runs.specs.declared.input.Input.{Input}

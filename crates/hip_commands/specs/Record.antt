@@ -5,9 +5,9 @@ use Rattle.hip_answers.specs.Programs.{LacksProgram}
 use Rattle.hip_answers.specs.Traces.{GivesTrace}
 use Rattle.hip_runs.specs.FirstInput.{first_input}
 use Rattle.hip_io.specs.Cabinets.{CabinetState}
-use Rattle.hip_ir.specs.declared.program.Program.{Program}
-use Rattle.hip_loading.specs.Loading.{IsProgramOf}
-use Rattle.hip_loading.specs.Outside.{HasMet}
+use Rattle.hip_tree.specs.declared.program.Program.{Program}
+use Rattle.hip_program_files.specs.Loading.{IsProgramOf}
+use Rattle.hip_program_files.specs.Outside.{HasMet}
 
 -- The program of the file has run on the initialisers' bytes: out has the trace of the run, and notes how the run has
 -- ended.

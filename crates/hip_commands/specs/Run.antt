@@ -5,10 +5,10 @@ use Rattle.hip_answers.specs.Endings.{ending_line, status_of_ending}
 use Rattle.hip_answers.specs.Programs.{LacksProgram}
 use Rattle.hip_runs.specs.FirstInput.{first_input}
 use Rattle.hip_io.specs.Cabinets.{CabinetState}
-use Rattle.hip_ir.specs.declared.program.Program.{Program}
-use Rattle.hip_loading.specs.Loading.{IsProgramOf}
-use Rattle.hip_loading.specs.Outside.{HasMet}
-use Rattle.hip_replay.specs.Printing.{IsPrinted}
+use Rattle.hip_tree.specs.declared.program.Program.{Program}
+use Rattle.hip_program_files.specs.Loading.{IsProgramOf}
+use Rattle.hip_program_files.specs.Outside.{HasMet}
+use Rattle.hip_recording.specs.Printing.{IsPrinted}
 use Rattle.hip_runs.specs.declared.event.Ending.{Ending}
 use Rattle.hip_types.specs.declared.limits.TheConstants.{LOWEST_BASE}
 

@@ -2,7 +2,7 @@
 
 ghost use Rattle.hip_commands.specs.Laws.{RecordsAreOne, RunsAreOne};
 
-use hip_loading::files_give_one_answer;
+use hip_program_files::files_give_one_answer;
 use hip_run_traces::each_run_has_one_trace;
 
 /// Where the files are told, `run` has one answer on them, but for read faults.

@@ -8,7 +8,7 @@ ghost use Rattle.std.specs.Prelude.{◌≤◌, true, length};
 use hip_answers::{Status, finish, put_ending, refuse, status_of_ending, status_of_failure};
 use hip_io::{Cabinet, Sink};
 use hip_loading::load_program;
-use hip_replay::{RecordRefusal, record_run};
+use hip_recording::{RecordRefusal, record_run};
 use hip_runs::{MOST_NUMBERS, MOST_TURNS, first_input};
 use hip_types::{NoMemory, Row};
 use std::alloc::Global;

@@ -7,7 +7,7 @@ ghost use Rattle.hip_commands.specs.Run.{RunAnswers};
 use hip_answers::{Status, finish, put_ending, refuse, status_of_ending, status_of_failure};
 use hip_io::{Cabinet, Sink};
 use hip_loading::load_program;
-use hip_replay::{RecordRefusal, print_run};
+use hip_recording::{RecordRefusal, print_run};
 use hip_runs::{MOST_NUMBERS, MOST_TURNS, first_input};
 use hip_types::{LOWEST_BASE, NoMemory, Row};
 use std::alloc::Global;

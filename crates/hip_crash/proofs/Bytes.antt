@@ -1,7 +1,7 @@
 -- Bytes of stored values.
 use Rattle.std.proofs.Common.{◌≡◌, ℕ, zero, suc, ◌+◌, ◌*◌, ◌/◌, ◌%◌, ◌^◌, ◌<◌, ◌≤◌, Bool, true, false, cond, ◌&&◌, nat_le, nat_lt, List, [], ◌∷◌, ◌++◌, length, take, Some, max, min, slice_get, slice_index, refl, sym, ap, ap₂, ◌∙◌, arith}
 use Rattle.std.proofs.lemmas.Bool.Decides.{nat_tests}
-use Rattle.hip_mem.specs.Bytes.{bytes_of}
+use Rattle.hip_types.specs.Bytes.{bytes_of}
 use Rattle.hip_lines.specs.Image.{byte_after}
 use Rattle.hip_crash.specs.Values.{stored_covers, stored_byte, bytes_with, bytes_after}
 use Rattle.hip_crash.specs.declared.values.StoredValue.{StoredValue}

@@ -3,11 +3,11 @@ use Rattle.std.proofs.Common.{◌≡◌, ℕ, zero, suc, ◌+◌, ◌-◌, ◌*�
 use Rattle.std.proofs.lemmas.Bool.Decides.{nat_tests}
 use Rattle.std.proofs.lemmas.List.{take-append-le, drop-append-le, drop-drop, length-map, length-take-le}
 use Rattle.std.specs.List.{take-map, drop-map}
-use Rattle.hip_ir.specs.declared.site.Site.{Site}
+use Rattle.hip_tree.specs.declared.site.Site.{Site}
 use Rattle.hip_lines.specs.Image.{byte_after}
 use Rattle.hip_lines.specs.Line.{Line, IsOrdered, AreOrdered, with_part, fresh_line, start_in, end_in, has_bytes, change_range, stored}
 use Rattle.hip_lines.specs.Laws.LineLaws.{ordered-at, slice_get-change_range}
-use Rattle.hip_mem.specs.Bytes.{bytes_of}
+use Rattle.hip_types.specs.Bytes.{bytes_of}
 use Rattle.hip_mem.specs.Laws.BytesLaws.{length-bytes_of}
 use Rattle.hip_runs.specs.Crash.{covers, byte_of}
 use Rattle.hip_runs.specs.Laws.ImageLaws.{behind_durable}

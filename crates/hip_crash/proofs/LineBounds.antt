@@ -8,7 +8,7 @@ use Rattle.hip_runs.specs.Laws.CrashLaws.{same_size}
 use Rattle.hip_runs.specs.Laws.ImageLaws.{behind_durable}
 use Rattle.hip_runs.specs.State.{StorePart}
 use Rattle.hip_runs.specs.Step.{run}
-use Rattle.hip_step.specs.Seen.{Seen, state_of}
+use Rattle.hip_runs.specs.Seen.{Seen, state_of}
 use Rattle.hip_crash.specs.Holding.{AreKeptOf}
 use Rattle.hip_crash.specs.Logging.{view_of, IsLogging}
 use Rattle.hip_crash.specs.Numbers.{IsNumberOf}

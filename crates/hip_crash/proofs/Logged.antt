@@ -1,17 +1,17 @@
 -- A log that notes a step stands for the next state.
 use Rattle.std.proofs.Common.{◌≡◌, ℕ, suc, ◌+◌, zero, ◌*◌, ◌/◌, ◌^◌, ◌<◌, ◌≤◌, ◌%◌, Bool, true, false, cond, List, length, Some, is_some, slice_get, sym, ap, ◌∙◌, subst, arith}
-use Rattle.hip_ir.specs.declared.program.Program.{Program}
+use Rattle.hip_tree.specs.declared.program.Program.{Program}
 use Rattle.hip_lines.specs.Line.{Line, fresh_line, fresh_lines}
 use Rattle.hip_runs.specs.Ends.{longest}
 use Rattle.hip_runs.specs.Laws.CrashLaws.{same_size}
 use Rattle.hip_runs.specs.State.{StorePart}
-use Rattle.hip_typing.specs.Sound.{IsSound}
+use Rattle.hip_sound.specs.Sound.{IsSound}
 use Rattle.hip_runs.specs.Outputs.{ending_by}
 use Rattle.hip_runs.specs.Step.{event, has_ended, has_entry, header_entries, run}
 use Rattle.hip_runs.specs.Validity.{IsValid}
 use Rattle.hip_runs.specs.declared.event.Event.{Event}
 use Rattle.hip_runs.specs.declared.input.Input.{Input}
-use Rattle.hip_step.specs.Seen.{Seen, state_of}
+use Rattle.hip_runs.specs.Seen.{Seen, state_of}
 use Rattle.hip_crash.specs.Holding.{AreKeptOf, IsKeptOf}
 use Rattle.hip_crash.specs.Logging.{view_of, IsLogging}
 use Rattle.hip_crash.specs.Noting.{IsWithin, noted}

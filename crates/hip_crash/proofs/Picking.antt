@@ -5,7 +5,7 @@ use Rattle.hip_runs.specs.Laws.CrashLaws.{same_size, choice-image}
 use Rattle.hip_runs.specs.Laws.HistoryLaws.{lines_ordered}
 use Rattle.hip_runs.specs.Laws.ImageLaws.{image_valid}
 use Rattle.hip_runs.specs.Validity.{IsValid}
-use Rattle.hip_step.specs.Seen.{Seen, state_of}
+use Rattle.hip_runs.specs.Seen.{Seen, state_of}
 use Rattle.hip_crash.specs.Logging.{view_of, IsLogging}
 use Rattle.hip_crash.specs.Numbers.{IsBetween}
 use Rattle.hip_crash.specs.Picks.{bounds_of, first_failure, number_for, number_or, picked}

@@ -1,12 +1,12 @@
 -- What a log keeps follows the steps of the run.
 use Rattle.std.proofs.Common.{◌≡◌, ℕ, zero, suc, ◌+◌, ◌-◌, ◌*◌, ◌/◌, ◌%◌, ◌^◌, ◌<◌, ◌≤◌, true, false, cond, ◌&&◌, nat_le, nat_lt, List, [], ◌∷◌, length, drop, Option, Some, None, is_some, slice_get, refl, sym, ap, ◌∙◌, subst, arith, length-drop}
 use Rattle.std.proofs.lemmas.Bool.Decides.{nat_tests}
-use Rattle.hip_ir.specs.declared.program.Program.{Program}
-use Rattle.hip_ir.specs.declared.site.Site.{Site}
+use Rattle.hip_tree.specs.declared.program.Program.{Program}
+use Rattle.hip_tree.specs.declared.site.Site.{Site}
 use Rattle.hip_invariants.specs.Laws.Bounds.{counts_fit}
 use Rattle.hip_lines.specs.Line.{Line, AreOrdered, has_bytes}
 use Rattle.hip_lines.specs.Laws.LineLaws.{ordered-at}
-use Rattle.hip_mem.specs.Bytes.{bytes_of}
+use Rattle.hip_types.specs.Bytes.{bytes_of}
 use Rattle.hip_runs.specs.Ends.{longest}
 use Rattle.hip_runs.specs.Laws.HistoryLaws.{lines_ordered}
 use Rattle.hip_runs.specs.Laws.NextLaws.{next_lines, counts-next}
@@ -23,7 +23,7 @@ use Rattle.hip_runs.specs.declared.event.Ending.{Ending}
 use Rattle.hip_runs.specs.declared.event.Event.{Event}
 use Rattle.hip_runs.specs.declared.event.Event.TheVariants as events
 use Rattle.hip_runs.specs.declared.input.Input.{Input}
-use Rattle.hip_typing.specs.Sound.{IsSound}
+use Rattle.hip_sound.specs.Sound.{IsSound}
 use Rattle.hip_crash.specs.Holding.{AreKeptOf}
 use Rattle.hip_crash.specs.Kept.{Kept, with_flush}
 use Rattle.hip_crash.specs.Noting.{IsWithin, noted}

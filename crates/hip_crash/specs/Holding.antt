@@ -2,7 +2,7 @@
 use Rattle.std.specs.Prelude.{◌≡◌, ℕ, ◌+◌, ◌*◌, ◌<◌, ◌≤◌, true, List, [], ◌∷◌, length, drop, take, Some, slice_get, slice_index}
 use Rattle.hip_lines.specs.Image.{byte_after}
 use Rattle.hip_lines.specs.Line.{Line}
-use Rattle.hip_lines.specs.declared.TheConstants.{LINE_SIZE}
+use Rattle.hip_types.specs.declared.areas.TheConstants.{LINE_SIZE}
 use Rattle.hip_runs.specs.Crash.{covers, byte_of}
 use Rattle.hip_runs.specs.State.{StorePart}
 use Rattle.hip_crash.specs.Kept.{Kept}

@@ -1,7 +1,7 @@
 -- What is kept of a cache line: its bytes behind the durable stores, how many these are, the later ones in order, and
 -- how many of those are flushed.
 use Rattle.std.specs.Prelude.{ℕ, ◌+◌, ◌*◌, List, [], ◌∷◌, ◌++◌, length, drop, take}
-use Rattle.hip_lines.specs.declared.TheConstants.{LINE_SIZE}
+use Rattle.hip_types.specs.declared.areas.TheConstants.{LINE_SIZE}
 use Rattle.hip_crash.specs.Values.{bytes_after}
 use Rattle.hip_crash.specs.declared.kept_line.KeptLine.{KeptLine}
 use Rattle.hip_crash.specs.declared.values.StoredValue.{StoredValue}

@@ -1,10 +1,10 @@
 -- A log on its way: what it keeps stands for the state after the steps that it noted.
 use Rattle.std.specs.Prelude.{◌≡◌, ◌^◌, ◌<◌}
-use Rattle.hip_typing.specs.Sound.{IsSound}
+use Rattle.hip_sound.specs.Sound.{IsSound}
 use Rattle.hip_runs.specs.Ends.{longest}
 use Rattle.hip_runs.specs.Step.{has_ended, run}
 use Rattle.hip_runs.specs.Validity.{IsValid}
-use Rattle.hip_step.specs.Seen.{Seen}
+use Rattle.hip_runs.specs.Seen.{Seen}
 use Rattle.hip_crash.specs.Holding.{AreKeptOf}
 use Rattle.hip_crash.specs.Region.{seen_at}
 use Rattle.hip_crash.specs.Waiting.{WaitsWithin}

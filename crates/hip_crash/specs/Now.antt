@@ -1,6 +1,6 @@
 -- What stands of a cache line, where its initial bytes stand for those of which nothing is kept.
 use Rattle.std.specs.Prelude.{ℕ, ◌*◌, List, [], drop, take, Option, Some, None}
-use Rattle.hip_lines.specs.declared.TheConstants.{LINE_SIZE}
+use Rattle.hip_types.specs.declared.areas.TheConstants.{LINE_SIZE}
 use Rattle.hip_crash.specs.Kept.{Kept}
 use Rattle.hip_crash.specs.KeptLines.{kept_at}
 use Rattle.hip_crash.specs.declared.kept_lines.KeptLines.{KeptLines}

@@ -1,6 +1,6 @@
 -- Values that were stored into the region, byte by byte.
 use Rattle.std.specs.Prelude.{ℕ, suc, ◌+◌, ◌-◌, Bool, cond, ◌&&◌, nat_le, nat_lt, List, [], ◌∷◌, slice_index}
-use Rattle.hip_mem.specs.Bytes.{bytes_of}
+use Rattle.hip_types.specs.Bytes.{bytes_of}
 use Rattle.hip_crash.specs.declared.values.StoredValue.{StoredValue}
 
 -- whether a stored value covers the byte at an offset of the region, and the value that it gives it

@@ -3,15 +3,14 @@
 ghost use Rattle.std.specs.Prelude.{◌≡◌, ℕ, ◌+◌, ◌*◌, ◌/◌, ◌%◌, ◌^◌, ◌<◌, ◌≤◌, ◌==◌, ◌&&◌, [], cond, nat_le, nat_lt, nat_eq, true, drop, length, take, option_map, IsSome, OnErr, OnOk};
 ghost use Rattle.std.specs.List.{list_any};
 ghost use Rattle.hip_lines.specs.Line.{has_bytes};
-ghost use Rattle.hip_lines.specs.declared.TheConstants.{LINE_SIZE};
+ghost use Rattle.hip_types.specs.declared.areas.TheConstants.{LINE_SIZE};
 ghost use Rattle.hip_crash.specs.Kept.{with_fence, with_flush, with_store};
 ghost use Rattle.hip_crash.specs.KeptLines.{AreListed, ChangesLine, is_unflushed, kept_at, line_at};
 ghost use Rattle.hip_crash.specs.Now.{now_at};
 
 use crate::kept_lines::KeptLines;
 use crate::values::StoredValue;
-use hip_lines::LINE_SIZE;
-use hip_types::NoMemory;
+use hip_types::{LINE_SIZE, NoMemory};
 
 /// One more than the last line that has a byte of a range; 0 where the range has no bytes.
 pub fn end_line(offset: u64, len: u64) -> u64

@@ -1,12 +1,12 @@
 //! How many entries a run's trace has: those of its header, and of each step.
 
 ghost use Rattle.std.specs.Prelude.{◌≡◌, ◌/◌, length, is_some};
-ghost use Rattle.hip_lines.specs.declared.TheConstants.{LINE_SIZE};
+ghost use Rattle.hip_types.specs.declared.areas.TheConstants.{LINE_SIZE};
 ghost use Rattle.hip_runs.specs.Outputs.{ending_by};
 ghost use Rattle.hip_runs.specs.Step.{has_entry, header_entries, image_lines, some_byte};
 
-use hip_lines::LINE_SIZE;
 use hip_step::{Event, Input};
+use hip_types::LINE_SIZE;
 
 /// How many entries stand before a run's first step, in time of the initial bytes.
 pub fn count_header(input: &Input) -> u128

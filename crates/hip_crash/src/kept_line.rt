@@ -4,8 +4,7 @@ ghost use Rattle.std.specs.Prelude.{◌≡◌, ◌+◌, ◌<◌, ◌≤◌, ◌^
 ghost use Rattle.hip_crash.specs.Values.{bytes_after};
 
 use crate::values::{StoredValue, put_value};
-use hip_lines::LINE_SIZE;
-use hip_types::NoMemory;
+use hip_types::{LINE_SIZE, NoMemory};
 use std::alloc::Global;
 
 /// For how many stores a line keeps room for good.

@@ -5,13 +5,12 @@ ghost use Rattle.std.specs.Option.{option_copied};
 ghost use Rattle.hip_crash.specs.Kept.{with_store, with_flush, with_fence};
 ghost use Rattle.hip_crash.specs.Places.{ArePlaced, ChangesPlace};
 ghost use Rattle.hip_crash.specs.declared.kept_line.KeptLine.{KeptLine};
-ghost use Rattle.hip_lines.specs.declared.TheConstants.{LINE_SIZE};
+ghost use Rattle.hip_types.specs.declared.areas.TheConstants.{LINE_SIZE};
 
 use crate::kept_line::KeptLine;
 use crate::values::StoredValue;
 use hip_directory::Directory;
-use hip_lines::LINE_SIZE;
-use hip_types::NoMemory;
+use hip_types::{LINE_SIZE, NoMemory};
 use std::alloc::Global;
 
 /// The kept lines, by the numbers of cache lines.

@@ -6,20 +6,19 @@ ghost use Rattle.hip_runs.specs.Validity.{IsValid};
 ghost use Rattle.hip_crash.specs.Numbers.{AreNumbers, IsBetween, IsNumberOf};
 ghost use Rattle.hip_crash.specs.Picks.{ArePicksOf, IsRefusal, bounds_of, failure, first_failure, number_for, number_or, picked, range_failure};
 ghost use Rattle.hip_picks.specs.declared.pick.Pick.{Pick};
-ghost use Rattle.hip_lines.specs.declared.TheConstants.{LINE_SIZE};
+ghost use Rattle.hip_types.specs.declared.areas.TheConstants.{LINE_SIZE};
 ghost use Rattle.hip_runs.specs.Crash.{IsCrashImage, crash_image};
-ghost use Rattle.hip_step.specs.Seen.{after_step, state_of};
+ghost use Rattle.hip_runs.specs.Seen.{after_step, state_of};
 
 use crate::changes::line_bytes;
 use crate::counting::{count_header, is_counted, is_end};
 use crate::noting::note;
 use crate::region_log::RegionLog;
-use hip_lines::LINE_SIZE;
 use hip_picks::{Bounds, Pick, PickRefusal};
 use hip_runs::longest;
+use hip_sound::Checked;
 use hip_step::{Event, Input, Machine};
-use hip_types::{NoMemory, Row};
-use hip_typing::Checked;
+use hip_types::{LINE_SIZE, NoMemory, Row};
 use std::alloc::Global;
 use std::marker::Model;
 
@@ -37,8 +36,8 @@ pub struct CrashLog<'a> {
 }
 
 impl<'a> Model for CrashLog<'a> {
-    ghost use Rattle.hip_ir.specs.contracts.program.Program as programs;
-    ghost use Rattle.hip_step.specs.Seen.{Seen};
+    ghost use Rattle.hip_tree.specs.contracts.program.Program as programs;
+    ghost use Rattle.hip_runs.specs.Seen.{Seen};
     ghost use Rattle.std.specs.Coded.{codes};
 
     ghost Value = { Seen };

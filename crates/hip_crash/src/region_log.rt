@@ -2,7 +2,7 @@
 
 ghost use Rattle.std.specs.Prelude.{◌≡◌, ℕ, ◌+◌, ◌-◌, ◌%◌, ◌*◌, ◌^◌, ◌<◌, ◌≤◌, List, cond, length, is_ok, IfOk, OnOk};
 ghost use Rattle.hip_lines.specs.Line.{has_bytes};
-ghost use Rattle.hip_lines.specs.declared.TheConstants.{LINE_SIZE};
+ghost use Rattle.hip_types.specs.declared.areas.TheConstants.{LINE_SIZE};
 ghost use Rattle.hip_crash.specs.Kept.{with_fence, with_flush, with_store};
 ghost use Rattle.hip_crash.specs.KeptLines.{AreListed};
 ghost use Rattle.hip_crash.specs.Now.{fresh};
@@ -15,8 +15,7 @@ use crate::kept_lines::KeptLines;
 use crate::values::StoredValue;
 use crate::views::LineView;
 use crate::waiting::Waiting;
-use hip_lines::LINE_SIZE;
-use hip_types::NoMemory;
+use hip_types::{LINE_SIZE, NoMemory};
 use std::alloc::Global;
 
 /// What is kept of the region.

@@ -2,9 +2,9 @@
 
 ghost use Rattle.std.specs.Prelude.{◌≡◌, ◌<◌, ◌^◌, ℕ, slice_index};
 ghost use Rattle.hip_crash.specs.Values.{bytes_with};
-ghost use Rattle.hip_mem.specs.Bytes.{bytes_of};
+ghost use Rattle.hip_types.specs.Bytes.{bytes_of};
 
-use hip_lines::LINE_SIZE;
+use hip_types::LINE_SIZE;
 
 /// A store into the region: where its first byte lies there, the value, and how many bytes of it were written, the
 /// lowest first.

@@ -6,7 +6,7 @@ ghost use Rattle.hip_crash.specs.Views.{later_in};
 
 use crate::kept_line::put_front;
 use crate::values::{StoredValue, put_value};
-use hip_lines::LINE_SIZE;
+use hip_types::LINE_SIZE;
 
 /// The bytes of a line behind its durable stores, how many these are, and the later ones, of which the last may stand
 /// apart.

@@ -3,7 +3,7 @@ use Rattle.std.proofs.Common.{◌≡◌, ◌⊎◌, ◌≤◌, ◌<◌, ◌+◌,
 use Rattle.std.proofs.lemmas.Bool.{cases_order}
 use Rattle.hip_crash_commands.specs.Advancing.{Reaches}
 use Rattle.hip_crash_commands.specs.Images.{HasEntry, StandsAt}
-use Rattle.hip_ir.specs.declared.program.Program.{Program}
+use Rattle.hip_tree.specs.declared.program.Program.{Program}
 use Rattle.hip_run_traces.specs.Laws.TraceLaws.{length-trace}
 use Rattle.hip_runs.specs.Entry.{IsAtEntry}
 use Rattle.hip_runs.specs.Laws.EndLaws.{runs_end}
@@ -11,7 +11,7 @@ use Rattle.hip_runs.specs.Laws.NextLaws.{entry_there, rests-ended}
 use Rattle.hip_runs.specs.State.{State}
 use Rattle.hip_runs.specs.Step.{has_ended, run}
 use Rattle.hip_runs.specs.declared.input.Input.{Input}
-use Rattle.hip_step.specs.Seen.{Seen, after_step, state_of}
+use Rattle.hip_runs.specs.Seen.{Seen, after_step, state_of}
 
 -- how many steps are left at most
 abbrev pub steps_ahead : Program → Input → ℕ → ℕ

@@ -13,11 +13,11 @@ use Rattle.hip_answers.specs.Traces.{GivesTrace}
 use Rattle.hip_crash_commands.specs.declared.refusal.ImageRefusal.{ImageRefusal}
 use Rattle.hip_crash_commands.specs.declared.refusal.ImageRefusal.TheVariants as images
 use Rattle.hip_io.specs.declared.cabinet.NamedFile.{NamedFile}
-use Rattle.hip_ir.specs.declared.program.Program.{Program}
-use Rattle.hip_loading.specs.Loading.{IsProgramOf}
+use Rattle.hip_tree.specs.declared.program.Program.{Program}
+use Rattle.hip_program_files.specs.Loading.{IsProgramOf}
 use Rattle.hip_picks.specs.declared.pick.Pick.{Pick}
 use Rattle.hip_picks.specs.declared.pick.PickRefusal.{PickRefusal}
-use Rattle.hip_repair_answers.specs.TraceFiles.{IsTraceFile}
+use Rattle.hip_answers.specs.TraceFiles.{IsTraceFile}
 use Rattle.hip_run_traces.specs.Laws.GivenLaws.{fit_pieces, header-given}
 use Rattle.hip_run_traces.specs.Laws.TraceLaws.{whole-trace}
 use Rattle.hip_run_traces.specs.Traces.{IsTrace}

@@ -11,16 +11,16 @@ use Rattle.hip_crash_commands.specs.Images.{HasImage, PicksImage, StandsAt, begu
 use Rattle.hip_answers.specs.Traces.{GivesTrace}
 use Rattle.hip_crash_commands.specs.declared.refusal.ImageRefusal.{ImageRefusal}
 use Rattle.hip_crash_commands.specs.declared.refusal.ImageRefusal.TheVariants as images
-use Rattle.hip_ir.specs.declared.program.Program.{Program}
-use Rattle.hip_loading.specs.declared.failure.Failure.{Failure}
-use Rattle.hip_loading.specs.declared.failure.Failure.TheVariants as failures
+use Rattle.hip_tree.specs.declared.program.Program.{Program}
+use Rattle.hip_program_files.specs.declared.failure.Failure.{Failure}
+use Rattle.hip_program_files.specs.declared.failure.Failure.TheVariants as failures
 use Rattle.hip_picks.specs.declared.pick.Pick.{Pick}
 use Rattle.hip_picks.specs.declared.pick.PickRefusal.{PickRefusal}
 use Rattle.hip_picks.specs.declared.pick.PickRefusal.TheVariants as picks
 use Rattle.hip_runs.specs.State.{State}
 use Rattle.hip_runs.specs.declared.input.Input.{Input}
 use Rattle.hip_runs.specs.declared.report.Findings.{Findings}
-use Rattle.hip_step.specs.Seen.{Seen}
+use Rattle.hip_runs.specs.Seen.{Seen}
 use Rattle.hip_trace_loading.specs.Runs.{AnswersOnRun}
 
 -- ---- images

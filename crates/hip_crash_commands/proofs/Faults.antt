@@ -12,16 +12,16 @@ use Rattle.hip_crash_commands.specs.declared.refusal.ImageRefusal.{ImageRefusal}
 use Rattle.hip_crash_commands.specs.declared.refusal.ImageRefusal.TheVariants as images
 use Rattle.hip_io.specs.Cabinets.{CabinetState}
 use Rattle.hip_io.specs.declared.cabinet.NamedFile.{NamedFile}
-use Rattle.hip_ir.specs.declared.program.Program.{Program}
-use Rattle.hip_loading.specs.Laws.OneAnswer.{loads_one}
-use Rattle.hip_loading.specs.Loading.{IsProgramOf}
-use Rattle.hip_loading.specs.declared.refusal.LoadRefusal.{LoadRefusal}
-use Rattle.hip_loading.specs.declared.refusal.LoadRefusal.TheVariants as loads
+use Rattle.hip_tree.specs.declared.program.Program.{Program}
+use Rattle.hip_program_files.specs.Laws.OneAnswer.{loads_one}
+use Rattle.hip_program_files.specs.Loading.{IsProgramOf}
+use Rattle.hip_program_files.specs.declared.refusal.LoadRefusal.{LoadRefusal}
+use Rattle.hip_program_files.specs.declared.refusal.LoadRefusal.TheVariants as loads
 use Rattle.hip_picks.specs.declared.pick.Pick.{Pick}
-use Rattle.hip_repair_answers.specs.TraceFiles as files
-use Rattle.hip_repair_answers.specs.TraceFiles.{ShowsNoMisfit}
-use Rattle.hip_repair_answers.specs.declared.refusal.TraceRefusal.{TraceRefusal}
-use Rattle.hip_repair_answers.specs.declared.refusal.TraceRefusal.TheVariants as traces
+use Rattle.hip_answers.specs.TraceFiles as files
+use Rattle.hip_answers.specs.TraceFiles.{ShowsNoMisfit}
+use Rattle.hip_answers.specs.declared.refusal.TraceRefusal.{TraceRefusal}
+use Rattle.hip_answers.specs.declared.refusal.TraceRefusal.TheVariants as traces
 use Rattle.hip_runs.specs.declared.event.Ending.{Ending}
 use Rattle.hip_runs.specs.declared.event.Ending.TheVariants as endings
 use Rattle.hip_runs.specs.declared.input.Input.{Input}

@@ -10,7 +10,7 @@ use Rattle.hip_crash_commands.specs.Images.{HasEntries, HasEntry, HasImage, HasN
 use Rattle.hip_answers.specs.Traces.{GivesTrace}
 use Rattle.hip_crash_commands.specs.declared.refusal.ImageRefusal.{ImageRefusal}
 use Rattle.hip_crash_commands.specs.declared.refusal.ImageRefusal.TheVariants as images
-use Rattle.hip_ir.specs.declared.program.Program.{Program}
+use Rattle.hip_tree.specs.declared.program.Program.{Program}
 use Rattle.hip_picks.specs.declared.pick.Pick.{Pick}
 use Rattle.hip_run_traces.specs.Laws.TraceLaws.{one-trace}
 use Rattle.hip_runs.specs.Crash.{crash_image}

@@ -11,9 +11,9 @@ use Rattle.hip_answers.specs.Traces.{GivesTrace}
 use Rattle.hip_io.specs.Sinks.{SinkState, Writes}
 use Rattle.hip_io.specs.declared.sink.Put.{Put}
 use Rattle.hip_io.specs.declared.sink.Put.TheVariants as puts
-use Rattle.hip_ir.specs.declared.program.Program.{Program}
-use Rattle.hip_replay.specs.Recording.{HasFailedRecording, HasRecorded, HasStoppedRecording}
-use Rattle.hip_replay.specs.declared.record.Recorded.{Recorded}
+use Rattle.hip_tree.specs.declared.program.Program.{Program}
+use Rattle.hip_recording.specs.Recording.{HasFailedRecording, HasRecorded, HasStoppedRecording}
+use Rattle.hip_recording.specs.declared.record.Recorded.{Recorded}
 use Rattle.hip_run_traces.specs.Traces.{IsTrace}
 use Rattle.hip_runs.specs.Step.{run}
 use Rattle.hip_runs.specs.declared.event.Ending.{Ending}

@@ -1,7 +1,7 @@
 -- A log that has come to an entry of a run's trace.
 use Rattle.std.specs.Prelude.{ℕ, ◌≡◌}
 use Rattle.hip_runs.specs.Entry.{IsAtEntry}
-use Rattle.hip_step.specs.Seen.{Seen}
+use Rattle.hip_runs.specs.Seen.{Seen}
 
 -- the steps of the same run up to the first state with so many entries are taken
 pub record Reaches (old new : Seen) (entry : ℕ) : Type 0 where

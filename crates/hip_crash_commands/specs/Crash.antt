@@ -5,9 +5,9 @@ use Rattle.hip_crash_commands.specs.Images.{HasImage, HasNoImage, begun_with, st
 use Rattle.hip_answers.specs.Traces.{GivesTrace}
 use Rattle.hip_crash_commands.specs.declared.refusal.ImageRefusal.{ImageRefusal}
 use Rattle.hip_io.specs.Cabinets.{CabinetState}
-use Rattle.hip_ir.specs.declared.program.Program.{Program}
+use Rattle.hip_tree.specs.declared.program.Program.{Program}
 use Rattle.hip_picks.specs.declared.pick.Pick.{Pick}
-use Rattle.hip_repair_answers.specs.Answers.{TraceAnswers}
+use Rattle.hip_answers.specs.RunAnswers.{TraceAnswers}
 use Rattle.hip_runs.specs.declared.input.Input.{Input}
 use Rattle.hip_runs.specs.declared.report.Findings.{Findings}
 

@@ -5,9 +5,9 @@ use Rattle.hip_answers.specs.declared.status.Status.TheVariants as statuses
 use Rattle.hip_crash.specs.Picks.{first_failure, picked}
 use Rattle.hip_crash_commands.specs.declared.refusal.ImageRefusal.{ImageRefusal}
 use Rattle.hip_crash_commands.specs.declared.refusal.ImageRefusal.TheVariants as images
-use Rattle.hip_ir.specs.declared.program.Program.{Program}
-use Rattle.hip_loading.specs.declared.failure.Failure.{Failure}
-use Rattle.hip_loading.specs.declared.failure.Failure.TheVariants as failures
+use Rattle.hip_tree.specs.declared.program.Program.{Program}
+use Rattle.hip_program_files.specs.declared.failure.Failure.{Failure}
+use Rattle.hip_program_files.specs.declared.failure.Failure.TheVariants as failures
 use Rattle.hip_picks.specs.declared.pick.Pick.{Pick}
 use Rattle.hip_picks.specs.declared.pick.PickRefusal.{PickRefusal}
 use Rattle.hip_picks.specs.declared.pick.PickRefusal.TheVariants as picks

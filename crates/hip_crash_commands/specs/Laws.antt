@@ -5,12 +5,12 @@ use Rattle.hip_answers.specs.declared.status.Status.TheVariants.{ReadFault}
 use Rattle.hip_crash_commands.specs.Crash.{CrashAnswers, CrashTexts}
 use Rattle.hip_io.specs.Cabinets.{CabinetState}
 use Rattle.hip_io.specs.declared.cabinet.NamedFile.{NamedFile}
-use Rattle.hip_ir.specs.declared.program.Program.{Program}
-use Rattle.hip_loading.specs.Loading.{IsProgramOf}
-use Rattle.hip_loading.specs.Outside.{HasMet}
+use Rattle.hip_tree.specs.declared.program.Program.{Program}
+use Rattle.hip_program_files.specs.Loading.{IsProgramOf}
+use Rattle.hip_program_files.specs.Outside.{HasMet}
 use Rattle.hip_picks.specs.declared.pick.Pick.{Pick}
-use Rattle.hip_repair_answers.specs.Laws.{FaultsHideNone, GivesOne}
-use Rattle.hip_repair_answers.specs.TraceFiles.{IsTraceFile}
+use Rattle.hip_answers.specs.RunLaws.{FaultsHideNone, GivesOne}
+use Rattle.hip_answers.specs.TraceFiles.{IsTraceFile}
 use Rattle.hip_runs.specs.declared.input.Input.{Input}
 
 -- where the files are told, two answers on them are the same, unless one of them is a read fault

@@ -12,9 +12,9 @@ use crate::refusal::status_of_image;
 use hip_answers::{Status, refuse};
 use hip_io::{Cabinet, Sink};
 use hip_picks::Pick;
+use hip_sound::Checked;
 use hip_step::Input;
 use hip_trace_loading::load_run;
-use hip_typing::Checked;
 use std::alloc::Global;
 
 /// Picks a crash image of the run whose trace a file has, at an entry of that trace, and writes the trace of the run

@@ -1,15 +1,15 @@
 ghost use Rattle.std.specs.Prelude.{◌≡◌};
 ghost use Rattle.hip_crash_commands.specs.Images.{HasEntries, HasEntry, PicksImage, StandsAt};
 ghost use Rattle.hip_runs.specs.Validity.{IsValid};
-ghost use Rattle.hip_step.specs.Seen.{state_of};
+ghost use Rattle.hip_runs.specs.Seen.{state_of};
 
 use crate::advancing::advance_to;
 use crate::refusal::{ImageRefusal, failure_of_picks};
 use hip_crash::{CrashLog, Pick};
-use hip_loading::Failure;
+use hip_program_files::Failure;
+use hip_sound::Checked;
 use hip_step::{Input, Machine};
 use hip_types::Row;
-use hip_typing::Checked;
 use std::alloc::Global;
 
 /// The image that picks give at an entry of a run's trace, which has so many entries.

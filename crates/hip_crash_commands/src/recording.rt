@@ -6,9 +6,9 @@ ghost use Rattle.hip_trace_loading.specs.Runs.{AnswersOnRun};
 
 use hip_answers::{Status, finish, put_ending, refuse, status_of_ending};
 use hip_io::Sink;
-use hip_replay::{RecordRefusal, record_run};
+use hip_recording::{RecordRefusal, record_run};
+use hip_sound::Checked;
 use hip_step::Input;
-use hip_typing::Checked;
 use std::alloc::Global;
 
 /// Writes the trace of a run as it runs; then how the run has ended goes to notes.

@@ -2,8 +2,8 @@ ghost use Rattle.std.specs.Prelude.{◌≡◌};
 ghost use Rattle.hip_crash_commands.specs.Images.{failure_of_picks, status_of_image};
 
 use hip_answers::Status;
-use hip_loading::Failure;
 use hip_picks::PickRefusal;
+use hip_program_files::Failure;
 
 /// Why no crash image is picked.
 #[derive(Clone, Copy, Debug, PartialEq, Eq)]

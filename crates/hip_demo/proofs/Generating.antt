@@ -3,16 +3,16 @@ use Rattle.std.proofs.Common.{◌≡◌, ℕ, List, sym, subst}
 use Rattle.hip_gen.specs.Generated.{generated_program}
 use Rattle.hip_gen.specs.Lines.{generated_text}
 use Rattle.hip_gen.specs.Read.{IsReadAsSound}
-use Rattle.hip_ir.specs.Laws.TextExact.{one_program}
-use Rattle.hip_ir.specs.Reading.{Reads}
-use Rattle.hip_ir.specs.declared.program.Program.{Program}
-use Rattle.hip_loading.specs.Loading.{RefusesProgram, RefusesText}
-use Rattle.hip_loading.specs.declared.refusal.ProgramRefusal.{ProgramRefusal}
-use Rattle.hip_loading.specs.declared.refusal.ProgramRefusal.TheVariants as refusals
-use Rattle.hip_parse.specs.declared.error.ParseRefusal.{ParseRefusal}
-use Rattle.hip_parse.specs.declared.error.ParseRefusal.TheVariants as parse
+use Rattle.hip_grammar.specs.Laws.TextExact.{one_program}
+use Rattle.hip_grammar.specs.Reading.{Reads}
+use Rattle.hip_tree.specs.declared.program.Program.{Program}
+use Rattle.hip_program_files.specs.Loading.{RefusesProgram, RefusesText}
+use Rattle.hip_program_files.specs.declared.refusal.ProgramRefusal.{ProgramRefusal}
+use Rattle.hip_program_files.specs.declared.refusal.ProgramRefusal.TheVariants as refusals
+use Rattle.hip_grammar.specs.declared.refusal.ParseRefusal.{ParseRefusal}
+use Rattle.hip_grammar.specs.declared.refusal.ParseRefusal.TheVariants as parse
 use Rattle.hip_tokens.specs.Tokens.{tokens}
-use Rattle.hip_typing.specs.Sound.{IsSound}
+use Rattle.hip_sound.specs.Sound.{IsSound}
 
 same_program : (text : List ℕ) (P Q : Program) → Reads text P → Reads text Q → P ≡ Q
 same_program text P Q p q = one_program (tokens text) P Q p q

@@ -7,11 +7,11 @@ use Rattle.hip_gen.specs.Generated.{array_of, generated_program, zeroed_array}
 use Rattle.hip_globals.specs.Addresses.{global_align}
 use Rattle.hip_globals.specs.Initial.{region_bytes}
 use Rattle.hip_globals.specs.Values.{Written, aligned, constant_bytes, global_address, sized, written}
-use Rattle.hip_ir.specs.declared.constant.Const.{Const}
-use Rattle.hip_ir.specs.declared.constant.Const.TheFolds.{fold-roll-Const}
-use Rattle.hip_ir.specs.declared.constant.Const.TheOpen.{Const-F}
-use Rattle.hip_ir.specs.declared.constant.Const.TheVariants as consts
-use Rattle.hip_ir.specs.declared.program.Program.{Program}
+use Rattle.hip_tree.specs.declared.constant.Const.{Const}
+use Rattle.hip_tree.specs.declared.constant.Const.TheFolds.{fold-roll-Const}
+use Rattle.hip_tree.specs.declared.constant.Const.TheOpen.{Const-F}
+use Rattle.hip_tree.specs.declared.constant.Const.TheVariants as consts
+use Rattle.hip_tree.specs.declared.program.Program.{Program}
 use Rattle.hip_runs.specs.Validity.{IsInput}
 use Rattle.hip_runs.specs.declared.input.Input.{Input}
 use Rattle.hip_types.specs.declared.limits.TheConstants.{LOWEST_BASE}

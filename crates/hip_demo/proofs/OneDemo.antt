@@ -5,7 +5,7 @@ use Rattle.hip_demo.specs.Demo.{HasShown, demo_input, demo_text}
 use Rattle.hip_demo.specs.Laws.{DemosAreOne}
 use Rattle.hip_demo.specs.declared.shown.Shown.{Shown}
 use Rattle.hip_gen.specs.Generated.{generated_program}
-use Rattle.hip_ir.specs.declared.program.Program.{Program}
+use Rattle.hip_tree.specs.declared.program.Program.{Program}
 use Rattle.hip_repair_answers.specs.Cured.{repaired_for}
 use Rattle.hip_repairs.specs.Choice.{plan_for}
 use Rattle.hip_repairs.specs.CloneNumbers.{clone_numbers}

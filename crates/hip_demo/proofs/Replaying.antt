@@ -5,10 +5,10 @@ use Rattle.hip_demo.specs.Replays as spec
 use Rattle.hip_demo.specs.declared.replayed.Kept.{Kept}
 use Rattle.hip_io.specs.Cabinets.{CabinetState, IsFirstFile, file_of}
 use Rattle.hip_io.specs.declared.cabinet.NamedFile.{NamedFile}
-use Rattle.hip_ir.specs.declared.program.Program.{Program}
+use Rattle.hip_tree.specs.declared.program.Program.{Program}
 use Rattle.hip_lockstep.specs.Refusals.{HasMisfit}
-use Rattle.hip_replay.specs.Replaying.{HasReplayed}
-use Rattle.hip_replay.specs.declared.compared.Replayed.{Replayed}
+use Rattle.hip_following.specs.Replaying.{HasReplayed}
+use Rattle.hip_following.specs.declared.compared.Replayed.{Replayed}
 use Rattle.hip_run_traces.specs.Headers.{Gives}
 use Rattle.hip_run_traces.specs.Misfits.{IsMisfit, IsTraceOf}
 use Rattle.hip_run_traces.specs.Traces.{IsTrace}

@@ -4,7 +4,7 @@ use Rattle.hip_demo.specs.Demo.{HasShown}
 use Rattle.hip_demo.specs.Replays.{HasFound, HasKept}
 use Rattle.hip_demo.specs.declared.replayed.Kept.{Kept}
 use Rattle.hip_demo.specs.declared.shown.Shown.{Shown}
-use Rattle.hip_ir.specs.declared.program.Program.{Program}
+use Rattle.hip_tree.specs.declared.program.Program.{Program}
 use Rattle.hip_repair_answers.specs.Cured.{IsCured, repaired_for}
 use Rattle.hip_repairs.specs.Choice.{plan_for}
 use Rattle.hip_repairs.specs.CloneNumbers.{clone_numbers}
@@ -12,7 +12,7 @@ use Rattle.hip_repairs.specs.Direct.{direct}
 use Rattle.hip_repairs.specs.Repaired.{repaired}
 use Rattle.hip_repairs.specs.declared.plan.CloneOf.{CloneOf}
 use Rattle.hip_repairs.specs.declared.plan.Plan.{Plan}
-use Rattle.hip_replay.specs.declared.compared.Replayed.{Replayed}
+use Rattle.hip_following.specs.declared.compared.Replayed.{Replayed}
 use Rattle.hip_runs.specs.declared.input.Input.{Input}
 use Rattle.hip_runs.specs.declared.report.Findings.{Findings}
 

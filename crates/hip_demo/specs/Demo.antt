@@ -9,7 +9,7 @@ use Rattle.hip_runs.specs.declared.limits.TheConstants.{DEFAULT_LIMIT}
 use Rattle.hip_gen.specs.Generated.{generated_program}
 use Rattle.hip_gen.specs.Read.{IsReadAsSound}
 use Rattle.hip_io.specs.Cabinets.{CabinetState}
-use Rattle.hip_ir.specs.declared.program.Program.{Program}
+use Rattle.hip_tree.specs.declared.program.Program.{Program}
 use Rattle.hip_repair_answers.specs.Cured.{IsCured, repaired_for}
 use Rattle.hip_repairs.specs.Choice.{plan_for}
 use Rattle.hip_repairs.specs.CloneNumbers.{clone_numbers}

@@ -1,8 +1,8 @@
 -- A run that is recorded in memory, and what replaying its trace gives.
 use Rattle.std.specs.Prelude.{ℕ, ◌≡◌, List, length}
-use Rattle.hip_ir.specs.declared.program.Program.{Program}
+use Rattle.hip_tree.specs.declared.program.Program.{Program}
 use Rattle.hip_demo.specs.declared.replayed.Kept.{Kept}
-use Rattle.hip_replay.specs.declared.compared.Replayed.{Replayed}
+use Rattle.hip_following.specs.declared.compared.Replayed.{Replayed}
 use Rattle.hip_run_traces.specs.Misfits.{IsTraceOf}
 use Rattle.hip_run_traces.specs.Traces.{IsTrace}
 use Rattle.hip_runs.specs.Found.Marks.{IsFound}

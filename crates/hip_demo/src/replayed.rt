@@ -7,13 +7,15 @@ ghost use Rattle.hip_runs.specs.Validity.{IsValid};
 ghost use Rattle.hip_runs.specs.declared.input.Input.{Input};
 
 use crate::kept::KeptText;
+use hip_following::{Replayed, replay};
 use hip_io::{Cabinet, Fetched, MemCabinet, NamedFile};
-use hip_replay::{Recorded, ReplayRefusal, Replayed, record_run, replay};
+use hip_lockstep::ReplayRefusal;
+use hip_recording::{Recorded, record_run};
 use hip_run_traces::{each_run_has_one_trace, misfits_are_one};
 use hip_runs::Input;
+use hip_sound::Checked;
 use hip_trace::Reader;
 use hip_types::{NoMemory, Row};
-use hip_typing::Checked;
 use std::alloc::Global;
 
 /// How many bytes of a trace in memory come at a time.

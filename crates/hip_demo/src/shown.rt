@@ -9,15 +9,15 @@ ghost use Rattle.hip_runs.specs.Validity.{IsInput, IsValid};
 use crate::generated::load_generated;
 use crate::replayed::{Kept, keep_run, replay_text};
 use hip_fix::apply;
+use hip_following::Replayed;
 use hip_gen::{LARGEST_SIZE, SEED_END};
 use hip_plan::plan;
 use hip_repair_answers::repairs_cure;
 use hip_repairs::{Plan, inputs_stay_valid};
-use hip_replay::Replayed;
 use hip_run_traces::{each_run_has_one_trace, written_traces_are_read_back};
 use hip_runs::{DEFAULT_LIMIT, Input, first_input};
+use hip_sound::Checked;
 use hip_types::{LOWEST_BASE, NoMemory, Row};
-use hip_typing::Checked;
 use std::alloc::Global;
 
 /// What is counted where a program was recorded, replayed, repaired and run again.

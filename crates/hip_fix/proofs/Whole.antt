@@ -7,11 +7,11 @@ use Rattle.std.proofs.lemmas.List.Folds.{list_any-append}
 use Rattle.hip_types.specs.declared.number.Scalar.{Scalar}
 use Rattle.hip_types.specs.declared.number.Scalar.TheVariants.{Int, Ptr}
 use Rattle.hip_types.specs.declared.number.Width.TheVariants.{W64}
-use Rattle.hip_ir.specs.declared.block.Block.{Block}
-use Rattle.hip_ir.specs.declared.program.Function.{Function}
-use Rattle.hip_ir.specs.declared.program.Program.{Program}
-use Rattle.hip_ir.specs.declared.site.Site.{Site}
-use Rattle.hip_typing.specs.Sound.{top_names}
+use Rattle.hip_tree.specs.declared.block.Block.{Block}
+use Rattle.hip_tree.specs.declared.program.Function.{Function}
+use Rattle.hip_tree.specs.declared.program.Program.{Program}
+use Rattle.hip_tree.specs.declared.site.Site.{Site}
+use Rattle.hip_sound.specs.Sound.{top_names}
 use Rattle.hip_calls.specs.Fresh.{fresh_names, name_of}
 use Rattle.hip_calls.specs.Laws.FreshLaws.{length-fresh_for}
 use Rattle.hip_repairs.specs.declared.plan.Plan.{Plan}

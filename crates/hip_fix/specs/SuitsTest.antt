@@ -2,11 +2,11 @@
 use Rattle.std.specs.Prelude.{Bool, true, false, cond, ◌&&◌, ◌||◌, is_none, List, [], ◌∷◌, Option, Some}
 use Rattle.std.specs.List.{list_all}
 use Rattle.hip_externs.specs.Externs.{call_of}
-use Rattle.hip_ir.specs.Sites.{instr_of, same_site}
-use Rattle.hip_ir.specs.declared.instr.Instr.{Instr}
-use Rattle.hip_ir.specs.declared.instr.Instr.TheVariants.{Call}
-use Rattle.hip_ir.specs.declared.program.Program.{Program}
-use Rattle.hip_ir.specs.declared.site.Site.{Site}
+use Rattle.hip_tree.specs.Sites.{instr_of, same_site}
+use Rattle.hip_tree.specs.declared.instr.Instr.{Instr}
+use Rattle.hip_tree.specs.declared.instr.Instr.TheVariants.{Call}
+use Rattle.hip_tree.specs.declared.program.Program.{Program}
+use Rattle.hip_tree.specs.declared.site.Site.{Site}
 use Rattle.hip_runs.specs.Sites.{is_flush_call, is_store}
 use Rattle.hip_repairs.specs.Suits.{site_before, is_ascending}
 use Rattle.hip_repairs.specs.declared.plan.Plan.{Plan}

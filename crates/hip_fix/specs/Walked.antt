@@ -1,6 +1,6 @@
 -- The repaired program as it is made: its functions in one walk, and then the declarations that the walk noted.
 use Rattle.std.specs.Prelude.{ℕ, List, ◌++◌}
-use Rattle.hip_ir.specs.declared.program.Program.{Program}
+use Rattle.hip_tree.specs.declared.program.Program.{Program}
 use Rattle.hip_repairs.specs.Repaired.{Clone, Wanted, repaired_functions, clone_functions}
 use Rattle.hip_insertions.specs.Walk.{none_needed, noted, added, marked_functions, marked_clones}
 

@@ -2,13 +2,13 @@ ghost use Rattle.std.specs.Prelude.{◌≡◌, [], ◌++◌, IfOk, OnOk};
 ghost use Rattle.std.specs.List.{filter};
 ghost use Rattle.std.specs.Str.{bytes_eq};
 ghost use Rattle.hip_types.specs.Distinct.{met};
-ghost use Rattle.hip_ir.specs.Sites.{sites_of};
+ghost use Rattle.hip_tree.specs.Sites.{sites_of};
 ghost use Rattle.hip_repairs.specs.Direct.{direct};
 ghost use Rattle.hip_fix.specs.DirectWalk as spec;
 ghost use Rattle.hip_fix.specs.DirectWalk.{alloca_names, body_allocas, outside_in_blocks, outside_in_body, outside_in_function, outside_in_functions, stores_by, volatile_names};
 
-use hip_ir::{Block, Const, Function, GlobalVar, Instr, Operand, Program, Site};
 use hip_names::NameSet;
+use hip_tree::{Block, Const, Function, GlobalVar, Instr, Operand, Program, Site};
 use hip_types::{NoMemory, Row};
 use std::alloc::Global;
 

@@ -1,6 +1,6 @@
 ghost use Rattle.std.specs.Prelude.{◌≡◌, ◌↔◌, IsTrue};
 ghost use Rattle.std.specs.List.{list_all};
-ghost use Rattle.hip_ir.specs.Sites.{instr_of};
+ghost use Rattle.hip_tree.specs.Sites.{instr_of};
 ghost use Rattle.hip_externs.specs.Externs.{call_of};
 ghost use Rattle.hip_runs.specs.Sites.{is_flush_call, is_store, only_flushes};
 ghost use Rattle.hip_repairs.specs.Suits as spec;
@@ -9,9 +9,9 @@ ghost use Rattle.hip_fix.specs.SuitsTest as test;
 ghost use Rattle.hip_fix.specs.SuitsTest.{begins_with, calls_defined, fences_pass};
 
 use hip_externs::ExternCall;
-use hip_ir::{Instr, Program, Site, instr_at};
 use hip_repairs::Plan;
-use hip_typing::Checked;
+use hip_sound::Checked;
+use hip_tree::{Instr, Program, Site, instr_at};
 
 fn is_before(a: Site, b: Site) -> bool
     ensures { result ≡ site_before a b }

@@ -1,14 +1,15 @@
 ghost use Rattle.std.specs.Prelude.{◌≡◌, length, IfOk};
 ghost use Rattle.hip_calls.specs.Fresh.{fresh_names};
-ghost use Rattle.hip_ir.specs.Sites.{has_site};
+ghost use Rattle.hip_tree.specs.Sites.{has_site};
 ghost use Rattle.hip_repairs.specs.Repaired.{cloned, clones_from, repaired, wanted_by};
 ghost use Rattle.hip_insertions.specs.Walk.{none_needed, wanted_in};
 ghost use Rattle.hip_fix.specs.Walked.{walked};
 
+use hip_copies::Structural;
 use hip_insertions::{CloneTable, Needed, Repair, SiteSet, declarations};
-use hip_ir::{Program, Site};
 use hip_repairs::Plan;
-use hip_types::{Name, NoMemory, Row, Structural};
+use hip_tree::{Program, Site};
+use hip_types::{Name, NoMemory, Row};
 use std::alloc::Global;
 
 /// What a plan asks for, in a program whose functions of these numbers have clones of these names.

@@ -1,5 +1,5 @@
 ghost use Rattle.std.specs.Prelude.{◌≡◌, length, IfOk, OnOk};
-ghost use Rattle.hip_ir.specs.Sites.{has_site};
+ghost use Rattle.hip_tree.specs.Sites.{has_site};
 ghost use Rattle.hip_runs.specs.Found.Marks.{IsFound};
 ghost use Rattle.hip_runs.specs.Validity.{IsValid};
 ghost use Rattle.hip_runs.specs.declared.input.Input.{Input};
@@ -16,13 +16,13 @@ ghost use Rattle.hip_repairs.specs.Repaired as spec;
 use crate::direct::direct_stores;
 use crate::program::repaired_program;
 use hip_calls::{callees, fresh_names};
-use hip_ir::{Function, Site};
 use hip_repairs::{
     CloneOf, Plan, Repaired, direct_stores_are_quiet, hoisted_calls_are_covered,
     hoisted_calls_are_fenced, repaired_is_sound, repairs_are_clean, repairs_do_no_harm,
 };
+use hip_sound::Checked;
+use hip_tree::{Function, Site};
 use hip_types::{NoMemory, Row};
-use hip_typing::Checked;
 use std::alloc::Global;
 
 /// The clones of the functions of these numbers, which stand behind all functions.

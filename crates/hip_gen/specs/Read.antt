@@ -1,8 +1,8 @@
 -- What a generated text is to the reader and to the checker.
 use Rattle.std.specs.Prelude.{ℕ, ◌≡◌}
-use Rattle.hip_ir.specs.Reading.{Reads}
-use Rattle.hip_ir.specs.Show.{show}
-use Rattle.hip_typing.specs.Sound.{IsSound}
+use Rattle.hip_grammar.specs.Reading.{Reads}
+use Rattle.hip_grammar.specs.Show.{show}
+use Rattle.hip_sound.specs.Sound.{IsSound}
 use Rattle.hip_gen.specs.Generated.{generated_program}
 use Rattle.hip_gen.specs.Lines.{generated_text}
 

@@ -4,7 +4,7 @@ use mathlib.Core.Bool.{beq}
 use Rattle.std.proofs.lemmas.List.{at_drop_more}
 use Rattle.std.specs.Prelude.{if◌then◌else◌}
 use Rattle.hip_types.specs.Layout.{size_of}
-use Rattle.hip_ir.specs.declared.program.GlobalVar.{GlobalVar}
+use Rattle.hip_tree.specs.declared.program.GlobalVar.{GlobalVar}
 use Rattle.hip_globals.specs.Addresses.{end_of, start_of, is_persistent, global_start, same_truth}
 
 later : (b : Bool) (at : ℕ) (g : GlobalVar) → at ≤ (if b then global_start at g + size_of g.ty else at)

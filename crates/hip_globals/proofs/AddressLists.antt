@@ -3,7 +3,7 @@ use Rattle.std.proofs.Common.{ℕ, ◌+◌, ◌<◌, ◌≤◌, ◌^◌, ◌≡�
 use Rattle.std.proofs.lemmas.List.{at_drop_more}
 use Rattle.std.proofs.Math.ListN.{drop_of_length-le}
 use Rattle.hip_types.specs.Layout.{size_of}
-use Rattle.hip_ir.specs.declared.program.GlobalVar.{GlobalVar}
+use Rattle.hip_tree.specs.declared.program.GlobalVar.{GlobalVar}
 use Rattle.hip_globals.specs.Addresses.{end_of, global_start}
 use Rattle.hip_globals.specs.AddressesSeen.{laid_entries, address_entry}
 use Rattle.hip_names.specs.Tables.{Gains}

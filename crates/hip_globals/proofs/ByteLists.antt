@@ -4,7 +4,7 @@ use Rattle.std.specs.Int.{next_multiple_of}
 use Rattle.std.proofs.lemmas.List.{take_all, take-append-drop, drop-take, map-append, get_or_append_left, get_or-append-add}
 use Rattle.std.proofs.lemmas.Grind.{common_steps}
 use Rattle.std.proofs.Math.Seq.{take-append_seam, drop-append_seam}
-use Rattle.hip_mem.specs.Bytes.{bytes_of}
+use Rattle.hip_types.specs.Bytes.{bytes_of}
 use Rattle.hip_types.specs.Layout.{Fits}
 use Rattle.hip_types.specs.declared.ty.Ty.{Ty}
 use Rattle.hip_globals.specs.Constants.{joined}

@@ -2,9 +2,9 @@
 use Rattle.std.proofs.Common.{ℕ, ◌≡◌, List, ◌∷◌, ap}
 use Rattle.hip_types.specs.Layout.{Fits, size_of, align_of}
 use Rattle.hip_types.specs.declared.ty.Ty.{Ty}
-use Rattle.hip_ir.specs.declared.constant.ConstGep.{ConstGep}
-use Rattle.hip_ir.specs.declared.constant.TypedConst.{TypedConst}
-use Rattle.hip_ir.specs.declared.constant.Const.TheFolds.{fold_out-ConstGep, fold_out-TypedConst}
+use Rattle.hip_tree.specs.declared.constant.ConstGep.{ConstGep}
+use Rattle.hip_tree.specs.declared.constant.TypedConst.{TypedConst}
+use Rattle.hip_tree.specs.declared.constant.Const.TheFolds.{fold_out-ConstGep, fold_out-TypedConst}
 use Rattle.hip_globals.specs.Constants.{types_step, gep_types_step, item_types_step, types_in, gep_types, item_types}
 use Rattle.hip_globals.specs.InitialSeen.{AllFit, item_piece}
 use Rattle.hip_globals.specs.Values.{Written, Piece, written_step, gep_step, item_step, written, sized}

@@ -8,9 +8,9 @@ use Rattle.std.proofs.Math.Path.{fun_ext}
 use Rattle.std.proofs.lemmas.List.{at_drop_more, length-replicate}
 use Rattle.hip_types.specs.declared.memory.NoMemory.{NoMemory}
 use Rattle.hip_types.specs.Layout.{size_of}
-use Rattle.hip_ir.specs.declared.program.GlobalVar.{GlobalVar}
-use Rattle.hip_ir.specs.declared.program.Program.{Program}
-use Rattle.hip_mem.specs.Memory.{volatile_start}
+use Rattle.hip_tree.specs.declared.program.GlobalVar.{GlobalVar}
+use Rattle.hip_tree.specs.declared.program.Program.{Program}
+use Rattle.hip_types.specs.Areas.{volatile_start}
 use Rattle.hip_globals.specs.Addresses.{end_of, start_of, is_persistent, global_align, global_start, same_truth, region_size, volatile_end}
 use Rattle.hip_globals.specs.AddressesSeen.{address_beside, laid_entries}
 use Rattle.hip_globals.specs.Constants.{types_in}

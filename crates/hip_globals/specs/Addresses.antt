@@ -3,11 +3,11 @@
 use Rattle.std.specs.Prelude.{ℕ, zero, suc, ◌+◌, ◌%◌, ◌==◌, ◌≡◌, ◌==◌, ◌≤◌, ◌&&◌, nat_le, max, Bool, true, false, List, [], ◌∷◌, All, Option, Some, None, if◌then◌else◌}
 use Rattle.std.specs.Int.{next_multiple_of}
 use Rattle.hip_types.specs.Layout.{Fits, shape}
-use Rattle.hip_types.specs.declared.limits.TheConstants.{BASE_ALIGNMENT, HIGHEST_BASE, LARGEST_REGION, LARGEST_VOLATILE, LOWEST_BASE}
-use Rattle.hip_ir.specs.declared.program.GlobalVar.{GlobalVar}
-use Rattle.hip_ir.specs.declared.program.Program.{Program}
-use Rattle.hip_lines.specs.declared.TheConstants.{LINE_SIZE}
-use Rattle.hip_mem.specs.Memory.{volatile_start}
+use Rattle.hip_types.specs.declared.limits.TheConstants.{BASE_ALIGNMENT, HIGHEST_BASE, LARGEST_ALIGNMENT, LARGEST_REGION, LARGEST_VOLATILE, LOWEST_BASE}
+use Rattle.hip_tree.specs.declared.program.GlobalVar.{GlobalVar}
+use Rattle.hip_tree.specs.declared.program.Program.{Program}
+use Rattle.hip_types.specs.declared.areas.TheConstants.{LINE_SIZE}
+use Rattle.hip_types.specs.Areas.{volatile_start}
 use Rattle.hip_globals.specs.Constants.{types_in}
 
 -- whether two truth values are equal
@@ -86,6 +86,11 @@ OwnTypesFit globals = All (λ g. Fits g.ty) globals
 -- the type of the global fits, and those in its initialiser
 abbrev pub TypesFitIn : GlobalVar → Type 0
 TypesFitIn g = All Fits (g.ty ∷ types_in g.init)
+
+-- the alignment of each global divides the largest one that can be written, and so each base
+abbrev pub AllDivide : List GlobalVar → Type 0
+AllDivide [] = Unit {0}
+AllDivide (g ∷ gs) = (LARGEST_ALIGNMENT % global_align g ≡ 0) × AllDivide gs
 
 -- the region and the volatile globals have at most as many bytes as they may
 abbrev pub are_within_limits : List GlobalVar → Bool

@@ -1,7 +1,7 @@
 -- The addresses of globals, as they are laid one after another.
 use Rattle.std.specs.Prelude.{ℕ, ◌+◌, List, [], ◌∷◌, unwrap_or, if◌then◌else◌}
 use Rattle.hip_types.specs.Layout.{size_of}
-use Rattle.hip_ir.specs.declared.program.GlobalVar.{GlobalVar}
+use Rattle.hip_tree.specs.declared.program.GlobalVar.{GlobalVar}
 use Rattle.hip_globals.specs.Addresses.{global_start}
 use Rattle.hip_names.specs.Tables.{Entry, value_beside}
 use Rattle.hip_names.specs.declared.table.NameTable.{NameTable}

@@ -1,7 +1,7 @@
 -- Where the bytes of a global stand among those of all.
 use Rattle.std.specs.Prelude.{ℕ, ◌-◌, ◌≡◌, Bool, true, List, take, drop, length, Some, slice_get}
-use Rattle.hip_ir.specs.declared.program.GlobalVar.{GlobalVar}
-use Rattle.hip_ir.specs.declared.program.Program.{Program}
+use Rattle.hip_tree.specs.declared.program.GlobalVar.{GlobalVar}
+use Rattle.hip_tree.specs.declared.program.Program.{Program}
 use Rattle.hip_globals.specs.Addresses.{same_truth, start_of}
 use Rattle.hip_globals.specs.Values.{global_address, constant_bytes}
 

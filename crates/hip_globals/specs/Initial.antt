@@ -1,10 +1,10 @@
 -- The bytes that the globals hold before a program runs: those of their initialisers, each where its global lies, with
 -- zeros in between.
 use Rattle.std.specs.Prelude.{ℕ, Bool, true, false, List, [], ◌∷◌, ◌++◌, if◌then◌else◌}
-use Rattle.hip_ir.specs.declared.program.GlobalVar.{GlobalVar}
-use Rattle.hip_ir.specs.declared.program.Program.{Program}
-use Rattle.hip_lines.specs.declared.TheConstants.{LINE_SIZE}
-use Rattle.hip_mem.specs.Memory.{volatile_start}
+use Rattle.hip_tree.specs.declared.program.GlobalVar.{GlobalVar}
+use Rattle.hip_tree.specs.declared.program.Program.{Program}
+use Rattle.hip_types.specs.declared.areas.TheConstants.{LINE_SIZE}
+use Rattle.hip_types.specs.Areas.{volatile_start}
 use Rattle.hip_globals.specs.Addresses.{global_align, same_truth}
 use Rattle.hip_globals.specs.Values.{global_address, aligned, constant_bytes}
 

@@ -2,9 +2,9 @@
 use Rattle.std.specs.Prelude.{ℕ, ◌<◌, List, ◌∷◌, All, length, get_or}
 use Rattle.hip_types.specs.declared.ty.Ty.{Ty}
 use Rattle.hip_types.specs.Layout.{Fits}
-use Rattle.hip_ir.specs.declared.constant.TypedConst.{TypedConst}
-use Rattle.hip_ir.specs.declared.constant.Const.TheFolds.{fold-TypedConst}
-use Rattle.hip_ir.specs.declared.program.GlobalVar.{GlobalVar}
+use Rattle.hip_tree.specs.declared.constant.TypedConst.{TypedConst}
+use Rattle.hip_tree.specs.declared.constant.Const.TheFolds.{fold-TypedConst}
+use Rattle.hip_tree.specs.declared.program.GlobalVar.{GlobalVar}
 use Rattle.hip_globals.specs.Constants.{types_in}
 use Rattle.hip_globals.specs.Values.{Written, Piece, written_step, gep_step, item_step}
 

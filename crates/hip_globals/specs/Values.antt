@@ -3,12 +3,12 @@ use Rattle.std.specs.Prelude.{ℕ, ◌+◌, ◌-◌, ◌%◌, ◌^◌, List, [],
 use Rattle.std.specs.Int.{next_multiple_of}
 use Rattle.hip_types.specs.declared.ty.Ty.{Ty}
 use Rattle.hip_types.specs.Layout.{size_of, align_of, gep_of}
-use Rattle.hip_ir.specs.declared.constant.Const.{Const}
-use Rattle.hip_ir.specs.declared.constant.Const.TheOpen.{Const-F, ConstGep-F, TypedConst-F}
-use Rattle.hip_ir.specs.declared.constant.Const.TheFolds.{fold-Const, fold-ConstGep}
-use Rattle.hip_ir.specs.declared.constant.ConstGep.{ConstGep}
-use Rattle.hip_ir.specs.declared.program.GlobalVar.{GlobalVar}
-use Rattle.hip_mem.specs.Bytes.{bytes_of}
+use Rattle.hip_tree.specs.declared.constant.Const.{Const}
+use Rattle.hip_tree.specs.declared.constant.Const.TheOpen.{Const-F, ConstGep-F, TypedConst-F}
+use Rattle.hip_tree.specs.declared.constant.Const.TheFolds.{fold-Const, fold-ConstGep}
+use Rattle.hip_tree.specs.declared.constant.ConstGep.{ConstGep}
+use Rattle.hip_tree.specs.declared.program.GlobalVar.{GlobalVar}
+use Rattle.hip_types.specs.Bytes.{bytes_of}
 use Rattle.hip_globals.specs.Addresses.{address_in}
 use Rattle.hip_globals.specs.Constants.{index_of, joined}
 use Rattle.hip_names.specs.Names.{number_of}

@@ -2,14 +2,12 @@ ghost use Rattle.std.specs.Prelude.{◌≡◌, ◌+◌, ◌%◌, ◌<◌, ◌≤
 ghost use Rattle.std.specs.Option.{SomeIff};
 ghost use Rattle.hip_types.specs.Layout.{Fits, size_of};
 ghost use Rattle.hip_globals.specs.Addresses as spec;
-ghost use Rattle.hip_globals.specs.Addresses.{OwnTypesFit, global_align, global_start};
-ghost use Rattle.hip_ir.specs.Reading.{IsSpelled};
+ghost use Rattle.hip_globals.specs.Addresses.{AllDivide, OwnTypesFit, global_align, global_start};
 
-use hip_ir::{GlobalVar, Program};
-use hip_lines::LINE_SIZE;
-use hip_mem::VOLATILE_START;
+use hip_tree::{GlobalVar, Program};
 use hip_types::{
-    BASE_ALIGNMENT, HIGHEST_BASE, LARGEST_REGION, LARGEST_VOLATILE, LOWEST_BASE, align, size,
+    BASE_ALIGNMENT, HIGHEST_BASE, LARGEST_REGION, LARGEST_VOLATILE, LINE_SIZE, LOWEST_BASE,
+    VOLATILE_START, align, size,
 };
 
 /// Where the last volatile global may end.
@@ -124,7 +122,7 @@ fn start_of(globals: &[GlobalVar], persistent: bool, start: u64, number: usize) 
 
 /// The address of the global of that number, where the region begins at a base.
 pub fn address(program: &Program, base: u64, number: usize) -> u64
-    requires spelled { IsSpelled program.now }
+    requires aligned { AllDivide program.now.globals }
     requires fit { OwnTypesFit program.now.globals }
     requires base { base % BASE_ALIGNMENT ≡ 0 }
     requires persistent { spec.end_of true base program.now.globals < 2 ^ 64 }

@@ -1,6 +1,6 @@
 ghost use Rattle.std.specs.Prelude.{◌≡◌, ◌<◌, ◌^◌, All, IfOk, true, false};
 ghost use Rattle.hip_types.specs.Layout.{Fits};
-ghost use Rattle.hip_mem.specs.Memory.{volatile_start};
+ghost use Rattle.hip_types.specs.Areas.{volatile_start};
 ghost use Rattle.hip_globals.specs.Addresses.{OwnTypesFit, end_of};
 ghost use Rattle.hip_globals.specs.AddressesSeen.{address_beside};
 ghost use Rattle.hip_globals.specs.Constants.{types_in};
@@ -8,7 +8,7 @@ ghost use Rattle.hip_globals.specs.Values.{global_address, written};
 
 use crate::initial::value_of;
 use crate::table::{AddressTable, address_of, address_table};
-use hip_ir::{Const, GlobalVar};
+use hip_tree::{Const, GlobalVar};
 use hip_types::{Name, NoMemory};
 use std::alloc::Global;
 use std::marker::Model;

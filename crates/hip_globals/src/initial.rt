@@ -1,6 +1,6 @@
 ghost use Rattle.std.specs.Prelude.{◌≡◌, ◌<◌, ◌≤◌, ◌++◌, ◌+◌, [], length, replicate, take, drop, map, IfOk, OnOk, unwrap_or};
 ghost use Rattle.hip_types.specs.Layout.{Fits, gep_of};
-ghost use Rattle.hip_mem.specs.Bytes.{bytes_of};
+ghost use Rattle.hip_types.specs.Bytes.{bytes_of};
 ghost use Rattle.hip_globals.specs.AddressesSeen.{address_beside};
 ghost use Rattle.hip_globals.specs.Constants.{index_of, joined, types_in, gep_types, item_types};
 ghost use Rattle.hip_globals.specs.InitialSeen.{AllFit, item_piece};
@@ -8,7 +8,7 @@ ghost use Rattle.hip_globals.specs.Values.{aligned, sized, placed, written, gep_
 
 use crate::indices::index;
 use crate::table::{AddressTable, address_of};
-use hip_ir::{Const, ConstGep, TypedConst};
+use hip_tree::{Const, ConstGep, TypedConst};
 use hip_types::{Bits, NoMemory, Row, Ty, align, gep_offset, size};
 use std::alloc::Global;
 

@@ -1,5 +1,5 @@
 ghost use Rattle.std.specs.Prelude.{◌≡◌, ◌<◌, ◌+◌, ◌^◌, ◌++◌, ◌∷◌, [], true, false, length, All, IfOk, OnOk};
-ghost use Rattle.hip_mem.specs.Memory.{volatile_start};
+ghost use Rattle.hip_types.specs.Areas.{volatile_start};
 ghost use Rattle.hip_globals.specs.Addresses.{end_of, global_align, region_size, volatile_end};
 ghost use Rattle.hip_globals.specs.AddressesSeen.{address_beside};
 ghost use Rattle.hip_globals.specs.Constants.{types_in};
@@ -12,10 +12,8 @@ ghost use Rattle.hip_globals.specs.Values.{aligned, constant_bytes};
 use crate::addresses::alignment;
 use crate::initial::{push_constant, set_align, set_size};
 use crate::table::{AddressTable, address_table};
-use hip_ir::{GlobalVar, Program};
-use hip_lines::LINE_SIZE;
-use hip_mem::VOLATILE_START;
-use hip_types::{NoMemory, Row, size};
+use hip_tree::{GlobalVar, Program};
+use hip_types::{LINE_SIZE, NoMemory, Row, VOLATILE_START, size};
 use std::alloc::Global;
 
 /// Adds the bytes of a global behind those of the globals before it, the first of which lies at an address.

@@ -1,17 +1,16 @@
 ghost use Rattle.std.specs.Prelude.{[], ◌∷◌, ◌≡◌, ◌<◌, ◌+◌, ◌^◌, true, false, IfOk, OnOk};
 ghost use Rattle.hip_types.specs.Layout.{Fits, size_of};
 ghost use Rattle.hip_globals.specs.Addresses as spec;
-ghost use Rattle.hip_mem.specs.Memory.{volatile_start};
+ghost use Rattle.hip_types.specs.Areas.{volatile_start};
 ghost use Rattle.hip_globals.specs.Addresses.{OwnTypesFit, global_start};
 ghost use Rattle.hip_globals.specs.AddressesSeen.{address_entry, address_beside, laid_entries};
 ghost use Rattle.hip_names.specs.Tables.{Gains};
 ghost use Rattle.hip_names.specs.Tables.{StandsFor};
 
 use crate::addresses::alignment;
-use hip_ir::GlobalVar;
-use hip_mem::VOLATILE_START;
 use hip_names::NameTable;
-use hip_types::{Name, NoMemory, size};
+use hip_tree::GlobalVar;
+use hip_types::{Name, NoMemory, VOLATILE_START, size};
 use std::alloc::Global;
 
 /// The addresses of globals by their names.

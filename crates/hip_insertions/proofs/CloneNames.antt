@@ -2,13 +2,13 @@
 use Rattle.std.proofs.Common.{ℕ, zero, suc, ◌<◌, ◌≡◌, Bool, true, false, cond, List, [], ◌∷◌, length, map, get_or, Option, Some, None, option_map, refl, sym, ap, ◌∙◌, arith}
 use Rattle.std.specs.Prelude.{option_and_then, slice_get, unwrap_or}
 use Rattle.std.specs.Str.{bytes_eq}
-use Rattle.hip_ir.specs.declared.program.Program.{Program}
+use Rattle.hip_tree.specs.declared.program.Program.{Program}
 use Rattle.hip_names.specs.Laws.NameLaws.{bytes_eq-sym}
 use Rattle.hip_names.specs.Names.{number_of}
 use Rattle.hip_names.specs.Laws.NumberLaws.{number_of-cons}
 use Rattle.hip_names.specs.Tables.{value_beside}
 use Rattle.hip_calls.specs.Fresh.{name_of}
-use Rattle.hip_calls.specs.Numbered.{Numbers}
+use Rattle.hip_names.specs.Numbered.{Numbers}
 use Rattle.hip_repairs.specs.Repaired.{clone_name, clones_from}
 
 -- the name at a number, if there is one; else another

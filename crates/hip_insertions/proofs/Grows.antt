@@ -2,8 +2,8 @@
 use Rattle.std.proofs.Common.{ℕ, ◌≡◌, ◌||◌, ◌&&◌, Bool, true, false, List, [], ◌∷◌, ◌++◌, append_assoc, append-nil, refl, sym, ap, ◌∙◌}
 use Rattle.std.proofs.lemmas.List.{map-append}
 use Rattle.std.proofs.lemmas.List.Folds.{list_any-append}
-use Rattle.hip_ir.specs.declared.instr.Instr.{Instr}
-use Rattle.hip_ir.specs.declared.instr.Operand.{Operand}
+use Rattle.hip_tree.specs.declared.instr.Instr.{Instr}
+use Rattle.hip_tree.specs.declared.instr.Operand.{Operand}
 use Rattle.hip_repairs.specs.Repaired.{Marked, inserts, is_call_of, instrs_of, clwb_name, sfence_name, pmem_flush_name, line_flush, range_flush, the_fence}
 use Rattle.hip_insertions.specs.Walk.{grown, noted}
 use Rattle.hip_insertions.specs.declared.body.Body.{Body}

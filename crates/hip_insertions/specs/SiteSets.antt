@@ -1,8 +1,8 @@
 -- What a set of sites stands for.
 use Rattle.std.specs.Prelude.{ℕ, ◌≡◌, ◌&&◌, Bool, List, nat_eq}
 use Rattle.std.specs.List.{list_any}
-use Rattle.hip_ir.specs.Sites.{has_site}
-use Rattle.hip_ir.specs.declared.site.Site.{Site}
+use Rattle.hip_tree.specs.Sites.{has_site}
+use Rattle.hip_tree.specs.declared.site.Site.{Site}
 
 -- function, block and index of a site
 abbrev pub Key : Type 0

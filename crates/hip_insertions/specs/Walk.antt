@@ -4,13 +4,13 @@ use Rattle.std.specs.Prelude.{ℕ, suc, Bool, true, false, ◌||◌, List, [], �
 use Rattle.std.specs.List.{flat_map}
 use Rattle.hip_types.specs.declared.number.Scalar.TheVariants.{Int, Ptr}
 use Rattle.hip_types.specs.declared.number.Width.TheVariants.{W64}
-use Rattle.hip_ir.specs.Sites.{has_site}
-use Rattle.hip_ir.specs.declared.block.Block.{Block}
-use Rattle.hip_ir.specs.declared.instr.Instr.{Instr}
-use Rattle.hip_ir.specs.declared.program.Extern.{Extern}
-use Rattle.hip_ir.specs.declared.program.Function.{Function}
-use Rattle.hip_ir.specs.declared.program.Program.{Program}
-use Rattle.hip_ir.specs.declared.site.Site.{Site}
+use Rattle.hip_tree.specs.Sites.{has_site}
+use Rattle.hip_tree.specs.declared.block.Block.{Block}
+use Rattle.hip_tree.specs.declared.instr.Instr.{Instr}
+use Rattle.hip_tree.specs.declared.program.Extern.{Extern}
+use Rattle.hip_tree.specs.declared.program.Function.{Function}
+use Rattle.hip_tree.specs.declared.program.Program.{Program}
+use Rattle.hip_tree.specs.declared.site.Site.{Site}
 use Rattle.hip_repairs.specs.Repaired.{Marked, Clone, Wanted, clwb_name, sfence_name, pmem_flush_name, declared_if, renamed, inserted_behind, repaired_body, instrs_of, inserts}
 use Rattle.hip_insertions.specs.declared.body.Body.{Body}
 use Rattle.hip_insertions.specs.declared.body.Needed.{Needed}

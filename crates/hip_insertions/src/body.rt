@@ -5,7 +5,7 @@ ghost use Rattle.hip_repairs.specs.Repaired.{fence_behind, flush_behind, flush_o
 ghost use Rattle.hip_insertions.specs.Walk.{grown, none_needed};
 
 use crate::insertions::{fence, is_wide, line_flush, range_flush};
-use hip_ir::{Instr, Operand};
+use hip_tree::{Instr, Operand};
 use hip_types::{NoMemory, Row, Scalar};
 use std::alloc::Global;
 

@@ -1,11 +1,11 @@
 ghost use Rattle.std.specs.Prelude.{◌≡◌, IfOk, map, unwrap_or, slice_get};
 ghost use Rattle.hip_calls.specs.Fresh.{name_of};
-ghost use Rattle.hip_calls.specs.Numbered.{Numbers};
+ghost use Rattle.hip_names.specs.Numbered.{Numbers};
 ghost use Rattle.hip_repairs.specs.Repaired.{clone_name, clones_from};
 
 use hip_calls::name_of;
-use hip_ir::Program;
 use hip_names::NameTable;
+use hip_tree::Program;
 use hip_types::{Name, NoMemory};
 use std::alloc::Global;
 use std::marker::Model;
@@ -22,7 +22,7 @@ pub struct CloneTable<'a> {
 impl<'a> Model for CloneTable<'a> {
     ghost use Rattle.std.specs.Prelude.{List, map};
     ghost use Rattle.hip_calls.specs.Fresh.{name_of};
-    ghost use Rattle.hip_calls.specs.Numbered.{Numbers};
+    ghost use Rattle.hip_names.specs.Numbered.{Numbers};
     ghost use Rattle.hip_repairs.specs.Repaired.{Clone, clones_from};
 
     ghost Value = { List Clone };

@@ -4,8 +4,9 @@ ghost use Rattle.hip_repairs.specs.Repaired.{clwb_name, declared_if, pmem_flush_
 ghost use Rattle.hip_insertions.specs.Walk.{added};
 
 use crate::body::Needed;
-use hip_ir::Extern;
-use hip_types::{NoMemory, Row, Scalar, Structural, Width};
+use hip_copies::Structural;
+use hip_tree::Extern;
+use hip_types::{NoMemory, Row, Scalar, Width};
 use std::alloc::Global;
 
 /// Whether one of the declarations has the name.

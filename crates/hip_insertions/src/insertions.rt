@@ -3,8 +3,9 @@ ghost use Rattle.hip_runs.specs.Operands.{access_align, scalar_size};
 ghost use Rattle.hip_repairs.specs.Repaired as spec;
 ghost use Rattle.hip_repairs.specs.Repaired.{is_wide};
 
-use hip_ir::{Arg, Const, Instr, Operand};
-use hip_types::{Bits, NoMemory, Row, Scalar, Structural, Width};
+use hip_copies::Structural;
+use hip_tree::{Arg, Const, Instr, Operand};
+use hip_types::{Bits, NoMemory, Row, Scalar, Width};
 use std::alloc::Global;
 
 /// How many bytes a scalar takes in memory.

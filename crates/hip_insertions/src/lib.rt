@@ -8,7 +8,7 @@ mod insertions;
 mod repair;
 mod sites;
 
-pub use body::Needed;
+pub use body::{Body, Needed};
 pub use clone_table::CloneTable;
 pub use externs::declarations;
 pub use repair::Repair;

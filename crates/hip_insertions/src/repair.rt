@@ -6,8 +6,9 @@ ghost use Rattle.hip_insertions.specs.Walk.{grown, marked_blocks, marked_clone, 
 use crate::body::{Body, Needed};
 use crate::clone_table::CloneTable;
 use crate::sites::SiteSet;
-use hip_ir::{Block, Function, Instr, Program, Site};
-use hip_types::{Name, NoMemory, Row, Structural};
+use hip_copies::Structural;
+use hip_tree::{Block, Function, Instr, Program, Site};
+use hip_types::{Name, NoMemory, Row};
 use std::alloc::Global;
 
 /// Where a repair inserts, and what its clones are named. In clones the stores of `skip` get no flush by cloning.
@@ -49,14 +50,14 @@ impl Repair<'_> {
     }
 
     /// Whether a call there names a clone, of a function or of its clone.
-    fn names_clone(&self, is_clone: bool, site: Site) -> bool
+    pub fn names_clone(&self, is_clone: bool, site: Site) -> bool
         ensures { result ≡ (is_clone || (wanted_in self.now).hoist site) }
     {
         is_clone || self.hoist.contains(site)
     }
 
     /// Whether a store there gets a flush, of a function or of its clone.
-    fn is_flushed(&self, is_clone: bool, site: Site) -> bool
+    pub fn is_flushed(&self, is_clone: bool, site: Site) -> bool
         ensures { result
             ≡ ((wanted_in self.now).flush_after site || (is_clone && not ((wanted_in self.now).skip site))) }
     {
@@ -64,14 +65,14 @@ impl Repair<'_> {
     }
 
     /// Whether a fence follows what stands there and what is inserted behind it.
-    fn is_fenced(&self, site: Site) -> bool
+    pub fn is_fenced(&self, site: Site) -> bool
         ensures { result ≡ ((wanted_in self.now).fence_after site || (wanted_in self.now).hoist site) }
     {
         self.fence_after.contains(site) || self.hoist.contains(site)
     }
 
     /// Adds a repaired instruction of a function or of its clone, with what is inserted behind it.
-    fn add_repaired(
+    pub fn add_repaired(
         &self,
         alloc: Global,
         body: &mut Body,

@@ -1,8 +1,8 @@
 ghost use Rattle.std.specs.Prelude.{◌≡◌, IfOk, OnOk};
-ghost use Rattle.hip_ir.specs.Sites.{has_site};
+ghost use Rattle.hip_tree.specs.Sites.{has_site};
 ghost use Rattle.hip_insertions.specs.SiteSets.{HasSites};
 
-use hip_ir::Site;
+use hip_tree::Site;
 use hip_types::NoMemory;
 use indexmap::IndexSet;
 use std::alloc::Global;
@@ -17,7 +17,7 @@ pub struct SiteSet<'a> {
 
 impl<'a> Model for SiteSet<'a> {
     ghost use Rattle.std.specs.Prelude.{List};
-    ghost use Rattle.hip_ir.specs.declared.site.Site.{Site};
+    ghost use Rattle.hip_tree.specs.declared.site.Site.{Site};
     ghost use Rattle.hip_insertions.specs.SiteSets.{HasSites};
 
     ghost Value = { List Site };

@@ -1,7 +1,7 @@
 -- How many steps and entries a run has at most.
 use Rattle.std.specs.Prelude.{ℕ, suc, ◌+◌, ◌*◌, ◌/◌, ◌≤◌, ◌<◌, ◌^◌, length}
-use Rattle.hip_ir.specs.declared.program.Program.{Program}
-use Rattle.hip_lines.specs.declared.TheConstants.{LINE_SIZE}
+use Rattle.hip_tree.specs.declared.program.Program.{Program}
+use Rattle.hip_types.specs.declared.areas.TheConstants.{LINE_SIZE}
 use Rattle.hip_runs.specs.declared.input.Input.{Input}
 use Rattle.hip_runs.specs.Ends.{longest}
 use Rattle.hip_runs.specs.Step.{header_entries, run}

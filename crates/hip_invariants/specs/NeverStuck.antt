@@ -1,17 +1,17 @@
 -- A machine that never gets stuck: what its next step reads is there.
 use Rattle.std.specs.Prelude.{◌≡◌, ℕ, All, List, [], ◌∷◌, Some, slice_get}
-use Rattle.hip_ir.specs.declared.block.Block.{Block}
-use Rattle.hip_ir.specs.declared.block.Edge.{Edge}
-use Rattle.hip_ir.specs.declared.block.End.{End}
-use Rattle.hip_ir.specs.declared.block.Phi.{Phi}
-use Rattle.hip_ir.specs.declared.instr.Instr.{Instr}
-use Rattle.hip_ir.specs.declared.program.Function.{Function}
-use Rattle.hip_ir.specs.declared.program.Program.{Program}
+use Rattle.hip_tree.specs.declared.block.Block.{Block}
+use Rattle.hip_tree.specs.declared.block.Edge.{Edge}
+use Rattle.hip_tree.specs.declared.block.End.{End}
+use Rattle.hip_tree.specs.declared.block.Phi.{Phi}
+use Rattle.hip_tree.specs.declared.instr.Instr.{Instr}
+use Rattle.hip_tree.specs.declared.program.Function.{Function}
+use Rattle.hip_tree.specs.declared.program.Program.{Program}
 use Rattle.hip_names.specs.Names.{IsAmong}
-use Rattle.hip_typing.specs.Paths.{IsAssigned}
-use Rattle.hip_typing.specs.Places.{edge_labels}
-use Rattle.hip_typing.specs.Registers.{instr_uses, end_uses, end_labels, operand_registers, used_registers}
-use Rattle.hip_typing.specs.declared.assigned.Point.TheVariants.{Before}
+use Rattle.hip_sound.specs.Paths.{IsAssigned}
+use Rattle.hip_sound.specs.Places.{edge_labels}
+use Rattle.hip_sound.specs.Registers.{instr_uses, end_uses, end_labels, operand_registers, used_registers}
+use Rattle.hip_sound.specs.declared.point.Point.TheVariants.{Before}
 use Rattle.hip_runs.specs.declared.event.Ending.TheVariants.{Trap}
 use Rattle.hip_runs.specs.declared.event.Event.TheVariants as events
 use Rattle.hip_runs.specs.declared.event.TrapKind.TheVariants as traps

@@ -1,12 +1,12 @@
 -- How control has come to a frame's place: along a path through its function on which registers were assigned.
 use Rattle.std.specs.Prelude.{◌≡◌, ◌⊎◌, ℕ, List, [], ◌∷◌, ◌++◌, map, Option, Some, None, slice_get}
-use Rattle.hip_ir.specs.declared.block.Block.{Block}
-use Rattle.hip_ir.specs.declared.block.End.TheVariants as ends
-use Rattle.hip_ir.specs.declared.program.Function.{Function}
-use Rattle.hip_ir.specs.declared.program.Program.{Program}
+use Rattle.hip_tree.specs.declared.block.Block.{Block}
+use Rattle.hip_tree.specs.declared.block.End.TheVariants as ends
+use Rattle.hip_tree.specs.declared.program.Function.{Function}
+use Rattle.hip_tree.specs.declared.program.Program.{Program}
 use Rattle.hip_names.specs.Names.{IsAmong}
-use Rattle.hip_typing.specs.Paths.{IsPathTo, assigned_on}
-use Rattle.hip_typing.specs.declared.assigned.Point.TheVariants.{Before}
+use Rattle.hip_sound.specs.Paths.{IsPathTo, assigned_on}
+use Rattle.hip_sound.specs.declared.point.Point.TheVariants.{Before}
 use Rattle.hip_runs.specs.Places.{code_at, end_at}
 use Rattle.hip_runs.specs.State.{Registers, Frame}
 

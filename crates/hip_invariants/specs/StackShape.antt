@@ -1,6 +1,6 @@
 -- The shape of the stack: its blocks and marks lie in order.
 use Rattle.std.specs.Prelude.{◌≡◌, ℕ, suc, ◌+◌, ◌≤◌, List, [], ◌∷◌, length, Some, None}
-use Rattle.hip_mem.specs.Memory.{stack_start, stack_end}
+use Rattle.hip_types.specs.Areas.{stack_start, stack_end}
 use Rattle.hip_runs.specs.State.{Slot, Level, Frame, State, levels_of}
 use Rattle.hip_runs.specs.declared.limits.TheConstants.{MOST_FRAMES}
 

@@ -1,8 +1,8 @@
 //! The laws of what runs keep, on definitions alone.
 
 ghost use Rattle.std.specs.Prelude.{ℕ, ◌<◌, ◌^◌, List};
-ghost use Rattle.hip_ir.specs.declared.program.Program.{Program};
-ghost use Rattle.hip_typing.specs.Sound.{IsSound};
+ghost use Rattle.hip_tree.specs.declared.program.Program.{Program};
+ghost use Rattle.hip_sound.specs.Sound.{IsSound};
 ghost use Rattle.hip_runs.specs.Ends.{longest};
 ghost use Rattle.hip_runs.specs.State.{Frame};
 ghost use Rattle.hip_runs.specs.Step.{run};

@@ -1,5 +1,5 @@
 -- The table of the last parts of a line.
-use Rattle.std.proofs.Common.{◌≡◌, ◌⊎◌, inl, inr, ℕ, zero, suc, ◌+◌, ◌/◌, ◌%◌, ◌-◌, ◌<◌, ◌≤◌, Bool, true, false, cond, nat_lt, nat_le, ◌&&◌, List, [], ◌∷◌, ◌++◌, length, drop, replicate, get_or, Option, Some, None, option_map, slice_get, slice_index, refl, sym, ap, ◌∙◌, arith}
+use Rattle.std.proofs.Common.{◌≡◌, ◌⊎◌, inl, inr, ℕ, zero, suc, ◌+◌, ◌/◌, ◌%◌, ◌-◌, ◌<◌, ◌≤◌, Bool, true, false, cond, nat_lt, nat_le, ◌&&◌, List, [], ◌∷◌, ◌++◌, length, drop, replicate, get_or, Option, Some, None, option_map, slice_get, slice_index, ◌*◌, refl, sym, ap, subst, ◌∙◌, arith}
 use Rattle.std.proofs.lemmas.Bool.Decides.{nat_tests}
 use Rattle.hip_lines.specs.declared.part.Part.{Part}
 use Rattle.hip_lines.specs.Loose.{later, last_over}
@@ -81,3 +81,36 @@ covered_place p line b e f = go (cases (p.offset % 64) (b % 64)) (cases p.offset
     go (inr w) (inl x) y z = absurd (omega arith)
     go (inl w) (inl x) (inl y) (inr z) = absurd (omega arith)
     go (inl w) (inl x) (inr y) (inl z) = absurd (omega arith)
+
+-- ---- marks that are counted from a start
+
+-- the mark after the first parts are let go, where these are counted
+pub mark_started : (b start k m : ℕ) (ps : List Part) → m - start ≡ mark_of (last_over part_covers b ps) → m - (start + k) ≡ mark_of (last_over part_covers b (drop k ps))
+mark_started b start k m ps e =
+    let less = mark-drop b k ps in
+    omega (arith, e, less)
+
+-- no mark is past the last part
+mark_short : (b : ℕ) (ps : List Part) → mark_of (last_over part_covers b ps) ≤ length ps
+mark_short b ps = go (last_over part_covers b ps) (last_over-finds part_covers b ps)
+  where
+    go : (o : Option (ℕ × Part)) → Finds part_covers ps b o → mark_of o ≤ length ps
+    go None f = omega arith
+    go (Some (k, x)) f = omega (arith, get-below ps k x f.at)
+
+-- all parts are let go: whatever line comes next, none of its bytes has a mark past the start
+pub mark_cleared : (line start b : ℕ) (last : List ℕ) (ps none : List Part) → ((c : ℕ) → c / 64 ≡ line → slice_index last (c % 64) - start ≡ mark_of (last_over part_covers c ps)) → none ≡ []
+    → slice_index last (b % 64) - (start + length ps) ≡ mark_of (last_over part_covers b none)
+mark_cleared line start b last ps none marked e =
+    let c : ℕ = 64 * line + b % 64 in
+    let here : c / 64 ≡ line = omega arith in
+    let place : c % 64 ≡ b % 64 = omega arith in
+    let mark : slice_index last (b % 64) - start ≡ mark_of (last_over part_covers c ps) = subst (λ (i : ℕ). slice_index last i - start ≡ mark_of (last_over part_covers c ps)) place (marked c here) in
+    let short = mark_short c ps in
+    let nothing : mark_of (last_over part_covers b none) ≡ 0 = ap (λ (xs : List Part). mark_of (last_over part_covers b xs)) e in
+    omega (arith, mark, short, nothing)
+
+-- one more part, which has the number behind those of the others
+pub mark_pushed : (start n m : ℕ) (b : Bool) → cond b (start + (n + 1)) m - start ≡ cond b (n + 1) (m - start)
+mark_pushed start n m true = omega arith
+mark_pushed start n m false = refl

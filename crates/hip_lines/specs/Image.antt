@@ -1,7 +1,7 @@
 -- Crash images: the contents that a crash may leave in the region.
 use Rattle.std.specs.Prelude.{◌≡◌, ℕ, suc, ◌+◌, ◌*◌, ◌/◌, ◌<◌, ◌≤◌, Bool, cond, List, [], ◌∷◌, length, take, Option, Some, None, slice_get, slice_index}
 use Rattle.hip_lines.specs.Line.{Line}
-use Rattle.hip_lines.specs.declared.TheConstants.{LINE_SIZE}
+use Rattle.hip_types.specs.declared.areas.TheConstants.{LINE_SIZE}
 
 -- P's parts cover bytes, and give each byte that they cover its value
 module _ {P : Type 0} (covers : P → ℕ → Bool) (value : P → ℕ → ℕ) where

@@ -6,7 +6,7 @@
 -- line to its flushed number. After Intel's Software Developer's Manual: CLWB and CLFLUSHOPT act on the line that
 -- contains the address, are ordered after older stores to that line, and need a later fence.
 use Rattle.std.specs.Prelude.{ℕ, suc, ◌+◌, ◌*◌, ◌≤◌, Bool, cond, nat_lt, min, max, List, [], ◌∷◌, ◌++◌, length, map, replicate}
-use Rattle.hip_lines.specs.declared.TheConstants.{LINE_SIZE}
+use Rattle.hip_types.specs.declared.areas.TheConstants.{LINE_SIZE}
 
 -- a line whose parts are of a type P: the parts in order, how many of them are flushed, and how many are durable
 pub record Line (P : Type 0) : Type 0 where

@@ -7,7 +7,7 @@ use Rattle.hip_lines.specs.declared.queues.Queues.{Queues}
 use Rattle.hip_lines.specs.Pending.{Pending}
 use Rattle.hip_lines.specs.Parts.{loose_in}
 use Rattle.hip_lines.specs.Kept.{queue_at, pending_at}
-use Rattle.hip_lines.specs.declared.TheConstants.{LINE_SIZE}
+use Rattle.hip_types.specs.declared.areas.TheConstants.{LINE_SIZE}
 
 -- no byte from `from` up to `to` is loose
 abbrev pub NoneLoose : Pending Part → ℕ → ℕ → Type 0

@@ -11,4 +11,4 @@ pending_in q = record { parts = q.parts.items; flushed = q.flushed }
 -- one more part can be taken up without memory
 pub record HasRoom (q : Queue) : Type 0 where
   pub capacity : vec_len q.parts < vec_capacity q.parts
-  pub numbers : vec_len q.parts + 1 < 2 ^ 32
+  pub numbers : q.start + vec_len q.parts + 1 < 2 ^ 32

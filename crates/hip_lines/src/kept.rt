@@ -6,10 +6,9 @@ ghost use Rattle.hip_lines.specs.Pending.{pending_with, pending_flushed, pending
 ghost use Rattle.hip_lines.specs.Parts.{part_in};
 ghost use Rattle.hip_lines.specs.Kept.{queue_at, count_of, pending_at, HasRoomAt, HasRoomFor, AreBelow, ListsFlushed, ChangesLine, FlushesLines, ChangesSome, GivesQueue};
 
-use crate::LINE_SIZE;
 use crate::part::Part;
 use crate::queues::Queues;
-use hip_types::NoMemory;
+use hip_types::{LINE_SIZE, NoMemory};
 
 // Makes room for one more part of a line.
 fn make_room_at(queues: &mut Queues, flushed: &mut Vec<u64>, line: u64) -> Result<(), NoMemory>

@@ -11,6 +11,3 @@ mod queues;
 pub use lines::Lines;
 pub use loose::NotDurable;
 pub use part::{LooseByte, Part};
-
-/// The number of bytes of a cache line, which lies at a multiple of it (Intel's manual).
-pub const LINE_SIZE: u64 = 64;

@@ -1,11 +1,10 @@
 ghost use Rattle.std.specs.Prelude.{◌≡◌, ℕ, ◌+◌, ◌*◌, ◌/◌, ◌%◌, ◌<◌, ◌≤◌, length, IfOk, IsOk, OnOk, OnErr, Some, None};
 ghost use Rattle.hip_lines.specs.Parts.{pending_stored, pending_flushed_all, pending_fenced_all, none_pending_all, loose_from, KeepsRoom};
 
-use crate::LINE_SIZE;
 use crate::kept::{ensure_room, fence_in, flush_at, flush_in, make_room_in, push_in};
 use crate::loose::NotDurable;
 use crate::queues::Queues;
-use hip_types::{LARGEST_REGION, NoMemory};
+use hip_types::{LARGEST_REGION, LINE_SIZE, NoMemory};
 use std::alloc::Global;
 use std::marker::Model;
 

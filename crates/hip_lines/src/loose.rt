@@ -2,10 +2,10 @@ ghost use Rattle.std.specs.Prelude.{◌≡◌, ◌+◌, ◌≤◌, ◌^◌};
 ghost use Rattle.std.specs.Iterator.{YieldsFirst, item_count};
 ghost use Rattle.hip_lines.specs.Next.{loose_of, lines_to};
 
-use crate::LINE_SIZE;
 use crate::part::LooseByte;
 use crate::queue::Queue;
 use crate::queues::Queues;
+use hip_types::LINE_SIZE;
 use std::marker::Model;
 
 /// The loose bytes of a range, ascending, which contracts see as the list of those that are left.

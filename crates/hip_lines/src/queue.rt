@@ -1,11 +1,10 @@
-ghost use Rattle.std.specs.Prelude.{◌≡◌, ℕ, ◌+◌, ◌-◌, ◌*◌, ◌/◌, ◌%◌, ◌<◌, ◌≤◌, [], ◌∷◌, ◌&&◌, cond, nat_le, nat_lt, drop, length, slice_index, vec_len, vec_capacity, OnOk, MatchOption, None};
+ghost use Rattle.std.specs.Prelude.{◌^◌, ◌≡◌, ℕ, ◌+◌, ◌-◌, ◌*◌, ◌/◌, ◌%◌, ◌<◌, ◌≤◌, [], ◌∷◌, ◌&&◌, cond, nat_le, nat_lt, drop, length, slice_index, vec_len, vec_capacity, OnOk, MatchOption, None};
 ghost use Rattle.hip_lines.specs.Loose.{last_over};
 ghost use Rattle.hip_lines.specs.Parts.{part_covers, mark_of};
-ghost use Rattle.hip_lines.specs.declared.TheConstants.{LINE_SIZE};
+ghost use Rattle.hip_types.specs.declared.areas.TheConstants.{LINE_SIZE};
 
-use crate::LINE_SIZE;
 use crate::part::{LooseByte, Part};
-use hip_types::NoMemory;
+use hip_types::{LINE_SIZE, NoMemory};
 use std::alloc::Global;
 
 /// The pending parts of one line, in the order of their stores.
@@ -14,11 +13,15 @@ pub struct Queue {
     pub line: u64,
     pub parts: Vec<Part>,
     pub flushed: usize,
-    /// For each byte of the line one more than the place of the last part over it, or 0.
+    /// How many parts are counted that were let go.
+    pub start: u32,
+    /// For each byte of the line the number of the last part over it, where the first pending part has the number behind
+    /// `start`; a number up to `start` where no pending part is over it.
     pub last: [u32; LINE_SIZE as usize],
     pub ghost within: { flushed ≤ length parts.items },
+    pub ghost numbered: { start + length parts.items < 2 ^ 32 },
     pub ghost marked: { (b : ℕ) → b / LINE_SIZE ≡ line
-        → slice_index last (b % LINE_SIZE) ≡ mark_of (last_over part_covers b parts.items) },
+        → slice_index last (b % LINE_SIZE) - start ≡ mark_of (last_over part_covers b parts.items) },
 }
 
 impl Queue {
@@ -35,6 +38,7 @@ impl Queue {
             line,
             parts: Vec::new(alloc),
             flushed: 0,
+            start: 0,
             last: [0; 64],
         }
     }
@@ -45,9 +49,9 @@ impl Queue {
         ensures pending { pending_in self.new ≡ none_pending }
     {
         self.line = line;
+        self.start += self.parts.len() as u32;
         self.parts.clear();
         self.flushed = 0;
-        self.last = [0; 64];
     }
 
     /// Makes room for one more part. The parts stay, whatever the answer.
@@ -57,6 +61,9 @@ impl Queue {
         ensures kept { HasRoom self.old → HasRoom self.new }
         ensures ok { OnOk result (HasRoom self.new) }
     {
+        if self.start as usize + self.parts.len() >= u32::MAX as usize {
+            self.count_anew();
+        }
         if self.parts.len() >= u32::MAX as usize {
             return Err(NoMemory);
         }
@@ -64,6 +71,18 @@ impl Queue {
             Ok(()) => Ok(()),
             Err(_) => Err(NoMemory),
         }
+    }
+
+    // Counts no part that was let go.
+    #[inline(never)]
+    fn count_anew(&mut self)
+        ensures line { self.new.line ≡ self.old.line }
+        ensures parts { self.new.parts ≡ self.old.parts }
+        ensures flushed { self.new.flushed ≡ self.old.flushed }
+        ensures start { self.new.start ≡ 0 }
+    {
+        lower_marks(&mut self.last, self.start);
+        self.start = 0;
     }
 
     /// Takes up a part of the line, in the room that was made for it.
@@ -75,7 +94,7 @@ impl Queue {
         ensures pending { pending_in self.new ≡ pending_with part (pending_in self.old) }
     {
         let from = (part.offset % LINE_SIZE) as usize;
-        let mark = (self.parts.len() + 1) as u32;
+        let mark = self.start + (self.parts.len() + 1) as u32;
         set_marks(&mut self.last, from, from + part.size as usize, mark);
         self.parts.push_reserved(part);
     }
@@ -92,8 +111,8 @@ impl Queue {
         ensures line { self.new.line ≡ self.old.line }
         ensures pending { pending_in self.new ≡ pending_fenced (pending_in self.old) }
     {
-        lower_marks(&mut self.last, self.flushed);
         drop_front(&mut self.parts, self.flushed);
+        self.start += self.flushed as u32;
         self.flushed = 0;
     }
 
@@ -116,7 +135,8 @@ impl Queue {
         requires { offset / LINE_SIZE ≡ self.now.line }
         ensures { result ≡ loose_in (pending_in self.now) offset }
     {
-        let mark = self.last[(offset % LINE_SIZE) as usize] as usize;
+        let last = self.last[(offset % LINE_SIZE) as usize];
+        let mark = last.saturating_sub(self.start) as usize;
         if mark == 0 {
             return None;
         }
@@ -143,12 +163,12 @@ fn set_marks(marks: &mut [u32], from: usize, to: usize, mark: u32)
 }
 
 // Lowers each mark by a number, down to 0.
-fn lower_marks(marks: &mut [u32], by: usize)
+fn lower_marks(marks: &mut [u32], by: u32)
     ensures len { length marks.new ≡ length marks.old }
     ensures marks { (i : ℕ) → slice_index marks.new i ≡ slice_index marks.old i - by }
 {
     for mark in marks.iter_mut() {
-        *mark = (*mark as usize).saturating_sub(by) as u32;
+        *mark = mark.saturating_sub(by);
     }
 }
 

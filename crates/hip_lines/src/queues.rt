@@ -5,16 +5,15 @@ ghost use Rattle.std.specs.Prelude.{◌≡◌, ◌≢◌, ℕ, zero, suc, ◌+�
 ghost use Rattle.std.specs.Option.{option_copied};
 ghost use Rattle.hip_directory.specs.Directories.{number_at};
 ghost use Rattle.hip_lines.specs.declared.queue.Queue.{Queue};
-ghost use Rattle.hip_lines.specs.declared.TheConstants.{LINE_SIZE};
+ghost use Rattle.hip_types.specs.declared.areas.TheConstants.{LINE_SIZE};
 ghost use Rattle.hip_lines.specs.Pending.{pending_with, pending_flushed, pending_fenced};
 ghost use Rattle.hip_lines.specs.Queues.{HasRoom};
 ghost use Rattle.hip_lines.specs.Places.{at_place, queue_in, ArePlaced, KeepsOthers, ChangesPlace, IsFreshAt, IsFresh};
 
-use crate::LINE_SIZE;
 use crate::part::Part;
 use crate::queue::Queue;
 use hip_directory::Directory;
-use hip_types::NoMemory;
+use hip_types::{LINE_SIZE, NoMemory};
 use std::alloc::Global;
 
 /// The queues of lines, by line number.

@@ -1,15 +1,12 @@
-ghost use Rattle.hip_loading.specs.Loading.{ChecksProgram, Loads, ReadsProgram};
+ghost use Rattle.hip_program_files.specs.Loading.{ChecksProgram, Loads, ReadsProgram};
 
-use crate::failure::Failure;
-use crate::refusal::{LoadRefusal, ProgramRefusal};
 use hip_io::{Cabinet, ReadRefusal, read_all};
-use hip_ir::Program;
 use hip_parse::{ParseRefusal, parse};
-use hip_typing::{Checked, TypeFault, TypeRefusal, check};
+use hip_program_files::{Failure, LoadRefusal, ProgramRefusal, TEXT_LIMIT};
+use hip_sound::{Checked, TypeFault, TypeRefusal};
+use hip_tree::Program;
+use hip_typing::check;
 use std::alloc::Global;
-
-/// How many bytes a program's text may have.
-pub const TEXT_LIMIT: u64 = 16_777_216;
 
 /// The program, where it is sound.
 fn check_program(alloc: Global, program: Program) -> Result<Checked, Failure<ProgramRefusal>>

@@ -1,2 +1,4 @@
 pub mod Headers
 pub mod Meets
+pub mod Going
+pub mod Rooms

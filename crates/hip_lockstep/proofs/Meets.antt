@@ -1,7 +1,7 @@
 -- What follows from one step of a run beside a trace.
 use Rattle.std.proofs.Common.{◌≡◌, ℕ, suc, ◌+◌, ◌^◌, ◌<◌, true, List, [], ◌∷◌, ◌++◌, length, Option, Some, None, is_some, Err, refl, sym, ap, ◌∙◌, subst, arith, append-nil, append_assoc, length-append}
 use Rattle.hip_io.specs.Cabinets.{CabinetState}
-use Rattle.hip_ir.specs.declared.program.Program.{Program}
+use Rattle.hip_tree.specs.declared.program.Program.{Program}
 use Rattle.hip_run_traces.specs.Headers.{Gives, header}
 use Rattle.hip_run_traces.specs.Laws.TraceLaws.{whole-front, whole-trace}
 use Rattle.hip_run_traces.specs.Misfits.{IsMisfit, IsTraceOf}

@@ -1,6 +1,6 @@
 -- What one more entry of a header gives.
 use Rattle.std.specs.Prelude.{◌≡◌, ℕ, ℤ, Bool, true, false, List, Option, Some, None, Result, Ok, Err}
-use Rattle.hip_ir.specs.declared.program.Program.{Program}
+use Rattle.hip_tree.specs.declared.program.Program.{Program}
 use Rattle.hip_run_traces.specs.Headers.{with_entry, with_line, with_number}
 use Rattle.hip_runs.specs.declared.input.Input.{Input}
 use Rattle.hip_trace.specs.declared.entry.Entry.{Entry}

@@ -1,7 +1,7 @@
 -- A trace and the run of its program, as far as they were compared.
 use Rattle.std.specs.Prelude.{◌≡◌, ℕ, suc, true, [], ◌∷◌, ◌++◌, length, Option, Some, None, IfSome, Result, Ok, Err}
 use Rattle.hip_io.specs.Cabinets.{CabinetState}
-use Rattle.hip_ir.specs.declared.program.Program.{Program}
+use Rattle.hip_tree.specs.declared.program.Program.{Program}
 use Rattle.hip_run_traces.specs.Headers.{Gives, header}
 use Rattle.hip_run_traces.specs.Misfits.{IsTraceOf}
 use Rattle.hip_run_traces.specs.Traces.{trace}

@@ -1,7 +1,7 @@
 -- A trace as far as its header was read.
 use Rattle.std.specs.Prelude.{◌≡◌, ℕ, true, List, [], ◌∷◌, ◌++◌, length, Option, Some, None, IfSome, Result, Ok, Err}
 use Rattle.hip_io.specs.Cabinets.{CabinetState}
-use Rattle.hip_ir.specs.declared.program.Program.{Program}
+use Rattle.hip_tree.specs.declared.program.Program.{Program}
 use Rattle.hip_run_traces.specs.Headers.{Gives, header, header_from, valid_base, valid_limit, with_entry}
 use Rattle.hip_run_traces.specs.Traces.{header_of, told}
 use Rattle.hip_runs.specs.Step.{header_entries}

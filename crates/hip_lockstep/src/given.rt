@@ -2,14 +2,14 @@
 
 ghost use Rattle.std.specs.Prelude.{◌≡◌, ◌+◌, ◌-◌, ◌≤◌, ◌++◌, ◌&&◌, IfOk, OnOk, length, nat_le};
 ghost use Rattle.hip_globals.specs.Addresses.{region_size};
-ghost use Rattle.hip_mem.specs.Bytes.{zeros};
+ghost use Rattle.hip_types.specs.Bytes.{zeros};
 ghost use Rattle.hip_lockstep.specs.Giving.{TakesEntry, TakesLine, TakesNumber, input_of};
 
 use crate::header::some_byte;
 use hip_runs::{Input, MOST_NUMBERS};
+use hip_sound::Checked;
 use hip_trace::Entry;
 use hip_types::{NoMemory, Row};
-use hip_typing::Checked;
 
 /// The input that START, REGISTER, INPUT and IMAGE entries give, whose initial bytes go up to the last IMAGE's.
 #[derive(Drop)]

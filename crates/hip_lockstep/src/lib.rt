@@ -2,6 +2,7 @@
 //! one and compared with those of the steps.
 #![tactic(auto)]
 
+mod ended;
 mod entries;
 mod given;
 mod header;
@@ -10,6 +11,7 @@ mod opening;
 mod refusal;
 mod steps;
 
+pub use ended::Ended;
 pub use entries::{ending_of, put_entry};
 pub use header::put_header;
 pub use opening::{Begun, read_header};

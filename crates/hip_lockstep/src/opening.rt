@@ -3,7 +3,7 @@
 ghost use Rattle.std.specs.Prelude.{◌≡◌, ℕ, [], Some, IsTrue, OnOk};
 ghost use Rattle.hip_globals.specs.Addresses.{region_size};
 ghost use Rattle.hip_io.specs.Cabinets.{CabinetState};
-ghost use Rattle.hip_ir.specs.declared.program.Program.{Program};
+ghost use Rattle.hip_tree.specs.declared.program.Program.{Program};
 ghost use Rattle.hip_run_traces.specs.Headers.{valid_base, valid_limit};
 ghost use Rattle.hip_lockstep.specs.Giving.{input_of};
 ghost use Rattle.hip_lockstep.specs.Opening.{HasBase, HasGiven, HasLimit, ReadsBase, ReadsHeader, ReadsLimit, ReadsValues};
@@ -17,9 +17,9 @@ use hip_globals::is_base;
 use hip_io::Cabinet;
 use hip_run_traces::MisfitKind;
 use hip_runs::{Input, MOST_TURNS};
+use hip_sound::Checked;
 use hip_trace::{Entry, Reader};
 use hip_types::Row;
-use hip_typing::Checked;
 use std::alloc::Global;
 
 /// The input that a header gives, and the first entry behind the header.

@@ -1,9 +1,9 @@
 -- Plans have one union, which is the defined one.
 use Rattle.std.proofs.Common.{◌≡◌, ◌⊎◌, Bool, true, false, ◌||◌, List, [], ◌∷◌, refl, sym, ap, ◌∙◌, inl, inr}
 use Rattle.std.specs.Cmp.{both_ways}
-use Rattle.hip_ir.specs.Sites.{has_site, sites_of}
-use Rattle.hip_ir.specs.declared.program.Program.{Program}
-use Rattle.hip_ir.specs.declared.site.Site.{Site}
+use Rattle.hip_tree.specs.Sites.{has_site, sites_of}
+use Rattle.hip_tree.specs.declared.program.Program.{Program}
+use Rattle.hip_tree.specs.declared.site.Site.{Site}
 use Rattle.hip_types.specs.Laws.DistinctLaws.{either}
 use Rattle.hip_repairs.specs.Laws.SiteOrder.{filter_ascends, filtered_are, same_members}
 use Rattle.hip_repairs.specs.Planned.{IsWithin, either_list, union}

@@ -1,7 +1,7 @@
 -- In how many plans sites were met, as it is counted.
 use Rattle.std.specs.Prelude.{ℕ, ◌+◌, ◌-◌, ◌^◌, min, cond, nat_eq, List, unwrap_or}
 use Rattle.std.specs.Map.{lookup}
-use Rattle.hip_ir.specs.declared.site.Site.{Site}
+use Rattle.hip_tree.specs.declared.site.Site.{Site}
 use Rattle.hip_insertions.specs.SiteSets.{Key, same_key}
 use Rattle.hip_many.specs.declared.counts.Count.{Count}
 

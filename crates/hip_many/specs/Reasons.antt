@@ -1,7 +1,7 @@
 -- Why a union of plans has each of its sites.
 use Rattle.std.specs.Prelude.{ℕ, List, ◌++◌, map, count_by}
-use Rattle.hip_ir.specs.Sites.{has_site}
-use Rattle.hip_ir.specs.declared.site.Site.{Site}
+use Rattle.hip_tree.specs.Sites.{has_site}
+use Rattle.hip_tree.specs.declared.site.Site.{Site}
 use Rattle.hip_repairs.specs.declared.plan.Plan.{Plan}
 use Rattle.hip_many.specs.declared.reason.Reason.{Reason}
 use Rattle.hip_many.specs.declared.reason.Sort.{Sort}

@@ -1,13 +1,13 @@
 ghost use Rattle.std.specs.Prelude.{◌≡◌, ◌+◌, cond, IfOk, OnOk};
-ghost use Rattle.hip_ir.specs.Sites.{has_site, same_site};
-ghost use Rattle.hip_ir.specs.declared.site.Site.{Site};
+ghost use Rattle.hip_tree.specs.Sites.{has_site, same_site};
+ghost use Rattle.hip_tree.specs.declared.site.Site.{Site};
 ghost use Rattle.hip_many.specs.Counts as spec;
 ghost use Rattle.hip_many.specs.Counts.{count_at};
 ghost use Rattle.hip_many.specs.Reasons.{plans_with};
 
 use crate::reason::Sort;
-use hip_ir::Site;
 use hip_repairs::Plan;
+use hip_tree::Site;
 use hip_types::NoMemory;
 use indexmap::IndexMap;
 use std::alloc::Global;

@@ -1,7 +1,7 @@
 //! Laws of unions of plans.
 
 ghost use Rattle.std.specs.Prelude.{◌≡◌, List, [], ◌∷◌};
-ghost use Rattle.hip_ir.specs.declared.program.Program.{Program};
+ghost use Rattle.hip_tree.specs.declared.program.Program.{Program};
 ghost use Rattle.hip_repairs.specs.Planned.{IsWithin, union};
 ghost use Rattle.hip_repairs.specs.Suits.{no_repairs};
 ghost use Rattle.hip_repairs.specs.declared.plan.Plan.{Plan};

@@ -3,8 +3,8 @@ ghost use Rattle.hip_many.specs.Reasons as spec;
 ghost use Rattle.hip_many.specs.Reasons.{reasons_in};
 
 use crate::counts::{count_of, counts_of};
-use hip_ir::Site;
 use hip_repairs::Plan;
+use hip_tree::Site;
 use hip_types::{NoMemory, Row};
 use std::alloc::Global;
 

@@ -1,8 +1,8 @@
 ghost use Rattle.std.specs.Prelude.{◌≡◌, ◌||◌, Bool, IfOk, OnOk};
-ghost use Rattle.hip_ir.specs.Sites.{has_site};
-ghost use Rattle.hip_ir.specs.declared.program.Program.{Program};
-ghost use Rattle.hip_ir.specs.declared.site.Site.{Site};
-ghost use Rattle.hip_typing.specs.Sound.{IsSound};
+ghost use Rattle.hip_tree.specs.Sites.{has_site};
+ghost use Rattle.hip_tree.specs.declared.program.Program.{Program};
+ghost use Rattle.hip_tree.specs.declared.site.Site.{Site};
+ghost use Rattle.hip_sound.specs.Sound.{IsSound};
 ghost use Rattle.hip_runs.specs.Found.Marks.{IsFound};
 ghost use Rattle.hip_runs.specs.StoredParts.Parts.{In};
 ghost use Rattle.hip_runs.specs.Validity.{IsValid};
@@ -16,9 +16,9 @@ ghost use Rattle.hip_repairs.specs.Suits.{IsSuiting};
 ghost use Rattle.hip_repairs.specs.declared.plan.Plan.{Plan};
 ghost use Rattle.hip_many.specs.Union.{IsUnion};
 
-use hip_ir::Site;
 use hip_plan::SiteSet;
 use hip_repairs::{Plan, repairs_are_clean};
+use hip_tree::Site;
 use hip_types::NoMemory;
 use std::alloc::Global;
 

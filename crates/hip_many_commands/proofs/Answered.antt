@@ -12,13 +12,13 @@ use Rattle.hip_io.specs.Sinks.{AppendsAll, AppendsPrefix, SinkState, Writes}
 use Rattle.hip_io.specs.declared.cabinet.NamedFile.{NamedFile}
 use Rattle.hip_io.specs.declared.sink.Put.{Put}
 use Rattle.hip_io.specs.declared.sink.Put.TheVariants as puts
-use Rattle.hip_ir.specs.Show.{show}
-use Rattle.hip_ir.specs.declared.program.Program.{Program}
-use Rattle.hip_loading.specs.Laws.{met_then}
-use Rattle.hip_loading.specs.Loading.{IsProgramOf}
-use Rattle.hip_loading.specs.Outside.{HasMet}
-use Rattle.hip_loading.specs.declared.failure.Failure.{Failure}
-use Rattle.hip_loading.specs.declared.failure.Failure.TheVariants as failures
+use Rattle.hip_grammar.specs.Show.{show}
+use Rattle.hip_tree.specs.declared.program.Program.{Program}
+use Rattle.hip_program_files.specs.Laws.{met_then}
+use Rattle.hip_program_files.specs.Loading.{IsProgramOf}
+use Rattle.hip_program_files.specs.Outside.{HasMet}
+use Rattle.hip_program_files.specs.declared.failure.Failure.{Failure}
+use Rattle.hip_program_files.specs.declared.failure.Failure.TheVariants as failures
 use Rattle.hip_many.specs.declared.reason.Reason.{Reason}
 use Rattle.hip_many_commands.specs.Asking.{AsksAll, HasAskedAll, status_of_traces}
 use Rattle.hip_many_commands.specs.Many.{HasRepairedMany, ManyAnswers, status_in}
@@ -29,9 +29,9 @@ use Rattle.hip_many_commands.specs.declared.loading.AllAsked.{AllAsked}
 use Rattle.hip_many_commands.specs.declared.refusal.NumberedRefusal.{NumberedRefusal}
 use Rattle.hip_many_commands.specs.declared.repairing.ManyRepair.{ManyRepair}
 use Rattle.hip_repair_answers.specs.Cured.{IsCuredBy}
-use Rattle.hip_repair_answers.specs.TraceFiles.{HasNoTrace, ShowsNoMisfit}
-use Rattle.hip_repair_answers.specs.declared.refusal.TraceRefusal.{TraceRefusal}
-use Rattle.hip_repair_answers.specs.declared.refusal.TraceRefusal.TheVariants as traces
+use Rattle.hip_answers.specs.TraceFiles.{HasNoTrace, ShowsNoMisfit}
+use Rattle.hip_answers.specs.declared.refusal.TraceRefusal.{TraceRefusal}
+use Rattle.hip_answers.specs.declared.refusal.TraceRefusal.TheVariants as traces
 use Rattle.hip_repairs.specs.CloneNumbers.{clone_numbers}
 use Rattle.hip_repairs.specs.Direct.{direct}
 use Rattle.hip_repairs.specs.declared.plan.CloneOf.{CloneOf}

@@ -3,8 +3,8 @@ use Rattle.std.proofs.Common.{ℕ, Bool, List, [], ◌∷◌, Option, inl, inr, 
 use Rattle.std.proofs.lemmas.List.Elements.{All-cons, All-head, All-nil, All-tail}
 use Rattle.std.specs.List.{All}
 use Rattle.hip_io.specs.declared.cabinet.NamedFile.{NamedFile}
-use Rattle.hip_ir.specs.declared.program.Program.{Program}
-use Rattle.hip_ir.specs.declared.site.Site.{Site}
+use Rattle.hip_tree.specs.declared.program.Program.{Program}
+use Rattle.hip_tree.specs.declared.site.Site.{Site}
 use Rattle.hip_many_commands.specs.Runs.{AreRunsOf, IsRunOf, TracedRun, plans_of}
 use Rattle.hip_repair_answers.specs.Cured.{IsCuredBy}
 use Rattle.hip_repairs.specs.Choice.{Contains, plan_for}
@@ -16,7 +16,7 @@ use Rattle.hip_runs.specs.StoredParts.Parts.{In}
 use Rattle.hip_runs.specs.Validity.{IsValid}
 use Rattle.hip_runs.specs.declared.input.Input.{Input}
 use Rattle.hip_runs.specs.declared.report.Findings.{Findings}
-use Rattle.hip_typing.specs.Sound.{IsSound}
+use Rattle.hip_sound.specs.Sound.{IsSound}
 
 -- what a repair by a plan does that has what a run found
 abbrev pub PlansCure : Type 0

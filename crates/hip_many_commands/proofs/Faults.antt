@@ -6,16 +6,16 @@ use Rattle.hip_answers.specs.Statuses as programs
 use Rattle.hip_answers.specs.declared.status.Status.TheVariants as statuses
 use Rattle.hip_io.specs.Cabinets.{CabinetState}
 use Rattle.hip_io.specs.declared.cabinet.NamedFile.{NamedFile}
-use Rattle.hip_ir.specs.declared.program.Program.{Program}
-use Rattle.hip_loading.specs.Laws.OneAnswer.{loads_one}
-use Rattle.hip_loading.specs.Loading.{IsProgramOf}
-use Rattle.hip_loading.specs.declared.refusal.LoadRefusal.{LoadRefusal}
-use Rattle.hip_loading.specs.declared.refusal.LoadRefusal.TheVariants as loads
+use Rattle.hip_tree.specs.declared.program.Program.{Program}
+use Rattle.hip_program_files.specs.Laws.OneAnswer.{loads_one}
+use Rattle.hip_program_files.specs.Loading.{IsProgramOf}
+use Rattle.hip_program_files.specs.declared.refusal.LoadRefusal.{LoadRefusal}
+use Rattle.hip_program_files.specs.declared.refusal.LoadRefusal.TheVariants as loads
 use Rattle.hip_many_commands.specs.Laws.{ManyFaultsHideNone}
 use Rattle.hip_many_commands.specs.Many.{status_in}
-use Rattle.hip_repair_answers.specs.TraceFiles.{ShowsNoMisfit}
-use Rattle.hip_repair_answers.specs.declared.refusal.TraceRefusal.{TraceRefusal}
-use Rattle.hip_repair_answers.specs.declared.refusal.TraceRefusal.TheVariants as traces
+use Rattle.hip_answers.specs.TraceFiles.{ShowsNoMisfit}
+use Rattle.hip_answers.specs.declared.refusal.TraceRefusal.{TraceRefusal}
+use Rattle.hip_answers.specs.declared.refusal.TraceRefusal.TheVariants as traces
 
 no_program_fault : (why : LoadRefusal) → programs.status_of_refusal why ≡ statuses.ReadFault → ⊥
 no_program_fault loads.Missing e = cc

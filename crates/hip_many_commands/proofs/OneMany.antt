@@ -9,12 +9,12 @@ use Rattle.hip_answers.specs.Statuses as programs
 use Rattle.hip_answers.specs.declared.status.Status.TheVariants as statuses
 use Rattle.hip_io.specs.Cabinets.{CabinetState, file_of}
 use Rattle.hip_io.specs.declared.cabinet.NamedFile.{NamedFile}
-use Rattle.hip_ir.specs.Show.{show}
-use Rattle.hip_ir.specs.declared.program.Program.{Program}
-use Rattle.hip_loading.specs.Laws.OneAnswer.{loads_one, not_there, same_bytes}
-use Rattle.hip_loading.specs.Laws.{LoadsOne}
-use Rattle.hip_loading.specs.Loading.{HasNoProgram, IsProgramOf}
-use Rattle.hip_loading.specs.declared.refusal.LoadRefusal.{LoadRefusal}
+use Rattle.hip_grammar.specs.Show.{show}
+use Rattle.hip_tree.specs.declared.program.Program.{Program}
+use Rattle.hip_program_files.specs.Laws.OneAnswer.{loads_one, not_there, same_bytes}
+use Rattle.hip_program_files.specs.Laws.{LoadsOne}
+use Rattle.hip_program_files.specs.Loading.{HasNoProgram, IsProgramOf}
+use Rattle.hip_program_files.specs.declared.refusal.LoadRefusal.{LoadRefusal}
 use Rattle.hip_many.specs.Reasons.{reasons}
 use Rattle.hip_many.specs.Union.{IsUnion}
 use Rattle.hip_many_commands.specs.Laws.{ManyAreOne}
@@ -24,9 +24,9 @@ use Rattle.hip_repairs.specs.Repaired.{repaired}
 use Rattle.hip_many_commands.specs.Notes.{many_notes}
 use Rattle.hip_many_commands.specs.Runs.{AreRunsOf, ComesBehindRuns, IsRunOf, TracedRun, plans_of, reports_of}
 use Rattle.hip_repair_answers.specs.Laws.Repairs.{answer_is}
-use Rattle.hip_repair_answers.specs.TraceFiles.{HasNoTrace, IsTraceFile}
-use Rattle.hip_repair_answers.specs.declared.refusal.TraceRefusal.{TraceRefusal}
-use Rattle.hip_repair_answers.specs.declared.refusal.TraceRefusal.TheVariants as traces
+use Rattle.hip_answers.specs.TraceFiles.{HasNoTrace, IsTraceFile}
+use Rattle.hip_answers.specs.declared.refusal.TraceRefusal.{TraceRefusal}
+use Rattle.hip_answers.specs.declared.refusal.TraceRefusal.TheVariants as traces
 use Rattle.hip_repairs.specs.CloneNumbers.{clone_numbers}
 use Rattle.hip_repairs.specs.declared.plan.Plan.{Plan}
 use Rattle.hip_run_traces.specs.Headers.{Gives}

@@ -4,11 +4,11 @@ use Rattle.std.specs.Cmp.{both_ways}
 use Rattle.std.specs.List.{filter, list_any}
 use Rattle.hip_answers.specs.declared.status.Status.TheVariants as statuses
 use Rattle.hip_io.specs.declared.cabinet.NamedFile.{NamedFile}
-use Rattle.hip_ir.specs.Show.{show}
-use Rattle.hip_ir.specs.Sites.{has_site, sites_of}
-use Rattle.hip_ir.specs.declared.program.Program.{Program}
-use Rattle.hip_ir.specs.declared.site.Site.{Site}
-use Rattle.hip_loading.specs.Loading.{IsProgramOf}
+use Rattle.hip_grammar.specs.Show.{show}
+use Rattle.hip_tree.specs.Sites.{has_site, sites_of}
+use Rattle.hip_tree.specs.declared.program.Program.{Program}
+use Rattle.hip_tree.specs.declared.site.Site.{Site}
+use Rattle.hip_program_files.specs.Loading.{IsProgramOf}
 use Rattle.hip_many.specs.Reasons.{reasons}
 use Rattle.hip_many.specs.Union.{HasAll, IsUnion}
 use Rattle.hip_many_commands.proofs.Cures.{PlansCure, cures}
@@ -25,7 +25,7 @@ use Rattle.hip_repairs.specs.declared.plan.Plan.{Plan}
 use Rattle.hip_runs.specs.StoredParts.Parts.{In}
 use Rattle.hip_runs.specs.declared.report.Findings.{Findings}
 use Rattle.hip_types.specs.Laws.DistinctLaws.{either}
-use Rattle.hip_typing.specs.Sound.{IsSound}
+use Rattle.hip_sound.specs.Sound.{IsSound}
 
 -- ---- the plans for runs have a union
 

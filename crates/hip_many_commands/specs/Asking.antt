@@ -3,17 +3,17 @@ use Rattle.std.specs.Prelude.{ℕ, ◌≡◌, false, List, length, Result, Ok, E
 use Rattle.hip_answers.specs.declared.status.Status.{Status}
 use Rattle.hip_answers.specs.declared.status.Status.TheVariants as statuses
 use Rattle.hip_io.specs.Cabinets.{CabinetState}
-use Rattle.hip_ir.specs.declared.program.Program.{Program}
-use Rattle.hip_loading.specs.Outside.{HasMet}
-use Rattle.hip_loading.specs.declared.failure.Failure.{Failure}
-use Rattle.hip_loading.specs.declared.failure.Failure.TheVariants as failures
+use Rattle.hip_tree.specs.declared.program.Program.{Program}
+use Rattle.hip_program_files.specs.Outside.{HasMet}
+use Rattle.hip_program_files.specs.declared.failure.Failure.{Failure}
+use Rattle.hip_program_files.specs.declared.failure.Failure.TheVariants as failures
 use Rattle.hip_many_commands.specs.Many.{status_in}
 use Rattle.hip_many_commands.specs.Runs.{AreRunsOf, ComesBehindRuns, IsRunOf, TracedRun, plans_of, reports_of}
 use Rattle.hip_many_commands.specs.declared.loading.AllAsked.{AllAsked}
 use Rattle.hip_many_commands.specs.declared.loading.Asked.{Asked}
 use Rattle.hip_many_commands.specs.declared.refusal.NumberedRefusal.{NumberedRefusal}
-use Rattle.hip_repair_answers.specs.TraceFiles.{HasNoTrace, is_missing}
-use Rattle.hip_repair_answers.specs.declared.refusal.TraceRefusal.{TraceRefusal}
+use Rattle.hip_answers.specs.TraceFiles.{HasNoTrace, is_missing}
+use Rattle.hip_answers.specs.declared.refusal.TraceRefusal.{TraceRefusal}
 use Rattle.hip_repairs.specs.Choice.{plan_for}
 use Rattle.hip_trace_loading.specs.Loading.{HasFailedTrace}
 

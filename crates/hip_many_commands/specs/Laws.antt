@@ -5,12 +5,12 @@ use Rattle.hip_answers.specs.Same.{AreOne}
 use Rattle.hip_answers.specs.declared.status.Status.TheVariants.{Done, ReadFault}
 use Rattle.hip_io.specs.Cabinets.{CabinetState}
 use Rattle.hip_io.specs.declared.cabinet.NamedFile.{NamedFile}
-use Rattle.hip_ir.specs.declared.program.Program.{Program}
-use Rattle.hip_loading.specs.Loading.{IsProgramOf}
-use Rattle.hip_loading.specs.Outside.{HasMet}
+use Rattle.hip_tree.specs.declared.program.Program.{Program}
+use Rattle.hip_program_files.specs.Loading.{IsProgramOf}
+use Rattle.hip_program_files.specs.Outside.{HasMet}
 use Rattle.hip_many_commands.specs.Many.{ManyAnswers}
 use Rattle.hip_many_commands.specs.Runs.{AreRunsOf, TracedRun}
-use Rattle.hip_repair_answers.specs.TraceFiles.{ShowsNoMisfit}
+use Rattle.hip_answers.specs.TraceFiles.{ShowsNoMisfit}
 
 -- where the files are told, two answers on them are the same, unless one of them is a read fault
 abbrev pub ManyAreOne : Type 0

@@ -7,18 +7,18 @@ use Rattle.hip_answers.specs.declared.status.FileRole.TheVariants as roles
 use Rattle.hip_answers.specs.declared.status.Status.{Status}
 use Rattle.hip_answers.specs.declared.status.Status.TheVariants as statuses
 use Rattle.hip_io.specs.Cabinets.{CabinetState}
-use Rattle.hip_ir.specs.Show.{show}
-use Rattle.hip_ir.specs.declared.program.Program.{Program}
-use Rattle.hip_loading.specs.Loading.{IsProgramOf}
-use Rattle.hip_loading.specs.Outside.{HasMet}
+use Rattle.hip_grammar.specs.Show.{show}
+use Rattle.hip_tree.specs.declared.program.Program.{Program}
+use Rattle.hip_program_files.specs.Loading.{IsProgramOf}
+use Rattle.hip_program_files.specs.Outside.{HasMet}
 use Rattle.hip_many.specs.Reasons.{reasons}
 use Rattle.hip_many.specs.Union.{IsUnion}
 use Rattle.hip_many_commands.specs.Notes.{many_notes}
 use Rattle.hip_many_commands.specs.Runs.{AreRunsOf, ComesBehindRuns, TracedRun, plans_of, reports_of}
 use Rattle.hip_repair_answers.specs.Cured.{IsCuredBy}
-use Rattle.hip_repair_answers.specs.TraceFiles.{HasNoTrace, ShowsNoMisfit, is_missing}
-use Rattle.hip_repair_answers.specs.declared.refusal.TraceRefusal.{TraceRefusal}
-use Rattle.hip_repair_answers.specs.declared.refusal.TraceRefusal.TheVariants as traces
+use Rattle.hip_answers.specs.TraceFiles.{HasNoTrace, ShowsNoMisfit, is_missing}
+use Rattle.hip_answers.specs.declared.refusal.TraceRefusal.{TraceRefusal}
+use Rattle.hip_answers.specs.declared.refusal.TraceRefusal.TheVariants as traces
 use Rattle.hip_repairs.specs.CloneNumbers.{clone_numbers}
 use Rattle.hip_repairs.specs.Direct.{direct}
 use Rattle.hip_repairs.specs.Repaired.{repaired}

@@ -1,7 +1,7 @@
 -- What `many` writes to the notes.
 use Rattle.std.specs.Prelude.{ℕ, List, ◌++◌, codes}
 use Rattle.std.specs.List.{flat_map}
-use Rattle.hip_ir.specs.declared.program.Program.{Program}
+use Rattle.hip_tree.specs.declared.program.Program.{Program}
 use Rattle.hip_many.specs.declared.reason.Reason.{Reason}
 use Rattle.hip_many.specs.declared.reason.Sort.{Sort}
 use Rattle.hip_many.specs.declared.reason.Sort.TheVariants.{Fence, Flush, Hoist}

@@ -1,6 +1,6 @@
 -- The repair for the plans of many runs, as it is made.
 use Rattle.std.specs.Prelude.{◌≡◌, List}
-use Rattle.hip_ir.specs.declared.program.Program.{Program}
+use Rattle.hip_tree.specs.declared.program.Program.{Program}
 use Rattle.hip_many.specs.Reasons as many
 use Rattle.hip_many.specs.Union.{IsUnion}
 use Rattle.hip_repairs.specs.Direct.{direct}

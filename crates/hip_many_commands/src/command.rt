@@ -19,8 +19,8 @@ use hip_io::{Cabinet, Sink};
 use hip_loading::load_program;
 use hip_repair_answers::plans_cure;
 use hip_repairs::direct_stores_are_quiet;
+use hip_sound::Checked;
 use hip_types::{NoMemory, Text};
-use hip_typing::Checked;
 use hip_write::write;
 use std::alloc::Global;
 

@@ -4,14 +4,14 @@ ghost use Rattle.std.specs.Prelude.{◌≡◌, ◌≤◌, ◌+◌, ◌^◌};
 ghost use Rattle.hip_many_commands.specs.Asking.{Asks, AsksAll};
 
 use crate::refusal::{NumberedRefusal, numbered};
+use hip_answers::TraceRefusal;
 use hip_io::Cabinet;
-use hip_loading::Failure;
 use hip_plan::plan;
-use hip_repair_answers::TraceRefusal;
+use hip_program_files::Failure;
 use hip_repairs::Plan;
+use hip_sound::Checked;
 use hip_trace_loading::load_trace;
 use hip_types::{NoMemory, Row, Text};
-use hip_typing::Checked;
 use std::alloc::Global;
 
 /// What a run asks for: the plan for it, and how many reports it has.

@@ -8,9 +8,9 @@ ghost use Rattle.hip_report_lines.specs.Reports.{numbered};
 use crate::repairing::ManyRepair;
 use hip_answers::put_number;
 use hip_io::{Put, Sink, put_after};
-use hip_ir::Program;
 use hip_many::{Reason, Sort};
 use hip_report_lines::{put_count, put_repair_totals, put_site};
+use hip_tree::Program;
 
 fn sort_word(sort: Sort) -> &'static [u8]
     ensures { result.now ≡ sort_word sort }

@@ -2,9 +2,8 @@ ghost use Rattle.std.specs.Prelude.{◌≡◌};
 ghost use Rattle.hip_many_commands.specs.Asking.{numbered, status_of_traces};
 ghost use Rattle.hip_many_commands.specs.Many.{status_in};
 
-use hip_answers::{FileRole, Status};
-use hip_loading::Failure;
-use hip_repair_answers::TraceRefusal;
+use hip_answers::{FileRole, Status, TraceRefusal};
+use hip_program_files::Failure;
 
 /// Which of many files is no trace of a run of a program, and why.
 #[derive(Clone, Copy, Debug, PartialEq, Eq)]

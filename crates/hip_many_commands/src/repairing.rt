@@ -6,8 +6,8 @@ ghost use Rattle.hip_many_commands.specs.Repairing.{IsRepairBy};
 use hip_fix::apply;
 use hip_many::{Reason, plan_many, reasons};
 use hip_repairs::{Plan, Repaired};
+use hip_sound::Checked;
 use hip_types::{NoMemory, Row};
-use hip_typing::Checked;
 use std::alloc::Global;
 
 /// The union of plans, the reasons for its sites, and the program that is repaired by it.

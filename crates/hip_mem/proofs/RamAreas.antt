@@ -1,7 +1,8 @@
 -- The areas of a `Ram`, by its pages.
 use Rattle.std.proofs.Common.{◌≡◌, ◌⊎◌, inl, inr, ℕ, zero, suc, ◌+◌, ◌-◌, ◌^◌, ◌<◌, ◌≤◌, true, false, List, [], ◌∷◌, ◌++◌, length, take, slice_index, refl, ap, ap₂, ◌∙◌, arith}
-use Rattle.hip_mem.specs.Memory.{Write, byte_written, volatile_start, stack_start, is_in}
-use Rattle.hip_mem.specs.Bytes.{zeros}
+use Rattle.hip_mem.specs.Memory.{Write, byte_written, is_in}
+use Rattle.hip_types.specs.Areas.{volatile_start, stack_start}
+use Rattle.hip_types.specs.Bytes.{zeros}
 use Rattle.hip_mem.specs.Areas.{IsLaidOut, mark_of, byte_in, bytes_in, area_written}
 use Rattle.hip_mem.specs.Laws.AreasLaws.{in_or_not, FitsOne}
 use Rattle.hip_mem.specs.declared.ram.Ram.TheInside.{Inside}

@@ -3,8 +3,9 @@ use Rattle.std.proofs.Common.{◌≡◌, ◌⊎◌, inl, inr, ℕ, zero, suc, �
 use Rattle.std.specs.Int.{next_multiple_of}
 use Rattle.hip_mem.specs.declared.refusal.MemTrap.{MemTrap}
 use Rattle.hip_mem.specs.declared.refusal.MemTrap.TheVariants.{Misaligned, BadAddress}
-use Rattle.hip_mem.specs.Memory.{Write, byte_written, volatile_start, stack_start, stack_end}
-use Rattle.hip_mem.specs.Bytes.{little_endian, zeros}
+use Rattle.hip_mem.specs.Memory.{Write, byte_written}
+use Rattle.hip_types.specs.Areas.{volatile_start, stack_start, stack_end}
+use Rattle.hip_types.specs.Bytes.{little_endian, zeros}
 use Rattle.hip_mem.specs.Laws.BytesLaws.{little_endian-take}
 use Rattle.hip_mem.specs.Areas.{Areas, mark_of, are_valid, bytes_in, access_trap, or_trap, loaded, block_address, pushed_mark, after_write, after_push, after_pop}
 use Rattle.hip_mem.specs.Laws.AreasLaws.{FitsOne, are_valid-fits, fits-are_valid, not_written}

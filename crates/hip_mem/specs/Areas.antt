@@ -3,10 +3,11 @@ use Rattle.std.specs.Prelude.{◌≡◌, ℕ, zero, suc, ◌+◌, ◌-◌, ◌%�
 use Rattle.std.specs.Int.{next_multiple_of}
 use Rattle.hip_mem.specs.declared.refusal.MemTrap.{MemTrap}
 use Rattle.hip_mem.specs.declared.refusal.MemTrap.TheVariants.{Misaligned, BadAddress}
-use Rattle.hip_mem.specs.Memory.{Write, byte_written, volatile_start, stack_start, is_in, Memory, byte_at}
-use Rattle.hip_mem.specs.Bytes.{little_endian, zeros}
+use Rattle.hip_mem.specs.Memory.{Write, byte_written, is_in, Memory, byte_at}
+use Rattle.hip_types.specs.Areas.{volatile_start, stack_start}
+use Rattle.hip_types.specs.Bytes.{little_endian, zeros}
 use Rattle.hip_types.specs.declared.limits.TheConstants.{LARGEST_REGION, LARGEST_VOLATILE}
-use Rattle.hip_mem.specs.declared.TheConstants.{STACK_SIZE}
+use Rattle.hip_types.specs.declared.areas.TheConstants.{STACK_SIZE}
 
 -- the volatile globals, the stack below the mark, and the region
 pub record Areas : Type 0 where

@@ -1,5 +1,4 @@
 pub mod Memory
-pub mod Bytes
 pub mod Areas
 pub mod Paging
 pub mod Pages

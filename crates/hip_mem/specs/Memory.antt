@@ -1,6 +1,6 @@
 -- The memory of a machine: its initial bytes and the list of all writes so far.
 use Rattle.std.specs.Prelude.{ℕ, suc, zero, ◌+◌, ◌-◌, Bool, cond, ◌&&◌, nat_lt, nat_le, List, [], ◌∷◌, ◌++◌, length, slice_index}
-use Rattle.hip_mem.specs.declared.TheConstants.{STACK_END, STACK_START, VOLATILE_START}
+use Rattle.hip_types.specs.Areas.{volatile_start, stack_start, stack_end}
 
 -- whether a number, say an address, is one of so many from `start` on; a range of 0 contains nothing
 abbrev pub range_contains : ℕ → ℕ → ℕ → Bool
@@ -23,18 +23,6 @@ byte_written w a old = cond (write_covers w a) (slice_index w.bytes (a - w.addr)
 abbrev pub byte_from : List Write → ℕ → ℕ → ℕ
 byte_from [] a first = first
 byte_from (w ∷ ws) a first = byte_from ws a (byte_written w a first)
-
--- volatile globals lie from this address on
-abbrev pub volatile_start : ℕ
-volatile_start = VOLATILE_START
-
--- the stack's first address, and its end
-abbrev pub stack_start : ℕ
-stack_start = STACK_START
-
--- the address behind the stack's last byte
-abbrev pub stack_end : ℕ
-stack_end = STACK_END
 
 -- the base of the persistent region, the initial bytes of the volatile globals and of the region, and all writes so far
 pub record Memory : Type 0 where

@@ -1,7 +1,7 @@
 -- What a `Ram` shows.
 use Rattle.std.specs.Prelude.{◌≡◌, ◌-◌, ◌%◌, ◌^◌, ◌≤◌}
 use Rattle.hip_mem.specs.declared.ram.Ram.TheInside.{Inside}
-use Rattle.hip_mem.specs.Memory.{volatile_start, stack_start, stack_end}
+use Rattle.hip_types.specs.Areas.{volatile_start, stack_start, stack_end}
 use Rattle.hip_mem.specs.Areas.{Areas}
 use Rattle.hip_mem.specs.Pages.{page_bytes}
 use Rattle.hip_types.specs.declared.limits.TheConstants.{LARGEST_REGION, LARGEST_VOLATILE}

@@ -3,8 +3,10 @@
 ghost use Rattle.std.specs.Prelude.{◌≡◌, ◌<◌, ◌^◌};
 ghost use Rattle.hip_mem.specs.Paging.{key_of};
 
-use crate::{PAGE_SIZE, STACK_SIZE, STACK_START, VOLATILE_START};
-use hip_types::{LARGEST_REGION, LARGEST_VOLATILE, LOWEST_BASE};
+use crate::PAGE_SIZE;
+use hip_types::{
+    LARGEST_REGION, LARGEST_VOLATILE, LOWEST_BASE, STACK_SIZE, STACK_START, VOLATILE_START,
+};
 
 /// The number of the stack's first page.
 pub const STACK_PAGE: u64 = STACK_START / PAGE_SIZE;

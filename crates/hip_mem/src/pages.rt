@@ -5,12 +5,13 @@ ghost use Rattle.hip_directory.specs.Directories.{number_at};
 ghost use Rattle.hip_mem.specs.Memory.{byte_written};
 ghost use Rattle.hip_mem.specs.Paging.{ArePages, AreClean};
 ghost use Rattle.hip_mem.specs.declared.keys.TheConstants.{LOWEST_REGION_PAGE};
-ghost use Rattle.hip_mem.specs.declared.TheConstants.{PAGE_SIZE, STACK_START, STACK_END};
+ghost use Rattle.hip_mem.specs.declared.TheConstants.{PAGE_SIZE};
+ghost use Rattle.hip_types.specs.declared.areas.TheConstants.{STACK_START, STACK_END};
 
+use crate::PAGE_SIZE;
 use crate::keys::{LOWEST_REGION_PAGE, STACK_PAGE, STACK_PAGES, key_of};
-use crate::{PAGE_SIZE, STACK_END, STACK_START};
 use hip_directory::Directory;
-use hip_types::NoMemory;
+use hip_types::{NoMemory, STACK_END, STACK_START};
 use std::alloc::Global;
 
 /// Bytes by address.
@@ -158,7 +159,7 @@ impl Pages {
 
 // By address.
 impl Pages {
-    ghost use Rattle.hip_mem.specs.Bytes.{little_endian};
+    ghost use Rattle.hip_types.specs.Bytes.{little_endian};
     ghost use Rattle.hip_mem.specs.Pages.{place_of, IsMade, byte_of, page_byte, page_bytes, IsFirstMade};
 
     /// The number of at most eight bytes, the lowest first.

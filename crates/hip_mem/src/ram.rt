@@ -1,12 +1,13 @@
 ghost use Rattle.std.specs.Prelude.{◌≡◌, ◌==◌, ℕ, ◌+◌, ◌-◌, ◌*◌, ◌/◌, ◌%◌, ◌^◌, ◌<◌, ◌≤◌, ◌↔◌, [], length, slice_index, IfOk, IfErr, OnOk, OnErr, Some, None, Err, IsTrue};
 ghost use Rattle.hip_mem.specs.Memory.{byte_written};
-ghost use Rattle.hip_mem.specs.Bytes.{little_endian};
+ghost use Rattle.hip_types.specs.Bytes.{little_endian};
 ghost use Rattle.hip_mem.specs.Pages.{page_byte, page_bytes};
 
 use crate::pages::Pages;
 use crate::refusal::{MemTrap, PushRefusal, StoreRefusal};
-use crate::{STACK_END, STACK_START, VOLATILE_START};
-use hip_types::{LARGEST_REGION, LARGEST_VOLATILE, NoMemory};
+use hip_types::{
+    LARGEST_REGION, LARGEST_VOLATILE, NoMemory, STACK_END, STACK_START, VOLATILE_START,
+};
 use std::alloc::Global;
 use std::marker::Model;
 
@@ -34,8 +35,8 @@ impl Model for Ram {
 }
 
 impl Ram {
-    ghost use Rattle.hip_mem.specs.Memory.{stack_start, stack_end};
-    ghost use Rattle.hip_mem.specs.Bytes.{bytes_of};
+    ghost use Rattle.hip_types.specs.Areas.{stack_start, stack_end};
+    ghost use Rattle.hip_types.specs.Bytes.{bytes_of};
     ghost use Rattle.hip_mem.specs.Areas.{IsLaidOut, mark_of, is_valid, are_valid, access_trap, loaded, after_write, block_address, pushed_mark, after_push, after_pop};
 
     /// The initial bytes of the volatile globals and of the region, and an empty stack.

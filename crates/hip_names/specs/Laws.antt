@@ -1,5 +1,6 @@
 -- Laws of the definitions.
 pub mod DifferLaws
+pub mod MetLaws
 pub mod NameLaws
 pub mod NumberLaws
 pub mod TableLaws

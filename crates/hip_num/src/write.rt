@@ -28,7 +28,8 @@ pub fn natural_into(buf: &mut [u8; 40], v: u128) -> usize
     ensures text { take result buf.new ≡ decimal v }
     ensures length { result ≤ 40 }
 {
-    put(buf, Buffer::new().format(v).as_bytes())
+    let mut digits = Buffer::new();
+    put(buf, digits.format(v).as_bytes())
 }
 
 /// Writes `0x` and the least number of hexadecimal digits in lower case, and answers the length.

@@ -6,12 +6,14 @@ use Rattle.std.proofs.Math.ListN.{drop_of_length-le}
 use Rattle.std.proofs.lemmas.Bool.{ltb-true, ltb-false}
 use Rattle.std.specs.Int.{next_multiple_of}
 use Rattle.std.specs.Prelude.{if◌then◌else◌}
-use Rattle.hip_ir.specs.declared.program.Program.{Program}
-use Rattle.hip_mem.specs.Memory.{volatile_start, range_contains}
-use Rattle.hip_globals.specs.Laws.AddressLaws.{end_of-from, spelled-divide}
-use Rattle.hip_typing.specs.Sound.{IsSound}
+use Rattle.hip_tree.specs.declared.program.Program.{Program}
+use Rattle.hip_mem.specs.Memory.{range_contains}
+use Rattle.hip_types.specs.Areas.{volatile_start}
+use Rattle.hip_globals.specs.Laws.AddressLaws.{end_of-from}
+use Rattle.hip_sound.specs.Laws.SpelledLaws.{spelled-divide}
+use Rattle.hip_sound.specs.Sound.{IsSound}
 use Rattle.hip_types.specs.Layout.{size_of}
-use Rattle.hip_ir.specs.declared.program.GlobalVar.{GlobalVar}
+use Rattle.hip_tree.specs.declared.program.GlobalVar.{GlobalVar}
 use Rattle.hip_globals.specs.Addresses.{IsBase, end_of, start_of, is_persistent, address_in, global_start, same_truth}
 use Rattle.hip_runs.specs.Found.Objects.{global_at, global_from}
 use Rattle.hip_objects.specs.Globals.{AreLaid, number_at, place_of, places_from}

@@ -1,7 +1,7 @@
 -- The blocks on the stack, the oldest first: the newest one that has a byte is the first one that has it.
 use Rattle.std.proofs.Common.{ℕ, suc, ◌+◌, ◌<◌, ◌≤◌, ◌≡◌, Bool, true, false, cond, List, [], ◌∷◌, ◌++◌, Option, Some, None, reverse, refl, sym, ap, ◌∙◌, arith, subst}
 use Rattle.std.proofs.lemmas.List.{length-map, get_or-map, reverse-append}
-use Rattle.hip_ir.specs.declared.site.Site.{Site}
+use Rattle.hip_tree.specs.declared.site.Site.{Site}
 use Rattle.hip_mem.specs.Memory.{range_contains}
 use Rattle.hip_runs.specs.State.{Slot}
 use Rattle.hip_runs.specs.Found.Objects.{or_else, slot_in}

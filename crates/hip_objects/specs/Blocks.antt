@@ -1,6 +1,6 @@
 -- The blocks on the stack, by their addresses.
 use Rattle.std.specs.Prelude.{ℕ, ◌+◌, ◌≤◌, List, Option, Some, None, All, map, reverse}
-use Rattle.hip_ir.specs.declared.site.Site.{Site}
+use Rattle.hip_tree.specs.declared.site.Site.{Site}
 use Rattle.hip_runs.specs.State.{Slot}
 use Rattle.hip_runs.specs.Found.Objects.{slot_in}
 use Rattle.hip_runs.specs.declared.event.Object.{Object}

@@ -1,7 +1,7 @@
 -- The globals of a program, by their addresses.
 use Rattle.std.specs.Prelude.{ℕ, suc, ◌+◌, Bool, cond, nat_lt, List, [], ◌∷◌, Option}
 use Rattle.hip_types.specs.Layout.{shape}
-use Rattle.hip_ir.specs.declared.program.GlobalVar.{GlobalVar}
+use Rattle.hip_tree.specs.declared.program.GlobalVar.{GlobalVar}
 use Rattle.hip_globals.specs.Addresses.{global_start, same_truth}
 use Rattle.hip_objects.specs.Order.{AreInOrder, first_at}
 use Rattle.hip_objects.specs.declared.globals.GlobalTable.TheInside.{Inside}

@@ -2,7 +2,7 @@ ghost use Rattle.std.specs.Prelude.{◌≡◌, ◌≤◌, ◌+◌, [], ◌∷◌
 ghost use Rattle.hip_objects.specs.Blocks.{AreStacked, IsBehind, object_in, sited, slots_of};
 ghost use Rattle.hip_objects.specs.Order.{AreSplit};
 
-use hip_ir::Site;
+use hip_tree::Site;
 use hip_types::NoMemory;
 use std::alloc::Global;
 use std::marker::Model;

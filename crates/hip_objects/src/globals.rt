@@ -6,10 +6,9 @@ ghost use Rattle.hip_objects.specs.Globals.{AreLaid, number_at, place_of, places
 ghost use Rattle.hip_objects.specs.Order.{AreSplit};
 
 use hip_globals::alignment;
-use hip_ir::GlobalVar;
-use hip_mem::VOLATILE_START;
-use hip_types::{NoMemory, size};
-use hip_typing::Checked;
+use hip_sound::Checked;
+use hip_tree::GlobalVar;
+use hip_types::{NoMemory, VOLATILE_START, size};
 use std::alloc::Global;
 use std::marker::Model;
 

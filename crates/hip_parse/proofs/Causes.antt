@@ -1,9 +1,9 @@
 -- A refusal says its fault.
 use Rattle.std.proofs.Common.{ℕ, List}
-use Rattle.hip_ir.specs.declared.fault.Fault.{Fault}
-use Rattle.hip_ir.specs.declared.fault.Fault.TheVariants as faults
-use Rattle.hip_ir.specs.Reading.{IsRefusal}
-use Rattle.hip_parse.specs.Meaning.{IsCause, refusal_of}
+use Rattle.hip_grammar.specs.declared.fault.Fault.{Fault}
+use Rattle.hip_grammar.specs.declared.fault.Fault.TheVariants as faults
+use Rattle.hip_grammar.specs.Reading.{IsRefusal}
+use Rattle.hip_grammar.specs.Refusals.{IsCause, refusal_of}
 
 pub cause_of : (text : List ℕ) (why : Fault) (line : ℕ) → IsRefusal text why line → IsCause text (refusal_of why line)
 cause_of text faults.Syntax line h = h

@@ -5,11 +5,11 @@ use Rattle.hip_types.specs.declared.number.Width.{Width}
 use Rattle.hip_tokens.specs.Tokens.{At}
 use Rattle.hip_rules.specs.Rule.{Verdict, Yes, Because, No}
 use Rattle.hip_rules.specs.Reader.{Outcome, one_at, judged, next}
-use Rattle.hip_ir.specs.declared.constant.Const.{Const}
-use Rattle.hip_ir.specs.declared.constant.Const.TheVariants as consts
-use Rattle.hip_ir.specs.declared.fault.Fault.{Fault}
-use Rattle.hip_ir.specs.Words.{is_word}
-use Rattle.hip_ir.specs.Numbers.{a_literal, as_const, an_int_const}
+use Rattle.hip_tree.specs.declared.constant.Const.{Const}
+use Rattle.hip_tree.specs.declared.constant.Const.TheVariants as consts
+use Rattle.hip_grammar.specs.declared.fault.Fault.{Fault}
+use Rattle.hip_grammar.specs.Words.{is_word}
+use Rattle.hip_grammar.specs.Numbers.{a_literal, as_const, an_int_const}
 use Rattle.hip_parse.specs.Left.{tail}
 
 pub zero_here : (w : Width) (ts : List At) → next (is_word (codes "zeroinitializer")) ts ≡ true → one_at (an_int_const w) ts ≡ Ok (consts.Zero, tail ts)

@@ -8,8 +8,8 @@ use Rattle.std.proofs.lemmas.Bool.Decides.{nat_tests}
 use Rattle.hip_types.specs.Widths.{bits_of}
 use Rattle.hip_types.specs.declared.number.Width.{Width}
 use Rattle.hip_types.specs.declared.number.Width.TheVariants.{W1, W8, W16, W32, W64}
-use Rattle.hip_ir.specs.Numbers.{digits_from, is_negative, magnitude, negated, value_of, count_of, is_alignment, alignment_of}
-use Rattle.hip_ir.specs.Numbers.{below}
+use Rattle.hip_grammar.specs.Numbers.{digits_from, is_negative, magnitude, negated, value_of, count_of, is_alignment, alignment_of}
+use Rattle.hip_grammar.specs.Numbers.{below}
 
 grows : (n : ℕ) (ds : List ℕ) → n ≤ digits_from n ds
 grows n [] = omega arith

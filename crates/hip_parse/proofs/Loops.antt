@@ -3,7 +3,7 @@ use Rattle.std.proofs.Common.{◌≡◌, ◌≤◌, Bool, true, List, [], length
 use Rattle.hip_tokens.specs.Tokens.{Tok, At}
 use Rattle.hip_rules.specs.Reader.{Outcome, Reader, next, many_at, with_front, taken_up, leaders_at, with_leaders}
 use Rattle.hip_rules.specs.Laws.Loops.{TakesSome, fails, fails_up, leader_head_fails, leader_part_fails}
-use Rattle.hip_ir.specs.declared.fault.Fault.{Fault}
+use Rattle.hip_grammar.specs.declared.fault.Fault.{Fault}
 use Rattle.hip_parse.specs.declared.error.ReadError.{ReadError}
 use Rattle.hip_parse.specs.declared.error.ReadError.TheVariants as errors
 use Rattle.hip_parse.specs.Left.{Fails}

@@ -6,15 +6,15 @@ use Rattle.hip_rules.specs.Laws.Exact.{never}
 use Rattle.hip_rules.specs.Laws.Loops.{TakesSome}
 use Rattle.hip_rules.specs.Part.{one_more_by, token}
 use Rattle.hip_rules.specs.Laws.Parts.{read_takes_some, one_more_read, token_read, read_within}
-use Rattle.hip_ir.specs.Words.{comma, is_local, a_word_of, is_word_of, flag_word}
-use Rattle.hip_ir.specs.Grammar.{type_within, const_within, typed_const}
-use Rattle.hip_ir.specs.Laws.Apart.{not_word_of}
-use Rattle.hip_ir.specs.Bodies.{assigned, phi}
-use Rattle.hip_ir.specs.Laws.BodiesExact.{assigned_read, phi_read}
-use Rattle.hip_ir.specs.Text.{item, begins_item}
-use Rattle.hip_ir.specs.Laws.TextExact.{item_read, goes_on_item}
-use Rattle.hip_ir.specs.declared.block.Phi.{Phi}
-use Rattle.hip_ir.specs.Laws.Exactness.{begins_type, type_read, typed_const_read, const_exact}
+use Rattle.hip_grammar.specs.Words.{comma, is_local, a_word_of, is_word_of, flag_word}
+use Rattle.hip_grammar.specs.Grammar.{type_within, const_within, typed_const}
+use Rattle.hip_grammar.specs.Laws.Apart.{not_word_of}
+use Rattle.hip_grammar.specs.Bodies.{assigned, phi}
+use Rattle.hip_grammar.specs.Laws.BodiesExact.{assigned_read, phi_read}
+use Rattle.hip_grammar.specs.Text.{item, begins_item}
+use Rattle.hip_grammar.specs.Laws.TextExact.{item_read, goes_on_item}
+use Rattle.hip_tree.specs.declared.block.Phi.{Phi}
+use Rattle.hip_grammar.specs.Laws.Exactness.{begins_type, type_read, typed_const_read, const_exact}
 
 pub type_some : (n : ℕ) → TakesSome (one_more_by comma (type_within n)).read
 type_some n = read_takes_some (one_more_by comma (type_within n)) comma never (one_more_read (type_within n) comma begins_type never (type_read n))

@@ -1,5 +1,5 @@
 -- The items of the code.
-use Rattle.hip_ir.specs.Text.{Item, GlobalItem, ExternItem, FunctionItem, DroppedItem}
+use Rattle.hip_grammar.specs.Text.{Item, GlobalItem, ExternItem, FunctionItem, DroppedItem}
 use Rattle.hip_parse.specs.declared.items.Item.{Item as CodeItem}
 use Rattle.hip_parse.specs.declared.items.Item.TheVariants as code
 

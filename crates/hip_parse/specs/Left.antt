@@ -4,7 +4,7 @@ use Rattle.hip_tokens.specs.declared.lexer.Token.{Token}
 use Rattle.hip_tokens.specs.Tokens.{At, cut}
 use Rattle.hip_tokens.specs.Seen.{seen}
 use Rattle.hip_rules.specs.Reader.{Outcome}
-use Rattle.hip_ir.specs.declared.fault.Fault.{Fault}
+use Rattle.hip_grammar.specs.declared.fault.Fault.{Fault}
 use Rattle.hip_parse.specs.declared.error.ReadError.{ReadError}
 use Rattle.hip_parse.specs.declared.error.ReadError.TheVariants as errors
 use Rattle.hip_parse.specs.declared.parser.Parser.{Parser}

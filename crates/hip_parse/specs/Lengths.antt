@@ -7,14 +7,14 @@ use Rattle.hip_rules.specs.Part.{Part}
 use Rattle.hip_rules.specs.Laws.Exact.{never}
 use Rattle.hip_rules.specs.Laws.Loops.{TakesSome}
 use Rattle.hip_rules.specs.Laws.Parts.{read_takes_some, read_within}
-use Rattle.hip_ir.specs.declared.fault.Fault.{Fault}
-use Rattle.hip_ir.specs.Words.{comma, is_label}
-use Rattle.hip_ir.specs.Grammar.{scalar, is_width, literal_index, arg, index}
-use Rattle.hip_ir.specs.Bodies.{edge, case, instr, begins_instr, block}
-use Rattle.hip_ir.specs.Text.{param}
-use Rattle.hip_ir.specs.Laws.Exactness.{literal_index_read, arg_read, index_read}
-use Rattle.hip_ir.specs.Laws.BodiesExact.{edge_read, case_read, instr_read, block_read}
-use Rattle.hip_ir.specs.Laws.TextExact.{scalar_read, param_read}
+use Rattle.hip_grammar.specs.declared.fault.Fault.{Fault}
+use Rattle.hip_grammar.specs.Words.{comma, is_label}
+use Rattle.hip_grammar.specs.Grammar.{scalar, is_width, literal_index, arg, index}
+use Rattle.hip_grammar.specs.Bodies.{edge, case, instr, begins_instr, block}
+use Rattle.hip_grammar.specs.Text.{param}
+use Rattle.hip_grammar.specs.Laws.Exactness.{literal_index_read, arg_read, index_read}
+use Rattle.hip_grammar.specs.Laws.BodiesExact.{edge_read, case_read, instr_read, block_read}
+use Rattle.hip_grammar.specs.Laws.TextExact.{scalar_read, param_read}
 
 -- where the part is read, no more tokens are left than there were
 abbrev pub IsWithin : {A : Type 0} → Part Fault A → Type 0

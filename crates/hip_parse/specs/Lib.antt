@@ -1,4 +1,3 @@
 pub mod Left
 pub mod Items
 pub mod Lengths
-pub mod Meaning

@@ -3,9 +3,9 @@
 ghost use Rattle.std.specs.Prelude.{◌≡◌, ℕ, List, [], ◌∷◌, ◌++◌, codes};
 ghost use Rattle.hip_rules.specs.Part.{one_more_by, separated};
 ghost use Rattle.hip_rules.specs.Reader.{many_at, next, with_front, leaders_at};
-ghost use Rattle.hip_ir.specs.Words.{comma, is_local, is_word};
-ghost use Rattle.hip_ir.specs.Grammar.{is_width};
-ghost use Rattle.hip_ir.specs.Bodies.{assigned, edge_label, edge, phi, instr, begins_instr, target, jump, branch, br, case, cases, switch, ret_void, ret_arg, ret_end, unreachable, end, closing, after_first, after_name, from_effect, after_phis, block};
+ghost use Rattle.hip_grammar.specs.Words.{comma, is_local, is_word};
+ghost use Rattle.hip_grammar.specs.Grammar.{is_width};
+ghost use Rattle.hip_grammar.specs.Bodies.{assigned, edge_label, edge, phi, instr, begins_instr, target, jump, branch, br, case, cases, switch, ret_void, ret_arg, ret_end, unreachable, end, closing, after_first, after_name, from_effect, after_phis, block};
 ghost use Rattle.hip_parse.specs.Lengths.{edge_within, case_some, instr_some};
 ghost use Rattle.hip_parse.specs.Left.{left, Gives, Takes};
 
@@ -13,7 +13,8 @@ use crate::error::ReadError;
 use crate::parser::Parser;
 use crate::parts::{Production, Repeated};
 use crate::words::{Scalars, Widths};
-use hip_ir::{Block, Case, Edge, End, Fault, Instr, Keyword, Phi};
+use hip_grammar::{Fault, Keyword};
+use hip_tree::{Block, Case, Edge, End, Instr, Phi};
 use hip_types::{Name, Row, Scalar, Width};
 use std::alloc::Global;
 
@@ -81,7 +82,7 @@ impl<'a> Parser<'a> {
     // ---- phis
 
     /// The label of an edge behind a comma, and the bracket that closes the edge.
-    #[tactic(auto, unfolding(hip_ir::specs::Bodies::edge_label))]
+    #[tactic(auto, unfolding(hip_grammar::specs::Bodies::edge_label))]
     fn edge_label(&mut self, alloc: Global) -> Result<Name, ReadError>
         ensures { Takes (λ x. x) result (edge_label.read (left self.old)) (left self.new) }
     {
@@ -91,7 +92,7 @@ impl<'a> Parser<'a> {
         Ok(Row::from_slice(alloc, label)?)
     }
 
-    #[tactic(auto, unfolding(hip_ir::specs::Bodies::edge))]
+    #[tactic(auto, unfolding(hip_grammar::specs::Bodies::edge))]
     fn edge(&mut self, alloc: Global, scalar: Scalar) -> Result<Edge, ReadError>
         ensures { Takes (λ x. x) result ((edge scalar).read (left self.old)) (left self.new) }
     {
@@ -101,7 +102,7 @@ impl<'a> Parser<'a> {
         Ok(Edge { value, label })
     }
 
-    #[tactic(auto, unfolding(hip_ir::specs::Bodies::phi))]
+    #[tactic(auto, unfolding(hip_grammar::specs::Bodies::phi))]
     fn phi(&mut self, alloc: Global, dest: Name) -> Result<Phi, ReadError>
         ensures { Takes (λ x. x) result ((phi dest).read (left self.old)) (left self.new) }
     {
@@ -131,7 +132,7 @@ impl<'a> Parser<'a> {
 
     // ---- ends of blocks
 
-    #[tactic(auto, unfolding(hip_ir::specs::Bodies::target))]
+    #[tactic(auto, unfolding(hip_grammar::specs::Bodies::target))]
     fn target(&mut self) -> Result<&'a [u8], Option<Fault>>
         ensures { Gives (λ x. x.now) result (target.read (left self.old)) (left self.new) }
     {
@@ -139,7 +140,7 @@ impl<'a> Parser<'a> {
         self.local()
     }
 
-    #[tactic(auto, unfolding(hip_ir::specs::Bodies::jump))]
+    #[tactic(auto, unfolding(hip_grammar::specs::Bodies::jump))]
     fn jump(&mut self, alloc: Global) -> Result<End, ReadError>
         ensures { Takes (λ x. x) result (jump.read (left self.old)) (left self.new) }
     {
@@ -158,7 +159,7 @@ impl<'a> Parser<'a> {
         Ok(Row::from_slice(alloc, label)?)
     }
 
-    #[tactic(auto, unfolding(hip_ir::specs::Bodies::branch))]
+    #[tactic(auto, unfolding(hip_grammar::specs::Bodies::branch))]
     fn branch(&mut self, alloc: Global) -> Result<End, ReadError>
         ensures { Takes (λ x. x) result (branch.read (left self.old)) (left self.new) }
     {
@@ -169,7 +170,7 @@ impl<'a> Parser<'a> {
         Ok(End::CondBr { cond, yes, no })
     }
 
-    #[tactic(auto, unfolding(hip_ir::specs::Bodies::br))]
+    #[tactic(auto, unfolding(hip_grammar::specs::Bodies::br))]
     fn br(&mut self, alloc: Global) -> Result<End, ReadError>
         ensures { Takes (λ x. x) result (br.read (left self.old)) (left self.new) }
     {
@@ -181,7 +182,7 @@ impl<'a> Parser<'a> {
         }
     }
 
-    #[tactic(auto, unfolding(hip_ir::specs::Bodies::case))]
+    #[tactic(auto, unfolding(hip_grammar::specs::Bodies::case))]
     fn case(&mut self, alloc: Global, width: Width) -> Result<Case, ReadError>
         ensures { Takes (λ x. x) result ((case width).read (left self.old)) (left self.new) }
     {
@@ -192,7 +193,7 @@ impl<'a> Parser<'a> {
     }
 
     /// The cases of a switch, with their brackets.
-    #[tactic(auto, using(crate::proofs::Loops::nothing_before), unfolding(hip_ir::specs::Bodies::cases))]
+    #[tactic(auto, using(crate::proofs::Loops::nothing_before), unfolding(hip_grammar::specs::Bodies::cases))]
     fn cases(&mut self, alloc: Global, width: Width) -> Result<Row<Case>, ReadError>
         ensures { Takes (λ x. x) result ((cases width).read (left self.old)) (left self.new) }
     {
@@ -202,7 +203,7 @@ impl<'a> Parser<'a> {
         Ok(cases)
     }
 
-    #[tactic(auto, unfolding(hip_ir::specs::Bodies::switch))]
+    #[tactic(auto, unfolding(hip_grammar::specs::Bodies::switch))]
     fn switch(&mut self, alloc: Global) -> Result<End, ReadError>
         ensures { Takes (λ x. x) result (switch.read (left self.old)) (left self.new) }
     {
@@ -219,7 +220,7 @@ impl<'a> Parser<'a> {
         })
     }
 
-    #[tactic(auto, unfolding(hip_ir::specs::Bodies::ret_end, hip_ir::specs::Bodies::ret_void, hip_ir::specs::Bodies::ret_arg))]
+    #[tactic(auto, unfolding(hip_grammar::specs::Bodies::ret_end, hip_grammar::specs::Bodies::ret_void, hip_grammar::specs::Bodies::ret_arg))]
     fn ret_end(&mut self, alloc: Global) -> Result<End, ReadError>
         ensures { Takes (λ x. x) result (ret_end.read (left self.old)) (left self.new) }
     {
@@ -233,7 +234,7 @@ impl<'a> Parser<'a> {
         }
     }
 
-    #[tactic(auto, unfolding(hip_ir::specs::Bodies::unreachable))]
+    #[tactic(auto, unfolding(hip_grammar::specs::Bodies::unreachable))]
     fn unreachable(&mut self) -> Result<End, Option<Fault>>
         ensures { Gives (λ x. x) result (unreachable.read (left self.old)) (left self.new) }
     {
@@ -241,7 +242,7 @@ impl<'a> Parser<'a> {
         Ok(End::Unreachable)
     }
 
-    #[tactic(auto, unfolding(hip_ir::specs::Bodies::end))]
+    #[tactic(auto, unfolding(hip_grammar::specs::Bodies::end))]
     fn end(&mut self, alloc: Global) -> Result<End, ReadError>
         ensures { Takes (λ x. x) result (end.read (left self.old)) (left self.new) }
     {
@@ -259,7 +260,7 @@ impl<'a> Parser<'a> {
 
     // ---- blocks
 
-    #[tactic(auto, unfolding(hip_ir::specs::Bodies::closing))]
+    #[tactic(auto, unfolding(hip_grammar::specs::Bodies::closing))]
     fn closing(
         &mut self,
         alloc: Global,
@@ -278,7 +279,7 @@ impl<'a> Parser<'a> {
         })
     }
 
-    #[tactic(auto, unfolding(hip_ir::specs::Bodies::after_first))]
+    #[tactic(auto, unfolding(hip_grammar::specs::Bodies::after_first))]
     fn after_first(
         &mut self,
         alloc: Global,
@@ -294,7 +295,7 @@ impl<'a> Parser<'a> {
         self.closing(alloc, label, phis, body)
     }
 
-    #[tactic(auto, unfolding(hip_ir::specs::Bodies::after_name))]
+    #[tactic(auto, unfolding(hip_grammar::specs::Bodies::after_name))]
     fn after_name(
         &mut self,
         alloc: Global,
@@ -308,7 +309,7 @@ impl<'a> Parser<'a> {
         self.after_first(alloc, label, phis, first)
     }
 
-    #[tactic(auto, unfolding(hip_ir::specs::Bodies::after_phis, hip_ir::specs::Bodies::from_effect))]
+    #[tactic(auto, unfolding(hip_grammar::specs::Bodies::after_phis, hip_grammar::specs::Bodies::from_effect))]
     fn after_phis(&mut self, alloc: Global, label: Name, phis: Row<Phi>) -> Result<Block, ReadError>
         ensures { Takes (λ x. x) result ((after_phis label phis).read (left self.old)) (left self.new) }
     {
@@ -320,7 +321,7 @@ impl<'a> Parser<'a> {
         }
     }
 
-    #[tactic(auto, unfolding(hip_ir::specs::Bodies::block))]
+    #[tactic(auto, unfolding(hip_grammar::specs::Bodies::block))]
     pub(crate) fn block(&mut self, alloc: Global) -> Result<Block, ReadError>
         ensures { Takes (λ x. x) result (block.read (left self.old)) (left self.new) }
     {

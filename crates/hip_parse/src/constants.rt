@@ -5,9 +5,9 @@ ghost use Rattle.hip_types.specs.declared.number.Scalar.TheVariants.{Ptr};
 ghost use Rattle.hip_tokens.specs.Bytes.{byte};
 ghost use Rattle.hip_rules.specs.Part.{token, either, one_more_by, separated, listed};
 ghost use Rattle.hip_rules.specs.Reader.{many_at, with_front};
-ghost use Rattle.hip_ir.specs.Words.{is_mark, comma, too_deep};
-ghost use Rattle.hip_ir.specs.Numbers.{an_int_const};
-ghost use Rattle.hip_ir.specs.Grammar.{a_pointer, zero_const, literal_index, gep_inside, gep_const, pointer_within, typed_const, const_list, array_const, struct_const, const_within, scalar_const, register, fixed_operand, operand, arg, index};
+ghost use Rattle.hip_grammar.specs.Words.{is_mark, comma, too_deep};
+ghost use Rattle.hip_grammar.specs.Numbers.{an_int_const};
+ghost use Rattle.hip_grammar.specs.Grammar.{a_pointer, zero_const, literal_index, gep_inside, gep_const, pointer_within, typed_const, const_list, array_const, struct_const, const_within, scalar_const, register, fixed_operand, operand, arg, index};
 ghost use Rattle.hip_parse.specs.Lengths.{literal_index_within, arg_within, index_within};
 ghost use Rattle.hip_parse.specs.Left.{left, Gives, Takes};
 
@@ -15,8 +15,9 @@ use crate::error::ReadError;
 use crate::parser::Parser;
 use crate::parts::Production;
 use crate::words::{Scalars, Widths};
-use hip_ir::{Arg, Const, ConstGep, Fault, Operand, TypedConst};
+use hip_grammar::Fault;
 use hip_tokens::Token;
+use hip_tree::{Arg, Const, ConstGep, Operand, TypedConst};
 use hip_types::{Bits, DEEPEST_NESTING, Link, Row, Scalar, Ty};
 use std::alloc::Global;
 
@@ -72,7 +73,7 @@ impl Production for Index {
 impl<'a> Parser<'a> {
     // ---- constants under `ptr`
 
-    #[tactic(auto, unfolding(hip_ir::specs::Grammar::literal_index))]
+    #[tactic(auto, unfolding(hip_grammar::specs::Grammar::literal_index))]
     fn literal_index(&mut self) -> Result<Bits, Option<Fault>>
         ensures { Gives (λ x. x) result (literal_index.read (left self.old)) (left self.new) }
     {
@@ -106,7 +107,7 @@ impl<'a> Parser<'a> {
     }
 
     /// A `getelementptr` where none may open any more.
-    #[tactic(auto, unfolding(crate::specs::Left::left, hip_ir::specs::Grammar::gep_const))]
+    #[tactic(auto, unfolding(crate::specs::Left::left, hip_grammar::specs::Grammar::gep_const))]
     fn shallow_gep(&mut self) -> Result<Const, Option<Fault>>
         ensures { Gives (λ x. x) result
             ((gep_const (λ inbounds. token (too_deep (byte "(")))).read (left self.old))
@@ -123,7 +124,7 @@ impl<'a> Parser<'a> {
 
     /// A constant under `ptr`, with at most `depth` `getelementptr` in one another.
     #[cycle(pointers)]
-    #[tactic(auto, unfolding(hip_ir::specs::Grammar::pointer_within, hip_ir::specs::Grammar::pointer_by))]
+    #[tactic(auto, unfolding(hip_grammar::specs::Grammar::pointer_within, hip_grammar::specs::Grammar::pointer_by))]
     pub(crate) fn pointer(&mut self, alloc: Global, depth: u64) -> Result<Const, ReadError>
         ensures { Takes (λ x. x) result ((pointer_within depth).read (left self.old)) (left self.new) }
     {
@@ -138,7 +139,7 @@ impl<'a> Parser<'a> {
     }
 
     #[cycle(pointers)]
-    #[tactic(auto, unfolding(hip_ir::specs::Grammar::gep_const))]
+    #[tactic(auto, unfolding(hip_grammar::specs::Grammar::gep_const))]
     fn gep_const(&mut self, alloc: Global, depth: u64) -> Result<Const, ReadError>
         ensures { Takes (λ x. x) result
             ((gep_const (gep_inside (pointer_within depth))).read (left self.old))
@@ -150,7 +151,7 @@ impl<'a> Parser<'a> {
     }
 
     #[cycle(pointers)]
-    #[tactic(auto, unfolding(hip_ir::specs::Grammar::gep_inside))]
+    #[tactic(auto, unfolding(hip_grammar::specs::Grammar::gep_inside))]
     fn gep_inside(&mut self, alloc: Global, depth: u64, inbounds: bool) -> Result<Const, ReadError>
         ensures { Takes (λ x. x) result
             ((gep_inside (pointer_within depth) inbounds).read (left self.old))
@@ -188,7 +189,7 @@ impl<'a> Parser<'a> {
     }
 
     /// An aggregate constant where no level is left.
-    #[tactic(auto, unfolding(crate::specs::Left::left, hip_ir::specs::Grammar::array_const))]
+    #[tactic(auto, unfolding(crate::specs::Left::left, hip_grammar::specs::Grammar::array_const))]
     fn shallow_array(&mut self) -> Result<Const, Option<Fault>>
         ensures { Gives (λ x. x) result
             ((either (is_mark (byte "[")) (array_const (token (too_deep (byte "[")))) (token zero_const)).read
@@ -202,7 +203,7 @@ impl<'a> Parser<'a> {
         }
     }
 
-    #[tactic(auto, unfolding(crate::specs::Left::left, hip_ir::specs::Grammar::struct_const))]
+    #[tactic(auto, unfolding(crate::specs::Left::left, hip_grammar::specs::Grammar::struct_const))]
     fn shallow_struct(&mut self) -> Result<Const, Option<Fault>>
         ensures { Gives (λ x. x) result
             ((either (is_mark (byte "{")) (struct_const (token (too_deep (byte "{")))) (token zero_const)).read
@@ -217,7 +218,7 @@ impl<'a> Parser<'a> {
     }
 
     /// A constant under the type, where no level is left.
-    #[tactic(auto, unfolding(hip_ir::specs::Grammar::const_within, hip_ir::specs::Grammar::const_by))]
+    #[tactic(auto, unfolding(hip_grammar::specs::Grammar::const_within, hip_grammar::specs::Grammar::const_by))]
     fn shallow_const(&mut self, alloc: Global, ty: &Ty) -> Result<Const, ReadError>
         ensures { Takes (λ x. x) result ((const_within 0 ty.now).read (left self.old)) (left self.new) }
     {
@@ -240,7 +241,7 @@ impl<'a> Parser<'a> {
 
     /// A constant under the type, whose bracketed and braced constants are nested at most `depth` deep.
     #[cycle(constants)]
-    #[tactic(auto, unfolding(hip_ir::specs::Grammar::const_within, hip_ir::specs::Grammar::const_by))]
+    #[tactic(auto, unfolding(hip_grammar::specs::Grammar::const_within, hip_grammar::specs::Grammar::const_by))]
     pub(crate) fn const_value(
         &mut self,
         alloc: Global,
@@ -264,7 +265,7 @@ impl<'a> Parser<'a> {
     }
 
     #[cycle(constants)]
-    #[tactic(auto, unfolding(hip_ir::specs::Grammar::array_const))]
+    #[tactic(auto, unfolding(hip_grammar::specs::Grammar::array_const))]
     fn array_value(&mut self, alloc: Global, depth: u64) -> Result<Const, ReadError>
         ensures { Takes (λ x. x) result
             ((either (is_mark (byte "["))
@@ -282,7 +283,7 @@ impl<'a> Parser<'a> {
     }
 
     #[cycle(constants)]
-    #[tactic(auto, unfolding(hip_ir::specs::Grammar::struct_const))]
+    #[tactic(auto, unfolding(hip_grammar::specs::Grammar::struct_const))]
     fn struct_value(&mut self, alloc: Global, depth: u64) -> Result<Const, ReadError>
         ensures { Takes (λ x. x) result
             ((either (is_mark (byte "{"))
@@ -301,7 +302,7 @@ impl<'a> Parser<'a> {
 
     /// The constants of a list, between the marks that open and close it.
     #[cycle(constants)]
-    #[tactic(auto, unfolding(hip_ir::specs::Grammar::const_list, hip_rules::specs::Part::listed, hip_rules::specs::Part::none_up_to, hip_rules::specs::Part::some_up_to))]
+    #[tactic(auto, unfolding(hip_grammar::specs::Grammar::const_list, hip_rules::specs::Part::listed, hip_rules::specs::Part::none_up_to, hip_rules::specs::Part::some_up_to))]
     fn items(
         &mut self,
         alloc: Global,
@@ -324,7 +325,7 @@ impl<'a> Parser<'a> {
     }
 
     #[cycle(constants)]
-    #[tactic(auto, unfolding(hip_ir::specs::Grammar::typed_const))]
+    #[tactic(auto, unfolding(hip_grammar::specs::Grammar::typed_const))]
     fn typed_const(&mut self, alloc: Global, depth: u64) -> Result<TypedConst, ReadError>
         ensures { Takes (λ x. x) result ((typed_const (const_within depth)).read (left self.old)) (left self.new) }
     {
@@ -379,7 +380,7 @@ impl<'a> Parser<'a> {
 
     // ---- operands
 
-    #[tactic(auto, unfolding(hip_ir::specs::Grammar::scalar_const))]
+    #[tactic(auto, unfolding(hip_grammar::specs::Grammar::scalar_const))]
     fn scalar_const(&mut self, alloc: Global, scalar: Scalar) -> Result<Const, ReadError>
         ensures { Takes (λ x. x) result ((scalar_const scalar).read (left self.old)) (left self.new) }
     {
@@ -393,7 +394,7 @@ impl<'a> Parser<'a> {
     }
 
     /// A register, or a constant under the type.
-    #[tactic(auto, unfolding(hip_ir::specs::Grammar::operand, hip_ir::specs::Grammar::register, hip_ir::specs::Grammar::fixed_operand))]
+    #[tactic(auto, unfolding(hip_grammar::specs::Grammar::operand, hip_grammar::specs::Grammar::register, hip_grammar::specs::Grammar::fixed_operand))]
     pub(crate) fn operand(&mut self, alloc: Global, scalar: Scalar) -> Result<Operand, ReadError>
         ensures { Takes (λ x. x) result ((operand scalar).read (left self.old)) (left self.new) }
     {
@@ -406,7 +407,7 @@ impl<'a> Parser<'a> {
         }
     }
 
-    #[tactic(auto, unfolding(hip_ir::specs::Grammar::arg))]
+    #[tactic(auto, unfolding(hip_grammar::specs::Grammar::arg))]
     pub(crate) fn arg(&mut self, alloc: Global) -> Result<Arg, ReadError>
         ensures { Takes (λ x. x) result (arg.read (left self.old)) (left self.new) }
     {
@@ -415,7 +416,7 @@ impl<'a> Parser<'a> {
         Ok(Arg { ty, value })
     }
 
-    #[tactic(auto, unfolding(hip_ir::specs::Grammar::index))]
+    #[tactic(auto, unfolding(hip_grammar::specs::Grammar::index))]
     fn index(&mut self, alloc: Global) -> Result<Arg, ReadError>
         ensures { Takes (λ x. x) result (index.read (left self.old)) (left self.new) }
     {

@@ -3,16 +3,17 @@
 ghost use Rattle.std.specs.Prelude.{◌≡◌, ℕ, List, [], ◌∷◌, ◌++◌, codes, None};
 ghost use Rattle.hip_rules.specs.Part.{token, one_more_by, separated};
 ghost use Rattle.hip_rules.specs.Reader.{many_at, next};
-ghost use Rattle.hip_ir.specs.Words.{comma};
-ghost use Rattle.hip_ir.specs.Grammar.{operand, index};
-ghost use Rattle.hip_ir.specs.Bodies.{align, maybe_align, assigned, with_flag, flags, binary, compare, next_of_type, alternatives, select, to_int, int_cast, ptrtoint, inttoptr, alloca, next_address, aligned_address, load, gep, plain_call, call, store, memory_instr, cast_instr, value_instr, effect_instr, assigning_instr, instr, begins_effect, begins_instr};
+ghost use Rattle.hip_grammar.specs.Words.{comma};
+ghost use Rattle.hip_grammar.specs.Grammar.{operand, index};
+ghost use Rattle.hip_grammar.specs.Bodies.{align, maybe_align, assigned, with_flag, flags, binary, compare, next_of_type, alternatives, select, to_int, int_cast, ptrtoint, inttoptr, alloca, next_address, aligned_address, load, gep, plain_call, call, store, memory_instr, cast_instr, value_instr, effect_instr, assigning_instr, instr, begins_effect, begins_instr};
 ghost use Rattle.hip_parse.specs.Left.{left, Gives, Takes};
 
 use crate::constants::{Argument, Index};
 use crate::error::ReadError;
 use crate::parser::Parser;
 use crate::words::{BinaryOps, FlagsAfter, IntCasts, Preds, Results, Scalars, Widths};
-use hip_ir::{Arg, Fault, Flag, Flags, Instr, Keyword, Operand};
+use hip_grammar::{Fault, Keyword};
+use hip_tree::{Arg, Flag, Flags, Instr, Operand};
 use hip_types::{BinaryOp, CastOp, DEEPEST_NESTING, Name, Row, Scalar, Width};
 use std::alloc::Global;
 
@@ -31,7 +32,7 @@ fn with_flag(flags: Flags, flag: Flag) -> Flags
 }
 
 impl<'a> Parser<'a> {
-    #[tactic(auto, unfolding(hip_ir::specs::Bodies::align))]
+    #[tactic(auto, unfolding(hip_grammar::specs::Bodies::align))]
     fn align(&mut self) -> Result<u64, Option<Fault>>
         ensures { Gives (λ x. x) result (align.read (left self.old)) (left self.new) }
     {
@@ -51,7 +52,7 @@ impl<'a> Parser<'a> {
         }
     }
 
-    #[tactic(auto, unfolding(hip_ir::specs::Bodies::flags))]
+    #[tactic(auto, unfolding(hip_grammar::specs::Bodies::flags))]
     fn flags(&mut self, op: BinaryOp) -> Result<Flags, Option<Fault>>
         ensures { Gives (λ x. x) result ((flags op).read (left self.old)) (left self.new) }
     {
@@ -76,7 +77,7 @@ impl<'a> Parser<'a> {
         self.operand(alloc, scalar)
     }
 
-    #[tactic(auto, unfolding(hip_ir::specs::Bodies::binary))]
+    #[tactic(auto, unfolding(hip_grammar::specs::Bodies::binary))]
     fn binary(&mut self, alloc: Global, dest: Name) -> Result<Instr, ReadError>
         ensures { Takes (λ x. x) result ((binary dest).read (left self.old)) (left self.new) }
     {
@@ -95,7 +96,7 @@ impl<'a> Parser<'a> {
         })
     }
 
-    #[tactic(auto, unfolding(hip_ir::specs::Bodies::compare))]
+    #[tactic(auto, unfolding(hip_grammar::specs::Bodies::compare))]
     fn compare(&mut self, alloc: Global, dest: Name) -> Result<Instr, ReadError>
         ensures { Takes (λ x. x) result ((compare dest).read (left self.old)) (left self.new) }
     {
@@ -114,7 +115,7 @@ impl<'a> Parser<'a> {
     }
 
     /// The operand behind a comma and this type.
-    #[tactic(auto, unfolding(hip_ir::specs::Bodies::next_of_type))]
+    #[tactic(auto, unfolding(hip_grammar::specs::Bodies::next_of_type))]
     fn next_of_type(&mut self, alloc: Global, ty: Scalar) -> Result<Operand, ReadError>
         ensures { Takes (λ x. x) result ((next_of_type ty).read (left self.old)) (left self.new) }
     {
@@ -124,7 +125,7 @@ impl<'a> Parser<'a> {
     }
 
     /// The operands of which one is selected, behind their type.
-    #[tactic(auto, unfolding(hip_ir::specs::Bodies::alternatives))]
+    #[tactic(auto, unfolding(hip_grammar::specs::Bodies::alternatives))]
     fn alternatives(&mut self, alloc: Global) -> Result<(Scalar, Operand, Operand), ReadError>
         ensures { Takes (λ x. x) result (alternatives.read (left self.old)) (left self.new) }
     {
@@ -135,7 +136,7 @@ impl<'a> Parser<'a> {
         Ok((ty, a, b))
     }
 
-    #[tactic(auto, unfolding(hip_ir::specs::Bodies::select))]
+    #[tactic(auto, unfolding(hip_grammar::specs::Bodies::select))]
     fn select(&mut self, alloc: Global, dest: Name) -> Result<Instr, ReadError>
         ensures { Takes (λ x. x) result ((select dest).read (left self.old)) (left self.new) }
     {
@@ -153,7 +154,7 @@ impl<'a> Parser<'a> {
     }
 
     /// The type behind `to`.
-    #[tactic(auto, unfolding(hip_ir::specs::Bodies::to_int))]
+    #[tactic(auto, unfolding(hip_grammar::specs::Bodies::to_int))]
     fn to_int(&mut self) -> Result<Width, Option<Fault>>
         ensures { Gives (λ x. x) result (to_int.read (left self.old)) (left self.new) }
     {
@@ -161,7 +162,7 @@ impl<'a> Parser<'a> {
         self.keyword(Widths)
     }
 
-    #[tactic(auto, unfolding(hip_ir::specs::Bodies::int_cast))]
+    #[tactic(auto, unfolding(hip_grammar::specs::Bodies::int_cast))]
     fn int_cast(&mut self, alloc: Global, dest: Name) -> Result<Instr, ReadError>
         ensures { Takes (λ x. x) result ((int_cast dest).read (left self.old)) (left self.new) }
     {
@@ -180,7 +181,7 @@ impl<'a> Parser<'a> {
         })
     }
 
-    #[tactic(auto, unfolding(hip_ir::specs::Bodies::ptrtoint))]
+    #[tactic(auto, unfolding(hip_grammar::specs::Bodies::ptrtoint))]
     fn ptrtoint(&mut self, alloc: Global, dest: Name) -> Result<Instr, ReadError>
         ensures { Takes (λ x. x) result ((ptrtoint dest).read (left self.old)) (left self.new) }
     {
@@ -197,7 +198,7 @@ impl<'a> Parser<'a> {
         })
     }
 
-    #[tactic(auto, unfolding(hip_ir::specs::Bodies::inttoptr))]
+    #[tactic(auto, unfolding(hip_grammar::specs::Bodies::inttoptr))]
     fn inttoptr(&mut self, alloc: Global, dest: Name) -> Result<Instr, ReadError>
         ensures { Takes (λ x. x) result ((inttoptr dest).read (left self.old)) (left self.new) }
     {
@@ -215,7 +216,7 @@ impl<'a> Parser<'a> {
         })
     }
 
-    #[tactic(auto, unfolding(hip_ir::specs::Bodies::alloca))]
+    #[tactic(auto, unfolding(hip_grammar::specs::Bodies::alloca))]
     fn alloca(&mut self, alloc: Global, dest: Name) -> Result<Instr, ReadError>
         ensures { Takes (λ x. x) result ((alloca dest).read (left self.old)) (left self.new) }
     {
@@ -226,7 +227,7 @@ impl<'a> Parser<'a> {
     }
 
     /// The address behind a comma.
-    #[tactic(auto, unfolding(hip_ir::specs::Bodies::next_address))]
+    #[tactic(auto, unfolding(hip_grammar::specs::Bodies::next_address))]
     fn next_address(&mut self, alloc: Global) -> Result<Operand, ReadError>
         ensures { Takes (λ x. x) result (next_address.read (left self.old)) (left self.new) }
     {
@@ -236,7 +237,7 @@ impl<'a> Parser<'a> {
     }
 
     /// The address behind a comma, and the alignment that is written.
-    #[tactic(auto, unfolding(hip_ir::specs::Bodies::aligned_address))]
+    #[tactic(auto, unfolding(hip_grammar::specs::Bodies::aligned_address))]
     fn aligned_address(&mut self, alloc: Global) -> Result<(Operand, Option<u64>), ReadError>
         ensures { Takes (λ x. x) result (aligned_address.read (left self.old)) (left self.new) }
     {
@@ -245,7 +246,7 @@ impl<'a> Parser<'a> {
         Ok((addr, align))
     }
 
-    #[tactic(auto, unfolding(hip_ir::specs::Bodies::load))]
+    #[tactic(auto, unfolding(hip_grammar::specs::Bodies::load))]
     fn load(&mut self, alloc: Global, dest: Name) -> Result<Instr, ReadError>
         ensures { Takes (λ x. x) result ((load dest).read (left self.old)) (left self.new) }
     {
@@ -260,7 +261,7 @@ impl<'a> Parser<'a> {
         })
     }
 
-    #[tactic(auto, unfolding(hip_ir::specs::Bodies::store))]
+    #[tactic(auto, unfolding(hip_grammar::specs::Bodies::store))]
     fn store(&mut self, alloc: Global) -> Result<Instr, ReadError>
         ensures { Takes (λ x. x) result (store.read (left self.old)) (left self.new) }
     {
@@ -287,7 +288,7 @@ impl<'a> Parser<'a> {
         self.separated(alloc, Index)
     }
 
-    #[tactic(auto, unfolding(hip_ir::specs::Bodies::gep))]
+    #[tactic(auto, unfolding(hip_grammar::specs::Bodies::gep))]
     fn gep(&mut self, alloc: Global, dest: Name) -> Result<Instr, ReadError>
         ensures { Takes (λ x. x) result ((gep dest).read (left self.old)) (left self.new) }
     {
@@ -305,7 +306,7 @@ impl<'a> Parser<'a> {
         })
     }
 
-    #[tactic(auto, unfolding(hip_ir::specs::Bodies::plain_call))]
+    #[tactic(auto, unfolding(hip_grammar::specs::Bodies::plain_call))]
     fn plain_call(&mut self, alloc: Global, dest: Option<Name>) -> Result<Instr, ReadError>
         ensures { Takes (λ x. x) result ((plain_call dest).read (left self.old)) (left self.new) }
     {
@@ -323,7 +324,7 @@ impl<'a> Parser<'a> {
         })
     }
 
-    #[tactic(auto, unfolding(hip_ir::specs::Bodies::call))]
+    #[tactic(auto, unfolding(hip_grammar::specs::Bodies::call))]
     fn call(&mut self, alloc: Global, dest: Option<Name>) -> Result<Instr, ReadError>
         ensures { Takes (λ x. x) result ((call dest).read (left self.old)) (left self.new) }
     {
@@ -336,7 +337,7 @@ impl<'a> Parser<'a> {
     }
 
     /// An instruction on memory, or a call.
-    #[tactic(auto, unfolding(hip_ir::specs::Bodies::memory_instr))]
+    #[tactic(auto, unfolding(hip_grammar::specs::Bodies::memory_instr))]
     fn memory_instr(&mut self, alloc: Global, dest: Name) -> Result<Instr, ReadError>
         ensures { Takes (λ x. x) result ((memory_instr dest).read (left self.old)) (left self.new) }
     {
@@ -351,7 +352,7 @@ impl<'a> Parser<'a> {
         }
     }
 
-    #[tactic(auto, unfolding(hip_ir::specs::Bodies::cast_instr))]
+    #[tactic(auto, unfolding(hip_grammar::specs::Bodies::cast_instr))]
     fn cast_instr(&mut self, alloc: Global, dest: Name) -> Result<Instr, ReadError>
         ensures { Takes (λ x. x) result ((cast_instr dest).read (left self.old)) (left self.new) }
     {
@@ -367,7 +368,7 @@ impl<'a> Parser<'a> {
     }
 
     /// An instruction that assigns a register, behind the register and `=`.
-    #[tactic(auto, unfolding(hip_ir::specs::Bodies::value_instr))]
+    #[tactic(auto, unfolding(hip_grammar::specs::Bodies::value_instr))]
     pub(crate) fn value_instr(&mut self, alloc: Global, dest: Name) -> Result<Instr, ReadError>
         ensures { Takes (λ x. x) result ((value_instr dest).read (left self.old)) (left self.new) }
     {
@@ -383,7 +384,7 @@ impl<'a> Parser<'a> {
     }
 
     /// An instruction that assigns no register.
-    #[tactic(auto, unfolding(hip_ir::specs::Bodies::effect_instr))]
+    #[tactic(auto, unfolding(hip_grammar::specs::Bodies::effect_instr))]
     pub(crate) fn effect_instr(&mut self, alloc: Global) -> Result<Instr, ReadError>
         ensures { Takes (λ x. x) result (effect_instr.read (left self.old)) (left self.new) }
     {
@@ -409,7 +410,7 @@ impl<'a> Parser<'a> {
     }
 
     /// The register that an instruction assigns.
-    #[tactic(auto, unfolding(hip_ir::specs::Bodies::assigned))]
+    #[tactic(auto, unfolding(hip_grammar::specs::Bodies::assigned))]
     pub(crate) fn assigned(&mut self, alloc: Global) -> Result<Name, ReadError>
         ensures { Takes (λ x. x) result (assigned.read (left self.old)) (left self.new) }
     {
@@ -418,7 +419,7 @@ impl<'a> Parser<'a> {
         Ok(Row::from_slice(alloc, name)?)
     }
 
-    #[tactic(auto, unfolding(hip_ir::specs::Bodies::assigning_instr))]
+    #[tactic(auto, unfolding(hip_grammar::specs::Bodies::assigning_instr))]
     fn assigning_instr(&mut self, alloc: Global) -> Result<Instr, ReadError>
         ensures { Takes (λ x. x) result (assigning_instr.read (left self.old)) (left self.new) }
     {
@@ -426,7 +427,7 @@ impl<'a> Parser<'a> {
         self.value_instr(alloc, dest)
     }
 
-    #[tactic(auto, unfolding(hip_ir::specs::Bodies::instr))]
+    #[tactic(auto, unfolding(hip_grammar::specs::Bodies::instr))]
     pub(crate) fn instr(&mut self, alloc: Global) -> Result<Instr, ReadError>
         ensures { Takes (λ x. x) result (instr.read (left self.old)) (left self.new) }
     {

@@ -3,10 +3,10 @@
 ghost use Rattle.std.specs.Prelude.{◌≡◌, ℕ, List, [], ◌∷◌, ◌++◌, OnOk, codes};
 ghost use Rattle.hip_rules.specs.Part.{either, listed, separated, one_more_by};
 ghost use Rattle.hip_rules.specs.Reader.{many_at, next, with_front};
-ghost use Rattle.hip_ir.specs.Words.{comma, is_mark, is_word, is_label};
-ghost use Rattle.hip_ir.specs.Grammar.{scalar};
-ghost use Rattle.hip_ir.specs.Bodies.{block};
-ghost use Rattle.hip_ir.specs.Text.{GlobalItem, ExternItem, FunctionItem, DroppedItem, linkages, links, source_filename, target_item, section, only_align, placement, place, global, maybe_unnamed, extern_item, param, blocks, function, item, begins_item, with_item, text};
+ghost use Rattle.hip_grammar.specs.Words.{comma, is_mark, is_word, is_label};
+ghost use Rattle.hip_grammar.specs.Grammar.{scalar};
+ghost use Rattle.hip_grammar.specs.Bodies.{block};
+ghost use Rattle.hip_grammar.specs.Text.{GlobalItem, ExternItem, FunctionItem, DroppedItem, linkages, links, source_filename, target_item, section, only_align, placement, place, global, maybe_unnamed, extern_item, param, blocks, function, item, begins_item, with_item, text};
 ghost use Rattle.hip_parse.specs.Items.{item_of};
 ghost use Rattle.hip_parse.specs.Lengths.{scalar_within, param_within, block_some};
 ghost use Rattle.hip_parse.specs.Left.{left, Gives, Takes};
@@ -15,7 +15,8 @@ use crate::error::ReadError;
 use crate::parser::Parser;
 use crate::parts::{Production, Repeated};
 use crate::words::{Fixed, Linkages, Links, Results, Scalars, TargetWords, Unnamed};
-use hip_ir::{Block, Extern, Fault, Function, GlobalVar, Param, Program};
+use hip_grammar::Fault;
+use hip_tree::{Block, Extern, Function, GlobalVar, Param, Program};
 use hip_types::{DEEPEST_NESTING, NoMemory, Row, Scalar};
 use std::alloc::Global;
 
@@ -108,7 +109,7 @@ impl<'a> Parser<'a> {
         }
     }
 
-    #[tactic(auto, unfolding(hip_ir::specs::Text::source_filename))]
+    #[tactic(auto, unfolding(hip_grammar::specs::Text::source_filename))]
     fn source_filename(&mut self) -> Result<Item, Option<Fault>>
         ensures { Gives item_of result (source_filename.read (left self.old)) (left self.new) }
     {
@@ -118,7 +119,7 @@ impl<'a> Parser<'a> {
         Ok(Item::Dropped)
     }
 
-    #[tactic(auto, unfolding(hip_ir::specs::Text::target_item))]
+    #[tactic(auto, unfolding(hip_grammar::specs::Text::target_item))]
     fn target_item(&mut self) -> Result<Item, Option<Fault>>
         ensures { Gives item_of result (target_item.read (left self.old)) (left self.new) }
     {
@@ -129,7 +130,7 @@ impl<'a> Parser<'a> {
         Ok(Item::Dropped)
     }
 
-    #[tactic(auto, unfolding(hip_ir::specs::Text::section))]
+    #[tactic(auto, unfolding(hip_grammar::specs::Text::section))]
     fn section(&mut self) -> Result<(bool, Option<u64>), Option<Fault>>
         ensures { Gives (λ x. x) result (section.read (left self.old)) (left self.new) }
     {
@@ -139,7 +140,7 @@ impl<'a> Parser<'a> {
         Ok((true, align))
     }
 
-    #[tactic(auto, unfolding(hip_ir::specs::Text::only_align))]
+    #[tactic(auto, unfolding(hip_grammar::specs::Text::only_align))]
     fn only_align(&mut self) -> Result<(bool, Option<u64>), Option<Fault>>
         ensures { Gives (λ x. x) result (only_align.read (left self.old)) (left self.new) }
     {
@@ -148,7 +149,7 @@ impl<'a> Parser<'a> {
         Ok((false, Some(align)))
     }
 
-    #[tactic(auto, unfolding(hip_ir::specs::Text::placement))]
+    #[tactic(auto, unfolding(hip_grammar::specs::Text::placement))]
     fn placement(&mut self) -> Result<(bool, Option<u64>), Option<Fault>>
         ensures { Gives (λ x. x) result (placement.read (left self.old)) (left self.new) }
     {
@@ -161,7 +162,7 @@ impl<'a> Parser<'a> {
     }
 
     /// Whether a global is persistent, and its alignment.
-    #[tactic(auto, unfolding(hip_ir::specs::Text::place))]
+    #[tactic(auto, unfolding(hip_grammar::specs::Text::place))]
     fn place(&mut self) -> Result<(bool, Option<u64>), Option<Fault>>
         ensures { Gives (λ x. x) result (place.read (left self.old)) (left self.new) }
     {
@@ -172,7 +173,7 @@ impl<'a> Parser<'a> {
         }
     }
 
-    #[tactic(auto, unfolding(hip_ir::specs::Text::global))]
+    #[tactic(auto, unfolding(hip_grammar::specs::Text::global))]
     fn global(&mut self, alloc: Global) -> Result<Item, ReadError>
         ensures { Takes item_of result (global.read (left self.old)) (left self.new) }
     {
@@ -194,7 +195,7 @@ impl<'a> Parser<'a> {
         }))
     }
 
-    #[tactic(auto, unfolding(hip_ir::specs::Text::extern_item))]
+    #[tactic(auto, unfolding(hip_grammar::specs::Text::extern_item))]
     fn extern_item(&mut self, alloc: Global) -> Result<Item, ReadError>
         ensures { Takes item_of result (extern_item.read (left self.old)) (left self.new) }
     {
@@ -208,7 +209,7 @@ impl<'a> Parser<'a> {
         Ok(Item::Extern(Extern { ret, name, params }))
     }
 
-    #[tactic(auto, unfolding(hip_ir::specs::Text::param))]
+    #[tactic(auto, unfolding(hip_grammar::specs::Text::param))]
     fn param(&mut self, alloc: Global) -> Result<Param, ReadError>
         ensures { Takes (λ x. x) result (param.read (left self.old)) (left self.new) }
     {
@@ -218,7 +219,7 @@ impl<'a> Parser<'a> {
         Ok(Param { ty, name })
     }
 
-    #[tactic(auto, unfolding(hip_ir::specs::Text::blocks))]
+    #[tactic(auto, unfolding(hip_grammar::specs::Text::blocks))]
     fn blocks(&mut self, alloc: Global) -> Result<Row<Block>, ReadError>
         ensures { Takes (λ x. x) result (blocks.read (left self.old)) (left self.new) }
     {
@@ -228,7 +229,7 @@ impl<'a> Parser<'a> {
         self.repeated(alloc, Blocks, blocks)
     }
 
-    #[tactic(auto, unfolding(hip_ir::specs::Text::function))]
+    #[tactic(auto, unfolding(hip_grammar::specs::Text::function))]
     fn function(&mut self, alloc: Global) -> Result<Item, ReadError>
         ensures { Takes item_of result (function.read (left self.old)) (left self.new) }
     {
@@ -263,7 +264,7 @@ impl<'a> Parser<'a> {
         }
     }
 
-    #[tactic(auto, unfolding(hip_ir::specs::Text::item))]
+    #[tactic(auto, unfolding(hip_grammar::specs::Text::item))]
     fn item(&mut self, alloc: Global) -> Result<Item, ReadError>
         ensures { Takes item_of result (item.read (left self.old)) (left self.new) }
     {
@@ -290,7 +291,7 @@ impl<'a> Parser<'a> {
             || self.at_word(b"target")
     }
 
-    #[tactic(auto, unfolding(hip_ir::specs::Text::text))]
+    #[tactic(auto, unfolding(hip_grammar::specs::Text::text))]
     pub(crate) fn program(&mut self, alloc: Global) -> Result<Program, ReadError>
         ensures { Takes (λ x. x) result (text.read (left self.old)) (left self.new) }
     {

@@ -15,5 +15,5 @@ mod types;
 mod unsupported;
 mod words;
 
-pub use error::ParseRefusal;
+pub use hip_grammar::ParseRefusal;
 pub use reading::parse;

@@ -2,7 +2,7 @@
 
 ghost use Rattle.std.specs.Prelude.{◌≡◌, ℕ, List, [], ◌∷◌, ◌^◌, ◌-◌, ◌<◌, ◌≤◌, ◌*◌, Some, None, Option};
 ghost use Rattle.hip_types.specs.Widths.{bits_of};
-ghost use Rattle.hip_ir.specs.Numbers.{below, digits_from, is_negative, magnitude, negated, value_of, count_of, alignment_of, is_alignment};
+ghost use Rattle.hip_grammar.specs.Numbers.{below, digits_from, is_negative, magnitude, negated, value_of, count_of, alignment_of, is_alignment};
 
 use hip_types::{LARGEST_ALIGNMENT, LARGEST_COUNT, Width};
 

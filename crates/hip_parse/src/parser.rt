@@ -4,11 +4,11 @@ ghost use Rattle.std.specs.Prelude.{◌≡◌, ℕ, List, [], ◌∷◌};
 ghost use Rattle.hip_tokens.specs.Tokens.{tokens};
 ghost use Rattle.hip_rules.specs.Reader.{next};
 ghost use Rattle.hip_rules.specs.Part.{token};
-ghost use Rattle.hip_ir.specs.Grammar.{word, mark, maybe_word};
-ghost use Rattle.hip_ir.specs.Words.{is_word, is_mark, is_local, is_global, is_label, a_local, a_global, a_label, a_string, a_section};
+ghost use Rattle.hip_grammar.specs.Grammar.{word, mark, maybe_word};
+ghost use Rattle.hip_grammar.specs.Words.{is_word, is_mark, is_local, is_global, is_label, a_local, a_global, a_label, a_string, a_section};
 ghost use Rattle.hip_parse.specs.Left.{left, tail, Gives};
 
-use hip_ir::Fault;
+use hip_grammar::Fault;
 use hip_tokens::{Lexer, Token};
 
 #[derive(Drop)]
@@ -100,7 +100,7 @@ impl<'a> Parser<'a> {
     }
 
     /// Whether the word stood here.
-    #[tactic(auto, unfolding(hip_ir::specs::Grammar::maybe_word))]
+    #[tactic(auto, unfolding(hip_grammar::specs::Grammar::maybe_word))]
     pub(crate) fn maybe_word(&mut self, w: &[u8]) -> Result<bool, Option<Fault>>
         ensures { Gives (λ x. x) result ((maybe_word w.now).read (left self.old)) (left self.new) }
     {

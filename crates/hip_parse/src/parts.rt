@@ -5,8 +5,8 @@ ghost use Rattle.hip_tokens.specs.Tokens.{Tok, At};
 ghost use Rattle.hip_rules.specs.Reader.{Reader, many_at, next, with_front};
 ghost use Rattle.hip_rules.specs.Part.{Part, one_more_by, separated, listed};
 ghost use Rattle.hip_rules.specs.Laws.Loops.{TakesSome, another_some};
-ghost use Rattle.hip_ir.specs.declared.fault.Fault.{Fault};
-ghost use Rattle.hip_ir.specs.Words.{is_mark, comma};
+ghost use Rattle.hip_grammar.specs.declared.fault.Fault.{Fault};
+ghost use Rattle.hip_grammar.specs.Words.{is_mark, comma};
 ghost use Rattle.hip_parse.specs.Left.{left, Takes};
 
 use crate::error::ReadError;

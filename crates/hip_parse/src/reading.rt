@@ -1,19 +1,20 @@
 //! The program of a text.
 
 ghost use Rattle.std.specs.Prelude.{◌≡◌, ℕ, List, [], ◌∷◌, IfOk, IfErr, IsTrue, ◌↔◌, Option};
-ghost use Rattle.hip_ir.specs.declared.fault.Fault.{Fault};
-ghost use Rattle.hip_ir.specs.declared.program.Program.{Program};
-ghost use Rattle.hip_ir.specs.Reading.{Reads, IsSpelled, line_at};
-ghost use Rattle.hip_ir.specs.Laws.TextExact.{whole_text, fault_at};
-ghost use Rattle.hip_ir.specs.Unsupported.{usual};
+ghost use Rattle.hip_grammar.specs.declared.fault.Fault.{Fault};
+ghost use Rattle.hip_tree.specs.declared.program.Program.{Program};
+ghost use Rattle.hip_grammar.specs.Reading.{Reads, IsSpelled, line_at};
+ghost use Rattle.hip_grammar.specs.Laws.TextExact.{whole_text, fault_at};
+ghost use Rattle.hip_grammar.specs.Unsupported.{usual};
 ghost use Rattle.hip_parse.specs.Left.{left, Takes};
-ghost use Rattle.hip_parse.specs.Meaning.{IsCause, GivesProgram, refusal_of};
+ghost use Rattle.hip_grammar.specs.Refusals.{IsCause, GivesProgram, refusal_of};
 
-use crate::error::{ParseRefusal, ReadError};
+use crate::error::ReadError;
 use crate::parser::Parser;
 use crate::unsupported::is_unsupported;
-use hip_ir::{Fault, Program};
+use hip_grammar::{Fault, ParseRefusal};
 use hip_tokens::last_line;
+use hip_tree::Program;
 use std::alloc::Global;
 
 impl<'a> Parser<'a> {
@@ -61,7 +62,7 @@ impl<'a> Parser<'a> {
         }
     }
 
-    #[tactic(auto, unfolding(hip_ir::specs::Laws::TextExact::whole_text))]
+    #[tactic(auto, unfolding(hip_grammar::specs::Laws::TextExact::whole_text))]
     fn whole(&mut self, alloc: Global) -> Result<Program, ReadError>
         ensures { Takes (λ x. x) result (whole_text (left self.old)) (left self.new) }
     {

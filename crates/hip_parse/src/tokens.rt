@@ -2,13 +2,14 @@
 
 ghost use Rattle.std.specs.Prelude.{◌≡◌, ℕ, List, [], ◌∷◌};
 ghost use Rattle.hip_rules.specs.Part.{token};
-ghost use Rattle.hip_ir.specs.Numbers.{a_literal, an_int_const, a_count, an_alignment, truth_word};
+ghost use Rattle.hip_grammar.specs.Numbers.{a_literal, an_int_const, a_count, an_alignment, truth_word};
 ghost use Rattle.hip_parse.specs.Left.{left, Gives};
 
 use crate::numbers::{alignment_of, count_of, value_of};
 use crate::parser::Parser;
-use hip_ir::{Const, Fault};
+use hip_grammar::Fault;
 use hip_tokens::Token;
+use hip_tree::Const;
 use hip_types::{Bits, Width};
 
 fn truth_word(width: Width, t: &[u8]) -> Option<Bits>

@@ -4,20 +4,20 @@ ghost use Rattle.std.specs.Prelude.{◌≡◌, ℕ, List, [], ◌∷◌, ◌++�
 ghost use Rattle.hip_tokens.specs.Bytes.{byte};
 ghost use Rattle.hip_rules.specs.Part.{one_more_by, separated, listed};
 ghost use Rattle.hip_rules.specs.Reader.{many_at, with_front};
-ghost use Rattle.hip_ir.specs.Words.{is_mark, comma};
-ghost use Rattle.hip_ir.specs.Grammar.{array_type, struct_type, type_within};
+ghost use Rattle.hip_grammar.specs.Words.{is_mark, comma};
+ghost use Rattle.hip_grammar.specs.Grammar.{array_type, struct_type, type_within};
 ghost use Rattle.hip_parse.specs.Left.{left, Gives, Takes};
 
 use crate::error::ReadError;
 use crate::parser::Parser;
 use crate::words::TypeWords;
-use hip_ir::Fault;
+use hip_grammar::Fault;
 use hip_types::{Link, Row, Ty};
 use std::alloc::Global;
 
 impl<'a> Parser<'a> {
     /// A type where no level is left.
-    #[tactic(auto, unfolding(crate::specs::Left::left, hip_ir::specs::Grammar::type_within, hip_ir::specs::Grammar::type_by))]
+    #[tactic(auto, unfolding(crate::specs::Left::left, hip_grammar::specs::Grammar::type_within, hip_grammar::specs::Grammar::type_by))]
     fn shallow_type(&mut self) -> Result<Ty, Option<Fault>>
         ensures { Gives (λ x. x) result ((type_within 0).read (left self.old)) (left self.new) }
     {
@@ -30,7 +30,7 @@ impl<'a> Parser<'a> {
 
     /// A type that is nested at most `depth` deep.
     #[cycle(types)]
-    #[tactic(auto, unfolding(hip_ir::specs::Grammar::type_within, hip_ir::specs::Grammar::type_by))]
+    #[tactic(auto, unfolding(hip_grammar::specs::Grammar::type_within, hip_grammar::specs::Grammar::type_by))]
     pub(crate) fn ty(&mut self, alloc: Global, depth: u64) -> Result<Ty, ReadError>
         ensures { Takes (λ x. x) result ((type_within depth).read (left self.old)) (left self.new) }
     {
@@ -48,7 +48,7 @@ impl<'a> Parser<'a> {
     }
 
     #[cycle(types)]
-    #[tactic(auto, unfolding(hip_ir::specs::Grammar::array_type))]
+    #[tactic(auto, unfolding(hip_grammar::specs::Grammar::array_type))]
     fn array(&mut self, alloc: Global, depth: u64) -> Result<Ty, ReadError>
         ensures { Takes (λ x. x) result ((array_type (type_within depth)).read (left self.old)) (left self.new) }
     {
@@ -61,7 +61,7 @@ impl<'a> Parser<'a> {
     }
 
     #[cycle(types)]
-    #[tactic(auto, unfolding(hip_ir::specs::Grammar::struct_type))]
+    #[tactic(auto, unfolding(hip_grammar::specs::Grammar::struct_type))]
     fn structure(&mut self, alloc: Global, depth: u64) -> Result<Ty, ReadError>
         ensures { Takes (λ x. x) result ((struct_type (type_within depth)).read (left self.old)) (left self.new) }
     {

@@ -5,7 +5,7 @@ ghost use Rattle.std.specs.List.{list_all};
 ghost use Rattle.std.specs.Str.{bytes_eq};
 ghost use Rattle.hip_tokens.specs.Bytes.{is_digit};
 ghost use Rattle.hip_tokens.specs.Seen.{seen};
-ghost use Rattle.hip_ir.specs.Unsupported.{is_int_name, one_of, type_words, other_type_words, constant_words, float_words, cast_words, aggregate_words, memory_words, control_words, call_words, linkage_words, flag_words, attribute_words, function_words, is_unsupported_word, is_unsupported_byte, is_unsupported};
+ghost use Rattle.hip_grammar.specs.Unsupported.{is_int_name, one_of, type_words, other_type_words, constant_words, float_words, cast_words, aggregate_words, memory_words, control_words, call_words, linkage_words, flag_words, attribute_words, function_words, is_unsupported_word, is_unsupported_byte, is_unsupported};
 
 use hip_tokens::{Token, is_digit};
 

@@ -3,15 +3,16 @@
 ghost use Rattle.std.specs.Prelude.{◌≡◌, ℕ, List, Option, codes};
 ghost use Rattle.hip_rules.specs.Reader.{next};
 ghost use Rattle.hip_rules.specs.Part.{token, skipped};
-ghost use Rattle.hip_ir.specs.Words.{a_word_of, is_word_of, width_word, scalar_word, ret_word, type_word, binary_word, pred_word, int_cast_word, flag_word, link_word, unnamed_word, linkage_word, target_word, fixed_word};
+ghost use Rattle.hip_grammar.specs.Words.{a_word_of, is_word_of, width_word, scalar_word, ret_word, type_word, binary_word, pred_word, int_cast_word, flag_word, link_word, unnamed_word, linkage_word, target_word, fixed_word};
 ghost use Rattle.hip_parse.specs.Left.{left, Gives};
 
 use crate::parser::Parser;
-use hip_ir::{
-    Fault, Flag, binary_word, flag_word, int_cast_word, pred_word, ret_word, scalar_word,
-    type_word, width_word,
+use hip_grammar::{
+    Fault, binary_word, flag_word, int_cast_word, pred_word, ret_word, scalar_word, type_word,
+    width_word,
 };
 use hip_tokens::Token;
+use hip_tree::Flag;
 use hip_types::{BinaryOp, CastOp, Pred, Scalar, Ty, Width};
 
 /// The words that may stand at one place, each with its meaning there.

@@ -2,8 +2,8 @@
 use Rattle.std.proofs.Common.{◌≡◌, ℕ, zero, suc, ◌+◌, ◌<◌, cond, List, [], ◌∷◌, length, drop, Option, Some, None, is_some, true, IsNone, ◌↔◌, refl, sym, ap, ◌∙◌, arith, ℤ, add-one}
 use Rattle.std.specs.Prelude.{int_lt}
 use Rattle.std.proofs.lemmas.Int.{ints}
-use Rattle.hip_ir.specs.declared.instr.Operand.{Operand}
-use Rattle.hip_ir.specs.declared.site.Site.{Site}
+use Rattle.hip_tree.specs.declared.instr.Operand.{Operand}
+use Rattle.hip_tree.specs.declared.site.Site.{Site}
 use Rattle.hip_runs.specs.Found.Scores.{greater, greatest_worth, worth}
 use Rattle.hip_runs.specs.declared.report.Marks.{Marks}
 use Rattle.hip_plan.specs.Worths.{greatest}

@@ -6,9 +6,9 @@ use Rattle.std.specs.Prelude.{slice_get}
 use Rattle.std.proofs.lemmas.Bool.Decides.{nat_tests}
 use Rattle.std.proofs.lemmas.List.{take_all, take_more}
 use Rattle.std.proofs.lemmas.List.Folds.{list_any-append}
-use Rattle.hip_ir.specs.Sites.{has_site, sites_of}
-use Rattle.hip_ir.specs.declared.program.Program.{Program}
-use Rattle.hip_ir.specs.declared.site.Site.{Site}
+use Rattle.hip_tree.specs.Sites.{has_site, sites_of}
+use Rattle.hip_tree.specs.declared.program.Program.{Program}
+use Rattle.hip_tree.specs.declared.site.Site.{Site}
 use Rattle.hip_runs.specs.Laws.Members.{both_true, true_both}
 use Rattle.hip_runs.specs.declared.report.Findings.{Findings}
 use Rattle.hip_runs.specs.declared.report.Kind.{Kind}

@@ -8,9 +8,9 @@ use Rattle.std.specs.List.Sorted.{IsStrictlySortedBy}
 use Rattle.std.specs.Ordering.{is_eq, is_lt, ordering_then}
 use Rattle.std.specs.declared.cmp.Ordering.{Ordering}
 use Rattle.std.specs.declared.cmp.Ordering.TheVariants.{Less, Equal, Greater}
-use Rattle.hip_ir.specs.Sites.{has_site, same_site}
-use Rattle.hip_ir.specs.contracts.site.SiteOrd.TheImpl as derived
-use Rattle.hip_ir.specs.declared.site.Site.{Site}
+use Rattle.hip_tree.specs.Sites.{has_site, same_site}
+use Rattle.hip_tree.specs.contracts.site.SiteOrd.TheImpl as derived
+use Rattle.hip_tree.specs.declared.site.Site.{Site}
 use Rattle.hip_repairs.specs.Suits.{is_ascending, site_before}
 use Rattle.hip_runs.specs.Laws.Members.{true_both}
 

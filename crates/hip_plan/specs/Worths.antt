@@ -3,9 +3,9 @@ use Rattle.std.specs.Prelude.{ℕ, ◌≡◌, Bool, true, false, cond, ◌&&◌,
 use Rattle.std.specs.Map.{lookup}
 use Rattle.hip_types.specs.declared.number.Scalar.{Scalar}
 use Rattle.hip_types.specs.declared.number.Scalar.TheVariants.{Int, Ptr}
-use Rattle.hip_ir.specs.declared.instr.Arg.{Arg}
-use Rattle.hip_ir.specs.Sites.{same_site}
-use Rattle.hip_ir.specs.declared.site.Site.{Site}
+use Rattle.hip_tree.specs.declared.instr.Arg.{Arg}
+use Rattle.hip_tree.specs.Sites.{same_site}
+use Rattle.hip_tree.specs.declared.site.Site.{Site}
 use Rattle.hip_runs.specs.Found.Scores.{is_marked, worth_in, worth_of}
 use Rattle.hip_runs.specs.declared.report.Mark.{Mark}
 

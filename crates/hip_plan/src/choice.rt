@@ -4,9 +4,9 @@ ghost use Rattle.hip_repairs.specs.Choice.{best_of, choice};
 
 use crate::scores::score_by;
 use crate::worths::Worths;
-use hip_ir::Site;
 use hip_runs::{Findings, Kind, Report};
-use hip_typing::Checked;
+use hip_sound::Checked;
+use hip_tree::Site;
 
 /// Whether a score is above the best one so far; a site without a score is below each that has one.
 fn is_better(best: Option<i128>, score: Option<i128>) -> bool

@@ -1,6 +1,6 @@
 ghost use Rattle.std.specs.Prelude.{◌≡◌, ◌&&◌, ◌||◌, IfOk, OnOk};
-ghost use Rattle.hip_ir.specs.Sites.{has_site};
-ghost use Rattle.hip_ir.specs.declared.site.Site.{Site};
+ghost use Rattle.hip_tree.specs.Sites.{has_site};
+ghost use Rattle.hip_tree.specs.declared.site.Site.{Site};
 ghost use Rattle.hip_runs.specs.Found.Marks.{IsFound};
 ghost use Rattle.hip_runs.specs.declared.input.Input.{Input};
 ghost use Rattle.hip_repairs.specs.Choice.{is_site, plan_for};
@@ -11,11 +11,11 @@ ghost use Rattle.hip_plan.specs.Asked.{is_there};
 use crate::choice::choose_by;
 use crate::site_set::SiteSet;
 use crate::worth_table::WorthTable;
-use hip_ir::{Program, Site, instr_at};
 use hip_repairs::Plan;
 use hip_runs::{Findings, Kind, Report};
+use hip_sound::Checked;
+use hip_tree::{Program, Site, instr_at};
 use hip_types::NoMemory;
-use hip_typing::Checked;
 use std::alloc::Global;
 
 /// The store that a report asks a flush behind.

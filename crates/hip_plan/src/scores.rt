@@ -1,16 +1,16 @@
 ghost use Rattle.std.specs.Prelude.{◌≡◌, ◌↔◌, IsNone, [], cond, is_none, length, count_by};
 ghost use Rattle.hip_externs.specs.Externs.{call_of};
-ghost use Rattle.hip_ir.specs.Sites.{instr_of};
+ghost use Rattle.hip_tree.specs.Sites.{instr_of};
 ghost use Rattle.hip_runs.specs.Found.Scores as spec;
 ghost use Rattle.hip_runs.specs.Found.Scores.{operands_at};
 ghost use Rattle.hip_plan.specs.Worths.{greatest, is_pointer};
 
 use crate::worths::Worths;
 use hip_externs::ExternCall;
-use hip_ir::{Arg, Instr, Site, instr_at};
 use hip_runs::Findings;
+use hip_sound::Checked;
+use hip_tree::{Arg, Instr, Site, instr_at};
 use hip_types::Scalar;
-use hip_typing::Checked;
 
 fn is_pointer(arg: &Arg) -> bool
     ensures { result ≡ is_pointer arg.now }

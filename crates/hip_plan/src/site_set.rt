@@ -1,9 +1,9 @@
 ghost use Rattle.std.specs.Prelude.{◌≡◌, ◌||◌, [], true, IfOk, OnOk, OnErr};
-ghost use Rattle.hip_ir.specs.Sites.{has_site, same_site};
-ghost use Rattle.hip_ir.specs.declared.site.Site.{Site};
+ghost use Rattle.hip_tree.specs.Sites.{has_site, same_site};
+ghost use Rattle.hip_tree.specs.declared.site.Site.{Site};
 ghost use Rattle.hip_repairs.specs.Suits.{is_ascending};
 
-use hip_ir::Site;
+use hip_tree::Site;
 use hip_types::{NoMemory, Row};
 use std::alloc::Global;
 use std::collections::BTreeSet;
@@ -17,7 +17,7 @@ pub struct SiteSet {
 
 impl Model for SiteSet {
     ghost use Rattle.std.specs.Prelude.{◌≡◌, List, true};
-    ghost use Rattle.hip_ir.specs.declared.site.Site.{Site};
+    ghost use Rattle.hip_tree.specs.declared.site.Site.{Site};
     ghost use Rattle.hip_repairs.specs.Suits.{is_ascending};
 
     ghost Value = { List Site };

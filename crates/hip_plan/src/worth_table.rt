@@ -4,8 +4,8 @@ ghost use Rattle.hip_runs.specs.Found.Scores.{is_marked};
 ghost use Rattle.hip_plan.specs.Worths.{HasWorths, worth_among};
 
 use crate::worths::{Worths, worth_of};
-use hip_ir::Site;
 use hip_runs::{Findings, Mark, Object};
+use hip_tree::Site;
 use hip_types::NoMemory;
 use indexmap::{IndexMap, IndexSet};
 use std::alloc::Global;

@@ -5,8 +5,8 @@ ghost use Rattle.hip_runs.specs.Found.Scores.{worth, worth_in};
 ghost use Rattle.hip_plan.specs.Worths.{added_by};
 ghost use Rattle.hip_runs.specs.declared.report.Findings.{Findings};
 
-use hip_ir::Site;
 use hip_runs::{Findings, Mark, Object};
+use hip_tree::Site;
 
 /// What a run found, as it is asked for the worths of operands.
 pub trait Worths {

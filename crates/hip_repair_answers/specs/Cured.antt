@@ -1,9 +1,10 @@
 -- What a repair for a run is, and what it does.
 use Rattle.std.specs.Prelude.{Bool}
-use Rattle.hip_ir.specs.Reading.{Reads}
-use Rattle.hip_ir.specs.Show.{show}
-use Rattle.hip_ir.specs.declared.program.Program.{Program}
-use Rattle.hip_ir.specs.declared.site.Site.{Site}
+use Rattle.hip_grammar.specs.Reading.{Reads}
+use Rattle.hip_grammar.specs.Show.{show}
+use Rattle.hip_tree.specs.declared.program.Program.{Program}
+use Rattle.hip_tree.specs.declared.site.Site.{Site}
+use Rattle.hip_histories.specs.CrashSafe.{IsCrashSafe}
 use Rattle.hip_repairs.specs.Choice.{plan_for}
 use Rattle.hip_repairs.specs.Clean.{IsClean}
 use Rattle.hip_repairs.specs.Covered.{AreHoistsFenced, IsCovered}
@@ -13,7 +14,7 @@ use Rattle.hip_repairs.specs.Repaired.{repaired}
 use Rattle.hip_repairs.specs.declared.plan.Plan.{Plan}
 use Rattle.hip_runs.specs.declared.input.Input.{Input}
 use Rattle.hip_runs.specs.declared.report.Findings.{Findings}
-use Rattle.hip_typing.specs.Sound.{IsSound}
+use Rattle.hip_sound.specs.Sound.{IsSound}
 
 -- the program repaired by the plan for what a run found; the direct stores get no flush by cloning
 abbrev pub repaired_for : Program → Findings → Program
@@ -22,7 +23,8 @@ repaired_for P found = repaired P (plan_for P found) (direct P)
 -- What a repair by a plan does, whose clones do not flush the stores to skip. On every valid input the repaired
 -- program prints the same and reaches the same memory at corresponding steps, and it leaves no crash image that was not
 -- possible there before. On this input every byte is durable where it is checked. Under a hoisted call every store is
--- durable after the fence behind the call. The repaired program is sound, and its canonical text reads as it.
+-- durable after the fence behind the call. The repaired program is sound, and its canonical text reads as it. What is
+-- durable survives a crash, no crash history is added, and all this lasts through later repairs.
 pub record IsCuredBy (P : Program) (I : Input) (plan : Plan) (skip : Site → Bool) : Type 0 where
   pub harmless : IsHarmless P plan skip
   pub clean : IsClean (repaired P plan skip) I
@@ -30,6 +32,7 @@ pub record IsCuredBy (P : Program) (I : Input) (plan : Plan) (skip : Site → Bo
   pub fenced : AreHoistsFenced P plan skip
   pub sound : IsSound (repaired P plan skip)
   pub reads : Reads (show (repaired P plan skip)) (repaired P plan skip)
+  pub crashes : IsCrashSafe P I plan skip
 
 -- the repair for what a run found does so, on the run's input
 abbrev pub IsCured : Program → Input → Findings → Type 0

@@ -1,21 +1,18 @@
 -- What the definitions of the answers imply.
 pub mod Cures
-pub mod OneAnswer
 pub mod Repairs
-use Rattle.std.specs.Prelude.{ℕ, ◌≡◌, ◌≢◌, ◌≤◌, ◌⊎◌, true, false, List, [], length, Some}
+use Rattle.std.specs.Prelude.{ℕ, ◌≡◌, ◌≤◌, false, List, [], length, Some}
 use Rattle.hip_answers.specs.Answers.{Answer}
-use Rattle.hip_answers.specs.Same.{AreOne}
 use Rattle.hip_answers.specs.declared.status.Status.TheVariants as statuses
 use Rattle.hip_io.specs.Cabinets.{CabinetState, file_of}
 use Rattle.hip_io.specs.declared.cabinet.NamedFile.{NamedFile}
-use Rattle.hip_ir.specs.Show.{show}
-use Rattle.hip_ir.specs.declared.program.Program.{Program}
-use Rattle.hip_loading.specs.Loading.{IsProgramOf}
-use Rattle.hip_loading.specs.Outside.{HasMet}
-use Rattle.hip_loading.specs.declared.program.TheConstants.{TEXT_LIMIT}
-use Rattle.hip_repair_answers.specs.Answers.{HasRepaired, HasRunOf, TraceAnswers}
+use Rattle.hip_grammar.specs.Show.{show}
+use Rattle.hip_tree.specs.declared.program.Program.{Program}
+use Rattle.hip_program_files.specs.Outside.{HasMet}
+use Rattle.hip_program_files.specs.declared.limits.TheConstants.{TEXT_LIMIT}
+use Rattle.hip_repair_answers.specs.Answers.{HasRepaired}
+use Rattle.hip_answers.specs.RunAnswers.{HasRunOf}
 use Rattle.hip_repair_answers.specs.Cured.{repaired_for}
-use Rattle.hip_repair_answers.specs.TraceFiles.{IsTraceFile, ShowsNoMisfit}
 use Rattle.hip_repairs.specs.Suits.{no_repairs}
 use Rattle.hip_report_lines.specs.Counts.{repair_counts}
 use Rattle.hip_run_traces.specs.Misfits.{IsTraceOf}
@@ -26,31 +23,7 @@ use Rattle.hip_runs.specs.declared.input.Input.{Input}
 use Rattle.hip_runs.specs.declared.report.Findings.{Findings}
 use Rattle.hip_trace.specs.Texts.{lines_of}
 use Rattle.hip_trace.specs.declared.entry.Entry.{Entry}
-use Rattle.hip_typing.specs.Sound.{IsSound}
-
--- ---- one answer
-
--- where the files are told, two answers on them are the same, unless one of them is a read fault
-abbrev pub GivesOne : (Program → Input → Findings → Answer → Type 0) → Type 0
-GivesOne Texts = (p t : List ℕ) → AreOne (λ old new answer. TraceAnswers Texts old new p t answer)
-
--- where the one file has a program and the other is the trace of a run of it, and nothing is missing and nothing fails,
--- there is an answer by which the command is carried out
-abbrev pub AnswersRuns : (Program → Input → Findings → Answer → Type 0) → Type 0
-AnswersRuns Texts =
-    (files : List NamedFile) → (old new : CabinetState) → (p t : List ℕ) → (P : Program) → (I : Input)
-    → old.files ≡ Some files → IsProgramOf (Some files) p P → IsTraceFile files t P I
-    → HasMet false false old new
-    → (a : Answer) × (a.status ≡ statuses.Done) × TraceAnswers Texts old new p t a
-
--- where the trace's file is current after a read fault, and is not the program's, its bytes that were taken show no
--- misfit
-abbrev pub FaultsHideNone : (Program → Input → Findings → Answer → Type 0) → Type 0
-FaultsHideNone Texts =
-    (files : List NamedFile) → (old new : CabinetState) → (p t : List ℕ) → (P : Program) → (a : Answer)
-    → old.files ≡ Some files → IsProgramOf (Some files) p P → new.is_current ≡ true → new.name ≡ Some t
-    → p ≢ t
-    → a.status ≡ statuses.ReadFault → TraceAnswers Texts old new p t a → ShowsNoMisfit files t P new.rest
+use Rattle.hip_sound.specs.Sound.{IsSound}
 
 -- ---- `repair`
 

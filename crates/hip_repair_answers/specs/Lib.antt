@@ -1,4 +1,3 @@
 pub mod Answers
 pub mod Cured
 pub mod Laws
-pub mod TraceFiles

@@ -1,11 +1,12 @@
 //! Laws of the answers.
 
 ghost use Rattle.std.specs.Prelude.{Bool};
-ghost use Rattle.hip_ir.specs.declared.program.Program.{Program};
-ghost use Rattle.hip_ir.specs.declared.site.Site.{Site};
+ghost use Rattle.hip_tree.specs.declared.program.Program.{Program};
+ghost use Rattle.hip_tree.specs.declared.site.Site.{Site};
 ghost use Rattle.hip_repair_answers.specs.Answers.{HasChecked, HasRepaired, HasRerun};
 ghost use Rattle.hip_repair_answers.specs.Cured.{IsCured, IsCuredBy};
-ghost use Rattle.hip_repair_answers.specs.Laws.{AnswersRuns, FaultsHideNone, GivesOne, NothingToRepair, RerunsAreTraces, SecondRepair};
+ghost use Rattle.hip_repair_answers.specs.Laws.{NothingToRepair, RerunsAreTraces, SecondRepair};
+ghost use Rattle.hip_answers.specs.RunLaws.{AnswersRuns, FaultsHideNone, GivesOne};
 ghost use Rattle.hip_repairs.specs.Choice.{Contains, plan_for};
 ghost use Rattle.hip_repairs.specs.Quiet.{IsQuiet};
 ghost use Rattle.hip_repairs.specs.declared.plan.Plan.{Plan};
@@ -13,7 +14,7 @@ ghost use Rattle.hip_runs.specs.Found.Marks.{IsFound};
 ghost use Rattle.hip_runs.specs.Validity.{IsValid};
 ghost use Rattle.hip_runs.specs.declared.input.Input.{Input};
 ghost use Rattle.hip_runs.specs.declared.report.Findings.{Findings};
-ghost use Rattle.hip_typing.specs.Sound.{IsSound};
+ghost use Rattle.hip_sound.specs.Sound.{IsSound};
 
 /// The program that is repaired for what a run found does no harm, is clean on the run's input, has its hoisted calls
 /// covered, is sound, and its canonical text reads as it.

@@ -2,10 +2,8 @@
 #![tactic(auto)]
 
 mod laws;
-mod refusal;
 
 pub use laws::{
     answers_are_one, faults_hide_no_misfit, nothing_to_repair, plans_cure, repairs_cure,
     reruns_are_traces, runs_are_answered, second_repair,
 };
-pub use refusal::{TraceRefusal, status_of_trace};

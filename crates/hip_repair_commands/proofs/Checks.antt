@@ -7,7 +7,7 @@ use Rattle.hip_answers.specs.declared.status.Status.TheVariants as statuses
 use Rattle.hip_io.specs.Sinks.{AppendsAll, AppendsPrefix, SinkState, Writes}
 use Rattle.hip_io.specs.declared.sink.Put.{Put}
 use Rattle.hip_io.specs.declared.sink.Put.TheVariants as puts
-use Rattle.hip_ir.specs.declared.program.Program.{Program}
+use Rattle.hip_tree.specs.declared.program.Program.{Program}
 use Rattle.hip_repair_answers.specs.Answers.{HasChecked}
 use Rattle.hip_report_lines.specs.Counts.{check_counts}
 use Rattle.hip_report_lines.specs.Reports.{report_lines}

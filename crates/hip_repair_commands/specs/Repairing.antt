@@ -1,6 +1,6 @@
 -- The repair for what a run found.
 use Rattle.std.specs.Prelude.{◌≡◌}
-use Rattle.hip_ir.specs.declared.program.Program.{Program}
+use Rattle.hip_tree.specs.declared.program.Program.{Program}
 use Rattle.hip_repair_answers.specs.Cured.{repaired_for}
 use Rattle.hip_repair_commands.specs.declared.repairing.Repair.{Repair}
 use Rattle.hip_repairs.specs.Choice.{plan_for}

@@ -8,8 +8,8 @@ ghost use Rattle.hip_trace_loading.specs.Runs.{AnswersOnRun};
 use hip_answers::{Status, finish, refuse};
 use hip_io::{Cabinet, Put, Sink};
 use hip_report_lines::{put_check_counts, put_reports};
+use hip_sound::Checked;
 use hip_trace_loading::{Replayed, load_run};
-use hip_typing::Checked;
 use std::alloc::Global;
 
 /// Writes a line for each report of a run; then how many there are goes to notes.

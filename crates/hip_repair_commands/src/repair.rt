@@ -13,9 +13,9 @@ use hip_answers::{Status, finish, refuse};
 use hip_io::{Cabinet, Sink};
 use hip_repair_answers::repairs_cure;
 use hip_report_lines::put_repair_counts;
+use hip_sound::Checked;
 use hip_trace_loading::{Replayed, load_run};
 use hip_types::NoMemory;
-use hip_typing::Checked;
 use hip_write::write;
 use std::alloc::Global;
 

@@ -7,8 +7,8 @@ use hip_fix::apply;
 use hip_plan::plan;
 use hip_repairs::{Plan, Repaired};
 use hip_runs::Findings;
+use hip_sound::Checked;
 use hip_types::NoMemory;
-use hip_typing::Checked;
 use std::alloc::Global;
 
 /// A plan, and the program that is repaired by it.

@@ -11,12 +11,12 @@ ghost use Rattle.hip_trace_loading.specs.Runs.{AnswersOnRun};
 use crate::repairing::{Repair, repair_for};
 use hip_answers::{Status, finish, refuse};
 use hip_io::{Cabinet, Sink};
+use hip_recording::{RecordRefusal, record_run};
 use hip_repair_answers::repairs_cure;
-use hip_replay::{RecordRefusal, record_run};
 use hip_report_lines::put_rerun_counts;
+use hip_sound::Checked;
 use hip_trace_loading::{Replayed, load_run};
 use hip_types::NoMemory;
-use hip_typing::Checked;
 use std::alloc::Global;
 
 /// Runs the repaired program on the run's input and writes its trace as it runs; then how many reports there are of

@@ -8,8 +8,8 @@ use hip_report_lines::{
     put_check_counts, put_repair_counts, put_reports, put_rerun_counts, write_report,
 };
 use hip_runs::{Kind, Report};
+use hip_sound::Checked;
 use hip_types::Row;
-use hip_typing::Checked;
 use std::alloc::Global;
 use std::process::Abort;
 

@@ -5,8 +5,8 @@ use hip_examples::{AMPLE, COPY, EVEN_AND_ODD, KEY_VALUE_LOG};
 use hip_fix::suits;
 use hip_plan::{choose, plan, score};
 use hip_runs::{Findings, Kind, Mark, Marks, Object, Report};
+use hip_sound::Checked;
 use hip_types::Row;
-use hip_typing::Checked;
 use std::alloc::Global;
 use std::process::Abort;
 

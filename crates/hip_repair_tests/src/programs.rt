@@ -2,10 +2,11 @@
 
 use hip_examples::AMPLE;
 use hip_io::MemSink;
-use hip_ir::{Program, Site};
 use hip_parse::parse;
+use hip_sound::Checked;
+use hip_tree::{Program, Site};
 use hip_types::Row;
-use hip_typing::{Checked, check};
+use hip_typing::check;
 use hip_write::write;
 use std::alloc::Global;
 use std::process::Abort;

@@ -3,8 +3,8 @@
 use crate::programs::site;
 use hip_calls::{callees, fresh_names};
 use hip_examples::AMPLE;
-use hip_ir::{Block, End, Function, Instr, Program, Site};
 use hip_num::natural_into;
+use hip_tree::{Block, End, Function, Instr, Program, Site};
 use hip_types::{Name, Row};
 use std::alloc::Global;
 use std::process::Abort;

@@ -1,11 +1,11 @@
 //! Clones without the flushes of stores that are never in the region.
 
 use crate::programs::{assert_written, checked, sites};
+use hip_copies::same;
 use hip_examples::AMPLE;
 use hip_fix::{CloneOf, Plan, apply, apply_skipping, suits};
-use hip_ir::same;
+use hip_sound::Checked;
 use hip_types::Row;
-use hip_typing::Checked;
 use hip_vol::{apply_quiet, quiet_stores};
 use std::alloc::Global;
 use std::process::Abort;

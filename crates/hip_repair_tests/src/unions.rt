@@ -3,8 +3,8 @@
 use crate::programs::{Place, site, sites};
 use hip_examples::AMPLE;
 use hip_fix::Plan;
-use hip_ir::Site;
 use hip_many::{Reason, Sort, plan_many, reasons};
+use hip_tree::Site;
 use hip_types::Row;
 use std::alloc::Global;
 use std::process::Abort;

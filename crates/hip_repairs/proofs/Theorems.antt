@@ -1,9 +1,9 @@
 -- The theorems about repairs of sound programs.
 use Rattle.std.proofs.Common.{Bool}
-use Rattle.hip_ir.specs.declared.program.Program.{Program}
-use Rattle.hip_ir.specs.declared.site.Site.{Site}
-use Rattle.hip_typing.specs.Laws.SoundExact.{sound-passes, passes-sound}
-use Rattle.hip_typing.specs.Sound.{IsSound}
+use Rattle.hip_tree.specs.declared.program.Program.{Program}
+use Rattle.hip_tree.specs.declared.site.Site.{Site}
+use Rattle.hip_sound.specs.Laws.SoundExact.{sound-passes, passes-sound}
+use Rattle.hip_sound.specs.Sound.{IsSound}
 use Rattle.hip_runs.specs.Found.Marks.{IsFound}
 use Rattle.hip_runs.specs.Validity.{IsValid}
 use Rattle.hip_runs.specs.declared.input.Input.{Input}

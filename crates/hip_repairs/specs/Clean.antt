@@ -1,6 +1,6 @@
 -- A repair leaves nothing to report.
 use Rattle.std.specs.Prelude.{◌≡◌, ℕ, []}
-use Rattle.hip_ir.specs.declared.program.Program.{Program}
+use Rattle.hip_tree.specs.declared.program.Program.{Program}
 use Rattle.hip_runs.specs.declared.input.Input.{Input}
 use Rattle.hip_runs.specs.Found.Reports.{reports}
 

@@ -1,9 +1,9 @@
 -- What plans have: what the reports ask for, what one of two plans has, and nothing.
 use Rattle.std.specs.Prelude.{◌≡◌, Bool, true, ◌||◌, List}
 use Rattle.std.specs.List.{filter}
-use Rattle.hip_ir.specs.Sites.{has_site, sites_of}
-use Rattle.hip_ir.specs.declared.program.Program.{Program}
-use Rattle.hip_ir.specs.declared.site.Site.{Site}
+use Rattle.hip_tree.specs.Sites.{has_site, sites_of}
+use Rattle.hip_tree.specs.declared.program.Program.{Program}
+use Rattle.hip_tree.specs.declared.site.Site.{Site}
 use Rattle.hip_runs.specs.declared.report.Findings.{Findings}
 use Rattle.hip_repairs.specs.declared.plan.Plan.{Plan}
 use Rattle.hip_repairs.specs.Choice.{wants_flush, wants_fence, wants_hoist, plan_for}

@@ -7,17 +7,17 @@ use Rattle.hip_types.specs.Numbers.{bits}
 use Rattle.hip_types.specs.declared.number.Scalar.{Scalar}
 use Rattle.hip_types.specs.declared.number.Scalar.TheVariants.{Int, Ptr}
 use Rattle.hip_types.specs.declared.number.Width.TheVariants.{W64}
-use Rattle.hip_ir.specs.Sites.{has_site}
-use Rattle.hip_ir.specs.declared.block.Block.{Block}
-use Rattle.hip_ir.specs.declared.constant.Const.TheVariants as consts
-use Rattle.hip_ir.specs.declared.instr.Instr.{Instr}
-use Rattle.hip_ir.specs.declared.instr.Instr.TheVariants.{Store, Call}
-use Rattle.hip_ir.specs.declared.instr.Operand.{Operand}
-use Rattle.hip_ir.specs.declared.instr.Operand.TheVariants.{Fixed}
-use Rattle.hip_ir.specs.declared.program.Extern.{Extern}
-use Rattle.hip_ir.specs.declared.program.Function.{Function}
-use Rattle.hip_ir.specs.declared.program.Program.{Program}
-use Rattle.hip_ir.specs.declared.site.Site.{Site}
+use Rattle.hip_tree.specs.Sites.{has_site}
+use Rattle.hip_tree.specs.declared.block.Block.{Block}
+use Rattle.hip_tree.specs.declared.constant.Const.TheVariants as consts
+use Rattle.hip_tree.specs.declared.instr.Instr.{Instr}
+use Rattle.hip_tree.specs.declared.instr.Instr.TheVariants.{Store, Call}
+use Rattle.hip_tree.specs.declared.instr.Operand.{Operand}
+use Rattle.hip_tree.specs.declared.instr.Operand.TheVariants.{Fixed}
+use Rattle.hip_tree.specs.declared.program.Extern.{Extern}
+use Rattle.hip_tree.specs.declared.program.Function.{Function}
+use Rattle.hip_tree.specs.declared.program.Program.{Program}
+use Rattle.hip_tree.specs.declared.site.Site.{Site}
 use Rattle.hip_calls.specs.Fresh.{fresh_names, name_of}
 use Rattle.hip_calls.specs.Reach.{callees}
 use Rattle.hip_runs.specs.Operands.{scalar_size, access_align}

@@ -1,4 +1,4 @@
-use hip_ir::Site;
+use hip_tree::Site;
 use hip_types::Row;
 
 /// Where a program is repaired. In a plan that suits a program, each list is strictly ascending.

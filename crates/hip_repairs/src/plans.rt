@@ -1,8 +1,8 @@
 //! Laws of plans: what the plan for a run's findings has, and which plans suit.
 
-ghost use Rattle.hip_ir.specs.Sites.{has_site, sites_of};
-ghost use Rattle.hip_ir.specs.declared.program.Program.{Program};
-ghost use Rattle.hip_ir.specs.declared.site.Site.{Site};
+ghost use Rattle.hip_tree.specs.Sites.{has_site, sites_of};
+ghost use Rattle.hip_tree.specs.declared.program.Program.{Program};
+ghost use Rattle.hip_tree.specs.declared.site.Site.{Site};
 ghost use Rattle.hip_runs.specs.Found.Marks.{IsFound};
 ghost use Rattle.hip_runs.specs.StoredParts.Parts.{In};
 ghost use Rattle.hip_runs.specs.Validity.{IsValid};

@@ -1,6 +1,6 @@
 use crate::plan::CloneOf;
+use hip_sound::Checked;
 use hip_types::Row;
-use hip_typing::Checked;
 
 /// What a repair made of a program.
 #[derive(Drop)]

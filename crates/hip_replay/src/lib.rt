@@ -1,16 +1,7 @@
-//! Runs that are printed, recorded as traces, and replayed.
+//! The calls that run a whole program: its run is printed, recorded as a trace, or replayed beside one.
 #![tactic(auto)]
 
-mod compared;
-mod ended;
-mod gathered;
-mod print;
-mod record;
-mod refusal;
-
-pub use compared::{Replayed, replay};
+pub use hip_following::{Replayed, replay};
 pub use hip_lockstep::ReplayRefusal;
+pub use hip_recording::{RecordRefusal, Recorded, print_run, record_run};
 pub use hip_run_traces::MisfitKind;
-pub use print::print_run;
-pub use record::{Recorded, record_run};
-pub use refusal::RecordRefusal;

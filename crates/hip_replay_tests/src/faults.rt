@@ -5,9 +5,9 @@ use crate::runs::{checked, in_chunks, input, replayed};
 use hip_examples::{AMPLE, ONE_STORE};
 use hip_io::{FailAt, FailingCabinet, MemSink};
 use hip_replay::{MisfitKind, RecordRefusal, ReplayRefusal, record_run};
+use hip_sound::Checked;
 use hip_step::{Input, why_not};
 use hip_types::Row;
-use hip_typing::Checked;
 use std::alloc::Global;
 use std::process::Abort;
 

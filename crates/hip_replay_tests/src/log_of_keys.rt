@@ -5,8 +5,8 @@ use hip_examples::{AMPLE, KEY_VALUE_LOG};
 use hip_io::MemSink;
 use hip_replay::Replayed;
 use hip_runs::Ending;
+use hip_sound::Checked;
 use hip_step::Input;
-use hip_typing::Checked;
 use std::alloc::Global;
 use std::process::Abort;
 

@@ -3,7 +3,7 @@
 use crate::runs::{checked, in_chunks, input, record, replayed};
 use hip_examples::AMPLE;
 use hip_io::MemSink;
-use hip_typing::Checked;
+use hip_sound::Checked;
 use std::alloc::Global;
 use std::process::Abort;
 

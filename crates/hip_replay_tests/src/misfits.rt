@@ -7,7 +7,7 @@ use crate::runs::{assert_reports, checked, in_chunks, replayed};
 use hip_examples::{AMPLE, ENDLESS_LOOP, ONE_STORE};
 use hip_replay::{MisfitKind, ReplayRefusal};
 use hip_run_traces::MisfitKind::{Differs, Early, Extra, Malformed};
-use hip_typing::Checked;
+use hip_sound::Checked;
 use std::alloc::Global;
 use std::process::Abort;
 

@@ -11,8 +11,8 @@ use hip_examples::{AMPLE, COPY, ENDLESS_LOOP, EVEN_AND_ODD, ONE_STORE, REACH};
 use hip_io::MemSink;
 use hip_replay::Recorded;
 use hip_runs::{Ending, TrapKind};
+use hip_sound::Checked;
 use hip_step::Input;
-use hip_typing::Checked;
 use std::alloc::Global;
 use std::process::Abort;
 

@@ -8,10 +8,11 @@ use hip_parse::parse;
 use hip_replay::{Recorded, ReplayRefusal, Replayed, record_run, replay};
 use hip_report_lines::put_reports;
 use hip_runs::Report;
+use hip_sound::Checked;
 use hip_step::{Input, why_not};
 use hip_trace::Reader;
 use hip_types::Row;
-use hip_typing::{Checked, check};
+use hip_typing::check;
 use std::alloc::Global;
 use std::process::Abort;
 

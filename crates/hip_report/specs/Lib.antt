@@ -1,9 +1,2 @@
-pub mod CallPaths
-pub mod Pending
-pub mod Checking
-pub mod Standing
-pub mod MarkKeys
-pub mod Noted
-pub mod Sights
-pub mod Plain
 pub mod Tracking
+pub mod Noting

@@ -1,11 +1,11 @@
 -- What is seen of a tracker.
 use Rattle.std.specs.Prelude.{◌≡◌, ◌⊎◌, ℕ, ◌<◌, ◌^◌, Bool, true, false, Option, Some, None}
-use Rattle.hip_ir.specs.declared.program.Program.{Program}
+use Rattle.hip_tree.specs.declared.program.Program.{Program}
 use Rattle.hip_runs.specs.Ends.{longest}
 use Rattle.hip_runs.specs.declared.input.Input.{Input}
-use Rattle.hip_step.specs.Seen.{Seen}
-use Rattle.hip_report.specs.Plain.{AreTracked}
-use Rattle.hip_report.specs.declared.notes.Notes.{Notes}
+use Rattle.hip_runs.specs.Seen.{Seen}
+use Rattle.hip_notes.specs.Plain.{AreTracked}
+use Rattle.hip_notes.specs.declared.notes.Notes.{Notes}
 use Rattle.hip_report.specs.declared.tracker.Source.{Source}
 use Rattle.hip_report.specs.declared.tracker.Tracker.TheInside.{Inside}
 

@@ -1,15 +1,6 @@
 //! What runs find: a tracker that notes each step of a machine, and gives the reports and marks of the run.
 #![tactic(auto)]
 
-mod ahead;
-mod call_path;
-mod calls;
-mod checks;
-mod events;
-mod forget;
-mod marks;
-mod notes;
-mod pending;
 mod sight;
 mod step;
 mod tracker;

@@ -1,21 +1,19 @@
 ghost use Rattle.std.specs.Prelude.{◌≡◌, ◌≤◌, ◌<◌, ◌++◌, ◌∷◌, [], Some, length, map, IfOk, OnOk};
-ghost use Rattle.hip_ir.specs.Sites.{instr_of};
-ghost use Rattle.hip_ir.specs.declared.instr.Instr.{Instr as Code};
-ghost use Rattle.hip_ir.specs.declared.program.Program.{Program as Whole};
-ghost use Rattle.hip_ir.specs.declared.site.Site.{Site as Place};
+ghost use Rattle.hip_tree.specs.Sites.{instr_of};
+ghost use Rattle.hip_tree.specs.declared.instr.Instr.{Instr as Code};
+ghost use Rattle.hip_tree.specs.declared.program.Program.{Program as Whole};
+ghost use Rattle.hip_tree.specs.declared.site.Site.{Site as Place};
 ghost use Rattle.hip_runs.specs.Found.Marks.{pointer_operands};
 ghost use Rattle.hip_runs.specs.Step.{has_ended};
-ghost use Rattle.hip_step.specs.Seen.{next_site, state_of};
-ghost use Rattle.hip_report.specs.MarkKeys.{AreMet, mark_of};
-ghost use Rattle.hip_report.specs.Plain.{IsPlainFor};
-ghost use Rattle.hip_report.specs.Sights.{AddAlike, mark_at, marks_ahead, marks_to};
+ghost use Rattle.hip_runs.specs.Seen.{next_site, state_of};
+ghost use Rattle.hip_notes.specs.MarkKeys.{AreMet, mark_of};
+ghost use Rattle.hip_notes.specs.Plain.{IsPlainFor};
+ghost use Rattle.hip_notes.specs.Sights.{AddAlike, mark_at, marks_ahead, marks_to};
 
-use crate::ahead::{Ahead, NOTHING, ahead_at};
-use crate::marks::is_recent;
-use crate::notes::Notes;
-use hip_ir::Site;
+use hip_notes::{Ahead, NOTHING, Notes, ahead_at, is_recent};
 use hip_runs::Mark;
 use hip_step::Machine;
+use hip_tree::Site;
 use hip_types::{NoMemory, Row};
 use std::alloc::Global;
 

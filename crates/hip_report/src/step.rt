@@ -1,125 +1,25 @@
-ghost use Rattle.std.specs.Prelude.{◌≡◌, ◌⊎◌, ℕ, suc, ◌+◌, ◌-◌, ◌*◌, ◌≤◌, ◌<◌, ◌^◌, [], Some, None, true, false, cond, length, map, nat_eq, IfOk, OnOk, OnErr};
+ghost use Rattle.std.specs.Prelude.{◌≡◌, ◌⊎◌, ◌+◌, ◌-◌, ◌<◌, ◌^◌, [], Some, None, true, false, length, map, nat_eq, IfOk, OnOk, OnErr};
 ghost use Rattle.hip_types.specs.Distinct.{met};
 ghost use Rattle.hip_runs.specs.Ends.{longest};
-ghost use Rattle.hip_runs.specs.Found.Marks.{event_hits, same_mark, unless_ended};
+ghost use Rattle.hip_runs.specs.Found.Marks.{event_hits};
 ghost use Rattle.hip_runs.specs.Found.Objects.{global_at};
-ghost use Rattle.hip_runs.specs.Found.Reports.{checked_range};
-ghost use Rattle.hip_runs.specs.Step.{event, has_ended, has_entry, run};
-ghost use Rattle.hip_runs.specs.StoredParts.Since.{fences};
-ghost use Rattle.hip_step.specs.Seen.{after_step, next_site, state_of};
-ghost use Rattle.hip_report.specs.MarkKeys.{AreMet, mark_of, WereHit};
-ghost use Rattle.hip_report.specs.declared.pending.LineNote.{LineNote as Line};
-ghost use Rattle.hip_report.specs.Noted.{AreNoted, EndsBelow, Follows, IsForgotten, Reported, births_after, calls_after};
-ghost use Rattle.hip_lines.specs.Parts.{loose_from};
-ghost use Rattle.hip_report.specs.Pending.{FlushesAscend, StoresAscend, lines_of};
-ghost use Rattle.hip_report.specs.Plain.{AreTracked, IsPlainFor};
-ghost use Rattle.hip_report.specs.Sights.{AddAlike, is_still, marks_ahead};
+ghost use Rattle.hip_runs.specs.Step.{event, has_ended, run};
+ghost use Rattle.hip_runs.specs.Seen.{after_step, next_site, state_of};
+ghost use Rattle.hip_notes.specs.MarkKeys.{mark_of, WereHit};
+ghost use Rattle.hip_notes.specs.Noted.{AreNoted};
+ghost use Rattle.hip_notes.specs.Plain.{AreTracked, IsPlainFor};
+ghost use Rattle.hip_notes.specs.Sights.{AddAlike, is_still, marks_ahead};
 
-use crate::checks::Check;
-use crate::events::{Moment, note_calls, note_check, note_lines, note_marks};
-use crate::forget::forget_in;
-use crate::marks::meet_global;
-use crate::notes::{ENOUGH_STORES, Notes, fences, has_entry};
 use crate::sight::{Sight, look};
 use hip_invariants::{runs_are_bounded, stack_keeps_its_shape};
-use hip_lines::{LINE_SIZE, Lines};
+use hip_notes::{
+    Moment, Notes, meet_global, step_calls, step_check, step_counts, step_forget, step_lines,
+    step_marks,
+};
 use hip_runs::{Event, Mark, Object};
 use hip_step::Machine;
-use hip_types::{NoMemory, Row};
+use hip_types::{LINE_SIZE, NoMemory, Row};
 use std::alloc::Global;
-
-// What a step with this event checks.
-fn step_check(
-    alloc: Global,
-    notes: &mut Notes,
-    lines: &Lines,
-    event: Event,
-    base: u64,
-    region: u64,
-    entry: u128,
-) -> Result<(), NoMemory>
-    requires region { region ≡ LINE_SIZE * length lines.now.lines }
-    requires stores { StoresAscend 0 (2 ^ 128) notes.old.pending.stores.items }
-    requires flushes { (j : ℕ) → (l : Line) → lines_of notes.old.pending.lines j ≡ Some l
-        → FlushesAscend 0 (2 ^ 128) l.flushes }
-    ensures told { OnOk result (Reported
-        (checked_range base region event) notes.old.births.items entry notes.old.fence notes.old.pending lines.now.lines
-        notes.old.reports notes.new.reports) }
-    ensures rest { OnOk result (notes.new ≡ record notes.old { reports = notes.new.reports }) }
-{
-    let check = Check {
-        births: notes.births.as_slice(),
-        entry,
-        fence: notes.fence,
-    };
-    note_check(
-        alloc,
-        &notes.pending,
-        &check,
-        lines,
-        event,
-        base,
-        region,
-        &mut notes.reports,
-    )
-}
-
-// What a step with this event does to pending stores.
-fn step_lines(
-    alloc: Global,
-    notes: &mut Notes,
-    event: Event,
-    moment: Moment,
-    base: u64,
-) -> Result<(), NoMemory>
-    requires ends { EndsBelow base event }
-    requires births { length notes.old.births.items ≡ length notes.old.calls }
-    ensures follows { OnOk result
-        (Follows event moment.site base moment.step moment.entry notes.old.calls notes.old.pending
-        notes.new.pending) }
-    ensures rest { OnOk result (notes.new ≡ record notes.old { pending = notes.new.pending }) }
-{
-    let standing = notes.births.len();
-    note_lines(
-        alloc,
-        &mut notes.pending,
-        event,
-        moment,
-        base,
-        &mut notes.calls,
-        standing,
-    )
-}
-
-// The calls after a step.
-fn step_calls(
-    notes: &mut Notes,
-    moment: Moment,
-    before: usize,
-    after: usize,
-) -> Result<(), NoMemory>
-    ensures calls { OnOk result (notes.new.calls
-        ≡ calls_after before after moment.step moment.site notes.old.calls) }
-    ensures births { OnOk result (notes.new.births.items
-        ≡ births_after before after moment.step moment.site notes.old.births.items) }
-    ensures rest { OnOk result (notes.new ≡ record notes.old { calls = notes.new.calls; births = notes.new.births }) }
-{
-    note_calls(&mut notes.calls, &mut notes.births, moment, before, after)
-}
-
-// The marks of a step with this event.
-fn step_marks(notes: &mut Notes, event: Event, ahead: &[Mark]) -> Result<(), NoMemory>
-    requires { AreMet (map mark_of notes.old.marks.keys) notes.old.recent.items }
-    ensures marks { OnOk result (map mark_of notes.new.marks.keys ≡ met same_mark (map mark_of notes.old.marks.keys)
-        (unless_ended event ahead.now)) }
-    ensures known { OnOk result (AreMet (map mark_of notes.new.marks.keys) notes.new.recent.items) }
-    ensures rest { OnOk result (notes.new ≡ record notes.old { marks = notes.new.marks; recent = notes.new.recent }) }
-{
-    match event {
-        Event::End(_) => Ok(()),
-        _ => note_marks(&mut notes.marks, &mut notes.recent, ahead),
-    }
-}
 
 // The persistent global that a step with this event stores into.
 fn step_hit(notes: &mut Notes, event: Event, machine: &Machine<'_>) -> Result<(), NoMemory>
@@ -146,44 +46,6 @@ fn global_at(machine: &Machine<'_>, addr: u64) -> Option<usize>
         Some(Object::Global(number)) => Some(number),
         _ => None,
     }
-}
-
-// The counts and the last fence after a step with this event.
-fn step_counts(notes: &mut Notes, event: Event)
-    requires steps { notes.old.steps + 1 < 2 ^ 128 }
-    requires entries { notes.old.entries + 1 < 2 ^ 128 }
-    ensures { notes.new ≡ record notes.old {
-      steps = notes.old.steps + 1;
-      entries = cond (has_entry event) (notes.old.entries + 1) notes.old.entries;
-      fence = cond (fences event) (Some notes.old.steps) notes.old.fence;
-    } }
-{
-    if fences(event) {
-        notes.fence = Some(notes.steps);
-    }
-    if has_entry(event) {
-        notes.entries += 1;
-    }
-    notes.steps += 1;
-}
-
-// Behind a fence no loose byte is flushed, and where there are many stores those are let go that no loose byte is of.
-// It is looked again when there are twice as many as were kept, so that a store is looked at a few times at most.
-fn step_forget(alloc: Global, notes: &mut Notes, event: Event, lines: &Lines, region: u64)
-    requires { region ≡ LINE_SIZE * length lines.now.lines }
-    ensures kept { IsForgotten (fences event) (loose_from lines.now.lines 0 region)
-        notes.old.pending notes.new.pending }
-    ensures rest { notes.new ≡ record notes.old { pending = notes.new.pending; enough = notes.new.enough } }
-{
-    if fences(event) && notes.pending.stores.len() >= notes.enough {
-        forget_in(alloc, &mut notes.pending, lines, region);
-        notes.enough = enough_for(notes.pending.stores.len());
-    }
-}
-
-// With how many stores it is looked again, where so many were kept.
-fn enough_for(kept: usize) -> usize {
-    kept.saturating_mul(2).max(ENOUGH_STORES)
 }
 
 // How many bytes the region has.

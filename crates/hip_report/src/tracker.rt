@@ -2,18 +2,17 @@ ghost use Rattle.std.specs.Prelude.{◌≡◌, ◌⊎◌, ◌≤◌, ◌<◌, �
 ghost use Rattle.hip_runs.specs.Ends.{longest};
 ghost use Rattle.hip_runs.specs.Found.Marks.{IsFound};
 ghost use Rattle.hip_runs.specs.Step.{event, has_ended, header_entries};
-ghost use Rattle.hip_step.specs.Seen.{after_step, state_of};
-ghost use Rattle.hip_report.specs.MarkKeys.{mark_of};
-ghost use Rattle.hip_report.specs.Plain.{AreTracked};
+ghost use Rattle.hip_runs.specs.Seen.{after_step, state_of};
+ghost use Rattle.hip_notes.specs.MarkKeys.{mark_of};
+ghost use Rattle.hip_notes.specs.Plain.{AreTracked};
 ghost use Rattle.hip_report.specs.Tracking.{HasNoted, IsSource, MayAdvance, NotesOf, notes_all, seen_in};
 
-use crate::marks::{globals_of, marks_of};
-use crate::notes::Notes;
 use crate::step::note_step;
+use hip_notes::{Notes, globals_of, marks_of};
 use hip_runs::{Event, Findings, Input, Marks, longest};
+use hip_sound::Checked;
 use hip_step::Machine;
 use hip_types::NoMemory;
-use hip_typing::Checked;
 use std::alloc::Global;
 use std::marker::Model;
 
@@ -36,7 +35,7 @@ pub struct Tracker<'a> {
 }
 
 impl<'a> Model for Tracker<'a> {
-    ghost use Rattle.hip_ir.specs.contracts.program.Program as programs;
+    ghost use Rattle.hip_tree.specs.contracts.program.Program as programs;
     ghost use Rattle.hip_report.specs.Tracking.{Tracked};
     ghost use Rattle.std.specs.Coded.{codes};
 

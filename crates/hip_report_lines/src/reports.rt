@@ -5,9 +5,9 @@ ghost use Rattle.hip_report_lines.specs.Reports.{flush_text, kind_word, numbered
 use crate::sites::put_site;
 use hip_answers::put_number;
 use hip_io::{Put, Sink, WriteFault, put_after};
-use hip_ir::{Program, Site};
 use hip_runs::{Kind, Report};
-use hip_typing::Checked;
+use hip_sound::Checked;
+use hip_tree::{Program, Site};
 
 fn kind_word(kind: Kind) -> &'static [u8]
     ensures { result.now ≡ kind_word kind }

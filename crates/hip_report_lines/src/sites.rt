@@ -1,14 +1,14 @@
 ghost use Rattle.std.specs.Prelude.{◌≡◌, ◌++◌, slice_get, codes};
 ghost use Rattle.std.specs.Fmt.{decimal};
 ghost use Rattle.hip_io.specs.Sinks.{Writes};
-ghost use Rattle.hip_ir.specs.Sites.{block_of};
+ghost use Rattle.hip_tree.specs.Sites.{block_of};
 ghost use Rattle.hip_report_lines.specs.Reports.{site_text};
 ghost use Rattle.hip_runs.specs.Places.{label_of};
-ghost use Rattle.hip_typing.specs.Numbering.{name_in};
+ghost use Rattle.hip_sound.specs.Numbering.{name_in};
 
 use hip_answers::put_number;
 use hip_io::{Put, Sink, put_after};
-use hip_ir::{Program, Site};
+use hip_tree::{Program, Site};
 
 fn put_function<S: Sink>(before: Put, out: &mut S, program: &Program, function: usize) -> Put
     ensures { Writes before result (S.state out.old) (S.state out.new)

@@ -3,9 +3,9 @@ use Rattle.std.proofs.Common.{◌≡◌, ◌⊎◌, ℕ, ◌+◌, ◌<◌, true,
 use Rattle.std.proofs.lemmas.List.{length-append}
 use Rattle.std.proofs.lemmas.Option.{same_Some, slice_get_within}
 use Rattle.hip_types.specs.Laws.DistinctLaws.{get_kept}
-use Rattle.hip_ir.specs.declared.block.Block.{Block}
-use Rattle.hip_ir.specs.declared.instr.Instr.{Instr}
-use Rattle.hip_ir.specs.declared.program.Program.{Program}
+use Rattle.hip_tree.specs.declared.block.Block.{Block}
+use Rattle.hip_tree.specs.declared.instr.Instr.{Instr}
+use Rattle.hip_tree.specs.declared.program.Program.{Program}
 use Rattle.hip_runs.specs.Places.{block_at}
 use Rattle.hip_runs.specs.declared.input.Input.{Input}
 use Rattle.hip_code.specs.Entries.{entry}
@@ -13,11 +13,11 @@ use Rattle.hip_code.specs.Numbers.{Tables}
 use Rattle.hip_code.specs.Ops.{is_end}
 use Rattle.hip_code.specs.Whole.{IsCodeOf}
 use Rattle.hip_code.specs.declared.op.Op.{Op}
-use Rattle.hip_resolve.specs.Growth.{Grows}
+use Rattle.hip_scope.specs.Growth.{Grows}
 use Rattle.hip_resolve.specs.Made.{HasMade, HasMadeEnd, IsFront}
-use Rattle.hip_resolve.specs.Scopes.{Does, Ends}
-use Rattle.hip_resolve.proofs.Growth.{grows_same, grows_on, get_last}
-use Rattle.hip_resolve.proofs.Places.{one_place, place_within}
+use Rattle.hip_scope.specs.Scopes.{Does, Ends}
+use Rattle.hip_scope.proofs.Growth.{grows_same, grows_on, get_last}
+use Rattle.hip_scope.proofs.Places.{one_place, place_within}
 
 module _ (P : Program) (base : ℕ) where
   pub front_none : (t : Tables) → IsFront P base [] t

@@ -1,14 +1,3 @@
 pub mod BlockOps
-pub mod CallOps
-pub mod EdgeOps
-pub mod EffectOps
-pub mod EndOps
 pub mod Fronts
-pub mod GepOps
-pub mod Growth
-pub mod Indices
-pub mod Names
-pub mod Places
 pub mod Scoped
-pub mod Sound
-pub mod ValueOps

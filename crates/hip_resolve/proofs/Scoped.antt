@@ -5,12 +5,12 @@ use Rattle.std.specs.Str.{bytes_eq}
 use Rattle.std.proofs.lemmas.List.{append-nil, length-append, map-append}
 use Rattle.hip_types.specs.Distinct.{met}
 use Rattle.hip_types.specs.Laws.DistinctLaws.{get_kept}
-use Rattle.hip_ir.specs.declared.block.Block.{Block}
-use Rattle.hip_ir.specs.declared.block.Phi.{Phi}
-use Rattle.hip_ir.specs.declared.program.Param.{Param}
-use Rattle.hip_calls.specs.Laws.MetLaws.{met-append}
-use Rattle.hip_ir.specs.declared.program.Function.{Function}
-use Rattle.hip_ir.specs.declared.program.Program.{Program}
+use Rattle.hip_tree.specs.declared.block.Block.{Block}
+use Rattle.hip_tree.specs.declared.block.Phi.{Phi}
+use Rattle.hip_tree.specs.declared.program.Param.{Param}
+use Rattle.hip_names.specs.Laws.MetLaws.{met-append}
+use Rattle.hip_tree.specs.declared.program.Function.{Function}
+use Rattle.hip_tree.specs.declared.program.Program.{Program}
 use Rattle.hip_code.specs.Entries.{entry, entry_in, entry_of}
 use Rattle.hip_code.specs.Frames.{names_at, names_in}
 use Rattle.hip_names.specs.declared.table.NameTable.{NameTable}
@@ -18,18 +18,18 @@ use Rattle.std.proofs.lemmas.Option.{same_Some, slice_get-get_or, slice_get_with
 use Rattle.hip_names.specs.Names.{AllDiffer, IsAmong, is_among}
 use Rattle.hip_names.specs.Laws.NameLaws.{among-sound, among-right}
 use Rattle.hip_names.specs.Laws.DifferLaws.{differ_apart, differ_second}
-use Rattle.hip_typing.specs.Numbering.{function_names}
-use Rattle.hip_typing.specs.Laws.Decided.{all-at}
-use Rattle.hip_typing.specs.Paths.{names_of}
-use Rattle.hip_typing.specs.Registers.{Register, assigned_by, body_registers, block_registers, parameter_registers, phi_registers}
-use Rattle.hip_typing.specs.Sound.{IsSound, names_in_block, names_in_function, register_names}
-use Rattle.hip_resolve.proofs.Growth.{get_last}
-use Rattle.hip_resolve.proofs.Places.{at_function, entry_at, first_block, next_in, next_of}
-use Rattle.hip_resolve.specs.Listed.{Lists, RegistersDiffer, SourcesOf}
-use Rattle.hip_resolve.specs.Scopes.{OfFunctions}
+use Rattle.hip_sound.specs.Numbering.{function_names}
+use Rattle.hip_sound.specs.Laws.Decided.{all-at}
+use Rattle.hip_sound.specs.Paths.{names_of}
+use Rattle.hip_sound.specs.Registers.{Register, assigned_by, body_registers, block_registers, parameter_registers, phi_registers}
+use Rattle.hip_sound.specs.Sound.{IsSound, names_in_block, names_in_function, register_names}
+use Rattle.hip_scope.proofs.Growth.{get_last}
+use Rattle.hip_scope.proofs.Places.{at_function, entry_at, first_block, next_in, next_of}
+use Rattle.hip_scope.specs.Listed.{Lists, RegistersDiffer, SourcesOf}
+use Rattle.hip_scope.specs.Scopes.{OfFunctions}
 use Rattle.hip_runs.specs.Places.{block_at, blocks_in, blocks_of}
-use Rattle.hip_resolve.proofs.Sound.{names_differ}
-use Rattle.hip_resolve.specs.PhiNumbers.{HasTables, NumbersPhis}
+use Rattle.hip_scope.proofs.Sound.{names_differ}
+use Rattle.hip_scope.specs.PhiNumbers.{HasTables, NumbersPhis}
 
 -- ---- names that differ are all new
 

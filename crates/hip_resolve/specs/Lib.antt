@@ -1,14 +1,2 @@
-pub mod Growth
-pub mod Grown
-pub mod Known
-pub mod Scopes
 pub mod Made
-pub mod Effects
-pub mod Far
-pub mod Fields
-pub mod Passed
-pub mod Edged
-pub mod PhiNumbers
-pub mod Switched
-pub mod Listed
 pub mod Resolving

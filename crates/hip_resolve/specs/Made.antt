@@ -1,15 +1,15 @@
 -- The ops that are made: those of a program's first places, one after another.
 use Rattle.std.specs.Prelude.{ℕ, ◌+◌, ◌<◌, ◌≡◌, true, List, length, Some, slice_get}
-use Rattle.hip_ir.specs.declared.block.Block.{Block}
-use Rattle.hip_ir.specs.declared.instr.Instr.{Instr}
-use Rattle.hip_ir.specs.declared.program.Program.{Program}
+use Rattle.hip_tree.specs.declared.block.Block.{Block}
+use Rattle.hip_tree.specs.declared.instr.Instr.{Instr}
+use Rattle.hip_tree.specs.declared.program.Program.{Program}
 use Rattle.hip_runs.specs.Places.{block_at}
 use Rattle.hip_code.specs.Entries.{entry}
 use Rattle.hip_code.specs.Numbers.{Tables}
 use Rattle.hip_code.specs.Ops.{is_end}
 use Rattle.hip_code.specs.declared.op.Op.{Op}
-use Rattle.hip_resolve.specs.Growth.{Grows}
-use Rattle.hip_resolve.specs.Scopes.{Does, Ends}
+use Rattle.hip_scope.specs.Growth.{Grows}
+use Rattle.hip_scope.specs.Scopes.{Does, Ends}
 
 -- the op of an instruction stands at its place, whatever the tables grow to
 pub record HasMade (P : Program) (base : ℕ) (ops : List Op) (t : Tables) (f b k : ℕ) (i : Instr) : Type 0 where

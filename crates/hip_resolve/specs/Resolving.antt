@@ -1,6 +1,6 @@
 -- What the resolver makes of a program.
 use Rattle.std.specs.Prelude.{ℕ, ◌≡◌}
-use Rattle.hip_ir.specs.declared.program.Program.{Program}
+use Rattle.hip_tree.specs.declared.program.Program.{Program}
 use Rattle.hip_runs.specs.declared.input.Input.{Input}
 use Rattle.hip_code.specs.Numbers.{tables_of}
 use Rattle.hip_code.specs.Whole.{IsCodeOf}

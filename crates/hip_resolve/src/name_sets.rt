@@ -3,13 +3,13 @@ ghost use Rattle.std.specs.List.{flat_map};
 ghost use Rattle.std.specs.Str.{bytes_eq};
 ghost use Rattle.hip_types.specs.Distinct.{met};
 ghost use Rattle.hip_names.specs.Names.{AllDiffer};
-ghost use Rattle.hip_typing.specs.Numbering.{function_names};
-ghost use Rattle.hip_typing.specs.Paths.{names_of};
-ghost use Rattle.hip_typing.specs.Registers.{assigned_by, block_registers, phi_registers};
-ghost use Rattle.hip_typing.specs.Sound.{IsSound, register_names};
+ghost use Rattle.hip_sound.specs.Numbering.{function_names};
+ghost use Rattle.hip_sound.specs.Paths.{names_of};
+ghost use Rattle.hip_sound.specs.Registers.{assigned_by, block_registers, phi_registers};
+ghost use Rattle.hip_sound.specs.Sound.{IsSound, register_names};
 
-use hip_ir::{Block, Function, Instr, Param, Phi, Program};
 use hip_names::NameSet;
+use hip_tree::{Block, Function, Instr, Param, Phi, Program};
 use hip_types::NoMemory;
 use std::alloc::Global;
 

@@ -1,17 +1,15 @@
 ghost use Rattle.std.specs.Prelude.{◌≡◌, ◌+◌, Some, length, suc, IfOk};
 ghost use Rattle.hip_code.specs.Entries.{entry};
 ghost use Rattle.hip_runs.specs.Places.{block_at, blocks_of};
-ghost use Rattle.hip_resolve.specs.Grown.{grown};
+ghost use Rattle.hip_scope.specs.Grown.{grown};
 ghost use Rattle.hip_resolve.specs.Made.{IsFront};
-ghost use Rattle.hip_resolve.specs.Scopes.{Describes};
+ghost use Rattle.hip_scope.specs.Scopes.{Describes};
 
-use crate::edges::Source;
-use crate::ends::end_op;
-use crate::growing::Growing;
-use crate::instrs::instr_op;
-use crate::scope::Scope;
 use hip_code::Op;
-use hip_ir::Block;
+use hip_end_ops::{Source, end_op};
+use hip_instr_ops::instr_op;
+use hip_scope::{Growing, Scope};
+use hip_tree::Block;
 use hip_types::{NoMemory, Row};
 use std::alloc::Global;
 

@@ -1,26 +1,27 @@
 //! The code of a whole program.
 
-ghost use Rattle.std.specs.Prelude.{◌≡◌, length, IfOk};
+ghost use Rattle.std.specs.Prelude.{◌≡◌, ◌<◌, [], length, suc, IfOk};
 ghost use Rattle.hip_globals.specs.Addresses.{IsBase};
 ghost use Rattle.hip_globals.specs.AddressesSeen.{address_beside};
 ghost use Rattle.hip_globals.specs.Values.{global_address};
-ghost use Rattle.hip_typing.specs.Numbering.{function_names};
-ghost use Rattle.hip_typing.specs.Sound.{IsSound};
+ghost use Rattle.hip_sound.specs.Numbering.{function_names};
+ghost use Rattle.hip_sound.specs.Sound.{IsSound};
 ghost use Rattle.hip_code.specs.Entries.{entry};
-ghost use Rattle.hip_code.specs.Frames.{names_at};
+ghost use Rattle.hip_scope.specs.Grown.{grown};
+ghost use Rattle.hip_resolve.specs.Made.{IsFront};
 ghost use Rattle.hip_resolve.specs.Resolving.{IsResolved};
-ghost use Rattle.hip_resolve.specs.Scopes.{OfFunctions};
+ghost use Rattle.hip_scope.specs.Scopes.{IsKnown};
 
-use crate::growing::Growing;
 use crate::name_sets::function_names;
 use crate::program::resolve_function;
 use crate::scopes::{scope_of, sizes, starts};
-use hip_code::Code;
+use hip_code::{Code, Op};
 use hip_globals::GlobalAddresses;
-use hip_ir::Program;
 use hip_names::NameSet;
+use hip_scope::{Growing, Known};
+use hip_sound::Checked;
+use hip_tree::Program;
 use hip_types::{NoMemory, Row};
-use hip_typing::Checked;
 use std::alloc::Global;
 
 /// The code of a checked program, where the region begins at a base: constants are numbers in it, and names are slots
@@ -51,42 +52,25 @@ fn with_names<'p, 'a>(
 {
     let starts = starts(alloc, program)?;
     let sizes = sizes(alloc, program)?;
-    code_of(
+    code_of(&Known {
         alloc,
         program,
         base,
         addresses,
         functions,
-        starts.as_slice(),
-        sizes.as_slice(),
-    )
+        starts: starts.as_slice(),
+        sizes: sizes.as_slice(),
+    })
 }
 
 /// The code of all functions, one after another.
-fn code_of<'p, 'a>(
-    alloc: Global,
-    program: &'p Program,
-    base: u64,
-    addresses: &'a GlobalAddresses<'p>,
-    functions: &'a NameSet<'p>,
-    starts: &'a [u32],
-    sizes: &'a [u32],
-) -> Result<Code, NoMemory>
-    requires sound { IsSound program.now }
-    requires addresses { address_beside addresses.now ≡ global_address program.now.globals base }
-    requires functions { functions.now ≡ function_names program.now.functions }
-    requires starts { OfFunctions program.now starts.now (λ g. entry program.now g 0) }
-    requires sizes { OfFunctions program.now sizes.now (λ g. length (names_at program.now g)) }
-    ensures { IfOk result (λ code. IsResolved program.now base code) }
+fn code_of(known: &Known<'_, '_>) -> Result<Code, NoMemory>
+    requires { IsKnown known.now }
+    ensures { IfOk result (λ code. IsResolved known.now.program.now known.now.base code) }
 {
-    let mut tables = Growing::new(alloc);
-    let mut ops = Row::new(alloc);
-    'functions: for number in 0..program.functions.len() {
-        let scope = scope_of(
-            alloc, program, base, addresses, functions, starts, sizes, number,
-        )?;
-        resolve_function(&scope, &mut tables, &mut ops)?;
-    }
+    let mut tables = Growing::new(known.alloc);
+    let mut ops = Row::new(known.alloc);
+    add_functions(known, &mut tables, &mut ops)?;
     Ok(Code {
         ops: ops.into_vec(),
         constants: tables.constants.into_vec(),
@@ -95,4 +79,40 @@ fn code_of<'p, 'a>(
         edges: tables.edges.into_vec(),
         cases: tables.cases.into_vec(),
     })
+}
+
+/// Puts the ops of all functions behind none.
+fn add_functions(
+    known: &Known<'_, '_>,
+    tables: &mut Growing,
+    ops: &mut Row<Op>,
+) -> Result<(), NoMemory>
+    requires known { IsKnown known.now }
+    requires none { ops.old ≡ [] }
+    ensures front { IfOk result (λ _. IsFront known.now.program.now known.now.base ops.new (grown tables.new)) }
+    ensures place { IfOk result (λ _.
+        length ops.new ≡ entry known.now.program.now (length known.now.program.now.functions) 0) }
+{
+    'functions: for number in 0..known.program.functions.len() {
+        add_function(known, tables, ops, number)?;
+    }
+    Ok(())
+}
+
+/// Puts the ops of the function of a number behind those of the functions before it.
+fn add_function(
+    known: &Known<'_, '_>,
+    tables: &mut Growing,
+    ops: &mut Row<Op>,
+    number: usize,
+) -> Result<(), NoMemory>
+    requires known { IsKnown known.now }
+    requires number { number < length known.now.program.now.functions }
+    requires front { IsFront known.now.program.now known.now.base ops.old (grown tables.old) }
+    requires place { length ops.old ≡ entry known.now.program.now number 0 }
+    ensures front { IfOk result (λ _. IsFront known.now.program.now known.now.base ops.new (grown tables.new)) }
+    ensures place { IfOk result (λ _. length ops.new ≡ entry known.now.program.now (suc number) 0) }
+{
+    let scope = scope_of(known, number)?;
+    resolve_function(&scope, tables, ops)
 }

@@ -1,21 +1,15 @@
-ghost use Rattle.std.specs.Prelude.{◌≡◌, ◌+◌, ◌<◌, suc, map, length, slice_get, Some, IfOk};
-ghost use Rattle.hip_globals.specs.AddressesSeen.{address_beside};
-ghost use Rattle.hip_globals.specs.Values.{global_address};
-ghost use Rattle.hip_typing.specs.Numbering.{function_names};
-ghost use Rattle.hip_typing.specs.Sound.{IsSound, register_names};
+ghost use Rattle.std.specs.Prelude.{◌≡◌, ◌+◌, ◌<◌, suc, length, slice_get, Some, IfOk};
+ghost use Rattle.hip_sound.specs.Sound.{IsSound, register_names};
 ghost use Rattle.hip_names.specs.Names.{AllDiffer};
 ghost use Rattle.hip_code.specs.Entries.{entry, entry_in, entry_of};
 ghost use Rattle.hip_code.specs.Frames.{names_at, names_in};
-ghost use Rattle.hip_resolve.specs.Listed.{Lists, RegistersDiffer, SourcesOf};
-ghost use Rattle.hip_resolve.specs.Scopes.{Describes, OfFunctions};
+ghost use Rattle.hip_scope.specs.Listed.{Lists, RegistersDiffer, SourcesOf};
+ghost use Rattle.hip_scope.specs.Scopes.{Describes, IsKnown, OfFunctions};
 
-use crate::growing::{number_at, place};
 use crate::name_sets::{label_names, register_names};
-use crate::phis::{EdgeNumbers, numbers_of_phis};
-use crate::scope::Scope;
-use hip_globals::GlobalAddresses;
-use hip_ir::{Block, Function, Program};
-use hip_names::NameSet;
+use crate::phi_numbers::numbers_of_phis;
+use hip_scope::{EdgeNumbers, Known, Scope, number_at, place};
+use hip_tree::{Block, Function, Program};
 use hip_types::{NoMemory, Row};
 use std::alloc::Global;
 
@@ -118,42 +112,29 @@ fn phi_sources(alloc: Global, blocks: &[Block]) -> Result<Row<Row<EdgeNumbers<'_
 /// What the instructions of the function of a number name.
 ///
 /// It takes time and memory linear in the function's text.
-pub fn scope_of<'p, 'a>(
-    alloc: Global,
-    program: &'p Program,
-    base: u64,
-    addresses: &'a GlobalAddresses<'p>,
-    functions: &'a NameSet<'p>,
-    starts: &'a [u32],
-    sizes: &'a [u32],
-    number: usize,
-) -> Result<Scope<'p, 'a>, NoMemory>
-    requires sound { IsSound program.now }
-    requires addresses { address_beside addresses.now ≡ global_address program.now.globals base }
-    requires functions { functions.now ≡ function_names program.now.functions }
-    requires starts { OfFunctions program.now starts.now (λ g. entry program.now g 0) }
-    requires sizes { OfFunctions program.now sizes.now (λ g. length (names_at program.now g)) }
-    requires number { number < length program.now.functions }
+pub fn scope_of<'p, 'a>(known: &Known<'p, 'a>, number: usize) -> Result<Scope<'p, 'a>, NoMemory>
+    requires known { IsKnown known.now }
+    requires number { number < length known.now.program.now.functions }
     ensures describes { IfOk result (λ s. Describes s) }
-    ensures program { IfOk result (λ s. s.program.now ≡ program.now) }
-    ensures base { IfOk result (λ s. s.base ≡ base) }
+    ensures program { IfOk result (λ s. s.program.now ≡ known.now.program.now) }
+    ensures base { IfOk result (λ s. s.base ≡ known.now.base) }
     ensures number { IfOk result (λ s. s.number ≡ number) }
 {
-    match program.functions.get(number) {
+    match known.program.functions.get(number) {
         Some(function) => {
-            let registers = register_names(alloc, function)?;
-            let labels = label_names(alloc, function)?;
-            let start = number_at(starts, number);
-            let places = block_places(alloc, start, function.blocks.as_slice())?;
-            let sources = phi_sources(alloc, function.blocks.as_slice())?;
+            let registers = register_names(known.alloc, function)?;
+            let labels = label_names(known.alloc, function)?;
+            let start = number_at(known.starts, number);
+            let places = block_places(known.alloc, start, function.blocks.as_slice())?;
+            let sources = phi_sources(known.alloc, function.blocks.as_slice())?;
             Ok(Scope {
-                alloc,
-                program,
-                base,
-                addresses,
-                functions,
-                starts,
-                sizes,
+                alloc: known.alloc,
+                program: known.program,
+                base: known.base,
+                addresses: known.addresses,
+                functions: known.functions,
+                starts: known.starts,
+                sizes: known.sizes,
                 number,
                 function,
                 registers,

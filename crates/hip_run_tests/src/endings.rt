@@ -2,8 +2,8 @@
 
 use crate::machines::{checked, input, machine};
 use hip_examples::AMPLE;
+use hip_sound::Checked;
 use hip_step::{Ending, Event, Input, Machine, TrapKind};
-use hip_typing::Checked;
 use std::alloc::Global;
 use std::process::Abort;
 

@@ -5,9 +5,9 @@ ghost use Rattle.std.specs.Prelude.{◌≡◌};
 use crate::machines::{checked, input};
 use hip_crash::{Bounds, CrashLog, Pick, PickRefusal};
 use hip_examples::AMPLE;
+use hip_sound::Checked;
 use hip_step::{Input, Machine, why_not};
 use hip_types::Row;
-use hip_typing::Checked;
 use std::alloc::Global;
 use std::process::Abort;
 

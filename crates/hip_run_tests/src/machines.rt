@@ -2,9 +2,10 @@
 
 use hip_examples::AMPLE;
 use hip_parse::parse;
+use hip_sound::Checked;
 use hip_step::{Input, Machine, why_not};
 use hip_types::Row;
-use hip_typing::{Checked, check};
+use hip_typing::check;
 use std::alloc::Global;
 use std::process::Abort;
 

@@ -4,8 +4,8 @@ use crate::machines::{checked, input};
 use hip_examples::AMPLE;
 use hip_io::MemSink;
 use hip_replay::print_run;
+use hip_sound::Checked;
 use hip_step::{Ending, Input, TrapKind, why_not};
-use hip_typing::Checked;
 use std::alloc::Global;
 use std::process::Abort;
 

@@ -2,9 +2,9 @@
 
 use crate::machines::{BASE, checked, input, machine};
 use hip_examples::AMPLE;
-use hip_ir::Site;
+use hip_sound::Checked;
 use hip_step::{Ending, Event, Input, Machine, Object};
-use hip_typing::Checked;
+use hip_tree::Site;
 use std::alloc::Global;
 use std::process::Abort;
 

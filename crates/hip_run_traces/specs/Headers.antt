@@ -2,9 +2,9 @@
 -- and then valid IMAGE entries. It gives the input of a run. (This project's own.)
 use Rattle.std.specs.Prelude.{ℕ, suc, ◌+◌, ◌-◌, ◌%◌, ◌^◌, ◌&&◌, ◌==◌, nat_le, nat_lt, Bool, true, false, ℤ, List, [], ◌∷◌, ◌++◌, length, Option, Some, None, if◌then◌else◌}
 use Rattle.hip_globals.specs.Addresses.{is_base, region_size}
-use Rattle.hip_ir.specs.declared.program.Program.{Program}
-use Rattle.hip_lines.specs.declared.TheConstants.{LINE_SIZE}
-use Rattle.hip_mem.specs.Bytes.{zeros}
+use Rattle.hip_tree.specs.declared.program.Program.{Program}
+use Rattle.hip_types.specs.declared.areas.TheConstants.{LINE_SIZE}
+use Rattle.hip_types.specs.Bytes.{zeros}
 use Rattle.hip_runs.specs.Step.{some_byte}
 use Rattle.hip_runs.specs.declared.input.Input.{Input}
 use Rattle.hip_runs.specs.declared.limits.TheConstants.{MOST_NUMBERS, MOST_TURNS}

@@ -1,6 +1,6 @@
 -- Where the pieces of a trace are not the trace of a run of the program: at the first number at which they differ.
 use Rattle.std.specs.Prelude.{ℕ, ◌+◌, ◌≡◌, ◌≢◌, Bool, true, List, map, take, slice_get, Option, Some, None}
-use Rattle.hip_ir.specs.declared.program.Program.{Program}
+use Rattle.hip_tree.specs.declared.program.Program.{Program}
 use Rattle.hip_run_traces.specs.Headers.{Header, Stops, Gives, header}
 use Rattle.hip_run_traces.specs.Traces.{IsTrace}
 use Rattle.hip_run_traces.specs.declared.misfit.MisfitKind.{MisfitKind}

@@ -1,6 +1,6 @@
 -- The text of a run's trace.
 use Rattle.std.specs.Prelude.{ℕ, ◌≡◌, List, Some}
-use Rattle.hip_ir.specs.declared.program.Program.{Program}
+use Rattle.hip_tree.specs.declared.program.Program.{Program}
 use Rattle.hip_run_traces.specs.Traces.{IsTrace}
 use Rattle.hip_runs.specs.Step.{run}
 use Rattle.hip_runs.specs.declared.event.Ending.{Ending}

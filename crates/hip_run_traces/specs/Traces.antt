@@ -1,7 +1,7 @@
 -- The trace of a run.
 use Rattle.std.specs.Prelude.{◌≡◌, ℕ, zero, suc, ◌+◌, ◌/◌, true, List, [], ◌∷◌, ◌++◌, map, length, take, drop, Option, Some, None, if◌then◌else◌}
-use Rattle.hip_ir.specs.declared.program.Program.{Program}
-use Rattle.hip_lines.specs.declared.TheConstants.{LINE_SIZE}
+use Rattle.hip_tree.specs.declared.program.Program.{Program}
+use Rattle.hip_types.specs.declared.areas.TheConstants.{LINE_SIZE}
 use Rattle.hip_runs.specs.State.{State}
 use Rattle.hip_runs.specs.Step.{event, has_ended, run, some_byte}
 use Rattle.hip_runs.specs.declared.event.Ending.{Ending}

@@ -1,6 +1,6 @@
 //! The laws of traces, on definitions alone.
 
-ghost use Rattle.hip_ir.specs.declared.program.Program.{Program};
+ghost use Rattle.hip_tree.specs.declared.program.Program.{Program};
 ghost use Rattle.hip_run_traces.specs.Headers.{Gives, Stops, header};
 ghost use Rattle.hip_run_traces.specs.Misfits.{DiffersAt, FirstDiffers, IsMisfit, IsTraceOf};
 ghost use Rattle.hip_run_traces.specs.Traces.{IsTrace, entry_list, entry_of_event, header_of, trace};
@@ -12,7 +12,7 @@ ghost use Rattle.hip_trace.specs.Fits.{IsSpelled, ValuesFit};
 ghost use Rattle.hip_trace.specs.Pieces.{spelled};
 ghost use Rattle.hip_trace.specs.Texts.{lines_of};
 ghost use Rattle.hip_trace.specs.declared.entry.Entry.{Entry};
-ghost use Rattle.hip_typing.specs.Sound.{IsSound};
+ghost use Rattle.hip_sound.specs.Sound.{IsSound};
 ghost use Rattle.std.specs.Prelude.{◌≡◌, ◌+◌, ◌<◌, ◌++◌, ◌⊎◌, ◌≤◌, ℕ, Bool, List, Option, Some, All, length, map, slice_get, suc, take, true, false};
 
 /// The trace of a run's first steps has as many entries as the run counts, and the trace of more steps begins with it.

@@ -5,7 +5,7 @@ use Rattle.hip_lines.specs.Image.{byte_after, IsImage, IsPick, image_of}
 use Rattle.hip_lines.specs.Line.{Line}
 use Rattle.hip_runs.specs.declared.input.Input.{Input}
 use Rattle.hip_runs.specs.State.{StorePart, State}
-use Rattle.hip_lines.specs.declared.TheConstants.{LINE_SIZE}
+use Rattle.hip_types.specs.declared.areas.TheConstants.{LINE_SIZE}
 
 -- whether a part covers the byte at an offset of the region, and the value that it gives it
 abbrev pub covers : StorePart → ℕ → Bool

@@ -1,7 +1,7 @@
 -- The input of a run that begins with the initialisers' bytes.
 use Rattle.std.specs.Prelude.{ℕ, ℤ, List}
 use Rattle.hip_globals.specs.Initial.{region_bytes}
-use Rattle.hip_ir.specs.declared.program.Program.{Program}
+use Rattle.hip_tree.specs.declared.program.Program.{Program}
 use Rattle.hip_runs.specs.declared.input.Input.{Input}
 
 -- The region begins at a base and holds the initial bytes of the persistent globals; the run has a limit of turns,

@@ -1,7 +1,7 @@
 -- What one step does to the frames.
 use Rattle.std.specs.Prelude.{◌≡◌, suc, List, ◌∷◌, Some}
-use Rattle.hip_ir.specs.Sites.{instr_of}
-use Rattle.hip_ir.specs.declared.program.Program.{Program}
+use Rattle.hip_tree.specs.Sites.{instr_of}
+use Rattle.hip_tree.specs.declared.program.Program.{Program}
 use Rattle.hip_runs.specs.Sites.{called_number}
 use Rattle.hip_runs.specs.State.{Frame, State, site_of}
 use Rattle.hip_runs.specs.Step.{next}

@@ -9,6 +9,7 @@ pub mod Crash
 pub mod Sites
 pub mod Frames
 pub mod Entry
+pub mod Seen
 pub mod Ends
 pub mod Outputs
 pub mod Standing

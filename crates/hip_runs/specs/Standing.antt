@@ -1,9 +1,9 @@
 -- What a machine's memory and cache lines stand for: the state of a run.
 use Rattle.std.specs.Prelude.{◌≡◌, ℕ, ◌*◌, List, length}
-use Rattle.hip_ir.specs.declared.program.Program.{Program}
+use Rattle.hip_tree.specs.declared.program.Program.{Program}
 use Rattle.hip_lines.specs.Line.{Line, AreOrdered}
 use Rattle.hip_lines.specs.Pending.{Pending}
-use Rattle.hip_lines.specs.declared.TheConstants.{LINE_SIZE}
+use Rattle.hip_types.specs.declared.areas.TheConstants.{LINE_SIZE}
 use Rattle.hip_lines.specs.declared.part.Part.{Part}
 use Rattle.hip_mem.specs.Areas.{Areas, Holds, IsLaidOut, mark_of}
 use Rattle.hip_mem.specs.Memory.{Write}

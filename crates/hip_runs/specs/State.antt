@@ -1,6 +1,6 @@
 -- The states of a machine that runs a program.
 use Rattle.std.specs.Prelude.{ℕ, Bool, List, [], ◌∷◌, Option, Some, None, ℤ}
-use Rattle.hip_ir.specs.declared.site.Site.{Site}
+use Rattle.hip_tree.specs.declared.site.Site.{Site}
 use Rattle.hip_lines.specs.Line.{Line}
 use Rattle.hip_mem.specs.Memory.{Write}
 use Rattle.hip_runs.specs.declared.event.Ending.{Ending}

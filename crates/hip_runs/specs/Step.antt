@@ -3,11 +3,11 @@ use Rattle.std.specs.Prelude.{ℕ, zero, suc, ◌+◌, ◌-◌, ◌*◌, ◌/◌
 use Rattle.std.specs.Fmt.{signed_decimal}
 use Rattle.hip_types.specs.Numbers.{bits, signed, wrapped}
 use Rattle.hip_types.specs.declared.number.Width.TheVariants.{W32, W64}
-use Rattle.hip_ir.specs.declared.program.Program.{Program}
+use Rattle.hip_tree.specs.declared.program.Program.{Program}
 use Rattle.hip_lines.specs.Line.{Line, fresh_lines}
-use Rattle.hip_mem.specs.Bytes.{little_endian, zeros}
-use Rattle.hip_mem.specs.Memory.{stack_start}
-use Rattle.hip_typing.specs.Numbering.{function_number}
+use Rattle.hip_types.specs.Bytes.{little_endian, zeros}
+use Rattle.hip_types.specs.Areas.{stack_start}
+use Rattle.hip_sound.specs.Numbering.{function_number}
 use Rattle.hip_runs.specs.declared.event.Ending.{Ending}
 use Rattle.hip_runs.specs.declared.event.Ending.TheVariants.{Stop, Trap, Cut}
 use Rattle.hip_runs.specs.declared.event.Event.{Event}
@@ -18,7 +18,7 @@ use Rattle.hip_runs.specs.Places.{code_at, end_at}
 use Rattle.hip_runs.specs.Actions.{Action, Traps, Assigns, Allocates, Stores, Flushes, Persists, Fences, Asserts, Prints, Reads, Calls, Jumps, Returns, Deed, in_region, deed_of}
 use Rattle.hip_runs.specs.StoredParts.Persistence.{stored_lines, flushes_lines, flushed_lines, fenced_lines}
 use Rattle.hip_runs.specs.declared.event.Event.TheVariants as events
-use Rattle.hip_lines.specs.declared.TheConstants.{LINE_SIZE}
+use Rattle.hip_types.specs.declared.areas.TheConstants.{LINE_SIZE}
 
 -- the state of a world, frames from the top one down, cache lines and counts
 abbrev pub state : World → List Frame → List (Line StorePart) → Counts → State

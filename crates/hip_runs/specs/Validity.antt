@@ -1,7 +1,7 @@
 -- The inputs of runs, and those that are valid for a program.
 use Rattle.std.specs.Prelude.{◌≡◌, ◌≤◌, ◌<◌, All, length, FitsSigned}
 use Rattle.std.specs.Int.{w64}
-use Rattle.hip_ir.specs.declared.program.Program.{Program}
+use Rattle.hip_tree.specs.declared.program.Program.{Program}
 use Rattle.hip_globals.specs.Addresses.{IsBase, region_size}
 use Rattle.hip_runs.specs.declared.input.Input.{Input}
 use Rattle.hip_runs.specs.declared.limits.TheConstants.{MOST_NUMBERS, MOST_TURNS}

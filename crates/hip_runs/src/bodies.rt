@@ -3,7 +3,7 @@
 ghost use Rattle.std.specs.Prelude.{◌≡◌};
 ghost use Rattle.hip_runs.specs.Ends.{longest, longest_body};
 
-use hip_ir::{Block, Program};
+use hip_tree::{Block, Program};
 
 /// The length of the longest body of these blocks.
 fn longest_body(blocks: &[Block]) -> usize

@@ -1,4 +1,4 @@
-use hip_ir::Site;
+use hip_tree::Site;
 
 /// Why a run stopped short.
 #[derive(Clone, Copy, PartialEq, Eq)]

@@ -1,7 +1,7 @@
 //! Laws of what a run finds: its reports and its marks.
 
-ghost use Rattle.hip_ir.specs.declared.program.Program.{Program};
-ghost use Rattle.hip_ir.specs.declared.site.Site.{Site};
+ghost use Rattle.hip_tree.specs.declared.program.Program.{Program};
+ghost use Rattle.hip_tree.specs.declared.site.Site.{Site};
 ghost use Rattle.hip_runs.specs.Found.Marks.{IsFound, hit, pointed, same_mark};
 ghost use Rattle.hip_runs.specs.StoredParts.Parts.{In};
 ghost use Rattle.hip_runs.specs.Found.Reports.{reports};

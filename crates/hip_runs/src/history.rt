@@ -1,7 +1,7 @@
 //! Laws of runs: what the cache lines tell of the steps before, and which contents a crash may leave.
 
-ghost use Rattle.hip_ir.specs.declared.program.Program.{Program};
-ghost use Rattle.hip_lines.specs.declared.TheConstants.{LINE_SIZE};
+ghost use Rattle.hip_tree.specs.declared.program.Program.{Program};
+ghost use Rattle.hip_types.specs.declared.areas.TheConstants.{LINE_SIZE};
 ghost use Rattle.hip_runs.specs.Crash.{IsCrashImage, IsCrashPick, crash_image};
 ghost use Rattle.hip_runs.specs.StoredParts.Parts.{PartOf};
 ghost use Rattle.hip_runs.specs.StoredParts.Since.{stores, fences, FencedSince, IsFirstFlush, IsFlushedThenFenced, IsOfStore, IsPartAt, IsDurableAt};

@@ -1,6 +1,6 @@
 //! Laws of crash images: line by line, and as what a further run begins with; and of the state at an entry of a trace.
 
-ghost use Rattle.hip_ir.specs.declared.program.Program.{Program};
+ghost use Rattle.hip_tree.specs.declared.program.Program.{Program};
 ghost use Rattle.hip_lines.specs.Image.{byte_after};
 ghost use Rattle.hip_lines.specs.Line.{Line};
 ghost use Rattle.hip_runs.specs.Crash.{IsCrashImage, byte_of, covers, is_crash_image};

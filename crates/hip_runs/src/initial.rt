@@ -5,8 +5,8 @@ ghost use Rattle.hip_runs.specs.Validity.{IsValid};
 
 use crate::input::Input;
 use crate::limits::{MOST_NUMBERS, MOST_TURNS};
+use hip_sound::Checked;
 use hip_types::{NoMemory, Row};
-use hip_typing::Checked;
 use std::alloc::Global;
 
 /// The input of a run that begins with the initialisers' bytes.

@@ -1,7 +1,7 @@
 //! The laws of runs, on definitions alone.
 
 ghost use Rattle.std.specs.Prelude.{ℕ};
-ghost use Rattle.hip_ir.specs.declared.program.Program.{Program};
+ghost use Rattle.hip_tree.specs.declared.program.Program.{Program};
 ghost use Rattle.hip_runs.specs.Ends.{Ends};
 ghost use Rattle.hip_runs.specs.StoredParts.History.{HasHistory};
 ghost use Rattle.hip_runs.specs.Step.{run};

@@ -1,6 +1,6 @@
 //! Laws of loose parts of stores: the loose bytes of a range tell them, and so the reports of a check.
 
-ghost use Rattle.hip_ir.specs.declared.program.Program.{Program};
+ghost use Rattle.hip_tree.specs.declared.program.Program.{Program};
 ghost use Rattle.hip_lines.specs.Line.{Line};
 ghost use Rattle.hip_lines.specs.declared.part.LooseByte.{LooseByte};
 ghost use Rattle.hip_runs.specs.StoredParts.Parts.{In};

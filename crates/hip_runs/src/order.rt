@@ -1,7 +1,7 @@
 //! Laws of the order of a run: of the parts in a cache line, of flushes and fences, and of calls and the frames that
 //! they make.
 
-ghost use Rattle.hip_ir.specs.declared.program.Program.{Program};
+ghost use Rattle.hip_tree.specs.declared.program.Program.{Program};
 ghost use Rattle.hip_runs.specs.StoredParts.After.{lines_after};
 ghost use Rattle.hip_runs.specs.Frames.{Moves};
 ghost use Rattle.hip_runs.specs.Outputs.{ending_by, printed_by};

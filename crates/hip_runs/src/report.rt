@@ -1,5 +1,5 @@
 use crate::event::Object;
-use hip_ir::Site;
+use hip_tree::Site;
 use hip_types::Row;
 
 /// What a store lacks to be durable, as the Hippocrates paper distinguishes it.

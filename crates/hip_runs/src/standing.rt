@@ -2,15 +2,15 @@
 
 ghost use Rattle.hip_globals.specs.Addresses.{volatile_end};
 ghost use Rattle.hip_globals.specs.Initial.{volatile_bytes};
-ghost use Rattle.hip_ir.specs.declared.program.Program.{Program};
-ghost use Rattle.hip_ir.specs.declared.site.Site.{Site};
+ghost use Rattle.hip_tree.specs.declared.program.Program.{Program};
+ghost use Rattle.hip_tree.specs.declared.site.Site.{Site};
 ghost use Rattle.hip_lines.specs.Line.{Line, change_range, fresh_lines, stored};
 ghost use Rattle.hip_lines.specs.Parts.{none_pending_all, pending_fenced_all, pending_flushed_all, pending_stored};
 ghost use Rattle.hip_lines.specs.Pending.{Pending};
 ghost use Rattle.hip_lines.specs.declared.part.Part.{Part};
 ghost use Rattle.hip_mem.specs.Areas as areas;
 ghost use Rattle.hip_mem.specs.Areas.{Areas};
-ghost use Rattle.hip_mem.specs.declared.TheConstants.{VOLATILE_START};
+ghost use Rattle.hip_types.specs.declared.areas.TheConstants.{VOLATILE_START};
 ghost use Rattle.hip_runs.specs.Actions.{are_valid};
 ghost use Rattle.hip_runs.specs.StoredParts.Persistence.{fenced_lines, flush_line, part_of_store};
 ghost use Rattle.hip_runs.specs.StoredParts.Shown.{shown};

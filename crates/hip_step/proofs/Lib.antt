@@ -1,13 +1,4 @@
-pub mod Slots
-pub mod Arms
-pub mod BranchArms
-pub mod CallArms
-pub mod MemoryArms
-pub mod OtherArms
-pub mod Known
-pub mod Fetch
 pub mod Told
-pub mod NamedPointers
 pub mod Runs
 pub mod StartStands
 pub mod Rooms

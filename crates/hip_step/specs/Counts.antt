@@ -1,6 +1,6 @@
 -- How many ops blocks have.
 use Rattle.std.specs.Prelude.{ℕ, List, length}
-use Rattle.hip_ir.specs.declared.block.Block.{Block}
+use Rattle.hip_tree.specs.declared.block.Block.{Block}
 use Rattle.hip_code.specs.Entries.{entry_in}
 
 -- those of each one's body, and its end

@@ -1,6 +1,6 @@
 -- Why an input is not valid for a program.
 use Rattle.std.specs.Prelude.{cond, nat_eq, nat_le, length, Option, Some, None}
-use Rattle.hip_ir.specs.declared.program.Program.{Program}
+use Rattle.hip_tree.specs.declared.program.Program.{Program}
 use Rattle.hip_globals.specs.Addresses.{is_base, region_size}
 use Rattle.hip_runs.specs.declared.input.Input.{Input}
 use Rattle.hip_runs.specs.declared.input.InputFault.{InputFault}

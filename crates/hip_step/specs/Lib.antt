@@ -1,12 +1,4 @@
-pub mod Puts
-pub mod Blocks
-pub mod Placed
-pub mod Below
-pub mod Stands
-pub mod Acts
-pub mod Seen
 pub mod Faults
 pub mod Running
 pub mod Given
-pub mod Pointing
 pub mod Counts

@@ -1,11 +1,11 @@
 ghost use Rattle.std.specs.Prelude.{◌≡◌, ◌+◌, ◌<◌, ◌≤◌, length, IfOk};
-ghost use Rattle.hip_typing.specs.Paths.{names_of};
-ghost use Rattle.hip_typing.specs.Registers.{registers_of};
+ghost use Rattle.hip_sound.specs.Paths.{names_of};
+ghost use Rattle.hip_sound.specs.Registers.{registers_of};
 ghost use Rattle.hip_code.specs.Entries.{entry, entry_of};
 ghost use Rattle.hip_code.specs.Frames.{names_at};
 ghost use Rattle.hip_step.specs.Counts.{op_count};
 
-use hip_ir::{Block, Function, Program};
+use hip_tree::{Block, Function, Program};
 use hip_types::NoMemory;
 
 /// Where a function begins: its number, the place of its first op, and room for its registers.

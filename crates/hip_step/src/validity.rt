@@ -4,7 +4,7 @@ ghost use Rattle.hip_step.specs.Faults.{first_fault};
 
 use hip_globals::is_base;
 use hip_runs::{Input, InputFault, MOST_NUMBERS, MOST_TURNS};
-use hip_typing::Checked;
+use hip_sound::Checked;
 
 /// Why the input is not valid for the program, if it is not: the first of these faults that it has, in their order.
 pub fn why_not(checked: &Checked, input: &Input) -> Option<InputFault>

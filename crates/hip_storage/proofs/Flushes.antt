@@ -2,7 +2,7 @@
 use Rattle.std.proofs.Common.{inr, ◌≡◌, ℕ, ◌+◌, ◌-◌, ◌*◌, ◌/◌, ◌<◌, ◌≤◌, true, cond, ◌&&◌, List, length, None, Some, sym, ap, ap₂, ◌∙◌, lt-ltb, arith}
 use Rattle.hip_lines.specs.Parts.{pending_flushed_all}
 use Rattle.hip_lines.specs.Pending.{Pending}
-use Rattle.hip_lines.specs.declared.TheConstants.{LINE_SIZE}
+use Rattle.hip_types.specs.declared.areas.TheConstants.{LINE_SIZE}
 use Rattle.hip_lines.specs.declared.part.Part.{Part}
 use Rattle.hip_mem.specs.Laws.AreasLaws.{fits-are_valid}
 use Rattle.hip_runs.specs.Actions.{is_within}

@@ -1,7 +1,7 @@
 -- The low bytes of a number are its remainder by a power of 256.
 use Rattle.std.proofs.Common.{◌≡◌, ℕ, zero, suc, ◌+◌, ◌*◌, ◌/◌, ◌%◌, ◌^◌, ◌<◌, refl, sym, ap, ◌∙◌, arith}
 use Rattle.std.proofs.Math.Arith.{mod-mul}
-use Rattle.hip_mem.specs.Bytes.{little_endian, bytes_of}
+use Rattle.hip_types.specs.Bytes.{little_endian, bytes_of}
 
 positive : (n : ℕ) → 0 < 256 ^ n
 positive zero = omega arith

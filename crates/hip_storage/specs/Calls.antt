@@ -1,7 +1,7 @@
 -- What the calls of a storage have done where they were not refused, and what a refusal says.
 use Rattle.std.specs.Prelude.{◌≡◌, ℕ, Option, Some, None}
 use Rattle.hip_mem.specs.Areas.{bytes_in, block_address}
-use Rattle.hip_mem.specs.Bytes.{little_endian}
+use Rattle.hip_types.specs.Bytes.{little_endian}
 use Rattle.hip_runs.specs.declared.event.Event.{Event}
 use Rattle.hip_runs.specs.declared.event.TrapKind.{TrapKind}
 use Rattle.hip_storage.specs.Contents.{Contents, access_trap, block_trap, range_trap, after_store, after_push, after_flush, after_fence, store_event, flush_event, persist_event}

@@ -1,15 +1,15 @@
 -- What contracts see of the storage of a run, and what the actions of a step do to it.
 use Rattle.std.specs.Prelude.{ℕ, ◌-◌, ◌/◌, Bool, cond, nat_le, List, [], length, Option, Some, None, option_map}
-use Rattle.hip_ir.specs.declared.program.Program.{Program}
+use Rattle.hip_tree.specs.declared.program.Program.{Program}
 use Rattle.hip_mem.specs.Areas as areas
 use Rattle.hip_mem.specs.Areas.{Areas, after_write, are_valid, pushed_mark}
-use Rattle.hip_mem.specs.Bytes.{bytes_of, little_endian}
-use Rattle.hip_mem.specs.Memory.{stack_end}
+use Rattle.hip_types.specs.Bytes.{bytes_of, little_endian}
+use Rattle.hip_types.specs.Areas.{stack_end}
 use Rattle.hip_mem.specs.declared.refusal.MemTrap.{MemTrap}
 use Rattle.hip_mem.specs.declared.refusal.MemTrap.TheVariants as mem_traps
 use Rattle.hip_lines.specs.Parts.{pending_stored, pending_flushed_all, pending_fenced_all, none_pending_all}
 use Rattle.hip_lines.specs.Pending.{Pending}
-use Rattle.hip_lines.specs.declared.TheConstants.{LINE_SIZE}
+use Rattle.hip_types.specs.declared.areas.TheConstants.{LINE_SIZE}
 use Rattle.hip_lines.specs.declared.part.Part.{Part}
 use Rattle.hip_globals.specs.Initial.{volatile_bytes}
 use Rattle.hip_runs.specs.Actions.{Flushes, Persists, in_region}

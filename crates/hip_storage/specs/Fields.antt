@@ -1,7 +1,7 @@
 -- What the fields of a storage stand for.
 use Rattle.std.specs.Prelude.{◌≡◌, ◌*◌, ◌≤◌, ◌^◌, length}
 use Rattle.hip_types.specs.declared.limits.TheConstants.{LARGEST_REGION}
-use Rattle.hip_lines.specs.declared.TheConstants.{LINE_SIZE}
+use Rattle.hip_types.specs.declared.areas.TheConstants.{LINE_SIZE}
 use Rattle.hip_storage.specs.Contents.{Contents}
 use Rattle.hip_storage.specs.declared.storage.Storage.TheInside.{Inside}
 

@@ -1,10 +1,11 @@
 -- What the storage of a run stands for: its memory and its cache lines.
 use Rattle.std.specs.Prelude.{◌≡◌, ℕ, Bool, cond, ◌+◌, List, length}
-use Rattle.hip_ir.specs.declared.program.Program.{Program}
+use Rattle.hip_tree.specs.declared.program.Program.{Program}
 use Rattle.hip_globals.specs.Addresses.{volatile_end}
 use Rattle.hip_globals.specs.Initial.{volatile_bytes}
 use Rattle.hip_lines.specs.Line.{Line}
-use Rattle.hip_mem.specs.Memory.{Write, volatile_start}
+use Rattle.hip_mem.specs.Memory.{Write}
+use Rattle.hip_types.specs.Areas.{volatile_start}
 use Rattle.hip_runs.specs.Actions.{Action}
 use Rattle.hip_runs.specs.Standing.{HoldsMemory, HoldsLines}
 use Rattle.hip_runs.specs.State.{Counts, Frame, State, StorePart, World}

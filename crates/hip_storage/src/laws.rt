@@ -1,9 +1,10 @@
 //! What each call of a storage does is the action of a run, where the storage is that of the run.
 
 ghost use Rattle.std.specs.Prelude.{◌≡◌, ℕ, ◌%◌, ◌<◌, ◌≤◌, ◌∷◌, true, false, cond, List, Option, Some};
-ghost use Rattle.hip_ir.specs.declared.program.Program.{Program};
-ghost use Rattle.hip_mem.specs.Bytes.{bytes_of, little_endian};
-ghost use Rattle.hip_mem.specs.Memory.{bytes_at, stack_start};
+ghost use Rattle.hip_tree.specs.declared.program.Program.{Program};
+ghost use Rattle.hip_types.specs.Bytes.{bytes_of, little_endian};
+ghost use Rattle.hip_mem.specs.Memory.{bytes_at};
+ghost use Rattle.hip_types.specs.Areas.{stack_start};
 ghost use Rattle.hip_runs.specs.Actions.{Action, Allocates, Asserts, Assigns, Fences, Flushes, Persists, Returns, Stores, Traps, accessed, allocated, flushing, in_region, memory_of};
 ghost use Rattle.hip_runs.specs.State.{Frame};
 ghost use Rattle.hip_runs.specs.declared.event.Ending.TheVariants.{Trap};

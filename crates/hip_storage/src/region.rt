@@ -1,18 +1,19 @@
 ghost use Rattle.std.specs.Prelude.{◌≡◌, ◌+◌, ◌-◌, ◌*◌, ◌/◌, ◌^◌, ◌<◌, ◌≤◌, length, IfErr, OnOk, OnErr, None, Some, option_map};
 ghost use Rattle.std.specs.Bool.{OnTrue};
 ghost use Rattle.hip_types.specs.declared.limits.TheConstants.{LARGEST_REGION};
-ghost use Rattle.hip_lines.specs.declared.TheConstants.{LINE_SIZE};
+ghost use Rattle.hip_types.specs.declared.areas.TheConstants.{LINE_SIZE};
 ghost use Rattle.hip_lines.specs.Parts.{pending_stored};
 ghost use Rattle.hip_mem.specs.Areas.{access_trap, after_write};
-ghost use Rattle.hip_mem.specs.Bytes.{little_endian, bytes_of};
+ghost use Rattle.hip_types.specs.Bytes.{little_endian, bytes_of};
 ghost use Rattle.hip_runs.specs.Actions.{is_within};
 ghost use Rattle.hip_storage.specs.Calls.{IsRefusedFor};
 ghost use Rattle.hip_storage.specs.Contents.{kind_of, with_fence};
 
 use crate::refusal::StorageRefusal;
-use hip_lines::{LINE_SIZE, Lines};
+use hip_lines::Lines;
 use hip_mem::{MemTrap, Ram, StoreRefusal};
 use hip_runs::{Event, TrapKind};
+use hip_types::LINE_SIZE;
 
 /// The trap of a run that a refusal of the memory is.
 #[inline(always)]

@@ -1,16 +1,16 @@
 ghost use Rattle.std.specs.Prelude.{◌≡◌, ◌*◌, ◌/◌, ◌<◌, ◌≤◌, [], length, IfOk, IfErr, OnErr};
 ghost use Rattle.hip_mem.specs.Areas.{IsLaidOut, mark_of};
-ghost use Rattle.hip_mem.specs.Memory.{stack_start};
+ghost use Rattle.hip_types.specs.Areas.{stack_start};
 ghost use Rattle.hip_runs.specs.Step.{start};
 ghost use Rattle.hip_runs.specs.Validity.{IsValid};
 
 use crate::refusal::StorageRefusal;
 use crate::region::{first_line, is_inside, kind_of, lines_size, low_bytes, note, put, with_fence};
-use hip_lines::{LINE_SIZE, Lines};
+use hip_lines::Lines;
 use hip_mem::{PushRefusal, Ram};
 use hip_runs::{Event, Input, TrapKind};
-use hip_types::NoMemory;
-use hip_typing::Checked;
+use hip_sound::Checked;
+use hip_types::{LINE_SIZE, NoMemory};
 use std::alloc::Global;
 use std::marker::Model;
 

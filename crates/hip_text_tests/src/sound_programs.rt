@@ -2,10 +2,11 @@
 
 ghost use Rattle.std.specs.Prelude.{◌≡◌, length};
 
+use hip_copies::same;
 use hip_examples::AMPLE;
-use hip_ir::same;
 use hip_parse::parse;
-use hip_typing::{Checked, check};
+use hip_sound::Checked;
+use hip_typing::check;
 use std::alloc::Global;
 use std::process::Abort;
 

@@ -1,9 +1,10 @@
 //! Programs that are built as trees: copies, comparisons, and instructions at sites.
 
+use hip_copies::{copy, copy_const, same, same_const};
 use hip_examples::AMPLE;
-use hip_ir::{
+use hip_tree::{
     Arg, Block, Const, ConstGep, End, Function, GlobalVar, Instr, Operand, Phi, Program, Site,
-    copy, copy_const, instr_at, same, same_const,
+    instr_at,
 };
 use hip_types::{Bits, Link, Name, Row, Scalar, Ty, Width};
 use std::alloc::Global;

@@ -6,10 +6,10 @@ use Rattle.std.specs.List.{filter, list_any}
 use Rattle.std.proofs.Math.ListN.{drop_of_length-le}
 use Rattle.std.proofs.lemmas.List.{drop_more}
 use Rattle.std.proofs.lemmas.List.Folds.{list_any-append}
-use Rattle.hip_ir.specs.Sites.{has_site, instr_of, sites_of}
-use Rattle.hip_ir.specs.declared.instr.Instr.{Instr}
-use Rattle.hip_ir.specs.declared.program.Program.{Program}
-use Rattle.hip_ir.specs.declared.site.Site.{Site}
+use Rattle.hip_tree.specs.Sites.{has_site, instr_of, sites_of}
+use Rattle.hip_tree.specs.declared.instr.Instr.{Instr}
+use Rattle.hip_tree.specs.declared.program.Program.{Program}
+use Rattle.hip_tree.specs.declared.site.Site.{Site}
 use Rattle.hip_repairs.specs.CloneNumbers.{clone_numbers, numbered_from}
 use Rattle.hip_repairs.specs.Direct.{direct, stores_outside}
 use Rattle.hip_repairs.specs.Laws.SiteOrder.{filtered_has, filtered_in, has_in, site_in}
@@ -19,7 +19,7 @@ use Rattle.hip_repairs.specs.declared.plan.Plan.{Plan}
 use Rattle.hip_runs.specs.Laws.Members.{equal_true}
 use Rattle.hip_runs.specs.Places.{blocks_of}
 use Rattle.hip_thin_commands.specs.Spared.{has_original, is_spared, is_spared_by, spared_count}
-use Rattle.hip_vol.specs.LowStores.{least_levels, low_stores, stores_low}
+use Rattle.hip_levels.specs.LowStores.{least_levels, low_stores, stores_low}
 
 -- ---- sets of stores, by the lists of their sites
 

@@ -7,8 +7,8 @@ use Rattle.hip_answers.specs.declared.status.Status.TheVariants as statuses
 use Rattle.hip_io.specs.Sinks.{AppendsAll, AppendsPrefix, SinkState, Writes}
 use Rattle.hip_io.specs.declared.sink.Put.{Put}
 use Rattle.hip_io.specs.declared.sink.Put.TheVariants as puts
-use Rattle.hip_ir.specs.Show.{show}
-use Rattle.hip_ir.specs.declared.program.Program.{Program}
+use Rattle.hip_grammar.specs.Show.{show}
+use Rattle.hip_tree.specs.declared.program.Program.{Program}
 use Rattle.hip_repair_answers.specs.Laws.Repairs.{Makes}
 use Rattle.hip_repairs.specs.Choice.{Contains, plan_for}
 use Rattle.hip_repairs.specs.CloneNumbers.{clone_numbers}
@@ -23,7 +23,7 @@ use Rattle.hip_thin_commands.specs.Thin.{HasThinned, IsThinned, thin_counts, thi
 use Rattle.hip_thin_commands.specs.Thinning.{IsThinnedFor}
 use Rattle.hip_thin_commands.specs.declared.thinning.Thinned.{Thinned}
 use Rattle.hip_trace_loading.specs.Runs.{AnswersOnRun}
-use Rattle.hip_typing.specs.Sound.{IsSound}
+use Rattle.hip_sound.specs.Sound.{IsSound}
 
 -- a plan has each of its own sites
 pub itself : (plan : Plan) → Contains plan plan

@@ -1,14 +1,14 @@
 -- The stores of cloned functions that get no flush by cloning since they are low, though they are not direct.
 use Rattle.std.specs.Prelude.{ℕ, Bool, ◌&&◌, not, nat_eq, List, length}
 use Rattle.std.specs.List.{filter, list_any}
-use Rattle.hip_ir.specs.Sites.{has_site, sites_of}
-use Rattle.hip_ir.specs.declared.program.Program.{Program}
-use Rattle.hip_ir.specs.declared.site.Site.{Site}
+use Rattle.hip_tree.specs.Sites.{has_site, sites_of}
+use Rattle.hip_tree.specs.declared.program.Program.{Program}
+use Rattle.hip_tree.specs.declared.site.Site.{Site}
 use Rattle.hip_repairs.specs.Direct.{direct}
 use Rattle.hip_repairs.specs.Repaired.{cloned}
 use Rattle.hip_repairs.specs.declared.plan.CloneOf.{CloneOf}
 use Rattle.hip_repairs.specs.declared.plan.Plan.{Plan}
-use Rattle.hip_vol.specs.LowStores.{low_stores}
+use Rattle.hip_levels.specs.LowStores.{low_stores}
 
 -- A low store of a function that is cloned, neither direct nor one that the plan puts a flush after: the clone that
 -- `repair` makes flushes it, and the one that `thin` makes does not.

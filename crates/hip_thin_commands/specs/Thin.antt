@@ -3,9 +3,9 @@ use Rattle.std.specs.Prelude.{ℕ, ◌≡◌, List, ◌++◌, length, codes}
 use Rattle.hip_answers.specs.Answers.{Answer}
 use Rattle.hip_answers.specs.declared.status.Status.TheVariants.{Done}
 use Rattle.hip_io.specs.Cabinets.{CabinetState}
-use Rattle.hip_ir.specs.Show.{show}
-use Rattle.hip_ir.specs.declared.program.Program.{Program}
-use Rattle.hip_repair_answers.specs.Answers.{TraceAnswers}
+use Rattle.hip_grammar.specs.Show.{show}
+use Rattle.hip_tree.specs.declared.program.Program.{Program}
+use Rattle.hip_answers.specs.RunAnswers.{TraceAnswers}
 use Rattle.hip_repair_answers.specs.Cured.{IsCuredBy}
 use Rattle.hip_repairs.specs.Choice.{plan_for}
 use Rattle.hip_repairs.specs.CloneNumbers.{clone_numbers}
@@ -15,7 +15,7 @@ use Rattle.hip_report_lines.specs.Counts.{count_line, repair_counts}
 use Rattle.hip_runs.specs.declared.input.Input.{Input}
 use Rattle.hip_runs.specs.declared.report.Findings.{Findings}
 use Rattle.hip_thin_commands.specs.Spared.{spared_count}
-use Rattle.hip_vol.specs.LowStores.{low_stores}
+use Rattle.hip_levels.specs.LowStores.{low_stores}
 
 -- the program repaired by the plan for what a run found; the low stores get no flush by cloning
 abbrev pub thinned_for : Program → Findings → Program

@@ -1,6 +1,6 @@
 -- The repair for what a run found, whose clones do not flush the low stores.
 use Rattle.std.specs.Prelude.{◌≡◌}
-use Rattle.hip_ir.specs.declared.program.Program.{Program}
+use Rattle.hip_tree.specs.declared.program.Program.{Program}
 use Rattle.hip_repairs.specs.Choice.{plan_for}
 use Rattle.hip_repairs.specs.CloneNumbers.{clone_numbers}
 use Rattle.hip_runs.specs.declared.report.Findings.{Findings}

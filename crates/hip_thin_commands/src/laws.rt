@@ -1,16 +1,16 @@
 //! Laws of the answers.
 
-ghost use Rattle.hip_ir.specs.declared.program.Program.{Program};
-ghost use Rattle.hip_repair_answers.specs.Laws.{AnswersRuns, FaultsHideNone, GivesOne};
+ghost use Rattle.hip_tree.specs.declared.program.Program.{Program};
+ghost use Rattle.hip_answers.specs.RunLaws.{AnswersRuns, FaultsHideNone, GivesOne};
 ghost use Rattle.hip_runs.specs.Found.Marks.{IsFound};
 ghost use Rattle.hip_runs.specs.Validity.{IsValid};
 ghost use Rattle.hip_runs.specs.declared.input.Input.{Input};
 ghost use Rattle.hip_runs.specs.declared.report.Findings.{Findings};
 ghost use Rattle.hip_thin_commands.specs.Thin.{HasThinned, IsThinned};
-ghost use Rattle.hip_typing.specs.Sound.{IsSound};
+ghost use Rattle.hip_sound.specs.Sound.{IsSound};
 
+use hip_levels::low_stores_are_quiet;
 use hip_repair_answers::plans_cure;
-use hip_vol::low_stores_are_quiet;
 
 /// The program that is repaired for what a run found, whose clones do not flush the low stores, does no harm, is clean
 /// on the run's input, has its hoisted calls covered, is sound, and its canonical text reads as it.

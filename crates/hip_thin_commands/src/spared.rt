@@ -2,17 +2,17 @@
 
 ghost use Rattle.std.specs.Prelude.{◌≡◌, ℕ, nat_eq, length, IfOk};
 ghost use Rattle.std.specs.List.{filter, list_any};
-ghost use Rattle.hip_ir.specs.Sites.{sites_of};
+ghost use Rattle.hip_tree.specs.Sites.{sites_of};
 ghost use Rattle.hip_repairs.specs.CloneNumbers.{clone_numbers};
 ghost use Rattle.hip_thin_commands.specs.Spared.{has_original, is_spared_by, spared_count};
-ghost use Rattle.hip_vol.specs.LowStores.{low_stores};
+ghost use Rattle.hip_levels.specs.LowStores.{low_stores};
 
 use hip_fix::direct_stores;
 use hip_insertions::SiteSet;
-use hip_ir::Site;
 use hip_repairs::{CloneOf, Plan};
+use hip_sound::Checked;
+use hip_tree::Site;
 use hip_types::NoMemory;
-use hip_typing::Checked;
 use indexmap::IndexSet;
 use std::alloc::Global;
 

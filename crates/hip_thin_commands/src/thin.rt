@@ -15,9 +15,9 @@ use hip_answers::{Status, finish, refuse};
 use hip_io::{Cabinet, Put, Sink};
 use hip_repairs::Plan;
 use hip_report_lines::{put_count, put_repair_counts};
+use hip_sound::Checked;
 use hip_trace_loading::{Replayed, load_run};
 use hip_types::NoMemory;
-use hip_typing::Checked;
 use hip_write::write;
 use std::alloc::Global;
 

@@ -5,12 +5,12 @@ ghost use Rattle.hip_thin_commands.specs.Thinning.{IsThinnedFor};
 
 use crate::spared::spared_count;
 use hip_fix::apply_skipping;
+use hip_levels::quiet_stores;
 use hip_plan::plan;
 use hip_repairs::{Plan, Repaired};
 use hip_runs::Findings;
+use hip_sound::Checked;
 use hip_types::NoMemory;
-use hip_typing::Checked;
-use hip_vol::quiet_stores;
 use std::alloc::Global;
 
 /// A plan, the program that is repaired by it, and how many stores its clones do not flush though they are not direct.

@@ -1,1 +1,5 @@
 mod OneAnswer
+mod WhatIsAnswered
+mod OneRun
+mod OnFiles
+mod Orders

@@ -7,7 +7,7 @@ use Rattle.hip_crash_commands.specs.Laws.{CrashesAreOne}
 use Rattle.hip_demo.specs.Laws.{DemosAreOne}
 use Rattle.hip_many_commands.specs.Laws.{ManyAreOne}
 use Rattle.hip_repair_answers.specs.Answers.{HasChecked, HasRepaired, HasRerun}
-use Rattle.hip_repair_answers.specs.Laws.{GivesOne}
+use Rattle.hip_answers.specs.RunLaws.{GivesOne}
 use Rattle.hip_thin_commands.specs.Thin.{HasThinned}
 use Rattle.hip_tool.specs.Call.{AnswersTo, IsMisused}
 use Rattle.hip_words.specs.declared.order.Order.{Order}

@@ -1,12 +1,14 @@
 //! The commands of hippo.
 #![tactic(auto)]
 
+mod answered;
 mod call;
 mod laws;
 
+pub use answered::{headline, orders_are_answered};
 pub use call::hippo;
 pub use hip_answers::{FileRole, Status};
-pub use hip_loading::ProgramRefusal;
+pub use hip_program_files::ProgramRefusal;
 pub use hip_run_traces::MisfitKind;
 pub use hip_runs::TrapKind;
 pub use hip_words::{Order, WordsRefusal, read_words};

@@ -1,10 +1,11 @@
 //! Functions that make a program unsound: names, types, edges and paths inside them.
 
 use crate::refused_programs::{RefusedProgram, assert_refused, assert_refused_before_main};
-use hip_ir::Site;
 use hip_parse::parse;
+use hip_sound::{Place, TypeFault, TypeRefusal};
+use hip_tree::Site;
 use hip_types::Row;
-use hip_typing::{Place, TypeFault, TypeRefusal, check};
+use hip_typing::check;
 use std::alloc::Global;
 use std::process::Abort;
 

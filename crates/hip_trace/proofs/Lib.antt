@@ -1,3 +1,4 @@
 pub mod HeldLaws
 pub mod ReaderLaws
 pub mod EndLaws
+pub mod FirstLines

@@ -2,7 +2,8 @@ pub mod Entries
 pub mod Fits
 pub mod Fronts
 pub mod Laws
+pub mod Lines
 pub mod Pieces
+pub mod Reads
 pub mod Seen
 pub mod Texts
-pub mod Reads

@@ -6,6 +6,7 @@ mod fields;
 mod front;
 mod held;
 mod laws;
+mod line;
 mod numbers;
 mod reader;
 mod refusal;

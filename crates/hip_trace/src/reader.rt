@@ -1,6 +1,6 @@
 //! The entries of a file, one after the other.
 
-ghost use Rattle.std.specs.Prelude.{◌≡◌, ◌≤◌, [], length, IsTrue};
+ghost use Rattle.std.specs.Prelude.{◌≡◌, ◌+◌, ◌≤◌, ◌<◌, [], drop, length, IsTrue};
 ghost use Rattle.hip_trace.specs.Fronts.{AnswersFront, AnswersPiece, IsFrontOf};
 ghost use Rattle.hip_trace.specs.Reads.{ReadsNext, ReadsOn, one_more};
 ghost use Rattle.hip_trace.specs.declared.refusal.Progress.TheVariants.{Reading};
@@ -8,6 +8,7 @@ ghost use Rattle.hip_trace.specs.declared.refusal.Progress.TheVariants.{Reading}
 use crate::entry::Entry;
 use crate::front::{Front, find_front};
 use crate::held::Held;
+use crate::line::first_line;
 use crate::refusal::{Progress, TraceRefusal};
 use crate::spelled::entry_of;
 use hip_io::Cabinet;
@@ -57,10 +58,41 @@ impl Reader {
         ensures current { IsTrue (C.state cabinet.new).is_current }
     {
         match self.progress {
-            Progress::Reading => self.read_on(cabinet),
+            Progress::Reading => self.read_first(cabinet),
             Progress::Ended => Ok(None),
             Progress::Refused(refusal) => Err(refusal),
         }
+    }
+
+    // The line that stands first is read at once where it can be; all else is left to `read_on`.
+    fn read_first<C: Cabinet>(&mut self, cabinet: &mut C) -> Result<Option<Entry>, TraceRefusal>
+        requires current { IsTrue (C.state cabinet.old).is_current }
+        requires reading { self.old.progress ≡ Reading }
+        ensures reads { ReadsOn self.old self.new (C.state cabinet.old) (C.state cabinet.new) result }
+        ensures current { IsTrue (C.state cabinet.new).is_current }
+    {
+        match first_line(self.held.as_slice()) {
+            Some(line) => {
+                self.pass(line.len);
+                Ok(Some(line.entry))
+            }
+            None => self.read_on(cabinet),
+        }
+    }
+
+    // Lets a piece and its separator go.
+    fn pass(&mut self, len: usize)
+        requires { len < length self.old.held }
+        ensures { self.new ≡ record {
+          held = drop (len + 1) self.old.held;
+          count = one_more self.old.count;
+          progress = self.old.progress;
+        } }
+    {
+        let held = self.held.len();
+        prove!(len < held);
+        self.begin_text();
+        self.held.skip(len + 1);
     }
 
     fn read_on<C: Cabinet>(&mut self, cabinet: &mut C) -> Result<Option<Entry>, TraceRefusal>

@@ -67,7 +67,7 @@ fn image(rest: Option<&[u8]>) -> Option<Entry>
 }
 
 /// A store of a size that there is, with a value of that size.
-fn sized_store(addr: u64, value: u64, size: u64) -> Option<Entry>
+pub(crate) fn sized_store(addr: u64, value: u64, size: u64) -> Option<Entry>
     ensures { result ≡ sized_store addr value size }
 {
     match size {
@@ -125,7 +125,7 @@ fn are_lines(addr: u64, size: u64) -> bool
 }
 
 /// One or more whole cache lines: the first one's address, and how many bytes they have.
-fn some_lines(addr: u64, size: u64) -> Option<(u64, u64)>
+pub(crate) fn some_lines(addr: u64, size: u64) -> Option<(u64, u64)>
     ensures { result ≡ some_lines (addr, size) }
 {
     if are_lines(addr, size) {

@@ -6,16 +6,16 @@ use Rattle.hip_answers.specs.Laws.{ran_out, refused}
 use Rattle.hip_answers.specs.declared.status.Status.TheVariants as statuses
 use Rattle.hip_io.specs.Cabinets.{CabinetState}
 use Rattle.hip_io.specs.declared.cabinet.NamedFile.{NamedFile}
-use Rattle.hip_ir.specs.declared.program.Program.{Program}
-use Rattle.hip_loading.specs.Laws.{met_then}
-use Rattle.hip_loading.specs.Loading.{IsProgramOf}
-use Rattle.hip_loading.specs.Outside.{HasMet}
-use Rattle.hip_loading.specs.declared.failure.Failure.{Failure}
-use Rattle.hip_loading.specs.declared.failure.Failure.TheVariants as failures
-use Rattle.hip_repair_answers.specs.TraceFiles.{HasNoTrace, IsTraceFile, ShowsNoMisfit, is_missing, status_of_refusal, status_of_trace}
-use Rattle.hip_repair_answers.specs.declared.refusal.TraceRefusal.{TraceRefusal}
-use Rattle.hip_repair_answers.specs.declared.refusal.TraceRefusal.TheVariants as traces
-use Rattle.hip_replay.specs.declared.compared.Replayed.{Replayed}
+use Rattle.hip_tree.specs.declared.program.Program.{Program}
+use Rattle.hip_program_files.specs.Laws.{met_then}
+use Rattle.hip_program_files.specs.Loading.{IsProgramOf}
+use Rattle.hip_program_files.specs.Outside.{HasMet}
+use Rattle.hip_program_files.specs.declared.failure.Failure.{Failure}
+use Rattle.hip_program_files.specs.declared.failure.Failure.TheVariants as failures
+use Rattle.hip_answers.specs.TraceFiles.{HasNoTrace, IsTraceFile, ShowsNoMisfit, is_missing, status_of_refusal, status_of_trace}
+use Rattle.hip_answers.specs.declared.refusal.TraceRefusal.{TraceRefusal}
+use Rattle.hip_answers.specs.declared.refusal.TraceRefusal.TheVariants as traces
+use Rattle.hip_following.specs.declared.compared.Replayed.{Replayed}
 use Rattle.hip_trace_loading.specs.Loading.{HasLoadedTrace, LoadsTrace}
 use Rattle.hip_trace_loading.specs.Runs.{HasLoadedRun, LacksRun}
 

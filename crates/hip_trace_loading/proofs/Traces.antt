@@ -3,11 +3,11 @@ use Rattle.std.proofs.Common.{◌≡◌, ℕ, false, List, Option, Some, None, �
 use Rattle.std.specs.Prelude.{IfSome}
 use Rattle.hip_io.specs.Cabinets.{CabinetState, IsFetched, IsFirstFile, file_of}
 use Rattle.hip_io.specs.declared.cabinet.NamedFile.{NamedFile}
-use Rattle.hip_ir.specs.declared.program.Program.{Program}
-use Rattle.hip_loading.specs.Outside.{HasMet}
-use Rattle.hip_repair_answers.specs.TraceFiles.{IsTraceFile}
-use Rattle.hip_replay.specs.Replaying.{HasReplayed}
-use Rattle.hip_replay.specs.declared.compared.Replayed.{Replayed}
+use Rattle.hip_tree.specs.declared.program.Program.{Program}
+use Rattle.hip_program_files.specs.Outside.{HasMet}
+use Rattle.hip_answers.specs.TraceFiles.{IsTraceFile}
+use Rattle.hip_following.specs.Replaying.{HasReplayed}
+use Rattle.hip_following.specs.declared.compared.Replayed.{Replayed}
 use Rattle.hip_run_traces.specs.Misfits.{IsTraceOf}
 use Rattle.hip_trace.specs.Reads.{IsReading, ReaderState}
 use Rattle.hip_trace_loading.specs.Loading.{HasLoadedTrace}

@@ -5,8 +5,8 @@ use Rattle.hip_answers.specs.Answers.{Answer, HasAnswered, Sinks}
 use Rattle.hip_answers.specs.Laws.{answered_by}
 use Rattle.hip_answers.specs.declared.status.Status.{Status}
 use Rattle.hip_io.specs.Cabinets.{CabinetState}
-use Rattle.hip_ir.specs.declared.program.Program.{Program}
-use Rattle.hip_repair_answers.specs.Answers.{TraceAnswers}
+use Rattle.hip_tree.specs.declared.program.Program.{Program}
+use Rattle.hip_answers.specs.RunAnswers.{TraceAnswers}
 use Rattle.hip_runs.specs.declared.input.Input.{Input}
 use Rattle.hip_runs.specs.declared.report.Findings.{Findings}
 use Rattle.hip_trace_loading.specs.Runs.{AnswersOnRun, HasLoadedRun, LacksRun}

@@ -1,16 +1,16 @@
 -- What loading the trace of a file answers.
 use Rattle.std.specs.Prelude.{ℕ, ◌≡◌, ◌⊎◌, true, false, List, [], length, Some, IfSome, Result, Ok, Err}
 use Rattle.hip_io.specs.Cabinets.{CabinetState}
-use Rattle.hip_ir.specs.declared.program.Program.{Program}
-use Rattle.hip_loading.specs.Outside.{HasMet}
-use Rattle.hip_loading.specs.declared.failure.Failure.{Failure}
-use Rattle.hip_loading.specs.declared.failure.Failure.TheVariants as failures
+use Rattle.hip_tree.specs.declared.program.Program.{Program}
+use Rattle.hip_program_files.specs.Outside.{HasMet}
+use Rattle.hip_program_files.specs.declared.failure.Failure.{Failure}
+use Rattle.hip_program_files.specs.declared.failure.Failure.TheVariants as failures
 use Rattle.hip_lockstep.specs.declared.refusal.ReplayRefusal.{ReplayRefusal}
 use Rattle.hip_lockstep.specs.declared.refusal.ReplayRefusal.TheVariants as refusals
-use Rattle.hip_repair_answers.specs.TraceFiles.{HasNoTrace, IsTraceFile, ShowsNoMisfit, is_missing}
-use Rattle.hip_repair_answers.specs.declared.refusal.TraceRefusal.{TraceRefusal}
-use Rattle.hip_repair_answers.specs.declared.refusal.TraceRefusal.TheVariants as traces
-use Rattle.hip_replay.specs.declared.compared.Replayed.{Replayed}
+use Rattle.hip_answers.specs.TraceFiles.{HasNoTrace, IsTraceFile, ShowsNoMisfit, is_missing}
+use Rattle.hip_answers.specs.declared.refusal.TraceRefusal.{TraceRefusal}
+use Rattle.hip_answers.specs.declared.refusal.TraceRefusal.TheVariants as traces
+use Rattle.hip_following.specs.declared.compared.Replayed.{Replayed}
 use Rattle.hip_run_traces.specs.Traces.{IsTrace}
 use Rattle.hip_runs.specs.Found.Marks.{IsFound}
 use Rattle.hip_runs.specs.Step.{run}

@@ -5,9 +5,9 @@ use Rattle.hip_answers.specs.Programs.{IsUnloaded, IsUnread}
 use Rattle.hip_answers.specs.declared.status.Status.{Status}
 use Rattle.hip_io.specs.Cabinets.{CabinetState}
 use Rattle.hip_io.specs.Sinks.{SinkState}
-use Rattle.hip_loading.specs.Loading.{IsProgramOf}
-use Rattle.hip_loading.specs.Outside.{HasMet}
-use Rattle.hip_repair_answers.specs.TraceFiles.{LacksTrace}
+use Rattle.hip_program_files.specs.Loading.{IsProgramOf}
+use Rattle.hip_program_files.specs.Outside.{HasMet}
+use Rattle.hip_answers.specs.TraceFiles.{LacksTrace}
 use Rattle.hip_trace_loading.specs.Loading.{HasLoadedTrace}
 use Rattle.hip_trace_loading.specs.declared.run.LoadedRun.{LoadedRun}
 

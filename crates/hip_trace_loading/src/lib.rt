@@ -4,6 +4,6 @@
 mod run;
 mod trace;
 
-pub use hip_replay::Replayed;
+pub use hip_following::Replayed;
 pub use run::{LoadedRun, load_run};
 pub use trace::load_trace;

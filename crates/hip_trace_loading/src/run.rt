@@ -1,12 +1,11 @@
 ghost use Rattle.hip_trace_loading.specs.Runs.{LoadsRun};
 
 use crate::trace::load_trace;
-use hip_answers::{Status, refuse, status_of_failure};
+use hip_answers::{Status, refuse, status_of_failure, status_of_trace};
+use hip_following::Replayed;
 use hip_io::{Cabinet, Sink};
 use hip_loading::load_program;
-use hip_repair_answers::status_of_trace;
-use hip_replay::Replayed;
-use hip_typing::Checked;
+use hip_sound::Checked;
 use std::alloc::Global;
 
 /// A program, and one of its runs.

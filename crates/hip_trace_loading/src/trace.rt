@@ -1,14 +1,15 @@
 ghost use Rattle.std.specs.Prelude.{◌≡◌, IsTrue};
-ghost use Rattle.hip_replay.specs.Replaying.{Replays};
+ghost use Rattle.hip_following.specs.Replaying.{Replays};
 ghost use Rattle.hip_trace.specs.Reads.{ReaderState};
 ghost use Rattle.hip_trace_loading.specs.Loading.{LoadsTrace, failure_of};
 
+use hip_answers::TraceRefusal;
+use hip_following::{Replayed, replay};
 use hip_io::{Cabinet, Fetched};
-use hip_loading::Failure;
-use hip_repair_answers::TraceRefusal;
-use hip_replay::{ReplayRefusal, Replayed, replay};
+use hip_lockstep::ReplayRefusal;
+use hip_program_files::Failure;
+use hip_sound::Checked;
 use hip_trace::Reader;
-use hip_typing::Checked;
 use std::alloc::Global;
 
 fn failure_of(refusal: ReplayRefusal) -> Failure<TraceRefusal>

@@ -2,7 +2,7 @@ ghost use Rattle.std.specs.Prelude.{◌≡◌, ◌↔◌, IsTrue, IfOk};
 
 use crate::link::Link;
 use crate::memory::NoMemory;
-use crate::number::{Scalar, Width};
+use crate::number::Width;
 use crate::row::Row;
 use std::alloc::Global;
 

@@ -7,11 +7,11 @@ use Rattle.std.proofs.lemmas.List.{take_more, map-append}
 use Rattle.std.proofs.lemmas.List.Folds.{list_any-append}
 use Rattle.std.proofs.lemmas.Slice.Eq.{bytes_eq-Decides}
 use Rattle.indexmap.specs.IndexMap.{IndexMap, UpdatesBy}
-use Rattle.hip_ir.specs.declared.block.Block.{Block}
+use Rattle.hip_tree.specs.declared.block.Block.{Block}
 use Rattle.hip_typing.specs.Seen.Arrivals.{found_at, names_at, Arrives, FindsPredecessors}
 use Rattle.hip_names.specs.Names.{is_among}
-use Rattle.hip_typing.specs.Places.{is_predecessor, predecessors}
-use Rattle.hip_typing.specs.Registers.{end_labels}
+use Rattle.hip_sound.specs.Places.{is_predecessor, predecessors}
+use Rattle.hip_sound.specs.Registers.{end_labels}
 use Rattle.hip_typing.proofs.KnownLemmas.{or_false, among-append, add_known}
 use Rattle.hip_names.specs.Laws.NameLaws.{bytes_eq-sym}
 

@@ -9,30 +9,35 @@ use Rattle.std.proofs.lemmas.List.{length-map, get_or_past}
 use Rattle.std.proofs.lemmas.List.Elements.{Contains-append_left, Contains-append_right, Contains-append_cases}
 use Rattle.std.proofs.lemmas.Option.{slice_get_within, slice_get_cases, get_or_from_slice_get, slice_get-map}
 use Rattle.hip_types.specs.declared.number.Scalar.{Scalar}
-use Rattle.hip_ir.specs.declared.block.Block.{Block}
-use Rattle.hip_ir.specs.declared.block.Edge.{Edge}
-use Rattle.hip_ir.specs.declared.program.Function.{Function}
+use Rattle.hip_tree.specs.declared.block.Block.{Block}
+use Rattle.hip_tree.specs.declared.block.Edge.{Edge}
+use Rattle.hip_tree.specs.declared.program.Function.{Function}
 use Rattle.hip_paths.specs.Graphs as graphs
 use Rattle.hip_paths.specs.Graphs.{IsPathFrom, IsPathAround, IsPassedBefore}
 use Rattle.hip_typing.specs.Seen.AssignedSeen.{is_there, to_pass}
-use Rattle.hip_typing.specs.Declarations.{block_declared}
-use Rattle.hip_typing.specs.Laws.NameLaws.{entry_names-are}
-use Rattle.hip_typing.specs.Sound.{names_in_function}
+use Rattle.hip_sound.specs.Declarations.{block_declared}
+use Rattle.hip_sound.specs.Laws.NameLaws.{declared_names-are}
+use Rattle.hip_sound.specs.Sound.{names_in_function}
 use Rattle.hip_typing.specs.Seen.Inner.{entries, inner_entries, block_number, successor_numbers, graph_of}
 use Rattle.hip_names.specs.Names.{AllDiffer, IsAmong}
-use Rattle.hip_typing.specs.Paths.{LeadsTo, IsChain, IsUnassigned, IsAssigned, names_of, registers_before, whole_block_names, names_before, assigned_on}
-use Rattle.hip_typing.specs.Registers.{parameter_registers, end_labels, use_of, operand_registers, used_registers}
-use Rattle.hip_typing.specs.Rules.{use_at, block_number_from, edge_register_uses}
-use Rattle.hip_typing.specs.declared.fault.Place.{Place}
+use Rattle.hip_sound.specs.Paths.{LeadsTo, IsChain, IsUnassigned, IsAssigned, names_of, registers_before, whole_block_names, names_before, assigned_on}
+use Rattle.hip_sound.specs.Registers.{parameter_registers, end_labels, use_of, operand_registers, used_registers}
+use Rattle.hip_sound.specs.Rules.{use_at, block_number_from, edge_register_uses}
+use Rattle.hip_sound.specs.declared.fault.Place.{Place}
 use Rattle.hip_names.specs.Tables.{value_of}
-use Rattle.hip_typing.specs.declared.assigned.Point.{Point}
-use Rattle.hip_typing.specs.declared.assigned.Point.TheVariants.{AtEnd}
+use Rattle.hip_sound.specs.declared.point.Point.{Point}
+use Rattle.hip_sound.specs.declared.point.Point.TheVariants.{AtEnd}
 use Rattle.hip_typing.specs.declared.tables.inner_table.Inner.{Inner}
 use Rattle.hip_typing.specs.declared.tables.inner_table.Inner.TheVariants.{Parameter, Label, Assigned}
 use Rattle.hip_typing.proofs.EntryLemmas.{IsEntry, value_is_entry, entry_is_value, IsUsable, usable_before, IsAssignedIn, assigned_in, label_in, no_parameter_in, parameter_is_entry, block_is_in, InBlock, entry_of_function, among_left, among_right, among_cases}
 
 abbrev pub NamesDiffer : Function → Type 0
 NamesDiffer fn = AllDiffer (names_in_function fn)
+
+entry_names-are : (fn : Function) → map (λ e. e.name) (inner_entries fn) ≡ names_in_function fn
+entry_names-are fn =
+    declared_names-are entries (λ e. e.name)
+    (record { parameter = λ p. refl; label = λ b label. refl; phi = λ b i p. refl; instr = λ b i r. refl }) fn
 
 found : (fn : Function) (name : List ℕ) (v : Inner) → NamesDiffer fn → IsEntry (inner_entries fn) name v → value_of (inner_entries fn) name ≡ Some v
 found fn name v differ h = entry_is_value (inner_entries fn) name v (subst AllDiffer (sym (entry_names-are fn)) differ) h

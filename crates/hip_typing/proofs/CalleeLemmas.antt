@@ -3,11 +3,11 @@ use Rattle.std.proofs.Common.{ℕ, ◌+◌, ◌≡◌, ◌<◌, List, [], ◌∷
 use Rattle.std.specs.Prelude.{if◌then◌else◌, option_map}
 use Rattle.std.specs.Str.{bytes_eq}
 use Rattle.std.proofs.lemmas.List.{take_more, map-append}
-use Rattle.hip_ir.specs.declared.program.Extern.{Extern}
-use Rattle.hip_ir.specs.declared.program.Function.{Function}
-use Rattle.hip_ir.specs.declared.program.Program.{Program}
+use Rattle.hip_tree.specs.declared.program.Extern.{Extern}
+use Rattle.hip_tree.specs.declared.program.Function.{Function}
+use Rattle.hip_tree.specs.declared.program.Program.{Program}
 use Rattle.hip_externs.specs.Externs.{Signature}
-use Rattle.hip_typing.specs.Places.{extern_of, function_of, first_of}
+use Rattle.hip_sound.specs.Places.{extern_of, function_of, first_of}
 use Rattle.hip_names.specs.Tables.{Entry, value_of, StandsFor}
 use Rattle.hip_typing.specs.Seen.Tables.{Grown, AddsCallees, FindsCallees, callee_seen, entry_seen, extern_entry, function_entry}
 use Rattle.hip_typing.specs.declared.tables.callees.Callee.{Callee}

@@ -8,14 +8,14 @@ use Rattle.std.specs.Str.{bytes_eq}
 use Rattle.std.proofs.lemmas.List.{map-append}
 use Rattle.std.proofs.lemmas.Slice.Eq.{bytes_eq-Decides}
 use Rattle.std.proofs.lemmas.Bool.{and_parts}
-use Rattle.hip_ir.specs.declared.block.Edge.{Edge}
-use Rattle.hip_ir.specs.declared.instr.Operand.{Operand}
+use Rattle.hip_tree.specs.declared.block.Edge.{Edge}
+use Rattle.hip_tree.specs.declared.instr.Operand.{Operand}
 use Rattle.hip_typing.specs.Seen.Carried.{Carries, carries_again, edge_entry, carried_seen}
-use Rattle.hip_typing.specs.Laws.ConstLaws.{same_operand-equal}
-use Rattle.hip_typing.specs.Equal.{same_operand}
+use Rattle.hip_sound.specs.Laws.ConstLaws.{same_operand-equal}
+use Rattle.hip_sound.specs.Equal.{same_operand}
 use Rattle.hip_names.specs.Laws.NameLaws.{bytes_eq-sym}
 use Rattle.hip_names.specs.Names.{is_among, Knows}
-use Rattle.hip_typing.specs.Places.{are_among, carry_alike, edge_labels, edges_agree, repeats_agree}
+use Rattle.hip_sound.specs.Places.{are_among, carry_alike, edge_labels, edges_agree, repeats_agree}
 use Rattle.hip_names.specs.Tables.{Entry, StandsFor, value_of, value_beside}
 use Rattle.hip_typing.proofs.KnownLemmas.{all_known}
 use Rattle.hip_typing.proofs.PairLemmas.{fails_in_front, pair_step, take_item}

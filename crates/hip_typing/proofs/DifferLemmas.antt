@@ -3,21 +3,21 @@ use Rattle.std.proofs.Common.{ℕ, ◌+◌, ◌<◌, ◌≤◌, ◌≡◌, List,
 use Rattle.std.specs.Prelude.{slice_get}
 use Rattle.std.proofs.lemmas.Bool.{cases_lt}
 use Rattle.std.proofs.lemmas.Option.{slice_get_within, slice_get-get_or}
-use Rattle.hip_ir.specs.declared.block.Block.{Block}
-use Rattle.hip_ir.specs.declared.program.Function.{Function}
-use Rattle.hip_ir.specs.declared.program.Program.{Program}
+use Rattle.hip_tree.specs.declared.block.Block.{Block}
+use Rattle.hip_tree.specs.declared.program.Function.{Function}
+use Rattle.hip_tree.specs.declared.program.Program.{Program}
 use Rattle.hip_typing.specs.Seen.AssignedSeen.{Describes, IsFirstOf, AnswersUses, AnswersAssigned}
-use Rattle.hip_typing.specs.Laws.CheckLaws.{each-holds}
-use Rattle.hip_typing.specs.Laws.NameLaws.{inner-sound}
-use Rattle.hip_typing.specs.Sound.{names_in_function}
+use Rattle.hip_sound.specs.Laws.CheckLaws.{each-holds}
+use Rattle.hip_sound.specs.Laws.NameLaws.{inner-sound}
+use Rattle.hip_sound.specs.Sound.{names_in_function}
 use Rattle.hip_typing.specs.Seen.Inner.{inner_entries, block_number, label_numbers, successor_numbers}
 use Rattle.hip_names.specs.Names.{AllDiffer}
-use Rattle.hip_typing.specs.Registers.{end_labels}
-use Rattle.hip_typing.specs.Rules.{inner_check, inner_names_check, AllAssigned, IsFirstUnassigned, register_uses}
+use Rattle.hip_sound.specs.Registers.{end_labels}
+use Rattle.hip_sound.specs.Rules.{inner_check, inner_names_check, AllAssigned, IsFirstUnassigned, register_uses}
 use Rattle.hip_names.specs.Tables.{Entry, StandsFor, value_of}
 use Rattle.hip_typing.specs.declared.assigned.NotAssigned.{NotAssigned}
 use Rattle.hip_typing.specs.declared.assigned.NotAssigned.TheVariants as unassigned
-use Rattle.hip_typing.specs.declared.fault.Place.{Place}
+use Rattle.hip_sound.specs.declared.fault.Place.{Place}
 use Rattle.hip_typing.specs.declared.tables.inner_table.Inner.{Inner}
 
 -- the names of each function of a program differ

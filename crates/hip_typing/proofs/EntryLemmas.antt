@@ -5,22 +5,22 @@ use Rattle.std.specs.Str.{bytes_eq}
 use Rattle.std.proofs.lemmas.List.{map-append, take_all}
 use Rattle.std.proofs.lemmas.Bool.{le-leb, leb-true}
 use Rattle.std.proofs.lemmas.Slice.Eq.{bytes_eq-Decides}
-use Rattle.hip_ir.specs.declared.block.Block.{Block}
-use Rattle.hip_ir.specs.declared.block.Phi.{Phi}
-use Rattle.hip_ir.specs.declared.instr.Instr.{Instr}
-use Rattle.hip_ir.specs.declared.program.Function.{Function}
-use Rattle.hip_ir.specs.declared.program.Param.{Param}
+use Rattle.hip_tree.specs.declared.block.Block.{Block}
+use Rattle.hip_tree.specs.declared.block.Phi.{Phi}
+use Rattle.hip_tree.specs.declared.instr.Instr.{Instr}
+use Rattle.hip_tree.specs.declared.program.Function.{Function}
+use Rattle.hip_tree.specs.declared.program.Param.{Param}
 use Rattle.hip_typing.specs.Seen.AssignedSeen.{is_there}
 use Rattle.hip_globals.specs.Constants.{joined}
-use Rattle.hip_typing.specs.Declarations.{instr_declared, body_declared, block_declared, blocks_declared}
+use Rattle.hip_sound.specs.Declarations.{instr_declared, body_declared, block_declared, blocks_declared}
 use Rattle.hip_typing.specs.Seen.Inner.{entry, entries, inner_entries}
 use Rattle.hip_names.specs.Names.{AllDiffer, IsAmong}
-use Rattle.hip_typing.specs.Names.{numbered, numbered_from}
-use Rattle.hip_typing.specs.Paths.{registers_before, names_of}
-use Rattle.hip_typing.specs.Registers.{Register, assigned_by, phi_registers, body_registers, parameter_registers}
+use Rattle.hip_sound.specs.Names.{numbered, numbered_from}
+use Rattle.hip_sound.specs.Paths.{registers_before, names_of}
+use Rattle.hip_sound.specs.Registers.{Register, assigned_by, phi_registers, body_registers, parameter_registers}
 use Rattle.hip_names.specs.Tables.{Entry, value_of}
-use Rattle.hip_typing.specs.declared.assigned.Point.{Point}
-use Rattle.hip_typing.specs.declared.assigned.Point.TheVariants.{Before, AtEnd}
+use Rattle.hip_sound.specs.declared.point.Point.{Point}
+use Rattle.hip_sound.specs.declared.point.Point.TheVariants.{Before, AtEnd}
 use Rattle.hip_typing.specs.declared.tables.inner_table.Inner.{Inner}
 use Rattle.hip_typing.specs.declared.tables.inner_table.Inner.TheVariants.{Parameter, Label, Assigned}
 

@@ -1,15 +1,15 @@
 -- Globals checked against one list of names or another.
 use Rattle.std.proofs.Common.{ℕ, ◌+◌, ◌≡◌, List, [], ◌∷◌, refl, ap, ◌∙◌}
-use Rattle.hip_ir.specs.declared.program.GlobalVar.{GlobalVar}
+use Rattle.hip_tree.specs.declared.program.GlobalVar.{GlobalVar}
 use Rattle.hip_typing.specs.Seen.Answers.{asked}
-use Rattle.hip_typing.specs.Check.{or_else, each_from, each}
-use Rattle.hip_typing.specs.Constants.{has_shape, names_in}
+use Rattle.hip_sound.specs.Check.{or_else, each_from, each}
+use Rattle.hip_sound.specs.Constants.{has_shape, names_in}
 use Rattle.hip_globals.specs.Constants.{types_in}
 use Rattle.hip_names.specs.Names.{Knows}
-use Rattle.hip_typing.specs.Places.{types_fit}
-use Rattle.hip_typing.specs.Rules.{global_check}
-use Rattle.hip_typing.specs.declared.fault.Fault.TheVariants as breaks
-use Rattle.hip_typing.specs.declared.fault.Place.TheVariants as places
+use Rattle.hip_sound.specs.Places.{types_fit}
+use Rattle.hip_sound.specs.Rules.{global_check}
+use Rattle.hip_sound.specs.declared.fault.Fault.TheVariants as breaks
+use Rattle.hip_sound.specs.declared.fault.Place.TheVariants as places
 use Rattle.hip_typing.proofs.KnownLemmas.{all_known}
 
 global_known : (known names : List (List ℕ)) (n : ℕ) (g : GlobalVar) → Knows known names → (global_check known n g).found ≡ (global_check names n g).found

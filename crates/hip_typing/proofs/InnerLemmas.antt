@@ -3,7 +3,7 @@ use Rattle.std.proofs.Common.{ℕ, ◌+◌, ◌≡◌, ◌<◌, List, [], ◌∷
 use Rattle.std.proofs.lemmas.List.{map-append, length-take-le}
 use Rattle.hip_globals.specs.Constants.{joined}
 use Rattle.hip_names.specs.Tables.{Gains}
-use Rattle.hip_typing.specs.Names.{numbered}
+use Rattle.hip_sound.specs.Names.{numbered}
 use Rattle.hip_names.specs.Tables.{Entry, StandsFor}
 use Rattle.hip_typing.proofs.NameLists.{joined-push, numbered_from-push}
 use Rattle.hip_typing.proofs.RegisterLemmas.{take_one}

@@ -8,7 +8,6 @@ pub mod CalleeLemmas
 pub mod PairLemmas
 pub mod ArrivalLemmas
 pub mod CarriedLemmas
-pub mod NumberLemmas
 pub mod InnerLemmas
 pub mod EntryLemmas
 pub mod AssignedLemmas

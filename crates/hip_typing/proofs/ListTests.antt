@@ -5,8 +5,8 @@ use Rattle.std.proofs.lemmas.List.{at_drop_more}
 use Rattle.std.proofs.lemmas.List.Folds.{list_all-append}
 use Rattle.hip_types.specs.declared.ty.Ty.{Ty}
 use Rattle.hip_globals.specs.Constants.{joined}
-use Rattle.hip_typing.specs.Constants.{all_have}
-use Rattle.hip_typing.specs.Types.{all_pass}
+use Rattle.hip_sound.specs.Constants.{all_have}
+use Rattle.hip_sound.specs.Types.{all_pass}
 
 -- an item that passes: the rest decides
 pub rest_decides : (test rest so_far whole : Bool) → so_far ≡ (test && rest) → so_far ≡ whole → test ≡ true → rest ≡ whole

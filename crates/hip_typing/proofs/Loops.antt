@@ -2,8 +2,8 @@
 use Rattle.std.proofs.Common.{ℕ, ◌+◌, ◌≡◌, ◌<◌, List, get_or, drop, length, Option, Some, None, Result, Err, refl, sym, ap, subst, ◌∙◌}
 use Rattle.std.proofs.lemmas.List.{at_drop_more}
 use Rattle.hip_typing.specs.Seen.Answers.{Answers}
-use Rattle.hip_typing.specs.Check.{Check, or_else, each_from, each}
-use Rattle.hip_typing.specs.declared.fault.Finding.{Finding}
+use Rattle.hip_sound.specs.Check.{Check, or_else, each_from, each}
+use Rattle.hip_sound.specs.declared.fault.Finding.{Finding}
 use Rattle.hip_typing.specs.declared.refused.Refused.{Refused}
 use Rattle.hip_typing.specs.declared.refused.Refused.TheVariants as refused
 

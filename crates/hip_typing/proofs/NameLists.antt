@@ -1,7 +1,7 @@
 -- Lists of names with their places, one longer.
 use Rattle.std.proofs.Common.{ℕ, ◌+◌, ◌≡◌, ◌<◌, List, [], ◌∷◌, ◌++◌, map, take, length, get_or, refl, sym, ap, subst, ◌∙◌, append_assoc, append-nil, zero-add, arith}
 use Rattle.std.proofs.lemmas.List.{take_more, map-append, length-take-le}
-use Rattle.hip_typing.specs.Names.{Named, numbered, numbered_from}
+use Rattle.hip_sound.specs.Names.{Named, numbered, numbered_from}
 use Rattle.hip_typing.specs.Seen.NamesSeen.{seen}
 use Rattle.hip_globals.specs.Constants.{joined}
 use Rattle.hip_typing.specs.declared.rules.named.NamedPlace.{NamedPlace}

@@ -6,9 +6,9 @@ use Rattle.std.proofs.lemmas.List.Folds.{list_all-append, list_any-append}
 use Rattle.std.proofs.lemmas.Bool.{and_parts}
 use Rattle.hip_types.specs.declared.number.Bits.{Bits}
 use Rattle.hip_types.specs.Widths.{bits_of}
-use Rattle.hip_ir.specs.declared.block.Case.{Case}
-use Rattle.hip_typing.specs.Equal.{same_bits}
-use Rattle.hip_typing.specs.Places.{each_pair, differ, cases_differ}
+use Rattle.hip_tree.specs.declared.block.Case.{Case}
+use Rattle.hip_sound.specs.Equal.{same_bits}
+use Rattle.hip_sound.specs.Places.{each_pair, differ, cases_differ}
 
 shuffled : (a b c d : Bool) → ((a && (b && true)) && (c && d)) ≡ ((a && c) && (b && d))
 shuffled true true c d = refl

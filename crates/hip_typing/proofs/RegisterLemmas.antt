@@ -6,7 +6,7 @@ use Rattle.std.specs.Str.{bytes_eq}
 use Rattle.std.proofs.lemmas.List.{take_more, map-append}
 use Rattle.std.proofs.lemmas.Grind.{flat_map-append}
 use Rattle.hip_types.specs.declared.number.Scalar.{Scalar}
-use Rattle.hip_typing.specs.Registers.{Register, find_register}
+use Rattle.hip_sound.specs.Registers.{Register, find_register}
 use Rattle.hip_names.specs.Tables.{Entry, value_of, StandsFor}
 use Rattle.hip_typing.specs.Seen.Tables.{register_entry, Adds, Finds}
 

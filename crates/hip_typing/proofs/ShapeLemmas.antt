@@ -6,8 +6,8 @@ use Rattle.std.proofs.Math.Seq.{take_all}
 use Rattle.hip_types.specs.declared.number.Bits.{Bits}
 use Rattle.hip_types.specs.declared.ty.Ty.{Ty, out-Ty}
 use Rattle.hip_globals.specs.Constants.{index_of}
-use Rattle.hip_typing.specs.Constants.{entered, enters, goes_in, path_exists}
-use Rattle.hip_typing.specs.Types.{all_pass}
+use Rattle.hip_sound.specs.Constants.{entered, enters, goes_in, path_exists}
+use Rattle.hip_sound.specs.Types.{all_pass}
 
 fails_too : (b c : Bool) → c ≡ false → (b && c) ≡ false
 fails_too true c e = e

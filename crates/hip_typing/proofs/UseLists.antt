@@ -6,23 +6,23 @@ use Rattle.std.proofs.Math.ListN.{drop_of_length-le}
 use Rattle.std.proofs.lemmas.List.Elements.{All-append}
 use Rattle.std.proofs.lemmas.Grind.{flat_map-append}
 use Rattle.hip_types.specs.declared.number.Scalar.{Scalar}
-use Rattle.hip_ir.specs.declared.block.Phi.{Phi}
-use Rattle.hip_ir.specs.declared.instr.Arg.{Arg}
-use Rattle.hip_ir.specs.declared.instr.Operand.{Operand}
-use Rattle.hip_ir.specs.declared.program.Function.{Function}
+use Rattle.hip_tree.specs.declared.block.Phi.{Phi}
+use Rattle.hip_tree.specs.declared.instr.Arg.{Arg}
+use Rattle.hip_tree.specs.declared.instr.Operand.{Operand}
+use Rattle.hip_tree.specs.declared.program.Function.{Function}
 use Rattle.hip_globals.specs.Constants.{joined}
-use Rattle.hip_typing.specs.Names.{numbered_from}
-use Rattle.hip_typing.specs.Registers.{Use, use_of, arg_uses, operand_registers, used_registers}
+use Rattle.hip_sound.specs.Names.{numbered_from}
+use Rattle.hip_sound.specs.Registers.{Use, use_of, arg_uses, operand_registers, used_registers}
 use Rattle.hip_typing.specs.Seen.AssignedSeen.{AnswersUses, IsFirstOf}
-use Rattle.hip_typing.specs.Paths.{IsUnassigned}
-use Rattle.hip_typing.specs.Rules.{RegisterUse, UseIsAssigned, use_at, site, phi_register_uses}
+use Rattle.hip_sound.specs.Paths.{IsUnassigned}
+use Rattle.hip_sound.specs.Rules.{RegisterUse, UseIsAssigned, use_at, site, phi_register_uses}
 use Rattle.hip_typing.specs.Seen.UsesSeen.{use_seen, uses_seen}
 use Rattle.hip_typing.specs.declared.places.uses.Uses.{Uses}
 use Rattle.hip_typing.specs.declared.assigned.NotAssigned.{NotAssigned}
 use Rattle.hip_typing.specs.declared.assigned.NotAssigned.TheVariants as unassigned
-use Rattle.hip_typing.specs.declared.assigned.Point.{Point}
-use Rattle.hip_typing.specs.declared.fault.Place.{Place}
-use Rattle.hip_typing.specs.declared.fault.Place.TheVariants as places
+use Rattle.hip_sound.specs.declared.point.Point.{Point}
+use Rattle.hip_sound.specs.declared.fault.Place.{Place}
+use Rattle.hip_sound.specs.declared.fault.Place.TheVariants as places
 
 pub all_of_one : (fn : Function) (u : RegisterUse) → UseIsAssigned fn u → All (UseIsAssigned fn) (u ∷ [])
 all_of_one fn u h zero d low = h

@@ -1,38 +1,28 @@
 -- What the check of a program answers.
 use Rattle.std.specs.Prelude.{ℕ, ◌≡◌, ◌<◌, ◌++◌, List, [], ◌∷◌, length, get_or, All, Some, None, slice_get, Result, Ok, Err, Bool, true, false, IsTrue, ◌↔◌}
 use Rattle.std.proofs.Common.{refl, subst, arith, length-append}
-use Rattle.hip_ir.specs.declared.program.Function.{Function}
-use Rattle.hip_ir.specs.declared.program.Program.{Program}
-use Rattle.hip_ir.specs.Reading.{IsSpelled}
+use Rattle.hip_tree.specs.declared.program.Function.{Function}
+use Rattle.hip_tree.specs.declared.program.Program.{Program}
+use Rattle.hip_grammar.specs.Reading.{IsSpelled}
 use Rattle.hip_typing.specs.Seen.Answers.{Answers}
 use Rattle.hip_typing.specs.Seen.AssignedSeen.{AnswersAssigned}
 use Rattle.hip_typing.specs.declared.assigned.NotAssigned.{NotAssigned}
 use Rattle.hip_typing.specs.declared.assigned.NotAssigned.TheVariants as unassigned
-use Rattle.hip_typing.specs.Rules.{Passes, inner_names_check, IsFirstFault, IsFirstUnassigned, RegisterUse, UseIsAssigned, AllAssigned, rules_check}
-use Rattle.hip_typing.specs.Sound.{IsSound}
-use Rattle.hip_typing.specs.Laws.SoundExact.{passes-sound, sound-passes}
-use Rattle.hip_typing.specs.Laws.SoundLaws.{rules-exact}
-use Rattle.hip_typing.specs.declared.fault.Fault.{Fault}
-use Rattle.hip_typing.specs.declared.fault.Fault.TheVariants as breaks
-use Rattle.hip_typing.specs.declared.fault.Finding.{Finding}
-use Rattle.hip_typing.specs.declared.fault.Place.{Place}
-use Rattle.hip_typing.specs.declared.fault.Place.TheVariants as places
-use Rattle.hip_typing.specs.declared.fault.TypeFault.{TypeFault}
-use Rattle.hip_typing.specs.declared.fault.TypeFault.TheVariants as faults
-use Rattle.hip_typing.specs.declared.fault.TypeRefusal.{TypeRefusal}
+use Rattle.hip_sound.specs.Rules.{Passes, inner_names_check, IsFirstFault, IsFirstUnassigned, RegisterUse, UseIsAssigned, AllAssigned, rules_check}
+use Rattle.hip_sound.specs.Refusals.{fault_of, IsRefused}
+use Rattle.hip_sound.specs.Sound.{IsSound}
+use Rattle.hip_sound.specs.Laws.SoundExact.{passes-sound, sound-passes}
+use Rattle.hip_sound.specs.Laws.SoundLaws.{rules-exact}
+use Rattle.hip_sound.specs.declared.fault.Fault.{Fault}
+use Rattle.hip_sound.specs.declared.fault.Fault.TheVariants as breaks
+use Rattle.hip_sound.specs.declared.fault.Finding.{Finding}
+use Rattle.hip_sound.specs.declared.fault.Place.{Place}
+use Rattle.hip_sound.specs.declared.fault.Place.TheVariants as places
+use Rattle.hip_sound.specs.declared.fault.TypeFault.{TypeFault}
+use Rattle.hip_sound.specs.declared.fault.TypeFault.TheVariants as faults
+use Rattle.hip_sound.specs.declared.fault.TypeRefusal.{TypeRefusal}
 use Rattle.hip_typing.specs.declared.refused.Refused.{Refused}
 use Rattle.hip_typing.specs.declared.refused.Refused.TheVariants as refused
-
--- a check's fault among the faults of a program; those of spelling, of paths and of memory come from no check
-abbrev pub fault_of : Fault → TypeFault
-fault_of breaks.Duplicate = faults.Duplicate
-fault_of breaks.Unknown = faults.Unknown
-fault_of breaks.Mismatch = faults.Mismatch
-fault_of breaks.NoMain = faults.NoMain
-fault_of breaks.BadExtern = faults.BadExtern
-fault_of breaks.BadGlobal = faults.BadGlobal
-fault_of breaks.BadEdge = faults.BadEdge
-fault_of breaks.TooLarge = faults.TooLarge
 
 -- the refusal that a stopped check gives: its finding, or want of memory at the whole program
 abbrev pub refusal_of : Refused → TypeRefusal
@@ -44,11 +34,6 @@ refusal_of refused.NoMemory = record { fault = faults.NoMemory; place = places.W
 abbrev pub refusal_on_paths : NotAssigned → TypeRefusal
 refusal_on_paths (unassigned.Use place path) = record { fault = faults.Unassigned path; place = place }
 refusal_on_paths unassigned.NoMemory = record { fault = faults.NoMemory; place = places.Whole }
-
--- the first fault of a program that is not sound
-pub record IsRefused (P : Program) (refusal : TypeRefusal) : Type 0 where
-  pub unsound : ¬ IsSound P
-  pub first : IsFirstFault P refusal
 
 -- want of memory has no place of its own
 abbrev refuses : Program → TypeFault → Place → Type 0

@@ -1,16 +1,3 @@
-pub mod Check
-pub mod Constants
-pub mod Equal
-pub mod Names
-pub mod Paths
-pub mod Places
-pub mod Registers
-pub mod Declarations
-pub mod Numbering
 pub mod Checks
-pub mod Given
-pub mod Sound
-pub mod Rules
-pub mod Types
 pub mod Laws
 pub mod Seen

@@ -1,28 +1,20 @@
 ghost use Rattle.std.specs.Prelude.{◌≡◌, ◌<◌, [], ◌∷◌, length, map};
 ghost use Rattle.hip_typing.specs.Seen.AssignedSeen as spec;
 ghost use Rattle.hip_typing.specs.Seen.AssignedSeen.{Describes, AnswersUses};
-ghost use Rattle.hip_typing.specs.Registers.{arg_uses, operand_registers, used_registers};
-ghost use Rattle.hip_typing.specs.Rules.{use_at};
+ghost use Rattle.hip_sound.specs.Registers.{arg_uses, operand_registers, used_registers};
+ghost use Rattle.hip_sound.specs.Rules.{use_at};
 ghost use Rattle.hip_typing.specs.Seen.UsesSeen.{use_seen, uses_seen};
 
 pub mod functions;
 pub mod graph;
 
-use crate::fault::Place;
 use crate::places::uses::{OperandUse, Uses};
 use crate::tables::inner_table::{Inner, InnerTable};
-use hip_ir::{Arg, Function, Operand};
 use hip_paths::Paths;
+use hip_sound::{Place, Point};
+use hip_tree::{Arg, Function, Operand};
 use hip_types::{Name, NoMemory, Row};
 use std::alloc::Global;
-
-/// Where a use of a register stands in its block.
-#[derive(Clone, Copy)]
-pub enum Point {
-    /// Before the instruction of that number in the body.
-    Before(usize),
-    AtEnd,
-}
 
 /// A use of a register that some path reaches before it is assigned, with such a path.
 #[derive(Drop)]

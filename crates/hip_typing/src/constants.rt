@@ -1,14 +1,14 @@
 ghost use Rattle.std.specs.Prelude.{◌≡◌, ◌↔◌, IsTrue, map};
 ghost use Rattle.std.specs.List.{list_all};
 ghost use Rattle.hip_globals.specs.Constants.{joined, types_in, gep_types, item_types};
-ghost use Rattle.hip_typing.specs.Constants.{names_in, item_names};
+ghost use Rattle.hip_sound.specs.Constants.{names_in, item_names};
 ghost use Rattle.hip_names.specs.Names.{is_among};
-ghost use Rattle.hip_typing.specs.Places.{fits_test};
+ghost use Rattle.hip_sound.specs.Places.{fits_test};
 
 pub mod shape;
 
-use hip_ir::{Const, ConstGep, TypedConst};
 use hip_names::NameSet;
+use hip_tree::{Const, ConstGep, TypedConst};
 use hip_types::{Ty, fits};
 
 pub fn type_fits(ty: &Ty) -> bool

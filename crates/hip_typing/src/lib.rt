@@ -1,15 +1,14 @@
-//! Which programs are sound, and where their data lies.
+//! Whether a program is sound, and the first rule that it breaks.
 #![tactic(auto)]
 
 mod assigned;
-mod checked;
 mod constants;
-mod fault;
+mod deciding;
 mod places;
 mod refusal;
 mod refused;
 mod rules;
 mod tables;
 
-pub use checked::{Checked, check};
-pub use fault::{Place, TypeFault, TypeRefusal};
+pub use deciding::check;
+pub use hip_sound::{Checked, Place, TypeFault, TypeRefusal};

@@ -1,11 +1,11 @@
 ghost use Rattle.std.specs.Prelude.{◌≡◌, [], IfOk};
 ghost use Rattle.hip_typing.specs.Seen.Answers.{Answers};
-ghost use Rattle.hip_typing.specs.Check.{each};
+ghost use Rattle.hip_sound.specs.Check.{each};
 ghost use Rattle.hip_typing.specs.Seen.InstrSeen.{instr_found};
 ghost use Rattle.hip_names.specs.Names.{Knows};
 ghost use Rattle.hip_typing.specs.Seen.PhiSeen.{phi_found};
-ghost use Rattle.hip_typing.specs.Places as spec;
-ghost use Rattle.hip_typing.specs.Rules.{phi_at, instr_at, block_check, function_check, places_check};
+ghost use Rattle.hip_sound.specs.Places as spec;
+ghost use Rattle.hip_sound.specs.Rules.{phi_at, instr_at, block_check, function_check, places_check};
 ghost use Rattle.hip_typing.specs.Seen.TablesSeen.{DescribesProgram, DescribesFunction, scope_in};
 
 pub mod edges;
@@ -15,7 +15,6 @@ pub mod operands;
 pub mod targets;
 pub mod uses;
 
-use crate::fault::{Fault, Place};
 use crate::places::edges::{edge_labels_known, edges_agree};
 use crate::places::ends::check_end;
 use crate::places::instrs::{callee_known, instr_agrees, written_fits};
@@ -28,8 +27,9 @@ use crate::rules::globals::names_of_globals;
 use crate::tables::callees::{CalleeTable, callees_of};
 use crate::tables::registers::{RegisterTable, registers_of};
 use crate::tables::{FunctionTables, ProgramTables, tables_of_function, tables_of_program};
-use hip_ir::{Block, Function, Instr, Phi, Program, Site};
 use hip_names::NameSet;
+use hip_sound::{Fault, Place};
+use hip_tree::{Block, Function, Instr, Phi, Program, Site};
 use std::alloc::Global;
 
 /// Checks an instruction: names exist, types that are written there fit, and types agree.

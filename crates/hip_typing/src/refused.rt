@@ -1,6 +1,6 @@
 ghost use Rattle.hip_typing.specs.Seen.Answers.{Answers, asked};
 
-use crate::fault::{Fault, Finding, Place};
+use hip_sound::{Fault, Finding, Place};
 use hip_types::NoMemory;
 
 /// Why a check stopped.

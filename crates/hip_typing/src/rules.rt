@@ -1,5 +1,5 @@
 ghost use Rattle.hip_typing.specs.Seen.Answers.{Answers};
-ghost use Rattle.hip_typing.specs.Rules.{rules_check};
+ghost use Rattle.hip_sound.specs.Rules.{rules_check};
 
 pub mod externs;
 pub mod globals;
@@ -16,7 +16,7 @@ use crate::rules::inner::check_registers;
 use crate::rules::named::check_names;
 use crate::rules::sizes::check_sizes;
 use crate::rules::whole::check_main;
-use hip_ir::Program;
+use hip_tree::Program;
 use std::alloc::Global;
 
 /// The rules between spelling and paths, in their order.

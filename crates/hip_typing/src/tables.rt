@@ -11,8 +11,8 @@ use crate::rules::globals::names_of_globals;
 use crate::tables::callees::{CalleeTable, callees_of};
 use crate::tables::predecessors::{Predecessors, predecessors_of};
 use crate::tables::registers::{RegisterTable, registers_of};
-use hip_ir::{Block, Function, Program};
 use hip_names::NameSet;
+use hip_tree::{Block, Function, Program};
 use hip_types::NoMemory;
 use std::alloc::Global;
 

@@ -9,13 +9,13 @@ ghost use Rattle.hip_repairs.specs.CloneNumbers.{clone_numbers};
 ghost use Rattle.hip_repairs.specs.Covered.{AreHoistsFenced, IsCovered};
 ghost use Rattle.hip_repairs.specs.Harmless.{IsHarmless};
 ghost use Rattle.hip_repairs.specs.Repaired as spec;
-ghost use Rattle.hip_vol.specs.LowStores.{low_stores};
+ghost use Rattle.hip_levels.specs.LowStores.{low_stores};
 
-use crate::quiet::quiet_stores;
 use hip_fix::apply_skipping;
+use hip_levels::quiet_stores;
 use hip_repairs::{Plan, Repaired};
+use hip_sound::Checked;
 use hip_types::NoMemory;
-use hip_typing::Checked;
 use std::alloc::Global;
 
 /// The program repaired by a plan, where no flush is put by cloning after stores whose address has another level than

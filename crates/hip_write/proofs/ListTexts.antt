@@ -3,7 +3,7 @@ use Rattle.std.proofs.Common.{ℕ, zero, suc, ◌+◌, ◌<◌, ◌≡◌, List,
 use Rattle.std.specs.List.{flat_map}
 use Rattle.std.proofs.lemmas.List.{take_more, map_push}
 use Rattle.std.proofs.lemmas.Grind.{flat_map-append}
-use Rattle.hip_ir.specs.Show.{commas, after_commas, braced}
+use Rattle.hip_grammar.specs.Show.{commas, after_commas, braced}
 use Rattle.hip_write.specs.Parts.{separator_at}
 
 pub separator_after : (i : ℕ) → separator_at (i + 1) ≡ codes ", "

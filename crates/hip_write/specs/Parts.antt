@@ -1,8 +1,8 @@
 -- The texts of parts of a program that its writer meets one by one.
 use Rattle.std.specs.Prelude.{ℕ, zero, suc, List, [], codes}
-use Rattle.hip_ir.specs.declared.instr.Instr.{Instr}
-use Rattle.hip_ir.specs.declared.instr.Instr.TheVariants.{Binary, Compare, Select, Cast, Alloca, Load, Store, Gep}
-use Rattle.hip_ir.specs.Show.{instr_text}
+use Rattle.hip_tree.specs.declared.instr.Instr.{Instr}
+use Rattle.hip_tree.specs.declared.instr.Instr.TheVariants.{Binary, Compare, Select, Cast, Alloca, Load, Store, Gep}
+use Rattle.hip_grammar.specs.Show.{instr_text}
 
 -- what stands before the item of that number
 abbrev pub separator_at : ℕ → List ℕ

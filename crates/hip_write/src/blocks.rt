@@ -3,14 +3,14 @@
 ghost use Rattle.std.specs.Prelude.{◌++◌, codes, map};
 ghost use Rattle.std.specs.List.{flat_map};
 ghost use Rattle.hip_io.specs.Sinks.{Writes};
-ghost use Rattle.hip_ir.specs.Show.{arg_text, edge_text, phi_text, case_text, end_text, line_of, phi_line, instr_line, block_text, commas};
+ghost use Rattle.hip_grammar.specs.Show.{arg_text, edge_text, phi_text, case_text, end_text, line_of, phi_line, instr_line, block_text, commas};
 
 use crate::instructions::{put_instr, put_operand};
 use crate::lists::{Written, put_all, put_joined};
 use crate::text::{put_assigned, put_name};
 use crate::words::put_keyword;
 use hip_io::{Put, Sink, put_after};
-use hip_ir::{Arg, Block, Case, Edge, End, Instr, Operand, Phi};
+use hip_tree::{Arg, Block, Case, Edge, End, Instr, Operand, Phi};
 use hip_types::{Name, Row, Width};
 
 impl Written for Edge {

@@ -3,14 +3,14 @@
 ghost use Rattle.std.specs.Prelude.{◌≡◌, ◌++◌, ◌+◌, ◌-◌, ◌≤◌, ◌<◌, nat_lt, if◌then◌else◌, codes, map};
 ghost use Rattle.std.specs.Fmt.{decimal};
 ghost use Rattle.hip_io.specs.Sinks.{Writes};
-ghost use Rattle.hip_ir.specs.Show.{truth_text, literal_text, index_text, inbounds_text, const_text, gep_text, item_text, bracketed, braced, commas, after_commas};
+ghost use Rattle.hip_grammar.specs.Show.{truth_text, literal_text, index_text, inbounds_text, const_text, gep_text, item_text, bracketed, braced, commas, after_commas};
 
 use crate::lists::{Written, put_more};
 use crate::text::{put_address, put_natural};
 use crate::types::put_type;
 use crate::words::put_keyword;
 use hip_io::{Put, Sink, put_after};
-use hip_ir::{Const, ConstGep, TypedConst};
+use hip_tree::{Const, ConstGep, TypedConst};
 use hip_types::{Bits, Row, Width};
 
 fn put_truth<S: Sink>(before: Put, out: &mut S, n: u64) -> Put

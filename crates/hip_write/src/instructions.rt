@@ -3,7 +3,7 @@
 ghost use Rattle.std.specs.Prelude.{◌++◌, codes, map};
 ghost use Rattle.std.specs.Fmt.{decimal};
 ghost use Rattle.hip_io.specs.Sinks.{Writes};
-ghost use Rattle.hip_ir.specs.Show.{operand_text, arg_text, align_text, result_text, instr_text, commas, after_commas};
+ghost use Rattle.hip_grammar.specs.Show.{operand_text, arg_text, align_text, result_text, instr_text, commas, after_commas};
 ghost use Rattle.hip_write.specs.Parts.{computed_text, memory_text};
 
 use crate::constants::{put_const, put_inbounds};
@@ -12,7 +12,7 @@ use crate::text::{put_assigned, put_name, put_natural, put_register};
 use crate::types::{put_ret, put_type};
 use crate::words::{put_flags, put_keyword};
 use hip_io::{Put, Sink, put_after};
-use hip_ir::{Arg, Flags, Instr, Operand};
+use hip_tree::{Arg, Flags, Instr, Operand};
 use hip_types::{BinaryOp, CastOp, Name, Pred, Row, Scalar, Ty, Width};
 
 pub fn put_operand<S: Sink>(before: Put, out: &mut S, operand: &Operand) -> Put

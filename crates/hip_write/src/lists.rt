@@ -3,7 +3,7 @@
 ghost use Rattle.std.specs.Prelude.{◌≡◌, ℕ, List, map};
 ghost use Rattle.std.specs.List.{flat_map};
 ghost use Rattle.hip_io.specs.Sinks.{Writes};
-ghost use Rattle.hip_ir.specs.Show.{commas, after_commas, parenthesized};
+ghost use Rattle.hip_grammar.specs.Show.{commas, after_commas, parenthesized};
 
 use hip_io::{Put, Sink, put_after};
 use hip_types::Row;

@@ -1,8 +1,8 @@
 //! Globals, externs, functions and whole programs.
 
 ghost use Rattle.hip_io.specs.Sinks.{Writes, Wrote};
-ghost use Rattle.hip_ir.specs.Show.{fixed_text, section_text, global_text, extern_text, param_text, function_text, show};
-ghost use Rattle.hip_ir.specs.Words.{scalar_text};
+ghost use Rattle.hip_grammar.specs.Show.{fixed_text, section_text, global_text, extern_text, param_text, function_text, show};
+ghost use Rattle.hip_grammar.specs.Words.{scalar_text};
 
 use crate::constants::put_const;
 use crate::instructions::put_align;
@@ -11,7 +11,7 @@ use crate::text::put_name;
 use crate::types::{put_ret, put_type};
 use crate::words::put_keyword;
 use hip_io::{Put, Sink, WriteFault, put_after};
-use hip_ir::{Extern, Function, GlobalVar, Param, Program};
+use hip_tree::{Extern, Function, GlobalVar, Param, Program};
 use hip_types::Scalar;
 
 fn put_kind<S: Sink>(before: Put, out: &mut S, fixed: bool) -> Put

@@ -3,7 +3,7 @@
 ghost use Rattle.std.specs.Prelude.{◌++◌, codes};
 ghost use Rattle.std.specs.Fmt.{decimal};
 ghost use Rattle.hip_io.specs.Sinks.{Writes};
-ghost use Rattle.hip_ir.specs.Show.{assigned_text};
+ghost use Rattle.hip_grammar.specs.Show.{assigned_text};
 
 use hip_io::{Put, Sink, put_after};
 use hip_num::natural_into;

@@ -3,13 +3,13 @@
 ghost use Rattle.std.specs.Prelude.{◌≡◌, ◌++◌, codes, map};
 ghost use Rattle.std.specs.Fmt.{decimal};
 ghost use Rattle.hip_io.specs.Sinks.{Writes};
-ghost use Rattle.hip_ir.specs.Show.{type_text, commas, braced};
-ghost use Rattle.hip_ir.specs.Words.{ret_text};
+ghost use Rattle.hip_grammar.specs.Show.{type_text, commas, braced};
+ghost use Rattle.hip_grammar.specs.Words.{ret_text};
 
 use crate::text::put_natural;
 use crate::words::put_keyword;
+use hip_grammar::ret_text;
 use hip_io::{Put, Sink, put_after};
-use hip_ir::ret_text;
 use hip_types::{Scalar, Ty};
 
 pub fn put_ret<S: Sink>(before: Put, out: &mut S, ret: Option<Scalar>) -> Put

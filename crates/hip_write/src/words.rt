@@ -2,11 +2,12 @@
 
 ghost use Rattle.std.specs.Prelude.{◌++◌, codes};
 ghost use Rattle.hip_io.specs.Sinks.{Writes};
-ghost use Rattle.hip_ir.specs.Show.{flag_if, flags_text};
-ghost use Rattle.hip_ir.specs.Words.{flag_text};
+ghost use Rattle.hip_grammar.specs.Show.{flag_if, flags_text};
+ghost use Rattle.hip_grammar.specs.Words.{flag_text};
 
+use hip_grammar::Keyword;
 use hip_io::{Put, Sink, put_after};
-use hip_ir::{Flag, Flags, Keyword};
+use hip_tree::{Flag, Flags};
 
 pub fn put_keyword<S: Sink, K: Keyword>(before: Put, out: &mut S, value: K) -> Put
     ensures { Writes before result (S.state out.old) (S.state out.new) (K.text value) }

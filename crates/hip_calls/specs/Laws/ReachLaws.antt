@@ -10,17 +10,17 @@ use Rattle.std.proofs.lemmas.Map.Steps.{length-le_from_distinct_below}
 use Rattle.std.proofs.lemmas.Option.{slice_get_within, same_Some}
 use Rattle.hip_types.specs.Distinct.{met}
 use Rattle.hip_types.specs.Laws.DistinctLaws.{any_front, any_back, any_either, any_at, any_found, met-kept, met-distinct, met-first, met-second, met-only}
-use Rattle.hip_ir.specs.Sites.{instr_of}
-use Rattle.hip_ir.specs.declared.block.Block.{Block}
-use Rattle.hip_ir.specs.declared.instr.Arg.{Arg}
-use Rattle.hip_ir.specs.declared.instr.Instr.{Instr}
-use Rattle.hip_ir.specs.declared.instr.Instr.TheVariants as instrs
-use Rattle.hip_ir.specs.declared.program.Function.{Function}
-use Rattle.hip_ir.specs.declared.program.Program.{Program}
-use Rattle.hip_ir.specs.declared.site.Site.{Site}
+use Rattle.hip_tree.specs.Sites.{instr_of}
+use Rattle.hip_tree.specs.declared.block.Block.{Block}
+use Rattle.hip_tree.specs.declared.instr.Arg.{Arg}
+use Rattle.hip_tree.specs.declared.instr.Instr.{Instr}
+use Rattle.hip_tree.specs.declared.instr.Instr.TheVariants as instrs
+use Rattle.hip_tree.specs.declared.program.Function.{Function}
+use Rattle.hip_tree.specs.declared.program.Program.{Program}
+use Rattle.hip_tree.specs.declared.site.Site.{Site}
 use Rattle.hip_types.specs.declared.number.Scalar.{Scalar}
-use Rattle.hip_typing.specs.Numbering.{function_number, name_in}
-use Rattle.hip_typing.specs.Laws.NumberingLaws.{function_number-there, function_number-within}
+use Rattle.hip_sound.specs.Numbering.{function_number, name_in}
+use Rattle.hip_sound.specs.Laws.NumberingLaws.{function_number-there, function_number-within}
 use Rattle.hip_calls.specs.Fresh.{name_of}
 use Rattle.hip_calls.specs.Reach.{called_by, called_in, called_from, called_at, extended, reached, callees}
 

@@ -4,10 +4,10 @@ use Rattle.std.proofs.Common.{sym, ap, ap₂, ◌∙◌, subst, arith}
 use Rattle.std.proofs.lemmas.List.{length-map}
 use Rattle.std.proofs.lemmas.Option.{same_Some}
 use Rattle.hip_types.specs.declared.number.Scalar.{Scalar}
-use Rattle.hip_ir.specs.declared.instr.Arg.{Arg}
-use Rattle.hip_ir.specs.declared.instr.Instr.TheVariants as instrs
-use Rattle.hip_ir.specs.declared.program.Function.{Function}
-use Rattle.hip_ir.specs.declared.program.Program.{Program}
+use Rattle.hip_tree.specs.declared.instr.Arg.{Arg}
+use Rattle.hip_tree.specs.declared.instr.Instr.TheVariants as instrs
+use Rattle.hip_tree.specs.declared.program.Function.{Function}
+use Rattle.hip_tree.specs.declared.program.Program.{Program}
 use Rattle.hip_externs.specs.Externs.{call_of}
 use Rattle.hip_runs.specs.declared.event.TrapKind.TheVariants as traps
 use Rattle.hip_runs.specs.declared.input.Input.{Input}

@@ -5,13 +5,13 @@ use Rattle.std.proofs.Math.Nat.{add-mod-mod, mod-add-mod, mul_comm}
 use Rattle.hip_types.specs.Layout.{Part, enter, enter_level, further, part_at, gep_of, size_of}
 use Rattle.hip_types.specs.declared.number.Width.{Width}
 use Rattle.hip_types.specs.declared.ty.Ty.{Ty}
-use Rattle.hip_ir.specs.declared.instr.Arg.{Arg}
-use Rattle.hip_ir.specs.declared.instr.Instr.TheVariants as instrs
-use Rattle.hip_ir.specs.declared.instr.Operand as named
-use Rattle.hip_ir.specs.declared.program.GlobalVar.{GlobalVar}
-use Rattle.hip_ir.specs.declared.program.Program.{Program}
+use Rattle.hip_tree.specs.declared.instr.Arg.{Arg}
+use Rattle.hip_tree.specs.declared.instr.Instr.TheVariants as instrs
+use Rattle.hip_tree.specs.declared.instr.Operand as named
+use Rattle.hip_tree.specs.declared.program.GlobalVar.{GlobalVar}
+use Rattle.hip_tree.specs.declared.program.Program.{Program}
 use Rattle.hip_names.specs.Names.{number_of}
-use Rattle.hip_typing.specs.Registers.{arg_uses}
+use Rattle.hip_sound.specs.Registers.{arg_uses}
 use Rattle.hip_globals.specs.Values.{element_address}
 use Rattle.hip_runs.specs.declared.input.Input.{Input}
 use Rattle.hip_runs.specs.Actions.{index_value, index_values, instr_action}

@@ -8,15 +8,15 @@ use Rattle.hip_types.specs.declared.number.Scalar.{Scalar}
 use Rattle.hip_types.specs.declared.number.Scalar.TheVariants as scalars
 use Rattle.hip_types.specs.declared.number.Width.TheVariants.{W1, W8, W16, W32, W64}
 use Rattle.hip_types.specs.declared.ty.Ty.{Ty}
-use Rattle.hip_ir.specs.declared.instr.Arg.{Arg}
-use Rattle.hip_ir.specs.declared.instr.Instr.TheVariants as instrs
-use Rattle.hip_ir.specs.declared.instr.Operand as named
-use Rattle.hip_ir.specs.declared.program.Program.{Program}
-use Rattle.hip_mem.specs.Bytes.{bytes_of, little_endian}
+use Rattle.hip_tree.specs.declared.instr.Arg.{Arg}
+use Rattle.hip_tree.specs.declared.instr.Instr.TheVariants as instrs
+use Rattle.hip_tree.specs.declared.instr.Operand as named
+use Rattle.hip_tree.specs.declared.program.Program.{Program}
+use Rattle.hip_types.specs.Bytes.{bytes_of, little_endian}
 use Rattle.hip_mem.specs.Memory.{bytes_at}
 use Rattle.hip_names.specs.Names.{number_of}
 use Rattle.hip_externs.specs.Externs.{call_of, row_of}
-use Rattle.hip_typing.specs.Registers.{arg_uses}
+use Rattle.hip_sound.specs.Registers.{arg_uses}
 use Rattle.hip_externs.specs.declared.call.ExternCall.{ExternCall}
 use Rattle.hip_externs.specs.declared.call.ExternCall.TheVariants as calls
 use Rattle.hip_externs.specs.declared.call.LineEffect.{LineEffect}

@@ -3,13 +3,13 @@ use Rattle.std.specs.Prelude.{ℕ, ◌+◌, ◌<◌, ◌≤◌, ◌≡◌, Bool,
 use Rattle.std.specs.Str.{bytes_eq}
 use Rattle.std.proofs.Common.{zero, suc, refl, sym, ap, ap₂, ◌∙◌, subst, arith}
 use Rattle.std.proofs.lemmas.Slice.Eq.{bytes_eq-Decides}
-use Rattle.hip_ir.specs.declared.block.Edge.{Edge}
-use Rattle.hip_ir.specs.declared.block.Phi.{Phi}
-use Rattle.hip_ir.specs.declared.instr.Arg.{Arg}
-use Rattle.hip_ir.specs.declared.instr.Operand as named
-use Rattle.hip_ir.specs.declared.program.GlobalVar.{GlobalVar}
-use Rattle.hip_ir.specs.declared.program.Param.{Param}
-use Rattle.hip_typing.specs.Registers.{arg_uses}
+use Rattle.hip_tree.specs.declared.block.Edge.{Edge}
+use Rattle.hip_tree.specs.declared.block.Phi.{Phi}
+use Rattle.hip_tree.specs.declared.instr.Arg.{Arg}
+use Rattle.hip_tree.specs.declared.instr.Operand as named
+use Rattle.hip_tree.specs.declared.program.GlobalVar.{GlobalVar}
+use Rattle.hip_tree.specs.declared.program.Param.{Param}
+use Rattle.hip_sound.specs.Registers.{arg_uses}
 use Rattle.hip_runs.specs.Actions.{after_phis, edge_value}
 use Rattle.hip_runs.specs.Operands.{bound, value_of, values_of}
 use Rattle.hip_runs.specs.State.{Registers}

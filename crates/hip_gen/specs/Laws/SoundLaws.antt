@@ -16,36 +16,36 @@ use Rattle.hip_types.specs.declared.number.Width.TheVariants.{W32, W64}
 use Rattle.hip_types.specs.declared.ty.Ty.{Ty}
 use Rattle.hip_types.specs.declared.ty.Ty.TheOpen.{Ty-F}
 use Rattle.hip_types.specs.declared.ty.Ty.TheVariants as types
-use Rattle.hip_ir.specs.Reading.{Reads}
-use Rattle.hip_ir.specs.Laws.Levels.{out-Ty-Int, out-Ty-Ptr, out-Ty-Array}
-use Rattle.hip_ir.specs.declared.block.Block.{Block}
-use Rattle.hip_ir.specs.declared.constant.Const.{Const}
-use Rattle.hip_ir.specs.declared.constant.Const.TheFolds.{fold-roll-Const, fold_out-ConstGep}
-use Rattle.hip_ir.specs.declared.constant.Const.TheOpen.{Const-F}
-use Rattle.hip_ir.specs.declared.constant.Const.TheVariants as consts
-use Rattle.hip_ir.specs.declared.constant.ConstGep.{ConstGep}
-use Rattle.hip_ir.specs.declared.instr.Instr.{Instr}
-use Rattle.hip_ir.specs.declared.program.Function.{Function}
-use Rattle.hip_ir.specs.declared.program.Program.{Program}
-use Rattle.hip_lines.specs.declared.TheConstants.{LINE_SIZE}
-use Rattle.hip_mem.specs.Memory.{volatile_start}
+use Rattle.hip_grammar.specs.Reading.{Reads}
+use Rattle.hip_tree.specs.Laws.Levels.{out-Ty-Int, out-Ty-Ptr, out-Ty-Array}
+use Rattle.hip_tree.specs.declared.block.Block.{Block}
+use Rattle.hip_tree.specs.declared.constant.Const.{Const}
+use Rattle.hip_tree.specs.declared.constant.Const.TheFolds.{fold-roll-Const, fold_out-ConstGep}
+use Rattle.hip_tree.specs.declared.constant.Const.TheOpen.{Const-F}
+use Rattle.hip_tree.specs.declared.constant.Const.TheVariants as consts
+use Rattle.hip_tree.specs.declared.constant.ConstGep.{ConstGep}
+use Rattle.hip_tree.specs.declared.instr.Instr.{Instr}
+use Rattle.hip_tree.specs.declared.program.Function.{Function}
+use Rattle.hip_tree.specs.declared.program.Program.{Program}
+use Rattle.hip_types.specs.declared.areas.TheConstants.{LINE_SIZE}
+use Rattle.hip_types.specs.Areas.{volatile_start}
 use Rattle.hip_names.specs.Names.{is_among, AllDiffer}
 use Rattle.hip_globals.specs.Addresses.{region_size, volatile_end}
 use Rattle.hip_globals.specs.Constants.{types_in}
-use Rattle.hip_typing.specs.Constants.{has_shape, gep_is_sound, names_in}
-use Rattle.hip_typing.specs.Places.{Scope, scope_of, instr_check, end_check}
-use Rattle.hip_typing.specs.Registers.{assigned_by, body_registers, instr_uses, used_registers}
-use Rattle.hip_typing.specs.Rules.{RegisterUse, AllAssigned, UseIsAssigned, use_at, site, declarations, inner_names, global_check, globals_check, sizes_check, inner_names_check, instr_at, block_check, function_check, places_check}
-use Rattle.hip_typing.specs.Sound.{IsSound, UsesAreAssigned, names_in_function}
-use Rattle.hip_typing.specs.declared.assigned.Point.TheVariants.{Before}
-use Rattle.hip_typing.specs.declared.fault.Place.{Place}
-use Rattle.hip_typing.specs.declared.fault.Place.TheVariants as places
-use Rattle.hip_typing.specs.Laws.AssignedExact.{assigned-whole}
-use Rattle.hip_typing.specs.Laws.CheckLaws.{differ_after-exact, each_from-exact}
-use Rattle.hip_typing.specs.Laws.Decided.{all-at, each-whole}
-use Rattle.hip_typing.specs.Laws.NameLaws.{inner-whole}
-use Rattle.hip_typing.specs.Laws.SoundExact.{passes-sound}
-use Rattle.hip_typing.specs.Laws.SoundLaws.{externs-exact, block-exact}
+use Rattle.hip_sound.specs.Constants.{has_shape, gep_is_sound, names_in}
+use Rattle.hip_sound.specs.Places.{Scope, scope_of, instr_check, end_check}
+use Rattle.hip_sound.specs.Registers.{assigned_by, body_registers, instr_uses, used_registers}
+use Rattle.hip_sound.specs.Rules.{RegisterUse, AllAssigned, UseIsAssigned, use_at, site, declarations, inner_names, global_check, globals_check, sizes_check, inner_names_check, instr_at, block_check, function_check, places_check}
+use Rattle.hip_sound.specs.Sound.{IsSound, UsesAreAssigned, names_in_function}
+use Rattle.hip_sound.specs.declared.point.Point.TheVariants.{Before}
+use Rattle.hip_sound.specs.declared.fault.Place.{Place}
+use Rattle.hip_sound.specs.declared.fault.Place.TheVariants as places
+use Rattle.hip_sound.specs.Laws.AssignedExact.{assigned-whole}
+use Rattle.hip_sound.specs.Laws.CheckLaws.{differ_after-exact, each_from-exact}
+use Rattle.hip_sound.specs.Laws.Decided.{all-at, each-whole}
+use Rattle.hip_sound.specs.Laws.NameLaws.{inner-whole}
+use Rattle.hip_sound.specs.Laws.SoundExact.{passes-sound}
+use Rattle.hip_sound.specs.Laws.SoundLaws.{externs-exact, block-exact}
 use Rattle.hip_gen.specs.declared.kinds.Kind.{Kind}
 use Rattle.hip_gen.specs.declared.kinds.Kind.TheVariants as kinds
 use Rattle.hip_gen.specs.declared.limits.TheConstants.{LARGEST_SIZE, VOLATILE_LENGTH}

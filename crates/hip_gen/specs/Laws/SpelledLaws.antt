@@ -8,13 +8,13 @@ use Rattle.hip_types.specs.declared.limits.TheConstants.{LARGEST_COUNT}
 use Rattle.hip_types.specs.declared.number.Width.TheVariants.{W32, W64}
 use Rattle.hip_types.specs.declared.ty.Ty.TheVariants as types
 use Rattle.hip_tokens.specs.Longest.{is_name}
-use Rattle.hip_ir.specs.Laws.Levels.{out-Ty-Int, out-Ty-Array, out-Const-Int, out-Const-Zero, out-Const-Address, out-Const-Gep}
-use Rattle.hip_ir.specs.Laws.SpellingExact.{spelled_exact}
-use Rattle.hip_ir.specs.Reading.{IsSpelled}
-use Rattle.hip_ir.specs.Spelling.{spelled_type, spelled_type_within, spelled_const, spelled_const_within, spelled_pointer, spelled_pointer_within, spelled_int, spelled_instr, spelled_block, spelled_global, spelled_program}
-use Rattle.hip_ir.specs.declared.constant.Const.{Const, out-Const}
-use Rattle.hip_ir.specs.declared.constant.Const.TheVariants as consts
-use Rattle.hip_ir.specs.declared.instr.Instr.{Instr}
+use Rattle.hip_tree.specs.Laws.Levels.{out-Ty-Int, out-Ty-Array, out-Const-Int, out-Const-Zero, out-Const-Address, out-Const-Gep}
+use Rattle.hip_grammar.specs.Laws.SpellingExact.{spelled_exact}
+use Rattle.hip_grammar.specs.Reading.{IsSpelled}
+use Rattle.hip_grammar.specs.Spelling.{spelled_type, spelled_type_within, spelled_const, spelled_const_within, spelled_pointer, spelled_pointer_within, spelled_int, spelled_instr, spelled_block, spelled_global, spelled_program}
+use Rattle.hip_tree.specs.declared.constant.Const.{Const, out-Const}
+use Rattle.hip_tree.specs.declared.constant.Const.TheVariants as consts
+use Rattle.hip_tree.specs.declared.instr.Instr.{Instr}
 use Rattle.hip_gen.specs.declared.kinds.Kind.{Kind}
 use Rattle.hip_gen.specs.declared.kinds.Kind.TheVariants as kinds
 use Rattle.hip_gen.specs.declared.limits.TheConstants.{LARGEST_SIZE, VOLATILE_LENGTH}

@@ -12,13 +12,13 @@ use Rattle.hip_types.specs.declared.number.Width.TheVariants.{W32, W64}
 use Rattle.hip_types.specs.declared.ty.Ty.TheVariants as types
 use Rattle.hip_types.specs.declared.ty.Ty.TheFolds.{fold-roll-Ty}
 use Rattle.hip_types.specs.declared.ty.Ty.TheOpen.{Ty-F}
-use Rattle.hip_ir.specs.declared.constant.Const.{Const}
-use Rattle.hip_ir.specs.declared.constant.Const.TheFolds.{fold-roll-Const, fold_out-ConstGep}
-use Rattle.hip_ir.specs.declared.constant.Const.TheOpen.{Const-F}
-use Rattle.hip_ir.specs.declared.constant.Const.TheVariants as consts
-use Rattle.hip_ir.specs.declared.constant.ConstGep.{ConstGep}
-use Rattle.hip_ir.specs.declared.instr.Instr.{Instr}
-use Rattle.hip_ir.specs.Show.{type_step, type_text, literal_text, index_text, after_commas, inbounds_text, const_step, gep_step, typed_step, const_text, instr_text, line_of, global_text, function_text, show}
+use Rattle.hip_tree.specs.declared.constant.Const.{Const}
+use Rattle.hip_tree.specs.declared.constant.Const.TheFolds.{fold-roll-Const, fold_out-ConstGep}
+use Rattle.hip_tree.specs.declared.constant.Const.TheOpen.{Const-F}
+use Rattle.hip_tree.specs.declared.constant.Const.TheVariants as consts
+use Rattle.hip_tree.specs.declared.constant.ConstGep.{ConstGep}
+use Rattle.hip_tree.specs.declared.instr.Instr.{Instr}
+use Rattle.hip_grammar.specs.Show.{type_step, type_text, literal_text, index_text, after_commas, inbounds_text, const_step, gep_step, typed_step, const_text, instr_text, line_of, global_text, function_text, show}
 use Rattle.hip_gen.specs.declared.kinds.Kind.{Kind}
 use Rattle.hip_gen.specs.declared.kinds.Kind.TheVariants as kinds
 use Rattle.hip_gen.specs.declared.limits.TheConstants.{LARGEST_SIZE, VOLATILE_LENGTH}

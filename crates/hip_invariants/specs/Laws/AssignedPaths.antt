@@ -3,15 +3,15 @@ use Rattle.std.proofs.Common.{◌≡◌, ◌⊎◌, ⊎_elim, inl, inr, ℕ, zer
 use Rattle.std.specs.Prelude.{unwrap_or}
 use Rattle.std.specs.List.{flat_map}
 use Rattle.std.proofs.lemmas.Option.{same_Some}
-use Rattle.hip_ir.specs.declared.block.Block.{Block}
-use Rattle.hip_ir.specs.declared.instr.Instr.{Instr}
-use Rattle.hip_ir.specs.declared.program.Function.{Function}
+use Rattle.hip_tree.specs.declared.block.Block.{Block}
+use Rattle.hip_tree.specs.declared.instr.Instr.{Instr}
+use Rattle.hip_tree.specs.declared.program.Function.{Function}
 use Rattle.hip_names.specs.Laws.NameLaws.{among-left, among-right, among-either}
 use Rattle.hip_names.specs.Names.{IsAmong}
-use Rattle.hip_typing.specs.Paths.{LeadsTo, IsChain, IsPathTo, registers_before, names_of, whole_block_names, names_before, assigned_on}
-use Rattle.hip_typing.specs.Registers.{assigned_by, phi_registers, body_registers, block_registers, parameter_registers}
-use Rattle.hip_typing.specs.declared.assigned.Point.{Point}
-use Rattle.hip_typing.specs.declared.assigned.Point.TheVariants.{Before, AtEnd}
+use Rattle.hip_sound.specs.Paths.{LeadsTo, IsChain, IsPathTo, registers_before, names_of, whole_block_names, names_before, assigned_on}
+use Rattle.hip_sound.specs.Registers.{assigned_by, phi_registers, body_registers, block_registers, parameter_registers}
+use Rattle.hip_sound.specs.declared.point.Point.{Point}
+use Rattle.hip_sound.specs.declared.point.Point.TheVariants.{Before, AtEnd}
 use Rattle.hip_invariants.specs.Laws.Registers.Names.{named_either, named_left, named_right}
 
 -- ---- one instruction more

@@ -2,15 +2,15 @@
 use Rattle.std.proofs.Common.{◌≡◌, ℕ, List, Option, Some, None, slice_get, option_map, sym, ap, ◌∙◌, subst}
 use Rattle.std.proofs.lemmas.Option.{same_Some, slice_get-map}
 use Rattle.hip_types.specs.declared.number.Scalar.{Scalar}
-use Rattle.hip_ir.specs.declared.instr.Arg.{Arg}
-use Rattle.hip_ir.specs.declared.program.Function.{Function}
-use Rattle.hip_ir.specs.declared.program.Program.{Program}
+use Rattle.hip_tree.specs.declared.instr.Arg.{Arg}
+use Rattle.hip_tree.specs.declared.program.Function.{Function}
+use Rattle.hip_tree.specs.declared.program.Program.{Program}
 use Rattle.hip_names.specs.Laws.NumberLaws.{number_of-there}
 use Rattle.hip_externs.specs.Externs.{call_of}
-use Rattle.hip_typing.specs.Given.{CallsFunction}
-use Rattle.hip_typing.specs.Laws.Decided.{all-at}
-use Rattle.hip_typing.specs.Numbering.{function_names}
-use Rattle.hip_typing.specs.Sound.{IsSound, IsFree}
+use Rattle.hip_sound.specs.Given.{CallsFunction}
+use Rattle.hip_sound.specs.Laws.Decided.{all-at}
+use Rattle.hip_sound.specs.Numbering.{function_names}
+use Rattle.hip_sound.specs.Sound.{IsSound, IsFree}
 
 -- no function has a name of the table
 pub function_free : (P : Program) (s : IsSound P) (callee : List ℕ) (ret : Option Scalar) (args : List Arg)

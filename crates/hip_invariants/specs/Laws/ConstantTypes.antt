@@ -9,22 +9,23 @@ use Rattle.hip_types.specs.declared.number.Scalar.TheVariants.{Int, Ptr}
 use Rattle.hip_types.specs.declared.number.Width.{Width}
 use Rattle.hip_types.specs.declared.ty.Ty.{Ty}
 use Rattle.hip_types.specs.declared.ty.Ty.TheVariants as types
-use Rattle.hip_ir.specs.Laws.Levels.{out-Ty-Int, out-Ty-Ptr}
-use Rattle.hip_ir.specs.declared.constant.Const.{Const, out-Const, roll-Const, roll-out-Const}
-use Rattle.hip_ir.specs.declared.constant.Const.TheOpen.{Const-F}
-use Rattle.hip_ir.specs.declared.constant.Const.TheFolds.{fold-roll-Const, fold_out-ConstGep}
-use Rattle.hip_ir.specs.declared.constant.ConstGep.{ConstGep}
-use Rattle.hip_ir.specs.declared.constant.TypedConst.{TypedConst}
-use Rattle.hip_ir.specs.declared.program.Program.{Program}
-use Rattle.hip_mem.specs.Memory.{volatile_start}
+use Rattle.hip_tree.specs.Laws.Levels.{out-Ty-Int, out-Ty-Ptr}
+use Rattle.hip_tree.specs.declared.constant.Const.{Const, out-Const, roll-Const, roll-out-Const}
+use Rattle.hip_tree.specs.declared.constant.Const.TheOpen.{Const-F}
+use Rattle.hip_tree.specs.declared.constant.Const.TheFolds.{fold-roll-Const, fold_out-ConstGep}
+use Rattle.hip_tree.specs.declared.constant.ConstGep.{ConstGep}
+use Rattle.hip_tree.specs.declared.constant.TypedConst.{TypedConst}
+use Rattle.hip_tree.specs.declared.program.Program.{Program}
+use Rattle.hip_types.specs.Areas.{volatile_start}
 use Rattle.hip_names.specs.Names.{number_of}
 use Rattle.hip_globals.specs.Addresses.{IsBase, end_of, start_of, is_persistent, address_in}
-use Rattle.hip_typing.specs.Constants.{has_shape}
-use Rattle.hip_globals.specs.Laws.AddressLaws.{spelled-divide, end_of-from}
-use Rattle.hip_typing.specs.Laws.TypeLaws.{same_width-equal}
-use Rattle.hip_ir.specs.Words.{type_of}
-use Rattle.hip_typing.specs.Types.{same_width}
-use Rattle.hip_typing.specs.Sound.{IsSound}
+use Rattle.hip_sound.specs.Constants.{has_shape}
+use Rattle.hip_globals.specs.Laws.AddressLaws.{end_of-from}
+use Rattle.hip_sound.specs.Laws.SpelledLaws.{spelled-divide}
+use Rattle.hip_sound.specs.Laws.TypeLaws.{same_width-equal}
+use Rattle.hip_grammar.specs.Words.{type_of}
+use Rattle.hip_sound.specs.Types.{same_width}
+use Rattle.hip_sound.specs.Sound.{IsSound}
 use Rattle.hip_globals.specs.Values.{Written, global_address, gep_address, const_value}
 use Rattle.hip_types.specs.Scalars.{width_of}
 use Rattle.hip_invariants.specs.Laws.GlobalAddresses.{start_before_end}

@@ -5,21 +5,21 @@ use Rattle.std.specs.List.{list_all, flat_map}
 use Rattle.std.proofs.lemmas.Bool.{and_parts}
 use Rattle.std.proofs.lemmas.List.Elements.{All-head, All-tail}
 use Rattle.std.proofs.lemmas.Option.{same_Some, slice_get-map}
-use Rattle.hip_ir.specs.Spelling.{not_empty, spelled_global, spelled_phi, spelled_block, spelled_function}
-use Rattle.hip_ir.specs.Laws.SpellingExact.{spelled_exact}
-use Rattle.hip_ir.specs.declared.block.Block.{Block}
-use Rattle.hip_ir.specs.declared.block.Edge.{Edge}
-use Rattle.hip_ir.specs.declared.block.Phi.{Phi}
-use Rattle.hip_ir.specs.declared.program.Function.{Function}
-use Rattle.hip_ir.specs.declared.program.Program.{Program}
+use Rattle.hip_grammar.specs.Spelling.{not_empty, spelled_global, spelled_phi, spelled_block, spelled_function}
+use Rattle.hip_grammar.specs.Laws.SpellingExact.{spelled_exact}
+use Rattle.hip_tree.specs.declared.block.Block.{Block}
+use Rattle.hip_tree.specs.declared.block.Edge.{Edge}
+use Rattle.hip_tree.specs.declared.block.Phi.{Phi}
+use Rattle.hip_tree.specs.declared.program.Function.{Function}
+use Rattle.hip_tree.specs.declared.program.Program.{Program}
 use Rattle.hip_names.specs.Laws.NameLaws.{among-right}
 use Rattle.hip_names.specs.Names.{AllDiffer, IsAmong}
 use Rattle.hip_names.specs.Laws.NumberLaws.{number_of-first, number_of-known, number_of-there}
-use Rattle.hip_typing.specs.Laws.Decided.{all-at}
-use Rattle.hip_typing.specs.Paths.{label_at, names_of}
-use Rattle.hip_typing.specs.Registers.{end_labels, parameter_registers}
-use Rattle.hip_typing.specs.Sound.{IsSound, Precedes, EdgesAgree, PhiItem, EdgesAreSound, label_number, names_in_block, names_in_function}
-use Rattle.hip_typing.specs.Numbering.{label_names}
+use Rattle.hip_sound.specs.Laws.Decided.{all-at}
+use Rattle.hip_sound.specs.Paths.{label_at, names_of}
+use Rattle.hip_sound.specs.Registers.{end_labels, parameter_registers}
+use Rattle.hip_sound.specs.Sound.{IsSound, Precedes, EdgesAgree, PhiItem, EdgesAreSound, label_number, names_in_block, names_in_function}
+use Rattle.hip_sound.specs.Numbering.{label_names}
 use Rattle.hip_names.specs.Laws.DifferLaws.{differ_second}
 
 -- ---- what is spelled

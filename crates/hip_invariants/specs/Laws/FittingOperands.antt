@@ -10,17 +10,17 @@ use Rattle.hip_types.specs.declared.number.Scalar.{Scalar}
 use Rattle.hip_types.specs.declared.number.Scalar.TheVariants.{Int}
 use Rattle.hip_types.specs.declared.number.Width.{Width}
 use Rattle.hip_types.specs.declared.number.Width.TheVariants.{W32, W64}
-use Rattle.hip_ir.specs.declared.block.Block.{Block}
-use Rattle.hip_ir.specs.declared.block.End.{End}
-use Rattle.hip_ir.specs.declared.block.End.TheVariants as ends
-use Rattle.hip_ir.specs.declared.instr.Arg.{Arg}
-use Rattle.hip_ir.specs.declared.instr.Instr.{Instr}
-use Rattle.hip_ir.specs.declared.program.Function.{Function}
-use Rattle.hip_ir.specs.declared.program.Program.{Program}
+use Rattle.hip_tree.specs.declared.block.Block.{Block}
+use Rattle.hip_tree.specs.declared.block.End.{End}
+use Rattle.hip_tree.specs.declared.block.End.TheVariants as ends
+use Rattle.hip_tree.specs.declared.instr.Arg.{Arg}
+use Rattle.hip_tree.specs.declared.instr.Instr.{Instr}
+use Rattle.hip_tree.specs.declared.program.Function.{Function}
+use Rattle.hip_tree.specs.declared.program.Program.{Program}
 use Rattle.hip_num.specs.Comparisons.{holds}
-use Rattle.hip_typing.specs.Laws.GivenLaws.{sound-operands}
-use Rattle.hip_typing.specs.Registers.{Use, instr_uses, end_uses, phi_uses}
-use Rattle.hip_typing.specs.Sound.{IsSound, IsTyped, EndItem, OwnTypesAgree}
+use Rattle.hip_sound.specs.Laws.GivenLaws.{sound-operands}
+use Rattle.hip_sound.specs.Registers.{Use, instr_uses, end_uses, phi_uses}
+use Rattle.hip_sound.specs.Sound.{IsSound, IsTyped, EndItem, OwnTypesAgree}
 use Rattle.hip_runs.specs.declared.input.Input.{Input}
 use Rattle.hip_runs.specs.Actions.{returned}
 use Rattle.hip_types.specs.Scalars.{width_of}

@@ -4,7 +4,7 @@ use Rattle.std.specs.Prelude.{if◌then◌else◌}
 use Rattle.std.proofs.lemmas.Option.{same_Some}
 use Rattle.hip_types.specs.Layout.{shape}
 use Rattle.hip_types.specs.Laws.LayoutLaws.{next-le}
-use Rattle.hip_ir.specs.declared.program.GlobalVar.{GlobalVar}
+use Rattle.hip_tree.specs.declared.program.GlobalVar.{GlobalVar}
 use Rattle.hip_globals.specs.Addresses.{same_truth, global_align, global_start, end_of, start_of, is_persistent}
 
 -- where a global ends that is laid at the next multiple of its alignment from an address on

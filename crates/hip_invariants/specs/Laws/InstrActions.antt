@@ -5,20 +5,21 @@ use Rattle.std.specs.Int.{next_multiple_of}
 use Rattle.hip_types.specs.Layout.{shape}
 use Rattle.hip_types.specs.Numbers.{bits}
 use Rattle.hip_types.specs.declared.number.Bits.{Bits}
-use Rattle.hip_ir.specs.declared.instr.Arg.{Arg}
-use Rattle.hip_ir.specs.declared.instr.Instr.{Instr}
-use Rattle.hip_ir.specs.declared.instr.Instr.TheVariants.{Binary, Compare, Select, Cast, Alloca, Load, Store, Gep, Call}
-use Rattle.hip_ir.specs.declared.instr.Operand.{Operand}
-use Rattle.hip_ir.specs.declared.program.Function.{Function}
-use Rattle.hip_ir.specs.declared.program.Program.{Program}
-use Rattle.hip_mem.specs.Bytes.{bytes_of}
-use Rattle.hip_mem.specs.Memory.{stack_end, bytes_at}
+use Rattle.hip_tree.specs.declared.instr.Arg.{Arg}
+use Rattle.hip_tree.specs.declared.instr.Instr.{Instr}
+use Rattle.hip_tree.specs.declared.instr.Instr.TheVariants.{Binary, Compare, Select, Cast, Alloca, Load, Store, Gep, Call}
+use Rattle.hip_tree.specs.declared.instr.Operand.{Operand}
+use Rattle.hip_tree.specs.declared.program.Function.{Function}
+use Rattle.hip_tree.specs.declared.program.Program.{Program}
+use Rattle.hip_types.specs.Bytes.{bytes_of}
+use Rattle.hip_mem.specs.Memory.{bytes_at}
+use Rattle.hip_types.specs.Areas.{stack_end}
 use Rattle.hip_num.specs.Arithmetic.{binary_of}
 use Rattle.hip_num.specs.Comparisons.{holds}
 use Rattle.hip_num.specs.declared.arithmetic.NumTrap.{NumTrap}
 use Rattle.hip_num.specs.declared.arithmetic.NumTrap.TheVariants as num_traps
 use Rattle.hip_externs.specs.Externs.{call_of, row_of}
-use Rattle.hip_typing.specs.Numbering.{function_number}
+use Rattle.hip_sound.specs.Numbering.{function_number}
 use Rattle.hip_globals.specs.Values.{element_address}
 use Rattle.hip_externs.specs.declared.call.ExternCall.{ExternCall}
 use Rattle.hip_externs.specs.declared.call.ExternCall.TheVariants as calls

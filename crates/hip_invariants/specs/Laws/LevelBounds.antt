@@ -11,26 +11,26 @@ use Rattle.hip_types.specs.Numbers.{wrapped}
 use Rattle.hip_types.specs.declared.number.Scalar.{Scalar}
 use Rattle.hip_types.specs.declared.number.Width.TheVariants.{W64}
 use Rattle.hip_types.specs.declared.ty.Ty.{Ty}
-use Rattle.hip_ir.specs.declared.block.Edge.{Edge}
-use Rattle.hip_ir.specs.declared.block.End.TheVariants as ends
-use Rattle.hip_ir.specs.declared.constant.Const.{Const, out-Const, roll-Const, roll-out-Const}
-use Rattle.hip_ir.specs.declared.constant.Const.TheOpen.{Const-F}
-use Rattle.hip_ir.specs.declared.constant.Const.TheFolds.{fold-ConstGep, map-Const, ind-Const, fold-roll-Const, fold-roll-ConstGep}
-use Rattle.hip_ir.specs.declared.constant.ConstGep.{ConstGep, roll-ConstGep}
-use Rattle.hip_ir.specs.declared.constant.TypedConst.{TypedConst}
-use Rattle.hip_ir.specs.declared.instr.Arg.{Arg}
-use Rattle.hip_ir.specs.declared.instr.Instr.{Instr}
-use Rattle.hip_ir.specs.declared.instr.Instr.TheVariants.{Binary, Compare, Select, Cast, Alloca, Load, Store, Gep, Call}
-use Rattle.hip_ir.specs.declared.instr.Operand.{Operand}
-use Rattle.hip_ir.specs.declared.instr.Operand.TheVariants.{Reg, Fixed}
-use Rattle.hip_ir.specs.declared.program.GlobalVar.{GlobalVar}
-use Rattle.hip_ir.specs.declared.program.Param.{Param}
-use Rattle.hip_ir.specs.declared.program.Program.{Program}
-use Rattle.hip_mem.specs.Memory.{volatile_start, stack_end}
+use Rattle.hip_tree.specs.declared.block.Edge.{Edge}
+use Rattle.hip_tree.specs.declared.block.End.TheVariants as ends
+use Rattle.hip_tree.specs.declared.constant.Const.{Const, out-Const, roll-Const, roll-out-Const}
+use Rattle.hip_tree.specs.declared.constant.Const.TheOpen.{Const-F}
+use Rattle.hip_tree.specs.declared.constant.Const.TheFolds.{fold-ConstGep, map-Const, ind-Const, fold-roll-Const, fold-roll-ConstGep}
+use Rattle.hip_tree.specs.declared.constant.ConstGep.{ConstGep, roll-ConstGep}
+use Rattle.hip_tree.specs.declared.constant.TypedConst.{TypedConst}
+use Rattle.hip_tree.specs.declared.instr.Arg.{Arg}
+use Rattle.hip_tree.specs.declared.instr.Instr.{Instr}
+use Rattle.hip_tree.specs.declared.instr.Instr.TheVariants.{Binary, Compare, Select, Cast, Alloca, Load, Store, Gep, Call}
+use Rattle.hip_tree.specs.declared.instr.Operand.{Operand}
+use Rattle.hip_tree.specs.declared.instr.Operand.TheVariants.{Reg, Fixed}
+use Rattle.hip_tree.specs.declared.program.GlobalVar.{GlobalVar}
+use Rattle.hip_tree.specs.declared.program.Param.{Param}
+use Rattle.hip_tree.specs.declared.program.Program.{Program}
+use Rattle.hip_types.specs.Areas.{volatile_start, stack_end}
 use Rattle.hip_names.specs.Names.{number_of}
 use Rattle.hip_globals.specs.Addresses.{start_of, is_persistent, address_in}
 use Rattle.hip_globals.specs.Constants.{index_of}
-use Rattle.hip_typing.specs.Sound.{IsSound}
+use Rattle.hip_sound.specs.Sound.{IsSound}
 use Rattle.hip_globals.specs.Values.{Written, global_address, gep_address, const_value}
 use Rattle.hip_runs.specs.declared.input.Input.{Input}
 use Rattle.hip_runs.specs.Actions.{index_value, index_values, edge_value, returned}

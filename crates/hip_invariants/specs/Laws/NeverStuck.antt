@@ -3,19 +3,19 @@ use Rattle.std.proofs.Common.{◌≡◌, ℕ, Bool, true, false, cond, List, [],
 use Rattle.std.specs.Prelude.{All}
 use Rattle.std.proofs.lemmas.Bool.{both_ways}
 use Rattle.std.proofs.lemmas.List.Elements.{All-weaker}
-use Rattle.hip_ir.specs.declared.block.End.{End}
-use Rattle.hip_ir.specs.declared.program.Function.{Function}
-use Rattle.hip_ir.specs.declared.program.Program.{Program}
-use Rattle.hip_mem.specs.Bytes.{little_endian}
+use Rattle.hip_tree.specs.declared.block.End.{End}
+use Rattle.hip_tree.specs.declared.program.Function.{Function}
+use Rattle.hip_tree.specs.declared.program.Program.{Program}
+use Rattle.hip_types.specs.Bytes.{little_endian}
 use Rattle.hip_names.specs.Laws.NameLaws.{among-sound, among-whole}
 use Rattle.hip_names.specs.Names.{IsAmong, is_among, AllDiffer}
-use Rattle.hip_typing.specs.Laws.Decided.{all-at}
-use Rattle.hip_typing.specs.Laws.GivenLaws.{sound-phis}
-use Rattle.hip_typing.specs.Places.{edge_labels}
-use Rattle.hip_typing.specs.Paths.{IsAssigned}
-use Rattle.hip_typing.specs.Registers.{instr_uses, end_uses, end_labels, operand_registers, used_registers}
-use Rattle.hip_typing.specs.Sound.{IsSound, IsBlockAt, EdgeIsAssigned, names_in_function, label_number}
-use Rattle.hip_typing.specs.declared.assigned.Point.TheVariants.{Before, AtEnd}
+use Rattle.hip_sound.specs.Laws.Decided.{all-at}
+use Rattle.hip_sound.specs.Laws.GivenLaws.{sound-phis}
+use Rattle.hip_sound.specs.Places.{edge_labels}
+use Rattle.hip_sound.specs.Paths.{IsAssigned}
+use Rattle.hip_sound.specs.Registers.{instr_uses, end_uses, end_labels, operand_registers, used_registers}
+use Rattle.hip_sound.specs.Sound.{IsSound, IsBlockAt, EdgeIsAssigned, names_in_function, label_number}
+use Rattle.hip_sound.specs.declared.point.Point.TheVariants.{Before, AtEnd}
 use Rattle.hip_runs.specs.declared.event.Ending.TheVariants.{Trap, Cut}
 use Rattle.hip_runs.specs.declared.event.Event.{Event}
 use Rattle.hip_runs.specs.declared.event.Event.TheVariants as events

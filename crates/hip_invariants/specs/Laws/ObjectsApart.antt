@@ -4,11 +4,12 @@ use Rattle.std.specs.Prelude.{if◌then◌else◌}
 use Rattle.std.proofs.lemmas.Bool.{and_parts, cases_order}
 use Rattle.std.proofs.lemmas.Option.{same_Some}
 use Rattle.hip_types.specs.Layout.{shape}
-use Rattle.hip_ir.specs.declared.program.GlobalVar.{GlobalVar}
-use Rattle.hip_ir.specs.declared.program.Program.{Program}
-use Rattle.hip_mem.specs.Memory.{volatile_start, stack_start, stack_end, range_contains}
+use Rattle.hip_tree.specs.declared.program.GlobalVar.{GlobalVar}
+use Rattle.hip_tree.specs.declared.program.Program.{Program}
+use Rattle.hip_mem.specs.Memory.{range_contains}
+use Rattle.hip_types.specs.Areas.{volatile_start, stack_start, stack_end}
 use Rattle.hip_globals.specs.Addresses.{IsBase, start_of, is_persistent, address}
-use Rattle.hip_typing.specs.Sound.{IsSound}
+use Rattle.hip_sound.specs.Sound.{IsSound}
 use Rattle.hip_runs.specs.declared.event.Object.TheVariants as objects
 use Rattle.hip_runs.specs.declared.input.Input.{Input}
 use Rattle.hip_runs.specs.Found.Objects.{global_from, slot_in, or_else, slot_at}

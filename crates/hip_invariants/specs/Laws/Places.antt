@@ -1,9 +1,9 @@
 -- What stands at a frame's place, in its block and its function.
 use Rattle.std.proofs.Common.{◌≡◌, ℕ, true, List, [], ◌∷◌, Option, Some, None, slice_get, refl}
-use Rattle.hip_ir.specs.declared.block.Block.{Block}
-use Rattle.hip_ir.specs.declared.program.Function.{Function}
-use Rattle.hip_ir.specs.declared.program.Program.{Program}
-use Rattle.hip_typing.specs.Sound.{IsBlockAt}
+use Rattle.hip_tree.specs.declared.block.Block.{Block}
+use Rattle.hip_tree.specs.declared.program.Function.{Function}
+use Rattle.hip_tree.specs.declared.program.Program.{Program}
+use Rattle.hip_sound.specs.Sound.{IsBlockAt}
 use Rattle.hip_runs.specs.Places.{blocks_in, block_at}
 use Rattle.hip_runs.specs.State.{Frame}
 use Rattle.hip_runs.specs.Laws.StepLaws.{has_frame}

@@ -6,26 +6,26 @@ use Rattle.std.specs.Prelude.{unwrap_or}
 use Rattle.std.specs.List.{flat_map}
 use Rattle.std.proofs.lemmas.Option.{same_Some}
 use Rattle.hip_types.specs.declared.number.Scalar.{Scalar}
-use Rattle.hip_ir.specs.declared.block.Block.{Block}
-use Rattle.hip_ir.specs.declared.block.Case.{Case}
-use Rattle.hip_ir.specs.declared.block.End.{End}
-use Rattle.hip_ir.specs.declared.block.End.TheVariants as ends
-use Rattle.hip_ir.specs.declared.block.Phi.{Phi}
-use Rattle.hip_ir.specs.declared.instr.Arg.{Arg}
-use Rattle.hip_ir.specs.declared.instr.Instr.{Instr}
-use Rattle.hip_ir.specs.declared.instr.Instr.TheVariants.{Binary, Compare, Select, Cast, Alloca, Load, Store, Gep, Call}
-use Rattle.hip_ir.specs.declared.program.Function.{Function}
-use Rattle.hip_ir.specs.declared.program.Param.{Param}
-use Rattle.hip_ir.specs.declared.program.Program.{Program}
+use Rattle.hip_tree.specs.declared.block.Block.{Block}
+use Rattle.hip_tree.specs.declared.block.Case.{Case}
+use Rattle.hip_tree.specs.declared.block.End.{End}
+use Rattle.hip_tree.specs.declared.block.End.TheVariants as ends
+use Rattle.hip_tree.specs.declared.block.Phi.{Phi}
+use Rattle.hip_tree.specs.declared.instr.Arg.{Arg}
+use Rattle.hip_tree.specs.declared.instr.Instr.{Instr}
+use Rattle.hip_tree.specs.declared.instr.Instr.TheVariants.{Binary, Compare, Select, Cast, Alloca, Load, Store, Gep, Call}
+use Rattle.hip_tree.specs.declared.program.Function.{Function}
+use Rattle.hip_tree.specs.declared.program.Param.{Param}
+use Rattle.hip_tree.specs.declared.program.Program.{Program}
 use Rattle.hip_names.specs.Names.{IsAmong}
 use Rattle.hip_externs.specs.Externs.{signature}
-use Rattle.hip_typing.specs.Given.{CallsFunction, CallsExtern, HasBlock}
-use Rattle.hip_typing.specs.Laws.Decided.{all-at}
-use Rattle.hip_typing.specs.Laws.GivenLaws.{sound-calls, sound-labels}
-use Rattle.hip_typing.specs.Paths.{label_at, labels_named_at, names_of}
-use Rattle.hip_typing.specs.Registers.{assigned_by, phi_registers, parameter_registers, end_labels}
-use Rattle.hip_typing.specs.Sound.{IsSound, IsBlockAt, TypesAgree, InstrItem, label_number}
-use Rattle.hip_typing.specs.declared.assigned.Point.TheVariants.{Before}
+use Rattle.hip_sound.specs.Given.{CallsFunction, CallsExtern, HasBlock}
+use Rattle.hip_sound.specs.Laws.Decided.{all-at}
+use Rattle.hip_sound.specs.Laws.GivenLaws.{sound-calls, sound-labels}
+use Rattle.hip_sound.specs.Paths.{label_at, labels_named_at, names_of}
+use Rattle.hip_sound.specs.Registers.{assigned_by, phi_registers, parameter_registers, end_labels}
+use Rattle.hip_sound.specs.Sound.{IsSound, IsBlockAt, TypesAgree, InstrItem, label_number}
+use Rattle.hip_sound.specs.declared.point.Point.TheVariants.{Before}
 use Rattle.hip_externs.specs.declared.call.ExternCall.{ExternCall}
 use Rattle.hip_externs.specs.declared.call.ExternCall.TheVariants as calls
 use Rattle.hip_runs.specs.declared.event.TrapKind.TheVariants as traps

@@ -4,7 +4,7 @@ use Rattle.std.proofs.Common.{Option, None, ◌≡◌, ◌⊎◌, inl, inr, ℕ,
 use Rattle.std.proofs.lemmas.List.{take-append-le}
 use Rattle.hip_lines.specs.Line.{Line, IsOrdered, AreOrdered, with_part, flushed_line, fenced_line, has_bytes, change_from, stored, flushed, fenced}
 use Rattle.hip_lines.specs.Image.{byte_after, IsLineImageAt, IsLineImage, IsImage, parts_of, image_from, image_of, IsPick}
-use Rattle.hip_lines.specs.declared.TheConstants.{LINE_SIZE}
+use Rattle.hip_types.specs.declared.areas.TheConstants.{LINE_SIZE}
 
 -- l' has the parts of l, and at least as many of them flushed and durable
 pub record IsAhead {P : Type 0} (l l' : Line P) : Type 0 where

@@ -5,8 +5,8 @@ use Rattle.std.proofs.lemmas.Bool.{and_parts}
 use Rattle.hip_globals.specs.Addresses.{region_size}
 use Rattle.hip_io.specs.Cabinets.{CabinetState}
 use Rattle.hip_io.specs.Counts.{Rose}
-use Rattle.hip_ir.specs.declared.program.Program.{Program}
-use Rattle.hip_mem.specs.Bytes.{zeros}
+use Rattle.hip_tree.specs.declared.program.Program.{Program}
+use Rattle.hip_types.specs.Bytes.{zeros}
 use Rattle.hip_mem.specs.Laws.BytesLaws.{length-zeros}
 use Rattle.hip_run_traces.specs.Headers.{Stops, Gives, behind_register, behind_start, filled, go_on, header, header_from, is_empty, is_next_line, valid_base, valid_limit, with_entry, with_line, with_number}
 use Rattle.hip_run_traces.specs.Laws.GivenLaws.{FitAll, header-given}

@@ -3,7 +3,7 @@ use Rattle.std.proofs.Common.{◌≡◌, ℕ, zero, suc, ◌+◌, ◌^◌, ◌<�
 use Rattle.std.specs.Prelude.{if◌then◌else◌, option_map}
 use Rattle.hip_io.specs.Cabinets.{CabinetState}
 use Rattle.hip_io.specs.Counts.{Rose}
-use Rattle.hip_ir.specs.declared.program.Program.{Program}
+use Rattle.hip_tree.specs.declared.program.Program.{Program}
 use Rattle.hip_run_traces.specs.Headers.{Header, Gives, header}
 use Rattle.hip_run_traces.specs.Laws.MisfitLaws.{differs-behind, run-front}
 use Rattle.hip_runs.specs.Laws.NextLaws.{rests-ended}

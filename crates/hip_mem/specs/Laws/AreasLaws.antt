@@ -1,8 +1,9 @@
 -- Laws that tie what a `Ram` shows to the memory that it holds.
 use Rattle.std.proofs.Common.{◌≡◌, ◌⊎◌, inl, inr, ℕ, zero, suc, ◌+◌, ◌-◌, ◌<◌, ◌≤◌, Bool, true, false, cond, ◌&&◌, ◌||◌, nat_lt, nat_le, List, [], ◌∷◌, ◌++◌, length, take, drop, slice_index, refl, sym, ap, ap₂, ◌∙◌, arith, length-append}
 use Rattle.std.proofs.lemmas.Bool.Decides.{nat_tests}
-use Rattle.hip_mem.specs.Memory.{Write, write_covers, byte_written, byte_from, volatile_start, stack_start, stack_end, is_in, Memory, initial_byte, byte_at, bytes_at, with_write}
-use Rattle.hip_mem.specs.Bytes.{zeros}
+use Rattle.hip_mem.specs.Memory.{Write, write_covers, byte_written, byte_from, is_in, Memory, initial_byte, byte_at, bytes_at, with_write}
+use Rattle.hip_types.specs.Areas.{volatile_start, stack_start, stack_end}
+use Rattle.hip_types.specs.Bytes.{zeros}
 use Rattle.hip_mem.specs.Laws.BytesLaws.{length-zeros, slice_index-zeros}
 use Rattle.hip_mem.specs.Areas.{Areas, IsLaidOut, mark_of, is_valid, are_valid, byte_in, bytes_in, area_written, after_write, block_address, after_push, after_pop, Holds}
 

@@ -2,7 +2,7 @@
 use Rattle.std.proofs.Common.{◌≡◌, ℕ, zero, suc, ◌+◌, ◌*◌, ◌/◌, ◌%◌, ◌^◌, ◌<◌, ◌≤◌, List, [], ◌∷◌, length, take, slice_index, refl, sym, ap, ap₂, ◌∙◌, arith}
 use Rattle.std.proofs.Math.Nat.{div-div-eq-div-mul, pow-suc}
 use Rattle.std.specs.Int.{w64, byte_at, bytes_low_first, to_le_bytes, from_le_bytes}
-use Rattle.hip_mem.specs.Bytes.{little_endian, bytes_of, zeros}
+use Rattle.hip_types.specs.Bytes.{little_endian, bytes_of, zeros}
 
 pub length-bytes_of : (n v : ℕ) → length (bytes_of n v) ≡ n
 length-bytes_of zero v = refl

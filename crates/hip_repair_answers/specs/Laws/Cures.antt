@@ -1,7 +1,8 @@
 -- What the repair for a run does.
 use Rattle.std.specs.Prelude.{Bool}
-use Rattle.hip_ir.specs.declared.program.Program.{Program}
-use Rattle.hip_ir.specs.declared.site.Site.{Site}
+use Rattle.hip_tree.specs.declared.program.Program.{Program}
+use Rattle.hip_tree.specs.declared.site.Site.{Site}
+use Rattle.hip_histories.proofs.Repairs.{crash_safe}
 use Rattle.hip_repair_answers.specs.Cured.{IsCured, IsCuredBy}
 use Rattle.hip_repairs.proofs.Theorems as theorem
 use Rattle.hip_repairs.specs.Choice.{Contains, plan_for}
@@ -12,7 +13,7 @@ use Rattle.hip_runs.specs.Found.Marks.{IsFound}
 use Rattle.hip_runs.specs.Validity.{IsValid}
 use Rattle.hip_runs.specs.declared.input.Input.{Input}
 use Rattle.hip_runs.specs.declared.report.Findings.{Findings}
-use Rattle.hip_typing.specs.Sound.{IsSound}
+use Rattle.hip_sound.specs.Sound.{IsSound}
 
 itself : (plan : Plan) → Contains plan plan
 itself plan = record { flush_after = λ s h. h; fence_after = λ s h. h; hoist = λ s h. h }
@@ -29,6 +30,7 @@ cures_by P I plan skip found sound valid quiet is contains =
       fenced = theorem.hoisted_calls_are_fenced P plan skip sound;
       sound = again;
       reads = again.spelled;
+      crashes = crash_safe P I plan skip found sound valid quiet is contains;
     }
 
 pub cures : (P : Program) (I : Input) (found : Findings) → IsSound P → IsValid P I → IsFound P I found

@@ -1,26 +1,26 @@
 -- What the commands answer on a run, and a second repair.
-use Rattle.std.proofs.Common.{◌≡◌, ◌≤◌, ℕ, zero, suc, true, false, List, [], ◌∷◌, length, slice_get, Option, Some, None, inl, inr, refl, sym, ap, ◌∙◌, subst}
+use Rattle.std.proofs.Common.{◌≡◌, ℕ, zero, suc, true, List, [], length, Option, Some, inr, refl, sym, ap, ◌∙◌, subst}
 use Rattle.std.specs.Prelude.{IfSome}
 use Rattle.hip_answers.specs.Answers.{Answer}
 use Rattle.hip_answers.specs.declared.status.Status.TheVariants.{Done}
-use Rattle.hip_calls.specs.Reach.{callees, reached}
-use Rattle.hip_io.specs.Cabinets.{CabinetState, file_of}
+use Rattle.hip_calls.specs.Reach.{reached}
+use Rattle.hip_io.specs.Cabinets.{file_of}
 use Rattle.hip_io.specs.declared.cabinet.NamedFile.{NamedFile}
-use Rattle.hip_ir.specs.Show.{show}
-use Rattle.hip_ir.specs.declared.program.Program.{Program}
-use Rattle.hip_loading.specs.Loading.{IsProgramOf}
-use Rattle.hip_loading.specs.Outside.{HasMet}
+use Rattle.hip_grammar.specs.Show.{show}
+use Rattle.hip_tree.specs.declared.program.Program.{Program}
+use Rattle.hip_program_files.specs.Loading.{IsProgramOf}
 use Rattle.hip_repair_answers.specs.Laws.Cures.{cures}
-use Rattle.hip_repair_answers.specs.Answers.{HasChecked, HasRepaired, HasRerun, HasRunOf, TraceAnswers}
+use Rattle.hip_repair_answers.specs.Answers.{HasChecked, HasRepaired, HasRerun}
 use Rattle.hip_repair_answers.specs.Cured.{repaired_for}
-use Rattle.hip_repair_answers.specs.Laws.{AnswersRuns, AreRepairedFiles, NothingToRepair, RerunsAreTraces, SecondRepair, no_counts}
-use Rattle.hip_repair_answers.specs.TraceFiles.{IsTraceFile}
+use Rattle.hip_repair_answers.specs.Laws.{NothingToRepair, RerunsAreTraces, SecondRepair, no_counts}
+use Rattle.hip_answers.specs.RunLaws.{AnswersRuns}
+use Rattle.hip_answers.specs.TraceFiles.{IsTraceFile}
 use Rattle.hip_repairs.proofs.Theorems.{repaired_is_sound}
 use Rattle.hip_repairs.specs.Choice.{plan_for}
 use Rattle.hip_repairs.specs.CloneNumbers.{clone_numbers, numbered_from}
 use Rattle.hip_repairs.specs.Direct.{direct}
 use Rattle.hip_repairs.specs.Laws.Unchanged.{nothing_planned, nothing_repaired, valid_again}
-use Rattle.hip_repairs.specs.Repaired.{cloned, repaired}
+use Rattle.hip_repairs.specs.Repaired.{repaired}
 use Rattle.hip_repairs.specs.Suits.{no_repairs}
 use Rattle.hip_repairs.specs.declared.plan.Plan.{Plan}
 use Rattle.hip_report_lines.specs.Counts.{check_counts, repair_counts, rerun_counts}
@@ -31,13 +31,13 @@ use Rattle.hip_run_traces.specs.Laws.WrittenLaws.{written-trace}
 use Rattle.hip_run_traces.specs.Traces.{IsTrace}
 use Rattle.hip_runs.specs.Found.Marks.{IsFound}
 use Rattle.hip_runs.specs.Laws.Found.FoundLaws.{found_exists, found_is_one}
-use Rattle.hip_runs.specs.Validity.{IsInput, IsValid}
+use Rattle.hip_runs.specs.Validity.{IsValid}
 use Rattle.hip_runs.specs.declared.input.Input.{Input}
 use Rattle.hip_runs.specs.declared.report.Findings.{Findings}
 use Rattle.hip_runs.specs.declared.report.Report.{Report}
 use Rattle.hip_trace.specs.Texts.{lines_of}
 use Rattle.hip_trace.specs.declared.entry.Entry.{Entry}
-use Rattle.hip_typing.specs.Sound.{IsSound}
+use Rattle.hip_sound.specs.Sound.{IsSound}
 
 -- ---- texts that are the same
 

@@ -1,11 +1,11 @@
 -- The blocks of a function, and of what stands for it in the repaired program: the same labels, phis and ends, and the repaired body.
 use Rattle.std.proofs.Common.{◌≡◌, ℕ, zero, suc, ◌+◌, Bool, List, [], ◌∷◌, map, Option, Some, None, slice_get, option_map, refl, ap, ap₂, ◌∙◌, arith}
-use Rattle.hip_ir.specs.declared.block.Block.{Block}
-use Rattle.hip_ir.specs.declared.block.End.{End}
-use Rattle.hip_ir.specs.declared.block.End.TheVariants as ends
+use Rattle.hip_tree.specs.declared.block.Block.{Block}
+use Rattle.hip_tree.specs.declared.block.End.{End}
+use Rattle.hip_tree.specs.declared.block.End.TheVariants as ends
 use Rattle.hip_names.specs.Names.{number_of}
-use Rattle.hip_ir.specs.declared.program.Program.{Program}
-use Rattle.hip_ir.specs.declared.site.Site.{Site}
+use Rattle.hip_tree.specs.declared.program.Program.{Program}
+use Rattle.hip_tree.specs.declared.site.Site.{Site}
 use Rattle.hip_runs.specs.declared.input.Input.{Input}
 use Rattle.hip_runs.specs.Actions.{Jumps, after_phis, jump, jump_to, end_action}
 use Rattle.hip_runs.specs.Places.{blocks_of, block_at, body_of, end_of, phis_of, label_of, body_at, block_number}

@@ -1,7 +1,7 @@
 -- The clones of a plan stand in the repaired program as they are numbered.
 use Rattle.std.proofs.Common.{◌≡◌, inl, inr, ℕ, suc, ◌+◌, ◌-◌, Bool, List, [], ◌∷◌, length, Some, slice_get, refl, sym, ap, ◌∙◌, arith}
-use Rattle.hip_ir.specs.declared.program.Program.{Program}
-use Rattle.hip_ir.specs.declared.site.Site.{Site}
+use Rattle.hip_tree.specs.declared.program.Program.{Program}
+use Rattle.hip_tree.specs.declared.site.Site.{Site}
 use Rattle.hip_runs.specs.StoredParts.Parts.{In}
 use Rattle.hip_repairs.specs.declared.plan.CloneOf.{CloneOf}
 use Rattle.hip_repairs.specs.declared.plan.Plan.{Plan}

@@ -2,11 +2,11 @@
 use Rattle.std.proofs.Common.{◌≡◌, ℕ, zero, suc, ◌+◌, ◌<◌, Bool, true, false, cond, nat_lt, List, [], ◌∷◌, ◌++◌, length, Option, Some, None, slice_get, option_map, refl, ap, ◌∙◌, arith, lt-ltb}
 use Rattle.std.specs.Prelude.{codes}
 use Rattle.std.proofs.lemmas.List.{map-append}
-use Rattle.hip_ir.specs.declared.program.Function.{Function}
-use Rattle.hip_ir.specs.declared.program.Program.{Program}
-use Rattle.hip_ir.specs.declared.site.Site.{Site}
+use Rattle.hip_tree.specs.declared.program.Function.{Function}
+use Rattle.hip_tree.specs.declared.program.Program.{Program}
+use Rattle.hip_tree.specs.declared.site.Site.{Site}
 use Rattle.hip_names.specs.Names.{number_of}
-use Rattle.hip_typing.specs.Numbering.{function_names, function_number}
+use Rattle.hip_sound.specs.Numbering.{function_names, function_number}
 use Rattle.hip_names.specs.Laws.NumberLaws.{number_of-front}
 use Rattle.hip_calls.specs.Fresh.{fresh_names}
 use Rattle.hip_runs.specs.Places.{blocks_in}

@@ -2,17 +2,17 @@
 use Rattle.std.proofs.Common.{◌≡◌, ℕ, ◌<◌, ◌≤◌, Bool, true, false, List, length, Option, Some, slice_get, option_map, sym, ap, ◌∙◌, subst}
 use Rattle.std.specs.Prelude.{codes}
 use Rattle.std.proofs.lemmas.Option.{slice_get_within}
-use Rattle.hip_ir.specs.Sites.{instr_of, has_site}
-use Rattle.hip_ir.specs.declared.instr.Arg.{Arg}
-use Rattle.hip_ir.specs.declared.instr.Instr.TheVariants.{Call}
-use Rattle.hip_ir.specs.declared.program.Function.{Function}
-use Rattle.hip_ir.specs.declared.program.Program.{Program}
-use Rattle.hip_ir.specs.declared.site.Site.{Site}
+use Rattle.hip_tree.specs.Sites.{instr_of, has_site}
+use Rattle.hip_tree.specs.declared.instr.Arg.{Arg}
+use Rattle.hip_tree.specs.declared.instr.Instr.TheVariants.{Call}
+use Rattle.hip_tree.specs.declared.program.Function.{Function}
+use Rattle.hip_tree.specs.declared.program.Program.{Program}
+use Rattle.hip_tree.specs.declared.site.Site.{Site}
 use Rattle.hip_types.specs.declared.number.Scalar.{Scalar}
 use Rattle.hip_externs.specs.Externs.{call_of}
-use Rattle.hip_typing.specs.Numbering.{function_number}
-use Rattle.hip_typing.specs.Laws.NumberingLaws.{function_number-there, function_number-within}
-use Rattle.hip_typing.specs.Rules.{Passes}
+use Rattle.hip_sound.specs.Numbering.{function_number}
+use Rattle.hip_sound.specs.Laws.NumberingLaws.{function_number-there, function_number-within}
+use Rattle.hip_sound.specs.Rules.{Passes}
 use Rattle.hip_externs.specs.declared.call.ExternCall.{ExternCall}
 use Rattle.hip_runs.specs.Places.{body_at}
 use Rattle.hip_runs.specs.Step.{main_number}

@@ -1,10 +1,10 @@
 -- Functions of a program and what stands for them in the repaired program.
 use Rattle.std.proofs.Common.{◌≡◌, ℕ, ◌+◌, ◌<◌, Bool, true, false, List, length, Some, None, slice_get}
-use Rattle.hip_ir.specs.declared.program.Function.{Function}
-use Rattle.hip_ir.specs.declared.program.Program.{Program}
-use Rattle.hip_ir.specs.declared.site.Site.{Site}
+use Rattle.hip_tree.specs.declared.program.Function.{Function}
+use Rattle.hip_tree.specs.declared.program.Program.{Program}
+use Rattle.hip_tree.specs.declared.site.Site.{Site}
 use Rattle.hip_externs.specs.Externs.{call_of}
-use Rattle.hip_typing.specs.Numbering.{function_number}
+use Rattle.hip_sound.specs.Numbering.{function_number}
 use Rattle.hip_runs.specs.Places.{blocks_of}
 use Rattle.hip_repairs.specs.declared.plan.Plan.{Plan}
 use Rattle.hip_repairs.specs.Harmless.{marked_at, marked_body}

@@ -7,22 +7,22 @@ use Rattle.std.proofs.lemmas.Option.{same_Some}
 use Rattle.std.proofs.lemmas.Simd.{map-map}
 use Rattle.std.proofs.lemmas.Bool.{false_from_ne_true}
 use Rattle.hip_types.specs.Laws.DistinctLaws.{or_first, or_second, any_front, any_back, any_found}
-use Rattle.hip_ir.specs.declared.block.Block.{Block}
-use Rattle.hip_ir.specs.declared.instr.Instr.{Instr}
-use Rattle.hip_ir.specs.declared.instr.Instr.TheVariants.{Binary, Compare, Select, Cast, Alloca, Load, Store, Gep, Call}
-use Rattle.hip_ir.specs.declared.block.Phi.{Phi}
-use Rattle.hip_ir.specs.declared.program.Function.{Function}
-use Rattle.hip_ir.specs.declared.program.Param.{Param}
-use Rattle.hip_ir.specs.declared.program.Program.{Program}
+use Rattle.hip_tree.specs.declared.block.Block.{Block}
+use Rattle.hip_tree.specs.declared.instr.Instr.{Instr}
+use Rattle.hip_tree.specs.declared.instr.Instr.TheVariants.{Binary, Compare, Select, Cast, Alloca, Load, Store, Gep, Call}
+use Rattle.hip_tree.specs.declared.block.Phi.{Phi}
+use Rattle.hip_tree.specs.declared.program.Function.{Function}
+use Rattle.hip_tree.specs.declared.program.Param.{Param}
+use Rattle.hip_tree.specs.declared.program.Program.{Program}
 use Rattle.hip_names.specs.Laws.NameLaws.{among-sound}
 use Rattle.hip_names.specs.Names.{AllDiffer, is_among}
-use Rattle.hip_typing.specs.Paths.{names_of}
-use Rattle.hip_typing.specs.Registers.{Register, assigned_by, body_registers, phi_registers, block_registers, parameter_registers}
-use Rattle.hip_typing.specs.Rules.{Passes, inner_check}
-use Rattle.hip_typing.specs.Sound.{names_in_block, names_in_function}
-use Rattle.hip_typing.specs.Laws.Decided.{holds-at}
+use Rattle.hip_sound.specs.Paths.{names_of}
+use Rattle.hip_sound.specs.Registers.{Register, assigned_by, body_registers, phi_registers, block_registers, parameter_registers}
+use Rattle.hip_sound.specs.Rules.{Passes, inner_check}
+use Rattle.hip_sound.specs.Sound.{names_in_block, names_in_function}
+use Rattle.hip_sound.specs.Laws.Decided.{holds-at}
 use Rattle.hip_names.specs.Laws.NameLaws.{bytes_eq-sym}
-use Rattle.hip_typing.specs.Laws.NameLaws.{inner-sound}
+use Rattle.hip_sound.specs.Laws.NameLaws.{inner-sound}
 use Rattle.hip_runs.specs.Places.{blocks_in, blocks_of}
 use Rattle.hip_repairs.specs.Direct.{allocates, allocates_in}
 use Rattle.hip_names.specs.Laws.DifferLaws.{differ_first, differ_second, differ_apart}

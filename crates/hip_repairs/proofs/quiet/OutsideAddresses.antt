@@ -5,23 +5,23 @@ use Rattle.std.specs.Str.{bytes_eq}
 use Rattle.std.proofs.lemmas.Slice.Eq.{bytes_eq-Decides}
 use Rattle.std.proofs.lemmas.Bool.{not-true, and_parts, both_ways}
 use Rattle.hip_types.specs.Laws.DistinctLaws.{or_first, or_second, either}
-use Rattle.hip_ir.specs.declared.constant.Const.{Const, out-Const, roll-Const, roll-out-Const}
-use Rattle.hip_ir.specs.declared.constant.Const.TheOpen.{Const-F}
-use Rattle.hip_ir.specs.declared.constant.Const.TheFolds.{fold-roll-Const}
-use Rattle.hip_ir.specs.declared.constant.ConstGep.{ConstGep}
-use Rattle.hip_ir.specs.declared.constant.TypedConst.{TypedConst}
-use Rattle.hip_ir.specs.declared.program.GlobalVar.{GlobalVar}
-use Rattle.hip_ir.specs.declared.program.Program.{Program}
-use Rattle.hip_mem.specs.Memory.{volatile_start}
+use Rattle.hip_tree.specs.declared.constant.Const.{Const, out-Const, roll-Const, roll-out-Const}
+use Rattle.hip_tree.specs.declared.constant.Const.TheOpen.{Const-F}
+use Rattle.hip_tree.specs.declared.constant.Const.TheFolds.{fold-roll-Const}
+use Rattle.hip_tree.specs.declared.constant.ConstGep.{ConstGep}
+use Rattle.hip_tree.specs.declared.constant.TypedConst.{TypedConst}
+use Rattle.hip_tree.specs.declared.program.GlobalVar.{GlobalVar}
+use Rattle.hip_tree.specs.declared.program.Program.{Program}
+use Rattle.hip_types.specs.Areas.{volatile_start}
 use Rattle.hip_globals.specs.Addresses.{start_of, is_persistent, address_in, volatile_end, region_size}
 use Rattle.hip_names.specs.Laws.NameLaws.{among-sound}
 use Rattle.hip_names.specs.Names.{AllDiffer, is_among, number_of}
 use Rattle.hip_names.specs.Laws.NumberLaws.{number_cases}
-use Rattle.hip_typing.specs.Rules.{Passes}
-use Rattle.hip_typing.specs.Sound.{callee_names}
+use Rattle.hip_sound.specs.Rules.{Passes}
+use Rattle.hip_sound.specs.Sound.{callee_names}
 use Rattle.hip_globals.specs.Values.{Written, global_address, const_value}
 use Rattle.hip_names.specs.Laws.NameLaws.{bytes_eq-sym}
-use Rattle.hip_typing.specs.Laws.NameLaws.{names-sound}
+use Rattle.hip_sound.specs.Laws.NameLaws.{names-sound}
 use Rattle.hip_invariants.specs.Laws.GlobalAddresses.{start_before_end}
 use Rattle.hip_repairs.specs.Direct.{is_volatile_global, names_volatile}
 use Rattle.hip_repairs.proofs.soundness.HeadsAgain.{names_of_globals}

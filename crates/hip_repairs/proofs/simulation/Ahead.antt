@@ -2,7 +2,7 @@
 -- crash images was possible before.
 use Rattle.std.proofs.Common.{◌≡◌, ℕ, zero, suc, ◌+◌, ◌-◌, Bool, true, false, cond, ◌&&◌, nat_le, nat_lt, List, [], ◌∷◌, map, length, take, Option, Some, None, slice_get, slice_index, option_map, refl, sym, ap, ◌∙◌, subst, arith}
 use Rattle.std.proofs.lemmas.List.{length-map}
-use Rattle.hip_ir.specs.declared.site.Site.{Site}
+use Rattle.hip_tree.specs.declared.site.Site.{Site}
 use Rattle.hip_lines.specs.Image.{byte_after, IsLineImage, IsImage}
 use Rattle.hip_lines.specs.Laws.ImageLaws.{AreAhead, ahead-stored, ahead-flushed, ahead-more_flushed, ahead-fenced, ahead-more_fenced, are_ahead_refl, image-ahead}
 use Rattle.hip_lines.specs.Line.{Line, map_line, flushed_line, fenced_line, stored, flushed, fenced, change_range, fresh_lines}

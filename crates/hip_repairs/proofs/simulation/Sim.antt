@@ -8,21 +8,21 @@ use Rattle.hip_types.specs.Numbers.{wrapped}
 use Rattle.hip_types.specs.declared.number.Width.TheVariants.{W64}
 use Rattle.hip_types.specs.declared.number.Bits.{Bits}
 use Rattle.hip_types.specs.declared.number.Scalar.{Scalar}
-use Rattle.hip_ir.specs.Sites.{has_site}
-use Rattle.hip_ir.specs.declared.block.End.{End}
-use Rattle.hip_ir.specs.declared.instr.Arg.{Arg}
-use Rattle.hip_ir.specs.declared.instr.Instr.{Instr}
-use Rattle.hip_ir.specs.declared.instr.Instr.TheVariants.{Binary, Compare, Select, Cast, Alloca, Load, Store, Gep, Call}
-use Rattle.hip_ir.specs.declared.instr.Operand.{Operand}
-use Rattle.hip_ir.specs.declared.program.Function.{Function}
-use Rattle.hip_ir.specs.declared.program.Program.{Program}
-use Rattle.hip_ir.specs.declared.site.Site.{Site}
+use Rattle.hip_tree.specs.Sites.{has_site}
+use Rattle.hip_tree.specs.declared.block.End.{End}
+use Rattle.hip_tree.specs.declared.instr.Arg.{Arg}
+use Rattle.hip_tree.specs.declared.instr.Instr.{Instr}
+use Rattle.hip_tree.specs.declared.instr.Instr.TheVariants.{Binary, Compare, Select, Cast, Alloca, Load, Store, Gep, Call}
+use Rattle.hip_tree.specs.declared.instr.Operand.{Operand}
+use Rattle.hip_tree.specs.declared.program.Function.{Function}
+use Rattle.hip_tree.specs.declared.program.Program.{Program}
+use Rattle.hip_tree.specs.declared.site.Site.{Site}
 use Rattle.hip_lines.specs.Line.{has_bytes, stored, fresh_lines}
-use Rattle.hip_mem.specs.Bytes.{bytes_of, little_endian}
+use Rattle.hip_types.specs.Bytes.{bytes_of, little_endian}
 use Rattle.hip_mem.specs.Laws.BytesLaws.{length-bytes_of}
 use Rattle.hip_num.specs.declared.arithmetic.NumTrap.{NumTrap}
 use Rattle.hip_externs.specs.Externs.{call_of, row_of}
-use Rattle.hip_typing.specs.Numbering.{function_number}
+use Rattle.hip_sound.specs.Numbering.{function_number}
 use Rattle.hip_externs.specs.declared.call.ExternCall.{ExternCall}
 use Rattle.hip_runs.specs.declared.event.Ending.{Ending}
 use Rattle.hip_runs.specs.declared.event.Ending.TheVariants.{Stop, Trap, Cut}
@@ -51,7 +51,7 @@ use Rattle.hip_repairs.proofs.functions.Lookup.{number_there, plain_twin, same_m
 use Rattle.hip_repairs.proofs.simulation.Pairs.{Quiet, nothing, fence, Ready, quiet, flush, Tied, tied, Below, bottom, on, top_clone, below_size, Related, related, pending_lines, quiet_size, ready_size}
 use Rattle.hip_repairs.proofs.functions.Twins.{Twin, CallsTwin}
 use Rattle.hip_repairs.specs.Laws.Callable.{IsCallable}
-use Rattle.hip_ir.specs.declared.block.End.TheVariants as ends
+use Rattle.hip_tree.specs.declared.block.End.TheVariants as ends
 use Rattle.hip_externs.specs.declared.call.ExternCall.TheVariants as calls
 use Rattle.hip_externs.specs.declared.call.LineEffect.{LineEffect}
 use Rattle.hip_externs.specs.declared.call.LineEffect.TheVariants as effects

@@ -8,26 +8,26 @@ use Rattle.std.proofs.lemmas.List.Elements.{All-append, All-cons, All-head, All-
 use Rattle.std.proofs.lemmas.Option.{same_Some}
 use Rattle.hip_types.specs.declared.number.Scalar.{Scalar}
 use Rattle.hip_types.specs.declared.number.Scalar.TheVariants.{Ptr}
-use Rattle.hip_ir.specs.declared.block.Block.{Block}
-use Rattle.hip_ir.specs.declared.block.Edge.{Edge}
-use Rattle.hip_ir.specs.declared.block.Phi.{Phi}
-use Rattle.hip_ir.specs.declared.instr.Instr.{Instr}
-use Rattle.hip_ir.specs.declared.instr.Instr.TheVariants.{Store, Call}
-use Rattle.hip_ir.specs.declared.instr.Operand.{Operand}
-use Rattle.hip_ir.specs.declared.program.Function.{Function}
-use Rattle.hip_ir.specs.declared.program.Program.{Program}
-use Rattle.hip_ir.specs.declared.site.Site.{Site}
-use Rattle.hip_typing.specs.Laws.AssignedExact.{all-front, all-back, all-joined, joined-all}
+use Rattle.hip_tree.specs.declared.block.Block.{Block}
+use Rattle.hip_tree.specs.declared.block.Edge.{Edge}
+use Rattle.hip_tree.specs.declared.block.Phi.{Phi}
+use Rattle.hip_tree.specs.declared.instr.Instr.{Instr}
+use Rattle.hip_tree.specs.declared.instr.Instr.TheVariants.{Store, Call}
+use Rattle.hip_tree.specs.declared.instr.Operand.{Operand}
+use Rattle.hip_tree.specs.declared.program.Function.{Function}
+use Rattle.hip_tree.specs.declared.program.Program.{Program}
+use Rattle.hip_tree.specs.declared.site.Site.{Site}
+use Rattle.hip_sound.specs.Laws.AssignedExact.{all-front, all-back, all-joined, joined-all}
 use Rattle.hip_globals.specs.Constants.{joined}
 use Rattle.hip_names.specs.Names.{IsAmong}
-use Rattle.hip_typing.specs.Names.{numbered_from}
-use Rattle.hip_typing.specs.Paths.{label_at, labels_named_at, LeadsTo, IsChain, IsPathTo, names_of, whole_block_names, names_before, IsAssigned}
-use Rattle.hip_typing.specs.Registers.{assigned_by, body_registers, block_registers, phi_registers, parameter_registers, use_of, instr_uses, used_registers, operand_registers, end_labels, end_uses}
-use Rattle.hip_typing.specs.Rules.{Passes, use_at, block_number_from, edge_register_uses, phi_register_uses, instr_register_uses, end_register_uses, block_register_uses, UseIsAssigned, AllAssigned}
-use Rattle.hip_typing.specs.declared.assigned.Point.{Point}
-use Rattle.hip_typing.specs.declared.assigned.Point.TheVariants.{Before, AtEnd}
-use Rattle.hip_typing.specs.declared.fault.Place.{Place}
-use Rattle.hip_typing.specs.declared.fault.Place.TheVariants as places
+use Rattle.hip_sound.specs.Names.{numbered_from}
+use Rattle.hip_sound.specs.Paths.{label_at, labels_named_at, LeadsTo, IsChain, IsPathTo, names_of, whole_block_names, names_before, IsAssigned}
+use Rattle.hip_sound.specs.Registers.{assigned_by, body_registers, block_registers, phi_registers, parameter_registers, use_of, instr_uses, used_registers, operand_registers, end_labels, end_uses}
+use Rattle.hip_sound.specs.Rules.{Passes, use_at, block_number_from, edge_register_uses, phi_register_uses, instr_register_uses, end_register_uses, block_register_uses, UseIsAssigned, AllAssigned}
+use Rattle.hip_sound.specs.declared.point.Point.{Point}
+use Rattle.hip_sound.specs.declared.point.Point.TheVariants.{Before, AtEnd}
+use Rattle.hip_sound.specs.declared.fault.Place.{Place}
+use Rattle.hip_sound.specs.declared.fault.Place.TheVariants as places
 use Rattle.hip_runs.specs.Operands.{scalar_size}
 use Rattle.hip_repairs.specs.declared.plan.Plan.{Plan}
 use Rattle.hip_repairs.specs.Repaired.{Clone, Wanted, wanted_by, clones_of, renamed, is_wide, line_flush, range_flush, flush_of, repaired, repaired_block, repaired_blocks, repaired_function}

@@ -5,21 +5,21 @@ use Rattle.std.specs.Str.{bytes_eq}
 use Rattle.std.proofs.lemmas.Option.{same_Some}
 use Rattle.std.proofs.lemmas.Slice.Eq.{bytes_eq-Decides}
 use Rattle.hip_types.specs.Laws.DistinctLaws.{either}
-use Rattle.hip_ir.specs.declared.program.Extern.{Extern}
-use Rattle.hip_ir.specs.declared.program.Function.{Function}
-use Rattle.hip_ir.specs.declared.program.Program.{Program}
-use Rattle.hip_ir.specs.declared.site.Site.{Site}
-use Rattle.hip_typing.specs.Check.{each}
+use Rattle.hip_tree.specs.declared.program.Extern.{Extern}
+use Rattle.hip_tree.specs.declared.program.Function.{Function}
+use Rattle.hip_tree.specs.declared.program.Program.{Program}
+use Rattle.hip_tree.specs.declared.site.Site.{Site}
+use Rattle.hip_sound.specs.Check.{each}
 use Rattle.hip_externs.specs.Externs.{Signature, signature, call_of, known_signature}
 use Rattle.hip_names.specs.Names.{is_among, number_of}
-use Rattle.hip_typing.specs.Numbering.{function_names, function_number}
+use Rattle.hip_sound.specs.Numbering.{function_names, function_number}
 use Rattle.hip_names.specs.Laws.NumberLaws.{number_cases}
-use Rattle.hip_typing.specs.Laws.NumberingLaws.{function_number-there}
-use Rattle.hip_typing.specs.Places.{extern_of, function_of, first_of, callee_of}
-use Rattle.hip_typing.specs.Laws.SoundExact.{table-decides}
-use Rattle.hip_typing.specs.Rules.{Passes, is_of, declared}
+use Rattle.hip_sound.specs.Laws.NumberingLaws.{function_number-there}
+use Rattle.hip_sound.specs.Places.{extern_of, function_of, first_of, callee_of}
+use Rattle.hip_sound.specs.Laws.SoundExact.{table-decides}
+use Rattle.hip_sound.specs.Rules.{Passes, is_of, declared}
 use Rattle.hip_externs.specs.declared.call.ExternCall.{ExternCall}
-use Rattle.hip_typing.specs.Laws.Decided.{holds-at}
+use Rattle.hip_sound.specs.Laws.Decided.{holds-at}
 use Rattle.hip_names.specs.Laws.NameLaws.{bytes_eq-sym}
 use Rattle.hip_repairs.specs.declared.plan.Plan.{Plan}
 use Rattle.hip_repairs.specs.Repaired.{wanted_by, clone_name, clones_of, cloned, added_externs, repaired}

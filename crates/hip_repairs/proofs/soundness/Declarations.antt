@@ -3,8 +3,8 @@ use Rattle.std.proofs.Common.{◌≡◌, ⊎_elim, ℕ, zero, suc, Bool, true, f
 use Rattle.std.proofs.lemmas.Option.{same_Some}
 use Rattle.hip_types.specs.declared.number.Scalar.TheVariants.{Int, Ptr}
 use Rattle.hip_types.specs.declared.number.Width.TheVariants.{W64}
-use Rattle.hip_ir.specs.declared.program.Extern.{Extern}
-use Rattle.hip_ir.specs.declared.program.Program.{Program}
+use Rattle.hip_tree.specs.declared.program.Extern.{Extern}
+use Rattle.hip_tree.specs.declared.program.Program.{Program}
 use Rattle.hip_names.specs.Names.{is_among}
 use Rattle.hip_repairs.specs.declared.plan.Plan.{Plan}
 use Rattle.hip_repairs.specs.Repaired.{Wanted, clwb_name, sfence_name, pmem_flush_name, needs, added_externs}

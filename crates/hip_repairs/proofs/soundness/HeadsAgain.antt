@@ -7,20 +7,20 @@ use Rattle.std.proofs.lemmas.List.{map-append}
 use Rattle.std.proofs.lemmas.Slice.Eq.{bytes_eq-Decides}
 use Rattle.std.proofs.lemmas.Bool.{both_ways}
 use Rattle.hip_types.specs.Laws.DistinctLaws.{any_found}
-use Rattle.hip_ir.specs.declared.program.Extern.{Extern}
-use Rattle.hip_ir.specs.declared.program.Function.{Function}
-use Rattle.hip_ir.specs.declared.program.GlobalVar.{GlobalVar}
-use Rattle.hip_ir.specs.declared.program.Program.{Program}
-use Rattle.hip_ir.specs.declared.site.Site.{Site}
+use Rattle.hip_tree.specs.declared.program.Extern.{Extern}
+use Rattle.hip_tree.specs.declared.program.Function.{Function}
+use Rattle.hip_tree.specs.declared.program.GlobalVar.{GlobalVar}
+use Rattle.hip_tree.specs.declared.program.Program.{Program}
+use Rattle.hip_tree.specs.declared.site.Site.{Site}
 use Rattle.hip_externs.specs.Externs.{call_of, known_signature}
 use Rattle.hip_names.specs.Laws.NameLaws.{among-whole}
 use Rattle.hip_names.specs.Laws.NameLaws.{among-left, among-right}
-use Rattle.hip_typing.specs.Laws.NameLaws.{names-sound, names-whole}
+use Rattle.hip_sound.specs.Laws.NameLaws.{names-sound, names-whole}
 use Rattle.hip_names.specs.Names.{AllDiffer, IsAmong, is_among}
-use Rattle.hip_typing.specs.Numbering as numbers
-use Rattle.hip_typing.specs.Rules.{Passes, names_check, is_of, declared, free_function, externs_check, is_main, has_main, main_check}
-use Rattle.hip_typing.specs.Laws.Decided.{holds-at, holds-made}
-use Rattle.hip_typing.specs.Sound.{top_names}
+use Rattle.hip_sound.specs.Numbering as numbers
+use Rattle.hip_sound.specs.Rules.{Passes, names_check, is_of, declared, free_function, externs_check, is_main, has_main, main_check}
+use Rattle.hip_sound.specs.Laws.Decided.{holds-at, holds-made}
+use Rattle.hip_sound.specs.Sound.{top_names}
 use Rattle.hip_calls.specs.Fresh.{name_of}
 use Rattle.hip_calls.specs.Laws.FreshLaws.{fresh_for-distinct, fresh_for-free}
 use Rattle.hip_repairs.specs.declared.plan.Plan.{Plan}

@@ -1,17 +1,17 @@
 -- The names inside each function of the repaired program differ.
 use Rattle.std.proofs.Common.{◌≡◌, ℕ, suc, Bool, List, [], ◌∷◌, ◌++◌, refl, sym, ap, ap₂, ◌∙◌, subst}
 use Rattle.std.specs.List.{flat_map}
-use Rattle.hip_ir.specs.declared.block.Block.{Block}
-use Rattle.hip_ir.specs.declared.program.Function.{Function}
-use Rattle.hip_ir.specs.declared.program.Program.{Program}
-use Rattle.hip_ir.specs.declared.site.Site.{Site}
-use Rattle.hip_typing.specs.Laws.Decided.{holds-at, holds-made}
-use Rattle.hip_typing.specs.Laws.NameLaws.{inner-sound, inner-whole}
+use Rattle.hip_tree.specs.declared.block.Block.{Block}
+use Rattle.hip_tree.specs.declared.program.Function.{Function}
+use Rattle.hip_tree.specs.declared.program.Program.{Program}
+use Rattle.hip_tree.specs.declared.site.Site.{Site}
+use Rattle.hip_sound.specs.Laws.Decided.{holds-at, holds-made}
+use Rattle.hip_sound.specs.Laws.NameLaws.{inner-sound, inner-whole}
 use Rattle.hip_names.specs.Names.{AllDiffer}
-use Rattle.hip_typing.specs.Paths.{names_of}
-use Rattle.hip_typing.specs.Registers.{phi_registers, parameter_registers}
-use Rattle.hip_typing.specs.Rules.{Passes, inner_check, inner_names_check}
-use Rattle.hip_typing.specs.Sound.{names_in_block, names_in_function}
+use Rattle.hip_sound.specs.Paths.{names_of}
+use Rattle.hip_sound.specs.Registers.{phi_registers, parameter_registers}
+use Rattle.hip_sound.specs.Rules.{Passes, inner_check, inner_names_check}
+use Rattle.hip_sound.specs.Sound.{names_in_block, names_in_function}
 use Rattle.hip_repairs.specs.declared.plan.Plan.{Plan}
 use Rattle.hip_repairs.specs.Repaired.{Clone, Wanted, wanted_by, clones_of, repaired, repaired_blocks, repaired_function}
 use Rattle.hip_repairs.proofs.soundness.Bodies.{same_registers}

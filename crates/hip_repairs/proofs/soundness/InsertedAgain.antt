@@ -12,23 +12,23 @@ use Rattle.hip_types.specs.declared.number.Scalar.TheVariants.{Int, Ptr}
 use Rattle.hip_types.specs.declared.number.Width.TheVariants.{W64}
 use Rattle.hip_types.specs.declared.ty.Ty.{Ty}
 use Rattle.hip_types.specs.declared.ty.Ty.TheVariants as types
-use Rattle.hip_ir.specs.Laws.Levels.{out-Ty-Int}
-use Rattle.hip_ir.specs.declared.constant.Const.TheFolds.{fold-roll-Const}
-use Rattle.hip_ir.specs.declared.constant.Const.TheVariants as consts
-use Rattle.hip_ir.specs.declared.constant.Const.TheViews.{rolls-Int}
-use Rattle.hip_ir.specs.declared.instr.Instr.TheVariants.{Store}
-use Rattle.hip_ir.specs.declared.instr.Operand.{Operand}
-use Rattle.hip_ir.specs.declared.instr.Operand.TheVariants.{Reg, Fixed}
+use Rattle.hip_tree.specs.Laws.Levels.{out-Ty-Int}
+use Rattle.hip_tree.specs.declared.constant.Const.TheFolds.{fold-roll-Const}
+use Rattle.hip_tree.specs.declared.constant.Const.TheVariants as consts
+use Rattle.hip_tree.specs.declared.constant.Const.TheViews.{rolls-Int}
+use Rattle.hip_tree.specs.declared.instr.Instr.TheVariants.{Store}
+use Rattle.hip_tree.specs.declared.instr.Operand.{Operand}
+use Rattle.hip_tree.specs.declared.instr.Operand.TheVariants.{Reg, Fixed}
 use Rattle.hip_runs.specs.Operands.{scalar_size}
-use Rattle.hip_typing.specs.Constants.{has_shape, names_in}
+use Rattle.hip_sound.specs.Constants.{has_shape, names_in}
 use Rattle.hip_globals.specs.Constants.{types_in}
 use Rattle.hip_externs.specs.Externs.{known_signature}
 use Rattle.hip_names.specs.Names.{is_among}
-use Rattle.hip_typing.specs.Places.{Scope, callee_of, uses_known, use_agrees, uses_agree, signature_agrees, instr_check}
-use Rattle.hip_typing.specs.Numbering.{global_names}
-use Rattle.hip_typing.specs.Registers.{Use, use_of, find_register, used_registers, used_globals, used_constant_types}
-use Rattle.hip_typing.specs.Laws.AssignedExact.{all-back}
-use Rattle.hip_typing.specs.declared.fault.Place.{Place}
+use Rattle.hip_sound.specs.Places.{Scope, callee_of, uses_known, use_agrees, uses_agree, signature_agrees, instr_check}
+use Rattle.hip_sound.specs.Numbering.{global_names}
+use Rattle.hip_sound.specs.Registers.{Use, use_of, find_register, used_registers, used_globals, used_constant_types}
+use Rattle.hip_sound.specs.Laws.AssignedExact.{all-back}
+use Rattle.hip_sound.specs.declared.fault.Place.{Place}
 use Rattle.hip_repairs.specs.Repaired.{clwb_name, sfence_name, pmem_flush_name, is_wide, line_flush, range_flush, flush_of, the_fence, is_call_of}
 
 -- ---- the constant of a range's size

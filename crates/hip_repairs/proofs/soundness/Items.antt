@@ -3,7 +3,7 @@ use Rattle.std.proofs.Common.{◌≡◌, ◌⊎◌, inl, inr, ⊎_elim, ℕ, zer
 use Rattle.std.specs.List.{list_all}
 use Rattle.std.proofs.lemmas.List.Sums.{AllPass-from_list_all, list_all-from_AllPass}
 use Rattle.std.proofs.lemmas.Option.{same_Some}
-use Rattle.hip_typing.specs.Laws.Decided.{all-at, all-made}
+use Rattle.hip_sound.specs.Laws.Decided.{all-at, all-made}
 
 -- a test passes at all items if it passes at each place, and then only
 pub all_make : {A : Type 0} (test : A → Bool) (xs : List A) → ((k : ℕ) (x : A) → slice_get xs k ≡ Some x → test x ≡ true) → list_all test xs ≡ true

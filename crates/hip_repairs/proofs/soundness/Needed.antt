@@ -6,17 +6,17 @@ use Rattle.std.specs.Cmp.Lexicographic.{nat_list_eq_equiv}
 use Rattle.std.proofs.lemmas.List.{map-append}
 use Rattle.std.proofs.lemmas.Option.{same_Some}
 use Rattle.hip_types.specs.Laws.DistinctLaws.{or_first, or_second, any_front, any_back, any_at}
-use Rattle.hip_ir.specs.declared.block.Block.{Block}
-use Rattle.hip_ir.specs.declared.instr.Instr.{Instr}
-use Rattle.hip_ir.specs.declared.instr.Instr.TheVariants.{Store}
-use Rattle.hip_ir.specs.declared.program.Extern.{Extern}
-use Rattle.hip_ir.specs.declared.program.Function.{Function}
-use Rattle.hip_ir.specs.declared.program.Program.{Program}
-use Rattle.hip_ir.specs.declared.site.Site.{Site}
+use Rattle.hip_tree.specs.declared.block.Block.{Block}
+use Rattle.hip_tree.specs.declared.instr.Instr.{Instr}
+use Rattle.hip_tree.specs.declared.instr.Instr.TheVariants.{Store}
+use Rattle.hip_tree.specs.declared.program.Extern.{Extern}
+use Rattle.hip_tree.specs.declared.program.Function.{Function}
+use Rattle.hip_tree.specs.declared.program.Program.{Program}
+use Rattle.hip_tree.specs.declared.site.Site.{Site}
 use Rattle.hip_externs.specs.Externs.{known_signature}
 use Rattle.hip_names.specs.Names.{is_among}
-use Rattle.hip_typing.specs.Places.{first_of, function_of, callee_of}
-use Rattle.hip_typing.specs.Rules.{Passes}
+use Rattle.hip_sound.specs.Places.{first_of, function_of, callee_of}
+use Rattle.hip_sound.specs.Rules.{Passes}
 use Rattle.hip_repairs.specs.declared.plan.Plan.{Plan}
 use Rattle.hip_repairs.specs.Repaired.{Marked, Clone, Wanted, wanted_by, clwb_name, sfence_name, pmem_flush_name, flush_of, the_fence, inserted_behind, repaired_body, instrs_of, is_call_of, inserts, inserts_in, inserts_from, inserts_cloned, needs, clones_of, cloned, added_externs, repaired}
 use Rattle.hip_repairs.proofs.soundness.Declarations.{clwb_extern, sfence_extern, pmem_flush_extern, extern_names}

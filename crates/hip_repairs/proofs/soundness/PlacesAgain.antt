@@ -6,26 +6,26 @@ use Rattle.std.proofs.lemmas.Option.{same_Some}
 use Rattle.std.proofs.lemmas.Bool.{and_from, and_parts}
 use Rattle.hip_types.specs.Laws.DistinctLaws.{either}
 use Rattle.hip_types.specs.declared.number.Scalar.{Scalar}
-use Rattle.hip_ir.specs.Sites.{has_site}
-use Rattle.hip_ir.specs.declared.block.Block.{Block}
-use Rattle.hip_ir.specs.declared.block.End.{End}
-use Rattle.hip_ir.specs.declared.block.Phi.{Phi}
-use Rattle.hip_ir.specs.declared.instr.Arg.{Arg}
-use Rattle.hip_ir.specs.declared.instr.Instr.{Instr}
-use Rattle.hip_ir.specs.declared.instr.Instr.TheVariants.{Store, Call}
-use Rattle.hip_ir.specs.declared.program.Function.{Function}
-use Rattle.hip_ir.specs.declared.program.Program.{Program}
-use Rattle.hip_ir.specs.declared.site.Site.{Site}
-use Rattle.hip_typing.specs.Check.{each}
+use Rattle.hip_tree.specs.Sites.{has_site}
+use Rattle.hip_tree.specs.declared.block.Block.{Block}
+use Rattle.hip_tree.specs.declared.block.End.{End}
+use Rattle.hip_tree.specs.declared.block.Phi.{Phi}
+use Rattle.hip_tree.specs.declared.instr.Arg.{Arg}
+use Rattle.hip_tree.specs.declared.instr.Instr.{Instr}
+use Rattle.hip_tree.specs.declared.instr.Instr.TheVariants.{Store, Call}
+use Rattle.hip_tree.specs.declared.program.Function.{Function}
+use Rattle.hip_tree.specs.declared.program.Program.{Program}
+use Rattle.hip_tree.specs.declared.site.Site.{Site}
+use Rattle.hip_sound.specs.Check.{each}
 use Rattle.hip_externs.specs.Externs.{known_signature}
 use Rattle.hip_names.specs.Names.{is_among}
-use Rattle.hip_typing.specs.Numbering.{function_number, label_names}
-use Rattle.hip_typing.specs.Places.{Scope, scope_of, callee_of, are_among, uses_known, uses_agree, use_agrees, signature_agrees, register_agrees, instr_agrees, callee_known, instr_check, end_agrees, is_entry, end_check, predecessors, phi_check}
-use Rattle.hip_typing.specs.Registers.{Use, registers_of, parameter_registers, find_register, instr_uses, arg_uses, end_uses, end_labels, phi_uses, used_registers, used_globals}
-use Rattle.hip_typing.specs.Rules.{Passes, block_check, places_check}
-use Rattle.hip_typing.specs.declared.fault.Place.{Place}
-use Rattle.hip_typing.specs.declared.fault.Place.TheVariants as places
-use Rattle.hip_typing.specs.Laws.Decided.{holds-at, holds-made}
+use Rattle.hip_sound.specs.Numbering.{function_number, label_names}
+use Rattle.hip_sound.specs.Places.{Scope, scope_of, callee_of, are_among, uses_known, uses_agree, use_agrees, signature_agrees, register_agrees, instr_agrees, callee_known, instr_check, end_agrees, is_entry, end_check, predecessors, phi_check}
+use Rattle.hip_sound.specs.Registers.{Use, registers_of, parameter_registers, find_register, instr_uses, arg_uses, end_uses, end_labels, phi_uses, used_registers, used_globals}
+use Rattle.hip_sound.specs.Rules.{Passes, block_check, places_check}
+use Rattle.hip_sound.specs.declared.fault.Place.{Place}
+use Rattle.hip_sound.specs.declared.fault.Place.TheVariants as places
+use Rattle.hip_sound.specs.Laws.Decided.{holds-at, holds-made}
 use Rattle.hip_runs.specs.Places.{body_of, blocks_in}
 use Rattle.hip_repairs.specs.declared.plan.Plan.{Plan}
 use Rattle.hip_repairs.specs.Repaired.{Clone, Wanted, wanted_by, clwb_name, sfence_name, pmem_flush_name, clones_of, cloned, renamed, is_call_of, needs, repaired, repaired_block, repaired_blocks, repaired_function}

@@ -1,9 +1,9 @@
 -- The repaired program passes the checks of soundness again.
 use Rattle.std.proofs.Common.{Bool}
-use Rattle.hip_ir.specs.Laws.SpellingExact.{spelled_exact}
-use Rattle.hip_ir.specs.declared.program.Program.{Program}
-use Rattle.hip_ir.specs.declared.site.Site.{Site}
-use Rattle.hip_typing.specs.Rules.{Passes}
+use Rattle.hip_grammar.specs.Laws.SpellingExact.{spelled_exact}
+use Rattle.hip_tree.specs.declared.program.Program.{Program}
+use Rattle.hip_tree.specs.declared.site.Site.{Site}
+use Rattle.hip_sound.specs.Rules.{Passes}
 use Rattle.hip_repairs.specs.declared.plan.Plan.{Plan}
 use Rattle.hip_repairs.specs.Repaired.{repaired}
 use Rattle.hip_repairs.proofs.soundness.AssignedAgain.{all_assigned_again}

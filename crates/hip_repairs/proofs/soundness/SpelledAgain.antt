@@ -9,20 +9,20 @@ use Rattle.hip_types.specs.Numbers.{bits}
 use Rattle.hip_types.specs.declared.number.Scalar.{Scalar}
 use Rattle.hip_types.specs.declared.number.Scalar.TheVariants.{Ptr}
 use Rattle.hip_types.specs.declared.number.Width.TheVariants.{W64}
-use Rattle.hip_ir.specs.Spelling.{not_empty, spelled_int, spelled_operand, spelled_instr, spelled_block, spelled_extern, spelled_function, spelled_program}
-use Rattle.hip_ir.specs.declared.block.Block.{Block}
-use Rattle.hip_ir.specs.declared.constant.Const.{out-Const}
-use Rattle.hip_ir.specs.declared.constant.Const.TheVariants as consts
-use Rattle.hip_ir.specs.Laws.Levels.{out-Const-Int}
-use Rattle.hip_ir.specs.declared.instr.Instr.{Instr}
-use Rattle.hip_ir.specs.declared.instr.Instr.TheVariants.{Store, Call}
-use Rattle.hip_ir.specs.declared.instr.Operand.{Operand}
-use Rattle.hip_ir.specs.declared.program.Extern.{Extern}
-use Rattle.hip_ir.specs.declared.program.Function.{Function}
-use Rattle.hip_ir.specs.declared.program.Program.{Program}
-use Rattle.hip_ir.specs.declared.site.Site.{Site}
-use Rattle.hip_typing.specs.Sound.{top_names}
-use Rattle.hip_typing.specs.Numbering.{name_in}
+use Rattle.hip_grammar.specs.Spelling.{not_empty, spelled_int, spelled_operand, spelled_instr, spelled_block, spelled_extern, spelled_function, spelled_program}
+use Rattle.hip_tree.specs.declared.block.Block.{Block}
+use Rattle.hip_tree.specs.declared.constant.Const.{out-Const}
+use Rattle.hip_tree.specs.declared.constant.Const.TheVariants as consts
+use Rattle.hip_tree.specs.Laws.Levels.{out-Const-Int}
+use Rattle.hip_tree.specs.declared.instr.Instr.{Instr}
+use Rattle.hip_tree.specs.declared.instr.Instr.TheVariants.{Store, Call}
+use Rattle.hip_tree.specs.declared.instr.Operand.{Operand}
+use Rattle.hip_tree.specs.declared.program.Extern.{Extern}
+use Rattle.hip_tree.specs.declared.program.Function.{Function}
+use Rattle.hip_tree.specs.declared.program.Program.{Program}
+use Rattle.hip_tree.specs.declared.site.Site.{Site}
+use Rattle.hip_sound.specs.Sound.{top_names}
+use Rattle.hip_sound.specs.Numbering.{name_in}
 use Rattle.hip_calls.specs.Fresh.{name_of}
 use Rattle.hip_calls.specs.Laws.FreshLaws.{fresh_for-first, candidate-name}
 use Rattle.hip_runs.specs.Operands.{scalar_size}

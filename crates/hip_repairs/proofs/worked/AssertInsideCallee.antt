@@ -6,7 +6,7 @@ use Rattle.hip_types.specs.Laws.LayoutLaws.{shape-Int}
 use Rattle.hip_types.specs.Numbers.{bits}
 use Rattle.hip_types.specs.declared.number.Width.TheVariants.{W64}
 use Rattle.hip_types.specs.declared.ty.Ty.TheVariants as types
-use Rattle.hip_ir.specs.declared.constant.Const.TheVariants as consts
+use Rattle.hip_tree.specs.declared.constant.Const.TheVariants as consts
 use Rattle.hip_globals.specs.Addresses.{volatile_end}
 use Rattle.hip_globals.specs.Initial.{volatile_bytes}
 use Rattle.hip_globals.specs.Values.{aligned, constant_bytes, global_address, sized, written}

@@ -1,12 +1,12 @@
 -- The marks of closed runs, step by step by what is done.
 use Rattle.std.proofs.Common.{◌≡◌, ℕ, suc, cond, nat_eq, List, [], ◌∷◌, Option, None, is_some, refl, sym, ap, ◌∙◌}
 use Rattle.hip_types.specs.declared.number.Bits.{Bits}
-use Rattle.hip_mem.specs.Bytes.{bytes_of}
+use Rattle.hip_types.specs.Bytes.{bytes_of}
 use Rattle.hip_globals.specs.Values.{Written, written}
-use Rattle.hip_ir.specs.declared.constant.Const.TheFolds.{fold-roll-Const}
-use Rattle.hip_ir.specs.declared.constant.Const.TheVariants as consts
+use Rattle.hip_tree.specs.declared.constant.Const.TheFolds.{fold-roll-Const}
+use Rattle.hip_tree.specs.declared.constant.Const.TheVariants as consts
 use Rattle.hip_types.specs.Distinct.{met}
-use Rattle.hip_ir.specs.declared.program.Program.{Program}
+use Rattle.hip_tree.specs.declared.program.Program.{Program}
 use Rattle.hip_runs.specs.declared.event.Ending.{Ending}
 use Rattle.hip_runs.specs.declared.event.Event.{Event}
 use Rattle.hip_runs.specs.declared.input.Input.{Input}

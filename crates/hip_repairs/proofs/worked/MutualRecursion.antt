@@ -1,7 +1,7 @@
 -- The run of two functions that call one another, and its repair by two clones.
 use Rattle.std.proofs.Common.{◌≡◌, true, [], ◌∷◌, List, Some, None, codes, refl, ap, ◌∙◌, false}
 use Rattle.hip_types.specs.Laws.LayoutLaws.{shape-Int}
-use Rattle.hip_typing.specs.Rules.{site}
+use Rattle.hip_sound.specs.Rules.{site}
 use Rattle.hip_runs.specs.declared.event.Object.TheVariants.{Global, Slot}
 use Rattle.hip_runs.specs.declared.report.Mark.{Mark}
 use Rattle.hip_runs.specs.Actions.{Deed, Allocates, Assigns, Calls, Jumps, Returns, Stores}

@@ -1,15 +1,15 @@
 -- Runs of closed programs, step by step by what they do.
 use Rattle.std.proofs.Common.{◌≡◌, ℕ, suc, map, false, cond, List, [], ◌∷◌, ◌++◌, Option, None, is_some, refl, sym, ap, ◌∙◌, append_assoc}
 use Rattle.std.proofs.lemmas.List.{append-nil}
-use Rattle.hip_ir.specs.declared.constant.Const.TheFolds.{fold-roll-Const, fold_out-ConstGep}
-use Rattle.hip_ir.specs.declared.constant.Const.TheVariants as consts
-use Rattle.hip_ir.specs.declared.constant.ConstGep.{ConstGep}
-use Rattle.hip_ir.specs.declared.program.GlobalVar.{GlobalVar}
-use Rattle.hip_ir.specs.declared.program.Program.{Program}
+use Rattle.hip_tree.specs.declared.constant.Const.TheFolds.{fold-roll-Const, fold_out-ConstGep}
+use Rattle.hip_tree.specs.declared.constant.Const.TheVariants as consts
+use Rattle.hip_tree.specs.declared.constant.ConstGep.{ConstGep}
+use Rattle.hip_tree.specs.declared.program.GlobalVar.{GlobalVar}
+use Rattle.hip_tree.specs.declared.program.Program.{Program}
 use Rattle.hip_types.specs.declared.number.Bits.{Bits}
 use Rattle.hip_globals.specs.Constants.{index_of}
 use Rattle.hip_globals.specs.Values.{Written, const_value, element_address, global_address}
-use Rattle.hip_mem.specs.Bytes.{zeros}
+use Rattle.hip_types.specs.Bytes.{zeros}
 use Rattle.hip_lines.specs.Line.{Line, fresh_lines}
 use Rattle.hip_runs.specs.declared.event.Ending.{Ending}
 use Rattle.hip_runs.specs.declared.event.Event.{Event}

@@ -1,7 +1,7 @@
 -- The run of a store that lies in two cache lines, and its repair.
 use Rattle.std.proofs.Common.{◌≡◌, true, [], ◌∷◌, List, ℕ, Option, Some, codes, ◌+◌, ◌*◌, ◌%◌, ◌^◌, option_map, option_and_then, refl, ap, ◌∙◌}
-use Rattle.hip_ir.specs.declared.constant.Const.TheVariants as consts
-use Rattle.hip_ir.specs.Laws.Levels.{out-Ty-Array}
+use Rattle.hip_tree.specs.declared.constant.Const.TheVariants as consts
+use Rattle.hip_tree.specs.Laws.Levels.{out-Ty-Array}
 use Rattle.hip_types.specs.Laws.LayoutLaws.{shape-Int, shape-Array}
 use Rattle.hip_types.specs.Layout.{Shape, Part, size_of, enter, enter_level, further, part_at, gep_of}
 use Rattle.hip_types.specs.declared.number.Width.TheVariants.{W8, W64}

@@ -4,26 +4,26 @@ use Rattle.std.specs.Prelude.{codes, if◌then◌else◌}
 use Rattle.std.specs.Str.{bytes_eq}
 use Rattle.std.proofs.lemmas.Slice.Eq.{bytes_eq-Decides}
 use Rattle.std.proofs.lemmas.Bool.{and_parts}
-use Rattle.hip_ir.specs.declared.block.Block.{Block}
-use Rattle.hip_ir.specs.declared.instr.Instr.{Instr}
-use Rattle.hip_ir.specs.declared.instr.Instr.TheVariants.{Call}
-use Rattle.hip_ir.specs.declared.program.Extern.{Extern}
-use Rattle.hip_ir.specs.declared.program.Function.{Function}
-use Rattle.hip_ir.specs.declared.program.Program.{Program}
-use Rattle.hip_typing.specs.Check.{each}
+use Rattle.hip_tree.specs.declared.block.Block.{Block}
+use Rattle.hip_tree.specs.declared.instr.Instr.{Instr}
+use Rattle.hip_tree.specs.declared.instr.Instr.TheVariants.{Call}
+use Rattle.hip_tree.specs.declared.program.Extern.{Extern}
+use Rattle.hip_tree.specs.declared.program.Function.{Function}
+use Rattle.hip_tree.specs.declared.program.Program.{Program}
+use Rattle.hip_sound.specs.Check.{each}
 use Rattle.hip_externs.specs.Externs.{Signature, signature, call_of, known_signature}
 use Rattle.hip_names.specs.Names.{number_of}
-use Rattle.hip_typing.specs.Numbering.{function_names, function_number}
+use Rattle.hip_sound.specs.Numbering.{function_names, function_number}
 use Rattle.hip_names.specs.Laws.NumberLaws.{number_of-cons, number_of-known}
-use Rattle.hip_typing.specs.Laws.NumberingLaws.{function_number-there}
-use Rattle.hip_typing.specs.Places.{extern_of, function_of, first_of, callee_of, scope_of, instr_check}
-use Rattle.hip_typing.specs.Rules.{Passes, is_main, has_main, is_of, declared, free_function, externs_check, block_check, places_check}
+use Rattle.hip_sound.specs.Laws.NumberingLaws.{function_number-there}
+use Rattle.hip_sound.specs.Places.{extern_of, function_of, first_of, callee_of, scope_of, instr_check}
+use Rattle.hip_sound.specs.Rules.{Passes, is_main, has_main, is_of, declared, free_function, externs_check, block_check, places_check}
 use Rattle.hip_externs.specs.declared.call.ExternCall.{ExternCall}
-use Rattle.hip_typing.specs.declared.fault.Place.TheVariants as places
-use Rattle.hip_typing.specs.Laws.Decided.{holds-at}
+use Rattle.hip_sound.specs.declared.fault.Place.TheVariants as places
+use Rattle.hip_sound.specs.Laws.Decided.{holds-at}
 use Rattle.hip_runs.specs.Places.{blocks_in, body_of, body_at}
 use Rattle.hip_types.specs.declared.number.Scalar.{Scalar}
-use Rattle.hip_ir.specs.declared.instr.Arg.{Arg}
+use Rattle.hip_tree.specs.declared.instr.Arg.{Arg}
 
 -- the name is that of an external function of the table, or of a function of the program
 abbrev pub IsCalled : Program → List ℕ → Type 0

@@ -2,9 +2,9 @@
 use Rattle.hip_runs.specs.Laws.Members.{both_true, any_in, in_any}
 use Rattle.std.proofs.Common.{◌≡◌, ◌⊎◌, inl, inr, ℕ, zero, suc, Bool, true, false, ◌||◌, nat_eq, List, Option, Some, None, slice_get, refl, sym, ap, ◌∙◌, subst}
 use Rattle.hip_types.specs.Laws.DistinctLaws.{or_first, or_second, either}
-use Rattle.hip_ir.specs.Sites.{instr_of, has_site, sites_of}
-use Rattle.hip_ir.specs.declared.program.Program.{Program}
-use Rattle.hip_ir.specs.declared.site.Site.{Site}
+use Rattle.hip_tree.specs.Sites.{instr_of, has_site, sites_of}
+use Rattle.hip_tree.specs.declared.program.Program.{Program}
+use Rattle.hip_tree.specs.declared.site.Site.{Site}
 use Rattle.hip_runs.specs.declared.input.Input.{Input}
 use Rattle.hip_runs.specs.declared.report.Findings.{Findings}
 use Rattle.hip_runs.specs.declared.report.Kind.{Kind}
@@ -19,7 +19,7 @@ use Rattle.hip_repairs.specs.Laws.SiteOrder.{plan_asked, filter_ascends, in_has,
 use Rattle.hip_runs.specs.Sites.{is_store, is_flush_call, is_defined_call}
 use Rattle.hip_runs.specs.Laws.Found.ReportLaws.{reports_formed}
 use Rattle.hip_runs.specs.Laws.Found.FoundLaws.{same_site_equal}
-use Rattle.hip_ir.specs.declared.instr.Instr.{Instr}
+use Rattle.hip_tree.specs.declared.instr.Instr.{Instr}
 use Rattle.hip_runs.specs.Found.WellFormed.{IsWellFormed}
 use Rattle.hip_repairs.specs.declared.plan.Plan.{Plan}
 

@@ -2,13 +2,13 @@
 use Rattle.std.proofs.Common.{◌≡◌, ◌⊎◌, inl, inr, ℕ, suc, ◌<◌, ◌≤◌, Bool, true, false, cond, ◌&&◌, ◌||◌, nat_lt, nat_eq, List, [], ◌∷◌, ◌++◌, refl, sym, ap, ◌∙◌, subst, arith, Option, Some, zero, ◌+◌}
 use Rattle.std.specs.List.{filter}
 use Rattle.hip_types.specs.Laws.DistinctLaws.{or_first, or_second, either}
-use Rattle.hip_ir.specs.Sites.{same_site, has_site, sites_of, function_sites, block_sites, body_sites, instr_of}
-use Rattle.hip_ir.specs.declared.block.Block.{Block}
-use Rattle.hip_ir.specs.declared.instr.Instr.{Instr}
-use Rattle.hip_ir.specs.declared.program.Function.{Function}
-use Rattle.hip_ir.specs.declared.program.Program.{Program}
-use Rattle.hip_ir.specs.declared.site.Site.{Site}
-use Rattle.hip_typing.specs.Rules.{site}
+use Rattle.hip_tree.specs.Sites.{same_site, has_site, sites_of, function_sites, block_sites, body_sites, instr_of}
+use Rattle.hip_tree.specs.declared.block.Block.{Block}
+use Rattle.hip_tree.specs.declared.instr.Instr.{Instr}
+use Rattle.hip_tree.specs.declared.program.Function.{Function}
+use Rattle.hip_tree.specs.declared.program.Program.{Program}
+use Rattle.hip_tree.specs.declared.site.Site.{Site}
+use Rattle.hip_sound.specs.Rules.{site}
 use Rattle.hip_runs.specs.declared.report.Findings.{Findings}
 use Rattle.hip_runs.specs.StoredParts.Parts.{In}
 use Rattle.hip_runs.specs.Laws.PartLaws.{in-append, append-left, append-right}

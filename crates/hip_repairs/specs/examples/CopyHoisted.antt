@@ -1,8 +1,8 @@
 -- A function that copies a number, once to the stack and once to a persistent global.
 use Rattle.std.specs.Prelude.{List, [], ◌∷◌, None, codes}
-use Rattle.hip_ir.specs.declared.instr.Instr.{Instr}
-use Rattle.hip_ir.specs.declared.program.Function.{Function}
-use Rattle.hip_ir.specs.declared.program.Program.{Program}
+use Rattle.hip_tree.specs.declared.instr.Instr.{Instr}
+use Rattle.hip_tree.specs.declared.program.Function.{Function}
+use Rattle.hip_tree.specs.declared.program.Program.{Program}
 use Rattle.hip_runs.specs.declared.report.Kind.TheVariants.{MissingBoth}
 use Rattle.hip_runs.specs.declared.report.Report.{Report}
 use Rattle.hip_repairs.specs.examples.Words.{at, reg, number, ptr_arg, ptr_param, persistent_i64, alloca_i64, load_i64, store_i64, call_void, clwb, declare_clwb, sfence, declare_sfence, ret_void, define_void, main_of, site}

@@ -1,6 +1,6 @@
 -- A store with a fence and no flush behind it.
 use Rattle.std.specs.Prelude.{[], ◌∷◌, None, codes}
-use Rattle.hip_ir.specs.declared.program.Program.{Program}
+use Rattle.hip_tree.specs.declared.program.Program.{Program}
 use Rattle.hip_runs.specs.declared.report.Kind.TheVariants.{MissingFlush}
 use Rattle.hip_runs.specs.declared.report.Report.{Report}
 use Rattle.hip_repairs.specs.examples.Words.{at, number, persistent_i64, store_i64, clwb, declare_clwb, sfence, declare_sfence, main_of, site}

@@ -4,20 +4,20 @@ use Rattle.hip_types.specs.Numbers.{bits}
 use Rattle.hip_types.specs.declared.number.Scalar.TheVariants.{Int, Ptr}
 use Rattle.hip_types.specs.declared.number.Width.TheVariants.{W32, W64}
 use Rattle.hip_types.specs.declared.ty.Ty.TheVariants as types
-use Rattle.hip_ir.specs.declared.block.Block.{Block}
-use Rattle.hip_ir.specs.declared.block.End.TheVariants as ends
-use Rattle.hip_ir.specs.declared.constant.Const.TheVariants as consts
-use Rattle.hip_ir.specs.declared.instr.Arg.{Arg}
-use Rattle.hip_ir.specs.declared.instr.Instr.{Instr}
-use Rattle.hip_ir.specs.declared.instr.Instr.TheVariants as instrs
-use Rattle.hip_ir.specs.declared.instr.Operand.{Operand}
-use Rattle.hip_ir.specs.declared.instr.Operand.TheVariants.{Reg, Fixed}
-use Rattle.hip_ir.specs.declared.program.Extern.{Extern}
-use Rattle.hip_ir.specs.declared.program.Function.{Function}
-use Rattle.hip_ir.specs.declared.program.GlobalVar.{GlobalVar}
-use Rattle.hip_ir.specs.declared.program.Param.{Param}
-use Rattle.hip_ir.specs.declared.program.Program.{Program}
-use Rattle.hip_ir.specs.declared.site.Site.{Site}
+use Rattle.hip_tree.specs.declared.block.Block.{Block}
+use Rattle.hip_tree.specs.declared.block.End.TheVariants as ends
+use Rattle.hip_tree.specs.declared.constant.Const.TheVariants as consts
+use Rattle.hip_tree.specs.declared.instr.Arg.{Arg}
+use Rattle.hip_tree.specs.declared.instr.Instr.{Instr}
+use Rattle.hip_tree.specs.declared.instr.Instr.TheVariants as instrs
+use Rattle.hip_tree.specs.declared.instr.Operand.{Operand}
+use Rattle.hip_tree.specs.declared.instr.Operand.TheVariants.{Reg, Fixed}
+use Rattle.hip_tree.specs.declared.program.Extern.{Extern}
+use Rattle.hip_tree.specs.declared.program.Function.{Function}
+use Rattle.hip_tree.specs.declared.program.GlobalVar.{GlobalVar}
+use Rattle.hip_tree.specs.declared.program.Param.{Param}
+use Rattle.hip_tree.specs.declared.program.Program.{Program}
+use Rattle.hip_tree.specs.declared.site.Site.{Site}
 use Rattle.hip_runs.specs.declared.input.Input.{Input}
 use Rattle.hip_runs.specs.declared.report.Report.{Report}
 use Rattle.hip_runs.specs.Found.Marks.{findings}

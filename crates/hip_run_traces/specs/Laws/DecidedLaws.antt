@@ -2,7 +2,7 @@
 use Rattle.std.proofs.Common.{◌≡◌, ◌⊎◌, inl, inr, ℕ, ℤ, pos, negsuc, suc, ◌+◌, Bool, true, false, List, [], ◌∷◌, length, take, slice_get, Option, Some, None, nat_eq, refl, sym, ap, ◌∙◌, subst}
 use Rattle.std.specs.Str.{bytes_eq}
 use Rattle.std.proofs.lemmas.Slice.Eq.{bytes_eq-Decides}
-use Rattle.hip_ir.specs.declared.program.Program.{Program}
+use Rattle.hip_tree.specs.declared.program.Program.{Program}
 use Rattle.hip_runs.specs.Laws.Members.{equal_true, true_equal}
 use Rattle.hip_runs.specs.declared.input.Input.{Input}
 use Rattle.hip_run_traces.specs.Headers.{Header, Stops, Gives, header}

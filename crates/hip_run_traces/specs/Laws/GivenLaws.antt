@@ -7,8 +7,8 @@ use Rattle.std.proofs.lemmas.List.{append-nil, take_all}
 use Rattle.std.proofs.lemmas.List.Elements.{All-nil, All-append, All-push, All-replicate}
 use Rattle.hip_globals.specs.Addresses.{IsBase, end_of, region_size, is_base}
 use Rattle.hip_globals.specs.Laws.BaseLaws.{base_valid}
-use Rattle.hip_ir.specs.declared.program.Program.{Program}
-use Rattle.hip_mem.specs.Bytes.{zeros}
+use Rattle.hip_tree.specs.declared.program.Program.{Program}
+use Rattle.hip_types.specs.Bytes.{zeros}
 use Rattle.hip_mem.specs.Laws.BytesLaws.{length-zeros}
 use Rattle.hip_runs.specs.Laws.Members.{le_true, lt_true}
 use Rattle.hip_runs.specs.Step.{header_entries, some_byte}

@@ -5,8 +5,8 @@ use Rattle.std.specs.Int.{next_multiple_of}
 use Rattle.std.proofs.lemmas.Bool.{eq-eqb}
 use Rattle.std.proofs.lemmas.List.{append-nil, length-drop, length-take-le, take-append-drop}
 use Rattle.hip_globals.specs.Addresses.{end_of, region_size, is_base}
-use Rattle.hip_ir.specs.declared.program.Program.{Program}
-use Rattle.hip_mem.specs.Bytes.{zeros}
+use Rattle.hip_tree.specs.declared.program.Program.{Program}
+use Rattle.hip_types.specs.Bytes.{zeros}
 use Rattle.hip_mem.specs.Laws.BytesLaws.{length-zeros}
 use Rattle.hip_runs.specs.Laws.Members.{true_both, true_le, true_lt}
 use Rattle.hip_runs.specs.Step.{event, has_ended, header_entries, image_lines, run, some_byte}

@@ -3,7 +3,7 @@ use Rattle.std.proofs.Common.{◌≡◌, ℕ, zero, suc, ◌+◌, ◌*◌, Bool,
 use Rattle.std.specs.Prelude.{if◌then◌else◌}
 use Rattle.std.proofs.lemmas.List.{length-drop, length-take-le, take-append-drop}
 use Rattle.std.proofs.Math.Seq.{take-append_seam, drop-append_seam}
-use Rattle.hip_mem.specs.Bytes.{zeros}
+use Rattle.hip_types.specs.Bytes.{zeros}
 use Rattle.hip_mem.specs.Laws.BytesLaws.{length-zeros}
 use Rattle.hip_runs.specs.Step.{some_byte}
 use Rattle.hip_run_traces.specs.Traces.{image_entries}

@@ -8,15 +8,15 @@ use Rattle.hip_externs.specs.Externs.{call_of}
 use Rattle.hip_externs.specs.declared.call.ExternCall.{ExternCall}
 use Rattle.hip_externs.specs.declared.call.ExternCall.TheVariants as calls
 use Rattle.hip_globals.specs.Addresses.{end_of, region_size}
-use Rattle.hip_ir.specs.declared.block.End.{End}
-use Rattle.hip_ir.specs.declared.block.End.TheVariants as ends
-use Rattle.hip_ir.specs.declared.instr.Instr.{Instr}
-use Rattle.hip_ir.specs.declared.instr.Instr.TheVariants.{Binary, Compare, Select, Cast, Alloca, Load, Store, Gep, Call}
-use Rattle.hip_ir.specs.declared.program.Function.{Function}
-use Rattle.hip_ir.specs.declared.program.Program.{Program}
-use Rattle.hip_mem.specs.Bytes.{little_endian, bytes_of}
+use Rattle.hip_tree.specs.declared.block.End.{End}
+use Rattle.hip_tree.specs.declared.block.End.TheVariants as ends
+use Rattle.hip_tree.specs.declared.instr.Instr.{Instr}
+use Rattle.hip_tree.specs.declared.instr.Instr.TheVariants.{Binary, Compare, Select, Cast, Alloca, Load, Store, Gep, Call}
+use Rattle.hip_tree.specs.declared.program.Function.{Function}
+use Rattle.hip_tree.specs.declared.program.Program.{Program}
+use Rattle.hip_types.specs.Bytes.{little_endian, bytes_of}
 use Rattle.hip_mem.specs.Laws.BytesLaws.{bytes_of-below, length-bytes_of, little_endian-below}
-use Rattle.hip_mem.specs.Memory.{stack_end}
+use Rattle.hip_types.specs.Areas.{stack_end}
 use Rattle.hip_num.specs.Arithmetic.{binary_of}
 use Rattle.hip_num.specs.declared.arithmetic.NumTrap.{NumTrap}
 use Rattle.hip_types.specs.Numbers.{bits, signed, signed-low, signed-high}
@@ -24,8 +24,8 @@ use Rattle.hip_types.specs.declared.number.Bits.{Bits}
 use Rattle.hip_types.specs.declared.number.Scalar.{Scalar}
 use Rattle.hip_types.specs.declared.number.Scalar.TheVariants.{Int, Ptr}
 use Rattle.hip_types.specs.declared.number.Width.TheVariants.{W1, W8, W16, W32, W64}
-use Rattle.hip_typing.specs.Numbering.{function_number}
-use Rattle.hip_typing.specs.Sound.{IsSound}
+use Rattle.hip_sound.specs.Numbering.{function_number}
+use Rattle.hip_sound.specs.Sound.{IsSound}
 use Rattle.hip_runs.specs.Actions.{Action, Traps, Assigns, Allocates, Stores, Flushes, Persists, Fences, Asserts, Prints, Reads, Calls, Jumps, Returns, Deed, are_valid, arg_value, in_region, accessed, calculated, allocated, bound_call, numbered_call, entered, flushing, read_next, call_action, instr_action, jump_to, jump, end_action, deed_of}
 use Rattle.hip_runs.specs.Laws.Members.{both_true, le_true, lt_true}
 use Rattle.hip_runs.specs.Operands.{scalar_size, value_of, values_of}

@@ -1,7 +1,7 @@
 -- The text of a run's trace is the trace of the run.
 use Rattle.std.proofs.Common.{◌≡◌, true, List, sym, ap, ◌∙◌, subst}
 use Rattle.std.specs.Prelude.{All}
-use Rattle.hip_ir.specs.declared.program.Program.{Program}
+use Rattle.hip_tree.specs.declared.program.Program.{Program}
 use Rattle.hip_runs.specs.Step.{header_entries}
 use Rattle.hip_runs.specs.Validity.{IsInput, IsValid}
 use Rattle.hip_runs.specs.declared.input.Input.{Input}
@@ -15,7 +15,7 @@ use Rattle.hip_trace.specs.Fits.{ValuesFit}
 use Rattle.hip_trace.specs.Pieces.{spelled}
 use Rattle.hip_trace.specs.Texts.{lines_of}
 use Rattle.hip_trace.specs.declared.entry.Entry.{Entry}
-use Rattle.hip_typing.specs.Sound.{IsSound}
+use Rattle.hip_sound.specs.Sound.{IsSound}
 
 pub written-trace : (P : Program) → IsSound P → (I : Input) → IsInput I → IsValid P I → (es : List Entry)
     → IsTrace P I es → IsTraceOf P (lines_of es) I

@@ -2,8 +2,8 @@
 -- whose bytes contain it.
 use Rattle.std.specs.Prelude.{ℕ, suc, cond, List, [], ◌∷◌, Option, Some, None, option_map}
 use Rattle.hip_types.specs.Layout.{shape}
-use Rattle.hip_ir.specs.declared.program.GlobalVar.{GlobalVar}
-use Rattle.hip_ir.specs.declared.program.Program.{Program}
+use Rattle.hip_tree.specs.declared.program.GlobalVar.{GlobalVar}
+use Rattle.hip_tree.specs.declared.program.Program.{Program}
 use Rattle.hip_globals.specs.Addresses.{address_in}
 use Rattle.hip_mem.specs.Memory.{range_contains}
 use Rattle.hip_runs.specs.declared.event.Object.{Object}

@@ -2,7 +2,7 @@
 -- that it is of.
 use Rattle.std.specs.Prelude.{◌≡◌, ℕ, Some, slice_get, nat_lt, ◌+◌, ◌<◌, ◌≤◌, Bool, not, ◌||◌, nat_eq, List, [], ◌∷◌}
 use Rattle.std.specs.List.{list_all, list_any}
-use Rattle.hip_ir.specs.Spelling.{not_empty}
+use Rattle.hip_grammar.specs.Spelling.{not_empty}
 use Rattle.hip_lines.specs.Line.{Line}
 use Rattle.hip_lines.specs.Loose.{IsLooseBy}
 use Rattle.hip_lines.specs.declared.part.LooseByte.{LooseByte}

@@ -1,7 +1,7 @@
 -- What a step does to the frames, and so how the calls of a part stand to those that stand later.
 use Rattle.std.proofs.Common.{◌≡◌, inl, inr, ℕ, zero, suc, ◌≤◌, Bool, true, false, cond, List, [], ◌∷◌, Option, Some, None, is_some, refl, sym, ap, subst, arith}
-use Rattle.hip_ir.specs.Sites.{instr_of}
-use Rattle.hip_ir.specs.declared.program.Program.{Program}
+use Rattle.hip_tree.specs.Sites.{instr_of}
+use Rattle.hip_tree.specs.declared.program.Program.{Program}
 use Rattle.hip_lines.specs.Line.{Line}
 use Rattle.hip_runs.specs.declared.event.Ending.{Ending}
 use Rattle.hip_runs.specs.declared.event.Ending.TheVariants.{Cut}

@@ -1,6 +1,6 @@
 -- A durable part of a store stays durable, and stays as it is.
 use Rattle.std.proofs.Common.{◌≡◌, ℕ, zero, suc, ◌+◌, ◌-◌, ◌<◌, Bool, true, false, cond, List, [], ◌∷◌, ◌++◌, length, Option, Some, None, option_map, slice_get, refl, sym, ap, ◌∙◌, subst, arith}
-use Rattle.hip_ir.specs.declared.program.Program.{Program}
+use Rattle.hip_tree.specs.declared.program.Program.{Program}
 use Rattle.hip_lines.specs.Line.{Line, IsOrdered, AreOrdered, with_part, has_bytes, stored, fresh_lines}
 use Rattle.hip_lines.specs.Laws.LineLaws.{slice_get-change_range, ordered-at}
 use Rattle.hip_lines.specs.Laws.LooseLaws.{get-map, get-of_map}

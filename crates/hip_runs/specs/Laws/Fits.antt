@@ -1,25 +1,25 @@
 -- What the action and the event of a step tell of the instruction that they are of.
 use Rattle.std.proofs.Common.{◌≡◌, ℕ, ◌+◌, Bool, true, false, cond, ◌%◌, nat_eq, nat_le, nat_lt, ℤ, List, [], ◌∷◌, length, Option, Some, None, slice_get, Result, Ok, Err, refl, sym, ap, ◌∙◌, subst}
-use Rattle.hip_ir.specs.Sites.{instr_of}
-use Rattle.hip_ir.specs.declared.block.End.{End}
-use Rattle.hip_ir.specs.declared.instr.Instr.{Instr}
-use Rattle.hip_ir.specs.declared.instr.Instr.TheVariants.{Binary, Compare, Select, Cast, Alloca, Load, Store, Gep, Call}
-use Rattle.hip_ir.specs.declared.program.Function.{Function}
-use Rattle.hip_ir.specs.declared.program.Program.{Program}
-use Rattle.hip_ir.specs.declared.site.Site.{Site}
+use Rattle.hip_tree.specs.Sites.{instr_of}
+use Rattle.hip_tree.specs.declared.block.End.{End}
+use Rattle.hip_tree.specs.declared.instr.Instr.{Instr}
+use Rattle.hip_tree.specs.declared.instr.Instr.TheVariants.{Binary, Compare, Select, Cast, Alloca, Load, Store, Gep, Call}
+use Rattle.hip_tree.specs.declared.program.Function.{Function}
+use Rattle.hip_tree.specs.declared.program.Program.{Program}
+use Rattle.hip_tree.specs.declared.site.Site.{Site}
 use Rattle.hip_num.specs.declared.arithmetic.NumTrap.{NumTrap}
 use Rattle.hip_types.specs.declared.number.Bits.{Bits}
 use Rattle.hip_externs.specs.Externs.{call_of, row_of}
 use Rattle.hip_externs.specs.declared.call.ExternCall.{ExternCall}
-use Rattle.hip_typing.specs.Numbering.{function_number}
+use Rattle.hip_sound.specs.Numbering.{function_number}
 use Rattle.hip_runs.specs.declared.event.Ending.{Ending}
 use Rattle.hip_runs.specs.declared.event.Ending.TheVariants.{Stop, Cut}
 use Rattle.hip_types.specs.Numbers.{bits, signed}
 use Rattle.hip_types.specs.declared.number.Width.TheVariants.{W32}
 use Rattle.std.specs.Int.{next_multiple_of}
-use Rattle.hip_mem.specs.Bytes.{little_endian, bytes_of}
+use Rattle.hip_types.specs.Bytes.{little_endian, bytes_of}
 use Rattle.hip_mem.specs.Laws.BytesLaws.{bytes_of-below, bytes_of-little_endian}
-use Rattle.hip_mem.specs.Memory.{stack_end}
+use Rattle.hip_types.specs.Areas.{stack_end}
 use Rattle.hip_num.specs.Arithmetic.{binary_of}
 use Rattle.hip_runs.specs.Laws.HistoryLaws.{instr_at_place}
 use Rattle.hip_runs.specs.Laws.Members.{get_drop}
@@ -33,7 +33,7 @@ use Rattle.hip_runs.specs.StoredParts.Since.{top_site}
 use Rattle.hip_runs.specs.Sites.{is_store, only_flushes, persists, is_flush_call, is_persist_call, called_number}
 use Rattle.hip_runs.specs.State.{Registers, Frame, World, State, site_of}
 use Rattle.hip_runs.specs.Step.{first_line, lines_size, event_of, is_bottom, is_cut, event_at, deed_at, event_on_frames, event_on_ending, event}
-use Rattle.hip_ir.specs.declared.block.End.TheVariants as ends
+use Rattle.hip_tree.specs.declared.block.End.TheVariants as ends
 use Rattle.hip_externs.specs.declared.call.ExternCall.TheVariants as calls
 use Rattle.hip_externs.specs.declared.call.LineEffect.{LineEffect}
 use Rattle.hip_externs.specs.declared.call.LineEffect.TheVariants as effects

@@ -2,13 +2,13 @@
 use Rattle.std.proofs.Common.{◌≡◌, ◌⊎◌, inl, inr, ℕ, zero, suc, ◌+◌, ◌-◌, ◌<◌, ◌≤◌, Bool, true, false, cond, ◌||◌, nat_eq, List, [], ◌∷◌, ◌++◌, map, length, Option, Some, None, slice_get, refl, sym, ap, ◌∙◌, subst, arith, append_assoc}
 use Rattle.std.specs.Prelude.{option_and_then}
 use Rattle.std.proofs.lemmas.Bool.Decides.{nat_tests}
-use Rattle.hip_ir.specs.Sites.{instr_of}
-use Rattle.hip_ir.specs.declared.block.Block.{Block}
-use Rattle.hip_ir.specs.declared.block.End.{End}
-use Rattle.hip_ir.specs.declared.instr.Instr.{Instr}
-use Rattle.hip_ir.specs.declared.program.Function.{Function}
-use Rattle.hip_ir.specs.declared.program.Program.{Program}
-use Rattle.hip_ir.specs.declared.site.Site.{Site}
+use Rattle.hip_tree.specs.Sites.{instr_of}
+use Rattle.hip_tree.specs.declared.block.Block.{Block}
+use Rattle.hip_tree.specs.declared.block.End.{End}
+use Rattle.hip_tree.specs.declared.instr.Instr.{Instr}
+use Rattle.hip_tree.specs.declared.program.Function.{Function}
+use Rattle.hip_tree.specs.declared.program.Program.{Program}
+use Rattle.hip_tree.specs.declared.site.Site.{Site}
 use Rattle.hip_lines.specs.Laws.LineLaws.{ordered-fenced_line, ordered-flushed_line, ordered-map_line, ordered-change_from, ordered-stored, ordered-at, ordered-fresh_lines}
 use Rattle.hip_lines.specs.Line.{Line, AreOrdered, map_line, with_part, has_bytes, change_from, change_range, stored, fresh_lines}
 use Rattle.hip_runs.specs.declared.event.Ending.{Ending}
@@ -25,7 +25,7 @@ use Rattle.hip_runs.specs.Places.{blocks_in, body_of, body_at, code_at, end_at}
 use Rattle.hip_runs.specs.Found.Reports.{is_open}
 use Rattle.hip_runs.specs.State.{Level, Flush, StorePart, Frame, World, Counts, State, level_list, levels_of, site_of}
 use Rattle.hip_runs.specs.Step.{stop, with_turn, start, is_cut, leave, perform, carry_out, deed_at, on_frames, on_ending, step, event_at, counted, run}
-use Rattle.hip_ir.specs.declared.block.End.TheVariants as ends
+use Rattle.hip_tree.specs.declared.block.End.TheVariants as ends
 
 -- an instruction stands at the site
 abbrev Stands : Program → Site → Type 0

@@ -5,7 +5,7 @@ use Rattle.hip_types.specs.Laws.DistinctLaws.{or_first, or_second, either}
 use Rattle.hip_lines.specs.Image.{byte_after, IsLineImage}
 use Rattle.hip_lines.specs.Line.{Line}
 use Rattle.std.proofs.lemmas.List.Elements.{All-nil, All-cons, All-head, All-tail}
-use Rattle.hip_mem.specs.Bytes.{little_endian, bytes_of}
+use Rattle.hip_types.specs.Bytes.{little_endian, bytes_of}
 use Rattle.hip_mem.specs.Laws.BytesLaws.{bytes_of-below}
 use Rattle.hip_runs.specs.StoredParts.Parts.{In, PartOf}
 use Rattle.hip_runs.specs.Laws.CrashLaws.{same_size}
@@ -18,7 +18,7 @@ use Rattle.hip_runs.specs.State.{StorePart, State}
 use Rattle.hip_runs.specs.Laws.Members.{both_true, equal_true, true_both, true_equal}
 use Rattle.hip_runs.specs.Step.{run}
 use Rattle.hip_runs.specs.Validity.{IsInput, IsValid}
-use Rattle.hip_ir.specs.declared.program.Program.{Program}
+use Rattle.hip_tree.specs.declared.program.Program.{Program}
 
 -- ---- the parts behind the durable ones
 

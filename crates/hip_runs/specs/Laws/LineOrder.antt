@@ -2,8 +2,8 @@
 -- no first flush, and those that are fenced are the ones before the last fence.
 use Rattle.std.proofs.Common.{◌≡◌, ◌⊎◌, inl, inr, ℕ, zero, suc, ◌+◌, ◌-◌, ◌/◌, ◌<◌, ◌≤◌, Bool, true, false, cond, List, [], ◌∷◌, ◌++◌, length, map, take, drop, Option, Some, None, option_map, slice_get, refl, sym, ap, ◌∙◌, subst, arith, length-append, length-drop}
 use Rattle.std.proofs.lemmas.List.{length-map, length-take-le}
-use Rattle.hip_ir.specs.declared.program.Program.{Program}
-use Rattle.hip_ir.specs.declared.site.Site.{Site}
+use Rattle.hip_tree.specs.declared.program.Program.{Program}
+use Rattle.hip_tree.specs.declared.site.Site.{Site}
 use Rattle.hip_lines.specs.Line.{Line, IsOrdered, with_part, start_in, end_in, has_bytes, stored}
 use Rattle.hip_lines.specs.Laws.LineLaws.{byte-of_part, slice_get-change_range, ordered-at}
 use Rattle.hip_lines.specs.Laws.LooseLaws.{get-append_left, get-append_end, get-below, get-of_map}

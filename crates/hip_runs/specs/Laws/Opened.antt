@@ -1,5 +1,5 @@
 -- All that a closed run computes by.
-use Rattle.hip_mem.specs.Bytes.{zeros}
+use Rattle.hip_types.specs.Bytes.{zeros}
 use Rattle.hip_lines.specs.Line.{fresh_lines}
 use Rattle.hip_runs.specs.Actions.{accessed, allocated, entered, flushing, instr_action, jump, end_action}
 use Rattle.hip_runs.specs.Step.{leave, perform, carry_out, on_frames, on_ending, step, event, run}

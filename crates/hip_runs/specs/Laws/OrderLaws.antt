@@ -1,6 +1,6 @@
 -- A part of a store is durable exactly where its cache line was flushed after it and a fence came behind the flush.
 use Rattle.std.proofs.Common.{◌≡◌, ◌⊎◌, inl, inr, ℕ, zero, suc, ◌-◌, ◌<◌, ◌≤◌, Bool, true, false, cond, List, [], ◌∷◌, ◌++◌, length, map, Option, Some, None, option_map, slice_get, refl, sym, ap, ◌∙◌, subst, arith}
-use Rattle.hip_ir.specs.declared.program.Program.{Program}
+use Rattle.hip_tree.specs.declared.program.Program.{Program}
 use Rattle.hip_lines.specs.Line.{Line, IsOrdered, with_part, has_bytes, fresh_lines}
 use Rattle.hip_lines.specs.Laws.LineLaws.{slice_get-change_range, ordered-at}
 use Rattle.hip_lines.specs.Laws.LooseLaws.{get-of_map}

@@ -1,9 +1,9 @@
 -- What one step of a run does to the cache lines, and what event it has then.
 use Rattle.std.proofs.Common.{◌≡◌, ℕ, zero, suc, ◌-◌, ◌/◌, Bool, true, false, cond, List, [], ◌∷◌, length, Option, Some, None, refl, sym, ap, ◌∙◌}
 use Rattle.std.proofs.lemmas.List.{length-map, length-replicate}
-use Rattle.hip_ir.specs.Sites.{instr_of}
-use Rattle.hip_ir.specs.declared.program.Program.{Program}
-use Rattle.hip_mem.specs.Bytes.{little_endian, bytes_of}
+use Rattle.hip_tree.specs.Sites.{instr_of}
+use Rattle.hip_tree.specs.declared.program.Program.{Program}
+use Rattle.hip_types.specs.Bytes.{little_endian, bytes_of}
 use Rattle.hip_lines.specs.Line.{Line, AreOrdered, map_line, stored, fresh_lines}
 use Rattle.hip_lines.specs.Laws.LineLaws.{length-change_from, ordered-change_from, ordered-flushed_line, ordered-map_line}
 use Rattle.hip_runs.specs.declared.event.Ending.{Ending}

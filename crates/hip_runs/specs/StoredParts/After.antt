@@ -1,8 +1,8 @@
 -- The cache lines after a step, from its event and what stood before it.
 use Rattle.std.specs.Prelude.{ℕ, ◌-◌, List, Option, Some}
-use Rattle.hip_ir.specs.declared.site.Site.{Site}
+use Rattle.hip_tree.specs.declared.site.Site.{Site}
 use Rattle.hip_lines.specs.Line.{Line, change_range, stored}
-use Rattle.hip_mem.specs.Bytes.{bytes_of}
+use Rattle.hip_types.specs.Bytes.{bytes_of}
 use Rattle.hip_runs.specs.declared.event.Event.{Event}
 use Rattle.hip_runs.specs.declared.input.Input.{Input}
 use Rattle.hip_runs.specs.StoredParts.Persistence.{part_of_store, flush_line, fenced_lines}

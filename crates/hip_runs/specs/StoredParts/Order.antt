@@ -1,6 +1,6 @@
 -- In which order the parts of cache lines, their flushes and fences, and the calls that they were made under come.
 use Rattle.std.specs.Prelude.{◌≡◌, ℕ, zero, suc, ◌/◌, ◌<◌, Bool, true, false, cond, nat_lt, Option, Some, None, slice_get}
-use Rattle.hip_ir.specs.declared.program.Program.{Program}
+use Rattle.hip_tree.specs.declared.program.Program.{Program}
 use Rattle.hip_lines.specs.Line.{Line}
 use Rattle.hip_runs.specs.declared.input.Input.{Input}
 use Rattle.hip_runs.specs.Crash.{covers}
@@ -9,7 +9,7 @@ use Rattle.hip_runs.specs.StoredParts.Parts.{PartOf}
 use Rattle.hip_runs.specs.StoredParts.Since.{fences}
 use Rattle.hip_runs.specs.State.{Flush, StorePart, State, levels_of}
 use Rattle.hip_runs.specs.Step.{event, run, step}
-use Rattle.hip_lines.specs.declared.TheConstants.{LINE_SIZE}
+use Rattle.hip_types.specs.declared.areas.TheConstants.{LINE_SIZE}
 
 -- The parts of a line are in the order of their stores' steps, a part is flushed exactly where it has a first flush,
 -- and what it covers lies in its line.

@@ -1,7 +1,7 @@
 -- What stores, flushes and fences do to the cache lines of the region, with the history that each part of a store
 -- carries.
 use Rattle.std.specs.Prelude.{ℕ, ◌+◌, ◌-◌, Bool, true, false, cond, nat_lt, ◌&&◌, List, map, length, take, drop, Option, Some, None}
-use Rattle.hip_ir.specs.declared.site.Site.{Site}
+use Rattle.hip_tree.specs.declared.site.Site.{Site}
 use Rattle.hip_lines.specs.Line.{Line, map_line, flushed_line, fenced_line, start_in, end_in, change_range, stored}
 use Rattle.hip_runs.specs.declared.input.Input.{Input}
 use Rattle.hip_runs.specs.State.{Level, Flush, StorePart, Counts}

@@ -1,16 +1,16 @@
 -- What came in a run since one of its steps: fences, and flushes of a cache line.
 use Rattle.std.specs.Prelude.{◌≡◌, ℕ, ◌+◌, ◌-◌, ◌*◌, ◌/◌, ◌<◌, ◌≤◌, Bool, true, false, ◌&&◌, nat_le, nat_lt, List, [], ◌∷◌, Option, Some, None, slice_get, slice_index, length}
-use Rattle.hip_ir.specs.declared.program.Program.{Program}
-use Rattle.hip_ir.specs.declared.site.Site.{Site}
+use Rattle.hip_tree.specs.declared.program.Program.{Program}
+use Rattle.hip_tree.specs.declared.site.Site.{Site}
 use Rattle.hip_lines.specs.Line.{Line}
-use Rattle.hip_mem.specs.Bytes.{little_endian, bytes_of}
+use Rattle.hip_types.specs.Bytes.{little_endian, bytes_of}
 use Rattle.hip_runs.specs.declared.event.Event.{Event}
 use Rattle.hip_runs.specs.declared.input.Input.{Input}
 use Rattle.hip_runs.specs.Crash.{covers, byte_of}
 use Rattle.hip_runs.specs.State.{Flush, StorePart, Frame, State, levels_of, site_of}
 use Rattle.hip_runs.specs.Step.{event, run}
 use Rattle.hip_runs.specs.declared.event.Event.TheVariants as events
-use Rattle.hip_lines.specs.declared.TheConstants.{LINE_SIZE}
+use Rattle.hip_types.specs.declared.areas.TheConstants.{LINE_SIZE}
 
 -- whether a step with this event stores into the region
 abbrev pub stores : Event → Bool

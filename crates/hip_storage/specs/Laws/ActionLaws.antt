@@ -2,16 +2,17 @@
 use Rattle.std.proofs.Common.{◌≡◌, ℕ, zero, suc, ◌+◌, ◌-◌, ◌*◌, ◌/◌, ◌%◌, ◌<◌, ◌≤◌, Bool, true, false, cond, ◌&&◌, nat_eq, nat_le, nat_lt, List, [], ◌∷◌, ◌++◌, length, Option, Some, None, option_map, refl, sym, ap, ap₂, ◌∙◌, subst, arith}
 use Rattle.std.proofs.lemmas.Bool.Decides.{nat_tests}
 use Rattle.std.specs.Int.{next_multiple_of}
-use Rattle.hip_ir.specs.declared.program.Program.{Program}
+use Rattle.hip_tree.specs.declared.program.Program.{Program}
 use Rattle.hip_lines.specs.Line.{Line, change_range}
 use Rattle.hip_lines.specs.Parts.{pending_stored, pending_flushed_all}
-use Rattle.hip_lines.specs.declared.TheConstants.{LINE_SIZE}
+use Rattle.hip_types.specs.declared.areas.TheConstants.{LINE_SIZE}
 use Rattle.hip_mem.specs.Areas as areas
 use Rattle.hip_mem.specs.Areas.{Areas, Holds, mark_of, block_address, pushed_mark, bytes_in}
-use Rattle.hip_mem.specs.Bytes.{bytes_of, little_endian, zeros}
+use Rattle.hip_types.specs.Bytes.{bytes_of, little_endian, zeros}
 use Rattle.hip_mem.specs.Laws.AreasLaws.{bytes_in-bytes_at, holds-push, holds-pop, laid_out-apart, laid_out-after_push, laid_out-after_pop, mark_of-after_push, mark_of-after_pop, mark-le-block}
 use Rattle.hip_mem.specs.Laws.BytesLaws.{length-bytes_of}
-use Rattle.hip_mem.specs.Memory.{Write, stack_start, stack_end, bytes_at}
+use Rattle.hip_mem.specs.Memory.{Write, bytes_at}
+use Rattle.hip_types.specs.Areas.{stack_start, stack_end}
 use Rattle.hip_mem.specs.declared.refusal.MemTrap.{MemTrap}
 use Rattle.hip_mem.specs.declared.refusal.MemTrap.TheVariants as mem_traps
 use Rattle.hip_runs.specs.Actions.{Action, Traps, Assigns, Allocates, Stores, Flushes, Persists, Fences, Asserts, Returns, accessed, allocated, flushing, in_region, is_within, memory_of}

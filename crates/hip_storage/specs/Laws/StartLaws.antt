@@ -1,19 +1,19 @@
 -- The storage before the first step of a run.
 use Rattle.std.proofs.Common.{◌≡◌, ℕ, zero, suc, ◌+◌, ◌/◌, length, refl, ap, arith}
-use Rattle.hip_ir.specs.declared.program.Program.{Program}
+use Rattle.hip_tree.specs.declared.program.Program.{Program}
 use Rattle.hip_globals.specs.Addresses.{volatile_end}
 use Rattle.hip_globals.specs.Initial.{volatile_bytes}
 use Rattle.hip_lines.specs.Laws.LineLaws.{ordered-fresh_lines}
 use Rattle.hip_lines.specs.Parts.{none_pending_all}
-use Rattle.hip_lines.specs.declared.TheConstants.{LINE_SIZE}
+use Rattle.hip_types.specs.declared.areas.TheConstants.{LINE_SIZE}
 use Rattle.hip_mem.specs.Laws.AreasLaws.{holds-new}
-use Rattle.hip_mem.specs.Memory.{volatile_start}
+use Rattle.hip_types.specs.Areas.{volatile_start}
 use Rattle.hip_runs.specs.Laws.Standing.ShownLaws.{shown-fresh}
 use Rattle.hip_runs.specs.State.{StorePart}
 use Rattle.hip_runs.specs.Step.{start}
 use Rattle.hip_runs.specs.Validity.{IsValid}
 use Rattle.hip_runs.specs.declared.input.Input.{Input}
-use Rattle.hip_typing.specs.Sound.{IsSound}
+use Rattle.hip_sound.specs.Sound.{IsSound}
 use Rattle.hip_storage.specs.Contents.{initial}
 use Rattle.hip_storage.specs.Standing.{HoldsState}
 

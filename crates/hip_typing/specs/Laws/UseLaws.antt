@@ -4,14 +4,14 @@ use Rattle.std.specs.List.{list_all}
 use Rattle.std.proofs.Common.{refl, sym, ap, ◌∙◌}
 use Rattle.std.proofs.lemmas.List.Folds.{list_all-append}
 use Rattle.hip_types.specs.declared.number.Scalar.{Scalar}
-use Rattle.hip_ir.specs.declared.instr.Operand.{Operand}
-use Rattle.hip_ir.specs.declared.instr.Operand.TheVariants.{Reg, Fixed}
-use Rattle.hip_typing.specs.Constants.{names_in}
+use Rattle.hip_tree.specs.declared.instr.Operand.{Operand}
+use Rattle.hip_tree.specs.declared.instr.Operand.TheVariants.{Reg, Fixed}
+use Rattle.hip_sound.specs.Constants.{names_in}
 use Rattle.hip_globals.specs.Constants.{types_in}
 use Rattle.hip_names.specs.Names.{is_among, Knows}
-use Rattle.hip_typing.specs.Places.{Scope, uses_known, uses_agree, use_agrees, fits_test, has_type}
-use Rattle.hip_typing.specs.Numbering.{global_names}
-use Rattle.hip_typing.specs.Registers.{Use, find_register, used_registers, used_globals, used_constant_types}
+use Rattle.hip_sound.specs.Places.{Scope, uses_known, uses_agree, use_agrees, fits_test, has_type}
+use Rattle.hip_sound.specs.Numbering.{global_names}
+use Rattle.hip_sound.specs.Registers.{Use, find_register, used_registers, used_globals, used_constant_types}
 use Rattle.hip_typing.specs.Seen.Tables.{Finds}
 use Rattle.hip_typing.specs.Seen.UsesSeen.{operand_known, operands_known, operand_agrees, operands_agree, operand_fits, operands_fit}
 

@@ -1,8 +1,8 @@
 -- What a function of the checker answers for a check.
 use Rattle.std.specs.Prelude.{◌≡◌, Bool, Option, Some, None, Result, Ok, Err, if◌then◌else◌}
-use Rattle.hip_typing.specs.declared.fault.Fault.{Fault}
-use Rattle.hip_typing.specs.declared.fault.Finding.{Finding}
-use Rattle.hip_typing.specs.declared.fault.Place.{Place}
+use Rattle.hip_sound.specs.declared.fault.Fault.{Fault}
+use Rattle.hip_sound.specs.declared.fault.Finding.{Finding}
+use Rattle.hip_sound.specs.declared.fault.Place.{Place}
 use Rattle.hip_typing.specs.declared.refused.Refused.{Refused}
 use Rattle.hip_typing.specs.declared.refused.Refused.TheVariants as refused
 

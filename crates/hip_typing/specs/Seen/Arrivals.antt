@@ -3,9 +3,9 @@ use Rattle.std.specs.Prelude.{ℕ, ◌≡◌, ◌&&◌, ◌||◌, List, [], Opti
 use Rattle.std.specs.Borrow.{Bor}
 use Rattle.std.specs.Str.{bytes_eq}
 use Rattle.indexmap.specs.IndexMap.{IndexMap, get_by}
-use Rattle.hip_ir.specs.declared.block.Block.{Block}
+use Rattle.hip_tree.specs.declared.block.Block.{Block}
 use Rattle.hip_names.specs.Names.{is_among, Knows}
-use Rattle.hip_typing.specs.Places.{predecessors}
+use Rattle.hip_sound.specs.Places.{predecessors}
 
 -- the set of names at a name
 abbrev pub found_at : {S : Type 0} → IndexMap (Bor (List ℕ)) (List (List ℕ)) S → List ℕ

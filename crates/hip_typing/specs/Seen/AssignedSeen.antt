@@ -1,18 +1,18 @@
 -- What the check of uses on paths answers, by the tables of a function.
 use Rattle.std.specs.Prelude.{ℕ, ◌≡◌, ◌++◌, ◌∷◌, nat_le, ◌==◌, ◌&&◌, if◌then◌else◌, Bool, true, List, All, Option, Some, None, Result, Ok, Err, slice_get}
-use Rattle.hip_ir.specs.declared.program.Function.{Function}
-use Rattle.hip_ir.specs.declared.program.Program.{Program}
-use Rattle.hip_typing.specs.Sound.{names_in_function}
+use Rattle.hip_tree.specs.declared.program.Function.{Function}
+use Rattle.hip_tree.specs.declared.program.Program.{Program}
+use Rattle.hip_sound.specs.Sound.{names_in_function}
 use Rattle.hip_typing.specs.Seen.Inner.{inner_entries, graph_of}
 use Rattle.hip_names.specs.Names.{AllDiffer}
-use Rattle.hip_typing.specs.Paths.{IsUnassigned}
-use Rattle.hip_typing.specs.Rules.{RegisterUse, UseIsAssigned, AllAssigned, IsFirstUnassigned}
+use Rattle.hip_sound.specs.Paths.{IsUnassigned}
+use Rattle.hip_sound.specs.Rules.{RegisterUse, UseIsAssigned, AllAssigned, IsFirstUnassigned}
 use Rattle.hip_names.specs.Tables.{StandsFor}
 use Rattle.hip_typing.specs.declared.assigned.NotAssigned.{NotAssigned}
 use Rattle.hip_typing.specs.declared.assigned.NotAssigned.TheVariants as unassigned
-use Rattle.hip_typing.specs.declared.assigned.Point.{Point}
-use Rattle.hip_typing.specs.declared.assigned.Point.TheVariants.{Before, AtEnd}
-use Rattle.hip_typing.specs.declared.fault.Place.{Place}
+use Rattle.hip_sound.specs.declared.point.Point.{Point}
+use Rattle.hip_sound.specs.declared.point.Point.TheVariants.{Before, AtEnd}
+use Rattle.hip_sound.specs.declared.fault.Place.{Place}
 use Rattle.hip_typing.specs.declared.tables.inner_table.Inner.{Inner}
 use Rattle.hip_typing.specs.declared.tables.inner_table.Inner.TheVariants.{Parameter, Assigned}
 

@@ -1,10 +1,10 @@
 -- What the code's table of a phi's operands stands for.
 use Rattle.std.specs.Prelude.{ℕ, ◌≡◌, Bool, true, false, List, map, Option, Some, None}
 use Rattle.std.specs.Borrow.{Bor}
-use Rattle.hip_ir.specs.declared.block.Edge.{Edge}
-use Rattle.hip_ir.specs.declared.instr.Operand.{Operand}
-use Rattle.hip_typing.specs.Equal.{same_operand}
-use Rattle.hip_typing.specs.Places.{repeats_agree}
+use Rattle.hip_tree.specs.declared.block.Edge.{Edge}
+use Rattle.hip_tree.specs.declared.instr.Operand.{Operand}
+use Rattle.hip_sound.specs.Equal.{same_operand}
+use Rattle.hip_sound.specs.Places.{repeats_agree}
 use Rattle.hip_names.specs.Tables.{Entry, StandsFor}
 use Rattle.hip_names.specs.declared.table.NameTable.{NameTable}
 

@@ -3,20 +3,20 @@ use Rattle.std.specs.Prelude.{ℕ, ◌≡◌, ◌&&◌, not, Bool, List, Option}
 use Rattle.std.specs.List.{list_any, list_all}
 use Rattle.std.proofs.Common.{ap, ◌∙◌}
 use Rattle.hip_types.specs.declared.number.Scalar.{Scalar}
-use Rattle.hip_ir.specs.declared.block.End.{End}
-use Rattle.hip_ir.specs.declared.program.Function.{Function}
+use Rattle.hip_tree.specs.declared.block.End.{End}
+use Rattle.hip_tree.specs.declared.program.Function.{Function}
 use Rattle.hip_typing.specs.Seen.Answers.{asked}
-use Rattle.hip_typing.specs.Check.{or_else}
+use Rattle.hip_sound.specs.Check.{or_else}
 use Rattle.hip_names.specs.Names.{Knows}
-use Rattle.hip_typing.specs.Places.{Scope, are_among, uses_known, uses_agree, returns, end_agrees, cases_differ, end_cases, is_entry, fits_test, end_check}
-use Rattle.hip_typing.specs.Numbering.{global_names, label_names}
-use Rattle.hip_typing.specs.Registers.{end_uses, end_labels, used_constant_types}
+use Rattle.hip_sound.specs.Places.{Scope, are_among, uses_known, uses_agree, returns, end_agrees, cases_differ, end_cases, is_entry, fits_test, end_check}
+use Rattle.hip_sound.specs.Numbering.{global_names, label_names}
+use Rattle.hip_sound.specs.Registers.{end_uses, end_labels, used_constant_types}
 use Rattle.hip_typing.specs.Seen.Tables.{Finds}
 use Rattle.hip_typing.specs.Laws.UseLaws.{uses_known-by_tables, uses_agree-by_tables, uses_fit-is, known_alike}
 use Rattle.hip_typing.specs.Seen.UsesSeen.{operands_known, operands_agree, operands_fit}
-use Rattle.hip_typing.specs.declared.fault.Fault.TheVariants as breaks
-use Rattle.hip_typing.specs.declared.fault.Finding.{Finding}
-use Rattle.hip_typing.specs.declared.fault.Place.{Place}
+use Rattle.hip_sound.specs.declared.fault.Fault.TheVariants as breaks
+use Rattle.hip_sound.specs.declared.fault.Finding.{Finding}
+use Rattle.hip_sound.specs.declared.fault.Place.{Place}
 
 -- what is found first at the end of a block, given whether its names exist, the types written there fit and its types
 -- agree, and then whether the values of its cases differ and no label that it names is the entry block's

@@ -1,9 +1,9 @@
 -- What the names of a function stand for, in the order in which they are declared, and the function's graph by numbers.
 use Rattle.std.specs.Prelude.{ℕ, ◌+◌, List, [], ◌∷◌, map, Option, Some}
 use Rattle.std.specs.List.{flat_map}
-use Rattle.hip_ir.specs.declared.program.Function.{Function}
-use Rattle.hip_typing.specs.Registers.{end_labels}
-use Rattle.hip_typing.specs.Declarations.{Declares, declared_by}
+use Rattle.hip_tree.specs.declared.program.Function.{Function}
+use Rattle.hip_sound.specs.Registers.{end_labels}
+use Rattle.hip_sound.specs.Declarations.{Declares, declared_by}
 use Rattle.hip_names.specs.Tables.{Entry, value_of, value_beside}
 use Rattle.hip_typing.specs.declared.tables.inner_table.Inner.{Inner}
 use Rattle.hip_typing.specs.declared.tables.inner_table.Inner.TheVariants.{Parameter, Label, Assigned}

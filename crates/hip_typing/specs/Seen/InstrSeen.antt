@@ -4,22 +4,22 @@ use Rattle.std.specs.List.{list_all}
 use Rattle.std.proofs.Common.{refl, sym, ap, ◌∙◌}
 use Rattle.std.proofs.lemmas.List.Folds.{list_all-append}
 use Rattle.hip_types.specs.declared.number.Scalar.{Scalar}
-use Rattle.hip_ir.specs.declared.instr.Instr.{Instr}
-use Rattle.hip_ir.specs.declared.instr.Instr.TheVariants.{Binary, Compare, Select, Cast, Alloca, Load, Store, Gep, Call}
+use Rattle.hip_tree.specs.declared.instr.Instr.{Instr}
+use Rattle.hip_tree.specs.declared.instr.Instr.TheVariants.{Binary, Compare, Select, Cast, Alloca, Load, Store, Gep, Call}
 use Rattle.hip_typing.specs.Seen.Answers.{asked}
-use Rattle.hip_typing.specs.Check.{or_else}
+use Rattle.hip_sound.specs.Check.{or_else}
 use Rattle.hip_names.specs.Names.{Knows}
-use Rattle.hip_typing.specs.Places.{Scope, uses_known, uses_agree, callee_known, instr_agrees, written_types, signature_agrees, register_agrees, fits_test, instr_check}
-use Rattle.hip_typing.specs.Numbering.{global_names}
-use Rattle.hip_typing.specs.Registers.{instr_uses, used_constant_types}
+use Rattle.hip_sound.specs.Places.{Scope, uses_known, uses_agree, callee_known, instr_agrees, written_types, signature_agrees, register_agrees, fits_test, instr_check}
+use Rattle.hip_sound.specs.Numbering.{global_names}
+use Rattle.hip_sound.specs.Registers.{instr_uses, used_constant_types}
 use Rattle.hip_names.specs.Tables.{value_beside}
 use Rattle.hip_typing.specs.Seen.Tables.{Finds, FindsCallees, callee_seen}
 use Rattle.hip_typing.specs.Laws.UseLaws.{uses_known-by_tables, uses_agree-by_tables, uses_fit-is}
 use Rattle.hip_typing.specs.Seen.UsesSeen.{operands_known, operands_agree, operands_fit, instr_agrees_in, callee_known_in, written_fits}
 use Rattle.hip_typing.specs.declared.tables.callees.Callee.{Callee}
-use Rattle.hip_typing.specs.declared.fault.Fault.TheVariants as breaks
-use Rattle.hip_typing.specs.declared.fault.Finding.{Finding}
-use Rattle.hip_typing.specs.declared.fault.Place.{Place}
+use Rattle.hip_sound.specs.declared.fault.Fault.TheVariants as breaks
+use Rattle.hip_sound.specs.declared.fault.Finding.{Finding}
+use Rattle.hip_sound.specs.declared.fault.Place.{Place}
 
 -- what is found first at an instruction, given whether its names exist, the types written there fit and its types
 -- agree, in this order

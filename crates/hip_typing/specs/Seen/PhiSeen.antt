@@ -8,20 +8,20 @@ use Rattle.std.proofs.Common.{refl, sym, ap, subst, ◌∙◌}
 use Rattle.std.proofs.lemmas.Slice.Eq.{bytes_eq-Decides}
 use Rattle.std.proofs.lemmas.Bool.{and_parts}
 use Rattle.hip_types.specs.declared.number.Scalar.{Scalar}
-use Rattle.hip_ir.specs.declared.block.Edge.{Edge}
-use Rattle.hip_ir.specs.declared.block.Phi.{Phi}
+use Rattle.hip_tree.specs.declared.block.Edge.{Edge}
+use Rattle.hip_tree.specs.declared.block.Phi.{Phi}
 use Rattle.hip_typing.specs.Seen.Answers.{asked}
-use Rattle.hip_typing.specs.Check.{or_else}
+use Rattle.hip_sound.specs.Check.{or_else}
 use Rattle.hip_names.specs.Names.{is_among, Knows}
-use Rattle.hip_typing.specs.Places.{Scope, are_among, edge_labels, edges_agree, repeats_agree, predecessors, uses_known, uses_agree, fits_test, phi_check}
-use Rattle.hip_typing.specs.Numbering.{global_names, label_names}
-use Rattle.hip_typing.specs.Registers.{phi_uses, used_constant_types}
+use Rattle.hip_sound.specs.Places.{Scope, are_among, edge_labels, edges_agree, repeats_agree, predecessors, uses_known, uses_agree, fits_test, phi_check}
+use Rattle.hip_sound.specs.Numbering.{global_names, label_names}
+use Rattle.hip_sound.specs.Registers.{phi_uses, used_constant_types}
 use Rattle.hip_typing.specs.Seen.Tables.{Finds}
 use Rattle.hip_typing.specs.Laws.UseLaws.{uses_known-by_tables, uses_agree-by_tables, uses_fit-is, known_alike}
 use Rattle.hip_typing.specs.Seen.UsesSeen.{operands_known, operands_agree, operands_fit}
-use Rattle.hip_typing.specs.declared.fault.Fault.TheVariants as breaks
-use Rattle.hip_typing.specs.declared.fault.Finding.{Finding}
-use Rattle.hip_typing.specs.declared.fault.Place.{Place}
+use Rattle.hip_sound.specs.declared.fault.Fault.TheVariants as breaks
+use Rattle.hip_sound.specs.declared.fault.Finding.{Finding}
+use Rattle.hip_sound.specs.declared.fault.Place.{Place}
 
 -- what is found first at a phi, given whether its names exist, the types written there fit, its types agree and its
 -- edges agree, in this order

@@ -1,6 +1,6 @@
 -- What the code's registers stand for.
 use Rattle.std.specs.Prelude.{List, [], ◌∷◌, Option, Some, None}
-use Rattle.hip_typing.specs.Registers.{Register}
+use Rattle.hip_sound.specs.Registers.{Register}
 use Rattle.hip_typing.specs.declared.tables.registers.Register as code
 
 -- the register that the code gives, as a list; empty where it gives none

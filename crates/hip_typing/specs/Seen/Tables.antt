@@ -1,13 +1,13 @@
 -- What the tables of registers and of callees stand for.
 use Rattle.std.specs.Prelude.{ℕ, ◌≡◌, List, ◌++◌, map, Option, option_map}
 use Rattle.hip_types.specs.declared.number.Scalar.{Scalar}
-use Rattle.hip_ir.specs.declared.program.Extern.{Extern}
-use Rattle.hip_ir.specs.declared.program.Function.{Function}
-use Rattle.hip_ir.specs.declared.program.Program.{Program}
+use Rattle.hip_tree.specs.declared.program.Extern.{Extern}
+use Rattle.hip_tree.specs.declared.program.Function.{Function}
+use Rattle.hip_tree.specs.declared.program.Program.{Program}
 use Rattle.hip_names.specs.Tables.{Entry, value_beside, StandsFor}
 use Rattle.hip_externs.specs.Externs.{Signature}
-use Rattle.hip_typing.specs.Places.{callee_of}
-use Rattle.hip_typing.specs.Registers.{Register, find_register}
+use Rattle.hip_sound.specs.Places.{callee_of}
+use Rattle.hip_sound.specs.Registers.{Register, find_register}
 use Rattle.hip_typing.specs.declared.tables.callees.Callee.{Callee}
 use Rattle.hip_typing.specs.declared.tables.callees.Params.{Params}
 use Rattle.hip_typing.specs.declared.tables.callees.Params.TheVariants.{Scalars, Named}

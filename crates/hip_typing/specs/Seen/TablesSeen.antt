@@ -2,8 +2,8 @@
 use Rattle.std.specs.Prelude.{map}
 use Rattle.hip_typing.specs.Seen.Arrivals.{FindsPredecessors}
 use Rattle.hip_names.specs.Names.{Knows}
-use Rattle.hip_typing.specs.Places.{Scope, scope_of}
-use Rattle.hip_typing.specs.Registers.{registers_of}
+use Rattle.hip_sound.specs.Places.{Scope, scope_of}
+use Rattle.hip_sound.specs.Registers.{registers_of}
 use Rattle.hip_typing.specs.Seen.Tables.{Finds, FindsCallees}
 use Rattle.hip_typing.specs.declared.tables.FunctionTables.{FunctionTables}
 use Rattle.hip_typing.specs.declared.tables.ProgramTables.{ProgramTables}

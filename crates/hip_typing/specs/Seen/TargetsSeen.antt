@@ -1,7 +1,7 @@
 -- What the code's targets stand for.
 use Rattle.std.specs.Prelude.{ℕ, List, [], ◌∷◌, ◌++◌, map, Option, Some, None}
 use Rattle.std.specs.Borrow.{Bor}
-use Rattle.hip_ir.specs.declared.block.Case.{Case}
+use Rattle.hip_tree.specs.declared.block.Case.{Case}
 use Rattle.hip_typing.specs.declared.places.targets.Targets.{Targets}
 
 -- a label, as a list; empty where there is none

@@ -2,16 +2,16 @@
 use Rattle.std.specs.Prelude.{ℕ, Bool, true, List, [], ◌∷◌, ◌++◌, Option, Some, None, is_some, option_map, ◌&&◌}
 use Rattle.std.specs.List.{list_all}
 use Rattle.hip_types.specs.declared.number.Scalar.{Scalar}
-use Rattle.hip_ir.specs.declared.instr.Instr.{Instr}
-use Rattle.hip_ir.specs.declared.instr.Instr.TheVariants.{Cast, Gep, Call}
-use Rattle.hip_ir.specs.declared.instr.Operand.{Operand}
-use Rattle.hip_ir.specs.declared.instr.Operand.TheVariants.{Reg, Fixed}
-use Rattle.hip_typing.specs.Constants.{has_shape, names_in}
+use Rattle.hip_tree.specs.declared.instr.Instr.{Instr}
+use Rattle.hip_tree.specs.declared.instr.Instr.TheVariants.{Cast, Gep, Call}
+use Rattle.hip_tree.specs.declared.instr.Operand.{Operand}
+use Rattle.hip_tree.specs.declared.instr.Operand.TheVariants.{Reg, Fixed}
+use Rattle.hip_sound.specs.Constants.{has_shape, names_in}
 use Rattle.hip_globals.specs.Constants.{types_in}
 use Rattle.hip_names.specs.Names.{is_among}
-use Rattle.hip_ir.specs.Words.{type_of}
-use Rattle.hip_typing.specs.Places.{fits_test, has_type, cast_agrees, gep_agrees, signature_agrees, register_agrees, written_types}
-use Rattle.hip_typing.specs.Registers.{Use, use_of, arg_uses}
+use Rattle.hip_grammar.specs.Words.{type_of}
+use Rattle.hip_sound.specs.Places.{fits_test, has_type, cast_agrees, gep_agrees, signature_agrees, register_agrees, written_types}
+use Rattle.hip_sound.specs.Registers.{Use, use_of, arg_uses}
 use Rattle.hip_names.specs.Tables.{value_beside}
 use Rattle.hip_typing.specs.Seen.Tables.{callee_seen}
 use Rattle.hip_typing.specs.declared.tables.callees.Callee.{Callee}

@@ -2,19 +2,19 @@ ghost use Rattle.std.specs.Prelude.{◌≡◌, ◌<◌, length, map, slice_get};
 ghost use Rattle.std.specs.List.{flat_map};
 ghost use Rattle.hip_typing.specs.Seen.AssignedSeen.{Describes, AnswersUses, AnswersAssigned};
 ghost use Rattle.hip_globals.specs.Constants.{joined};
-ghost use Rattle.hip_typing.specs.Sound.{names_in_function};
+ghost use Rattle.hip_sound.specs.Sound.{names_in_function};
 ghost use Rattle.hip_names.specs.Names.{AllDiffer};
-ghost use Rattle.hip_typing.specs.Names.{numbered};
-ghost use Rattle.hip_typing.specs.Rules.{site, edge_register_uses, phi_register_uses, instr_register_uses, end_register_uses, block_register_uses, register_uses, inner_names_check};
-ghost use Rattle.hip_typing.specs.declared.fault.Place.TheVariants as places;
+ghost use Rattle.hip_sound.specs.Names.{numbered};
+ghost use Rattle.hip_sound.specs.Rules.{site, edge_register_uses, phi_register_uses, instr_register_uses, end_register_uses, block_register_uses, register_uses, inner_names_check};
+ghost use Rattle.hip_sound.specs.declared.fault.Place.TheVariants as places;
 
 use crate::assigned::graph::{block_of, flow_graph};
-use crate::assigned::{Body, NotAssigned, Point, check_operand, check_uses};
-use crate::fault::Place;
+use crate::assigned::{Body, NotAssigned, check_operand, check_uses};
 use crate::places::uses::Uses;
 use crate::tables::inner_table::{InnerTable, inner_table};
-use hip_ir::{Block, Edge, End, Function, Instr, Phi, Program, Site};
 use hip_paths::Paths;
+use hip_sound::{Place, Point};
+use hip_tree::{Block, Edge, End, Function, Instr, Phi, Program, Site};
 use hip_types::{Row, Scalar};
 use std::alloc::Global;
 

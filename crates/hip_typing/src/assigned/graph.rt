@@ -1,12 +1,12 @@
 ghost use Rattle.std.specs.Prelude.{[], ◌≡◌, ◌++◌, map, IfOk, OnOk, MatchOption};
 ghost use Rattle.std.specs.List.{flat_map};
 ghost use Rattle.hip_typing.specs.Seen.Inner.{block_number, label_numbers};
-ghost use Rattle.hip_typing.specs.Registers.{end_labels};
+ghost use Rattle.hip_sound.specs.Registers.{end_labels};
 ghost use Rattle.hip_names.specs.Tables.{value_beside};
 ghost use Rattle.hip_typing.specs.declared.tables.inner_table.Inner.TheVariants as inner;
 
 use crate::tables::inner_table::{Inner, InnerTable};
-use hip_ir::{Block, Case, End};
+use hip_tree::{Block, Case, End};
 use hip_types::{Name, NoMemory, Row};
 use std::alloc::Global;
 

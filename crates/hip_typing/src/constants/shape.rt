@@ -1,11 +1,11 @@
 ghost use Rattle.std.specs.Prelude.{◌≡◌, map};
 ghost use Rattle.hip_types.specs.declared.ty.Ty.{out-Ty};
-ghost use Rattle.hip_typing.specs.Constants.{entered, enters, path_exists, has_shape, gep_is_sound, item_has_shape, all_have};
-ghost use Rattle.hip_typing.specs.Types.{all_pass, same_type};
+ghost use Rattle.hip_sound.specs.Constants.{entered, enters, path_exists, has_shape, gep_is_sound, item_has_shape, all_have};
+ghost use Rattle.hip_sound.specs.Types.{all_pass, same_type};
 ghost use Rattle.std.specs.Option.{option_copied};
 
 use hip_globals::index;
-use hip_ir::{Const, ConstGep, TypedConst};
+use hip_tree::{Const, ConstGep, TypedConst};
 use hip_types::{Bits, Ty, Width, same_ty};
 
 /// Whether two types are one.

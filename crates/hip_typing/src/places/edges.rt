@@ -1,12 +1,13 @@
 ghost use Rattle.std.specs.Prelude.{◌≡◌, IfOk};
 ghost use Rattle.hip_typing.specs.Seen.Carried.{CarriesWhere, carries_again};
-ghost use Rattle.hip_typing.specs.Equal as equal;
-ghost use Rattle.hip_typing.specs.Places as places;
-ghost use Rattle.hip_typing.specs.Places.{are_among, edge_labels};
+ghost use Rattle.hip_sound.specs.Equal as equal;
+ghost use Rattle.hip_sound.specs.Places as places;
+ghost use Rattle.hip_sound.specs.Places.{are_among, edge_labels};
 
-use hip_ir::{Edge, Operand};
+use hip_copies::Structural;
 use hip_names::{NameSet, NameTable};
-use hip_types::{NoMemory, Structural};
+use hip_tree::{Edge, Operand};
+use hip_types::NoMemory;
 use std::alloc::Global;
 
 /// What a phi carries from the blocks that it names.

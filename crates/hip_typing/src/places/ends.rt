@@ -1,17 +1,17 @@
 ghost use Rattle.std.specs.Prelude.{◌≡◌, IfOk};
 ghost use Rattle.hip_typing.specs.Seen.Answers.{Answers};
 ghost use Rattle.hip_typing.specs.Seen.EndSeen.{end_found};
-ghost use Rattle.hip_typing.specs.Places as places;
+ghost use Rattle.hip_sound.specs.Places as places;
 
-use crate::fault::{Fault, Place};
 use crate::places::operands::{uses_agree, uses_fit, uses_known};
 use crate::places::targets::{Targets, targets_known, targets_name_entry};
 use crate::places::uses::Uses;
 use crate::refused::{Refused, ask};
 use crate::rules::externs::is_same_scalar;
 use crate::tables::registers::RegisterTable;
-use hip_ir::{Arg, Case, End, Function};
 use hip_names::NameSet;
+use hip_sound::{Fault, Place};
+use hip_tree::{Arg, Case, End, Function};
 use hip_types::{NoMemory, Scalar};
 use indexmap::IndexSet;
 use std::alloc::Global;

@@ -1,10 +1,10 @@
 ghost use Rattle.std.specs.Prelude.{◌≡◌, map, option_map};
 ghost use Rattle.std.specs.Option.{option_copied};
 ghost use Rattle.hip_types.specs.declared.ty.Ty.{out-Ty};
-ghost use Rattle.hip_ir.specs.declared.constant.Const.{out-Const};
-ghost use Rattle.hip_typing.specs.Places as spec;
+ghost use Rattle.hip_tree.specs.declared.constant.Const.{out-Const};
+ghost use Rattle.hip_sound.specs.Places as spec;
 ghost use Rattle.hip_typing.specs.Seen.Tables.{callee_seen, params_seen};
-ghost use Rattle.hip_typing.specs.Types.{all_pass, same_scalar};
+ghost use Rattle.hip_sound.specs.Types.{all_pass, same_scalar};
 ghost use Rattle.hip_typing.specs.Seen.UsesSeen as seen;
 ghost use Rattle.hip_typing.specs.Seen.UsesSeen.{instr_agrees_in, callee_known_in};
 
@@ -12,7 +12,7 @@ use crate::constants::type_fits;
 use crate::rules::externs::{is_same_result, is_same_scalar};
 use crate::tables::callees::{Callee, CalleeTable, Params};
 use hip_globals::index;
-use hip_ir::{Arg, Const, Instr, Operand, Param};
+use hip_tree::{Arg, Const, Instr, Operand, Param};
 use hip_types::{CastOp, Name, Row, Scalar, Ty};
 
 fn widens(from: Scalar, to: Scalar) -> bool

@@ -1,7 +1,7 @@
 ghost use Rattle.std.specs.Prelude.{◌≡◌};
-ghost use Rattle.hip_typing.specs.Places as places;
-ghost use Rattle.hip_ir.specs.Words.{type_of};
-ghost use Rattle.hip_typing.specs.Registers.{arg_uses, phi_uses};
+ghost use Rattle.hip_sound.specs.Places as places;
+ghost use Rattle.hip_grammar.specs.Words.{type_of};
+ghost use Rattle.hip_sound.specs.Registers.{arg_uses, phi_uses};
 ghost use Rattle.hip_typing.specs.Seen.UsesSeen as spec;
 ghost use Rattle.hip_typing.specs.Seen.UsesSeen.{use_seen, uses_seen, operands_known, operands_agree, operands_fit};
 
@@ -10,8 +10,9 @@ use crate::constants::{names_known, types_fit};
 use crate::places::uses::{OperandUse, Uses};
 use crate::rules::externs::is_same_scalar;
 use crate::tables::registers::RegisterTable;
-use hip_ir::{Arg, Operand, Phi, type_of};
+use hip_grammar::type_of;
 use hip_names::NameSet;
+use hip_tree::{Arg, Operand, Phi};
 use hip_types::Scalar;
 
 // ---- registers and globals that are named, exist

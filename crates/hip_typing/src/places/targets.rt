@@ -1,12 +1,12 @@
 ghost use Rattle.std.specs.Prelude.{◌≡◌};
 ghost use Rattle.std.specs.List.{list_any};
-ghost use Rattle.hip_typing.specs.Places as places;
-ghost use Rattle.hip_typing.specs.Places.{are_among};
-ghost use Rattle.hip_typing.specs.Registers.{end_labels};
+ghost use Rattle.hip_sound.specs.Places as places;
+ghost use Rattle.hip_sound.specs.Places.{are_among};
+ghost use Rattle.hip_sound.specs.Registers.{end_labels};
 ghost use Rattle.hip_typing.specs.Seen.TargetsSeen.{label_seen, case_labels, targets_seen};
 
-use hip_ir::{Block, Case, End};
 use hip_names::NameSet;
+use hip_tree::{Block, Case, End};
 use hip_types::Name;
 
 /// The labels that the end of a block names: up to two, and then those of cases.

@@ -1,10 +1,10 @@
 ghost use Rattle.std.specs.Prelude.{◌≡◌, [], ◌∷◌};
 ghost use Rattle.hip_types.specs.declared.number.Scalar.TheVariants.{Int, Ptr};
 ghost use Rattle.hip_types.specs.declared.number.Width.TheVariants.{W1};
-ghost use Rattle.hip_typing.specs.Registers.{use_of, arg_uses, instr_uses, end_uses};
+ghost use Rattle.hip_sound.specs.Registers.{use_of, arg_uses, instr_uses, end_uses};
 ghost use Rattle.hip_typing.specs.Seen.UsesSeen.{uses_seen};
 
-use hip_ir::{Arg, End, Instr, Operand};
+use hip_tree::{Arg, End, Instr, Operand};
 use hip_types::{Scalar, Width};
 
 /// An operand and the type that its place states.

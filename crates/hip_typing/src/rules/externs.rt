@@ -1,14 +1,14 @@
 ghost use Rattle.std.specs.Prelude.{◌≡◌, Some, map};
 ghost use Rattle.hip_typing.specs.Seen.Answers.{Answers};
-ghost use Rattle.hip_typing.specs.Check.{each};
+ghost use Rattle.hip_sound.specs.Check.{each};
 ghost use Rattle.hip_externs.specs.Externs.{signature, known_signature};
-ghost use Rattle.hip_typing.specs.Rules.{is_of, free_global, declared, free_function, externs_check};
-ghost use Rattle.hip_typing.specs.Types.{all_pass, same_result, same_scalar};
+ghost use Rattle.hip_sound.specs.Rules.{is_of, free_global, declared, free_function, externs_check};
+ghost use Rattle.hip_sound.specs.Types.{all_pass, same_result, same_scalar};
 
-use crate::fault::{Fault, Place};
 use crate::refused::{Refused, ask};
 use hip_externs::ExternCall;
-use hip_ir::{Extern, Function, GlobalVar, Program};
+use hip_sound::{Fault, Place};
+use hip_tree::{Extern, Function, GlobalVar, Program};
 use hip_types::Scalar;
 
 pub fn is_same_scalar(a: Scalar, b: Scalar) -> bool

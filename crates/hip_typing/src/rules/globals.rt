@@ -1,15 +1,15 @@
 ghost use Rattle.std.specs.Prelude.{◌≡◌, IfOk, map};
 ghost use Rattle.hip_typing.specs.Seen.Answers.{Answers};
-ghost use Rattle.hip_typing.specs.Check.{each};
+ghost use Rattle.hip_sound.specs.Check.{each};
 ghost use Rattle.hip_names.specs.Names.{Knows};
-ghost use Rattle.hip_typing.specs.Rules.{global_check, globals_check};
+ghost use Rattle.hip_sound.specs.Rules.{global_check, globals_check};
 
 use crate::constants::shape::const_has_shape;
 use crate::constants::{names_known, type_fits, types_fit};
-use crate::fault::{Fault, Place};
 use crate::refused::{Refused, ask};
-use hip_ir::{GlobalVar, Program};
 use hip_names::NameSet;
+use hip_sound::{Fault, Place};
+use hip_tree::{GlobalVar, Program};
 use hip_types::NoMemory;
 use std::alloc::Global;
 

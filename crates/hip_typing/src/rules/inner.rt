@@ -1,16 +1,16 @@
 ghost use Rattle.std.specs.Prelude.{◌≡◌, ◌++◌, OnOk, IfOk, map, option_map};
 ghost use Rattle.hip_typing.specs.Seen.Answers.{Answers};
-ghost use Rattle.hip_typing.specs.Check.{each};
+ghost use Rattle.hip_sound.specs.Check.{each};
 ghost use Rattle.hip_typing.specs.Seen.NamesSeen.{seen};
-ghost use Rattle.hip_typing.specs.Names.{numbered};
-ghost use Rattle.hip_typing.specs.Declarations.{instr_declared, body_declared, block_declared, blocks_declared};
-ghost use Rattle.hip_typing.specs.Rules.{named_in, inner_check, inner_names_check};
+ghost use Rattle.hip_sound.specs.Names.{numbered};
+ghost use Rattle.hip_sound.specs.Declarations.{instr_declared, body_declared, block_declared, blocks_declared};
+ghost use Rattle.hip_sound.specs.Rules.{named_in, inner_check, inner_names_check};
 
-use crate::fault::Place;
 use crate::refused::Refused;
 use crate::rules::named::{NamedPlace, check_all_differ};
 use crate::tables::registers::assigned_by;
-use hip_ir::{Block, Function, Instr, Param, Phi, Program, Site};
+use hip_sound::Place;
+use hip_tree::{Block, Function, Instr, Param, Phi, Program, Site};
 use hip_types::{NoMemory, Row};
 use std::alloc::Global;
 

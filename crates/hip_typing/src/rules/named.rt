@@ -1,13 +1,13 @@
 ghost use Rattle.std.specs.Prelude.{◌≡◌, ◌++◌, OnOk};
 ghost use Rattle.hip_typing.specs.Seen.Answers.{Answers};
-ghost use Rattle.hip_typing.specs.Names.{all_differ};
-ghost use Rattle.hip_typing.specs.Rules.{global_declarations, extern_declarations, function_declarations, names_check};
+ghost use Rattle.hip_sound.specs.Names.{all_differ};
+ghost use Rattle.hip_sound.specs.Rules.{global_declarations, extern_declarations, function_declarations, names_check};
 ghost use Rattle.hip_typing.specs.Seen.NamesSeen.{seen};
 
-use crate::fault::{Fault, Finding, Place};
 use crate::refused::Refused;
-use hip_ir::{Extern, Function, GlobalVar, Program};
 use hip_names::NameSet;
+use hip_sound::{Fault, Finding, Place};
+use hip_tree::{Extern, Function, GlobalVar, Program};
 use hip_types::{NoMemory, Row};
 use std::alloc::Global;
 

@@ -1,12 +1,12 @@
 ghost use Rattle.std.specs.Prelude.{◌≡◌};
 ghost use Rattle.hip_globals.specs.Addresses.{OwnTypesFit};
 ghost use Rattle.hip_typing.specs.Seen.Answers.{Answers};
-ghost use Rattle.hip_typing.specs.Rules.{sizes_check};
+ghost use Rattle.hip_sound.specs.Rules.{sizes_check};
 
-use crate::fault::{Fault, Place};
 use crate::refused::{Refused, ask};
 use hip_globals::are_within_limits;
-use hip_ir::Program;
+use hip_sound::{Fault, Place};
+use hip_tree::Program;
 
 /// The region and the volatile globals are not too large.
 pub fn check_sizes(program: &Program) -> Result<(), Refused>

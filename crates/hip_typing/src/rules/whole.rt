@@ -1,10 +1,10 @@
 ghost use Rattle.std.specs.Prelude.{◌≡◌};
 ghost use Rattle.hip_typing.specs.Seen.Answers.{Answers};
-ghost use Rattle.hip_typing.specs.Rules.{is_main, has_main, main_check};
+ghost use Rattle.hip_sound.specs.Rules.{is_main, has_main, main_check};
 
-use crate::fault::{Fault, Place};
 use crate::refused::{Refused, ask};
-use hip_ir::{Function, Program};
+use hip_sound::{Fault, Place};
+use hip_tree::{Function, Program};
 use hip_types::{Scalar, Width};
 
 fn is_main(function: &Function) -> bool

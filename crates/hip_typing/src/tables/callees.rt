@@ -1,8 +1,8 @@
 ghost use Rattle.std.specs.Prelude.{[], ◌∷◌, map, IfOk, OnOk};
 ghost use Rattle.hip_typing.specs.Seen.Tables.{AddsCallees, FindsCallees, extern_entry, function_entry};
 
-use hip_ir::{Extern, Function, Param, Program};
 use hip_names::NameTable;
+use hip_tree::{Extern, Function, Param, Program};
 use hip_types::{NoMemory, Scalar};
 use std::alloc::Global;
 

@@ -1,14 +1,14 @@
 ghost use Rattle.std.specs.Prelude.{◌+◌, ◌<◌, ◌^◌, [], ◌∷◌, map, IfOk, OnOk};
 ghost use Rattle.hip_typing.specs.Seen.Inner as spec;
 ghost use Rattle.hip_names.specs.Tables.{Gains};
-ghost use Rattle.hip_typing.specs.Names.{numbered};
-ghost use Rattle.hip_typing.specs.Declarations.{instr_declared, body_declared, block_declared, blocks_declared};
+ghost use Rattle.hip_sound.specs.Names.{numbered};
+ghost use Rattle.hip_sound.specs.Declarations.{instr_declared, body_declared, block_declared, blocks_declared};
 ghost use Rattle.hip_typing.specs.Seen.Inner.{entries, inner_entries};
 ghost use Rattle.hip_names.specs.Tables.{StandsFor};
 
 use crate::tables::registers::assigned_by;
-use hip_ir::{Block, Function, Instr, Param, Phi};
 use hip_names::NameTable;
+use hip_tree::{Block, Function, Instr, Param, Phi};
 use hip_types::{Name, NoMemory};
 use std::alloc::Global;
 

@@ -1,12 +1,12 @@
 ghost use Rattle.std.specs.Prelude.{◌≡◌, [], ◌∷◌, None, OnOk, IfOk};
 ghost use Rattle.std.specs.Option.{option_copied};
 ghost use Rattle.hip_typing.specs.Seen.Arrivals.{names_at, found_at, Arrives, FindsPredecessors};
-ghost use Rattle.hip_typing.specs.Registers.{end_labels};
+ghost use Rattle.hip_sound.specs.Registers.{end_labels};
 ghost use Rattle.hip_typing.specs.Seen.TargetsSeen.{label_seen, case_labels, targets_seen};
 
 use crate::places::targets::Targets;
-use hip_ir::{Block, Case};
 use hip_names::NameSet;
+use hip_tree::{Block, Case};
 use hip_types::{Name, NoMemory};
 use indexmap::IndexMap;
 use std::alloc::Global;

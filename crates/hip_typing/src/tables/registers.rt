@@ -1,11 +1,11 @@
 ghost use Rattle.std.specs.Prelude.{[], ◌∷◌, ◌≡◌, map, IfOk, OnOk};
 ghost use Rattle.std.specs.List.{flat_map};
-ghost use Rattle.hip_typing.specs.Registers.{assigned_by, phi_registers, body_registers, block_registers, registers_of};
+ghost use Rattle.hip_sound.specs.Registers.{assigned_by, phi_registers, body_registers, block_registers, registers_of};
 ghost use Rattle.hip_typing.specs.Seen.RegistersSeen.{register_seen};
 ghost use Rattle.hip_typing.specs.Seen.Tables.{Adds, Finds};
 
-use hip_ir::{Block, Function, Instr, Param, Phi};
 use hip_names::NameTable;
+use hip_tree::{Block, Function, Instr, Param, Phi};
 use hip_types::{Name, NoMemory, Scalar, Width};
 use std::alloc::Global;
 

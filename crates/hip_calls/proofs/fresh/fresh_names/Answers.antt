@@ -3,10 +3,10 @@ use Rattle.std.specs.Prelude.{if◌then◌else◌}
 use Rattle.std.specs.List.{list_any}
 use Rattle.std.specs.Str.{bytes_eq}
 use Rattle.hip_names.specs.Names.{is_among}
-use Rattle.hip_typing.specs.Sound.{top_names}
+use Rattle.hip_sound.specs.Sound.{top_names}
 use Rattle.hip_calls.specs.Fresh.{fresh_for, fresh_name, fresh_names, name_of}
 use Rattle.hip_calls.proofs.FreshSteps.{Alike, fresh_for-next, fresh-put}
-use Rattle.hip_calls.specs.Laws.MetLaws.{met-alike}
+use Rattle.hip_names.specs.Laws.MetLaws.{met-alike}
 use Rattle.hip_calls.proofs.fresh.fresh_names.Goals as goal
 
 pub each-preserved : goal.each-preserved

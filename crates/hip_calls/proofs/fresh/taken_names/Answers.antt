@@ -1,6 +1,6 @@
 use Rattle.std.proofs.Common.{[], ◌++◌, map, sym, ◌∙◌}
 use Rattle.std.specs.Str.{bytes_eq}
-use Rattle.hip_calls.specs.Laws.MetLaws.{met-append}
+use Rattle.hip_names.specs.Laws.MetLaws.{met-append}
 use Rattle.hip_calls.proofs.fresh.taken_names.Goals as goal
 
 pub returns : goal.returns

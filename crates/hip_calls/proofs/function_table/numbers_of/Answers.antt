@@ -1,9 +1,9 @@
 use Rattle.std.proofs.Common.{ℕ, zero, suc, ◌+◌, ◌<◌, ◌≤◌, ◌≡◌, List, [], ◌∷◌, ◌++◌, length, get_or, sym, ap, ◌∙◌, subst, arith, take}
 use Rattle.std.proofs.lemmas.List.{length-map}
-use Rattle.hip_ir.specs.declared.program.Function.{Function}
+use Rattle.hip_tree.specs.declared.program.Function.{Function}
 use Rattle.hip_names.specs.Tables.{Entry, StandsFor}
-use Rattle.hip_typing.specs.Numbering.{function_names}
-use Rattle.hip_calls.specs.Numbered.{entries_from, entries-next, numbers_found}
+use Rattle.hip_sound.specs.Numbering.{function_names}
+use Rattle.hip_names.specs.Numbered.{entries_from, entries-next, numbers_found}
 use Rattle.hip_calls.proofs.function_table.numbers_of.Goals as goal
 
 zero-add-sym : (n : ℕ) → n ≡ 0 + n

@@ -1,7 +1,7 @@
 use Rattle.std.proofs.Common.{take}
 use Rattle.hip_names.specs.Tables.{StandsFor}
-use Rattle.hip_typing.specs.Numbering.{function_names}
-use Rattle.hip_calls.specs.Numbered.{entries_from}
+use Rattle.hip_sound.specs.Numbering.{function_names}
+use Rattle.hip_names.specs.Numbered.{entries_from}
 use Rattle.hip_calls.proofs.function_table.numbers_of.Given as goal
 
 abbrev pub invariant-each : goal.invariant-each

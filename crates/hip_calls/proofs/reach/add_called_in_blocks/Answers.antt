@@ -1,7 +1,7 @@
 use Rattle.std.proofs.Common.{nat_eq, ◌∙◌}
 use Rattle.std.specs.List.{flat_map}
 use Rattle.hip_calls.specs.Reach.{called_by}
-use Rattle.hip_calls.specs.Laws.MetLaws.{met-next}
+use Rattle.hip_names.specs.Laws.MetLaws.{met-next}
 use Rattle.hip_calls.proofs.reach.add_called_in_blocks.Goals as goal
 
 pub each-preserved : goal.each-preserved

@@ -1,5 +1,5 @@
 use Rattle.std.proofs.Common.{◌<◌, ◌-◌, length, sym, ap, ◌∙◌, subst}
-use Rattle.hip_ir.specs.declared.program.Program.{Program}
+use Rattle.hip_tree.specs.declared.program.Program.{Program}
 use Rattle.hip_calls.proofs.Reaching.{reached-end, reached-next}
 use Rattle.hip_calls.proofs.reach.add_reached.Goals as goal
 

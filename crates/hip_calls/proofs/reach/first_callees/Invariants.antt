@@ -1,7 +1,7 @@
 use Rattle.std.proofs.Common.{◌≡◌, nat_eq, drop}
 use Rattle.std.specs.List.{flat_map}
 use Rattle.hip_types.specs.Distinct.{met}
-use Rattle.hip_ir.specs.Sites.{instr_of}
+use Rattle.hip_tree.specs.Sites.{instr_of}
 use Rattle.hip_calls.specs.Reach.{called_at, first_callees}
 use Rattle.hip_calls.proofs.reach.first_callees.Given as goal
 

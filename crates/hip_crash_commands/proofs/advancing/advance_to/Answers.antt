@@ -1,5 +1,5 @@
 use Rattle.std.proofs.Common.{◌<◌, ◌∙◌, subst, sym}
-use Rattle.hip_step.specs.Seen.{Seen}
+use Rattle.hip_runs.specs.Seen.{Seen}
 use Rattle.hip_crash_commands.proofs.Advances.{counts_of, fewer, steps_ahead}
 use Rattle.hip_crash_commands.proofs.advancing.advance_to.Goals as goal
 

@@ -1,6 +1,6 @@
 use Rattle.hip_crash_commands.proofs.OneCrash.{alike}
 use Rattle.hip_crash_commands.specs.Crash.{CrashTexts}
-use Rattle.hip_repair_answers.specs.Laws.OneAnswer.{gives_one}
+use Rattle.hip_answers.specs.RunLaws.OneAnswer.{gives_one}
 use Rattle.hip_crash_commands.proofs.laws.crashes_are_one.Goals as goal
 
 pub returns : goal.returns

@@ -1,5 +1,5 @@
 use Rattle.hip_crash_commands.proofs.Crashes.{unpicked}
-use Rattle.hip_step.specs.Seen.{state_of}
+use Rattle.hip_runs.specs.Seen.{state_of}
 use Rattle.hip_crash_commands.proofs.picking.image_now.Goals as goal
 
 pub returns-in-Ok : goal.returns-in-Ok

@@ -1,6 +1,6 @@
 use Rattle.std.proofs.Common.{◌∙◌}
 use Rattle.std.specs.Str.{bytes_eq}
-use Rattle.hip_calls.specs.Laws.MetLaws.{met-next}
+use Rattle.hip_names.specs.Laws.MetLaws.{met-next}
 use Rattle.hip_fix.specs.DirectWalk.{body_allocas}
 use Rattle.hip_fix.proofs.direct.alloca_names.Goals as goal
 

@@ -1,6 +1,6 @@
 use Rattle.std.proofs.Common.{◌≡◌, sym, ap, ◌∙◌}
-use Rattle.hip_ir.specs.declared.program.Program.{Program}
-use Rattle.hip_typing.specs.Laws.SoundExact.{sound-passes}
+use Rattle.hip_tree.specs.declared.program.Program.{Program}
+use Rattle.hip_sound.specs.Laws.SoundExact.{sound-passes}
 use Rattle.hip_fix.specs.SuitsTest as test
 use Rattle.hip_repairs.specs.Laws.Callable.{callable_of}
 use Rattle.hip_fix.proofs.Suited.{passes_suits, suits_passes}

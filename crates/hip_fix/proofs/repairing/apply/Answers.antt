@@ -1,9 +1,9 @@
 use Rattle.std.proofs.Common.{◌≡◌, Bool, List, sym, ap, ◌∙◌, subst}
 use Rattle.std.specs.Prelude.{IfOk, OnOk, Result, Ok, Err}
 use Rattle.std.specs.List.{filter}
-use Rattle.hip_ir.specs.Sites.{has_site, sites_of}
-use Rattle.hip_ir.specs.declared.program.Program.{Program}
-use Rattle.hip_ir.specs.declared.site.Site.{Site}
+use Rattle.hip_tree.specs.Sites.{has_site, sites_of}
+use Rattle.hip_tree.specs.declared.program.Program.{Program}
+use Rattle.hip_tree.specs.declared.site.Site.{Site}
 use Rattle.hip_runs.specs.Found.Marks.{IsFound}
 use Rattle.hip_runs.specs.Validity.{IsValid}
 use Rattle.hip_runs.specs.declared.input.Input.{Input}

@@ -1,7 +1,7 @@
 use Rattle.std.proofs.Common.{◌≡◌, length, sym, ap, ◌∙◌, subst}
-use Rattle.hip_ir.specs.Sites.{has_site}
-use Rattle.hip_ir.specs.declared.program.Program.{Program}
-use Rattle.hip_typing.specs.Sound.{IsSound}
+use Rattle.hip_tree.specs.Sites.{has_site}
+use Rattle.hip_tree.specs.declared.program.Program.{Program}
+use Rattle.hip_sound.specs.Sound.{IsSound}
 use Rattle.hip_calls.specs.Reach as reach
 use Rattle.hip_repairs.specs.Clean.{IsClean}
 use Rattle.hip_repairs.specs.CloneNumbers.{numbered_from}

@@ -5,7 +5,7 @@ use Rattle.hip_globals.specs.Constants.{item_types}
 use Rattle.hip_globals.specs.InitialSeen.{AllFit, item_piece}
 use Rattle.hip_globals.specs.Values.{written}
 use Rattle.hip_globals.proofs.ByteLists.{item_fits, fields_more, items_more, sized_after}
-use Rattle.hip_ir.specs.declared.constant.Const as constants
+use Rattle.hip_tree.specs.declared.constant.Const as constants
 use Rattle.hip_globals.proofs.ConstantParts.{item_type_fits, item_value_fits, item_bytes, item_align}
 use Rattle.hip_globals.proofs.initial.+bytes.Goals as goal
 

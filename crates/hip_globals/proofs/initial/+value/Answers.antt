@@ -1,5 +1,5 @@
 use Rattle.std.proofs.Common.{rules}
-use Rattle.hip_ir.specs.declared.constant.Const as constants
+use Rattle.hip_tree.specs.declared.constant.Const as constants
 use Rattle.hip_globals.proofs.ConstantParts.{gep_type_fits, gep_base_fits}
 use Rattle.hip_globals.proofs.initial.+value.Goals as goal
 

@@ -1,5 +1,5 @@
 use Rattle.std.proofs.Common.{◌≡◌, ◌-◌, ◌++◌}
-use Rattle.hip_mem.specs.Bytes.{bytes_of}
+use Rattle.hip_types.specs.Bytes.{bytes_of}
 use Rattle.hip_globals.proofs.initial.push_number.Given as goal
 
 abbrev pub invariant-each : goal.invariant-each

@@ -1,5 +1,5 @@
 use Rattle.std.proofs.Common.{◌≡◌, [], false}
-use Rattle.hip_mem.specs.Memory.{volatile_start}
+use Rattle.hip_types.specs.Areas.{volatile_start}
 use Rattle.hip_globals.specs.AddressesSeen.{address_beside}
 use Rattle.hip_globals.specs.Initial.{laid_bytes, volatile_bytes}
 use Rattle.hip_globals.specs.Laws.AddressLaws.{globals-fit}

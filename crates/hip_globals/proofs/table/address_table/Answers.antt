@@ -1,4 +1,4 @@
-use Rattle.hip_mem.specs.Memory.{volatile_start}
+use Rattle.hip_types.specs.Areas.{volatile_start}
 use Rattle.hip_globals.proofs.AddressLists.{laid_persistent, laid_volatile, persistent_within, volatile_within}
 use Rattle.hip_globals.proofs.table.address_table.Goals as goal
 use Rattle.hip_globals.proofs.table.address_table.Goals.{then-global+in_ok-persistent, else-global+in_ok-volatile}

@@ -1,4 +1,4 @@
-use Rattle.hip_mem.specs.Memory.{volatile_start}
+use Rattle.hip_types.specs.Areas.{volatile_start}
 use Rattle.hip_globals.proofs.AddressLists.{IsLaid}
 use Rattle.hip_globals.proofs.table.address_table.Given as goal
 

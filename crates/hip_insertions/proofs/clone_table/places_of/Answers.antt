@@ -2,7 +2,7 @@ use Rattle.std.proofs.Common.{ℕ, ◌<◌, ◌≤◌, ◌≡◌, ◌+◌, [], �
 use Rattle.std.proofs.lemmas.List.{length-map}
 use Rattle.hip_names.specs.Tables.{Entry, StandsFor}
 use Rattle.hip_calls.specs.Fresh.{name_of}
-use Rattle.hip_calls.specs.Numbered.{entries_from, entries-next, numbers_found}
+use Rattle.hip_names.specs.Numbered.{entries_from, entries-next, numbers_found}
 use Rattle.hip_insertions.proofs.CloneNames.{original_named}
 use Rattle.hip_insertions.proofs.clone_table.places_of.Goals as goal
 

@@ -5,15 +5,15 @@ use Rattle.std.specs.Str.{bytes_eq}
 use Rattle.std.proofs.lemmas.Slice.Eq.{bytes_eq-Decides}
 use Rattle.hip_types.specs.Numbers.{wrapped}
 use Rattle.hip_types.specs.declared.number.Width.TheVariants.{W64}
-use Rattle.hip_ir.specs.declared.block.Block.{Block}
-use Rattle.hip_ir.specs.declared.block.End.{End}
-use Rattle.hip_ir.specs.declared.block.End.TheVariants as ends
-use Rattle.hip_ir.specs.declared.block.Phi.{Phi}
-use Rattle.hip_ir.specs.declared.instr.Arg.{Arg}
-use Rattle.hip_ir.specs.declared.instr.Instr.{Instr}
-use Rattle.hip_ir.specs.declared.program.Function.{Function}
-use Rattle.hip_ir.specs.declared.program.Program.{Program}
-use Rattle.hip_typing.specs.Sound.{IsBlockAt}
+use Rattle.hip_tree.specs.declared.block.Block.{Block}
+use Rattle.hip_tree.specs.declared.block.End.{End}
+use Rattle.hip_tree.specs.declared.block.End.TheVariants as ends
+use Rattle.hip_tree.specs.declared.block.Phi.{Phi}
+use Rattle.hip_tree.specs.declared.instr.Arg.{Arg}
+use Rattle.hip_tree.specs.declared.instr.Instr.{Instr}
+use Rattle.hip_tree.specs.declared.program.Function.{Function}
+use Rattle.hip_tree.specs.declared.program.Program.{Program}
+use Rattle.hip_sound.specs.Sound.{IsBlockAt}
 use Rattle.hip_runs.specs.declared.input.Input.{Input}
 use Rattle.hip_runs.specs.Actions.{Action, Traps, Assigns, Allocates, Stores, Flushes, Persists, Fences, Asserts, Prints, Reads, Calls, Jumps, Returns, instr_action, edge_value, after_phis, jump_to, jump, returned, end_action, deed_of}
 use Rattle.hip_runs.specs.Operands.{look_up, assigned}

@@ -3,8 +3,8 @@ use Rattle.std.proofs.Common.{◌≡◌, ◌⊎◌, ℕ, List, ◌++◌, sym, su
 use Rattle.std.proofs.lemmas.List.{map-append}
 use Rattle.hip_names.specs.Laws.NameLaws.{among-left, among-right, among-either}
 use Rattle.hip_names.specs.Names.{IsAmong}
-use Rattle.hip_typing.specs.Paths.{names_of}
-use Rattle.hip_typing.specs.Registers.{Register}
+use Rattle.hip_sound.specs.Paths.{names_of}
+use Rattle.hip_sound.specs.Registers.{Register}
 
 pub names_append : (xs ys : List Register) → names_of (xs ++ ys) ≡ names_of xs ++ names_of ys
 names_append xs ys = map-append (λ (r : Register). r.name) xs ys

@@ -5,16 +5,16 @@ use Rattle.std.specs.List.{flat_map}
 use Rattle.std.specs.Str.{bytes_eq}
 use Rattle.std.proofs.lemmas.Option.{same_Some}
 use Rattle.std.proofs.lemmas.Slice.Eq.{bytes_eq-Decides}
-use Rattle.hip_ir.specs.declared.block.Block.{Block}
-use Rattle.hip_ir.specs.declared.block.Phi.{Phi}
-use Rattle.hip_ir.specs.declared.instr.Instr.{Instr}
-use Rattle.hip_ir.specs.declared.program.Function.{Function}
-use Rattle.hip_ir.specs.declared.program.Param.{Param}
+use Rattle.hip_tree.specs.declared.block.Block.{Block}
+use Rattle.hip_tree.specs.declared.block.Phi.{Phi}
+use Rattle.hip_tree.specs.declared.instr.Instr.{Instr}
+use Rattle.hip_tree.specs.declared.program.Function.{Function}
+use Rattle.hip_tree.specs.declared.program.Param.{Param}
 use Rattle.hip_names.specs.Laws.NameLaws.{among-left, among-right, among-either}
 use Rattle.hip_names.specs.Names.{AllDiffer, IsAmong}
-use Rattle.hip_typing.specs.Paths.{names_of}
-use Rattle.hip_typing.specs.Registers.{Register, find_register, registers_of, assigned_by, phi_registers, body_registers, block_registers, parameter_registers}
-use Rattle.hip_typing.specs.Sound.{names_in_block, names_in_function, register_names}
+use Rattle.hip_sound.specs.Paths.{names_of}
+use Rattle.hip_sound.specs.Registers.{Register, find_register, registers_of, assigned_by, phi_registers, body_registers, block_registers, parameter_registers}
+use Rattle.hip_sound.specs.Sound.{names_in_block, names_in_function, register_names}
 use Rattle.hip_runs.specs.StoredParts.Parts.{In}
 use Rattle.hip_names.specs.Laws.DifferLaws.{differ_append, differ_first, differ_second, differ_apart}
 use Rattle.hip_invariants.specs.Laws.Registers.Names.{names_append}

@@ -1,7 +1,7 @@
 use Rattle.std.proofs.Common.{◌≡◌, ℕ, ◌-◌, ◌++◌, length, replicate, take, ap, ◌∙◌, arith}
 use Rattle.std.proofs.lemmas.List.{take_all}
 use Rattle.std.specs.Vec.{vec_len}
-use Rattle.hip_mem.specs.Bytes.{zeros}
+use Rattle.hip_types.specs.Bytes.{zeros}
 use Rattle.hip_lockstep.proofs.given.lengthen.Goals as goal
 
 pub returns-in-Ok : goal.returns-in-Ok

@@ -1,5 +1,5 @@
 use Rattle.std.proofs.Common.{◌-◌, ◌≤◌, ◌++◌, length, sym, ap, ◌∙◌, subst}
-use Rattle.hip_mem.specs.Bytes.{zeros}
+use Rattle.hip_types.specs.Bytes.{zeros}
 use Rattle.hip_lockstep.specs.Laws.Openings.{first_given_at, header_read, image_within, stopped_behind}
 use Rattle.hip_lockstep.specs.Giving.{input_of}
 use Rattle.hip_lockstep.specs.Opening.{HasHeader}

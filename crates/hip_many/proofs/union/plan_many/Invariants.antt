@@ -1,5 +1,5 @@
 use Rattle.std.proofs.Common.{take, []}
-use Rattle.hip_ir.specs.Sites.{has_site}
+use Rattle.hip_tree.specs.Sites.{has_site}
 use Rattle.hip_many.proofs.Unions.{HasThose}
 use Rattle.hip_many.proofs.union.plan_many.Given as goal
 

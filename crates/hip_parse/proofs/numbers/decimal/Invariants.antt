@@ -1,5 +1,5 @@
 use Rattle.std.proofs.Common.{◌≡◌, drop}
-use Rattle.hip_ir.specs.Numbers.{digits_from}
+use Rattle.hip_grammar.specs.Numbers.{digits_from}
 use Rattle.hip_parse.proofs.numbers.decimal.Given as goal
 
 abbrev pub invariant-loop-d : goal.invariant-loop-d

@@ -1,6 +1,6 @@
 use Rattle.std.proofs.Common.{sym, ap, ◌∙◌}
-use Rattle.hip_ir.specs.Laws.SpellingExact.{read_is_spelled}
-use Rattle.hip_ir.specs.Laws.TextExact.{whole_text, fault_at, read_is, refused_is, only_is, never_derived}
+use Rattle.hip_grammar.specs.Laws.SpellingExact.{read_is_spelled}
+use Rattle.hip_grammar.specs.Laws.TextExact.{whole_text, fault_at, read_is, refused_is, only_is, never_derived}
 use Rattle.hip_parse.specs.Left.{left}
 use Rattle.hip_parse.proofs.Causes.{cause_of}
 use Rattle.hip_parse.proofs.reading.parse.Goals as goal

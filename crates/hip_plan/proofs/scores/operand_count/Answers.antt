@@ -1,11 +1,11 @@
 -- A call has pointer operands where it is of a defined function.
 use Rattle.std.proofs.Common.{◌≡◌, ℕ, cond, is_none, count_by, List, Some, sym, ap, ap₂, ◌∙◌}
 use Rattle.hip_externs.specs.Externs.{call_of}
-use Rattle.hip_ir.specs.Sites.{instr_of}
-use Rattle.hip_ir.specs.declared.instr.Arg.{Arg}
-use Rattle.hip_ir.specs.declared.instr.Instr.{Instr}
-use Rattle.hip_ir.specs.declared.instr.Instr.TheVariants.{Call}
-use Rattle.hip_ir.specs.declared.program.Program.{Program}
+use Rattle.hip_tree.specs.Sites.{instr_of}
+use Rattle.hip_tree.specs.declared.instr.Arg.{Arg}
+use Rattle.hip_tree.specs.declared.instr.Instr.{Instr}
+use Rattle.hip_tree.specs.declared.instr.Instr.TheVariants.{Call}
+use Rattle.hip_tree.specs.declared.program.Program.{Program}
 use Rattle.hip_plan.specs.Worths.{is_pointer}
 use Rattle.hip_plan.proofs.Calls.{call_operands}
 use Rattle.hip_plan.proofs.scores.operand_count.Goals as goal

@@ -1,6 +1,6 @@
 -- A score is the greatest worth of the operands.
 use Rattle.std.proofs.Common.{◌≡◌, ◌↔◌, [], IsNone, Option, sym, subst, ℤ}
-use Rattle.hip_ir.specs.Sites.{instr_of}
+use Rattle.hip_tree.specs.Sites.{instr_of}
 use Rattle.hip_runs.specs.Found.Scores.{operands_at}
 use Rattle.hip_plan.proofs.Greatest.{no_greatest}
 use Rattle.hip_plan.proofs.scores.score.Goals as goal

@@ -2,7 +2,7 @@
 use Rattle.std.proofs.Common.{◌+◌, drop, Option, ap, ◌∙◌, arith, ℤ}
 use Rattle.std.specs.Int.{w128}
 use Rattle.std.proofs.lemmas.Int.{to_z-of_z}
-use Rattle.hip_ir.specs.Sites.{instr_of}
+use Rattle.hip_tree.specs.Sites.{instr_of}
 use Rattle.hip_runs.specs.Found.Scores.{greatest_worth, operands_at}
 use Rattle.hip_plan.proofs.Greatest.{greatest_more, joined}
 use Rattle.hip_plan.proofs.scores.score_by.Goals as goal

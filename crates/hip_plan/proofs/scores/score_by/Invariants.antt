@@ -1,5 +1,5 @@
 use Rattle.std.proofs.Common.{◌≡◌, drop}
-use Rattle.hip_ir.specs.Sites.{instr_of}
+use Rattle.hip_tree.specs.Sites.{instr_of}
 use Rattle.hip_runs.specs.Found.Scores.{greatest_worth, operands_at, score}
 use Rattle.hip_plan.proofs.Greatest.{joined}
 use Rattle.hip_plan.proofs.scores.score_by.Given as goal

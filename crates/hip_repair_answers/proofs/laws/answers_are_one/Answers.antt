@@ -1,5 +1,5 @@
 use Rattle.hip_repair_answers.specs.Answers.{HasChecked, HasRepaired, HasRerun}
-use Rattle.hip_repair_answers.specs.Laws.OneAnswer.{gives_one}
+use Rattle.hip_answers.specs.RunLaws.OneAnswer.{gives_one}
 use Rattle.hip_repair_answers.specs.Laws.Repairs.{checked_alike, repaired_alike, rerun_alike}
 use Rattle.hip_repair_answers.proofs.laws.answers_are_one.Goals as goal
 

@@ -1,5 +1,5 @@
 use Rattle.hip_repair_answers.specs.Answers.{HasChecked, HasRepaired, HasRerun}
-use Rattle.hip_repair_answers.specs.Laws.OneAnswer.{hide_none}
+use Rattle.hip_answers.specs.RunLaws.OneAnswer.{hide_none}
 use Rattle.hip_repair_answers.proofs.laws.faults_hide_no_misfit.Goals as goal
 
 pub returns : goal.returns

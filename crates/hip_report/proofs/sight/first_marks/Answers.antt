@@ -2,11 +2,11 @@ use Rattle.std.proofs.Common.{List, ◌∙◌, ap, map}
 use Rattle.hip_types.specs.Distinct.{met}
 use Rattle.hip_runs.specs.Found.Marks.{same_mark}
 use Rattle.hip_runs.specs.declared.report.Mark.{Mark}
-use Rattle.hip_step.specs.Seen.{state_of}
-use Rattle.hip_report.specs.MarkKeys.{mark_of}
-use Rattle.hip_report.specs.Sights.{mark_at, marks_to}
-use Rattle.hip_report.proofs.MarksAhead.{next_to}
-use Rattle.hip_report.proofs.MarksAtHand.{more_alike}
+use Rattle.hip_runs.specs.Seen.{state_of}
+use Rattle.hip_notes.specs.MarkKeys.{mark_of}
+use Rattle.hip_notes.specs.Sights.{mark_at, marks_to}
+use Rattle.hip_notes.proofs.MarksAhead.{next_to}
+use Rattle.hip_notes.proofs.MarksAtHand.{more_alike}
 use Rattle.hip_report.proofs.sight.first_marks.Goals as goal
 
 pub operands-preserved : goal.operands-preserved

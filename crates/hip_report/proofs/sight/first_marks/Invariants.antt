@@ -1,7 +1,7 @@
 use Rattle.std.proofs.Common.{map}
-use Rattle.hip_step.specs.Seen.{state_of}
-use Rattle.hip_report.specs.MarkKeys.{mark_of}
-use Rattle.hip_report.specs.Sights.{AddAlike, marks_to}
+use Rattle.hip_runs.specs.Seen.{state_of}
+use Rattle.hip_notes.specs.MarkKeys.{mark_of}
+use Rattle.hip_notes.specs.Sights.{AddAlike, marks_to}
 use Rattle.hip_report.proofs.sight.first_marks.Given as goal
 
 abbrev pub invariant-operands : goal.invariant-operands

@@ -1,11 +1,11 @@
 use Rattle.std.proofs.Common.{◌∙◌, ap, map, sym}
 use Rattle.hip_types.specs.Distinct.{met}
 use Rattle.hip_runs.specs.Found.Marks.{same_mark}
-use Rattle.hip_step.specs.Seen.{state_of}
-use Rattle.hip_report.specs.MarkKeys.{mark_of}
-use Rattle.hip_report.proofs.MarksAhead.{all_ahead, next_is, none_ahead}
-use Rattle.hip_report.proofs.Searches.{if_ok}
-use Rattle.hip_report.proofs.noting.PlainSteps.{plain_marks}
+use Rattle.hip_runs.specs.Seen.{state_of}
+use Rattle.hip_notes.specs.MarkKeys.{mark_of}
+use Rattle.hip_notes.proofs.MarksAhead.{all_ahead, next_is, none_ahead}
+use Rattle.hip_notes.proofs.Searches.{if_ok}
+use Rattle.hip_notes.proofs.noting.PlainSteps.{plain_marks}
 use Rattle.hip_report.proofs.sight.marks_of_next.Goals as goal
 
 pub returns-in-None : goal.returns-in-None

@@ -1,6 +1,6 @@
 use Rattle.std.proofs.Common.{map, subst, sym}
-use Rattle.hip_report.specs.MarkKeys.{AreMet, mark_of}
-use Rattle.hip_report.proofs.MarksAtHand.{at_hand_adds}
+use Rattle.hip_notes.specs.MarkKeys.{AreMet, mark_of}
+use Rattle.hip_notes.proofs.MarksAtHand.{at_hand_adds}
 use Rattle.hip_report.proofs.sight.push_mark.Goals as goal
 
 pub returns-then-is_recent : goal.returns-then-is_recent

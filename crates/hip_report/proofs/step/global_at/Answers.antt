@@ -4,7 +4,7 @@ use Rattle.hip_runs.specs.Found.Objects.{global_at, or_else, slot_at, slot_in}
 use Rattle.hip_runs.specs.State.{Frame, Slot}
 use Rattle.hip_runs.specs.declared.event.Object.{Object}
 use Rattle.hip_runs.specs.declared.event.Object.TheVariants as objects
-use Rattle.hip_step.specs.Seen.{state_of}
+use Rattle.hip_runs.specs.Seen.{state_of}
 use Rattle.hip_report.proofs.step.global_at.Goals as goal
 
 no_slot : (xs : List Slot) (a g : ℕ) → slot_in xs a ≡ Some (objects.Global g) → ⊥

@@ -1,10 +1,10 @@
 use Rattle.std.proofs.Common.{◌≡◌, suc, ◌+◌, ◌-◌, arith, length, refl, ap, ap₂, ◌∙◌, subst, sym}
 use Rattle.hip_runs.specs.Step.{run}
-use Rattle.hip_step.specs.Seen.{next_site}
-use Rattle.hip_report.specs.Noted.{AreNoted, births_after, calls_after}
-use Rattle.hip_report.specs.Sights.{is_still}
-use Rattle.hip_report.specs.declared.notes.Notes.{Notes}
-use Rattle.hip_report.proofs.noting.Still.{calls_noted}
+use Rattle.hip_runs.specs.Seen.{next_site}
+use Rattle.hip_notes.specs.Noted.{AreNoted, births_after, calls_after}
+use Rattle.hip_notes.specs.Sights.{is_still}
+use Rattle.hip_notes.specs.declared.notes.Notes.{Notes}
+use Rattle.hip_notes.proofs.noting.Still.{calls_noted}
 use Rattle.hip_report.proofs.step.note_calls_alone.Goals as goal
 
 pub returns-clause-noted : goal.returns-clause-noted

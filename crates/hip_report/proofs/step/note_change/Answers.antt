@@ -13,19 +13,19 @@ use Rattle.hip_runs.specs.declared.report.Mark.{Mark}
 use Rattle.std.specs.Prelude.{map}
 use Rattle.hip_types.specs.Distinct.{met}
 use Rattle.hip_runs.specs.Found.Marks.{same_mark, unless_ended}
-use Rattle.hip_report.specs.MarkKeys.{AreMet, mark_of, WereHit}
-use Rattle.hip_report.specs.Sights.{AddAlike, marks_ahead}
-use Rattle.hip_step.specs.Seen.{next_site}
+use Rattle.hip_notes.specs.MarkKeys.{AreMet, mark_of, WereHit}
+use Rattle.hip_notes.specs.Sights.{AddAlike, marks_ahead}
+use Rattle.hip_runs.specs.Seen.{next_site}
 use Rattle.hip_lines.specs.Parts.{loose_from}
 use Rattle.hip_lines.specs.Pending.{Pending as Waiting}
 use Rattle.hip_lines.specs.declared.part.Part.{Part}
-use Rattle.hip_report.specs.Noted.{AreNoted, EndsBelow, IsForgotten}
-use Rattle.hip_report.specs.declared.notes.Notes.{Notes}
-use Rattle.hip_report.proofs.noting.Assembled.{Did, assembled, did_at, ends_below, few_at, first_frame, forgotten}
-use Rattle.hip_report.proofs.ClosedCalls.{length_births}
-use Rattle.hip_report.proofs.MarksAtHand.{unless_alike}
-use Rattle.hip_report.proofs.NoteLists.{more_flushes, more_stores}
-use Rattle.hip_report.proofs.Rooms.{Lies, event_lies}
+use Rattle.hip_notes.specs.Noted.{AreNoted, EndsBelow, IsForgotten}
+use Rattle.hip_notes.specs.declared.notes.Notes.{Notes}
+use Rattle.hip_notes.proofs.noting.Assembled.{Did, assembled, did_at, ends_below, few_at, first_frame, forgotten}
+use Rattle.hip_notes.proofs.ClosedCalls.{length_births}
+use Rattle.hip_notes.proofs.MarksAtHand.{unless_alike}
+use Rattle.hip_notes.proofs.NoteLists.{more_flushes, more_stores}
+use Rattle.hip_notes.proofs.Rooms.{Lies, event_lies}
 use Rattle.hip_report.proofs.step.note_change.Goals as goal
 
 pub step_check-requires-clause-region : goal.step_check-requires-clause-region

@@ -1,7 +1,7 @@
 use Rattle.std.proofs.Common.{◌≡◌, suc, ◌-◌, arith, ap, ◌∙◌, subst, sym}
-use Rattle.hip_report.specs.Plain.{AreTracked}
-use Rattle.hip_report.specs.declared.notes.Notes.{Notes}
-use Rattle.hip_report.proofs.noting.PlainSteps.{plain_ended, plain_quiet}
+use Rattle.hip_notes.specs.Plain.{AreTracked}
+use Rattle.hip_notes.specs.declared.notes.Notes.{Notes}
+use Rattle.hip_notes.proofs.noting.PlainSteps.{plain_ended, plain_quiet}
 use Rattle.hip_report.proofs.step.note_plain.Goals as goal
 
 pub returns-in-Quiet-clause-noted : goal.returns-in-Quiet-clause-noted

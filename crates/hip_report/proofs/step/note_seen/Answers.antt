@@ -1,5 +1,5 @@
 use Rattle.std.proofs.Common.{◌∙◌, sym}
-use Rattle.hip_report.proofs.noting.PlainSteps.{taken_before}
+use Rattle.hip_notes.proofs.noting.PlainSteps.{taken_before}
 use Rattle.hip_report.proofs.step.note_seen.Goals as goal
 
 pub note_taken-requires-clause-noted : goal.note_taken-requires-clause-noted

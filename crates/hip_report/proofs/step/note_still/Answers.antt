@@ -1,9 +1,9 @@
 use Rattle.std.proofs.Common.{◌≡◌, suc, ◌+◌, ◌-◌, arith, length, refl, ap, ◌∙◌, subst, sym}
 use Rattle.hip_runs.specs.Step.{run}
-use Rattle.hip_report.specs.Noted.{AreNoted}
-use Rattle.hip_report.specs.Sights.{is_still}
-use Rattle.hip_report.specs.declared.notes.Notes.{Notes}
-use Rattle.hip_report.proofs.noting.Still.{still_noted}
+use Rattle.hip_notes.specs.Noted.{AreNoted}
+use Rattle.hip_notes.specs.Sights.{is_still}
+use Rattle.hip_notes.specs.declared.notes.Notes.{Notes}
+use Rattle.hip_notes.proofs.noting.Still.{still_noted}
 use Rattle.hip_report.proofs.step.note_still.Goals as goal
 
 pub returns-clause-noted : goal.returns-clause-noted

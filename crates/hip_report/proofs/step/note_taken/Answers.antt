@@ -1,8 +1,8 @@
 use Rattle.std.proofs.Common.{◌≡◌, suc, ◌-◌, arith, subst, sym}
-use Rattle.hip_report.specs.Noted.{AreNoted}
-use Rattle.hip_report.specs.Plain.{AreTracked}
-use Rattle.hip_report.specs.declared.notes.Notes.{Notes}
-use Rattle.hip_report.proofs.noting.PlainSteps.{ahead_tracked}
+use Rattle.hip_notes.specs.Noted.{AreNoted}
+use Rattle.hip_notes.specs.Plain.{AreTracked}
+use Rattle.hip_notes.specs.declared.notes.Notes.{Notes}
+use Rattle.hip_notes.proofs.noting.PlainSteps.{ahead_tracked}
 use Rattle.hip_report.proofs.step.note_taken.Goals as goal
 
 pub returns-clause-noted : goal.returns-clause-noted

@@ -1,4 +1,4 @@
-use Rattle.hip_report.proofs.noting.Blank.{both_ok, notes_of, seen_is}
+use Rattle.hip_report.proofs.Blank.{both_ok, notes_of, seen_is}
 use Rattle.hip_report.proofs.tracker.advance_in.Goals as goal
 
 pub returns-clause-noted : goal.returns-clause-noted

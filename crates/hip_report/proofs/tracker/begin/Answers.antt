@@ -1,5 +1,5 @@
 use Rattle.std.proofs.Common.{sym, subst, Option}
-use Rattle.hip_report.specs.Plain.{AreTracked}
+use Rattle.hip_notes.specs.Plain.{AreTracked}
 use Rattle.hip_report.specs.Tracking.{NotesOf, notes_all, seen_in}
 use Rattle.hip_report.specs.declared.tracker.Source.{Source}
 use Rattle.hip_report.proofs.tracker.begin.Goals as goal

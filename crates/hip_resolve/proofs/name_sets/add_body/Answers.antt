@@ -1,8 +1,8 @@
 use Rattle.std.proofs.Common.{◌∙◌}
 use Rattle.std.specs.Str.{bytes_eq}
-use Rattle.hip_calls.specs.Laws.MetLaws.{met-next}
-use Rattle.hip_typing.specs.Paths.{names_of}
-use Rattle.hip_typing.specs.Registers.{assigned_by}
+use Rattle.hip_names.specs.Laws.MetLaws.{met-next}
+use Rattle.hip_sound.specs.Paths.{names_of}
+use Rattle.hip_sound.specs.Registers.{assigned_by}
 use Rattle.hip_resolve.proofs.name_sets.add_body.Goals as goal
 
 pub each-preserved : goal.each-preserved

@@ -2,8 +2,8 @@ use Rattle.std.proofs.Common.{◌≡◌, drop}
 use Rattle.std.specs.List.{flat_map}
 use Rattle.std.specs.Str.{bytes_eq}
 use Rattle.hip_types.specs.Distinct.{met}
-use Rattle.hip_typing.specs.Paths.{names_of}
-use Rattle.hip_typing.specs.Registers.{assigned_by}
+use Rattle.hip_sound.specs.Paths.{names_of}
+use Rattle.hip_sound.specs.Registers.{assigned_by}
 use Rattle.hip_resolve.proofs.name_sets.add_body.Given as goal
 
 abbrev pub invariant-each : goal.invariant-each

@@ -1,7 +1,7 @@
 use Rattle.std.proofs.Common.{◌∷◌, [], List, length, sym, ap, subst, arith}
 use Rattle.std.proofs.lemmas.List.{length-append}
 use Rattle.hip_code.specs.declared.op.Op.{Op}
-use Rattle.hip_resolve.specs.Grown.{grown}
+use Rattle.hip_scope.specs.Grown.{grown}
 use Rattle.hip_resolve.specs.Made.{IsFront}
 use Rattle.hip_resolve.proofs.BlockOps.{next_block}
 use Rattle.hip_resolve.proofs.Fronts.{front_end, front_grows}

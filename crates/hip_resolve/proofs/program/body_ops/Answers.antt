@@ -1,9 +1,9 @@
 use Rattle.std.proofs.Common.{◌≡◌, ◌∷◌, [], List, Some, length, slice_get, refl, sym, ap, subst, arith}
 use Rattle.std.proofs.lemmas.List.{length-append}
 use Rattle.std.proofs.lemmas.Option.{slice_get_read}
-use Rattle.hip_ir.specs.declared.instr.Instr.{Instr}
+use Rattle.hip_tree.specs.declared.instr.Instr.{Instr}
 use Rattle.hip_code.specs.declared.op.Op.{Op}
-use Rattle.hip_resolve.specs.Grown.{grown}
+use Rattle.hip_scope.specs.Grown.{grown}
 use Rattle.hip_resolve.specs.Made.{IsFront}
 use Rattle.hip_resolve.proofs.BlockOps.{known_at}
 use Rattle.hip_resolve.proofs.Fronts.{front_grows, front_op}

@@ -1,6 +1,6 @@
 use Rattle.std.proofs.Common.{◌≡◌, ◌+◌, length}
 use Rattle.hip_code.specs.Entries.{entry}
-use Rattle.hip_resolve.specs.Grown.{grown}
+use Rattle.hip_scope.specs.Grown.{grown}
 use Rattle.hip_resolve.specs.Made.{IsFront}
 use Rattle.hip_resolve.proofs.program.body_ops.Given as goal
 

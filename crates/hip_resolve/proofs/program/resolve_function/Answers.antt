@@ -1,6 +1,6 @@
 use Rattle.std.proofs.Common.{◌≡◌, length, sym, ap, ◌∙◌, arith}
 use Rattle.hip_code.specs.Entries.{entry}
-use Rattle.hip_resolve.proofs.Places.{next_function}
+use Rattle.hip_scope.proofs.Places.{next_function}
 use Rattle.hip_resolve.proofs.program.resolve_function.Goals as goal
 
 pub returns-clause-place : goal.returns-clause-place

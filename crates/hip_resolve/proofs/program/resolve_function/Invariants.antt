@@ -1,7 +1,7 @@
 use Rattle.std.proofs.Common.{◌≡◌, length}
 use Rattle.hip_code.specs.Entries.{entry}
 use Rattle.hip_runs.specs.Places.{blocks_of}
-use Rattle.hip_resolve.specs.Grown.{grown}
+use Rattle.hip_scope.specs.Grown.{grown}
 use Rattle.hip_resolve.specs.Made.{IsFront}
 use Rattle.hip_resolve.proofs.program.resolve_function.Given as goal
 

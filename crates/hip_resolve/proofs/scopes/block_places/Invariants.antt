@@ -1,6 +1,6 @@
 use Rattle.std.proofs.Common.{◌≡◌, ◌+◌}
 use Rattle.hip_code.specs.Entries.{entry_in}
-use Rattle.hip_resolve.specs.Listed.{Lists}
+use Rattle.hip_scope.specs.Listed.{Lists}
 use Rattle.hip_resolve.proofs.scopes.block_places.Given as goal
 
 pub record Invariant (l : goal.Live-each) : Type 0 where

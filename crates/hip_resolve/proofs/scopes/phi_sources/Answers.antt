@@ -1,5 +1,5 @@
 use Rattle.std.proofs.Common.{subst}
-use Rattle.hip_resolve.specs.PhiNumbers.{NumbersPhis}
+use Rattle.hip_scope.specs.PhiNumbers.{NumbersPhis}
 use Rattle.hip_resolve.proofs.Scoped.{sources_all, sources_on}
 use Rattle.hip_resolve.proofs.scopes.phi_sources.Goals as goal
 

@@ -1,5 +1,5 @@
 use Rattle.std.proofs.Common.{sym, subst}
-use Rattle.hip_resolve.specs.Listed.{RegistersDiffer}
+use Rattle.hip_scope.specs.Listed.{RegistersDiffer}
 use Rattle.hip_resolve.proofs.Scoped.{registers_differ_in, sizes_are}
 use Rattle.hip_resolve.proofs.scopes.sizes.Goals as goal
 

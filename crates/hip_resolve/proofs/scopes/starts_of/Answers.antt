@@ -1,5 +1,5 @@
 use Rattle.std.proofs.Common.{◌+◌, length, ap, sym, ◌∙◌}
-use Rattle.hip_ir.specs.declared.program.Function.{Function}
+use Rattle.hip_tree.specs.declared.program.Function.{Function}
 use Rattle.hip_code.specs.Entries.{entry_in, entry_of}
 use Rattle.hip_resolve.proofs.Scoped.{function_first, function_next, lists_none, lists_on}
 use Rattle.hip_resolve.proofs.scopes.starts_of.Goals as goal

@@ -1,17 +1,17 @@
 -- Marks are the same exactly where they are equal; and the findings of a run exist, and are one.
 use Rattle.std.proofs.lemmas.List.{append-nil}
 use Rattle.std.proofs.Common.{◌≡◌, ℕ, Bool, true, false, ◌&&◌, nat_eq, refl, ap, ap₂, subst, arith, ◌⊎◌, inl, inr, zero, suc, ◌+◌, cond, List, [], ◌∷◌, ◌++◌, Option, Some, None, sym, ◌∙◌}
-use Rattle.hip_ir.specs.declared.site.Site.{Site}
+use Rattle.hip_tree.specs.declared.site.Site.{Site}
 use Rattle.std.specs.Cmp.{IsEquivalence, both_ways, nat_eq_equiv}
 use Rattle.std.specs.List.{list_any, IsDistinct}
 use Rattle.hip_types.specs.Laws.DistinctLaws.{met-distinct}
-use Rattle.hip_ir.specs.Sites.{same_site}
+use Rattle.hip_tree.specs.Sites.{same_site}
 use Rattle.hip_runs.specs.declared.event.Object.{Object}
 use Rattle.hip_runs.specs.declared.report.Mark.{Mark}
 use Rattle.hip_runs.specs.Found.Marks.{same_object, same_mark, IsFound, findings, pointed, hit, unless_ended, frame_marks, step_marks, event_hits}
 use Rattle.std.specs.Prelude.{is_some, ℤ, ◌+ℤ◌}
 use Rattle.hip_types.specs.Distinct.{met}
-use Rattle.hip_ir.specs.declared.program.Program.{Program}
+use Rattle.hip_tree.specs.declared.program.Program.{Program}
 use Rattle.hip_runs.specs.declared.event.Ending.{Ending}
 use Rattle.hip_runs.specs.declared.input.Input.{Input}
 use Rattle.hip_runs.specs.declared.report.Findings.{Findings}

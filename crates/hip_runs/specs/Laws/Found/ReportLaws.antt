@@ -1,9 +1,9 @@
 -- Reports are well formed.
 use Rattle.std.proofs.Common.{◌≡◌, ◌⊎◌, inl, inr, ℕ, zero, suc, ◌≤◌, Bool, true, false, cond, nat_lt, is_some, List, [], ◌∷◌, length, Option, Some, None, option_map, refl, sym, ap, ◌∙◌, subst, arith}
 use Rattle.std.proofs.lemmas.List.{length-map}
-use Rattle.hip_ir.specs.Sites.{instr_of}
-use Rattle.hip_ir.specs.declared.program.Program.{Program}
-use Rattle.hip_ir.specs.declared.site.Site.{Site}
+use Rattle.hip_tree.specs.Sites.{instr_of}
+use Rattle.hip_tree.specs.declared.program.Program.{Program}
+use Rattle.hip_tree.specs.declared.site.Site.{Site}
 use Rattle.hip_lines.specs.Laws.LooseLaws.{get-of_map}
 use Rattle.hip_runs.specs.declared.input.Input.{Input}
 use Rattle.hip_runs.specs.declared.report.Report.{Report}

@@ -1,8 +1,8 @@
 -- What a check asks of loose parts, told by the loose bytes of its range.
 use Rattle.std.proofs.Common.{◌≡◌, inl, ℕ, suc, ◌<◌, Bool, true, false, not, ◌||◌, nat_eq, List, [], ◌∷◌, Some, refl, sym, ap, ◌∙◌, subst, arith, ap₂, inr, zero, ◌++◌, ◌+◌, ◌≤◌, ◌⊎◌}
 use Rattle.std.specs.List.{flat_map, range_with_len}
-use Rattle.hip_ir.specs.Spelling.{not_empty}
-use Rattle.hip_ir.specs.declared.program.Program.{Program}
+use Rattle.hip_grammar.specs.Spelling.{not_empty}
+use Rattle.hip_tree.specs.declared.program.Program.{Program}
 use Rattle.hip_lines.specs.declared.part.LooseByte.{LooseByte}
 use Rattle.hip_runs.specs.declared.input.Input.{Input}
 use Rattle.hip_runs.specs.Laws.HistoryLaws.{has_history}

@@ -1,7 +1,7 @@
 -- The pending parts that are shown follow the lines of a run through stores, flushes and fences.
 use Rattle.std.proofs.Common.{◌≡◌, ℕ, zero, suc, ◌-◌, ◌*◌, ◌<◌, ◌&&◌, subst, lt-ltb, Bool, true, false, cond, List, [], ◌∷◌, length, map, take, drop, refl, sym, ap, ap₂, ◌∙◌, arith, length-drop}
 use Rattle.std.proofs.lemmas.List.{length-map, length-take-le}
-use Rattle.hip_ir.specs.declared.site.Site.{Site}
+use Rattle.hip_tree.specs.declared.site.Site.{Site}
 use Rattle.hip_lines.specs.Line.{Line, IsOrdered, AreOrdered, map_line, with_part, flushed_line, fenced_line, start_in, end_in, has_bytes, change_from, change_range, stored, fresh_lines}
 use Rattle.hip_lines.specs.Laws.LineLaws.{length-change_from, ordered-map_line, ordered-flushed_line, ordered-fenced_line, ordered-change_from, ordered-stored, map_line-with_part}
 use Rattle.hip_lines.specs.Parts.{part_in, none_pending_all, pending_stored, pending_flushed_all, pending_fenced_all}

@@ -2,14 +2,15 @@
 use Rattle.std.proofs.Common.{◌≡◌, ℕ, zero, suc, ◌+◌, ◌<◌, ◌≤◌, ◌⊎◌, inl, inr, Option, Some, None, cond, nat_eq, ◌%◌, Bool, true, false, ◌||◌, List, length, ◌∷◌, [], ◌++◌, refl, sym, ap, ap₂, ◌∙◌, arith}
 use Rattle.std.proofs.lemmas.Bool.Decides.{nat_tests}
 use Rattle.std.specs.Cmp.{both_ways}
-use Rattle.hip_ir.specs.declared.program.Program.{Program}
+use Rattle.hip_tree.specs.declared.program.Program.{Program}
 use Rattle.hip_mem.specs.declared.refusal.MemTrap.{MemTrap}
 use Rattle.hip_mem.specs.declared.refusal.MemTrap.TheVariants as mem_traps
 use Rattle.hip_runs.specs.declared.event.TrapKind.TheVariants as traps
 use Rattle.hip_mem.specs.Areas.{Areas, access_trap, after_write}
 use Rattle.hip_mem.specs.Areas as areas
 use Rattle.hip_mem.specs.Laws.AreasLaws.{FitsOne, are_valid-fits, fits-are_valid, holds-write, mark_of-after_write, laid_out-after_write}
-use Rattle.hip_mem.specs.Memory.{Write, volatile_start, stack_start}
+use Rattle.hip_mem.specs.Memory.{Write}
+use Rattle.hip_types.specs.Areas.{volatile_start, stack_start}
 use Rattle.hip_globals.specs.Addresses.{volatile_end}
 use Rattle.hip_globals.specs.Initial.{volatile_bytes}
 use Rattle.hip_runs.specs.declared.input.Input.{Input}

@@ -1,4 +1,4 @@
-use Rattle.hip_repair_answers.specs.Laws.OneAnswer.{gives_one, hide_none}
+use Rattle.hip_answers.specs.RunLaws.OneAnswer.{gives_one, hide_none}
 use Rattle.hip_repair_answers.specs.Laws.Repairs.{answers_runs}
 use Rattle.hip_thin_commands.specs.Thin.{HasThinned}
 use Rattle.hip_thin_commands.proofs.Thins.{alike, thins}

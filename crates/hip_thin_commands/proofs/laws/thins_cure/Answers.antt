@@ -1,5 +1,5 @@
 use Rattle.hip_repairs.specs.Choice.{plan_for}
-use Rattle.hip_vol.specs.LowStores.{low_stores}
+use Rattle.hip_levels.specs.LowStores.{low_stores}
 use Rattle.hip_thin_commands.proofs.Thins.{itself}
 use Rattle.hip_thin_commands.proofs.laws.thins_cure.Goals as goal
 

@@ -1,13 +1,13 @@
 use Rattle.std.proofs.Common.{◌≡◌, Bool, List, ap, ◌∙◌}
 use Rattle.std.specs.List.{filter}
-use Rattle.hip_ir.specs.Sites.{has_site, sites_of}
-use Rattle.hip_ir.specs.declared.site.Site.{Site}
+use Rattle.hip_tree.specs.Sites.{has_site, sites_of}
+use Rattle.hip_tree.specs.declared.site.Site.{Site}
 use Rattle.hip_repairs.specs.Choice.{plan_for}
 use Rattle.hip_repairs.specs.CloneNumbers.{clone_numbers}
 use Rattle.hip_repairs.specs.Repaired.{repaired}
 use Rattle.hip_repairs.specs.declared.plan.Plan.{Plan}
 use Rattle.hip_thin_commands.specs.Spared.{spared_count}
-use Rattle.hip_vol.specs.LowStores.{low_stores}
+use Rattle.hip_levels.specs.LowStores.{low_stores}
 use Rattle.hip_thin_commands.proofs.SparedCounts.{low_listed}
 use Rattle.hip_thin_commands.proofs.thinning.thin_for.Goals as goal
 

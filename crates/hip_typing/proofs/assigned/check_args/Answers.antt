@@ -1,6 +1,6 @@
 use Rattle.std.proofs.Common.{map}
-use Rattle.hip_typing.specs.Registers.{arg_uses, used_registers}
-use Rattle.hip_typing.specs.Rules.{use_at}
+use Rattle.hip_sound.specs.Registers.{arg_uses, used_registers}
+use Rattle.hip_sound.specs.Rules.{use_at}
 use Rattle.hip_typing.proofs.UseLists.{carries_whole, args_on, args_refused, args_end}
 use Rattle.hip_typing.proofs.assigned.check_args.Goals as goal
 

@@ -1,6 +1,6 @@
 use Rattle.std.proofs.Common.{drop, map}
-use Rattle.hip_typing.specs.Registers.{arg_uses, used_registers}
-use Rattle.hip_typing.specs.Rules.{use_at}
+use Rattle.hip_sound.specs.Registers.{arg_uses, used_registers}
+use Rattle.hip_sound.specs.Rules.{use_at}
 use Rattle.hip_typing.proofs.UseLists.{Carries}
 use Rattle.hip_typing.proofs.assigned.check_args.Given as goal
 

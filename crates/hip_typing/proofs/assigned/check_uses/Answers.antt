@@ -1,4 +1,4 @@
-use Rattle.hip_typing.specs.Rules.{use_at}
+use Rattle.hip_sound.specs.Rules.{use_at}
 use Rattle.hip_typing.proofs.UseLists.{second_refused, third_refused, rest_answered}
 use Rattle.hip_typing.proofs.assigned.check_uses.Goals as goal
 

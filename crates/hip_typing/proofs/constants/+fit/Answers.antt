@@ -1,6 +1,6 @@
 use Rattle.std.proofs.Common.{sym, ◌∙◌}
 use Rattle.hip_globals.specs.Constants.{item_types}
-use Rattle.hip_typing.specs.Places.{fits_test}
+use Rattle.hip_sound.specs.Places.{fits_test}
 use Rattle.hip_typing.proofs.ListTests.{item_decides, joined_next, rest_decides}
 use Rattle.hip_typing.proofs.constants.+fit.Goals as goal
 

@@ -1,7 +1,7 @@
 use Rattle.std.proofs.Common.{◌≡◌, drop, map}
 use Rattle.std.specs.List.{list_all}
 use Rattle.hip_globals.specs.Constants.{joined}
-use Rattle.hip_typing.specs.Constants.{item_names}
+use Rattle.hip_sound.specs.Constants.{item_names}
 use Rattle.hip_names.specs.Names.{is_among}
 use Rattle.hip_typing.proofs.constants.+known.Given as goal
 

@@ -2,7 +2,7 @@ use Rattle.std.proofs.Common.{subst, Option}
 use Rattle.hip_typing.specs.Seen.Answers.{Answers}
 use Rattle.hip_typing.specs.Seen.EndSeen.{end_found-is}
 use Rattle.hip_typing.specs.Seen.TablesSeen.{scope_in}
-use Rattle.hip_typing.specs.declared.fault.Finding.{Finding}
+use Rattle.hip_sound.specs.declared.fault.Finding.{Finding}
 use Rattle.hip_typing.proofs.Loops.{after_two}
 use Rattle.hip_typing.proofs.places.check_block.Goals as goal
 

@@ -1,9 +1,9 @@
 use Rattle.std.proofs.Common.{subst, Option, Err, Ok}
 use Rattle.hip_typing.specs.Seen.Answers.{Answers}
 use Rattle.hip_typing.specs.Seen.InstrSeen.{instr_found-is}
-use Rattle.hip_typing.specs.Rules.{instr_at}
+use Rattle.hip_sound.specs.Rules.{instr_at}
 use Rattle.hip_typing.specs.Seen.TablesSeen.{scope_in}
-use Rattle.hip_typing.specs.declared.fault.Finding.{Finding}
+use Rattle.hip_sound.specs.declared.fault.Finding.{Finding}
 use Rattle.hip_typing.proofs.Loops.{each_stops, each_goes_on}
 use Rattle.hip_typing.proofs.places.check_body.Goals as goal
 

@@ -1,10 +1,10 @@
 use Rattle.std.proofs.Common.{List, subst}
-use Rattle.hip_ir.specs.declared.block.Block.{Block}
-use Rattle.hip_ir.specs.declared.program.Function.{Function}
+use Rattle.hip_tree.specs.declared.block.Block.{Block}
+use Rattle.hip_tree.specs.declared.program.Function.{Function}
 use Rattle.hip_typing.specs.Seen.Answers.{Answers}
-use Rattle.hip_typing.specs.Check.{each}
-use Rattle.hip_typing.specs.Places.{scope_of}
-use Rattle.hip_typing.specs.Rules.{block_check}
+use Rattle.hip_sound.specs.Check.{each}
+use Rattle.hip_sound.specs.Places.{scope_of}
+use Rattle.hip_sound.specs.Rules.{block_check}
 use Rattle.hip_typing.proofs.places.check_function.Goals as goal
 
 pub returns : goal.returns

@@ -1,4 +1,4 @@
-use Rattle.hip_typing.specs.Rules.{function_check}
+use Rattle.hip_sound.specs.Rules.{function_check}
 use Rattle.hip_typing.proofs.Loops.{each_stops, each_goes_on}
 use Rattle.hip_typing.proofs.places.check_functions.Goals as goal
 

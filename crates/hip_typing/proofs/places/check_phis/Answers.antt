@@ -2,9 +2,9 @@ use Rattle.std.proofs.Common.{ap, subst, ◌∙◌, Option, Err, Ok}
 use Rattle.hip_typing.specs.Seen.Answers.{Answers}
 use Rattle.hip_names.specs.Names.{is_among}
 use Rattle.hip_typing.specs.Seen.PhiSeen.{phi_found-is}
-use Rattle.hip_typing.specs.Rules.{phi_at}
+use Rattle.hip_sound.specs.Rules.{phi_at}
 use Rattle.hip_typing.specs.Seen.TablesSeen.{scope_in}
-use Rattle.hip_typing.specs.declared.fault.Finding.{Finding}
+use Rattle.hip_sound.specs.declared.fault.Finding.{Finding}
 use Rattle.hip_typing.proofs.Loops.{each_stops, each_goes_on}
 use Rattle.hip_typing.proofs.places.check_phis.Goals as goal
 

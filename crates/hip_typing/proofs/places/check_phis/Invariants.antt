@@ -1,6 +1,6 @@
 use Rattle.std.proofs.Common.{◌≡◌, drop}
-use Rattle.hip_typing.specs.Check.{each, each_from}
-use Rattle.hip_typing.specs.Rules.{phi_at}
+use Rattle.hip_sound.specs.Check.{each, each_from}
+use Rattle.hip_sound.specs.Rules.{phi_at}
 use Rattle.hip_typing.specs.Seen.TablesSeen.{scope_in}
 use Rattle.hip_typing.proofs.places.check_phis.Given as goal
 

@@ -1,9 +1,9 @@
 use Rattle.std.proofs.Common.{List, subst}
-use Rattle.hip_ir.specs.declared.program.Function.{Function}
-use Rattle.hip_ir.specs.declared.program.Program.{Program}
+use Rattle.hip_tree.specs.declared.program.Function.{Function}
+use Rattle.hip_tree.specs.declared.program.Program.{Program}
 use Rattle.hip_typing.specs.Seen.Answers.{Answers}
-use Rattle.hip_typing.specs.Check.{each}
-use Rattle.hip_typing.specs.Rules.{function_check}
+use Rattle.hip_sound.specs.Check.{each}
+use Rattle.hip_sound.specs.Rules.{function_check}
 use Rattle.hip_typing.proofs.places.check_places.Goals as goal
 
 pub returns : goal.returns

@@ -1,5 +1,5 @@
-use Rattle.hip_typing.specs.Laws.SoundExact.{globals-sound}
-use Rattle.hip_typing.specs.Laws.SoundLaws.{globals-exact}
+use Rattle.hip_sound.specs.Laws.SoundExact.{globals-sound}
+use Rattle.hip_sound.specs.Laws.SoundLaws.{globals-exact}
 use Rattle.hip_globals.specs.Laws.AddressLaws.{globals-fit}
 use Rattle.hip_typing.proofs.rules.check_rules.Goals as goal
 

@@ -1,8 +1,8 @@
 use Rattle.std.proofs.Common.{◌≡◌, Bool, List, sym, ap, ◌∙◌, subst}
 use Rattle.std.specs.Prelude.{IfOk, OnOk, Result, Ok, Err}
 use Rattle.std.specs.List.{filter}
-use Rattle.hip_ir.specs.Sites.{has_site, sites_of}
-use Rattle.hip_ir.specs.declared.site.Site.{Site}
+use Rattle.hip_tree.specs.Sites.{has_site, sites_of}
+use Rattle.hip_tree.specs.declared.site.Site.{Site}
 use Rattle.hip_runs.specs.Found.Marks.{IsFound}
 use Rattle.hip_runs.specs.Validity.{IsValid}
 use Rattle.hip_runs.specs.declared.input.Input.{Input}
@@ -14,8 +14,8 @@ use Rattle.hip_repairs.specs.Harmless.{IsHarmless}
 use Rattle.hip_repairs.specs.Quiet.{IsQuiet}
 use Rattle.hip_repairs.specs.Repaired.{repaired}
 use Rattle.hip_repairs.specs.declared.repaired.Repaired.{Repaired}
-use Rattle.hip_vol.specs.LowStores.{low_stores}
-use Rattle.hip_vol.proofs.LowSites.{found_low}
+use Rattle.hip_levels.specs.LowStores.{low_stores}
+use Rattle.hip_levels.proofs.LowSites.{found_low}
 use Rattle.hip_vol.proofs.repairing.apply_quiet.Goals as goal
 
 -- what holds of each answer, by what held of it before

@@ -1,6 +1,6 @@
 use Rattle.std.proofs.lemmas.Grind.{common_steps}
 use Rattle.hip_write.proofs.Consts.{gep_text-is, item_text-is}
-use Rattle.hip_ir.specs.Show.{item_text}
+use Rattle.hip_grammar.specs.Show.{item_text}
 use Rattle.std.proofs.Common.{◌∙◌, sym, arith}
 use Rattle.hip_io.specs.Laws.SinkLaws.{and_then, same_text}
 use Rattle.hip_write.proofs.ListTexts.{braced_some, commas_more, separator_after}

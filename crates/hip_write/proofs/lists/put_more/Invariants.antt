@@ -1,5 +1,5 @@
 use Rattle.std.proofs.Common.{take, map}
-use Rattle.hip_ir.specs.Show.{after_commas}
+use Rattle.hip_grammar.specs.Show.{after_commas}
 use Rattle.hip_io.specs.Sinks.{Writes}
 use Rattle.hip_write.proofs.lists.put_more.Given as goal
 

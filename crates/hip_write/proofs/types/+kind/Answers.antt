@@ -1,7 +1,7 @@
 use Rattle.std.proofs.lemmas.Grind.{common_steps}
-use Rattle.hip_ir.specs.Show.{type_text}
+use Rattle.hip_grammar.specs.Show.{type_text}
 use Rattle.std.proofs.Common.{◌∙◌, sym, arith}
-use Rattle.hip_ir.specs.Show.{type_text}
+use Rattle.hip_grammar.specs.Show.{type_text}
 use Rattle.hip_io.specs.Laws.SinkLaws.{and_then, same_text}
 use Rattle.hip_write.proofs.ListTexts.{braced_some, commas_more, separator_after}
 use Rattle.hip_write.proofs.types.+kind.Goals as goal

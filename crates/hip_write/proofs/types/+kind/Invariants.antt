@@ -1,5 +1,5 @@
 use Rattle.std.proofs.Common.{◌≡◌, take, map}
-use Rattle.hip_ir.specs.Show.{commas, type_text}
+use Rattle.hip_grammar.specs.Show.{commas, type_text}
 use Rattle.hip_write.specs.Parts.{separator_at}
 use Rattle.hip_io.specs.Sinks.{Writes}
 use Rattle.hip_write.proofs.types.+kind.Given as goal

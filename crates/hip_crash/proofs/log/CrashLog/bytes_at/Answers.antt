@@ -1,5 +1,5 @@
 use Rattle.std.proofs.Common.{◌≡◌, ◌∙◌, ◌≤◌, ◌*◌, ap, subst, arith}
-use Rattle.hip_step.specs.Seen.{state_of}
+use Rattle.hip_runs.specs.Seen.{state_of}
 use Rattle.hip_crash.specs.Picks.{bounds_of, number_or}
 use Rattle.hip_crash.specs.Views.{later_in}
 use Rattle.hip_crash.proofs.LineBounds.{reach, start-low, piece-viewed, bounds-least, bounds-most}

@@ -1,5 +1,5 @@
 use Rattle.std.proofs.Common.{subst, sym, arith}
-use Rattle.hip_step.specs.Seen.{state_of}
+use Rattle.hip_runs.specs.Seen.{state_of}
 use Rattle.hip_crash.specs.Numbers.{IsNumberOf}
 use Rattle.hip_crash.proofs.PickLaws.{AreFound, found-more, found-all, not-image}
 use Rattle.hip_crash.proofs.Picking.{size-seen}

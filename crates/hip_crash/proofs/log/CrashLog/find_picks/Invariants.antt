@@ -1,4 +1,4 @@
-use Rattle.hip_step.specs.Seen.{state_of}
+use Rattle.hip_runs.specs.Seen.{state_of}
 use Rattle.hip_crash.proofs.PickLaws.{AreFound}
 use Rattle.hip_crash.proofs.log.CrashLog.find_picks.Given as goal
 

@@ -1,5 +1,5 @@
 use Rattle.std.proofs.Common.{inr, ◌∙◌, subst, sym, length, take}
-use Rattle.hip_step.specs.Seen.{state_of}
+use Rattle.hip_runs.specs.Seen.{state_of}
 use Rattle.hip_crash.specs.Numbers.{AreNumbers}
 use Rattle.hip_picks.specs.declared.pick.Pick.{Pick}
 use Rattle.hip_crash.proofs.PickLaws.{pick-fails, pick-passes, numbers-next}

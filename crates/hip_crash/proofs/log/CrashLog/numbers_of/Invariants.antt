@@ -1,5 +1,5 @@
 use Rattle.std.proofs.Common.{◌≡◌, drop, length, take}
-use Rattle.hip_step.specs.Seen.{state_of}
+use Rattle.hip_runs.specs.Seen.{state_of}
 use Rattle.hip_crash.specs.Numbers.{AreNumbers}
 use Rattle.hip_crash.specs.Picks.{failure_behind, first_failure}
 use Rattle.hip_crash.proofs.log.CrashLog.numbers_of.Given as goal

@@ -1,6 +1,6 @@
 use Rattle.std.proofs.Common.{◌∙◌, ◌<◌, ap, subst, sym, length, arith}
 use Rattle.hip_runs.specs.Crash.{IsCrashImage, crash_image}
-use Rattle.hip_step.specs.Seen.{state_of}
+use Rattle.hip_runs.specs.Seen.{state_of}
 use Rattle.hip_crash.specs.Numbers.{AreNumbers}
 use Rattle.hip_crash.specs.Picks.{bounds_of, number_or, picked}
 use Rattle.hip_crash.proofs.PickLaws.{front-more, front-whole}

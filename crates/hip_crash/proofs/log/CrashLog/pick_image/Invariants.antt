@@ -1,6 +1,6 @@
 use Rattle.std.proofs.Common.{◌≡◌, ◌*◌, take}
 use Rattle.hip_runs.specs.Crash.{crash_image}
-use Rattle.hip_step.specs.Seen.{state_of}
+use Rattle.hip_runs.specs.Seen.{state_of}
 use Rattle.hip_crash.specs.Picks.{picked}
 use Rattle.hip_crash.proofs.log.CrashLog.pick_image.Given as goal
 

@@ -1,8 +1,9 @@
-use Rattle.std.proofs.Common.{◌%◌, sym, ap, ◌∙◌}
-use Rattle.hip_lines.specs.Loose.{last_over}
-use Rattle.hip_lines.specs.Parts.{part_covers, mark_of}
-use Rattle.hip_lines.proofs.Marks.{zero_index}
+use Rattle.std.proofs.Common.{◌%◌, ◌+◌, ◌-◌, ap, sym, ◌∙◌, slice_index}
+use Rattle.hip_lines.proofs.Marks.{mark_cleared}
 use Rattle.hip_lines.proofs.queue.Queue.restart.Goals as goal
 
 pub invariant_of-self-clause-marked : goal.invariant_of-self-clause-marked
-invariant_of-self-clause-marked c = λ b e. zero_index 64 (b % 64) ∙ ap (λ ps. mark_of (last_over part_covers b ps)) (sym c.clear.ensures.items)
+invariant_of-self-clause-marked c = λ b e.
+    let q = c.args.self.now in
+    ap (λ n. slice_index q.last (b % 64) - (q.start + n)) (c.len.ensures ∙ q.parts.ok.0)
+    ∙ mark_cleared q.line q.start b q.last q.parts.items _ q.marked c.clear.ensures.items

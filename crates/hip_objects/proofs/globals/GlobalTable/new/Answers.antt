@@ -1,7 +1,7 @@
 use Rattle.std.proofs.Common.{◌<◌, ◌^◌, true, false, cond, nat_lt, subst, sym, ap, ap₂, ◌∙◌}
 use Rattle.hip_globals.specs.Addresses.{OwnTypesFit, end_of}
 use Rattle.hip_globals.specs.Laws.AddressLaws.{globals-fit}
-use Rattle.hip_mem.specs.Memory.{volatile_start}
+use Rattle.hip_types.specs.Areas.{volatile_start}
 use Rattle.hip_objects.specs.Globals.{AreLaid, number_at, places_from}
 use Rattle.hip_objects.proofs.Places.{are-laid, found, persistent-end}
 use Rattle.hip_objects.proofs.globals.GlobalTable.new.Goals as goal

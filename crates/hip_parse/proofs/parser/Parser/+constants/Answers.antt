@@ -1,13 +1,13 @@
 use Rattle.std.proofs.Common.{sym, ◌∙◌}
 use Rattle.std.proofs.lemmas.Result.{err_from_is_err_and}
 use Rattle.hip_rules.specs.Laws.Loops.{goes_on, is_done}
-use Rattle.hip_ir.specs.declared.fault.Fault.{Fault}
+use Rattle.hip_grammar.specs.declared.fault.Fault.{Fault}
 use Rattle.hip_parse.specs.Left.{left}
 use Rattle.hip_parse.proofs.Loops.{ends}
 use Rattle.hip_rules.specs.Part.{one_more_by}
-use Rattle.hip_ir.specs.Words.{comma}
-use Rattle.hip_ir.specs.declared.constant.TypedConst.{TypedConst}
-use Rattle.hip_ir.specs.Grammar.{typed_const, const_within}
+use Rattle.hip_grammar.specs.Words.{comma}
+use Rattle.hip_tree.specs.declared.constant.TypedConst.{TypedConst}
+use Rattle.hip_grammar.specs.Grammar.{typed_const, const_within}
 use Rattle.hip_parse.proofs.Some.{typed_const_some}
 use Rattle.hip_parse.proofs.parser.Parser.+constants.Goals as goal
 

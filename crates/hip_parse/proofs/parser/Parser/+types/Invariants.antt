@@ -2,8 +2,8 @@ use Rattle.std.proofs.Common.{◌≡◌, ◌+◌, ◌*◌, length}
 use Rattle.hip_rules.specs.Reader.{many_at, with_front}
 use Rattle.hip_parse.specs.Left.{left}
 use Rattle.hip_rules.specs.Part.{one_more_by}
-use Rattle.hip_ir.specs.Words.{comma}
-use Rattle.hip_ir.specs.Grammar.{type_within}
+use Rattle.hip_grammar.specs.Words.{comma}
+use Rattle.hip_grammar.specs.Grammar.{type_within}
 use Rattle.hip_parse.proofs.parser.Parser.+types.Given as goal
 
 abbrev pub invariant-more_fields-more : goal.invariant-more_fields-more

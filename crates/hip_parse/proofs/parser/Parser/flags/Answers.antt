@@ -1,13 +1,13 @@
 use Rattle.std.proofs.Common.{sym, ◌∙◌}
 use Rattle.std.proofs.lemmas.Result.{err_from_is_err_and}
 use Rattle.hip_rules.specs.Laws.Loops.{takes_up, fails_up, is_taken_up}
-use Rattle.hip_ir.specs.declared.fault.Fault.{Fault}
+use Rattle.hip_grammar.specs.declared.fault.Fault.{Fault}
 use Rattle.hip_parse.specs.Left.{left}
 use Rattle.hip_rules.specs.Part.{token}
-use Rattle.hip_ir.specs.declared.instr.Flag.{Flag}
-use Rattle.hip_ir.specs.declared.instr.Flags.{Flags}
-use Rattle.hip_ir.specs.Words.{a_word_of, is_word_of, flag_word}
-use Rattle.hip_ir.specs.Bodies.{flags, with_flag}
+use Rattle.hip_tree.specs.declared.instr.Flag.{Flag}
+use Rattle.hip_tree.specs.declared.instr.Flags.{Flags}
+use Rattle.hip_grammar.specs.Words.{a_word_of, is_word_of, flag_word}
+use Rattle.hip_grammar.specs.Bodies.{flags, with_flag}
 use Rattle.hip_parse.proofs.Some.{flag_some}
 use Rattle.hip_parse.proofs.parser.Parser.flags.Goals as goal
 

@@ -2,8 +2,8 @@ use Rattle.std.proofs.Common.{◌≡◌, length}
 use Rattle.hip_rules.specs.Reader.{many_at, taken_up}
 use Rattle.hip_parse.specs.Left.{left}
 use Rattle.hip_rules.specs.Part.{token}
-use Rattle.hip_ir.specs.Words.{a_word_of, is_word_of, flag_word}
-use Rattle.hip_ir.specs.Bodies.{with_flag, no_flags}
+use Rattle.hip_grammar.specs.Words.{a_word_of, is_word_of, flag_word}
+use Rattle.hip_grammar.specs.Bodies.{with_flag, no_flags}
 use Rattle.hip_parse.proofs.parser.Parser.flags.Given as goal
 
 abbrev pub invariant-more : goal.invariant-more

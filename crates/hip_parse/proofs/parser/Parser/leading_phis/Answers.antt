@@ -1,10 +1,10 @@
 use Rattle.std.proofs.Common.{sym, ◌∙◌, List, ℕ, codes, arith}
 use Rattle.std.proofs.lemmas.Result.{err_from_is_err_and}
 use Rattle.hip_rules.specs.Laws.Loops.{leaders_start, leader_goes_on, leader_ends_at, leaders_end}
-use Rattle.hip_ir.specs.declared.block.Phi.{Phi}
-use Rattle.hip_ir.specs.declared.fault.Fault.{Fault}
-use Rattle.hip_ir.specs.Words.{is_local, is_word}
-use Rattle.hip_ir.specs.Bodies.{assigned, phi}
+use Rattle.hip_tree.specs.declared.block.Phi.{Phi}
+use Rattle.hip_grammar.specs.declared.fault.Fault.{Fault}
+use Rattle.hip_grammar.specs.Words.{is_local, is_word}
+use Rattle.hip_grammar.specs.Bodies.{assigned, phi}
 use Rattle.hip_parse.specs.Left.{left}
 use Rattle.hip_parse.proofs.Loops.{head_ends, part_ends}
 use Rattle.hip_parse.proofs.Some.{assigned_some, phi_within}

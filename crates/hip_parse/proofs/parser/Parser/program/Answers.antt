@@ -1,9 +1,9 @@
 use Rattle.std.proofs.Common.{sym, ◌∙◌}
 use Rattle.std.proofs.lemmas.Result.{err_from_is_err_and}
 use Rattle.hip_rules.specs.Laws.Loops.{takes_up, is_taken_up}
-use Rattle.hip_ir.specs.declared.fault.Fault.{Fault}
-use Rattle.hip_ir.specs.declared.program.Program.{Program}
-use Rattle.hip_ir.specs.Text.{Item, item, begins_item, with_item, text}
+use Rattle.hip_grammar.specs.declared.fault.Fault.{Fault}
+use Rattle.hip_tree.specs.declared.program.Program.{Program}
+use Rattle.hip_grammar.specs.Text.{Item, item, begins_item, with_item, text}
 use Rattle.hip_parse.specs.Items.{item_of}
 use Rattle.hip_parse.specs.Left.{left}
 use Rattle.hip_parse.proofs.Loops.{ends_up}

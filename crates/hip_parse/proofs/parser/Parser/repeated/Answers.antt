@@ -1,7 +1,7 @@
 use Rattle.std.proofs.Common.{sym, ◌∙◌}
 use Rattle.std.proofs.lemmas.Result.{err_from_is_err_and}
 use Rattle.hip_rules.specs.Laws.Loops.{goes_on, is_done}
-use Rattle.hip_ir.specs.declared.fault.Fault.{Fault}
+use Rattle.hip_grammar.specs.declared.fault.Fault.{Fault}
 use Rattle.hip_parse.specs.Left.{left}
 use Rattle.hip_parse.proofs.Loops.{ends}
 use Rattle.hip_parse.proofs.parser.Parser.repeated.Goals as goal

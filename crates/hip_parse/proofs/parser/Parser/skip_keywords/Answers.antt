@@ -2,8 +2,8 @@ use Rattle.std.proofs.Common.{sym, ◌∙◌}
 use Rattle.std.proofs.lemmas.Result.{err_from_is_err_and}
 use Rattle.hip_rules.specs.Laws.Loops.{takes_up, fails_up, is_taken_up}
 use Rattle.hip_rules.specs.Part.{token, skipped}
-use Rattle.hip_ir.specs.declared.fault.Fault.{Fault}
-use Rattle.hip_ir.specs.Words.{a_word_of, is_word_of}
+use Rattle.hip_grammar.specs.declared.fault.Fault.{Fault}
+use Rattle.hip_grammar.specs.Words.{a_word_of, is_word_of}
 use Rattle.hip_parse.specs.Left.{left}
 use Rattle.hip_parse.proofs.Some.{word_some}
 use Rattle.hip_parse.proofs.parser.Parser.skip_keywords.Goals as goal

@@ -1,7 +1,7 @@
 -- The set's keys are the old ones and the new one.
 use Rattle.std.proofs.Common.{◌||◌, List, ap, ◌∙◌}
-use Rattle.hip_ir.specs.Sites.{has_site, same_site}
-use Rattle.hip_ir.specs.declared.site.Site.{Site}
+use Rattle.hip_tree.specs.Sites.{has_site, same_site}
+use Rattle.hip_tree.specs.declared.site.Site.{Site}
 use Rattle.hip_plan.proofs.Sites.{inserted}
 use Rattle.hip_plan.proofs.site_set.SiteSet.insert.Goals as goal
 use Rattle.hip_plan.proofs.site_set.SiteSet.insert.Goals.{in-Ok, in-Err}

@@ -1,6 +1,6 @@
 -- The keys of an ordered set ascend.
 use Rattle.std.proofs.Common.{◌≡◌, true, List, subst}
-use Rattle.hip_ir.specs.declared.site.Site.{Site}
+use Rattle.hip_tree.specs.declared.site.Site.{Site}
 use Rattle.hip_repairs.specs.Suits.{is_ascending}
 use Rattle.hip_plan.proofs.Sites.{keys_ascend}
 use Rattle.hip_plan.proofs.site_set.SiteSet.to_row.Goals as goal

@@ -1,5 +1,5 @@
 use Rattle.std.proofs.Common.{◌≤◌, sym, subst, ◌^◌, ◌∙◌}
-use Rattle.hip_report.proofs.noting.Blank.{blank}
+use Rattle.hip_report.proofs.Blank.{blank}
 use Rattle.hip_report.proofs.tracker.Tracker.new.Goals as goal
 
 pub invariant_of-result : goal.invariant_of-result

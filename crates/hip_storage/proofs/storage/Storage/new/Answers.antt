@@ -1,5 +1,5 @@
 use Rattle.std.proofs.Common.{◌≡◌, ◌+◌, length, sym, ap, ◌∙◌, subst, rules}
-use Rattle.hip_mem.specs.Memory.{volatile_start}
+use Rattle.hip_types.specs.Areas.{volatile_start}
 use Rattle.hip_runs.specs.Step.{start}
 use Rattle.hip_storage.specs.Contents.{Contents, initial}
 use Rattle.hip_storage.specs.Standing.{HoldsState}

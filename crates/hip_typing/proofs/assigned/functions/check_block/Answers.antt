@@ -1,6 +1,6 @@
 use Rattle.hip_globals.specs.Constants.{joined}
-use Rattle.hip_typing.specs.Names.{numbered}
-use Rattle.hip_typing.specs.Rules.{instr_register_uses, end_register_uses}
+use Rattle.hip_sound.specs.Names.{numbered}
+use Rattle.hip_sound.specs.Rules.{instr_register_uses, end_register_uses}
 use Rattle.hip_typing.proofs.UseLists.{phi_uses_at, first_part_refused, second_part_refused, last_part_answered}
 use Rattle.hip_typing.proofs.assigned.functions.check_block.Goals as goal
 

@@ -1,4 +1,4 @@
-use Rattle.hip_typing.specs.Rules.{block_register_uses, register_uses}
+use Rattle.hip_sound.specs.Rules.{block_register_uses, register_uses}
 use Rattle.hip_typing.proofs.UseLists.{parts_left}
 use Rattle.hip_typing.proofs.UseLists.{Carries}
 use Rattle.hip_typing.proofs.assigned.functions.check_blocks.Given as goal

@@ -1,6 +1,6 @@
 use Rattle.std.proofs.Common.{◌≡◌, map, ◌∙◌}
 use Rattle.hip_typing.specs.Seen.Inner.{label_numbers}
-use Rattle.hip_typing.specs.Registers.{end_labels}
+use Rattle.hip_sound.specs.Registers.{end_labels}
 use Rattle.hip_typing.proofs.DifferLemmas.{describes}
 use Rattle.hip_typing.proofs.assigned.functions.check_function.Goals as goal
 

@@ -1,4 +1,4 @@
-use Rattle.hip_typing.specs.Rules.{instr_register_uses}
+use Rattle.hip_sound.specs.Rules.{instr_register_uses}
 use Rattle.hip_typing.proofs.UseLists.{carries_whole, parts_on, parts_refused, parts_end}
 use Rattle.hip_typing.proofs.assigned.functions.check_instrs.Goals as goal
 

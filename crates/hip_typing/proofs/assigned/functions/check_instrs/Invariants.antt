@@ -1,4 +1,4 @@
-use Rattle.hip_typing.specs.Rules.{instr_register_uses}
+use Rattle.hip_sound.specs.Rules.{instr_register_uses}
 use Rattle.hip_typing.proofs.UseLists.{parts_left}
 use Rattle.hip_typing.proofs.UseLists.{Carries}
 use Rattle.hip_typing.proofs.assigned.functions.check_instrs.Given as goal

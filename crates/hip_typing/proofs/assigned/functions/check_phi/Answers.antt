@@ -1,4 +1,4 @@
-use Rattle.hip_typing.specs.Rules.{edge_register_uses}
+use Rattle.hip_sound.specs.Rules.{edge_register_uses}
 use Rattle.hip_typing.proofs.UseLists.{carries_whole, flat_on, flat_refused, flat_end}
 use Rattle.hip_typing.proofs.assigned.functions.check_phi.Goals as goal
 

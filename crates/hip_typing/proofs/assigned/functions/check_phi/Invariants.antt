@@ -1,6 +1,6 @@
 use Rattle.std.proofs.Common.{drop}
 use Rattle.std.specs.List.{flat_map}
-use Rattle.hip_typing.specs.Rules.{edge_register_uses, phi_register_uses}
+use Rattle.hip_sound.specs.Rules.{edge_register_uses, phi_register_uses}
 use Rattle.hip_typing.proofs.UseLists.{Carries}
 use Rattle.hip_typing.proofs.assigned.functions.check_phi.Given as goal
 

@@ -1,6 +1,6 @@
 use Rattle.std.proofs.Common.{◌<◌, length, sym, ◌∙◌, arith}
 use Rattle.std.proofs.lemmas.Grind.{common_steps}
-use Rattle.hip_typing.specs.Constants.{item_has_shape}
+use Rattle.hip_sound.specs.Constants.{item_has_shape}
 use Rattle.hip_typing.proofs.ListTests.{have_next, item_decides, pass_next, rest_decides}
 use Rattle.hip_typing.proofs.ShapeLemmas.{all_pass-lengths}
 use Rattle.hip_typing.proofs.constants.shape.+shape.Goals as goal

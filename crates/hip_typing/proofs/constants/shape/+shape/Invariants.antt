@@ -1,6 +1,6 @@
 use Rattle.std.proofs.Common.{◌≡◌, drop, map}
-use Rattle.hip_typing.specs.Constants.{item_has_shape, all_have}
-use Rattle.hip_typing.specs.Types.{all_pass}
+use Rattle.hip_sound.specs.Constants.{item_has_shape, all_have}
+use Rattle.hip_sound.specs.Types.{all_pass}
 use Rattle.hip_typing.proofs.constants.shape.+shape.Given as goal
 
 abbrev pub invariant-items_have-items : goal.invariant-items_have-items

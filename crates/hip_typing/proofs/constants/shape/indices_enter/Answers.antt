@@ -1,6 +1,6 @@
 use Rattle.std.proofs.Common.{◌-◌, Some, None, drop, length, take, sym, ◌∙◌}
 use Rattle.std.proofs.lemmas.List.{at_drop_all}
-use Rattle.hip_typing.specs.Constants.{enters}
+use Rattle.hip_sound.specs.Constants.{enters}
 use Rattle.hip_typing.proofs.ShapeLemmas.{enters_rest, enters_next}
 use Rattle.hip_typing.proofs.constants.shape.indices_enter.Goals as goal
 

@@ -1,5 +1,5 @@
 use Rattle.std.proofs.Common.{◌≡◌, drop}
-use Rattle.hip_typing.specs.Constants.{enters, path_exists}
+use Rattle.hip_sound.specs.Constants.{enters, path_exists}
 use Rattle.hip_typing.proofs.constants.shape.indices_enter.Given as goal
 
 abbrev pub invariant-indices : goal.invariant-indices

@@ -1,4 +1,4 @@
-use Rattle.hip_typing.specs.Laws.TypeLaws.{same_type-is}
+use Rattle.hip_sound.specs.Laws.TypeLaws.{same_type-is}
 use Rattle.hip_typing.proofs.constants.shape.is_same_type.Goals as goal
 
 pub returns : goal.returns

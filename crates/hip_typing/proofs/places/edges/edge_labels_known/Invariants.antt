@@ -1,5 +1,5 @@
 use Rattle.std.proofs.Common.{◌≡◌, drop}
-use Rattle.hip_typing.specs.Places.{are_among, edge_labels}
+use Rattle.hip_sound.specs.Places.{are_among, edge_labels}
 use Rattle.hip_typing.proofs.places.edges.edge_labels_known.Given as goal
 
 abbrev pub invariant-each : goal.invariant-each

@@ -1,6 +1,6 @@
 use Rattle.std.proofs.Common.{sym, subst, ◌∙◌, Option}
 use Rattle.std.specs.Borrow.{Bor}
-use Rattle.hip_ir.specs.declared.instr.Operand.{Operand}
+use Rattle.hip_tree.specs.declared.instr.Operand.{Operand}
 use Rattle.hip_typing.specs.Seen.Carried.{CarriesWhere}
 use Rattle.hip_names.specs.declared.table.NameTable.{NameTable}
 use Rattle.hip_typing.proofs.CarriedLemmas.{edges_by_table}

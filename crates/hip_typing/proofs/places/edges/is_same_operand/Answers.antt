@@ -1,4 +1,4 @@
-use Rattle.hip_typing.specs.Laws.ConstLaws.{same_operand-is}
+use Rattle.hip_sound.specs.Laws.ConstLaws.{same_operand-is}
 use Rattle.hip_typing.proofs.places.edges.is_same_operand.Goals as goal
 
 pub returns : goal.returns

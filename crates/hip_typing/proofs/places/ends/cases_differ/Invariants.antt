@@ -2,8 +2,8 @@ use Rattle.std.proofs.Common.{◌≡◌, ◌&&◌, nat_eq, take, true}
 use Rattle.std.specs.List.{list_any}
 use Rattle.hip_types.specs.declared.number.Bits.{Bits}
 use Rattle.hip_types.specs.Widths.{bits_of}
-use Rattle.hip_typing.specs.Equal.{same_bits}
-use Rattle.hip_typing.specs.Places.{cases_differ}
+use Rattle.hip_sound.specs.Equal.{same_bits}
+use Rattle.hip_sound.specs.Places.{cases_differ}
 use Rattle.indexmap.specs.IndexSet.{contains}
 use Rattle.hip_typing.proofs.places.ends.cases_differ.Given as goal
 

@@ -1,5 +1,5 @@
 use Rattle.std.proofs.Common.{◌≡◌, drop}
-use Rattle.hip_typing.specs.Places.{args_enter}
+use Rattle.hip_sound.specs.Places.{args_enter}
 use Rattle.hip_typing.proofs.places.instrs.args_enter.Given as goal
 
 abbrev pub invariant-each : goal.invariant-each

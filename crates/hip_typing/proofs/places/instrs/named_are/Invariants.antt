@@ -1,5 +1,5 @@
 use Rattle.std.proofs.Common.{◌≡◌, drop, map}
-use Rattle.hip_typing.specs.Types.{all_pass, same_scalar}
+use Rattle.hip_sound.specs.Types.{all_pass, same_scalar}
 use Rattle.hip_typing.proofs.places.instrs.named_are.Given as goal
 
 abbrev pub invariant-each : goal.invariant-each

@@ -1,7 +1,7 @@
 use Rattle.std.proofs.Common.{◌≡◌, length, map, sym, ◌∙◌, arith}
 use Rattle.std.proofs.lemmas.Grind.{common_steps}
 use Rattle.std.proofs.lemmas.List.{length-map}
-use Rattle.hip_typing.specs.Types.{same_scalar}
+use Rattle.hip_sound.specs.Types.{same_scalar}
 use Rattle.hip_typing.proofs.ShapeLemmas.{all_pass-lengths}
 use Rattle.hip_typing.proofs.places.instrs.scalars_are.Goals as goal
 

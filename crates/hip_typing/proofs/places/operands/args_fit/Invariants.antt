@@ -1,5 +1,5 @@
 use Rattle.std.proofs.Common.{◌≡◌, drop}
-use Rattle.hip_typing.specs.Registers.{arg_uses}
+use Rattle.hip_sound.specs.Registers.{arg_uses}
 use Rattle.hip_typing.specs.Seen.UsesSeen.{operands_fit}
 use Rattle.hip_typing.proofs.places.operands.args_fit.Given as goal
 

@@ -1,6 +1,6 @@
 use Rattle.std.proofs.Common.{sym, ◌∙◌}
-use Rattle.hip_ir.specs.declared.instr.Arg.{Arg}
-use Rattle.hip_typing.specs.Registers.{Use, use_of}
+use Rattle.hip_tree.specs.declared.instr.Arg.{Arg}
+use Rattle.hip_sound.specs.Registers.{Use, use_of}
 use Rattle.hip_typing.specs.Seen.UsesSeen.{operand_known}
 use Rattle.hip_typing.proofs.ListTests.{item_decides, list_next, rest_decides}
 use Rattle.hip_typing.proofs.places.operands.args_known.Goals as goal

@@ -1,6 +1,6 @@
 use Rattle.std.proofs.Common.{sym, ◌∙◌}
-use Rattle.hip_ir.specs.declared.block.Edge.{Edge}
-use Rattle.hip_typing.specs.Registers.{Use, use_of}
+use Rattle.hip_tree.specs.declared.block.Edge.{Edge}
+use Rattle.hip_sound.specs.Registers.{Use, use_of}
 use Rattle.hip_typing.specs.Seen.UsesSeen.{operand_fits}
 use Rattle.hip_typing.proofs.ListTests.{item_decides, list_next, rest_decides}
 use Rattle.hip_typing.proofs.places.operands.edges_fit.Goals as goal

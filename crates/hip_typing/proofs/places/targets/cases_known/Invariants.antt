@@ -1,5 +1,5 @@
 use Rattle.std.proofs.Common.{◌≡◌, drop}
-use Rattle.hip_typing.specs.Places.{are_among}
+use Rattle.hip_sound.specs.Places.{are_among}
 use Rattle.hip_typing.specs.Seen.TargetsSeen.{case_labels}
 use Rattle.hip_typing.proofs.places.targets.cases_known.Given as goal
 

@@ -1,4 +1,4 @@
-use Rattle.hip_typing.specs.Rules.{declared}
+use Rattle.hip_sound.specs.Rules.{declared}
 use Rattle.hip_typing.proofs.Loops.{each_stops, each_goes_on}
 use Rattle.hip_typing.proofs.rules.externs.check_declarations.Goals as goal
 

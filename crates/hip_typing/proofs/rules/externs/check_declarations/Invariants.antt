@@ -1,6 +1,6 @@
 use Rattle.std.proofs.Common.{◌≡◌, drop}
-use Rattle.hip_typing.specs.Check.{each, each_from}
-use Rattle.hip_typing.specs.Rules.{declared}
+use Rattle.hip_sound.specs.Check.{each, each_from}
+use Rattle.hip_sound.specs.Rules.{declared}
 use Rattle.hip_typing.proofs.rules.externs.check_declarations.Given as goal
 
 abbrev pub invariant-externs : goal.invariant-externs

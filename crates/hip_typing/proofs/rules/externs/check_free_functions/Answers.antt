@@ -1,4 +1,4 @@
-use Rattle.hip_typing.specs.Rules.{free_function}
+use Rattle.hip_sound.specs.Rules.{free_function}
 use Rattle.hip_typing.proofs.Loops.{each_stops, each_goes_on}
 use Rattle.hip_typing.proofs.rules.externs.check_free_functions.Goals as goal
 

@@ -1,6 +1,6 @@
 use Rattle.std.proofs.Common.{◌≡◌, drop}
-use Rattle.hip_typing.specs.Check.{each, each_from}
-use Rattle.hip_typing.specs.Rules.{free_global}
+use Rattle.hip_sound.specs.Check.{each, each_from}
+use Rattle.hip_sound.specs.Rules.{free_global}
 use Rattle.hip_typing.proofs.rules.externs.check_free_globals.Given as goal
 
 abbrev pub invariant-globals : goal.invariant-globals

@@ -1,6 +1,6 @@
 use Rattle.std.proofs.Common.{sym, arith}
 use Rattle.std.proofs.lemmas.Grind.{common_steps}
-use Rattle.hip_typing.specs.Types.{same_scalar}
+use Rattle.hip_sound.specs.Types.{same_scalar}
 use Rattle.hip_typing.proofs.ShapeLemmas.{all_pass-lengths}
 use Rattle.hip_typing.proofs.rules.externs.params_are.Goals as goal
 

@@ -1,4 +1,4 @@
-use Rattle.hip_typing.specs.Rules.{global_check}
+use Rattle.hip_sound.specs.Rules.{global_check}
 use Rattle.hip_typing.proofs.Loops.{each_stops, each_goes_on}
 use Rattle.hip_typing.proofs.rules.globals.check_each_global.Goals as goal
 

@@ -1,6 +1,6 @@
 use Rattle.std.proofs.Common.{◌≡◌, drop}
-use Rattle.hip_typing.specs.Check.{each, each_from}
-use Rattle.hip_typing.specs.Rules.{global_check}
+use Rattle.hip_sound.specs.Check.{each, each_from}
+use Rattle.hip_sound.specs.Rules.{global_check}
 use Rattle.hip_typing.proofs.rules.globals.check_each_global.Given as goal
 
 abbrev pub invariant-globals : goal.invariant-globals

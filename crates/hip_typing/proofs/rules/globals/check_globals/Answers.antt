@@ -1,9 +1,9 @@
 use Rattle.std.proofs.Common.{List, map, subst, Option}
-use Rattle.hip_ir.specs.declared.program.GlobalVar.{GlobalVar}
+use Rattle.hip_tree.specs.declared.program.GlobalVar.{GlobalVar}
 use Rattle.hip_typing.specs.Seen.Answers.{Answers}
-use Rattle.hip_typing.specs.Check.{each}
-use Rattle.hip_typing.specs.Rules.{global_check}
-use Rattle.hip_typing.specs.declared.fault.Finding.{Finding}
+use Rattle.hip_sound.specs.Check.{each}
+use Rattle.hip_sound.specs.Rules.{global_check}
+use Rattle.hip_sound.specs.declared.fault.Finding.{Finding}
 use Rattle.hip_typing.proofs.GlobalLemmas.{globals_known}
 use Rattle.hip_typing.proofs.rules.globals.check_globals.Goals as goal
 

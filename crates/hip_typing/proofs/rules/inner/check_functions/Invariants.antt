@@ -1,6 +1,6 @@
 use Rattle.std.proofs.Common.{◌≡◌, drop}
-use Rattle.hip_typing.specs.Check.{each, each_from}
-use Rattle.hip_typing.specs.Rules.{inner_check}
+use Rattle.hip_sound.specs.Check.{each, each_from}
+use Rattle.hip_sound.specs.Rules.{inner_check}
 use Rattle.hip_typing.proofs.rules.inner.check_functions.Given as goal
 
 abbrev pub invariant-functions : goal.invariant-functions

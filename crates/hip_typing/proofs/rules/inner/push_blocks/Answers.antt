@@ -1,6 +1,6 @@
 use Rattle.hip_typing.specs.Seen.NamesSeen.{seen}
-use Rattle.hip_typing.specs.Declarations.{block_declared}
-use Rattle.hip_typing.specs.Rules.{named_in}
+use Rattle.hip_sound.specs.Declarations.{block_declared}
+use Rattle.hip_sound.specs.Rules.{named_in}
 use Rattle.hip_typing.proofs.NameLists.{more_names}
 use Rattle.hip_typing.proofs.rules.inner.push_blocks.Goals as goal
 

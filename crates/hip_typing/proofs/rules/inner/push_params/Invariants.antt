@@ -1,6 +1,6 @@
 use Rattle.std.proofs.Common.{◌≡◌, ◌++◌, map, take}
 use Rattle.hip_typing.specs.Seen.NamesSeen.{seen}
-use Rattle.hip_typing.specs.Rules.{named_in}
+use Rattle.hip_sound.specs.Rules.{named_in}
 use Rattle.hip_typing.proofs.rules.inner.push_params.Given as goal
 
 abbrev pub invariant-params : goal.invariant-params

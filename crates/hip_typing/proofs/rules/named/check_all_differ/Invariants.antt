@@ -1,5 +1,5 @@
 use Rattle.std.proofs.Common.{◌≡◌, drop}
-use Rattle.hip_typing.specs.Names.{differ_after, all_differ}
+use Rattle.hip_sound.specs.Names.{differ_after, all_differ}
 use Rattle.hip_typing.specs.Seen.NamesSeen.{seen}
 use Rattle.hip_typing.proofs.rules.named.check_all_differ.Given as goal
 

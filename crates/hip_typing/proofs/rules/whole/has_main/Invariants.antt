@@ -1,5 +1,5 @@
 use Rattle.std.proofs.Common.{◌≡◌, drop}
-use Rattle.hip_typing.specs.Rules.{has_main}
+use Rattle.hip_sound.specs.Rules.{has_main}
 use Rattle.hip_typing.proofs.rules.whole.has_main.Given as goal
 
 abbrev pub invariant-functions : goal.invariant-functions

@@ -1,6 +1,6 @@
 use Rattle.std.proofs.Common.{take}
 use Rattle.hip_names.specs.Tables.{Gains}
-use Rattle.hip_typing.specs.Declarations.{blocks_declared}
+use Rattle.hip_sound.specs.Declarations.{blocks_declared}
 use Rattle.hip_typing.specs.Seen.Inner.{entries}
 use Rattle.hip_typing.proofs.tables.inner_table.add_blocks.Given as goal
 

@@ -1,4 +1,4 @@
-use Rattle.hip_typing.specs.Declarations.{instr_declared}
+use Rattle.hip_sound.specs.Declarations.{instr_declared}
 use Rattle.hip_typing.specs.Seen.Inner.{entries}
 use Rattle.hip_typing.proofs.InnerLemmas.{gains_some}
 use Rattle.hip_typing.proofs.tables.inner_table.add_body.Goals as goal

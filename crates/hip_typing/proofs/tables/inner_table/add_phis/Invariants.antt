@@ -1,6 +1,6 @@
 use Rattle.std.proofs.Common.{take}
 use Rattle.hip_names.specs.Tables.{Gains}
-use Rattle.hip_typing.specs.Names.{numbered}
+use Rattle.hip_sound.specs.Names.{numbered}
 use Rattle.hip_typing.specs.Seen.Inner.{entries}
 use Rattle.hip_typing.proofs.tables.inner_table.add_phis.Given as goal
 

@@ -1,4 +1,4 @@
-use Rattle.hip_typing.specs.Registers.{phi_registers, body_registers}
+use Rattle.hip_sound.specs.Registers.{phi_registers, body_registers}
 use Rattle.hip_typing.proofs.RegisterLemmas.{adds_then}
 use Rattle.hip_typing.proofs.tables.registers.add_block.Goals as goal
 

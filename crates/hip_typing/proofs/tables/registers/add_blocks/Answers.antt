@@ -1,4 +1,4 @@
-use Rattle.hip_typing.specs.Registers.{block_registers}
+use Rattle.hip_sound.specs.Registers.{block_registers}
 use Rattle.hip_typing.proofs.RegisterLemmas.{adds_some}
 use Rattle.hip_typing.proofs.tables.registers.add_blocks.Goals as goal
 

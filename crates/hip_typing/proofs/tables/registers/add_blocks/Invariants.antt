@@ -1,6 +1,6 @@
 use Rattle.std.proofs.Common.{take}
 use Rattle.std.specs.List.{flat_map}
-use Rattle.hip_typing.specs.Registers.{block_registers}
+use Rattle.hip_sound.specs.Registers.{block_registers}
 use Rattle.hip_typing.specs.Seen.Tables.{Adds}
 use Rattle.hip_typing.proofs.tables.registers.add_blocks.Given as goal
 

@@ -1,4 +1,4 @@
-use Rattle.hip_typing.specs.Registers.{assigned_by}
+use Rattle.hip_sound.specs.Registers.{assigned_by}
 use Rattle.hip_typing.proofs.RegisterLemmas.{adds_some}
 use Rattle.hip_typing.proofs.tables.registers.add_body.Goals as goal
 

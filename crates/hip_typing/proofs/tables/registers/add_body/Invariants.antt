@@ -1,5 +1,5 @@
 use Rattle.std.proofs.Common.{take}
-use Rattle.hip_typing.specs.Registers.{body_registers}
+use Rattle.hip_sound.specs.Registers.{body_registers}
 use Rattle.hip_typing.specs.Seen.Tables.{Adds}
 use Rattle.hip_typing.proofs.tables.registers.add_body.Given as goal
 

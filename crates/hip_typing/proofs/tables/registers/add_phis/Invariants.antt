@@ -1,5 +1,5 @@
 use Rattle.std.proofs.Common.{take}
-use Rattle.hip_typing.specs.Registers.{phi_registers}
+use Rattle.hip_sound.specs.Registers.{phi_registers}
 use Rattle.hip_typing.specs.Seen.Tables.{Adds}
 use Rattle.hip_typing.proofs.tables.registers.add_phis.Given as goal
 

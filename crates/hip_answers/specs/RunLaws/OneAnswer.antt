@@ -1,0 +1,220 @@
+-- Where the files are told, a command has one answer, unless a read fails.
+use Rattle.std.proofs.Common.{◌≡◌, ◌⊎◌, ◌++◌, ℕ, true, false, List, Option, Some, inl, inr, refl, sym, ap, ◌∙◌, subst}
+use Rattle.std.specs.Prelude.{IfSome}
+use Rattle.hip_answers.specs.Answers.{Answer, refusal}
+use Rattle.hip_answers.specs.Same.{IsSameAnswer}
+use Rattle.hip_answers.specs.SameLaws.{same_answer, same_refusal}
+use Rattle.hip_answers.specs.Statuses as programs
+use Rattle.hip_answers.specs.declared.status.Status.{Status}
+use Rattle.hip_answers.specs.declared.status.Status.TheVariants as statuses
+use Rattle.hip_io.specs.Cabinets.{CabinetState, file_of}
+use Rattle.hip_io.specs.declared.cabinet.NamedFile.{NamedFile}
+use Rattle.hip_tree.specs.declared.program.Program.{Program}
+use Rattle.hip_program_files.specs.Laws.OneAnswer.{loads_one, not_there, same_bytes}
+use Rattle.hip_program_files.specs.Laws.{LoadsOne}
+use Rattle.hip_program_files.specs.Loading.{HasNoProgram, IsProgramOf}
+use Rattle.hip_program_files.specs.declared.refusal.LoadRefusal.{LoadRefusal}
+use Rattle.hip_program_files.specs.declared.refusal.LoadRefusal.TheVariants as loads
+use Rattle.hip_answers.specs.RunAnswers.{HasRunOf, TraceAnswers}
+use Rattle.hip_answers.specs.RunLaws.{FaultsHideNone, GivesOne}
+use Rattle.hip_answers.specs.TraceFiles.{HasNoTrace, IsMisfitFile, IsTraceFile, ShowsNoMisfit, status_of_refusal}
+use Rattle.hip_answers.specs.declared.refusal.TraceRefusal.{TraceRefusal}
+use Rattle.hip_answers.specs.declared.refusal.TraceRefusal.TheVariants as traces
+use Rattle.hip_run_traces.specs.Headers.{Gives, header}
+use Rattle.hip_run_traces.specs.Laws.MisfitLaws.{no-misfit, one-misfit}
+use Rattle.hip_run_traces.specs.Misfits.{IsMisfit, IsTraceOf}
+use Rattle.hip_run_traces.specs.declared.misfit.MisfitKind.{MisfitKind}
+use Rattle.hip_runs.specs.Found.Marks.{IsFound}
+use Rattle.hip_runs.specs.Laws.Found.FoundLaws.{found_is_one}
+use Rattle.hip_runs.specs.declared.input.Input.{Input}
+use Rattle.hip_runs.specs.declared.report.Findings.{Findings}
+use Rattle.hip_trace.specs.Pieces.{spelled}
+
+-- ---- what is the same
+
+same_input : (P : Program) (bytes : List ℕ) (I J : Input) → IsTraceOf P bytes I → IsTraceOf P bytes J → I ≡ J
+same_input P bytes I J t u = let k : Gives t.entries I ≡ Gives u.entries J = sym t.header_is ∙ u.header_is in cc
+
+-- ---- the answers on files that are told
+
+-- there is no program in file p, and the answer says why
+pub record Unloaded (files : List NamedFile) (p : List ℕ) (a : Answer) : Type 0 where
+  why : LoadRefusal
+  cause : HasNoProgram (Some files) p why
+  is : a ≡ refusal (programs.status_of_refusal why)
+
+-- there is a program in file p, and file t is not the trace of a run of it; the answer says why
+pub record Untraced (files : List NamedFile) (p t : List ℕ) (a : Answer) : Type 0 where
+  program : Program
+  loaded : IsProgramOf (Some files) p program
+  why : TraceRefusal
+  cause : HasNoTrace (Some files) t program why
+  is : a ≡ refusal (status_of_refusal why)
+
+-- There is a program in file p, and file t is the trace of its run on the input, which found this; the answer has the
+-- texts of that.
+pub record Carried (Texts : Program → Input → Findings → Answer → Type 0) (files : List NamedFile)
+    (p t : List ℕ) (a : Answer) : Type 0 where
+  program : Program
+  loaded : IsProgramOf (Some files) p program
+  input : Input
+  traced : IsTraceFile files t program input
+  found : Findings
+  found_is : IsFound program input found
+  texts : Texts program input found a
+
+-- how an answer comes about, as far as the files tell: a read fault, no program, no trace of a run of it, or a run
+pub data View (Texts : Program → Input → Findings → Answer → Type 0) (files : List NamedFile) (p t : List ℕ)
+    (a : Answer) : Type 0 where
+  Faulted : a.status ≡ statuses.ReadFault → View Texts files p t a
+  IsUnloaded : Unloaded files p a → View Texts files p t a
+  IsUntraced : Untraced files p t a → View Texts files p t a
+  IsCarried : Carried Texts files p t a → View Texts files p t a
+
+module _ (Texts : Program → Input → Findings → Answer → Type 0) (files : List NamedFile) (p t : List ℕ) where
+  view : (old new : CabinetState) (a : Answer) → old.files ≡ Some files → TraceAnswers Texts old new p t a
+      → View Texts files p t a
+  view old new a told (inl u) = IsUnloaded
+      (record { why = u.why; cause = subst (λ fs. HasNoProgram fs p u.why) told u.cause; is = u.is })
+  view old new a told (inr (inl u)) = Faulted (ap (λ (x : Answer). x.status) u.is)
+  view old new a told (inr (inr (inl (inl u)))) = IsUntraced (record {
+    program = u.program;
+    loaded = subst (λ fs. IsProgramOf fs p u.program) told u.loaded;
+    why = u.why;
+    cause = subst (λ fs. HasNoTrace fs t u.program u.why) told u.cause;
+    is = u.is;
+  })
+  view old new a told (inr (inr (inl (inr u)))) = Faulted (ap (λ (x : Answer). x.status) u.is)
+  view old new a told (inr (inr (inr d))) = IsCarried (record {
+    program = d.program;
+    loaded = subst (λ fs. IsProgramOf fs p d.program) told d.loaded;
+    input = d.input;
+    traced = subst (λ (fs : Option (List NamedFile)). IfSome fs
+        (λ told_files. IsTraceFile told_files t d.program d.input)) told d.traced;
+    found = d.found;
+    found_is = d.found_is;
+    texts = d.texts;
+  })
+
+  -- ---- two of them
+
+  one : LoadsOne files p
+  one = loads_one files p
+
+  untraced_once : (P : Program) (why other : TraceRefusal) → HasNoTrace (Some files) t P why
+      → HasNoTrace (Some files) t P other → why ≡ other
+  untraced_once P traces.Missing traces.Missing h k = refl
+  untraced_once P traces.Missing (traces.Misfit e k) h m = absurd (not_there (file_of files t) m.bytes m.found h)
+  untraced_once P (traces.Misfit e k) traces.Missing m h = absurd (not_there (file_of files t) m.bytes m.found h)
+  untraced_once P (traces.Misfit e k) (traces.Misfit e' k') m n =
+      let bytes = same_bytes (file_of files t) n.bytes m.bytes n.found m.found in
+      let same = one-misfit P m.bytes true e e' k k' m.misfit
+      (subst (λ bs. IsMisfit P bs true e' k') bytes n.misfit) in
+      made same.0 same.1
+    where
+      made : {x y : ℕ} {u v : MisfitKind} → x ≡ y → u ≡ v → traces.Misfit x u ≡ traces.Misfit y v
+      made a b = cc
+
+  never_both : (P : Program) (why : TraceRefusal) (I : Input) → HasNoTrace (Some files) t P why
+      → IsTraceFile files t P I → ⊥
+  never_both P traces.Missing I h d = not_there (file_of files t) d.bytes d.found h
+  never_both P (traces.Misfit e k) I m d =
+      let bytes = same_bytes (file_of files t) m.bytes d.bytes m.found d.found in
+      no-misfit P d.bytes I e k d.trace (subst (λ bs. IsMisfit P bs true e k) bytes m.misfit)
+
+  same_trace : (P : Program) (I J : Input) → IsTraceFile files t P I → IsTraceFile files t P J → I ≡ J
+  same_trace P I J d e =
+      let bytes = same_bytes (file_of files t) e.bytes d.bytes e.found d.found in
+      same_input P d.bytes I J d.trace (subst (λ bs. IsTraceOf P bs J) bytes e.trace)
+
+  two_untraced : (a b : Answer) → Untraced files p t a → Untraced files p t b → IsSameAnswer a b
+  two_untraced a b u v =
+      let programs_are = one.programs v.program u.program v.loaded u.loaded in
+      let why = untraced_once u.program u.why v.why u.cause
+      (subst (λ Q. HasNoTrace (Some files) t Q v.why) programs_are v.cause) in
+      same_answer (u.is ∙ ap (λ w. refusal (status_of_refusal w)) why ∙ sym v.is)
+
+  untraced_carried : (a b : Answer) → Untraced files p t a → Carried Texts files p t b → ⊥
+  untraced_carried a b u d =
+      let programs_are = one.programs d.program u.program d.loaded u.loaded in
+      never_both u.program u.why d.input u.cause (subst (λ Q. IsTraceFile files t Q d.input) programs_are d.traced)
+
+  module _ (alike : (P : Program) (I : Input) (found : Findings) (a b : Answer) → Texts P I found a
+      → Texts P I found b → a ≡ b) where
+    two_carried : (a b : Answer) → Carried Texts files p t a → Carried Texts files p t b → a ≡ b
+    two_carried a b c d =
+        let programs_are = one.programs d.program c.program d.loaded c.loaded in
+        let inputs_are = sym (same_trace c.program c.input d.input c.traced
+        (subst (λ Q. IsTraceFile files t Q d.input) programs_are d.traced)) in
+        let there = subst (λ J. IsFound c.program J d.found) inputs_are
+        (subst (λ Q. IsFound Q d.input d.found) programs_are d.found_is) in
+        let found_are = found_is_one c.program c.input d.found c.found there c.found_is in
+        let texts = subst (λ (f : Findings). Texts c.program c.input f b) found_are
+        (subst (λ (J : Input). Texts c.program J d.found b) inputs_are
+        (subst (λ (Q : Program). Texts Q d.input d.found b) programs_are d.texts)) in
+        alike c.program c.input c.found a b c.texts texts
+
+    two : (a b : Answer) → View Texts files p t a → View Texts files p t b
+        → (a.status ≡ statuses.ReadFault) ⊎ ((b.status ≡ statuses.ReadFault) ⊎ IsSameAnswer a b)
+    two a b (Faulted e) v = inl e
+    two a b (IsUnloaded u) (Faulted e) = inr (inl e)
+    two a b (IsUntraced u) (Faulted e) = inr (inl e)
+    two a b (IsCarried u) (Faulted e) = inr (inl e)
+    two a b (IsUnloaded u) (IsUnloaded v) = inr
+        (inr (subst (λ x. IsSameAnswer x b) (sym u.is)
+        (subst (λ y. IsSameAnswer (refusal (programs.status_of_refusal u.why)) y) (sym v.is)
+        (same_refusal u.why v.why (one.refusals u.why v.why u.cause v.cause)))))
+    two a b (IsUnloaded u) (IsUntraced v) = absurd (one.excluded v.program u.why v.loaded u.cause)
+    two a b (IsUnloaded u) (IsCarried v) = absurd (one.excluded v.program u.why v.loaded u.cause)
+    two a b (IsUntraced v) (IsUnloaded u) = absurd (one.excluded v.program u.why v.loaded u.cause)
+    two a b (IsCarried v) (IsUnloaded u) = absurd (one.excluded v.program u.why v.loaded u.cause)
+    two a b (IsUntraced u) (IsUntraced v) = inr (inr (two_untraced a b u v))
+    two a b (IsUntraced u) (IsCarried v) = absurd (untraced_carried a b u v)
+    two a b (IsCarried v) (IsUntraced u) = absurd (untraced_carried b a u v)
+    two a b (IsCarried c) (IsCarried d) = inr (inr (same_answer (two_carried a b c d)))
+
+pub gives_one : (Texts : Program → Input → Findings → Answer → Type 0)
+    → ((P : Program) (I : Input) (found : Findings) (a b : Answer) → Texts P I found a → Texts P I found b
+    → a ≡ b)
+    → GivesOne Texts
+gives_one Texts alike p t files old new other other_new a b told told' x y =
+    two Texts files p t alike a b (view Texts files p t old new a told x)
+    (view Texts files p t other other_new b told' y)
+
+-- ---- read faults
+
+no_read_fault : (why : LoadRefusal) → programs.status_of_refusal why ≡ statuses.ReadFault → ⊥
+no_read_fault loads.Missing e = cc
+no_read_fault loads.TooLarge e = cc
+no_read_fault (loads.Bad why) e = cc
+
+no_trace_fault : (why : TraceRefusal) → status_of_refusal why ≡ statuses.ReadFault → ⊥
+no_trace_fault traces.Missing e = cc
+no_trace_fault (traces.Misfit e k) q = cc
+
+pub hide_none : (Texts : Program → Input → Findings → Answer → Type 0)
+    → ((P : Program) (I : Input) (found : Findings) (a : Answer) → Texts P I found a → a.status ≡ statuses.Done)
+    → FaultsHideNone Texts
+hide_none Texts done files old new p t P a told loaded current named apart status (inl u) =
+    absurd (no_read_fault u.why (sym (ap (λ (x : Answer). x.status) u.is) ∙ status))
+hide_none Texts done files old new p t P a told loaded current named apart status (inr (inl u)) = absurd (go u.current)
+  where
+    go : (new.is_current ≡ false) ⊎ IfSome new.name (λ name. name ≡ p) → ⊥
+    go (inl e) = let k : true ≡ false = sym current ∙ e in cc
+    go (inr e) = apart (sym (subst (λ (n : Option (List ℕ)). IfSome n (λ name. name ≡ p)) named e))
+hide_none Texts done files old new p t P a told loaded current named apart status (inr (inr (inl (inl u)))) =
+    absurd (no_trace_fault u.why (sym (ap (λ (x : Answer). x.status) u.is) ∙ status))
+hide_none Texts done files old new p t P a told loaded current named apart status (inr (inr (inl (inr u)))) = go u.taken
+  where
+    same : u.program ≡ P
+    same = (loads_one files p).programs u.program P (subst (λ fs. IsProgramOf fs p u.program) told u.loaded) loaded
+
+    go : (new.is_current ≡ false) ⊎ IfSome old.files (λ fs. ShowsNoMisfit fs t u.program new.rest)
+        → ShowsNoMisfit files t P new.rest
+    go (inl e) = absurd (let k : true ≡ false = sym current ∙ e in let z : ⊥ = cc in z)
+    go (inr s) = subst (λ (Q : Program). ShowsNoMisfit files t Q new.rest) same
+        (subst (λ (fs : Option (List NamedFile)). IfSome fs
+        (λ told_files. ShowsNoMisfit told_files t u.program new.rest)) told s)
+hide_none Texts done files old new p t P a told loaded current named apart status (inr (inr (inr d))) =
+    absurd (let k : statuses.Done ≡ statuses.ReadFault = sym (done d.program d.input d.found a d.texts) ∙ status in
+    let z : ⊥ = cc in z)

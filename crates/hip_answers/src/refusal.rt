@@ -1,0 +1,29 @@
+ghost use Rattle.std.specs.Prelude.{◌≡◌};
+ghost use Rattle.hip_answers.specs.TraceFiles.{status_of_trace};
+
+use crate::status::{FileRole, Status};
+use hip_program_files::Failure;
+use hip_run_traces::MisfitKind;
+
+/// Why a file is no trace of a run of a program.
+#[derive(Clone, Copy, Debug, PartialEq, Eq)]
+pub enum TraceRefusal {
+    /// There is no such file.
+    Missing,
+    /// This is the first entry, numbered from 1, that is not the run's.
+    Misfit { entry: u128, kind: MisfitKind },
+}
+
+/// The status of a trace that is not loaded.
+pub fn status_of_trace(failure: Failure<TraceRefusal>) -> Status
+    ensures { result ≡ status_of_trace failure }
+{
+    match failure {
+        Failure::Refused(TraceRefusal::Missing) => Status::Missing {
+            file: FileRole::Trace,
+        },
+        Failure::Refused(TraceRefusal::Misfit { entry, kind }) => Status::Misfit { entry, kind },
+        Failure::ReadFault => Status::ReadFault,
+        Failure::NoMemory => Status::NoMemory,
+    }
+}

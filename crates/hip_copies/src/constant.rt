@@ -1,0 +1,115 @@
+ghost use Rattle.std.specs.Prelude.{◌≡◌, ◌↔◌, IsTrue, IfOk};
+
+use crate::structural::Structural;
+use hip_tree::{Const, ConstGep, TypedConst};
+use hip_types::{Link, NoMemory, Row, copy_ty, same_ty};
+use std::alloc::Global;
+
+/// A constant of its own that is equal to the given one.
+#[cycle(copy)]
+pub fn copy_const(alloc: Global, value: &Const) -> Result<Const, NoMemory>
+    ensures { IfOk result (λ c. c ≡ value.now) }
+{
+    match value {
+        Const::Int(bits) => Ok(Const::Int(*bits)),
+        Const::Null => Ok(Const::Null),
+        Const::Zero => Ok(Const::Zero),
+        Const::Address(name) => Ok(Const::Address(name.copy(alloc)?)),
+        Const::Gep(gep) => Ok(Const::Gep(Link::new(alloc, copy_gep(alloc, gep.get())?)?)),
+        Const::Array(items) => Ok(Const::Array(copy_items(alloc, items.as_slice())?)),
+        Const::Struct(items) => Ok(Const::Struct(copy_items(alloc, items.as_slice())?)),
+    }
+}
+
+#[cycle(copy)]
+fn copy_gep(alloc: Global, gep: &ConstGep) -> Result<ConstGep, NoMemory>
+    ensures { IfOk result (λ c. c ≡ gep.now) }
+{
+    Ok(ConstGep {
+        inbounds: gep.inbounds,
+        ty: copy_ty(alloc, &gep.ty)?,
+        base: copy_const(alloc, &gep.base)?,
+        indices: gep.indices.copy(alloc)?,
+    })
+}
+
+#[cycle(copy)]
+fn copy_typed(alloc: Global, item: &TypedConst) -> Result<TypedConst, NoMemory>
+    ensures { IfOk result (λ c. c ≡ item.now) }
+{
+    Ok(TypedConst {
+        ty: copy_ty(alloc, &item.ty)?,
+        value: copy_const(alloc, &item.value)?,
+    })
+}
+
+#[cycle(copy)]
+fn copy_items(alloc: Global, items: &[TypedConst]) -> Result<Row<TypedConst>, NoMemory>
+    ensures { IfOk result (λ all. all ≡ items.now) }
+{
+    let mut copies = Row::new(alloc);
+    copies.reserve(items.len())?;
+    for item in items {
+        copies.push(copy_typed(alloc, item)?)?;
+    }
+    Ok(copies)
+}
+
+/// Whether two constants are equal.
+#[cycle(same)]
+pub fn same_const(a: &Const, b: &Const) -> bool
+    ensures { IsTrue result ↔ (a.now ≡ b.now) }
+{
+    match (a, b) {
+        (Const::Int(v), Const::Int(w)) => v.same(w),
+        (Const::Null, Const::Null) => true,
+        (Const::Zero, Const::Zero) => true,
+        (Const::Address(x), Const::Address(y)) => x.same(y),
+        (Const::Gep(x), Const::Gep(y)) => same_gep(x.get(), y.get()),
+        (Const::Array(x), Const::Array(y)) => same_items(x.as_slice(), y.as_slice()),
+        (Const::Struct(x), Const::Struct(y)) => same_items(x.as_slice(), y.as_slice()),
+        _ => false,
+    }
+}
+
+#[cycle(same)]
+fn same_gep(a: &ConstGep, b: &ConstGep) -> bool
+    ensures { IsTrue result ↔ (a.now ≡ b.now) }
+{
+    a.inbounds == b.inbounds
+        && same_ty(&a.ty, &b.ty)
+        && same_const(&a.base, &b.base)
+        && a.indices.same(&b.indices)
+}
+
+#[cycle(same)]
+fn same_typed(a: &TypedConst, b: &TypedConst) -> bool
+    ensures { IsTrue result ↔ (a.now ≡ b.now) }
+{
+    same_ty(&a.ty, &b.ty) && same_const(&a.value, &b.value)
+}
+
+#[cycle(same)]
+fn same_items(a: &[TypedConst], b: &[TypedConst]) -> bool
+    ensures { IsTrue result ↔ (a.now ≡ b.now) }
+{
+    if a.len() != b.len() {
+        return false;
+    }
+    for i in 0..a.len() {
+        if !same_typed(&a[i], &b[i]) {
+            return false;
+        }
+    }
+    true
+}
+
+impl Structural for Const {
+    fn copy(&self, alloc: Global) -> Result<Const, NoMemory> {
+        copy_const(alloc, self)
+    }
+
+    fn same(&self, other: &Const) -> bool {
+        same_const(self, other)
+    }
+}

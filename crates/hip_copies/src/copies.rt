@@ -1,0 +1,43 @@
+ghost use Rattle.std.specs.Prelude.{◌≡◌, IfOk};
+
+use crate::structural::Structural;
+use hip_types::NoMemory;
+use std::alloc::Global;
+
+/// Copies of two values.
+pub fn copy_two<A: Structural, B: Structural>(
+    alloc: Global,
+    a: &A,
+    b: &B,
+) -> Result<(A, B), NoMemory>
+    ensures { IfOk result (λ copies. copies ≡ (a.now, b.now)) }
+{
+    Ok((a.copy(alloc)?, b.copy(alloc)?))
+}
+
+/// Copies of three values.
+pub fn copy_three<A: Structural, B: Structural, C: Structural>(
+    alloc: Global,
+    a: &A,
+    b: &B,
+    c: &C,
+) -> Result<(A, B, C), NoMemory>
+    ensures { IfOk result (λ copies. copies ≡ (a.now, b.now, c.now)) }
+{
+    Ok((a.copy(alloc)?, b.copy(alloc)?, c.copy(alloc)?))
+}
+
+/// Copies of four values.
+pub fn copy_four<A: Structural, B: Structural, C: Structural, D: Structural>(
+    alloc: Global,
+    a: &A,
+    b: &B,
+    c: &C,
+    d: &D,
+) -> Result<(A, B, C, D), NoMemory>
+    ensures { IfOk result (λ copies. copies ≡ (a.now, b.now, c.now, d.now)) }
+{
+    let (a, b) = copy_two(alloc, a, b)?;
+    let (c, d) = copy_two(alloc, c, d)?;
+    Ok((a, b, c, d))
+}

@@ -1,0 +1,2 @@
+pub mod EdgeOps
+pub mod EndOps

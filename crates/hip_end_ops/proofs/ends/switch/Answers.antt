@@ -1,0 +1,19 @@
+use Rattle.std.proofs.Common.{sym, subst, inr, ◌∙◌}
+use Rattle.hip_tree.specs.declared.block.End.{End}
+use Rattle.hip_names.specs.Names.{IsAmong}
+use Rattle.hip_sound.specs.Registers.{end_labels}
+use Rattle.hip_end_ops.proofs.EndOps.{case_named, ends_switch, lead_kept}
+use Rattle.hip_end_ops.proofs.ends.switch.Goals as goal
+
+pub cases_of-requires-clause-lead : goal.cases_of-requires-clause-lead
+cases_of-requires-clause-lead c = lead_kept _ _ _ _ _ c.requires.lead c.in_ok-value.ensures.stands.grows c.in_ok-value.ensures.others.edges
+
+pub cases_of-requires-clause-named : goal.cases_of-requires-clause-named
+cases_of-requires-clause-named c = record {
+  at = λ k d e. subst (λ (x : End). IsAmong (end_labels x) d.label) (sym c.requires.last.1) (inr (case_named c.args.cases.now k d e));
+}
+
+pub returns-clause-op : goal.returns-clause-op
+returns-clause-op c =
+    ends_switch _ _ _ _ _ _ c.requires.last.0 _ _ _ _ _ _ _ c.requires.last.1 c.in_ok-value.ensures.stands c.in_ok-cases_of.ensures.cases c.in_ok-other.ensures.edge
+    (c.in_ok-from.ensures ∙ c.len.ensures) c.in_ok-count.ensures

@@ -1,0 +1,106 @@
+ghost use Rattle.std.specs.Prelude.{◌≡◌, Some, length, IfOk, MatchOption};
+ghost use Rattle.hip_names.specs.Names.{IsAmong};
+ghost use Rattle.hip_sound.specs.Registers.{end_labels};
+ghost use Rattle.hip_runs.specs.Places.{blocks_of};
+ghost use Rattle.hip_end_ops.specs.Edged.{Earlier, HasEdge, IsSource, IsTarget, LeadFrom, NewEdge};
+ghost use Rattle.hip_scope.specs.Grown.{grown};
+ghost use Rattle.hip_scope.specs.Scopes.{Describes};
+
+use crate::phis::phi_moves;
+use hip_code::{Edge, Span};
+use hip_scope::{Growing, Scope, number_at, place};
+use hip_tree::Block;
+use hip_types::{Name, NoMemory, Row};
+
+/// A block, its number, and the number of the first edge that leads from it.
+#[derive(Drop)]
+pub struct Source<'a> {
+    pub block: &'a Block,
+    pub number: usize,
+    pub first: usize,
+}
+
+/// The edge to a block that is there already, if the table by blocks names one: what it names counts only where it is
+/// an edge from the source to that block.
+fn earlier(tables: &Growing, made: &Row<u32>, first: usize, target: usize) -> Option<u32>
+    ensures { MatchOption result (Unit {0}) (λ number. Earlier (grown tables.now) first target number) }
+{
+    let number = *made.get(target)?;
+    let edge = tables.edges.get(number as usize)?;
+    if number as usize >= first && edge.block as usize == target {
+        Some(number)
+    } else {
+        None
+    }
+}
+
+/// Makes an edge to the block of that number, with the moves of its phis.
+fn new_edge(
+    scope: &Scope<'_, '_>,
+    tables: &mut Growing,
+    source: &Source<'_>,
+    target: usize,
+) -> Result<u32, NoMemory>
+    requires scope { Describes scope.now }
+    requires source { IsSource scope.now source.now }
+    requires target { IsTarget scope.now source.now target }
+    ensures { IfOk result (λ number. NewEdge scope.now (grown tables.old)
+        (grown tables.new) source.now.number number target) }
+{
+    let to = match scope.function.blocks.get(target) {
+        Some(block) => block,
+        None => unreachable!(),
+    };
+    let numbers = match scope.sources.get(target) {
+        Some(numbers) => numbers,
+        None => unreachable!(),
+    };
+    let from = place(tables.moves.len())?;
+    let count = place(to.phis.len())?;
+    phi_moves(
+        scope,
+        tables,
+        &source.block.label,
+        to.phis.as_slice(),
+        numbers,
+    )?;
+    let number = place(tables.edges.len())?;
+    let block = place(target)?;
+    let begins = number_at(scope.places.as_slice(), target);
+    tables.edges.push(Edge {
+        target: begins,
+        block,
+        moves: Span { from, count },
+    })?;
+    Ok(number)
+}
+
+/// The edge from a block to the one with a label. There is one edge from one block to another, however often it is
+/// named.
+pub fn edge(
+    scope: &Scope<'_, '_>,
+    tables: &mut Growing,
+    made: &mut Row<u32>,
+    source: &Source<'_>,
+    label: &Name,
+) -> Result<u32, NoMemory>
+    requires scope { Describes scope.now }
+    requires source { IsSource scope.now source.now }
+    requires lead { LeadFrom scope.now source.now.number source.now.first (grown tables.old) }
+    requires named { IsAmong (end_labels source.now.block.now.«end») label.now }
+    requires as_long { length made.old ≡ length (blocks_of scope.now.program.now scope.now.number) }
+    ensures edge { IfOk result (λ number. HasEdge scope.now (grown tables.old)
+        (grown tables.new) source.now number label.now) }
+    ensures as_long { length made.new ≡ length made.old }
+{
+    let target = match scope.labels.number_of(label.as_slice()) {
+        Some(number) => number,
+        None => unreachable!(),
+    };
+    if let Some(number) = earlier(tables, made, source.first, target) {
+        return Ok(number);
+    }
+    let number = new_edge(scope, tables, source, target)?;
+    made.set(target, number);
+    Ok(number)
+}

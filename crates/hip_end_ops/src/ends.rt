@@ -1,0 +1,189 @@
+ghost use Rattle.std.specs.Prelude.{◌≡◌, Some, length, IfOk};
+ghost use Rattle.hip_tree.specs.declared.block.End.TheVariants as ends;
+ghost use Rattle.hip_types.specs.declared.number.Width.{Width};
+ghost use Rattle.hip_runs.specs.Places.{blocks_of};
+ghost use Rattle.hip_end_ops.specs.Edged.{IsSource, LeadFrom};
+ghost use Rattle.hip_scope.specs.Grown.{grown};
+ghost use Rattle.hip_scope.specs.Known.{OperandKnown};
+ghost use Rattle.hip_scope.specs.Scopes.{Describes, names_of};
+ghost use Rattle.hip_end_ops.specs.Switched.{CasesNamed, EndsHere, HasCases};
+
+use crate::edges::{Source, edge};
+use hip_code::{Case, Control, Exit, Go, Op, Span};
+use hip_scope::{Growing, Scope, operand, place};
+use hip_tree::{Arg, End, Operand};
+use hip_types::{Name, NoMemory, Row};
+
+pub fn branch(
+    scope: &Scope<'_, '_>,
+    tables: &mut Growing,
+    made: &mut Row<u32>,
+    source: &Source<'_>,
+    label: &Name,
+) -> Result<Op, NoMemory>
+    requires scope { Describes scope.now }
+    requires source { IsSource scope.now source.now }
+    requires lead { LeadFrom scope.now source.now.number source.now.first (grown tables.old) }
+    requires as_long { length made.old ≡ length (blocks_of scope.now.program.now scope.now.number) }
+    requires last { source.now.block.now.«end» ≡ ends.Br label.now }
+    ensures op { IfOk result (λ o. EndsHere scope.now (grown tables.old) (grown tables.new) source.now o) }
+    ensures as_long { length made.new ≡ length made.old }
+{
+    let number = edge(scope, tables, made, source, label)?;
+    Ok(Op::Control(Control::Go(Go::Br(number))))
+}
+
+pub fn branch_on(
+    scope: &Scope<'_, '_>,
+    tables: &mut Growing,
+    made: &mut Row<u32>,
+    source: &Source<'_>,
+    test: &Operand,
+    first: &Name,
+    second: &Name,
+) -> Result<Op, NoMemory>
+    requires scope { Describes scope.now }
+    requires source { IsSource scope.now source.now }
+    requires lead { LeadFrom scope.now source.now.number source.now.first (grown tables.old) }
+    requires as_long { length made.old ≡ length (blocks_of scope.now.program.now scope.now.number) }
+    requires test { OperandKnown (names_of scope.now) test.now }
+    requires last { source.now.block.now.«end» ≡ ends.CondBr test.now first.now second.now }
+    ensures op { IfOk result (λ o. EndsHere scope.now (grown tables.old) (grown tables.new) source.now o) }
+    ensures as_long { length made.new ≡ length made.old }
+{
+    let test = operand(scope, tables, test)?;
+    let yes = edge(scope, tables, made, source, first)?;
+    let no = edge(scope, tables, made, source, second)?;
+    Ok(Op::Control(Control::Go(Go::Cond { test, yes, no })))
+}
+
+fn cases_of(
+    scope: &Scope<'_, '_>,
+    tables: &mut Growing,
+    made: &mut Row<u32>,
+    source: &Source<'_>,
+    cases: &[hip_tree::Case],
+) -> Result<(), NoMemory>
+    requires scope { Describes scope.now }
+    requires source { IsSource scope.now source.now }
+    requires lead { LeadFrom scope.now source.now.number source.now.first (grown tables.old) }
+    requires as_long { length made.old ≡ length (blocks_of scope.now.program.now scope.now.number) }
+    requires named { CasesNamed source.now cases.now }
+    ensures cases { IfOk result (λ _. HasCases scope.now (grown tables.old) (grown tables.new) source.now cases.now) }
+    ensures as_long { length made.new ≡ length made.old }
+{
+    'switching: for index in 0..cases.len() {
+        let case = &cases[index];
+        let edge = edge(scope, tables, made, source, &case.label)?;
+        let value = case.value.value;
+        tables.cases.push(Case { value, edge })?;
+    }
+    Ok(())
+}
+
+pub fn switch(
+    scope: &Scope<'_, '_>,
+    tables: &mut Growing,
+    made: &mut Row<u32>,
+    source: &Source<'_>,
+    value: &Operand,
+    other: &Name,
+    cases: &[hip_tree::Case],
+) -> Result<Op, NoMemory>
+    requires scope { Describes scope.now }
+    requires source { IsSource scope.now source.now }
+    requires lead { LeadFrom scope.now source.now.number source.now.first (grown tables.old) }
+    requires as_long { length made.old ≡ length (blocks_of scope.now.program.now scope.now.number) }
+    requires value { OperandKnown (names_of scope.now) value.now }
+    requires last { (width : Width) × (source.now.block.now.«end»
+        ≡ ends.Switch width value.now other.now cases.now) }
+    ensures op { IfOk result (λ o. EndsHere scope.now (grown tables.old) (grown tables.new) source.now o) }
+    ensures as_long { length made.new ≡ length made.old }
+{
+    let value = operand(scope, tables, value)?;
+    let from = place(tables.cases.len())?;
+    let count = place(cases.len())?;
+    cases_of(scope, tables, made, source, cases)?;
+    let other = edge(scope, tables, made, source, other)?;
+    Ok(Op::Control(Control::Go(Go::Switch {
+        value,
+        cases: Span { from, count },
+        other,
+    })))
+}
+
+pub fn give_back(
+    scope: &Scope<'_, '_>,
+    tables: &mut Growing,
+    source: &Source<'_>,
+    arg: &Arg,
+) -> Result<Op, NoMemory>
+    requires scope { Describes scope.now }
+    requires value { OperandKnown (names_of scope.now) arg.now.value }
+    requires last { source.now.block.now.«end» ≡ ends.Ret (Some arg.now) }
+    ensures { IfOk result (λ o. EndsHere scope.now (grown tables.old) (grown tables.new) source.now o) }
+{
+    let value = operand(scope, tables, &arg.value)?;
+    Ok(Op::Control(Control::Exit(Exit::Value(value))))
+}
+
+fn return_op(
+    scope: &Scope<'_, '_>,
+    tables: &mut Growing,
+    source: &Source<'_>,
+    value: &Option<Arg>,
+) -> Result<Op, NoMemory>
+    requires scope { Describes scope.now }
+    requires source { IsSource scope.now source.now }
+    requires last { source.now.block.now.«end» ≡ ends.Ret value.now }
+    ensures { IfOk result (λ o. EndsHere scope.now (grown tables.old) (grown tables.new) source.now o) }
+{
+    match value {
+        Some(arg) => {
+            let op = give_back(scope, tables, source, arg)?;
+            Ok(op)
+        }
+        None => Ok(Op::Control(Control::Exit(Exit::Nothing))),
+    }
+}
+
+/// The op of the end of a block.
+pub fn end_op(
+    scope: &Scope<'_, '_>,
+    tables: &mut Growing,
+    made: &mut Row<u32>,
+    source: &Source<'_>,
+) -> Result<Op, NoMemory>
+    requires scope { Describes scope.now }
+    requires source { IsSource scope.now source.now }
+    requires lead { LeadFrom scope.now source.now.number source.now.first (grown tables.old) }
+    requires as_long { length made.old ≡ length (blocks_of scope.now.program.now scope.now.number) }
+    ensures op { IfOk result (λ o. EndsHere scope.now (grown tables.old) (grown tables.new) source.now o) }
+    ensures as_long { length made.new ≡ length made.old }
+{
+    match &source.block.end {
+        End::Br { label } => {
+            let op = branch(scope, tables, made, source, label)?;
+            Ok(op)
+        }
+        End::CondBr { cond, yes, no } => {
+            let op = branch_on(scope, tables, made, source, cond, yes, no)?;
+            Ok(op)
+        }
+        End::Switch {
+            value,
+            other,
+            cases,
+            ..
+        } => {
+            let listed = cases.as_slice();
+            let op = switch(scope, tables, made, source, value, other, listed)?;
+            Ok(op)
+        }
+        End::Ret(value) => {
+            let op = return_op(scope, tables, source, value)?;
+            Ok(op)
+        }
+        End::Unreachable => Ok(Op::Control(Control::Exit(Exit::Unreachable))),
+    }
+}

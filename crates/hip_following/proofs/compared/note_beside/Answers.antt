@@ -1,0 +1,45 @@
+use Rattle.std.proofs.Common.{[], ◌∷◌, ◌++◌, length, sym, ap, ◌∙◌, subst}
+use Rattle.hip_lockstep.specs.Laws.Openings.{stopped_after}
+use Rattle.hip_lockstep.specs.InStep.{IsInStep}
+use Rattle.hip_run_traces.specs.Laws.TraceLaws.{length-header_of}
+use Rattle.hip_run_traces.specs.Traces.{trace}
+use Rattle.hip_runs.specs.Found.Marks.{IsFound}
+use Rattle.hip_runs.specs.Step.{header_entries}
+use Rattle.hip_sound.specs.Sound.{IsSound}
+use Rattle.hip_following.proofs.Followed.{stopped_over, trace_zero}
+use Rattle.hip_lockstep.proofs.Rooms.{header_small}
+use Rattle.hip_following.proofs.compared.note_beside.Goals as goal
+
+pub new-requires : goal.new-requires
+new-requires g c = header_small c.args.machine.now.program c.args.machine.now.input (subst (λ p. IsSound p) c.checked.ensures c.program-program.ensures.sound) c.requires.begun.1.valid (c.runs_are_bounded.ensures.bounded c.args.machine.now.program c.args.machine.now.input) c.args.lockstep.entries (c.requires.begun.1.counted ∙ ap (λ es. length es) (trace_zero c.args.machine.now.program c.args.machine.now.input))
+
+pub returns-in-Err : goal.returns-in-Err
+returns-in-Err g c = λ start h.
+    stopped_after start c.args.reader.now (g.C.Cabinet.state c.args.cabinet.now) (trace c.args.machine.now.program c.args.machine.now.input 0 ++ c.args.lockstep.next ∷ []) h.read
+
+pub follow-requires-clause-begun : goal.follow-requires-clause-begun
+follow-requires-clause-begun g c = let start = c.requires.begun.0 in let h = c.requires.begun.1 in (start, (subst (λ n. IsInStep c.args.machine.now.program c.args.machine.now.input start n c.args.reader.now (g.C.Cabinet.state c.args.cabinet.now) c.args.lockstep) (sym c.requires.fresh) h))
+
+pub returns-in-Err-follow : goal.returns-in-Err-follow
+returns-in-Err-follow g c = λ start h. c.in-Err-follow.ensures.steps start (subst (λ n. IsInStep c.args.machine.now.program c.args.machine.now.input start n c.args.reader.now (g.C.Cabinet.state c.args.cabinet.now) c.args.lockstep) (sym c.requires.fresh) h)
+
+pub close-requires-clause-header : goal.close-requires-clause-header
+close-requires-clause-header g c =
+    c.in-Ok-follow.ensures.over.header ∙ ap (λ t. t.header) c.in-Ok.ensures ∙ (c.requires.begun.1.counted ∙ ap (λ es. length es) (trace_zero c.args.machine.now.program c.args.machine.now.input)) ∙ length-header_of c.args.machine.now.input
+    ∙ ap header_entries (sym c.in-Ok-follow.ensures.over.input)
+
+pub returns-in-Ok-close : goal.returns-in-Ok-close
+returns-in-Ok-close g c = λ start h.
+    let f = c.in-Ok-follow.ensures.steps start (subst (λ n. IsInStep c.args.machine.now.program c.args.machine.now.input start n c.args.reader.now (g.C.Cabinet.state c.args.cabinet.now) c.args.lockstep) (sym c.requires.fresh) h) in
+    record {
+      steps = f.0;
+      over = f.1;
+      found =
+          subst (λ p. IsFound p c.args.machine.now.input c.in-Ok-close.findings) c.in-Ok-follow.ensures.over.program
+          (subst (λ i. IsFound c.follow.new.machine.program i c.in-Ok-close.findings) c.in-Ok-follow.ensures.over.input c.in-Ok-close.ensures);
+    }
+
+pub returns-in-Err-close : goal.returns-in-Err-close
+returns-in-Err-close g c = λ start h.
+    let f = c.in-Ok-follow.ensures.steps start (subst (λ n. IsInStep c.args.machine.now.program c.args.machine.now.input start n c.args.reader.now (g.C.Cabinet.state c.args.cabinet.now) c.args.lockstep) (sym c.requires.fresh) h) in
+    stopped_over c.args.machine.now.program c.args.machine.now.input start f.0 c.follow.new.reader (g.C.Cabinet.state c.follow.new.cabinet) c.in-Ok-follow.ended.entries c.in-Ok-follow.ended.ending f.1

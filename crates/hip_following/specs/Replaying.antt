@@ -1,0 +1,62 @@
+-- What replaying a trace answers.
+use Rattle.std.specs.Prelude.{◌≡◌, ℕ, List, [], length, Some, IfSome, Result, Ok, Err}
+use Rattle.hip_io.specs.Cabinets.{CabinetState}
+use Rattle.hip_tree.specs.declared.program.Program.{Program}
+use Rattle.hip_lockstep.specs.InStep.{HasFollowed}
+use Rattle.hip_lockstep.specs.Refusals.{Refuses}
+use Rattle.hip_lockstep.specs.declared.refusal.ReplayRefusal.{ReplayRefusal}
+use Rattle.hip_run_traces.specs.Misfits.{IsTraceOf}
+use Rattle.hip_run_traces.specs.Traces.{IsTrace}
+use Rattle.hip_runs.specs.Found.Marks.{IsFound}
+use Rattle.hip_runs.specs.Step.{run}
+use Rattle.hip_runs.specs.Validity.{IsValid}
+use Rattle.hip_trace.specs.Reads.{ReaderState, IsReading}
+use Rattle.hip_trace.specs.declared.entry.Entry.{Entry}
+use Rattle.hip_trace.specs.declared.refusal.Progress.TheVariants as progresses
+use Rattle.hip_runs.specs.declared.input.Input.{Input}
+use Rattle.hip_lockstep.specs.declared.ended.Ended.{Ended}
+use Rattle.hip_following.specs.declared.compared.Followed.{Followed}
+use Rattle.hip_following.specs.declared.compared.Replayed.{Replayed}
+
+-- The file, read to its end, is the trace of the run on the input that its header gives; nothing failed. As many
+-- entries were read as the trace has.
+pub record HasReplayed (P : Program) (r : ReaderState) (old new : CabinetState) (replayed : Replayed) : Type 0 where
+  pub reading : IsReading old new
+  pub valid : IsValid P replayed.input
+  pub found : IsFound P replayed.input replayed.findings
+  pub trace : List Entry
+  pub is_trace : IsTrace P replayed.input trace
+  pub ended : (run P replayed.input is_trace.steps).world.ending ≡ Some replayed.ending
+  pub entries : replayed.entries ≡ length trace
+  pub told : IfSome old.rest (λ bytes. IsTraceOf P bytes replayed.input)
+  pub left : IfSome new.rest (λ rest. rest ≡ [])
+  pub count : r.count ≡ length trace
+  pub progress : r.progress ≡ progresses.Ended
+
+-- what is known of a run whose steps were compared, since a cabinet stood in a state
+abbrev pub FollowsSteps : Program → Input → CabinetState → ReaderState → CabinetState
+    → Result Ended ReplayRefusal
+    → Type 0
+FollowsSteps P I start r s (Ok done) = (n : ℕ) × HasFollowed P I start n r s done.entries done.ending
+FollowsSteps P I start r s (Err refusal) = Refuses P r start s refusal
+
+-- The run was followed to its end, and found this.
+pub record HasFound (P : Program) (I : Input) (start : CabinetState) (r : ReaderState) (s : CabinetState)
+    (followed : Followed) : Type 0 where
+  pub steps : ℕ
+  pub over : HasFollowed P I start steps r s followed.entries followed.ending
+  pub found : IsFound P I followed.findings
+
+-- what is known of a run whose steps were compared and noted, since a cabinet stood in a state; at its end, what it
+-- found too
+abbrev pub Follows : Program → Input → CabinetState → ReaderState → CabinetState
+    → Result Followed ReplayRefusal
+    → Type 0
+Follows P I start r s (Ok followed) = HasFound P I start r s followed
+Follows P I start r s (Err refusal) = Refuses P r start s refusal
+
+-- what a replay of the rest of the current file does, by its answer
+abbrev pub Replays : Program → ReaderState → CabinetState → CabinetState → Result Replayed ReplayRefusal
+    → Type 0
+Replays P r old new (Ok replayed) = HasReplayed P r old new replayed
+Replays P r old new (Err refusal) = Refuses P r old new refusal

@@ -1,0 +1,172 @@
+ghost use Rattle.std.specs.Prelude.{◌≡◌, [], IsTrue, OnOk};
+ghost use Rattle.hip_io.specs.Cabinets.{CabinetState};
+ghost use Rattle.hip_lockstep.specs.InStep.{IsInStep};
+ghost use Rattle.hip_lockstep.specs.Opening.{HasHeader};
+ghost use Rattle.hip_report.specs.Noting.{IsOver};
+ghost use Rattle.hip_following.specs.Replaying.{Follows, FollowsSteps, Replays};
+ghost use Rattle.hip_report.specs.Tracking.{HasNoted};
+ghost use Rattle.hip_trace.specs.declared.refusal.Progress.TheVariants.{Reading};
+
+use hip_invariants::runs_are_bounded;
+use hip_io::Cabinet;
+use hip_lockstep::{Begun, Ended, Lockstep, ReplayRefusal, read_header};
+use hip_report::{Findings, Tracker};
+use hip_runs::{events_tell_output_and_ending, longest, runs_end};
+use hip_sound::Checked;
+use hip_step::{Ending, Input, Machine};
+use hip_trace::Reader;
+use std::alloc::Global;
+
+/// The run whose trace was replayed: its input, what it found, how it has ended, and how many entries its trace has.
+#[derive(Drop)]
+pub struct Replayed {
+    pub input: Input,
+    pub findings: Findings,
+    pub ending: Ending,
+    pub entries: u128,
+}
+
+/// What a run that was followed found, how it has ended, and how many entries its trace has.
+#[derive(Drop)]
+pub(crate) struct Followed {
+    pub findings: Findings,
+    pub ending: Ending,
+    pub entries: u128,
+}
+
+/// Compares the rest of the current file with the trace of the run on the input that its header gives: one entry is
+/// read for each that the run makes, and at most one behind the run's end. Memory is taken by the input and the machine,
+/// and by what is noted: stores that are not durable, marks and reports.
+pub fn replay<C: Cabinet>(
+    alloc: Global,
+    checked: &Checked,
+    reader: &mut Reader,
+    cabinet: &mut C,
+) -> Result<Replayed, ReplayRefusal>
+    requires new { reader.old ≡ record { held = []; count = 0; progress = Reading } }
+    requires current { IsTrue (C.state cabinet.old).is_current }
+    ensures { Replays checked.now reader.new (C.state cabinet.old) (C.state cabinet.new) result }
+{
+    let begun = match read_header(alloc, checked, reader, cabinet) {
+        Ok(begun) => begun,
+        Err(refusal) => return Err(refusal),
+    };
+    let Begun { input, lockstep } = begun;
+    match run_beside(alloc, checked, &input, lockstep, reader, cabinet) {
+        Ok(
+            Followed {
+                findings,
+                ending,
+                entries,
+            },
+        ) => Ok(Replayed {
+            input,
+            findings,
+            ending,
+            entries,
+        }),
+        Err(refusal) => Err(refusal),
+    }
+}
+
+// Runs a program on an input, and compares the entries behind the header with those of the run.
+fn run_beside<C: Cabinet>(
+    alloc: Global,
+    checked: &Checked,
+    input: &Input,
+    lockstep: Lockstep,
+    reader: &mut Reader,
+    cabinet: &mut C,
+) -> Result<Followed, ReplayRefusal>
+    requires current { IsTrue (C.state cabinet.old).is_current }
+    requires begun { (start : CabinetState) × HasHeader checked.now start reader.old (C.state cabinet.old)
+        (record { input = input.now; lockstep = lockstep }) }
+    ensures { (start : CabinetState) → HasHeader checked.now start reader.old (C.state cabinet.old)
+        (record { input = input.now; lockstep = lockstep }) →
+        Follows checked.now input.now start reader.new (C.state cabinet.new) result }
+{
+    let mut machine = match Machine::new(alloc, checked, input) {
+        Ok(machine) => machine,
+        Err(_) => return Err(ReplayRefusal::NoMemory),
+    };
+    note_beside(alloc, &mut machine, lockstep, reader, cabinet)
+}
+
+// Takes the steps of a run behind its header, compares their entries with those of a trace, and notes what is found.
+fn note_beside<'a, C: Cabinet>(
+    alloc: Global,
+    machine: &mut Machine<'a>,
+    lockstep: Lockstep,
+    reader: &mut Reader,
+    cabinet: &mut C,
+) -> Result<Followed, ReplayRefusal>
+    requires fresh { machine.old.taken ≡ 0 }
+    requires current { IsTrue (C.state cabinet.old).is_current }
+    requires begun { (start : CabinetState) × IsInStep machine.old.program machine.old.input start 0 reader.old
+        (C.state cabinet.old) lockstep }
+    ensures { (start : CabinetState) → IsInStep machine.old.program machine.old.input start 0 reader.old
+        (C.state cabinet.old) lockstep →
+        Follows machine.old.program machine.old.input start reader.new (C.state cabinet.new) result }
+{
+    runs_are_bounded();
+    let _program = machine.checked().program();
+    let mut tracker = match Tracker::new(alloc, lockstep.entries) {
+        Ok(tracker) => tracker,
+        Err(_) => return Err(ReplayRefusal::NoMemory),
+    };
+    let ended = match follow(machine, &mut tracker, lockstep, reader, cabinet) {
+        Ok(ended) => ended,
+        Err(refusal) => return Err(refusal),
+    };
+    match tracker.close(machine) {
+        Ok(findings) => Ok(Followed {
+            findings,
+            ending: ended.ending,
+            entries: ended.entries,
+        }),
+        Err(_) => Err(ReplayRefusal::NoMemory),
+    }
+}
+
+// Takes the steps of a run, and compares their entries with those of a trace.
+fn follow<'a, C: Cabinet>(
+    machine: &mut Machine<'a>,
+    tracker: &mut Tracker<'a>,
+    mut lockstep: Lockstep,
+    reader: &mut Reader,
+    cabinet: &mut C,
+) -> Result<Ended, ReplayRefusal>
+    requires current { IsTrue (C.state cabinet.old).is_current }
+    requires begun { (start : CabinetState) × IsInStep machine.old.program machine.old.input start machine.old.taken
+        reader.old (C.state cabinet.old) lockstep }
+    requires noted { HasNoted tracker.old machine.old }
+    ensures steps { (start : CabinetState) → IsInStep machine.old.program machine.old.input start machine.old.taken
+        reader.old (C.state cabinet.old) lockstep →
+        FollowsSteps machine.old.program machine.old.input start reader.new (C.state cabinet.new) result }
+    ensures over { OnOk result (IsOver machine.old machine.new tracker.old tracker.new) }
+{
+    runs_end();
+    runs_are_bounded();
+    events_tell_output_and_ending();
+    // No body has 2^64 instructions, so that the entries can be counted.
+    let program = machine.checked().program();
+    let _most = longest(program);
+    'steps: loop {
+        let event = match tracker.advance(machine) {
+            Ok(event) => event,
+            Err(_) => return Err(ReplayRefusal::NoMemory),
+        };
+        match lockstep.meet(event, reader, cabinet) {
+            Ok(met) => match met {
+                None => {}
+                Some(ending) => {
+                    return Ok(Ended {
+                        ending,
+                        entries: lockstep.entries,
+                    });
+                }
+            },
+            Err(refusal) => return Err(refusal),
+        }
+    }
+}

@@ -1,0 +1,6 @@
+//! A trace beside its run: the run whose trace a file is, or the first misfit.
+#![tactic(auto)]
+
+mod compared;
+
+pub use compared::{Replayed, replay};

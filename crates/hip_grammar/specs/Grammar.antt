@@ -1,0 +1,223 @@
+-- The grammar of programs: types, constants and operands. Each part is named as its production, which stands above it.
+use Rattle.std.specs.Prelude.{ℕ, zero, suc, Bool, List, is_some, codes, if◌then◌else◌}
+use Rattle.std.specs.Str.{bytes_eq}
+use Rattle.hip_types.specs.declared.number.Bits.{Bits}
+use Rattle.hip_types.specs.declared.number.Width.{Width}
+use Rattle.hip_types.specs.declared.number.Scalar.{Scalar}
+use Rattle.hip_types.specs.declared.number.Scalar.TheVariants as scalars
+use Rattle.hip_types.specs.declared.ty.Ty.{Ty, out-Ty}
+use Rattle.hip_types.specs.declared.ty.Ty.TheOpen.{Ty-F}
+use Rattle.hip_types.specs.declared.ty.Ty.TheVariants as types
+use Rattle.hip_types.specs.declared.limits.TheConstants.{DEEPEST_NESTING}
+use Rattle.hip_tokens.specs.Bytes.{byte}
+use Rattle.hip_tokens.specs.Tokens.{Tok, Word, Global}
+use Rattle.hip_rules.specs.Rule.{Verdict, Yes, No}
+use Rattle.hip_rules.specs.Part.{Part, gives, token, ◌>>=◌, either, optional, passing, separated, listed}
+use Rattle.hip_tree.specs.declared.constant.Const.{Const}
+use Rattle.hip_tree.specs.declared.constant.Const.TheVariants as consts
+use Rattle.hip_tree.specs.declared.constant.TypedConst.{TypedConst}
+use Rattle.hip_grammar.specs.declared.fault.Fault.{Fault}
+use Rattle.hip_tree.specs.declared.instr.Arg.{Arg}
+use Rattle.hip_tree.specs.declared.instr.Operand.{Operand}
+use Rattle.hip_tree.specs.declared.instr.Operand.TheVariants as operands
+use Rattle.hip_grammar.specs.Words.{is_word, is_mark, is_local, comma, a_local, too_deep, a_word_of, width_word, width_text, scalar_word, scalar_text, type_word}
+use Rattle.hip_grammar.specs.Numbers.{a_literal, an_int_const, a_count}
+
+-- this word, this mark
+abbrev pub word : List ℕ → Part Fault (Unit {0})
+word w = passing (is_word w)
+
+-- a mark, by its byte
+abbrev pub mark : ℕ → Part Fault (Unit {0})
+mark b = passing (is_mark b)
+
+-- [ word ]
+unfoldable pub maybe_word : List ℕ → Part Fault Bool
+maybe_word w = do
+  found ← optional (is_word w) (word w)
+  gives (is_some found)
+
+-- ---- types
+
+-- int = "i1" | "i8" | "i16" | "i32" | "i64"
+abbrev pub int : Part Fault Width
+int = token (a_word_of width_word)
+
+-- scalar = int | "ptr"
+abbrev pub scalar : Part Fault Scalar
+scalar = token (a_word_of scalar_word)
+
+-- the type that was there before, once more
+abbrev pub is_width : Width → Tok → Bool
+is_width w = is_word (width_text w)
+
+-- the same for any scalar type, as before the second value of a `select`
+abbrev pub is_scalar : Scalar → Tok → Bool
+is_scalar s = is_word (scalar_text s)
+
+-- "[" NUM "x" type "]"
+unfoldable pub array_type : Part Fault Ty → Part Fault Ty
+array_type element = do
+  _ ← mark (byte "[")
+  count ← token a_count
+  _ ← word (codes "x")
+  ty ← element
+  _ ← mark (byte "]")
+  gives (types.Array count ty)
+
+-- "{" [ type { "," type } ] "}"
+unfoldable pub struct_type : Part Fault Ty → Part Fault Ty
+struct_type field = do
+  _ ← mark (byte "{")
+  fields ← listed comma (is_mark (byte "}")) field
+  gives (types.Struct fields)
+
+-- type = scalar | "[" NUM "x" type "]" | "{" [ type { "," type } ] "}"
+unfoldable pub type_by : Part Fault Ty → Part Fault Ty → Part Fault Ty
+type_by array struct =
+    either (is_mark (byte "[")) array (either (is_mark (byte "{")) struct (token (a_word_of type_word)))
+
+-- nested at most so deep: where no level is left, an opening bracket or brace is too deep
+unfoldable pub type_within : ℕ → Part Fault Ty
+type_within zero = type_by (token (too_deep (byte "["))) (token (too_deep (byte "{")))
+type_within (suc n) = type_by (array_type (type_within n)) (struct_type (type_within n))
+
+-- a type, with arrays and structs nested at most `DEEPEST_NESTING` deep, where `{}` is one level
+abbrev pub type : Part Fault Ty
+type = type_within DEEPEST_NESTING
+
+-- ---- constants
+
+-- int literal
+unfoldable pub literal_index : Part Fault Bits
+literal_index = do
+  w ← int
+  token (a_literal w)
+
+-- "null" | "zeroinitializer" | GLOBAL
+abbrev pub a_pointer : Tok → Verdict Fault Const
+a_pointer (Word t) =
+    if bytes_eq t (codes "null") then Yes consts.Null
+    else (if bytes_eq t (codes "zeroinitializer") then Yes consts.Zero
+    else No)
+a_pointer (Global t) = Yes (consts.Address t)
+a_pointer _ = No
+
+-- "(" type "," "ptr" const "," int literal { "," int literal } ")"
+unfoldable pub gep_inside : Part Fault Const → Bool → Part Fault Const
+gep_inside base inbounds = do
+  _ ← mark (byte "(")
+  ty ← type
+  _ ← mark (byte ",")
+  _ ← word (codes "ptr")
+  from ← base
+  _ ← mark (byte ",")
+  indices ← separated comma literal_index
+  _ ← mark (byte ")")
+  gives (consts.Gep (record { inbounds = inbounds; ty = ty; base = from; indices = indices }))
+
+-- "getelementptr" [ "inbounds" ] and what it opens
+unfoldable pub gep_const : (Bool → Part Fault Const) → Part Fault Const
+gep_const inside = do
+  _ ← word (codes "getelementptr")
+  inbounds ← maybe_word (codes "inbounds")
+  inside inbounds
+
+-- a constant under `ptr`
+unfoldable pub pointer_by : (Bool → Part Fault Const) → Part Fault Const
+pointer_by inside = either (is_word (codes "getelementptr")) (gep_const inside) (token a_pointer)
+
+-- at most so many `getelementptr` in one another: where none is left, the parenthesis is too deep
+unfoldable pub pointer_within : ℕ → Part Fault Const
+pointer_within zero = pointer_by (λ inbounds. token (too_deep (byte "(")))
+pointer_within (suc n) = pointer_by (gep_inside (pointer_within n))
+
+-- a constant under `ptr`, with at most `DEEPEST_NESTING` `getelementptr` in one another
+abbrev pub pointer_const : Part Fault Const
+pointer_const = pointer_within DEEPEST_NESTING
+
+-- "zeroinitializer"
+abbrev pub zero_const : Tok → Verdict Fault Const
+zero_const t = if is_word (codes "zeroinitializer") t then Yes consts.Zero else No
+
+-- type const
+unfoldable pub typed_const : (Ty → Part Fault Const) → Part Fault TypedConst
+typed_const value = do
+  ty ← type
+  c ← value ty
+  gives (record { ty = ty; value = c })
+
+-- "[" [ type const { "," type const } ] "]" and the same in braces
+unfoldable pub const_list : ℕ → ℕ → (Ty → Part Fault Const) → Part Fault (List TypedConst)
+const_list open_mark close_mark value = do
+  _ ← mark open_mark
+  listed comma (is_mark close_mark) (typed_const value)
+
+-- a bracketed list, as the constant of an array
+unfoldable pub array_const : Part Fault (List TypedConst) → Part Fault Const
+array_const items = do
+  elements ← items
+  gives (consts.Array elements)
+
+-- a braced list, as the constant of a struct
+unfoldable pub struct_const : Part Fault (List TypedConst) → Part Fault Const
+struct_const items = do
+  fields ← items
+  gives (consts.Struct fields)
+
+-- const, by the type before it
+unfoldable pub const_by : Part Fault (List TypedConst) → Part Fault (List TypedConst) → Ty-F Ty → Part Fault Const
+const_by elements fields (Ty-F.Int w) = token (an_int_const w)
+const_by elements fields Ty-F.Ptr = pointer_const
+const_by elements fields (Ty-F.Array n e) = either (is_mark (byte "[")) (array_const elements) (token zero_const)
+const_by elements fields (Ty-F.Struct fs) = either (is_mark (byte "{")) (struct_const fields) (token zero_const)
+
+-- bracketed and braced constants nested at most so deep
+unfoldable pub const_within : ℕ → Ty → Part Fault Const
+const_within zero ty = const_by (token (too_deep (byte "["))) (token (too_deep (byte "{"))) (out-Ty ty)
+const_within (suc n) ty =
+    const_by
+    (const_list (byte "[") (byte "]") (const_within n))
+    (const_list (byte "{") (byte "}") (const_within n))
+    (out-Ty ty)
+
+-- const, by the type before it, with lists nested at most `DEEPEST_NESTING` deep
+abbrev pub const : Ty → Part Fault Const
+const = const_within DEEPEST_NESTING
+
+-- ---- operands
+
+-- const under an integer type or `ptr`, where no list may stand
+unfoldable pub scalar_const : Scalar → Part Fault Const
+scalar_const (scalars.Int w) = token (an_int_const w)
+scalar_const scalars.Ptr = pointer_const
+
+-- LOCAL, as an operand
+unfoldable pub register : Part Fault Operand
+register = do
+  name ← token a_local
+  gives (operands.Reg name)
+
+-- const under the scalar type, as an operand
+unfoldable pub fixed_operand : Scalar → Part Fault Operand
+fixed_operand s = do
+  value ← scalar_const s
+  gives (operands.Fixed value)
+
+-- operand = LOCAL | const
+unfoldable pub operand : Scalar → Part Fault Operand
+operand s = either is_local register (fixed_operand s)
+
+-- arg = scalar operand
+unfoldable pub arg : Part Fault Arg
+arg = do
+  s ← scalar
+  value ← operand s
+  gives (record { ty = s; value = value })
+
+-- index = int operand
+unfoldable pub index : Part Fault Arg
+index = do
+  w ← int
+  value ← operand (scalars.Int w)
+  gives (record { ty = scalars.Int w; value = value })

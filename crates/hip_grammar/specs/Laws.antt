@@ -1,0 +1,15 @@
+pub mod Apart
+pub mod Exactness
+pub mod BodiesExact
+pub mod SpellingLaws
+pub mod TextExact
+pub mod WrittenNumbers
+pub mod WrittenLists
+pub mod WrittenTypes
+pub mod WrittenConsts
+pub mod WrittenInstrs
+pub mod WrittenBlocks
+pub mod WrittenText
+pub mod BodiesSpelling
+pub mod TextSpelling
+pub mod SpellingExact

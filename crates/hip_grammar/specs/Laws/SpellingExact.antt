@@ -1,0 +1,16 @@
+-- The rules on the tree are exactly what lets a program be read back.
+use Rattle.std.specs.Prelude.{◌≡◌, ◌↔◌, ℕ, true, List}
+use Rattle.hip_tree.specs.declared.program.Program.{Program}
+use Rattle.hip_grammar.specs.Reading.{Reads, IsSpelled}
+use Rattle.hip_grammar.specs.Show.{show}
+use Rattle.hip_grammar.specs.Spelling.{spelled_program}
+use Rattle.hip_grammar.specs.Laws.TextSpelling.{reads_spelled}
+use Rattle.hip_grammar.specs.Laws.WrittenText.{spelled_is_read}
+
+-- a program meets the rules exactly where it is what its canonical text reads as
+pub spelled_exact : (program : Program) → (spelled_program program ≡ true) ↔ IsSpelled program
+spelled_exact program = (spelled_is_read program, reads_spelled (show program) program)
+
+-- what some text reads as, its canonical text reads as
+pub read_is_spelled : (bytes : List ℕ) (program : Program) → Reads bytes program → IsSpelled program
+read_is_spelled bytes program r = spelled_is_read program (reads_spelled bytes program r)

@@ -1,0 +1,11 @@
+pub mod Words
+pub mod Unsupported
+pub mod Numbers
+pub mod Grammar
+pub mod Bodies
+pub mod Text
+pub mod Show
+pub mod Spelling
+pub mod Reading
+pub mod Refusals
+pub mod Laws

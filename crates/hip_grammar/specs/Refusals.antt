@@ -1,0 +1,32 @@
+-- Why a text is refused, and what the answers of the reader say of it.
+use Rattle.std.specs.Prelude.{◌≡◌, ℕ, List, Result, Ok, Err}
+use Rattle.hip_grammar.specs.declared.fault.Fault.{Fault}
+use Rattle.hip_grammar.specs.declared.fault.Fault.TheVariants as faults
+use Rattle.hip_tree.specs.declared.program.Program.{Program}
+use Rattle.hip_grammar.specs.Reading.{IsRefusal}
+use Rattle.hip_grammar.specs.declared.refusal.ParseRefusal.{ParseRefusal}
+use Rattle.hip_grammar.specs.declared.refusal.ParseRefusal.TheVariants as refusals
+
+-- want of memory has no cause in the text
+abbrev pub IsCause : List ℕ → ParseRefusal → Type 0
+IsCause text (refusals.Syntax line) = IsRefusal text faults.Syntax line
+IsCause text (refusals.Unsupported line) = IsRefusal text faults.Unsupported line
+IsCause text (refusals.Range line) = IsRefusal text faults.Range line
+IsCause text (refusals.TooDeep line) = IsRefusal text faults.TooDeep line
+IsCause text refusals.NoMemory = Unit {0}
+
+-- the answer is this program, or want of memory
+abbrev pub GivesProgram : Result Program ParseRefusal → Program → Type 0
+GivesProgram (Ok found) program = found ≡ program
+GivesProgram (Err refusals.NoMemory) program = Unit {0}
+GivesProgram (Err (refusals.Syntax line)) program = ⊥
+GivesProgram (Err (refusals.Unsupported line)) program = ⊥
+GivesProgram (Err (refusals.Range line)) program = ⊥
+GivesProgram (Err (refusals.TooDeep line)) program = ⊥
+
+-- the refusal for a fault on that line
+abbrev pub refusal_of : Fault → ℕ → ParseRefusal
+refusal_of faults.Syntax line = refusals.Syntax line
+refusal_of faults.Unsupported line = refusals.Unsupported line
+refusal_of faults.Range line = refusals.Range line
+refusal_of faults.TooDeep line = refusals.TooDeep line

@@ -1,0 +1,16 @@
+/// Why there is no program, and on which line.
+///
+/// The line is that of the refused token, or of the text's last byte where the text ends too early.
+#[derive(Debug, Drop, PartialEq, Eq)]
+pub enum ParseRefusal {
+    /// The token may not stand there, or the text ends too early.
+    Syntax { line: u64 },
+    /// The token belongs to a form of LLVM's text that is not read.
+    Unsupported { line: u64 },
+    /// The token is a number out of the range of its place.
+    Range { line: u64 },
+    /// The token opens a level of nesting too many.
+    TooDeep { line: u64 },
+    /// No memory was found.
+    NoMemory,
+}

@@ -1,0 +1,6 @@
+pub mod Corresponding
+pub mod Rounds
+pub mod Repairs
+pub mod OneEnd
+pub mod Covering
+pub mod wrong

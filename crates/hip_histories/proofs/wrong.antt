@@ -1,0 +1,3 @@
+pub mod DroppedFlush
+pub mod EarlyClone
+pub mod LeftLoose

@@ -1,0 +1,6 @@
+pub mod Histories
+pub mod NoHarm
+pub mod WholeRuns
+pub mod Chains
+pub mod CrashSafe
+pub mod examples

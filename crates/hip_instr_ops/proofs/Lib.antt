@@ -1,0 +1,5 @@
+pub mod CallOps
+pub mod EffectOps
+pub mod GepOps
+pub mod Indices
+pub mod ValueOps

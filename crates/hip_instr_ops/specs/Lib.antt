@@ -1,0 +1,4 @@
+pub mod Effects
+pub mod Far
+pub mod Fields
+pub mod Passed

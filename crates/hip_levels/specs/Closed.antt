@@ -1,0 +1,55 @@
+-- Assignments of levels that meet rules, and the least of them.
+use Rattle.std.specs.Prelude.{ℕ, zero, suc, ◌*◌, ◌≤◌, cond, nat_lt, List, [], ◌∷◌, length, Some, None}
+use Rattle.hip_invariants.specs.PointerLevels.{PointerLevel, is_at_most}
+use Rattle.hip_runs.specs.StoredParts.Parts.{In}
+use Rattle.hip_levels.specs.Bounds.{Variable, Rule, Assignment, same_variable, bound_in}
+
+-- a level is a number from 0 to 32, or Free (this project's own, as all of this file)
+abbrev pub is_level : PointerLevel → Type 0
+is_level None = Unit {0}
+is_level (Some t) = t ≤ 32
+
+-- the variable of a rule has at least its level
+abbrev pub IsMet : Assignment → Rule → Type 0
+IsMet A r = is_at_most (bound_in A r.least) (A r.variable)
+
+-- An assignment is closed under rules where it meets each of them.
+pub record IsClosedUnder (rs : List Rule) (A : Assignment) : Type 0 where
+  pub levels : (v : Variable) → is_level (A v)
+  pub met : (r : Rule) → In r rs → IsMet A r
+
+-- The least closed assignment gives each variable at most the level that any other closed one gives it.
+pub record IsLeast (rs : List Rule) (A : Assignment) : Type 0 where
+  pub closed : IsClosedUnder rs A
+  pub below : (B : Assignment) → IsClosedUnder rs B → (v : Variable) → is_at_most (A v) (B v)
+
+-- ---- the least one by rounds
+
+-- the greater of two levels
+abbrev pub greater : PointerLevel → PointerLevel → PointerLevel
+greater None b = None
+greater (Some t) None = None
+greater (Some t) (Some u) = cond (nat_lt t u) (Some u) (Some t)
+
+-- every level is 0
+abbrev pub lowest : Assignment
+lowest v = Some 0
+
+-- the variable of a rule is raised to its level, where it has less
+abbrev pub raised : Rule → Assignment → Assignment
+raised r A v = cond (same_variable r.variable v) (greater (A v) (bound_in A r.least)) (A v)
+
+-- a round: one rule after another
+unfoldable pub round : List Rule → Assignment → Assignment
+round [] A = A
+round (r ∷ rs) A = round rs (raised r A)
+
+-- n rounds, one after another, from an assignment on
+unfoldable pub rounds : ℕ → List Rule → Assignment → Assignment
+rounds zero rs A = A
+rounds (suc n) rs A = round rs (rounds n rs A)
+
+-- The levels are raised until no rule raises any, which comes after 33 rounds for each rule at most, since a variable
+-- rises at most 33 times.
+unfoldable pub least_of : List Rule → Assignment
+least_of rs = rounds (suc (33 * length rs)) rs lowest

@@ -1,0 +1,71 @@
+-- Rules over variables that are numbered, and levels as numbers: 0 to 32, and 33 for Free.
+use Rattle.std.specs.Prelude.{ℕ, suc, ◌+◌, ◌-◌, ◌≤◌, ◌<◌, ◌≡◌, Bool, true, false, cond, nat_eq, nat_lt, List, [], ◌∷◌, slice_index, slice_set}
+use Rattle.hip_runs.specs.StoredParts.Parts.{In}
+use Rattle.hip_levels.specs.declared.numbered.Least.{Least}
+use Rattle.hip_levels.specs.declared.numbered.Least.TheVariants as least
+use Rattle.hip_levels.specs.declared.numbered.Rule.{Rule}
+
+-- the number of the level behind an offset
+abbrev pub behind_rank : ℕ → ℕ → ℕ
+behind_rank level offset =
+    cond (nat_eq offset 0) level (cond (nat_lt offset 67108864) (cond (nat_lt level 32) (suc level) 33) 33)
+
+-- what the least level of a rule comes to, where variables have these levels
+abbrev pub reached_by : (ℕ → ℕ) → Least → ℕ
+reached_by levels (least.Known level) = level
+reached_by levels (least.Behind offset variable) = behind_rank (levels variable) offset
+
+-- the levels of a table
+abbrev pub at : List ℕ → ℕ → ℕ
+at levels k = slice_index levels k
+
+-- what the least level of a rule comes to, where variables have the levels of a table, and 0 past its end
+abbrev pub reached : List ℕ → Least → ℕ
+reached levels l = reached_by (at levels) l
+
+-- a rule raises its variable
+abbrev pub rises : List ℕ → Rule → Bool
+rises levels r = nat_lt (at levels r.variable) (reached levels r.least)
+
+-- the levels behind a rule, which has raised its variable to its least level where that had less
+abbrev pub risen : List ℕ → Rule → List ℕ
+risen levels r = cond (rises levels r) (slice_set levels r.variable (reached levels r.least)) levels
+
+-- the variables of a rule have numbers below a count, and its level is one
+abbrev pub LeastIsWithin : ℕ → Least → Type 0
+LeastIsWithin count (least.Known level) = level ≤ 33
+LeastIsWithin count (least.Behind offset variable) = variable < count
+
+-- the variable that a rule raises has a number below a count, and so has that of its least level; a known level is at
+-- most 33
+pub record IsWithin (count : ℕ) (r : Rule) : Type 0 where
+  pub variable : r.variable < count
+  pub least : LeastIsWithin count r.least
+
+-- each rule speaks of variables with numbers below the count alone, and of no known level above 33
+pub record AreWithin (count : ℕ) (rules : List Rule) : Type 0 where
+  pub each : (r : Rule) → In r rules → IsWithin count r
+
+-- each rule is met
+pub record AreMetBy (levels : ℕ → ℕ) (rules : List Rule) : Type 0 where
+  pub each : (r : Rule) → In r rules → reached_by levels r.least ≤ levels r.variable
+
+-- levels that are none above those of any assignment that meets the rules
+pub record IsBelowAll (rules : List Rule) (levels : List ℕ) : Type 0 where
+  pub small : (k : ℕ) → at levels k ≤ 33
+  pub least : (other : ℕ → ℕ) → AreMetBy other rules → (k : ℕ) → at levels k ≤ other k
+
+-- how far levels may still rise
+abbrev pub room : List ℕ → ℕ
+room [] = 0
+room (level ∷ levels) = (33 - level) + room levels
+
+-- A rule was tried: it raised its variable, or it is met and nothing has changed.
+abbrev pub tried : Bool → List ℕ → List ℕ → Rule → Type 0
+tried true old new r = room new < room old
+tried false old new r = (new ≡ old) × (reached old r.least ≤ at old r.variable)
+
+-- All rules were tried: some variable has risen, or all are met and nothing has changed.
+abbrev pub swept : Bool → List ℕ → List ℕ → List Rule → Type 0
+swept true old new rules = room new < room old
+swept false old new rules = (new ≡ old) × AreMetBy (at old) rules

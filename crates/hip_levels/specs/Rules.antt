@@ -1,0 +1,107 @@
+-- The rules of pointer levels, row by row: how far behind the stack's end each pointer of a program may point.
+use Rattle.std.specs.Prelude.{ℕ, suc, List, [], ◌∷◌, ◌++◌, map, Option, Some, None, unwrap_or, slice_get}
+use Rattle.std.specs.List.{flat_map}
+use Rattle.hip_types.specs.Layout.{gep_of}
+use Rattle.hip_types.specs.declared.ty.Ty.{Ty}
+use Rattle.hip_tree.specs.declared.block.Block.{Block}
+use Rattle.hip_tree.specs.declared.block.End.{End}
+use Rattle.hip_tree.specs.declared.block.End.TheVariants as ends
+use Rattle.hip_tree.specs.declared.block.Phi.{Phi}
+use Rattle.hip_tree.specs.declared.instr.Arg.{Arg}
+use Rattle.hip_tree.specs.declared.instr.Instr.{Instr}
+use Rattle.hip_tree.specs.declared.instr.Instr.TheVariants.{Binary, Compare, Select, Cast, Alloca, Load, Store, Gep, Call}
+use Rattle.hip_tree.specs.declared.instr.Operand.{Operand}
+use Rattle.hip_tree.specs.declared.instr.Operand.TheVariants.{Reg, Fixed}
+use Rattle.hip_tree.specs.declared.program.Function.{Function}
+use Rattle.hip_tree.specs.declared.program.Param.{Param}
+use Rattle.hip_tree.specs.declared.program.Program.{Program}
+use Rattle.hip_externs.specs.Externs.{call_of}
+use Rattle.hip_externs.specs.declared.call.ExternCall.{ExternCall}
+use Rattle.hip_sound.specs.Numbering.{function_number}
+use Rattle.hip_invariants.specs.PointerLevels.{behind_offset, const_level, known_path}
+use Rattle.hip_levels.specs.Bounds.{Bound, Rule, Register, Result, Known, Behind, low, free, same_as}
+
+module _ (P : Program) (g : ℕ) where
+  -- an operand: `null`, `zeroinitializer` and a volatile global have level 0, a persistent global is free
+  abbrev pub operand_bound : Operand → Bound
+  operand_bound (Reg name) = same_as (Register g name)
+  operand_bound (Fixed c) = Known (const_level P.globals c)
+
+  -- what lies behind an offset from an operand
+  abbrev pub offset_bound : Operand → ℕ → Bound
+  offset_bound (Reg name) offset = Behind offset (Register g name)
+  offset_bound (Fixed c) offset = Known (behind_offset (const_level P.globals c) offset)
+
+  -- An element behind an operand, by the values of the indices; free where one of them is a register.
+  abbrev pub element_bound : Operand → Ty → Option (List ℕ) → Bound
+  element_bound base ty None = free
+  element_bound base ty (Some path) = offset_bound base (unwrap_or (gep_of ty path) 0)
+
+  -- the rule that a register has at least the level of a bound
+  abbrev pub rule : List ℕ → Bound → Rule
+  rule name least = record { variable = Register g name; least = least }
+
+  -- the register that the result of a call goes into, if any
+  abbrev pub rule_for_result : Option (List ℕ) → Bound → List Rule
+  rule_for_result None least = []
+  rule_for_result (Some name) least = rule name least ∷ []
+
+  -- a parameter: the level of its argument, at each call of its function
+  abbrev pub argument_rules : ℕ → List Param → List Arg → List Rule
+  argument_rules h [] args = []
+  argument_rules h (p ∷ ps) [] = []
+  argument_rules h (p ∷ ps) (a ∷ args) =
+      record { variable = Register h p.name; least = operand_bound a.value } ∷ argument_rules h ps args
+
+  -- the rules of a call of the function of number h, given that function if there is one
+  abbrev pub rules_into : Option (List ℕ) → List Arg → ℕ → Option Function → List Rule
+  rules_into dest args h None = []
+  rules_into dest args h (Some fn) = rule_for_result dest (same_as (Result h)) ++ argument_rules h fn.params args
+
+  -- the rules of a call of a defined function by its number; none where no function has the name
+  abbrev pub entry_rules : Option (List ℕ) → List Arg → Option ℕ → List Rule
+  entry_rules dest args None = []
+  entry_rules dest args (Some h) = rules_into dest args h (slice_get P.functions h)
+
+  -- A call: the level of its function's result, and the levels of its arguments. An external function gives no pointer.
+  abbrev pub call_rules : Option (List ℕ) → List ℕ → List Arg → Option ExternCall → List Rule
+  call_rules dest callee args (Some call) = rule_for_result dest free
+  call_rules dest callee args None = entry_rules dest args (function_number P callee)
+
+  -- The rules of an instruction. What is no pointer is free, which no pointer's level depends on.
+  abbrev pub instr_rules : Instr → List Rule
+  instr_rules (Alloca dest ty align) = rule dest low ∷ []
+  instr_rules (Load dest ty addr align) = rule dest free ∷ []
+  instr_rules (Cast dest op from a to) = rule dest free ∷ []
+  instr_rules (Gep dest inbounds ty base indices) = rule dest (element_bound base ty (known_path indices)) ∷ []
+  instr_rules (Select dest test ty a b) = rule dest (operand_bound a) ∷ rule dest (operand_bound b) ∷ []
+  instr_rules (Call dest ret callee args) = call_rules dest callee args (call_of callee)
+  instr_rules (Binary dest op flags width a b) = rule dest free ∷ []
+  instr_rules (Compare dest pred ty a b) = rule dest free ∷ []
+  instr_rules (Store ty value addr align) = []
+
+  -- a phi: the level of each of its values
+  abbrev pub phi_rules : Phi → List Rule
+  phi_rules p = map (λ e. rule p.dest (operand_bound e.value)) p.edges
+
+  -- the result of a function: the level of what each `ret` returns
+  abbrev pub end_rules : End → List Rule
+  end_rules (ends.Ret (Some a)) = record { variable = Result g; least = operand_bound a.value } ∷ []
+  end_rules _ = []
+
+  -- the rules of a block: of its phis, its body and its end, in this order
+  abbrev pub block_rules : Block → List Rule
+  block_rules b = flat_map phi_rules b.phis ++ (flat_map instr_rules b.body ++ end_rules b.end)
+
+  -- the rules of a function, block by block
+  abbrev pub function_rules : Function → List Rule
+  function_rules fn = flat_map block_rules fn.blocks
+
+-- the rules of functions in their order, the first of which has number g
+abbrev pub rules_from : Program → ℕ → List Function → List Rule
+rules_from P g [] = []
+rules_from P g (fn ∷ fns) = function_rules P g fn ++ rules_from P (suc g) fns
+
+-- All rules of a program, those of blocks that no path reaches too. A variable that no rule is for has level 0.
+abbrev pub level_rules : Program → List Rule
+level_rules P = rules_from P 0 P.functions

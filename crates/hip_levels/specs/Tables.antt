@@ -1,0 +1,71 @@
+-- Rules and levels in tables: variables by numbers, levels as numbers, 0 to 32, and 33 for Free.
+use Rattle.std.specs.Prelude.{ℕ, ◌≡◌, ◌<◌, ◌≤◌, cond, nat_lt, List, [], ◌∷◌, length, Some, None, unwrap_or, slice_get}
+use Rattle.std.specs.List.{IsDistinct}
+use Rattle.hip_invariants.specs.PointerLevels.{PointerLevel}
+use Rattle.hip_levels.specs.Bounds.{Variable, Bound, Rule, Assignment, Register, Result, Known, Behind, same_variable}
+use Rattle.hip_levels.specs.Numbered.{AreWithin}
+use Rattle.hip_levels.specs.declared.numbered.Least as numbered_least
+use Rattle.hip_levels.specs.declared.numbered.Least.TheVariants as numbered
+use Rattle.hip_levels.specs.declared.numbered.Rule as numbered_rule
+use Rattle.hip_levels.specs.declared.variables.Bound as held_bound
+use Rattle.hip_levels.specs.declared.variables.Bound.TheVariants as bounds
+use Rattle.hip_levels.specs.declared.variables.Variable as held
+use Rattle.hip_levels.specs.declared.variables.Variable.TheVariants as variables
+
+-- the level of a number
+abbrev pub level_of : ℕ → PointerLevel
+level_of n = cond (nat_lt n 33) (Some n) None
+
+-- the variable and the bound that the code's are
+abbrev pub variable_of : held.Variable → Variable
+variable_of (variables.Register g name) = Register g name.now
+variable_of (variables.Result g) = Result g
+
+-- the bound that the code's is, with a known level by its number: from 33 on it is Free
+abbrev pub bound_of : held_bound.Bound → Bound
+bound_of (bounds.Known level) = Known (level_of level)
+bound_of (bounds.Behind offset variable) = Behind offset (variable_of variable)
+
+-- a level that is known is one
+abbrev pub IsSmall : held_bound.Bound → Type 0
+IsSmall (bounds.Known level) = level ≤ 33
+IsSmall (bounds.Behind offset variable) = Unit {0}
+
+-- the variable of a number
+abbrev pub variable_at : List Variable → ℕ → Variable
+variable_at vs k = unwrap_or (slice_get vs k) (Result 0)
+
+-- the bound that one over numbers stands for, where the variables have these numbers
+abbrev pub least_named : List Variable → numbered_least.Least → Bound
+least_named vs (numbered.Known level) = Known (level_of level)
+least_named vs (numbered.Behind offset k) = Behind offset (variable_at vs k)
+
+-- the rule that one over numbers stands for
+abbrev pub named : List Variable → numbered_rule.Rule → Rule
+named vs r = record { variable = variable_at vs r.variable; least = least_named vs r.least }
+
+-- each variable has one number, and the rules speak of these alone
+pub record IsTable (vs : List Variable) (rs : List numbered_rule.Rule) : Type 0 where
+  pub distinct : IsDistinct same_variable vs
+  pub within : AreWithin (length vs) rs
+
+-- More variables have numbers: those that had one have it still.
+pub record Grows (old new : List Variable) : Type 0 where
+  pub kept : (k : ℕ) → k < length old → (k < length new) × (variable_at new k ≡ variable_at old k)
+  pub distinct : IsDistinct same_variable old → IsDistinct same_variable new
+
+-- a variable and its level
+pub record Leveled : Type 0 where
+  pub variable : Variable
+  pub level : PointerLevel
+
+-- variables with the levels that stand beside them
+abbrev pub leveled : List Variable → List ℕ → List Leveled
+leveled [] levels = []
+leveled (v ∷ vs) [] = []
+leveled (v ∷ vs) (n ∷ levels) = record { variable = v; level = level_of n } ∷ leveled vs levels
+
+-- the level that a variable has among them; 0 where it is not there
+abbrev pub level_among : List Leveled → Assignment
+level_among [] v = Some 0
+level_among (x ∷ xs) v = cond (same_variable v x.variable) x.level (level_among xs v)

@@ -1,0 +1,29 @@
+//! The laws of pointer levels, on definitions alone.
+
+ghost use Rattle.std.specs.Prelude.{◌≡◌, true};
+ghost use Rattle.hip_tree.specs.declared.program.Program.{Program};
+ghost use Rattle.hip_tree.specs.declared.site.Site.{Site};
+ghost use Rattle.hip_sound.specs.Sound.{IsSound};
+ghost use Rattle.hip_repairs.specs.Direct.{direct};
+ghost use Rattle.hip_repairs.specs.Quiet.{IsQuiet};
+ghost use Rattle.hip_levels.specs.Bounds.{Assignment, Variable};
+ghost use Rattle.hip_levels.specs.Closed.{IsLeast};
+ghost use Rattle.hip_levels.specs.LowStores.{least_levels, low_stores};
+ghost use Rattle.hip_levels.specs.Rules.{level_rules};
+
+/// There is a least closed assignment of levels, `least_levels`, and there is one only.
+pub fn least_levels_are_least()
+    ensures least { (P : Program) → IsLeast (level_rules P) (least_levels P) }
+    ensures one { (P : Program) → (A : Assignment) → IsLeast (level_rules P) A → (v : Variable) →
+        A v ≡ least_levels P v }
+{}
+
+/// In the run of every valid input no store lies in the region whose address has another level than Free.
+pub fn low_stores_are_quiet()
+    ensures { (P : Program) → IsSound P → IsQuiet P (low_stores P) }
+{}
+
+/// The stores whose address is a register assigned by `alloca`, or a volatile global itself, are among them.
+pub fn direct_stores_are_low()
+    ensures { (P : Program) → IsSound P → (s : Site) → direct P s ≡ true → low_stores P s ≡ true }
+{}

@@ -1,0 +1,60 @@
+ghost use Rattle.std.specs.Prelude.{◌≡◌, ◌≤◌, length};
+ghost use Rattle.hip_levels.specs.Numbered.{IsWithin, LeastIsWithin, behind_rank, reached, rises, risen};
+
+/// The number of the level Free; the others are 0 to 32.
+pub const FREE: u8 = 33;
+
+/// An offset that is less leads at most one level higher.
+const LEVEL_SIZE: u64 = 67_108_864;
+
+/// The least level that a rule allows: one that is known, or the one behind an offset from that of a variable.
+#[derive(Clone, Copy)]
+pub enum Least {
+    Known(u8),
+    Behind { offset: u64, variable: usize },
+}
+
+/// A variable, by its number, and the least level that it may have.
+#[derive(Clone, Copy)]
+pub struct Rule {
+    pub variable: usize,
+    pub least: Least,
+}
+
+/// The level behind an offset from a level.
+pub fn behind(level: u8, offset: u64) -> u8
+    ensures { result ≡ behind_rank level offset }
+{
+    if offset == 0 {
+        level
+    } else if offset < LEVEL_SIZE && level < FREE - 1 {
+        level + 1
+    } else {
+        FREE
+    }
+}
+
+/// What the least level of a rule comes to.
+fn least_level(levels: &[u8], least: Least) -> u8
+    requires { LeastIsWithin (length levels.now) least }
+    ensures { result ≡ reached levels.now least }
+{
+    match least {
+        Least::Known(level) => level,
+        Least::Behind { offset, variable } => behind(levels[variable], offset),
+    }
+}
+
+/// Raises the variable of a rule to its least level, where it has less, and says whether it had.
+pub fn raise(levels: &mut [u8], rule: Rule) -> bool
+    requires { IsWithin (length levels.old) rule }
+    ensures new { levels.new ≡ risen levels.old rule }
+    ensures rose { result ≡ rises levels.old rule }
+{
+    let least = least_level(levels, rule.least);
+    if levels[rule.variable] < least {
+        levels[rule.variable] = least;
+        return true;
+    }
+    false
+}

@@ -1,0 +1,169 @@
+ghost use Rattle.std.specs.Prelude.{◌≡◌, ◌++◌, All, is_some, IfOk, OnOk, Some};
+ghost use Rattle.std.specs.List.{filter};
+ghost use Rattle.hip_tree.specs.Sites.{has_site, sites_of};
+ghost use Rattle.hip_repairs.specs.Quiet.{IsQuiet};
+ghost use Rattle.hip_levels.specs.Bounds.{bound_in};
+ghost use Rattle.hip_levels.specs.Closed.{IsLeast};
+ghost use Rattle.hip_levels.specs.Describing.{Describes};
+ghost use Rattle.hip_levels.specs.Gathered.{BlockFits, FunctionFits, InstrFits, OperandFits};
+ghost use Rattle.hip_levels.specs.LowStores.{low_stores, stores_low};
+ghost use Rattle.hip_levels.specs.Picked.{picked_in_blocks, picked_in_body, picked_in_functions};
+ghost use Rattle.hip_levels.specs.Rules as spec;
+ghost use Rattle.hip_levels.specs.Tables.{level_among};
+
+use crate::constants::constant_level;
+use crate::gathering::{Scope, rules_of};
+use crate::numbered::FREE;
+use crate::table::LevelTable;
+use crate::variables::Variable;
+use hip_sound::Checked;
+use hip_tree::{Block, Function, Instr, Operand, Program, Site};
+use hip_types::{NoMemory, Row};
+use std::alloc::Global;
+
+/// Whether the level of an operand is not Free.
+fn is_low(
+    scope: &Scope<'_>,
+    levels: &LevelTable<'_>,
+    function: usize,
+    operand: &Operand,
+) -> Result<bool, NoMemory>
+    requires scope { Describes scope.now }
+    requires fits { OperandFits operand.now }
+    ensures { IfOk result (λ low. low ≡ is_some (bound_in (level_among levels.now)
+        (spec.operand_bound scope.now.program.now function operand.now))) }
+{
+    match operand {
+        Operand::Reg(name) => Ok(levels.is_low(Variable::Register(function, name.as_slice()))),
+        Operand::Fixed(value) => {
+            let level = constant_level(scope.alloc, &scope.persistence, value)?;
+            Ok(level < FREE)
+        }
+    }
+}
+
+/// Whether an instruction is a store whose address has another level than Free.
+fn stores_low(
+    scope: &Scope<'_>,
+    levels: &LevelTable<'_>,
+    function: usize,
+    instr: &Instr,
+) -> Result<bool, NoMemory>
+    requires scope { Describes scope.now }
+    requires fits { InstrFits instr.now }
+    ensures { IfOk result (λ low. low
+        ≡ stores_low scope.now.program.now (level_among levels.now) function (Some instr.now)) }
+{
+    match instr {
+        Instr::Store { addr, .. } => is_low(scope, levels, function, addr),
+        _ => Ok(false),
+    }
+}
+
+/// Adds the sites of such stores of a body.
+fn add_body(
+    scope: &Scope<'_>,
+    levels: &LevelTable<'_>,
+    sites: &mut Row<Site>,
+    function: usize,
+    block: usize,
+    body: &[Instr],
+) -> Result<(), NoMemory>
+    requires scope { Describes scope.now }
+    requires fits { All InstrFits body.now }
+    ensures { OnOk result (sites.new ≡ sites.old ++ picked_in_body
+        (λ f i. stores_low scope.now.program.now (level_among levels.now) f (Some i)) function block 0 body.now) }
+{
+    'each: for index in 0..body.len() {
+        if stores_low(scope, levels, function, &body[index])? {
+            sites.push(Site {
+                function,
+                block,
+                index,
+            })?;
+        }
+    }
+    Ok(())
+}
+
+/// Adds those of blocks.
+fn add_blocks(
+    scope: &Scope<'_>,
+    levels: &LevelTable<'_>,
+    sites: &mut Row<Site>,
+    function: usize,
+    blocks: &[Block],
+) -> Result<(), NoMemory>
+    requires scope { Describes scope.now }
+    requires fits { All BlockFits blocks.now }
+    ensures { OnOk result (sites.new ≡ sites.old ++ picked_in_blocks
+        (λ f i. stores_low scope.now.program.now (level_among levels.now) f (Some i)) function 0 blocks.now) }
+{
+    'each: for block in 0..blocks.len() {
+        let body = blocks[block].body.as_slice();
+        add_body(scope, levels, sites, function, block, body)?;
+    }
+    Ok(())
+}
+
+/// Adds those of all functions.
+fn add_functions(
+    scope: &Scope<'_>,
+    levels: &LevelTable<'_>,
+    sites: &mut Row<Site>,
+    functions: &[Function],
+) -> Result<(), NoMemory>
+    requires scope { Describes scope.now }
+    requires fits { All FunctionFits functions.now }
+    ensures { OnOk result (sites.new ≡ sites.old ++ picked_in_functions
+        (λ f i. stores_low scope.now.program.now (level_among levels.now) f (Some i)) 0 functions.now) }
+{
+    'each: for number in 0..functions.len() {
+        let blocks = functions[number].blocks.as_slice();
+        add_blocks(scope, levels, sites, number, blocks)?;
+    }
+    Ok(())
+}
+
+/// The sites of the stores whose address has another level than Free, in the program's order.
+fn low_sites(
+    scope: &Scope<'_>,
+    levels: &LevelTable<'_>,
+    program: &Program,
+) -> Result<Row<Site>, NoMemory>
+    requires scope { Describes scope.now }
+    requires program { scope.now.program.now ≡ program.now }
+    requires fits { All FunctionFits program.now.functions }
+    requires least { IsLeast (spec.level_rules program.now) (level_among levels.now) }
+    ensures { IfOk result (λ sites. sites ≡ filter (low_stores program.now) (sites_of program.now)) }
+{
+    let mut sites = Row::new(scope.alloc);
+    add_functions(scope, levels, &mut sites, program.functions.as_slice())?;
+    Ok(sites)
+}
+
+/// The least levels of a program.
+fn levels_of<'p>(scope: &Scope<'p>, program: &'p Program) -> Result<LevelTable<'p>, NoMemory>
+    requires scope { Describes scope.now }
+    requires program { scope.now.program.now ≡ program.now }
+    requires fits { All FunctionFits program.now.functions }
+    ensures { IfOk result (λ levels. IsLeast (spec.level_rules program.now) (level_among levels)) }
+{
+    let rules = rules_of(scope, program)?;
+    rules.solve(scope.alloc)
+}
+
+/// The sites of the stores whose address has another level than Free in the least assignment of levels, in the
+/// program's order: in no run do they lie in the region.
+///
+/// The time is linear in operands and calls, times the 33 levels at most; the memory is linear in them.
+pub fn quiet_stores(alloc: Global, checked: &Checked) -> Result<Row<Site>, NoMemory>
+    ensures sites { IfOk result (λ sites. sites ≡ filter (low_stores checked.now) (sites_of checked.now)) }
+    ensures quiet { IfOk result (λ sites. IsQuiet checked.now (has_site sites)) }
+{
+    let program = checked.program();
+    let scope = Scope::new(alloc, program)?;
+    let levels = levels_of(&scope, program)?;
+    let sites = low_sites(&scope, &levels, program)?;
+    Ok(sites)
+}

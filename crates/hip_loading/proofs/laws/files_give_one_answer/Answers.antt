@@ -1,5 +1,0 @@
-use Rattle.hip_loading.specs.Laws.OneAnswer.{loads_one}
-use Rattle.hip_loading.proofs.laws.files_give_one_answer.Goals as goal
-
-pub returns : goal.returns
-returns c = loads_one

@@ -1,0 +1,9 @@
+pub mod Slots
+pub mod Arms
+pub mod BranchArms
+pub mod CallArms
+pub mod MemoryArms
+pub mod OtherArms
+pub mod Known
+pub mod Fetch
+pub mod NamedPointers

@@ -1,0 +1,45 @@
+-- The frames below the top one, and what the code keeps of them.
+use Rattle.std.specs.Prelude.{ℕ, suc, ◌+◌, ◌≤◌, ◌≡◌, List, [], ◌∷◌, ◌++◌, length, Option, Some}
+use Rattle.hip_tree.specs.declared.program.Program.{Program}
+use Rattle.hip_runs.specs.State.{Frame, Level}
+use Rattle.hip_code.specs.Frames.{names_at, HoldsFrame}
+use Rattle.hip_code.specs.Resolved.{is_result}
+use Rattle.hip_machine.specs.declared.core_parts.Activation.{Activation}
+use Rattle.hip_machine.specs.Blocks.{blocks_of}
+use Rattle.hip_machine.specs.Placed.{placed_at}
+
+-- The call before a frame's place made the frame above it.
+pub record IsCallOf (g : Frame) (level : Option Level) : Type 0 where
+  pub index : ℕ
+  pub birth : ℕ
+  pub behind : g.place ≡ suc index
+  pub is : level ≡ Some (record {
+    call = record { function = g.function; block = g.block; index = index };
+    birth = birth;
+  })
+
+-- What is kept of a frame with others below it, under slots from a base on and a frame that a call made, whose result
+-- goes to a register.
+pub record IsSaved (P : Program) (slots : List ℕ) (base : ℕ) (slot : Option ℕ) (name : Option (List ℕ))
+    (level : Option Level) (x : Activation) (g : Frame) (gs : List Frame) : Type 0 where
+  pub placed : placed_at P x g
+  pub registers : HoldsFrame (names_at P g.function) slots x.base g.registers
+  pub apart : x.base + length (names_at P g.function) ≤ base
+  pub result : is_result (names_at P g.function) slot name
+  pub mark : x.mark ≡ g.mark
+  pub blocks : x.blocks ≡ length (blocks_of gs)
+  pub call : IsCallOf g level
+
+-- each of the frames, from the top one down, is kept by the last activation that is left; for no frames there is none
+abbrev pub are_saved : Program → List ℕ → ℕ → Option ℕ → Option (List ℕ) → Option Level
+    → List Activation →
+    List Frame → Type 0
+are_saved P slots base slot name level saved [] = saved ≡ []
+are_saved P slots base slot name level saved (g ∷ gs) =
+    (rest : List Activation) × (x : Activation) × (saved ≡ rest ++ x ∷ [])
+    × IsSaved P slots base slot name level x g gs × are_saved P slots x.base x.dest g.dest g.level rest gs
+
+-- The frames below one whose slots begin at a base, that a call made, and whose result goes to a register.
+pub record AreSaved (P : Program) (slots : List ℕ) (base : ℕ) (slot : Option ℕ) (name : Option (List ℕ))
+    (level : Option Level) (saved : List Activation) (fs : List Frame) : Type 0 where
+  pub are : are_saved P slots base slot name level saved fs

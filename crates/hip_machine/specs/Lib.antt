@@ -1,0 +1,7 @@
+pub mod Puts
+pub mod Blocks
+pub mod Placed
+pub mod Below
+pub mod Stands
+pub mod Acts
+pub mod Pointing

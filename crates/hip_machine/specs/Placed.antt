@@ -1,0 +1,17 @@
+-- Where a frame stands in the code.
+use Rattle.std.specs.Prelude.{◌≡◌, ℕ}
+use Rattle.hip_tree.specs.declared.program.Program.{Program}
+use Rattle.hip_runs.specs.State.{Frame}
+use Rattle.hip_code.specs.Entries.{StandsAt, entry}
+use Rattle.hip_machine.specs.declared.core_parts.Activation.{Activation}
+
+-- The place is that of place k in block b of function g, whose first op has its own place, and the numbers are theirs.
+pub record IsPlaced (P : Program) (place first i j g b k : ℕ) : Type 0 where
+  pub stands : StandsAt P place g b k
+  pub begins : first ≡ entry P g b
+  pub function : i ≡ g
+  pub block : j ≡ b
+
+-- the activation has the frame's function and block, where that block begins in the code, and the frame's place there
+abbrev pub placed_at : Program → Activation → Frame → Type 0
+placed_at P x f = IsPlaced P x.place x.entry x.function x.block f.function f.block f.place

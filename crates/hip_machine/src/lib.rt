@@ -1,0 +1,17 @@
+//! The state of a machine on resolved code, and its step: the op at its place does what it stands for.
+#![tactic(auto)]
+
+mod act;
+mod branches;
+mod calls;
+mod core_parts;
+mod memory_steps;
+mod moves;
+mod persistence;
+mod pointers;
+mod values;
+
+pub use act::step_core;
+pub use calls::lengthen;
+pub use core_parts::{Activation, Core};
+pub use pointers::pointer_here;

@@ -1,0 +1,16 @@
+pub mod Clamped
+pub mod ClosedCalls
+pub mod Forgetting
+pub mod Groups
+pub mod LatestFlushes
+pub mod LoosePlaces
+pub mod MarkTests
+pub mod MarksAhead
+pub mod MarksAtHand
+pub mod NoteLists
+pub mod Ranges
+pub mod Rooms
+pub mod Reporting
+pub mod Searches
+pub mod Telling
+pub mod noting

@@ -1,0 +1,7 @@
+pub mod Assembled
+pub mod CallSteps
+pub mod CallsInside
+pub mod LooseSteps
+pub mod PlainSteps
+pub mod Steps
+pub mod Still

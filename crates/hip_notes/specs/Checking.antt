@@ -1,0 +1,62 @@
+-- What the loose bytes of a check tell of each store, and its report.
+use Rattle.std.specs.Prelude.{ℕ, Bool, cond, ◌&&◌, nat_eq, nat_lt, ◌/◌, List, [], ◌∷◌, ◌++◌, map, Option, Some, None, option_map}
+use Rattle.hip_tree.specs.declared.site.Site.{Site}
+use Rattle.hip_types.specs.declared.areas.TheConstants.{LINE_SIZE}
+use Rattle.hip_lines.specs.declared.part.LooseByte.{LooseByte}
+use Rattle.hip_runs.specs.Found.Reports.{kind_of}
+use Rattle.hip_runs.specs.StoredParts.Order.{is_before}
+use Rattle.hip_runs.specs.declared.report.Report.{Report}
+use Rattle.hip_notes.specs.CallPaths.{closed_by}
+use Rattle.hip_notes.specs.Pending.{first_after, flushes_in, note_of}
+use Rattle.hip_notes.specs.declared.checks.Group.{Group}
+use Rattle.hip_notes.specs.declared.pending.FlushNote.{FlushNote}
+use Rattle.hip_notes.specs.declared.pending.LineNote.{LineNote}
+use Rattle.hip_notes.specs.declared.pending.StoreNote.{StoreNote}
+
+-- the later of two flushes
+abbrev pub later_note : Option FlushNote → Option FlushNote → Option FlushNote
+later_note None b = b
+later_note (Some a) None = Some a
+later_note (Some a) (Some b) = cond (nat_lt a.step b.step) (Some b) (Some a)
+
+-- the first flush of a loose byte's line after its store
+abbrev pub flush_told : (ℕ → Option LineNote) → LooseByte → Option FlushNote
+flush_told lines b = first_after b.tag (flushes_in (lines (b.offset / LINE_SIZE)))
+
+-- one loose byte more of a store
+abbrev pub joined : Bool → Option FlushNote → Option Group → Group
+joined flushed flush None = record { flushed = flushed; latest = flush }
+joined flushed flush (Some g) = record { flushed = g.flushed && flushed; latest = later_note g.latest flush }
+
+-- what loose bytes tell of the store of a step, behind what others told of it
+abbrev pub group_from : (ℕ → Option LineNote) → ℕ → Option Group → List LooseByte → Option Group
+group_from lines tag g [] = g
+group_from lines tag g (b ∷ bs) =
+    group_from lines tag (cond (nat_eq b.tag tag) (Some (joined b.flushed (flush_told lines b) g)) g) bs
+
+-- the site of the flush that lacks a fence: the latest one, where all loose bytes of the store are flushed; else none
+abbrev pub site_told : Bool → Option FlushNote → Option Site
+site_told flushed latest = cond flushed (option_map (λ f. f.site) latest) None
+
+-- the report of a store, at a check with this entry, where calls of these births stand
+abbrev pub report_told : List ℕ → ℕ → Option ℕ → StoreNote → Group → Report
+report_told births check fence note g =
+    record {
+      entry = note.entry;
+      check_entry = check;
+      kind = kind_of g.flushed (is_before note.tag fence);
+      flush_site = site_told g.flushed g.latest;
+      path = note.site ∷ map (λ l. l.call) note.calls.value;
+      closed = closed_by births note.calls.value;
+    }
+
+-- the report of a store that has a note; none where there is no note
+abbrev pub report_in : List ℕ → ℕ → Option ℕ → Option StoreNote → Group → List Report
+report_in births check fence None g = []
+report_in births check fence (Some note) g = report_told births check fence note g ∷ []
+
+-- the reports of the stores of these steps
+abbrev pub reports_told : List ℕ → ℕ → Option ℕ → List StoreNote → List (ℕ × Group) → List Report
+reports_told births check fence notes [] = []
+reports_told births check fence notes (e ∷ es) =
+    report_in births check fence (note_of notes e.0) e.1 ++ reports_told births check fence notes es

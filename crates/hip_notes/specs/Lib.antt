@@ -1,0 +1,8 @@
+pub mod CallPaths
+pub mod Pending
+pub mod Checking
+pub mod Standing
+pub mod MarkKeys
+pub mod Noted
+pub mod Sights
+pub mod Plain

@@ -1,0 +1,142 @@
+-- What a tracker notes of a run.
+use Rattle.std.specs.Prelude.{◌≡◌, ◌⊎◌, ℕ, ◌+◌, ◌-◌, ◌≤◌, ◌<◌, ◌^◌, ◌/◌, Bool, true, cond, filter, List, [], ◌∷◌, ◌++◌, map, nat_lt, length, take, drop, Option, Some, None, option_map}
+use Rattle.hip_tree.specs.declared.program.Program.{Program}
+use Rattle.hip_tree.specs.declared.site.Site.{Site}
+use Rattle.std.specs.BTreeMap as tree
+use Rattle.std.specs.BTreeMap.{BTreeMap}
+use Rattle.std.specs.Ordering.{nat_cmp}
+use Rattle.hip_lines.specs.Line.{has_bytes}
+use Rattle.hip_lines.specs.Parts.{loose_from}
+use Rattle.hip_lines.specs.Pending.{Pending as Waiting}
+use Rattle.hip_types.specs.declared.areas.TheConstants.{LINE_SIZE}
+use Rattle.hip_lines.specs.declared.part.LooseByte.{LooseByte}
+use Rattle.hip_lines.specs.declared.part.Part.{Part}
+use Rattle.hip_runs.specs.Found.Marks.{hit, pointed}
+use Rattle.hip_runs.specs.Found.Reports.{Range, reports}
+use Rattle.hip_runs.specs.declared.report.Report.{Report}
+use Rattle.hip_runs.specs.State.{Level, levels_of}
+use Rattle.hip_runs.specs.Step.{header_entries, run}
+use Rattle.hip_runs.specs.StoredParts.Order.{last_fence}
+use Rattle.hip_runs.specs.StoredParts.Parts.{In}
+use Rattle.hip_runs.specs.declared.event.Event.{Event}
+use Rattle.hip_runs.specs.declared.event.Event.TheVariants as events
+use Rattle.hip_runs.specs.declared.input.Input.{Input}
+use Rattle.hip_notes.specs.CallPaths.{births_of}
+use Rattle.hip_notes.specs.Checking.{group_from, reports_told}
+use Rattle.hip_notes.specs.declared.checks.Group.{Group}
+use Rattle.hip_notes.specs.MarkKeys.{AreMet, mark_of, WereHit}
+use Rattle.hip_notes.specs.Pending.{AreBlank, blank, lines_of, with_flush, with_store}
+use Rattle.hip_notes.specs.Standing.{Tells}
+use Rattle.hip_notes.specs.declared.notes.Notes.{Notes}
+use Rattle.hip_notes.specs.declared.pending.Pending.{Pending}
+use Rattle.hip_notes.specs.declared.pending.LineNote.{LineNote}
+use Rattle.hip_notes.specs.declared.pending.StoreNote.{StoreNote}
+
+-- The notes after n steps of a run: its counts, calls and last fence, what is kept of pending stores, marks and
+-- reports. What has the number of an entry in it is so where the header's entries were counted right.
+pub record AreNoted (P : Program) (I : Input) (n : ℕ) (c : Notes) : Type 0 where
+  pub steps : c.steps ≡ n
+  pub counted : (run P I n).counts.steps ≡ n
+  pub entries : c.header ≡ header_entries I → c.entries ≡ (run P I n).counts.entries
+  pub few : c.entries ≤ c.header + n
+  pub header : c.header ≤ 2 ^ 64
+  pub fence : c.fence ≡ last_fence P I n
+  pub calls : c.calls ≡ levels_of (run P I n).frames
+  pub births : c.births.items ≡ births_of (levels_of (run P I n).frames)
+  pub pending : Tells P I n c.header c.pending.stores.items (lines_of c.pending.lines)
+  pub marks : map mark_of c.marks.keys ≡ pointed P I n
+  pub recent : AreMet (map mark_of c.marks.keys) c.recent.items
+  pub hit : c.hit.keys ≡ hit P I n
+  pub flags : WereHit c.hit.keys c.flags.items
+  pub reports : c.header ≡ header_entries I → c.reports ≡ reports P I n
+
+-- ---- what an event does to what is kept of pending stores
+
+-- the lines that have one of so many bytes at an offset are changed
+abbrev pub ChangeLines : (Option LineNote → Option LineNote) → ℕ → ℕ → Pending → Pending → Type 0
+ChangeLines to o n old new = (j : ℕ)
+    → lines_of new.lines j ≡ cond (has_bytes j o n) (to (lines_of old.lines j)) (lines_of old.lines j)
+
+-- the notes of stores and those of lines are as they were
+abbrev pub StaySame : Pending → Pending → Type 0
+StaySame old new = (new.stores.items ≡ old.stores.items)
+    × ((j : ℕ) → lines_of new.lines j ≡ lines_of old.lines j)
+
+-- a note of a store by a step at a site, with this entry and under these calls
+pub record IsNoteOf (step entry : ℕ) (site : Site) (calls : List Level) (note : StoreNote) : Type 0 where
+  pub tag : note.tag ≡ step
+  pub entry_is : note.entry ≡ entry
+  pub site_is : note.site ≡ site
+  pub calls_are : note.calls.value ≡ calls
+
+-- a store of m bytes at offset o puts its note behind the others, and its lines have a store since their last flush;
+-- nothing is asked without a site
+abbrev pub StoredAt : Option Site → ℕ → ℕ → List Level → ℕ → ℕ → Pending → Pending → Type 0
+StoredAt None step entry calls o m old new = Unit {0}
+StoredAt (Some site) step entry calls o m old new =
+    ((note : StoreNote) × IsNoteOf step entry site calls note
+    × (new.stores.items ≡ old.stores.items ++ note ∷ []))
+    × ChangeLines (λ l. Some (with_store l)) o m old new
+
+-- a flush of n bytes at offset o goes into the notes of its lines into which a store came since the flush before, and
+-- the stores stay; nothing is asked without a site
+abbrev pub FlushedAt : Option Site → ℕ → ℕ → ℕ → Pending → Pending → Type 0
+FlushedAt None step o n old new = Unit {0}
+FlushedAt (Some site) step o n old new =
+    (new.stores.items ≡ old.stores.items)
+    × ChangeLines (option_map (with_flush (record { step = step; site = site }))) o n old new
+
+-- What a step with this event does to what is kept, in a region from a base on: a store and a flush are noted, all
+-- else changes nothing, a persist too, behind which its lines have no loose byte.
+abbrev pub Follows : Event → Option Site → ℕ → ℕ → ℕ → List Level → Pending → Pending → Type 0
+Follows (events.Store a v m) site base step entry calls old new = StoredAt site step entry calls (a - base) m old new
+Follows (events.Flush line size) site base step entry calls old new = FlushedAt site step (line - base) size old new
+Follows _ site base step entry calls old new = StaySame old new
+
+-- a store or a flush behind a base ends below 2^64
+abbrev pub EndsBelow : ℕ → Event → Type 0
+EndsBelow base (events.Store a v m) = (a - base) + m < 2 ^ 64
+EndsBelow base (events.Flush line size) = (line - base) + size < 2 ^ 64
+EndsBelow base _ = Unit {0}
+
+-- ---- what an event does to the calls
+
+-- the calls, where so many frames stood before a step at a site and stand after it
+abbrev pub calls_after : ℕ → ℕ → ℕ → Option Site → List Level → List Level
+calls_after before after step None ls = cond (nat_lt after before) (drop 1 ls) ls
+calls_after before after step (Some site) ls =
+    cond (nat_lt before after) (record { call = site; birth = step } ∷ ls) (cond (nat_lt after before) (drop 1 ls) ls)
+
+-- and their births, the outermost one first
+abbrev pub births_after : ℕ → ℕ → ℕ → Option Site → List ℕ → List ℕ
+births_after before after step None bs = cond (nat_lt after before) (take (length bs - 1) bs) bs
+births_after before after step (Some site) bs =
+    cond (nat_lt before after) (bs ++ step ∷ []) (cond (nat_lt after before) (take (length bs - 1) bs) bs)
+
+-- ---- what an event checks
+
+-- the reports behind others, of a check of a range if there is one
+abbrev pub Reported : Option Range → List ℕ → ℕ → Option ℕ → Pending → List (Waiting Part)
+    → List Report
+    → List Report → Type 0
+Reported None births entry fence p lines old new = new ≡ old
+Reported (Some r) births entry fence p lines old new =
+    (groups : BTreeMap ℕ Group) × tree.IsOrdered nat_cmp groups
+    × ((tag : ℕ)
+    → tree.get nat_cmp groups tag ≡ group_from (lines_of p.lines) tag None (loose_from lines r.offset r.size))
+    × (new ≡ old ++ reports_told births entry fence p.stores.items groups.entries)
+
+-- ---- what is let go
+
+-- What is kept behind a fence of the notes where these bytes are loose: the stores of some steps, those by which bytes
+-- are loose among them, and a blank note of each line that has a loose byte.
+pub record IsLetGo (bytes : List LooseByte) (old new : Pending) : Type 0 where
+  pub tags : ℕ → Bool
+  pub told : (x : LooseByte) → In x bytes → tags x.tag ≡ true
+  pub stores : new.stores.items ≡ filter (λ note. tags note.tag) old.stores.items
+  pub lines : (x : LooseByte) → In x bytes → lines_of new.lines (x.offset / LINE_SIZE) ≡ Some blank
+  pub others : AreBlank (lines_of new.lines)
+
+-- all stays, or, behind a fence, only what the loose bytes ask for is kept
+abbrev pub IsForgotten : Bool → List LooseByte → Pending → Pending → Type 0
+IsForgotten fenced bytes old new = (new ≡ old) ⊎ ((fenced ≡ true) × IsLetGo bytes old new)

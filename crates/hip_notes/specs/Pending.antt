@@ -1,0 +1,63 @@
+-- What is kept of a run for the checks to come: its stores that may still be reported, and the flushes of their lines.
+use Rattle.std.specs.Prelude.{◌≡◌, ◌⊎◌, ℕ, ◌+◌, ◌<◌, ◌≤◌, Bool, true, false, cond, ◌&&◌, nat_eq, nat_le, nat_lt, List, [], ◌∷◌, ◌++◌, Option, Some, None}
+use Rattle.std.specs.Ordering.{nat_cmp}
+use Rattle.std.specs.BTreeMap as tree
+use Rattle.std.specs.BTreeMap.{BTreeMap}
+use Rattle.hip_notes.specs.declared.pending.FlushNote.{FlushNote}
+use Rattle.hip_notes.specs.declared.pending.LineNote.{LineNote}
+use Rattle.hip_notes.specs.declared.pending.StoreNote.{StoreNote}
+
+-- ---- stores
+
+-- the first note of a store that was made by a step
+abbrev pub note_of : List StoreNote → ℕ → Option StoreNote
+note_of [] tag = None
+note_of (x ∷ xs) tag = cond (nat_eq x.tag tag) (Some x) (note_of xs tag)
+
+-- the steps of the stores ascend from a number on, and are below another
+abbrev pub StoresAscend : ℕ → ℕ → List StoreNote → Type 0
+StoresAscend a b [] = Unit {0}
+StoresAscend a b (x ∷ xs) = (a ≤ x.tag) × (x.tag < b) × StoresAscend (x.tag + 1) b xs
+
+-- so the steps of flushes
+abbrev pub FlushesAscend : ℕ → ℕ → List FlushNote → Type 0
+FlushesAscend a b [] = Unit {0}
+FlushesAscend a b (x ∷ xs) = (a ≤ x.step) × (x.step < b) × FlushesAscend (x.step + 1) b xs
+
+-- ---- flushes
+
+-- the first flush after a step
+abbrev pub first_after : ℕ → List FlushNote → Option FlushNote
+first_after step [] = None
+first_after step (f ∷ fs) = cond (nat_lt step f.step) (Some f) (first_after step fs)
+
+-- the note of cache line j, if it has one
+abbrev pub lines_of : BTreeMap ℕ LineNote → ℕ → Option LineNote
+lines_of m j = tree.get nat_cmp m j
+
+-- whether line j is one of those from the first one up to the end
+abbrev pub is_between : ℕ → ℕ → ℕ → Bool
+is_between first end j = nat_le first j && nat_lt j end
+
+-- the flushes that are noted of a line, the earliest first; none where it has no note
+abbrev pub flushes_in : Option LineNote → List FlushNote
+flushes_in None = []
+flushes_in (Some l) = l.flushes
+
+-- a line after a store into it
+abbrev pub with_store : Option LineNote → LineNote
+with_store l = record { stored = true; flushes = flushes_in l }
+
+-- A line after a flush of it, which is noted where a store came since the flush before.
+abbrev pub with_flush : FlushNote → LineNote → LineNote
+with_flush f l = cond l.stored (record { stored = false; flushes = l.flushes ++ f ∷ [] }) l
+
+-- ---- what is let go
+
+-- A line of which nothing is kept but that a store came, as behind a fence, where no loose byte was flushed.
+abbrev pub blank : LineNote
+blank = record { stored = true; flushes = [] }
+
+-- every line that has a note is blank
+abbrev pub AreBlank : (ℕ → Option LineNote) → Type 0
+AreBlank lines = (j : ℕ) → (lines j ≡ None) ⊎ (lines j ≡ Some blank)

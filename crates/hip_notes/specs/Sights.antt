@@ -1,0 +1,53 @@
+-- What is seen of a machine before a step.
+use Rattle.std.specs.Prelude.{◌≡◌, ℕ, zero, suc, Bool, true, false, cond, List, [], ◌++◌, Option, Some, None}
+use Rattle.hip_types.specs.Distinct.{met}
+use Rattle.hip_tree.specs.declared.program.Program.{Program}
+use Rattle.hip_tree.specs.declared.site.Site.{Site}
+use Rattle.hip_runs.specs.Found.Marks.{frame_marks, mark_of, same_mark}
+use Rattle.hip_runs.specs.Found.Objects.{object_at}
+use Rattle.hip_runs.specs.State.{State}
+use Rattle.hip_runs.specs.Step.{has_ended}
+use Rattle.hip_runs.specs.declared.event.Ending.TheVariants.{Cut, Trap}
+use Rattle.hip_runs.specs.declared.event.Event.{Event}
+use Rattle.hip_runs.specs.declared.event.Event.TheVariants as events
+use Rattle.hip_runs.specs.declared.input.Input.{Input}
+use Rattle.hip_runs.specs.declared.report.Mark.{Mark}
+use Rattle.hip_runs.specs.Seen.{pointer_of}
+
+-- the marks of the next step, if it is taken
+abbrev pub marks_ahead : Program → Input → State → List Mark
+marks_ahead P I s = cond (has_ended s) [] (frame_marks P I s.frames)
+
+-- the mark of one pointer operand of the next instruction
+abbrev pub mark_by : Program → Input → State → Site → ℕ → Option ℕ → List Mark
+mark_by P I s site k None = []
+mark_by P I s site k (Some a) = mark_of site k (object_at P I.base s.frames a)
+
+-- the mark of the pointer operand of that number of the next instruction; none where it has no such operand, or that
+-- points into no object
+abbrev pub mark_at : Program → Input → State → Site → ℕ → List Mark
+mark_at P I s site k = mark_by P I s site k (pointer_of P I s k)
+
+-- those of the first operands
+abbrev pub marks_to : Program → Input → State → Site → ℕ → List Mark
+marks_to P I s site zero = []
+marks_to P I s site (suc k) = marks_to P I s site k ++ mark_at P I s site k
+
+-- to marks that were met, these add what those add
+abbrev pub AddAlike : List Mark → List Mark → List Mark → Type 0
+AddAlike met_before these those = met same_mark met_before these ≡ met same_mark met_before those
+
+-- whether nothing is seen of a step with this event but what it prints
+abbrev pub is_still : Event → Bool
+is_still events.Quiet = true
+is_still (events.Print z) = true
+is_still _ = false
+
+-- whether a step with this event takes no fence, checks nothing, and changes neither the notes of stores and of lines
+-- nor which globals were hit
+abbrev pub leaves : Event → Bool
+leaves events.Quiet = true
+leaves (events.Print z) = true
+leaves (events.End (Trap kind)) = true
+leaves (events.End Cut) = true
+leaves _ = false

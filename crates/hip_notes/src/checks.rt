@@ -1,0 +1,232 @@
+ghost use Rattle.std.specs.Prelude.{◌≡◌, ℕ, ◌+◌, ◌*◌, ◌≤◌, ◌^◌, ◌++◌, Some, None, length, IfOk, OnOk, cond};
+ghost use Rattle.std.specs.Ordering.{nat_cmp};
+ghost use Rattle.std.specs.BTreeMap as tree;
+ghost use Rattle.std.specs.BTreeMap.{BTreeMap as Map};
+ghost use Rattle.hip_lines.specs.Parts.{loose_from};
+ghost use Rattle.hip_runs.specs.StoredParts.Order.{is_before};
+ghost use Rattle.hip_runs.specs.Found.Reports.{kind_of};
+ghost use Rattle.hip_notes.specs.declared.checks.Group.{Group as Told};
+ghost use Rattle.hip_notes.specs.declared.pending.LineNote.{LineNote as Line};
+ghost use Rattle.hip_notes.specs.Checking.{flush_told, group_from, joined, later_note, report_in, report_told, reports_told, site_told};
+ghost use Rattle.hip_notes.specs.Pending.{FlushesAscend, StoresAscend, lines_of, note_of};
+
+use crate::pending::{FlushNote, LineNote, Pending, StoreNote, first_after};
+use hip_lines::{Lines, LooseByte};
+use hip_runs::{Kind, Report};
+use hip_tree::Site;
+use hip_types::{LINE_SIZE, NoMemory, Row};
+use std::alloc::Global;
+use std::collections::BTreeMap;
+
+/// What the loose bytes of a store tell: whether all are flushed, and the latest of the first flushes of their lines.
+#[derive(Clone, Copy)]
+pub struct Group {
+    pub flushed: bool,
+    pub latest: Option<FlushNote>,
+}
+
+/// Where a check stands: the births of the calls that stand, the outermost one first, the number of its entry, and the
+/// step of the last fence.
+#[derive(Drop)]
+pub struct Check<'a> {
+    pub births: &'a [u128],
+    pub entry: u128,
+    pub fence: Option<u128>,
+}
+
+/// Puts the reports of a check of a range behind others, in the order of the stores' steps.
+pub fn check_range(
+    alloc: Global,
+    pending: &Pending,
+    check: &Check<'_>,
+    lines: &Lines,
+    offset: u64,
+    size: u64,
+    reports: &mut Row<Report>,
+) -> Result<(), NoMemory>
+    requires within { offset + size ≤ LINE_SIZE * length lines.now.lines }
+    requires stores { StoresAscend 0 (2 ^ 128) pending.now.stores.items }
+    requires flushes { (j : ℕ) → (l : Line) → lines_of pending.now.lines j ≡ Some l
+        → FlushesAscend 0 (2 ^ 128) l.flushes }
+    ensures { OnOk result ((groups : Map ℕ Told) × tree.IsOrdered nat_cmp groups
+        × ((tag : ℕ)
+        → tree.get nat_cmp groups tag ≡ group_from (lines_of pending.now.lines) tag None
+        (loose_from lines.now.lines offset size))
+        × (reports.new
+        ≡ reports.old ++ reports_told check.now.births.now check.now.entry check.now.fence pending.now.stores.items
+        groups.entries)) }
+{
+    let groups = groups_of(alloc, &pending.lines, lines, offset, size)?;
+    report_groups(alloc, pending, check, &groups, reports)
+}
+
+// What the loose bytes of a range tell of each store.
+fn groups_of(
+    alloc: Global,
+    notes: &BTreeMap<u64, LineNote>,
+    lines: &Lines,
+    offset: u64,
+    size: u64,
+) -> Result<BTreeMap<u128, Group>, NoMemory>
+    requires within { offset + size ≤ LINE_SIZE * length lines.now.lines }
+    requires flushes { (j : ℕ) → (l : Line) → lines_of notes.now j ≡ Some l
+        → FlushesAscend 0 (2 ^ 128) l.flushes }
+    ensures told { IfOk result (λ groups. (tag : ℕ)
+        → tree.get nat_cmp groups tag ≡ group_from (lines_of notes.now) tag None
+        (loose_from lines.now.lines offset size)) }
+{
+    let mut groups = BTreeMap::new(alloc);
+    'bytes: for byte in lines.not_durable(offset, size) {
+        let flush = flush_of(notes, byte);
+        join(&mut groups, byte.tag, byte.flushed, flush)?;
+    }
+    Ok(groups)
+}
+
+fn flush_of(notes: &BTreeMap<u64, LineNote>, byte: LooseByte) -> Option<FlushNote>
+    requires { (j : ℕ) → (l : Line) → lines_of notes.now j ≡ Some l → FlushesAscend 0 (2 ^ 128) l.flushes }
+    ensures { result ≡ flush_told (lines_of notes.now) byte }
+{
+    match notes.get(&(byte.offset / LINE_SIZE)) {
+        Some(note) => first_after(note.flushes.as_slice(), byte.tag),
+        None => None,
+    }
+}
+
+// One loose byte more of a store.
+fn join(
+    groups: &mut BTreeMap<u128, Group>,
+    tag: u128,
+    flushed: bool,
+    flush: Option<FlushNote>,
+) -> Result<(), NoMemory>
+    ensures here { OnOk result (tree.get nat_cmp groups.new tag ≡ Some (joined flushed flush
+        (tree.get nat_cmp groups.old tag))) }
+    ensures others { OnOk result ((t : ℕ) → (t ≡ tag → ⊥)
+        → tree.get nat_cmp groups.new t ≡ tree.get nat_cmp groups.old t) }
+{
+    let before = groups.get(&tag).copied();
+    match groups.insert(tag, joined(flushed, flush, before)) {
+        Ok(_) => Ok(()),
+        Err(_) => Err(NoMemory),
+    }
+}
+
+fn joined(flushed: bool, flush: Option<FlushNote>, before: Option<Group>) -> Group
+    ensures { result ≡ joined flushed flush before }
+{
+    match before {
+        None => Group {
+            flushed,
+            latest: flush,
+        },
+        Some(group) => Group {
+            flushed: group.flushed && flushed,
+            latest: later(group.latest, flush),
+        },
+    }
+}
+
+fn later(a: Option<FlushNote>, b: Option<FlushNote>) -> Option<FlushNote>
+    ensures { result ≡ later_note a b }
+{
+    match (a, b) {
+        (None, b) => b,
+        (Some(a), None) => Some(a),
+        (Some(a), Some(b)) => { if a.step < b.step { Some(b) } else { Some(a) } }
+    }
+}
+
+fn report_groups(
+    alloc: Global,
+    pending: &Pending,
+    check: &Check<'_>,
+    groups: &BTreeMap<u128, Group>,
+    reports: &mut Row<Report>,
+) -> Result<(), NoMemory>
+    requires { StoresAscend 0 (2 ^ 128) pending.now.stores.items }
+    ensures told { OnOk result (reports.new
+        ≡ reports.old ++ reports_told check.now.births.now check.now.entry check.now.fence pending.now.stores.items
+        groups.now.entries) }
+    ensures ordered { tree.IsOrdered nat_cmp groups.now }
+{
+    'each: for (tag, group) in groups.iter() {
+        report_store(alloc, pending, check, *tag, *group, reports)?;
+    }
+    Ok(())
+}
+
+fn report_store(
+    alloc: Global,
+    pending: &Pending,
+    check: &Check<'_>,
+    tag: u128,
+    group: Group,
+    reports: &mut Row<Report>,
+) -> Result<(), NoMemory>
+    requires { StoresAscend 0 (2 ^ 128) pending.now.stores.items }
+    ensures { OnOk result (reports.new ≡ reports.old ++ report_in check.now.births.now check.now.entry check.now.fence
+        (note_of pending.now.stores.items tag) group) }
+{
+    match pending.find(tag) {
+        Some(note) => reports.push(report_of(alloc, note, check, group)?),
+        None => Ok(()),
+    }
+}
+
+// The report of a store.
+fn report_of(
+    alloc: Global,
+    note: &StoreNote,
+    check: &Check<'_>,
+    group: Group,
+) -> Result<Report, NoMemory>
+    ensures { IfOk result (λ report. report
+        ≡ report_told check.now.births.now check.now.entry check.now.fence note.now group) }
+{
+    let mut path = Row::new(alloc);
+    path.push(note.site)?;
+    let closed = note.calls.copy_out(check.births, &mut path)?;
+    Ok(Report {
+        entry: note.entry,
+        check_entry: check.entry,
+        kind: kind_of(group.flushed, is_before(note.tag, check.fence)),
+        flush_site: site_told(group.flushed, group.latest),
+        path,
+        closed,
+    })
+}
+
+fn is_before(tag: u128, fence: Option<u128>) -> bool
+    ensures { result ≡ is_before tag fence }
+{
+    match fence {
+        Some(fence) => tag < fence,
+        None => false,
+    }
+}
+
+fn kind_of(flushed: bool, fenced: bool) -> Kind
+    ensures { result ≡ kind_of flushed fenced }
+{
+    if flushed {
+        return Kind::MissingFence;
+    }
+    if fenced {
+        Kind::MissingFlush
+    } else {
+        Kind::MissingBoth
+    }
+}
+
+fn site_told(flushed: bool, latest: Option<FlushNote>) -> Option<Site>
+    ensures { result ≡ site_told flushed latest }
+{
+    if !flushed {
+        return None;
+    }
+    match latest {
+        Some(flush) => Some(flush.site),
+        None => None,
+    }
+}

@@ -1,0 +1,54 @@
+-- What the definitions of loading imply: what is met in two calls, and that a file gives one answer.
+pub mod FormRefusals
+pub mod OneAnswer
+pub mod TextRefusals
+use Rattle.std.specs.Prelude.{ℕ, ◌≡◌, Bool, true, false, List, [], Some}
+use Rattle.std.proofs.Common.{◌∙◌, subst, arith}
+use Rattle.hip_io.specs.Cabinets.{CabinetState}
+use Rattle.hip_io.specs.Counts.{Rose}
+use Rattle.hip_io.specs.declared.cabinet.NamedFile.{NamedFile}
+use Rattle.hip_tree.specs.declared.program.Program.{Program}
+use Rattle.hip_program_files.specs.Loading.{HasNoProgram, IsProgramOf}
+use Rattle.hip_program_files.specs.Outside.{CountsUp, HasMet}
+use Rattle.hip_program_files.specs.declared.refusal.LoadRefusal.{LoadRefusal}
+use Rattle.hip_program_files.specs.declared.refusal.LoadRefusal.TheVariants as loads
+use Rattle.hip_program_files.specs.declared.refusal.ProgramRefusal.TheVariants as refusals
+use Rattle.hip_sound.specs.declared.fault.TypeFault.{TypeFault}
+use Rattle.hip_sound.specs.declared.fault.TypeFault.TheVariants as faults
+
+-- ---- two calls
+
+counts_then : (rises : Bool) (old mid new : ℕ) → mid ≡ old → CountsUp rises mid new → CountsUp rises old new
+counts_then true old mid new same up = (omega (arith, same, up.0), subst (λ n. Rose n new) same up.1)
+counts_then false old mid new same up = up ∙ same
+
+-- where the first of two calls met nothing, both have met what the second met
+pub met_then : {missed failed : Bool} {old mid new : CabinetState} → HasMet false false old mid
+    → HasMet missed failed mid new → HasMet missed failed old new
+met_then {missed} {failed} {old} {mid} {new} first second = record {
+  files = second.files ∙ first.files;
+  misses = counts_then missed old.misses mid.misses new.misses first.misses second.misses;
+  faults = counts_then failed old.faults mid.faults new.faults first.faults second.faults;
+}
+
+-- ---- one answer
+
+-- a register without an assignment may be shown by one path or another
+abbrev pub without_path : TypeFault → TypeFault
+without_path (faults.Unassigned path) = faults.Unassigned []
+without_path fault = fault
+
+-- the refusal without that path; any other refusal as it is
+abbrev pub without_paths : LoadRefusal → LoadRefusal
+without_paths (loads.Bad (refusals.Form why)) =
+    loads.Bad (refusals.Form (record { fault = without_path why.fault; place = why.place }))
+without_paths why = why
+
+-- A file that is told has one program or none. If it has one, no refusal has a cause; if it has none, one refusal has,
+-- but for the path that shows a register without an assignment.
+pub record LoadsOne (files : List NamedFile) (name : List ℕ) : Type 0 where
+  pub programs : (P Q : Program) → IsProgramOf (Some files) name P → IsProgramOf (Some files) name Q → P ≡ Q
+  pub excluded : (P : Program) (why : LoadRefusal) → IsProgramOf (Some files) name P
+      → HasNoProgram (Some files) name why → ⊥
+  pub refusals : (why other : LoadRefusal) → HasNoProgram (Some files) name why
+      → HasNoProgram (Some files) name other → without_paths why ≡ without_paths other

@@ -1,0 +1,106 @@
+-- The program in a file, and why there is none.
+use Rattle.std.specs.Prelude.{ℕ, ◌≡◌, ◌≤◌, ◌<◌, ◌⊎◌, Bool, true, false, List, length, Option, Some, None, IfSome, Result, Ok, Err}
+use Rattle.hip_io.specs.Cabinets.{CabinetState, file_of}
+use Rattle.hip_io.specs.declared.cabinet.NamedFile.{NamedFile}
+use Rattle.hip_grammar.specs.declared.fault.Fault.{Fault}
+use Rattle.hip_grammar.specs.declared.fault.Fault.TheVariants as faults
+use Rattle.hip_tree.specs.declared.program.Program.{Program}
+use Rattle.hip_grammar.specs.Reading.{Reads, IsRefusal}
+use Rattle.hip_program_files.specs.Outside.{HasMet}
+use Rattle.hip_program_files.specs.declared.failure.Failure.{Failure}
+use Rattle.hip_program_files.specs.declared.failure.Failure.TheVariants as failures
+use Rattle.hip_program_files.specs.declared.limits.TheConstants.{TEXT_LIMIT}
+use Rattle.hip_program_files.specs.declared.refusal.LoadRefusal.{LoadRefusal}
+use Rattle.hip_program_files.specs.declared.refusal.LoadRefusal.TheVariants as loads
+use Rattle.hip_program_files.specs.declared.refusal.ProgramRefusal.{ProgramRefusal}
+use Rattle.hip_program_files.specs.declared.refusal.ProgramRefusal.TheVariants as refusals
+use Rattle.hip_grammar.specs.declared.refusal.ParseRefusal.{ParseRefusal}
+use Rattle.hip_grammar.specs.declared.refusal.ParseRefusal.TheVariants as parse
+use Rattle.hip_sound.specs.Refusals.{IsRefused}
+use Rattle.hip_sound.specs.Sound.{IsSound}
+
+-- ---- texts
+
+-- No program is read from the text, and this is the refused token's fault and line.
+pub record IsRefusedText (text : List ℕ) (why : Fault) (line : ℕ) : Type 0 where
+  pub unread : (program : Program) → Reads text program → ⊥
+  pub refused : IsRefusal text why line
+
+-- the text is refused so; never for want of memory
+abbrev pub RefusesText : List ℕ → ParseRefusal → Type 0
+RefusesText text (parse.Syntax line) = IsRefusedText text faults.Syntax line
+RefusesText text (parse.Unsupported line) = IsRefusedText text faults.Unsupported line
+RefusesText text (parse.Range line) = IsRefusedText text faults.Range line
+RefusesText text (parse.TooDeep line) = IsRefusedText text faults.TooDeep line
+RefusesText text parse.NoMemory = ⊥
+
+-- the text is not read, or it is read as a program that is not sound
+abbrev pub RefusesProgram : List ℕ → ProgramRefusal → Type 0
+RefusesProgram text (refusals.Text why) = RefusesText text why
+RefusesProgram text (refusals.Form why) = (program : Program) × Reads text program × IsRefused program why
+
+-- what the check of a program that is read answers
+abbrev pub ChecksProgram : Program → Result Program (Failure ProgramRefusal) → Type 0
+ChecksProgram program (Ok checked) = (checked ≡ program) × IsSound program
+ChecksProgram program (Err (failures.Refused (refusals.Form why))) = IsRefused program why
+ChecksProgram program (Err (failures.Refused (refusals.Text why))) = ⊥
+ChecksProgram program (Err failures.ReadFault) = ⊥
+ChecksProgram program (Err failures.NoMemory) = Unit {0}
+
+-- what reading a text answers; want of memory is free
+abbrev pub ReadsProgram : List ℕ → Result Program (Failure ProgramRefusal) → Type 0
+ReadsProgram text (Ok program) = Reads text program × IsSound program
+ReadsProgram text (Err (failures.Refused why)) = RefusesProgram text why
+ReadsProgram text (Err failures.ReadFault) = ⊥
+ReadsProgram text (Err failures.NoMemory) = Unit {0}
+
+-- ---- files
+
+-- the file has this text, where the cabinet tells its files, and it is not too long
+pub record IsTextOf (files : Option (List NamedFile)) (name text : List ℕ) : Type 0 where
+  pub fits : length text ≤ TEXT_LIMIT
+  pub told : IfSome files (λ fs. file_of fs name ≡ Some text)
+
+-- the file's text reads as the program, which is sound
+pub record IsProgramOf (files : Option (List NamedFile)) (name : List ℕ) (program : Program) : Type 0 where
+  pub text : List ℕ
+  pub is_text : IsTextOf files name text
+  pub reads : Reads text program
+  pub sound : IsSound program
+
+-- the file is there and has more than 16,777,216 bytes
+pub record IsTooLong (files : List NamedFile) (name : List ℕ) : Type 0 where
+  pub text : List ℕ
+  pub found : file_of files name ≡ Some text
+  pub long : TEXT_LIMIT < length text
+
+-- the file's text, which is not too long, reads as no program, or as one that is not sound, for this reason
+pub record IsBadProgram (files : Option (List NamedFile)) (name : List ℕ) (why : ProgramRefusal) : Type 0 where
+  pub text : List ℕ
+  pub is_text : IsTextOf files name text
+  pub refused : RefusesProgram text why
+
+-- why there is no program in the file
+abbrev pub HasNoProgram : Option (List NamedFile) → List ℕ → LoadRefusal → Type 0
+HasNoProgram files name loads.Missing = IfSome files (λ fs. file_of fs name ≡ None)
+HasNoProgram files name loads.TooLarge = IfSome files (λ fs. IsTooLong fs name)
+HasNoProgram files name (loads.Bad why) = IsBadProgram files name why
+
+-- whether the refusal is that no file has the name of the program
+abbrev pub is_missing : LoadRefusal → Bool
+is_missing loads.Missing = true
+is_missing loads.TooLarge = false
+is_missing (loads.Bad why) = false
+
+-- A file could not be read: it could not be fetched, and no file is current, or it is current and was read in part.
+pub record HasFailedLoading (old new : CabinetState) (name : List ℕ) : Type 0 where
+  pub met : HasMet false true old new
+  pub current : (new.is_current ≡ false) ⊎ IfSome new.name (λ n. n ≡ name)
+
+-- what loading the program of a file answers; want of memory is free
+abbrev pub Loads : List ℕ → CabinetState → CabinetState → Result Program (Failure LoadRefusal) → Type 0
+Loads name old new (Ok program) = HasMet false false old new × IsProgramOf old.files name program
+Loads name old new (Err (failures.Refused why)) =
+    HasMet (is_missing why) false old new × HasNoProgram old.files name why
+Loads name old new (Err failures.ReadFault) = HasFailedLoading old new name
+Loads name old new (Err failures.NoMemory) = HasMet false false old new

@@ -1,0 +1,121 @@
+-- What a run has printed after some steps is the front of what it prints.
+use Rattle.std.proofs.Common.{◌≡◌, ℕ, zero, suc, ◌+◌, true, List, [], ◌++◌, Option, Some, None, is_some, append-nil, append_assoc, refl, sym, ap, ◌∙◌, subst, arith}
+use Rattle.hip_tree.specs.declared.program.Program.{Program}
+use Rattle.hip_io.specs.Laws.SinkLaws.{and_then, prefix_of_more, writes_nothing}
+use Rattle.hip_io.specs.Sinks.{SinkState, AppendsAll, AppendsPrefix, Writes}
+use Rattle.hip_io.specs.declared.sink.Put.TheVariants.{Done, Failed}
+use Rattle.hip_runs.specs.Outputs.{ending_by, printed_by}
+use Rattle.hip_runs.specs.Step.{event, run}
+use Rattle.hip_runs.specs.declared.event.Ending.{Ending}
+use Rattle.hip_runs.specs.declared.event.Event.{Event}
+use Rattle.hip_runs.specs.declared.event.Event.TheVariants as events
+use Rattle.hip_runs.specs.declared.input.Input.{Input}
+use Rattle.hip_lockstep.proofs.Going.{IsGoing, IsTold, ended_stays, ending_next, goes_on, none_ends, starts, taken_next}
+use Rattle.hip_recording.specs.Printing.{IsPrinted, HasPrinted, HasFailed, HasStopped}
+use Rattle.hip_runs.specs.Seen.{Seen, after_step}
+
+pub written_all : {old new : SinkState} {text : List ℕ} → AppendsAll old new text → Writes Done Done old new text
+written_all p = record { how = p }
+
+pub written_part : {old new : SinkState} {text : List ℕ} → AppendsPrefix old new text → Writes Done Failed old new text
+written_part p = record { how = p }
+
+-- a machine that goes on, and what was written of what its steps print
+pub record IsPrinting (P : Program) (I : Input) (m : Seen) (old new : SinkState) : Type 0 where
+  pub on : IsGoing P I m
+  pub written : AppendsAll old new (run P I m.taken).world.output
+
+module _ (P : Program) (I : Input) (told : (n : ℕ) → (run P I (suc n)).world.output ≡ (run P I n).world.output ++ printed_by (event P I (run P I n))) where
+  -- what comes behind the output of the first steps
+  grown : (n d : ℕ) → (more : List ℕ) × ((run P I (n + d)).world.output ≡ (run P I n).world.output ++ more)
+  grown n zero = ([], ap (λ k. (run P I k).world.output) (let e : n + 0 ≡ n = omega arith in e) ∙ sym (append-nil (run P I n).world.output))
+  grown n (suc d) = go (grown n d)
+    where
+      go : (more : List ℕ) × ((run P I (n + d)).world.output ≡ (run P I n).world.output ++ more) → (more : List ℕ) × ((run P I (n + suc d)).world.output ≡ (run P I n).world.output ++ more)
+      go (more, is) = (
+        more ++ printed_by (event P I (run P I (n + d))),
+        ap (λ k. (run P I k).world.output) (let e : n + suc d ≡ suc (n + d) = omega arith in e) ∙ told (n + d)
+            ∙ ap (λ text. text ++ printed_by (event P I (run P I (n + d)))) is ∙ append_assoc (run P I n).world.output more (printed_by (event P I (run P I (n + d)))),
+      )
+
+-- the output after some steps is the front of what the run prints
+pub record IsFront (P : Program) (I : Input) (front : List ℕ) : Type 0 where
+  pub missing : List ℕ
+  pub ending : Ending
+  pub printed : IsPrinted P I (front ++ missing) ending
+
+pub front_of : (P : Program) (I : Input) → IsTold P I → (n : ℕ) → IsFront P I (run P I n).world.output
+front_of P I told n = go (run P I told.ends.0).world.ending refl told.ends.1
+  where
+    go : (o : Option Ending) → (run P I told.ends.0).world.ending ≡ o → is_some (run P I told.ends.0).world.ending ≡ true → IsFront P I (run P I n).world.output
+    go None none ended = absurd (none_ends (run P I told.ends.0).world.ending none ended)
+    go (Some e) ends ended =
+        let more = grown P I told.output n told.ends.0 in
+        let last : run P I (n + told.ends.0) ≡ run P I told.ends.0 =
+        ap (λ m. run P I m) (let swap : n + told.ends.0 ≡ told.ends.0 + n = omega arith in swap) ∙ ended_stays P I told.ends.0 e ends n in
+        record {
+          missing = more.0;
+          ending = e;
+          printed = record { steps = told.ends.0; ended = ends; is = sym more.1 ∙ ap (λ s. s.world.output) last };
+        }
+
+-- a step that ends a run prints nothing
+ends_silent : (x : Event) (e : Ending) → ending_by x ≡ Some e → printed_by x ≡ []
+ends_silent events.Quiet e h = refl
+ends_silent (events.Print z) e h = cc
+ends_silent (events.Store a v n) e h = refl
+ends_silent (events.Flush a n) e h = refl
+ends_silent (events.Persist a n) e h = refl
+ends_silent events.Fence e h = refl
+ends_silent (events.Assert a n) e h = refl
+ends_silent (events.End f) e h = refl
+
+module _ {P : Program} {I : Input} {m : Seen} {old mid : SinkState} (told : IsTold P I) (is : IsPrinting P I m old mid) where
+  pub stopped : HasStopped P I old mid
+  stopped =
+      let front = front_of P I told m.taken in
+      record { front = (run P I m.taken).world.output; missing = front.missing; ending = front.ending; printed = front.printed; written = is.written }
+
+  printed_next : (e : Event) → event P I (run P I m.taken) ≡ e → (run P I (suc m.taken)).world.output ≡ (run P I m.taken).world.output ++ printed_by e
+  printed_next e at = told.output m.taken ∙ ap (λ x. (run P I m.taken).world.output ++ printed_by x) at
+
+  pub printed : (x : Event) (e : Ending) → event P I (run P I m.taken) ≡ x → ending_by x ≡ Some e → HasPrinted P I old mid e
+  printed x e at ends = record {
+    text = (run P I m.taken).world.output;
+    printed = record {
+      steps = suc m.taken;
+      ended = ending_next told is.on x at ∙ ends;
+      is = sym (printed_next x at ∙ ap (λ text. (run P I m.taken).world.output ++ text) (ends_silent x e ends) ∙ append-nil (run P I m.taken).world.output);
+    };
+    written = is.written;
+  }
+
+  pub failed : (e : Event) (new : SinkState) → event P I (run P I m.taken) ≡ e → AppendsPrefix mid new (printed_by e) → HasFailed P I old new
+  failed e new at put =
+      let front = front_of P I told (suc m.taken) in
+      let both : Writes Done Failed old new ((run P I m.taken).world.output ++ printed_by e) = and_then (written_all is.written) (written_part put) in
+      record {
+        text = (run P I (suc m.taken)).world.output ++ front.missing;
+        ending = front.ending;
+        printed = front.printed;
+        written = prefix_of_more old new (run P I (suc m.taken)).world.output front.missing (subst (λ text. AppendsPrefix old new text) (sym (printed_next e at)) both.how);
+      }
+
+  pub more : (e : Event) (new : SinkState) → event P I (run P I m.taken) ≡ e → ending_by e ≡ None → AppendsAll mid new (printed_by e) → IsPrinting P I (after_step m) old new
+  more e new at goes put =
+      let both : Writes Done Done old new ((run P I m.taken).world.output ++ printed_by e) = and_then (written_all is.written) (written_all put) in
+      record {
+        on = goes_on told is.on e at goes;
+        written = subst (λ n. AppendsAll old new (run P I n).world.output) (sym (taken_next told is.on)) (subst (λ text. AppendsAll old new text) (sym (printed_next e at)) both.how);
+      }
+
+starts_silent : (P : Program) (I : Input) → (run P I 0).world.output ≡ []
+unfolding run
+starts_silent P I = refl
+
+-- before the first step
+pub started : (P : Program) (I : Input) (s : SinkState) → IsPrinting P I (record { program = P; input = I; taken = 0 }) s s
+started P I s = record {
+  on = starts P I;
+  written = subst (λ text. AppendsAll s s text) (sym (starts_silent P I)) (writes_nothing Done s).how;
+}

@@ -1,0 +1,3 @@
+pub mod Gathering
+pub mod Printing
+pub mod Recording

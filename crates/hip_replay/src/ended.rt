@@ -1,8 +1,0 @@
-use hip_step::Ending;
-
-/// How a run has ended, and how many entries its trace has.
-#[derive(Clone, Copy)]
-pub(crate) struct Ended {
-    pub ending: Ending,
-    pub entries: u128,
-}

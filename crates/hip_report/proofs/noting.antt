@@ -1,8 +1,0 @@
-pub mod Assembled
-pub mod Blank
-pub mod CallSteps
-pub mod CallsInside
-pub mod LooseSteps
-pub mod PlainSteps
-pub mod Steps
-pub mod Still

@@ -1,0 +1,13 @@
+-- A machine whose steps a tracker noted up to the end of the run.
+use Rattle.std.specs.Prelude.{◌≡◌, true}
+use Rattle.hip_report.specs.Tracking.{HasNoted, Tracked}
+use Rattle.hip_runs.specs.Step.{has_ended}
+use Rattle.hip_runs.specs.Seen.{Seen, state_of}
+
+-- the same run has ended, and all its steps were noted
+pub record IsOver (m m' : Seen) (t t' : Tracked) : Type 0 where
+  pub program : m'.program ≡ m.program
+  pub input : m'.input ≡ m.input
+  pub ended : has_ended (state_of m') ≡ true
+  pub noted : HasNoted t' m'
+  pub header : t'.header ≡ t.header

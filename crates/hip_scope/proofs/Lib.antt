@@ -1,0 +1,5 @@
+pub mod Constants
+pub mod Growth
+pub mod Names
+pub mod Places
+pub mod Sound

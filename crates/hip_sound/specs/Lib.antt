@@ -1,0 +1,15 @@
+pub mod Check
+pub mod Constants
+pub mod Equal
+pub mod Names
+pub mod Paths
+pub mod Places
+pub mod Registers
+pub mod Declarations
+pub mod Numbering
+pub mod Given
+pub mod Sound
+pub mod Rules
+pub mod Refusals
+pub mod Types
+pub mod Laws

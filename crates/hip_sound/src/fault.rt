@@ -1,0 +1,59 @@
+use hip_tree::Site;
+use hip_types::Row;
+
+/// Which rule of soundness a program breaks.
+#[derive(Debug, Drop)]
+pub enum TypeFault {
+    BadShape,
+    Duplicate,
+    Unknown,
+    Mismatch,
+    NoMain,
+    /// The path is a list of block numbers from the entry block to the block of the use. No assignment of the
+    /// register stands on it before the use.
+    Unassigned { path: Row<usize> },
+    BadExtern,
+    BadGlobal,
+    BadEdge,
+    TooLarge,
+    NoMemory,
+}
+
+/// Where a program breaks a rule, by numbers from 0. In `Phi` the index counts in the block's phis.
+#[derive(Clone, Copy, Debug, PartialEq, Eq)]
+pub enum Place {
+    Whole,
+    Global(usize),
+    Extern(usize),
+    Head(usize),
+    Phi(Site),
+    Body(Site),
+    End { function: usize, block: usize },
+}
+
+/// The first rule that a program breaks, at the first place.
+#[derive(Debug, Drop)]
+pub struct TypeRefusal {
+    pub fault: TypeFault,
+    pub place: Place,
+}
+
+/// The faults that the rules find, all but those of paths and of spelling by one look at a place.
+#[derive(Clone, Copy)]
+pub enum Fault {
+    Duplicate,
+    Unknown,
+    Mismatch,
+    NoMain,
+    BadExtern,
+    BadGlobal,
+    BadEdge,
+    TooLarge,
+}
+
+/// A fault and its place.
+#[derive(Clone, Copy)]
+pub struct Finding {
+    pub fault: Fault,
+    pub place: Place,
+}

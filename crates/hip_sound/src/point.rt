@@ -1,0 +1,7 @@
+/// Where a use of a register stands in its block.
+#[derive(Clone, Copy)]
+pub enum Point {
+    /// Before the instruction of that number in the body.
+    Before(usize),
+    AtEnd,
+}

@@ -1,0 +1,13 @@
+pub mod CutParts
+pub mod DurableParts
+pub mod StoreBytes
+pub mod Bounded
+pub mod WorkingBytes
+pub mod WholeImage
+pub mod TightBytes
+pub mod ToldBytes
+pub mod CheckedBytes
+pub mod StopImage
+pub mod ReportedBytes
+pub mod Places
+pub mod Entries

@@ -1,0 +1,111 @@
+-- What survives a crash: each byte of the region that has, in every crash image, the value that it has in working memory.
+-- (This project's own.)
+use Rattle.std.specs.Prelude.{◌≡◌, ℕ, ◌+◌, ◌/◌, ◌<◌, ◌≤◌, true, List, [], length, take, Option, Some, None, slice_get, slice_index}
+use Rattle.hip_tree.specs.declared.program.Program.{Program}
+use Rattle.hip_lines.specs.Image.{byte_after, parts_of}
+use Rattle.hip_lines.specs.Line.{Line}
+use Rattle.hip_lines.specs.Loose.{IsLoose, IsLooseBy}
+use Rattle.hip_types.specs.declared.areas.TheConstants.{LINE_SIZE}
+use Rattle.hip_mem.specs.Memory.{byte_at, bytes_at}
+use Rattle.hip_runs.specs.Actions.{memory_of}
+use Rattle.hip_runs.specs.Crash.{covers, byte_of, IsCrashImage, crash_image}
+use Rattle.hip_runs.specs.Found.Reports.{Range}
+use Rattle.hip_runs.specs.State.{StorePart, State}
+use Rattle.hip_runs.specs.Step.{event, run}
+use Rattle.hip_runs.specs.StoredParts.Since.{IsPartAt, stores}
+use Rattle.hip_runs.specs.declared.input.Input.{Input}
+use Rattle.hip_runs.specs.declared.report.Report.{Report}
+
+-- ---- working memory
+
+-- the byte of working memory at an offset of the region
+abbrev pub working_byte : Program → Input → State → ℕ → ℕ
+working_byte P I s b = byte_at (memory_of P I s.world) (I.base + b)
+
+-- the bytes of the region in working memory
+abbrev pub working_region : Program → Input → State → List ℕ
+working_region P I s = bytes_at (memory_of P I s.world) I.base (length I.image)
+
+-- the parts of stores in the cache line of byte b of the region, in order; none where the region has no such line
+abbrev pub parts_over : State → ℕ → List StorePart
+parts_over s b = parts_of covers byte_of (slice_get s.lines (b / LINE_SIZE))
+
+-- In working memory byte b of the region is the initial byte, changed by all parts of its line in order.
+abbrev pub HasAllParts : Program → Input → State → ℕ → Type 0
+HasAllParts P I s b =
+    (working_byte P I s b ≡ byte_after covers byte_of (parts_over s b) b (slice_index I.image b))
+
+-- for each line the number of all its parts
+abbrev pub all_parts : State → ℕ → ℕ
+all_parts s j = length (parts_of covers byte_of (slice_get s.lines j))
+
+-- Working memory is the crash image that has all parts of each line.
+pub record IsWholeImage (P : Program) (I : Input) (s : State) : Type 0 where
+  pub is : working_region P I s ≡ crash_image I s (all_parts s)
+  pub image : IsCrashImage I s (working_region P I s)
+
+-- Every crash image is equal to working memory.
+abbrev pub IsOnlyImage : Program → Input → State → Type 0
+IsOnlyImage P I s = (content : List ℕ) → IsCrashImage I s content → content ≡ working_region P I s
+
+-- ---- what a crash leaves
+
+-- byte b of the region is loose: the last part in its line that covers it is not durable
+abbrev pub IsLooseAt : State → ℕ → Type 0
+IsLooseAt s b =
+    (l : Line StorePart) × (slice_get s.lines (b / LINE_SIZE) ≡ Some l) × IsLoose covers l b
+
+-- Byte b of the region survives a crash: every crash image of the state has the value that working memory has there.
+abbrev pub Survives : Program → Input → State → ℕ → Type 0
+Survives P I s b =
+    (content : List ℕ) → IsCrashImage I s content → slice_index content b ≡ working_byte P I s b
+
+-- In this content byte b of the region has the value of a part of a cache line, which stands at a place or later.
+pub record IsFromPartOn (s : State) (line place : ℕ) (content : List ℕ) (b : ℕ) : Type 0 where
+  pub later : ℕ
+  pub part : StorePart
+  pub from : place ≤ later
+  pub there : IsPartAt s line later part
+  pub over : covers part b ≡ true
+  pub value : slice_index content b ≡ byte_of part b
+
+-- the durable parts of a line, if it is there
+abbrev pub durable_of : Option (Line StorePart) → List StorePart
+durable_of None = []
+durable_of (Some l) = take l.durable l.parts
+
+-- byte b of the region with the durable parts alone: the initial byte, changed by the durable parts of its line in order
+abbrev pub durable_byte : Input → State → ℕ → ℕ
+durable_byte I s b =
+    byte_after covers byte_of (durable_of (slice_get s.lines (b / LINE_SIZE))) b (slice_index I.image b)
+
+-- At each byte of the region this content has what the durable parts alone give.
+abbrev pub HasDurableAlone : Input → State → List ℕ → Type 0
+HasDurableAlone I s content = (b : ℕ) → b < length I.image → slice_index content b ≡ durable_byte I s b
+
+-- ---- what a report is of
+
+-- A report is of the store into the region that the run makes in the step after so many steps: it names that store's entry
+-- of the trace.
+pub record IsOfStep (P : Program) (I : Input) (steps : ℕ) (r : Report) : Type 0 where
+  pub store : stores (event P I (run P I steps)) ≡ true
+  pub entry : r.entry ≡ (run P I steps).counts.entries + 1
+
+-- A report is of a byte of the range that was checked. In working memory the byte has the value that the report's store
+-- gave it. The part of that store is the last one over the byte and is not durable, and some crash image has at that byte
+-- what the parts before it give. So where the store changed the byte, a crash may take the change away.
+pub record IsOfByte (P : Program) (I : Input) (s : State) (range : Range) (r : Report) : Type 0 where
+  pub byte : ℕ
+  pub low : range.offset ≤ byte
+  pub high : byte < range.offset + range.size
+  pub line : Line StorePart
+  pub at : slice_get s.lines (byte / LINE_SIZE) ≡ Some line
+  pub place : ℕ
+  pub part : StorePart
+  pub loose : IsLooseBy covers line byte place part
+  pub store : IsOfStep P I part.step r
+  pub working : working_byte P I s byte ≡ byte_of part byte
+  pub content : List ℕ
+  pub image : IsCrashImage I s content
+  pub before : slice_index content byte
+      ≡ byte_after covers byte_of (take place line.parts) byte (slice_index I.image byte)

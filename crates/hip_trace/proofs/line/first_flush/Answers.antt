@@ -1,0 +1,5 @@
+use Rattle.hip_trace.proofs.FirstLines.{flush_first}
+use Rattle.hip_trace.proofs.line.first_flush.Goals as goal
+
+pub returns : goal.returns
+returns c = flush_first _ _ _ _ _ _ _ c.in_ok-addr.ensures c.in_ok-size.ensures c.in_ok-addr-2.ensures

@@ -1,0 +1,38 @@
+-- The line of an entry that stands first in some bytes.
+use Rattle.std.specs.Prelude.{ℕ, ◌≡◌, false, List, ◌∷◌, ◌++◌, take, position, Some}
+use Rattle.std.specs.List.{list_any}
+use Rattle.std.specs.Str.Parse.{AllDigits}
+use Rattle.hip_num.specs.Texts.{hex_of, number_of}
+use Rattle.hip_tokens.specs.Bytes.{byte}
+use Rattle.hip_trace.specs.Entries.{entry_by, entry_of, fields}
+use Rattle.hip_trace.specs.Laws.TextLaws.{IsPlain}
+use Rattle.hip_trace.specs.Pieces.{is_separator}
+use Rattle.hip_trace.specs.declared.entry.Entry.{Entry}
+use Rattle.hip_trace.specs.declared.line.Line.{Line}
+
+-- Hexadecimal digits of a number stand first.
+pub record HasDigits (bytes : List ℕ) (number : ℕ) (rest : List ℕ) : Type 0 where
+  pub digits : List ℕ
+  pub whole : bytes ≡ digits ++ rest
+  pub all : AllDigits 16 digits
+  pub is : number_of 16 digits ≡ Some number
+
+-- A field stands first, behind its semicolon, which is a hexadecimal number.
+pub record HasField (bytes : List ℕ) (number : ℕ) (rest : List ℕ) : Type 0 where
+  pub field : List ℕ
+  pub whole : bytes ≡ (byte ";" ∷ field) ++ rest
+  pub is : hex_of field ≡ Some number
+  pub plain : IsPlain field
+  pub inner : list_any is_separator field ≡ false
+
+-- The fields of an entry stand first.
+pub record HasEntry (bytes : List ℕ) (entry : Entry) (rest : List ℕ) : Type 0 where
+  pub text : List ℕ
+  pub whole : bytes ≡ text ++ rest
+  pub is : entry_by (fields text) ≡ Some entry
+  pub inner : list_any is_separator text ≡ false
+
+-- The piece that stands first spells an entry.
+pub record IsFirstLine (bytes : List ℕ) (line : Line) : Type 0 where
+  pub here : position is_separator bytes ≡ Some line.len
+  pub spells : entry_of (take line.len bytes) ≡ Some line.entry

@@ -1,0 +1,138 @@
+//! The line that stands first in some bytes, read in one pass where it has one of the usual entries in its canonical
+//! text. Of all others nothing is told here.
+
+ghost use Rattle.std.specs.Prelude.{◌≡◌, ◌<◌, ◌++◌, codes, IfSome};
+ghost use Rattle.std.specs.Char.{digit_value};
+ghost use Rattle.hip_trace.specs.Lines.{HasDigits, HasEntry, HasField, IsFirstLine};
+
+use crate::entry::Entry;
+use crate::spelled::{sized_store, some_lines};
+
+/// An entry, and how many bytes its text has.
+#[derive(Clone, Copy)]
+pub(crate) struct Line {
+    pub entry: Entry,
+    pub len: usize,
+}
+
+// The digit that a byte writes to base 16, in lower case.
+#[inline(always)]
+fn digit_of(byte: u8) -> Option<u64>
+    ensures value { IfSome result (λ digit. digit ≡ digit_value byte) }
+    ensures small { IfSome result (λ digit. digit < 16) }
+{
+    match byte {
+        b'0'..=b'9' => Some(u64::from(byte - b'0')),
+        b'a'..=b'f' => Some(u64::from(byte - b'a') + 10),
+        _ => None,
+    }
+}
+
+// The number whose digits stand first.
+#[inline(always)]
+fn first_number(bytes: &[u8]) -> Option<(u64, &[u8])>
+    ensures { IfSome result (λ r. HasDigits bytes.now r.0 r.1.now) }
+{
+    let mut number: u64 = 0;
+    let mut at = 0;
+    'digits: while at < bytes.len() && number < 1 << 60 {
+        match digit_of(bytes[at]) {
+            Some(digit) => number = number * 16 + digit,
+            None => break,
+        }
+        at += 1;
+    }
+    if at == 0 {
+        return None;
+    }
+    Some((number, &bytes[at..]))
+}
+
+// What stands behind a word.
+#[inline(always)]
+fn behind<'a>(bytes: &'a [u8], word: &[u8]) -> Option<&'a [u8]>
+    ensures { IfSome result (λ rest. bytes.now ≡ word.now ++ rest.now) }
+{
+    bytes.strip_prefix(word)
+}
+
+// The hexadecimal number of the field that stands first, behind its semicolon.
+#[inline(always)]
+fn first_field(bytes: &[u8]) -> Option<(u64, &[u8])>
+    ensures { IfSome result (λ r. HasField bytes.now r.0 r.1.now) }
+{
+    match behind(bytes, b";0x") {
+        Some(rest) => first_number(rest),
+        None => None,
+    }
+}
+
+fn first_store(bytes: &[u8]) -> Option<(Entry, &[u8])>
+    ensures { IfSome result (λ r. HasEntry (codes "STORE" ++ bytes.now) r.0 r.1.now) }
+{
+    let (addr, rest) = first_field(bytes)?;
+    let (value, rest) = first_field(rest)?;
+    let (size, rest) = first_field(rest)?;
+    let entry = sized_store(addr, value, size)?;
+    Some((entry, rest))
+}
+
+fn first_flush(bytes: &[u8]) -> Option<(Entry, &[u8])>
+    ensures { IfSome result (λ r. HasEntry (codes "FLUSH" ++ bytes.now) r.0 r.1.now) }
+{
+    let (addr, rest) = first_field(bytes)?;
+    let (size, rest) = first_field(rest)?;
+    let (addr, size) = some_lines(addr, size)?;
+    Some((Entry::Flush { addr, size }, rest))
+}
+
+fn first_persist(bytes: &[u8]) -> Option<(Entry, &[u8])>
+    ensures { IfSome result (λ r. HasEntry (codes "PERSIST" ++ bytes.now) r.0 r.1.now) }
+{
+    let (addr, rest) = first_field(bytes)?;
+    let (size, rest) = first_field(rest)?;
+    let (addr, size) = some_lines(addr, size)?;
+    Some((Entry::Persist { addr, size }, rest))
+}
+
+fn first_assert(bytes: &[u8]) -> Option<(Entry, &[u8])>
+    ensures { IfSome result (λ r. HasEntry (codes "ASSERT" ++ bytes.now) r.0 r.1.now) }
+{
+    let (addr, rest) = first_field(bytes)?;
+    let (size, rest) = first_field(rest)?;
+    Some((Entry::Assert { addr, size }, rest))
+}
+
+fn first_entry(bytes: &[u8]) -> Option<(Entry, &[u8])>
+    ensures { IfSome result (λ r. HasEntry bytes.now r.0 r.1.now) }
+{
+    if let Some(rest) = behind(bytes, b"STORE") {
+        return first_store(rest);
+    }
+    if let Some(rest) = behind(bytes, b"FLUSH") {
+        return first_flush(rest);
+    }
+    if let Some(rest) = behind(bytes, b"FENCE") {
+        return Some((Entry::Fence, rest));
+    }
+    if let Some(rest) = behind(bytes, b"PERSIST") {
+        return first_persist(rest);
+    }
+    match behind(bytes, b"ASSERT") {
+        Some(rest) => first_assert(rest),
+        None => None,
+    }
+}
+
+/// The line that stands first, if it is STORE, FLUSH, FENCE, PERSIST or ASSERT in its canonical text.
+pub(crate) fn first_line(bytes: &[u8]) -> Option<Line>
+    ensures { IfSome result (λ line. IsFirstLine bytes.now line) }
+{
+    let (entry, rest) = first_entry(bytes)?;
+    let _next = behind(rest, b"\n")?;
+    let len = bytes.len() - rest.len();
+    if len > 256 {
+        return None;
+    }
+    Some(Line { entry, len })
+}

@@ -1,0 +1,53 @@
+use crate::block::Block;
+use crate::constant::Const;
+use hip_types::{Name, Row, Scalar, Ty};
+
+/// A global variable.
+#[derive(Drop)]
+pub struct GlobalVar {
+    pub name: Name,
+    /// Whether it is a `constant`.
+    pub fixed: bool,
+    pub ty: Ty,
+    /// Its initial value.
+    pub init: Const,
+    /// Whether it lies in persistent memory, as `section ".pm"` says.
+    pub persistent: bool,
+    /// The alignment that is written, in bytes.
+    pub align: Option<u64>,
+}
+
+/// A declared function, which the machine knows by its name.
+#[derive(Drop)]
+pub struct Extern {
+    /// The type of its result; none for `void`.
+    pub ret: Option<Scalar>,
+    pub name: Name,
+    pub params: Row<Scalar>,
+}
+
+/// A parameter of a function.
+#[derive(Drop)]
+pub struct Param {
+    pub ty: Scalar,
+    pub name: Name,
+}
+
+/// A function with its basic blocks.
+#[derive(Drop)]
+pub struct Function {
+    /// The type of its result; none for `void`.
+    pub ret: Option<Scalar>,
+    pub name: Name,
+    pub params: Row<Param>,
+    /// The first one is the entry block.
+    pub blocks: Row<Block>,
+}
+
+/// A program: its globals, declared functions and functions, each in the order of the text.
+#[derive(Drop)]
+pub struct Program {
+    pub globals: Row<GlobalVar>,
+    pub externs: Row<Extern>,
+    pub functions: Row<Function>,
+}

@@ -1,0 +1,15 @@
+-- Where the areas of memory lie. These addresses are this project's own.
+use Rattle.std.specs.Prelude.{ℕ}
+use Rattle.hip_types.specs.declared.areas.TheConstants.{STACK_END, STACK_START, VOLATILE_START}
+
+-- volatile globals lie from this address on
+abbrev pub volatile_start : ℕ
+volatile_start = VOLATILE_START
+
+-- the stack's first address, and its end
+abbrev pub stack_start : ℕ
+stack_start = STACK_START
+
+-- the address behind the stack's last byte
+abbrev pub stack_end : ℕ
+stack_end = STACK_END

@@ -1,0 +1,45 @@
+ghost use Rattle.std.specs.Prelude.{◌≡◌};
+ghost use Rattle.hip_typing.specs.Checks.{Checks};
+
+use crate::assigned::functions::check_assigned;
+use crate::refusal::{refusal_of, refusal_on_paths};
+use crate::rules::check_rules;
+use hip_sound::{Checked, Place, TypeFault, TypeRefusal};
+use hip_spelling::spelled;
+use hip_tree::Program;
+use std::alloc::Global;
+
+/// The first rule that the program breaks, at the first place.
+fn find_fault(alloc: Global, program: &Program) -> Result<(), TypeRefusal>
+    ensures { Checks program.now result (λ _. Unit {0}) }
+{
+    if !spelled(program) {
+        return Err(TypeRefusal {
+            fault: TypeFault::BadShape,
+            place: Place::Whole,
+        });
+    }
+    if let Err(refused) = check_rules(alloc, program) {
+        return Err(refusal_of(refused));
+    }
+    match check_assigned(alloc, program) {
+        Ok(()) => Ok(()),
+        Err(refused) => Err(refusal_on_paths(refused)),
+    }
+}
+
+/// The program, where it is sound; it is dropped on a refusal. The refusal is the first rule that the program breaks,
+/// at the first place, in this order: it is one that some text reads as; names of globals, externs and functions
+/// differ; types and initialisers of globals; externs; sizes; `main`; names inside functions; names, types, cases and
+/// edges at each place; each use of a register is assigned on every path. Want of memory is a refusal at the whole
+/// program.
+///
+/// The time is little more than linear in the program, and so is the memory that it takes for a while.
+pub fn check(alloc: Global, program: Program) -> Result<Checked, TypeRefusal>
+    ensures { Checks program result (λ checked. checked ≡ program) }
+{
+    match find_fault(alloc, &program) {
+        Ok(()) => Ok(Checked::of_sound(program)),
+        Err(refusal) => Err(refusal),
+    }
+}

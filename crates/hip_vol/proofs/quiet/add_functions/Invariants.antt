@@ -1,8 +1,0 @@
-use Rattle.std.proofs.Common.{◌≡◌, ◌++◌, drop, Some}
-use Rattle.hip_vol.specs.LowStores.{stores_low}
-use Rattle.hip_vol.specs.Picked.{picked_in_functions}
-use Rattle.hip_vol.specs.Tables.{level_among}
-use Rattle.hip_vol.proofs.quiet.add_functions.Given as goal
-
-abbrev pub invariant-each : goal.invariant-each
-invariant-each l = l.sites ++ picked_in_functions (λ f i. stores_low l.scope.program.now (level_among l.levels) f (Some i)) l.number (drop l.number l.functions) ≡ l.initial.sites ++ picked_in_functions (λ f i. stores_low l.scope.program.now (level_among l.levels) f (Some i)) 0 l.functions

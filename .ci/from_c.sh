@@ -91,7 +91,7 @@ done
 
 # Where hippo is built, its runs of the texts print the same, and stop with 0; and it makes the stored traces and
 # repaired texts.
-hippo=${HIPPO_PROGRAM:-out/hippo}
+hippo=$(realpath -m "${HIPPO_PROGRAM:-out/hippo}")
 # ends NOTES WORD..: a command's output, with code 0 and these notes
 ends() {
   local notes=$1
@@ -136,7 +136,7 @@ tools/lower tools/tests/forms.ll >"$scratch/lowered.ll" 2>"$scratch/notes"
 count "forms.ll prints something else" prints "$scratch/lowered.ll" /dev/null "$scratch/forms.out"
 
 # The tests of tools/lower: C programs feature by feature at each level, what is refused, and the runtime.
-if [ -x "$hippo" ]; then export HIPPO=$PWD/$hippo; fi
+if [ -x "$hippo" ]; then export HIPPO=$hippo; fi
 for tests in lowering refusals runtime; do
   count "tools/tests/test_$tests.py fails" python3 "tools/tests/test_$tests.py"
 done
@@ -145,7 +145,7 @@ done
 if ! command -v csmith >/dev/null; then
   echo "from C: random programs are skipped, csmith is not installed"
 elif [ -x "$hippo" ]; then
-  count "a random program differs" python3 tools/tests/random_programs.py --hippo "$PWD/$hippo" --count 6
+  count "a random program differs" python3 tools/tests/random_programs.py --hippo "$hippo" --count 6
 fi
 
 echo "from C: $passed passed, $failed failed"

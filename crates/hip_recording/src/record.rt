@@ -17,9 +17,10 @@ use hip_invariants::runs_are_bounded;
 use hip_io::{Put, Sink, WriteFault};
 use hip_lockstep::{Ended, ending_of, put_entry, put_header};
 use hip_report::{Findings, Tracker};
-use hip_runs::{events_tell_output_and_ending, longest, runs_end};
+use hip_runs::{Ending, Event, Input, events_tell_output_and_ending, longest, runs_end};
 use hip_sound::Checked;
-use hip_step::{Ending, Event, Input, Machine};
+use hip_engine::Machine;
+use hip_step::Begin;
 use std::alloc::Global;
 
 /// How a recorded run has ended, how many entries its trace has, and what it found.

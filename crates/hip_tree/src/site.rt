@@ -7,7 +7,7 @@ use crate::program::Program;
 
 /// The place of an instruction: its function, its block, and its place in the block's body, each
 /// numbered from 0 in the program's order.
-#[derive(Clone, Copy, Debug, PartialEq, Eq, PartialOrd, Ord)]
+#[derive(Clone, Copy, Debug, PartialEq, Eq, PartialOrd, Ord, Hash)]
 pub struct Site {
     pub function: usize,
     pub block: usize,

@@ -4,10 +4,10 @@ use Rattle.std.proofs.Common.{refl, subst, arith, length-append}
 use Rattle.hip_tree.specs.declared.program.Function.{Function}
 use Rattle.hip_tree.specs.declared.program.Program.{Program}
 use Rattle.hip_grammar.specs.Reading.{IsSpelled}
-use Rattle.hip_typing.specs.Seen.Answers.{Answers}
-use Rattle.hip_typing.specs.Seen.AssignedSeen.{AnswersAssigned}
-use Rattle.hip_typing.specs.declared.assigned.NotAssigned.{NotAssigned}
-use Rattle.hip_typing.specs.declared.assigned.NotAssigned.TheVariants as unassigned
+use Rattle.hip_checks.specs.Seen.Answers.{Answers}
+use Rattle.hip_checks.specs.Seen.AssignedSeen.{AnswersAssigned}
+use Rattle.hip_checks.specs.declared.assigned.NotAssigned.{NotAssigned}
+use Rattle.hip_checks.specs.declared.assigned.NotAssigned.TheVariants as unassigned
 use Rattle.hip_sound.specs.Rules.{Passes, inner_names_check, IsFirstFault, IsFirstUnassigned, RegisterUse, UseIsAssigned, AllAssigned, rules_check}
 use Rattle.hip_sound.specs.Refusals.{fault_of, IsRefused}
 use Rattle.hip_sound.specs.Sound.{IsSound}
@@ -21,8 +21,8 @@ use Rattle.hip_sound.specs.declared.fault.Place.TheVariants as places
 use Rattle.hip_sound.specs.declared.fault.TypeFault.{TypeFault}
 use Rattle.hip_sound.specs.declared.fault.TypeFault.TheVariants as faults
 use Rattle.hip_sound.specs.declared.fault.TypeRefusal.{TypeRefusal}
-use Rattle.hip_typing.specs.declared.refused.Refused.{Refused}
-use Rattle.hip_typing.specs.declared.refused.Refused.TheVariants as refused
+use Rattle.hip_checks.specs.declared.refused.Refused.{Refused}
+use Rattle.hip_checks.specs.declared.refused.Refused.TheVariants as refused
 
 -- the refusal that a stopped check gives: its finding, or want of memory at the whole program
 abbrev pub refusal_of : Refused → TypeRefusal

@@ -1,9 +1,8 @@
 ghost use Rattle.std.specs.Prelude.{◌≡◌};
 ghost use Rattle.hip_typing.specs.Checks.{Checks};
 
-use crate::assigned::functions::check_assigned;
 use crate::refusal::{refusal_of, refusal_on_paths};
-use crate::rules::check_rules;
+use hip_checks::{check_assigned, check_rules};
 use hip_sound::{Checked, Place, TypeFault, TypeRefusal};
 use hip_spelling::spelled;
 use hip_tree::Program;

@@ -2,8 +2,7 @@ ghost use Rattle.std.specs.Prelude.{◌≡◌};
 ghost use Rattle.hip_typing.specs.Checks.{refusal_of, refusal_on_paths};
 ghost use Rattle.hip_sound.specs.Refusals.{fault_of};
 
-use crate::assigned::NotAssigned;
-use crate::refused::Refused;
+use hip_checks::{NotAssigned, Refused};
 use hip_sound::{Fault, Place, TypeFault, TypeRefusal};
 
 fn fault_of(fault: Fault) -> TypeFault

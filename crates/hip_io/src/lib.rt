@@ -13,4 +13,4 @@ pub use failing_cabinet::{FailAt, FailingCabinet};
 pub use mem_cabinet::MemCabinet;
 pub use mem_sink::MemSink;
 pub use read::{ReadRefusal, read_all};
-pub use sink::{Put, Sink, WriteFault, put_after};
+pub use sink::{Put, Sink, WriteFault, deliver_after, put_after};

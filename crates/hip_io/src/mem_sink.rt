@@ -66,6 +66,8 @@ impl MemSink {
 impl Sink for MemSink {
     ghost state = { mem_sink_state };
 
+    ghost held = { λ s. 0 };
+
     /// Takes no memory. The bytes that fit are kept.
     fn put(&mut self, bytes: &[u8]) -> Put
         ensures put { HasPut (mem_sink_state self.old) (mem_sink_state self.new) bytes.now result }
@@ -81,5 +83,13 @@ impl Sink for MemSink {
         self.append(&bytes[..room]);
         self.faults = self.faults.saturating_add(1);
         Put::Failed
+    }
+    /// Holds nothing back.
+    fn deliver(&mut self) -> Put
+        ensures nothing { HasPut (mem_sink_state self.old) (mem_sink_state self.new) [] result }
+        ensures works { result ≡ Put.Done }
+        ensures kept { self.new ≡ self.old }
+    {
+        Put::Done
     }
 }

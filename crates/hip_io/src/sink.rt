@@ -1,3 +1,4 @@
+ghost use Rattle.std.specs.Prelude.{◌≡◌, []};
 ghost use Rattle.hip_io.specs.Sinks.{HasPut, Writes};
 
 use thiserror::Error;
@@ -14,15 +15,24 @@ pub enum Put {
 #[error("the write failed")]
 pub struct WriteFault;
 
-/// Where bytes go.
+/// Where bytes go. A sink may hold the last bytes back until `deliver`. Whoever writes a text to its end delivers it.
 pub trait Sink {
+    ghost use Rattle.std.specs.Prelude.{ℕ};
     ghost use Rattle.hip_io.specs.Sinks.{SinkState};
 
     ghost state: { Self → SinkState };
 
+    // how many bytes at the end of those that it was given are not out yet
+    ghost held: { Self → ℕ };
+
     /// Appends the piece. After `Failed` a prefix of it was appended.
     fn put(&mut self, bytes: &[u8]) -> Put
         ensures { HasPut (state self.old) (state self.new) bytes.now result };
+
+    /// Sends out what is held back. It appends nothing; after `Failed` a write has failed.
+    fn deliver(&mut self) -> Put
+        ensures nothing { HasPut (state self.old) (state self.new) [] result }
+        ensures all { result ≡ Put.Done → held self.new ≡ 0 };
 }
 
 /// Appends the piece, unless an earlier one has failed.
@@ -32,5 +42,16 @@ pub fn put_after<S: Sink>(before: Put, out: &mut S, piece: &[u8]) -> Put
     match before {
         Put::Done => out.put(piece),
         Put::Failed => Put::Failed,
+    }
+}
+
+/// Sends out what is held back, unless an earlier piece has failed.
+pub fn deliver_after<S: Sink>(before: Put, out: &mut S) -> Put
+    ensures nothing { Writes before result (S.state out.old) (S.state out.new) [] }
+    ensures all { result ≡ Put.Done → S.held out.new ≡ 0 }
+{
+    match before {
+        Put::Done => out.deliver(),
+        Put::Failed => before,
     }
 }

@@ -1,15 +1,11 @@
 //! `hippo`: repairs durability bugs in programs that use persistent memory.
 #![tactic(auto)]
 
-mod files;
-mod stream;
-
-use files::FileCabinet;
+use hip_files::{FileCabinet, Stream};
 use hip_tool::{Status, hippo};
-use std::io::ErrorKind;
+use std::io::{ErrorKind, IsTerminal};
 use std::process::ExitCode;
 use std::{env, io};
-use stream::Stream;
 
 /// The words after the program's name. There are none where one of them is not text.
 fn words(rt: &HostRuntime) -> Result<Vec<String>, io::Error> {
@@ -32,8 +28,9 @@ fn main(rt: HostRuntime) -> ExitCode {
         Err(_) => return ExitCode::from(Status::NoMemory.code()),
     };
     let mut cabinet = FileCabinet::new(&rt);
-    let mut out = Stream::new(rt.stdout());
-    let mut notes = Stream::new(rt.stderr());
+    let lines = rt.stdout().is_terminal();
+    let mut out = Stream::new(rt.alloc(), rt.stdout(), lines);
+    let mut notes = Stream::new(rt.alloc(), rt.stderr(), true);
     let status = hippo(
         rt.alloc(),
         words.as_slice(),
@@ -43,6 +40,3 @@ fn main(rt: HostRuntime) -> ExitCode {
     );
     ExitCode::from(status.code())
 }
-
-#[cfg(test)]
-mod tests;

@@ -14,7 +14,7 @@ pub struct Site {
     pub index: usize,
 }
 
-/// The instruction at a site. None exactly where the site is not there.
+/// The instruction at a site. None exactly if the site does not exist.
 pub fn instr_at(program: &Program, site: Site) -> Option<&Instr>
     ensures { option_copied result ≡ instr_of program.now site }
 {

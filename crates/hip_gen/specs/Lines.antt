@@ -1,6 +1,6 @@
--- The text of a generated program, line by line. The size is the number of elements of the array `@data`, in
--- persistent memory, and `@temp` one of 8 in volatile memory. There is a group of instructions for each number below
--- the size, and it stores that number plus 1.
+-- The text of a generated program, line by line. `@data` is an array in persistent memory, and the size is the number
+-- of its elements; `@temp` is an array of 8 elements in volatile memory. For each number below the size a group of
+-- instructions stores that number plus 1.
 use Rattle.std.specs.Prelude.{ℕ, zero, suc, ◌+◌, ◌%◌, List, [], ◌++◌, codes}
 use Rattle.std.specs.Fmt.{decimal}
 use Rattle.hip_gen.specs.declared.kinds.Kind.{Kind}

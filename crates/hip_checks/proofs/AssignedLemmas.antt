@@ -42,7 +42,7 @@ entry_names-are fn =
 found : (fn : Function) (name : List ℕ) (v : Inner) → NamesDiffer fn → IsEntry (inner_entries fn) name v → value_of (inner_entries fn) name ≡ Some v
 found fn name v differ h = entry_is_value (inner_entries fn) name v (subst AllDiffer (sym (entry_names-are fn)) differ) h
 
--- ---- the label of a block stands for its number
+-- ---- the label of a block denotes its number
 
 pub label_found : (fn : Function) (b : ℕ) (block : Block) → NamesDiffer fn → slice_get fn.blocks b ≡ Some block → value_of (inner_entries fn) block.label ≡ Some (Label b)
 label_found fn b block differ here = found fn block.label (Label b) differ (block_is_in fn b block block.label (Label b) here (inl (refl, refl)))
@@ -117,7 +117,7 @@ step_to_graph fn b c differ leads =
       there = rw (length_graph fn) (slice_get_within fn.blocks c to.0 to.1);
     }
 
--- a number from which a step leads is that of a block
+-- a number that a step leads from is that of a block
 block_with_steps : (fn : Function) (b c : ℕ) → Contains (get_or (graph_of fn) b []) c → (block : Block) × (slice_get fn.blocks b ≡ Some block)
 block_with_steps fn b c h = ⊎_elim (λ g. (g.0, g.2)) (λ g. absurd (none g.0)) (slice_get_cases fn.blocks b).1
   where
@@ -248,7 +248,7 @@ among_last : (fn : Function) (earlier : List ℕ) (last : ℕ) (point : Point) (
 among_last fn earlier last point name h =
     among_right (names_of (parameter_registers fn)) (flat_map (whole_block_names fn) earlier ++ names_before fn point last) name (among_right (flat_map (whole_block_names fn) earlier) (names_before fn point last) name h)
 
--- where nothing has to be passed
+-- if no block has to be passed
 here_by_test : (b : Bool) (d : ℕ) → (if b then None else Some d) ≡ None → b ≡ true
 here_by_test true d e = refl
 here_by_test false d e = cc
@@ -355,7 +355,7 @@ numbers_are : (n : ℕ) (blocks : List Block) (label : List ℕ) → NumbersAre 
 numbers_are n [] label = record { only = λ c block here same empty. cc; first = inl refl }
 numbers_are n (b ∷ bs) label = numbers_found n b bs label (bytes_eq b.label label) (block_number_from (n + 1) bs label) refl (numbers_are (n + 1) bs label)
 
--- it is what the label stands for
+-- it is what the label denotes
 pub number_of_label : (fn : Function) (label : List ℕ) (b : ℕ) → NamesDiffer fn → value_of (inner_entries fn) label ≡ Some (Label b) → block_number_from 0 fn.blocks label ≡ b ∷ []
 number_of_label fn label b differ e =
     let at : BlockOfLabel fn label b = block_of_label fn label b e in
@@ -369,13 +369,13 @@ number_of_label fn label b differ e =
         let one : c ≡ b = cc in
         listed ∙ ap (λ (k : ℕ). k ∷ []) (z ∙ one)
 
--- what stands for no block is no label of one
+-- a name that denotes no block is the label of none
 pub no_number : (fn : Function) (label : List ℕ) → NamesDiffer fn → block_number (value_of (inner_entries fn) label) ≡ [] → block_number_from 0 fn.blocks label ≡ []
 no_number fn label differ e =
     let are : NumbersAre 0 fn.blocks label (block_number_from 0 fn.blocks label) = numbers_are 0 fn.blocks label in
     ⊎_elim (λ none. none) (λ g. let f : value_of (inner_entries fn) label ≡ Some (Label g.0) = rw g.3 at (label_found fn g.0 g.1 differ g.2) in let n : block_number (Some (Label g.0)) ≡ [] = rw f at e in cc) are.first
 
--- the block that a label stands for is there
+-- the block that a label denotes exists
 pub label_within : (fn : Function) (label : List ℕ) (b : ℕ) → value_of (inner_entries fn) label ≡ Some (Label b) → b < length fn.blocks
 label_within fn label b e = let at : BlockOfLabel fn label b = block_of_label fn label b e in slice_get_within fn.blocks b at.block at.here
 

@@ -133,7 +133,7 @@ labels_of : (edges : List Edge) → map (λ e. e.name) (map edge_entry edges) �
 labels_of [] = refl
 labels_of (e ∷ es) = ap (λ ns. e.label ∷ ns) (labels_of es)
 
--- where the edges agree, the rule is whether each predecessor is in the table
+-- if the edges agree, the rule is whether each predecessor is in the table
 pub edges_by_table : {ns : List (List ℕ)} {vs : List (Bor Operand)} (before : List (List ℕ)) (edges : List Edge) → Carries ns vs edges → are_among before (edge_labels edges) ≡ true → list_all (is_among ns) before ≡ edges_agree before edges
 edges_by_table {ns = ns} before edges c among =
     let knows : Knows ns (edge_labels edges) = λ name. has_names c.entries c.stands name ∙ ap (λ names. is_among names name) (labels_seen c.entries ∙ ap (map (λ e. e.name)) c.are ∙ labels_of edges) in

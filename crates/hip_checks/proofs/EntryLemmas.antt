@@ -1,4 +1,4 @@
--- Which entries the names of a function have, and what a name that differs from the others stands for.
+-- Which entries the names of a function have, and what a name that differs from the others denotes.
 use Rattle.std.proofs.Common.{ℕ, zero, suc, ◌+◌, ◌<◌, ◌≤◌, ◌≡◌, ◌⊎◌, Bool, true, false, List, [], ◌∷◌, ◌++◌, map, take, length, Option, Some, refl, sym, ap, subst, inl, inr, ⊎_elim, arith}
 use Rattle.std.specs.Prelude.{if◌then◌else◌, slice_get}
 use Rattle.std.specs.Str.{bytes_eq}
@@ -34,7 +34,7 @@ entry_is_named [] name v h = absurd h
 entry_is_named (e ∷ es) name v (inl h) = inl h.0
 entry_is_named (e ∷ es) name v (inr h) = inr (entry_is_named es name v h)
 
--- ---- what a name stands for is an entry, and where names differ each entry is found
+-- ---- what a name denotes is an entry, and if names differ each entry is found
 
 value_by_test : (b : Bool) (e : Entry Inner) (later : Option Inner) (name : List ℕ) (v : Inner) (es : List (Entry Inner)) → bytes_eq e.name name ≡ b
     → (later ≡ Some v → IsEntry es name v) → (if b then Some e.value else later) ≡ Some v → IsEntry (e ∷ es) name v
@@ -72,7 +72,7 @@ entry_cases [] ys name v h = inr h
 entry_cases (x ∷ xs) ys name v (inl h) = inl (inl h)
 entry_cases (x ∷ xs) ys name v (inr h) = ⊎_elim (λ a. inl (inr a)) (λ b. inr b) (entry_cases xs ys name v h)
 
--- an item and its number, from which an entry comes
+-- the item that an entry comes from, and its number
 pub record ComesOf {A : Type 0} (n : ℕ) (make : ℕ → A → List (Entry Inner)) (xs : List A) (name : List ℕ) (v : Inner) : Type 0 where
   pub number : ℕ
   pub item : A
@@ -233,7 +233,7 @@ usable_before b point block name h =
     record { after = found.after; there = found.there; is = inr (entry_right (numbered (entries.phi b) block.phis) (body_declared (entries.instr b) block.body) name (Assigned b found.after) found.is) })
     (named_cases (phi_registers block.phis) (body_registers (body_part point block)) name (rw (registers_before-is point block) at h))
 
--- a register's entry in a block is of that block, and where it can be used it was assigned before
+-- a register's entry in a block is of that block, and a use of it comes after its assignment
 pub record IsAssignedIn (b : ℕ) (block : Block) (name : List ℕ) (d after : ℕ) : Type 0 where
   pub same : d ≡ b
   pub before : (point : Point) → is_there point after ≡ true → IsAmong (names_of (registers_before point block)) name

@@ -1,4 +1,4 @@
--- What the values of the code stand for.
+-- The meaning of the values of the code.
 pub mod Answers
 pub mod Arrivals
 pub mod AssignedSeen

@@ -34,7 +34,7 @@ impl From<NoMemory> for NotAssigned {
     }
 }
 
-/// Whether a register that can be used after so many instructions of its block can be used at a point of it.
+/// Whether a register that can be used after n instructions of its block can be used at a point of it.
 fn is_there(point: Point, after: usize) -> bool
     ensures { result ≡ spec.is_there point after }
 {
@@ -53,7 +53,7 @@ pub struct Body<'a> {
     pub alloc: Global,
 }
 
-/// The block that each path passes before a point at which what the name stands for is assigned; none where it was
+/// The block that each path passes before the point: the one that assigns what the name denotes; none if it was
 /// assigned in the block of the point, or is a parameter.
 fn to_pass(count: usize, block: usize, point: Point, inner: Option<Inner>) -> Option<usize>
     ensures { result ≡ spec.to_pass count block point inner }

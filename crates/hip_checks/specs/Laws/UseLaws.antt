@@ -1,4 +1,4 @@
--- Operands that are checked by tables, and by what the tables stand for.
+-- Operands that are checked by tables, and by the meaning of the tables.
 use Rattle.std.specs.Prelude.{ℕ, ◌≡◌, ◌&&◌, Bool, true, false, List, [], ◌∷◌, Option, is_some}
 use Rattle.std.specs.List.{list_all}
 use Rattle.std.proofs.Common.{refl, sym, ap, ◌∙◌}

@@ -1,4 +1,4 @@
--- What the code's table of predecessors stands for.
+-- The meaning of the code's table of predecessors.
 use Rattle.std.specs.Prelude.{ℕ, ◌≡◌, ◌&&◌, ◌||◌, List, [], Option, unwrap_or}
 use Rattle.std.specs.Borrow.{Bor}
 use Rattle.std.specs.Str.{bytes_eq}
@@ -12,7 +12,7 @@ abbrev pub found_at : {S : Type 0} → IndexMap (Bor (List ℕ)) (List (List ℕ
     → Option (List (List ℕ))
 found_at m label = get_by (λ k. bytes_eq label k.now) m
 
--- the set of names at a name, empty where the table has none
+-- the set of names at a name, empty if the table has none
 abbrev pub names_at : {S : Type 0} → IndexMap (Bor (List ℕ)) (List (List ℕ)) S → List ℕ → List (List ℕ)
 names_at m label = unwrap_or (found_at m label) []
 

@@ -16,19 +16,19 @@ use Rattle.hip_sound.specs.declared.fault.Place.{Place}
 use Rattle.hip_checks.specs.declared.tables.inner_table.Inner.{Inner}
 use Rattle.hip_checks.specs.declared.tables.inner_table.Inner.TheVariants.{Parameter, Assigned}
 
--- a register that can be used after so many instructions of its block, can be used at the point
+-- a register that can be used after n instructions of its block can be used at the point
 abbrev pub is_there : Point → ℕ → Bool
 is_there (Before k) after = nat_le after k
 is_there AtEnd after = true
 
--- the block that each path to a use at the point passes, where the register was not assigned in the use's block before:
+-- the block that each path to a use at the point passes, if the register was not assigned in the use's block before:
 -- the one that assigns it. Where nothing assigns it there is no such block, and the number is that of none.
 abbrev pub to_pass : ℕ → ℕ → Point → Option Inner → Option ℕ
 to_pass count block point (Some Parameter) = None
 to_pass count block point (Some (Assigned b after)) = if b == block && is_there point after then None else Some b
 to_pass count block point _ = Some count
 
--- the names of a function differ, the table finds what they stand for, and the graph is that of its blocks
+-- the names of a function differ, the table finds what they denote, and the graph is that of its blocks
 pub record Describes (fn : Function) (names : List (List ℕ)) (values : List Inner)
     (graph : List (List ℕ)) : Type 0 where
   pub stands : StandsFor names values (inner_entries fn)

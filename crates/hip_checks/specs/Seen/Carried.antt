@@ -1,4 +1,4 @@
--- What the code's table of a phi's operands stands for.
+-- The meaning of the code's table of a phi's operands.
 use Rattle.std.specs.Prelude.{ℕ, ◌≡◌, Bool, true, false, List, map, Option, Some, None}
 use Rattle.std.specs.Borrow.{Bor}
 use Rattle.hip_tree.specs.declared.block.Edge.{Edge}
@@ -8,7 +8,7 @@ use Rattle.hip_sound.specs.Places.{repeats_agree}
 use Rattle.hip_names.specs.Tables.{Entry, StandsFor}
 use Rattle.hip_names.specs.declared.table.NameTable.{NameTable}
 
--- an operand is the one that was carried already, where there is one
+-- an operand is the one that was carried already, if there is one
 abbrev pub carries_again : Option (Bor Operand) → Operand → Bool
 carries_again None o = true
 carries_again (Some first) o = same_operand first.now o
@@ -21,7 +21,7 @@ edge_entry e = record { name = e.label; value = e.value }
 abbrev pub carried_seen : Entry (Bor Operand) → Entry Operand
 carried_seen e = record { name = e.name; value = e.value.now }
 
--- names and values stand for what edges that agree carry
+-- names and values denote what edges that agree carry
 pub record Carries (names : List (List ℕ)) (values : List (Bor Operand)) (edges : List Edge) : Type 0 where
   pub entries : List (Entry (Bor Operand))
   pub stands : StandsFor names values entries

@@ -1,4 +1,4 @@
--- What the names of a function stand for, in the order in which they are declared, and the function's graph by numbers.
+-- What the names of a function denote, in the order of their declarations, and the function's graph by numbers.
 use Rattle.std.specs.Prelude.{ℕ, ◌+◌, List, [], ◌∷◌, map, Option, Some}
 use Rattle.std.specs.List.{flat_map}
 use Rattle.hip_tree.specs.declared.program.Function.{Function}
@@ -8,7 +8,7 @@ use Rattle.hip_names.specs.Tables.{Entry, value_of, value_beside}
 use Rattle.hip_checks.specs.declared.tables.inner_table.Inner.{Inner}
 use Rattle.hip_checks.specs.declared.tables.inner_table.Inner.TheVariants.{Parameter, Label, Assigned}
 
--- a name of a function, with what it stands for
+-- a name of a function, with what it denotes
 abbrev pub entry : List ℕ → Inner → Entry Inner
 entry name value = record { name = name; value = value }
 
@@ -22,7 +22,7 @@ entries = record {
   instr = λ b i r. entry r.name (Assigned b (i + 1));
 }
 
--- each name that a function declares, with what it stands for, in the order of its text
+-- each name that a function declares, with what it denotes, in the order of its text
 abbrev pub inner_entries : Function → List (Entry Inner)
 inner_entries f = declared_by entries f
 

@@ -1,4 +1,4 @@
--- What the code's lists stand for.
+-- The meaning of the code's lists.
 use Rattle.std.specs.Prelude.{List, map}
 use Rattle.hip_sound.specs.Names.{Named}
 use Rattle.hip_checks.specs.declared.rules.named.NamedPlace.{NamedPlace}

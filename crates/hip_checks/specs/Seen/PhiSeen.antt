@@ -73,7 +73,7 @@ at_each p (x ∷ xs) all =
     or_true true = refl
     or_true false = refl
 
--- a test passes at all names of one exactly where it does at all names of the other
+-- a test passes at all names of one exactly if it does at all names of the other
 pub all_alike : (p : List ℕ → Bool) (xs ys : List (List ℕ)) → Knows xs ys → list_all p xs ≡ list_all p ys
 all_alike p xs ys knows =
     both_ways (list_all p xs) (list_all p ys)

@@ -1,4 +1,4 @@
--- What the code's registers stand for.
+-- The meaning of the code's registers.
 use Rattle.std.specs.Prelude.{List, [], ◌∷◌, Option, Some, None}
 use Rattle.hip_sound.specs.Registers.{Register}
 use Rattle.hip_checks.specs.declared.tables.registers.Register as code

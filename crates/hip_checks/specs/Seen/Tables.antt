@@ -1,4 +1,4 @@
--- What the tables of registers and of callees stand for.
+-- The meaning of the tables of registers and of callees.
 use Rattle.std.specs.Prelude.{ℕ, ◌≡◌, List, ◌++◌, map, Option, option_map}
 use Rattle.hip_types.specs.declared.number.Scalar.{Scalar}
 use Rattle.hip_tree.specs.declared.program.Extern.{Extern}
@@ -43,15 +43,15 @@ abbrev pub params_seen : Params → List Scalar
 params_seen (Scalars types) = types.now
 params_seen (Named params) = map (λ p. p.ty) params.now
 
--- the signature that a callee in the code's table stands for
+-- the signature that a callee in the code's table denotes
 abbrev pub callee_seen : Callee → Signature
 callee_seen c = record { ret = c.ret; params = params_seen c.params }
 
--- a name in the code's table of callees, with the signature that its callee stands for
+-- a name in the code's table of callees, with the signature that its callee denotes
 abbrev pub entry_seen : Entry Callee → Entry Signature
 entry_seen e = record { name = e.name; value = callee_seen e.value }
 
--- names and values that stand for the entries and for some more, which have these names and signatures
+-- names and values that denote the entries and some more, which have these names and signatures
 pub record Grown (names : List (List ℕ)) (values : List Callee) (entries : List (Entry Callee))
     (signatures : List (Entry Signature)) : Type 0 where
   pub more : List (Entry Callee)

@@ -1,4 +1,4 @@
--- What the code's tables of a program and of a function stand for.
+-- The meaning of the code's tables of a program and of a function.
 use Rattle.std.specs.Prelude.{map}
 use Rattle.hip_checks.specs.Seen.Arrivals.{FindsPredecessors}
 use Rattle.hip_names.specs.Names.{Knows}

@@ -1,10 +1,10 @@
--- What the code's targets stand for.
+-- The meaning of the code's targets.
 use Rattle.std.specs.Prelude.{ℕ, List, [], ◌∷◌, ◌++◌, map, Option, Some, None}
 use Rattle.std.specs.Borrow.{Bor}
 use Rattle.hip_tree.specs.declared.block.Case.{Case}
 use Rattle.hip_checks.specs.declared.places.targets.Targets.{Targets}
 
--- a label, as a list; empty where there is none
+-- a label, as a list; empty if there is none
 abbrev pub label_seen : Option (Bor (List ℕ)) → List (List ℕ)
 label_seen None = []
 label_seen (Some label) = label.now ∷ []

@@ -1,4 +1,4 @@
--- What the code's uses stand for.
+-- The meaning of the code's uses.
 use Rattle.std.specs.Prelude.{ℕ, Bool, true, List, [], ◌∷◌, ◌++◌, Option, Some, None, is_some, option_map, ◌&&◌}
 use Rattle.std.specs.List.{list_all}
 use Rattle.hip_types.specs.declared.number.Scalar.{Scalar}
@@ -18,7 +18,7 @@ use Rattle.hip_checks.specs.declared.tables.callees.Callee.{Callee}
 use Rattle.hip_checks.specs.declared.places.uses.OperandUse.{OperandUse}
 use Rattle.hip_checks.specs.declared.places.uses.Uses.{Uses}
 
--- an operand with the type that its place states, as a list; empty where there is none
+-- an operand with the type that its place states, as a list; empty if there is none
 abbrev pub use_seen : Option OperandUse → List Use
 use_seen None = []
 use_seen (Some u) = use_of u.operand.now u.ty ∷ []
@@ -34,7 +34,7 @@ abbrev pub operand_known : List (List ℕ) → List (Option Scalar) → List (Li
 operand_known names values globals (Reg name) = is_some (value_beside names values name)
 operand_known names values globals (Fixed value) = list_all (is_among globals) (names_in value)
 
--- each operand of the uses is known so by the tables; true where there are none
+-- each operand of the uses is known so by the tables; true if there are none
 abbrev pub operands_known : List (List ℕ) → List (Option Scalar) → List (List ℕ) → List Use → Bool
 operands_known names values globals us = list_all (λ u. operand_known names values globals u.operand) us
 
@@ -44,7 +44,7 @@ abbrev pub operand_agrees : List (List ℕ) → List (Option Scalar) → Operand
 operand_agrees names values (Reg name) ty = has_type ty (value_beside names values name)
 operand_agrees names values (Fixed value) ty = has_shape value (type_of ty)
 
--- each operand agrees so with the type that its use states; true where there are none
+-- each operand agrees so with the type that its use states; true if there are none
 abbrev pub operands_agree : List (List ℕ) → List (Option Scalar) → List Use → Bool
 operands_agree names values us = list_all (λ u. operand_agrees names values u.operand u.ty) us
 

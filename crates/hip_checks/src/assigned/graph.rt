@@ -38,7 +38,7 @@ fn push_label(
     }
 }
 
-/// Adds the numbers of the blocks to which the cases of a switch go.
+/// Adds the numbers of the blocks that the cases of a switch go to.
 fn push_cases(
     numbers: &mut Row<usize>,
     names: &InnerTable<'_>,

@@ -26,7 +26,7 @@ fn entered_at(ty: &Ty, index: u64) -> Option<&Ty>
     }
 }
 
-/// Whether each index but the first enters an aggregate.
+/// Whether each index after the first enters an aggregate.
 fn indices_enter(ty: &Ty, indices: &[Bits]) -> bool
     ensures { result ≡ path_exists indices.now ty.now }
 {

@@ -19,7 +19,7 @@ fn is_same_operand(a: &Operand, b: &Operand) -> bool
     a.same(b)
 }
 
-/// Whether the operand is the one that the table has; any is where it has none.
+/// Whether the operand is the one that the table has, or the table has none.
 fn carries(first: Option<&Operand>, operand: &Operand) -> bool
     ensures { result ≡ carries_again first.entry operand.now }
 {

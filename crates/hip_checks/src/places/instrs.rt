@@ -89,7 +89,7 @@ fn args_enter(ty: &Ty, indices: &[Arg]) -> bool
     true
 }
 
-/// Whether each index but the first enters an aggregate.
+/// Whether each index after the first enters an aggregate.
 pub fn gep_agrees(ty: &Ty, indices: &[Arg]) -> bool
     ensures { result ≡ spec.gep_agrees indices.now ty.now }
 {

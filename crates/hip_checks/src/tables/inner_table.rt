@@ -12,7 +12,7 @@ use hip_tree::{Block, Function, Instr, Param, Phi};
 use hip_types::{Name, NoMemory};
 use std::alloc::Global;
 
-/// What a name of a function stands for, blocks being numbered from 0.
+/// What a name of a function denotes. Blocks are numbered from 0.
 #[derive(Clone, Copy)]
 pub enum Inner {
     Parameter,

@@ -17,8 +17,8 @@ use Rattle.hip_io.specs.declared.sink.Put.TheVariants as puts
 use Rattle.hip_tree.specs.declared.program.Program.{Program}
 use Rattle.hip_program_files.specs.Loading.{IsProgramOf}
 use Rattle.hip_program_files.specs.Outside.{HasMet}
-use Rattle.hip_recording.specs.Recording.{HasFailedRecording, HasRecorded, HasStoppedRecording}
-use Rattle.hip_recording.specs.declared.record.Recorded.{Recorded}
+use Rattle.hip_lockstep.specs.declared.ended.Ended.{Ended}
+use Rattle.hip_recording.specs.Recording.{HasFailedRecording, HasPutTrace, HasStoppedRecording}
 use Rattle.hip_run_traces.specs.Traces.{IsTrace}
 use Rattle.hip_runs.specs.Step.{run}
 use Rattle.hip_runs.specs.declared.event.Ending.{Ending}
@@ -53,16 +53,16 @@ module _ {old new : CabinetState} {name : List ℕ} {base limit : ℕ} {numbers 
     };
   })
 
-  pub has_recorded : (recorded : Recorded) (status : Status) (tried : Put) (mid : SinkState) (result : Status)
-      → HasRecorded P I s.out s.out_new recorded → status ≡ status_of_ending recorded.ending
-      → Writes puts.Done tried s.notes mid (ending_line recorded.ending) → Finishes tried status mid s.notes_new result
+  pub has_recorded : (done : Ended) (status : Status) (tried : Put) (mid : SinkState) (result : Status)
+      → HasPutTrace P I s.out s.out_new done → status ≡ status_of_ending done.ending
+      → Writes puts.Done tried s.notes mid (ending_line done.ending) → Finishes tried status mid s.notes_new result
       → HasAnswered (RecordAnswers old new name base limit numbers) true old new s result
-  has_recorded recorded status tried mid result p same notes f =
-      let text = lines_of p.put.trace in
-      let traced : IsTraceText P I text recorded.ending =
-      record { trace = p.put.trace; is_trace = p.put.is_trace; ended = p.put.ended; is = refl } in
-      finished s (answer_of text recorded.ending) tried mid result (row text recorded.ending traced)
-      (is_carried_out recorded.ending) p.put.written notes.how
+  has_recorded done status tried mid result p same notes f =
+      let text = lines_of p.trace in
+      let traced : IsTraceText P I text done.ending =
+      record { trace = p.trace; is_trace = p.is_trace; ended = p.ended; is = refl } in
+      finished s (answer_of text done.ending) tried mid result (row text done.ending traced)
+      (is_carried_out done.ending) p.written notes.how
       (subst (λ (x : Status). Finishes tried x mid s.notes_new result) same f)
 
   pub was_cut : HasFailedRecording P I s.out s.out_new → PutsLine statuses.WriteFault s.notes s.notes_new

@@ -8,7 +8,7 @@ ghost use Rattle.std.specs.Prelude.{◌≤◌, true, length};
 use hip_answers::{Status, finish, put_ending, refuse, status_of_ending, status_of_failure};
 use hip_io::{Cabinet, Sink};
 use hip_loading::load_program;
-use hip_recording::{RecordRefusal, record_run};
+use hip_recording::{RecordRefusal, write_trace};
 use hip_runs::{MOST_NUMBERS, MOST_TURNS, first_input};
 use hip_types::{NoMemory, Row};
 use std::alloc::Global;
@@ -40,10 +40,10 @@ pub fn record_file<C: Cabinet, S: Sink, N: Sink>(
         Ok(input) => input,
         Err(NoMemory) => return refuse(notes, Status::NoMemory),
     };
-    match record_run(alloc, &checked, &input, out) {
-        Ok(recorded) => {
-            let tried = put_ending(notes, recorded.ending);
-            finish(notes, tried, status_of_ending(recorded.ending))
+    match write_trace(alloc, &checked, &input, out) {
+        Ok(ended) => {
+            let tried = put_ending(notes, ended.ending);
+            finish(notes, tried, status_of_ending(ended.ending))
         }
         Err(RecordRefusal::WriteFault) => refuse(notes, Status::WriteFault),
         Err(RecordRefusal::NoMemory) => refuse(notes, Status::NoMemory),

@@ -46,6 +46,8 @@ impl KeptText {
 impl Sink for KeptText {
     ghost state = { λ s. s };
 
+    ghost held = { λ s. 0 };
+
     fn put(&mut self, bytes: &[u8]) -> Put
         ensures { HasPut self.old self.new bytes.now result }
     {
@@ -56,5 +58,9 @@ impl Sink for KeptText {
                 Put::Failed
             }
         }
+    }
+    /// Holds nothing back.
+    fn deliver(&mut self) -> Put {
+        Put::Done
     }
 }

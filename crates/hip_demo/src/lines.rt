@@ -2,12 +2,12 @@
 
 ghost use Rattle.std.specs.Prelude.{◌++◌};
 ghost use Rattle.hip_demo.specs.Demo.{demo_text, first_line};
-ghost use Rattle.hip_io.specs.Sinks.{Writes};
+ghost use Rattle.hip_io.specs.Sinks.{Delivers, Writes};
 ghost use Rattle.hip_report_lines.specs.Counts.{count_line, repair_counts};
 
 use crate::shown::Shown;
 use hip_answers::put_number;
-use hip_io::{Put, Sink, put_after};
+use hip_io::{Put, Sink, deliver_after, put_after};
 use hip_repairs::Plan;
 use hip_report_lines::{put_count, put_repair_counts};
 
@@ -41,8 +41,16 @@ fn put_repair<S: Sink>(before: Put, out: &mut S, reports: usize, plan: &Plan, cl
     }
 }
 
-/// What is shown of the generated program for a seed and a size.
+/// Writes what is shown of the generated program for a seed and a size, and delivers it.
 pub(crate) fn put_shown<S: Sink>(out: &mut S, seed: u64, size: u64, shown: &Shown) -> Put
+    ensures { Delivers Put.Done result (S.state out.old) (S.state out.new) (S.held out.new)
+        (demo_text seed size shown.now) }
+{
+    let put = put_lines(out, seed, size, shown);
+    deliver_after(put, out)
+}
+
+fn put_lines<S: Sink>(out: &mut S, seed: u64, size: u64, shown: &Shown) -> Put
     ensures { Writes Put.Done result (S.state out.old) (S.state out.new) (demo_text seed size shown.now) }
 {
     let put = put_first_line(out, seed, size);

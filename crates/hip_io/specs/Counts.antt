@@ -1,7 +1,7 @@
--- Counts of what went wrong outside.
+-- Counts of faults.
 use Rattle.std.specs.Prelude.{ℕ, ◌+◌, ◌-◌, ◌^◌, ◌≤◌, min}
 
--- A count rose in a call: it is greater after the call, or it stands at the last value that it can have.
+-- A count rose in a call: it is greater after the call, or it is the last value that it can have.
 abbrev pub Rose : ℕ → ℕ → Type 0
 Rose before after = min (before + 1) (2 ^ 64 - 1) ≤ after
 

@@ -4,7 +4,7 @@ use Rattle.hip_io.specs.Counts.{Rose}
 use Rattle.hip_io.specs.declared.sink.Put.{Put}
 use Rattle.hip_io.specs.declared.sink.Put.TheVariants.{Done, Failed}
 
--- What contracts see of a sink: the bytes that it was given, where it tells them, and how often it has failed.
+-- What contracts see of a sink: the bytes that it was given, if they are known, and how often it has failed.
 pub record SinkState : Type 0 where
   pub bytes : Option (List ℕ)
   pub faults : ℕ
@@ -43,7 +43,13 @@ abbrev pub writes_from : Put → Put → SinkState → SinkState → List ℕ �
 writes_from Done after old new text = HasPut old new text after
 writes_from Failed after old new text = StaysFailed after old new
 
--- One stage of a writer, which is handed the outcome of the stages before it and answers that with its own.
--- It is a record, so that a law finds from it what the stage speaks of.
+-- One stage of a writer. It takes the outcome of the stages before it, and answers that outcome or its own failure.
+-- It is a record, so that a law can infer its arguments.
 pub record Writes (before after : Put) (old new : SinkState) (text : List ℕ) : Type 0 where
   pub how : writes_from before after old new text
+
+-- The last stage of a text: what it does, and that the sink then holds nothing back, unless a write has failed. `held`
+-- is how many bytes the sink holds back after it.
+pub record Delivers (before after : Put) (old new : SinkState) (held : ℕ) (text : List ℕ) : Type 0 where
+  pub how : writes_from before after old new text
+  pub out : after ≡ Done → held ≡ 0

@@ -1,5 +1,5 @@
 ghost use Rattle.std.specs.Prelude.{◌≡◌, []};
-ghost use Rattle.hip_io.specs.Sinks.{HasPut, Writes};
+ghost use Rattle.hip_io.specs.Sinks.{Delivers, HasPut, Writes};
 
 use thiserror::Error;
 
@@ -47,8 +47,7 @@ pub fn put_after<S: Sink>(before: Put, out: &mut S, piece: &[u8]) -> Put
 
 /// Sends out what is held back, unless an earlier piece has failed.
 pub fn deliver_after<S: Sink>(before: Put, out: &mut S) -> Put
-    ensures nothing { Writes before result (S.state out.old) (S.state out.new) [] }
-    ensures all { result ≡ Put.Done → S.held out.new ≡ 0 }
+    ensures { Delivers before result (S.state out.old) (S.state out.new) (S.held out.new) [] }
 {
     match before {
         Put::Done => out.deliver(),

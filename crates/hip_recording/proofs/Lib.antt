@@ -1,3 +1,3 @@
-pub mod Gatherings
+pub mod Deliveries
 pub mod Outputs
 pub mod TraceTexts

@@ -1,9 +1,10 @@
--- What a run has printed after some steps is the front of what it prints.
+-- What a run has printed after some steps is a prefix of what it prints.
 use Rattle.std.proofs.Common.{◌≡◌, ℕ, zero, suc, ◌+◌, true, List, [], ◌++◌, Option, Some, None, is_some, append-nil, append_assoc, refl, sym, ap, ◌∙◌, subst, arith}
 use Rattle.hip_tree.specs.declared.program.Program.{Program}
-use Rattle.hip_io.specs.Laws.SinkLaws.{and_then, prefix_of_more, writes_nothing}
-use Rattle.hip_io.specs.Sinks.{SinkState, AppendsAll, AppendsPrefix, Writes}
-use Rattle.hip_io.specs.declared.sink.Put.TheVariants.{Done, Failed}
+use Rattle.std.specs.Prelude.{Err}
+use Rattle.hip_io.specs.Laws.SinkLaws.{prefix_of_more, writes_nothing}
+use Rattle.hip_io.specs.Sinks.{SinkState, AppendsAll, AppendsPrefix}
+use Rattle.hip_io.specs.declared.sink.Put.TheVariants.{Done}
 use Rattle.hip_runs.specs.Outputs.{ending_by, printed_by}
 use Rattle.hip_runs.specs.Step.{event, run}
 use Rattle.hip_runs.specs.declared.event.Ending.{Ending}
@@ -11,22 +12,20 @@ use Rattle.hip_runs.specs.declared.event.Event.{Event}
 use Rattle.hip_runs.specs.declared.event.Event.TheVariants as events
 use Rattle.hip_runs.specs.declared.input.Input.{Input}
 use Rattle.hip_lockstep.proofs.Going.{IsGoing, IsTold, ended_stays, ending_next, goes_on, none_ends, starts, taken_next}
-use Rattle.hip_recording.specs.Printing.{IsPrinted, HasPrinted, HasFailed, HasStopped}
+use Rattle.hip_recording.proofs.Deliveries.{all_of_both, delivers, fails_to_deliver, part_of_both}
+use Rattle.hip_recording.specs.Delivery.{EndsOutOfMemory}
+use Rattle.hip_recording.specs.Printing.{IsPrinted, HasPrinted, HasFailed, HasStopped, Prints}
+use Rattle.hip_recording.specs.declared.refusal.RecordRefusal.{RecordRefusal}
+use Rattle.hip_recording.specs.declared.refusal.RecordRefusal.TheVariants.{NoMemory, WriteFault}
 use Rattle.hip_runs.specs.Seen.{Seen, after_step}
 
-pub written_all : {old new : SinkState} {text : List ℕ} → AppendsAll old new text → Writes Done Done old new text
-written_all p = record { how = p }
-
-pub written_part : {old new : SinkState} {text : List ℕ} → AppendsPrefix old new text → Writes Done Failed old new text
-written_part p = record { how = p }
-
--- a machine that goes on, and what was written of what its steps print
+-- a machine that goes on, and what its steps print was written
 pub record IsPrinting (P : Program) (I : Input) (m : Seen) (old new : SinkState) : Type 0 where
   pub on : IsGoing P I m
   pub written : AppendsAll old new (run P I m.taken).world.output
 
 module _ (P : Program) (I : Input) (told : (n : ℕ) → (run P I (suc n)).world.output ≡ (run P I n).world.output ++ printed_by (event P I (run P I n))) where
-  -- what comes behind the output of the first steps
+  -- what follows the output of the first steps
   grown : (n d : ℕ) → (more : List ℕ) × ((run P I (n + d)).world.output ≡ (run P I n).world.output ++ more)
   grown n zero = ([], ap (λ k. (run P I k).world.output) (let e : n + 0 ≡ n = omega arith in e) ∙ sym (append-nil (run P I n).world.output))
   grown n (suc d) = go (grown n d)
@@ -38,7 +37,7 @@ module _ (P : Program) (I : Input) (told : (n : ℕ) → (run P I (suc n)).world
             ∙ ap (λ text. text ++ printed_by (event P I (run P I (n + d)))) is ∙ append_assoc (run P I n).world.output more (printed_by (event P I (run P I (n + d)))),
       )
 
--- the output after some steps is the front of what the run prints
+-- the output after some steps is a prefix of what the run prints
 pub record IsFront (P : Program) (I : Input) (front : List ℕ) : Type 0 where
   pub missing : List ℕ
   pub ending : Ending
@@ -93,20 +92,18 @@ module _ {P : Program} {I : Input} {m : Seen} {old mid : SinkState} (told : IsTo
   pub failed : (e : Event) (new : SinkState) → event P I (run P I m.taken) ≡ e → AppendsPrefix mid new (printed_by e) → HasFailed P I old new
   failed e new at put =
       let front = front_of P I told (suc m.taken) in
-      let both : Writes Done Failed old new ((run P I m.taken).world.output ++ printed_by e) = and_then (written_all is.written) (written_part put) in
       record {
         text = (run P I (suc m.taken)).world.output ++ front.missing;
         ending = front.ending;
         printed = front.printed;
-        written = prefix_of_more old new (run P I (suc m.taken)).world.output front.missing (subst (λ text. AppendsPrefix old new text) (sym (printed_next e at)) both.how);
+        written = prefix_of_more old new (run P I (suc m.taken)).world.output front.missing (subst (λ text. AppendsPrefix old new text) (sym (printed_next e at)) (part_of_both is.written put));
       }
 
   pub more : (e : Event) (new : SinkState) → event P I (run P I m.taken) ≡ e → ending_by e ≡ None → AppendsAll mid new (printed_by e) → IsPrinting P I (after_step m) old new
   more e new at goes put =
-      let both : Writes Done Done old new ((run P I m.taken).world.output ++ printed_by e) = and_then (written_all is.written) (written_all put) in
       record {
         on = goes_on told is.on e at goes;
-        written = subst (λ n. AppendsAll old new (run P I n).world.output) (sym (taken_next told is.on)) (subst (λ text. AppendsAll old new text) (sym (printed_next e at)) both.how);
+        written = subst (λ n. AppendsAll old new (run P I n).world.output) (sym (taken_next told is.on)) (subst (λ text. AppendsAll old new text) (sym (printed_next e at)) (all_of_both is.written put));
       }
 
 starts_silent : (P : Program) (I : Input) → (run P I 0).world.output ≡ []
@@ -119,3 +116,21 @@ started P I s = record {
   on = starts P I;
   written = subst (λ text. AppendsAll s s text) (sym (starts_silent P I)) (writes_nothing Done s).how;
 }
+
+-- ---- at the end
+
+module _ {P : Program} {I : Input} {old mid new : SinkState} where
+  pub has_printed : {ending : Ending} → HasPrinted P I old mid ending → AppendsAll mid new [] → HasPrinted P I old new ending
+  has_printed p q = record { text = p.text; printed = p.printed; written = delivers p.written q }
+
+  pub not_delivered : {ending : Ending} → HasPrinted P I old mid ending → AppendsPrefix mid new [] → HasFailed P I old new
+  not_delivered {ending} p q = record { text = p.text; ending = ending; printed = p.printed; written = fails_to_deliver p.written q }
+
+  pub ran_out : (refusal : RecordRefusal) → HasStopped P I old mid → EndsOutOfMemory mid new refusal → Prints P I old new (Err refusal)
+  ran_out NoMemory p q = record { front = p.front; missing = p.missing; ending = p.ending; printed = p.printed; written = delivers p.written q }
+  ran_out WriteFault p q = record {
+    text = p.front ++ p.missing;
+    ending = p.ending;
+    printed = p.printed;
+    written = prefix_of_more old new p.front p.missing (fails_to_deliver p.written q);
+  }

@@ -1,4 +1,4 @@
--- What was written of a run's trace after some steps is the front of the trace.
+-- The entries that are written after some steps are a prefix of the run's trace.
 use Rattle.std.proofs.Common.{◌≡◌, ℕ, suc, ◌+◌, ◌^◌, ◌<◌, List, [], ◌++◌, length, Option, Some, None, is_some, length-append, append-nil, refl, sym, ap, ◌∙◌, subst, arith}
 use Rattle.std.specs.Prelude.{Ok, Err, if◌then◌else◌}
 use Rattle.std.proofs.lemmas.Grind.{flat_map-append}
@@ -17,12 +17,13 @@ use Rattle.hip_invariants.specs.Bounds.{CountsFit}
 use Rattle.hip_runs.specs.Seen.{Seen, after_step}
 use Rattle.hip_trace.specs.Texts.{line_of, lines_of}
 use Rattle.hip_trace.specs.declared.entry.Entry.{Entry}
-use Rattle.hip_recording.proofs.Gatherings.{fails_behind, fails_last, gathers_more, puts_last}
+use Rattle.hip_recording.proofs.Deliveries.{all_of_both, delivers, fails_to_deliver, part_of_both}
+use Rattle.hip_recording.specs.Delivery.{EndsOutOfMemory}
 use Rattle.hip_lockstep.proofs.Going.{IsGoing, IsTold, ending_next, goes_on, taken_next}
-use Rattle.hip_recording.specs.Gathering.{HasPutBut, LeavesLast}
 use Rattle.hip_lockstep.specs.declared.ended.Ended.{Ended}
-use Rattle.hip_recording.specs.declared.refusal.RecordRefusal.TheVariants.{NoMemory}
-use Rattle.hip_recording.specs.Recording.{HasPutTrace, HasFailedRecording, HasStoppedRecording}
+use Rattle.hip_recording.specs.declared.refusal.RecordRefusal.{RecordRefusal}
+use Rattle.hip_recording.specs.declared.refusal.RecordRefusal.TheVariants.{NoMemory, WriteFault}
+use Rattle.hip_recording.specs.Recording.{HasPutTrace, HasFailedRecording, HasStoppedRecording, StopsRecording}
 
 -- ---- lines one after another
 
@@ -34,10 +35,10 @@ part_of_more {old} {new} es fs p = subst (λ text. AppendsPrefix old new text) (
 
 -- ---- the run
 
--- a machine that goes on, and the lines of the trace of its steps, of which the end is gathered
-pub record IsRecording (P : Program) (I : Input) (m : Seen) (old new : SinkState) (gathered : List ℕ) : Type 0 where
+-- a machine that goes on, and the lines of the trace of its steps
+pub record IsRecording (P : Program) (I : Input) (m : Seen) (old new : SinkState) : Type 0 where
   pub on : IsGoing P I m
-  pub written : HasPutBut old new gathered (lines_of (trace P I m.taken))
+  pub written : AppendsAll old new (lines_of (trace P I m.taken))
 
 trace_zero : (P : Program) (I : Input) → trace P I 0 ≡ header_of I
 unfolding trace
@@ -76,7 +77,7 @@ module _ {P : Program} {I : Input} {m : Seen} (told : IsTold P I) (on : IsGoing 
       let next = ap (λ es. length es) (next_trace e at) in
       omega (arith, all, one, both, next)
 
-  -- the number of entries is one of 128 bits
+  -- the number of entries fits 128 bits
   pub count_fits : (e : Event) (n more : ℕ) → event P I (run P I m.taken) ≡ e → n ≡ length (trace P I m.taken) → more ≡ length (entry_list (entry_of_event e)) → ((k : ℕ) → CountsFit P I k) → n + more < 2 ^ 128
   count_fits e n more at all one fit =
       let total = counted e n more at all one in
@@ -87,57 +88,47 @@ module _ {P : Program} {I : Input} {m : Seen} (told : IsTold P I) (on : IsGoing 
   pub counted_on : (e : Event) (n more : ℕ) → event P I (run P I m.taken) ≡ e → n ≡ length (trace P I m.taken) → more ≡ length (entry_list (entry_of_event e)) → n + more ≡ length (trace P I (after_step m).taken)
   counted_on e n more at all one = counted e n more at all one ∙ ap (λ k. length (trace P I k)) (sym (taken_next told on))
 
--- the lines of the trace behind one step more
+-- the lines of the trace after one step more
 lines_next : {P : Program} {I : Input} {m : Seen} (told : IsTold P I) (on : IsGoing P I m) (e : Event) → event P I (run P I m.taken) ≡ e → lines_of (trace P I m.taken) ++ lines_of (entry_list (entry_of_event e)) ≡ lines_of (trace P I (suc m.taken))
 lines_next {P} {I} {m} told on e at = sym (ap (λ es. lines_of es) (next_trace told on e at) ∙ both_lines (trace P I m.taken) (entry_list (entry_of_event e)))
 
-module _ {P : Program} {I : Input} {m : Seen} {old mid : SinkState} {gathered : List ℕ} (told : IsTold P I) (is : IsRecording P I m old mid gathered) where
-  next_written : (e : Event) (new : SinkState) (now : List ℕ) → event P I (run P I m.taken) ≡ e → HasPutBut mid new now (gathered ++ lines_of (entry_list (entry_of_event e))) → HasPutBut old new now (lines_of (trace P I (suc m.taken)))
-  next_written e new now at put = subst (λ text. HasPutBut old new now text) (lines_next told is.on e at) (gathers_more (lines_of (entry_list (entry_of_event e))) is.written put)
+module _ {P : Program} {I : Input} {m : Seen} {old mid : SinkState} (told : IsTold P I) (is : IsRecording P I m old mid) where
+  next_written : (e : Event) (new : SinkState) → event P I (run P I m.taken) ≡ e → AppendsAll mid new (lines_of (entry_list (entry_of_event e))) → AppendsAll old new (lines_of (trace P I (suc m.taken)))
+  next_written e new at put = subst (λ text. AppendsAll old new text) (lines_next told is.on e at) (all_of_both is.written put)
 
-  pub stopped : LeavesLast P I old mid gathered (Err NoMemory)
-  stopped = record {
-    whole = λ last h. stopped_at P I old last (trace P I m.taken) (whole-front P I m.taken) (puts_last is.written h);
-    part = λ last h. failed_at P I old last m.taken (fails_last is.written h);
-  }
+  pub stopped : HasStoppedRecording P I old mid
+  stopped = stopped_at P I old mid (trace P I m.taken) (whole-front P I m.taken) is.written
 
-  pub more : (e : Event) (new : SinkState) (now : List ℕ) → event P I (run P I m.taken) ≡ e → ending_by e ≡ None → HasPutBut mid new now (gathered ++ lines_of (entry_list (entry_of_event e))) → IsRecording P I (after_step m) old new now
-  more e new now at goes put = record {
+  pub more : (e : Event) (new : SinkState) → event P I (run P I m.taken) ≡ e → ending_by e ≡ None → AppendsAll mid new (lines_of (entry_list (entry_of_event e))) → IsRecording P I (after_step m) old new
+  more e new at goes put = record {
     on = goes_on told is.on e at goes;
-    written = subst (λ n. HasPutBut old new now (lines_of (trace P I n))) (sym (taken_next told is.on)) (next_written e new now at put);
+    written = subst (λ n. AppendsAll old new (lines_of (trace P I n))) (sym (taken_next told is.on)) (next_written e new at put);
   }
 
-  pub failed : (e : Event) (new : SinkState) → event P I (run P I m.taken) ≡ e → AppendsPrefix mid new (gathered ++ lines_of (entry_list (entry_of_event e))) → HasFailedRecording P I old new
-  failed e new at put = failed_at P I old new (suc m.taken) (subst (λ text. AppendsPrefix old new text) (lines_next told is.on e at) (fails_behind (lines_of (entry_list (entry_of_event e))) is.written put))
+  pub failed : (e : Event) (new : SinkState) → event P I (run P I m.taken) ≡ e → AppendsPrefix mid new (lines_of (entry_list (entry_of_event e))) → HasFailedRecording P I old new
+  failed e new at put = failed_at P I old new (suc m.taken) (subst (λ text. AppendsPrefix old new text) (lines_next told is.on e at) (part_of_both is.written put))
 
-  pub recorded : (e : Event) (new : SinkState) (now : List ℕ) (ending : Ending) (n more : ℕ) → event P I (run P I m.taken) ≡ e → ending_by e ≡ Some ending → HasPutBut mid new now (gathered ++ lines_of (entry_list (entry_of_event e))) → n ≡ length (trace P I m.taken) → more ≡ length (entry_list (entry_of_event e)) → LeavesLast P I old new now (Ok (record { ending = ending; entries = n + more }))
-  recorded e new now ending n more at ends put all one =
+  pub recorded : (e : Event) (new : SinkState) (ending : Ending) (n more : ℕ) → event P I (run P I m.taken) ≡ e → ending_by e ≡ Some ending → AppendsAll mid new (lines_of (entry_list (entry_of_event e))) → n ≡ length (trace P I m.taken) → more ≡ length (entry_list (entry_of_event e)) → HasPutTrace P I old new (record { ending = ending; entries = n + more })
+  recorded e new ending n more at ends put all one =
       let ended : (run P I (suc m.taken)).world.ending ≡ Some ending = ending_next told is.on e at ∙ ends in
       record {
-        whole = λ last h. record {
-          trace = trace P I (suc m.taken);
-          is_trace = record { steps = suc m.taken; ended = ap is_some ended; are = refl };
-          ended = ended;
-          entries = counted told is.on e n more at all one;
-          written = puts_last (next_written e new now at put) h;
-        };
-        part = λ last h. failed_at P I old last (suc m.taken) (fails_last (next_written e new now at put) h);
+        trace = trace P I (suc m.taken);
+        is_trace = record { steps = suc m.taken; ended = ap is_some ended; are = refl };
+        ended = ended;
+        entries = counted told is.on e n more at all one;
+        written = next_written e new at put;
       }
-
--- there was no memory to gather, where the lines of the first steps were written
-pub stopped_behind : (P : Program) (I : Input) (old new : SinkState) (n : ℕ) → AppendsAll old new (lines_of (trace P I n)) → HasStoppedRecording P I old new
-stopped_behind P I old new n p = stopped_at P I old new (trace P I n) (whole-front P I n) p
 
 -- nothing was written
 pub stopped_first : (P : Program) (I : Input) (s : SinkState) → HasStoppedRecording P I s s
 stopped_first P I s = stopped_at P I s s [] (λ es t. (es, refl)) (writes_nothing Done s).how
 
--- there was no memory behind the header
+-- the header is written
 pub stopped_header : (P : Program) (I : Input) (old new : SinkState) → AppendsAll old new (lines_of (header_of I)) → HasStoppedRecording P I old new
 stopped_header P I old new p =
-    stopped_behind P I old new 0 (subst (λ es. AppendsAll old new (lines_of es)) (sym (trace_zero P I)) p)
+    stopped_at P I old new (trace P I 0) (whole-front P I 0) (subst (λ es. AppendsAll old new (lines_of es)) (sym (trace_zero P I)) p)
 
--- there was no memory behind the whole trace
+-- the whole trace is written
 pub stopped_whole : (P : Program) (I : Input) (old new : SinkState) (done : Ended) → HasPutTrace P I old new done → HasStoppedRecording P I old new
 stopped_whole P I old new done h = record {
   front = h.trace;
@@ -152,3 +143,20 @@ header_at P I old new n fresh p =
 
 pub count_at : (P : Program) (I : Input) (n count : ℕ) → n ≡ 0 → count ≡ length (header_of I) → count ≡ length (trace P I n)
 count_at P I n count fresh e = e ∙ ap (λ es. length es) (sym (trace_zero P I)) ∙ ap (λ k. length (trace P I k)) (sym fresh)
+
+-- ---- at the end
+
+module _ {P : Program} {I : Input} {old mid new : SinkState} where
+  pub has_put : {done : Ended} → HasPutTrace P I old mid done → AppendsAll mid new [] → HasPutTrace P I old new done
+  has_put p q = record { trace = p.trace; is_trace = p.is_trace; ended = p.ended; entries = p.entries; written = delivers p.written q }
+
+  pub not_delivered : {done : Ended} → HasPutTrace P I old mid done → AppendsPrefix mid new [] → HasFailedRecording P I old new
+  not_delivered p q = record { trace = p.trace; is_trace = p.is_trace; written = fails_to_deliver p.written q }
+
+  pub ran_out : (refusal : RecordRefusal) → HasStoppedRecording P I old mid → EndsOutOfMemory mid new refusal → StopsRecording P I old new refusal
+  ran_out NoMemory p q = record { front = p.front; missing = p.missing; is_trace = p.is_trace; written = delivers p.written q }
+  ran_out WriteFault p q = record {
+    trace = p.front ++ p.missing;
+    is_trace = p.is_trace;
+    written = part_of_more p.front p.missing (fails_to_deliver p.written q);
+  }

@@ -1,3 +1,4 @@
-pub mod Gathering
+pub mod Delivery
 pub mod Printing
 pub mod Recording
+pub mod Steps

@@ -8,26 +8,26 @@ use Rattle.hip_runs.specs.declared.input.Input.{Input}
 use Rattle.hip_recording.specs.declared.refusal.RecordRefusal.{RecordRefusal}
 use Rattle.hip_recording.specs.declared.refusal.RecordRefusal.TheVariants as refusals
 
--- the text is all that the run prints, which has ended in this way
+-- the text is all that the run prints, and the run ends in this way
 pub record IsPrinted (P : Program) (I : Input) (text : List ℕ) (ending : Ending) : Type 0 where
   pub steps : ℕ
   pub ended : (run P I steps).world.ending ≡ Some ending
   pub is : text ≡ (run P I steps).world.output
 
--- all that the run prints is written, and its ending is answered
+-- all that the run prints is written, and the answer is its ending
 pub record HasPrinted (P : Program) (I : Input) (old new : SinkState) (ending : Ending) : Type 0 where
   pub text : List ℕ
   pub printed : IsPrinted P I text ending
   pub written : AppendsAll old new text
 
--- a write has failed, and out has the front of the run's text
+-- a write has failed, and out has a prefix of the run's text
 pub record HasFailed (P : Program) (I : Input) (old new : SinkState) : Type 0 where
   pub text : List ℕ
   pub ending : Ending
   pub printed : IsPrinted P I text ending
   pub written : AppendsPrefix old new text
 
--- there was no memory for a step; no write has failed, and out has the front of the run's text
+-- out of memory; no write has failed, and out has a prefix of the run's text
 pub record HasStopped (P : Program) (I : Input) (old new : SinkState) : Type 0 where
   pub front : List ℕ
   pub missing : List ℕ

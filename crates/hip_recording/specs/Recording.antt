@@ -21,18 +21,18 @@ pub record HasPutTrace (P : Program) (I : Input) (old new : SinkState) (done : E
   pub entries : done.entries ≡ length trace
   pub written : AppendsAll old new (lines_of trace)
 
--- the run's trace is written; its ending, the number of its entries and what it found are answered
+-- the run's trace is written; the answer has its ending, the number of its entries and what it found
 pub record HasRecorded (P : Program) (I : Input) (old new : SinkState) (recorded : Recorded) : Type 0 where
   pub put : HasPutTrace P I old new (record { ending = recorded.ending; entries = recorded.entries })
   pub found : IsFound P I recorded.findings
 
--- a write has failed, and out has a front of the trace's text
+-- a write has failed, and out has a prefix of the trace's text
 pub record HasFailedRecording (P : Program) (I : Input) (old new : SinkState) : Type 0 where
   pub trace : List Entry
   pub is_trace : IsTrace P I trace
   pub written : AppendsPrefix old new (lines_of trace)
 
--- there was no memory for a step; no write has failed, and out has the lines of the first entries
+-- out of memory; no write has failed, and out has the lines of the first entries
 pub record HasStoppedRecording (P : Program) (I : Input) (old new : SinkState) : Type 0 where
   pub front : List Entry
   pub missing : List Entry
@@ -44,12 +44,12 @@ abbrev pub StopsRecording : Program → Input → SinkState → SinkState → Re
 StopsRecording P I old new refusals.WriteFault = HasFailedRecording P I old new
 StopsRecording P I old new refusals.NoMemory = HasStoppedRecording P I old new
 
--- what is written by the answer, which has the ending and the number of entries but not what the run found
-abbrev pub PutsSteps : Program → Input → SinkState → SinkState → Result Ended RecordRefusal → Type 0
-PutsSteps P I old new (Ok done) = HasPutTrace P I old new done
-PutsSteps P I old new (Err refusal) = StopsRecording P I old new refusal
+-- what is written, by the answer, which does not have what the run found
+abbrev pub PutsTrace : Program → Input → SinkState → SinkState → Result Ended RecordRefusal → Type 0
+PutsTrace P I old new (Ok done) = HasPutTrace P I old new done
+PutsTrace P I old new (Err refusal) = StopsRecording P I old new refusal
 
--- what is written by the answer
+-- what is written, by the answer
 abbrev pub Records : Program → Input → SinkState → SinkState → Result Recorded RecordRefusal → Type 0
 Records P I old new (Ok recorded) = HasRecorded P I old new recorded
 Records P I old new (Err refusal) = StopsRecording P I old new refusal

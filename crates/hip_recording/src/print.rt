@@ -1,10 +1,11 @@
-ghost use Rattle.std.specs.Prelude.{◌≡◌, ◌++◌, codes};
+ghost use Rattle.std.specs.Prelude.{◌≡◌, ◌++◌, OnOk, codes};
 ghost use Rattle.std.specs.Fmt.{signed_decimal};
 ghost use Rattle.hip_io.specs.Sinks.{HasPut};
 ghost use Rattle.hip_runs.specs.Outputs.{printed_by};
 ghost use Rattle.hip_runs.specs.Validity.{IsValid};
 ghost use Rattle.hip_recording.specs.Printing.{Prints};
 
+use crate::delivery::out_of_memory;
 use crate::refusal::RecordRefusal;
 use hip_invariants::runs_are_bounded;
 use hip_io::{Put, Sink};
@@ -17,8 +18,8 @@ use hip_step::Begin;
 use std::alloc::Global;
 
 /// Runs a program on an input, and writes what it prints: each number in signed decimal with a line feed. The numbers
-/// go out as they are printed, so that after a refusal out has the front of the run's text. Memory is taken by the
-/// machine alone.
+/// are put as they are printed, and delivered at the end and before a refusal, so that after a refusal out has a front
+/// of the run's text. The machine alone takes memory.
 pub fn print_run<S: Sink>(
     alloc: Global,
     checked: &Checked,
@@ -26,15 +27,34 @@ pub fn print_run<S: Sink>(
     out: &mut S,
 ) -> Result<Ending, RecordRefusal>
     requires { IsValid checked.now input.now }
-    ensures { Prints checked.now input.now (S.state out.old) (S.state out.new) result }
+    ensures prints { Prints checked.now input.now (S.state out.old) (S.state out.new) result }
+    ensures delivered { OnOk result (S.held out.new ≡ 0) }
 {
     runs_end();
     runs_are_bounded();
     events_tell_output_and_ending();
     let mut machine = match Machine::new(alloc, checked, input) {
         Ok(machine) => machine,
-        Err(_) => return Err(RecordRefusal::NoMemory),
+        Err(_) => return Err(out_of_memory(out)),
     };
+    match print_steps(&mut machine, out) {
+        Ok(ending) => match out.deliver() {
+            Put::Done => Ok(ending),
+            Put::Failed => Err(RecordRefusal::WriteFault),
+        },
+        Err(RecordRefusal::NoMemory) => Err(out_of_memory(out)),
+        Err(RecordRefusal::WriteFault) => Err(RecordRefusal::WriteFault),
+    }
+}
+
+// Takes the steps of a run, and puts what they print.
+fn print_steps<'a, S: Sink>(machine: &mut Machine<'a>, out: &mut S) -> Result<Ending, RecordRefusal>
+    requires { machine.old.taken ≡ 0 }
+    ensures { Prints machine.old.program machine.old.input (S.state out.old) (S.state out.new) result }
+{
+    runs_end();
+    runs_are_bounded();
+    events_tell_output_and_ending();
     'steps: loop {
         let event = match machine.step() {
             Ok(event) => event,

@@ -13,7 +13,7 @@ use Rattle.hip_runs.specs.declared.report.Report.{Report}
 
 -- ---- sites
 
--- `@function:label:index`, with nothing in place of a name where the program has no such function or block
+-- `@function:label:index`; a name is empty if the program has no such function or block
 abbrev pub site_text : Program → Site → List ℕ
 site_text P s =
     codes "@" ++ name_in (slice_get P.functions s.function) ++ codes ":"
@@ -27,7 +27,7 @@ kind_word MissingFlush = codes "flush"
 kind_word MissingFence = codes "fence"
 kind_word MissingBoth = codes "both"
 
--- the flush that lacks a fence, where the report names one
+-- the flush that lacks a fence, if the report names one
 abbrev pub flush_text : Program → Option Site → List ℕ
 flush_text P None = []
 flush_text P (Some s) = codes " flush " ++ site_text P s
@@ -40,7 +40,7 @@ path_text P sites = flat_map (λ s. codes " " ++ site_text P s) sites
 abbrev pub numbered : List ℕ → ℕ → List ℕ
 numbered words n = words ++ decimal n
 
--- `report KIND entry E check C closed N path S S S`; where a fence alone is missing, `flush S` stands before `path`
+-- `report KIND entry E check C closed N path S S S`; if only a fence is missing, `flush S` comes before `path`
 abbrev pub report_line : Program → Report → List ℕ
 report_line P r =
     codes "report " ++ kind_word r.kind ++ numbered (codes " entry ") r.entry

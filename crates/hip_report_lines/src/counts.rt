@@ -16,7 +16,7 @@ pub fn put_total<S: Sink>(before: Put, out: &mut S, word: &[u8], n: u128) -> Put
     put_after(put, out, b"\n")
 }
 
-/// A word and how many there are, on a line.
+/// A word and a count, on a line.
 pub fn put_count<S: Sink>(before: Put, out: &mut S, word: &[u8], n: usize) -> Put
     ensures { Writes before result (S.state out.old) (S.state out.new) (count_line word.now n) }
 {

@@ -1,10 +1,10 @@
 ghost use Rattle.std.specs.Prelude.{◌≡◌, ◌++◌, codes};
-ghost use Rattle.hip_io.specs.Sinks.{Writes, Wrote};
+ghost use Rattle.hip_io.specs.Sinks.{Delivers, Writes, Wrote};
 ghost use Rattle.hip_report_lines.specs.Reports.{flush_text, kind_word, numbered, path_text, report_line, report_lines, site_text};
 
 use crate::sites::put_site;
 use hip_answers::put_number;
-use hip_io::{Put, Sink, WriteFault, put_after};
+use hip_io::{Put, Sink, WriteFault, deliver_after, put_after};
 use hip_runs::{Kind, Report};
 use hip_sound::Checked;
 use hip_tree::{Program, Site};
@@ -76,8 +76,16 @@ fn put_report<S: Sink>(before: Put, out: &mut S, program: &Program, report: &Rep
     put_after(put, out, b"\n")
 }
 
-/// The lines of reports. Takes no memory.
+/// Writes the lines of reports and delivers them. Takes no memory.
 pub fn put_reports<S: Sink>(out: &mut S, program: &Program, reports: &[Report]) -> Put
+    ensures { Delivers Put.Done result (S.state out.old) (S.state out.new) (S.held out.new)
+        (report_lines program.now reports.now) }
+{
+    let put = put_each(out, program, reports);
+    deliver_after(put, out)
+}
+
+fn put_each<S: Sink>(out: &mut S, program: &Program, reports: &[Report]) -> Put
     ensures { Writes Put.Done result (S.state out.old) (S.state out.new) (report_lines program.now reports.now) }
 {
     let mut put = Put::Done;

@@ -33,8 +33,8 @@ fn put_label<S: Sink>(before: Put, out: &mut S, program: &Program, site: Site) -
     }
 }
 
-/// A site of the program, by the names of its function and its block. Nothing stands in place of a name where the
-/// program has no such function or block.
+/// A site of the program, by the names of its function and its block. The name is empty if the program has no such
+/// function or block.
 pub fn put_site<S: Sink>(before: Put, out: &mut S, program: &Program, site: Site) -> Put
     ensures { Writes before result (S.state out.old) (S.state out.new) (site_text program.now site) }
 {

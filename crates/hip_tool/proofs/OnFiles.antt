@@ -1,4 +1,4 @@
--- What each order answers on files that are known, where nothing fails.
+-- What each order answers on files that are known, if nothing fails.
 use Rattle.std.proofs.Common.{◌≡◌, ◌⊎◌, inl, inr, ℕ, ℤ, Bool, true, false, List, [], ◌∷◌, map, Option, Some, refl, sym, ap, ◌∙◌, subst}
 use Rattle.std.proofs.lemmas.List.Elements.{All-cons, All-head, All-nil, All-tail}
 use Rattle.std.specs.List.{All}
@@ -47,7 +47,7 @@ use Rattle.hip_tree.specs.declared.program.Program.{Program}
 use Rattle.hip_tree.specs.declared.site.Site.{Site}
 use Rattle.hip_types.specs.declared.limits.TheConstants.{LOWEST_BASE}
 
--- ---- what a repair is worth
+-- ---- the guarantees of a repair
 
 repair_of : (P : Program) (I : Input) (plan : Plan) (skip : Site → Bool) → IsCuredBy P I plan skip
     → IsRepairOf P (repaired P plan skip) I
@@ -150,7 +150,7 @@ module _ (files : List NamedFile) (p : List ℕ) (P : Program) (given : IsProgra
 
   -- ---- many traces
 
-  -- an answer that says which file is no trace is not the one by which `many` is carried out
+  -- an answer that names a file which is not a trace is not an answer of `many` that is carried out
   not_untraced : (number : ℕ) (why : TraceRefusal) → pathless (status_in number why) ≡ statuses.Done → ⊥
   not_untraced number traces.Missing e = cc
   not_untraced number (traces.Misfit entry kind) e = cc

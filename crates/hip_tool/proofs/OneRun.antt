@@ -1,4 +1,4 @@
--- A file is the trace of one run of a program, or of none.
+-- A file is the trace of at most one run of a program.
 use Rattle.std.proofs.Common.{◌≡◌, ℕ, true, List, [], ◌∷◌, map, Some, refl, sym, ◌∙◌, subst}
 use Rattle.std.proofs.lemmas.List.Elements.{All-head, All-tail}
 use Rattle.std.specs.List.{All}

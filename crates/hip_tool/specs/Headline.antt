@@ -1,4 +1,4 @@
--- The headline: what `hippo` answers where nothing fails, and what the program is worth that `repair` writes.
+-- The headline: what `hippo` answers if nothing fails, and the guarantees of the program that `repair` writes.
 use Rattle.std.specs.Prelude.{ℕ, ℤ, ◌≡◌, ◌⊎◌, ◌-◌, ◌^◌, ◌<◌, List, [], ◌∷◌, map, Some}
 use Rattle.std.specs.List.{All}
 use Rattle.hip_answers.specs.Answers.{Answer, HasAnswer, HasAnswered, Sinks, WritesBoth}
@@ -40,7 +40,7 @@ use Rattle.hip_words.specs.declared.order.Order.TheVariants.{Run, Record, Check,
 
 -- ---- nothing fails
 
--- a count stays as it is, and is below the last value that it can have, at which it could not rise
+-- a count stays the same, and could have risen: it is below the last value that it can have
 pub record Stays (before after : ℕ) : Type 0 where
   pub same : after ≡ before
   pub room : before < 2 ^ 64 - 1
@@ -61,7 +61,7 @@ pub record IsCall (order : Order) (old new : CabinetState) (s : Sinks) (status :
 abbrev pub Gives : (Answer → Type 0) → Sinks → Status → Type 0
 Gives Is s status = (status ≡ NoMemory) ⊎ HasAnswer Is status (WritesBoth s)
 
--- ---- what a repair is worth
+-- ---- the guarantees of a repair
 
 -- Q is a repair of P for a run on this input.
 pub record IsRepairOf (P Q : Program) (I : Input) : Type 0 where
@@ -103,18 +103,18 @@ Headline =
 
 -- ---- the other orders
 
--- the text for out is all that the program prints on the input, and the status and the text for notes say how the run ends
+-- the text for out is all that the program prints on the input; the status and the text for notes say how the run ends
 pub record WritesOutput (P : Program) (I : Input) (answer : Answer) : Type 0 where
   pub ending : Ending
   pub printed : IsPrinted P I answer.out ending
   pub status_is : answer.status ≡ status_of_ending ending
   pub notes_is : answer.notes ≡ ending_line ending
 
--- what the run on the input finds, and the answer that is made of it
+-- what the run on the input finds, and the answer that follows from it
 abbrev pub OfRun : (Program → Input → Findings → Answer → Type 0) → Program → Input → Answer → Type 0
 OfRun Texts P I answer = (found : Findings) × IsFound P I found × Texts P I found answer
 
--- Where the one file has the program and nothing fails, `run` and `record` answer with its run.
+-- If one file has the program and nothing fails, `run` and `record` answer with its run, and `many` with a repair.
 pub record AnswersPrograms (files : List NamedFile) (program : List ℕ) (P : Program) (old new : CabinetState) (s : Sinks)
     (status : Status) : Type 0 where
   pub run : (limit : ℕ) (numbers : List ℤ) → IsCall (Run program limit numbers) old new s status →
@@ -124,7 +124,7 @@ pub record AnswersPrograms (files : List NamedFile) (program : List ℕ) (P : Pr
   pub many : (names : List (List ℕ)) (runs : List TracedRun) → AreRunsOf (Some files) P names runs →
       IsCall (Many program names) old new s status → Gives (WritesRepair P (map (λ r. r.input) runs)) s status
 
--- Where the other file is the trace of its run on an input, the orders that are given a trace answer with that run.
+-- If another file is the trace of its run on an input, the orders that take a trace answer with that run.
 pub record AnswersTraces (program trace : List ℕ) (P : Program) (I : Input) (old new : CabinetState) (s : Sinks)
     (status : Status) : Type 0 where
   pub check : IsCall (Check program trace) old new s status → Gives (OfRun HasChecked P I) s status
@@ -133,7 +133,7 @@ pub record AnswersTraces (program trace : List ℕ) (P : Program) (I : Input) (o
   pub crash : (entry : ℕ) (picks : List Pick) → IsCall (Crash program trace entry picks) old new s status →
       Gives (OfRun (CrashTexts entry picks) P I) s status
 
--- What the other orders answer where nothing fails.
+-- What the other orders answer if nothing fails.
 pub record OrdersAreAnswered : Type 0 where
   pub programs : (files : List NamedFile) (program : List ℕ) (P : Program) (old new : CabinetState) (s : Sinks)
       (status : Status) → old.files ≡ Some files → IsProgramOf (Some files) program P →

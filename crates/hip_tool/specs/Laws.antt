@@ -4,7 +4,7 @@ use Rattle.hip_answers.specs.Same.{AreOne}
 use Rattle.hip_tool.specs.Call.{AnswersTo}
 use Rattle.hip_words.specs.declared.order.Order.{Order}
 
--- Where the files are told, two answers to the same words are the same, but for the path that shows a register without
+-- If the files are known, two answers to the same words are the same, apart from the path that shows a register without
 -- an assignment, unless one of them is a read fault.
 abbrev pub AnswersAreOne : Type 0
 AnswersAreOne = (o : Option Order) → AreOne (AnswersTo o)

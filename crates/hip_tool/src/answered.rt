@@ -1,4 +1,4 @@
-//! What `hippo` answers where nothing fails.
+//! What `hippo` answers if nothing fails.
 
 ghost use Rattle.hip_tool.specs.Headline.{Headline, OrdersAreAnswered};
 
@@ -14,7 +14,7 @@ pub fn headline()
     ensures { Headline }
 {}
 
-/// What the other orders answer where nothing fails: `run` and `record` the run of the program, `check`, `rerun` and
+/// What the other orders answer if nothing fails: `run` and `record` the run of the program, `check`, `rerun` and
 /// `crash` what their texts are of the trace's run, `thin` and `many` a repair, and `demo` its counts.
 pub fn orders_are_answered()
     ensures { OrdersAreAnswered }

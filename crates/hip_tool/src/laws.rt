@@ -9,7 +9,7 @@ use hip_many_commands::many_are_one;
 use hip_repair_answers::answers_are_one as repairs_are_one;
 use hip_thin_commands::thins_are_one;
 
-/// Where the files are told, two answers to the same words are the same, unless one of them is a read fault.
+/// If the files are known, two answers to the same words are the same, unless one of them is a read fault.
 pub fn answers_are_one()
     ensures { AnswersAreOne }
 {

@@ -9,10 +9,10 @@ use hip_types::Row;
 use std::alloc::Global;
 use std::process::Abort;
 
-/// How many bytes the output and the notes have room for, where a test says nothing else.
+/// The room of the output and of the notes in bytes, unless a test says otherwise.
 const ROOM: u64 = 100_000;
 
-/// The words and the files of a command, and what is to come of it.
+/// The words and the files of a command, and the result that is expected.
 pub struct Case {
     pub words: &'static [&'static str],
     pub files: &'static [(&'static str, &'static str)],
@@ -29,8 +29,13 @@ pub struct Outcome {
     pub notes: MemSink,
 }
 
-/// These files, given in chunks of so many bytes.
-fn cabinet_of(rt: &impl Abort, alloc: Global, texts: &[(&str, &str)], chunk: usize) -> MemCabinet
+/// These files, given in chunks of this number of bytes.
+pub fn cabinet_of(
+    rt: &impl Abort,
+    alloc: Global,
+    texts: &[(&str, &str)],
+    chunk: usize,
+) -> MemCabinet
     requires { 1 ≤ chunk }
 {
     let mut files = Row::new(alloc);
@@ -59,7 +64,7 @@ fn cabinet_of_bytes(rt: &impl Abort, alloc: Global, given: &[(&str, &[u8])]) -> 
     MemCabinet::new(files, 7)
 }
 
-fn owned_words(rt: &impl Abort, alloc: Global, words: &[&str]) -> Vec<String> {
+pub fn owned_words(rt: &impl Abort, alloc: Global, words: &[&str]) -> Vec<String> {
     let mut owned = Vec::new(alloc);
     for word in words {
         owned
@@ -69,7 +74,7 @@ fn owned_words(rt: &impl Abort, alloc: Global, words: &[&str]) -> Vec<String> {
     owned
 }
 
-/// `hippo` with these words, and with so many bytes of room in the output and in the notes.
+/// `hippo` with these words, and with room for this number of bytes in the output and in the notes.
 fn call<C: Cabinet>(
     rt: &impl Abort,
     alloc: Global,
@@ -89,7 +94,7 @@ fn call<C: Cabinet>(
     }
 }
 
-/// What a command leaves over these files, which are given in chunks of so many bytes.
+/// What a command leaves over these files, given in chunks of this number of bytes.
 pub fn outcome_in_chunks(
     rt: &impl Abort,
     alloc: Global,
@@ -114,7 +119,7 @@ pub fn outcome_of_bytes(
     call(rt, alloc, words, &mut cabinet, ROOM, ROOM)
 }
 
-/// What a command leaves where there is so much room.
+/// What a command leaves if the output and the notes have this much room.
 pub fn outcome_in_room(
     rt: &impl Abort,
     alloc: Global,
@@ -127,7 +132,7 @@ pub fn outcome_in_room(
     call(rt, alloc, words, &mut cabinet, room, notes_room)
 }
 
-/// What a command leaves where one of the files fails.
+/// What a command leaves if one of the files fails.
 pub fn outcome_of_fault(
     rt: &impl Abort,
     alloc: Global,
@@ -142,7 +147,7 @@ pub fn outcome_of_fault(
     call(rt, alloc, words, &mut cabinet, ROOM, ROOM)
 }
 
-/// Asserts the exit code and both texts. What the call was about is shown where they differ.
+/// Asserts the exit code and both texts. A failed assertion shows `about`.
 pub fn assert_outcome(
     rt: &impl Abort,
     outcome: &Outcome,
@@ -161,7 +166,7 @@ fn assert_case(rt: &impl Abort, alloc: Global, case: &Case) {
     assert_outcome(rt, &outcome, case.code, case.out, case.notes, case.notes);
 }
 
-/// Asserts what comes of each command.
+/// Asserts the result of each command.
 pub fn assert_cases(rt: &impl Abort, alloc: Global, cases: &[Case]) {
     for case in cases {
         assert_case(rt, alloc, case);

@@ -1,6 +1,6 @@
 //! `demo`: the whole job on a generated program.
 
-use crate::commands::{Case, assert_cases};
+use crate::commands::{Case, assert_cases, outcome_in_room};
 
 const SMALL: &[Case] = &[Case {
     words: &["demo", "1", "8"],
@@ -13,4 +13,13 @@ const SMALL: &[Case] = &[Case {
 #[test]
 fn small_demo(rt: HostRuntime) {
     assert_cases(&rt, rt.alloc(), SMALL);
+}
+
+/// The largest program: its first line names it, and its last line counts no report after the repair.
+#[test]
+fn large_demo(rt: HostRuntime) {
+    let outcome = outcome_in_room(&rt, rt.alloc(), &["demo", "1", "50000"], &[], 1_000, 1_000);
+    assert_eq!(&rt; outcome.code, 0);
+    assert!(&rt; outcome.out.bytes().starts_with(b"seed 1 size 50000\n"));
+    assert!(&rt; outcome.out.bytes().ends_with(b"\nafter 0\n"));
 }

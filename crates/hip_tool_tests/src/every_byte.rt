@@ -16,12 +16,12 @@ const WRITE_FAULT: &str = "hippo: write fault\n";
 const COUNTS: &str = "reports 1\nflushes 1\nfences 1\nhoists 0\nclones 0\n";
 
 /// The trace of the run of `COPY`.
-const COPY_TRACE: &str =
+pub const COPY_TRACE: &str =
     "START;1000000000|REGISTER;0x100000000;0x40|STORE;0x100000000;0x9;0x8|STOP;0";
 
-const COPY_FILES: &[(&str, &str)] = &[("a", COPY), ("b", COPY_TRACE)];
+pub const COPY_FILES: &[(&str, &str)] = &[("a", COPY), ("b", COPY_TRACE)];
 
-/// The file fails at each of its bytes, and behind the last one.
+/// The file fails at each of its bytes, and after the last one.
 fn assert_faults(rt: &impl Abort, alloc: Global, words: &[&str], name: &str, length: usize) {
     for byte in 0..=length {
         let at = FailAt::Byte(byte as u64);
@@ -54,11 +54,11 @@ fn trace_fails_at_each_byte(rt: HostRuntime) {
     }
 }
 
-/// The third entry differs from the run's. The separator behind it is byte 68.
+/// The third entry differs from the run's. The separator after it is byte 68.
 const DIFFERS_AT_BYTE_68: &str =
     "START;1000000000|REGISTER;0x100000000;0x40|STORE;0x100000000;0x6;0x8|STOP;0";
 
-/// A misfit is told as soon as the entry's end was read, and a fault before it comes first.
+/// A misfit is answered as soon as the entry's end is read, and a fault before it comes first.
 #[test]
 fn fault_before_and_behind_a_misfit(rt: HostRuntime) {
     let files = &[("a", ONE_STORE), ("b", DIFFERS_AT_BYTE_68)];

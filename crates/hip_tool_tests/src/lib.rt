@@ -12,11 +12,15 @@ mod commands;
 #[cfg(test)]
 mod crash_runs;
 #[cfg(test)]
+mod deliveries;
+#[cfg(test)]
 mod demos;
 #[cfg(test)]
 mod every_byte;
 #[cfg(test)]
 mod hoists;
+#[cfg(test)]
+mod long_traces;
 #[cfg(test)]
 mod many_traces;
 #[cfg(test)]

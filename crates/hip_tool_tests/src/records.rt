@@ -3,7 +3,7 @@
 use crate::commands::{Case, assert_cases};
 use hip_examples::ENDLESS_LOOP;
 
-/// An empty range at the base, the last byte of the region, and one byte behind it.
+/// An empty range at the base, the last byte of the region, and one byte after it.
 const ASSERTED_RANGES: &str = "@p = global i64 0, section \".pm\"
 declare void @pm_assert(ptr, i64)
 define i32 @main() {

@@ -51,6 +51,13 @@ const SUMS: &[Case] = &[
         notes: "stop 0\n",
     },
     Case {
+        words: &["run", "a", "--limit", "0", "7", "8"],
+        files: &[("a", SUM)],
+        code: 10,
+        out: "",
+        notes: "cut\n",
+    },
+    Case {
         words: &["run", "a", "7"],
         files: &[("a", SUM)],
         code: 9,

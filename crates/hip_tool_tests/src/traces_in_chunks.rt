@@ -2,7 +2,8 @@
 
 ghost use Rattle.std.specs.Prelude.{◌≤◌};
 
-use crate::commands::outcome_in_chunks;
+use crate::commands::{assert_outcome, outcome_in_chunks};
+use crate::every_byte::COPY_FILES;
 use hip_examples::ONE_STORE;
 use std::alloc::Global;
 use std::process::Abort;
@@ -73,4 +74,19 @@ fn one_byte_at_a_time(rt: HostRuntime) {
 #[test]
 fn whole_pages(rt: HostRuntime) {
     assert_replays(&rt, rt.alloc(), 5000);
+}
+
+fn assert_copy(rt: &impl Abort, alloc: Global, chunk: usize)
+    requires { 1 ≤ chunk }
+{
+    let outcome = outcome_in_chunks(rt, alloc, &["check", "a", "b"], COPY_FILES, chunk);
+    let report = "report both entry 3 check 4 closed 1 path @copy:entry:1 @main:entry:4\n";
+    assert_outcome(rt, &outcome, 0, report, "reports 1\n", "copy");
+}
+
+#[test]
+fn check_of_the_copy_in_chunks(rt: HostRuntime) {
+    assert_copy(&rt, rt.alloc(), 1);
+    assert_copy(&rt, rt.alloc(), 7);
+    assert_copy(&rt, rt.alloc(), 4096);
 }

@@ -9,7 +9,7 @@ use Rattle.hip_words.specs.declared.refusal.WordsRefusal.TheVariants as refusals
 
 -- ---- arguments
 
--- a positional that has to be there
+-- a positional that is required
 abbrev pub required : Text → Rule
 required id = record (new_rule id) { required = true }
 
@@ -21,15 +21,15 @@ any_number id = record (new_rule id) { action = Some Append }
 abbrev pub one_or_more : Text → Rule
 one_or_more id = record (new_rule id) { action = Some Append; required = true }
 
--- an option with a value, which is this one where the option is not used
+-- an option with a value, and its default
 abbrev pub with_default : Text → Text → Rule
 with_default id value = record (new_rule id) { long = Some id; defaults = value ∷ [] }
 
--- `--limit N`, how many turns the run may take; 1,000,000,000 where it is not used
+-- `--limit N`: the run takes at most N turns; 1,000,000,000 by default
 abbrev pub limit : Rule
 limit = with_default (codes "limit") (codes "1000000000")
 
--- `--base N`, the address at which the region begins; 2^32, the lowest base, where it is not used
+-- `--base N`: the region begins at address N; 2^32, the lowest base, by default
 abbrev pub base : Rule
 base = with_default (codes "base") (codes "4294967296")
 
@@ -77,11 +77,11 @@ abbrev pub where_none : Kinds → List Row → Option (List Row)
 where_none [] rows = Some rows
 where_none (k ∷ ks) rows = None
 
--- the arguments with their texts, where the command takes the words after the first
+-- the arguments with their texts, if the command takes the words after the first
 unfoldable pub reads : App → List Text → Option (List Row)
 reads app words = where_none (fault_of app words) (matches_of app words)
 
--- what clap answers: matches with these rows, Usage exactly where none are given, and NoMemory at any time
+-- what clap answers: matches with these rows, Usage exactly if there are none, and NoMemory at any time
 abbrev pub GivesRows : Option (List Row) → Result ArgMatches WordsRefusal → Type 0
 GivesRows given (Ok matches) = given ≡ Some (rows_of (found_of matches))
 GivesRows given (Err refusals.Usage) = given ≡ None

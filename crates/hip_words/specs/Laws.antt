@@ -14,8 +14,8 @@ abbrev pub is_plain : Text → Bool
 is_plain [] = true
 is_plain (b ∷ bs) = not (b == 45)
 
--- Where neither of the two words behind `check`, `repair`, `rerun` or `thin` begins with `-`, the first is the program
--- and the second the trace.
+-- If neither of the two words after `check`, `repair`, `rerun` or `thin` begins with `-`, the first is the program and
+-- the second the trace.
 abbrev pub FilesArePlain : Type 0
 FilesArePlain =
     (program trace : Text) → is_plain program ≡ true → is_plain trace ≡ true
@@ -24,8 +24,8 @@ FilesArePlain =
     × (order (codes "rerun" ∷ program ∷ trace ∷ []) ≡ Some (Rerun program trace))
     × (order (codes "thin" ∷ program ∷ trace ∷ []) ≡ Some (Thin program trace))
 
--- Where no word behind `run` begins with `-`, the first is the program, the others are the numbers, and the limit is
--- 1,000,000,000 turns. There is no order where the numbers are too many or one of them is not read.
+-- If no word after `run` begins with `-`, the first is the program, the others are the numbers, and the limit is
+-- 1,000,000,000 turns. There is no order if the numbers are too many or one of them is not a number.
 abbrev pub RunsArePlain : Type 0
 RunsArePlain =
     (program : Text) (numbers : List Text) → is_plain program ≡ true → list_all is_plain numbers ≡ true
@@ -39,14 +39,14 @@ RunsAreValid =
     → order words ≡ Some (Run program limit numbers)
     → (limit ≤ MOST_TURNS) × (length numbers ≤ MOST_NUMBERS)
 
--- so has one that is recorded, and the region may begin at its base
+-- so does a run that is recorded, and the region may begin at its base
 abbrev pub RecordsAreValid : Type 0
 RecordsAreValid =
     (words : List Text) (program : Text) (base limit : ℕ) (numbers : List ℤ)
     → order words ≡ Some (Record program base limit numbers)
     → IsBase base × (limit ≤ MOST_TURNS) × (length numbers ≤ MOST_NUMBERS)
 
--- a program is generated for a seed and a size that one may have
+-- `demo` has a seed and a size for which a program can be generated
 abbrev pub DemosAreValid : Type 0
 DemosAreValid =
     (words : List Text) (seed size : ℕ) → order words ≡ Some (Demo seed size)

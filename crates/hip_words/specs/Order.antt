@@ -18,15 +18,15 @@ use Rattle.hip_words.specs.declared.order.Verb.TheVariants as verbs
 
 -- ---- bounds
 
--- a run may be given so many turns: at most 2^40
+-- a limit that a run may have: at most 2^40 turns
 abbrev pub is_limit : ℕ → Bool
 is_limit limit = nat_le limit MOST_TURNS
 
--- a program may be generated from this seed, which is below 2^31
+-- a seed from which a program can be generated: below 2^31
 abbrev pub is_seed : ℕ → Bool
 is_seed seed = nat_lt seed SEED_END
 
--- a generated program may have this size, from 1 to 50,000 groups of instructions
+-- a size that a generated program may have: from 1 to 50,000 groups of instructions
 abbrev pub is_size : ℕ → Bool
 is_size size = nat_le 1 size && nat_le size LARGEST_SIZE
 
@@ -48,16 +48,16 @@ decimal_in id rows = option_and_then decimal_of (first_of id rows)
 abbrev pub number_in : (ℕ → Bool) → Text → List Row → Option ℕ
 number_in test id rows = option_and_then (where_so test) (decimal_in id rows)
 
--- what each text is read as, where each is read
+-- what each text is read as, if each can be read
 abbrev pub each : {A : Type 0} → (Text → Option A) → List Text → Option (List A)
 each read [] = Some []
 each read (t ∷ ts) = option_and_then (λ x. option_map (λ xs. x ∷ xs) (each read ts)) (read t)
 
--- the texts, if there are at most so many
+-- the texts, if there are at most n
 abbrev pub at_most : ℕ → List Text → Option (List Text)
 at_most most = where_so (λ texts. nat_le (length texts) most)
 
--- at most 1,048,576 numbers, each from -2^63 to 2^63 - 1; nothing where there are more, or a text is no such number
+-- at most 1,048,576 numbers, each from -2^63 to 2^63 - 1; nothing if there are more, or a text is no such number
 abbrev pub numbers_of : List Text → Option (List ℤ)
 numbers_of texts = option_and_then (each (signed_of (2 ^ 63))) (at_most MOST_NUMBERS texts)
 
@@ -69,7 +69,7 @@ traces_of = where_so (λ texts. nat_le 1 (length texts) && nat_le (length texts)
 abbrev pub is_colon : ℕ → Bool
 is_colon b = b == 58
 
--- the pick of a line's number and of how many first parts it has, if both were read
+-- the pick of a line's number and of its number of first parts, if both can be read
 abbrev pub pick_from : Option ℕ → Option ℕ → Option Pick
 pick_from (Some line) (Some upto) = Some (record { line = line; upto = upto })
 pick_from _ _ = None
@@ -79,7 +79,7 @@ abbrev pub pick_of : Text → Option Pick
 pick_of text = if nat_lt (position_or_len is_colon text) (length text)
     then pick_from (decimal_of (before_first is_colon text)) (decimal_of (after_first is_colon text)) else None
 
--- at most 1,048,576 picks; nothing where there are more, or a text is none
+-- at most 1,048,576 picks; nothing if there are more, or a text is not a pick
 abbrev pub picks_of : List Text → Option (List Pick)
 picks_of texts = option_and_then (each pick_of) (at_most MOST_PICKS texts)
 

@@ -1,2 +1,2 @@
-/// How many traces one repair may be made for.
+/// The largest number of traces for one repair.
 pub const MOST_TRACES: u64 = 1_024;

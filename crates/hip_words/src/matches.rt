@@ -1,4 +1,4 @@
-//! What clap makes of the words.
+//! What clap reads of the words.
 ghost use Rattle.std.specs.Prelude.{◌≡◌, ◌^◌, Some, true, map, string_bytes, option_map};
 ghost use Rattle.clap.specs.Words.{all_of, app_of, first_of, found_of, is_simple_and_free, rows_of};
 ghost use Rattle.hip_words.specs.Answers.{Answers};

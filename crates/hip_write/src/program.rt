@@ -10,7 +10,7 @@ use crate::lists::{Written, put_all, put_parenthesized};
 use crate::text::put_name;
 use crate::types::{put_ret, put_type};
 use crate::words::put_keyword;
-use hip_io::{Put, Sink, WriteFault, put_after};
+use hip_io::{Put, Sink, WriteFault, deliver_after, put_after};
 use hip_tree::{Extern, Function, GlobalVar, Param, Program};
 use hip_types::Scalar;
 
@@ -107,11 +107,13 @@ fn put_program<S: Sink>(before: Put, out: &mut S, program: &Program) -> Put
     put_all(put, out, &program.functions)
 }
 
-/// Appends the canonical text of a program. After a fault the sink has a prefix of it. It takes no memory.
+/// Appends the canonical text of a program and delivers it. After a fault the sink has a prefix of it. It takes no
+/// memory.
 pub fn write<S: Sink>(program: &Program, out: &mut S) -> Result<(), WriteFault>
     ensures { Wrote (S.state out.old) (S.state out.new) (show program.now) result }
 {
-    match put_program(Put::Done, out, program) {
+    let put = put_program(Put::Done, out, program);
+    match deliver_after(put, out) {
         Put::Done => Ok(()),
         Put::Failed => Err(WriteFault),
     }

@@ -2,7 +2,7 @@
 use Rattle.std.specs.Prelude.{ℕ, ◌≡◌, List, [], ◌++◌, Option, Some, None, option_map}
 use Rattle.std.proofs.Common.{refl, append-nil, sym, subst, ap, ◌∙◌, append_assoc, arith}
 use Rattle.hip_io.specs.Counts.{Rose}
-use Rattle.hip_io.specs.Sinks.{SinkState, AppendsAll, AppendsPrefix, HasPut, StaysFailed, writes_from, Writes}
+use Rattle.hip_io.specs.Sinks.{SinkState, AppendsAll, AppendsPrefix, Delivers, HasPut, StaysFailed, writes_from, Writes}
 use Rattle.hip_io.specs.declared.sink.Put.{Put}
 use Rattle.hip_io.specs.declared.sink.Put.TheVariants.{Done, Failed}
 
@@ -75,3 +75,10 @@ writes_nothing Failed old = record { how = record { answer = refl; state = refl 
 pub same_text : {i j : Put} {old new : SinkState} {s t : List ℕ} → s ≡ t → Writes i j old new s
     → Writes i j old new t
 same_text {i} {j} {old} {new} {s} {t} e p = subst (λ (x : List ℕ). Writes i j old new x) e p
+
+-- A text is written and then delivered.
+pub then_delivers : {i j k : Put} {old mid new : SinkState} {held : ℕ} {s : List ℕ} → Writes i j old mid s
+    → Delivers j k mid new held [] → Delivers i k old new held s
+then_delivers {i} {j} {k} {old} {mid} {new} {held} {s} p q =
+    let both : Writes i k old new (s ++ []) = and_then p (record { how = q.how }) in
+    record { how = subst (λ (x : List ℕ). writes_from i k old new x) (append-nil s) both.how; out = q.out }

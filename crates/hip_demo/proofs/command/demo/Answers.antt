@@ -9,7 +9,7 @@ returns-in-Done g c = λ files.
     let s = sinks (g.S.Sink.state c.args.out.now) (g.S.Sink.state c.put_shown.new.out) notes notes in
     shown_whole c.args.seed c.args.size
     (c.generated_programs_are_sound.ensures c.args.seed c.args.size c.requires.small) s files c.in-Ok.shown
-    c.in-Ok.ensures c.in-Done.ensures refl
+    c.in-Ok.ensures (record { how = c.in-Done.ensures.how }) refl
 
 pub returns-in-Ok : goal.returns-in-Ok
 returns-in-Ok g c = λ files.
@@ -17,4 +17,4 @@ returns-in-Ok g c = λ files.
     (g.N.Sink.state c.args.notes.now) (g.N.Sink.state c.refuse.new.notes) in
     rw c.refuse.ensures.status (was_cut c.args.seed c.args.size
     (c.generated_programs_are_sound.ensures c.args.seed c.args.size c.requires.small) s files c.in-Ok.shown
-    c.in-Ok.ensures c.in-Failed.ensures c.refuse.ensures.line)
+    c.in-Ok.ensures (record { how = c.in-Failed.ensures.how }) c.refuse.ensures.line)

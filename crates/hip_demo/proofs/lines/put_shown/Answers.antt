@@ -1,7 +1,5 @@
-use Rattle.hip_io.specs.Laws.SinkLaws.{and_then}
+use Rattle.hip_io.specs.Laws.SinkLaws.{then_delivers}
 use Rattle.hip_demo.proofs.lines.put_shown.Goals as goal
 
 pub returns : goal.returns
-returns g c =
-    and_then (and_then (and_then (and_then c.put_first_line-put.ensures c.put_entries-put.ensures)
-    c.put_repair-put.ensures) c.put_entries-put-2.ensures) c.put_count.ensures
+returns g c = then_delivers c.put_lines-put.ensures c.deliver_after.ensures

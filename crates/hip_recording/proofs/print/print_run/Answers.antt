@@ -1,32 +1,12 @@
-use Rattle.std.proofs.Common.{◌<◌, sym, ◌∙◌, subst}
-use Rattle.hip_lockstep.proofs.Going.{fewer, here, steps_ahead, told_by}
-use Rattle.hip_recording.proofs.Outputs.{IsPrinting, failed, more, printed, started, stopped}
+use Rattle.std.proofs.Common.{subst}
+use Rattle.hip_lockstep.proofs.Going.{told_by}
+use Rattle.hip_recording.proofs.Outputs.{has_printed, not_delivered, ran_out, started, stopped}
+use Rattle.hip_recording.specs.Printing.{Prints}
 use Rattle.hip_recording.proofs.print.print_run.Goals as goal
 
-pub returns-in-Err : goal.returns-in-Err
-returns-in-Err g c = stopped (told_by c.args.checked.now c.args.input.now c.events_tell_output_and_ending.ensures.output c.events_tell_output_and_ending.ensures.ending c.runs_end.ensures c.runs_are_bounded.ensures.bounded)
-    (started c.args.checked.now c.args.input.now (g.S.Sink.state c.args.out.now))
-
-pub steps-init : goal.steps-init
-steps-init g c = subst (λ m. IsPrinting c.args.checked.now c.args.input.now m (g.S.Sink.state c.args.out.now) (g.S.Sink.state c.args.out.now)) (sym c.in-Ok.ensures)
-    (started c.args.checked.now c.args.input.now (g.S.Sink.state c.args.out.now))
-
-pub returns-in-Err-step : goal.returns-in-Err-step
-returns-in-Err-step g c = stopped (told_by c.args.checked.now c.args.input.now c.events_tell_output_and_ending.ensures.output c.events_tell_output_and_ending.ensures.ending c.runs_end.ensures c.runs_are_bounded.ensures.bounded)
-    c.steps.invariant
-
-pub steps-smaller : goal.steps-smaller
-steps-smaller g c = subst (λ m. steps_ahead c.args.checked.now c.args.input.now m.taken < steps_ahead c.args.checked.now c.args.input.now c.steps.machine.taken) (sym c.in-Ok-step.ensures.ok)
-    (fewer (told_by c.args.checked.now c.args.input.now c.events_tell_output_and_ending.ensures.output c.events_tell_output_and_ending.ensures.ending c.runs_end.ensures c.runs_are_bounded.ensures.bounded) c.steps.invariant.on c.in-Ok-step.event (here (told_by c.args.checked.now c.args.input.now c.events_tell_output_and_ending.ensures.output c.events_tell_output_and_ending.ensures.ending c.runs_end.ensures c.runs_are_bounded.ensures.bounded) c.steps.invariant.on c.in-Ok-step.event c.in-Ok-step.ensures.event) (sym c.ending_of.ensures ∙ c.in-None.is))
-
-pub steps-preserved : goal.steps-preserved
-steps-preserved g c = subst (λ m. IsPrinting c.args.checked.now c.args.input.now m (g.S.Sink.state c.args.out.now) (g.S.Sink.state c.put_event.new.out)) (sym c.in-Ok-step.ensures.ok)
-    (more (told_by c.args.checked.now c.args.input.now c.events_tell_output_and_ending.ensures.output c.events_tell_output_and_ending.ensures.ending c.runs_end.ensures c.runs_are_bounded.ensures.bounded) c.steps.invariant c.in-Ok-step.event (g.S.Sink.state c.put_event.new.out) (here (told_by c.args.checked.now c.args.input.now c.events_tell_output_and_ending.ensures.output c.events_tell_output_and_ending.ensures.ending c.runs_end.ensures c.runs_are_bounded.ensures.bounded) c.steps.invariant.on c.in-Ok-step.event c.in-Ok-step.ensures.event) (sym c.ending_of.ensures ∙ c.in-None.is) c.in-Done.ensures)
-
-pub returns-in-Failed : goal.returns-in-Failed
-returns-in-Failed g c =
-    failed (told_by c.args.checked.now c.args.input.now c.events_tell_output_and_ending.ensures.output c.events_tell_output_and_ending.ensures.ending c.runs_end.ensures c.runs_are_bounded.ensures.bounded) c.steps.invariant c.in-Ok-step.event (g.S.Sink.state c.put_event.new.out) (here (told_by c.args.checked.now c.args.input.now c.events_tell_output_and_ending.ensures.output c.events_tell_output_and_ending.ensures.ending c.runs_end.ensures c.runs_are_bounded.ensures.bounded) c.steps.invariant.on c.in-Ok-step.event c.in-Ok-step.ensures.event) c.in-Failed.ensures
-
-pub returns-in-Some : goal.returns-in-Some
-returns-in-Some g c =
-    printed (told_by c.args.checked.now c.args.input.now c.events_tell_output_and_ending.ensures.output c.events_tell_output_and_ending.ensures.ending c.runs_end.ensures c.runs_are_bounded.ensures.bounded) c.steps.invariant c.in-Ok-step.event c.in-Some.ending (here (told_by c.args.checked.now c.args.input.now c.events_tell_output_and_ending.ensures.output c.events_tell_output_and_ending.ensures.ending c.runs_end.ensures c.runs_are_bounded.ensures.bounded) c.steps.invariant.on c.in-Ok-step.event c.in-Ok-step.ensures.event) (sym c.ending_of.ensures ∙ c.in-Some.is)
+pub returns-in-Err-clause-prints : goal.returns-in-Err-clause-prints
+returns-in-Err-clause-prints g c =
+    ran_out c.out_of_memory.result
+    (stopped (told_by c.args.checked.now c.args.input.now c.events_tell_output_and_ending.ensures.output c.events_tell_output_and_ending.ensures.ending c.runs_end.ensures c.runs_are_bounded.ensures.bounded)
+    (started c.args.checked.now c.args.input.now (g.S.Sink.state c.args.out.now)))
+    c.out_of_memory.ensures

@@ -1,9 +1,5 @@
-use Rattle.std.proofs.Common.{sym}
-use Rattle.hip_io.specs.Laws.SinkLaws.{and_then, same_text}
-use Rattle.hip_report_lines.specs.Reports.{report_line}
-use Rattle.hip_report_lines.proofs.Longer.{longer}
+use Rattle.hip_io.specs.Laws.SinkLaws.{then_delivers}
 use Rattle.hip_report_lines.proofs.reports.put_reports.Goals as goal
 
-pub each-preserved : goal.each-preserved
-each-preserved g c =
-    same_text (sym (longer (report_line c.args.program.now) _ _ _ c.each-test.true c.report-item.is)) (and_then c.each.invariant c.put_report-put.ensures)
+pub returns : goal.returns
+returns g c = then_delivers c.put_each-put.ensures c.deliver_after.ensures

@@ -1,7 +1,7 @@
 use Rattle.std.proofs.Common.{take}
 use Rattle.hip_io.specs.Sinks.{Writes}
 use Rattle.hip_report_lines.specs.Reports.{report_lines}
-use Rattle.hip_report_lines.proofs.reports.put_reports.Given as goal
+use Rattle.hip_report_lines.proofs.reports.put_each.Given as goal
 
 abbrev pub invariant-each : goal.invariant-each
 invariant-each g l =

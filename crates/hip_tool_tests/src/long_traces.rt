@@ -1,0 +1,55 @@
+//! Traces of many entries.
+
+use crate::commands::{Outcome, outcome_in_room, outcome_of_bytes};
+use std::alloc::Global;
+use std::process::Abort;
+
+/// It stores a number 100,000 times, and flushes and fences each store.
+const DURABLE_STORES: &str = "@x = global i64 0, section \".pm\"
+declare void @llvm.x86.clwb(ptr)
+declare void @llvm.x86.sse.sfence()
+define i32 @main() {
+entry:
+  br label %turn
+turn:
+  %i = phi i64 [ 0, %entry ], [ %next, %turn ]
+  store i64 %i, ptr @x
+  call void @llvm.x86.clwb(ptr @x)
+  call void @llvm.x86.sse.sfence()
+  %next = add i64 %i, 1
+  %more = icmp ult i64 %next, 100000
+  br i1 %more, label %turn, label %done
+done:
+  ret i32 0
+}
+";
+
+/// How many lines the text has.
+fn lines_of(bytes: &[u8]) -> usize {
+    let mut lines: usize = 0;
+    for byte in bytes {
+        if *byte == b'\n' {
+            lines = lines.saturating_add(1);
+        }
+    }
+    lines
+}
+
+fn recorded(rt: &impl Abort, alloc: Global) -> Outcome {
+    let files = &[("a", DURABLE_STORES)];
+    let outcome = outcome_in_room(rt, alloc, &["record", "a"], files, 16_000_000, 100);
+    assert_eq!(rt; outcome.code, 0);
+    outcome
+}
+
+/// Two entries for the header, three for each turn, and one for the end.
+#[test]
+fn many_entries_are_recorded_and_checked(rt: HostRuntime) {
+    let trace = recorded(&rt, rt.alloc());
+    assert_eq!(&rt; lines_of(trace.out.bytes()), 300_003);
+    let files: &[(&str, &[u8])] = &[("a", DURABLE_STORES.as_bytes()), ("b", trace.out.bytes())];
+    let checked = outcome_of_bytes(&rt, rt.alloc(), &["check", "a", "b"], files);
+    assert_eq!(&rt; checked.code, 0);
+    assert_eq!(&rt; checked.out.bytes().len(), 0);
+    assert!(&rt; checked.notes.bytes() == b"reports 0\n");
+}

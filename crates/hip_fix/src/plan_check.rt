@@ -98,7 +98,7 @@ fn is_flush_at(program: &Program, site: Site) -> bool
     }
 }
 
-/// Whether a call stands there that is of no external function.
+/// Whether the instruction there is a call of a function that is not external.
 fn is_call_at(program: &Program, site: Site) -> bool
     ensures { result ≡ calls_defined (instr_of program.now site) }
 {

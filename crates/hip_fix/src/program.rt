@@ -12,7 +12,7 @@ use hip_tree::{Program, Site};
 use hip_types::{Name, NoMemory, Row};
 use std::alloc::Global;
 
-/// What a plan asks for, in a program whose functions of these numbers have clones of these names.
+/// The sites of a plan as sets, in a program whose functions of these numbers have clones of these names.
 fn repair_of<'a>(
     alloc: Global,
     program: &'a Program,
@@ -33,7 +33,7 @@ fn repair_of<'a>(
     })
 }
 
-/// The program that one walk makes, with clones of the functions of these numbers behind all functions.
+/// The program that one walk makes. The clones of the functions of these numbers follow all functions.
 fn walk(
     alloc: Global,
     repair: &Repair<'_>,

@@ -25,7 +25,7 @@ use hip_tree::{Function, Site};
 use hip_types::{NoMemory, Row};
 use std::alloc::Global;
 
-/// The clones of the functions of these numbers, which stand behind all functions.
+/// The clones of the functions of these numbers, numbered after all functions.
 fn numbered(
     alloc: Global,
     functions: &[Function],

@@ -81,7 +81,7 @@ impl Body {
         }
     }
 
-    /// Adds the flush behind an instruction, if it is a store that is to have one.
+    /// Adds the flush after an instruction, if it is a store that gets one.
     pub fn add_flush_behind(
         &mut self,
         alloc: Global,
@@ -110,7 +110,7 @@ impl Body {
         Ok(())
     }
 
-    /// Adds a fence, if it is wanted.
+    /// Adds a fence, if the repair inserts one.
     pub fn add_fence_behind(&mut self, alloc: Global, is_wanted: bool) -> Result<(), NoMemory>
         ensures { OnOk result (self.new ≡ grown self.old (fence_behind is_wanted)) }
     {

@@ -21,7 +21,7 @@ fn declares(externs: &[Extern], name: &[u8]) -> bool
     false
 }
 
-/// Adds the declaration of a function without a result, if it is wanted and absent from the program's.
+/// Adds the declaration of a function without a result, if inserted calls need it and the program has none.
 fn declare(
     alloc: Global,
     externs: &mut Row<Extern>,
@@ -42,7 +42,7 @@ fn declare(
     Ok(())
 }
 
-/// The declarations of a program, and behind them those that inserted calls need and that are absent.
+/// The declarations of a program, and after them those that inserted calls need and the program lacks.
 pub fn declarations(
     alloc: Global,
     declared: &Row<Extern>,

@@ -21,7 +21,7 @@ pub struct Repair<'a> {
     pub clones: CloneTable<'a>,
 }
 
-/// A function that is repaired, or of which a clone is made.
+/// A function that is repaired, or whose clone is made.
 #[derive(Clone, Copy)]
 struct Place {
     function: usize,
@@ -29,7 +29,7 @@ struct Place {
 }
 
 impl Repair<'_> {
-    /// A copy of an instruction, which names the clone of its callee where it is asked to.
+    /// A copy of an instruction. With `to_clone` a call names the clone of its callee.
     fn renamed(&self, alloc: Global, instr: &Instr, to_clone: bool) -> Result<Instr, NoMemory>
         ensures { IfOk result (λ i. i ≡ spec.renamed self.now.clones instr.now to_clone) }
     {
@@ -64,14 +64,14 @@ impl Repair<'_> {
         self.flush_after.contains(site) || is_clone && !self.skip.contains(site)
     }
 
-    /// Whether a fence follows what stands there and what is inserted behind it.
+    /// Whether a fence follows the instruction there and its inserted flush.
     pub fn is_fenced(&self, site: Site) -> bool
         ensures { result ≡ ((wanted_in self.now).fence_after site || (wanted_in self.now).hoist site) }
     {
         self.fence_after.contains(site) || self.hoist.contains(site)
     }
 
-    /// Adds a repaired instruction of a function or of its clone, with what is inserted behind it.
+    /// Adds a repaired instruction of a function or of its clone, with what is inserted after it.
     pub fn add_repaired(
         &self,
         alloc: Global,

@@ -1,11 +1,10 @@
 -- A store whose address is a register that an `alloca` assigns, or a volatile global itself, is a low one.
-use Rattle.std.proofs.Common.{◌≡◌, ◌⊎◌, ⊎_elim, inl, inr, ℕ, zero, suc, Bool, true, false, cond, not, List, [], ◌∷◌, map, Option, Some, None, slice_get, refl, sym, ap, ◌∙◌, subst, arith}
-use Rattle.std.specs.Prelude.{is_some, ◌&&◌}
+use Rattle.std.proofs.Common.{◌≡◌, ◌⊎◌, ⊎_elim, inl, inr, ℕ, zero, suc, Bool, true, false, cond, List, [], ◌∷◌, map, Option, Some, None, slice_get, refl, sym, ap, ◌∙◌, subst, arith}
+use Rattle.std.specs.Prelude.{is_some}
 use Rattle.std.specs.Str.{bytes_eq}
 use Rattle.std.specs.Cmp.Lexicographic.{nat_list_eq_equiv}
-use Rattle.std.proofs.lemmas.Bool.{not-true, and_parts, both_ways}
-use Rattle.std.proofs.lemmas.Slice.Eq.{bytes_eq-Decides}
-use Rattle.hip_types.specs.Laws.DistinctLaws.{or_first, or_second, either}
+use Rattle.std.proofs.lemmas.Bool.{both_ways}
+use Rattle.hip_types.specs.Laws.DistinctLaws.{or_first, or_second}
 use Rattle.hip_tree.specs.Sites.{instr_of}
 use Rattle.hip_tree.specs.declared.block.Block.{Block}
 use Rattle.hip_tree.specs.declared.block.Edge.{Edge}
@@ -22,14 +21,10 @@ use Rattle.hip_tree.specs.declared.instr.Instr.{Instr}
 use Rattle.hip_tree.specs.declared.instr.Instr.TheVariants.{Binary, Compare, Select, Cast, Alloca, Load, Store, Gep, Call}
 use Rattle.hip_tree.specs.declared.instr.Operand.TheVariants.{Reg, Fixed}
 use Rattle.hip_tree.specs.declared.program.Function.{Function}
-use Rattle.hip_tree.specs.declared.program.GlobalVar.{GlobalVar}
 use Rattle.hip_tree.specs.declared.program.Param.{Param}
 use Rattle.hip_tree.specs.declared.program.Program.{Program}
 use Rattle.hip_tree.specs.declared.site.Site.{Site}
-use Rattle.hip_globals.specs.Addresses.{is_persistent}
 use Rattle.hip_names.specs.Laws.DifferLaws.{differ_first}
-use Rattle.hip_names.specs.Laws.NameLaws.{among-sound, bytes_eq-sym}
-use Rattle.hip_names.specs.Laws.NumberLaws.{number_cases}
 use Rattle.hip_names.specs.Names.{AllDiffer, is_among, number_of}
 use Rattle.hip_externs.specs.Externs.{call_of}
 use Rattle.hip_externs.specs.declared.call.ExternCall.{ExternCall}
@@ -43,6 +38,8 @@ use Rattle.hip_runs.specs.StoredParts.Parts.{In}
 use Rattle.hip_runs.specs.Laws.PartLaws.{in-append, in-map}
 use Rattle.hip_invariants.specs.PointerLevels.{PointerLevel, is_at_most, number_level, const_level, behind_offset, known_path}
 use Rattle.hip_repairs.specs.Direct.{allocates, allocates_in, is_volatile_global, names_volatile, stores_outside, direct}
+use Rattle.hip_repairs.proofs.soundness.HeadsAgain.{names_of_globals}
+use Rattle.hip_repairs.proofs.quiet.OutsideAddresses.{volatile_number}
 use Rattle.hip_repairs.proofs.quiet.AssignedOnce.{names_of_instr, only_alloca, no_phi, no_parameter, differ_inside, once}
 use Rattle.hip_levels.specs.Bounds.{Variable, Bound, Rule, Register, Result, low, free, same_as, Assignment, bound_in, same_variable}
 use Rattle.hip_levels.specs.Closed.{is_level, IsClosedUnder}
@@ -193,33 +190,6 @@ module _ (P : Program) (sound : Passes P) (g : ℕ) (q : List ℕ) (all : alloca
       go (Some t) h = refl
 
 -- ---- a volatile global
-
-abbrev names_of_globals : List GlobalVar → List (List ℕ)
-names_of_globals gs = map (λ g. g.name) gs
-
-volatile_among : (gs : List GlobalVar) (name : List ℕ) → is_volatile_global gs name ≡ true → is_among (names_of_globals gs) name ≡ true
-volatile_among [] name e = cc
-volatile_among (g ∷ gs) name e =
-    ⊎_elim (λ h. or_first (bytes_eq name g.name) _ (bytes_eq-sym name g.name ∙ (and_parts (bytes_eq g.name name) _ h).0)) (λ h. or_second (bytes_eq name g.name) _ (volatile_among gs name h))
-    (either (bytes_eq g.name name && not g.persistent) (is_volatile_global gs name) e)
-
-volatile_number : (gs : List GlobalVar) (name : List ℕ) (k : ℕ) → AllDiffer (names_of_globals gs) → is_volatile_global gs name ≡ true → number_of (names_of_globals gs) name ≡ Some k → is_persistent gs k ≡ false
-volatile_number [] name k d e f = refl
-volatile_number (g ∷ gs) name k d e f = ⊎_elim (λ h. first h.0 h.2) (λ h. later h.0 (volatile_number gs name h.0 d.1) h.1 h.2 h.3) (number_cases g.name (names_of_globals gs) name k f)
-  where
-    cases : (bytes_eq g.name name && not g.persistent) ≡ true ⊎ is_volatile_global gs name ≡ true
-    cases = either (bytes_eq g.name name && not g.persistent) (is_volatile_global gs name) e
-
-    first : k ≡ 0 → bytes_eq name g.name ≡ true → is_persistent (g ∷ gs) k ≡ false
-    first z at =
-        subst (λ n. is_persistent (g ∷ gs) n ≡ false) (sym z)
-        (⊎_elim (λ h. not-true g.persistent (and_parts (bytes_eq g.name name) _ h).1)
-        (λ h. absurd (d.0 (among-sound (names_of_globals gs) g.name (subst (λ n. is_among (names_of_globals gs) n ≡ true) ((bytes_eq-Decides name g.name).0 at) (volatile_among gs name h))))) cases)
-
-    later : (j : ℕ) → (is_volatile_global gs name ≡ true → number_of (names_of_globals gs) name ≡ Some j → is_persistent gs j ≡ false) → bytes_eq name g.name ≡ false → number_of (names_of_globals gs) name ≡ Some j → k ≡ suc j → is_persistent (g ∷ gs) k ≡ false
-    later j rest other n s =
-        subst (λ m. is_persistent (g ∷ gs) m ≡ false) (sym s)
-        (⊎_elim (λ h. absurd (both_ways _ other (bytes_eq-sym name g.name ∙ (and_parts (bytes_eq g.name name) _ h).0))) (λ h. rest h n) cases)
 
 volatile_low : (P : Program) → Passes P → (c : Const) → names_volatile P.globals (out-Const c) ≡ true → is_some (const_level P.globals c) ≡ true
 volatile_low P sound c e = go (out-Const c) refl e

@@ -10,7 +10,7 @@ use Rattle.hip_tree.specs.declared.instr.Instr.{Instr}
 use Rattle.hip_tree.specs.declared.program.Function.{Function}
 use Rattle.hip_tree.specs.declared.program.Program.{Program}
 use Rattle.hip_tree.specs.declared.site.Site.{Site}
-use Rattle.hip_repairs.specs.Laws.SiteOrder.{filtered_has, filtered_in, has_in, site_in}
+use Rattle.hip_repairs.specs.Laws.SiteOrder.{filter-append, front_chosen, filtered_has, filtered_in, has_in, site_in}
 use Rattle.hip_levels.specs.Bounds.{Assignment}
 use Rattle.hip_levels.specs.Closed.{IsLeast}
 use Rattle.hip_levels.specs.LowStores.{stores_low, low_stores, least_levels}
@@ -18,18 +18,6 @@ use Rattle.hip_levels.specs.Picked.{picked_in_body, picked_in_blocks, picked_in_
 use Rattle.hip_levels.specs.Rules.{level_rules}
 use Rattle.hip_levels.proofs.KnownLevels.{rules_know, program_is_least}
 use Rattle.hip_levels.proofs.LeastLevels.{least_is_one}
-
-filter-append : (test : Site → Bool) (xs ys : List Site) → filter test (xs ++ ys) ≡ filter test xs ++ filter test ys
-filter-append test [] ys = refl
-filter-append test (x ∷ xs) ys = by_test (test x) (filter-append test xs ys)
-  where
-    by_test : (b : Bool) → filter test (xs ++ ys) ≡ filter test xs ++ filter test ys → cond b (x ∷ filter test (xs ++ ys)) (filter test (xs ++ ys)) ≡ cond b (x ∷ filter test xs) (filter test xs) ++ filter test ys
-    by_test true e = ap (λ zs. x ∷ zs) e
-    by_test false e = e
-
-chosen : (b : Bool) (s : Site) (rest : List Site) → cond b (s ∷ rest) rest ≡ cond b (s ∷ []) [] ++ rest
-chosen true s rest = refl
-chosen false s rest = refl
 
 module _ (P : Program) (A : Assignment) where
   abbrev test : ℕ → Instr → Bool
@@ -53,7 +41,7 @@ module _ (P : Program) (A : Assignment) where
       let here : k ≡ k + 0 = omega arith in
       let rest = body_filtered f b (suc k) fn block is e_f e_b (λ j. at (suc j) ∙ ap (slice_get block.body) (let q : k + suc j ≡ suc k + j = omega arith in q)) in
       ap (λ t. cond t (s ∷ filter low_by (body_sites f b (suc k) is)) (filter low_by (body_sites f b (suc k) is))) (there f b k fn block i e_f e_b (ap (slice_get block.body) here ∙ sym (at 0)))
-      ∙ chosen (test f i) s (filter low_by (body_sites f b (suc k) is)) ∙ ap (λ zs. cond (test f i) (s ∷ []) [] ++ zs) rest
+      ∙ front_chosen (test f i) s (filter low_by (body_sites f b (suc k) is)) ∙ ap (λ zs. cond (test f i) (s ∷ []) [] ++ zs) rest
 
   blocks_filtered : (f b : ℕ) (fn : Function) (xs : List Block) → slice_get P.functions f ≡ Some fn → ((j : ℕ) → slice_get xs j ≡ slice_get fn.blocks (b + j)) →
       filter low_by (block_sites f b xs) ≡ picked_in_blocks test f b xs

@@ -15,7 +15,7 @@ same_variable (Register g name) (Register h other) = nat_eq g h && bytes_eq name
 same_variable (Result g) (Result h) = nat_eq g h
 same_variable _ _ = false
 
--- The least level that a rule allows: a level that is known, or the one behind an offset from a variable's.
+-- The least level that a rule allows: a known level, or the one at an offset from a variable's.
 pub data Bound : Type 0 where
   Known : PointerLevel → Bound
   Behind : ℕ → Variable → Bound

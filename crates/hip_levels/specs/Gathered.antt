@@ -59,7 +59,7 @@ InstrFits _ = Unit {0}
 abbrev pub PhiFits : Phi → Type 0
 PhiFits p = All (λ e. OperandFits e.value) p.edges
 
--- the types in the value that a `ret` returns fit; nothing is asked of another end
+-- the types in the value that a `ret` returns fit; other ends need nothing
 abbrev pub EndFits : End → Type 0
 EndFits (ends.Ret (Some a)) = OperandFits a.value
 EndFits _ = Unit {0}

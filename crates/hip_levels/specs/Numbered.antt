@@ -1,11 +1,11 @@
 -- Rules over variables that are numbered, and levels as numbers: 0 to 32, and 33 for Free.
-use Rattle.std.specs.Prelude.{ℕ, suc, ◌+◌, ◌-◌, ◌≤◌, ◌<◌, ◌≡◌, Bool, true, false, cond, nat_eq, nat_lt, List, [], ◌∷◌, slice_index, slice_set}
+use Rattle.std.specs.Prelude.{ℕ, suc, ◌+◌, ◌-◌, ◌*◌, ◌≤◌, ◌<◌, ◌≡◌, Bool, true, false, cond, nat_eq, nat_lt, List, [], ◌∷◌, length, slice_index, slice_set}
 use Rattle.hip_runs.specs.StoredParts.Parts.{In}
 use Rattle.hip_levels.specs.declared.numbered.Least.{Least}
 use Rattle.hip_levels.specs.declared.numbered.Least.TheVariants as least
 use Rattle.hip_levels.specs.declared.numbered.Rule.{Rule}
 
--- the number of the level behind an offset
+-- the number of the level at an offset
 abbrev pub behind_rank : ℕ → ℕ → ℕ
 behind_rank level offset =
     cond (nat_eq offset 0) level (cond (nat_lt offset 67108864) (cond (nat_lt level 32) (suc level) 33) 33)
@@ -27,7 +27,7 @@ reached levels l = reached_by (at levels) l
 abbrev pub rises : List ℕ → Rule → Bool
 rises levels r = nat_lt (at levels r.variable) (reached levels r.least)
 
--- the levels behind a rule, which has raised its variable to its least level where that had less
+-- the levels after a rule, which has raised its variable to its least level if it was lower
 abbrev pub risen : List ℕ → Rule → List ℕ
 risen levels r = cond (rises levels r) (slice_set levels r.variable (reached levels r.least)) levels
 
@@ -59,6 +59,12 @@ pub record IsBelowAll (rules : List Rule) (levels : List ℕ) : Type 0 where
 abbrev pub room : List ℕ → ℕ
 room [] = 0
 room (level ∷ levels) = (33 - level) + room levels
+
+-- Levels have risen while a queue was in use: there is no more room than before, and the queue has grown by at most two
+-- places for each rise.
+pub record HasRisen (queue levels queue' levels' : List ℕ) : Type 0 where
+  pub left : length queue' + 2 * room levels' ≤ length queue + 2 * room levels
+  pub less : room levels' ≤ room levels
 
 -- A rule was tried: it raised its variable, or it is met and nothing has changed.
 abbrev pub tried : Bool → List ℕ → List ℕ → Rule → Type 0

@@ -27,12 +27,12 @@ module _ (P : Program) (g : ℕ) where
   operand_bound (Reg name) = same_as (Register g name)
   operand_bound (Fixed c) = Known (const_level P.globals c)
 
-  -- what lies behind an offset from an operand
+  -- the bound at an offset from an operand
   abbrev pub offset_bound : Operand → ℕ → Bound
   offset_bound (Reg name) offset = Behind offset (Register g name)
   offset_bound (Fixed c) offset = Known (behind_offset (const_level P.globals c) offset)
 
-  -- An element behind an operand, by the values of the indices; free where one of them is a register.
+  -- the bound of an element of an operand, by the values of the indices; free if one of them is a register
   abbrev pub element_bound : Operand → Ty → Option (List ℕ) → Bound
   element_bound base ty None = free
   element_bound base ty (Some path) = offset_bound base (unwrap_or (gep_of ty path) 0)

@@ -2,8 +2,7 @@ ghost use Rattle.std.specs.Prelude.{◌≡◌, ◌∷◌, [], ◌++◌, All, map
 ghost use Rattle.std.specs.List.{flat_map};
 ghost use Rattle.hip_types.specs.Layout.{Fits};
 ghost use Rattle.hip_externs.specs.Externs.{call_of};
-ghost use Rattle.hip_names.specs.Numbered.{Numbers};
-ghost use Rattle.hip_sound.specs.Numbering.{function_names, function_number};
+ghost use Rattle.hip_sound.specs.Numbering.{function_number};
 ghost use Rattle.hip_invariants.specs.PointerLevels as levels;
 ghost use Rattle.hip_levels.specs.Bounds.{Register};
 ghost use Rattle.hip_levels.specs.Describing.{Describes};
@@ -15,31 +14,21 @@ use crate::constants::{constant_level, known_path, offset_of, persistence_table}
 use crate::numbered::{FREE, behind};
 use crate::table::RuleTable;
 use crate::variables::{Bound, Variable};
+use hip_calls::FunctionTable;
 use hip_externs::ExternCall;
 use hip_names::NameTable;
 use hip_tree::{Arg, Block, Edge, End, Function, Instr, Operand, Param, Phi, Program};
 use hip_types::{Name, NoMemory, Ty};
 use std::alloc::Global;
 
-/// A program with what its rules are gathered with: which globals are persistent, and the numbers of functions, by
-/// their names.
+/// A program with what its rules are gathered with: by their names, which globals are persistent, and the numbers of
+/// functions.
 #[derive(Drop)]
 pub struct Scope<'p> {
     pub alloc: Global,
     pub program: &'p Program,
     pub persistence: NameTable<'p, bool>,
-    pub functions: NameTable<'p, usize>,
-}
-
-/// The numbers of functions by their names.
-fn numbers_of(alloc: Global, functions: &[Function]) -> Result<NameTable<'_, usize>, NoMemory>
-    ensures { IfOk result (λ table. Numbers table.names table.values (function_names functions.now)) }
-{
-    let mut numbers = NameTable::new(alloc);
-    'each: for number in 0..functions.len() {
-        numbers.add(functions[number].name.as_slice(), number)?;
-    }
-    Ok(numbers)
+    pub functions: FunctionTable<'p>,
 }
 
 impl<'p> Scope<'p> {
@@ -49,7 +38,7 @@ impl<'p> Scope<'p> {
         ensures program { IfOk result (λ scope. scope.program.now ≡ program.now) }
     {
         let persistence = persistence_table(alloc, program.globals.as_slice())?;
-        let functions = numbers_of(alloc, program.functions.as_slice())?;
+        let functions = FunctionTable::new(alloc, program)?;
         Ok(Scope {
             alloc,
             program,
@@ -59,7 +48,7 @@ impl<'p> Scope<'p> {
     }
 }
 
-/// The least level of what is an offset behind an operand.
+/// The least level of the address at an offset from an operand.
 fn behind_operand<'p>(
     scope: &Scope<'p>,
     function: usize,
@@ -240,7 +229,7 @@ fn add_call<'p>(
 {
     match ExternCall::named(callee.as_slice()) {
         Some(_) => add_result(scope.program, rules, function, dest, Bound::Known(FREE)),
-        None => match scope.functions.get(callee.as_slice()) {
+        None => match scope.functions.number_of(callee.as_slice()) {
             Some(number) => add_entry(scope, rules, function, dest, number, args),
             None => Ok(()),
         },

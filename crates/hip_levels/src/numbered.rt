@@ -7,7 +7,7 @@ pub const FREE: u8 = 33;
 /// An offset that is less leads at most one level higher.
 const LEVEL_SIZE: u64 = 67_108_864;
 
-/// The least level that a rule allows: one that is known, or the one behind an offset from that of a variable.
+/// The least level that a rule allows: a known one, or the one at an offset from a variable's.
 #[derive(Clone, Copy)]
 pub enum Least {
     Known(u8),
@@ -21,7 +21,7 @@ pub struct Rule {
     pub least: Least,
 }
 
-/// The level behind an offset from a level.
+/// The level at an offset from a level.
 pub fn behind(level: u8, offset: u64) -> u8
     ensures { result ≡ behind_rank level offset }
 {
@@ -34,7 +34,7 @@ pub fn behind(level: u8, offset: u64) -> u8
     }
 }
 
-/// What the least level of a rule comes to.
+/// The least level of a rule, by the levels of the variables.
 fn least_level(levels: &[u8], least: Least) -> u8
     requires { LeastIsWithin (length levels.now) least }
     ensures { result ≡ reached levels.now least }
@@ -45,7 +45,7 @@ fn least_level(levels: &[u8], least: Least) -> u8
     }
 }
 
-/// Raises the variable of a rule to its least level, where it has less, and says whether it had.
+/// Raises the variable of a rule to its least level, and says whether it was lower.
 pub fn raise(levels: &mut [u8], rule: Rule) -> bool
     requires { IsWithin (length levels.old) rule }
     ensures new { levels.new ≡ risen levels.old rule }

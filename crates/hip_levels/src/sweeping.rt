@@ -1,13 +1,13 @@
-ghost use Rattle.std.specs.Prelude.{◌≡◌, ◌<◌, ◌≤◌, ◌+◌, ◌*◌, length, IfOk, OnOk};
+ghost use Rattle.std.specs.Prelude.{◌≡◌, ◌<◌, ◌≤◌, length, IfOk, OnOk};
 ghost use Rattle.hip_runs.specs.StoredParts.Parts.{In};
-ghost use Rattle.hip_levels.specs.Numbered.{AreMetBy, AreWithin, IsBelowAll, at, room, swept, tried};
+ghost use Rattle.hip_levels.specs.Numbered.{AreMetBy, AreWithin, HasRisen, IsBelowAll, at, room, swept, tried};
 
 use crate::numbered::{Least, Rule, raise};
 use hip_types::{NoMemory, Row};
 use std::alloc::Global;
 
-/// For each variable the last rule that goes by it, and for each rule the one before that goes by the same variable: a
-/// rule that has none before has itself.
+/// For each variable the last rule that depends on it, and for each rule the one before that depends on the same
+/// variable. The first rule of a chain has itself.
 #[derive(Drop)]
 struct Chains {
     last: Vec<usize>,
@@ -15,7 +15,7 @@ struct Chains {
 }
 
 impl Chains {
-    /// Chains of no rules for so many variables.
+    /// Empty chains for `count` variables.
     fn new(alloc: Global, count: usize) -> Result<Chains, NoMemory> {
         Ok(Chains {
             last: vec![in alloc; usize::MAX; count]?,
@@ -23,7 +23,7 @@ impl Chains {
         })
     }
 
-    /// Puts the next rule behind its chain.
+    /// Appends the next rule to its chain.
     fn add(&mut self, rule: Rule) -> Result<(), NoMemory> {
         let number = self.before.len();
         let mut earlier = number;
@@ -37,12 +37,12 @@ impl Chains {
         Ok(())
     }
 
-    /// The last rule that goes by a variable.
+    /// The last rule that depends on a variable.
     fn last(&self, variable: usize) -> usize {
         self.last.get(variable).copied().unwrap_or(usize::MAX)
     }
 
-    /// The rule before another that goes by the same variable.
+    /// The rule before another that depends on the same variable.
     fn before(&self, rule: usize) -> usize {
         self.before.get(rule).copied().unwrap_or(usize::MAX)
     }
@@ -56,7 +56,7 @@ fn chains_of(alloc: Global, rules: &[Rule], count: usize) -> Result<Chains, NoMe
     Ok(chains)
 }
 
-/// Raises the variable of a rule, and puts it into the queue where it has risen.
+/// Raises the variable of a rule, and puts it into the queue if it rose.
 fn raise_and_note(
     levels: &mut [u8],
     all: &[Rule],
@@ -68,8 +68,7 @@ fn raise_and_note(
     requires below { IsBelowAll all.now levels.old }
     ensures below { OnOk result (IsBelowAll all.now levels.new) }
     ensures tried { IfOk result (λ rose. tried rose levels.old levels.new rule) }
-    ensures left { OnOk result (length queue.new + 2 * room levels.new ≤ length queue.old + 2 * room levels.old) }
-    ensures less { OnOk result (room levels.new ≤ room levels.old) }
+    ensures risen { OnOk result (HasRisen queue.old levels.old queue.new levels.new) }
 {
     let rose = raise(levels, rule);
     if rose {
@@ -78,7 +77,7 @@ fn raise_and_note(
     Ok(rose)
 }
 
-/// Looks at each rule once. Says whether any variable has risen.
+/// Applies each rule once, and says whether any variable rose.
 fn sweep(levels: &mut [u8], rules: &[Rule], queue: &mut Row<usize>) -> Result<bool, NoMemory>
     requires within { AreWithin (length levels.old) rules.now }
     requires below { IsBelowAll rules.now levels.old }
@@ -94,7 +93,7 @@ fn sweep(levels: &mut [u8], rules: &[Rule], queue: &mut Row<usize>) -> Result<bo
     Ok(rose)
 }
 
-/// Looks again at the rules that go by a variable.
+/// Applies the rules that depend on a variable again.
 fn follow(
     levels: &mut [u8],
     rules: &[Rule],
@@ -105,8 +104,7 @@ fn follow(
     requires within { AreWithin (length levels.old) rules.now }
     requires below { IsBelowAll rules.now levels.old }
     ensures below { OnOk result (IsBelowAll rules.now levels.new) }
-    ensures left { OnOk result (length queue.new + 2 * room levels.new ≤ length queue.old + 2 * room levels.old) }
-    ensures less { OnOk result (room levels.new ≤ room levels.old) }
+    ensures risen { OnOk result (HasRisen queue.old levels.old queue.new levels.new) }
 {
     let mut next = chains.last(variable);
     'chain: while next < rules.len() {
@@ -120,7 +118,7 @@ fn follow(
     Ok(())
 }
 
-/// Looks again at the rules that go by a variable in the queue, until the queue is empty.
+/// Applies the rules that depend on a variable in the queue again, until the queue is empty.
 fn propagate(
     levels: &mut [u8],
     rules: &[Rule],
@@ -156,10 +154,10 @@ fn settle(
     Ok(())
 }
 
-/// The least levels that meet the rules, of so many variables.
+/// The least levels of `count` variables that meet the rules.
 ///
-/// A variable that has risen is put into a queue, and the rules that go by it are looked at again. It rises at most 33
-/// times, so the time is linear in the rules times 33 at most. A last look at every rule finds each of them met.
+/// A variable that rises is put into a queue, and the rules that depend on it are applied again. It rises at most 33
+/// times, so the time is linear in the rules times 33 at most. A last sweep over all rules finds each of them met.
 pub fn solve(alloc: Global, rules: &[Rule], count: usize) -> Result<Row<u8>, NoMemory>
     requires { AreWithin count rules.now }
     ensures count { IfOk result (λ levels. length levels ≡ count) }

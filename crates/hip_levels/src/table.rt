@@ -29,7 +29,7 @@ impl<'p> Model for RuleTable<'p> {
     ghost invariant = { λ t. IsTable t.variables t.rules };
 }
 
-/// The number of a variable, which is put in where it is new.
+/// The number of a variable. A new variable gets the next number.
 fn number<'p>(variables: &mut VariableSet<'p>, variable: Variable<'p>) -> Result<usize, NoMemory>
     ensures grows { Grows variables.old variables.new }
     ensures within { IfOk result (λ number. number < length variables.new) }

@@ -15,7 +15,7 @@ pub enum Variable<'p> {
     Result(usize),
 }
 
-/// The least level that a rule allows: one that is known, or the one behind an offset from that of a variable.
+/// The least level that a rule allows: a known one, or the one at an offset from a variable's.
 #[derive(Clone, Copy)]
 pub enum Bound<'p> {
     Known(u8),

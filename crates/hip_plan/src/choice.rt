@@ -19,7 +19,7 @@ fn is_better(best: Option<i128>, score: Option<i128>) -> bool
     }
 }
 
-/// The best level of the store's, which has that score, and those of the calls, so many of which had returned.
+/// The best of level 0, whose score is given, and of the levels of the first `closed` calls.
 fn best_level<W: Worths>(
     checked: &Checked,
     worths: &W,

@@ -18,7 +18,7 @@ use hip_tree::{Program, Site, instr_at};
 use hip_types::NoMemory;
 use std::alloc::Global;
 
-/// The store that a report asks a flush behind.
+/// The store that needs a flush after it, for a report.
 fn flush_asked(report: &Report, level: usize) -> Option<Site>
     ensures { result ≡ spec.flush_asked report.now.kind level report.now.path }
 {
@@ -28,7 +28,8 @@ fn flush_asked(report: &Report, level: usize) -> Option<Site>
     }
 }
 
-/// The flush that a report asks a fence behind: one that lacks it, or the one that is put after the store.
+/// The instruction that needs a fence after it, for a report: a flush of the program, or the store whose flush is
+/// inserted.
 fn fence_asked(report: &Report, level: usize) -> Option<Site>
     ensures { result ≡ spec.fence_asked report.now.kind level report.now.flush_site report.now.path }
 {
@@ -39,7 +40,7 @@ fn fence_asked(report: &Report, level: usize) -> Option<Site>
     }
 }
 
-/// The call that a report asks to hoist.
+/// The call to hoist, for a report.
 fn hoist_asked(report: &Report, level: usize) -> Option<Site>
     ensures { result ≡ spec.hoist_asked report.now.kind level report.now.path }
 {
@@ -66,8 +67,8 @@ fn add(sites: &mut SiteSet, program: &Program, site: Option<Site>) -> Result<(),
     }
 }
 
-/// The plan for what was found: in each list the sites of the program that some report asks for, in ascending order. It
-/// suits the program where this is what a run of it found.
+/// The plan for what was found: in each list the sites of the program that some report needs, in ascending order. It
+/// suits the program if a run of the program found this.
 ///
 /// Time and memory are linear in the marks and the reports, but that sites are sorted.
 pub fn plan(alloc: Global, checked: &Checked, findings: &Findings) -> Result<Plan, NoMemory>

@@ -8,7 +8,7 @@ ghost use Rattle.hip_runs.specs.declared.report.Findings.{Findings};
 use hip_runs::{Findings, Mark, Object};
 use hip_tree::Site;
 
-/// What a run found, as it is asked for the worths of operands.
+/// What a run found, as a source of the worths of operands.
 pub trait Worths {
     ghost found: { Self → Findings };
 

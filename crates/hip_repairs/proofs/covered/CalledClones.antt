@@ -1,5 +1,5 @@
 -- A call of a clone is a call of the program, and it goes to a clone of the function that the program calls.
-use Rattle.std.proofs.Common.{◌≡◌, ℕ, zero, suc, ◌<◌, ◌≤◌, Bool, true, false, cond, not, ◌||◌, List, [], ◌∷◌, ◌++◌, length, drop, Option, Some, None, slice_get, refl, sym, ap, ◌∙◌, subst, arith}
+use Rattle.std.proofs.Common.{◌≡◌, ℕ, zero, suc, ◌≤◌, Bool, true, false, cond, not, ◌||◌, List, [], ◌∷◌, ◌++◌, length, drop, Option, Some, None, slice_get, refl, sym, ap, ◌∙◌, subst, arith}
 use Rattle.std.specs.List.{drop-map}
 use Rattle.std.proofs.lemmas.Option.{same_Some}
 use Rattle.hip_types.specs.declared.number.Scalar.{Scalar}
@@ -7,7 +7,6 @@ use Rattle.hip_tree.specs.Sites.{has_site}
 use Rattle.hip_tree.specs.declared.instr.Arg.{Arg}
 use Rattle.hip_tree.specs.declared.instr.Instr.{Instr}
 use Rattle.hip_tree.specs.declared.instr.Instr.TheVariants.{Binary, Compare, Select, Cast, Alloca, Load, Store, Gep, Call}
-use Rattle.hip_tree.specs.declared.program.Function.{Function}
 use Rattle.hip_tree.specs.declared.program.Program.{Program}
 use Rattle.hip_tree.specs.declared.site.Site.{Site}
 use Rattle.hip_externs.specs.Externs.{call_of}
@@ -15,19 +14,19 @@ use Rattle.hip_externs.specs.declared.call.ExternCall.{ExternCall}
 use Rattle.hip_sound.specs.Numbering.{function_number}
 use Rattle.hip_runs.specs.declared.input.Input.{Input}
 use Rattle.hip_runs.specs.Actions.{is_turn, is_flush_or_fence}
-use Rattle.hip_runs.specs.Places.{body_at, code_at}
+use Rattle.hip_runs.specs.Places.{body_at}
 use Rattle.hip_runs.specs.State.{Registers, Level, Frame, World, Counts, State}
 use Rattle.hip_runs.specs.Laws.Members.{get_drop}
 use Rattle.hip_repairs.specs.declared.plan.Plan.{Plan}
 use Rattle.hip_repairs.specs.Clones.{IsClone}
-use Rattle.hip_repairs.specs.Covered.{is_numbered_from, IsCallFrom, IsCallOf, StandsAtCall, CallsClone}
+use Rattle.hip_repairs.specs.Covered.{is_numbered_from, IsCallFrom, IsCallOf, CallsClone}
 use Rattle.hip_repairs.specs.Harmless.{marked_body}
 use Rattle.hip_repairs.specs.Repaired.{Marked, Clone, the_fence, clone_name, renamed, wanted_by, clones_of, repaired, instrs_of, repaired_body}
 use Rattle.hip_repairs.specs.Laws.Callable.{IsCallable}
 use Rattle.hip_repairs.proofs.functions.Blocks.{body_twin}
 use Rattle.hip_repairs.proofs.functions.Clones.{still_free}
 use Rattle.hip_repairs.proofs.functions.Lookup.{number_there}
-use Rattle.hip_repairs.proofs.functions.Twins.{Twin, CallsTwin}
+use Rattle.hip_repairs.proofs.functions.Twins.{Twin}
 use Rattle.hip_repairs.proofs.covered.Copies.{twin_is_clone}
 use Rattle.hip_repairs.proofs.covered.Moves.{instr_here}
 use Rattle.hip_repairs.proofs.simulation.Facts.{Lines}

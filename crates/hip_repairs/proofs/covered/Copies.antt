@@ -1,7 +1,6 @@
 -- What stands for a function in the repaired program is a copy of it with flushes and fences inserted.
-use Rattle.std.proofs.Common.{◌≡◌, ℕ, suc, ◌<◌, ◌≤◌, Bool, true, false, cond, not, ◌&&◌, ◌||◌, List, [], ◌∷◌, ◌++◌, length, Option, None, Some, slice_get, refl, sym, ap, ◌∙◌, arith}
+use Rattle.std.proofs.Common.{◌≡◌, ℕ, suc, ◌≤◌, Bool, true, false, cond, not, ◌&&◌, ◌||◌, List, [], ◌∷◌, ◌++◌, length, Option, Some, slice_get, refl}
 use Rattle.hip_types.specs.declared.number.Scalar.{Scalar}
-use Rattle.hip_tree.specs.Sites.{has_site}
 use Rattle.hip_tree.specs.declared.block.Block.{Block}
 use Rattle.hip_tree.specs.declared.instr.Instr.{Instr}
 use Rattle.hip_tree.specs.declared.instr.Instr.TheVariants.{Binary, Compare, Select, Cast, Alloca, Load, Store, Gep, Call}
@@ -13,7 +12,7 @@ use Rattle.hip_runs.specs.Actions.{is_turn}
 use Rattle.hip_runs.specs.Operands.{scalar_size}
 use Rattle.hip_repairs.specs.declared.plan.Plan.{Plan}
 use Rattle.hip_repairs.specs.Clones.{IsSameButCallee, HasInserted, done, kept, inserted, IsCopy, AreCopies, IsClone}
-use Rattle.hip_repairs.specs.Repaired.{Marked, Clone, Wanted, is_wide, line_flush, range_flush, flush_of, the_fence, clone_name, renamed, flush_behind, fence_behind, inserted_behind, wanted_by, clones_of, repaired, instrs_of, repaired_body, repaired_block, repaired_blocks, repaired_function}
+use Rattle.hip_repairs.specs.Repaired.{Marked, Clone, Wanted, is_wide, line_flush, range_flush, flush_of, the_fence, clone_name, renamed, flush_behind, fence_behind, wanted_by, clones_of, repaired, instrs_of, repaired_body, repaired_block, repaired_blocks, repaired_function}
 use Rattle.hip_repairs.proofs.functions.Twins.{CallsTwin}
 
 flush_is_still : (ty : Scalar) (addr : Operand) (align : Option ℕ) → is_turn (flush_of ty addr align) ≡ false

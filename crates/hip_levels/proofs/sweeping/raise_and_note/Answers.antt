@@ -15,8 +15,7 @@ returns-in_ok-push c =
     record {
       below = subst (IsBelowAll all) (sym new) (risen_below all old rule c.requires.within c.requires.one c.requires.below);
       tried = subst (λ (b : Bool). tried b old c.raise-rose.new.levels rule) (sym c.if-rose.true) lower;
-      left = omega (arith, lower, longer);
-      less = omega (arith, lower);
+      risen = record { left = omega (arith, lower, longer); less = omega (arith, lower) };
     }
 
 pub returns-else-rose : goal.returns-else-rose
@@ -30,8 +29,7 @@ returns-else-rose c =
     record {
       below = subst (IsBelowAll all) (sym same) c.requires.below;
       tried = subst (λ (b : Bool). tried b old c.raise-rose.new.levels rule) (sym c.if-rose.false) (same, not_risen old rule still);
-      left = omega (arith, even);
-      less = omega (arith, even);
+      risen = record { left = omega (arith, even); less = omega (arith, even) };
     }
 
 pub raise-rose-requires : goal.raise-rose-requires

@@ -53,11 +53,6 @@ abbrev pub loose_from : List (Pending Part) → ℕ → ℕ → List LooseByte
 loose_from ws o zero = []
 loose_from ws o (suc n) = option_to_list (loose_at ws o) ++ loose_from ws (suc o) n
 
--- one more than the place of the last pending part over a byte, or 0
-abbrev pub mark_of : Option (ℕ × Part) → ℕ
-mark_of None = 0
-mark_of (Some f) = f.0 + 1
-
 -- a call that changes no line leaves the room as it is, and one that does leaves no room
 pub record KeepsRoom (old new : Held) : Type 0 where
   pub unchanged : new.lines ≡ old.lines → new.room ≡ old.room

@@ -154,10 +154,10 @@ pub fn flush_at(queues: &mut Queues, flushed: &mut Vec<u64>, line: u64) -> bool
     let Some(queue) = queues.get(line) else {
         return false;
     };
-    if queue.flushed == queue.parts.len() {
+    if queue.is_flushed() {
         return false;
     }
-    let is_first = queue.flushed == 0;
+    let is_first = queue.none_flushed();
     queues.flush(line);
     if is_first {
         flushed.push_reserved(line);

@@ -270,7 +270,7 @@ unused d place qs qs' free k j = at-same qs qs' (number_at d j) (λ i e. k.other
 pub placed-unused : (d : Directory) (place : ℕ) (qs qs' : List Queue) → ((j : ℕ) → number_at d j ≢ place + 1) → KeepsOthers place qs qs' → ArePlaced d qs → ArePlaced d qs'
 placed-unused d place qs qs' free k h = record { within = λ j. omega (arith, h.within j, k.least); numbered = λ j q e. h.numbered j q (sym (unused d place qs qs' free k j) ∙ e) }
 
--- no line has a place behind the last
+-- no line has a place after the last
 pub unused-end : (d : Directory) (qs : List Queue) → ArePlaced d qs → (j : ℕ) → number_at d j ≢ length qs + 1
 unused-end d qs h j e = omega (arith, e, h.within j)
 

@@ -44,7 +44,7 @@ loose_by w b f = record { offset = b; tag = f.1.tag; flushed = nat_lt f.0 w.flus
 abbrev pub loose_in : Pending Part → ℕ → Option LooseByte
 loose_in w b = option_map (loose_by w b) (last_over part_covers b w.parts)
 
--- the same by the lines of a region: by the line that has the byte; none behind the last line
+-- the same by the lines of a region: by the line that has the byte; none after the last line
 abbrev pub loose_at : List (Pending Part) → ℕ → Option LooseByte
 loose_at ws b = option_and_then (λ w. loose_in w b) (slice_get ws (b / LINE_SIZE))
 

@@ -39,7 +39,7 @@ pub fn let_go(tags: &mut Vec<u128>, numbers: &mut [u8; LINE_SIZE as usize], coun
     }
 }
 
-// Takes so many tags away from the front.
+// Removes the first `count` tags.
 fn drop_front(tags: &mut Vec<u128>, count: usize)
     requires { count ≤ length tags.old.items }
     ensures { tags.new.items ≡ drop count tags.old.items }

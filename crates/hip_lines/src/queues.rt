@@ -252,7 +252,7 @@ fn reuse(queues: &mut Vec<Queue>, place: u32, line: u64) -> Result<u32, NoMemory
     Ok(counted)
 }
 
-// Adds a queue behind the others, with room to note its place when it is given back.
+// Adds a queue after the others, with room to note its place when it is given back.
 fn append(
     alloc: Global,
     queues: &mut Vec<Queue>,

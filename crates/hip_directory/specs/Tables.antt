@@ -1,5 +1,5 @@
 -- A table of two levels: for each group of keys the place of its entries, and the entries, group by group.
-use Rattle.std.specs.Prelude.{◌≡◌, ◌≢◌, ℕ, ◌+◌, ◌*◌, ◌/◌, ◌%◌, ◌<◌, ◌≤◌, List, length, slice_index}
+use Rattle.std.specs.Prelude.{◌≡◌, ◌≢◌, ℕ, zero, suc, ◌+◌, ◌*◌, ◌/◌, ◌%◌, ◌<◌, ◌≤◌, List, [], ◌∷◌, length, slice_index}
 use Rattle.hip_directory.specs.declared.TheConstants.{GROUP_SIZE}
 
 -- the entry of a key; a group that was not made is the first one
@@ -12,3 +12,13 @@ pub record IsTable (groups entries : List ℕ) : Type 0 where
   pub within : (i : ℕ) → GROUP_SIZE * slice_index groups i + GROUP_SIZE ≤ length entries
   pub first : (i : ℕ) → i < GROUP_SIZE → slice_index entries i ≡ 0
   pub apart : (i j : ℕ) → i ≢ j → slice_index groups i ≢ 0 → slice_index groups i ≢ slice_index groups j
+
+-- 1 for a number but 0
+abbrev pub set_once : ℕ → ℕ
+set_once zero = 0
+set_once (suc n) = 1
+
+-- how many numbers of a list are not 0
+abbrev pub count_set : List ℕ → ℕ
+count_set [] = 0
+count_set (x ∷ xs) = set_once x + count_set xs

@@ -1,6 +1,6 @@
 ghost use Rattle.std.specs.Prelude.{◌≡◌, ◌≢◌, ℕ, ◌+◌, ◌-◌, ◌*◌, ◌/◌, ◌%◌, ◌^◌, ◌<◌, ◌≤◌, ◌==◌, cond, length, replicate, slice_index, IfOk, OnOk, OnErr};
 ghost use Rattle.hip_directory.specs.declared.TheConstants.{GROUP_SIZE};
-ghost use Rattle.hip_directory.specs.Tables.{number_in, IsTable};
+ghost use Rattle.hip_directory.specs.Tables.{number_in, IsTable, set_once, count_set};
 
 use crate::GROUP_SIZE;
 use hip_types::NoMemory;
@@ -14,7 +14,10 @@ pub struct Directory {
     groups: Vec<u32>,
     // The entries, group by group. The first group is zeros.
     entries: Vec<u32>,
+    // How many entries are not 0.
+    held: usize,
     ghost table: { IsTable groups.items entries.items },
+    ghost counted: { held ≡ count_set entries.items },
 }
 
 #[tactic(auto, unfolding(crate::specs::Directories::number_at, crate::specs::Directories::group_of, crate::specs::Tables::number_in))]
@@ -29,6 +32,7 @@ impl Directory {
         Ok(Directory {
             groups: Vec::new(alloc),
             entries,
+            held: 0,
         })
     }
 
@@ -65,11 +69,24 @@ impl Directory {
         ensures room { (j : ℕ) → group_of self.new j ≡ group_of self.old j }
     {
         let place = self.place(key);
+        let held = held_after(self.held, self.entries[place], number);
+        self.held = held;
         self.entries[place] = number;
     }
 
-    /// The first key from one up to another that has a number but 0, in time of the groups between them.
+    /// The first key from one up to another that has a number but 0, in time of the groups between them; at once where
+    /// no key at all has one.
     pub fn first_set(&self, from: u64, to: u64) -> Option<u64>
+        requires { to < 2 ^ 63 }
+        ensures { IsFirstSet self.now from to result }
+    {
+        if self.held == 0 {
+            return None;
+        }
+        self.first_set_within(from, to)
+    }
+
+    fn first_set_within(&self, from: u64, to: u64) -> Option<u64>
         requires { to < 2 ^ 63 }
         ensures { IsFirstSet self.now from to result }
     {
@@ -106,6 +123,21 @@ impl Directory {
     }
 }
 
+// How many entries are not 0 once one of them is another number.
+#[inline(always)]
+fn held_after(held: usize, old: u32, number: u32) -> usize
+    requires there { 0 < old → 0 < held }
+    requires small { held < 2 ^ 63 }
+    ensures { result + set_once old ≡ held + set_once number }
+{
+    match (old, number) {
+        (0, 0) => held,
+        (0, _) => held + 1,
+        (_, 0) => held - 1,
+        (_, _) => held,
+    }
+}
+
 // A group of zeros.
 fn zeros(alloc: Global) -> Result<Vec<u32>, NoMemory>
     ensures length { IfOk result (λ v. length v.items ≡ GROUP_SIZE) }
@@ -124,6 +156,7 @@ fn add_group(groups: &mut Vec<u32>, entries: &mut Vec<u32>, at: usize) -> Result
     ensures same { (j : ℕ) → number_in groups.new.items entries.new.items j
         ≡ number_in groups.old.items entries.old.items j }
     ensures kept { (j : ℕ) → 0 < slice_index groups.old.items j → 0 < slice_index groups.new.items j }
+    ensures counted { count_set entries.new.items ≡ count_set entries.old.items }
     ensures ok { OnOk result (0 < slice_index groups.new.items at) }
 {
     let count = entries.len() / GROUP_SIZE as usize;

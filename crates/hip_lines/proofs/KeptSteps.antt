@@ -86,10 +86,31 @@ pub some-of : (m : Queues) (j : ℕ) (q : Queue) → Some q ≡ queue_at m j →
 some-of m j q e = subst IsSome e refl
 
 -- where a line's queue has nothing flushed
-pub first-flush : (m : Queues) (j : ℕ) (q : Queue) → Some q ≡ queue_at m j → q.flushed ≡ 0 → (pending_at m j).flushed ≡ 0
+pub first-flush : (m : Queues) (j : ℕ) (q : Queue) → Some q ≡ queue_at m j → (pending_in q).flushed ≡ 0 → (pending_at m j).flushed ≡ 0
 first-flush m j q e z = ap (λ (w : Pending Part). w.flushed) (pending-of m j q e) ∙ z
 
-pub flushed-some : (m m' : Queues) (j : ℕ) (q : Queue) → Some q ≡ queue_at m j → pending_at m' j ≡ pending_flushed (pending_at m j) → q.flushed ≡ 0 → (q.flushed ≡ q.parts.len → ⊥) → 0 < (pending_at m' j).flushed
+pub flushed-some : (m m' : Queues) (j : ℕ) (q : Queue) → Some q ≡ queue_at m j → pending_at m' j ≡ pending_flushed (pending_at m j) → (pending_in q).flushed ≡ 0 → (pending_in q).flushed ≢ length (pending_in q).parts → 0 < (pending_at m' j).flushed
 flushed-some m m' j q e h z ne =
-    let a : (pending_at m' j).flushed ≡ length q.parts.items = ap (λ (w : Pending Part). w.flushed) h ∙ ap (λ (w : Pending Part). length w.parts) (pending-of m j q e) in
-    omega (arith, a, q.parts.ok.0, z, ne)
+    let a : (pending_at m' j).flushed ≡ length (pending_in q).parts = ap (λ (w : Pending Part). w.flushed) h ∙ ap (λ (w : Pending Part). length w.parts) (pending-of m j q e) in
+    positive (pending_at m' j).flushed (length (pending_in q).parts) a (λ y. ne (z ∙ sym y))
+  where
+    positive : (n k : ℕ) → n ≡ k → k ≢ 0 → 0 < n
+    positive n k e ne = omega (arith, e, ne)
+
+-- where all are flushed already
+pub flushed-already : (m : Queues) (j : ℕ) (q : Queue) → Some q ≡ queue_at m j → (pending_in q).flushed ≡ length (pending_in q).parts → ChangesLine pending_flushed j m m
+flushed-already m j q e f = record {
+  here = p ∙ ap (λ n. record { parts = (pending_in q).parts; flushed = n }) f ∙ sym (ap pending_flushed p);
+  others = λ k ne. refl;
+  below = λ n h. h;
+  count = refl;
+}
+  where
+    p : pending_at m j ≡ pending_in q
+    p = pending-of m j q e
+
+-- where not all were flushed
+pub flushed-differs : (m m' : Queues) (j : ℕ) (q : Queue) → Some q ≡ queue_at m j → ChangesLine pending_flushed j m m' → (pending_in q).flushed ≢ length (pending_in q).parts → pending_at m' j ≢ pending_at m j
+flushed-differs m m' j q e c ne same =
+    let p = pending-of m j q e in
+    ne (ap (λ (w : Pending Part). w.flushed) (sym p ∙ sym same ∙ c.here ∙ ap pending_flushed p))

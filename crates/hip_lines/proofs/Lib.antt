@@ -1,4 +1,6 @@
-pub mod Marks
+pub mod Covered
+pub mod Shows
+pub mod Renumbers
 pub mod KeptSteps
 pub mod Listed
 pub mod Tables
@@ -6,3 +8,4 @@ pub mod Helds
 pub mod LooseRest
 pub mod Flushes
 pub mod Placed
+pub mod Walks

@@ -84,15 +84,8 @@ fresh-push n qs q l p r = record { queue = q; at = get-push_end qs q; numbered =
 pub item-is : (qs : List Queue) (place : ℕ) (q r : Queue) → slice_get qs place ≡ Some q → slice_get qs place ≡ Some r → q ≡ r
 item-is qs place q r e f = some_same q r (sym e ∙ f)
 
-pub nothing-left : (q r : Queue) (b : Bool) → q ≡ r → b ≡ (q.parts.len == 0) → b ≡ true → r.parts.items ≡ []
-nothing-left q r b e f g = subst (λ (x : Queue). x.parts.items ≡ []) e (none q.parts.items (sym q.parts.ok.0 ∙ zero_is q.parts.len (sym f ∙ g)))
-  where
-    zero_is : (n : ℕ) → (n == 0) ≡ true → n ≡ 0
-    zero_is n e = grind (arith, nat_tests)
-
-    none : (xs : List Part) → length xs ≡ 0 → xs ≡ []
-    none [] e = refl
-    none (x ∷ xs) e = absurd (omega (arith, e))
+pub nothing-left : (q r : Queue) (b : Bool) → q ≡ r → (b ≡ true → pending_in q ≡ none_pending) → b ≡ true → pending_in r ≡ none_pending
+nothing-left q r b e f g = subst (λ (x : Queue). pending_in x ≡ none_pending) e (f g)
 
 pub not-equal : (a b : ℕ) → not (a == b) ≡ true → a ≢ b
 not-equal a b e = grind (arith, nat_tests)
@@ -247,7 +240,7 @@ module _ (d d' : Directory) (qs : List Queue) (line : ℕ) (s : (j : ℕ) → nu
       numbered j q e (inr x) = h.numbered j q (sym (ap (at_place qs) x.1) ∙ e)
 
 -- a fence after which nothing is left
-pub fenced-away : (m m' : Queues) (qs : List Queue) (line : ℕ) → m'.queues.items ≡ qs → 0 < number_at m.directory line → ChangesPlace pending_fenced (number_at m.directory line - 1) m.queues.items qs → ((r : Queue) → slice_get qs (number_at m.directory line - 1) ≡ Some r → r.parts.items ≡ []) → ((j : ℕ) → number_at m'.directory j ≡ cond (j == line) 0 (number_at m.directory j)) → ChangesLine pending_fenced line m m'
+pub fenced-away : (m m' : Queues) (qs : List Queue) (line : ℕ) → m'.queues.items ≡ qs → 0 < number_at m.directory line → ChangesPlace pending_fenced (number_at m.directory line - 1) m.queues.items qs → ((r : Queue) → slice_get qs (number_at m.directory line - 1) ≡ Some r → pending_in r ≡ none_pending) → ((j : ℕ) → number_at m'.directory j ≡ cond (j == line) 0 (number_at m.directory j)) → ChangesLine pending_fenced line m m'
 unfolding queue_at count_of
 fenced-away m m' qs line e p c empty s = record {
   here = ap pending_by (ap (λ xs. queue_in m'.directory xs line) e ∙ gone-here m.directory m'.directory qs line s) ∙ nothing;
@@ -266,8 +259,7 @@ fenced-away m m' qs line e p c empty s = record {
     nothing : none_pending ≡ pending_fenced (pending_by (queue_in m.directory m.queues.items line))
     nothing =
         let r = changed-queue pending_fenced m.directory m.queues.items qs line m.placed p c in
-        let z : r.0.parts.items ≡ [] = empty r.0 (sym (at-counted qs (number_at m.directory line) p) ∙ r.1) in
-        ap (λ ps. record { parts = ps; flushed = 0 }) (sym z) ∙ ap (λ n. record { parts = r.0.parts.items; flushed = n }) (sym (ap (λ (w : Pending Part). w.flushed) r.3)) ∙ r.3
+        sym (empty r.0 (sym (at-counted qs (number_at m.directory line) p) ∙ r.1)) ∙ r.3
 
 -- ---- a queue is given to a line
 
@@ -278,7 +270,7 @@ unused d place qs qs' free k j = at-same qs qs' (number_at d j) (λ i e. k.other
 pub placed-unused : (d : Directory) (place : ℕ) (qs qs' : List Queue) → ((j : ℕ) → number_at d j ≢ place + 1) → KeepsOthers place qs qs' → ArePlaced d qs → ArePlaced d qs'
 placed-unused d place qs qs' free k h = record { within = λ j. omega (arith, h.within j, k.least); numbered = λ j q e. h.numbered j q (sym (unused d place qs qs' free k j) ∙ e) }
 
--- no line has a place behind the last
+-- no line has a place after the last
 pub unused-end : (d : Directory) (qs : List Queue) → ArePlaced d qs → (j : ℕ) → number_at d j ≢ length qs + 1
 unused-end d qs h j e = omega (arith, e, h.within j)
 

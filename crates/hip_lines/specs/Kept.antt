@@ -1,8 +1,9 @@
 -- The queues of the lines that hold something, by line number.
-use Rattle.std.specs.Prelude.{◌≡◌, ◌≢◌, ℕ, ◌<◌, ◌≤◌, cond, true, nat_lt, List, length, Option, Some, None, IsSome}
+use Rattle.std.specs.Prelude.{◌≡◌, ◌≢◌, ℕ, ◌*◌, ◌<◌, ◌≤◌, cond, true, nat_lt, List, length, Option, Some, None, IsSome}
 use Rattle.std.specs.List.{list_any, IsDistinct}
 use Rattle.std.specs.Ordering.{nat_cmp, eq_by_cmp}
 use Rattle.std.specs.BTreeMap.{is_at}
+use Rattle.hip_types.specs.declared.areas.TheConstants.{LINE_SIZE}
 use Rattle.hip_lines.specs.Line.{has_bytes}
 use Rattle.hip_lines.specs.Pending.{Pending, none_pending, pending_flushed}
 use Rattle.hip_lines.specs.declared.part.Part.{Part}
@@ -45,6 +46,13 @@ HasRoomFor m (Some (o, n)) = (j : ℕ) → has_bytes j o n ≡ true → HasRoomA
 -- the lines that have a queue lie below line n
 abbrev pub AreBelow : ℕ → Queues → Type 0
 AreBelow n m = (j : ℕ) → IsSome (queue_at m j) → j < n
+
+-- Only room was made: what is pending stays, so does the room that there was, and the lines that have a queue begin
+-- before byte `end` where they did.
+pub record MakesRoom (end : ℕ) (old new : Queues) : Type 0 where
+  pub same : (j : ℕ) → pending_at new j ≡ pending_at old j
+  pub kept : (j : ℕ) → HasRoomAt old j → HasRoomAt new j
+  pub below : (n : ℕ) → end ≤ LINE_SIZE * n → AreBelow n old → AreBelow n new
 
 -- the list has the lines that hold flushed parts, each once
 pub record ListsFlushed (lines : List ℕ) (m : Queues) : Type 0 where

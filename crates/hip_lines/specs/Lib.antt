@@ -2,6 +2,9 @@ pub mod Line
 pub mod Loose
 pub mod Image
 pub mod Pending
+pub mod Shown
+pub mod Uses
+pub mod Changes
 pub mod Parts
 pub mod Queues
 pub mod Places

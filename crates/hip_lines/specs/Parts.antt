@@ -44,7 +44,7 @@ loose_by w b f = record { offset = b; tag = f.1.tag; flushed = nat_lt f.0 w.flus
 abbrev pub loose_in : Pending Part → ℕ → Option LooseByte
 loose_in w b = option_map (loose_by w b) (last_over part_covers b w.parts)
 
--- the same by the lines of a region: by the line that has the byte; none behind the last line
+-- the same by the lines of a region: by the line that has the byte; none after the last line
 abbrev pub loose_at : List (Pending Part) → ℕ → Option LooseByte
 loose_at ws b = option_and_then (λ w. loose_in w b) (slice_get ws (b / LINE_SIZE))
 
@@ -52,11 +52,6 @@ loose_at ws b = option_and_then (λ w. loose_in w b) (slice_get ws (b / LINE_SIZ
 abbrev pub loose_from : List (Pending Part) → ℕ → ℕ → List LooseByte
 loose_from ws o zero = []
 loose_from ws o (suc n) = option_to_list (loose_at ws o) ++ loose_from ws (suc o) n
-
--- one more than the place of the last pending part over a byte, or 0
-abbrev pub mark_of : Option (ℕ × Part) → ℕ
-mark_of None = 0
-mark_of (Some f) = f.0 + 1
 
 -- a call that changes no line leaves the room as it is, and one that does leaves no room
 pub record KeepsRoom (old new : Held) : Type 0 where

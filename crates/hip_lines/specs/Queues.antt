@@ -6,9 +6,9 @@ use Rattle.hip_lines.specs.Pending.{Pending}
 
 -- the pending parts of a queue's line
 abbrev pub pending_in : Queue → Pending Part
-pending_in q = record { parts = q.parts.items; flushed = q.flushed }
+pending_in q = q.history.pending
 
 -- one more part can be taken up without memory
 pub record HasRoom (q : Queue) : Type 0 where
-  pub capacity : vec_len q.parts < vec_capacity q.parts
-  pub numbers : q.start + vec_len q.parts + 1 < 2 ^ 32
+  pub capacity : vec_len q.tags < vec_capacity q.tags
+  pub numbers : vec_len q.tags + 1 < 2 ^ 8

@@ -4,7 +4,7 @@ ghost use Rattle.std.specs.Prelude.{◌≡◌, ℕ, ◌+◌, ◌-◌, ◌*◌, �
 ghost use Rattle.hip_lines.specs.Line.{has_bytes};
 ghost use Rattle.hip_lines.specs.Pending.{pending_with, pending_flushed, pending_fenced};
 ghost use Rattle.hip_lines.specs.Parts.{part_in};
-ghost use Rattle.hip_lines.specs.Kept.{queue_at, count_of, pending_at, HasRoomAt, HasRoomFor, AreBelow, ListsFlushed, ChangesLine, FlushesLines, ChangesSome, GivesQueue};
+ghost use Rattle.hip_lines.specs.Kept.{queue_at, count_of, pending_at, HasRoomAt, HasRoomFor, AreBelow, MakesRoom, ListsFlushed, ChangesLine, FlushesLines, ChangesSome, GivesQueue};
 
 use crate::part::Part;
 use crate::queues::Queues;
@@ -13,10 +13,8 @@ use hip_types::{LINE_SIZE, NoMemory};
 // Makes room for one more part of a line.
 fn make_room_at(queues: &mut Queues, flushed: &mut Vec<u64>, line: u64) -> Result<(), NoMemory>
     requires { length flushed.old.items ≤ count_of queues.old }
-    ensures same { (j : ℕ) → pending_at queues.new j ≡ pending_at queues.old j }
-    ensures kept { (j : ℕ) → HasRoomAt queues.old j → HasRoomAt queues.new j }
+    ensures makes { MakesRoom (LINE_SIZE * line + LINE_SIZE) queues.old queues.new }
     ensures ok { OnOk result (HasRoomAt queues.new line) }
-    ensures below { (n : ℕ) → line < n → AreBelow n queues.old → AreBelow n queues.new }
     ensures flushed { flushed.new.items ≡ flushed.old.items }
     ensures count { count_of queues.old ≤ count_of queues.new }
     ensures spare { count_of queues.old ≤ vec_capacity flushed.old
@@ -56,10 +54,8 @@ pub fn make_room_in(
     requires some { 0 < size }
     requires fits { offset + size < 2 ^ 64 }
     requires listed { ListsFlushed flushed.old.items queues.old }
-    ensures same { (j : ℕ) → pending_at queues.new j ≡ pending_at queues.old j }
-    ensures kept { (j : ℕ) → HasRoomAt queues.old j → HasRoomAt queues.new j }
+    ensures makes { MakesRoom (offset + size) queues.old queues.new }
     ensures ok { OnOk result (HasRoomFor queues.new (Some (offset, size))) }
-    ensures below { (n : ℕ) → offset + size ≤ LINE_SIZE * n → AreBelow n queues.old → AreBelow n queues.new }
     ensures flushed { flushed.new.items ≡ flushed.old.items }
     ensures spare { count_of queues.old ≤ vec_capacity flushed.old
         → count_of queues.new ≤ vec_capacity flushed.new }
@@ -83,11 +79,9 @@ pub fn ensure_room(
     requires fits { offset + size < 2 ^ 64 }
     requires listed { ListsFlushed flushed.old.items queues.old }
     requires room { HasRoomFor queues.old room }
-    ensures same { (j : ℕ) → pending_at queues.new j ≡ pending_at queues.old j }
-    ensures kept { (j : ℕ) → HasRoomAt queues.old j → HasRoomAt queues.new j }
+    ensures makes { MakesRoom (offset + size) queues.old queues.new }
     ensures ok { OnOk result (HasRoomFor queues.new (Some (offset, size))) }
     ensures ready { room ≡ Some (offset, size) → IsOk result }
-    ensures below { (n : ℕ) → offset + size ≤ LINE_SIZE * n → AreBelow n queues.old → AreBelow n queues.new }
     ensures flushed { flushed.new.items ≡ flushed.old.items }
     ensures spare { count_of queues.old ≤ vec_capacity flushed.old
         → count_of queues.new ≤ vec_capacity flushed.new }
@@ -154,10 +148,10 @@ pub fn flush_at(queues: &mut Queues, flushed: &mut Vec<u64>, line: u64) -> bool
     let Some(queue) = queues.get(line) else {
         return false;
     };
-    if queue.flushed == queue.parts.len() {
+    if queue.is_flushed() {
         return false;
     }
-    let is_first = queue.flushed == 0;
+    let is_first = queue.none_flushed();
     queues.flush(line);
     if is_first {
         flushed.push_reserved(line);

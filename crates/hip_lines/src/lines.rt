@@ -32,7 +32,7 @@ impl Model for Lines {
 }
 
 impl Lines {
-    /// The lines of a region of so many bytes, into which nothing was stored.
+    /// The lines of a region of `size` bytes, into which nothing was stored.
     pub fn new(alloc: Global, size: u64) -> Result<Lines, NoMemory>
         requires whole { size % LINE_SIZE ≡ 0 }
         requires small { size ≤ LARGEST_REGION }

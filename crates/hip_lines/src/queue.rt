@@ -1,30 +1,34 @@
-ghost use Rattle.std.specs.Prelude.{◌^◌, ◌≡◌, ℕ, ◌+◌, ◌-◌, ◌*◌, ◌/◌, ◌%◌, ◌<◌, ◌≤◌, [], ◌∷◌, ◌&&◌, cond, nat_le, nat_lt, drop, length, slice_index, vec_len, vec_capacity, OnOk, MatchOption, None};
-ghost use Rattle.hip_lines.specs.Loose.{last_over};
-ghost use Rattle.hip_lines.specs.Parts.{part_covers, mark_of};
+ghost use Rattle.std.specs.Prelude.{◌^◌, ◌≡◌, ◌≢◌, ℕ, ◌+◌, ◌-◌, ◌*◌, ◌/◌, ◌%◌, ◌<◌, ◌≤◌, [], ◌∷◌, true, false, drop, length, slice_index, vec_len, vec_capacity, OnOk, MatchOption, None};
+ghost use Rattle.hip_lines.specs.Shown.{Shows, AreNumbers};
 ghost use Rattle.hip_types.specs.declared.areas.TheConstants.{LINE_SIZE};
 
+use crate::history::{Change, History};
+use crate::numbers::{keep_used, let_go, note_uses, number_bytes, renumber_bytes};
 use crate::part::{LooseByte, Part};
 use hip_types::{LINE_SIZE, NoMemory};
 use std::alloc::Global;
 
-/// The pending parts of one line, in the order of their stores.
+/// The pending parts of one line. Of each part that a byte of the line still shows, its tag is kept; the others are let
+/// go from time to time, so that a line has memory for few parts however many stores there are.
 #[derive(Drop)]
 pub struct Queue {
     pub line: u64,
-    pub parts: Vec<Part>,
-    pub flushed: usize,
-    /// How many parts are counted that were let go.
-    pub start: u32,
-    /// For each byte of the line the number of the last part over it, where the first pending part has the number behind
-    /// `start`; a number up to `start` where no pending part is over it.
-    pub last: [u32; LINE_SIZE as usize],
-    pub ghost within: { flushed ≤ length parts.items },
-    pub ghost numbered: { start + length parts.items < 2 ^ 32 },
-    pub ghost marked: { (b : ℕ) → b / LINE_SIZE ≡ line
-        → slice_index last (b % LINE_SIZE) - start ≡ mark_of (last_over part_covers b parts.items) },
+    // The tags of the kept parts, in the order of their stores, which are numbered from 1. The first ones are flushed.
+    tags: Vec<u128>,
+    flushed: usize,
+    // For each byte of the line the number of the last part over it, or 0 where no pending part is.
+    numbers: [u8; LINE_SIZE as usize],
+    pub history: History,
+    ghost within: { flushed ≤ length tags.items },
+    ghost few: { length tags.items < 2 ^ 8 },
+    ghost numbered: { AreNumbers (length tags.items) numbers },
+    ghost shows: { Shows tags.items flushed numbers line history.pending },
 }
 
 impl Queue {
+    // The most tags that are kept without looking which of them a byte shows.
+    const FEW: usize = 32;
+
     ghost use Rattle.hip_lines.specs.Pending.{none_pending, pending_with, pending_flushed, pending_fenced};
     ghost use Rattle.hip_lines.specs.Parts.{loose_in};
     ghost use Rattle.hip_lines.specs.Next.{IsFirstLoose};
@@ -36,10 +40,10 @@ impl Queue {
     {
         Queue {
             line,
-            parts: Vec::new(alloc),
+            tags: Vec::new(alloc),
             flushed: 0,
-            start: 0,
-            last: [0; 64],
+            numbers: [0; 64],
+            history: History::new(),
         }
     }
 
@@ -49,43 +53,95 @@ impl Queue {
         ensures pending { pending_in self.new ≡ none_pending }
     {
         self.line = line;
-        self.start += self.parts.len() as u32;
-        self.parts.clear();
+        self.tags.clear();
         self.flushed = 0;
+        self.numbers = [0; 64];
+        let history = History::new();
+        self.history = history;
+    }
+
+    /// Whether all pending parts are flushed.
+    #[inline(always)]
+    pub fn is_flushed(&self) -> bool
+        ensures yes { result ≡ true → (pending_in self.now).flushed ≡ length (pending_in self.now).parts }
+        ensures no { result ≡ false → (pending_in self.now).flushed ≢ length (pending_in self.now).parts }
+    {
+        self.flushed == self.tags.len()
+    }
+
+    /// Whether no pending part is flushed.
+    #[inline(always)]
+    pub fn none_flushed(&self) -> bool
+        ensures yes { result ≡ true → (pending_in self.now).flushed ≡ 0 }
+        ensures no { result ≡ false → 0 < (pending_in self.now).flushed }
+    {
+        self.flushed == 0
+    }
+
+    /// Whether no part is pending.
+    #[inline(always)]
+    pub fn is_empty(&self) -> bool
+        ensures { result ≡ true → pending_in self.now ≡ none_pending }
+    {
+        self.tags.is_empty()
     }
 
     /// Makes room for one more part. The parts stay, whatever the answer.
+    #[inline(always)]
     pub fn make_room(&mut self) -> Result<(), NoMemory>
         ensures line { self.new.line ≡ self.old.line }
         ensures pending { pending_in self.new ≡ pending_in self.old }
         ensures kept { HasRoom self.old → HasRoom self.new }
         ensures ok { OnOk result (HasRoom self.new) }
     {
-        if self.start as usize + self.parts.len() >= u32::MAX as usize {
-            self.count_anew();
+        if self.tags.len() < self.tags.capacity() && self.tags.len() < 255 {
+            return Ok(());
         }
-        if self.parts.len() >= u32::MAX as usize {
-            return Err(NoMemory);
-        }
-        match self.parts.reserve(1) {
-            Ok(()) => Ok(()),
-            Err(_) => Err(NoMemory),
+        self.grow()
+    }
+
+    // Makes room for one more part, where there is none.
+    #[inline(never)]
+    fn grow(&mut self) -> Result<(), NoMemory>
+        ensures line { self.new.line ≡ self.old.line }
+        ensures pending { pending_in self.new ≡ pending_in self.old }
+        ensures ok { OnOk result (HasRoom self.new) }
+    {
+        self.keep_few();
+        if reserve_half(&mut self.tags) {
+            Ok(())
+        } else {
+            Err(NoMemory)
         }
     }
 
-    // Counts no part that was let go.
-    #[inline(never)]
-    fn count_anew(&mut self)
+    // Lets go what no byte shows, where there are many tags.
+    fn keep_few(&mut self)
         ensures line { self.new.line ≡ self.old.line }
-        ensures parts { self.new.parts ≡ self.old.parts }
-        ensures flushed { self.new.flushed ≡ self.old.flushed }
-        ensures start { self.new.start ≡ 0 }
+        ensures history { self.new.history ≡ self.old.history }
+        ensures few { length self.new.tags.items ≤ 128 }
     {
-        lower_marks(&mut self.last, self.start);
-        self.start = 0;
+        if self.tags.len() >= Self::FEW {
+            self.keep_shown();
+        }
+    }
+
+    // Lets go the tags that no byte shows, but for the last one and the last flushed one.
+    fn keep_shown(&mut self)
+        ensures line { self.new.line ≡ self.old.line }
+        ensures history { self.new.history ≡ self.old.history }
+        ensures few { length self.new.tags.items ≤ 128 }
+    {
+        let mut news = [0u8; 256];
+        note_uses(&mut news, &self.numbers, self.flushed, self.tags.len());
+        keep_used(&mut news, &mut self.tags);
+        let flushed = news[self.flushed] as usize;
+        self.flushed = flushed;
+        renumber_bytes(&mut self.numbers, &news);
     }
 
     /// Takes up a part of the line, in the room that was made for it.
+    #[inline(always)]
     pub fn push(&mut self, part: Part)
         requires room { HasRoom self.old }
         requires first { part.offset / LINE_SIZE ≡ self.old.line }
@@ -94,26 +150,34 @@ impl Queue {
         ensures pending { pending_in self.new ≡ pending_with part (pending_in self.old) }
     {
         let from = (part.offset % LINE_SIZE) as usize;
-        let mark = self.start + (self.parts.len() + 1) as u32;
-        set_marks(&mut self.last, from, from + part.size as usize, mark);
-        self.parts.push_reserved(part);
+        let number = (self.tags.len() + 1) as u8;
+        number_bytes(&mut self.numbers, from, from + part.size as usize, number);
+        self.tags.push_reserved(part.tag);
+        let history = self.history.then(&Change::Store(part));
+        self.history = history;
     }
 
+    #[inline(always)]
     pub fn flush(&mut self)
         ensures line { self.new.line ≡ self.old.line }
         ensures pending { pending_in self.new ≡ pending_flushed (pending_in self.old) }
     {
-        self.flushed = self.parts.len();
+        let count = self.tags.len();
+        self.flushed = count;
+        let history = self.history.then(&Change::Flush);
+        self.history = history;
     }
 
     /// Lets the flushed parts go, which are durable now.
+    #[inline(always)]
     pub fn fence(&mut self)
         ensures line { self.new.line ≡ self.old.line }
         ensures pending { pending_in self.new ≡ pending_fenced (pending_in self.old) }
     {
-        drop_front(&mut self.parts, self.flushed);
-        self.start += self.flushed as u32;
+        let_go(&mut self.tags, &mut self.numbers, self.flushed);
         self.flushed = 0;
+        let history = self.history.then(&Change::Fence);
+        self.history = history;
     }
 
     /// The first loose byte from an offset up to another, both of the line.
@@ -135,49 +199,25 @@ impl Queue {
         requires { offset / LINE_SIZE ≡ self.now.line }
         ensures { result ≡ loose_in (pending_in self.now) offset }
     {
-        let last = self.last[(offset % LINE_SIZE) as usize];
-        let mark = last.saturating_sub(self.start) as usize;
-        if mark == 0 {
+        let number = self.numbers[(offset % LINE_SIZE) as usize] as usize;
+        if number == 0 {
             return None;
         }
-        let part = self.parts[mark - 1];
+        let tag = self.tags[number - 1];
         Some(LooseByte {
             offset,
-            tag: part.tag,
-            flushed: mark - 1 < self.flushed,
+            tag,
+            flushed: number - 1 < self.flushed,
         })
     }
 }
 
-// Sets the marks of a range of bytes.
-fn set_marks(marks: &mut [u32], from: usize, to: usize, mark: u32)
-    requires forward { from ≤ to }
-    requires within { to ≤ length marks.old }
-    ensures len { length marks.new ≡ length marks.old }
-    ensures marks { (i : ℕ) → slice_index marks.new i
-        ≡ cond (nat_le from i && nat_lt i to) mark (slice_index marks.old i) }
+// Makes room for one more tag, and for as many as there are where memory serves; false where there is no room.
+fn reserve_half(tags: &mut Vec<u128>) -> bool
+    ensures same { tags.new.items ≡ tags.old.items }
+    ensures room { result ≡ true → vec_len tags.new < vec_capacity tags.new }
 {
-    for i in from..to {
-        marks[i] = mark;
-    }
-}
-
-// Lowers each mark by a number, down to 0.
-fn lower_marks(marks: &mut [u32], by: u32)
-    ensures len { length marks.new ≡ length marks.old }
-    ensures marks { (i : ℕ) → slice_index marks.new i ≡ slice_index marks.old i - by }
-{
-    for mark in marks.iter_mut() {
-        *mark = mark.saturating_sub(by);
-    }
-}
-
-// Takes so many parts away from the front.
-fn drop_front(parts: &mut Vec<Part>, count: usize)
-    requires { count ≤ length parts.old.items }
-    ensures { parts.new.items ≡ drop count parts.old.items }
-{
-    let kept = parts.len() - count;
-    parts.rotate_left(count);
-    parts.truncate(kept);
+    let len = tags.len();
+    let has_more = tags.reserve_exact(len.max(1)).is_ok();
+    has_more || len < tags.capacity()
 }

@@ -1,13 +1,13 @@
 //! The queues of the lines that hold something. A queue that a line gave back is taken by the next line that needs one,
 //! with the room that it has.
 
-ghost use Rattle.std.specs.Prelude.{◌≡◌, ◌≢◌, ℕ, zero, suc, ◌+◌, ◌-◌, ◌*◌, ◌/◌, ◌<◌, ◌≤◌, ◌^◌, List, length, Option, Some, None, IsSome, true, [], slice_get, IfOk, OnOk, OnErr};
+ghost use Rattle.std.specs.Prelude.{◌≡◌, ◌≢◌, ℕ, zero, suc, ◌+◌, ◌-◌, ◌*◌, ◌/◌, ◌<◌, ◌≤◌, ◌^◌, List, length, Option, Some, None, IsSome, true, slice_get, IfOk, OnOk, OnErr};
 ghost use Rattle.std.specs.Option.{option_copied};
 ghost use Rattle.hip_directory.specs.Directories.{number_at};
 ghost use Rattle.hip_lines.specs.declared.queue.Queue.{Queue};
 ghost use Rattle.hip_types.specs.declared.areas.TheConstants.{LINE_SIZE};
-ghost use Rattle.hip_lines.specs.Pending.{pending_with, pending_flushed, pending_fenced};
-ghost use Rattle.hip_lines.specs.Queues.{HasRoom};
+ghost use Rattle.hip_lines.specs.Pending.{none_pending, pending_with, pending_flushed, pending_fenced};
+ghost use Rattle.hip_lines.specs.Queues.{pending_in, HasRoom};
 ghost use Rattle.hip_lines.specs.Places.{at_place, queue_in, ArePlaced, KeepsOthers, ChangesPlace, IsFreshAt, IsFresh};
 
 use crate::part::Part;
@@ -187,11 +187,11 @@ fn fence_at(queues: &mut Vec<Queue>, place: usize) -> bool
     requires { place < length queues.old.items }
     ensures changes { ChangesPlace pending_fenced place queues.old.items queues.new.items }
     ensures empty { result ≡ true → (r : Queue) → slice_get queues.new.items place ≡ Some r
-        → r.parts.items ≡ [] }
+        → pending_in r ≡ none_pending }
 {
     let queue = &mut queues[place];
     queue.fence();
-    queue.parts.is_empty()
+    queue.is_empty()
 }
 
 // Notes a place whose queue no line has, where there is room to note it.
@@ -252,7 +252,7 @@ fn reuse(queues: &mut Vec<Queue>, place: u32, line: u64) -> Result<u32, NoMemory
     Ok(counted)
 }
 
-// Adds a queue behind the others, with room to note its place when it is given back.
+// Adds a queue after the others, with room to note its place when it is given back.
 fn append(
     alloc: Global,
     queues: &mut Vec<Queue>,

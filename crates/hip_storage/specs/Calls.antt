@@ -19,7 +19,7 @@ pub record HasStored (old new : Contents) (event : Event) (a n align value tag :
   pub contents : new ≡ after_store a n value tag old
   pub seen : event ≡ store_event old a n value
 
--- a block of so many bytes was made on the stack
+-- a block was made on the stack
 pub record HasPushed (old new : Contents) (block size align : ℕ) : Type 0 where
   pub allowed : block_trap old size align ≡ None
   pub contents : new ≡ after_push size align old

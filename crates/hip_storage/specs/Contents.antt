@@ -59,7 +59,7 @@ access_trap s a n align = option_map kind_of (areas.access_trap s.areas a n alig
 abbrev pub range_trap : Contents → ℕ → ℕ → Option TrapKind
 range_trap s a n = cond (are_valid s.areas a n) None (Some traps.Address)
 
--- a block is refused where it would end behind the stack's end
+-- a block is refused where it would end after the stack's end
 abbrev pub block_trap : Contents → ℕ → ℕ → Option TrapKind
 block_trap s size align = cond (nat_le (pushed_mark s.areas size align) stack_end) None (Some traps.Stack)
 
@@ -108,7 +108,7 @@ flush_event s a n = event_of (region_of s) [] (Flushes a n)
 abbrev pub persist_event : Contents → ℕ → ℕ → Event
 persist_event s a n = event_of (region_of s) [] (Persists a n)
 
--- a flush of lines and a fence behind it are seen as a persist, and without lines the fence is
+-- a flush of lines with a fence after it is seen as a persist; where no line is flushed, the fence is seen
 abbrev pub with_fence : Event → Event
 with_fence (events.Flush line size) = events.Persist line size
 with_fence _ = events.Fence

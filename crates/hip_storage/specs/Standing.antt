@@ -1,18 +1,19 @@
 -- What the storage of a run stands for: its memory and its cache lines.
-use Rattle.std.specs.Prelude.{◌≡◌, ℕ, Bool, cond, ◌+◌, List, length}
+use Rattle.std.specs.Prelude.{◌≡◌, ℕ, Bool, cond, ◌+◌, ◌<◌, List, length, Option}
 use Rattle.hip_tree.specs.declared.program.Program.{Program}
 use Rattle.hip_globals.specs.Addresses.{volatile_end}
 use Rattle.hip_globals.specs.Initial.{volatile_bytes}
 use Rattle.hip_lines.specs.Line.{Line}
 use Rattle.hip_mem.specs.Memory.{Write}
 use Rattle.hip_types.specs.Areas.{volatile_start}
-use Rattle.hip_runs.specs.Actions.{Action}
+use Rattle.hip_runs.specs.Actions.{Action, accessed, flushing}
 use Rattle.hip_runs.specs.Standing.{HoldsMemory, HoldsLines}
 use Rattle.hip_runs.specs.State.{Counts, Frame, State, StorePart, World}
 use Rattle.hip_runs.specs.Step.{event_of, perform, with_turn}
 use Rattle.hip_runs.specs.declared.event.Event.{Event}
+use Rattle.hip_runs.specs.declared.event.TrapKind.{TrapKind}
 use Rattle.hip_runs.specs.declared.input.Input.{Input}
-use Rattle.hip_storage.specs.Contents.{Contents}
+use Rattle.hip_storage.specs.Contents.{Contents, access_trap}
 
 -- The contents are those of a run's memory after these writes, with this stack mark, and of these cache lines; and the
 -- initial bytes of the volatile globals end where the last of these does.
@@ -41,6 +42,15 @@ pub record Point : Type 0 where
 abbrev pub HoldsAt : Program → Input → Contents → Point → Type 0
 HoldsAt P I s p = HoldsRun P I s p.world.writes p.world.mark p.lines
 
+-- A storage at a step of a run: the run's program and input, what the step begins with, and the contents of the storage,
+-- which are those of the state there.
+pub record Stand : Type 0 where
+  pub program : Program
+  pub input : Input
+  pub point : Point
+  pub contents : Contents
+  pub holds : HoldsAt program input contents point
+
 -- the state after an action
 abbrev pub performed : Input → Point → Action → State
 performed I p action =
@@ -53,3 +63,26 @@ pub record HasDone (P : Program) (I : Input) (p : Point) (s : Contents) (e : Eve
   pub is : action ≡ done
   pub holds : HoldsState P I s (performed I p done)
   pub seen : e ≡ event_of I p.frames done
+
+-- the step at which the storage stands comes to the action `done`, which leaves these contents and shows this event
+abbrev pub Does : Stand → Contents → Event → Action → Action → Type 0
+Does at s e action done = HasDone at.program at.input at.point s e action done
+
+-- an access of some bytes at an address, with its alignment
+pub record Access : Type 0 where
+  pub addr : ℕ
+  pub size : ℕ
+  pub align : ℕ
+  pub some : 0 < size
+
+-- what an access comes to at a step, where `go` is what it does if it is allowed
+abbrev pub accessed_at : Stand → Access → Action → Action
+accessed_at at x go = accessed at.program at.input at.point.world x.addr x.size x.align go
+
+-- the trap of an access to the storage, if there is one
+abbrev pub trap_at : Stand → Access → Option TrapKind
+trap_at at x = access_trap at.contents x.addr x.size x.align
+
+-- what a flush of a range comes to at a step, where `go` is what it does if it is allowed
+abbrev pub flushing_at : Stand → ℕ → ℕ → Action → Action
+flushing_at at addr size go = flushing at.program at.input at.point.world addr size go

@@ -26,7 +26,7 @@ pub fn kind_of(trap: MemTrap) -> TrapKind
     }
 }
 
-/// Whether so many bytes from an address on lie in the region, which has a base and a size.
+/// Whether `count` bytes from an address lie in the region, which has a base and a size.
 #[inline(always)]
 pub fn is_inside(base: u64, size: u64, addr: u64, count: u64) -> bool
     requires { base + size < 2 ^ 64 }
@@ -94,7 +94,7 @@ pub fn note(lines: &mut Lines, offset: u64, count: u32, tag: u128)
     }
 }
 
-/// The event of a flush with a fence behind it.
+/// The event of a flush with a fence after it.
 pub fn with_fence(event: Event) -> Event
     ensures { result ≡ with_fence event }
 {

@@ -63,7 +63,7 @@ impl Storage {
         })
     }
 
-    /// The number of so many bytes, the lowest first.
+    /// The number that `size` bytes hold, the lowest first.
     #[inline(always)]
     pub fn load(&self, addr: u64, size: u32, align: u32) -> Result<u64, TrapKind>
         requires some { 0 < size }
@@ -113,8 +113,8 @@ impl Storage {
         })
     }
 
-    /// A block of so many bytes on the stack, at the next multiple of its alignment: its address. The bytes from the
-    /// old mark on are zeros.
+    /// Makes a block of `size` bytes on the stack, at the next multiple of its alignment, and returns its address. The
+    /// bytes from the old mark on are zeros.
     #[inline(always)]
     pub fn push(&mut self, size: u64, align: u64) -> Result<u64, StorageRefusal>
         requires { 0 < align }

@@ -1,5 +1,6 @@
 use Rattle.std.proofs.Common.{◌/◌, ◌∙◌, refl, arith}
 use Rattle.hip_directory.proofs.TableLemmas.{number-same, table-same, number-grown}
+use Rattle.hip_directory.proofs.Counts.{count-same}
 use Rattle.hip_directory.proofs.directory.add_group.Goals as goal
 
 pub returns-in_err-append_group-clause-same : goal.returns-in_err-append_group-clause-same
@@ -15,3 +16,9 @@ returns-clause-same c = λ k.
     c.append_group.ensures.same
     k
     ∙ number-same c.args.groups.now.items c.extend_to.new.numbers.items c.args.entries.now.items c.args.entries.now.items c.extend_to.ensures.same (λ _. refl) k
+
+pub returns-in_err-append_group-clause-counted : goal.returns-in_err-append_group-clause-counted
+returns-in_err-append_group-clause-counted c = count-same c.args.entries.now.items c.append_group.new.entries.items c.append_group.ensures.same
+
+pub returns-clause-counted : goal.returns-clause-counted
+returns-clause-counted c = count-same c.args.entries.now.items c.append_group.new.entries.items c.append_group.ensures.same

@@ -4,6 +4,6 @@ use Rattle.hip_storage.proofs.laws.asserts_are_those_of_the_run.Goals as goal
 
 pub returns : goal.returns
 returns c = record {
-  done = λ P I p s h addr size inside. assert_done p h addr size inside refl;
-  refused = λ P I p s h addr size outside. assert_refused p h addr size outside refl;
+  done = λ at addr size inside. assert_done at.point at.holds addr size inside refl;
+  refused = λ at addr size outside. assert_refused at.point at.holds addr size outside refl;
 }

@@ -4,8 +4,8 @@ use Rattle.hip_storage.proofs.laws.flushes_are_those_of_the_run.Goals as goal
 
 pub returns : goal.returns
 returns c = record {
-  flushed = λ P I p old h new event addr size x. flush_done p h x;
-  persisted = λ P I p old h new event addr size x. persist_done p h x;
-  refused = λ P I p s h addr size kind go trapped. range_refused p h addr size kind go trapped refl;
-  fenced = λ P I p s h. fence_done p h refl;
+  flushed = λ at new event addr size x. flush_done at.point at.holds x;
+  persisted = λ at new event addr size x. persist_done at.point at.holds x;
+  refused = λ at addr size kind go trapped. range_refused at.point at.holds addr size kind go trapped refl;
+  fenced = λ at. fence_done at.point at.holds refl;
 }

@@ -4,6 +4,6 @@ use Rattle.hip_storage.proofs.laws.loads_are_those_of_the_run.Goals as goal
 
 pub returns : goal.returns
 returns c = record {
-  done = λ P I p s h addr size align value dest m some x. load_done p h m some x refl;
-  refused = λ P I p s h addr size align kind go some trapped. access_refused p h addr size align kind go some trapped refl;
+  done = λ at x value dest m loaded. load_done at.point at.holds m x.some loaded refl;
+  refused = λ at x kind go trapped. access_refused at.point at.holds x.addr x.size x.align kind go x.some trapped refl;
 }

@@ -9,23 +9,23 @@ make_room_in-requires-clause-fits c = omega (arith, c.self.invariant.small, c.re
 pub invariant_of-self : goal.invariant_of-self
 invariant_of-self c = record {
   small = c.self.invariant.small;
-  below = c.make_room_in.ensures.below c.self.inside.count (omega (arith, c.requires.within, held-length c.self.inside.count c.self.inside.queues _ (ap (λ (h : Held). h.lines) c.self.view_is))) c.self.invariant.below;
-  flushed = listed-same _ _ c.self.inside.queues c.make_room_in.new.queues c.make_room_in.ensures.flushed c.make_room_in.ensures.same c.self.invariant.flushed;
+  below = c.make_room_in.ensures.makes.below c.self.inside.count (omega (arith, c.requires.within, held-length c.self.inside.count c.self.inside.queues _ (ap (λ (h : Held). h.lines) c.self.view_is))) c.self.invariant.below;
+  flushed = listed-same _ _ c.self.inside.queues c.make_room_in.new.queues c.make_room_in.ensures.flushed c.make_room_in.ensures.makes.same c.self.invariant.flushed;
   spare = c.make_room_in.ensures.spare c.self.invariant.spare;
   room = tt;
 }
 
 pub returns-in_err-make_room_in-clause-lines : goal.returns-in_err-make_room_in-clause-lines
-returns-in_err-make_room_in-clause-lines c = lines-same c.self.inside.count c.self.inside.queues c.make_room_in.new.queues c.make_room_in.ensures.same ∙ ap (λ (h : Held). h.lines) c.self.view_is
+returns-in_err-make_room_in-clause-lines c = lines-same c.self.inside.count c.self.inside.queues c.make_room_in.new.queues c.make_room_in.ensures.makes.same ∙ ap (λ (h : Held). h.lines) c.self.view_is
 
 pub invariant_of-self-2 : goal.invariant_of-self-2
 invariant_of-self-2 c = record {
   small = c.self.invariant.small;
-  below = c.make_room_in.ensures.below c.self.inside.count (omega (arith, c.requires.within, held-length c.self.inside.count c.self.inside.queues _ (ap (λ (h : Held). h.lines) c.self.view_is))) c.self.invariant.below;
-  flushed = listed-same _ _ c.self.inside.queues c.make_room_in.new.queues c.make_room_in.ensures.flushed c.make_room_in.ensures.same c.self.invariant.flushed;
+  below = c.make_room_in.ensures.makes.below c.self.inside.count (omega (arith, c.requires.within, held-length c.self.inside.count c.self.inside.queues _ (ap (λ (h : Held). h.lines) c.self.view_is))) c.self.invariant.below;
+  flushed = listed-same _ _ c.self.inside.queues c.make_room_in.new.queues c.make_room_in.ensures.flushed c.make_room_in.ensures.makes.same c.self.invariant.flushed;
   spare = c.make_room_in.ensures.spare c.self.invariant.spare;
   room = c.in_ok-make_room_in.ensures.ok;
 }
 
 pub returns-clause-lines : goal.returns-clause-lines
-returns-clause-lines c = lines-same c.self.inside.count c.self.inside.queues c.make_room_in.new.queues c.make_room_in.ensures.same ∙ ap (λ (h : Held). h.lines) c.self.view_is
+returns-clause-lines c = lines-same c.self.inside.count c.self.inside.queues c.make_room_in.new.queues c.make_room_in.ensures.makes.same ∙ ap (λ (h : Held). h.lines) c.self.view_is

@@ -9,14 +9,14 @@ ensure_room-requires-clause-fits c = omega (arith, c.self.invariant.small, c.req
 pub invariant_of-self : goal.invariant_of-self
 invariant_of-self c = record {
   small = c.self.invariant.small;
-  below = c.ensure_room.ensures.below c.self.inside.count (omega (arith, c.requires.within, held-length c.self.inside.count c.self.inside.queues _ (ap (λ (h : Held). h.lines) c.self.view_is))) c.self.invariant.below;
-  flushed = listed-same _ _ c.self.inside.queues c.ensure_room.new.queues c.ensure_room.ensures.flushed c.ensure_room.ensures.same c.self.invariant.flushed;
+  below = c.ensure_room.ensures.makes.below c.self.inside.count (omega (arith, c.requires.within, held-length c.self.inside.count c.self.inside.queues _ (ap (λ (h : Held). h.lines) c.self.view_is))) c.self.invariant.below;
+  flushed = listed-same _ _ c.self.inside.queues c.ensure_room.new.queues c.ensure_room.ensures.flushed c.ensure_room.ensures.makes.same c.self.invariant.flushed;
   spare = c.ensure_room.ensures.spare c.self.invariant.spare;
-  room = room-kept c.self.inside.queues c.ensure_room.new.queues _ c.ensure_room.ensures.kept c.self.invariant.room;
+  room = room-kept c.self.inside.queues c.ensure_room.new.queues _ c.ensure_room.ensures.makes.kept c.self.invariant.room;
 }
 
 pub returns-in_err-ensure_room-clause-err : goal.returns-in_err-ensure_room-clause-err
-returns-in_err-ensure_room-clause-err c = on_err c.from_residual.result (ap (λ ls. record { lines = ls; room = c.self.inside.room }) (lines-same c.self.inside.count c.self.inside.queues c.ensure_room.new.queues c.ensure_room.ensures.same) ∙ c.self.view_is)
+returns-in_err-ensure_room-clause-err c = on_err c.from_residual.result (ap (λ ls. record { lines = ls; room = c.self.inside.room }) (lines-same c.self.inside.count c.self.inside.queues c.ensure_room.new.queues c.ensure_room.ensures.makes.same) ∙ c.self.view_is)
 
 pub push_in-requires-clause-fits : goal.push_in-requires-clause-fits
 push_in-requires-clause-fits c = omega (arith, c.self.invariant.small, c.requires.within, held-length c.self.inside.count c.self.inside.queues _ (ap (λ (h : Held). h.lines) c.self.view_is))
@@ -24,8 +24,8 @@ push_in-requires-clause-fits c = omega (arith, c.self.invariant.small, c.require
 pub invariant_of-self-2 : goal.invariant_of-self-2
 invariant_of-self-2 c = record {
   small = c.self.invariant.small;
-  below = c.push_in.ensures.below c.self.inside.count (c.ensure_room.ensures.below c.self.inside.count (omega (arith, c.requires.within, held-length c.self.inside.count c.self.inside.queues _ (ap (λ (h : Held). h.lines) c.self.view_is))) c.self.invariant.below);
-  flushed = listed-stored c.args.offset c.args.size c.args.tag _ c.ensure_room.new.queues c.push_in.new.queues c.push_in.ensures.pending (listed-same _ _ c.self.inside.queues c.ensure_room.new.queues c.ensure_room.ensures.flushed c.ensure_room.ensures.same c.self.invariant.flushed);
+  below = c.push_in.ensures.below c.self.inside.count (c.ensure_room.ensures.makes.below c.self.inside.count (omega (arith, c.requires.within, held-length c.self.inside.count c.self.inside.queues _ (ap (λ (h : Held). h.lines) c.self.view_is))) c.self.invariant.below);
+  flushed = listed-stored c.args.offset c.args.size c.args.tag _ c.ensure_room.new.queues c.push_in.new.queues c.push_in.ensures.pending (listed-same _ _ c.self.inside.queues c.ensure_room.new.queues c.ensure_room.ensures.flushed c.ensure_room.ensures.makes.same c.self.invariant.flushed);
   spare = let s = c.ensure_room.ensures.spare c.self.invariant.spare in omega (arith, c.push_in.ensures.count, s);
   room = tt;
 }
@@ -33,7 +33,7 @@ invariant_of-self-2 c = record {
 pub returns-clause-ok : goal.returns-clause-ok
 returns-clause-ok c =
     lines-stored c.args.offset c.args.size c.args.tag c.self.inside.count c.ensure_room.new.queues c.push_in.new.queues c.push_in.ensures.pending
-    ∙ ap (pending_stored c.args.offset c.args.size c.args.tag) (lines-same c.self.inside.count c.self.inside.queues c.ensure_room.new.queues c.ensure_room.ensures.same ∙ ap (λ (h : Held). h.lines) c.self.view_is)
+    ∙ ap (pending_stored c.args.offset c.args.size c.args.tag) (lines-same c.self.inside.count c.self.inside.queues c.ensure_room.new.queues c.ensure_room.ensures.makes.same ∙ ap (λ (h : Held). h.lines) c.self.view_is)
 
 pub returns-in_err-ensure_room-clause-length : goal.returns-in_err-ensure_room-clause-length
 returns-in_err-ensure_room-clause-length c = held-same_length c.self.inside.count c.self.inside.queues c.ensure_room.new.queues _ (ap (λ (h : Held). h.lines) c.self.view_is)

@@ -1,9 +1,13 @@
-use Rattle.std.proofs.Common.{arith, ◌∙◌}
-use Rattle.hip_lines.proofs.Marks.{mark_place, mark_found}
+use Rattle.std.proofs.Common.{◌%◌}
+use Rattle.hip_lines.proofs.Shows.{loose-none, loose-some}
 use Rattle.hip_lines.proofs.queue.Queue.loose_byte.Goals as goal
 
-pub index-part-requires : goal.index-part-requires
-index-part-requires c = omega (arith, c.args.self.now.parts.ok.0, mark_place c.args.offset c.args.self.now.parts.items _ (c.saturating_sub-mark.ensures ∙ c.args.self.now.marked c.args.offset c.requires) c.if-mark-eq0.false)
+pub returns-then-number-eq0 : goal.returns-then-number-eq0
+returns-then-number-eq0 c =
+    let q = c.args.self.now in
+    loose-none q.tags.items q.flushed _ c.args.offset q.history.pending (q.shows.bytes c.args.offset c.requires) c.if-number-eq0.true
 
 pub returns : goal.returns
-returns c = mark_found c.args.offset c.args.self.now.flushed c.args.self.now.parts.items _ c.index-part.result.now (c.saturating_sub-mark.ensures ∙ c.args.self.now.marked c.args.offset c.requires) c.if-mark-eq0.false c.index-part.ensures
+returns c =
+    let q = c.args.self.now in
+    loose-some q.tags.items q.flushed _ c.args.offset _ q.history.pending (q.shows.bytes c.args.offset c.requires) c.if-number-eq0.false (q.numbered (c.args.offset % 64)) c.index-tag.ensures

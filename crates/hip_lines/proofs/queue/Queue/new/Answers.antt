@@ -1,8 +1,8 @@
-use Rattle.std.proofs.Common.{◌%◌, ◌-◌, sym, ap, ◌∙◌}
-use Rattle.hip_lines.specs.Loose.{last_over}
-use Rattle.hip_lines.specs.Parts.{part_covers, mark_of}
-use Rattle.hip_lines.proofs.Marks.{zero_index}
+use Rattle.hip_lines.proofs.Shows.{zero_index, numbers-none, shows-none}
 use Rattle.hip_lines.proofs.queue.Queue.new.Goals as goal
 
-pub invariant_of-result-clause-marked : goal.invariant_of-result-clause-marked
-invariant_of-result-clause-marked c = λ b e. ap (λ n. n - 0) (zero_index 64 (b % 64)) ∙ ap (λ ps. mark_of (last_over part_covers b ps)) (sym c.new.ensures.items)
+pub invariant_of-result-clause-shows : goal.invariant_of-result-clause-shows
+invariant_of-result-clause-shows c = shows-none _ _ _ _ c.new.ensures.items (zero_index 64) c.new-2.ensures
+
+pub invariant_of-result-clause-numbered : goal.invariant_of-result-clause-numbered
+invariant_of-result-clause-numbered c = numbers-none _ 64

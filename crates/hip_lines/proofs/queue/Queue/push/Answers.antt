@@ -1,15 +1,18 @@
-use Rattle.std.proofs.Common.{◌%◌, ◌+◌, ◌-◌, ap, sym, ◌∙◌, cond, slice_index}
-use Rattle.hip_lines.specs.Loose.{last_over}
-use Rattle.hip_lines.specs.Parts.{part_covers, mark_of}
-use Rattle.hip_lines.proofs.Marks.{mark-append, mark_pushed, covered_place}
+use Rattle.std.proofs.Common.{◌≡◌, ℕ, ◌+◌, ◌%◌, ◌≤◌, ◌&&◌, [], ◌∷◌, nat_le, nat_lt, ap, ◌∙◌, cond, length, slice_index, arith, length-append}
+use Rattle.hip_lines.specs.Parts.{part_covers}
+use Rattle.hip_lines.proofs.Covered.{covered_place}
+use Rattle.hip_lines.proofs.Shows.{numbers-pushed, shows-pushed}
 use Rattle.hip_lines.proofs.queue.Queue.push.Goals as goal
 
-pub invariant_of-self-clause-marked : goal.invariant_of-self-clause-marked
-invariant_of-self-clause-marked c = λ b e.
+pub invariant_of-self-clause-numbered : goal.invariant_of-self-clause-numbered
+invariant_of-self-clause-numbered c =
     let q = c.args.self.now in
-    let m = slice_index q.last (b % 64) in
-    ap (λ x. x - q.start) (c.set_marks.ensures.marks (b % 64)
-    ∙ ap (λ t. cond t (q.start + (c.len.result + 1)) m) (covered_place c.args.part q.line b c.requires.first e))
-    ∙ mark_pushed q.start c.len.result m (part_covers c.args.part b)
-    ∙ mark-append b q.parts.items c.args.part (m - q.start) c.len.result (q.marked b e) (c.len.ensures ∙ q.parts.ok.0)
-    ∙ ap (λ ps. mark_of (last_over part_covers b ps)) (sym c.push_reserved.ensures.items)
+    let longer = length-append q.tags.items (c.args.part.tag ∷ []) in
+    let from = c.args.part.offset % 64 in
+    numbers-pushed (length q.tags.items) _ (c.len.result + 1) q.numbers _ (λ i. nat_le from i && nat_lt i (from + c.args.part.size)) (omega (arith, longer, c.len.ensures, q.tags.ok.0, ap length c.push_reserved.ensures.items)) (omega (arith, longer, ap length c.push_reserved.ensures.items)) c.number_bytes.ensures.numbers q.numbered
+
+pub invariant_of-self-clause-shows : goal.invariant_of-self-clause-shows
+invariant_of-self-clause-shows c =
+    let q = c.args.self.now in
+    shows-pushed q.tags.items q.flushed q.numbers q.line q.history.pending q.numbered q.within q.shows _ _ _ c.args.part (c.len.result + 1) c.push_reserved.ensures.items (ap (λ n. n + 1) (c.len.ensures ∙ q.tags.ok.0))
+    (λ b e. c.number_bytes.ensures.numbers (b % 64) ∙ ap (λ t. cond t (c.len.result + 1) (slice_index q.numbers (b % 64))) (covered_place c.args.part q.line b c.requires.first e)) c.then-history.ensures

@@ -1,6 +1,6 @@
 use Rattle.std.proofs.Common.{◌≤◌, ◌-◌}
 use Rattle.hip_directory.specs.Directories.{NoneSet}
-use Rattle.hip_directory.proofs.directory.Directory.first_set.Given as goal
+use Rattle.hip_directory.proofs.directory.Directory.first_set_within.Given as goal
 
 abbrev pub invariant-loop-key : goal.invariant-loop-key
 invariant-loop-key l = (l.from ≤ l.key) × NoneSet l.self l.from l.key

@@ -1,0 +1,45 @@
+-- What a byte of a line shows: the tag of the last pending part over it, and whether that part is flushed.
+use Rattle.std.specs.Prelude.{◌≡◌, ℕ, zero, suc, ◌/◌, ◌%◌, ◌<◌, ◌≤◌, Bool, nat_lt, List, length, Option, Some, None, option_map, slice_index}
+use Rattle.hip_lines.specs.Loose.{last_over}
+use Rattle.hip_lines.specs.Parts.{part_covers}
+use Rattle.hip_lines.specs.Pending.{Pending}
+use Rattle.hip_lines.specs.declared.part.Part.{Part}
+use Rattle.hip_types.specs.declared.areas.TheConstants.{LINE_SIZE}
+
+-- the same of the part at a place, of which `flushed` is the first one that is not flushed
+abbrev pub shown_by : ℕ → (ℕ × Part) → ℕ × Bool
+shown_by flushed f = (f.1.tag, nat_lt f.0 flushed)
+
+-- what byte b shows, by all pending parts of its line; nothing where no part covers it
+abbrev pub shown : Pending Part → ℕ → Option (ℕ × Bool)
+shown w b = option_map (shown_by w.flushed) (last_over part_covers b w.parts)
+
+-- what the kept tag with a number, counted from 1, shows where the first `flushed` of them are flushed; nothing at 0
+abbrev pub kept_at : List ℕ → ℕ → ℕ → Option (ℕ × Bool)
+kept_at tags flushed zero = None
+kept_at tags flushed (suc k) = Some (slice_index tags k, nat_lt k flushed)
+
+-- The kept tags of a line, of which the first `flushed` are flushed, and the number for each byte of the one that it
+-- shows: each byte shows what it does by all pending parts of the line, some part is flushed where some tag is, and all
+-- are where all tags are.
+pub record Shows (tags : List ℕ) (flushed : ℕ) (numbers : List ℕ) (line : ℕ) (w : Pending Part) : Type 0 where
+  pub bytes : (b : ℕ) → b / LINE_SIZE ≡ line → kept_at tags flushed (slice_index numbers (b % LINE_SIZE)) ≡ shown w b
+  pub some : flushed ≡ 0 → w.flushed ≡ 0
+  pub none : w.flushed ≡ 0 → flushed ≡ 0
+  pub all : flushed ≡ length tags → w.flushed ≡ length w.parts
+  pub not_all : w.flushed ≡ length w.parts → flushed ≡ length tags
+  pub ordered : w.flushed ≤ length w.parts
+
+-- each number is that of a tag, or 0
+abbrev pub AreNumbers : ℕ → List ℕ → Type 0
+AreNumbers count numbers = (i : ℕ) → slice_index numbers i ≤ count
+
+-- The tags that have a use are moved to the front in their order, and `news` has the new number of each number with a
+-- use: 0 stays, the others stay in their order, and the last one is how many tags are kept.
+pub record IsRenumbered (uses news tags kept : List ℕ) : Type 0 where
+  pub zero : slice_index news 0 ≡ 0
+  pub moved : (k : ℕ) → k < length tags → 0 < slice_index uses (suc k)
+      → (p : ℕ) × (slice_index news (suc k) ≡ suc p) × (slice_index kept p ≡ slice_index tags k)
+  pub rising : (i j : ℕ) → i < j → j ≤ length tags → 0 < slice_index uses i → 0 < slice_index uses j
+      → slice_index news i < slice_index news j
+  pub last : 0 < slice_index uses (length tags) → slice_index news (length tags) ≡ length kept

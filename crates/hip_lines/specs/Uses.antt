@@ -1,0 +1,20 @@
+-- Which numbers of kept tags have a use.
+use Rattle.std.specs.Prelude.{◌≡◌, ℕ, ◌+◌, ◌<◌, ◌≤◌, List, length, slice_index}
+use Rattle.hip_directory.specs.Tables.{count_set}
+use Rattle.hip_types.specs.declared.areas.TheConstants.{LINE_SIZE}
+
+-- the numbers of the first n bytes are noted, and few more than before
+pub record AreNoted (numbers : List ℕ) (n : ℕ) (old new : List ℕ) : Type 0 where
+  pub size : length new ≡ length old
+  pub bytes : (i : ℕ) → i < n → 0 < slice_index new (slice_index numbers i)
+  pub few : count_set new ≤ count_set old + n
+
+-- the numbers of the bytes of a line have a use, 0 and two others too, and few more
+pub record AreUses (numbers : List ℕ) (flushed last : ℕ) (uses : List ℕ) : Type 0 where
+  pub size : length uses ≡ 256
+  pub line : length numbers ≡ LINE_SIZE
+  pub at_bytes : (i : ℕ) → i < length numbers → 0 < slice_index uses (slice_index numbers i)
+  pub at_zero : 0 < slice_index uses 0
+  pub at_flushed : 0 < slice_index uses flushed
+  pub at_last : 0 < slice_index uses last
+  pub few : count_set uses ≤ length numbers + 3

@@ -1,0 +1,45 @@
+//! What is pending on a line by the rules, where a queue keeps only what can still be seen. It exists only in proofs: it
+//! takes no memory, and its methods do nothing when they run.
+
+ghost use Rattle.std.specs.Prelude.{◌≡◌};
+ghost use Rattle.std.specs.Borrow.{ftrue};
+ghost use Rattle.hip_lines.specs.declared.part.Part.{Part};
+ghost use Rattle.hip_lines.specs.Pending.{Pending, none_pending};
+
+use crate::part::Part;
+use std::marker::Model;
+
+/// The pending parts of a line, all of them.
+#[derive(Drop)]
+pub struct History {
+    pub ghost pending: { Pending Part },
+}
+
+impl Model for History {
+    ghost also_owns = { λ _. ftrue };
+}
+
+/// What changes the pending parts of a line.
+#[derive(Clone, Copy, Drop)]
+pub enum Change {
+    Store(Part),
+    Flush,
+    Fence,
+}
+
+impl History {
+    ghost use Rattle.hip_lines.specs.Changes.{changed};
+
+    pub fn new() -> History
+        ensures { result.pending ≡ none_pending }
+    {
+        History {}
+    }
+
+    #[inline(always)]
+    pub fn then(&self, _change: &Change) -> History
+        ensures { result.pending ≡ changed self.now.pending _change.now }
+    {
+        History {}
+    }
+}

@@ -1,4 +1,5 @@
 pub mod Told
 pub mod Runs
+pub mod Quietly
 pub mod MainPlace
 pub mod StartStands

@@ -1,3 +1,5 @@
 pub mod Given
 pub mod Starting
 pub mod Running
+pub mod Quiet
+pub mod Laws

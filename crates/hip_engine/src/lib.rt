@@ -1,6 +1,7 @@
 //! The machine that runs resolved programs over persistent memory, one step of the definition at a time.
 #![tactic(auto)]
 
+mod going;
 mod machine;
 
 pub use machine::Machine;

@@ -42,7 +42,7 @@ run_preload() {
   FAIL_ALLOC=$number ALLOCATIONS=$PWD/count LD_PRELOAD=$PWD/failing.so "$program" "$@" >out 2>notes
 }
 
-# The malloc that fails at the allocation of number FAIL_ALLOC, and tells at the end how many there were.
+# The malloc that fails at the allocation of number FAIL_ALLOC, and says at the end how many there were.
 make_preload() {
   local compiler
   compiler=$(command -v cc clang gcc clang-19 | head -n 1)
@@ -97,7 +97,7 @@ fronts() {
   esac
 }
 
-# lacks COMMAND: the answer is want of memory
+# lacks COMMAND: the answer is out of memory
 lacks() {
   fronts "$1" && if [ -s notes ]; then [ "$(cat notes)" = 'hippo: out of memory' ]; else [ ! -s out ]; fi
 }
@@ -121,7 +121,7 @@ starves() {
       echo "hippo $*: allocation $n fails: exit code $code, $(wc -c <out) bytes written, $(head -c 200 notes)"
     fi
   done
-  echo "hippo $*: exit code $ample; of its ${all:+$all }allocations $tried fail in turn, $short times want of memory"
+  echo "hippo $*: exit code $ample; of its ${all:+$all }allocations $tried fail in turn, $short times out of memory"
 }
 
 if [ "$by" = preload ]; then make_preload; fi

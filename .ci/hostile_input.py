@@ -25,7 +25,7 @@ def case(name, faults):
 
 
 def answer(*words, memory=None, seconds=None, stdin=subprocess.DEVNULL, stdout=subprocess.PIPE):
-    """The exit code and both texts of a run, held to so many MiB of memory and so many seconds of processor."""
+    """The exit code and both texts of a run, with these limits of memory in MiB and of processor time in seconds."""
     words = [HIPPO, *words]
     if memory:
         words = ["sh", "-c", f'ulimit -v {memory * 1024}; ulimit -t {seconds}; exec "$0" "$@"', *words]
@@ -233,12 +233,12 @@ def large_programs(folder):
 
 
 def large_traces(folder, program, header):
-    """A trace without a separator is refused at the entry that it is, behind any header."""
+    """A trace without a separator is refused at the entry that it is, after any header."""
     for name, front, unit, entry in (
         ("no separator", b"", b"0", 1),
-        ("no separator behind the header", header, b"STORE;", 3),
+        ("no separator after the header", header, b"STORE;", 3),
         ("separators", b"", b"\n", 1),
-        ("separators behind the header", header, b"|", 3),
+        ("separators after the header", header, b"|", 3),
     ):
         with open(f"{folder}/large", "wb") as file:
             file.write(filled(front, unit))

@@ -225,12 +225,12 @@ fresh_clone() { mkdir "$1" && tar -c --exclude=./.git --exclude=out . | tar -x -
 # unproved WORD..: the answer of the fresh clone, without the one line in which the launcher says what it is
 unproved() {
   local status
-  "$scratch/clone/hippo" "$@" 2>"$scratch/told"
+  "$scratch/clone/hippo" "$@" 2>"$scratch/notes_of_launcher"
   status=$?
-  if ! sed -n 1p "$scratch/told" | grep -q '^hippo: the program is not proved here yet; .*unproved build.* \./hippo --build '; then
-    echo "no line of the launcher: $(head -n 1 "$scratch/told")"
+  if ! sed -n 1p "$scratch/notes_of_launcher" | grep -q '^hippo: the program is not proved here yet; .*unproved build.* \./hippo --build '; then
+    echo "no line of the launcher: $(head -n 1 "$scratch/notes_of_launcher")"
   fi >&2
-  sed 1d "$scratch/told" >&2
+  sed 1d "$scratch/notes_of_launcher" >&2
   return "$status"
 }
 

@@ -55,7 +55,7 @@ def read_weights(text: str) -> dict[str, float]:
 
 
 def below(crates: dict[str, list[str]], top: str) -> list[str]:
-    """The crate and all that it stands on, each behind those that it stands on itself."""
+    """The crate and all that it stands on, each after those that it stands on itself."""
     order: list[str] = []
     entered: set[str] = set()
 
@@ -75,7 +75,7 @@ def below(crates: dict[str, list[str]], top: str) -> list[str]:
 
 @dataclass
 class Graph:
-    """Crates in an order in which each comes behind its libraries, with their libraries and their seconds."""
+    """Crates in an order in which each comes after its libraries, with their libraries and their seconds."""
 
     order: list[str]
     libraries: dict[str, list[str]]
@@ -173,7 +173,7 @@ def makespan(pieces: list[Piece]) -> float:
 
 
 def report(graph: Graph, processors: list[int], whole: bool) -> list[str]:
-    """The lines that tell the chain, the total and the schedules."""
+    """The lines with the chain, the total and the schedules."""
     ends = graph.ends()
     chain = graph.chain()
     lines = [f"longest chain: {ends[chain[-1]]:.0f} s, {len(chain)} crates"]

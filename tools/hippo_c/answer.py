@@ -71,7 +71,7 @@ def trap_of(session: Session, checked: Checked) -> dict | None:
 
 
 def fingerprint(session: Session, checked: Checked, group: Group) -> str:
-    """What tells a group in another run: it stays when lines move, and when other elements of an array are stored to."""
+    """What identifies a group in another run: it stays when lines move, and when other elements of an array are stored to."""
     name = re.sub(r'\[\d+\]', '[]', object_of(session, checked, group)[0])
     functions = [place.function for place in session.places.along(group.path)]
     mark = '\n'.join([group.missing, name, *functions])

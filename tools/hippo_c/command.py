@@ -24,7 +24,7 @@ def parser() -> argparse.ArgumentParser:
     form = argparse.RawDescriptionHelpFormatter
     top = argparse.ArgumentParser('hippo-c', description=DESCRIPTION, epilog=EPILOG, formatter_class=form)
     commands = top.add_subparsers(dest='command', metavar='COMMAND', required=True)
-    check = commands.add_parser('check', help='run the program, and tell each store that is not durable where it has to be')
+    check = commands.add_parser('check', help='run the program, and report each store that is not durable where it has to be')
     add_program(check)
     checking.add_options(check)
     check.set_defaults(carry_out=checking.check)
@@ -56,7 +56,7 @@ def add_program(command: argparse.ArgumentParser) -> None:
     command.add_argument('--input-file', metavar='FILE', help='a file with these numbers')
     command.add_argument('--limit', type=int, metavar='N', help='the most turns that a run takes (1,000,000,000)')
     command.add_argument('--expand-macros', action='store_true', help='expand the macros of each .c on its line, so that '
-                         'columns tell the statements of a macro apart')
+                         'columns distinguish the statements of a macro')
     command.add_argument('--color', choices=['auto', 'always', 'never'], default='auto')
     command.add_argument('--no-source', action='store_true', help='leave out the lines of C under the warnings')
     command.add_argument('--keep', metavar='FOLDER', help='keep the lowered text and the traces there')

@@ -10,7 +10,7 @@ FLAGS = ('!{i32 7, !"Dwarf Version", i32 5}', '!{i32 2, !"Debug Info Version", i
 
 
 class DebugInfo:
-    """The metadata of a text, numbered as it is asked for."""
+    """The metadata of a text, numbered in the order of first use."""
 
     def __init__(self):
         self.lines: list[str] = []
@@ -29,7 +29,7 @@ class DebugInfo:
         return self.node(('file', name), f'!DIFile(filename: {quoted(name)}, directory: {quoted(folder)})')
 
     def subprogram(self, name: str, linkage: str, file: str, line: int, part: str = '') -> int:
-        """A function; `part` tells apart the inlined copies of one."""
+        """A function; `part` distinguishes the inlined copies of one."""
         kind = self.node('types', '!DISubroutineType(types: !{})')
         number = self.file(file)
         return self.node(('function', name, linkage, file, part), (

@@ -13,7 +13,7 @@ COLOURS = {'warning': '\x1b[0;1;35m', 'error': '\x1b[0;1;31m', 'note': '\x1b[0;1
 
 
 class Printer:
-    """Writes diagnostics to a stream, with clang's colours where it is asked to."""
+    """Writes diagnostics to a stream, with clang's colours on request."""
 
     def __init__(self, stream=sys.stdout, colour: bool = False, source: bool = True):
         self.stream, self.colour, self.source = stream, colour, source

@@ -69,7 +69,7 @@ class CacheLines:
                 self.pending.discard(number)
 
     def key(self, picks: dict[int, int]) -> Picks:
-        """What tells an image: how many stores of each line it has."""
+        """What identifies an image: how many stores of each line it has."""
         return tuple(sorted({**self.durable, **picks}.items()))
 
     def points(self, entry: int, chance: random.Random, count: int) -> Iterator[Point]:

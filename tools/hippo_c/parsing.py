@@ -58,7 +58,7 @@ class Reader:
 
 
 class Parsed:
-    """The functions of one C file and of the headers that it includes; clang is asked when one is first needed."""
+    """The functions of one C file and of the headers that it includes; clang runs when one is first needed."""
 
     def __init__(self, unit: str, clang: tuple[str, ...]):
         self.unit, self.clang = unit, clang

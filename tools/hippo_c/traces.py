@@ -1,4 +1,4 @@
-"""What a trace says: what ran, which objects were stored to, and the entries that are asked for."""
+"""What a trace says: what ran, which objects were stored to, and the entries that are wanted."""
 from dataclasses import dataclass, field
 
 from .program import Program

@@ -13,7 +13,7 @@ WORDS = {
 }
 MEANING = {
     'divzero': 'a division by zero', 'divoverflow': 'a quotient that does not fit',
-    'shift': 'a shift by the width of the number or more', 'address': 'an access to an address that is in no object',
+    'shift': 'a shift by the width of the number or more', 'address': 'an access outside the memory of the program',
     'misaligned': 'an access at less than its alignment', 'stack': 'the stack has more than 16 MiB',
     'depth': 'calls are nested more than 16,384 deep', 'input': 'no number of the input is left',
     'unreachable': '__builtin_trap, abort or a failed assert was reached',

@@ -88,7 +88,7 @@ class Build:
         return self.log.read_text(encoding="utf-8", errors="replace")
 
     def run(self, words: list[str], mode: str) -> None:
-        """Runs a command of the toolchain in the program's folder, and tells how far it is until it ends."""
+        """Runs a command of the toolchain in the program's folder, and says how far it is until it ends."""
         with self.log.open(mode) as log:
             ran = subprocess.Popen(words, cwd=self.sources.program_folder, stdin=subprocess.DEVNULL, stdout=log, stderr=log,
                                    start_new_session=True)
@@ -99,12 +99,12 @@ class Build:
                 time.sleep(STEP)
                 meter.look()
                 self.measured = {**meter.seconds(), **before}
-                self.tell()
+                self.report()
         finally:
             if ran.poll() is None:
                 os.killpg(ran.pid, signal.SIGTERM)
                 ran.wait()
-            self.tell(is_end=True)
+            self.report(is_end=True)
         if ran.returncode:
             self.stop(words[1], ran.returncode)
 
@@ -115,7 +115,7 @@ class Build:
         if command != "all":
             raise Failed(f"not built: rt {command} ended with {status}; {self.log} has the whole log")
 
-    def tell(self, is_end: bool = False) -> None:
+    def report(self, is_end: bool = False) -> None:
         """Says how far it is: on a terminal in one line that goes on, and else in a line for each change."""
         now = time.monotonic() - self.start
         text, before = self.text(), len(self.ended)

@@ -61,8 +61,8 @@ class Plan:
         left = [self.expected[name] for name in self.expected if name not in ended]
         if not left:
             return 0.0
-        told = [name for name in ended if name not in kept and self.expected[name]]
-        pace = sum(ended[name] for name in told) / sum(self.expected[name] for name in told) if told else 1.0
+        known = [name for name in ended if name not in kept and self.expected[name]]
+        pace = sum(ended[name] for name in known) / sum(self.expected[name] for name in known) if known else 1.0
         return max(pace * max(left) - now, 1.0)
 
 

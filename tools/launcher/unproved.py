@@ -31,7 +31,7 @@ FULL = 64 << 20
 
 @contextlib.contextmanager
 def locked(file: Path, waits: Callable[[], None]) -> Iterator[bool]:
-    """Lets one process at a time through, and gives whether it had to wait, which it is told before."""
+    """Lets one process at a time through, and gives whether it had to wait; `waits` is called before it waits."""
     file.parent.mkdir(parents=True, exist_ok=True)
     with file.open("w") as opened:
         waited = False
@@ -49,8 +49,8 @@ def running(words: list[str], folder: Path) -> Path | None:
     for process in Path("/proc").iterdir():
         with contextlib.suppress(OSError):
             given = [os.fsdecode(word) for word in (process / "cmdline").read_bytes().split(b"\0")[:-1]]
-            before, behind = given[:-len(words)], given[-len(words):]
-            if before and behind == words and folder in Path(before[-1]).parents and os.access(before[-1], os.X_OK):
+            before, after = given[:-len(words)], given[-len(words):]
+            if before and after == words and folder in Path(before[-1]).parents and os.access(before[-1], os.X_OK):
                 return Path(before[-1])
     return None
 

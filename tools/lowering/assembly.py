@@ -22,7 +22,7 @@ OPERAND = re.compile(r' \(?\$\{?(\d+)(?::[a-zA-Z])?\}?\)?$')
 
 
 def lower_assembly(function: Function, tokens: Tokens, target: str) -> None:
-    """An `asm` call, behind that word."""
+    """An `asm` call, after that word."""
     while tokens.kind() == 'word':
         tokens.take()
     written = tokens.take()[1:-1]

@@ -238,7 +238,7 @@ def call_by_pointer(function: Function, pointer: str, call: Call) -> None:
 
 
 def finish_call(function: Function, call: Call, slot: str, edges: list[tuple[str, str]]) -> None:
-    """The result of a call by pointer, in the block behind it."""
+    """The result of a call by pointer, in the block after it."""
     types = pieces(call.result)
     if slot and call.target:
         function.take_pieces(slot, types, function.results(call.target, call.result))

@@ -96,7 +96,7 @@ def read_scalar(tokens: Tokens, type_: str, module: Module, emit: Emit) -> str:
 
 
 def read_code_address(tokens: Tokens, word: str, module: Module) -> str:
-    """The address of a function in another form, or of a label, behind its word."""
+    """The address of a function in another form, or of a label, after its word."""
     if word != 'blockaddress':
         return module.constant_address(tokens.take())
     tokens.take('(')
@@ -108,7 +108,7 @@ def read_code_address(tokens: Tokens, word: str, module: Module) -> str:
 
 
 def read_element_address(tokens: Tokens, module: Module) -> str:
-    """A constant `getelementptr`, behind its word."""
+    """A constant `getelementptr`, after its word."""
     tokens.take_all(FLAGS)
     if tokens.peek() == '(' and tokens.peek(1).lstrip('-').isdigit() and tokens.peek(2) == ',':
         tokens.skip_parentheses()
@@ -126,7 +126,7 @@ def read_element_address(tokens: Tokens, module: Module) -> str:
 
 
 def read_expression(tokens: Tokens, word: str, module: Module, emit: Emit) -> str:
-    """A constant expression, behind its word, as an instruction; the register that it is in."""
+    """A constant expression, after its word, as an instruction; the register that it is in."""
     if word in CASTS:
         tokens.take('(')
         source = read_type(tokens, module.named_types)

@@ -65,7 +65,7 @@ def program_of(options: Options) -> Program:
 
 
 def command_for(file: str, level: str, options: Options) -> list[str]:
-    """The command that compiles a C file. The level stands first: behind the flags it would switch vectors on again."""
+    """The command that compiles a C file. The level stands first: after the flags it would switch vectors on again."""
     return ['clang-19', level, *COMPILE_FLAGS, f'-I{TOOLS}', *options.clang, file]
 
 

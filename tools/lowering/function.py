@@ -190,7 +190,7 @@ class Function(Writer):
         return type_, read_operand(self, tokens, type_)
 
     def address(self, tokens: Tokens) -> str:
-        """The pointer operand that stands next, behind its type."""
+        """The pointer operand that stands next, after its type."""
         type_ = self.type(tokens)
         if type_ != 'ptr':
             raise Refused(f'{show_type(type_)} where a pointer stands')

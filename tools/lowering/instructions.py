@@ -1,4 +1,4 @@
-"""What lowers each instruction, by its word. Each is called with the function, the tokens behind the word, the register
+"""What lowers each instruction, by its word. Each is called with the function, the tokens after the word, the register
 that is assigned (an empty text where there is none), and the word."""
 from .calls import INSTRUCTIONS as CALLS
 from .control import INSTRUCTIONS as CONTROL

@@ -104,7 +104,7 @@ def load_leaf(function: Function, leaf: str, address: str, least: int) -> list[s
 
 
 def store(function: Function, tokens: Tokens, _target: str, _word: str) -> None:
-    """`store`, part by part; a non-temporal one has a flush behind it, as it needs only a fence to be durable."""
+    """`store`, part by part; a non-temporal one has a flush after it, as it needs only a fence to be durable."""
     note_volatile(function, tokens)
     passes_by = 'nontemporal' in function.metadata
     if passes_by and not function.module.options.non_temporal:
@@ -127,7 +127,7 @@ def store(function: Function, tokens: Tokens, _target: str, _word: str) -> None:
 
 def flush(function: Function, address: str, count: int, least: int) -> None:
     """The flush of what a non-temporal store wrote."""
-    function.module.notes.add('a non-temporal store was taken as a store with a flush behind it')
+    function.module.notes.add('a non-temporal store was taken as a store with a flush after it')
     if least >= count:
         function.module.extern('llvm.x86.clwb')
         function.put(f'call void @llvm.x86.clwb(ptr {address})')

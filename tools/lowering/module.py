@@ -133,7 +133,7 @@ class Module:
     # What functions ask.
 
     def resolved(self, written: str) -> str:
-        """The name behind an alias."""
+        """The name that an alias stands for."""
         seen = set()
         while self.same_names.get(written) and written not in seen:
             seen.add(written)

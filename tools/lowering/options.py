@@ -58,7 +58,7 @@ def parse(words: list[str], description: str) -> Options:
 
 
 def split(words: list[str], mark: str) -> tuple[list[str], list[str] | None]:
-    """The words before a mark, and those behind it where it stands."""
+    """The words before a mark, and those after it where it stands."""
     if mark not in words:
         return words, None
     place = words.index(mark)
@@ -83,17 +83,17 @@ def build_parser(description: str) -> Parser:
     parser.add_argument('--single-thread', action='store_true', help='take atomic accesses as those of one thread')
     parser.add_argument('--unaligned', action='store_true', help='take accesses at any address, as x86-64 does')
     parser.add_argument('--non-temporal', action='store_true',
-                        help='take a non-temporal store as a store with a flush behind it')
+                        help='take a non-temporal store as a store with a flush after it')
     parser.add_argument('--array-bound', type=size, metavar='SIZE', help='the bytes of an array of variable length')
     parser.add_argument('--public', metavar='FILE', default='',
                         help="write the names that other object files may use, for opt's -internalize-public-api-file")
-    parser.add_argument('--lines', action='store_true', help='put the place in C behind each instruction, as a comment')
+    parser.add_argument('--lines', action='store_true', help='put the place in C after each instruction, as a comment')
     parser.add_argument('files', nargs='+', metavar='FILE')
     return parser
 
 
 def size(text: str) -> int:
-    """A number of bytes, with K or M behind it for 1,024 or 1,048,576 of them."""
+    """A number of bytes, with K or M after it for 1,024 or 1,048,576 of them."""
     if not (read := re.fullmatch(r'([0-9]{1,9})([KM]?)', text)):
         raise argparse.ArgumentTypeError(f'{text!r} is no size, such as 4096, 64K or 2M')
     return int(read[1]) * UNITS[read[2]]

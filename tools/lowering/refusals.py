@@ -47,7 +47,7 @@ class Refusals:
             places.append(line)
 
     def text(self) -> list[str]:
-        """The lines to be shown: places by reason, and behind each kind what to do."""
+        """The lines to be shown: places by reason, and after each kind what to do."""
         shown = []
         for kind, reasons in self.kinds.items():
             for reason, lines in reasons.items():

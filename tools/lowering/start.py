@@ -69,7 +69,7 @@ class Start:
         function.values[written] = [str(len(words)) if number == 0 else self.vector(words if number == 1 else [])]
 
     def vector(self, words: list[str]) -> str:
-        """The address of an array of pointers to words, with a null pointer behind them."""
+        """The address of an array of pointers to words, with a null pointer after them."""
         pointers = []
         for word in words:
             name, spelled = self.global_name('argument'), [*os.fsencode(word), 0]

@@ -66,7 +66,7 @@ class Tokens:
         return taken
 
     def skip_parentheses(self) -> None:
-        """Goes behind the parenthesis that closes the one that stands next."""
+        """Goes to the token after the parenthesis that closes the one that stands next."""
         depth = 0
         while True:
             text = self.take()

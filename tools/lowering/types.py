@@ -50,7 +50,7 @@ def read_type(tokens: Tokens, named: dict[str, str | Type]) -> Type:
 
 
 def read_fields(tokens: Tokens, named: dict) -> tuple:
-    """The types of the fields of a struct, behind its opening brace, which is closed behind them."""
+    """The types of the fields of a struct, after its opening brace, which is closed after them."""
     fields = []
     while tokens.peek() != '}':
         fields.append(read_type(tokens, named))

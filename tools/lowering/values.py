@@ -47,7 +47,7 @@ def value_of(function: Function, written: str, type_: Type) -> list[str]:
 
 
 def value_made(function: Function, tokens: Tokens) -> list[str]:
-    """The pieces of the value that an instruction makes of others; it stands behind its `=`."""
+    """The pieces of the value that an instruction makes of others; it stands after its `=`."""
     word = tokens.take()
     if word == 'freeze':
         type_ = function.type(tokens)
@@ -73,7 +73,7 @@ def value_made(function: Function, tokens: Tokens) -> list[str]:
 
 
 def value_of_call(function: Function, tokens: Tokens) -> list[str]:
-    """The first operand of a call, behind its first word."""
+    """The first operand of a call, after its first word."""
     if tokens.peek() == 'call':
         tokens.take()
     while not tokens.peek().startswith('@'):

@@ -16,7 +16,7 @@ class Phi(NamedTuple):
 
 
 class Writer:
-    """Writes a function line by line. `comment` stands behind each line; a block of clang's text may become several."""
+    """Writes a function line by line. `comment` stands after each line; a block of clang's text may become several."""
 
     def __init__(self, added_comment: str):
         self.names: dict[str | tuple[str, int], str] = {}
@@ -129,7 +129,7 @@ class Writer:
         self.cut.add(self.origin)
 
     def body(self) -> list[str]:
-        """The lines, with those of the entry block behind its label."""
+        """The lines, with those of the entry block after its label."""
         entry = [with_comment(f'  {line}', self.added_comment) for line in self.entry]
         shown = [line if isinstance(line, str) else self.shown_phi(line) for line in self.out]
         return [*shown[:1], *entry, *shown[1:]]

@@ -40,7 +40,7 @@ static int is_last(struct block *block) { return (unsigned char *)following(bloc
 
 static int is_free(const struct block *block) { return !(block->size & USED); }
 
-// The size of the block that holds so many bytes, or 0 where the arena never has room for it.
+// The size of the block that holds this number of bytes, or 0 where the arena never has room for it.
 static size_t block_size(size_t size) {
   if (size > sizeof arena) return 0;
   size_t whole = (size + HEADER + UNIT - 1) / UNIT * UNIT;
@@ -66,7 +66,7 @@ static void take_from_list(struct block *block) {
   if (block->next) block->next->link = block->link;
 }
 
-// Gives a block a size, and tells the block after it.
+// Gives a block a size, and notes it in the block after it.
 static void set_size(struct block *block, size_t size, size_t used) {
   block->size = size | used;
   if (is_last(block))

@@ -4,7 +4,7 @@
 
 #include <stddef.h>
 
-// Each block begins at a multiple of the first, and has at least so many bytes as the second says.
+// Each block begins at a multiple of the first, and has at least as many bytes as the second says.
 enum { HIPPO_HEAP_UNIT = 16, HIPPO_HEAP_SMALLEST = 32 };
 
 // Cuts a block in use in two, so that the memory of the second one begins at this place. The first one becomes free; the place is

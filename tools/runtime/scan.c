@@ -69,7 +69,7 @@ static int read_integer(struct scan *scan, const struct directive *how, unsigned
   return 1;
 }
 
-// Stores so many characters, and a zero byte after a string.
+// Stores this number of characters, and a zero byte after a string.
 static int take(struct scan *scan, const struct directive *how, size_t count, int is_string) {
   if (count == 0) return 0;
   if (!how->skipped) {
@@ -105,7 +105,7 @@ static int is_in(const char *from, const char *to, char c) {
   return 0;
 }
 
-// Reads characters of a set, which begins behind its bracket; the format behind the set, or a null pointer where none is read.
+// Reads characters of a set, which begins after its bracket; the format after the set, or a null pointer where none is read.
 static const char *read_set(struct scan *scan, const struct directive *how, const char *format) {
   int excluded = *format == '^';
   const char *set = format + excluded, *end = strchr(*set ? set + 1 : set, ']');
@@ -115,7 +115,7 @@ static const char *read_set(struct scan *scan, const struct directive *how, cons
   return take(scan, how, count, 1) ? end + 1 : NULL;
 }
 
-// Reads one conversion; the format behind it, or a null pointer where the text does not fit.
+// Reads one conversion; the format after it, or a null pointer where the text does not fit.
 static const char *read_conversion(struct scan *scan, const struct directive *how, const char *format) {
   int fits = 0;
   switch (*format) {

@@ -130,6 +130,37 @@ class Proved(Repository):
         self.assertEqual(ran.returncode, 130)
         self.assertIn("interrupted; 0 of 2 crates are proved and kept", said)
 
+    def test_an_interrupt_leaves_no_program_and_the_next_build_goes_on(self) -> None:
+        (self.kit / "rt").write_text(RT.replace("mkdir -p out", '[ -e "$here/holds" ] && sleep 20; mkdir -p out'))
+        for number, code in ((signal.SIGTERM, 128 + signal.SIGTERM), (signal.SIGKILL, -signal.SIGKILL)):
+            (self.kit / "holds").touch()
+            before = self.calls("run")
+            command = [str(self.top / "hippo"), "--build"]
+            ran = subprocess.Popen(command, cwd=self.work, env=self.environment(), stderr=subprocess.DEVNULL)
+            self.wait_for(lambda: self.calls("run") == before + 1)
+            ran.send_signal(number)
+            self.assertEqual(ran.wait(timeout=30), code)
+            self.assertFalse((self.top / "out" / "hippo").exists())
+            self.assertEqual(self.hippo("repair", "/dev/null").returncode, 3)
+            (self.kit / "holds").unlink()
+        self.build()
+        self.assertTrue(self.is_proved())
+
+    def test_a_full_disk_is_named(self) -> None:
+        launcher = self.top / "tools" / "launcher" / "build.py"
+        launcher.write_text(launcher.read_text().replace("FULL = 64 << 20", "FULL = 1 << 60"))
+        (self.kit / "fails").touch()
+        self.fails(self.hippo("--build"), f"not built: the disk of {self.top} is full")
+        self.assertFalse((self.top / "out" / "hippo").exists())
+
+    def test_build_needs_a_toolchain(self) -> None:
+        (self.kit / "rt").unlink()
+        self.fails(self.hippo("--build", more={"PATH": "/usr/bin:/bin"}), "toolchain is missing")
+
+    def test_a_toolchain_that_does_not_work_is_named(self) -> None:
+        (self.kit / "rt").write_text("#!/bin/sh\nexit 1\n")
+        self.fails(self.hippo("--build"), "toolchain does not work: .*rt version fails")
+
     def test_a_second_build_waits_for_the_first(self) -> None:
         (self.kit / "waits").touch()
         command = [str(self.top / "hippo"), "--build"]

@@ -9,7 +9,7 @@ import unittest
 
 TOOLS = os.path.dirname(os.path.dirname(os.path.abspath(__file__)))
 
-# The reason with its place, what is said to do, and the C behind `#include <hippo.h>`.
+# The reason with its place, what is said to do, and the C after `#include <hippo.h>`.
 REFUSED = {
     'float': ('bad.c:3: the type double', 'integers',
               'double half(double x);\nint main(void) { return (int)half(3.0); }'),

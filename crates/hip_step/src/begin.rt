@@ -23,6 +23,7 @@ impl<'a> Begin<'a> for Machine<'a> {
         checked: &'a Checked,
         input: &'a Input,
     ) -> Result<Machine<'a>, NoMemory>
+        requires { IsValid checked.now input.now }
         ensures { IfOk result (λ m. m ≡ record { program = checked.now; input = input.now; taken = 0 }) }
     {
         let code = resolve(alloc, checked, input.base)?;

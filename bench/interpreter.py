@@ -1,4 +1,4 @@
-"""Speed beside LLVM 19's interpreter, and of one command or loop beside another."""
+"""Speed beside LLVM 19's interpreter, of one command or loop beside another, and what the launcher adds."""
 
 from __future__ import annotations
 
@@ -66,6 +66,18 @@ def beside_one_another(hippo: Hippo) -> None:
     show("run: a loop with flush and fence to it without", flush / store, most=4, basis=seconds(flush, store))
 
 
+def of_the_launcher(hippo: Hippo) -> None:
+    """What `./hippo` adds to a call of the proved program that it runs."""
+    launcher = BENCH.parent / "hippo"
+    if Path(hippo.program) != (BENCH.parent / "out" / "hippo").resolve():
+        return
+    text = hippo.file("nothing.ll", "define i32 @main() {\nentry:\n  ret i32 0\n}\n")
+    through = Command((str(launcher), "run", text))
+    times(1, through)
+    by_launcher, alone = times(4 * hippo.runs, through, hippo.command("run", text))
+    show("launcher: milliseconds that it adds to a call", (by_launcher - alone) * 1e3, most=20, basis=seconds(by_launcher, alone), form=".1f")
+
+
 def measure(hippo: Hippo) -> None:
     """All figures of this part."""
     if shutil.which(INTERPRETER[0]) is None:
@@ -74,3 +86,4 @@ def measure(hippo: Hippo) -> None:
         for name in LOOPS if hippo.scale == 1 else [name for name in LOOPS if name != "loop"]:
             figures(f"beside LLVM's interpreter, {name}.ll", beside_the_interpreter, hippo, name)
     figures("one loop beside another", beside_one_another, hippo)
+    figures("the launcher", of_the_launcher, hippo)

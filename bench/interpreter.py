@@ -37,8 +37,8 @@ def beside_the_interpreter(hippo: Hippo, name: str) -> None:
     stop = 112 if name == "loop" else 0
     llvm = Command((*INTERPRETER, text), code=stop)
     trace = hippo.recorded(str(path), *numbers)
-    commands = [llvm, hippo.command("run", path, *numbers), hippo.command("check", path, trace), hippo.command("record", path, *numbers)]
-    lli, run, check, record = times(hippo.runs, *commands)
+    ours = [hippo.command("run", path, *numbers), hippo.command("check", path, trace), hippo.command("record", path, *numbers)]
+    lli, run, check, record = times(hippo.runs, llvm, *ours)
     show(f"run: times as fast as LLVM's interpreter, {name}.ll", lli / run, least=run_asked, basis=seconds(run, lli))
     show(f"check: times as fast as LLVM's interpreter, {name}.ll", lli / check, least=check_asked, basis=seconds(check, lli))
     if name == "loop":
@@ -46,7 +46,8 @@ def beside_the_interpreter(hippo: Hippo, name: str) -> None:
         show("check: times the time of run, loop.ll", check / run, most=2, basis=seconds(check, run))
     if name == "flush":
         entries = 3 * numbers[0] + 4
-        show("record: nanoseconds for an entry written, flush.ll", (record - run) / entries * 1e9, most=40, basis=seconds(record, run), form=".0f")
+        written = (record - run) / entries * 1e9
+        show("record: nanoseconds for an entry written, flush.ll", written, most=40, basis=seconds(record, run), form=".0f")
 
 
 def beside_one_another(hippo: Hippo) -> None:

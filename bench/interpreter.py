@@ -76,7 +76,8 @@ def of_the_launcher(hippo: Hippo) -> None:
     through = Command((str(launcher), "run", text))
     times(1, through)
     by_launcher, alone = times(4 * hippo.runs, through, hippo.command("run", text))
-    show("launcher: milliseconds that it adds to a call", (by_launcher - alone) * 1e3, most=20, basis=seconds(by_launcher, alone), form=".1f")
+    added = (by_launcher - alone) * 1e3
+    show("launcher: milliseconds that it adds to a call", added, most=20, basis=seconds(by_launcher, alone), form=".1f")
 
 
 def measure(hippo: Hippo) -> None:

@@ -12,7 +12,7 @@ from pathlib import Path
 
 import shapes
 import texts
-from measuring import MIB, Command, Hippo, Missed, exponent, figures, leave_out, peak, seconds, show, times
+from measuring import MIB, Command, Hippo, exponent, figures, leave_out, peak, seconds, show, times
 
 BENCH = Path(__file__).resolve().parent
 STEEPEST = 1.1
@@ -153,8 +153,9 @@ def of_large_texts(hippo: Hippo) -> None:
             found.append((peak(command_on(hippo, name, file)), form))
     for name, found in peaks.items():
         worst, form = max(found)
-        kind = dict((form, high) for high, form in found)["mixed functions"]
-        show(f"{name}: MB, a text of 16 MiB, the worst of {len(found)} forms", worst, most=400, basis=f"{form}; mixed functions: {kind:.0f}", form=".0f")
+        mixed = next(high for high, form in found if form == "mixed functions")
+        title, basis = f"{name}: MB, a text of 16 MiB, the worst of {len(found)} forms", f"{form}; mixed functions: {mixed:.0f}"
+        show(title, worst, most=400, basis=basis, form=".0f")
 
 
 def with_small_stack(hippo: Hippo) -> None:
@@ -184,7 +185,4 @@ def measure_memory(hippo: Hippo) -> None:
     """Peaks, and a small stack."""
     figures("peaks", of_memory, hippo)
     figures("texts of 16 MiB", of_large_texts, hippo)
-    try:
-        with_small_stack(hippo)
-    except OSError as fault:
-        raise Missed(str(fault)) from fault
+    figures("a small stack", with_small_stack, hippo)

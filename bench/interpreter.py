@@ -1,4 +1,4 @@
-"""Speed beside LLVM 19's interpreter, and of one command or loop beside another."""
+"""Speed beside LLVM 19's interpreter, of one command or loop beside another, and what the launcher adds."""
 
 from __future__ import annotations
 
@@ -37,8 +37,8 @@ def beside_the_interpreter(hippo: Hippo, name: str) -> None:
     stop = 112 if name == "loop" else 0
     llvm = Command((*INTERPRETER, text), code=stop)
     trace = hippo.recorded(str(path), *numbers)
-    commands = [llvm, hippo.command("run", path, *numbers), hippo.command("check", path, trace), hippo.command("record", path, *numbers)]
-    lli, run, check, record = times(hippo.runs, *commands)
+    ours = [hippo.command("run", path, *numbers), hippo.command("check", path, trace), hippo.command("record", path, *numbers)]
+    lli, run, check, record = times(hippo.runs, llvm, *ours)
     show(f"run: times as fast as LLVM's interpreter, {name}.ll", lli / run, least=run_asked, basis=seconds(run, lli))
     show(f"check: times as fast as LLVM's interpreter, {name}.ll", lli / check, least=check_asked, basis=seconds(check, lli))
     if name == "loop":
@@ -46,7 +46,8 @@ def beside_the_interpreter(hippo: Hippo, name: str) -> None:
         show("check: times the time of run, loop.ll", check / run, most=2, basis=seconds(check, run))
     if name == "flush":
         entries = 3 * numbers[0] + 4
-        show("record: nanoseconds for an entry written, flush.ll", (record - run) / entries * 1e9, most=40, basis=seconds(record, run), form=".0f")
+        written = (record - run) / entries * 1e9
+        show("record: nanoseconds for an entry written, flush.ll", written, most=40, basis=seconds(record, run), form=".0f")
 
 
 def beside_one_another(hippo: Hippo) -> None:
@@ -66,6 +67,19 @@ def beside_one_another(hippo: Hippo) -> None:
     show("run: a loop with flush and fence to it without", flush / store, most=4, basis=seconds(flush, store))
 
 
+def of_the_launcher(hippo: Hippo) -> None:
+    """What `./hippo` adds to a call of the proved program that it runs."""
+    launcher = BENCH.parent / "hippo"
+    if Path(hippo.program) != (BENCH.parent / "out" / "hippo").resolve():
+        return
+    text = hippo.file("nothing.ll", "define i32 @main() {\nentry:\n  ret i32 0\n}\n")
+    through = Command((str(launcher), "run", text))
+    times(1, through)
+    by_launcher, alone = times(4 * hippo.runs, through, hippo.command("run", text))
+    added = (by_launcher - alone) * 1e3
+    show("launcher: milliseconds that it adds to a call", added, most=20, basis=seconds(by_launcher, alone), form=".1f")
+
+
 def measure(hippo: Hippo) -> None:
     """All figures of this part."""
     if shutil.which(INTERPRETER[0]) is None:
@@ -74,3 +88,4 @@ def measure(hippo: Hippo) -> None:
         for name in LOOPS if hippo.scale == 1 else [name for name in LOOPS if name != "loop"]:
             figures(f"beside LLVM's interpreter, {name}.ll", beside_the_interpreter, hippo, name)
     figures("one loop beside another", beside_one_another, hippo)
+    figures("the launcher", of_the_launcher, hippo)

@@ -9,6 +9,7 @@ import statistics
 import subprocess
 import sys
 import time
+from collections.abc import Callable
 from dataclasses import dataclass
 
 MIB = 1 << 20
@@ -141,7 +142,7 @@ class Hippo:
         return name
 
 
-def figures(name: str, measure, *words: object) -> None:
+def figures(name: str, measure: Callable[..., None], *words: object) -> None:
     """Takes some figures; where a command ends otherwise than it has to, one line says so and the others go on."""
     try:
         measure(*words)

@@ -100,8 +100,8 @@ over:
 def deep_registers(depth: int) -> str:
     """Calls this deep of a function of 50,000 registers, of which a call uses a few."""
     names = "".join(f"  %r{number} = add i64 %n, {number}\n" for number in range(50_000))
-    return program(f"  call void @down(i64 {depth})\n", descent(f"  %rare = icmp eq i64 %n, 7\n  br i1 %rare, label %many, label %over\nmany:\n{names}"
-                                                                 "  br label %over\nover:\n"))
+    deepest = f"  %rare = icmp eq i64 %n, 7\n  br i1 %rare, label %many, label %over\nmany:\n{names}  br label %over\nover:\n"
+    return program(f"  call void @down(i64 {depth})\n", descent(deepest))
 
 
 def empty_blocks(count: int) -> str:

@@ -158,12 +158,14 @@ def schedule(graph: Graph, processors: int) -> list[Piece]:
             end = now + graph.weights[name]
             pieces.append(Piece(now, end, processor, name))
             heapq.heappush(running, (end, name, processor))
-        now, name, processor = heapq.heappop(running)
-        heapq.heappush(free, processor)
-        for high in above[name]:
-            waits[high] -= 1
-            if not waits[high]:
-                heapq.heappush(ready, (-tails[high], high))
+        now = running[0][0]
+        while running and running[0][0] == now:
+            _, name, processor = heapq.heappop(running)
+            heapq.heappush(free, processor)
+            for high in above[name]:
+                waits[high] -= 1
+                if not waits[high]:
+                    heapq.heappush(ready, (-tails[high], high))
     return pieces
 
 

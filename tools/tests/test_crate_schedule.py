@@ -74,6 +74,17 @@ class Schedules(unittest.TestCase):
             for low in graph().libraries[piece.name]:
                 self.assertLessEqual(ends[low], piece.start)
 
+    def test_the_longest_chain_goes_first_among_those_that_become_ready_together(self) -> None:
+        crates = {"a": [], "b": [], "short": ["a"], "long1": ["b"], "long2": ["b"]}
+        made = tool.graph_of(crates, {"a": 5, "b": 5, "short": 1, "long1": 9, "long2": 9}, None)
+        starts = {piece.name: piece.start for piece in tool.schedule(made, 2)}
+        self.assertEqual((starts["long1"], starts["long2"], starts["short"]), (5, 5, 14))
+
+    def test_each_crate_is_proved_once_and_for_its_seconds(self) -> None:
+        pieces = tool.schedule(graph(), 2)
+        self.assertEqual({piece.name: piece.end - piece.start for piece in pieces}, graph().weights)
+        self.assertEqual(len(pieces), len(graph().order))
+
     def test_a_processor_proves_one_crate_at_a_time(self) -> None:
         pieces = sorted(tool.schedule(graph(), 2), key=lambda piece: (piece.processor, piece.start))
         for first, second in zip(pieces, pieces[1:]):
@@ -112,7 +123,28 @@ class Repository(unittest.TestCase):
     def test_each_crate_of_the_program_has_a_weight(self) -> None:
         crates = tool.read_crates((tool.TOP / "crates.txt").read_text(encoding="utf-8"))
         weights = tool.read_weights((tool.TOP / "tools" / "crate_weights.txt").read_text(encoding="utf-8"))
-        self.assertGreater(tool.graph_of(crates, weights, "hippo").total, 0)
+        made = tool.graph_of(crates, weights, "hippo")
+        self.assertGreater(made.total, 0)
+        for count in (1, 2, 4, 100):
+            least = max(made.total / count, max(made.ends().values()))
+            most = made.total / count + max(made.ends().values())
+            self.assertTrue(least - 1e-6 <= tool.makespan(tool.schedule(made, count)) <= most + 1e-6, count)
+
+    def test_the_chain_is_the_heaviest_way_through_the_crates(self) -> None:
+        crates = tool.read_crates((tool.TOP / "crates.txt").read_text(encoding="utf-8"))
+        weights = tool.read_weights((tool.TOP / "tools" / "crate_weights.txt").read_text(encoding="utf-8"))
+        made = tool.graph_of(crates, weights, "hippo")
+        chain = made.chain()
+        for low, high in zip(chain, chain[1:]):
+            self.assertIn(low, crates[high])
+        heaviest: dict[str, float] = {}
+
+        def way(name: str) -> float:
+            if name not in heaviest:
+                heaviest[name] = weights[name] + max(map(way, crates[name]), default=0.0)
+            return heaviest[name]
+
+        self.assertAlmostEqual(sum(weights[name] for name in chain), max(map(way, made.order)))
 
 
 if __name__ == "__main__":

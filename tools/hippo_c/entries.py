@@ -2,14 +2,14 @@
 import re
 from collections.abc import Iterator
 
+from lowering.externs import FENCES, LINE_FLUSHES
+
 from .marking import marked_run, marked_text
 from .places import Places
 from .program import REGION_BASE, Instruction, Program, Site
 from .traces import pieces
 
-LINE_FLUSHES = ('llvm.x86.clwb', 'llvm.x86.clflushopt', 'llvm.x86.sse2.clflush')
 HEADER_AND_END = ('START', 'REGISTER', 'INPUT', 'IMAGE', 'STOP', 'TRAP', 'CUT')
-FENCES = ('llvm.x86.sse.sfence', 'llvm.x86.sse2.mfence', 'pmem_drain', 'pmem_persist')
 
 
 def operands(text: str) -> list[str]:

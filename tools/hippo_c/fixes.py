@@ -3,6 +3,8 @@
 A suggestion is not proved. What is proved is the repaired text; `--verify-fix` checks the edited C as any other."""
 from dataclasses import dataclass
 
+from lowering.externs import LIBPMEM, LINE_FLUSHES
+
 from .copies import Copies
 from .edits import Additions
 from .parsing import parsed
@@ -12,8 +14,6 @@ from .program import Site
 from .reports import Group
 from .session import Session
 from .syntax import Statement, Tree, address_of
-
-LINE_FLUSHES = ('llvm.x86.clwb', 'llvm.x86.clflushopt', 'llvm.x86.sse2.clflush')
 
 
 @dataclass
@@ -31,7 +31,7 @@ class Fixer:
     def __init__(self, session: Session, repair: Repair):
         self.session, self.repair, self.places = session, repair, session.places
         callees = {instruction.callee for _, instruction in session.program.sites()}
-        self.uses_libpmem = bool(callees & {'pmem_flush', 'pmem_persist', 'pmem_drain'}) and not callees & set(LINE_FLUSHES)
+        self.uses_libpmem = bool(callees & LIBPMEM) and not callees & LINE_FLUSHES
         self.fence = 'pmem_drain();' if self.uses_libpmem else '_mm_sfence();'
         self.put_in: dict[Site, list] = {}
         for item in repair.insertions:

@@ -3,9 +3,10 @@ import re
 from collections.abc import Callable
 from dataclasses import dataclass
 
+from lowering.externs import FENCES
+
 from .program import Instruction, Program, Site
 
-FENCES = ('llvm.x86.sse.sfence', 'llvm.x86.sse2.mfence', 'pmem_drain', 'pmem_persist')
 CALLEE = re.compile(r'(call \S+ @)[-\w$.]+\(', re.ASCII)
 
 

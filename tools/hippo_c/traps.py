@@ -1,11 +1,12 @@
 """Where a run traps: the instruction and the calls above it, as a marked copy of the program shows them."""
 from dataclasses import dataclass
 
+from lowering.externs import TAKE_ADDRESSES
+
 from .marking import marked_run, marked_text
 from .program import Instruction, Program, Site
 
 ACCESSES = ('load ', 'store ')
-FLUSHES = {'llvm.x86.clwb', 'llvm.x86.clflushopt', 'llvm.x86.sse2.clflush', 'pmem_flush', 'pmem_persist', 'pm_assert'}
 WORDS = {
     'divzero': {'udiv', 'sdiv', 'urem', 'srem'}, 'divoverflow': {'sdiv', 'srem'}, 'shift': {'shl', 'lshr', 'ashr'},
     'stack': {'alloca'}, 'unreachable': {'unreachable'},
@@ -31,7 +32,7 @@ def may_trap(instruction: Instruction, kind: str, program: Program) -> bool:
     text = instruction.text
     if kind in ('address', 'misaligned'):
         word = text.partition(' = ')[2] or text
-        return word.startswith(ACCESSES) or instruction.callee in FLUSHES
+        return word.startswith(ACCESSES) or instruction.callee in TAKE_ADDRESSES
     if kind == 'depth':
         return instruction.callee in program.functions
     if kind == 'input':

@@ -180,8 +180,8 @@ class Module:
     @staticmethod
     def extern_signature(name: str) -> Signature:
         """How an external function of hippo is called."""
-        result, parameters = EXTERNS[name]
-        return Signature(result, tuple(parameters), (False,) * len(parameters), False)
+        row = EXTERNS[name]
+        return Signature(row.result, row.parameters, (False,) * len(row.parameters), False)
 
     def name_of(self, written: str) -> str:
         """The name of a function in the subset."""

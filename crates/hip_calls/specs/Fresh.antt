@@ -5,7 +5,7 @@ use Rattle.hip_names.specs.Names.{is_among}
 use Rattle.hip_sound.specs.Numbering.{name_in}
 use Rattle.hip_sound.specs.Sound.{top_names}
 
--- the digits of a number of at most so many
+-- the last digits of a number, at most the given count of them
 abbrev pub numeral_in : ℕ → ℕ → List ℕ
 numeral_in zero n = []
 numeral_in (suc more) n = if nat_lt n 10 then (48 + n) ∷ [] else numeral_in more (n / 10) ++ (48 + n % 10) ∷ []
@@ -20,7 +20,7 @@ abbrev pub candidate : List ℕ → ℕ → List ℕ
 candidate name zero = name ++ codes ".pm"
 candidate name (suc k) = name ++ (codes ".pm" ++ numeral (suc k))
 
--- the first candidate from number k on that is not taken, among so many and the one behind them
+-- The first of `more` candidates from number k on that is not taken; where all are taken, the next candidate.
 abbrev pub fresh_from : List (List ℕ) → List ℕ → ℕ → ℕ → List ℕ
 fresh_from taken name zero k = candidate name k
 fresh_from taken name (suc more) k =

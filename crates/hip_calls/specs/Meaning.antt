@@ -13,15 +13,14 @@ use Rattle.hip_calls.specs.Laws.FreshLaws.{IsFirstFree}
 use Rattle.hip_calls.specs.Reach.{called_at, called_from, callees}
 use Rattle.hip_calls.specs.Laws.ReachLaws.{Has}
 
--- every function that one of these calls is of, and every function that a passing one calls, passes the test
+-- each callee of these calls passes the test, and so does each function that a passing one calls
 pub record PassesOn (P : Program) (sites : List Site) (test : ℕ → Bool) : Type 0 where
   pub first : (s : Site) (f : ℕ) → has_site sites s ≡ true → Has (called_at P (instr_of P s)) f
       → test f ≡ true
   pub onward : (f g : ℕ) → test f ≡ true → Has (called_from P f) g → test g ≡ true
 
--- The functions that calls reach from these calls: they are functions of the program, none is there twice, those that
--- are called are
--- there, and so is what they call; and nothing else is there.
+-- The functions that calls reach from these calls. They are functions of the program, each once. The callees are there,
+-- and so is each function that one of them calls, and no other function is there.
 pub record AreReached (P : Program) (sites : List Site) (reached : List ℕ) : Type 0 where
   pub functions : (f : ℕ) → Has reached f → f < length P.functions
   pub distinct : IsDistinct nat_eq reached
@@ -34,9 +33,8 @@ pub record AreReached (P : Program) (sites : List Site) (reached : List ℕ) : T
 abbrev pub CalleesAreReached : Type 0
 CalleesAreReached = (P : Program) (sites : List Site) → AreReached P sites (callees P sites)
 
--- Fresh names for copies of functions: one for each, and it is the first of `f.pm`, `f.pm1`, `f.pm2` and so on that
--- nothing in the
--- program has and no earlier copy; no external function has it.
+-- Fresh names for copies of functions: one for each. It is the first of `f.pm`, `f.pm1`, `f.pm2` and so on that neither
+-- the program nor an earlier copy has, and no external function has it.
 pub record AreFresh (P : Program) (functions : List ℕ) (names : List (List ℕ)) : Type 0 where
   pub each : length names ≡ length functions
   pub distinct : IsDistinct bytes_eq names

@@ -20,17 +20,17 @@ abbrev pub called_in : Program → Option Function → List ℕ
 called_in P None = []
 called_in P (Some f) = flat_map (λ b. flat_map (called_by P) b.body) f.blocks
 
--- the numbers of the functions that the function of a number calls, in the order of its text, whether a call is reached
--- or not
+-- the numbers of the functions that the function of a number calls, in the order of its text, also by calls that no run
+-- reaches
 abbrev pub called_from : Program → ℕ → List ℕ
 called_from P f = called_in P (slice_get P.functions f)
 
--- the list with the functions that one of it calls behind it, where they are not in it yet
+-- the list, extended by the functions that one of its functions calls, if they are not in it yet
 abbrev pub extended : Program → List ℕ → Option ℕ → List ℕ
 extended P seen None = seen
 extended P seen (Some f) = met nat_eq seen (called_from P f)
 
--- The list is gone through from a place on, for so many steps, and is extended at each.
+-- the list after `steps` steps from a place on, each of which extends it by the callees of the function at its place
 abbrev pub reached : Program → ℕ → ℕ → List ℕ → List ℕ
 reached P zero place seen = seen
 reached P (suc steps) place seen = reached P steps (suc place) (extended P seen (slice_get seen place))
@@ -44,8 +44,7 @@ called_at P (Some i) = called_by P i
 abbrev pub first_callees : Program → List Site → List ℕ
 first_callees P sites = met nat_eq [] (flat_map (λ s. called_at P (instr_of P s)) sites)
 
--- the callees of these calls, and all functions that calls reach from them; each is gone through once, so as many steps
--- as the
--- program has functions are enough
+-- The callees of these calls, and all functions that calls reach from them. Each function takes one step, so as many
+-- steps as the program has functions suffice.
 abbrev pub callees : Program → List Site → List ℕ
 callees P sites = reached P (length P.functions) 0 (first_callees P sites)

@@ -42,7 +42,7 @@ fn numbers_of(alloc: Global, functions: &[Function]) -> Result<NameTable<'_, usi
 }
 
 impl<'a> FunctionTable<'a> {
-    /// It takes time and memory linear in the number of functions.
+    /// The table of a program. It takes time and memory linear in the number of functions.
     pub fn new(alloc: Global, program: &'a Program) -> Result<FunctionTable<'a>, NoMemory>
         ensures { IfOk result (λ table. table ≡ program.now) }
     {

@@ -1,7 +1,7 @@
 use crate::op::{Case, Edge, Move, Op, Term};
 
-/// A resolved program: the ops of all functions, each block's end behind its body, and the tables that ops name entries
-/// of.
+/// A resolved program: the ops of all functions, each block's end after its body, the tables whose entries ops name, and
+/// for each function the place of its first op and the number of its registers.
 #[derive(Drop)]
 pub struct Code {
     pub ops: Vec<Op>,
@@ -10,4 +10,6 @@ pub struct Code {
     pub moves: Vec<Move>,
     pub edges: Vec<Edge>,
     pub cases: Vec<Case>,
+    pub starts: Vec<u32>,
+    pub sizes: Vec<u32>,
 }

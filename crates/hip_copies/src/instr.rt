@@ -35,7 +35,7 @@ impl Structural for Arg {
     }
 }
 
-/// Copies a variant: the fields in braces by the function behind them, those in brackets as they are.
+/// Copies a variant: the fields in braces by the function after `by`, those in brackets as they are.
 macro_rules! copy_variant {
     ($instr:expr, $alloc:expr,
         $($variant:ident { $($field:ident),* } by $copy:ident [ $($plain:ident),* ],)*) => {
@@ -48,8 +48,8 @@ macro_rules! copy_variant {
     };
 }
 
-/// Compares two values of one variant: the fields in braces by the function behind them, those in brackets by `==`.
-/// Behind each field stands the name of the other value's.
+/// Compares two values of one variant: the fields in braces by the function after `by`, those in brackets by `==`.
+/// After each field comes the name of the other value's.
 macro_rules! same_variant {
     ($a:expr, $b:expr,
         $($variant:ident { $($x:ident $y:ident),* } by $same:ident [ $($p:ident $q:ident),* ],)*) => {

@@ -5,7 +5,7 @@ ghost use Rattle.hip_types.specs.declared.areas.TheConstants.{LINE_SIZE};
 ghost use Rattle.hip_runs.specs.Outputs.{ending_by};
 ghost use Rattle.hip_runs.specs.Step.{has_entry, header_entries, image_lines, some_byte};
 
-use hip_step::{Event, Input};
+use hip_runs::{Event, Input};
 use hip_types::LINE_SIZE;
 
 /// How many entries stand before a run's first step, in time of the initial bytes.

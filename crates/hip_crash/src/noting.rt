@@ -8,7 +8,7 @@ ghost use Rattle.hip_crash.specs.declared.waiting.Waiting.TheVariants as waits;
 
 use crate::region_log::RegionLog;
 use crate::values::StoredValue;
-use hip_step::Event;
+use hip_runs::Event;
 
 /// Notes the event of a step in what is kept of a region at a base; it takes no memory.
 #[inline(always)]

@@ -3,7 +3,7 @@ ghost use Rattle.hip_crash_commands.specs.Advancing.{Reaches};
 ghost use Rattle.hip_crash_commands.specs.Images.{HasEntry};
 
 use hip_crash::CrashLog;
-use hip_step::Machine;
+use hip_engine::Machine;
 use hip_types::NoMemory;
 
 /// Takes the steps of a run up to the first state with so many entries, and notes them.

@@ -13,7 +13,7 @@ use hip_answers::{Status, refuse};
 use hip_io::{Cabinet, Sink};
 use hip_picks::Pick;
 use hip_sound::Checked;
-use hip_step::Input;
+use hip_runs::Input;
 use hip_trace_loading::load_run;
 use std::alloc::Global;
 

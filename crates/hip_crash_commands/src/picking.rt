@@ -8,7 +8,9 @@ use crate::refusal::{ImageRefusal, failure_of_picks};
 use hip_crash::{CrashLog, Pick};
 use hip_program_files::Failure;
 use hip_sound::Checked;
-use hip_step::{Input, Machine};
+use hip_engine::Machine;
+use hip_runs::Input;
+use hip_step::Begin;
 use hip_types::Row;
 use std::alloc::Global;
 

@@ -61,20 +61,20 @@ pub record Signature : Type 0 where
 abbrev pub signature : ExternCall → Signature
 signature c = record { ret = (row_of c).ret; params = (row_of c).params }
 
--- the signature that the table has for a name; none where no external function has it
+-- the signature that the table has for a name; none if no external function has that name
 abbrev pub known_signature : List ℕ → Option Signature
 known_signature name = option_map signature (call_of name)
 
 -- ---- flushes, fences and turns
 
--- whether the effect flushes cache lines, with a fence behind it or without
+-- whether the effect flushes cache lines, with a fence after it or without
 abbrev has_flush : LineEffect → Bool
 has_flush effects.Nothing = false
 has_flush effects.Flush = true
 has_flush effects.Fence = false
 has_flush effects.FlushAndFence = true
 
--- whether the effect takes a fence, behind a flush or alone
+-- whether the effect takes a fence, after a flush or alone
 abbrev has_fence : LineEffect → Bool
 has_fence effects.Nothing = false
 has_fence effects.Flush = false

@@ -7,6 +7,7 @@ use std::io::{ErrorKind, Read};
 pub struct FileCabinet<'a> {
     rt: &'a HostRuntime,
     file: Option<File>,
+    fetches: u64,
     misses: u64,
     faults: u64,
 }
@@ -16,6 +17,7 @@ impl<'a> FileCabinet<'a> {
         FileCabinet {
             rt,
             file: None,
+            fetches: 0,
             misses: 0,
             faults: 0,
         }
@@ -30,6 +32,7 @@ impl Cabinet for FileCabinet<'_> {
       is_current = is_some c.file;
       name = None;
       rest = None;
+      fetches = c.fetches;
       misses = c.misses;
       faults = c.faults;
     } };
@@ -38,6 +41,7 @@ impl Cabinet for FileCabinet<'_> {
 
     /// A file that the open call reports as absent is missing; every other failure is a fault.
     fn fetch(&mut self, name: &str) -> Fetched {
+        self.fetches = self.fetches.saturating_add(1);
         self.file = None;
         match File::open(self.rt, name) {
             Ok(file) => {

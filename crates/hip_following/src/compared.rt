@@ -11,9 +11,10 @@ use hip_invariants::runs_are_bounded;
 use hip_io::Cabinet;
 use hip_lockstep::{Begun, Ended, Lockstep, ReplayRefusal, read_header};
 use hip_report::{Findings, Tracker};
-use hip_runs::{events_tell_output_and_ending, longest, runs_end};
+use hip_runs::{Ending, Input, events_tell_output_and_ending, longest, runs_end};
 use hip_sound::Checked;
-use hip_step::{Ending, Input, Machine};
+use hip_engine::Machine;
+use hip_step::Begin;
 use hip_trace::Reader;
 use std::alloc::Global;
 
@@ -35,7 +36,7 @@ pub(crate) struct Followed {
 }
 
 /// Compares the rest of the current file with the trace of the run on the input that its header gives: one entry is
-/// read for each that the run makes, and at most one behind the run's end. Memory is taken by the input and the machine,
+/// read for each that the run makes, and at most one after the run's end. Memory is taken by the input and the machine,
 /// and by what is noted: stores that are not durable, marks and reports.
 pub fn replay<C: Cabinet>(
     alloc: Global,
@@ -69,7 +70,7 @@ pub fn replay<C: Cabinet>(
     }
 }
 
-// Runs a program on an input, and compares the entries behind the header with those of the run.
+// Runs a program on an input, and compares the entries after the header with those of the run.
 fn run_beside<C: Cabinet>(
     alloc: Global,
     checked: &Checked,
@@ -92,7 +93,7 @@ fn run_beside<C: Cabinet>(
     note_beside(alloc, &mut machine, lockstep, reader, cabinet)
 }
 
-// Takes the steps of a run behind its header, compares their entries with those of a trace, and notes what is found.
+// Takes the steps of a run after its header, compares their entries with those of a trace, and notes what is found.
 fn note_beside<'a, C: Cabinet>(
     alloc: Global,
     machine: &mut Machine<'a>,

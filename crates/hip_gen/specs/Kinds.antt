@@ -9,7 +9,7 @@ use Rattle.hip_gen.specs.declared.limits.TheConstants.{SEED_END}
 abbrev pub next_draw : ℕ → ℕ
 next_draw draw = (1103515245 * draw + 12345) % SEED_END
 
--- the number that is drawn after so many others, the seed being the first
+-- the number that is drawn after n others; the seed is the first
 abbrev pub draw : ℕ → ℕ → ℕ
 draw seed zero = seed
 draw seed (suc n) = next_draw (draw seed n)

@@ -1,6 +1,6 @@
--- The text of a generated program, line by line. `@data` is an array of as many elements as the size says, in
--- persistent memory, and `@temp` one of 8 in volatile memory. There is a group of instructions for each number below
--- the size, and it stores that number plus 1.
+-- The text of a generated program, line by line. `@data` is an array in persistent memory, and the size is the number
+-- of its elements; `@temp` is an array of 8 elements in volatile memory. For each number below the size a group of
+-- instructions stores that number plus 1.
 use Rattle.std.specs.Prelude.{ℕ, zero, suc, ◌+◌, ◌%◌, List, [], ◌++◌, codes}
 use Rattle.std.specs.Fmt.{decimal}
 use Rattle.hip_gen.specs.declared.kinds.Kind.{Kind}
@@ -48,7 +48,7 @@ abbrev pub lines_before : ℕ → ℕ → ℕ → List ℕ
 lines_before seed size zero = []
 lines_before seed size (suc group) = lines_before seed size group ++ group_lines size group (kind seed group)
 
--- what stands before the groups
+-- the text before the groups
 abbrev pub first_lines : ℕ → List ℕ
 first_lines size =
     codes "@data = global [" ++ (decimal size ++ (codes " x i64] zeroinitializer, section \".pm\"\n"
@@ -62,7 +62,7 @@ first_lines size =
     ++ (codes "define i32 @main() {\n"
     ++ codes "entry:\n"))))))))))
 
--- and behind them
+-- and after them
 abbrev pub last_lines : List ℕ
 last_lines = codes "  ret i32 0\n" ++ codes "}\n"
 

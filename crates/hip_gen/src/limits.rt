@@ -4,5 +4,5 @@ pub const SEED_END: u64 = 2_147_483_648;
 /// The largest size of a generated program.
 pub const LARGEST_SIZE: u64 = 50_000;
 
-/// How many elements the volatile array of a generated program has.
+/// The number of elements of the volatile array of a generated program.
 pub const VOLATILE_LENGTH: u64 = 8;

@@ -10,7 +10,7 @@ use crate::lines::{push, push_group, push_number};
 use hip_types::{NoMemory, Row};
 use std::alloc::Global;
 
-/// Puts what stands before the groups at the end of the text.
+/// Appends the text before the groups.
 fn push_first_lines(text: &mut Row<u8>, size: u64) -> Result<(), NoMemory>
     ensures { OnOk result (Appends text.old text.new (first_lines size)) }
 {

@@ -1,4 +1,4 @@
--- Bytes behind a place, and numbers as bytes.
+-- Bytes after a place, and numbers as bytes.
 use Rattle.std.proofs.Common.{ℕ, zero, suc, ◌+◌, ◌-◌, ◌%◌, ◌/◌, ◌<◌, ◌≤◌, ◌≡◌, List, [], ◌∷◌, ◌++◌, map, take, drop, length, get_or, replicate, refl, sym, ap, ◌∙◌, arith, append_assoc, append-nil, length-drop, length-append}
 use Rattle.std.specs.Int.{next_multiple_of}
 use Rattle.std.proofs.lemmas.List.{take_all, take-append-drop, drop-take, map-append, get_or_append_left, get_or-append-add}
@@ -66,7 +66,7 @@ pub placed-push : (so_far : List ℕ) (ps : List Piece) (p : Piece) → placed s
 placed-push so_far [] p = refl
 placed-push so_far (q ∷ qs) p = placed-push (aligned 0 q.align so_far ++ q.bytes) qs p
 
--- ---- what is behind a place
+-- ---- what is after a place
 
 take_seam : (old more : List ℕ) (start : ℕ) → start ≡ length old → take start (old ++ more) ≡ old
 take_seam old more start e = rw e (take-append_seam old more)

@@ -1,4 +1,4 @@
--- Each global's bytes stand where the global lies.
+-- Each global's bytes are at the global's address.
 use Rattle.std.proofs.Common.{ℕ, zero, suc, ◌+◌, ◌-◌, ◌<◌, ◌≤◌, ◌≡◌, Bool, true, false, List, [], ◌∷◌, ◌++◌, take, drop, length, Some, Result, Ok, Err, IfOk, refl, sym, ap, subst, ◌∙◌, arith, append_assoc, append-nil, length-take, ◌⊎◌, inl, inr}
 use Rattle.std.specs.Prelude.{if◌then◌else◌, slice_get}
 use Rattle.std.proofs.Math.Seq.{take-append_seam, drop-append_seam}
@@ -35,7 +35,7 @@ laid_goes_on a k start so_far (g ∷ gs) =
     let more = next_front (same_truth g.persistent k) a start so_far g in
     goes_further (laid_bytes a k start next gs) so_far more.0 (subst (λ (front : List ℕ). GoesOn (laid_bytes a k start next gs) front) more.1 (laid_goes_on a k start next gs))
 
--- bytes behind others
+-- bytes after others
 held_behind : (whole front bytes : List ℕ) → GoesOn whole (front ++ bytes) → HoldsAt whole (length front) bytes
 held_behind whole front bytes g = record {
   is =

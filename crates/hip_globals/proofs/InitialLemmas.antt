@@ -78,7 +78,7 @@ volatile_next p v g gs k kind = rw kind refl
 abbrev global_names : List GlobalVar → List (List ℕ)
 global_names gs = map (λ g. g.name) gs
 
--- what a number stands for, where 0 is the first and the others are those of the rest
+-- what a number denotes: 0 is the first, and the others are those of the rest
 first_or_later : (b : Bool) (all rest : ℕ → ℕ) (first : ℕ) (o : Option ℕ) → first ≡ all 0 → ((k : ℕ) → all (suc k) ≡ rest k) → (if b then Some first else option_map rest o) ≡ option_map all (cond b (Some 0) (option_map suc o))
 first_or_later true all rest first o e h = ap Some e
 first_or_later false all rest first None e h = refl

@@ -54,7 +54,7 @@ start_of persistent at (g ∷ gs) (suc number) =
     start_of persistent
     (if same_truth g.persistent persistent then global_start at g + (shape g.ty).size else at) gs number
 
--- whether the global of that number is persistent; false where no global has it
+-- whether the global of that number is persistent; false if no global has it
 abbrev pub is_persistent : List GlobalVar → ℕ → Bool
 is_persistent [] number = false
 is_persistent (g ∷ gs) zero = g.persistent
@@ -70,7 +70,7 @@ address_in globals base number =
 abbrev pub address : Program → ℕ → ℕ → ℕ
 address P base number = address_in P.globals base number
 
--- where the last volatile global ends, 65,536 if there is none
+-- the end of the last volatile global, 65,536 if there is none
 abbrev pub volatile_end : Program → ℕ
 volatile_end P = end_of false volatile_start P.globals
 
@@ -92,7 +92,7 @@ abbrev pub AllDivide : List GlobalVar → Type 0
 AllDivide [] = Unit {0}
 AllDivide (g ∷ gs) = (LARGEST_ALIGNMENT % global_align g ≡ 0) × AllDivide gs
 
--- the region and the volatile globals have at most as many bytes as they may
+-- the region and the volatile globals are within the limits of their sizes
 abbrev pub are_within_limits : List GlobalVar → Bool
 are_within_limits globals =
     nat_le (next_multiple_of (end_of true 0 globals) LINE_SIZE) LARGEST_REGION

@@ -22,6 +22,6 @@ laid_entries persistent volatile (g ∷ gs) =
     (address_entry g.name (global_start volatile g)
     ∷ laid_entries persistent (global_start volatile g + size_of g.ty) gs)
 
--- the address that a table has beside a name; 0 where it does not have the name
+-- the address that a table has for a name; 0 if it does not have the name
 abbrev pub address_beside : NameTable ℕ → List ℕ → ℕ
 address_beside table name = unwrap_or (value_beside table.names table.values name) 0

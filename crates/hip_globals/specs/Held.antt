@@ -1,11 +1,11 @@
--- Where the bytes of a global stand among those of all.
+-- Where the bytes of a global are among those of all.
 use Rattle.std.specs.Prelude.{ℕ, ◌-◌, ◌≡◌, Bool, true, List, take, drop, length, Some, slice_get}
 use Rattle.hip_tree.specs.declared.program.GlobalVar.{GlobalVar}
 use Rattle.hip_tree.specs.declared.program.Program.{Program}
 use Rattle.hip_globals.specs.Addresses.{same_truth, start_of}
 use Rattle.hip_globals.specs.Values.{global_address, constant_bytes}
 
--- these bytes stand at a place among others
+-- these bytes are at a place among others
 pub record HoldsAt (whole : List ℕ) (place : ℕ) (bytes : List ℕ) : Type 0 where
   pub is : take (length bytes) (drop place whole) ≡ bytes
 

@@ -8,7 +8,7 @@ use Rattle.hip_types.specs.Areas.{volatile_start}
 use Rattle.hip_globals.specs.Addresses.{global_align, same_truth}
 use Rattle.hip_globals.specs.Values.{global_address, aligned, constant_bytes}
 
--- those that are persistent, or those that are not, behind the bytes so far, the first of which lies at a place
+-- the persistent ones, or the others, after the bytes so far, whose first byte lies at a place
 abbrev pub laid_bytes : (List ℕ → ℕ) → Bool → ℕ → List ℕ → List GlobalVar → List ℕ
 laid_bytes address_of persistent start so_far [] = so_far
 laid_bytes address_of persistent start so_far (g ∷ gs) =
@@ -20,6 +20,6 @@ laid_bytes address_of persistent start so_far (g ∷ gs) =
 abbrev pub volatile_bytes : Program → ℕ → List ℕ
 volatile_bytes P base = laid_bytes (global_address P.globals base) false volatile_start [] P.globals
 
--- the bytes of the region, with zeros behind the last persistent global up to a whole cache line
+-- the bytes of the region, with zeros after the last persistent global up to a whole cache line
 abbrev pub region_bytes : Program → ℕ → List ℕ
 region_bytes P base = aligned 0 LINE_SIZE (laid_bytes (global_address P.globals base) true 0 [] P.globals)

@@ -15,7 +15,7 @@ use Rattle.hip_names.specs.Names.{number_of}
 
 -- ---- values
 
--- the address of the first global of that name, where the region begins at a base; 0 where none has it
+-- the address of the first global of that name, if the region begins at a base; 0 if none has it
 abbrev pub global_address : List GlobalVar → ℕ → List ℕ → ℕ
 global_address globals base name =
     unwrap_or (option_map (address_in globals base) (number_of (map (λ g. g.name) globals) name)) 0
@@ -35,12 +35,12 @@ value_step address_of _ = 0
 
 -- ---- bytes one after another
 
--- zeros behind them up to where a multiple of the alignment lies, if the first byte lies at a place
+-- zeros after them up to the next multiple of the alignment, if the first byte lies at a place
 abbrev pub aligned : ℕ → ℕ → List ℕ → List ℕ
 aligned start align bytes =
     bytes ++ replicate (next_multiple_of (start + length bytes) align - (start + length bytes)) 0
 
--- as many as a size: cut, or with zeros behind
+-- exactly as many bytes as the size: cut, or with zeros after them
 abbrev pub sized : ℕ → List ℕ → List ℕ
 sized size bytes = take size bytes ++ replicate (size - length bytes) 0
 
@@ -49,7 +49,7 @@ pub record Piece : Type 0 where
   pub align : ℕ
   pub bytes : List ℕ
 
--- the pieces behind the bytes so far, each at a multiple of its alignment
+-- the pieces after the bytes so far, each at a multiple of its alignment
 abbrev pub placed : List ℕ → List Piece → List ℕ
 placed so_far [] = so_far
 placed so_far (p ∷ ps) = placed (aligned 0 p.align so_far ++ p.bytes) ps
@@ -92,6 +92,6 @@ gep_address address_of = fold-ConstGep Written ℕ Piece (written_step address_o
 abbrev pub const_value : List GlobalVar → ℕ → Const → ℕ
 const_value globals base value = (written (global_address globals base) value).value
 
--- the bytes of a constant under a type: as many as the type's size
+-- the bytes of a constant under a type; the size of the type is their number
 abbrev pub constant_bytes : (List ℕ → ℕ) → Const → Ty → List ℕ
 constant_bytes address_of value ty = sized (size_of ty) (written address_of value).bytes

@@ -74,7 +74,7 @@ fn end_within(globals: &[GlobalVar], persistent: bool, start: u64, limit: u64) -
     }
 }
 
-/// Whether the region and the volatile globals have at most as many bytes as they may.
+/// Whether the region and the volatile globals are within the limits of their sizes.
 pub fn are_within_limits(globals: &[GlobalVar]) -> bool
     requires { OwnTypesFit globals.now }
     ensures { result ≡ spec.are_within_limits globals.now }
@@ -83,7 +83,7 @@ pub fn are_within_limits(globals: &[GlobalVar]) -> bool
         && end_within(globals, false, VOLATILE_START, VOLATILE_LIMIT)
 }
 
-/// How many bytes the persistent globals take, rounded up to whole cache lines.
+/// The number of bytes that the persistent globals take, rounded up to whole cache lines.
 pub fn region_size(program: &Program) -> u64
     requires fit { OwnTypesFit program.now.globals }
     requires small { spec.region_size program.now ≤ LARGEST_REGION }

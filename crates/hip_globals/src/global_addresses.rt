@@ -45,7 +45,7 @@ impl<'a> GlobalAddresses<'a> {
         Ok(GlobalAddresses { table })
     }
 
-    /// The address of the first global of that name, 0 if there is none.
+    /// The address of the first global of that name, 0 if no global has it.
     pub fn address(&self, name: &Name) -> u64
         ensures { result ≡ address_beside self.now name.now }
     {

@@ -24,14 +24,14 @@ fn push_number(bytes: &mut Row<u8>, count: u64, number: u64) -> Result<(), NoMem
     Ok(())
 }
 
-/// Adds so many bytes of 0.
+/// Adds n bytes of 0.
 fn push_zeros(alloc: Global, bytes: &mut Row<u8>, count: usize) -> Result<(), NoMemory>
     ensures { OnOk result (bytes.new ≡ bytes.old ++ replicate count 0) }
 {
     bytes.append(Row::from_vec(vec![in alloc; 0; count]?))
 }
 
-/// Cuts what stands behind a place to a size, or fills it up with zeros.
+/// Cuts what is after a place to a size, or fills it up with zeros.
 pub fn set_size(alloc: Global, bytes: &mut Row<u8>, start: usize, size: u64) -> Result<(), NoMemory>
     requires { start ≤ length bytes.old }
     ensures { OnOk result (bytes.new ≡ take start bytes.old ++ sized size (drop start bytes.old)) }
@@ -45,7 +45,7 @@ pub fn set_size(alloc: Global, bytes: &mut Row<u8>, start: usize, size: u64) -> 
     push_zeros(alloc, bytes, size - len)
 }
 
-/// Fills up with zeros to where a multiple of an alignment lies, if what stands behind a place begins at an address.
+/// Fills up with zeros to the next multiple of an alignment, if what is after a place begins at an address.
 pub fn set_align(
     alloc: Global,
     bytes: &mut Row<u8>,
@@ -65,7 +65,7 @@ pub fn set_align(
     }
 }
 
-/// The offset of a path, 0 where there is none.
+/// The offset of a path, 0 if the path does not exist.
 fn offset_of(alloc: Global, ty: &Ty, indices: &[Bits]) -> Result<u64, NoMemory>
     requires { Fits ty.now }
     ensures { IfOk result (λ offset. offset ≡ unwrap_or (gep_of ty.now (map index_of indices.now)) 0) }
@@ -132,7 +132,7 @@ pub fn push_constant(
     }
 }
 
-/// Adds a member of an aggregate: as many bytes as its type has.
+/// Adds a member of an aggregate: exactly the bytes of its type.
 #[cycle(bytes)]
 fn push_item(
     alloc: Global,

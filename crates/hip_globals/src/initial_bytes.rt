@@ -16,7 +16,7 @@ use hip_tree::{GlobalVar, Program};
 use hip_types::{LINE_SIZE, NoMemory, Row, VOLATILE_START, size};
 use std::alloc::Global;
 
-/// Adds the bytes of a global behind those of the globals before it, the first of which lies at an address.
+/// Adds the bytes of a global after those of the globals before it. The first of them lies at an address.
 fn add_global(
     alloc: Global,
     bytes: &mut Row<u8>,

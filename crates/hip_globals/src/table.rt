@@ -16,7 +16,7 @@ use std::alloc::Global;
 /// The addresses of globals by their names.
 pub type AddressTable<'a> = NameTable<'a, u64>;
 
-/// The address of the first global of that name, 0 if there is none.
+/// The address of the first global of that name, 0 if no global has it.
 pub fn address_of(table: &AddressTable<'_>, name: &Name) -> u64
     ensures { result ≡ address_beside table.now name.now }
 {

@@ -67,7 +67,7 @@ edge s = do
   label ← edge_label
   gives (record { value = value; label = label })
 
--- phi = LOCAL "=" "phi" scalar edge { "," edge }, behind its LOCAL "="
+-- phi = LOCAL "=" "phi" scalar edge { "," edge }, after its LOCAL "="
 unfoldable pub phi : List ℕ → Part Fault Phi
 phi dest = do
   _ ← word (codes "phi")
@@ -75,7 +75,7 @@ phi dest = do
   edges ← separated comma (edge s)
   gives (record { dest = dest; ty = s; edges = edges })
 
--- ---- instructions, those that assign a register behind LOCAL "="
+-- ---- instructions, those that assign a register after LOCAL "="
 
 -- no flag is set
 abbrev pub no_flags : Flags
@@ -87,7 +87,7 @@ with_flag f Nuw = record f { nuw = true }
 with_flag f Nsw = record f { nsw = true }
 with_flag f Exact = record f { exact = true }
 
--- { flag }, each of which may stand after the operation; which of them stand counts, not how often or in which order
+-- { flag }, each one a flag of the operation; only the set counts, not the order or how often a flag comes
 unfoldable pub flags : BinaryOp → Part Fault Flags
 flags op = do
   found ← repeated (is_word_of (flag_word op)) (token (a_word_of (flag_word op)))
@@ -113,14 +113,14 @@ compare dest = do
   b ← one_more_by comma (operand s)
   gives (instrs.Compare dest pred s a b)
 
--- "," scalar operand, where the type is this one
+-- "," scalar operand, with this type
 unfoldable pub next_of_type : Scalar → Part Fault Operand
 next_of_type s = do
   _ ← mark (byte ",")
   _ ← passing (is_scalar s)
   operand s
 
--- "," arg "," arg, where the second type is the first again
+-- "," arg "," arg, with the first type again as the second
 unfoldable pub alternatives : Part Fault (Scalar × Operand × Operand)
 alternatives = do
   _ ← mark (byte ",")
@@ -129,7 +129,7 @@ alternatives = do
   b ← next_of_type s
   gives (s, a, b)
 
--- "select" "i1" operand "," arg "," arg, where the second type is the first again
+-- "select" "i1" operand "," arg "," arg, with the first type again as the second
 unfoldable pub select : List ℕ → Part Fault Instr
 select dest = do
   _ ← word (codes "select")
@@ -253,7 +253,7 @@ cast_instr dest =
     (either (is_word (cast_text casts.Inttoptr)) (inttoptr dest)
     (memory_instr dest)))
 
--- an instruction behind LOCAL "="
+-- an instruction after LOCAL "="
 unfoldable pub value_instr : List ℕ → Part Fault Instr
 value_instr dest =
     either (is_word_of binary_word) (binary dest)
@@ -275,11 +275,11 @@ assigning_instr = do
 unfoldable pub instr : Part Fault Instr
 instr = either is_local assigning_instr effect_instr
 
--- the tokens by which an instruction without a register begins
+-- the first tokens of instructions without a register
 abbrev pub begins_effect : Tok → Bool
 begins_effect t = is_word (codes "store") t || (is_word (codes "tail") t || is_word (codes "call") t)
 
--- the tokens by which an instruction begins
+-- the first tokens of instructions
 abbrev pub begins_instr : Tok → Bool
 begins_instr t = is_local t || begins_effect t
 
@@ -291,7 +291,7 @@ target = do
   _ ← word (codes "label")
   token a_local
 
--- "label" LOCAL, behind "br"
+-- "label" LOCAL, after "br"
 unfoldable pub jump : Part Fault End
 jump = do
   label ← target
@@ -312,7 +312,7 @@ br = do
   _ ← word (codes "br")
   either (is_word (codes "label")) jump branch
 
--- int literal "," "label" LOCAL, where the type is the switch's
+-- int literal "," "label" LOCAL, with the type of the switch
 unfoldable pub case : Width → Part Fault Case
 case w = do
   _ ← passing (is_width w)
@@ -338,13 +338,13 @@ switch = do
   found ← cases w
   gives (ends.Switch w value other found)
 
--- "void", behind "ret"
+-- "void", after "ret"
 unfoldable pub ret_void : Part Fault End
 ret_void = do
   _ ← word (codes "void")
   gives (ends.Ret None)
 
--- scalar operand, behind "ret"
+-- scalar operand, after "ret"
 unfoldable pub ret_arg : Part Fault End
 ret_arg = do
   value ← arg
@@ -370,7 +370,7 @@ end =
 
 -- ---- blocks
 
--- end, behind the label, the phis and the instructions of its block
+-- end, after the label, the phis and the instructions of its block
 unfoldable pub closing : List ℕ → List Phi → List Instr → Part Fault Block
 closing label phis body = do
   last ← end
@@ -382,13 +382,13 @@ instrs_and_end label phis = do
   body ← repeated begins_instr instr
   closing label phis body
 
--- the same behind a first instruction
+-- the same after a first instruction
 unfoldable pub after_first : List ℕ → List Phi → Instr → Part Fault Block
 after_first label phis first = do
   body ← repeated begins_instr instr
   closing label phis (first ∷ body)
 
--- the rest of a block behind a LOCAL "=" that no phi follows: its first instruction assigns that register
+-- the rest of a block after a LOCAL "=" that no phi follows: its first instruction assigns that register
 unfoldable pub after_name : List ℕ → List Phi → List ℕ → Part Fault Block
 after_name label phis dest = do
   first ← value_instr dest
@@ -400,7 +400,7 @@ from_effect label phis = do
   first ← effect_instr
   after_first label phis first
 
--- the rest of a block where no LOCAL stands behind its phis
+-- the rest of a block with no LOCAL after its phis
 unfoldable pub after_phis : List ℕ → List Phi → Part Fault Block
 after_phis label phis = either begins_effect (from_effect label phis) (closing label phis [])
 

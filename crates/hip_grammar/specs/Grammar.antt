@@ -1,4 +1,4 @@
--- The grammar of programs: types, constants and operands. Each part is named as its production, which stands above it.
+-- The grammar of programs: types, constants and operands. Each part has the name of its production, written above it.
 use Rattle.std.specs.Prelude.{ℕ, zero, suc, Bool, List, is_some, codes, if◌then◌else◌}
 use Rattle.std.specs.Str.{bytes_eq}
 use Rattle.hip_types.specs.declared.number.Bits.{Bits}
@@ -127,7 +127,7 @@ gep_const inside = do
 unfoldable pub pointer_by : (Bool → Part Fault Const) → Part Fault Const
 pointer_by inside = either (is_word (codes "getelementptr")) (gep_const inside) (token a_pointer)
 
--- at most so many `getelementptr` in one another: where none is left, the parenthesis is too deep
+-- at most n nested `getelementptr`: if no level is left, the parenthesis is too deep
 unfoldable pub pointer_within : ℕ → Part Fault Const
 pointer_within zero = pointer_by (λ inbounds. token (too_deep (byte "(")))
 pointer_within (suc n) = pointer_by (gep_inside (pointer_within n))
@@ -187,7 +187,7 @@ const = const_within DEEPEST_NESTING
 
 -- ---- operands
 
--- const under an integer type or `ptr`, where no list may stand
+-- const under an integer type or `ptr`, which is no list
 unfoldable pub scalar_const : Scalar → Part Fault Const
 scalar_const (scalars.Int w) = token (an_int_const w)
 scalar_const scalars.Ptr = pointer_const

@@ -1,4 +1,4 @@
--- The numbers of a text, by the places where they stand.
+-- The numbers of a text, by their places.
 use Rattle.std.specs.Prelude.{ℕ, ◌+◌, ◌-◌, ◌*◌, ◌^◌, ◌%◌, Bool, false, not, ◌&&◌, List, [], ◌∷◌, Option, Some, None, ◌==◌, nat_lt, nat_le, if◌then◌else◌, codes}
 use Rattle.std.specs.Str.{bytes_eq}
 use Rattle.hip_tokens.specs.Bytes.{byte}
@@ -16,7 +16,7 @@ use Rattle.hip_types.specs.Numbers.{bits}
 use Rattle.hip_types.specs.declared.limits.TheConstants.{LARGEST_ALIGNMENT, LARGEST_COUNT}
 use Rattle.hip_grammar.specs.Words.{or_no, is_word}
 
--- the value of digits behind others
+-- the value of digits after others
 abbrev pub digits_from : ℕ → List ℕ → ℕ
 digits_from n [] = n
 digits_from n (d ∷ ds) = digits_from (10 * n + (d - byte "0")) ds
@@ -31,12 +31,12 @@ abbrev pub magnitude : List ℕ → ℕ
 magnitude [] = 0
 magnitude (d ∷ ds) = if d == byte "-" then digits_from 0 ds else digits_from 0 (d ∷ ds)
 
--- the number, or a refusal as out of range where there is none
+-- the number, or a refusal as out of range if there is none
 abbrev pub or_range : {A : Type 0} → Option A → Verdict Fault A
 or_range (Some n) = Yes n
 or_range None = Because Range
 
--- n where it is below the limit, else none
+-- n if it is below the limit, else none
 abbrev pub below : ℕ → ℕ → Option ℕ
 below limit n = if nat_lt n limit then Some n else None
 
@@ -48,7 +48,7 @@ negated w n = if n == 0 then Some 0 else (if nat_le n (2 ^ (bits_of w - 1)) then
 abbrev pub value_of : Width → List ℕ → Option ℕ
 value_of w t = if is_negative t then negated w (magnitude t) else below (2 ^ bits_of w) (magnitude t)
 
--- the number as an integer of the width, or a refusal as out of range where there is none
+-- the number as an integer of the width, or a refusal as out of range if there is none
 abbrev pub bits_in_range : Width → Option ℕ → Verdict Fault Bits
 bits_in_range w (Some n) = Yes (bits w n)
 bits_in_range w None = Because Range
@@ -84,7 +84,7 @@ an_int_const w t = if is_word (codes "zeroinitializer") t then Yes consts.Zero e
 abbrev pub count_of : List ℕ → Option ℕ
 count_of t = if is_negative t && not (magnitude t == 0) then None else below (LARGEST_COUNT + 1) (magnitude t)
 
--- a NUM that is the count of an array, out of range where it is below 0 or above `LARGEST_COUNT`
+-- a NUM that is the count of an array, out of range if it is below 0 or above `LARGEST_COUNT`
 abbrev pub a_count : Tok → Verdict Fault ℕ
 a_count (Num t) = or_range (count_of t)
 a_count _ = No
@@ -93,11 +93,11 @@ a_count _ = No
 abbrev pub is_alignment : ℕ → Bool
 is_alignment n = not (n == 0) && (LARGEST_ALIGNMENT % n == 0)
 
--- the alignment in bytes that a number says; none where a `-` stands, and where the number is no alignment
+-- the alignment in bytes that a number gives; none after a `-`, and if the number is no alignment
 abbrev pub alignment_of : List ℕ → Option ℕ
 alignment_of t = if not (is_negative t) && is_alignment (magnitude t) then Some (magnitude t) else None
 
--- a NUM that is an alignment in bytes, out of range where it is none
+-- a NUM that is an alignment in bytes, out of range if it is none
 abbrev pub an_alignment : Tok → Verdict Fault ℕ
 an_alignment (Num t) = or_range (alignment_of t)
 an_alignment _ = No

@@ -98,7 +98,7 @@ literal_text b = number_text b.width b.value
 abbrev pub index_text : Bits → List ℕ
 index_text b = width_text b.width ++ (codes " " ++ literal_text b)
 
--- `inbounds ` where it is set, else nothing
+-- `inbounds ` if it is set, else nothing
 abbrev pub inbounds_text : Bool → List ℕ
 inbounds_text true = codes "inbounds "
 inbounds_text false = []
@@ -119,7 +119,7 @@ gep_step gep =
     codes "getelementptr " ++ (inbounds_text gep.inbounds ++ (codes "(" ++ (type_text gep.ty ++ (codes ", ptr "
     ++ (gep.base ++ (after_commas (map index_text gep.indices) ++ codes ")"))))))
 
--- `i64 5`, as it stands in a list: the type of an item and its constant
+-- `i64 5`, an item of a list: its type and its constant
 abbrev pub typed_step : TypedConst-F (List ℕ) (List ℕ) (List ℕ) → List ℕ
 typed_step item = type_text item.ty ++ (codes " " ++ item.value)
 
@@ -142,18 +142,18 @@ abbrev pub operand_text : Operand → List ℕ
 operand_text (operands.Reg name) = codes "%" ++ name
 operand_text (operands.Fixed value) = const_text value
 
--- `i64 %x`, an operand behind its type
+-- `i64 %x`, an operand after its type
 abbrev pub arg_text : Arg → List ℕ
 arg_text arg = scalar_text arg.ty ++ (codes " " ++ operand_text arg.value)
 
--- `, align 8`, in bytes, or nothing where no alignment is written
+-- `, align 8`, in bytes, or nothing if no alignment is written
 abbrev pub align_text : Option ℕ → List ℕ
 align_text None = []
 align_text (Some n) = codes ", align " ++ decimal n
 
 -- ---- instructions
 
--- a flag and a space where it is set
+-- a flag and a space if it is set
 abbrev pub flag_if : Flag → Bool → List ℕ
 flag_if flag true = flag_text flag ++ codes " "
 flag_if flag false = []
@@ -250,7 +250,7 @@ abbrev pub section_text : Bool → List ℕ
 section_text true = codes ", section \".pm\""
 section_text false = []
 
--- `constant ` where the global is one, else `global `
+-- `constant ` if the global is one, else `global `
 abbrev pub fixed_text : Bool → List ℕ
 fixed_text true = codes "constant "
 fixed_text false = codes "global "

@@ -58,7 +58,7 @@ spelled_flat Ty-F.Ptr = true
 spelled_flat (Ty-F.Array n element) = false
 spelled_flat (Ty-F.Struct fields) = false
 
--- an array has at most as many elements as a count can be
+-- an array has at most `LARGEST_COUNT` elements
 abbrev pub spelled_level : (Ty → Bool) → Ty-F Ty → Bool
 spelled_level inner (Ty-F.Int w) = true
 spelled_level inner Ty-F.Ptr = true
@@ -94,7 +94,7 @@ spelled_pointer_level inner (Const-F.Gep gep) = inner gep
 spelled_pointer_level inner (Const-F.Array items) = false
 spelled_pointer_level inner (Const-F.Struct items) = false
 
--- at most so many `getelementptr` in one another
+-- at most n nested `getelementptr`
 unfoldable pub spelled_pointer_within : ℕ → Const → Bool
 spelled_pointer_within zero c = spelled_pointer_level (λ gep. false) (out-Const c)
 spelled_pointer_within (suc n) c = spelled_pointer_level (spelled_gep (spelled_pointer_within n)) (out-Const c)
@@ -141,7 +141,7 @@ spelled_const_by inner Ty-F.Ptr c = spelled_pointer c
 spelled_const_by inner (Ty-F.Array n element) c = spelled_array inner (out-Const c)
 spelled_const_by inner (Ty-F.Struct fields) c = spelled_struct inner (out-Const c)
 
--- an item of a list has a type of its own, under which its constant stands
+-- an item of a list has a type of its own, and its constant is under that type
 abbrev pub spelled_item : (Ty → Const → Bool) → TypedConst → Bool
 spelled_item value item = spelled_type item.ty && value item.ty item.value
 
@@ -156,7 +156,7 @@ spelled_const = spelled_const_within DEEPEST_NESTING
 
 -- ---- operands
 
--- a constant under an integer type or `ptr`, where no list may stand
+-- a constant under an integer type or `ptr`, which is no list
 abbrev pub spelled_scalar_const : Scalar → Const → Bool
 spelled_scalar_const (scalars.Int w) c = spelled_int w (out-Const c)
 spelled_scalar_const scalars.Ptr c = spelled_pointer c
@@ -194,7 +194,7 @@ spelled_cast casts.Trunc from to = is_int_type from && is_int_type to
 spelled_cast casts.Ptrtoint from to = not (is_int_type from) && is_int_type to
 spelled_cast casts.Inttoptr from to = is_int_type from && not (is_int_type to)
 
--- the register of a call, where it has one
+-- the register of a call, if it has one
 abbrev pub spelled_result : Option (List ℕ) → Bool
 spelled_result None = true
 spelled_result (Some dest) = is_name dest
@@ -272,7 +272,7 @@ abbrev pub spelled_function : Function → Bool
 spelled_function f =
     is_name f.name && (list_all spelled_param f.params && (not_empty f.blocks && list_all spelled_block f.blocks))
 
--- what is asked of each global, external function and function by itself; that names differ is no rule here
+-- the rules of each global, external function and function by itself; that names differ is no rule here
 abbrev pub spelled_program : Program → Bool
 spelled_program p =
     list_all spelled_global p.globals && (list_all spelled_extern p.externs && list_all spelled_function p.functions)

@@ -71,7 +71,7 @@ placement = do
   _ ← mark (byte ",")
   either (is_word (codes "section")) section only_align
 
--- persistence and alignment as they are written; volatile and without an alignment where nothing is
+-- persistence and alignment as they are written; volatile and without an alignment if nothing is
 abbrev pub placed : Option (Bool × Option ℕ) → Bool × Option ℕ
 placed (Some p) = p
 placed None = (false, None)
@@ -103,7 +103,7 @@ global = do
 
 -- ---- externs and functions
 
--- [ unnamed ], of which nothing is kept
+-- [ unnamed ], with no value
 abbrev pub maybe_unnamed : Part Fault (Option (Unit {0}))
 maybe_unnamed = optional (is_word_of unnamed_word) (token (a_word_of unnamed_word))
 

@@ -46,7 +46,7 @@ abbrev pub is_label : Tok → Bool
 is_label (Label t) = true
 is_label _ = false
 
--- whether the token is `,`, which stands between operands, between items, and before `section` and `align`
+-- whether the token is `,`, which separates operands and items and precedes `section` and `align`
 abbrev pub comma : Tok → Bool
 comma = is_mark (byte ",")
 
@@ -70,7 +70,7 @@ abbrev pub a_string : Tok → Verdict Fault (List ℕ)
 a_string (Str t) = Yes t
 a_string _ = No
 
--- the string behind `section`: `.pm`, and any other is unsupported
+-- the string after `section`: `.pm`, and any other is unsupported
 abbrev pub a_section : Tok → Verdict Fault (Unit {0})
 a_section (Str t) = if bytes_eq t (codes ".pm") then Yes tt else Because Unsupported
 a_section _ = No
@@ -79,7 +79,7 @@ a_section _ = No
 abbrev pub too_deep : {A : Type 0} → ℕ → Tok → Verdict Fault A
 too_deep b t = if is_mark b t then Because TooDeep else No
 
--- the value, or a refusal without a reason of its own where there is none
+-- the value, or a refusal without a reason of its own if there is none
 abbrev pub or_no : {A : Type 0} → Option A → Verdict Fault A
 or_no (Some x) = Yes x
 or_no None = No
@@ -203,7 +203,7 @@ cast_text casts.Inttoptr = codes "inttoptr"
 abbrev pub int_casts : List CastOp
 int_casts = casts.Zext ∷ casts.Sext ∷ casts.Trunc ∷ []
 
--- `zext`, `sext` or `trunc`, where the word is one of these; none for `ptrtoint`, `inttoptr` and any other word
+-- `zext`, `sext` or `trunc`, if the word is one of these; none for `ptrtoint`, `inttoptr` and any other word
 abbrev pub int_cast_word : List ℕ → Option CastOp
 int_cast_word = written_as cast_text int_casts
 
@@ -235,13 +235,13 @@ may_be_exact _ = false
 abbrev pub flags_after : BinaryOp → List Flag
 flags_after op = if may_wrap op then Nuw ∷ Nsw ∷ [] else (if may_be_exact op then Exact ∷ [] else [])
 
--- the flag that the word names; none for a flag that may not stand after the operation, and for any other word
+-- the flag that the word names; none for a flag that the operation may not have, and for any other word
 abbrev pub flag_word : BinaryOp → List ℕ → Option Flag
 flag_word op = written_as flag_text (flags_after op)
 
 -- ---- words that are read and not kept
 
--- private and internal linkage, and `dso_local`, which may stand before a global or a function
+-- private and internal linkage, and `dso_local`, which a global or a function may have
 -- (LLVM, "Linkage Types", "Runtime Preemption Specifiers")
 abbrev pub link_word : List ℕ → Option (Unit {0})
 link_word t =
@@ -257,7 +257,7 @@ unnamed_word t =
     else (if bytes_eq t (codes "local_unnamed_addr") then Some tt
     else None)
 
--- a word of either kind, as it may stand behind the `=` of a global
+-- a word of either kind, as it may follow the `=` of a global
 abbrev pub linkage_word : List ℕ → Option (Unit {0})
 linkage_word t = if is_some (link_word t) then Some tt else unnamed_word t
 

@@ -2,7 +2,7 @@
 /// early.
 #[derive(Clone, Copy, Debug, PartialEq, Eq)]
 pub enum Fault {
-    /// It may not stand there, or the text ends too early.
+    /// It is not allowed there, or the text ends too early.
     Syntax,
     /// It belongs to a form of LLVM's text that is not read.
     Unsupported,

@@ -3,7 +3,7 @@
 /// The line is that of the refused token, or of the text's last byte where the text ends too early.
 #[derive(Debug, Drop, PartialEq, Eq)]
 pub enum ParseRefusal {
-    /// The token may not stand there, or the text ends too early.
+    /// The token is not allowed there, or the text ends too early.
     Syntax { line: u64 },
     /// The token belongs to a form of LLVM's text that is not read.
     Unsupported { line: u64 },

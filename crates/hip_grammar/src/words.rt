@@ -242,7 +242,7 @@ impl Keyword for Flag {
     }
 }
 
-/// Whether `nuw` and `nsw` may stand after the operation.
+/// Whether the operation may have `nuw` and `nsw`.
 pub fn may_wrap(op: BinaryOp) -> bool
     ensures { result ≡ may_wrap op }
 {
@@ -252,7 +252,7 @@ pub fn may_wrap(op: BinaryOp) -> bool
     }
 }
 
-/// Whether `exact` may stand after the operation.
+/// Whether the operation may have `exact`.
 pub fn may_be_exact(op: BinaryOp) -> bool
     ensures { result ≡ may_be_exact op }
 {
@@ -266,7 +266,7 @@ const WRAP_FLAGS: [Flag; 2] = [Flag::Nuw, Flag::Nsw];
 
 const EXACT_FLAGS: [Flag; 1] = [Flag::Exact];
 
-/// The flag that the word names, where it may stand after the operation.
+/// The flag that the word names, if the operation may have it.
 pub fn flag_word(op: BinaryOp, word: &[u8]) -> Option<Flag>
     ensures { result ≡ flag_word op word.now }
 {

@@ -1,5 +1,7 @@
 -- Repairs one after another.
-use Rattle.std.proofs.Common.{Bool, List, [], ◌∷◌, ◌++◌}
+use Rattle.std.proofs.Common.{Bool, List, [], ◌∷◌, ◌++◌, map}
+use Rattle.std.specs.List.{All}
+use Rattle.std.proofs.lemmas.List.Elements.{All-cons, All-nil}
 use Rattle.hip_tree.specs.declared.program.Program.{Program}
 use Rattle.hip_tree.specs.declared.site.Site.{Site}
 use Rattle.hip_sound.specs.Sound.{IsSound}
@@ -18,12 +20,12 @@ use Rattle.hip_repair_survival.specs.Laws.ChecksKept.{stays_clean, worsens_no_ch
 use Rattle.hip_repair_survival.specs.Laws.ChecksSurvive.{repaired_survives}
 use Rattle.hip_repair_survival.specs.Laws.CoveredSurvive.{covered_survives}
 use Rattle.hip_repair_survival.specs.Laws.LoosensNothing.{loosens_nothing}
-use Rattle.hip_histories.specs.Chains.{LastsOn, Repair, StaysCovered, repaired_on}
+use Rattle.hip_histories.specs.Chains.{AllStayCovered, AreMadeInTurn, IsMendedFor, KeepsProgram, LastsOn, Repair, StaysCovered, TraceRepair, mended, repaired_on}
 use Rattle.hip_histories.specs.CrashSafe.{IsCrashSafe}
 use Rattle.hip_histories.specs.NoHarm.{DoesNoHarm}
 use Rattle.hip_histories.proofs.Corresponding.{no_harm_alone, no_harm_both, repair_does_no_harm}
 use Rattle.hip_histories.proofs.Covering.{stays_covered}
-use Rattle.hip_histories.proofs.Rounds.{end_alike, no_history_more}
+use Rattle.hip_histories.proofs.Rounds.{end_alike, lossless_too, no_history_more}
 
 pub twice : (P : Program) (first second : Plan) (skip also : Site → Bool) → IsSound P
     → DoesNoHarm P (repaired (repaired P first skip) second also)
@@ -69,6 +71,46 @@ pub all_covered : (P : Program) (r : Repair) (later : List Repair) → IsSound P
 all_covered P r later s quiet =
     stays_covered P (repaired P r.plan r.skip) (repaired_on (repaired P r.plan r.skip) later)
     (repair_does_no_harm P r.plan r.skip s) (hoisted_calls_are_covered P r.plan r.skip s quiet)
+
+-- what every chain of repairs keeps
+pub all_kept : (P : Program) (rs : List Repair) → IsSound P → KeepsProgram P (repaired_on P rs)
+all_kept P rs s =
+    let harmless = all_harmless P rs s in
+    record {
+      sound = all_sound P rs s;
+      harmless = harmless;
+      clean = λ I v clean. all_clean P rs s I v clean;
+      histories = no_history_more P (repaired_on P rs) harmless;
+      lossless = lossless_too P (repaired_on P rs) harmless (all_sound P rs s);
+      endings = end_alike P (repaired_on P rs) harmless;
+    }
+
+-- ---- repairs that are made for traces
+
+made_sound : (P : Program) (r : TraceRepair) → IsSound P → IsSound (repaired P r.repair.plan r.repair.skip)
+made_sound P r s = repaired_is_sound P r.repair.plan r.repair.skip s
+
+all_mended_for : (P : Program) (rs : List TraceRepair) → IsSound P → AreMadeInTurn P rs
+    → All (λ r. IsClean (mended P rs) r.input) rs
+all_mended_for P [] s made = All-nil (λ (r : TraceRepair). IsClean P r.input)
+all_mended_for P (r ∷ rs) s made =
+    let Q : Program = repaired P r.repair.plan r.repair.skip in
+    All-cons (λ (x : TraceRepair). IsClean (mended Q rs) x.input) r rs
+    (all_clean Q (map (λ (x : TraceRepair). x.repair) rs) (made_sound P r s) r.input
+    (valid_again P r.repair.plan r.repair.skip r.input made.0.valid)
+    (repairs_are_clean P r.repair.plan r.repair.skip r.input r.findings s made.0.valid made.0.quiet made.0.found made.0.planned))
+    (all_mended_for Q rs (made_sound P r s) made.1)
+
+all_stay_covered : (P : Program) (rs : List TraceRepair) → IsSound P → AreMadeInTurn P rs
+    → AllStayCovered P rs (mended P rs)
+all_stay_covered P [] s made = tt
+all_stay_covered P (r ∷ rs) s made = (
+  all_covered P r.repair (map (λ (x : TraceRepair). x.repair) rs) s made.0.quiet,
+  all_stay_covered (repaired P r.repair.plan r.repair.skip) rs (made_sound P r s) made.1,
+)
+
+pub mended_for : (P : Program) (rs : List TraceRepair) → IsSound P → AreMadeInTurn P rs → IsMendedFor P rs
+mended_for P rs s made = record { clean = all_mended_for P rs s made; covered = all_stay_covered P rs s made }
 
 pub lasts_on : (P : Program) (I : Input) (plan : Plan) (skip : Site → Bool) (found : Findings) → IsSound P → IsValid P I
     → IsQuiet P skip → IsFound P I found → Contains plan (plan_for P found) → LastsOn P (repaired P plan skip) I

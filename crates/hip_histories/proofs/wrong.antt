@@ -1,3 +1,4 @@
 pub mod DroppedFlush
 pub mod EarlyClone
 pub mod LeftLoose
+pub mod ShortClone

@@ -1,18 +1,25 @@
 -- A program that is repaired several times, and what later repairs keep. (This project's own.)
-use Rattle.std.specs.Prelude.{◌≡◌, ℕ, suc, ◌<◌, ◌≤◌, Bool, List, [], ◌∷◌, Some, length, slice_get}
+use Rattle.std.specs.List.{All}
+use Rattle.std.specs.Prelude.{◌≡◌, ℕ, suc, ◌<◌, ◌≤◌, Bool, List, [], ◌∷◌, Some, length, map, slice_get}
 use Rattle.hip_tree.specs.declared.program.Program.{Program}
 use Rattle.hip_tree.specs.declared.site.Site.{Site}
 use Rattle.hip_lines.specs.Line.{Line}
+use Rattle.hip_runs.specs.Found.Marks.{IsFound}
 use Rattle.hip_runs.specs.State.{StorePart}
 use Rattle.hip_runs.specs.Step.{run}
 use Rattle.hip_runs.specs.Validity.{IsValid}
 use Rattle.hip_runs.specs.declared.input.Input.{Input}
+use Rattle.hip_runs.specs.declared.report.Findings.{Findings}
+use Rattle.hip_repairs.specs.Choice.{Contains, plan_for}
 use Rattle.hip_repairs.specs.Clean.{IsClean}
 use Rattle.hip_repairs.specs.Covered.{IsBehindClone, IsLastBefore}
+use Rattle.hip_repairs.specs.Quiet.{IsQuiet}
 use Rattle.hip_repairs.specs.Repaired.{repaired}
 use Rattle.hip_repairs.specs.declared.plan.Plan.{Plan}
 use Rattle.hip_sound.specs.Sound.{IsSound}
+use Rattle.hip_histories.specs.Histories.{AddsNoHistory, KeepsLosslessHistories}
 use Rattle.hip_histories.specs.NoHarm.{DoesNoHarm, GoesAlong}
+use Rattle.hip_histories.specs.WholeRuns.{EndAlike}
 
 -- a repair: its plan, and the stores that its clones do not flush
 pub record Repair : Type 0 where
@@ -41,3 +48,50 @@ pub record LastsOn (P Q : Program) (I : Input) : Type 0 where
   pub harmless : (later : List Repair) → DoesNoHarm P (repaired_on Q later)
   pub covered : (later : List Repair) → StaysCovered P Q (repaired_on Q later)
   pub clean : (later : List Repair) → IsClean (repaired_on Q later) I
+
+-- ---- repairs one after another
+
+-- What every chain of repairs keeps that makes Q of P, by whatever plans: Q is sound and does no harm in the place of P. A
+-- clean run stays clean, no crash history is added, one in which no crash loses anything stays, and each run ends as P's.
+pub record KeepsProgram (P Q : Program) : Type 0 where
+  pub sound : IsSound Q
+  pub harmless : DoesNoHarm P Q
+  pub clean : (I : Input) → IsValid P I → IsClean P I → IsClean Q I
+  pub histories : AddsNoHistory P Q
+  pub lossless : KeepsLosslessHistories P Q
+  pub endings : (I : Input) → IsValid P I → EndAlike P Q I
+
+-- a repair that was made for a trace: the input of the traced run, what that run found, and the repair
+pub record TraceRepair : Type 0 where
+  pub input : Input
+  pub findings : Findings
+  pub repair : Repair
+
+-- The repair is made for the run of P on its input: its plan has what the run found, and the stores that its clones do not
+-- flush never lie in the region.
+pub record IsMadeFor (P : Program) (r : TraceRepair) : Type 0 where
+  pub valid : IsValid P r.input
+  pub found : IsFound P r.input r.findings
+  pub planned : Contains r.repair.plan (plan_for P r.findings)
+  pub quiet : IsQuiet P r.repair.skip
+
+-- each repair is made for a run of the program that the repairs before it left
+abbrev pub AreMadeInTurn : Program → List TraceRepair → Type 0
+AreMadeInTurn P [] = Unit {0}
+AreMadeInTurn P (r ∷ rs) = IsMadeFor P r × AreMadeInTurn (repaired P r.repair.plan r.repair.skip) rs
+
+-- the program after these repairs, the first one first
+abbrev pub mended : Program → List TraceRepair → Program
+mended P rs = repaired_on P (map (λ r. r.repair) rs)
+
+-- the calls that each of these repairs hoisted stay covered in R
+abbrev pub AllStayCovered : Program → List TraceRepair → Program → Type 0
+AllStayCovered P [] R = Unit {0}
+AllStayCovered P (r ∷ rs) R = StaysCovered P (repaired P r.repair.plan r.repair.skip) R
+    × AllStayCovered (repaired P r.repair.plan r.repair.skip) rs R
+
+-- The program after the repairs has nothing to report on the input of every trace so far, and the calls that any of them
+-- hoisted are covered.
+pub record IsMendedFor (P : Program) (rs : List TraceRepair) : Type 0 where
+  pub clean : All (λ r. IsClean (mended P rs) r.input) rs
+  pub covered : AllStayCovered P rs (mended P rs)

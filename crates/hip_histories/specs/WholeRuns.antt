@@ -7,7 +7,7 @@ use Rattle.hip_runs.specs.Step.{run}
 use Rattle.hip_runs.specs.declared.event.Ending.{Ending}
 use Rattle.hip_runs.specs.declared.input.Input.{Input}
 
--- After so many steps the run has ended with this ending, this output and this working memory: its initial bytes and all
+-- After n steps the run has ended with this ending, this output and this working memory: its initial bytes and all
 -- writes in order, which give each byte its value.
 pub record HasEnded (P : Program) (I : Input) (n : ℕ) (ending : Ending) (output : List ℕ) (memory : Memory) : Type 0 where
   pub ended : (run P I n).world.ending ≡ Some ending

@@ -1,6 +1,6 @@
 //! Laws of repaired programs over several runs with crashes between them and over several repairs, on definitions alone.
 
-ghost use Rattle.hip_histories.specs.Chains.{LastsOn, Repair, StaysCovered, repaired_on};
+ghost use Rattle.hip_histories.specs.Chains.{AreMadeInTurn, IsMendedFor, KeepsProgram, LastsOn, Repair, StaysCovered, TraceRepair, repaired_on};
 ghost use Rattle.hip_histories.specs.CrashSafe.{IsCrashSafe};
 ghost use Rattle.hip_histories.specs.Histories.{AddsNoHistory, IsRound, KeepsLosslessHistories, Round, input_of, state_of};
 ghost use Rattle.hip_histories.specs.NoHarm.{DoesNoHarm};
@@ -65,26 +65,19 @@ pub fn repairs_add_up()
         AddsNoHistory P (repaired (repaired P first skip) second also) }
 {}
 
-/// The same holds of any number of repairs, one after another. The program stays sound, and a clean run stays clean. A
-/// repair that has a plan for what was found after some repairs mends it, and all later repairs keep it mended. The program
-/// after all of them does no harm in the place of the first, adds no crash history, keeps those in which no crash loses
-/// anything, and its runs end as the first program's.
+/// The same holds of any number of repairs, one after another, by whatever plans: what they keep, they all keep. Where each
+/// repair is made for a run of the program that the repairs before it left, the program after all of them is clean on the
+/// input of every trace so far, and the calls that any of them hoisted are covered. A repair that has a plan for what was
+/// found after some repairs mends it, and all later repairs keep it mended.
 pub fn chains_of_repairs_add_up()
-    ensures sound { (P : Program) → (repairs : List Repair) → IsSound P → IsSound (repaired_on P repairs) }
-    ensures clean { (P : Program) → (repairs : List Repair) → IsSound P → (I : Input) → IsValid P I → IsClean P I →
-        IsClean (repaired_on P repairs) I }
+    ensures keep { (P : Program) → (repairs : List Repair) → IsSound P → KeepsProgram P (repaired_on P repairs) }
+    ensures traces { (P : Program) → (repairs : List TraceRepair) → IsSound P → AreMadeInTurn P repairs →
+        IsMendedFor P repairs }
     ensures mended { (P : Program) → (before : List Repair) → (repair : Repair) → (behind : List Repair) → IsSound P →
         (I : Input) → (found : Findings) → IsValid P I → IsQuiet (repaired_on P before) repair.skip →
         IsFound (repaired_on P before) I found →
         Contains repair.plan (plan_for (repaired_on P before) found) →
         IsClean (repaired_on P (before ++ repair ∷ behind)) I }
-    ensures harm { (P : Program) → (repairs : List Repair) → IsSound P → DoesNoHarm P (repaired_on P repairs) }
-    ensures histories { (P : Program) → (repairs : List Repair) → IsSound P →
-        AddsNoHistory P (repaired_on P repairs) }
-    ensures lossless { (P : Program) → (repairs : List Repair) → IsSound P →
-        KeepsLosslessHistories P (repaired_on P repairs) }
-    ensures whole { (P : Program) → (repairs : List Repair) → IsSound P → (I : Input) → IsValid P I →
-        EndAlike P (repaired_on P repairs) I }
 {}
 
 /// What a repair by a plan that has what a run found is worth over crashes and over later repairs, where the stores that the

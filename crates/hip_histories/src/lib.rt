@@ -10,6 +10,6 @@ pub use laws::{
     runs_end_in_one_way,
 };
 pub use refused::{
-    a_clone_that_fences_early_does_not_cover, a_dropped_flush_adds_a_history,
-    early_flushes_and_fences_are_not_clean,
+    a_clone_that_fences_early_does_not_cover, a_clone_that_leaves_out_a_store_does_not_cover,
+    a_dropped_flush_adds_a_history, early_flushes_and_fences_are_not_clean,
 };

@@ -1,7 +1,7 @@
 //! Wrong repairs, each with the law that refuses it.
 
 ghost use Rattle.hip_histories.specs.Histories.{AddsNoHistory};
-ghost use Rattle.hip_histories.specs.examples.WrongRepairs.{clone_fences_early, fence_before_flush, flush_before_store};
+ghost use Rattle.hip_histories.specs.examples.WrongRepairs.{clone_fences_early, clone_without_store, fence_before_flush, flush_before_store};
 ghost use Rattle.hip_repairs.specs.Clean.{IsClean};
 ghost use Rattle.hip_repairs.specs.Covered.{IsCovered};
 ghost use Rattle.hip_repairs.specs.examples.CopyHoisted.{copy_hoisted};
@@ -23,4 +23,9 @@ pub fn early_flushes_and_fences_are_not_clean()
 /// A clone that flushes and fences before its last store does not cover the hoisted call.
 pub fn a_clone_that_fences_early_does_not_cover()
     ensures { ¬ IsCovered copy_hoisted clone_fences_early }
+{}
+
+/// A clone that leaves out a store of its function is no clone of it, so it does not cover the hoisted call.
+pub fn a_clone_that_leaves_out_a_store_does_not_cover()
+    ensures { ¬ IsCovered copy_hoisted clone_without_store }
 {}

@@ -30,13 +30,13 @@ opened file taken = option_map (λ f. record { name = f.name; rest = drop taken 
 taken_rest : (bytes buffer : List ℕ) (taken n : ℕ) → take n buffer ≡ take n (drop taken bytes) → drop taken bytes ≡ take n buffer ++ drop (taken + n) bytes
 taken_rest bytes buffer taken n same = rw (same, ← drop-drop n taken bytes) (sym (take-append-drop n (drop taken bytes)))
 
-pub gives_next : (files : List NamedFile) (chunk misses : ℕ) (file : Option NamedFile) (taken n : ℕ) (rest buffer : List ℕ) → option_map (λ o. o.rest) (opened file taken) ≡ Some rest → 1 ≤ n → n ≤ length buffer → take n buffer ≡ take n rest →
-    HasGot (mem_cabinet_state (record { files = files; chunk = chunk; current = opened file taken; misses = misses })) (mem_cabinet_state (record { files = files; chunk = chunk; current = opened file (taken + n); misses = misses })) buffer n
-gives_next files chunk misses None taken n rest buffer is some fits same = cc
-gives_next files chunk misses (Some f) taken n rest buffer is some fits same =
+pub gives_next : (files : List NamedFile) (chunk fetches misses : ℕ) (file : Option NamedFile) (taken n : ℕ) (rest buffer : List ℕ) → option_map (λ o. o.rest) (opened file taken) ≡ Some rest → 1 ≤ n → n ≤ length buffer → take n buffer ≡ take n rest →
+    HasGot (mem_cabinet_state (record { files = files; chunk = chunk; current = opened file taken; fetches = fetches; misses = misses })) (mem_cabinet_state (record { files = files; chunk = chunk; current = opened file (taken + n); fetches = fetches; misses = misses })) buffer n
+gives_next files chunk fetches misses None taken n rest buffer is some fits same = cc
+gives_next files chunk fetches misses (Some f) taken n rest buffer is some fits same =
     let left : drop taken f.bytes ≡ rest = cc in
     record {
-      stays = record { files = refl; misses = refl; current = refl; named = refl };
+      stays = record { files = refl; fetches = refl; misses = refl; current = refl; named = refl };
       faults = refl;
       some = some;
       fits = fits;
@@ -48,7 +48,7 @@ fails_take old new is later current =
     let P : FailingFiles → Type 0 = λ f. HasFailedTake (failing_cabinet_state old) (failing_cabinet_state f) in
     let after : old.faults ≤ counted old.faults = subst (λ (f : FailingFiles). old.faults ≤ f.faults) is later in
     subst P (sym is) (record {
-      stays = record { files = refl; misses = refl; current = current; named = refl };
+      stays = record { files = refl; fetches = refl; misses = refl; current = current; named = refl };
       later = after;
       rose = omega arith;
       rest = refl;

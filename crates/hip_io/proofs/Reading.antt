@@ -19,7 +19,7 @@ pub stopped : (old mid new : CabinetState) (limit n : ℕ) (bytes buffer : List 
 stopped old mid new limit n bytes buffer h k le = record {
   part = record {
     bytes = bytes ++ take n buffer;
-    stays = record { files = k.stays.files ∙ h.stays.files; misses = k.stays.misses ∙ h.stays.misses; current = k.stays.current; named = k.stays.named ∙ h.stays.named };
+    stays = record { files = k.stays.files ∙ h.stays.files; fetches = k.stays.fetches ∙ h.stays.fetches; misses = k.stays.misses ∙ h.stays.misses; current = k.stays.current; named = k.stays.named ∙ h.stays.named };
     few = omega (arith, length-append bytes (take n buffer), length-take-le n buffer k.fits, le);
     rest = both_pieces bytes (take n buffer) old.rest mid.rest new.rest h.rest k.bytes;
   };
@@ -57,6 +57,7 @@ begun old mid new name limit f p = record {
 whole : (old mid new : CabinetState) (name : List ℕ) (limit : ℕ) (bytes : List ℕ) → IsFetched old mid name → HasTakenRest mid new limit bytes → HasReadWhole old new name limit bytes
 whole old mid new name limit bytes f r = record {
   files = r.taken.stays.files ∙ f.files;
+  fetches = r.taken.stays.fetches ∙ f.fetches;
   misses = r.taken.stays.misses ∙ f.misses;
   faults = r.taken.faults ∙ f.faults;
   current = r.taken.stays.current;
@@ -83,6 +84,7 @@ whole old mid new name limit bytes f r = record {
 too_much : (old mid new : CabinetState) (name : List ℕ) (limit : ℕ) → IsFetched old mid name → HasTakenTooMuch mid new limit → HasReadTooMuch old new name limit
 too_much old mid new name limit f r = record {
   files = r.taken.stays.files ∙ f.files;
+  fetches = r.taken.stays.fetches ∙ f.fetches;
   misses = r.taken.stays.misses ∙ f.misses;
   faults = r.taken.faults ∙ f.faults;
   current = r.taken.stays.current;
@@ -112,6 +114,7 @@ read_on old mid new name limit (Ok bytes) f r = whole old mid new name limit byt
 read_on old mid new name limit (Err refusals.Missing) f r = absurd r
 read_on old mid new name limit (Err refusals.ReadFault) f r = record {
   files = r.part.stays.files ∙ f.files;
+  fetches = r.part.stays.fetches ∙ f.fetches;
   misses = r.part.stays.misses ∙ f.misses;
   later = omega (arith, r.later, f.faults);
   rose = subst (λ n. Rose n new.faults) f.faults r.rose;
@@ -120,6 +123,7 @@ read_on old mid new name limit (Err refusals.ReadFault) f r = record {
 read_on old mid new name limit (Err refusals.TooLarge) f r = too_much old mid new name limit f r
 read_on old mid new name limit (Err refusals.NoMemory) f r = record {
   files = r.part.stays.files ∙ f.files;
+  fetches = r.part.stays.fetches ∙ f.fetches;
   misses = r.part.stays.misses ∙ f.misses;
   faults = r.faults ∙ f.faults;
   begun = begun old mid new name limit f r.part;

@@ -1,7 +1,7 @@
 -- What contracts see of a cabinet: named files, of which one at a time is current and is read from its start.
 use Rattle.std.specs.Prelude.{ℕ, ◌≡◌, ◌≤◌, if◌then◌else◌, Bool, true, false, List, [], ◌∷◌, ◌++◌, length, take, Option, Some, None, IfSome, is_some, option_map}
 use Rattle.std.specs.Str.{bytes_eq}
-use Rattle.hip_io.specs.Counts.{Rose}
+use Rattle.hip_io.specs.Counts.{Rose, counted}
 use Rattle.hip_io.specs.declared.cabinet.NamedFile.{NamedFile}
 use Rattle.hip_io.specs.declared.cabinet.Fetched.{Fetched}
 use Rattle.hip_io.specs.declared.cabinet.Fetched.TheVariants as fetched
@@ -9,12 +9,13 @@ use Rattle.hip_io.specs.declared.cabinet.Taken.{Taken}
 use Rattle.hip_io.specs.declared.cabinet.Taken.TheVariants as taken
 
 -- Whether a file is current is always known. The files, and the name and the rest of the current one, are seen
--- where the cabinet tells them. Misses and faults are counted.
+-- where the cabinet tells them. Fetches, misses and faults are counted.
 pub record CabinetState : Type 0 where
   pub files : Option (List NamedFile)
   pub is_current : Bool
   pub name : Option (List ℕ)
   pub rest : Option (List ℕ)
+  pub fetches : ℕ
   pub misses : ℕ
   pub faults : ℕ
 
@@ -37,6 +38,7 @@ pub record IsFirstFile (files : List NamedFile) (name : List ℕ) (new : Cabinet
 -- The named file is the current one, at its first byte.
 pub record IsFetched (old new : CabinetState) (name : List ℕ) : Type 0 where
   pub files : new.files ≡ old.files
+  pub fetches : new.fetches ≡ counted old.fetches
   pub misses : new.misses ≡ old.misses
   pub faults : new.faults ≡ old.faults
   pub current : new.is_current ≡ true
@@ -46,6 +48,7 @@ pub record IsFetched (old new : CabinetState) (name : List ℕ) : Type 0 where
 -- No file has the name, as far as the cabinet tells; none is current.
 pub record IsMissed (old new : CabinetState) (name : List ℕ) : Type 0 where
   pub files : new.files ≡ old.files
+  pub fetches : new.fetches ≡ counted old.fetches
   pub later : old.misses ≤ new.misses
   pub rose : Rose old.misses new.misses
   pub faults : new.faults ≡ old.faults
@@ -55,6 +58,7 @@ pub record IsMissed (old new : CabinetState) (name : List ℕ) : Type 0 where
 -- The fetch failed; no file is current.
 pub record HasFailedFetch (old new : CabinetState) : Type 0 where
   pub files : new.files ≡ old.files
+  pub fetches : new.fetches ≡ counted old.fetches
   pub misses : new.misses ≡ old.misses
   pub later : old.faults ≤ new.faults
   pub rose : Rose old.faults new.faults
@@ -69,6 +73,7 @@ HasFetched old new name fetched.Failed = HasFailedFetch old new
 -- what every `take` leaves as it is
 pub record StaysOpen (old new : CabinetState) : Type 0 where
   pub files : new.files ≡ old.files
+  pub fetches : new.fetches ≡ old.fetches
   pub misses : new.misses ≡ old.misses
   pub current : new.is_current ≡ true
   pub named : new.name ≡ old.name

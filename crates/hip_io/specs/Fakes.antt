@@ -21,6 +21,7 @@ pub record MemFiles : Type 0 where
   pub files : List NamedFile
   pub chunk : ℕ
   pub current : Option OpenFile
+  pub fetches : ℕ
   pub misses : ℕ
 
 -- what a cabinet in memory tells: all its files, and the name and the rest of the current one; it counts no faults
@@ -30,6 +31,7 @@ mem_cabinet_state m = record {
   is_current = is_some m.current;
   name = option_map (λ file. file.name) m.current;
   rest = option_map (λ file. file.rest) m.current;
+  fetches = m.fetches;
   misses = m.misses;
   faults = 0;
 }
@@ -81,11 +83,12 @@ pub record FailingFiles : Type 0 where
   pub name : List ℕ
   pub at : FailAt
   pub left : Option ℕ
+  pub fetches : ℕ
   pub faults : ℕ
 
--- what a cabinet that fails tells: what its files in memory do, with the faults that it has counted
+-- what a cabinet that fails tells: what its files in memory do, with the fetches and faults that it has counted
 abbrev pub failing_cabinet_state : FailingFiles → CabinetState
-failing_cabinet_state f = record (mem_cabinet_state f.inner) { faults = f.faults }
+failing_cabinet_state f = record (mem_cabinet_state f.inner) { fetches = f.fetches; faults = f.faults }
 
 pub failing_told : (f : FailingFiles) → IsTold (failing_cabinet_state f)
 failing_told f = memory_told f.inner

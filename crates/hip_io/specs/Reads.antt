@@ -1,6 +1,6 @@
 -- What it means to read a whole file of a cabinet.
 use Rattle.std.specs.Prelude.{ℕ, ◌+◌, ◌≡◌, ◌≤◌, ◌<◌, ◌⊎◌, true, false, List, [], ◌++◌, length, drop, Some, IfSome, option_map, Result, Ok, Err}
-use Rattle.hip_io.specs.Counts.{Rose}
+use Rattle.hip_io.specs.Counts.{Rose, counted}
 use Rattle.hip_io.specs.Cabinets.{CabinetState, StaysOpen, IsMissed, file_of}
 use Rattle.hip_io.specs.declared.read.ReadRefusal.{ReadRefusal}
 use Rattle.hip_io.specs.declared.read.ReadRefusal.TheVariants as refusals
@@ -22,6 +22,7 @@ pub record IsWholeFile (files : List NamedFile) (name bytes : List ℕ) (new : C
 -- limit. Nothing failed.
 pub record HasReadWhole (old new : CabinetState) (name : List ℕ) (limit : ℕ) (bytes : List ℕ) : Type 0 where
   pub files : new.files ≡ old.files
+  pub fetches : new.fetches ≡ counted old.fetches
   pub misses : new.misses ≡ old.misses
   pub faults : new.faults ≡ old.faults
   pub current : new.is_current ≡ true
@@ -40,6 +41,7 @@ pub record IsLongFile (files : List NamedFile) (name : List ℕ) (limit : ℕ) (
 -- The named file is current and has more bytes than the limit, as far as the cabinet tells. Nothing failed.
 pub record HasReadTooMuch (old new : CabinetState) (name : List ℕ) (limit : ℕ) : Type 0 where
   pub files : new.files ≡ old.files
+  pub fetches : new.fetches ≡ counted old.fetches
   pub misses : new.misses ≡ old.misses
   pub faults : new.faults ≡ old.faults
   pub current : new.is_current ≡ true
@@ -64,6 +66,7 @@ pub record HasBegun (old new : CabinetState) (name : List ℕ) (limit : ℕ) : T
 -- The fetch failed, and no file is current, or a read did.
 pub record HasFailedRead (old new : CabinetState) (name : List ℕ) (limit : ℕ) : Type 0 where
   pub files : new.files ≡ old.files
+  pub fetches : new.fetches ≡ counted old.fetches
   pub misses : new.misses ≡ old.misses
   pub later : old.faults ≤ new.faults
   pub rose : Rose old.faults new.faults
@@ -72,6 +75,7 @@ pub record HasFailedRead (old new : CabinetState) (name : List ℕ) (limit : ℕ
 -- No memory was left: the named file is current and was read in part, and no fault was counted.
 pub record HasReadPart (old new : CabinetState) (name : List ℕ) (limit : ℕ) : Type 0 where
   pub files : new.files ≡ old.files
+  pub fetches : new.fetches ≡ counted old.fetches
   pub misses : new.misses ≡ old.misses
   pub faults : new.faults ≡ old.faults
   pub begun : HasBegun old new name limit

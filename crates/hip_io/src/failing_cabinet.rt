@@ -22,6 +22,7 @@ pub struct FailingCabinet {
     name: Name,
     at: FailAt,
     left: Option<u64>,
+    fetches: u64,
     faults: u64,
 }
 
@@ -30,14 +31,27 @@ impl Model for FailingCabinet {
 
     ghost Value = { FailingFiles };
 
-    ghost view = { λ c. record { inner = c.inner; name = c.name; at = c.at; left = c.left; faults = c.faults } };
+    ghost view = { λ c. record {
+      inner = c.inner;
+      name = c.name;
+      at = c.at;
+      left = c.left;
+      fetches = c.fetches;
+      faults = c.faults;
+    } };
 }
 
 impl FailingCabinet {
     /// No file is current in it, whatever is current in `inner`.
     pub fn new(inner: MemCabinet, name: Name, at: FailAt) -> FailingCabinet
-        ensures { result ≡
-            record { inner = record inner { current = None }; name = name; at = at; left = None; faults = 0 } }
+        ensures { result ≡ record {
+          inner = record inner { current = None };
+          name = name;
+          at = at;
+          left = None;
+          fetches = 0;
+          faults = 0;
+        } }
     {
         let mut inner = inner;
         inner.close();
@@ -46,6 +60,7 @@ impl FailingCabinet {
             name,
             at,
             left: None,
+            fetches: 0,
             faults: 0,
         }
     }
@@ -72,6 +87,7 @@ impl Cabinet for FailingCabinet {
         ensures left { self.new.left ≡ left_of self.old name.now }
         ensures alike { FailsAlike self.old self.new }
     {
+        self.fetches = self.fetches.saturating_add(1);
         let watched = self.name.as_slice() == name.as_bytes();
         match self.at {
             FailAt::Fetch => {

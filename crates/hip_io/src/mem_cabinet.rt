@@ -19,6 +19,7 @@ pub struct MemCabinet {
     files: Row<NamedFile>,
     chunk: usize,
     place: Option<Place>,
+    fetches: u64,
     misses: u64,
 }
 
@@ -28,8 +29,13 @@ impl Model for MemCabinet {
 
     ghost Value = { MemFiles };
 
-    ghost view = { λ c.
-        record { files = c.files; chunk = c.chunk; current = open_file c.files c.place; misses = c.misses } };
+    ghost view = { λ c. record {
+      files = c.files;
+      chunk = c.chunk;
+      current = open_file c.files c.place;
+      fetches = c.fetches;
+      misses = c.misses;
+    } };
 
     ghost invariant = { λ c. 1 ≤ c.chunk };
 }
@@ -38,12 +44,13 @@ impl MemCabinet {
     /// Gives at most `chunk` bytes at a time.
     pub fn new(files: Row<NamedFile>, chunk: usize) -> MemCabinet
         requires { 1 ≤ chunk }
-        ensures { result ≡ record { files = files; chunk = chunk; current = None; misses = 0 } }
+        ensures { result ≡ record { files = files; chunk = chunk; current = None; fetches = 0; misses = 0 } }
     {
         MemCabinet {
             files,
             chunk,
             place: None,
+            fetches: 0,
             misses: 0,
         }
     }
@@ -79,6 +86,7 @@ impl Cabinet for MemCabinet {
         ensures works { result ≢ Fetched.Failed }
         ensures chunk { self.new.chunk ≡ self.old.chunk }
     {
+        self.fetches = self.fetches.saturating_add(1);
         match position_of(self.files.as_slice(), name.as_bytes()) {
             Some(file) => {
                 self.place = Some(Place { file, taken: 0 });

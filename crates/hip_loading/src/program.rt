@@ -8,7 +8,7 @@ use hip_tree::Program;
 use hip_typing::check;
 use std::alloc::Global;
 
-/// The program, where it is sound.
+/// The program, if it is sound.
 fn check_program(alloc: Global, program: Program) -> Result<Checked, Failure<ProgramRefusal>>
     ensures { ChecksProgram program result }
 {

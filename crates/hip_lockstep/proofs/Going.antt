@@ -40,7 +40,7 @@ pub none_ends : (o : Option Ending) → o ≡ None → is_some o ≡ true → �
 none_ends None q e = cc
 none_ends (Some x) q e = cc
 
--- what the laws of runs tell
+-- what the laws of runs say
 pub record IsTold (P : Program) (I : Input) : Type 0 where
   pub output : (n : ℕ) → (run P I (suc n)).world.output ≡ (run P I n).world.output ++ printed_by (event P I (run P I n))
   pub ending : (n : ℕ) → (run P I (suc n)).world.ending ≡ ending_by (event P I (run P I n))
@@ -54,7 +54,7 @@ pub told_by : (P : Program) (I : Input) →
 told_by P I output ending ends bounded = record { output = output P I; ending = ending P I; ends = ends P I; bounded = bounded P I }
 
 module _ {P : Program} {I : Input} {m : Seen} (told : IsTold P I) (is : IsGoing P I m) where
-  -- what the event of the next step tells
+  -- what the event of the next step says
   pub here : (e : Event) → e ≡ event m.program m.input (state_of m) → event P I (run P I m.taken) ≡ e
   here e told_of = ap (λ (p : Program). event p I (run p I m.taken)) (sym is.program) ∙ ap (λ (i : Input). event m.program i (run m.program i m.taken)) (sym is.input) ∙ sym told_of
 

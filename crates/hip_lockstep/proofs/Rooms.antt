@@ -25,7 +25,7 @@ module _ (P : Program) (I : Input) (sound : IsSound P) (valid : IsValid P I) (sh
       let product : suc I.limit * suc (longest P) ≤ suc (2 ^ 40) * 2 ^ 64 = mul-le (suc I.limit) (suc (longest P)) (suc (2 ^ 40)) (2 ^ 64) (omega (arith, limit)) (omega (arith, short)) in
       omega (arith, entries, steps, header, product, numbers, image, region)
 
-  -- so many entries are there after n steps
+  -- the number of entries after n steps
   pub room : (n count : ℕ) → count ≡ length (trace P I n) → count + 2 < 2 ^ 128
   room n count same =
       let few = entries_few n in
@@ -41,7 +41,7 @@ module _ (P : Program) (I : Input) (sound : IsSound P) (valid : IsValid P I) (sh
       omega (arith, high, image, region)
 
 module _ (P : Program) (I : Input) (sound : IsSound P) (valid : IsValid P I) (bounded : (n : ℕ) → IsBounded P I n) where
-  -- so many entries stand before the first step
+  -- the number of entries before the first step
   pub header_small : (count : ℕ) → count ≡ length (header_of I) → count ≤ 2 ^ 64
   header_small count same =
       let b = (bounded 0).header in

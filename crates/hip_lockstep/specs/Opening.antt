@@ -39,7 +39,7 @@ pub record HasGiven (P : Program) (start : CabinetState) (r : ReaderState) (s : 
   pub counted : count ≡ length entries
   pub header : (more : List (Option Entry)) → header P (told entries ++ more) ≡ header_from P given count more
 
--- All valid entries of a header were read, and one entry behind them.
+-- All valid entries of a header were read, and one entry after them.
 pub record HasAllGiven (P : Program) (start : CabinetState) (r : ReaderState) (s : CabinetState) (given : Input)
     (behind : Lockstep) : Type 0 where
   pub entries : List Entry
@@ -49,7 +49,7 @@ pub record HasAllGiven (P : Program) (start : CabinetState) (r : ReaderState) (s
       → header P (told entries ++ more) ≡ header_from P given behind.entries more
   pub ends : with_entry P given (Some behind.next) ≡ None
 
--- The header was read, which gives the input, and one entry behind it.
+-- The header was read, which gives the input, and one entry after it.
 pub record HasHeader (P : Program) (start : CabinetState) (r : ReaderState) (s : CabinetState) (begun : Begun) : Type 0
   where
     pub valid : IsValid P begun.input
@@ -70,7 +70,7 @@ abbrev pub ReadsBase : Program → CabinetState → ReaderState → CabinetState
 ReadsBase P start r s limit (Ok base) = HasBase P start r s limit base
 ReadsBase P start r s limit (Err refusal) = Refuses P r start s refusal
 
--- all that valid INPUT and IMAGE entries give, with the first entry behind them, or the cause why that was not read
+-- all that valid INPUT and IMAGE entries give, with the first entry after them, or the cause why that was not read
 abbrev pub ReadsValues : Program → CabinetState → ReaderState → CabinetState → Input
     → Result Lockstep ReplayRefusal
     → Type 0

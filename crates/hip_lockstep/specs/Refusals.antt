@@ -10,14 +10,14 @@ use Rattle.hip_trace.specs.Reads.{ReaderState, IsReading}
 use Rattle.hip_lockstep.specs.declared.refusal.ReplayRefusal.{ReplayRefusal}
 use Rattle.hip_lockstep.specs.declared.refusal.ReplayRefusal.TheVariants as refusals
 
--- how many texts of entries were begun where an entry is the first that does not fit: none behind it
+-- how many texts of entries were begun where an entry is the first that does not fit: none after it
 abbrev pub begun_at : MisfitKind → ℕ → ℕ
 begun_at Early entry = entry - 1
 begun_at Malformed entry = entry
 begun_at Differs entry = entry
 begun_at Extra entry = entry
 
--- The file has this misfit; nothing failed, and no entry behind that one was read.
+-- The file has this misfit; nothing failed, and no entry after that one was read.
 pub record HasMisfit (P : Program) (r : ReaderState) (old new : CabinetState) (entry : ℕ) (kind : MisfitKind) : Type 0
   where
     pub reading : IsReading old new

@@ -73,7 +73,7 @@ impl Given {
         }
     }
 
-    // The input, in which the bytes behind the last line are 0.
+    // The input, in which the bytes after the last line are 0.
     pub(crate) fn fill(self, size: u64) -> Result<Input, NoMemory>
         requires { length self.image.items ≤ size }
         ensures { IfOk result (λ i. i ≡ record (input_of self) {
@@ -98,7 +98,7 @@ impl Given {
     }
 }
 
-// Whether a cache line at an offset lies behind the first bytes of a region.
+// Whether a cache line at an offset lies after the first bytes of a region.
 fn has_line(held: u64, size: u64, offset: u64) -> bool
     ensures { result ≡ nat_le held offset && nat_le (offset + 64) size }
 {
@@ -116,7 +116,7 @@ fn lengthen(image: &mut Vec<u8>, len: usize) -> Result<(), NoMemory>
     }
 }
 
-// Puts a cache line at an offset behind the bytes, with bytes of 0 between.
+// Puts a cache line at an offset after the bytes, with bytes of 0 between.
 fn put_line(image: &mut Vec<u8>, offset: usize, line: &[u8]) -> Result<(), NoMemory>
     requires { length image.old.items ≤ offset }
     ensures { OnOk result

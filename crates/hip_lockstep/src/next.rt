@@ -9,7 +9,7 @@ use hip_io::Cabinet;
 use hip_run_traces::MisfitKind;
 use hip_trace::{Entry, Reader, TraceRefusal};
 
-// The entry that was read, behind so many, or why there is none.
+// The entry that was read after n others, or why there is none.
 fn found(count: u128, next: Result<Option<Entry>, TraceRefusal>) -> Result<Entry, ReplayRefusal>
     requires { count + 1 < 2 ^ 128 }
     ensures { FindsEntry count next result }
@@ -29,7 +29,7 @@ fn found(count: u128, next: Result<Option<Entry>, TraceRefusal>) -> Result<Entry
     }
 }
 
-// The next entry, behind so many.
+// The entry after n others.
 pub(crate) fn next_entry<C: Cabinet>(
     count: u128,
     reader: &mut Reader,
@@ -45,7 +45,7 @@ pub(crate) fn next_entry<C: Cabinet>(
     found(count, next)
 }
 
-// Whether nothing was read, behind so many entries.
+// Whether nothing was read, after n entries.
 fn ended(count: u128, next: Result<Option<Entry>, TraceRefusal>) -> Result<(), ReplayRefusal>
     requires { count + 1 < 2 ^ 128 }
     ensures { EndsHere count next result }
@@ -65,7 +65,7 @@ fn ended(count: u128, next: Result<Option<Entry>, TraceRefusal>) -> Result<(), R
     }
 }
 
-// The end of the file, behind so many entries.
+// The end of the file, after n entries.
 pub(crate) fn read_end<C: Cabinet>(
     count: u128,
     reader: &mut Reader,

@@ -22,7 +22,7 @@ use hip_trace::{Entry, Reader};
 use hip_types::Row;
 use std::alloc::Global;
 
-/// The input that a header gives, and the first entry behind the header.
+/// The input that a header gives, and the first entry after the header.
 #[derive(Drop)]
 pub struct Begun {
     pub input: Input,
@@ -105,7 +105,7 @@ fn read_base<C: Cabinet>(
     }
 }
 
-// Takes what the INPUT and IMAGE entries give, and answers the first entry behind them.
+// Takes what the INPUT and IMAGE entries give, and answers the first entry after them.
 fn read_values<C: Cabinet>(
     checked: &Checked,
     given: &mut Given,
@@ -137,7 +137,7 @@ fn read_values<C: Cabinet>(
     }
 }
 
-/// Reads the header of the trace that is ahead of a new reader, and the first entry behind it. Memory is taken for the
+/// Reads the header of the trace that is ahead of a new reader, and the first entry after it. Memory is taken for the
 /// numbers and the initial bytes of the input alone.
 pub fn read_header<C: Cabinet>(
     alloc: Global,

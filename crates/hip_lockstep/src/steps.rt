@@ -13,7 +13,7 @@ use hip_run_traces::MisfitKind;
 use hip_runs::{Ending, Event};
 use hip_trace::{Entry, Reader};
 
-/// How many entries of a trace are those of the steps that were taken, and the entry that was read behind them.
+/// How many entries of a trace are those of the steps that were taken, and the entry that was read after them.
 #[derive(Clone, Copy)]
 pub struct Lockstep {
     pub next: Entry,
@@ -22,7 +22,7 @@ pub struct Lockstep {
 
 impl Lockstep {
     /// Compares the entry of the next step, which has this event, with the one that was read, and reads the next one; a
-    /// step without an entry reads nothing. Where the step ends the run, the file is to end too, and the ending is
+    /// step without an entry reads nothing. Where the step ends the run, the file must end too, and the ending is
     /// answered.
     #[inline(always)]
     pub fn meet<C: Cabinet>(

@@ -1,4 +1,4 @@
--- Names behind references, and the names themselves.
+-- References to names, and the names themselves.
 use Rattle.std.proofs.Common.{ℕ, ◌≡◌, ◌+◌, ◌||◌, not, List, [], ◌∷◌, map, length, Option, Some, None, cond, nat_lt, Bor, refl, sym, ap, ◌∙◌}
 use Rattle.std.specs.Prelude.{position}
 use Rattle.std.specs.List.{list_any, position_or_len}

@@ -13,12 +13,12 @@ use Rattle.hip_names.specs.Tables.{Entry, StandsFor, value_beside, value_of}
 pub record Numbers (known : List (List ℕ)) (numbers : List ℕ) (names : List (List ℕ)) : Type 0 where
   pub finds : (name : List ℕ) → value_beside known numbers name ≡ number_of names name
 
--- the names, the first of which has that number, each with its number
+-- each name with its number; the first name has number n
 abbrev pub entries_from : ℕ → List (List ℕ) → List (Entry ℕ)
 entries_from n [] = []
 entries_from n (name ∷ names) = record { name = name; value = n } ∷ entries_from (suc n) names
 
--- an entry is put behind
+-- an entry is added at the end
 pub entries-next : (n : ℕ) (names : List (List ℕ)) (k : ℕ) (name : List ℕ) → k < length names
     → get_or names k [] ≡ name →
     entries_from n (take k names) ++ record { name = name; value = n + k } ∷ []

@@ -1,4 +1,4 @@
--- Tables of values by names, in which the first value of a name counts.
+-- Tables of values by names. The first value of a name counts.
 use Rattle.std.specs.Prelude.{ℕ, ◌≡◌, List, [], ◌∷◌, ◌++◌, length, Option, Some, None, if◌then◌else◌, option_and_then, slice_get}
 use Rattle.std.specs.Str.{bytes_eq}
 use Rattle.hip_names.specs.Names.{number_of}

@@ -7,7 +7,7 @@ use indexmap::IndexSet;
 use std::alloc::Global;
 use std::marker::Model;
 
-/// Names that differ, numbered from 0 in the order in which they were inserted.
+/// Names that differ, numbered from 0 in the order of insertion.
 #[derive(Drop)]
 pub struct NameSet<'a> {
     names: IndexSet<&'a [u8]>,
@@ -43,7 +43,7 @@ impl<'a> NameSet<'a> {
         }
     }
 
-    /// How many names there are.
+    /// The number of names.
     pub fn len(&self) -> usize
         ensures length { result ≡ length self.now }
         ensures small { result < 2 ^ 63 }

@@ -39,15 +39,15 @@ decimal_of text = number_of 10 text
 abbrev pub hex_of : List ℕ → Option ℕ
 hex_of text = if starts_with nat_eq text (codes "0x") then number_of 16 (drop 2 text) else None
 
--- whether a `-` stands first
+-- whether the first byte is `-`
 abbrev pub has_minus : List ℕ → Bool
 has_minus text = starts_with nat_eq text (codes "-")
 
--- what stands behind a `-`, or the whole text where none stands first
+-- what follows a first `-`, or the whole text if there is no such `-`
 abbrev pub signed_digits : List ℕ → List ℕ
 signed_digits text = if has_minus text then drop 1 text else text
 
--- the number that decimal digits write, negated where a `-` stands first
+-- the number that decimal digits write, negated after a first `-`
 abbrev pub signed_value : List ℕ → ℤ
 signed_value text =
     if has_minus text then neg_ℤ (pos (digits_value 10 (signed_digits text)))

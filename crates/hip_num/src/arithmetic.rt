@@ -17,7 +17,7 @@ pub enum NumTrap {
     ShiftRange,
 }
 
-/// The result of an operation on two integers of one width, or why there is none.
+/// The result of an operation on two integers of one width, or why it has none.
 pub fn binary(op: BinaryOp, a: Bits, b: Bits) -> Result<Bits, NumTrap>
     requires { a.width ≡ b.width }
     ensures { result ≡ binary_of op a b }

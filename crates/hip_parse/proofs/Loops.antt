@@ -1,4 +1,4 @@
--- A loop that ends by a refusal or for want of memory.
+-- A loop that ends by a refusal or out of memory.
 use Rattle.std.proofs.Common.{◌≡◌, ◌≤◌, Bool, true, List, [], length, Option, Ok, Err, refl}
 use Rattle.hip_tokens.specs.Tokens.{Tok, At}
 use Rattle.hip_rules.specs.Reader.{Outcome, Reader, next, many_at, with_front, taken_up, leaders_at, with_leaders}

@@ -9,7 +9,7 @@ use Rattle.hip_parse.specs.declared.error.ReadError.{ReadError}
 use Rattle.hip_parse.specs.declared.error.ReadError.TheVariants as errors
 use Rattle.hip_parse.specs.declared.parser.Parser.{Parser}
 
--- the token that was looked ahead at, with its line, and those behind it; where there is none, the text has ended
+-- the look-ahead token with its line, and the tokens after it; if there is none, the text has ended
 abbrev pub and_after : Option (Token × ℕ) → List At → List At
 and_after None ts = []
 and_after (Some x) ts = (record { tok = seen x.0; line = x.1 }) ∷ ts
@@ -18,18 +18,18 @@ and_after (Some x) ts = (record { tok = seen x.0; line = x.1 }) ∷ ts
 unfoldable pub left : Parser → List At
 left p = and_after p.token (cut p.lexer.line 0 p.lexer.rest.now)
 
--- the tokens behind the first one; of no tokens none
+-- the tokens after the first one; of no tokens none
 abbrev pub tail : List At → List At
 tail [] = []
 tail (t ∷ ts) = ts
 
--- What a method gave, seen by `view`, is what the reading gives. The parser then stands behind it, or at the refused
+-- What a method gave, seen by `view`, is what the reading gives. The parser is then after it, or at the refused
 -- place.
 abbrev pub Gives : {X Y : Type 0} → (X → Y) → Result X (Option Fault) → Outcome Fault Y → List At → Type 0
 Gives view (Ok x) read after = read ≡ Ok (view x, after)
 Gives view (Err why) read after = read ≡ Err (why, after)
 
--- the failure of a method that takes memory: a refusal as above, or want of memory, which says nothing of the reading
+-- the failure of a method that takes memory: a refusal as above, or out of memory, which says nothing of the reading
 abbrev pub Fails : {Y : Type 0} → ReadError → Outcome Fault Y → List At → Type 0
 Fails errors.Memory read after = Unit {0}
 Fails (errors.Refused why) read after = read ≡ Err (why, after)

@@ -81,7 +81,7 @@ impl Repeated for Instructions {
 impl<'a> Parser<'a> {
     // ---- phis
 
-    /// The label of an edge behind a comma, and the bracket that closes the edge.
+    /// The label of an edge after a comma, and the bracket that closes the edge.
     #[tactic(auto, unfolding(hip_grammar::specs::Bodies::edge_label))]
     fn edge_label(&mut self, alloc: Global) -> Result<Name, ReadError>
         ensures { Takes (λ x. x) result (edge_label.read (left self.old)) (left self.new) }
@@ -112,7 +112,7 @@ impl<'a> Parser<'a> {
         Ok(Phi { dest, ty, edges })
     }
 
-    /// The phis at the front of a block, and the register that is assigned behind them where one is.
+    /// The phis of a block, and the register that the block assigns next, if its next line assigns one.
     fn leading_phis(&mut self, alloc: Global) -> Result<(Row<Phi>, Option<Name>), ReadError>
         ensures { Takes (λ x. x) result
             (leaders_at is_local assigned.read (is_word (codes "phi")) (λ dest. (phi dest).read) (left self.old))
@@ -149,7 +149,7 @@ impl<'a> Parser<'a> {
         Ok(End::Br { label })
     }
 
-    /// The label behind a comma.
+    /// The label after a comma.
     #[tactic(auto, unfolding(hip_rules::specs::Part::one_more_by))]
     fn next_target(&mut self, alloc: Global) -> Result<Name, ReadError>
         ensures { Takes (λ x. x) result ((one_more_by comma target).read (left self.old)) (left self.new) }

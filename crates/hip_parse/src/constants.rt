@@ -188,7 +188,7 @@ impl<'a> Parser<'a> {
         }
     }
 
-    /// An aggregate constant where no level is left.
+    /// An aggregate constant with no level left.
     #[tactic(auto, unfolding(crate::specs::Left::left, hip_grammar::specs::Grammar::array_const))]
     fn shallow_array(&mut self) -> Result<Const, Option<Fault>>
         ensures { Gives (λ x. x) result
@@ -217,7 +217,7 @@ impl<'a> Parser<'a> {
         }
     }
 
-    /// A constant under the type, where no level is left.
+    /// A constant under the type, with no level left.
     #[tactic(auto, unfolding(hip_grammar::specs::Grammar::const_within, hip_grammar::specs::Grammar::const_by))]
     fn shallow_const(&mut self, alloc: Global, ty: &Ty) -> Result<Const, ReadError>
         ensures { Takes (λ x. x) result ((const_within 0 ty.now).read (left self.old)) (left self.new) }

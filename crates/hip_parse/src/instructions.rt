@@ -68,7 +68,7 @@ impl<'a> Parser<'a> {
         Ok(set)
     }
 
-    /// The operand behind a comma.
+    /// The operand after a comma.
     #[tactic(auto, unfolding(hip_rules::specs::Part::one_more_by))]
     fn next_operand(&mut self, alloc: Global, scalar: Scalar) -> Result<Operand, ReadError>
         ensures { Takes (λ x. x) result ((one_more_by comma (operand scalar)).read (left self.old)) (left self.new) }
@@ -114,7 +114,7 @@ impl<'a> Parser<'a> {
         })
     }
 
-    /// The operand behind a comma and this type.
+    /// The operand after a comma and this type.
     #[tactic(auto, unfolding(hip_grammar::specs::Bodies::next_of_type))]
     fn next_of_type(&mut self, alloc: Global, ty: Scalar) -> Result<Operand, ReadError>
         ensures { Takes (λ x. x) result ((next_of_type ty).read (left self.old)) (left self.new) }
@@ -124,7 +124,7 @@ impl<'a> Parser<'a> {
         self.operand(alloc, ty)
     }
 
-    /// The operands of which one is selected, behind their type.
+    /// The two operands of a `select`, after their type.
     #[tactic(auto, unfolding(hip_grammar::specs::Bodies::alternatives))]
     fn alternatives(&mut self, alloc: Global) -> Result<(Scalar, Operand, Operand), ReadError>
         ensures { Takes (λ x. x) result (alternatives.read (left self.old)) (left self.new) }
@@ -153,7 +153,7 @@ impl<'a> Parser<'a> {
         })
     }
 
-    /// The type behind `to`.
+    /// The type after `to`.
     #[tactic(auto, unfolding(hip_grammar::specs::Bodies::to_int))]
     fn to_int(&mut self) -> Result<Width, Option<Fault>>
         ensures { Gives (λ x. x) result (to_int.read (left self.old)) (left self.new) }
@@ -226,7 +226,7 @@ impl<'a> Parser<'a> {
         Ok(Instr::Alloca { dest, ty, align })
     }
 
-    /// The address behind a comma.
+    /// The address after a comma.
     #[tactic(auto, unfolding(hip_grammar::specs::Bodies::next_address))]
     fn next_address(&mut self, alloc: Global) -> Result<Operand, ReadError>
         ensures { Takes (λ x. x) result (next_address.read (left self.old)) (left self.new) }
@@ -236,7 +236,7 @@ impl<'a> Parser<'a> {
         self.operand(alloc, Scalar::Ptr)
     }
 
-    /// The address behind a comma, and the alignment that is written.
+    /// The address after a comma, and the alignment that is written.
     #[tactic(auto, unfolding(hip_grammar::specs::Bodies::aligned_address))]
     fn aligned_address(&mut self, alloc: Global) -> Result<(Operand, Option<u64>), ReadError>
         ensures { Takes (λ x. x) result (aligned_address.read (left self.old)) (left self.new) }
@@ -277,7 +277,7 @@ impl<'a> Parser<'a> {
         })
     }
 
-    /// The indices behind a comma.
+    /// The indices after a comma.
     #[tactic(auto, unfolding(hip_rules::specs::Part::one_more_by))]
     fn next_indices(&mut self, alloc: Global) -> Result<Row<Arg>, ReadError>
         ensures { Takes (λ x. x) result
@@ -367,7 +367,7 @@ impl<'a> Parser<'a> {
         }
     }
 
-    /// An instruction that assigns a register, behind the register and `=`.
+    /// An instruction that assigns a register, after the register and `=`.
     #[tactic(auto, unfolding(hip_grammar::specs::Bodies::value_instr))]
     pub(crate) fn value_instr(&mut self, alloc: Global, dest: Name) -> Result<Instr, ReadError>
         ensures { Takes (λ x. x) result ((value_instr dest).read (left self.old)) (left self.new) }

@@ -1,4 +1,4 @@
-//! The reader of programs: the one program that a text reads as, or the first token by which it leaves the grammar.
+//! The reader of programs: the one program that a text reads as, or the first token that leaves the grammar.
 #![tactic(auto)]
 
 mod blocks;

@@ -112,7 +112,7 @@ fn is_alignment(n: u64) -> bool
     n != 0 && LARGEST_ALIGNMENT % n == 0
 }
 
-/// The number behind `align`.
+/// The number after `align`.
 #[tactic(auto, using(crate::proofs::Digits::alignment_of_big))]
 pub(crate) fn alignment_of(t: &[u8]) -> Option<u64>
     ensures { result ≡ alignment_of t.now }

@@ -1,4 +1,4 @@
-//! A parser, which stands at the next token of a text.
+//! A parser with one token of look-ahead.
 
 ghost use Rattle.std.specs.Prelude.{◌≡◌, ℕ, List, [], ◌∷◌};
 ghost use Rattle.hip_tokens.specs.Tokens.{tokens};
@@ -99,7 +99,7 @@ impl<'a> Parser<'a> {
         Ok(())
     }
 
-    /// Whether the word stood here.
+    /// Whether the word was here.
     #[tactic(auto, unfolding(hip_grammar::specs::Grammar::maybe_word))]
     pub(crate) fn maybe_word(&mut self, w: &[u8]) -> Result<bool, Option<Fault>>
         ensures { Gives (λ x. x) result ((maybe_word w.now).read (left self.old)) (left self.new) }
@@ -164,7 +164,7 @@ impl<'a> Parser<'a> {
         }
     }
 
-    /// The string behind `section`.
+    /// The string after `section`.
     #[tactic(auto, unfolding(crate::specs::Left::left))]
     pub(crate) fn section_name(&mut self) -> Result<(), Option<Fault>>
         ensures { Gives (λ x. x) result ((token a_section).read (left self.old)) (left self.new) }

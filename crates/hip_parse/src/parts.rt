@@ -1,4 +1,4 @@
-//! Parts that stand several times, one after another.
+//! Lists: parts that come several times, one after another.
 
 ghost use Rattle.std.specs.Prelude.{◌≡◌, ◌≤◌, ℕ, Bool, List, [], ◌∷◌, ◌++◌, Result, Ok, length};
 ghost use Rattle.hip_tokens.specs.Tokens.{Tok, At};
@@ -14,7 +14,7 @@ use crate::parser::Parser;
 use hip_types::Row;
 use std::alloc::Global;
 
-/// A production of the grammar that may stand in a list.
+/// A production of the grammar that may be an item of a list.
 pub(crate) trait Production: Copy {
     type Value: Drop;
 

@@ -1,4 +1,4 @@
-//! The numbers of a text, by the places where they stand.
+//! The numbers of a text, by their places.
 
 ghost use Rattle.std.specs.Prelude.{◌≡◌, ℕ, List, [], ◌∷◌};
 ghost use Rattle.hip_rules.specs.Part.{token};

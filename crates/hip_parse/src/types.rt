@@ -16,7 +16,7 @@ use hip_types::{Link, Row, Ty};
 use std::alloc::Global;
 
 impl<'a> Parser<'a> {
-    /// A type where no level is left.
+    /// A type with no level left.
     #[tactic(auto, unfolding(crate::specs::Left::left, hip_grammar::specs::Grammar::type_within, hip_grammar::specs::Grammar::type_by))]
     fn shallow_type(&mut self) -> Result<Ty, Option<Fault>>
         ensures { Gives (λ x. x) result ((type_within 0).read (left self.old)) (left self.new) }

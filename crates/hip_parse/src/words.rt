@@ -1,4 +1,4 @@
-//! Words with a meaning, by the places where they stand.
+//! Words with a meaning, by their places.
 
 ghost use Rattle.std.specs.Prelude.{◌≡◌, ℕ, List, Option, codes};
 ghost use Rattle.hip_rules.specs.Reader.{next};
@@ -15,13 +15,13 @@ use hip_tokens::Token;
 use hip_tree::Flag;
 use hip_types::{BinaryOp, CastOp, Pred, Scalar, Ty, Width};
 
-/// The words that may stand at one place, each with its meaning there.
+/// The words that are allowed at one place, each with its meaning there.
 pub(crate) trait Words: Copy {
     type Meaning: Drop;
 
     ghost meaning: { Self → List ℕ → Option Self.Meaning };
 
-    /// What the word means; none where it may not stand there.
+    /// What the word means; none if it is not allowed there.
     fn meaning(self, word: &[u8]) -> Option<Self::Meaning>
         ensures { result ≡ meaning self word.now };
 }
@@ -54,7 +54,7 @@ impl<'a> Parser<'a> {
         }
     }
 
-    /// Takes all words with a meaning that stand here. Nothing of them is kept.
+    /// Takes all words with a meaning here, and keeps nothing of them.
     #[tactic(auto, unfolding(hip_rules::specs::Part::skipped))]
     pub(crate) fn skip_keywords<W: Words>(&mut self, words: W) -> Result<(), Option<Fault>>
         ensures { Gives (λ x. x) result
@@ -138,7 +138,7 @@ impl Words for BinaryOps {
     }
 }
 
-/// The flags that may stand after an operation.
+/// The flags that may follow an operation.
 #[derive(Clone, Copy)]
 pub(crate) struct FlagsAfter(pub(crate) BinaryOp);
 
@@ -231,7 +231,7 @@ impl Words for Linkages {
     }
 }
 
-/// What may be told of the target.
+/// What a text may say of the target.
 #[derive(Clone, Copy)]
 pub(crate) struct TargetWords;
 

@@ -44,8 +44,8 @@ without_paths (loads.Bad (refusals.Form why)) =
     loads.Bad (refusals.Form (record { fault = without_path why.fault; place = why.place }))
 without_paths why = why
 
--- A file that is told has one program or none. If it has one, no refusal has a cause; if it has none, one refusal has,
--- but for the path that shows a register without an assignment.
+-- A known file has one program or none. If it has one, no refusal has a cause; if it has none, one refusal has,
+-- except for the path that shows a register without an assignment.
 pub record LoadsOne (files : List NamedFile) (name : List ℕ) : Type 0 where
   pub programs : (P Q : Program) → IsProgramOf (Some files) name P → IsProgramOf (Some files) name Q → P ≡ Q
   pub excluded : (P : Program) (why : LoadRefusal) → IsProgramOf (Some files) name P

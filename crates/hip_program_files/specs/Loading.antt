@@ -26,7 +26,7 @@ pub record IsRefusedText (text : List ℕ) (why : Fault) (line : ℕ) : Type 0 w
   pub unread : (program : Program) → Reads text program → ⊥
   pub refused : IsRefusal text why line
 
--- the text is refused so; never for want of memory
+-- the text is refused so; never out of memory
 abbrev pub RefusesText : List ℕ → ParseRefusal → Type 0
 RefusesText text (parse.Syntax line) = IsRefusedText text faults.Syntax line
 RefusesText text (parse.Unsupported line) = IsRefusedText text faults.Unsupported line
@@ -47,7 +47,7 @@ ChecksProgram program (Err (failures.Refused (refusals.Text why))) = ⊥
 ChecksProgram program (Err failures.ReadFault) = ⊥
 ChecksProgram program (Err failures.NoMemory) = Unit {0}
 
--- what reading a text answers; want of memory is free
+-- what reading a text answers; out of memory may come at any time
 abbrev pub ReadsProgram : List ℕ → Result Program (Failure ProgramRefusal) → Type 0
 ReadsProgram text (Ok program) = Reads text program × IsSound program
 ReadsProgram text (Err (failures.Refused why)) = RefusesProgram text why
@@ -56,7 +56,7 @@ ReadsProgram text (Err failures.NoMemory) = Unit {0}
 
 -- ---- files
 
--- the file has this text, where the cabinet tells its files, and it is not too long
+-- the file has this text, if the cabinet's files are known, and it is not too long
 pub record IsTextOf (files : Option (List NamedFile)) (name text : List ℕ) : Type 0 where
   pub fits : length text ≤ TEXT_LIMIT
   pub told : IfSome files (λ fs. file_of fs name ≡ Some text)
@@ -97,7 +97,7 @@ pub record HasFailedLoading (old new : CabinetState) (name : List ℕ) : Type 0 
   pub met : HasMet false true old new
   pub current : (new.is_current ≡ false) ⊎ IfSome new.name (λ n. n ≡ name)
 
--- what loading the program of a file answers; want of memory is free
+-- what loading the program of a file answers; out of memory may come at any time
 abbrev pub Loads : List ℕ → CabinetState → CabinetState → Result Program (Failure LoadRefusal) → Type 0
 Loads name old new (Ok program) = HasMet false false old new × IsProgramOf old.files name program
 Loads name old new (Err (failures.Refused why)) =

@@ -1,2 +1,2 @@
-/// How many bytes a program's text may have.
+/// The most bytes that a program's text may have.
 pub const TEXT_LIMIT: u64 = 16_777_216;

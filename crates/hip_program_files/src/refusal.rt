@@ -1,7 +1,7 @@
 use hip_grammar::ParseRefusal;
 use hip_sound::TypeRefusal;
 
-/// Why a program is refused; never for want of memory.
+/// Why a program is refused; never out of memory.
 #[derive(Debug, Drop)]
 pub enum ProgramRefusal {
     /// The text reads as no program.

@@ -11,9 +11,10 @@ use hip_invariants::runs_are_bounded;
 use hip_io::{Put, Sink};
 use hip_lockstep::ending_of;
 use hip_num::decimal_into;
-use hip_runs::{events_tell_output_and_ending, runs_end};
+use hip_runs::{Ending, Event, Input, events_tell_output_and_ending, runs_end};
 use hip_sound::Checked;
-use hip_step::{Ending, Event, Input, Machine};
+use hip_engine::Machine;
+use hip_step::Begin;
 use std::alloc::Global;
 
 /// Runs a program on an input, and writes what it prints: each number in signed decimal with a line feed. The numbers

@@ -16,9 +16,10 @@ use hip_invariants::runs_are_bounded;
 use hip_io::{Put, Sink};
 use hip_lockstep::{Ended, ending_of, put_entry, put_header};
 use hip_report::{Findings, Tracker};
-use hip_runs::{events_tell_output_and_ending, longest, runs_end};
+use hip_runs::{Ending, Input, events_tell_output_and_ending, longest, runs_end};
 use hip_sound::Checked;
-use hip_step::{Ending, Input, Machine};
+use hip_engine::Machine;
+use hip_step::Begin;
 use hip_types::NoMemory;
 use std::alloc::Global;
 

@@ -4,7 +4,8 @@ ghost use Rattle.hip_runs.specs.Step.{event};
 ghost use Rattle.hip_recording.specs.Steps.{IsNoted, KeepsNoting};
 
 use hip_report::Tracker;
-use hip_step::{Event, Machine};
+use hip_engine::Machine;
+use hip_runs::Event;
 use hip_types::NoMemory;
 
 /// Takes a step of a machine. Where there is a tracker, it notes the step.

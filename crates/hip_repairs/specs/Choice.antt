@@ -27,15 +27,15 @@ is_better _ None = false
 abbrev pub better : Candidate → Candidate → Candidate
 better best new = cond (is_better best.score new.score) new best
 
--- the best of a candidate and of the levels from a number on, of which so many are candidates
+-- the best of a candidate and of the given number of levels from a number on
 abbrev pub best_of : Program → Findings → Candidate → ℕ → ℕ → List Site → Candidate
 best_of P found best level zero path = best
 best_of P found best level (suc more) [] = best
 best_of P found best level (suc more) (site ∷ path) =
     best_of P found (better best (record { level = level; score = score P found site })) (suc level) more path
 
--- The level of the greatest score on a path: of its first site, the store's, which is 0, and of so many calls behind
--- it; the innermost where scores are equal, and 0 where the path is empty.
+-- The level of the greatest score on a path: of its first site, the store's, which is 0, and of the first `closed` calls
+-- after it; the innermost one if scores are equal, and 0 if the path is empty.
 abbrev pub best_on : Program → Findings → ℕ → List Site → ℕ
 best_on P found closed [] = 0
 best_on P found closed (store ∷ calls) =
@@ -53,27 +53,28 @@ level_for P found r MissingBoth = best_on P found r.closed r.path
 abbrev pub choice : Program → Findings → Report → ℕ
 choice P found r = level_for P found r r.kind
 
--- ---- what a report asks for
+-- ---- what a report needs
 
 -- whether there is a site, and it is this one
 abbrev pub is_site : Option Site → Site → Bool
 is_site None s = false
 is_site (Some t) s = same_site s t
 
--- whether a report that is repaired at a level asks for a flush, or a fence, behind a site, or for the hoist of a call
+-- whether a report that is repaired at a level needs a flush after a site
 abbrev pub asks_flush : Kind → ℕ → List Site → Site → Bool
 asks_flush MissingFence level path s = false
 asks_flush MissingFlush level path s = nat_eq level 0 && is_site (slice_get path 0) s
 asks_flush MissingBoth level path s = nat_eq level 0 && is_site (slice_get path 0) s
 
--- the same of a fence: where it alone is missing, behind the flush that the report names; where both are missing,
--- behind the store, if the level is 0
+-- whether it needs a fence after the site: if only the fence is missing, after the flush that the report names; if both
+-- are missing, after the store at level 0
 abbrev pub asks_fence : Kind → ℕ → Option Site → List Site → Site → Bool
 asks_fence MissingFence level flush path s = is_site flush s
 asks_fence MissingFlush level flush path s = false
 asks_fence MissingBoth level flush path s = nat_eq level 0 && is_site (slice_get path 0) s
 
--- the same of a hoist: where a flush is missing, of the call of that level on the path, if the level is not 0
+-- whether it needs the call at the site hoisted: if a flush is missing, the call of that level on the path, but not at
+-- level 0
 abbrev pub asks_hoist : Kind → ℕ → List Site → Site → Bool
 asks_hoist MissingFence level path s = false
 asks_hoist MissingFlush zero path s = false
@@ -81,19 +82,19 @@ asks_hoist MissingFlush (suc level) path s = is_site (slice_get path (suc level)
 asks_hoist MissingBoth zero path s = false
 asks_hoist MissingBoth (suc level) path s = is_site (slice_get path (suc level)) s
 
--- some report, repaired at its own level, asks for a flush behind the site
+-- some report, repaired at its own level, needs a flush after the site
 abbrev pub wants_flush : Program → Findings → Site → Bool
 wants_flush P found s = list_any (λ r. asks_flush r.kind (choice P found r) r.path s) found.reports
 
--- some report, repaired at its own level, asks for a fence behind the site: the flush that it names, or its store
+-- some report, repaired at its own level, needs a fence after the site, which is the flush that it names or its store
 abbrev pub wants_fence : Program → Findings → Site → Bool
 wants_fence P found s = list_any (λ r. asks_fence r.kind (choice P found r) r.flush_site r.path s) found.reports
 
--- some report, repaired at its own level, asks for the call at the site to be hoisted
+-- some report, repaired at its own level, needs the call at the site hoisted
 abbrev pub wants_hoist : Program → Findings → Site → Bool
 wants_hoist P found s = list_any (λ r. asks_hoist r.kind (choice P found r) r.path s) found.reports
 
--- the plan: in each list the sites that some report asks for, in the program's order
+-- the plan: in each list the sites that some report needs there, in the program's order
 abbrev pub plan_for : Program → Findings → Plan
 plan_for P found =
     record {

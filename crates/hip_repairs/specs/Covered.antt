@@ -1,4 +1,4 @@
--- Under a hoisted call each store is durable after the fence that follows the call.
+-- A hoisted call goes to a clone of its callee, and each store under it is durable after the fence that follows it.
 use Rattle.std.specs.Prelude.{◌≡◌, ◌≢◌, ℕ, suc, ◌+◌, ◌<◌, ◌≤◌, Bool, true, false, List, ◌∷◌, length, take, Option, Some, None, slice_get}
 use Rattle.hip_types.specs.declared.number.Scalar.{Scalar}
 use Rattle.hip_tree.specs.Sites.{instr_of, has_site}
@@ -18,6 +18,7 @@ use Rattle.hip_runs.specs.State.{Frame, StorePart, State}
 use Rattle.hip_runs.specs.Step.{run}
 use Rattle.hip_runs.specs.Validity.{IsValid}
 use Rattle.hip_repairs.specs.declared.plan.Plan.{Plan}
+use Rattle.hip_repairs.specs.Clones.{IsClone}
 use Rattle.hip_repairs.specs.Repaired.{wanted_by, clones_of, cloned, repaired, repaired_body}
 
 -- one of LLVM's intrinsics for SFENCE and MFENCE (Intel's manual); libpmem's functions that fence are not among them
@@ -31,6 +32,11 @@ abbrev pub IsFenceCall : Option Instr → Type 0
 IsFenceCall (Some (Call dest ret callee args)) = is_fence (call_of callee)
 IsFenceCall _ = ⊥
 
+-- there is an instruction, and it is a call of function g of the program
+abbrev pub IsCallOf : Program → ℕ → Option Instr → Type 0
+IsCallOf P g (Some (Call dest ret callee args)) = function_number P callee ≡ Some g
+IsCallOf P g _ = ⊥
+
 -- the function of that name is numbered from a number up
 abbrev pub is_numbered_from : ℕ → Option ℕ → Type 0
 is_numbered_from functions None = ⊥
@@ -41,7 +47,7 @@ abbrev pub IsCallFrom : Program → ℕ → Option Instr → Type 0
 IsCallFrom Q functions (Some (Call dest ret callee args)) = is_numbered_from functions (function_number Q callee)
 IsCallFrom Q functions _ = ⊥
 
--- The state stands at a call of `sfence` or `mfence` directly behind a call of a clone in its block; clones are
+-- The state stands at a call of `sfence` or `mfence` directly after a call of a clone in its block; clones are
 -- numbered from a number up.
 pub record IsBehindClone (Q : Program) (functions : ℕ) (s : State) : Type 0 where
   pub going : s.world.ending ≡ None
@@ -67,40 +73,65 @@ pub record IsAtCall (frame : Frame) (others : List Frame) (at : ℕ) (s : State)
   pub block : top.block ≡ frame.block
   pub place : top.place ≡ at
 
--- Wherever the run stands at a fence behind a call of a clone, there is a last state before with as many frames, which
--- stands at that call; and each part of a store that the cache lines got from the call on is durable after the fence.
+-- The run has not ended, and the top frame stands at a call of function g.
+pub record StandsAtCall (P : Program) (g : ℕ) (s : State) : Type 0 where
+  pub going : s.world.ending ≡ None
+  pub frame : Frame
+  pub others : List Frame
+  pub frames : s.frames ≡ frame ∷ others
+  pub call : IsCallOf P g (slice_get (body_at P frame.function frame.block) frame.place)
+
+-- The state s of P and the state s' of Q have the same world. P calls a function there, and Q calls a clone of it.
+pub record CallsClone (P Q : Program) (s s' : State) : Type 0 where
+  pub world : s'.world ≡ s.world
+  pub callee : ℕ
+  pub called : StandsAtCall P callee s
+  pub clone : ℕ
+  pub clone_called : StandsAtCall Q clone s'
+  pub is_clone : IsClone P Q callee clone
+
+-- Wherever the run stands at a fence after a call of a clone, there is a last state before with as many frames, which
+-- stands at that call. There the run of P calls a function, and the clone is one of that function. Each part of a store
+-- that the cache lines got from the call on is durable after the fence.
 pub record IsCovered (P Q : Program) : Type 0 where
   pub call :
       (I : Input) → IsValid P I → (n : ℕ) (behind : IsBehindClone Q (length P.functions) (run Q I n)) →
       (j : ℕ) × IsLastBefore Q I j n × IsAtCall behind.frame behind.others behind.at (run Q I j)
+  pub clone :
+      (I : Input) → IsValid P I → (j n : ℕ) → IsBehindClone Q (length P.functions) (run Q I n)
+      → IsLastBefore Q I j n → (i : ℕ) × CallsClone P Q (run P I i) (run Q I j)
   pub durable :
       (I : Input) → IsValid P I → (j n : ℕ) → IsBehindClone Q (length P.functions) (run Q I n)
       → IsLastBefore Q I j n →
       (m : ℕ) (l : Line StorePart) → slice_get (run Q I (suc n)).lines m ≡ Some l →
       (k : ℕ) (p : StorePart) → slice_get l.parts k ≡ Some p → j ≤ p.step → k < l.durable
 
--- ---- the fence behind a hoisted call
+-- ---- the fence after a hoisted call
 
 -- where the instruction at a site of the program stands in the repaired body, of its function or of the function's
--- clone: behind the repaired body of what stands before it
+-- clone: after the repaired body of what stands before it
 abbrev pub repaired_place : Program → Plan → (Site → Bool) → Bool → Site → ℕ
 repaired_place P plan skip clone s =
     length (repaired_body (clones_of P plan) (wanted_by plan skip) clone s.function s.block 0
     (take s.index (body_at P s.function s.block)))
 
--- a call of a clone stands at that place of the block, and a fence directly behind it
-pub record IsFenced (Q : Program) (functions f b place : ℕ) : Type 0 where
-  pub call : IsCallFrom Q functions (slice_get (body_at Q f b) place)
+-- a call of function g stands at that place of the block, and a fence directly after it
+pub record IsFenced (Q : Program) (g f b place : ℕ) : Type 0 where
+  pub call : IsCallOf Q g (slice_get (body_at Q f b) place)
   pub fence : IsFenceCall (slice_get (body_at Q f b) (suc place))
 
--- Each hoisted call of a defined function has become a call of a clone with a fence directly behind it, in its function
+-- The call of function g at the site has become a call of a clone of g with a fence directly after it, in its function
 -- and in the clone of its function.
+pub record IsHoisted (P : Program) (plan : Plan) (skip : Site → Bool) (s : Site) (g : ℕ) : Type 0 where
+  pub clone : ℕ
+  pub is_clone : IsClone P (repaired P plan skip) g clone
+  pub plain : IsFenced (repaired P plan skip) clone s.function s.block (repaired_place P plan skip false s)
+  pub cloned : (c : ℕ) → slice_get (cloned P plan) c ≡ Some s.function →
+      IsFenced (repaired P plan skip) clone (length P.functions + c) s.block (repaired_place P plan skip true s)
+
+-- each hoisted call of a defined function has become so
 abbrev pub AreHoistsFenced : Program → Plan → (Site → Bool) → Type 0
 AreHoistsFenced P plan skip =
     (s : Site) (dest : Option (List ℕ)) (ret : Option Scalar) (callee : List ℕ) (args : List Arg) (g : ℕ) →
     has_site plan.hoist s ≡ true → instr_of P s ≡ Some (Call dest ret callee args)
-    → function_number P callee ≡ Some g →
-    IsFenced (repaired P plan skip) (length P.functions) s.function s.block (repaired_place P plan skip false s)
-    × ((c : ℕ) → slice_get (cloned P plan) c ≡ Some s.function →
-    IsFenced (repaired P plan skip) (length P.functions) (length P.functions + c) s.block
-    (repaired_place P plan skip true s))
+    → function_number P callee ≡ Some g → IsHoisted P plan skip s g

@@ -24,7 +24,7 @@ abbrev marked_clone : Program → List Clone → Wanted → Option ℕ → ℕ �
 marked_clone P clones w None b = []
 marked_clone P clones w (Some f) b = marked_body P clones w true f b
 
--- the marked body of a block of the repaired program, whose clones stand behind all functions
+-- the marked body of a block of the repaired program, whose clones follow all functions
 abbrev pub marked_at : Program → Plan → (Site → Bool) → ℕ → ℕ → List Marked
 marked_at P plan skip f b =
     cond (nat_lt f (length P.functions)) (marked_body P (clones_of P plan) (wanted_by plan skip) false f b)

@@ -7,6 +7,7 @@ pub mod Choice
 pub mod Planned
 pub mod CloneNumbers
 pub mod Clean
+pub mod Clones
 pub mod Covered
 pub mod Laws
 pub mod examples

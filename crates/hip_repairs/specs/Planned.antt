@@ -14,7 +14,7 @@ pub record AreSites (P : Program) (test : Site → Bool) (list : List Site) : Ty
   pub site : (s : Site) → has_site list s ≡ true → has_site (sites_of P) s ≡ true
   pub asked : (s : Site) → has_site list s ≡ true → test s ≡ true
 
--- the plan for what was found has in each list the program's sites that some report asks for
+-- the plan for what was found has in each list the program's sites that some report needs there
 pub record IsAsked (P : Program) (found : Findings) : Type 0 where
   pub flushes : AreSites P (wants_flush P found) (plan_for P found).flush_after
   pub fences : AreSites P (wants_fence P found) (plan_for P found).fence_after

@@ -30,7 +30,7 @@ use Rattle.hip_repairs.specs.declared.plan.Plan.{Plan}
 abbrev pub clwb_name : List ℕ
 clwb_name = codes "llvm.x86.clwb"
 
--- LLVM's intrinsic for SFENCE, the fence that a CLWB needs behind it (Intel's manual, SFENCE)
+-- LLVM's intrinsic for SFENCE, the fence that a CLWB needs after it (Intel's manual, SFENCE)
 abbrev pub sfence_name : List ℕ
 sfence_name = codes "llvm.x86.sse.sfence"
 
@@ -76,22 +76,22 @@ abbrev pub clone_name : List Clone → List ℕ → List ℕ
 clone_name [] name = name
 clone_name (c ∷ cs) name = cond (bytes_eq c.original name) c.name (clone_name cs name)
 
--- the instruction, where a call names the clone of its callee if it is to; where there is no clone the callee stays
+-- The instruction. With `to_clone` a call names the clone of its callee; a callee without a clone stays.
 abbrev pub renamed : List Clone → Instr → Bool → Instr
 renamed clones (Call dest ret callee args) to_clone =
     Call dest ret (cond to_clone (clone_name clones callee) callee) args
 renamed clones i to_clone = i
 
--- the flush behind a store, where it is wanted; nothing behind any other instruction
+-- the flush after a store, if one is inserted; nothing after any other instruction
 abbrev pub flush_behind : Instr → Bool → List Marked
 flush_behind (Store ty value addr align) wanted = cond wanted ((flush_of ty addr align, true) ∷ []) []
 flush_behind i wanted = []
 
--- the fence behind an instruction, where it is wanted
+-- the fence after an instruction, if one is inserted
 abbrev pub fence_behind : Bool → List Marked
 fence_behind wanted = cond wanted ((the_fence, true) ∷ []) []
 
--- Where repairs are wanted: sets of sites of the program, each by its test. `skip` has the stores that get no flush by
+-- Where a repair inserts: sets of sites of the program, each by its test. `skip` has the stores that get no flush by
 -- cloning.
 pub record Wanted : Type 0 where
   pub flush_after : Site → Bool
@@ -99,7 +99,7 @@ pub record Wanted : Type 0 where
   pub hoist : Site → Bool
   pub skip : Site → Bool
 
--- what a plan wants, by its three lists; the stores to skip are given beside it
+-- where a plan inserts, by its three lists and the stores to skip
 abbrev pub wanted_by : Plan → (Site → Bool) → Wanted
 wanted_by plan skip =
     record {
@@ -109,8 +109,8 @@ wanted_by plan skip =
       skip = skip;
     }
 
--- What is inserted behind an instruction: a flush behind a store that the plan names, and in a clone behind each store
--- but those to skip; a fence behind a planned flush and behind a hoisted call.
+-- What is inserted after an instruction: a flush after a store that the plan names, and in a clone after each store
+-- except those to skip; a fence after a planned flush and after a hoisted call.
 abbrev pub inserted_behind : Wanted → Bool → Site → Instr → List Marked
 inserted_behind w clone s i =
     flush_behind i (w.flush_after s || (clone && not (w.skip s))) ++ fence_behind (w.fence_after s || w.hoist s)
@@ -221,7 +221,7 @@ needs P plan w name =
     inserts_from name (clones_of P plan) w 0 P.functions
     || list_any (λ f. inserts_cloned name (clones_of P plan) w f (slice_get P.functions f)) (cloned P plan)
 
--- the declaration of a function without a result, if it is wanted and none of these declarations has its name; else
+-- the declaration of a function without a result, if it is needed and none of these declarations has its name; else
 -- nothing
 abbrev pub declared_if : Bool → List Extern → List ℕ → List Scalar → List Extern
 declared_if wanted externs name params =
@@ -237,8 +237,8 @@ added_externs P plan w =
 
 -- ---- the program
 
--- The program repaired where this is wanted, with the clones of the plan. Clones stand behind all functions, and new
--- declarations behind the program's.
+-- The program repaired at these sites, with the clones of the plan. Clones follow all functions, and new declarations
+-- follow the program's.
 abbrev pub repaired_by : Program → Plan → Wanted → Program
 repaired_by P plan w =
     record {

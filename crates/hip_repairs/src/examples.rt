@@ -39,41 +39,41 @@ ghost use Rattle.hip_repairs.specs.examples.StoreInTwoLines.{
 ghost use Rattle.hip_repairs.specs.examples.Words.{IsHoisted, IsWorked, zeroed};
 ghost use Rattle.std.specs.Prelude.{[], ◌∷◌};
 
-/// A store that is neither flushed nor fenced: a flush and a fence go behind it, with both declarations.
+/// A store that is neither flushed nor fenced: a flush and a fence follow it, and both are declared.
 pub fn one_store_is_repaired()
     ensures { IsWorked one_store (zeroed 1) 2 (one_store_report ∷ []) one_store_repaired }
 {}
 
-/// A store with a fence and no flush behind it: the flush goes between them.
+/// A store with a fence and no flush after it: the flush goes between them.
 pub fn fence_without_flush_is_repaired()
     ensures { IsWorked fence_without_flush (zeroed 1) 3
         (fence_without_flush_report ∷ []) fence_without_flush_repaired }
 {}
 
-/// A store with a flush and no fence behind it: the fence goes behind the flush.
+/// A store with a flush and no fence after it: the fence follows the flush.
 pub fn flush_without_fence_is_repaired()
     ensures { IsWorked flush_without_fence (zeroed 1) 3
         (flush_without_fence_report ∷ []) flush_without_fence_repaired }
 {}
 
-/// A store that a second one overwrites: the second alone is reported, and the flush and the fence go behind it.
+/// A store that a second one overwrites: only the second is reported, and the flush and the fence follow it.
 pub fn overwritten_store_is_repaired()
     ensures { IsWorked overwritten_store (zeroed 1) 3 (overwritten_store_report ∷ []) overwritten_store_repaired }
 {}
 
-/// A store that lies in two cache lines: a flush of its eight bytes and a fence go behind it.
+/// A store that lies in two cache lines: a flush of its eight bytes and a fence follow it.
 pub fn store_in_two_lines_is_repaired()
     ensures { IsWorked store_in_two_lines (zeroed 2) 2 (store_in_two_lines_report ∷ []) store_in_two_lines_repaired }
 {}
 
 /// A function that is called once for the stack and once for a persistent global: the second call goes to a clone that
-/// flushes what it stores, with a fence behind the call.
+/// flushes what it stores, with a fence after the call.
 pub fn copy_is_hoisted()
     ensures { IsHoisted copy_hoisted (zeroed 1) 12 (copy_hoisted_report ∷ []) copy_hoisted_repaired }
 {}
 
 /// A function that asserts what it stored: the store is reported at the assert and at the end, and a flush and a fence
-/// go behind the store, before the assert.
+/// follow the store, before the assert.
 pub fn assert_inside_callee_is_repaired()
     ensures { IsHoisted assert_inside_callee (zeroed 1) 6 assert_inside_callee_reports assert_inside_callee_repaired }
 {}

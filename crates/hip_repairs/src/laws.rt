@@ -42,14 +42,14 @@ pub fn repaired_is_sound()
         address (repaired P plan skip) base number ≡ address P base number }
 {}
 
-/// Behind a call of a clone a fence makes all durable that was stored under the call, where the stores that the
-/// clones do not flush never lie in the region.
+/// A call of a clone goes to a clone of the function that the program calls there. The fence that follows it makes all
+/// durable that was stored under the call, where the stores that the clones do not flush never lie in the region.
 pub fn hoisted_calls_are_covered()
     ensures { (P : Program) → (plan : Plan) → (skip : Site → Bool) → IsSound P → IsQuiet P skip →
         IsCovered P (repaired P plan skip) }
 {}
 
-/// A hoisted call has become a call of a clone with a fence directly behind it.
+/// A hoisted call has become a call of a clone of its callee with a fence directly after it.
 pub fn hoisted_calls_are_fenced()
     ensures { (P : Program) → (plan : Plan) → (skip : Site → Bool) → IsSound P → AreHoistsFenced P plan skip }
 {}

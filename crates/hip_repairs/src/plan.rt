@@ -8,7 +8,7 @@ pub struct Plan {
     pub flush_after: Row<Site>,
     /// The flushes that a fence is put after: flush calls, and stores that a flush is put after.
     pub fence_after: Row<Site>,
-    /// The calls of defined functions that go to clones, with a fence behind each.
+    /// The calls of defined functions that go to clones, with a fence after each.
     pub hoist: Row<Site>,
 }
 

@@ -27,7 +27,7 @@ pub fn sites_are_ordered()
         ((s : Site) → has_site xs s ≡ has_site ys s) → xs ≡ ys }
 {}
 
-/// A site is in a list of the plan exactly where it is one of the program's and some report asks for it.
+/// A site is in a list of the plan exactly if it is one of the program's and some report needs it there.
 pub fn plans_have_what_is_asked()
     ensures { (P : Program) → (found : Findings) → IsAsked P found }
 {}

@@ -12,7 +12,7 @@ ghost use Rattle.hip_notes.specs.Sights.{AddAlike, mark_at, marks_ahead, marks_t
 
 use hip_notes::{Ahead, NOTHING, Notes, ahead_at, is_recent};
 use hip_runs::Mark;
-use hip_step::Machine;
+use hip_engine::Machine;
 use hip_tree::Site;
 use hip_types::{NoMemory, Row};
 use std::alloc::Global;

@@ -17,7 +17,7 @@ use hip_notes::{
     step_marks,
 };
 use hip_runs::{Event, Mark, Object};
-use hip_step::Machine;
+use hip_engine::Machine;
 use hip_types::{LINE_SIZE, NoMemory, Row};
 use std::alloc::Global;
 

@@ -11,7 +11,7 @@ use crate::step::note_step;
 use hip_notes::{Notes, globals_of, marks_of};
 use hip_runs::{Event, Findings, Input, Marks, longest};
 use hip_sound::Checked;
-use hip_step::Machine;
+use hip_engine::Machine;
 use hip_types::NoMemory;
 use std::alloc::Global;
 use std::marker::Model;

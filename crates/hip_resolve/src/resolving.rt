@@ -7,9 +7,10 @@ ghost use Rattle.hip_globals.specs.Values.{global_address};
 ghost use Rattle.hip_sound.specs.Numbering.{function_names};
 ghost use Rattle.hip_sound.specs.Sound.{IsSound};
 ghost use Rattle.hip_code.specs.Entries.{entry};
+ghost use Rattle.hip_code.specs.Numbers.{tables_of};
 ghost use Rattle.hip_scope.specs.Grown.{grown};
 ghost use Rattle.hip_resolve.specs.Made.{IsFront};
-ghost use Rattle.hip_resolve.specs.Resolving.{IsResolved};
+ghost use Rattle.hip_resolve.specs.Resolving.{AreWhole, IsResolved};
 ghost use Rattle.hip_scope.specs.Scopes.{IsKnown};
 
 use crate::name_sets::function_names;
@@ -52,7 +53,7 @@ fn with_names<'p, 'a>(
 {
     let starts = starts(alloc, program)?;
     let sizes = sizes(alloc, program)?;
-    code_of(&Known {
+    let made = whole_of(&Known {
         alloc,
         program,
         base,
@@ -60,28 +61,49 @@ fn with_names<'p, 'a>(
         functions,
         starts: starts.as_slice(),
         sizes: sizes.as_slice(),
-    })
+    })?;
+    Ok(code_of(made, starts, sizes))
 }
 
-/// The code of all functions, one after another.
-fn code_of(known: &Known<'_, '_>) -> Result<Code, NoMemory>
+/// The ops of a program, and the tables whose entries they name.
+#[derive(Drop)]
+struct Made {
+    tables: Growing,
+    ops: Row<Op>,
+}
+
+/// The ops of all functions, one after another.
+fn whole_of(known: &Known<'_, '_>) -> Result<Made, NoMemory>
     requires { IsKnown known.now }
-    ensures { IfOk result (λ code. IsResolved known.now.program.now known.now.base code) }
+    ensures { IfOk result (λ made. AreWhole known.now.program.now known.now.base made.ops (grown made.tables)) }
 {
     let mut tables = Growing::new(known.alloc);
     let mut ops = Row::new(known.alloc);
     add_functions(known, &mut tables, &mut ops)?;
-    Ok(Code {
+    Ok(Made { tables, ops })
+}
+
+/// The code of these ops, with the places where the functions begin and the numbers of their registers.
+fn code_of(made: Made, starts: Row<u32>, sizes: Row<u32>) -> Code
+    ensures ops { result.ops.items ≡ made.ops }
+    ensures tables { tables_of result ≡ grown made.tables }
+    ensures starts { result.starts.items ≡ starts }
+    ensures sizes { result.sizes.items ≡ sizes }
+{
+    let Made { tables, ops } = made;
+    Code {
         ops: ops.into_vec(),
         constants: tables.constants.into_vec(),
         terms: tables.terms.into_vec(),
         moves: tables.moves.into_vec(),
         edges: tables.edges.into_vec(),
         cases: tables.cases.into_vec(),
-    })
+        starts: starts.into_vec(),
+        sizes: sizes.into_vec(),
+    }
 }
 
-/// Puts the ops of all functions behind none.
+/// Adds the ops of all functions to none.
 fn add_functions(
     known: &Known<'_, '_>,
     tables: &mut Growing,
@@ -99,7 +121,7 @@ fn add_functions(
     Ok(())
 }
 
-/// Puts the ops of the function of a number behind those of the functions before it.
+/// Adds the ops of the function of a number after those of the functions before it.
 fn add_function(
     known: &Known<'_, '_>,
     tables: &mut Growing,

@@ -17,7 +17,7 @@ gives a = record { rule = done a; read = done_at a }
 abbrev pub token : {F A : Type 0} → (Tok → Verdict F A) → Part F A
 token p = record { rule = one p; read = one_at p }
 
--- one part, and then the part that its value asks for
+-- one part, and then the part that its value selects
 infixl 10 ◌>>=◌
 abbrev pub ◌>>=◌ : {F A B : Type 0} → Part F A → (A → Part F B) → Part F B
 l >>= f = record { rule = both l.rule (λ x. (f x).rule); read = both_at l.read (λ x. (f x).read) }
@@ -38,11 +38,11 @@ optional k l = record { rule = perhaps l.rule; read = perhaps_at k l.read }
 abbrev pub the : {F : Type 0} → (Tok → Bool) → Tok → Verdict F (Unit {0})
 the k t = if k t then Yes tt else No
 
--- one token that passes, of which nothing is kept; any other is refused without a reason
+-- one token that passes, with no value; any other is refused without a reason
 abbrev pub passing : {F : Type 0} → (Tok → Bool) → Part F (Unit {0})
 passing k = token (the k)
 
--- one more part, behind a token that passes
+-- one more part, after a token that passes
 unfoldable pub one_more_by : {F A : Type 0} → (Tok → Bool) → Part F A → Part F A
 one_more_by k l = passing k >>= λ _. l
 
@@ -62,13 +62,13 @@ some_up_to k close l = separated k l >>= λ items. passing close >>= λ _. gives
 unfoldable pub listed : {F A : Type 0} → (Tok → Bool) → (Tok → Bool) → Part F A → Part F (List A)
 listed k close l = either close (none_up_to close) (some_up_to k close l)
 
--- any number, of which nothing is kept
+-- any number, with no value
 unfoldable pub skipped : {F A : Type 0} → (Tok → Bool) → Part F A → Part F (Unit {0})
 skipped k l = repeated k l >>= λ _. gives tt
 
 -- Any number of parts of one kind, and what follows them, which may begin by the same head.
--- The rule reads the parts and then what follows. The reading goes by the next tokens: behind a head that no such
--- part follows comes `after_head`, and where no head stands `no_head`.
+-- The rule reads the parts and then what follows. The reading goes by the next tokens: after a head that no such
+-- part follows comes `after_head`, and without a head `no_head`.
 abbrev pub phased : {F X P B : Type 0} → (Tok → Bool) → Part F X → (Tok → Bool) → (X → Part F P)
     → (List P → X → Part F B) → (List P → Part F B) → (List P → Part F B) → Part F B
 phased kh head kf part after_head no_head following = record {

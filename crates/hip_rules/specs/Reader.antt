@@ -11,7 +11,7 @@ Outcome F A = Result (A × List At) (Option F × List At)
 abbrev pub Reader : Type 0 → Type 0 → Type 0
 Reader F A = List At → Outcome F A
 
--- what is read behind a value that was read; a refusal stays
+-- what is read after a value that was read; a refusal stays
 abbrev pub on_ok : {F A B : Type 0} → Outcome F A → (A → Reader F B) → Outcome F B
 on_ok (Ok x) f = f x.0 x.1
 on_ok (Err e) f = Err e
@@ -20,17 +20,17 @@ on_ok (Err e) f = Err e
 abbrev pub done_at : {F A : Type 0} → A → Reader F A
 done_at x ts = Ok (x, ts)
 
--- one part, and behind it the part that its value asks for
+-- one part, and after it the part that its value selects
 abbrev pub both_at : {F A B : Type 0} → Reader F A → (A → Reader F B) → Reader F B
 both_at r f ts = on_ok (r ts) f
 
--- by the verdict on a token: it is taken for its value, or refused where it stands, with the reason if there is one
+-- by the verdict on a token: it is taken for its value, or refused at its place, with the reason if it has one
 abbrev pub judged : {F A : Type 0} → Verdict F A → At → List At → Outcome F A
 judged (Yes x) t more = Ok (x, more)
 judged (Because why) t more = Err (Some why, t ∷ more)
 judged No t more = Err (None, t ∷ more)
 
--- one token, by its verdict; where no token is left, that place is refused without a reason
+-- one token, by its verdict; if no token is left, that place is refused without a reason
 abbrev pub one_at : {F A : Type 0} → (Tok → Verdict F A) → Reader F A
 one_at p [] = Err (None, [])
 one_at p (t ∷ ts) = judged (p t.tok) t ts
@@ -48,7 +48,7 @@ either_at p r s ts = if next p ts then r ts else s ts
 abbrev pub perhaps_at : {F A : Type 0} → (Tok → Bool) → Reader F A → Reader F (Option A)
 perhaps_at p r ts = if next p ts then on_ok (r ts) (λ x more. Ok (Some x, more)) else Ok (None, ts)
 
--- at most so many parts, as long as the next token begins one
+-- at most n parts, as long as the next token begins one
 unfoldable pub times_at : {F A : Type 0} → (Tok → Bool) → Reader F A → ℕ → Reader F (List A)
 times_at p r zero ts = Ok ([], ts)
 times_at p r (suc n) ts =
@@ -72,7 +72,7 @@ folded step s (x ∷ xs) = folded step (step s x) xs
 abbrev pub taken_up : {F A S : Type 0} → (S → A → S) → S → Outcome F (List A) → Outcome F S
 taken_up step s o = on_ok o (λ xs rest. Ok (folded step s xs, rest))
 
--- Parts of one kind that begin by a head, at most so many. Where a head is followed by no such part, the head is
+-- At most n parts of one kind that begin with a head. If no such part follows a head, the head is
 -- given with them.
 unfoldable pub leading_at : {F X P : Type 0} → (Tok → Bool) → Reader F X → (Tok → Bool) → (X → Reader F P)
     → ℕ

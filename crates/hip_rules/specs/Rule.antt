@@ -39,7 +39,7 @@ one {F} {A} p = record {
       × (p t.tok ≡ Because why);
 }
 
--- One part, and then the part that its value asks for. A front is one of the first part, or the first part whole and
+-- One part, and then the part that its value selects. A front is one of the first part, or the first part whole and
 -- a front of the second.
 unfoldable pub both : {F A B : Type 0} → Rule F A → (A → Rule F B) → Rule F B
 both {F} {A} {B} l f = record {

@@ -6,7 +6,7 @@ use crate::machines::{checked, input};
 use hip_crash::{Bounds, CrashLog, Pick, PickRefusal};
 use hip_examples::AMPLE;
 use hip_sound::Checked;
-use hip_step::{Input, Machine, why_not};
+use hip_step::{Begin, Input, Machine, why_not};
 use hip_types::Row;
 use std::alloc::Global;
 use std::process::Abort;

@@ -3,7 +3,7 @@
 use hip_examples::AMPLE;
 use hip_parse::parse;
 use hip_sound::Checked;
-use hip_step::{Input, Machine, why_not};
+use hip_step::{Begin, Input, Machine, why_not};
 use hip_types::Row;
 use hip_typing::check;
 use std::alloc::Global;

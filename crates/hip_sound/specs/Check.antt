@@ -1,15 +1,15 @@
--- Checks of a program: what each asks, and the first thing that it finds wrong.
+-- Checks of a program: what each requires, and the first fault that it finds.
 use Rattle.std.specs.Prelude.{ℕ, ◌≡◌, ◌+◌, Bool, List, [], ◌∷◌, Option, Some, None, IsTrue, if◌then◌else◌}
 use Rattle.hip_sound.specs.declared.fault.Fault.{Fault}
 use Rattle.hip_sound.specs.declared.fault.Finding.{Finding}
 use Rattle.hip_sound.specs.declared.fault.Place.{Place}
 
--- What is asked, and the first finding against it.
+-- A requirement, and the first finding against it.
 pub record Check : Type 1 where
   pub Holds : Type 0
   pub found : Option Finding
 
--- A check is exact where it finds nothing exactly if what it asks holds.
+-- A check is exact if it finds nothing exactly when its requirement holds.
 pub record IsExact (c : Check) : Type 0 where
   pub sound : c.found ≡ None → c.Holds
   pub whole : c.Holds → c.found ≡ None
@@ -19,7 +19,7 @@ abbrev pub or_else : Option Finding → Option Finding → Option Finding
 or_else None later = later
 or_else (Some f) later = Some f
 
--- the check that asks nothing: it always holds and finds nothing
+-- the check that requires nothing: it always holds and finds nothing
 abbrev pub nothing_asked : Check
 nothing_asked = record { Holds = Unit {0}; found = None }
 
@@ -41,6 +41,6 @@ abbrev pub each_from : {A : Type 0} → ℕ → (ℕ → A → Check) → List A
 each_from n check [] = nothing_asked
 each_from n check (x ∷ xs) = and_then (check n x) (each_from (n + 1) check xs)
 
--- a check of each item with its number from 0, in order; an empty list asks nothing
+-- a check of each item with its number from 0, in order; an empty list requires nothing
 abbrev pub each : {A : Type 0} → (ℕ → A → Check) → List A → Check
 each check xs = each_from 0 check xs

@@ -58,7 +58,7 @@ abbrev pub path_exists : List Bits → Ty → Bool
 path_exists [] t = false
 path_exists (first ∷ further) t = enters further t
 
--- each of the tests passes at this one type; true where there are no tests
+-- each of the tests passes at this one type; true if there are no tests
 abbrev pub all_have : List (Ty → Bool) → Ty → Bool
 all_have [] t = true
 all_have (item ∷ items) t = item t && all_have items t

@@ -16,7 +16,7 @@ label_names fn = map (λ b. b.label) fn.blocks
 abbrev pub function_names : List Function → List (List ℕ)
 function_names functions = map (λ f. f.name) functions
 
--- the name of a function; the empty name where there is none
+-- the name of a function; the empty name if the function does not exist
 abbrev pub name_in : Option Function → List ℕ
 name_in None = []
 name_in (Some f) = f.name

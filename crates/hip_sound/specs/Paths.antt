@@ -8,11 +8,11 @@ use Rattle.hip_sound.specs.declared.point.Point.{Point}
 use Rattle.hip_sound.specs.declared.point.Point.TheVariants.{Before, AtEnd}
 use Rattle.hip_sound.specs.Registers.{Register, block_registers, phi_registers, body_registers, parameter_registers, end_labels}
 
--- the label of the function's block of that number; none where there is no such block
+-- the label of the function's block of that number; none if the block does not exist
 abbrev pub label_at : Function → ℕ → Option (List ℕ)
 label_at f b = option_map (λ block. block.label) (slice_get f.blocks b)
 
--- the labels that the end of the block of that number names; empty where there is no such block
+-- the labels that the end of the block of that number names; empty if the block does not exist
 abbrev pub labels_named_at : Function → ℕ → List (List ℕ)
 labels_named_at f b = unwrap_or (option_map (λ block. end_labels block.end) (slice_get f.blocks b)) []
 
@@ -44,11 +44,11 @@ registers_before AtEnd b = block_registers b
 abbrev pub names_of : List Register → List (List ℕ)
 names_of rs = map (λ r. r.name) rs
 
--- the names of the registers that the block of that number assigns; empty where there is no such block
+-- the names of the registers that the block of that number assigns; empty if the block does not exist
 abbrev pub whole_block_names : Function → ℕ → List (List ℕ)
 whole_block_names f b = unwrap_or (option_map (λ block. names_of (block_registers block)) (slice_get f.blocks b)) []
 
--- the names of registers that the block of that number assigns before the point; empty where there is no such block
+-- the names of registers that the block of that number assigns before the point; empty if the block does not exist
 abbrev pub names_before : Function → Point → ℕ → List (List ℕ)
 names_before f point b =
     unwrap_or (option_map (λ block. names_of (registers_before point block)) (slice_get f.blocks b)) []

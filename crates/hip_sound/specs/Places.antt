@@ -44,20 +44,20 @@ use Rattle.hip_sound.specs.declared.fault.Place.{Place}
 
 -- ---- what can be called
 
--- the signature in the first declaration of an external function of that name; none where no declaration has it
+-- the signature in the first declaration of an external function of that name; none if no declaration has it
 abbrev pub extern_of : List Extern → List ℕ → Option Signature
 extern_of [] name = None
 extern_of (e ∷ es) name =
     if bytes_eq e.name name then Some (record { ret = e.ret; params = e.params }) else extern_of es name
 
--- the result and the parameters' types of the first function of that name; none where no function has it
+-- the result and the parameters' types of the first function of that name; none if no function has it
 abbrev pub function_of : List Function → List ℕ → Option Signature
 function_of [] name = None
 function_of (f ∷ fs) name =
     if bytes_eq f.name name then Some (record { ret = f.ret; params = map (λ p. p.ty) f.params })
     else function_of fs name
 
--- the first signature where it is there, else the second, which may be none
+-- the first signature if it exists, else the second, which may be none
 abbrev pub first_of : Option Signature → Option Signature → Option Signature
 first_of (Some s) other = Some s
 first_of None other = other
@@ -112,7 +112,7 @@ uses_agree s us = list_all (λ u. use_agrees s.registers u.operand u.ty) us
 
 -- ---- instructions
 
--- from an integer to an integer of more bits; not to one of as many, and not from or to a pointer
+-- from an integer to an integer of more bits; not to one of the same width, and not from or to a pointer
 abbrev pub widens : Scalar → Scalar → Bool
 widens (scalars.Int v) (scalars.Int w) = nat_lt (bits_of v) (bits_of w)
 widens _ _ = false

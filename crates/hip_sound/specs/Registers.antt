@@ -146,7 +146,7 @@ operand_types (Fixed value) = types_in value
 abbrev pub used_registers : List Use → List (List ℕ)
 used_registers us = flat_map (λ u. operand_registers u.operand) us
 
--- the names of globals in the constants that are used, in the order of the uses, each as often as it stands there
+-- the names of globals in the constants that are used, in the order of the uses, each as often as it is used
 abbrev pub used_globals : List Use → List (List ℕ)
 used_globals us = flat_map (λ u. operand_globals u.operand) us
 

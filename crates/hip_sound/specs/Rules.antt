@@ -60,7 +60,7 @@ extern_declarations externs = numbered (λ n e. named e.name (places.Extern n)) 
 abbrev pub function_declarations : List Function → List Named
 function_declarations functions = numbered (λ n f. named f.name (places.Head n)) functions
 
--- the names that stand at the top of a program: of globals, then of external functions, then of functions
+-- the names at the top of a program: of globals, then of external functions, then of functions
 abbrev pub declarations : Program → List Named
 declarations P = global_declarations P.globals ++ extern_declarations P.externs ++ function_declarations P.functions
 
@@ -88,7 +88,7 @@ globals_check P = each (global_check (global_names P)) P.globals
 abbrev pub is_free : List ℕ → Bool
 is_free name = is_none (call_of name)
 
--- the declaration has the result and the parameters' types of the signature; not where there is no signature
+-- the declaration has the result and the parameters' types of the signature; false if there is no signature
 abbrev pub is_of : Extern → Option Signature → Bool
 is_of e None = false
 is_of e (Some s) = same_result e.ret s.ret && all_pass (map same_scalar s.params) e.params
@@ -112,8 +112,8 @@ externs_check P =
 
 -- ---- the region and the volatile globals are not too large
 
--- The region has at most 67,108,864 bytes, and the volatile globals end at most 16,777,216 bytes behind their start:
--- TooLarge, with no place but the whole program. (This project's own limits.)
+-- The region has at most 67,108,864 bytes, and the volatile globals end at most 16,777,216 bytes after their start:
+-- TooLarge, placed at the whole program. (This project's own limits.)
 abbrev pub sizes_check : Program → Check
 sizes_check P =
     asks_true
@@ -122,7 +122,7 @@ sizes_check P =
 
 -- ---- `main` is there, has no parameters and answers an i32
 
--- the result of a function is an i32; not where the function is void
+-- the result of a function is an i32; false if the function is void
 abbrev pub is_i32 : Option Scalar → Bool
 is_i32 (Some (scalars.Int W32)) = true
 is_i32 _ = false
@@ -136,12 +136,12 @@ no_params _ = false
 abbrev pub is_main : Function → Bool
 is_main f = no_params f.params && is_i32 f.ret
 
--- the first function with the name `main` has no parameters and answers an i32; not where no function has the name
+-- the first function with the name `main` has no parameters and returns an i32; false if no function has the name
 abbrev pub has_main : List Function → Bool
 has_main [] = false
 has_main (f ∷ fs) = if bytes_eq f.name (codes "main") then is_main f else has_main fs
 
--- the check that there is such a `main`: NoMain, with no place but the whole program
+-- the check that there is such a `main`: NoMain, placed at the whole program
 abbrev pub main_check : Program → Check
 main_check P = asks_true (has_main P.functions) breaks.NoMain places.Whole
 
@@ -198,7 +198,7 @@ places_check P = each (function_check P) P.functions
 
 -- ---- each use of a register is assigned on every path
 
--- a use of a register: where its fault is placed, and where it stands in the function
+-- a use of a register: the place of its fault, and its point in the function
 pub record RegisterUse : Type 0 where
   pub place : Place
   pub block : ℕ
@@ -253,7 +253,7 @@ AllAssigned fn f = All (UseIsAssigned fn) (register_uses f fn)
 
 -- ---- what passes the checks
 
--- a program that is spelled, that passes each check, and in which each use is assigned on every path
+-- a program that is spelled, that passes each check, and whose uses are all assigned on every path
 pub record Passes (P : Program) : Type 0 where
   pub spelled : IsSpelled P
   pub names : (names_check P).Holds
@@ -306,6 +306,6 @@ is_first P place faults.BadEdge = BreaksFirst P breaks.BadEdge place
 is_first P place faults.TooLarge = BreaksFirst P breaks.TooLarge place
 is_first P place faults.NoMemory = ⊥
 
--- the fault and the place of a refusal are the first of the program; want of memory is none of its faults
+-- the fault and the place of a refusal are the first of the program; out of memory is none of its faults
 abbrev pub IsFirstFault : Program → TypeRefusal → Type 0
 IsFirstFault P refusal = is_first P refusal.place refusal.fault

@@ -69,7 +69,7 @@ names_in_function fn = names_of (parameter_registers fn) ++ flat_map names_in_bl
 abbrev pub HasItsShape : GlobalVar → Type 0
 HasItsShape g = IsTrue (has_shape g.init g.ty)
 
--- each name in the initialiser is that of a global, so that no address of a function stands there
+-- each name in the initialiser is that of a global, so no initialiser has the address of a function
 abbrev pub NamesGlobals : Program → GlobalVar → Type 0
 NamesGlobals P g = All (IsAmong (global_names P)) (names_in g.init)
 
@@ -91,7 +91,7 @@ pub record KeepsToTable (P : Program) : Type 0 where
 
 -- ---- sizes
 
--- the region has at most 67,108,864 bytes, and the volatile globals end at most 16,777,216 bytes behind their start
+-- the region has at most 67,108,864 bytes, and the volatile globals end at most 16,777,216 bytes after their start
 pub record KeepsToSizes (P : Program) : Type 0 where
   pub region : region_size P ≤ LARGEST_REGION
   pub volatile : volatile_end P ≤ volatile_start + LARGEST_VOLATILE
@@ -109,7 +109,7 @@ pub record HasMain (P : Program) : Type 0 where
 
 -- ---- places
 
--- what stands at a place of a block
+-- what a block has at a place
 pub data Item : Type 0 where
   PhiItem : Phi → Item
   InstrItem : Instr → Item
@@ -127,7 +127,7 @@ labels_of (PhiItem p) = edge_labels p.edges
 labels_of (InstrItem i) = []
 labels_of (EndItem e) = end_labels e
 
--- the callee's name where a call stands; none anywhere else
+-- the callee's name at a call; none anywhere else
 abbrev pub callees_of : Item → List (List ℕ)
 callees_of (InstrItem (Call dest ret callee args)) = callee ∷ []
 callees_of _ = []
@@ -192,7 +192,7 @@ OwnTypesAgree P fn (InstrItem (Call dest ret callee args)) = CallAgrees P dest r
 OwnTypesAgree P fn (EndItem (Ret arg)) = option_map (λ a. a.ty) arg ≡ fn.ret
 OwnTypesAgree P fn _ = Unit {0}
 
--- each operand has the type that its place states, and what the place itself asks of types holds
+-- each operand has the type that its place states, and what the place itself requires of types holds
 pub record TypesAgree (P : Program) (fn : Function) (x : Item) : Type 0 where
   pub operands : All (IsTyped fn) (uses_of x)
   pub own : OwnTypesAgree P fn x
@@ -236,8 +236,8 @@ pub record UsesAreAssigned (fn : Function) (b : ℕ) (block : Block) : Type 0 wh
       All (IsAssigned fn b (Before i)) (used_registers (instr_uses instr))
   pub last : All (IsAssigned fn b AtEnd) (used_registers (end_uses block.end))
 
--- Each register that is used in a block has been assigned on every path to the use; where no path comes to the use,
--- any register of the function may stand. (LLVM, "Well-Formedness": a definition dominates its uses.)
+-- Each register that is used in a block has been assigned on every path to the use; if no path comes to the use,
+-- any register of the function may be used. (LLVM, "Well-Formedness": a definition dominates its uses.)
 abbrev pub RegistersAssigned : Program → Type 0
 RegistersAssigned P = (f b : ℕ) (fn : Function) (block : Block) → IsBlockAt P f b fn block
     → UsesAreAssigned fn b block

@@ -24,7 +24,7 @@ same_result None None = true
 same_result (Some a) (Some b) = same_scalar a b
 same_result _ _ = false
 
--- each test passes at the type beside it, and there are as many of both
+-- each test passes at the type beside it, and there is one test for each type
 abbrev pub all_pass : {A : Type 0} → List (A → Bool) → List A → Bool
 all_pass [] [] = true
 all_pass (test ∷ tests) (x ∷ xs) = test x && all_pass tests xs
@@ -61,7 +61,7 @@ same_level (Ty-F.Struct tests) t = is_struct tests t
 abbrev pub same_step : Ty-F (Ty → Bool) → Ty → Bool
 same_step tests t = same_level tests (out-Ty t)
 
--- Two types are one where they are alike level by level; so a struct is told by its fields alone. (LLVM, "Structure
+-- Two types are equal if they are alike level by level; so a struct is known by its fields alone. (LLVM, "Structure
 -- Type": literal types are uniqued by their contents.)
 abbrev pub same_type : Ty → Ty → Bool
 same_type = fold-Ty (Ty → Bool) same_step

@@ -60,7 +60,7 @@ impl Checked {
         &self.program
     }
 
-    /// How many bytes the region has: those of the persistent globals, rounded up to whole cache lines of 64 bytes.
+    /// The number of bytes of the region: those of the persistent globals, rounded up to whole cache lines of 64 bytes.
     pub fn region_size(&self) -> u64
         ensures { result ≡ spec.region_size self.now }
     {

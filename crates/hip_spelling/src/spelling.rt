@@ -20,7 +20,7 @@ use hip_types::{
     Width,
 };
 
-/// A part of a tree, of which the grammar asks something that its type leaves open.
+/// A part of a tree with a rule of the grammar that its type leaves open.
 trait KeepsRules {
     ghost test: { Self → Bool };
 
@@ -105,7 +105,7 @@ fn of_width(width: Width, value: Bits) -> bool
     value.width.bits() == width.bits()
 }
 
-/// Whether the constant may stand under an integer type.
+/// Whether the constant is allowed under an integer type.
 fn spelled_int(width: Width, value: &Const) -> bool
     ensures { result ≡ spelled_int width (out-Const value.now) }
 {
@@ -116,7 +116,7 @@ fn spelled_int(width: Width, value: &Const) -> bool
     }
 }
 
-/// Whether the constant may stand under `ptr`, with at most `depth` `getelementptr` in one another.
+/// Whether the constant is allowed under `ptr`, with at most `depth` nested `getelementptr`.
 #[cycle(pointers)]
 #[tactic(auto, unfolding(hip_grammar::specs::Spelling::spelled_pointer_within))]
 fn spelled_pointer_within(depth: u64, value: &Const) -> bool
@@ -139,7 +139,7 @@ fn spelled_gep(depth: u64, gep: &ConstGep) -> bool
         && not_empty(gep.indices.as_slice())
 }
 
-/// Whether the constant may stand under the type, with lists nested at most `depth` deep.
+/// Whether the constant is allowed under the type, with lists nested at most `depth` deep.
 #[cycle(constants)]
 #[tactic(auto, unfolding(hip_grammar::specs::Spelling::spelled_const_within))]
 fn spelled_const_within(depth: u64, ty: &Ty, value: &Const) -> bool
@@ -262,7 +262,7 @@ fn spelled_access(addr: &Operand, align: &Option<u64>) -> bool
     spelled_operand(Scalar::Ptr, addr) && spelled_align(align)
 }
 
-/// What `getelementptr` goes over, and by which indices.
+/// The type that `getelementptr` goes over, and its indices.
 fn spelled_element(ty: &Ty, base: &Operand, indices: &[Arg]) -> bool
     ensures { result ≡ (spelled_type ty.now && (spelled_operand Ptr base.now
         && (not_empty indices.now && list_all spelled_index indices.now))) }

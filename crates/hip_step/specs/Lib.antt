@@ -1,4 +1,1 @@
 pub mod Faults
-pub mod Running
-pub mod Given
-pub mod Counts

@@ -1,10 +1,10 @@
-//! The machine that runs resolved programs over persistent memory, one step of the definition at a time.
+//! How a machine begins: from a sound program and a valid input. The program is resolved first.
 #![tactic(auto)]
 
-mod machine;
-mod start;
+mod begin;
 mod validity;
 
+pub use begin::Begin;
+pub use hip_engine::Machine;
 pub use hip_runs::{Ending, Event, Input, InputFault, Object, TrapKind};
-pub use machine::Machine;
 pub use validity::why_not;

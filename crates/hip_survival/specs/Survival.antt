@@ -85,7 +85,7 @@ HasDurableAlone I s content = (b : ℕ) → b < length I.image → slice_index c
 
 -- ---- what a report is of
 
--- A report is of the store into the region that the run makes in the step after so many steps: it names that store's entry
+-- A report is of the store into the region that the run makes in the step after n steps: it names that store's entry
 -- of the trace.
 pub record IsOfStep (P : Program) (I : Input) (steps : ℕ) (r : Report) : Type 0 where
   pub store : stores (event P I (run P I steps)) ≡ true

@@ -59,7 +59,7 @@ pub fn what_is_not_durable_may_be_lost()
         × (slice_index content b ≢ working_byte P I (run P I n) b) }
 {}
 
-/// A byte of the region is loose exactly where the cache lines tell it, as `Lines::not_durable` yields it.
+/// A byte of the region is loose exactly if the cache lines show it loose, as `Lines::not_durable` yields it.
 pub fn lines_tell_loose_bytes()
     ensures told { (P : Program) → (I : Input) → (n : ℕ) → (b : ℕ) → IsLooseAt (run P I n) b →
         (x : LooseByte) × In x (loose_bytes (run P I n) b 1) }

@@ -24,7 +24,7 @@ struct Around {
     path: Option<&'static [usize]>,
 }
 
-/// Whether the path is the wanted one, if one is wanted.
+/// Whether the path is the expected one, if one is expected.
 fn is_wanted(found: &Option<Row<usize>>, wanted: Option<&[usize]>) -> bool {
     match (found, wanted) {
         (Some(path), Some(wanted)) => path.as_slice() == wanted,
@@ -134,7 +134,7 @@ fn loops_with_two_entries(rt: HostRuntime) {
     }
 }
 
-/// A chain of so many nodes in which each one also leads to the last.
+/// A chain of n nodes; each node also leads to the last.
 fn chain(rt: &impl Abort, alloc: Global, count: usize) -> Row<Row<usize>> {
     let mut graph = Row::new(alloc);
     for node in 0..count {

@@ -1,7 +1,7 @@
 //! Tests of more than one function by public calls alone: layout, numbers, tokens, names, memory, cache lines and
 //! paths.
 //!
-//! A test stands in the lowest of the crates of tests that has what it calls: `hip_text_tests` for files, traces and
+//! A test is in the lowest of the crates of tests that has what it calls: `hip_text_tests` for files, traces and
 //! the texts of programs, `hip_run_tests` for runs, `hip_repair_tests` for calls and repairs, `hip_tool_tests` for
 //! soundness and the command.
 #![tactic(auto)]

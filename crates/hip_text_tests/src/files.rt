@@ -41,7 +41,7 @@ fn reads_in_chunks_of_any_size(rt: HostRuntime) {
     }
 }
 
-/// Asserts why a file is not read that may have so many bytes.
+/// Asserts why a file is not read when n bytes are allowed.
 fn assert_refused<C: Cabinet>(
     rt: &impl Abort,
     alloc: Global,

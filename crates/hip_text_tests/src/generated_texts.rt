@@ -31,7 +31,7 @@ entry:
 }
 ";
 
-/// The text of a program, of which the length and the checksum are known.
+/// The text of a program with a known length and checksum.
 struct Text {
     seed: u64,
     size: u64,

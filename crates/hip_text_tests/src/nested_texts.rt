@@ -5,13 +5,13 @@ use hip_parse::{ParseRefusal, parse};
 use std::alloc::Global;
 use std::process::Abort;
 
-/// A global whose type or constant opens a level so many times, and closes it as often where it is to be read.
+/// A global whose type or constant opens a level n times, and closes it as often if it is to be read.
 struct NestedText {
     open: &'static str,
     levels: u32,
     middle: &'static str,
     close: &'static str,
-    /// None where the text is read.
+    /// None if the text is read.
     why: Option<ParseRefusal>,
 }
 

@@ -127,7 +127,7 @@ fn pointers_are_spelled(rt: HostRuntime) {
     assert!(rt; !is_spelled_instr(&rt, alloc, without_index(&rt, alloc)));
 }
 
-/// An `alloca` of arrays of one element, so many deep, at this alignment.
+/// An `alloca` of arrays of one element, n deep, at this alignment.
 struct Block {
     depth: u32,
     align: u64,
@@ -162,7 +162,7 @@ const BLOCKS: &[Block] = &[
     },
 ];
 
-/// Arrays of one element, so many deep.
+/// Arrays of one element, n deep.
 fn nested(rt: &impl Abort, alloc: Global, depth: u32) -> Ty {
     let mut ty = Ty::Ptr;
     for _level in 0..depth {

@@ -29,7 +29,7 @@ fn assert_answer(rt: &impl Abort, found: Answer, expected: Answer, case: &str) {
     assert!(rt; found == expected, "{case}");
 }
 
-/// Reads the entries of the file `t`, and what comes behind them twice.
+/// Reads the entries of the file `t`, and twice what comes after them.
 fn assert_reads<C: Cabinet>(
     rt: &impl Abort,
     cabinet: &mut C,
@@ -47,7 +47,7 @@ fn assert_reads<C: Cabinet>(
     assert_answer(rt, reader.next(cabinet), end, case);
 }
 
-/// Reads the entries of a text that is given in chunks, and what comes behind them twice.
+/// Reads the entries of a text that is given in chunks, and twice what comes after them.
 fn assert_text(
     rt: &impl Abort,
     alloc: Global,
@@ -239,7 +239,7 @@ const MALFORMED_TEXTS: &[&str] = &[
     "IMAGE;0x40;00",
 ];
 
-/// A text and a separator behind it, with an entry in front.
+/// An entry, a text and a separator after it.
 fn behind_an_entry(rt: &impl Abort, alloc: Global, text: &str) -> Vec<u8> {
     let mut bytes = Vec::new(alloc);
     bytes.extend_from_slice(b"CUT|").expect(rt, AMPLE);
@@ -300,7 +300,7 @@ fn cut_anywhere(rt: HostRuntime) {
     assert_text(&rt, rt.alloc(), b"", 1, &[], NO_MORE, "no byte");
 }
 
-/// A store of which the address has as many leading zeros as make the text that long.
+/// A store whose address has enough leading zeros to make the text that long.
 fn long_store(rt: &impl Abort, alloc: Global, len: usize) -> Vec<u8>
     requires { len ≤ 1000 }
 {
@@ -393,7 +393,7 @@ fn images(rt: HostRuntime) {
     assert_image_written(&rt, rt.alloc(), &image);
 }
 
-/// The two stores in a file that fails behind its ninth byte.
+/// The two stores in a file that fails after its ninth byte.
 fn failing_file(rt: &impl Abort, alloc: Global) -> FailingCabinet {
     let inner = file(rt, alloc, TWO_STORES, 4);
     let name = Row::from_slice(alloc, b"t").expect(rt, AMPLE);

@@ -1,4 +1,4 @@
--- A cut inside a token or a comment goes on behind it.
+-- A cut inside a token or a comment goes on after it.
 use Rattle.std.proofs.Common.{◌≡◌, ℕ, zero, suc, true, false, eqb, List, [], ◌∷◌, drop, refl, sym, ap, ◌∙◌}
 use Rattle.std.specs.List.{prefix_len}
 use Rattle.hip_tokens.specs.Bytes.{is_blank, in_comment}
@@ -10,7 +10,7 @@ cut_inside line zero bs = refl
 cut_inside line (suc k) [] = refl
 cut_inside line (suc k) (b ∷ bs) = cut_inside line k bs
 
--- one step of the cut, by what stands in front
+-- one step of the cut, by the first byte
 pub cut_blank : (line b : ℕ) (bs : List ℕ) → is_blank b ≡ true
     → cut line 0 (b ∷ bs) ≡ cut (line_after line b) 0 bs
 unfolding cut

@@ -20,7 +20,7 @@ pub record Piece : Type 0 where
   pub tok : Tok
   pub more : ℕ
 
--- this token, with so many bytes after its first
+-- this token, with n bytes after its first
 abbrev pub piece : Tok → ℕ → Piece
 piece t n = record { tok = t; more = n }
 
@@ -36,14 +36,14 @@ word_piece b bs =
     then piece (Label (b ∷ take (prefix_len goes_on_name bs) bs)) (prefix_len goes_on_name bs + 1)
     else piece (Word (b ∷ take (prefix_len goes_on_name bs) bs)) (prefix_len goes_on_name bs)
 
--- behind `%` and `@` a name stands, or nothing
+-- after `%` and `@` a name follows, or nothing
 unfoldable pub local_piece : List ℕ → Piece
 local_piece bs =
     if name_here bs
     then piece (Local (take (prefix_len goes_on_name bs) bs)) (prefix_len goes_on_name bs)
     else piece (Odd (byte "%")) 0
 
--- behind `@`: the GLOBAL of the name that begins with these bytes, or `@` alone as an odd byte
+-- after `@`: the GLOBAL of the name that begins with these bytes, or `@` alone as an odd byte
 unfoldable pub global_piece : List ℕ → Piece
 global_piece bs =
     if name_here bs
@@ -54,11 +54,11 @@ global_piece bs =
 unfoldable pub number_piece : ℕ → List ℕ → Piece
 number_piece b bs = piece (Num (b ∷ take (prefix_len is_digit bs) bs)) (prefix_len is_digit bs)
 
--- behind `-` a digit stands, or nothing
+-- after `-` a digit follows, or nothing
 unfoldable pub minus_piece : List ℕ → Piece
 minus_piece bs = if prefix_len is_digit bs == 0 then piece (Odd (byte "-")) 0 else number_piece (byte "-") bs
 
--- a string is closed on its line, or `"` stands alone
+-- a string is closed on its line, or `"` is an odd byte
 unfoldable pub string_piece : List ℕ → Piece
 string_piece bs =
     if slice_index bs (prefix_len in_string bs) == byte "\""
@@ -77,7 +77,7 @@ piece_at b bs =
     else (if is_mark b then piece (Mark b) 0
     else piece (Odd b) 0))))))
 
--- the line behind byte b of this line: the next one where b is a line feed, else the same
+-- the line after byte b of this line: the next one if b is a line feed, else the same
 abbrev pub line_after : ℕ → ℕ → ℕ
 line_after line b = if b == byte "\n" then line + 1 else line
 

@@ -72,7 +72,7 @@ begins_here : (name rest : List ℕ) → is_name name ≡ true → name_here (na
 begins_here [] rest p = absurd cc
 begins_here (b ∷ bs) rest p = (and_parts (begins_name b) (list_all goes_on_name bs) p).0
 
--- a token that stands on this line
+-- a token on this line
 abbrev pub at_line : ℕ → Tok → At
 at_line line t = record { tok = t; line = line }
 

@@ -1,4 +1,4 @@
-//! Which bytes stand where.
+//! Classes of bytes.
 
 ghost use Rattle.std.specs.Prelude.{◌≡◌, ◌≤◌, length};
 ghost use Rattle.std.specs.List.{prefix_len, list_all};

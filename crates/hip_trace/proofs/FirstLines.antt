@@ -74,7 +74,7 @@ digit_next bytes at n d b lt all e is at_b low =
 
 -- ---- fields
 
--- what stands behind a word
+-- what stands after a word
 pub stripped : (bytes word : List ℕ) (r : Option (Bor (List ℕ))) (P : Type 0) (Q : Bor (List ℕ) → Type 0)
     → MatchOption r P (λ x. (bytes_eq (take (length word) bytes) word ≡ true) × (x.now ≡ drop (length word) bytes) × Q x) → IfSome r (λ rest. bytes ≡ word ++ rest.now)
 stripped bytes word None P Q h = tt
@@ -82,7 +82,7 @@ stripped bytes word (Some x) P Q h =
     let same : take (length word) bytes ≡ word = (bytes_eq-Decides (take (length word) bytes) word).0 h.0 in
     sym (take-append-drop (length word) bytes) ∙ ap (λ (xs : List ℕ). xs ++ drop (length word) bytes) same ∙ ap (λ (xs : List ℕ). word ++ xs) (sym h.1)
 
--- a number behind `;0x` is a field
+-- a number after `;0x` is a field
 field_of : (bytes rest : List ℕ) (n : ℕ) (back : List ℕ) → bytes ≡ codes ";0x" ++ rest → HasDigits rest n back → HasField bytes n back
 field_of bytes rest n back e h = record {
   field = 48 ∷ 120 ∷ h.digits;
@@ -104,7 +104,7 @@ record IsFront (bytes text rest : List ℕ) : Type 0 where
 either_none : (a b : Bool) → a ≡ false → b ≡ false → (a || b) ≡ false
 either_none a b e f = rw (e, f) refl
 
--- a front with the field behind it
+-- a front with the field after it
 more : {bytes text mid : List ℕ} {n : ℕ} {rest : List ℕ} → IsFront bytes text mid → (f : HasField mid n rest) → IsFront bytes (text ++ byte ";" ∷ f.field) rest
 more {bytes} {text} {mid} {n} {rest} p f = record {
   whole = p.whole ∙ ap (λ (xs : List ℕ). text ++ xs) f.whole ∙ sym (append_assoc text (byte ";" ∷ f.field) rest);
@@ -187,7 +187,7 @@ line_first bytes rest more line h e len few =
 
 -- ---- the answer
 
--- The entry of the line that stands first is what `next` answers where the line is let go.
+-- The entry of the line that stands first is what `next` answers where the line is dropped.
 pub line_read : (r r' : ReaderState) (s : CabinetState) (line : Line) → IsFirstLine r.held line → s.is_current ≡ true → r' ≡ record { held = drop (line.len + 1) r.held; count = one_more r.count; progress = Reading }
     → ReadsOn r r' s s (Ok (Some line.entry))
 line_read r r' s line h current e =

@@ -16,19 +16,15 @@ behind_front front n held xs e =
     let all : front + n - 0 ≡ front + n = omega arith in
     ap (λ (j : ℕ). take j xs) all ∙ take-add front n xs ∙ ap (λ (h : List ℕ). h ++ take n (drop front xs)) e
 
-moved : (held t : List ℕ) (old new : Option (List ℕ)) → old ≡ option_map (λ rest. t ++ rest) new → option_map (λ rest. (held ++ t) ++ rest) new ≡ option_map (λ rest. held ++ rest) old
-moved held t old None e = rw e refl
-moved held t old (Some r) e = rw e (ap (λ (x : List ℕ). Some x) (append_assoc held t r))
-
--- bytes that were got behind the held ones are held
+-- bytes that were got after the held ones are held
 pub got_more : (held held' buffer : List ℕ) (n : ℕ) (s s' : CabinetState) → HasGot s s' buffer n → held' ≡ held ++ take n buffer → HasTakenSome held held' s s'
 got_more held held' buffer n s s' got e =
     let len = length-append held (take n buffer) in
     let taken : length (take n buffer) ≡ n = length-take-le n buffer got.fits in
     record {
-      more = record {
-        reading = record { stays = got.stays; faults = got.faults };
-        ahead = rw e (moved held (take n buffer) s.rest s'.rest got.bytes);
-      };
+      reading = record { stays = got.stays; faults = got.faults };
+      taken = take n buffer;
+      bytes = got.bytes;
+      held_is = e;
       longer = rw e (omega (arith, len, taken, got.some));
     }

@@ -1,5 +1,5 @@
 -- From what stands first in what a reader holds to what `next` answers.
-use Rattle.std.proofs.Common.{◌≡◌, ℕ, ◌+◌, ◌<◌, ◌≤◌, true, false, List, [], ◌∷◌, ◌++◌, length, take, drop, get_or, slice_get, Option, Some, None, IfSome, Result, Ok, Err, inl, inr, refl, sym, ap, subst, ◌∙◌, arith, append_assoc}
+use Rattle.std.proofs.Common.{◌≡◌, ℕ, ◌+◌, ◌<◌, ◌≤◌, true, false, List, [], ◌∷◌, ◌++◌, length, take, drop, get_or, slice_get, Option, Some, None, IfSome, Result, Ok, Err, inl, inr, refl, sym, ap, subst, ◌∙◌, arith, append_assoc, length-append}
 use Rattle.std.specs.Prelude.{option_map, position, if◌then◌else◌}
 use Rattle.std.proofs.lemmas.List.{append-nil, take_all, drop_all}
 use Rattle.std.specs.List.{list_any}
@@ -9,7 +9,7 @@ use Rattle.hip_num.specs.Texts.{is_nonempty}
 use Rattle.hip_trace.specs.Entries.{entry_of}
 use Rattle.hip_trace.specs.Fronts.{FindsFront, HasRestFirst, HasFailedFirst, HoldsMore, HasTakenSome, HasTakenNothing, HasFailedMore, AnswersFront, answers_piece, answers_rest, IsFrontOf}
 use Rattle.hip_trace.specs.Pieces.{is_separator, spelled}
-use Rattle.hip_trace.specs.Reads.{ReaderState, after_held, ahead, entries_left, IsReading, TakesPiece, ReadsOn, one_more}
+use Rattle.hip_trace.specs.Reads.{ReaderState, after_held, ahead, entries_left, IsReading, MayGoOn, TakesAtNeed, TakesPiece, ReadsOn, one_more}
 use Rattle.hip_trace.specs.declared.entry.Entry.{Entry}
 use Rattle.hip_trace.specs.declared.front.Front.{Front}
 use Rattle.hip_trace.specs.declared.front.Front.TheVariants as fronts
@@ -17,7 +17,7 @@ use Rattle.hip_trace.specs.declared.refusal.TraceRefusal.{TraceRefusal}
 use Rattle.hip_trace.specs.declared.refusal.TraceRefusal.TheVariants.{Malformed, ReadFault}
 use Rattle.hip_trace.specs.Laws.PieceLaws.{cut_at, none_found, spelled_at, spelled_last, spelled_long, no_piece}
 
--- ---- under the option of what is told
+-- ---- under the option of what is known
 
 split_ahead : (held front back : List ℕ) (sep : ℕ) (rest : Option (List ℕ)) → held ≡ front ++ sep ∷ back → option_map (λ r. held ++ r) rest ≡ option_map (λ r. front ++ sep ∷ r) (option_map (λ r. back ++ r) rest)
 split_ahead held front back sep None e = refl
@@ -140,35 +140,93 @@ front_within held held' s s' fronts.Rest f = tt
 front_within held held' s s' fronts.TooLong f = tt
 front_within held held' s s' fronts.Failed f = tt
 
+pub takes_for : (held held' : List ℕ) (s s' : CabinetState) (front : Front) → FindsFront held held' s s' front → TakesAtNeed held s s'
+takes_for held held' s s' (fronts.Piece n) f = f.more.takes
+takes_for held held' s s' fronts.Rest f = f.more.takes
+takes_for held held' s s' fronts.TooLong f = f.more.takes
+takes_for held held' s s' fronts.Failed f = f.takes
+
 pub stays_current : (held held' : List ℕ) (s s' : CabinetState) (front : Front) → FindsFront held held' s s' front → s'.is_current ≡ true
 stays_current held held' s s' (fronts.Piece n) f = f.more.reading.stays.current
 stays_current held held' s s' fronts.Rest f = f.more.reading.stays.current
 stays_current held held' s s' fronts.TooLong f = f.more.reading.stays.current
 stays_current held held' s s' fronts.Failed f = f.stays.current
 
--- ---- bytes are taken until it is known what stands first
+-- ---- bytes are taken until what stands first is known
+
+pub same_rest : (rest : Option (List ℕ)) → rest ≡ option_map (λ r. [] ++ r) rest
+same_rest None = refl
+same_rest (Some r) = refl
+
+-- where the cabinet is not called, nothing is taken
+abbrev pub takes_nothing : (held : List ℕ) (s : CabinetState) → TakesAtNeed held s s
+takes_nothing held s = record { taken = []; bytes = same_rest s.rest; needed = inl refl }
 
 pub holds_still : (held : List ℕ) (s : CabinetState) → s.is_current ≡ true → HoldsMore held held s s
 holds_still held s e = record {
-  reading = record { stays = record { files = refl; misses = refl; current = e; named = refl }; faults = refl };
+  reading = record {
+    stays = record { files = refl; fetches = refl; misses = refl; current = e; named = refl };
+    faults = refl;
+  };
+  takes = takes_nothing held s;
+  held_is = sym (append-nil held);
   ahead = refl;
 }
 
 pub then_current : (s mid s' : CabinetState) → StaysOpen s mid → StaysOpen mid s' → StaysOpen s s'
-then_current s mid s' p q = record { files = q.files ∙ p.files; misses = q.misses ∙ p.misses; current = q.current; named = q.named ∙ p.named }
+then_current s mid s' p q = record { files = q.files ∙ p.files; fetches = q.fetches ∙ p.fetches; misses = q.misses ∙ p.misses; current = q.current; named = q.named ∙ p.named }
 
 then_reading : (s mid s' : CabinetState) → IsReading s mid → IsReading mid s' → IsReading s s'
 then_reading s mid s' p q = record { stays = then_current s mid s' p.stays q.stays; faults = q.faults ∙ p.faults }
 
-pub holds_on : (held mid held' : List ℕ) (s t s' : CabinetState) → HoldsMore held mid s t → HasTakenSome mid held' t s' → HoldsMore held held' s s'
-holds_on held mid held' s t s' p q = record { reading = then_reading s t s' p.reading q.more.reading; ahead = q.more.ahead ∙ p.ahead }
+-- what is ahead stays, where bytes of the file are held
+moved : (held t : List ℕ) (old new : Option (List ℕ)) → old ≡ option_map (λ rest. t ++ rest) new → option_map (λ rest. (held ++ t) ++ rest) new ≡ option_map (λ rest. held ++ rest) old
+moved held t old None e = rw e refl
+moved held t old (Some r) e = rw e (ap (λ (x : List ℕ). Some x) (append_assoc held t r))
+
+-- two pieces were taken
+taken_both : (t u : List ℕ) (old mid new : Option (List ℕ)) → old ≡ option_map (λ rest. t ++ rest) mid → mid ≡ option_map (λ rest. u ++ rest) new → old ≡ option_map (λ rest. (t ++ u) ++ rest) new
+taken_both t u old mid None p q = p ∙ ap (option_map (λ rest. t ++ rest)) q
+taken_both t u old mid (Some r) p q = p ∙ ap (option_map (λ rest. t ++ rest)) q ∙ ap (λ (x : List ℕ). Some x) (sym (append_assoc t u r))
+
+pub may_go_on : (held : List ℕ) (len : ℕ) → None ≡ position is_separator held → len ≡ length held → len ≤ 256 → MayGoOn held
+may_go_on held len none is few = record { whole = none_found held (sym none); few = subst (λ (n : ℕ). n ≤ 256) is few }
+
+-- one read more, made since the bytes held may go on
+pub holds_on : (held mid held' : List ℕ) (s t s' : CabinetState) → HoldsMore held mid s t → MayGoOn mid → HasTakenSome mid held' t s' → HoldsMore held held' s s'
+holds_on held mid held' s t s' p m q =
+    let first = p.takes.taken in
+    let parts : held ++ (first ++ q.taken) ≡ mid ++ q.taken = sym (append_assoc held first q.taken) ∙ ap (λ (x : List ℕ). x ++ q.taken) (sym p.held_is) in
+    let len : length mid ≡ length held + length first = ap (λ (x : List ℕ). length x) p.held_is ∙ length-append held first in
+    record {
+      reading = then_reading s t s' p.reading q.reading;
+      takes = record {
+        taken = first ++ q.taken;
+        bytes = taken_both first q.taken s.rest t.rest s'.rest p.takes.bytes q.bytes;
+        needed = inr (record { before = mid; last = q.taken; parts = parts; longer = omega (arith, len); goes_on = m });
+      };
+      held_is = q.held_is ∙ sym parts;
+      ahead = ap (λ (h : List ℕ). after_held h s') q.held_is ∙ moved mid q.taken t.rest s'.rest q.bytes ∙ p.ahead;
+    }
 
 same_ahead : (held held' : List ℕ) (s s' : CabinetState) → held' ≡ held → s'.rest ≡ s.rest → after_held held' s' ≡ after_held held s
 same_ahead held held' s s' e r = ap (λ (o : Option (List ℕ)). option_map (λ rest. held' ++ rest) o) r ∙ ap (λ (h : List ℕ). after_held h s) e
 
+abbrev takes_no_more : (held : List ℕ) (s t s' : CabinetState) → (p : TakesAtNeed held s t) → s'.rest ≡ t.rest → TakesAtNeed held s s'
+takes_no_more held s t s' p e = record {
+  taken = p.taken;
+  bytes = p.bytes ∙ ap (option_map (λ rest. p.taken ++ rest)) (sym e);
+  needed = p.needed;
+}
+
 pub rest_first : (held mid held' : List ℕ) (s t s' : CabinetState) → HoldsMore held mid s t → HasTakenNothing mid held' t s' → position is_separator mid ≡ None → HasRestFirst held held' s s'
 rest_first held mid held' s t s' p q none = record {
-  more = record { reading = then_reading s t s' p.reading q.reading; ahead = same_ahead mid held' t s' q.same q.rest ∙ p.ahead };
+  more = record {
+    reading = then_reading s t s' p.reading q.reading;
+    takes = takes_no_more held s t s' p.takes q.rest;
+    held_is = q.same ∙ p.held_is;
+    ahead = same_ahead mid held' t s' q.same q.rest ∙ p.ahead;
+  };
   none = ap (position is_separator) q.same ∙ none;
   ended = subst (λ (o : Option (List ℕ)). IfSome o (λ rest. rest ≡ [])) (sym q.rest) q.ended;
 }
@@ -180,5 +238,6 @@ failed_first held mid held' s t s' p q none few = record {
   stays = then_current s t s' p.reading.stays q.stays;
   later = omega (arith, q.later, p.reading.faults);
   rose = subst (λ (n : ℕ). Rose n s'.faults) p.reading.faults q.rose;
+  takes = takes_no_more held s t s' p.takes q.rest;
   ahead = same_ahead mid held' t s' q.same q.rest ∙ p.ahead;
 }

@@ -16,17 +16,17 @@ use Rattle.hip_trace.specs.declared.entry.TrapWord.TheVariants as traps
 abbrev pub fields : List ℕ → List (List ℕ)
 fields text = slice_split (λ b. b == byte ";") text
 
--- the field behind an entry's word, where there is exactly one
+-- the field after an entry's word, where there is exactly one
 abbrev pub one_field : List (List ℕ) → Option (List ℕ)
 one_field (a ∷ []) = Some a
 one_field _ = None
 
--- the fields behind an entry's word, where there are exactly two
+-- the fields after an entry's word, where there are exactly two
 abbrev pub two_fields : List (List ℕ) → Option (List ℕ × List ℕ)
 two_fields (a ∷ b ∷ []) = Some (a, b)
 two_fields _ = None
 
--- the fields behind an entry's word, where there are exactly three
+-- the fields after an entry's word, where there are exactly three
 abbrev pub three_fields : List (List ℕ) → Option (List ℕ × List ℕ × List ℕ)
 three_fields (a ∷ b ∷ c ∷ []) = Some (a, b, c)
 three_fields _ = None
@@ -142,7 +142,7 @@ abbrev pub alone : Entry → List (List ℕ) → Option Entry
 alone e [] = Some e
 alone e (f ∷ fs) = None
 
--- the entry that a word and the fields behind it spell; none where no entry has that word with such fields
+-- the entry that a word and the fields after it spell; none where no entry has that word with such fields
 unfoldable pub entry_by : List (List ℕ) → Option Entry
 entry_by [] = None
 entry_by (word ∷ fs) =

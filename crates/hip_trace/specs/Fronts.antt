@@ -1,5 +1,5 @@
 -- What stands first in the bytes that a reader holds, once enough of them were taken.
-use Rattle.std.specs.Prelude.{ℕ, ◌+◌, ◌≡◌, ◌≤◌, ◌<◌, if◌then◌else◌, List, [], ◌∷◌, length, take, drop, position, Option, Some, None, IfSome, Result, Ok, Err}
+use Rattle.std.specs.Prelude.{ℕ, ◌+◌, ◌≡◌, ◌≤◌, ◌<◌, if◌then◌else◌, List, [], ◌∷◌, ◌++◌, length, take, drop, position, Option, Some, None, IfSome, option_map, Result, Ok, Err}
 use Rattle.hip_io.specs.Counts.{Rose}
 use Rattle.hip_io.specs.Cabinets.{CabinetState, StaysOpen}
 use Rattle.hip_io.specs.declared.cabinet.Taken.{Taken}
@@ -7,7 +7,7 @@ use Rattle.hip_io.specs.declared.cabinet.Taken.TheVariants as taken
 use Rattle.hip_num.specs.Texts.{is_nonempty}
 use Rattle.hip_trace.specs.Entries.{entry_of}
 use Rattle.hip_trace.specs.Pieces.{is_separator}
-use Rattle.hip_trace.specs.Reads.{ReaderState, IsReading, after_held, one_more}
+use Rattle.hip_trace.specs.Reads.{ReaderState, IsReading, TakesAtNeed, after_held, one_more}
 use Rattle.hip_trace.specs.declared.entry.Entry.{Entry}
 use Rattle.hip_trace.specs.declared.front.Front.{Front}
 use Rattle.hip_trace.specs.declared.front.Front.TheVariants as fronts
@@ -17,14 +17,12 @@ use Rattle.hip_trace.specs.declared.refusal.Progress.TheVariants.{Reading, Ended
 
 -- ---- more bytes are taken
 
--- More bytes are held, and what is ahead is as before.
-pub record HoldsMore (held held' : List ℕ) (s s' : CabinetState) : Type 0 where
-  pub reading : IsReading s s'
-  pub ahead : after_held held' s' ≡ after_held held s
-
--- At least one byte more is held, and what is ahead is as before.
+-- At least one byte was taken, which is held after those from before.
 pub record HasTakenSome (held held' : List ℕ) (s s' : CabinetState) : Type 0 where
-  pub more : HoldsMore held held' s s'
+  pub reading : IsReading s s'
+  pub taken : List ℕ
+  pub bytes : s.rest ≡ option_map (λ rest. taken ++ rest) s'.rest
+  pub held_is : held' ≡ held ++ taken
   pub longer : length held + 1 ≤ length held'
 
 -- The file has ended: the bytes held are those from before, and nothing failed.
@@ -50,7 +48,14 @@ HasTakenMore held held' s s' taken.Failed = HasFailedMore held held' s s'
 
 -- ---- what stands first
 
--- a piece of n bytes, with a separator behind it
+-- Bytes were taken while they were needed, and are held after those from before. What is ahead is as before.
+pub record HoldsMore (held held' : List ℕ) (s s' : CabinetState) : Type 0 where
+  pub reading : IsReading s s'
+  pub takes : TakesAtNeed held s s'
+  pub held_is : held' ≡ held ++ takes.taken
+  pub ahead : after_held held' s' ≡ after_held held s
+
+-- a piece of n bytes, followed by a separator
 pub record HasPieceFirst (held held' : List ℕ) (s s' : CabinetState) (n : ℕ) : Type 0 where
   pub more : HoldsMore held held' s s'
   pub here : position is_separator held' ≡ Some n
@@ -67,13 +72,14 @@ pub record IsTooLong (held held' : List ℕ) (s s' : CabinetState) : Type 0 wher
   pub none : position is_separator held' ≡ None
   pub long : 256 < length held'
 
--- at most 256 bytes with no separator, behind which a read failed
+-- at most 256 bytes with no separator, after which a read failed
 pub record HasFailedFirst (held held' : List ℕ) (s s' : CabinetState) : Type 0 where
   pub none : position is_separator held' ≡ None
   pub few : length held' ≤ 256
   pub stays : StaysOpen s s'
   pub later : s.faults ≤ s'.faults
   pub rose : Rose s.faults s'.faults
+  pub takes : TakesAtNeed held s s'
   pub ahead : after_held held' s' ≡ after_held held s
 
 -- what is held and what stands first in it, once enough bytes were taken to know it, by the answer
@@ -85,7 +91,7 @@ FindsFront held held' s s' fronts.Failed = HasFailedFirst held held' s s'
 
 -- ---- the answer to what stands first
 
--- The first n bytes are a piece; with its end `taken` bytes are let go.
+-- The first n bytes are a piece; with its end `taken` bytes are dropped.
 abbrev pub answers_piece : Option Entry → ReaderState → ReaderState → ℕ → Result (Option Entry) TraceRefusal
     → Type 0
 answers_piece None r r' taken result =
@@ -104,7 +110,7 @@ answers_piece (Some e) r r' taken result =
     })
 
 -- The answer to a piece, which is the first n bytes that are held: the entry that it spells, or the refusal as
--- malformed. `taken` bytes are let go only with an entry.
+-- malformed. `taken` bytes are dropped only with an entry.
 abbrev pub AnswersPiece : ReaderState → ReaderState → ℕ → ℕ → Result (Option Entry) TraceRefusal → Type 0
 AnswersPiece r r' n taken result = answers_piece (entry_of (take n r.held)) r r' taken result
 

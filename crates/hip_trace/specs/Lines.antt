@@ -17,7 +17,7 @@ pub record HasDigits (bytes : List ℕ) (number : ℕ) (rest : List ℕ) : Type 
   pub all : AllDigits 16 digits
   pub is : number_of 16 digits ≡ Some number
 
--- A field stands first, behind its semicolon, which is a hexadecimal number.
+-- A field stands first, after its semicolon, which is a hexadecimal number.
 pub record HasField (bytes : List ℕ) (number : ℕ) (rest : List ℕ) : Type 0 where
   pub field : List ℕ
   pub whole : bytes ≡ (byte ";" ∷ field) ++ rest

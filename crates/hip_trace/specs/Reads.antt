@@ -1,5 +1,5 @@
 -- What contracts see of a reader, and what reading the next entry does to it and to a cabinet.
-use Rattle.std.specs.Prelude.{ℕ, ◌+◌, ◌-◌, ◌^◌, ◌≡◌, ◌≤◌, ◌⊎◌, min, if◌then◌else◌, true, false, List, [], ◌∷◌, ◌++◌, slice_get, Option, Some, None, IfSome, option_map, Result, Ok, Err}
+use Rattle.std.specs.Prelude.{ℕ, ◌+◌, ◌-◌, ◌^◌, ◌≡◌, ◌≤◌, ◌⊎◌, min, if◌then◌else◌, true, false, List, [], ◌∷◌, ◌++◌, length, slice_get, Option, Some, None, IfSome, option_map, Result, Ok, Err}
 use Rattle.std.specs.List.{list_any}
 use Rattle.hip_io.specs.Counts.{Rose}
 use Rattle.hip_io.specs.Cabinets.{CabinetState, StaysOpen}
@@ -33,6 +33,28 @@ entries_left r s = option_map (spelled true) (ahead r s)
 -- one more, up to the greatest number of 128 bits
 abbrev pub one_more : ℕ → ℕ
 one_more count = min (count + 1) (2 ^ 128 - 1)
+
+-- ---- what is taken of the file
+
+-- These bytes may yet be the front of an entry's text: they have no separator, and are at most 256.
+pub record MayGoOn (bytes : List ℕ) : Type 0 where
+  pub whole : list_any is_separator bytes ≡ false
+  pub few : length bytes ≤ 256
+
+-- The last read brought these bytes, and was made only since those before them may go on.
+pub record WasNeeded (held taken : List ℕ) : Type 0 where
+  pub before : List ℕ
+  pub last : List ℕ
+  pub parts : held ++ taken ≡ before ++ last
+  pub longer : length held ≤ length before
+  pub goes_on : MayGoOn before
+
+-- A reader that holds some bytes takes more of the file, one read after the other, only while those that it holds may
+-- go on. So it takes nothing where it holds the end of a text, or 257 bytes of one.
+pub record TakesAtNeed (held : List ℕ) (old new : CabinetState) : Type 0 where
+  pub taken : List ℕ
+  pub bytes : old.rest ≡ option_map (λ rest. taken ++ rest) new.rest
+  pub needed : (taken ≡ []) ⊎ WasNeeded held taken
 
 -- the file stays open, and nothing failed
 pub record IsReading (old new : CabinetState) : Type 0 where

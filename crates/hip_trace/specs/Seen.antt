@@ -3,7 +3,7 @@ use Rattle.std.specs.Prelude.{ℕ, List, [], Option, Some, None}
 use Rattle.std.specs.Borrow.{Bor}
 use Rattle.hip_trace.specs.Entries.{fields}
 
--- the fields of the text behind a field, if there is one
+-- the fields of the text after a field, if there is one
 abbrev pub behind : Option (Bor (List ℕ)) → List (List ℕ)
 behind None = []
 behind (Some text) = fields text.now

@@ -24,7 +24,7 @@ word_of (Stop code) = codes "STOP"
 word_of (Trap kind) = codes "TRAP"
 word_of Cut = codes "CUT"
 
--- the fields behind the word of an entry, in order: a limit, an input and a code in decimal, other numbers in
+-- the fields after the word of an entry, in order: a limit, an input and a code in decimal, other numbers in
 -- hexadecimal with `0x`, the bytes of a line as two hexadecimal digits each, a trap by its word
 abbrev pub fields_of : Entry → List (List ℕ)
 fields_of (Start limit) = decimal limit ∷ []
@@ -40,12 +40,12 @@ fields_of (Stop code) = signed_decimal code ∷ []
 fields_of (Trap kind) = trap_text kind ∷ []
 fields_of Cut = []
 
--- each field stands behind a semicolon
+-- each field stands after a semicolon
 abbrev pub with_fields : List ℕ → List (List ℕ) → List ℕ
 with_fields text [] = text
 with_fields text (f ∷ fs) = with_fields (text ++ byte ";" ∷ f) fs
 
--- the canonical text of an entry: its word, and each field behind a semicolon
+-- the canonical text of an entry: its word, and each field after a semicolon
 unfoldable pub text_of : Entry → List ℕ
 text_of e = with_fields (word_of e) (fields_of e)
 

@@ -31,7 +31,7 @@ pub enum Entry {
     /// A flush of cache lines: the first one's address, and 64 times their number.
     Flush { addr: u64, size: u64 },
     Fence,
-    /// A flush of cache lines with a fence behind it.
+    /// A flush of cache lines with a fence after it.
     Persist { addr: u64, size: u64 },
     /// A range that was checked.
     Assert { addr: u64, size: u64 },

@@ -17,7 +17,7 @@ fn field_len(text: &[u8]) -> usize
     text.iter().take_while(|b| **b != b';').count()
 }
 
-/// The first field of a text, and the text behind its semicolon.
+/// The first field of a text, and the text after its semicolon.
 pub(crate) fn first_field(text: &[u8]) -> (&[u8], Option<&[u8]>)
     ensures { fields text.now ≡ result.0.now ∷ behind result.1 }
 {

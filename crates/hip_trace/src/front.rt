@@ -9,17 +9,17 @@ use hip_io::{Cabinet, Taken};
 /// What stands first in the bytes that a reader holds.
 #[derive(Clone, Copy)]
 pub(crate) enum Front {
-    /// A piece of so many bytes, with a separator behind it.
+    /// A piece of this many bytes, with a separator after it.
     Piece(usize),
     /// All that is left of the file, with no separator.
     Rest,
     /// More than 256 bytes with no separator.
     TooLong,
-    /// A part of a piece, behind which a read failed.
+    /// A part of a piece, after which a read failed.
     Failed,
 }
 
-/// Takes bytes of the current file until it is known what stands first. No byte is taken while a separator or more than
+/// Takes bytes of the current file until what stands first is known. No byte is taken while a separator or more than
 /// 256 bytes are held.
 pub(crate) fn find_front<C: Cabinet>(held: &mut Held, cabinet: &mut C) -> Front
     requires { IsTrue (C.state cabinet.old).is_current }

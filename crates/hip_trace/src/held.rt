@@ -56,7 +56,7 @@ impl Held {
         position_of_separator(self.as_slice())
     }
 
-    /// Lets the first bytes go.
+    /// Drops the first bytes.
     pub(crate) fn skip(&mut self, count: usize)
         requires { count ≤ length self.old }
         ensures { self.new ≡ drop count self.old }
@@ -64,7 +64,7 @@ impl Held {
         self.start += count;
     }
 
-    /// Takes more bytes of the current file, as many as there is room for.
+    /// Takes more bytes of the current file, at most as many as there is room for.
     pub(crate) fn take_more<C: Cabinet>(&mut self, cabinet: &mut C) -> Taken
         requires room { length self.old ≤ 256 }
         requires current { IsTrue (C.state cabinet.old).is_current }
@@ -91,7 +91,7 @@ fn move_down(bytes: &mut [u8], start: usize, end: usize)
     bytes.copy_within(start..end, 0);
 }
 
-/// Takes bytes of the current file into a buffer, behind the first bytes, which stay.
+/// Takes bytes of the current file into a buffer, after the first bytes, which stay.
 fn take_behind<C: Cabinet>(bytes: &mut [u8], front: usize, cabinet: &mut C) -> Taken
     requires room { front < length bytes.old }
     requires current { IsTrue (C.state cabinet.old).is_current }

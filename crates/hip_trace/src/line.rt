@@ -1,5 +1,5 @@
 //! The line that stands first in some bytes, read in one pass where it has one of the usual entries in its canonical
-//! text. Of all others nothing is told here.
+//! text. All others are left to `spelled`.
 
 ghost use Rattle.std.specs.Prelude.{◌≡◌, ◌<◌, ◌++◌, codes, IfSome};
 ghost use Rattle.std.specs.Char.{digit_value};
@@ -48,7 +48,7 @@ fn first_number(bytes: &[u8]) -> Option<(u64, &[u8])>
     Some((number, &bytes[at..]))
 }
 
-// What stands behind a word.
+// What stands after a word.
 #[inline(always)]
 fn behind<'a>(bytes: &'a [u8], word: &[u8]) -> Option<&'a [u8]>
     ensures { IfSome result (λ rest. bytes.now ≡ word.now ++ rest.now) }
@@ -56,7 +56,7 @@ fn behind<'a>(bytes: &'a [u8], word: &[u8]) -> Option<&'a [u8]>
     bytes.strip_prefix(word)
 }
 
-// The hexadecimal number of the field that stands first, behind its semicolon.
+// The hexadecimal number of the field that stands first, after its semicolon.
 #[inline(always)]
 fn first_field(bytes: &[u8]) -> Option<(u64, &[u8])>
     ensures { IfSome result (λ r. HasField bytes.now r.0 r.1.now) }

@@ -2,7 +2,7 @@
 
 ghost use Rattle.std.specs.Prelude.{◌≡◌, ◌+◌, ◌≤◌, ◌<◌, [], drop, length, IsTrue};
 ghost use Rattle.hip_trace.specs.Fronts.{AnswersFront, AnswersPiece, IsFrontOf};
-ghost use Rattle.hip_trace.specs.Reads.{ReadsNext, ReadsOn, one_more};
+ghost use Rattle.hip_trace.specs.Reads.{ReadsNext, ReadsOn, TakesAtNeed, one_more};
 ghost use Rattle.hip_trace.specs.declared.refusal.Progress.TheVariants.{Reading};
 
 use crate::entry::Entry;
@@ -50,11 +50,11 @@ impl Reader {
     }
 
     /// The entry that the next piece of the file spells, or None at the file's end. After a refusal or None it answers
-    /// the same again and leaves the cabinet alone. It takes bytes only where those that it holds have no separator and
-    /// are at most 256.
+    /// the same again and does not call the cabinet.
     pub fn next<C: Cabinet>(&mut self, cabinet: &mut C) -> Result<Option<Entry>, TraceRefusal>
         requires { IsTrue (C.state cabinet.old).is_current }
         ensures reads { ReadsNext self.old self.new (C.state cabinet.old) (C.state cabinet.new) result }
+        ensures takes { TakesAtNeed self.old.held (C.state cabinet.old) (C.state cabinet.new) }
         ensures current { IsTrue (C.state cabinet.new).is_current }
     {
         match self.progress {
@@ -64,11 +64,12 @@ impl Reader {
         }
     }
 
-    // The line that stands first is read at once where it can be; all else is left to `read_on`.
+    // Reads a whole line that is held at once; `read_on` does all else.
     fn read_first<C: Cabinet>(&mut self, cabinet: &mut C) -> Result<Option<Entry>, TraceRefusal>
         requires current { IsTrue (C.state cabinet.old).is_current }
         requires reading { self.old.progress ≡ Reading }
         ensures reads { ReadsOn self.old self.new (C.state cabinet.old) (C.state cabinet.new) result }
+        ensures takes { TakesAtNeed self.old.held (C.state cabinet.old) (C.state cabinet.new) }
         ensures current { IsTrue (C.state cabinet.new).is_current }
     {
         match first_line(self.held.as_slice()) {
@@ -80,7 +81,7 @@ impl Reader {
         }
     }
 
-    // Lets a piece and its separator go.
+    // Drops a piece and its separator.
     fn pass(&mut self, len: usize)
         requires { len < length self.old.held }
         ensures { self.new ≡ record {
@@ -99,6 +100,7 @@ impl Reader {
         requires current { IsTrue (C.state cabinet.old).is_current }
         requires reading { self.old.progress ≡ Reading }
         ensures reads { ReadsOn self.old self.new (C.state cabinet.old) (C.state cabinet.new) result }
+        ensures takes { TakesAtNeed self.old.held (C.state cabinet.old) (C.state cabinet.new) }
         ensures current { IsTrue (C.state cabinet.new).is_current }
     {
         let front = find_front(&mut self.held, cabinet);
@@ -144,7 +146,7 @@ impl Reader {
         self.answer_piece(len, len)
     }
 
-    /// Answers the entry that the first `len` bytes spell, and lets `taken` bytes go.
+    // The entry that the first `len` bytes spell; the first `taken` bytes are dropped.
     fn answer_piece(&mut self, len: usize, taken: usize) -> Result<Option<Entry>, TraceRefusal>
         requires order { len ≤ taken }
         requires held { taken ≤ length self.old.held }

@@ -215,7 +215,7 @@ fn alone(entry: Entry, rest: Option<&[u8]>) -> Option<Entry>
     }
 }
 
-/// The entry of a word, with the text behind the word's semicolon.
+/// The entry of a word, with the text after the word's semicolon.
 #[tactic(auto, unfolding(crate::specs::Entries::entry_by))]
 fn entry_by(word: &[u8], rest: Option<&[u8]>) -> Option<Entry>
     ensures { result ≡ entry_by (word.now ∷ behind rest.entry) }

@@ -188,7 +188,7 @@ fn text_of(entry: &Entry) -> EntryText
     }
 }
 
-/// Writes the canonical text of an entry, with a line feed behind it. Any entry is written, also one that no text
+/// Writes the canonical text of an entry, with a line feed after it. Any entry is written, also one that no text
 /// spells (as a store of 3 bytes).
 pub fn write_entry<S: Sink>(entry: &Entry, out: &mut S) -> Result<(), WriteFault>
     ensures { Wrote (S.state out.old) (S.state out.new) (line_of entry.now) result }

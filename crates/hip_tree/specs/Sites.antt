@@ -7,7 +7,7 @@ use Rattle.hip_tree.specs.declared.program.Function.{Function}
 use Rattle.hip_tree.specs.declared.program.Program.{Program}
 use Rattle.hip_tree.specs.declared.site.Site.{Site}
 
--- the basic block of that number in the function of that number; none where one of them does not exist
+-- the basic block of that number in the function of that number; none if one of them does not exist
 abbrev pub block_of : Program → ℕ → ℕ → Option Block
 block_of program function block = option_and_then (λ f. slice_get f.blocks block)
     (slice_get program.functions function)
@@ -24,17 +24,17 @@ same_site a b = nat_eq a.function b.function && (nat_eq a.block b.block && nat_e
 abbrev pub has_site : List Site → Site → Bool
 has_site sites s = list_any (same_site s) sites
 
--- the sites of these instructions, blocks and functions, the first of which have these numbers
+-- the sites of these instructions of block b of function f; the first instruction has index k
 abbrev pub body_sites : ℕ → ℕ → ℕ → List Instr → List Site
 body_sites f b k [] = []
 body_sites f b k (i ∷ is) = record { function = f; block = b; index = k } ∷ body_sites f b (suc k) is
 
--- the same for blocks of function f, the first of which is block b; phis and ends of blocks are left out
+-- the same for blocks of function f, from block b on; phis and ends of blocks are left out
 abbrev pub block_sites : ℕ → ℕ → List Block → List Site
 block_sites f b [] = []
 block_sites f b (x ∷ xs) = body_sites f b 0 x.body ++ block_sites f (suc b) xs
 
--- the same for functions, the first of which is function f
+-- the same for functions, from function f on
 abbrev pub function_sites : ℕ → List Function → List Site
 function_sites f [] = []
 function_sites f (x ∷ xs) = block_sites f 0 x.blocks ++ function_sites (suc f) xs

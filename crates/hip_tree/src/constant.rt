@@ -1,6 +1,6 @@
 use hip_types::{Bits, Link, Name, Row, Ty};
 
-/// A constant; the type beside it says which forms may stand there.
+/// A constant. The type beside it decides which forms it may have.
 #[cycle(constant)]
 #[derive(Drop)]
 pub enum Const {

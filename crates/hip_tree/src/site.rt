@@ -7,14 +7,14 @@ use crate::program::Program;
 
 /// The place of an instruction: its function, its block, and its place in the block's body, each
 /// numbered from 0 in the program's order.
-#[derive(Clone, Copy, Debug, PartialEq, Eq, PartialOrd, Ord)]
+#[derive(Clone, Copy, Debug, PartialEq, Eq, PartialOrd, Ord, Hash)]
 pub struct Site {
     pub function: usize,
     pub block: usize,
     pub index: usize,
 }
 
-/// The instruction at a site. None exactly where the site is not there.
+/// The instruction at a site. None exactly if the site does not exist.
 pub fn instr_at(program: &Program, site: Site) -> Option<&Instr>
     ensures { option_copied result ≡ instr_of program.now site }
 {

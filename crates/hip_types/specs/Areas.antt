@@ -10,6 +10,6 @@ volatile_start = VOLATILE_START
 abbrev pub stack_start : ℕ
 stack_start = STACK_START
 
--- the address behind the stack's last byte
+-- the address after the stack's last byte
 abbrev pub stack_end : ℕ
 stack_end = STACK_END

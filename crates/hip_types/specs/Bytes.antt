@@ -11,6 +11,6 @@ abbrev pub bytes_of : ℕ → ℕ → List ℕ
 bytes_of zero v = []
 bytes_of (suc n) v = v % 256 ∷ bytes_of n (v / 256)
 
--- so many bytes of 0
+-- n bytes of 0
 unfoldable pub zeros : ℕ → List ℕ
 zeros n = replicate n 0

@@ -4,10 +4,10 @@ pub const VOLATILE_START: u64 = 65_536;
 /// The first address of the stack.
 pub const STACK_START: u64 = 268_435_456;
 
-/// How many bytes the stack may have.
+/// The most bytes that the stack may have.
 pub const STACK_SIZE: u64 = 16_777_216;
 
-/// The address behind the stack's last byte.
+/// The address after the stack's last byte.
 pub const STACK_END: u64 = STACK_START + STACK_SIZE;
 
 /// The number of bytes of a cache line, which lies at a multiple of it (Intel's manual).

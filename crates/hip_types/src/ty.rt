@@ -12,7 +12,7 @@ pub enum Ty {
     Int(Width),
     /// A pointer, of 64 bits.
     Ptr,
-    /// So many elements of one type, one after another.
+    /// The number of elements, all of one type, one after another.
     Array(u64, Link<Ty>),
     /// Fields in order, each at the next multiple of its alignment.
     Struct(Row<Ty>),

@@ -4,10 +4,10 @@ use Rattle.std.proofs.Common.{refl, subst, arith, length-append}
 use Rattle.hip_tree.specs.declared.program.Function.{Function}
 use Rattle.hip_tree.specs.declared.program.Program.{Program}
 use Rattle.hip_grammar.specs.Reading.{IsSpelled}
-use Rattle.hip_typing.specs.Seen.Answers.{Answers}
-use Rattle.hip_typing.specs.Seen.AssignedSeen.{AnswersAssigned}
-use Rattle.hip_typing.specs.declared.assigned.NotAssigned.{NotAssigned}
-use Rattle.hip_typing.specs.declared.assigned.NotAssigned.TheVariants as unassigned
+use Rattle.hip_checks.specs.Seen.Answers.{Answers}
+use Rattle.hip_checks.specs.Seen.AssignedSeen.{AnswersAssigned}
+use Rattle.hip_checks.specs.declared.assigned.NotAssigned.{NotAssigned}
+use Rattle.hip_checks.specs.declared.assigned.NotAssigned.TheVariants as unassigned
 use Rattle.hip_sound.specs.Rules.{Passes, inner_names_check, IsFirstFault, IsFirstUnassigned, RegisterUse, UseIsAssigned, AllAssigned, rules_check}
 use Rattle.hip_sound.specs.Refusals.{fault_of, IsRefused}
 use Rattle.hip_sound.specs.Sound.{IsSound}
@@ -21,26 +21,26 @@ use Rattle.hip_sound.specs.declared.fault.Place.TheVariants as places
 use Rattle.hip_sound.specs.declared.fault.TypeFault.{TypeFault}
 use Rattle.hip_sound.specs.declared.fault.TypeFault.TheVariants as faults
 use Rattle.hip_sound.specs.declared.fault.TypeRefusal.{TypeRefusal}
-use Rattle.hip_typing.specs.declared.refused.Refused.{Refused}
-use Rattle.hip_typing.specs.declared.refused.Refused.TheVariants as refused
+use Rattle.hip_checks.specs.declared.refused.Refused.{Refused}
+use Rattle.hip_checks.specs.declared.refused.Refused.TheVariants as refused
 
--- the refusal that a stopped check gives: its finding, or want of memory at the whole program
+-- the refusal that a stopped check gives: its finding, or out of memory at the whole program
 abbrev pub refusal_of : Refused → TypeRefusal
 refusal_of (refused.Found f) = record { fault = fault_of f.fault; place = f.place }
 refusal_of refused.NoMemory = record { fault = faults.NoMemory; place = places.Whole }
 
 -- the refusal that the check of paths gives: the place of a use and a path to it on which nothing assigns its
--- register, or want of memory at the whole program
+-- register, or out of memory at the whole program
 abbrev pub refusal_on_paths : NotAssigned → TypeRefusal
 refusal_on_paths (unassigned.Use place path) = record { fault = faults.Unassigned path; place = place }
 refusal_on_paths unassigned.NoMemory = record { fault = faults.NoMemory; place = places.Whole }
 
--- want of memory has no place of its own
+-- out of memory has no place of its own
 abbrev refuses : Program → TypeFault → Place → Type 0
 refuses P faults.NoMemory place = place ≡ places.Whole
 refuses P fault place = IsRefused P (record { fault = fault; place = place })
 
--- The program is not sound, and the refusal is its first fault. Want of memory says nothing of the program, and its
+-- The program is not sound, and the refusal is its first fault. Out of memory says nothing of the program, and its
 -- place is the whole program.
 abbrev pub Refuses : Program → TypeRefusal → Type 0
 Refuses P refusal = refuses P refusal.fault refusal.place

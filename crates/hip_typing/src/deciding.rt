@@ -1,9 +1,8 @@
 ghost use Rattle.std.specs.Prelude.{◌≡◌};
 ghost use Rattle.hip_typing.specs.Checks.{Checks};
 
-use crate::assigned::functions::check_assigned;
 use crate::refusal::{refusal_of, refusal_on_paths};
-use crate::rules::check_rules;
+use hip_checks::{check_assigned, check_rules};
 use hip_sound::{Checked, Place, TypeFault, TypeRefusal};
 use hip_spelling::spelled;
 use hip_tree::Program;
@@ -28,10 +27,10 @@ fn find_fault(alloc: Global, program: &Program) -> Result<(), TypeRefusal>
     }
 }
 
-/// The program, where it is sound; it is dropped on a refusal. The refusal is the first rule that the program breaks,
+/// The program, if it is sound; it is dropped on a refusal. The refusal is the first rule that the program breaks,
 /// at the first place, in this order: it is one that some text reads as; names of globals, externs and functions
 /// differ; types and initialisers of globals; externs; sizes; `main`; names inside functions; names, types, cases and
-/// edges at each place; each use of a register is assigned on every path. Want of memory is a refusal at the whole
+/// edges at each place; each use of a register is assigned on every path. Out of memory is a refusal at the whole
 /// program.
 ///
 /// The time is little more than linear in the program, and so is the memory that it takes for a while.

@@ -2,8 +2,7 @@ ghost use Rattle.std.specs.Prelude.{◌≡◌};
 ghost use Rattle.hip_typing.specs.Checks.{refusal_of, refusal_on_paths};
 ghost use Rattle.hip_sound.specs.Refusals.{fault_of};
 
-use crate::assigned::NotAssigned;
-use crate::refused::Refused;
+use hip_checks::{NotAssigned, Refused};
 use hip_sound::{Fault, Place, TypeFault, TypeRefusal};
 
 fn fault_of(fault: Fault) -> TypeFault
@@ -21,7 +20,7 @@ fn fault_of(fault: Fault) -> TypeFault
     }
 }
 
-/// The refusal of a program for which a check stopped so. Want of memory has no place of its own.
+/// The refusal of a program for which a check stopped so. Out of memory has no place of its own.
 pub fn refusal_of(refused: Refused) -> TypeRefusal
     ensures { result ≡ refusal_of refused }
 {
@@ -37,7 +36,7 @@ pub fn refusal_of(refused: Refused) -> TypeRefusal
     }
 }
 
-/// The refusal of a program in which a use of a register is not assigned.
+/// The refusal of a program that uses a register without an assignment on some path.
 pub fn refusal_on_paths(refused: NotAssigned) -> TypeRefusal
     ensures { result ≡ refusal_on_paths refused }
 {

@@ -4,7 +4,7 @@ use Rattle.hip_tree.specs.declared.instr.Instr.{Instr}
 use Rattle.hip_tree.specs.declared.instr.Instr.TheVariants.{Binary, Compare, Select, Cast, Alloca, Load, Store, Gep}
 use Rattle.hip_grammar.specs.Show.{instr_text}
 
--- what stands before the item of that number
+-- what precedes the item of that number
 abbrev pub separator_at : ℕ → List ℕ
 separator_at zero = []
 separator_at (suc n) = codes ", "

@@ -8,7 +8,7 @@ ghost use Rattle.hip_grammar.specs.Show.{commas, after_commas, parenthesized};
 use hip_io::{Put, Sink, put_after};
 use hip_types::Row;
 
-/// A part of a program that stands in lists.
+/// A part of a program that is an item of lists.
 pub trait Written {
     ghost text: { Self → List ℕ };
 
@@ -42,7 +42,7 @@ pub fn put_joined<S: Sink, T: Written>(before: Put, out: &mut S, items: &Row<T>)
     put
 }
 
-/// Appends each behind a comma.
+/// Appends each after a comma.
 pub fn put_more<S: Sink, T: Written>(before: Put, out: &mut S, items: &Row<T>) -> Put
     ensures { Writes before result (S.state out.old) (S.state out.new) (after_commas (map T.text items.now)) }
 {

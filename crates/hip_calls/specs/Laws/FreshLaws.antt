@@ -94,7 +94,7 @@ candidates-differ name (suc i) zero e =
 candidates-differ name (suc i) (suc j) e =
     numeral-differs (suc i) (suc j) (same_rest (codes ".pm") _ _ (same_rest name _ _ e))
 
--- so many candidates from number k on
+-- the given number of candidates from number k on
 candidates_from : List ℕ → ℕ → ℕ → List (List ℕ)
 candidates_from name zero k = []
 candidates_from name (suc n) k = candidate name k ∷ candidates_from name n (suc k)

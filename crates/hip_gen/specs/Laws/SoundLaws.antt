@@ -270,7 +270,7 @@ module _ (size : ℕ) (small : size ≤ LARGEST_SIZE) (body : List Instr) where
     ),
   )
 
-  -- the rules of places hold of the instruction in `main`, wherever it stands
+  -- the rules of places hold of the instruction in `main`, at any place
   abbrev IsChecked : Instr → Type 0
   IsChecked i = (place : Place) → (instr_check s i place).Holds
 

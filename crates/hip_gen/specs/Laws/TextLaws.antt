@@ -109,7 +109,7 @@ element-is name length index h =
 
 -- ---- lines
 
--- an instruction as a line of canonical text, with two spaces before it and a line feed behind
+-- an instruction as a line of canonical text, with two spaces before it and a line feed after it
 abbrev line : Instr → List ℕ
 line i = line_of (instr_text i)
 
@@ -204,7 +204,7 @@ main-is body =
     ++ (((flat_map line body ++ (codes "  ret i32 " ++ (c ++ codes "\n"))) ++ []) ++ codes "}\n"))
     (int-is (bits W32 0) ∙ decimal_digit 0 (omega arith))
 
--- what stands between the number of elements and the groups
+-- the text between the number of elements and the groups
 abbrev middle : List ℕ
 middle =
     codes

@@ -1,4 +1,4 @@
--- The test of a base, and what the addresses of globals ask of it.
+-- The test of a base, and what the addresses of globals require of it.
 use Rattle.std.specs.Prelude.{ℕ, ◌%◌, ◌==◌, ◌≡◌, ◌&&◌, nat_le, true}
 use Rattle.std.proofs.lemmas.Bool.{and_parts, eqb-true, leb-true}
 use Rattle.hip_types.specs.declared.limits.TheConstants.{BASE_ALIGNMENT, HIGHEST_BASE, LOWEST_BASE}

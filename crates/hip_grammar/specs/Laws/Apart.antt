@@ -112,7 +112,7 @@ no_entry_apart B f (Str t) e = refl
 no_entry_apart B f (Mark b) e = refl
 no_entry_apart B f (Odd b) e = refl
 
--- a table of values, none of which is written as a word of the first
+-- a table of values; none of them is written as a word of the first
 pub table_apart : {A B : Type 0} (f : List ℕ → Option A) (text : B → List ℕ) (xs : List B)
     → list_all (λ x. not (is_some (f (text x)))) xs ≡ true
     → Apart (is_word_of f) (is_word_of (written_as text xs))

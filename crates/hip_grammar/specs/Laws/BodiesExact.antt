@@ -54,7 +54,7 @@ phi_read dest =
     begins _ _ _ (λ _. link _ _ _ (λ s. maps_exact (separated comma (edge s)) _ comma
     (separated_read (edge s) comma (is_mark 91) (edge_read s)).exact))
 
--- ---- instructions, each of which may be followed by any token but perhaps a comma
+-- ---- instructions; any token may follow one, except a comma after some
 
 next_operand_exact : (s : Scalar) → Exact (one_more_by comma (operand s)) never
 next_operand_exact s = one_more_exact (operand s) comma never (operand_read s).exact
@@ -187,7 +187,7 @@ plain_call_read dest = begins _ _ _ (λ _. link _ _ _ (λ result. link _ _ _ (λ
     (closed_exact _ comma (listed_read arg comma (is_mark 41) (is_word_of scalar_word) arg_read
     (mark_apart 44 (is_mark 41) refl) (mark_apart 41 (is_word_of scalar_word) refl)).exact)))))
 
--- the tokens by which a call without a register begins
+-- the first tokens of calls without a register
 abbrev pub begins_call : Tok → Bool
 begins_call = joined (is_word (codes "tail")) (is_word (codes "call"))
 
@@ -201,7 +201,7 @@ call_read dest =
 
 -- ---- any instruction
 
--- the tokens by which what `memory_instr` reads begins
+-- the first tokens of what `memory_instr` reads
 abbrev pub begins_memory : Tok → Bool
 begins_memory =
     joined (is_word (codes "alloca"))
@@ -215,7 +215,7 @@ memory_read dest =
     (word_apart (codes "getelementptr") _ refl)) (word_apart (codes "load") _ refl))
     (word_apart (codes "alloca") _ refl)
 
--- the tokens by which what `cast_instr` reads begins
+-- the first tokens of what `cast_instr` reads
 abbrev pub begins_cast : Tok → Bool
 begins_cast =
     joined (is_word_of int_cast_word)
@@ -240,7 +240,7 @@ cast_read dest =
     (from_word int_cast_word _ _ refl (from_word int_cast_word _ _ refl
     (memory_apart int_cast_word refl refl refl refl refl)))
 
--- the tokens by which an instruction begins behind LOCAL "="
+-- the first tokens of instructions after LOCAL "="
 abbrev pub begins_value : Tok → Bool
 begins_value =
     joined (is_word_of binary_word) (joined (is_word (codes "icmp")) (joined (is_word (codes "select")) begins_cast))
@@ -343,7 +343,7 @@ unreachable_read : IsRead unreachable (is_word (codes "unreachable")) never
 unfolding unreachable
 unreachable_read = begins _ _ _ (λ _. gives_exact _ _)
 
--- the tokens by which the end of a block begins
+-- the first tokens of ends of blocks
 abbrev pub begins_end : Tok → Bool
 begins_end =
     joined (is_word (codes "br"))

@@ -7,7 +7,7 @@ use Rattle.hip_grammar.specs.Spelling.{spelled_program}
 use Rattle.hip_grammar.specs.Laws.TextSpelling.{reads_spelled}
 use Rattle.hip_grammar.specs.Laws.WrittenText.{spelled_is_read}
 
--- a program meets the rules exactly where it is what its canonical text reads as
+-- a program meets the rules exactly if its canonical text reads as it
 pub spelled_exact : (program : Program) → (spelled_program program ≡ true) ↔ IsSpelled program
 spelled_exact program = (spelled_is_read program, reads_spelled (show program) program)
 

@@ -19,7 +19,7 @@ use Rattle.hip_grammar.specs.Spelling.{not_empty, spelled_align, spelled_global,
 use Rattle.hip_grammar.specs.Laws.SpellingLaws.{local_is, global_is, alignment_is, type_yields, const_yields}
 use Rattle.hip_grammar.specs.Laws.BodiesSpelling.{maybe_align_yields, block_yields}
 
--- an item meets the rules of its kind; for one that is dropped there are none
+-- an item meets the rules of its kind; an item that is dropped has none
 abbrev spelled_as_item : Item → Bool
 spelled_as_item (GlobalItem g) = spelled_global g
 spelled_as_item (ExternItem e) = spelled_extern e

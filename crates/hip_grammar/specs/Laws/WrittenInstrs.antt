@@ -235,7 +235,7 @@ select_is dest cond s a b e f g =
 
 -- ---- casts
 
--- a conversion as it is written behind LOCAL "="
+-- a conversion as it is written after LOCAL "="
 abbrev cast_form : List ℕ → Scalar → Operand → Scalar → List ℕ
 cast_form word from a to =
     word ++ (codes " " ++ (scalar_text from ++ (codes " " ++ (operand_text a ++ (codes " to " ++ scalar_text to)))))

@@ -1,5 +1,5 @@
 -- Under a hoisted call whose clone fences before its last store that store is not durable after the fence.
-use Rattle.std.proofs.Common.{◌≡◌, ◌≢◌, ◌⊎◌, inl, inr, ℕ, ◌<◌, ◌≤◌, true, false, List, [], ◌∷◌, codes, length, Some, None, slice_get, refl, sym, ap, ◌∙◌, subst, arith}
+use Rattle.std.proofs.Common.{◌≡◌, ◌≢◌, ◌⊎◌, inl, inr, ℕ, ◌<◌, ◌≤◌, true, false, List, [], ◌∷◌, ◌++◌, codes, length, Some, None, slice_get, refl, sym, ap, ◌∙◌, subst, arith}
 use Rattle.hip_types.specs.Laws.LayoutLaws.{shape-Int}
 use Rattle.hip_globals.specs.Addresses.{region_size}
 use Rattle.hip_lines.specs.Line.{Line}
@@ -15,12 +15,12 @@ use Rattle.hip_repairs.specs.examples.Words.{zeroed}
 use Rattle.hip_repairs.proofs.worked.Runs.{Follows, address_value, after_all, done_opened, int_value, run_is, run_next}
 use Rattle.hip_histories.specs.examples.WrongRepairs.{clone_fences_early}
 
-abbrev input : Input
+abbrev pub input : Input
 input = zeroed 1
 
--- up to the return of the clone
-abbrev before_return : List Deed
-before_return =
+-- up to the second call
+abbrev pub first_call : List Deed
+first_call =
     record { turn = true; action = Allocates (codes "a") 268435456 8 }
     ∷ record { turn = true; action = Allocates (codes "b") 268435464 8 }
     ∷ record { turn = true; action = Stores 268435456 (9 ∷ 0 ∷ 0 ∷ 0 ∷ 0 ∷ 0 ∷ 0 ∷ 0 ∷ []) }
@@ -28,7 +28,13 @@ before_return =
     ∷ record { turn = true; action = Assigns (Some (codes "v")) 9 }
     ∷ record { turn = true; action = Stores 268435464 (9 ∷ 0 ∷ 0 ∷ 0 ∷ 0 ∷ 0 ∷ 0 ∷ 0 ∷ []) }
     ∷ record { turn = true; action = Returns 0 }
-    ∷ record { turn = true; action = Calls 2 ((codes "dst", 4294967296) ∷ (codes "src", 268435464) ∷ []) None }
+    ∷ []
+
+-- up to the return of the clone
+abbrev before_return : List Deed
+before_return =
+    first_call
+    ++ record { turn = true; action = Calls 2 ((codes "dst", 4294967296) ∷ (codes "src", 268435464) ∷ []) None }
     ∷ record { turn = true; action = Assigns (Some (codes "v")) 9 }
     ∷ record { turn = false; action = Flushes 4294967296 1 }
     ∷ record { turn = false; action = Fences }
@@ -68,7 +74,7 @@ fence_is = run_next clone_fences_early input 12 at_return returned return_is fol
 end_is : run clone_fences_early input 14 ≡ at_end
 end_is = run_next clone_fences_early input 13 at_fence fenced fence_is follows_on.2.0 follows_on.2.1
 
-valid : IsValid copy_hoisted input
+pub valid : IsValid copy_hoisted input
 valid = record {
   base = record { page = refl; low = omega arith; high = omega arith };
   image = size;

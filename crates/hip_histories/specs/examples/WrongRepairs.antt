@@ -51,11 +51,21 @@ early_clone =
     (load_i64 (codes "v") (reg (codes "src"))
     ∷ clwb (reg (codes "dst")) ∷ sfence ∷ store_i64 (reg (codes "v")) (reg (codes "dst")) ∷ []) ∷ [])
 
--- `copy_hoisted` with its last call hoisted, whose clone flushes and fences before its last store:
+-- define void @copy.pm(ptr %dst, ptr %src) {
+-- entry:
+--   %v = load i64, ptr %src
+--   ret void
+-- }
+abbrev pub short_clone : Function
+short_clone =
+    define_void (codes "copy.pm") (ptr_param (codes "dst") ∷ ptr_param (codes "src") ∷ [])
+    (ret_void (codes "entry") (load_i64 (codes "v") (reg (codes "src")) ∷ []) ∷ [])
+
+-- `copy_hoisted` with its last call hoisted, which goes to this clone:
 --   call void @copy.pm(ptr @p, ptr %b)
 --   call void @llvm.x86.sse.sfence()
-abbrev pub clone_fences_early : Program
-clone_fences_early =
+abbrev pub hoisted_to : Function → Program
+hoisted_to clone =
     record {
       globals = persistent_i64 (codes "p") ∷ [];
       externs = declare_clwb ∷ declare_sfence ∷ [];
@@ -64,6 +74,14 @@ clone_fences_early =
           ∷ copying_main
           (call_void (codes "copy.pm") (ptr_arg (at (codes "p")) ∷ ptr_arg (reg (codes "b")) ∷ []) ∷ sfence
           ∷ [])
-          ∷ early_clone
+          ∷ clone
           ∷ [];
     }
+
+-- the clone flushes and fences before its last store
+abbrev pub clone_fences_early : Program
+clone_fences_early = hoisted_to early_clone
+
+-- the clone leaves out the store
+abbrev pub clone_without_store : Program
+clone_without_store = hoisted_to short_clone

@@ -133,7 +133,7 @@ module _ (P : Program) (start : CabinetState) (es : List Entry) (r : ReaderState
   }
   start_missing r' s' refusals.NoMemory h = absurd h
 
--- the entry behind is not valid
+-- the entry after is not valid
 pub start_differs : (P : Program) (start : CabinetState) (es : List Entry) (e : Entry) (r : ReaderState)
     (s : CabinetState) → HasReadEntries start r s (es ++ e ∷ [])
     → ((rest : List (Option Entry)) → header P (told es ++ Some e ∷ rest) ≡ Stops (length es))
@@ -178,7 +178,7 @@ one_stops P e limit v [] h = start_alone P (Some e) limit v
 one_stops P e limit v (None ∷ rest) h = bad_register P (Some e) limit None rest v refl
 one_stops P e limit v (Some x ∷ rest) h = absurd h
 
--- ---- want of memory
+-- ---- out of memory
 
 pub stopped_after : (start : CabinetState) (r : ReaderState) (s : CabinetState) (es : List Entry)
     → HasReadEntries start r s es → HasStoppedReplay start s
@@ -199,7 +199,7 @@ told_long : (es : List Entry) → length (told es) ≡ length es
 told_long [] = refl
 told_long (e ∷ es) = ap suc (told_long es)
 
--- What was given, with bytes of 0 behind it, is a valid input, whose header the entries are.
+-- What was given, with bytes of 0 after it, is a valid input, whose header the entries are.
 pub record IsHeaderOf (P : Program) (given : Input) (entries : List Entry) (count : ℕ) : Type 0 where
   pub valid : IsValid P (filled P given)
   pub are : entries ≡ header_of (filled P given)
@@ -255,7 +255,7 @@ module _ {P : Program} {start : CabinetState} {r : ReaderState} {s : CabinetStat
   counts : count ≡ length (trace P (filled P given) 0)
   counts = is.counted ∙ ap (λ es. length es) entries_are
 
-  -- no entry could be read behind those of the header
+  -- no entry could be read after those of the header
   pub value_missing : (r' : ReaderState) (s' : CabinetState) (refusal : ReplayRefusal)
       → ReadsEntry count r r' s s' (Err refusal) → Refuses P r' start s' refusal
   value_missing r' s' refusal h =
@@ -296,7 +296,7 @@ module _ {P : Program} {start : CabinetState} {r : ReaderState} {s : CabinetStat
   value_dropped r' s' e h = stopped_after start r' s' (is.entries ++ e ∷ [])
       (next_read start s s' r r' is.entries e room is.read h)
 
-  -- the first entry behind the header
+  -- the first entry after the header
   pub value_refused : (r' : ReaderState) (s' : CabinetState) (e : Entry) → HasNext r r' s s' e
       → with_entry P given (Some e) ≡ None
       → HasAllGiven P start r' s' given (record { next = e; entries = count })

@@ -16,7 +16,7 @@ use Rattle.hip_trace.specs.declared.entry.Entry.{Entry}
 use Rattle.hip_trace.specs.declared.refusal.Progress.TheVariants.{Reading}
 use Rattle.hip_lockstep.specs.Reading.{StopsAtSeparator, StopsAtEnd, IsRead, HasReadEntries}
 
--- ---- what is told
+-- ---- what is known
 
 pub told_map : {A : Type 0} (P Q : A → Type 0) (o : Option A) → IfSome o P
     → ((x : A) → o ≡ Some x → P x → Q x) → IfSome o Q
@@ -30,8 +30,8 @@ told_at P (Some y) x e h = let same : y ≡ x = cc in subst P same h
 pub stays_more : (a b c : CabinetState) → StaysOpen a b → StaysOpen b c → StaysOpen a c
 stays_more a b c x y = record {
   files = y.files ∙ x.files;
-  misses = y.misses
-      ∙ x.misses;
+  fetches = y.fetches ∙ x.fetches;
+  misses = y.misses ∙ x.misses;
   current = y.current;
   named = y.named ∙ x.named;
 }
@@ -177,7 +177,10 @@ pub nothing_read : (start : CabinetState) (r : ReaderState)
     → r ≡ record { held = []; count = 0; progress = Reading } → start.is_current ≡ true
     → HasReadEntries start r start []
 nothing_read start r new current = subst (λ (x : ReaderState). HasReadEntries start x start []) (sym new) (record {
-  reading = record { stays = record { files = refl; misses = refl; current = current; named = refl }; faults = refl };
+  reading = record {
+    stays = record { files = refl; fetches = refl; misses = refl; current = current; named = refl };
+    faults = refl;
+  };
   progress = refl;
   count = refl;
   fit = tt;

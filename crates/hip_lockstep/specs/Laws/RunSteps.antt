@@ -66,7 +66,7 @@ no_entry_goes_on e q = go (ending_by e) refl
     go None h = h
     go (Some x) h = absurd (let there = end_has_entry e x h in let z : ⊥ = cc in z)
 
--- the run's trace has an entry behind those of some steps
+-- the run's trace has an entry after those of some steps
 pub record HasMoreEntries (P : Program) (I : Input) (n : ℕ) : Type 0 where
   pub next : Entry
   pub more : List Entry
@@ -208,7 +208,7 @@ pub later_faults : (start s s' : CabinetState) → IsReading start s → s.fault
 later_faults start s s' p q = let e = p.faults in omega (arith, e, q)
 
 module _ (P : Program) (I : Input) (start : CabinetState) (valid : IsValid P I) where
-  -- the file and the run's trace differ behind the entries of some steps
+  -- the file and the run's trace differ after the entries of some steps
   pub differs_run : (n : ℕ) (bytes : List ℕ) (rest : List (Option Entry)) (whole more : List Entry)
       (kind : MisfitKind) → header P (spelled true bytes) ≡ Gives (header_entries I) I
       → spelled true bytes ≡ told (trace P I n) ++ rest → IsTrace P I whole → whole ≡ trace P I n ++ more
@@ -245,7 +245,7 @@ module _ (P : Program) (I : Input) (start : CabinetState) (valid : IsValid P I) 
         });
   }
 
-  -- no entry could be read behind those of some steps, where the run goes on
+  -- no entry could be read after those of some steps, where the run goes on
   module _ (n : ℕ) (r : ReaderState) (s : CabinetState) (going : (run P I n).world.ending ≡ None)
       (few : length (trace P I n) + 1 < 2 ^ 128) (read : HasReadEntries start r s (trace P I n))
       (head : (bytes : List ℕ) → start.rest ≡ Some bytes → (rest : List (Option Entry))

@@ -15,7 +15,7 @@ module _ {A : Type 0} (same : A → A → Bool) where
   met-append xs [] zs = refl
   met-append xs (y ∷ ys) zs = met-append (cond (list_any (same y) xs) xs (xs ++ y ∷ [])) ys zs
 
-  -- what item k gives is met, and what the items behind it give is to come
+  -- what item k gives is met, and what the items after it give is to come
   pub met-next : {B : Type 0} (f : B → List A) (seen : List A) (items : List B) (k : ℕ) (x : B) → k < length items
       → x ≡ get_or items k x →
       met same (met same seen (f x)) (flat_map f (drop (k + 1) items)) ≡ met same seen (flat_map f (drop k items))

@@ -1,4 +1,4 @@
--- Laws of the numbers of names: a name has a number exactly where it is among the names, and the first of its kind
+-- Laws of the numbers of names: a name has a number exactly if it is among the names, and its first occurrence
 -- stands there.
 use Rattle.std.specs.Prelude.{ℕ, zero, suc, ◌+◌, ◌<◌, ◌≡◌, not, nat_lt, Bool, true, false, cond, List, [], ◌∷◌, ◌++◌, length, Option, Some, None, slice_get, option_map}
 use Rattle.std.specs.Str.{bytes_eq}
@@ -18,7 +18,7 @@ placed false p n = behind (nat_lt p n) (nat_lt (1 + p) (suc n)) (grind (arith, n
     behind true c e = let one : 1 + p ≡ suc p = omega arith in rw (e, one) refl
     behind false c e = rw e refl
 
--- the first name has number 0, and each other one the number behind its number among the rest
+-- the first name has number 0, and each other one its number among the rest, plus 1
 pub number_of-cons : (x : List ℕ) (xs : List (List ℕ)) (name : List ℕ)
     → number_of (x ∷ xs) name ≡ cond (bytes_eq name x) (Some 0) (option_map suc (number_of xs name))
 number_of-cons x xs name = placed (bytes_eq name x) _ (length xs)
@@ -56,7 +56,7 @@ number_later : (x : List ℕ) (xs : List (List ℕ)) (name : List ℕ) (k : ℕ)
     → number_of xs name ≡ Some k → number_of (x ∷ xs) name ≡ Some (suc k)
 number_later x xs name k t e = at_first false name x xs t ∙ ap (option_map suc) e
 
--- what stands at a name's number is that name
+-- the item at a name's number is that name
 pub number_of-there : (xs : List (List ℕ)) (name : List ℕ) (k : ℕ) → number_of xs name ≡ Some k
     → slice_get xs k ≡ Some name
 number_of-there [] name k e = cc
@@ -65,7 +65,7 @@ number_of-there (x ∷ xs) name k e =
     (λ l. subst (λ n. slice_get (x ∷ xs) n ≡ Some name) (sym l.3) (number_of-there xs name l.0 l.2))
     (number_cases x xs name k e)
 
--- it stands at no earlier place
+-- no earlier item is that name
 pub number_of-least : (xs : List (List ℕ)) (name : List ℕ) (k j : ℕ) → number_of xs name ≡ Some k
     → slice_get xs j ≡ Some name → k ≤ j
 number_of-least [] name k j e f = cc
@@ -78,7 +78,7 @@ number_of-least (x ∷ xs) name k (suc j) e f =
     ⊎_elim (λ h. omega (arith, h.0)) (λ l. let rest = number_of-least xs name l.0 j l.2 f in omega (arith, l.3))
     (number_cases x xs name k e)
 
--- names that are put behind a list leave the numbers of its names as they are
+-- names that are added at the end of a list leave the numbers of its names as they are
 pub number_of-front : (xs ys : List (List ℕ)) (name : List ℕ) (k : ℕ) → number_of xs name ≡ Some k
     → number_of (xs ++ ys) name ≡ Some k
 number_of-front [] ys name k e = cc
@@ -87,7 +87,7 @@ number_of-front (x ∷ xs) ys name k e =
     (λ l. number_later x (xs ++ ys) name l.0 l.1 (number_of-front xs ys name l.0 l.2) ∙ ap Some (sym l.3))
     (number_cases x xs name k e)
 
--- a name that stands in the list has a number
+-- a name in the list has a number
 pub number_of-known : (xs : List (List ℕ)) (name : List ℕ) (k : ℕ) → slice_get xs k ≡ Some name
     → (j : ℕ) × (number_of xs name ≡ Some j)
 number_of-known [] name k e = cc
@@ -100,7 +100,7 @@ number_of-known (x ∷ xs) name (suc k) e = by_first (bytes_eq name x) refl (num
     by_first true t rest = (0, at_first true name x xs t)
     by_first false t rest = (suc rest.0, number_later x xs name rest.0 t rest.1)
 
--- it has the number of a place where it stands, if it stands at no earlier one
+-- its number is a place that has it, if no earlier place has it
 pub number_of-first : (xs : List (List ℕ)) (name : List ℕ) (k : ℕ) → slice_get xs k ≡ Some name
     → ((j : ℕ) → j < k → ¬ (slice_get xs j ≡ Some name)) → number_of xs name ≡ Some k
 number_of-first xs name k e none =
@@ -111,7 +111,7 @@ number_of-first xs name k e none =
     (eq-or-lt_of_le least) in
     found.1 ∙ ap Some same
 
--- a name that is not in the front list has its number behind it
+-- a name that is not in the first list has its number after the numbers of that list
 pub number_of-behind : (xs ys : List (List ℕ)) (name : List ℕ) (k : ℕ) → number_of ys name ≡ Some k
     → ((j : ℕ) → ¬ (slice_get xs j ≡ Some name)) → number_of (xs ++ ys) name ≡ Some (length xs + k)
 number_of-behind [] ys name k e none = e ∙ ap Some (sym (zero-add k))
@@ -124,7 +124,7 @@ number_of-behind (x ∷ xs) ys name k e none =
     other true t = absurd (none 0 (ap Some (sym ((bytes_eq-Decides name x).0 t))))
     other false t = t
 
--- a name of the whole list has a number in the front list, or it stands in the rest
+-- a name of the whole list has a number in the first list, or it is in the rest
 pub number_of-append : (xs ys : List (List ℕ)) (name : List ℕ) (k : ℕ) → number_of (xs ++ ys) name ≡ Some k
     → length xs ≤ k ⊎ (number_of xs name ≡ Some k)
 number_of-append [] ys name k e = inl (omega arith)

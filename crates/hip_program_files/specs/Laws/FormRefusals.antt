@@ -1,4 +1,4 @@
--- A program that is not sound is refused in one way, but for the path that shows a register without an assignment.
+-- A program that is not sound is refused in one way, except for the path that shows a register without an assignment.
 use Rattle.std.proofs.Common.{◌≡◌, ◌<◌, ℕ, List, [], ◌∷◌, ◌++◌, Some, None, All, slice_get, refl, sym, ap, ◌∙◌, subst, inl, inr}
 use Rattle.std.specs.Prelude.{◌⊎◌}
 use Rattle.std.proofs.lemmas.Bool.{cases_order}
@@ -122,7 +122,7 @@ by_fault P faults.BadEdge place f = broken P breaks.BadEdge place f
 by_fault P faults.TooLarge place f = broken P breaks.TooLarge place f
 by_fault P faults.NoMemory place f = absurd f
 
--- the places are equal, and the faults are but for the path that shows a register without an assignment
+-- the places are equal, and so are the faults, except for the path that shows a register without an assignment
 pub record IsSame (a b : TypeFault) (p q : Place) : Type 0 where
   pub fault : without_path a ≡ without_path b
   pub place : p ≡ q

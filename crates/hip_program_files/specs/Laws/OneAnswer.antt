@@ -1,4 +1,4 @@
--- A file that is told gives one program, or one refusal has a cause.
+-- A known file gives one program, or one refusal has a cause.
 use Rattle.std.proofs.Common.{◌≡◌, ℕ, List, Option, Some, None, length, refl, sym, ap, ◌∙◌, subst, arith}
 use Rattle.hip_io.specs.Cabinets.{file_of}
 use Rattle.hip_io.specs.declared.cabinet.NamedFile.{NamedFile}

@@ -22,7 +22,8 @@ use Rattle.hip_repairs.proofs.simulation.Sim.{follows}
 use Rattle.hip_survival.specs.Laws.CheckedBytes.{loose_reported, reported_loose}
 use Rattle.hip_repair_survival.specs.Kept.{IsNoWorse, WorsensNoCheck}
 use Rattle.hip_repair_survival.specs.Laws.ChecksSurvive.{none_reported}
-use Rattle.hip_repair_survival.specs.Laws.LoosensNothing.{as_durable, loosens_nothing, matched_onward, nothing_held, nothing_kept}
+use Rattle.hip_repairs.proofs.simulation.Harm.{nothing_held, nothing_kept}
+use Rattle.hip_repair_survival.specs.Laws.LoosensNothing.{as_durable, loosens_nothing, matched_onward}
 use Rattle.hip_repair_survival.specs.Laws.SameStores.{report_there}
 
 -- a state in which something is checked next has not ended

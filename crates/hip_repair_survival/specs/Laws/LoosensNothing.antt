@@ -10,7 +10,7 @@ use Rattle.hip_mem.specs.Memory.{byte_at}
 use Rattle.hip_sound.specs.Laws.SoundExact.{sound-passes}
 use Rattle.hip_sound.specs.Sound.{IsSound}
 use Rattle.hip_runs.specs.Actions.{memory_of}
-use Rattle.hip_runs.specs.State.{Level, StorePart, State}
+use Rattle.hip_runs.specs.State.{StorePart, State}
 use Rattle.hip_runs.specs.Step.{run}
 use Rattle.hip_runs.specs.Validity.{IsValid}
 use Rattle.hip_runs.specs.declared.input.Input.{Input}
@@ -20,7 +20,8 @@ use Rattle.hip_repairs.specs.declared.plan.Plan.{Plan}
 use Rattle.hip_repairs.proofs.Theorems.{repairs_do_no_harm}
 use Rattle.hip_repairs.proofs.functions.Lookup.{sound_callable}
 use Rattle.hip_repairs.proofs.simulation.Ahead.{Ahead}
-use Rattle.hip_repairs.proofs.simulation.Facts.{Lines, Keeps}
+use Rattle.hip_repairs.proofs.simulation.Facts.{Lines}
+use Rattle.hip_repairs.proofs.simulation.Harm.{nothing_held, nothing_kept}
 use Rattle.hip_repairs.proofs.simulation.Pairs.{Related, related}
 use Rattle.hip_repairs.proofs.simulation.Sim.{follows}
 use Rattle.hip_repair_survival.specs.Kept.{IsAsDurable, LoosensNothing}
@@ -49,23 +50,6 @@ lines_durable ls ls' a j l l' e e' =
     (h.flushed, h.durable)
 
 -- ---- at corresponding states
-
-abbrev pub nothing_held : List Level → Lines → Lines → Type 0
-nothing_held up ls ls' = Unit {0}
-
-pub nothing_kept : (P : Program) (plan : Plan) (skip : Site → Bool) (I : Input) → Keeps P plan skip I nothing_held
-nothing_kept P plan skip I = record {
-  start = λ _. tt;
-  fence = λ _ _ _ _. tt;
-  more_fence = λ _ _ _ _. tt;
-  more_flush = λ _ _ _ _ _ _ _. tt;
-  flush = λ _ _ _ _ _ _ _ _ _ _ _. tt;
-  persist = λ _ _ _ _ _ _ _ _. tt;
-  store = λ _ _ _ _ _ _ _ _ _ _ _ _ _ _ _ _ _ _ _ _. tt;
-  call = λ _ _ _ _ _. tt;
-  return = λ _ _ _ _ _ _. tt;
-  fenced_return = λ _ _ _ _ _. tt;
-}
 
 module _ (P : Program) (plan : Plan) (skip : Site → Bool) where
   pair_durable : (I : Input) (size : ℕ) (s s' : State) → Related P plan skip I nothing_held size s s'

@@ -1,4 +1,4 @@
--- After the fence behind a call of a clone all that was stored under the call is durable.
+-- After the fence that follows a call of a clone all that was stored under the call is durable.
 use Rattle.std.proofs.Common.{◌≡◌, inl, inr, ℕ, zero, suc, ◌+◌, ◌<◌, ◌≤◌, Bool, false, not, List, [], ◌∷◌, ◌++◌, length, drop, Option, Some, None, slice_get, refl, sym, ap, ◌∙◌, subst, arith}
 use Rattle.std.specs.List.{drop-map}
 use Rattle.hip_tree.specs.declared.instr.Instr.{Instr}
@@ -21,19 +21,20 @@ use Rattle.hip_runs.specs.State.{Registers, Level, Flush, StorePart, Frame, Worl
 use Rattle.hip_runs.specs.Step.{perform, carry_out, event_at, counted, on_frames, on_ending, step, run}
 use Rattle.hip_runs.specs.Validity.{IsValid}
 use Rattle.hip_repairs.specs.declared.plan.Plan.{Plan}
-use Rattle.hip_repairs.specs.Covered.{is_fence, IsFenceCall, IsBehindClone, IsLastBefore, IsAtCall, IsCovered}
+use Rattle.hip_repairs.specs.Covered.{is_fence, IsFenceCall, IsCallOf, IsBehindClone, IsLastBefore, IsAtCall, CallsClone, IsCovered}
 use Rattle.hip_repairs.specs.Harmless.{marked_body, matched}
 use Rattle.hip_repairs.specs.Quiet.{IsQuiet}
 use Rattle.hip_repairs.specs.Repaired.{Marked, wanted_by, clones_of, repaired, instrs_of, repaired_body}
 use Rattle.hip_repairs.proofs.functions.Blocks.{body_twin}
+use Rattle.hip_repairs.proofs.covered.CalledClones.{calls_clone_there}
 use Rattle.hip_repairs.proofs.covered.CloneFlushed.{AreFlushed, IsFlushed, AllFlushed, all_fenced, CloneFlushed, clone_flushed}
 use Rattle.hip_repairs.proofs.simulation.Facts.{Lines}
 use Rattle.hip_repairs.proofs.functions.Lookup.{sound_callable, clone_calls}
-use Rattle.hip_repairs.proofs.covered.Moves.{instr_here, IsCallOf}
+use Rattle.hip_repairs.proofs.covered.Moves.{instr_here}
 use Rattle.hip_repairs.proofs.simulation.Pairs.{nothing, fence, Ready, quiet, flush, Tied, tied, Related, related, pending_lines}
 use Rattle.hip_repairs.proofs.simulation.Sim.{Follows, follows, get_in}
 use Rattle.hip_repairs.specs.Laws.Callable.{IsCallable}
-use Rattle.hip_repairs.proofs.covered.SinceCall.{SinceClones, last_before, since_call}
+use Rattle.hip_repairs.proofs.covered.SinceCall.{SinceClones, going, last_before, since_call}
 
 -- ---- a fence
 
@@ -203,8 +204,18 @@ module _ (P : Program) (plan : Plan) (skip : Site → Bool) (good : IsCallable P
           let since = since_call Q I full N calls_clones r.0 n r.1 behind.going top.0 top.1 top.2 behind in
           (r.0, r.1, record { top = top.0; frames = since.below; function = since.function; block = since.block; place = since.place })
 
+      clone_called : (j n : ℕ) → IsBehindClone Q N (run Q I n) → IsLastBefore Q I j n → (i : ℕ) × CallsClone P Q (run P I i) (run Q I j)
+      clone_called j n behind last =
+          let top = full j in
+          let r = pairs j in
+          let since = since_call Q I full N calls_clones j n last behind.going top.0 top.1 top.2 behind in
+          let before = last.before in
+          let i = matched P plan skip I j in
+          (i, calls_clone_there P plan skip good I (CloneFlushed P plan skip I) r.size (run P I i) (run Q I j) r.pair (going Q I j n (omega arith) behind.going) top.0 top.1 top.2 since.call)
+
 pub covered : (P : Program) (plan : Plan) (skip : Site → Bool) → Passes P → IsQuiet P skip → IsCovered P (repaired P plan skip)
 covered P plan skip sound still = record {
   call = λ I valid. call_found P plan skip (sound_callable P sound) I still valid;
+  clone = λ I valid. clone_called P plan skip (sound_callable P sound) I still valid;
   durable = λ I valid. covered_run P plan skip (sound_callable P sound) I still valid;
 }

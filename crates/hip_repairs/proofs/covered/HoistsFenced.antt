@@ -1,5 +1,5 @@
--- A hoisted call has become a call of a clone with a fence directly behind it.
-use Rattle.std.proofs.Common.{◌≡◌, ℕ, zero, suc, ◌+◌, ◌≤◌, Bool, true, false, List, [], ◌∷◌, ◌++◌, length, take, drop, Option, Some, slice_get, refl, sym, ap, ◌∙◌, subst, arith}
+-- A hoisted call has become a call of a clone of its callee with a fence directly after it.
+use Rattle.std.proofs.Common.{◌≡◌, ℕ, zero, suc, ◌+◌, ◌<◌, ◌≤◌, Bool, true, false, List, [], ◌∷◌, ◌++◌, length, take, drop, Option, Some, slice_get, refl, sym, ap, ◌∙◌, subst, arith}
 use Rattle.std.specs.List.{drop-map}
 use Rattle.std.proofs.lemmas.Option.{slice_get_within}
 use Rattle.hip_types.specs.declared.number.Scalar.{Scalar}
@@ -13,7 +13,8 @@ use Rattle.hip_sound.specs.Numbering.{function_number}
 use Rattle.hip_sound.specs.Rules.{Passes}
 use Rattle.hip_runs.specs.Places.{body_at}
 use Rattle.hip_repairs.specs.declared.plan.Plan.{Plan}
-use Rattle.hip_repairs.specs.Covered.{is_numbered_from, IsFenceCall, IsCallFrom, repaired_place, IsFenced, AreHoistsFenced}
+use Rattle.hip_repairs.specs.Covered.{IsFenceCall, IsCallOf, repaired_place, IsFenced, IsHoisted, AreHoistsFenced}
+use Rattle.hip_repairs.specs.Clones.{IsClone}
 use Rattle.hip_repairs.specs.Harmless.{marked_body}
 use Rattle.hip_repairs.specs.Repaired.{Marked, Clone, Wanted, the_fence, clone_name, inserted_behind, wanted_by, clones_of, repaired, instrs_of, repaired_body}
 use Rattle.hip_runs.specs.Laws.EndLaws.{drop_next}
@@ -21,6 +22,7 @@ use Rattle.hip_runs.specs.Laws.Members.{get_drop}
 use Rattle.hip_repairs.proofs.functions.Blocks.{body_twin}
 use Rattle.hip_repairs.specs.Laws.Callable.{instr_place, IsCallable}
 use Rattle.hip_repairs.proofs.functions.Clones.{twin_of_clone}
+use Rattle.hip_repairs.proofs.covered.Copies.{twin_is_clone}
 use Rattle.hip_repairs.proofs.functions.Lookup.{sound_callable, number_there, plain_twin, calls_clone, hoisted_cloned}
 use Rattle.hip_runs.specs.Laws.HistoryLaws.{instr_at_place}
 use Rattle.hip_repairs.proofs.simulation.Sim.{or_right}
@@ -57,37 +59,45 @@ module _ (P : Program) (plan : Plan) (skip : Site → Bool) (good : IsCallable P
   abbrev the_call : Instr
   the_call = Call dest ret (clone_name (clones_of P plan) callee) args
 
-  -- the clone that the call names is numbered behind all functions
-  clone_behind : (i : instr_of P s ≡ Some (Call dest ret callee args)) → IsCallFrom Q (length P.functions) (Some the_call)
-  clone_behind i =
+  -- the function that the call names
+  clone_of_callee : instr_of P s ≡ Some (Call dest ret callee args) → (h : ℕ) × IsClone P Q g h × IsCallOf Q h (Some the_call)
+  clone_of_callee i =
       let there = number_there P callee g number in
       let twin = calls_clone P plan skip good callee g there.0 number there.1 (hoisted_cloned P plan skip good s dest ret callee args g hoisted i number) in
       let high = twin.twin.high refl in
-      let big : length P.functions ≤ twin.number = omega (arith, high.1) in
-      subst (is_numbered_from (length P.functions)) (sym twin.found) big
+      (twin.number, twin_is_clone P plan skip true (clone_name (clones_of P plan) callee) g there.0 there.1 twin (omega (arith, high.1)), twin.found)
 
   -- the body from the call's place on
   call_then : (clone : Bool) (rest : List Instr) → instrs_of (repaired_body (clones_of P plan) w clone s.function s.block s.index (Call dest ret callee args ∷ rest))
       ≡ the_call ∷ the_fence ∷ instrs_of (repaired_body (clones_of P plan) w clone s.function s.block (suc s.index) rest)
   call_then clone rest = rw (or_right clone (has_site plan.hoist s) hoisted, or_right (has_site plan.fence_after s) (has_site plan.hoist s) hoisted) refl
 
-  fenced_in : (clone : Bool) (f' : ℕ) → Twin P plan skip clone s.function f' → instr_of P s ≡ Some (Call dest ret callee args) → IsFenced Q (length P.functions) f' s.block (repaired_place P plan skip clone s)
-  fenced_in clone f' tw i =
+  fenced_in : (h : ℕ) → IsCallOf Q h (Some the_call) → (clone : Bool) (f' : ℕ) → Twin P plan skip clone s.function f' → IsFenced Q h f' s.block (repaired_place P plan skip clone s)
+  fenced_in h called clone f' tw =
       let k = repaired_place P plan skip clone s in
       let r = repaired_at (clones_of P plan) w clone s.function s.block 0 s.index s.index (body_at P s.function s.block) (Call dest ret callee args) (omega arith) here in
       let more = instrs_of (repaired_body (clones_of P plan) w clone s.function s.block (suc s.index) r.0) in
       let code : drop k (body_at Q f' s.block) ≡ the_call ∷ the_fence ∷ more =
       ap (drop k) (body_twin P plan skip clone s.function f' tw s.block) ∙ drop-map (λ (x : Marked). x.0) k (marked_body P (clones_of P plan) w clone s.function s.block) ∙ ap instrs_of r.1 ∙ call_then clone r.0 in
       record {
-        call = subst (IsCallFrom Q (length P.functions)) (sym (get_drop (body_at Q f' s.block) k the_call (the_fence ∷ more) code)) (clone_behind i);
+        call = subst (IsCallOf Q h) (sym (get_drop (body_at Q f' s.block) k the_call (the_fence ∷ more) code)) called;
         fence = subst IsFenceCall (sym (get_drop (body_at Q f' s.block) (suc k) the_fence more (drop_next (body_at Q f' s.block) k the_call (the_fence ∷ more) code))) tt;
+      }
+
+  is_hoisted : instr_of P s ≡ Some (Call dest ret callee args) → s.function < length P.functions → IsHoisted P plan skip s g
+  is_hoisted i there =
+      let clone = clone_of_callee i in
+      record {
+        clone = clone.0;
+        is_clone = clone.1;
+        plain = fenced_in clone.0 clone.2 false s.function (plain_twin P plan skip good s.function there);
+        cloned = λ c e. fenced_in clone.0 clone.2 true (length P.functions + c) (twin_of_clone P plan skip c s.function e);
       }
 
 pub hoists_fenced : (P : Program) (plan : Plan) (skip : Site → Bool) → Passes P → AreHoistsFenced P plan skip
 hoists_fenced P plan skip sound s dest ret callee args g hoisted i number =
     let good = sound_callable P sound in
     let here = sym (instr_at_place P s.function s.block s.index) ∙ i in
-    let at = instr_place P s.function s.block s.index (Call dest ret callee args) here in (
-      fenced_in P plan skip good s dest ret callee args g hoisted here number false s.function (plain_twin P plan skip good s.function (slice_get_within P.functions s.function at.0 at.2)) i,
-      λ c e. fenced_in P plan skip good s dest ret callee args g hoisted here number true (length P.functions + c) (twin_of_clone P plan skip c s.function e) i,
-    )
+    let at = instr_place P s.function s.block s.index (Call dest ret callee args) here in
+    is_hoisted P plan skip good s dest ret callee args g hoisted here number i
+    (slice_get_within P.functions s.function at.0 at.2)

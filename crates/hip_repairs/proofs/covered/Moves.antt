@@ -25,6 +25,7 @@ use Rattle.hip_runs.specs.Places.{body_at, code_at, end_at}
 use Rattle.hip_runs.specs.State.{Flush, StorePart, Frame, World, Counts, State, levels_of, site_of}
 use Rattle.hip_runs.specs.Step.{stop, with_turn, with_register, next, leave, perform, is_cut, carry_out, deed_at, on_frames, on_ending, step, event_at, counted}
 use Rattle.hip_runs.specs.Laws.Members.{get_drop}
+use Rattle.hip_repairs.specs.Covered.{IsCallOf}
 use Rattle.hip_repairs.proofs.simulation.Facts.{Lines}
 use Rattle.hip_repairs.proofs.simulation.Sim.{IsPlain, plain_calculated, plain_allocated, plain_extern, plain_load, is_end, end_is}
 
@@ -35,11 +36,6 @@ instr_here Q f = slice_get (body_at Q f.function f.block) f.place
 abbrev pub IsCall : Option Instr → Type 0
 IsCall (Some (Call dest ret callee args)) = Unit {0}
 IsCall _ = ⊥
-
--- the instruction calls the function of that number
-abbrev pub IsCallOf : Program → ℕ → Option Instr → Type 0
-IsCallOf Q g (Some (Call dest ret callee args)) = function_number Q callee ≡ Some g
-IsCallOf Q g _ = ⊥
 
 -- ---- actions and the instruction that they are of
 

@@ -11,9 +11,9 @@ use Rattle.hip_runs.specs.StoredParts.Parts.{PartOf}
 use Rattle.hip_runs.specs.Places.{body_at}
 use Rattle.hip_runs.specs.State.{StorePart, Frame, State}
 use Rattle.hip_runs.specs.Step.{with_register, next, on_ending, step, run}
-use Rattle.hip_repairs.specs.Covered.{is_numbered_from, IsCallFrom, IsBehindClone, IsLastBefore}
+use Rattle.hip_repairs.specs.Covered.{is_numbered_from, IsCallFrom, IsCallOf, IsBehindClone, IsLastBefore}
 use Rattle.hip_repairs.proofs.simulation.Facts.{Lines}
-use Rattle.hip_repairs.proofs.covered.Moves.{instr_here, IsCall, IsCallOf, Moves, ends, goes_on, jumps, enters, returns, IsOld, IsNew, Out, step_out}
+use Rattle.hip_repairs.proofs.covered.Moves.{instr_here, IsCall, Moves, ends, goes_on, jumps, enters, returns, IsOld, IsNew, Out, step_out}
 
 -- each part that a step from the j-th on made is of a function numbered from N up
 abbrev pub SinceClones : ℕ → ℕ → Lines → Type 0
@@ -77,7 +77,7 @@ module _ (Q : Program) (I : Input) where
   going_at i zero h = let e : zero + i ≡ i = omega arith in subst (λ k. (run Q I k).world.ending ≡ None) e h
   going_at i (suc d) h = let e : suc d + i ≡ suc (d + i) = omega arith in going_at i d (going_back (d + i) (subst (λ k. (run Q I k).world.ending ≡ None) e h))
 
-  going : (i n : ℕ) → i ≤ n → (run Q I n).world.ending ≡ None → (run Q I i).world.ending ≡ None
+  pub going : (i n : ℕ) → i ≤ n → (run Q I n).world.ending ≡ None → (run Q I i).world.ending ≡ None
   going i n le h = let e : (n - i) + i ≡ n = omega arith in going_at i (n - i) (subst (λ k. (run Q I k).world.ending ≡ None) (sym e) h)
 
 -- ---- frames above one that called

@@ -36,7 +36,7 @@ volatile_among (g ∷ gs) name e =
     (either (bytes_eq g.name name && not g.persistent) (is_volatile_global gs name) e)
 
 -- where the names of globals differ, the number of a volatile one's name is its own
-volatile_number : (gs : List GlobalVar) (name : List ℕ) (k : ℕ) → AllDiffer (names_of_globals gs) → is_volatile_global gs name ≡ true → number_of (names_of_globals gs) name ≡ Some k → is_persistent gs k ≡ false
+pub volatile_number : (gs : List GlobalVar) (name : List ℕ) (k : ℕ) → AllDiffer (names_of_globals gs) → is_volatile_global gs name ≡ true → number_of (names_of_globals gs) name ≡ Some k → is_persistent gs k ≡ false
 volatile_number [] name k d e f = refl
 volatile_number (g ∷ gs) name k d e f = ⊎_elim (λ h. first h.0 h.2) (λ h. later h.0 (volatile_number gs name h.0 d.1) h.1 h.2 h.3) (number_cases g.name (names_of_globals gs) name k f)
   where

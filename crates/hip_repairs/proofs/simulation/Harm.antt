@@ -16,10 +16,11 @@ use Rattle.hip_repairs.proofs.simulation.Pairs.{Tied, tied, Below, bottom, on, R
 use Rattle.hip_repairs.proofs.simulation.Sim.{follows}
 use Rattle.hip_repairs.proofs.functions.Twins.{Twin}
 
-abbrev nothing_held : List Level → Lines → Lines → Type 0
+-- no fact about the lines
+abbrev pub nothing_held : List Level → Lines → Lines → Type 0
 nothing_held up ls ls' = Unit {0}
 
-nothing_kept : (P : Program) (plan : Plan) (skip : Site → Bool) (I : Input) → Keeps P plan skip I nothing_held
+pub nothing_kept : (P : Program) (plan : Plan) (skip : Site → Bool) (I : Input) → Keeps P plan skip I nothing_held
 nothing_kept P plan skip I = record {
   start = λ _. tt;
   fence = λ _ _ _ _. tt;

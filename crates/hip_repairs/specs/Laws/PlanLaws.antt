@@ -23,7 +23,7 @@ use Rattle.hip_tree.specs.declared.instr.Instr.{Instr}
 use Rattle.hip_runs.specs.Found.WellFormed.{IsWellFormed}
 use Rattle.hip_repairs.specs.declared.plan.Plan.{Plan}
 
--- ---- what a report asks for
+-- ---- what a report needs
 
 is_the_site : (o : Option Site) (s : Site) → is_site o s ≡ true → o ≡ Some s
 is_the_site None s e = absurd (let z : ⊥ = cc in z)

@@ -1,6 +1,7 @@
 -- The order of sites, and lists of sites that ascend.
 use Rattle.std.proofs.Common.{◌≡◌, ◌⊎◌, inl, inr, ℕ, suc, ◌<◌, ◌≤◌, Bool, true, false, cond, ◌&&◌, ◌||◌, nat_lt, nat_eq, List, [], ◌∷◌, ◌++◌, refl, sym, ap, ◌∙◌, subst, arith, Option, Some, zero, ◌+◌}
 use Rattle.std.specs.List.{filter}
+use Rattle.hip_runs.specs.Laws.Found.FoundLaws.{same_site_equal, site_same}
 use Rattle.hip_types.specs.Laws.DistinctLaws.{or_first, or_second, either}
 use Rattle.hip_tree.specs.Sites.{same_site, has_site, sites_of, function_sites, block_sites, body_sites, instr_of}
 use Rattle.hip_tree.specs.declared.block.Block.{Block}
@@ -16,7 +17,6 @@ use Rattle.hip_repairs.specs.Choice.{wants_flush, wants_fence, wants_hoist}
 use Rattle.hip_repairs.specs.Suits.{site_before, is_ascending, IsStrictOrder}
 use Rattle.hip_repairs.specs.Planned.{AreSites, IsAsked}
 use Rattle.std.specs.Prelude.{None, option_and_then, slice_get}
-use Rattle.hip_runs.specs.Laws.Found.FoundLaws.{same_site_equal, site_same}
 use Rattle.hip_runs.specs.Laws.Members.{both_true, true_both, equal_true, true_equal, lt_true, true_lt}
 
 site_is : (a b : Site) → a.function ≡ b.function → a.block ≡ b.block → a.index ≡ b.index → a ≡ b
@@ -37,6 +37,24 @@ pub in_has : (xs : List Site) (s : Site) → In s xs → has_site xs s ≡ true
 in_has [] s i = absurd i
 in_has (x ∷ xs) s (inl e) = or_first _ _ (subst (λ (y : Site). same_site s y ≡ true) e (site_same s))
 in_has (x ∷ xs) s (inr i) = or_second (same_site s x) _ (in_has xs s i)
+
+-- ---- sites that pass a test
+
+pub filter-append : (test : Site → Bool) (xs ys : List Site)
+    → filter test (xs ++ ys) ≡ filter test xs ++ filter test ys
+filter-append test [] ys = refl
+filter-append test (x ∷ xs) ys = by_test (test x) (filter-append test xs ys)
+  where
+    by_test : (b : Bool) → filter test (xs ++ ys) ≡ filter test xs ++ filter test ys
+        → cond b (x ∷ filter test (xs ++ ys)) (filter test (xs ++ ys))
+        ≡ cond b (x ∷ filter test xs) (filter test xs) ++ filter test ys
+    by_test true e = ap (λ zs. x ∷ zs) e
+    by_test false e = e
+
+-- one more site in front, if it passes
+pub front_chosen : (b : Bool) (s : Site) (rest : List Site) → cond b (s ∷ rest) rest ≡ cond b (s ∷ []) [] ++ rest
+front_chosen true s rest = refl
+front_chosen false s rest = refl
 
 -- ---- the sites of a program
 
@@ -238,11 +256,11 @@ strict_order = record {
 
 -- ---- lists that ascend
 
--- each site of the list comes behind this one in that order, and is not equal to it
+-- each site of the list comes after this one in that order, and is not equal to it
 abbrev AllAfter : Site → List Site → Type 0
 AllAfter a xs = (s : Site) → In s xs → Before a s
 
--- each site comes before all that stand behind it in the list, where `is_ascending` compares it with the next alone
+-- each site comes before all later ones in the list, where `is_ascending` compares it with the next alone
 abbrev Sorted : List Site → Type 0
 Sorted [] = Unit {0}
 Sorted (x ∷ xs) = AllAfter x xs × Sorted xs
@@ -284,7 +302,7 @@ sorted_append (x ∷ xs) ys h g b =
     after s (inl i) = h.0 s i
     after s (inr i) = b x s (inl refl) i
 
--- the site is in block b of function f, at index k or behind it
+-- the site is in block b of function f, at index k or later
 record InBody (f b k : ℕ) (s : Site) : Type 0 where
   function : s.function ≡ f
   block : s.block ≡ b
@@ -312,7 +330,7 @@ sorted_body f b k (x ∷ is) = (
   sorted_body f b (suc k) is,
 )
 
--- the site is in function f, in block b or in one behind it
+-- the site is in function f, in block b or in a later one
 record InBlocks (f b : ℕ) (s : Site) : Type 0 where
   function : s.function ≡ f
   block : b ≤ s.block

@@ -330,7 +330,7 @@ module _ (F A B : Type 0) (l : Rule F A) (f : A → Rule F B) (c d : Tok → Boo
     reason = λ w k. inl (p.reason w k);
   }
 
-  -- the second part is only asked where the first derives
+  -- the second part is only read if the first derives
   pub both_where : (s : A → Reader F B) (ts : List At) (o : Outcome F A)
       → ((a : A) (m : List At) → l.Derives ts a m → Exactly (f a) d m (s a m)) → Exactly l c ts o
       → Exactly (both l f) d ts (on_ok o s)

@@ -11,7 +11,7 @@ use Rattle.hip_rules.specs.Reader.{Outcome, Reader, on_ok, judged, next, times_a
 abbrev pub TakesSome : {F A : Type 0} → Reader F A → Type 0
 TakesSome {F} {A} r = (ts : List At) (x : A × List At) → r ts ≡ Ok x → length x.1 < length ts
 
--- one more part behind a token that passes
+-- one more part after a token that passes
 pub another_some : {F A : Type 0} (k : Tok → Bool) (l : Part F A)
     → ((ts : List At) (x : A × List At) → l.read ts ≡ Ok x → length x.1 ≤ length ts)
     → TakesSome (one_more_by k l).read

@@ -226,7 +226,7 @@ by_never k t e = left_is (k t) e
     left_is true h = refl
     left_is false h = h
 
--- behind a separator
+-- after a separator
 one_more_by_read : {F A : Type 0} (l : Part F A) (k c : Tok → Bool) → Exact l c → IsRead (one_more_by k l) k c
 unfolding one_more_by
 one_more_by_read {F} l k c p = then_read (passing {F = F} k) (λ _. l) k c (passing_read k never) (λ _. p)
@@ -238,7 +238,7 @@ pub one_more_read : {F A : Type 0} (l : Part F A) (k first c : Tok → Bool) →
     → IsRead (one_more_by k l) k c
 one_more_read l k first c p = one_more_by_read l k c p.exact
 
--- any number more, behind a separator each
+-- any number more, each after a separator
 pub more_exact : {F A : Type 0} (l : Part F A) (k first : Tok → Bool) → IsRead l first never
     → Exact (repeated k (one_more_by k l)) k
 more_exact l k first p =
@@ -336,7 +336,7 @@ part_link l f d p q = then_exact l.rule (λ a. (f a).rule) l.read (λ a. (f a).r
 pub token_exact : {F A : Type 0} (p : Tok → Verdict F A) (d : Tok → Bool) → Exact (token p) d
 token_exact p d = exact_widens (one p) _ never d (next_widens never d (never_passes d)) (one_exact p)
 
--- a part that nothing may go on, where the test is never asked
+-- a part that nothing may continue: the test is never used
 pub closed_exact : {F A : Type 0} (p : Part F A) (d : Tok → Bool) → Exact p never → Exact p d
 closed_exact p d q = exact_widens p.rule p.read never d (next_widens never d (never_passes d)) q
 

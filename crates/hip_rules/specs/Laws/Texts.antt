@@ -1,4 +1,4 @@
--- Texts of a rule: bytes from whose tokens the rule derives a value, whatever stands before them.
+-- Texts of a rule: bytes from whose tokens the rule derives a value, whatever precedes them.
 use Rattle.std.proofs.Common.{◌≡◌, ℕ, Bool, true, List, [], ◌∷◌, ◌++◌, Some, None, inl, inr, map, map-id, refl, subst, append_assoc}
 use Rattle.std.specs.List.{list_all, flat_map}
 use Rattle.std.proofs.lemmas.Bool.{and_parts}
@@ -9,16 +9,16 @@ use Rattle.hip_tokens.specs.Cuts.{cut_blank}
 use Rattle.hip_tokens.specs.Written.{ends_word, at_line, word_cut, label_cut, local_cut, global_cut, digits_cut, mark_cut}
 use Rattle.hip_rules.specs.Rule.{Rule, Verdict, Yes, done, one, both, ◌or◌, many, perhaps, AllDerive}
 
--- whatever stands behind
+-- whatever follows
 abbrev pub anything : List ℕ → Bool
 anything rest = true
 
--- the rule derives the value from the text, where bytes that `ends` passes stand behind it
+-- the rule derives the value from the text, if bytes that `ends` passes follow it
 pub record IsTextOf {F A : Type 0} (ends : List ℕ → Bool) (l : Rule F A) (text : List ℕ) (x : A) : Type 0 where
   pub derives : (line : ℕ) (rest : List ℕ) → ends rest ≡ true
       → (after : ℕ) × l.Derives (cut line 0 (text ++ rest)) x (cut after 0 rest)
 
--- what `c` asks of bytes holds behind `text`, where `d` holds of what follows it
+-- `c` holds of the bytes after `text`, if `d` holds of what follows it
 abbrev pub Leaves : (List ℕ → Bool) → List ℕ → (List ℕ → Bool) → Type 0
 Leaves c text d = (rest : List ℕ) → d rest ≡ true → c (text ++ rest) ≡ true
 
@@ -40,7 +40,7 @@ blank_text {l = l} {t = t} {x = x} b blank p =
           (q.0, rw (cut_blank line b (t ++ rest) blank) q.1);
     }
 
--- a separator behind it
+-- a separator after it
 pub blank_behind : {F A : Type 0} {l : Rule F A} {c : List ℕ → Bool} {s : List ℕ} {x : A} (b : ℕ)
     → is_blank b ≡ true
     → Leaves c (b ∷ []) anything → IsTextOf c l s x → IsTextOf anything l (s ++ b ∷ []) x
@@ -63,7 +63,7 @@ then_text f {s = s} {t = t} {x = x} p q leaves = record {
       (second.0, rw (append_assoc s t rest) (x, cut first.0 0 (t ++ rest), first.1, second.1));
 }
 
--- where the last part is nothing
+-- the last part is nothing
 pub last_text : {F A B : Type 0} {l : Rule F A} (f : A → Rule F B) {c : List ℕ → Bool} {s : List ℕ} {x : A}
     {y : B}
     → IsTextOf c l s x → IsTextOf anything (f x) [] y → IsTextOf c (both l f) s y
@@ -175,7 +175,7 @@ more_text {s = s} {t = t} p q leaves = record {
       (second.0, rw (append_assoc s t rest) (cut first.0 0 (t ++ rest), first.1, second.1));
 }
 
--- a part may stand behind another
+-- a part may follow another
 module _ {F X A : Type 0} (l : Rule F A) (text : X → List ℕ) (value : X → A) (c : List ℕ → Bool)
     (test : X → Bool)
     (each : (x : X) → test x ≡ true → IsTextOf c l (text x) (value x))

@@ -62,7 +62,7 @@ perhaps_yields l P Q p q h ts o rest f d = elim d [
 
 -- ---- the parts
 
--- where nothing is asked
+-- no condition
 abbrev pub Any : {A : Type 0} → A → Type 0
 Any a = Unit {0}
 
@@ -81,7 +81,7 @@ then_yields l f P Q p q = record {
       both_yields l.rule (λ a. (f a).rule) P Q p.yields (λ a h. (q a h).yields);
 }
 
--- behind a token of which nothing is asked
+-- after a token with no condition
 pub after_token : {F A B : Type 0} (p : Tok → Verdict F A) (f : A → Part F B) (Q : B → Type 0)
     → ((a : A) → Yields (f a) Q) → Yields (token p >>= f) Q
 after_token p f Q q = then_yields (token p) f Any Q (token_yields p Any (λ t a g e. tt)) (λ a h. q a)
@@ -141,7 +141,7 @@ skipped_yields k l p =
     then_yields (repeated k l) _ _ Any (repeated_yields k l (λ a. true)
     (record { yields = λ ts a rest f d. (refl, (p.yields ts a rest f d).1) })) (λ _ h. gives_yields tt Any tt)
 
--- behind parts of one kind, each of which has a head
+-- after parts of one kind that have a head each
 pub phased_yields : {F X P B : Type 0} (kh : Tok → Bool) (head : Part F X) (kf : Tok → Bool) (part : X → Part F P)
     (after_head : List P → X → Part F B) (no_head following : List P → Part F B) (R : X → Type 0)
     (test : P → Bool)

@@ -121,7 +121,7 @@ each_from_whole n check P [] f h = tt
 each_from_whole n check P (x ∷ xs) f h =
     (f n x (All-head P x xs h), each_from_whole (n + 1) check P xs f (All-tail P x xs h))
 
--- what a check asks of each item holds of all
+-- what a check requires of each item holds of all
 pub each-sound : {X : Type 0} (check : ℕ → X → Check) (P : X → Type 0) (xs : List X)
     → ((m : ℕ) (x : X) → (check m x).Holds → P x) → (each check xs).Holds → All P xs
 each-sound check P xs f h = each_from_sound 0 check P xs f h

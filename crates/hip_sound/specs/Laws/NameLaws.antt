@@ -1,4 +1,4 @@
--- Names that differ: what the checks ask and what soundness says.
+-- Names that differ: what the checks require and what soundness says.
 use Rattle.std.specs.Prelude.{ℕ, ◌+◌, ◌≡◌, List, [], ◌∷◌, ◌++◌, map, Some}
 use Rattle.std.specs.List.{flat_map}
 use Rattle.std.proofs.Common.{append_assoc, refl, sym, ap, subst, ◌∙◌, inl, inr, ⊎_elim}

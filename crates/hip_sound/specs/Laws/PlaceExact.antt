@@ -393,7 +393,7 @@ edges-decides fn block edges =
 
 -- ---- a place
 
--- each rule of places holds of what stands there
+-- each rule of places holds of what is there
 pub record ItemIsSound (P : Program) (fn : Function) (block : Block) (x : Item) : Type 0 where
   pub names : NamesExist P fn x
   pub fit : TypesFit x

@@ -1,4 +1,4 @@
--- The first field of a text, and what stands behind it.
+-- The first field of a text, and what stands after it.
 use Rattle.std.proofs.Common.{◌≡◌, ℕ, suc, ◌+◌, ◌<◌, ◌≤◌, Bool, true, false, not, cond, List, [], ◌∷◌, length, take, drop, refl, arith, add-one, None}
 use Rattle.std.specs.List.{slice_split, onto_first, prefix_len}
 use Rattle.std.specs.Prelude.{◌==◌}

@@ -82,7 +82,7 @@ pub parts_none : (xs : List ℕ) → list_any is_separator xs ≡ false → part
 parts_none [] e = refl
 parts_none (x ∷ xs) e = let h = first_none x xs e in rw (h.0, parts_none xs h.1) refl
 
--- the first part goes on behind a front that has no separator
+-- the first part goes on after a front that has no separator
 abbrev onto_part : List ℕ → List (List ℕ) → List (List ℕ)
 onto_part front [] = front ∷ []
 onto_part front (part ∷ more) = (front ++ part) ∷ more

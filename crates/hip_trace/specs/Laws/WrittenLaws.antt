@@ -1,4 +1,4 @@
--- Entries that are written one behind the other are read back.
+-- Entries that are written one after the other are read back.
 use Rattle.std.proofs.Common.{◌≡◌, ℕ, ℤ, pos, negsuc, suc, ◌/◌, ◌%◌, ◌^◌, ◌<◌, ◌≤◌, Bool, true, false, List, [], ◌∷◌, ◌++◌, map, Option, Some, slice_index, zero, refl, ap, ◌∙◌, arith, append_assoc, FitsSigned, w64}
 use Rattle.std.specs.Prelude.{codes, decimal, ◌==◌, All}
 use Rattle.std.specs.Char.{digit_value}

@@ -43,14 +43,14 @@ module _ {A : Type 0} (test : A → Bool) where
       ⊎_elim (λ t. (0, y, refl, t)) (λ f. let rest = any_found xs f in (suc rest.0, rest.1, rest.2, rest.3))
       (either _ _ e)
 
--- what stands in the front list, stands at the same place in the whole
+-- an item of the first list is at the same place in the whole
 pub get_kept : {A : Type 0} (xs ys : List A) (k : ℕ) (x : A) → slice_get xs k ≡ Some x
     → slice_get (xs ++ ys) k ≡ Some x
 get_kept [] ys k x e = cc
 get_kept (y ∷ xs) ys zero x e = e
 get_kept (y ∷ xs) ys (suc k) x e = get_kept xs ys k x e
 
--- an item stays where it stands
+-- an item keeps its place
 pub met-kept : {A : Type 0} (same : A → A → Bool) (xs ys : List A) (k : ℕ) (x : A) → slice_get xs k ≡ Some x
     → slice_get (met same xs ys) k ≡ Some x
 met-kept same xs [] k x e = e

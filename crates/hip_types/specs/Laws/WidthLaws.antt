@@ -1,4 +1,4 @@
--- Laws of widths: the number of bits tells them apart.
+-- Laws of widths: two widths with the same number of bits are equal.
 use Rattle.std.proofs.Common.{◌≡◌, true, false, refl}
 use Rattle.std.specs.Prelude.{◌==◌}
 use Rattle.hip_types.specs.Widths.{bits_of}

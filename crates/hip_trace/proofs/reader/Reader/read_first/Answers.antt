@@ -3,6 +3,7 @@ use Rattle.hip_trace.specs.Lines.{IsFirstLine}
 use Rattle.hip_trace.specs.Reads.{ReaderState, one_more}
 use Rattle.hip_trace.specs.declared.refusal.Progress.{Progress}
 use Rattle.hip_trace.proofs.FirstLines.{line_read, line_within}
+use Rattle.hip_trace.proofs.ReaderLaws.{takes_nothing}
 use Rattle.hip_trace.proofs.reader.Reader.read_first.Goals as goal
 
 pub pass-requires : goal.pass-requires
@@ -18,3 +19,6 @@ returns-in-Some-clause-reads g c =
     (subst (λ (h : List ℕ). IsFirstLine h line) (c.as_slice.ensures ∙ ap (λ (x : ReaderState). x.held) c.self.view_is) c.in-Some.ensures)
     c.requires.current
     (c.pass.ensures ∙ ap (λ (p : Progress). record { held = drop (line.len + 1) r.held; count = one_more r.count; progress = p }) c.requires.reading)
+
+pub returns-in-Some-clause-takes : goal.returns-in-Some-clause-takes
+returns-in-Some-clause-takes g c = takes_nothing c.args.self.now.held (g.C.Cabinet.state c.args.cabinet.now)

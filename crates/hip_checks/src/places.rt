@@ -1,0 +1,252 @@
+ghost use Rattle.std.specs.Prelude.{◌≡◌, [], IfOk};
+ghost use Rattle.hip_checks.specs.Seen.Answers.{Answers};
+ghost use Rattle.hip_sound.specs.Check.{each};
+ghost use Rattle.hip_checks.specs.Seen.InstrSeen.{instr_found};
+ghost use Rattle.hip_names.specs.Names.{Knows};
+ghost use Rattle.hip_checks.specs.Seen.PhiSeen.{phi_found};
+ghost use Rattle.hip_sound.specs.Places as spec;
+ghost use Rattle.hip_sound.specs.Rules.{phi_at, instr_at, block_check, function_check, places_check};
+ghost use Rattle.hip_checks.specs.Seen.TablesSeen.{DescribesProgram, DescribesFunction, scope_in};
+
+pub mod edges;
+pub mod ends;
+pub mod instrs;
+pub mod operands;
+pub mod targets;
+pub mod uses;
+
+use crate::places::edges::{edge_labels_known, edges_agree};
+use crate::places::ends::check_end;
+use crate::places::instrs::{callee_known, instr_agrees, written_fits};
+use crate::places::operands::{
+    edges_fit, edges_have_type, edges_known, uses_agree, uses_fit, uses_known,
+};
+use crate::places::uses::Uses;
+use crate::refused::{Refused, ask};
+use crate::rules::globals::names_of_globals;
+use crate::tables::callees::{CalleeTable, callees_of};
+use crate::tables::registers::{RegisterTable, registers_of};
+use crate::tables::{FunctionTables, ProgramTables, tables_of_function, tables_of_program};
+use hip_names::NameSet;
+use hip_sound::{Fault, Place};
+use hip_tree::{Block, Function, Instr, Phi, Program, Site};
+use std::alloc::Global;
+
+/// Checks an instruction: names exist, types that are written there fit, and types agree.
+pub fn check_instr(
+    registers: &RegisterTable<'_>,
+    globals: &NameSet<'_>,
+    callees: &CalleeTable<'_>,
+    instr: &Instr,
+    place: Place,
+) -> Result<(), Refused>
+    ensures { Answers result
+        (instr_found registers.now.names registers.now.values globals.now callees.now.names callees.now.values instr.now
+        place) }
+{
+    let uses = Uses::of_instr(instr);
+    ask(
+        uses_known(registers, globals, &uses) && callee_known(callees, instr),
+        Fault::Unknown,
+        place,
+    )?;
+    ask(
+        written_fits(instr) && uses_fit(&uses),
+        Fault::TooLarge,
+        place,
+    )?;
+    ask(
+        uses_agree(registers, &uses) && instr_agrees(callees, instr),
+        Fault::Mismatch,
+        place,
+    )
+}
+
+/// Checks a phi: names exist, types that are written there fit, types agree, and its edges are those of its block's
+/// predecessors.
+fn check_phi(
+    alloc: Global,
+    program: &ProgramTables<'_>,
+    function: &FunctionTables<'_>,
+    before: &NameSet<'_>,
+    phi: &Phi,
+    place: Place,
+) -> Result<(), Refused>
+    ensures { Answers result
+        (phi_found function.now.registers.names function.now.registers.values program.now.globals function.now.labels
+        before.now phi.now place) }
+{
+    let edges = phi.edges.as_slice();
+    ask(
+        edges_known(&function.registers, &program.globals, phi)
+            && edge_labels_known(&function.labels, edges),
+        Fault::Unknown,
+        place,
+    )?;
+    ask(edges_fit(phi), Fault::TooLarge, place)?;
+    ask(
+        edges_have_type(&function.registers, phi),
+        Fault::Mismatch,
+        place,
+    )?;
+    ask(edges_agree(alloc, before, edges)?, Fault::BadEdge, place)
+}
+
+/// Checks the phis of the block of that label.
+fn check_phis(
+    alloc: Global,
+    program: &ProgramTables<'_>,
+    function: &FunctionTables<'_>,
+    site: (usize, usize),
+    label: &[u8],
+    phis: &[Phi],
+) -> Result<(), Refused>
+    requires program { DescribesProgram program.now }
+    requires function { DescribesFunction function.now }
+    ensures { Answers result
+        (each (phi_at (scope_in program.now function.now) label.now site.0 site.1) phis.now).found }
+{
+    let nobody = NameSet::new(alloc);
+    let before = function.before.at(label, &nobody);
+    'phis: for index in 0..phis.len() {
+        let place = Place::Phi(Site {
+            function: site.0,
+            block: site.1,
+            index,
+        });
+        if let Err(refused) = check_phi(alloc, program, function, before, &phis[index], place) {
+            return Err(refused);
+        }
+    }
+    Ok(())
+}
+
+/// Checks the instructions of a block's body.
+fn check_body(
+    program: &ProgramTables<'_>,
+    function: &FunctionTables<'_>,
+    site: (usize, usize),
+    body: &[Instr],
+) -> Result<(), Refused>
+    requires program { DescribesProgram program.now }
+    requires function { DescribesFunction function.now }
+    ensures { Answers result (each (instr_at (scope_in program.now function.now) site.0 site.1) body.now).found }
+{
+    'body: for index in 0..body.len() {
+        let place = Place::Body(Site {
+            function: site.0,
+            block: site.1,
+            index,
+        });
+        if let Err(refused) = check_instr(
+            &function.registers,
+            &program.globals,
+            &program.callees,
+            &body[index],
+            place,
+        ) {
+            return Err(refused);
+        }
+    }
+    Ok(())
+}
+
+/// Checks a block: its phis, its body, its end.
+fn check_block(
+    alloc: Global,
+    program: &ProgramTables<'_>,
+    function: &FunctionTables<'_>,
+    site: (usize, usize),
+    block: &Block,
+) -> Result<(), Refused>
+    requires program { DescribesProgram program.now }
+    requires function { DescribesFunction function.now }
+    ensures { Answers result (block_check (scope_in program.now function.now) site.0 site.1 block.now).found }
+{
+    check_phis(
+        alloc,
+        program,
+        function,
+        site,
+        block.label.as_slice(),
+        block.phis.as_slice(),
+    )?;
+    check_body(program, function, site, block.body.as_slice())?;
+    let place = Place::End {
+        function: site.0,
+        block: site.1,
+    };
+    check_end(
+        alloc,
+        &function.registers,
+        &program.globals,
+        &function.labels,
+        function.function,
+        &block.end,
+        place,
+    )
+}
+
+/// Checks the blocks of a function.
+fn check_blocks(
+    alloc: Global,
+    program: &ProgramTables<'_>,
+    function: &FunctionTables<'_>,
+    number: usize,
+    blocks: &[Block],
+) -> Result<(), Refused>
+    requires program { DescribesProgram program.now }
+    requires function { DescribesFunction function.now }
+    ensures { Answers result (each (block_check (scope_in program.now function.now) number) blocks.now).found }
+{
+    'each_block: for block in 0..blocks.len() {
+        if let Err(refused) = check_block(
+            alloc,
+            program,
+            function,
+            (number, block),
+            &blocks[block],
+        ) {
+            return Err(refused);
+        }
+    }
+    Ok(())
+}
+
+/// Checks the places of a function.
+fn check_function(
+    alloc: Global,
+    program: &ProgramTables<'_>,
+    number: usize,
+    function: &Function,
+) -> Result<(), Refused>
+    requires { DescribesProgram program.now }
+    ensures { Answers result (function_check program.now.program.now number function.now).found }
+{
+    let tables = tables_of_function(alloc, function)?;
+    check_blocks(alloc, program, &tables, number, function.blocks.as_slice())
+}
+
+fn check_functions(
+    alloc: Global,
+    program: &ProgramTables<'_>,
+    functions: &[Function],
+) -> Result<(), Refused>
+    requires { DescribesProgram program.now }
+    ensures { Answers result (each (function_check program.now.program.now) functions.now).found }
+{
+    'functions: for number in 0..functions.len() {
+        if let Err(refused) = check_function(alloc, program, number, &functions[number]) {
+            return Err(refused);
+        }
+    }
+    Ok(())
+}
+
+/// Checks each place of each function.
+pub fn check_places(alloc: Global, program: &Program) -> Result<(), Refused>
+    ensures { Answers result (places_check program.now).found }
+{
+    let tables = tables_of_program(alloc, program)?;
+    check_functions(alloc, &tables, program.functions.as_slice())
+}

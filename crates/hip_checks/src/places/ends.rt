@@ -1,0 +1,95 @@
+ghost use Rattle.std.specs.Prelude.{◌≡◌, IfOk};
+ghost use Rattle.hip_checks.specs.Seen.Answers.{Answers};
+ghost use Rattle.hip_checks.specs.Seen.EndSeen.{end_found};
+ghost use Rattle.hip_sound.specs.Places as places;
+
+use crate::places::operands::{uses_agree, uses_fit, uses_known};
+use crate::places::targets::{Targets, targets_known, targets_name_entry};
+use crate::places::uses::Uses;
+use crate::refused::{Refused, ask};
+use crate::rules::externs::is_same_scalar;
+use crate::tables::registers::RegisterTable;
+use hip_names::NameSet;
+use hip_sound::{Fault, Place};
+use hip_tree::{Arg, Case, End, Function};
+use hip_types::{NoMemory, Scalar};
+use indexmap::IndexSet;
+use std::alloc::Global;
+
+fn returned_agrees(arg: &Option<Arg>, ret: Option<Scalar>) -> bool
+    ensures { result ≡ places.returned_agrees arg.now ret }
+{
+    match (arg, ret) {
+        (Some(arg), Some(ret)) => is_same_scalar(arg.ty, ret),
+        (None, None) => true,
+        _ => false,
+    }
+}
+
+/// Whether what a function's block returns has the type of the function's result.
+fn end_agrees(ret: Option<Scalar>, end: &End) -> bool
+    ensures { result ≡ places.returns ret end.now }
+{
+    match end {
+        End::Ret(arg) => returned_agrees(arg, ret),
+        _ => true,
+    }
+}
+
+/// Whether the values of cases differ, the width of a value being part of it.
+fn cases_differ(alloc: Global, cases: &[Case]) -> Result<bool, NoMemory>
+    ensures { IfOk result (λ differ. differ ≡ places.cases_differ cases.now) }
+{
+    let mut earlier = IndexSet::new(alloc);
+    'each: for case in cases {
+        let is_new = earlier.insert((case.value.width.bits(), case.value.value))?;
+        if !is_new {
+            return Ok(false);
+        }
+    }
+    Ok(true)
+}
+
+fn end_cases_differ(alloc: Global, end: &End) -> Result<bool, NoMemory>
+    ensures { IfOk result (λ differ. differ ≡ places.cases_differ (places.end_cases end.now)) }
+{
+    match end {
+        End::Switch { cases, .. } => cases_differ(alloc, cases.as_slice()),
+        _ => Ok(true),
+    }
+}
+
+/// Checks the end of a block: names exist, types that are written there fit, types agree, the values of cases differ,
+/// and no branch goes to the entry block.
+pub fn check_end(
+    alloc: Global,
+    registers: &RegisterTable<'_>,
+    globals: &NameSet<'_>,
+    labels: &NameSet<'_>,
+    function: &Function,
+    end: &End,
+    place: Place,
+) -> Result<(), Refused>
+    ensures { Answers result
+        (end_found registers.now.names registers.now.values globals.now labels.now function.now end.now place) }
+{
+    let uses = Uses::of_end(end);
+    let targets = Targets::of_end(end);
+    ask(
+        uses_known(registers, globals, &uses) && targets_known(labels, &targets),
+        Fault::Unknown,
+        place,
+    )?;
+    ask(uses_fit(&uses), Fault::TooLarge, place)?;
+    ask(
+        uses_agree(registers, &uses) && end_agrees(function.ret, end),
+        Fault::Mismatch,
+        place,
+    )?;
+    ask(end_cases_differ(alloc, end)?, Fault::Duplicate, place)?;
+    ask(
+        !targets_name_entry(function.blocks.as_slice(), &targets),
+        Fault::BadEdge,
+        place,
+    )
+}

@@ -1,0 +1,18 @@
+ghost use Rattle.std.specs.Prelude.{◌≡◌};
+ghost use Rattle.hip_globals.specs.Addresses.{OwnTypesFit};
+ghost use Rattle.hip_checks.specs.Seen.Answers.{Answers};
+ghost use Rattle.hip_sound.specs.Rules.{sizes_check};
+
+use crate::refused::{Refused, ask};
+use hip_globals::are_within_limits;
+use hip_sound::{Fault, Place};
+use hip_tree::Program;
+
+/// The region and the volatile globals are not too large.
+pub fn check_sizes(program: &Program) -> Result<(), Refused>
+    requires { OwnTypesFit program.now.globals }
+    ensures { Answers result (sizes_check program.now).found }
+{
+    let fit = are_within_limits(program.globals.as_slice());
+    ask(fit, Fault::TooLarge, Place::Whole)
+}

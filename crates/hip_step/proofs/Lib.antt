@@ -1,4 +1,0 @@
-pub mod Told
-pub mod Runs
-pub mod StartStands
-pub mod Rooms

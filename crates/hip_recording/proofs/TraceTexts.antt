@@ -153,10 +153,10 @@ module _ {P : Program} {I : Input} {old mid new : SinkState} where
   pub not_delivered : {done : Ended} → HasPutTrace P I old mid done → AppendsPrefix mid new [] → HasFailedRecording P I old new
   not_delivered p q = record { trace = p.trace; is_trace = p.is_trace; written = fails_to_deliver p.written q }
 
-  pub ran_out : (refusal : RecordRefusal) → HasStoppedRecording P I old mid → EndsOutOfMemory mid new refusal → StopsRecording P I old new refusal
-  ran_out NoMemory p q = record { front = p.front; missing = p.missing; is_trace = p.is_trace; written = delivers p.written q }
-  ran_out WriteFault p q = record {
-    trace = p.front ++ p.missing;
-    is_trace = p.is_trace;
-    written = part_of_more p.front p.missing (fails_to_deliver p.written q);
-  }
+pub ran_out : {P : Program} {I : Input} {old mid : SinkState} (new : SinkState) (refusal : RecordRefusal) → HasStoppedRecording P I old mid → EndsOutOfMemory mid new refusal → StopsRecording P I old new refusal
+ran_out {P} {I} {old} {mid} new NoMemory p q = record { front = p.front; missing = p.missing; is_trace = p.is_trace; written = delivers p.written q }
+ran_out {P} {I} {old} {mid} new WriteFault p q = record {
+  trace = p.front ++ p.missing;
+  is_trace = p.is_trace;
+  written = part_of_more p.front p.missing (fails_to_deliver p.written q);
+}

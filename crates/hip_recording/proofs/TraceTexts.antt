@@ -1,6 +1,6 @@
 -- The entries that are written after some steps are a prefix of the run's trace.
 use Rattle.std.proofs.Common.{◌≡◌, ℕ, suc, ◌+◌, ◌^◌, ◌<◌, List, [], ◌++◌, length, Option, Some, None, is_some, length-append, append-nil, refl, sym, ap, ◌∙◌, subst, arith}
-use Rattle.std.specs.Prelude.{Ok, Err, if◌then◌else◌}
+use Rattle.std.specs.Prelude.{if◌then◌else◌}
 use Rattle.std.proofs.lemmas.Grind.{flat_map-append}
 use Rattle.hip_tree.specs.declared.program.Program.{Program}
 use Rattle.hip_io.specs.Laws.SinkLaws.{prefix_of_more, writes_nothing}

@@ -132,3 +132,6 @@ impl<W: Write + Drop> Sink for Stream<W> {
         self.send()
     }
 }
+
+#[cfg(test)]
+mod tests;

@@ -126,11 +126,11 @@ module _ {P : Program} {I : Input} {old mid new : SinkState} where
   pub not_delivered : {ending : Ending} → HasPrinted P I old mid ending → AppendsPrefix mid new [] → HasFailed P I old new
   not_delivered {ending} p q = record { text = p.text; ending = ending; printed = p.printed; written = fails_to_deliver p.written q }
 
-  pub ran_out : (refusal : RecordRefusal) → HasStopped P I old mid → EndsOutOfMemory mid new refusal → Prints P I old new (Err refusal)
-  ran_out NoMemory p q = record { front = p.front; missing = p.missing; ending = p.ending; printed = p.printed; written = delivers p.written q }
-  ran_out WriteFault p q = record {
-    text = p.front ++ p.missing;
-    ending = p.ending;
-    printed = p.printed;
-    written = prefix_of_more old new p.front p.missing (fails_to_deliver p.written q);
-  }
+pub ran_out : {P : Program} {I : Input} {old mid : SinkState} (new : SinkState) (refusal : RecordRefusal) → HasStopped P I old mid → EndsOutOfMemory mid new refusal → Prints P I old new (Err refusal)
+ran_out {P} {I} {old} {mid} new NoMemory p q = record { front = p.front; missing = p.missing; ending = p.ending; printed = p.printed; written = delivers p.written q }
+ran_out {P} {I} {old} {mid} new WriteFault p q = record {
+  text = p.front ++ p.missing;
+  ending = p.ending;
+  printed = p.printed;
+  written = prefix_of_more old new p.front p.missing (fails_to_deliver p.written q);
+}

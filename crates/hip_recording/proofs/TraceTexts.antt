@@ -1,6 +1,6 @@
 -- The entries that are written after some steps are a prefix of the run's trace.
 use Rattle.std.proofs.Common.{◌≡◌, ℕ, suc, ◌+◌, ◌^◌, ◌<◌, List, [], ◌++◌, length, Option, Some, None, is_some, length-append, append-nil, refl, sym, ap, ◌∙◌, subst, arith}
-use Rattle.std.specs.Prelude.{Ok, Err, if◌then◌else◌}
+use Rattle.std.specs.Prelude.{if◌then◌else◌}
 use Rattle.std.proofs.lemmas.Grind.{flat_map-append}
 use Rattle.hip_tree.specs.declared.program.Program.{Program}
 use Rattle.hip_io.specs.Laws.SinkLaws.{prefix_of_more, writes_nothing}
@@ -153,10 +153,10 @@ module _ {P : Program} {I : Input} {old mid new : SinkState} where
   pub not_delivered : {done : Ended} → HasPutTrace P I old mid done → AppendsPrefix mid new [] → HasFailedRecording P I old new
   not_delivered p q = record { trace = p.trace; is_trace = p.is_trace; written = fails_to_deliver p.written q }
 
-  pub ran_out : (refusal : RecordRefusal) → HasStoppedRecording P I old mid → EndsOutOfMemory mid new refusal → StopsRecording P I old new refusal
-  ran_out NoMemory p q = record { front = p.front; missing = p.missing; is_trace = p.is_trace; written = delivers p.written q }
-  ran_out WriteFault p q = record {
-    trace = p.front ++ p.missing;
-    is_trace = p.is_trace;
-    written = part_of_more p.front p.missing (fails_to_deliver p.written q);
-  }
+pub ran_out : {P : Program} {I : Input} {old mid : SinkState} (new : SinkState) (refusal : RecordRefusal) → HasStoppedRecording P I old mid → EndsOutOfMemory mid new refusal → StopsRecording P I old new refusal
+ran_out {P} {I} {old} {mid} new NoMemory p q = record { front = p.front; missing = p.missing; is_trace = p.is_trace; written = delivers p.written q }
+ran_out {P} {I} {old} {mid} new WriteFault p q = record {
+  trace = p.front ++ p.missing;
+  is_trace = p.is_trace;
+  written = part_of_more p.front p.missing (fails_to_deliver p.written q);
+}

@@ -8,7 +8,7 @@ use Rattle.hip_recording.proofs.record.record_run.Goals as goal
 
 pub returns-in-Err-clause-records : goal.returns-in-Err-clause-records
 returns-in-Err-clause-records g c =
-    ran_out c.out_of_memory.result (stopped_first c.args.checked.now c.args.input.now (g.S.Sink.state c.args.out.now)) c.out_of_memory.ensures
+    ran_out (g.S.Sink.state c.out_of_memory.new.out) c.out_of_memory.result (stopped_first c.args.checked.now c.args.input.now (g.S.Sink.state c.args.out.now)) c.out_of_memory.ensures
 
 pub record_steps-requires-clause-counted : goal.record_steps-requires-clause-counted
 record_steps-requires-clause-counted g c = c.in-Ok-put_header.ensures.count ∙ ap (λ m. length (header_of m.input)) (sym c.in-Ok.ensures)
@@ -18,5 +18,5 @@ returns-in-Ok-put_header-clause-records g c =
     (subst (λ m. (start : SinkState) → AppendsAll start (g.S.Sink.state c.put_header.new.out) (lines_of (header_of m.input)) → Records m.program m.input start (g.S.Sink.state c.record_steps.new.out) c.record_steps.result) c.in-Ok.ensures c.record_steps.ensures.records)
     (g.S.Sink.state c.args.out.now) c.in-Ok-put_header.ensures.wrote
 
-pub returns-clause-records : goal.returns-clause-records
-returns-clause-records g c = header_failed c.args.checked.now c.args.input.now (g.S.Sink.state c.args.out.now) (g.S.Sink.state c.put_header.new.out) c.in-Err-put_header.ensures.wrote
+pub returns-in-Err-put_header-clause-records : goal.returns-in-Err-put_header-clause-records
+returns-in-Err-put_header-clause-records g c = header_failed c.args.checked.now c.args.input.now (g.S.Sink.state c.args.out.now) (g.S.Sink.state c.put_header.new.out) c.in-Err-put_header.ensures.wrote

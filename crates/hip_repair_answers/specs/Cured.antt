@@ -23,7 +23,7 @@ repaired_for P found = repaired P (plan_for P found) (direct P)
 -- What a repair by a plan does, whose clones do not flush the stores to skip. On every valid input the repaired
 -- program prints the same and reaches the same memory at corresponding steps, and it leaves no crash image that was not
 -- possible there before. On this input every byte is durable where it is checked. Under a hoisted call every store is
--- durable after the fence behind the call. The repaired program is sound, and its canonical text reads as it. What is
+-- durable after the fence after the call. The repaired program is sound, and its canonical text reads as it. What is
 -- durable survives a crash, no crash history is added, and all this lasts through later repairs.
 pub record IsCuredBy (P : Program) (I : Input) (plan : Plan) (skip : Site → Bool) : Type 0 where
   pub harmless : IsHarmless P plan skip

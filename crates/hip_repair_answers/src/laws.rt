@@ -33,7 +33,7 @@ pub fn plans_cure()
         IsCuredBy P I plan skip }
 {}
 
-/// Where the files are told, two answers on them are the same, unless one of them is a read fault.
+/// Where the files are known, two answers on them are the same, unless one of them is a read fault.
 pub fn answers_are_one()
     ensures check { GivesOne HasChecked }
     ensures repair { GivesOne HasRepaired }

@@ -27,7 +27,7 @@ pub data Outcome : Type 0 where
   CutShort : Outcome
   RanOut : Outcome
 
--- A command is carried out also where its run trapped or was cut. Each other status but a write fault and want of
+-- A command is carried out also where its run trapped or was cut. Each other status but a write fault and out of
 -- memory is that of a refusal.
 abbrev pub outcome_of : Status → Outcome
 outcome_of Done = CarriedOut

@@ -8,5 +8,6 @@ pub mod SameLaws
 pub mod Statuses
 pub mod Traces
 pub mod TraceFiles
+pub mod TraceLaws
 pub mod RunAnswers
 pub mod RunLaws

@@ -41,7 +41,7 @@ kind_word kinds.Differs = codes "differs"
 kind_word kinds.Early = codes "early"
 kind_word kinds.Extra = codes "extra"
 
--- the words for the rule of soundness that is broken; the path that shows an unassigned register is not told
+-- the words for the rule of soundness that is broken; the path that shows an unassigned register is left out
 abbrev pub fault_words : TypeFault → List ℕ
 fault_words fault.BadShape = codes "shape"
 fault_words fault.Duplicate = codes "duplicate"
@@ -69,7 +69,7 @@ place_text (place.Phi s) = block_text s.function s.block ++ codes " phi " ++ dec
 place_text (place.Body s) = block_text s.function s.block ++ codes " index " ++ decimal s.index
 place_text (place.End f b) = block_text f b ++ codes " end"
 
--- the word for why the text of a program is refused; a status has no refusal for want of memory
+-- the word for why the text of a program is refused; no status has the refusal out of memory
 abbrev pub parse_word : ParseRefusal → List ℕ
 parse_word (parse.Syntax line) = codes "syntax"
 parse_word (parse.Unsupported line) = codes "unsupported"
@@ -77,7 +77,7 @@ parse_word (parse.Range line) = codes "range"
 parse_word (parse.TooDeep line) = codes "depth"
 parse_word parse.NoMemory = codes "out of memory"
 
--- the line of the refused token, counted from 1; 0 for want of memory, which is in no status
+-- the line of the refused token, counted from 1; 0 for out of memory, which is in no status
 abbrev pub parse_line : ParseRefusal → ℕ
 parse_line (parse.Syntax line) = line
 parse_line (parse.Unsupported line) = line
@@ -111,7 +111,7 @@ misfit_in_text trace entry word =
 abbrev pub no_entry_text : ℕ → List ℕ
 no_entry_text entries = codes "hippo: no entry: " ++ decimal entries ++ codes " entries\n"
 
--- the number of the pick that fails, counted from 1; 0 for want of memory, which is in no status
+-- the number of the pick that fails, counted from 1; 0 for out of memory, which is in no status
 abbrev pub pick_number : PickRefusal → ℕ
 pick_number (picks.NoLine at) = at
 pick_number (picks.Repeated at) = at

@@ -14,7 +14,7 @@ use Rattle.hip_answers.specs.RunAnswers.{TraceAnswers}
 use Rattle.hip_runs.specs.declared.input.Input.{Input}
 use Rattle.hip_runs.specs.declared.report.Findings.{Findings}
 
--- where the files are told, two answers on them are the same, unless one of them is a read fault
+-- where the files are known, two answers on them are the same, unless one of them is a read fault
 abbrev pub GivesOne : (Program → Input → Findings → Answer → Type 0) → Type 0
 GivesOne Texts = (p t : List ℕ) → AreOne (λ old new answer. TraceAnswers Texts old new p t answer)
 

@@ -20,7 +20,7 @@ pub record IsSameAnswer (a b : Answer) : Type 0 where
   pub out : a.out ≡ b.out
   pub notes : a.notes ≡ b.notes
 
--- where the files are told, two answers by a table are the same, unless one of them is a read fault
+-- where the files are known, two answers by a table are the same, unless one of them is a read fault
 abbrev pub AreOne : (CabinetState → CabinetState → Answer → Type 0) → Type 0
 AreOne table =
     (files : List NamedFile) (old new other other_new : CabinetState) (a b : Answer) → old.files ≡ Some files

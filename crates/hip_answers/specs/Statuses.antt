@@ -31,7 +31,7 @@ status_of_refusal loads.Missing = statuses.Missing roles.Program
 status_of_refusal loads.TooLarge = statuses.TooLarge
 status_of_refusal (loads.Bad refusal) = statuses.BadProgram refusal
 
--- the status of a program that is not loaded: why it is refused, a read fault, or want of memory
+-- the status of a program that is not loaded: why it is refused, a read fault, or out of memory
 abbrev pub status_of_failure : Failure LoadRefusal → Status
 status_of_failure (failures.Refused refusal) = status_of_refusal refusal
 status_of_failure failures.ReadFault = statuses.ReadFault

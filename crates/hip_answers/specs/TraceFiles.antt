@@ -8,11 +8,11 @@ use Rattle.hip_io.specs.Cabinets.{CabinetState, file_of}
 use Rattle.hip_io.specs.declared.cabinet.NamedFile.{NamedFile}
 use Rattle.hip_tree.specs.declared.program.Program.{Program}
 use Rattle.hip_program_files.specs.Loading.{IsProgramOf}
-use Rattle.hip_program_files.specs.Outside.{HasMet}
+use Rattle.hip_program_files.specs.Outside.{CountsFetches, HasMet}
 use Rattle.hip_program_files.specs.declared.failure.Failure.{Failure}
 use Rattle.hip_program_files.specs.declared.failure.Failure.TheVariants as failures
-use Rattle.hip_answers.specs.declared.refusal.TraceRefusal.{TraceRefusal}
-use Rattle.hip_answers.specs.declared.refusal.TraceRefusal.TheVariants as traces
+use Rattle.hip_answers.specs.declared.refusal.TraceFileRefusal.{TraceFileRefusal}
+use Rattle.hip_answers.specs.declared.refusal.TraceFileRefusal.TheVariants as traces
 use Rattle.hip_run_traces.specs.Misfits.{IsMisfit, IsTraceOf}
 use Rattle.hip_run_traces.specs.declared.misfit.MisfitKind.{MisfitKind}
 use Rattle.hip_runs.specs.declared.input.Input.{Input}
@@ -32,7 +32,8 @@ pub record IsMisfitFile (files : List NamedFile) (name : List ℕ) (P : Program)
   pub found : file_of files name ≡ Some bytes
   pub misfit : IsMisfit P bytes true entry kind
 
--- Some bytes of the file were taken, and the rest is left. Those that were taken show no misfit, whatever follows.
+-- Some bytes of the file were taken, and the rest is left. The bytes that were taken show no misfit, whatever follows
+-- them.
 pub record ShowsNoMisfit (files : List NamedFile) (name : List ℕ) (P : Program)
     (rest : Option (List ℕ)) : Type 0 where
   pub taken : List ℕ
@@ -41,25 +42,37 @@ pub record ShowsNoMisfit (files : List NamedFile) (name : List ℕ) (P : Program
   pub rest_is : rest ≡ Some left
   pub none : (entry : ℕ) → (kind : MisfitKind) → IsMisfit P taken false entry kind → ⊥
 
+-- The file is the current one, and some of it was taken. Those bytes show no misfit: if they show one, that is the
+-- answer.
+pub record IsReadInPart (files : Option (List NamedFile)) (name : List ℕ) (P : Program) (new : CabinetState) : Type 0
+  where
+    pub current : new.is_current ≡ true
+    pub named : IfSome new.name (λ n. n ≡ name)
+    pub taken : IfSome files (λ fs. ShowsNoMisfit fs name P new.rest)
+
+-- the trace could not be fetched, and no file is current; or a read of it failed
+abbrev pub FailsToRead : Option (List NamedFile) → List ℕ → Program → CabinetState → Type 0
+FailsToRead files name P new = (new.is_current ≡ false) ⊎ IsReadInPart files name P new
+
 -- ---- refusals
 
 -- why the file is no trace of a run of the program
-abbrev pub HasNoTrace : Option (List NamedFile) → List ℕ → Program → TraceRefusal → Type 0
+abbrev pub HasNoTrace : Option (List NamedFile) → List ℕ → Program → TraceFileRefusal → Type 0
 HasNoTrace files name P traces.Missing = IfSome files (λ fs. file_of fs name ≡ None)
 HasNoTrace files name P (traces.Misfit entry kind) = IfSome files (λ fs. IsMisfitFile fs name P entry kind)
 
 -- whether the refusal is that no file has the name of the trace
-abbrev pub is_missing : TraceRefusal → Bool
+abbrev pub is_missing : TraceFileRefusal → Bool
 is_missing traces.Missing = true
 is_missing (traces.Misfit entry kind) = false
 
 -- the status that says why the one trace of a command is none of a run
-abbrev pub status_of_refusal : TraceRefusal → Status
+abbrev pub status_of_refusal : TraceFileRefusal → Status
 status_of_refusal traces.Missing = statuses.Missing roles.Trace
 status_of_refusal (traces.Misfit entry kind) = statuses.Misfit entry kind
 
--- the status of a trace that is not loaded: why it is refused, a read fault, or want of memory
-abbrev pub status_of_trace : Failure TraceRefusal → Status
+-- the status of a trace that is not loaded: why it is refused, a read fault, or out of memory
+abbrev pub status_of_trace : Failure TraceFileRefusal → Status
 status_of_trace (failures.Refused why) = status_of_refusal why
 status_of_trace failures.ReadFault = statuses.ReadFault
 status_of_trace failures.NoMemory = statuses.NoMemory
@@ -70,18 +83,19 @@ status_of_trace failures.NoMemory = statuses.NoMemory
 pub record IsUntraced (old new : CabinetState) (program_name trace_name : List ℕ) (answer : Answer) : Type 0 where
   pub program : Program
   pub loaded : IsProgramOf old.files program_name program
-  pub why : TraceRefusal
+  pub why : TraceFileRefusal
   pub met : HasMet (is_missing why) false old new
   pub cause : HasNoTrace old.files trace_name program why
   pub is : answer ≡ refusal (status_of_refusal why)
 
--- The program is there, and the trace could not be fetched, or it could not be read to its end and the bytes that were
--- taken show no misfit: if they show one, that is the answer.
+-- The program is there, and the trace could not be fetched, or could not be read to its end. The program and the trace
+-- were fetched once each, so the bytes of the trace that were taken are those of one reading.
 pub record IsTraceUnread (old new : CabinetState) (program_name trace_name : List ℕ) (answer : Answer) : Type 0 where
   pub program : Program
   pub loaded : IsProgramOf old.files program_name program
   pub met : HasMet false true old new
-  pub taken : (new.is_current ≡ false) ⊎ IfSome old.files (λ fs. ShowsNoMisfit fs trace_name program new.rest)
+  pub fetches : CountsFetches 2 old new
+  pub unread : FailsToRead old.files trace_name program new
   pub is : answer ≡ refusal statuses.ReadFault
 
 -- what a command answers that has a program and no trace of a run of it

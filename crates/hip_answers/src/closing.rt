@@ -16,7 +16,7 @@ pub fn refuse<N: Sink>(notes: &mut N, status: Status) -> Status
     status
 }
 
-/// What is answered when the text for the notes was tried behind that for the output: the status, or a write fault,
+/// What is answered when the text for the notes was tried after that for the output: the status, or a write fault,
 /// whose line is then tried.
 pub fn finish<N: Sink>(notes: &mut N, tried: Put, status: Status) -> Status
     ensures { Finishes tried status (N.state notes.old) (N.state notes.new) result }

@@ -7,7 +7,7 @@ use hip_run_traces::MisfitKind;
 
 /// Why a file is no trace of a run of a program.
 #[derive(Clone, Copy, Debug, PartialEq, Eq)]
-pub enum TraceRefusal {
+pub enum TraceFileRefusal {
     /// There is no such file.
     Missing,
     /// This is the first entry, numbered from 1, that is not the run's.
@@ -15,14 +15,17 @@ pub enum TraceRefusal {
 }
 
 /// The status of a trace that is not loaded.
-pub fn status_of_trace(failure: Failure<TraceRefusal>) -> Status
+pub fn status_of_trace(failure: Failure<TraceFileRefusal>) -> Status
     ensures { result ≡ status_of_trace failure }
 {
     match failure {
-        Failure::Refused(TraceRefusal::Missing) => Status::Missing {
+        Failure::Refused(TraceFileRefusal::Missing) => Status::Missing {
             file: FileRole::Trace,
         },
-        Failure::Refused(TraceRefusal::Misfit { entry, kind }) => Status::Misfit { entry, kind },
+        Failure::Refused(TraceFileRefusal::Misfit { entry, kind }) => Status::Misfit {
+            entry,
+            kind,
+        },
         Failure::ReadFault => Status::ReadFault,
         Failure::NoMemory => Status::NoMemory,
     }

@@ -55,11 +55,11 @@ pub enum Status {
         entry: u128,
         kind: MisfitKind,
     },
-    /// The trace has no entry of the number that was asked for; it has so many.
+    /// The trace has this number of entries, fewer than the one that was asked for, or entry 0 was asked for.
     NoEntry {
         entries: u128,
     },
-    /// This is how the first of the picks that fails does; never for want of memory.
+    /// This is how the first of the picks that fails does; never out of memory.
     BadPick {
         refusal: PickRefusal,
     },

@@ -17,7 +17,7 @@ use Rattle.hip_runs.specs.Seen.{Seen, after_step, state_of}
 abbrev pub steps_ahead : Program → Input → ℕ → ℕ
 steps_ahead P I n = (runs_end P I).0 - n
 
--- the run has taken so many steps, and before each of them it had fewer entries
+-- the run has taken n steps, and before each of them it had fewer entries
 pub record IsBefore (P : Program) (I : Input) (entry : ℕ) (m : Seen) : Type 0 where
   pub program : m.program ≡ P
   pub input : m.input ≡ I

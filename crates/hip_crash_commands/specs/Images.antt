@@ -22,13 +22,13 @@ use Rattle.hip_trace.specs.declared.entry.Entry.{Entry}
 
 -- ---- entries
 
--- the trace of the run has so many entries
+-- the trace of the run has n entries
 pub record HasEntries (P : Program) (I : Input) (entries : ℕ) : Type 0 where
   pub trace : List Entry
   pub is_trace : IsTrace P I trace
   pub many : entries ≡ length trace
 
--- the trace of the run has so many entries, and none of that number, counted from 1
+-- the trace of the run has `entries` entries, and none of that number, counted from 1
 pub record LacksEntry (P : Program) (I : Input) (entry entries : ℕ) : Type 0 where
   pub counted : HasEntries P I entries
   pub outside : (entry ≡ 0) ⊎ (entries < entry)
@@ -41,7 +41,7 @@ pub record HasEntry (P : Program) (I : Input) (entry : ℕ) : Type 0 where
   pub there : entry ≤ entries
 
 -- The trace has an entry of that number, and the run stands in this state at it: after the least number of steps with
--- so many entries, those before the first step among them.
+-- n entries, those before the first step among them.
 pub record StandsAt (P : Program) (I : Input) (entry : ℕ) (s : State) : Type 0 where
   pub has : HasEntry P I entry
   pub steps : ℕ
@@ -87,12 +87,12 @@ status_of_image (failures.Refused why) = status_of_refusal why
 status_of_image failures.ReadFault = statuses.ReadFault
 status_of_image failures.NoMemory = statuses.NoMemory
 
--- a refusal of picks, which may be want of memory
+-- a refusal of picks, which may be out of memory
 abbrev pub failure_of_picks : PickRefusal → Failure ImageRefusal
 failure_of_picks picks.NoMemory = failures.NoMemory
 failure_of_picks why = failures.Refused (images.BadPick why)
 
--- what picking an image at an entry answers; want of memory is free
+-- what picking an image at an entry answers; out of memory may come anywhere
 abbrev pub PicksImage : Program → Input → ℕ → List Pick → Result (List ℕ) (Failure ImageRefusal) → Type 0
 PicksImage P I entry ps (Ok content) = HasImage P I entry ps content
 PicksImage P I entry ps (Err (failures.Refused why)) = HasNoImage P I entry ps why

@@ -13,7 +13,7 @@ use Rattle.hip_answers.specs.RunLaws.{FaultsHideNone, GivesOne}
 use Rattle.hip_answers.specs.TraceFiles.{IsTraceFile}
 use Rattle.hip_runs.specs.declared.input.Input.{Input}
 
--- where the files are told, two answers on them are the same, unless one of them is a read fault
+-- where the files are known, two answers on them are the same, unless one of them is a read fault
 abbrev pub CrashesAreOne : Type 0
 CrashesAreOne = (entry : ℕ) → (picks : List Pick) → GivesOne (CrashTexts entry picks)
 

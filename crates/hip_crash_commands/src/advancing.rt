@@ -6,7 +6,7 @@ use hip_crash::CrashLog;
 use hip_engine::Machine;
 use hip_types::NoMemory;
 
-/// Takes the steps of a run up to the first state with so many entries, and notes them.
+/// Takes the steps of a run up to the first state with n entries, and notes them.
 pub(crate) fn advance_to<'a>(
     log: &mut CrashLog<'a>,
     machine: &mut Machine<'a>,

@@ -4,7 +4,7 @@ ghost use Rattle.hip_crash_commands.specs.Laws.{CrashFaultsHideNone, CrashesAreA
 
 use hip_crash::fitting_picks_give_images;
 
-/// Where the files are told, `crash` has one answer on them, but for read faults.
+/// Where the files are known, `crash` has one answer on them, but for read faults.
 pub fn crashes_are_one()
     ensures { CrashesAreOne }
 {}

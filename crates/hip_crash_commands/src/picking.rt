@@ -14,7 +14,7 @@ use hip_step::Begin;
 use hip_types::Row;
 use std::alloc::Global;
 
-/// The image that picks give at an entry of a run's trace, which has so many entries.
+/// The image that picks give at an entry of a run's trace, which has `entries` entries.
 pub(crate) fn image_at(
     alloc: Global,
     checked: &Checked,

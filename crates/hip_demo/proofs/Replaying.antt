@@ -9,7 +9,7 @@ use Rattle.hip_tree.specs.declared.program.Program.{Program}
 use Rattle.hip_lockstep.specs.Refusals.{HasMisfit}
 use Rattle.hip_following.specs.Replaying.{HasReplayed}
 use Rattle.hip_following.specs.declared.compared.Replayed.{Replayed}
-use Rattle.hip_run_traces.specs.Headers.{Gives}
+use Rattle.hip_answers.specs.TraceLaws.{one_input}
 use Rattle.hip_run_traces.specs.Misfits.{IsMisfit, IsTraceOf}
 use Rattle.hip_run_traces.specs.Traces.{IsTrace}
 use Rattle.hip_run_traces.specs.declared.misfit.MisfitKind.{MisfitKind}
@@ -61,10 +61,6 @@ replayed_whole one P text r old new replayed rest h =
 
 -- ---- the input
 
-same_input : (P : Program) (text : List ℕ) (I J : Input) → IsTraceOf P text I → IsTraceOf P text J → I ≡ J
-same_input P text I J t u =
-    let both : Gives t.entries I ≡ Gives u.entries J = sym t.header_is ∙ u.header_is in cc
-
 pub trace_of_kept : (P : Program) (I : Input) (kept : Kept)
     → ((es : List Entry) → IsTrace P I es → IsTraceOf P (lines_of es) I) → spec.HasKept P I kept
     → IsTraceOf P kept.text I
@@ -73,7 +69,7 @@ trace_of_kept P I kept reads k = subst (λ text. IsTraceOf P text I) (sym k.text
 pub found_again : (P : Program) (I : Input) (text : List ℕ) (replayed : Replayed) → IsTraceOf P text I
     → spec.HasReplayed P text replayed → spec.HasFound P I replayed
 found_again P I text replayed traced h =
-    let same = same_input P text replayed.input I h.traced traced in
+    let same = one_input P text replayed.input I h.traced traced in
     record {
       input_is = same;
       found = subst (λ J. IsFound P J replayed.findings) same h.found;

@@ -8,11 +8,10 @@ ghost use Rattle.hip_runs.specs.Validity.{IsInput, IsValid};
 
 use crate::generated::load_generated;
 use crate::replayed::{Kept, keep_run, replay_text};
-use hip_fix::apply;
 use hip_following::Replayed;
 use hip_gen::{LARGEST_SIZE, SEED_END};
-use hip_plan::plan;
 use hip_repair_answers::repairs_cure;
+use hip_repairing::{Repair, repair_for};
 use hip_repairs::{Plan, inputs_stay_valid};
 use hip_run_traces::{each_run_has_one_trace, written_traces_are_read_back};
 use hip_runs::{DEFAULT_LIMIT, Input, first_input};
@@ -57,8 +56,7 @@ fn mend(alloc: Global, checked: &Checked, replayed: Replayed) -> Result<Shown, N
     inputs_stay_valid();
     repairs_cure();
     let _program = checked.program();
-    let plan = plan(alloc, checked, &replayed.findings)?;
-    let repaired = apply(alloc, checked, &plan)?;
+    let Repair { plan, repaired } = repair_for(alloc, checked, &replayed.findings)?;
     let rerun = keep_run(alloc, &repaired.checked, &replayed.input)?;
     Ok(Shown {
         entries: replayed.entries,

@@ -1,8 +1,7 @@
 -- What came of many traces, as answers of `many`.
-use Rattle.std.proofs.Common.{◌≡◌, ◌⊎◌, ℕ, false, List, length, Option, Err, inl, inr, refl, sym, ap, ◌∙◌, subst}
+use Rattle.std.proofs.Common.{◌≡◌, ℕ, false, List, length, Option, Err, inl, inr, refl, sym, ap, ◌∙◌, subst}
 use Rattle.std.proofs.lemmas.List.{length-map}
 use Rattle.std.specs.List.{All}
-use Rattle.std.specs.Prelude.{IfSome}
 use Rattle.hip_answers.specs.Answers.{Answer, Finishes, HasAnswered, PutsLine, Refused, Sinks, outcome_of}
 use Rattle.hip_answers.specs.Laws as answers
 use Rattle.hip_answers.specs.declared.status.Status.{Status}
@@ -14,30 +13,28 @@ use Rattle.hip_io.specs.declared.sink.Put.{Put}
 use Rattle.hip_io.specs.declared.sink.Put.TheVariants as puts
 use Rattle.hip_grammar.specs.Show.{show}
 use Rattle.hip_tree.specs.declared.program.Program.{Program}
-use Rattle.hip_program_files.specs.Laws.{met_then}
+use Rattle.hip_program_files.specs.Laws.{fetches_then, met_then}
 use Rattle.hip_program_files.specs.Loading.{IsProgramOf}
-use Rattle.hip_program_files.specs.Outside.{HasMet}
+use Rattle.hip_program_files.specs.Outside.{CountsFetches, HasMet}
 use Rattle.hip_program_files.specs.declared.failure.Failure.{Failure}
 use Rattle.hip_program_files.specs.declared.failure.Failure.TheVariants as failures
 use Rattle.hip_many.specs.declared.reason.Reason.{Reason}
 use Rattle.hip_many_commands.specs.Asking.{AsksAll, HasAskedAll, status_of_traces}
 use Rattle.hip_many_commands.specs.Many.{HasRepairedMany, ManyAnswers, status_in}
 use Rattle.hip_many_commands.specs.Notes.{many_notes}
-use Rattle.hip_many_commands.specs.Repairing.{IsRepairBy}
+use Rattle.hip_repairing.specs.Making.{IsRepairForAll}
 use Rattle.hip_many_commands.specs.Runs.{AreRunsOf, ComesBehindRuns, TracedRun, plans_of, reports_of}
 use Rattle.hip_many_commands.specs.declared.loading.AllAsked.{AllAsked}
 use Rattle.hip_many_commands.specs.declared.refusal.NumberedRefusal.{NumberedRefusal}
-use Rattle.hip_many_commands.specs.declared.repairing.ManyRepair.{ManyRepair}
+use Rattle.hip_repairing.specs.declared.many_runs.ManyRepair.{ManyRepair}
 use Rattle.hip_repair_answers.specs.Cured.{IsCuredBy}
-use Rattle.hip_answers.specs.TraceFiles.{HasNoTrace, ShowsNoMisfit}
-use Rattle.hip_answers.specs.declared.refusal.TraceRefusal.{TraceRefusal}
-use Rattle.hip_answers.specs.declared.refusal.TraceRefusal.TheVariants as traces
+use Rattle.hip_answers.specs.TraceFiles.{FailsToRead, HasNoTrace}
+use Rattle.hip_answers.specs.declared.refusal.TraceFileRefusal.{TraceFileRefusal}
+use Rattle.hip_answers.specs.declared.refusal.TraceFileRefusal.TheVariants as traces
 use Rattle.hip_repairs.specs.CloneNumbers.{clone_numbers}
 use Rattle.hip_repairs.specs.Direct.{direct}
 use Rattle.hip_repairs.specs.declared.plan.CloneOf.{CloneOf}
 use Rattle.hip_trace_loading.specs.Runs.{AnswersOnRun}
-
--- ---- no program
 
 -- ---- a trace that is none
 
@@ -48,7 +45,7 @@ first_behind {files} {other} {P} {names} {number} {name} same b =
     subst (λ (fs : Option (List NamedFile)). ComesBehindRuns fs P names number name) same b
 
 module _ {old mid new : CabinetState} {p : List ℕ} {names : List (List ℕ)} (P : Program) (met : HasMet false false old mid)
-    (program : IsProgramOf old.files p P) where
+    (program : IsProgramOf old.files p P) (fetched : CountsFetches 1 old mid) where
   pub untraced : (s : Sinks) (failure : Failure NumberedRefusal) → AsksAll P names mid new (Err failure)
       → s.out_new ≡ s.out → PutsLine (status_of_traces failure) s.notes s.notes_new
       → HasAnswered (ManyAnswers old new p names) false old new s (status_of_traces failure)
@@ -66,7 +63,7 @@ module _ {old mid new : CabinetState} {p : List ℕ} {names : List (List ℕ)} (
         is = refl;
       })))) kept line
     where
-      is_refused : (why : TraceRefusal) → outcome_of (status_in refusal.number why) ≡ Refused
+      is_refused : (why : TraceFileRefusal) → outcome_of (status_in refusal.number why) ≡ Refused
       is_refused traces.Missing = refl
       is_refused (traces.Misfit entry kind) = refl
   untraced s failures.ReadFault h kept line =
@@ -76,11 +73,9 @@ module _ {old mid new : CabinetState} {p : List ℕ} {names : List (List ℕ)} (
         number = h.number;
         name = h.name;
         behind = first_behind met.files h.behind;
-        met = met_then met h.failed.met;
-        current = h.failed.current;
-        taken =
-            subst (λ (fs : Option (List NamedFile)). (new.is_current ≡ false)
-            ⊎ IfSome fs (λ files. ShowsNoMisfit files h.name P new.rest)) met.files h.failed.taken;
+        met = met_then met h.met;
+        fetches = fetches_then 1 h.number fetched h.fetches;
+        unread = subst (λ (fs : Option (List NamedFile)). FailsToRead fs h.name P new) met.files h.unread;
         is = refl;
       }))))) kept line
   untraced s failures.NoMemory h kept line = answers.ran_out s (met_then met h) kept line
@@ -107,40 +102,40 @@ many_runs files P names runs are =
 
 -- ---- one repair
 
-module _ (P : Program) (runs : List TracedRun) (traces reports : ℕ) (repair : ManyRepair)
-    (many : traces ≡ length runs) (total : reports ≡ reports_of runs) (by : IsRepairBy P (plans_of P runs) repair)
-    (cured : All (λ r. IsCuredBy P r.input repair.plan (direct P)) runs) (s : Sinks) where
+module _ (P : Program) (runs : List TracedRun) (traces reports : ℕ) (made : ManyRepair)
+    (many : traces ≡ length runs) (total : reports ≡ reports_of runs) (by : IsRepairForAll P (plans_of P runs) made)
+    (cured : All (λ r. IsCuredBy P r.input made.repair.plan (direct P)) runs) (s : Sinks) where
   -- how many traces there are, what `repair` writes, and the reasons
   abbrev pub counts : List ℕ
-  counts = many_notes P traces reports repair.plan (length repair.repaired.clones) repair.reasons
+  counts = many_notes P traces reports made.repair.plan (length made.repair.repaired.clones) made.reasons
 
   -- the answer of `many`: the repaired program, and the notes
   abbrev answer : Answer
-  answer = record { status = statuses.Done; out = show repair.repaired.checked; notes = counts }
+  answer = record { status = statuses.Done; out = show made.repair.repaired.checked; notes = counts }
 
   row : HasRepairedMany P runs answer
   row = record {
-    plan = repair.plan;
+    plan = made.repair.plan;
     union = by.union;
     status_is = refl;
-    out_is = ap show by.program_is;
+    out_is = ap show by.repair.program_is;
     notes_is =
-        ap (λ n. many_notes P n reports repair.plan (length repair.repaired.clones) repair.reasons) many
-        ∙ ap (λ n. many_notes P (length runs) n repair.plan (length repair.repaired.clones) repair.reasons) total
-        ∙ ap (λ (cs : List CloneOf). many_notes P (length runs) (reports_of runs) repair.plan (length cs)
-        repair.reasons) by.clones_are
-        ∙ ap (λ (rs : List Reason). many_notes P (length runs) (reports_of runs) repair.plan
-        (length (clone_numbers P repair.plan)) rs) by.reasons_are;
+        ap (λ n. many_notes P n reports made.repair.plan (length made.repair.repaired.clones) made.reasons) many
+        ∙ ap (λ n. many_notes P (length runs) n made.repair.plan (length made.repair.repaired.clones) made.reasons) total
+        ∙ ap (λ (cs : List CloneOf). many_notes P (length runs) (reports_of runs) made.repair.plan (length cs)
+        made.reasons) by.repair.clones_are
+        ∙ ap (λ (rs : List Reason). many_notes P (length runs) (reports_of runs) made.repair.plan
+        (length (clone_numbers P made.repair.plan)) rs) by.reasons_are;
     cured = cured;
   }
 
   pub repaired : (tried : Put) (cut : SinkState) (result : Status)
-      → AppendsAll s.out s.out_new (show repair.repaired.checked) → Writes puts.Done tried s.notes cut counts
+      → AppendsAll s.out s.out_new (show made.repair.repaired.checked) → Writes puts.Done tried s.notes cut counts
       → Finishes tried statuses.Done cut s.notes_new result → AnswersOnRun (HasRepairedMany P runs) false s result
   repaired tried cut result out notes f old new met =
       answers.finished s answer tried cut result row refl out notes.how f
 
-  pub repaired_part : AppendsPrefix s.out s.out_new (show repair.repaired.checked)
+  pub repaired_part : AppendsPrefix s.out s.out_new (show made.repair.repaired.checked)
       → PutsLine statuses.WriteFault s.notes s.notes_new
       → AnswersOnRun (HasRepairedMany P runs) false s statuses.WriteFault
   repaired_part out line old new met = answers.cut_out s answer row refl out line

@@ -1,30 +1,30 @@
 -- Traces that are loaded one after the other.
-use Rattle.std.proofs.Common.{◌≡◌, ◌⊎◌, ◌<◌, ◌+◌, ℕ, suc, false, List, [], ◌∷◌, ◌++◌, length, take, drop, get_or, Option, Err, sym, ap, ◌∙◌, subst, arith}
+use Rattle.std.proofs.Common.{◌≡◌, ◌<◌, ◌+◌, ℕ, suc, false, List, [], ◌∷◌, ◌++◌, length, take, drop, get_or, Option, Err, sym, ap, ◌∙◌, subst, arith}
 use Rattle.std.proofs.Math.Seq.{drop-cons}
 use Rattle.std.proofs.lemmas.List.{length-take-le, map-append, take-append-drop, take_more}
 use Rattle.std.proofs.lemmas.List.Elements.{All-append, All-cons, All-nil}
-use Rattle.std.specs.Prelude.{IfSome}
 use Rattle.hip_io.specs.Cabinets.{CabinetState}
 use Rattle.hip_io.specs.declared.cabinet.NamedFile.{NamedFile}
 use Rattle.hip_tree.specs.declared.program.Program.{Program}
-use Rattle.hip_program_files.specs.Laws.{met_then}
-use Rattle.hip_program_files.specs.Outside.{HasMet}
+use Rattle.hip_program_files.specs.Laws.{fetches_then, met_then}
+use Rattle.hip_program_files.specs.Outside.{CountsFetches, HasMet}
 use Rattle.hip_program_files.specs.declared.failure.Failure.{Failure}
 use Rattle.hip_program_files.specs.declared.failure.Failure.TheVariants as failures
 use Rattle.hip_many_commands.specs.Asking.{Asks, AsksAll, HasAsked, numbered}
 use Rattle.hip_many_commands.specs.Runs.{AreRunsOf, ComesBehindRuns, IsRunOf, TracedRun, plans_of, reports_of}
 use Rattle.hip_many_commands.specs.declared.loading.Asked.{Asked}
-use Rattle.hip_answers.specs.TraceFiles.{HasNoTrace, ShowsNoMisfit}
-use Rattle.hip_answers.specs.declared.refusal.TraceRefusal.{TraceRefusal}
+use Rattle.hip_answers.specs.TraceFiles.{FailsToRead, HasNoTrace}
+use Rattle.hip_answers.specs.declared.refusal.TraceFileRefusal.{TraceFileRefusal}
 use Rattle.hip_repairs.specs.Choice.{plan_for}
 use Rattle.hip_repairs.specs.declared.plan.Plan.{Plan}
 
--- The first traces, so many of them, are those of runs, and this is what the runs ask for.
+-- The first `count` traces are those of runs, and this is what the runs ask for.
 pub record HasAskedSome (P : Program) (names : List (List ℕ)) (start : CabinetState) (count : ℕ) (plans : List Plan)
     (reports : ℕ) (now : CabinetState) : Type 0 where
   pub runs : List TracedRun
   pub are : AreRunsOf start.files P (take count names) runs
   pub met : HasMet false false start now
+  pub fetches : CountsFetches count start now
   pub plans_are : plans ≡ plans_of P runs
   pub reports_are : reports ≡ reports_of runs
 
@@ -69,6 +69,7 @@ module _ {P : Program} {names : List (List ℕ)} {start mid : CabinetState} {cou
         (runs_more start.files P (take count names) some.runs h.run some.are
         (of_files mid.files start.files some.met.files h.is));
     met = met_then some.met h.met;
+    fetches = fetches_then count 1 some.fetches h.fetches;
     plans_are =
         ap (λ (ps : List Plan). ps ++ asked.plan ∷ []) some.plans_are
         ∙ ap (λ (p : Plan). plans_of P some.runs ++ p ∷ []) h.plan_is
@@ -80,7 +81,7 @@ module _ {P : Program} {names : List (List ℕ)} {start mid : CabinetState} {cou
         omega (arith, more, first, one);
   }
 
-  -- it comes behind the runs
+  -- it comes after the runs
   pub behind_runs : (number : ℕ) → number ≡ count + 1 → ComesBehindRuns start.files P names number name
   behind_runs number same = record {
     before = take count names;
@@ -94,7 +95,7 @@ module _ {P : Program} {names : List (List ℕ)} {start mid : CabinetState} {cou
     are = some.are;
   }
 
-  pub lacked : (new : CabinetState) (number : ℕ) (failure : Failure TraceRefusal) → number ≡ count + 1
+  pub lacked : (new : CabinetState) (number : ℕ) (failure : Failure TraceFileRefusal) → number ≡ count + 1
       → Asks P name mid new (Err failure) → AsksAll P names start new (Err (numbered number failure))
   lacked new number (failures.Refused why) same h = record {
     name = name;
@@ -106,12 +107,9 @@ module _ {P : Program} {names : List (List ℕ)} {start mid : CabinetState} {cou
     number = number;
     name = name;
     behind = behind_runs number same;
-    failed = record {
-      met = met_then some.met h.met;
-      current = h.current;
-      taken =
-          subst (λ (fs : Option (List NamedFile)). (new.is_current ≡ false)
-          ⊎ IfSome fs (λ told. ShowsNoMisfit told name P new.rest)) some.met.files h.taken;
-    };
+    met = met_then some.met h.met;
+    fetches =
+        subst (λ (n : ℕ). CountsFetches n start new) (sym same) (fetches_then count 1 some.fetches h.fetches);
+    unread = subst (λ (fs : Option (List NamedFile)). FailsToRead fs name P new) some.met.files h.unread;
   }
   lacked new number failures.NoMemory same h = met_then some.met h

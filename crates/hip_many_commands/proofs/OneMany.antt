@@ -7,11 +7,11 @@ use Rattle.hip_answers.specs.Same.{IsSameAnswer}
 use Rattle.hip_answers.specs.SameLaws.{same_answer, same_refusal}
 use Rattle.hip_answers.specs.Statuses as programs
 use Rattle.hip_answers.specs.declared.status.Status.TheVariants as statuses
-use Rattle.hip_io.specs.Cabinets.{CabinetState, file_of}
+use Rattle.hip_io.specs.Cabinets.{CabinetState}
 use Rattle.hip_io.specs.declared.cabinet.NamedFile.{NamedFile}
 use Rattle.hip_grammar.specs.Show.{show}
 use Rattle.hip_tree.specs.declared.program.Program.{Program}
-use Rattle.hip_program_files.specs.Laws.OneAnswer.{loads_one, not_there, same_bytes}
+use Rattle.hip_program_files.specs.Laws.OneAnswer.{loads_one}
 use Rattle.hip_program_files.specs.Laws.{LoadsOne}
 use Rattle.hip_program_files.specs.Loading.{HasNoProgram, IsProgramOf}
 use Rattle.hip_program_files.specs.declared.refusal.LoadRefusal.{LoadRefusal}
@@ -22,86 +22,20 @@ use Rattle.hip_many_commands.specs.Many.{HasRepairedMany, ManyAnswers, status_in
 use Rattle.hip_repairs.specs.Direct.{direct}
 use Rattle.hip_repairs.specs.Repaired.{repaired}
 use Rattle.hip_many_commands.specs.Notes.{many_notes}
+use Rattle.hip_many_commands.specs.RunLaws.{heads, one_runs, tails}
 use Rattle.hip_many_commands.specs.Runs.{AreRunsOf, ComesBehindRuns, IsRunOf, TracedRun, plans_of, reports_of}
 use Rattle.hip_repair_answers.specs.Laws.Repairs.{answer_is}
 use Rattle.hip_answers.specs.TraceFiles.{HasNoTrace, IsTraceFile}
-use Rattle.hip_answers.specs.declared.refusal.TraceRefusal.{TraceRefusal}
-use Rattle.hip_answers.specs.declared.refusal.TraceRefusal.TheVariants as traces
+use Rattle.hip_answers.specs.TraceLaws.{never_both, untraced_once}
+use Rattle.hip_answers.specs.declared.refusal.TraceFileRefusal.{TraceFileRefusal}
+use Rattle.hip_answers.specs.declared.refusal.TraceFileRefusal.TheVariants as traces
 use Rattle.hip_repairs.specs.CloneNumbers.{clone_numbers}
 use Rattle.hip_repairs.specs.declared.plan.Plan.{Plan}
-use Rattle.hip_run_traces.specs.Headers.{Gives}
-use Rattle.hip_run_traces.specs.Laws.MisfitLaws.{no-misfit, one-misfit}
-use Rattle.hip_run_traces.specs.Misfits.{IsMisfit, IsTraceOf}
-use Rattle.hip_run_traces.specs.declared.misfit.MisfitKind.{MisfitKind}
-use Rattle.hip_runs.specs.Found.Marks.{IsFound}
-use Rattle.hip_runs.specs.Laws.Found.FoundLaws.{found_is_one}
 use Rattle.hip_runs.specs.declared.input.Input.{Input}
 
--- ---- what is in a file
-
-heads : {A : Type 0} (x y : A) (xs ys : List A) → x ∷ xs ≡ y ∷ ys → x ≡ y
-heads x y xs ys e = cc
-
-tails : {A : Type 0} (x y : A) (xs ys : List A) → x ∷ xs ≡ y ∷ ys → xs ≡ ys
-tails x y xs ys e = cc
-
--- ---- each file is the trace of one run, or of none for one reason
+-- ---- the first that is no trace of a run
 
 module _ (files : List NamedFile) (P : Program) where
-  untraced_once : (t : List ℕ) (why other : TraceRefusal) → HasNoTrace (Some files) t P why
-      → HasNoTrace (Some files) t P other → why ≡ other
-  untraced_once t traces.Missing traces.Missing h k = refl
-  untraced_once t traces.Missing (traces.Misfit e k) h m = absurd (not_there (file_of files t) m.bytes m.found h)
-  untraced_once t (traces.Misfit e k) traces.Missing m h = absurd (not_there (file_of files t) m.bytes m.found h)
-  untraced_once t (traces.Misfit e k) (traces.Misfit e' k') m n =
-      let bytes = same_bytes (file_of files t) n.bytes m.bytes n.found m.found in
-      let same =
-      one-misfit P m.bytes true e e' k k' m.misfit (subst (λ bs. IsMisfit P bs true e' k') bytes n.misfit) in
-      made same.0 same.1
-    where
-      made : {x y : ℕ} {u v : MisfitKind} → x ≡ y → u ≡ v → traces.Misfit x u ≡ traces.Misfit y v
-      made a b = cc
-
-  never_both : (t : List ℕ) (why : TraceRefusal) (I : Input) → HasNoTrace (Some files) t P why
-      → IsTraceFile files t P I → ⊥
-  never_both t traces.Missing I h d = not_there (file_of files t) d.bytes d.found h
-  never_both t (traces.Misfit e k) I m d =
-      let bytes = same_bytes (file_of files t) m.bytes d.bytes m.found d.found in
-      no-misfit P d.bytes I e k d.trace (subst (λ bs. IsMisfit P bs true e k) bytes m.misfit)
-
-  same_input : (bytes : List ℕ) (I J : Input) → IsTraceOf P bytes I → IsTraceOf P bytes J → I ≡ J
-  same_input bytes I J t u = let k : Gives t.entries I ≡ Gives u.entries J = sym t.header_is ∙ u.header_is in cc
-
-  same_trace : (t : List ℕ) (I J : Input) → IsTraceFile files t P I → IsTraceFile files t P J → I ≡ J
-  same_trace t I J d e =
-      let bytes = same_bytes (file_of files t) e.bytes d.bytes e.found d.found in
-      same_input d.bytes I J d.trace (subst (λ bs. IsTraceOf P bs J) bytes e.trace)
-
-  one_run : (r q : TracedRun) → r.name ≡ q.name → IsRunOf (Some files) P r → IsRunOf (Some files) P q → r ≡ q
-  one_run r q named x y =
-      let input = same_trace q.name r.input q.input
-      (subst (λ (n : List ℕ). IsTraceFile files n P r.input) named x.traced) y.traced in
-      let found = found_is_one P q.input r.found q.found
-      (subst (λ (I : Input). IsFound P I r.found) input x.found_is) y.found_is in
-      λ i. record { name = named i; input = input i; found = found i }
-
-  one_list : (rs qs : List TracedRun) → map (λ (r : TracedRun). r.name) rs ≡ map (λ (r : TracedRun). r.name) qs
-      → All (IsRunOf (Some files) P) rs → All (IsRunOf (Some files) P) qs → rs ≡ qs
-  one_list [] [] e h k = refl
-  one_list [] (q ∷ qs) e h k = absurd (let z : ⊥ = cc in z)
-  one_list (r ∷ rs) [] e h k = absurd (let z : ⊥ = cc in z)
-  one_list (r ∷ rs) (q ∷ qs) e h k =
-      let is = IsRunOf (Some files) P in
-      let first = one_run r q (heads r.name q.name _ _ e) (All-head is r rs h) (All-head is q qs k) in
-      let rest = one_list rs qs (tails r.name q.name _ _ e) (All-tail is r rs h) (All-tail is q qs k) in
-      λ i. first i ∷ rest i
-
-  one_runs : (names : List (List ℕ)) (rs qs : List TracedRun) → AreRunsOf (Some files) P names rs
-      → AreRunsOf (Some files) P names qs → rs ≡ qs
-  one_runs names rs qs x y = one_list rs qs (x.named ∙ sym y.named) x.each y.each
-
-  -- ---- the first that is none
-
   -- The file of that name is the trace of a run of the program.
   pub record IsTraced (name : List ℕ) : Type 0 where
     input : Input
@@ -118,10 +52,10 @@ module _ (files : List NamedFile) (P : Program) where
   all_traced : (names : List (List ℕ)) (rs : List TracedRun) → AreRunsOf (Some files) P names rs → All IsTraced names
   all_traced names rs are = subst (λ (ns : List (List ℕ)). All IsTraced ns) are.named (traced_list rs are.each)
 
-  apart : (name : List ℕ) (why : TraceRefusal) → HasNoTrace (Some files) name P why → IsTraced name → ⊥
-  apart name why h t = never_both name why t.input h t.is
+  apart : (name : List ℕ) (why : TraceFileRefusal) → HasNoTrace (Some files) name P why → IsTraced name → ⊥
+  apart name why h t = never_both files name P why t.input h t.is
 
-  among : (before behind : List (List ℕ)) (name : List ℕ) (why : TraceRefusal) → HasNoTrace (Some files) name P why
+  among : (before behind : List (List ℕ)) (name : List ℕ) (why : TraceFileRefusal) → HasNoTrace (Some files) name P why
       → All IsTraced (before ++ name ∷ behind) → ⊥
   among [] behind name why h all = apart name why h (All-head IsTraced name behind all)
   among (x ∷ xs) behind name why h all = among xs behind name why h (All-tail IsTraced x (xs ++ name ∷ behind) all)
@@ -131,7 +65,7 @@ module _ (files : List NamedFile) (P : Program) where
     pub fronts : before ≡ before'
     pub names : name ≡ name'
 
-  one_place : (before before' behind behind' : List (List ℕ)) (name name' : List ℕ) (why why' : TraceRefusal)
+  one_place : (before before' behind behind' : List (List ℕ)) (name name' : List ℕ) (why why' : TraceFileRefusal)
       → HasNoTrace (Some files) name P why → HasNoTrace (Some files) name' P why' → All IsTraced before
       → All IsTraced before' → before ++ name ∷ behind ≡ before' ++ name' ∷ behind'
       → SamePlace before before' name name'
@@ -150,7 +84,7 @@ module _ (files : List NamedFile) (P : Program) where
       (tails x y (xs ++ name ∷ behind) (ys ++ name' ∷ behind') e) in
       record { fronts = (λ i. first i ∷ later.fronts i); names = later.names }
 
--- ---- the answers on files that are told
+-- ---- the answers on files that are known
 
 pub record Unloaded (files : List NamedFile) (p : List ℕ) (a : Answer) : Type 0 where
   why : LoadRefusal
@@ -163,7 +97,7 @@ pub record Untraced (files : List NamedFile) (p : List ℕ) (names : List (List 
   number : ℕ
   name : List ℕ
   behind : ComesBehindRuns (Some files) program names number name
-  why : TraceRefusal
+  why : TraceFileRefusal
   cause : HasNoTrace (Some files) name program why
   is : a ≡ refusal (status_in number why)
 
@@ -235,7 +169,7 @@ module _ (unions : UnionsAreOne) (files : List NamedFile) (p : List ℕ) (names 
       let place = one_place files P u.behind.before behind.before u.behind.behind behind.behind u.name v.name u.why v.why
       u.cause cause (all_traced files P u.behind.before u.behind.runs u.behind.are)
       (all_traced files P behind.before behind.runs behind.are) (sym u.behind.names_are ∙ behind.names_are) in
-      let why = untraced_once files P v.name u.why v.why
+      let why = untraced_once files v.name P u.why v.why
       (subst (λ (n : List ℕ). HasNoTrace (Some files) n P u.why) place.names u.cause) cause in
       let number : u.number ≡ v.number =
       u.behind.number_is ∙ ap (λ (ns : List (List ℕ)). suc (length ns)) place.fronts ∙ sym behind.number_is in

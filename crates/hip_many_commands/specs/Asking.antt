@@ -4,7 +4,7 @@ use Rattle.hip_answers.specs.declared.status.Status.{Status}
 use Rattle.hip_answers.specs.declared.status.Status.TheVariants as statuses
 use Rattle.hip_io.specs.Cabinets.{CabinetState}
 use Rattle.hip_tree.specs.declared.program.Program.{Program}
-use Rattle.hip_program_files.specs.Outside.{HasMet}
+use Rattle.hip_program_files.specs.Outside.{CountsFetches, HasMet}
 use Rattle.hip_program_files.specs.declared.failure.Failure.{Failure}
 use Rattle.hip_program_files.specs.declared.failure.Failure.TheVariants as failures
 use Rattle.hip_many_commands.specs.Many.{status_in}
@@ -12,8 +12,8 @@ use Rattle.hip_many_commands.specs.Runs.{AreRunsOf, ComesBehindRuns, IsRunOf, Tr
 use Rattle.hip_many_commands.specs.declared.loading.AllAsked.{AllAsked}
 use Rattle.hip_many_commands.specs.declared.loading.Asked.{Asked}
 use Rattle.hip_many_commands.specs.declared.refusal.NumberedRefusal.{NumberedRefusal}
-use Rattle.hip_answers.specs.TraceFiles.{HasNoTrace, is_missing}
-use Rattle.hip_answers.specs.declared.refusal.TraceRefusal.{TraceRefusal}
+use Rattle.hip_answers.specs.TraceFiles.{FailsToRead, HasNoTrace, is_missing}
+use Rattle.hip_answers.specs.declared.refusal.TraceFileRefusal.{TraceFileRefusal}
 use Rattle.hip_repairs.specs.Choice.{plan_for}
 use Rattle.hip_trace_loading.specs.Loading.{HasFailedTrace}
 
@@ -25,11 +25,12 @@ pub record HasAsked (P : Program) (name : List ℕ) (old new : CabinetState) (as
   pub named : run.name ≡ name
   pub is : IsRunOf old.files P run
   pub met : HasMet false false old new
+  pub fetches : CountsFetches 1 old new
   pub plan_is : asked.plan ≡ plan_for P run.found
   pub reports_are : asked.reports ≡ length run.found.reports
 
--- what loading a trace and planning for its run answers; want of memory is free
-abbrev pub Asks : Program → List ℕ → CabinetState → CabinetState → Result Asked (Failure TraceRefusal)
+-- what loading a trace and planning for its run answers; out of memory may come anywhere
+abbrev pub Asks : Program → List ℕ → CabinetState → CabinetState → Result Asked (Failure TraceFileRefusal)
     → Type 0
 Asks P name old new (Ok asked) = HasAsked P name old new asked
 Asks P name old new (Err (failures.Refused why)) =
@@ -60,14 +61,16 @@ pub record LacksTraceIn (P : Program) (names : List (List ℕ)) (old new : Cabin
   pub met : HasMet (is_missing refusal.why) false old new
   pub cause : HasNoTrace old.files name P refusal.why
 
--- The first of the files that could not be read shows no misfit in what was taken of it.
+-- The file of this number, after traces of runs, could not be fetched, or could not be read to its end.
 pub record HasFailedIn (P : Program) (names : List (List ℕ)) (old new : CabinetState) : Type 0 where
   pub number : ℕ
   pub name : List ℕ
   pub behind : ComesBehindRuns old.files P names number name
-  pub failed : HasFailedTrace P name old new
+  pub met : HasMet false true old new
+  pub fetches : CountsFetches number old new
+  pub unread : FailsToRead old.files name P new
 
--- what loading all traces and planning for their runs answers; want of memory is free
+-- what loading all traces and planning for their runs answers; out of memory may come anywhere
 abbrev pub AsksAll : Program → List (List ℕ) → CabinetState → CabinetState
     → Result AllAsked (Failure NumberedRefusal) → Type 0
 AsksAll P names old new (Ok asked) = HasAskedAll P names old new asked
@@ -78,12 +81,12 @@ AsksAll P names old new (Err failures.NoMemory) = HasMet false false old new
 -- ---- refusals
 
 -- a refusal of the trace of that number
-abbrev pub numbered : ℕ → Failure TraceRefusal → Failure NumberedRefusal
+abbrev pub numbered : ℕ → Failure TraceFileRefusal → Failure NumberedRefusal
 numbered number (failures.Refused why) = failures.Refused (record { number = number; why = why })
 numbered number failures.ReadFault = failures.ReadFault
 numbered number failures.NoMemory = failures.NoMemory
 
--- the status where not every trace is loaded: why the first such one is refused, a read fault, or want of memory
+-- the status where not every trace is loaded: why the first such one is refused, a read fault, or out of memory
 abbrev pub status_of_traces : Failure NumberedRefusal → Status
 status_of_traces (failures.Refused refusal) = status_in refusal.number refusal.why
 status_of_traces failures.ReadFault = statuses.ReadFault

@@ -12,7 +12,7 @@ use Rattle.hip_many_commands.specs.Many.{ManyAnswers}
 use Rattle.hip_many_commands.specs.Runs.{AreRunsOf, TracedRun}
 use Rattle.hip_answers.specs.TraceFiles.{ShowsNoMisfit}
 
--- where the files are told, two answers on them are the same, unless one of them is a read fault
+-- where the files are known, two answers on them are the same, unless one of them is a read fault
 abbrev pub ManyAreOne : Type 0
 ManyAreOne = (p : List ℕ) → (names : List (List ℕ))
     → AreOne (λ old new answer. ManyAnswers old new p names answer)

@@ -2,5 +2,5 @@ pub mod Asking
 pub mod Laws
 pub mod Many
 pub mod Notes
-pub mod Repairing
+pub mod RunLaws
 pub mod Runs

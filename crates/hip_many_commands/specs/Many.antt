@@ -1,5 +1,5 @@
 -- The answers of `many`.
-use Rattle.std.specs.Prelude.{ℕ, ◌≡◌, ◌⊎◌, false, true, List, length, IfSome}
+use Rattle.std.specs.Prelude.{ℕ, ◌+◌, ◌≡◌, ◌⊎◌, false, true, List, length}
 use Rattle.std.specs.List.{All}
 use Rattle.hip_answers.specs.Answers.{Answer, refusal}
 use Rattle.hip_answers.specs.Programs.{IsUnloaded, IsUnread}
@@ -10,15 +10,15 @@ use Rattle.hip_io.specs.Cabinets.{CabinetState}
 use Rattle.hip_grammar.specs.Show.{show}
 use Rattle.hip_tree.specs.declared.program.Program.{Program}
 use Rattle.hip_program_files.specs.Loading.{IsProgramOf}
-use Rattle.hip_program_files.specs.Outside.{HasMet}
+use Rattle.hip_program_files.specs.Outside.{CountsFetches, HasMet}
 use Rattle.hip_many.specs.Reasons.{reasons}
 use Rattle.hip_many.specs.Union.{IsUnion}
 use Rattle.hip_many_commands.specs.Notes.{many_notes}
 use Rattle.hip_many_commands.specs.Runs.{AreRunsOf, ComesBehindRuns, TracedRun, plans_of, reports_of}
 use Rattle.hip_repair_answers.specs.Cured.{IsCuredBy}
-use Rattle.hip_answers.specs.TraceFiles.{HasNoTrace, ShowsNoMisfit, is_missing}
-use Rattle.hip_answers.specs.declared.refusal.TraceRefusal.{TraceRefusal}
-use Rattle.hip_answers.specs.declared.refusal.TraceRefusal.TheVariants as traces
+use Rattle.hip_answers.specs.TraceFiles.{FailsToRead, HasNoTrace, is_missing}
+use Rattle.hip_answers.specs.declared.refusal.TraceFileRefusal.{TraceFileRefusal}
+use Rattle.hip_answers.specs.declared.refusal.TraceFileRefusal.TheVariants as traces
 use Rattle.hip_repairs.specs.CloneNumbers.{clone_numbers}
 use Rattle.hip_repairs.specs.Direct.{direct}
 use Rattle.hip_repairs.specs.Repaired.{repaired}
@@ -27,7 +27,7 @@ use Rattle.hip_repairs.specs.declared.plan.Plan.{Plan}
 -- ---- a trace that is none
 
 -- the status of a refusal of the trace of that number
-abbrev pub status_in : ℕ → TraceRefusal → Status
+abbrev pub status_in : ℕ → TraceFileRefusal → Status
 status_in number traces.Missing = statuses.Missing (roles.Number number)
 status_in number (traces.Misfit entry kind) = statuses.MisfitIn number entry kind
 
@@ -40,14 +40,14 @@ pub record IsUntracedIn (old new : CabinetState) (program_name : List ℕ) (name
   pub number : ℕ
   pub name : List ℕ
   pub behind : ComesBehindRuns old.files program names number name
-  pub why : TraceRefusal
+  pub why : TraceFileRefusal
   pub met : HasMet (is_missing why) false old new
   pub cause : HasNoTrace old.files name program why
   pub is : answer ≡ refusal (status_in number why)
 
--- The program is there, all files before this one are traces of runs of it, and this one could not be fetched, and no
--- file is current; or it is current and could not be read to its end, and the bytes that were taken show no misfit: if
--- they show one, that is the answer.
+-- The program is there, all files before this one are traces of runs of it, and this one could not be fetched, or could
+-- not be read to its end. The program and the traces up to this one were fetched once each, so the bytes of the trace
+-- that were taken are those of one reading.
 pub record IsUnreadIn (old new : CabinetState) (program_name : List ℕ) (names : List (List ℕ)) (answer : Answer) :
     Type 0 where
   pub program : Program
@@ -56,16 +56,15 @@ pub record IsUnreadIn (old new : CabinetState) (program_name : List ℕ) (names 
   pub name : List ℕ
   pub behind : ComesBehindRuns old.files program names number name
   pub met : HasMet false true old new
-  pub current : (new.is_current ≡ false) ⊎ IfSome new.name (λ n. n ≡ name)
-  pub taken : (new.is_current ≡ false) ⊎ IfSome old.files (λ fs. ShowsNoMisfit fs name program new.rest)
+  pub fetches : CountsFetches (1 + number) old new
+  pub unread : FailsToRead old.files name program new
   pub is : answer ≡ refusal statuses.ReadFault
 
 -- ---- one repair for all
 
 -- Out has the canonical text of the program that is repaired by the union of the runs' plans; its direct stores get no
--- flush by cloning. Notes has how many
--- traces, reports, flushes, fences, hoisted calls and clones there are, and for each site of the union how many plans
--- have it. The repaired program does no harm, is clean on the input of each run and has its hoisted calls covered.
+-- flush by cloning. Notes has the numbers of traces, reports, flushes, fences, hoisted calls and clones, and for each
+-- site of the union how many plans have it. The repaired program does no harm, is clean on the input of each run and has its hoisted calls covered.
 pub record HasRepairedMany (P : Program) (runs : List TracedRun) (answer : Answer) : Type 0 where
   pub plan : Plan
   pub union : IsUnion (plans_of P runs) plan

@@ -4,7 +4,7 @@ ghost use Rattle.hip_answers.specs.Answers.{HasAnswered, sinks};
 ghost use Rattle.hip_io.specs.declared.cabinet.NamedFile.{NamedFile};
 ghost use Rattle.hip_many_commands.specs.Asking.{AreAsked};
 ghost use Rattle.hip_many_commands.specs.Many.{HasRepairedMany, ManyAnswers};
-ghost use Rattle.hip_many_commands.specs.Repairing.{IsRepairBy};
+ghost use Rattle.hip_repairing.specs.Making.{IsRepairForAll};
 ghost use Rattle.hip_many_commands.specs.Runs.{AreRunsOf, TracedRun, plans_of, reports_of};
 ghost use Rattle.hip_repair_answers.specs.Cured.{IsCuredBy};
 ghost use Rattle.hip_repairs.specs.Direct.{direct};
@@ -13,11 +13,11 @@ ghost use Rattle.hip_trace_loading.specs.Runs.{AnswersOnRun};
 use crate::loading::{AllAsked, ask_all};
 use crate::notes::put_notes;
 use crate::refusal::status_of_traces;
-use crate::repairing::{ManyRepair, repair_by};
 use hip_answers::{Status, finish, refuse, status_of_failure};
 use hip_io::{Cabinet, Sink};
 use hip_loading::load_program;
 use hip_repair_answers::plans_cure;
+use hip_repairing::{ManyRepair, repair_for_all};
 use hip_repairs::direct_stores_are_quiet;
 use hip_sound::Checked;
 use hip_types::{NoMemory, Text};
@@ -66,8 +66,8 @@ fn repair_many<S: Sink, N: Sink>(
     plans_cure();
     direct_stores_are_quiet();
     let _program = checked.program();
-    match repair_by(alloc, checked, asked.plans.as_slice()) {
-        Ok(repair) => put_repair(checked, traces, asked.reports, &repair, out, notes),
+    match repair_for_all(alloc, checked, asked.plans.as_slice()) {
+        Ok(made) => put_repair(checked, traces, asked.reports, &made, out, notes),
         Err(NoMemory) => refuse(notes, Status::NoMemory),
     }
 }
@@ -77,19 +77,19 @@ fn put_repair<S: Sink, N: Sink>(
     checked: &Checked,
     traces: usize,
     reports: u128,
-    repair: &ManyRepair,
+    made: &ManyRepair,
     out: &mut S,
     notes: &mut N,
 ) -> Status
     ensures { (runs : List TracedRun) → traces ≡ length runs → reports ≡ reports_of runs →
-        IsRepairBy checked.now (plans_of checked.now runs) repair.now →
-        All (λ r. IsCuredBy checked.now r.input repair.now.plan (direct checked.now)) runs →
+        IsRepairForAll checked.now (plans_of checked.now runs) made.now →
+        All (λ r. IsCuredBy checked.now r.input made.now.repair.plan (direct checked.now)) runs →
         AnswersOnRun (HasRepairedMany checked.now runs) false
         (sinks (S.state out.old) (S.state out.new) (N.state notes.old) (N.state notes.new)) result }
 {
-    match write(repair.repaired.checked.program(), out) {
+    match write(made.repair.repaired.checked.program(), out) {
         Ok(()) => {
-            let tried = put_notes(notes, checked.program(), traces, reports, repair);
+            let tried = put_notes(notes, checked.program(), traces, reports, made);
             finish(notes, tried, Status::Done)
         }
         Err(_) => refuse(notes, Status::WriteFault),

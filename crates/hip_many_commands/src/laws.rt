@@ -6,7 +6,7 @@ use hip_many::unions_are_one;
 use hip_repair_answers::plans_cure;
 use hip_repairs::direct_stores_are_quiet;
 
-/// Where the files are told, `many` has one answer on them, but for read faults.
+/// Where the files are known, `many` has one answer on them, but for read faults.
 pub fn many_are_one()
     ensures { ManyAreOne }
 {

@@ -6,7 +6,6 @@ mod laws;
 mod loading;
 mod notes;
 mod refusal;
-mod repairing;
 
 pub use command::many_file;
 pub use laws::{many_are_answered, many_are_one, many_faults_hide_no_misfit};

@@ -4,7 +4,7 @@ ghost use Rattle.std.specs.Prelude.{◌≡◌, ◌≤◌, ◌+◌, ◌^◌};
 ghost use Rattle.hip_many_commands.specs.Asking.{Asks, AsksAll};
 
 use crate::refusal::{NumberedRefusal, numbered};
-use hip_answers::TraceRefusal;
+use hip_answers::TraceFileRefusal;
 use hip_io::Cabinet;
 use hip_plan::plan;
 use hip_program_files::Failure;
@@ -34,7 +34,7 @@ fn ask<C: Cabinet>(
     checked: &Checked,
     cabinet: &mut C,
     name: &str,
-) -> Result<Asked, Failure<TraceRefusal>>
+) -> Result<Asked, Failure<TraceFileRefusal>>
     ensures { Asks checked.now name.now (C.state cabinet.old) (C.state cabinet.new) result }
 {
     let replayed = match load_trace(alloc, checked, cabinet, name) {

@@ -5,10 +5,10 @@ ghost use Rattle.hip_io.specs.Sinks.{Writes};
 ghost use Rattle.hip_many_commands.specs.Notes.{many_notes, reason_line, reason_lines, sort_word};
 ghost use Rattle.hip_report_lines.specs.Reports.{numbered};
 
-use crate::repairing::ManyRepair;
 use hip_answers::put_number;
 use hip_io::{Put, Sink, put_after};
 use hip_many::{Reason, Sort};
+use hip_repairing::ManyRepair;
 use hip_report_lines::{put_count, put_repair_totals, put_site};
 use hip_tree::Program;
 
@@ -63,13 +63,14 @@ pub(crate) fn put_notes<N: Sink>(
     program: &Program,
     traces: usize,
     reports: u128,
-    repair: &ManyRepair,
+    made: &ManyRepair,
 ) -> Put
     ensures { Writes Put.Done result (N.state notes.old) (N.state notes.new)
-        (many_notes program.now traces reports repair.now.plan (length repair.now.repaired.clones) repair.now.reasons) }
+        (many_notes program.now traces reports made.now.repair.plan (length made.now.repair.repaired.clones)
+        made.now.reasons) }
 {
     let put = put_count(Put::Done, notes, b"traces", traces);
-    let clones = repair.repaired.clones.len();
-    let put = put_repair_totals(put, notes, reports, &repair.plan, clones);
-    put_reasons(put, notes, program, repair.reasons.as_slice())
+    let clones = made.repair.repaired.clones.len();
+    let put = put_repair_totals(put, notes, reports, &made.repair.plan, clones);
+    put_reasons(put, notes, program, made.reasons.as_slice())
 }

@@ -2,7 +2,7 @@ ghost use Rattle.std.specs.Prelude.{◌≡◌};
 ghost use Rattle.hip_many_commands.specs.Asking.{numbered, status_of_traces};
 ghost use Rattle.hip_many_commands.specs.Many.{status_in};
 
-use hip_answers::{FileRole, Status, TraceRefusal};
+use hip_answers::{FileRole, Status, TraceFileRefusal};
 use hip_program_files::Failure;
 
 /// Which of many files is no trace of a run of a program, and why.
@@ -10,11 +10,11 @@ use hip_program_files::Failure;
 pub struct NumberedRefusal {
     /// The file's number among the traces, counted from 1.
     pub number: u64,
-    pub why: TraceRefusal,
+    pub why: TraceFileRefusal,
 }
 
 /// A refusal of the trace of that number.
-pub(crate) fn numbered(number: u64, failure: Failure<TraceRefusal>) -> Failure<NumberedRefusal>
+pub(crate) fn numbered(number: u64, failure: Failure<TraceFileRefusal>) -> Failure<NumberedRefusal>
     ensures { result ≡ numbered number failure }
 {
     match failure {
@@ -35,14 +35,14 @@ pub(crate) fn status_of_traces(failure: Failure<NumberedRefusal>) -> Status
     }
 }
 
-fn status_in(number: u64, why: TraceRefusal) -> Status
+fn status_in(number: u64, why: TraceFileRefusal) -> Status
     ensures { result ≡ status_in number why }
 {
     match why {
-        TraceRefusal::Missing => Status::Missing {
+        TraceFileRefusal::Missing => Status::Missing {
             file: FileRole::Number(number),
         },
-        TraceRefusal::Misfit { entry, kind } => Status::MisfitIn {
+        TraceFileRefusal::Misfit { entry, kind } => Status::MisfitIn {
             trace: number,
             entry,
             kind,

@@ -2,14 +2,14 @@
 pub mod FormRefusals
 pub mod OneAnswer
 pub mod TextRefusals
-use Rattle.std.specs.Prelude.{ℕ, ◌≡◌, Bool, true, false, List, [], Some}
-use Rattle.std.proofs.Common.{◌∙◌, subst, arith}
+use Rattle.std.specs.Prelude.{ℕ, ◌+◌, ◌-◌, ◌^◌, ◌≡◌, min, Bool, true, false, List, [], Some}
+use Rattle.std.proofs.Common.{◌∙◌, ap, subst, arith}
 use Rattle.hip_io.specs.Cabinets.{CabinetState}
 use Rattle.hip_io.specs.Counts.{Rose}
 use Rattle.hip_io.specs.declared.cabinet.NamedFile.{NamedFile}
 use Rattle.hip_tree.specs.declared.program.Program.{Program}
 use Rattle.hip_program_files.specs.Loading.{HasNoProgram, IsProgramOf}
-use Rattle.hip_program_files.specs.Outside.{CountsUp, HasMet}
+use Rattle.hip_program_files.specs.Outside.{CountsFetches, CountsUp, HasMet}
 use Rattle.hip_program_files.specs.declared.refusal.LoadRefusal.{LoadRefusal}
 use Rattle.hip_program_files.specs.declared.refusal.LoadRefusal.TheVariants as loads
 use Rattle.hip_program_files.specs.declared.refusal.ProgramRefusal.TheVariants as refusals
@@ -30,6 +30,19 @@ met_then {missed} {failed} {old} {mid} {new} first second = record {
   misses = counts_then missed old.misses mid.misses new.misses first.misses second.misses;
   faults = counts_then failed old.faults mid.faults new.faults first.faults second.faults;
 }
+
+min_then : (a m n most : ℕ) → min (min (a + m) most + n) most ≡ min (a + (m + n)) most
+min_then a m n most = omega arith
+
+-- the fetches of two calls
+pub fetches_then : (m n : ℕ) {old mid new : CabinetState} → CountsFetches m old mid → CountsFetches n mid new
+    → CountsFetches (m + n) old new
+fetches_then m n {old} {mid} {new} first second =
+    record {
+      count =
+          second.count ∙ ap (λ k. min (k + n) (2 ^ 64 - 1)) first.count
+          ∙ min_then old.fetches m n (2 ^ 64 - 1);
+    }
 
 -- ---- one answer
 

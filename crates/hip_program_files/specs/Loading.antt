@@ -6,7 +6,7 @@ use Rattle.hip_grammar.specs.declared.fault.Fault.{Fault}
 use Rattle.hip_grammar.specs.declared.fault.Fault.TheVariants as faults
 use Rattle.hip_tree.specs.declared.program.Program.{Program}
 use Rattle.hip_grammar.specs.Reading.{Reads, IsRefusal}
-use Rattle.hip_program_files.specs.Outside.{HasMet}
+use Rattle.hip_program_files.specs.Outside.{CountsFetches, HasMet}
 use Rattle.hip_program_files.specs.declared.failure.Failure.{Failure}
 use Rattle.hip_program_files.specs.declared.failure.Failure.TheVariants as failures
 use Rattle.hip_program_files.specs.declared.limits.TheConstants.{TEXT_LIMIT}
@@ -97,9 +97,10 @@ pub record HasFailedLoading (old new : CabinetState) (name : List ℕ) : Type 0 
   pub met : HasMet false true old new
   pub current : (new.is_current ≡ false) ⊎ IfSome new.name (λ n. n ≡ name)
 
--- what loading the program of a file answers; out of memory may come at any time
+-- what loading the program of a file answers: one file is fetched; out of memory may come at any time
 abbrev pub Loads : List ℕ → CabinetState → CabinetState → Result Program (Failure LoadRefusal) → Type 0
-Loads name old new (Ok program) = HasMet false false old new × IsProgramOf old.files name program
+Loads name old new (Ok program) =
+    HasMet false false old new × IsProgramOf old.files name program × CountsFetches 1 old new
 Loads name old new (Err (failures.Refused why)) =
     HasMet (is_missing why) false old new × HasNoProgram old.files name why
 Loads name old new (Err failures.ReadFault) = HasFailedLoading old new name

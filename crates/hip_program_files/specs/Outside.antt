@@ -1,5 +1,5 @@
 -- What a call has met outside.
-use Rattle.std.specs.Prelude.{ℕ, ◌≡◌, ◌≤◌, Bool, true, false}
+use Rattle.std.specs.Prelude.{ℕ, ◌+◌, ◌-◌, ◌^◌, ◌≡◌, ◌≤◌, min, Bool, true, false}
 use Rattle.hip_io.specs.Cabinets.{CabinetState}
 use Rattle.hip_io.specs.Counts.{Rose}
 
@@ -14,3 +14,7 @@ pub record HasMet (missed failed : Bool) (old new : CabinetState) : Type 0 where
   pub files : new.files ≡ old.files
   pub misses : CountsUp missed old.misses new.misses
   pub faults : CountsUp failed old.faults new.faults
+
+-- Exactly n fetches were made. The count stays at its last value.
+pub record CountsFetches (n : ℕ) (old new : CabinetState) : Type 0 where
+  pub count : new.fetches ≡ min (old.fetches + n) (2 ^ 64 - 1)

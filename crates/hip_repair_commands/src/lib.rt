@@ -3,7 +3,6 @@
 
 mod check;
 mod repair;
-mod repairing;
 mod rerun;
 
 pub use check::check_file;

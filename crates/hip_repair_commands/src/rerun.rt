@@ -3,16 +3,16 @@
 ghost use Rattle.std.specs.Prelude.{true};
 ghost use Rattle.hip_answers.specs.Answers.{HasAnswered, sinks};
 ghost use Rattle.hip_repair_answers.specs.Answers.{HasRerun, RerunAnswers};
-ghost use Rattle.hip_repair_commands.specs.Repairing.{IsRepairFor};
+ghost use Rattle.hip_repairing.specs.Making.{IsRepairFor};
 ghost use Rattle.hip_runs.specs.Found.Marks.{IsFound};
 ghost use Rattle.hip_runs.specs.Validity.{IsValid};
 ghost use Rattle.hip_trace_loading.specs.Runs.{AnswersOnRun};
 
-use crate::repairing::{Repair, repair_for};
 use hip_answers::{Status, finish, refuse};
 use hip_io::{Cabinet, Sink};
 use hip_recording::{RecordRefusal, record_run};
 use hip_repair_answers::repairs_cure;
+use hip_repairing::{Repair, repair_for};
 use hip_report_lines::put_rerun_counts;
 use hip_sound::Checked;
 use hip_trace_loading::{Replayed, load_run};

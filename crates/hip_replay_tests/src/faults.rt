@@ -11,7 +11,7 @@ use hip_types::Row;
 use std::alloc::Global;
 use std::process::Abort;
 
-/// A trace of which so many bytes are read before a read fails, and the refusal.
+/// A trace of which `at` bytes are read before a read fails, and the refusal.
 struct Fault {
     trace: &'static str,
     at: u64,

@@ -18,7 +18,7 @@ struct Misfit {
     kind: MisfitKind,
 }
 
-/// Asserts how a trace is refused, of which so many bytes come at a time.
+/// Asserts how a trace is refused, of which `chunk` bytes come at a time.
 fn assert_refused(
     rt: &impl Abort,
     alloc: Global,
@@ -36,7 +36,7 @@ fn assert_refused(
     }
 }
 
-/// Asserts the misfit of each trace with a program, where so many bytes come at a time.
+/// Asserts the misfit of each trace with a program, where `chunk` bytes come at a time.
 fn assert_misfits(rt: &impl Abort, alloc: Global, program: &str, cases: &[Misfit], chunk: usize)
     requires { 1 ≤ chunk }
 {
@@ -278,7 +278,7 @@ fn chunks_of_any_size(rt: HostRuntime) {
     }
 }
 
-/// The trace of the program of one store, where an entry of 25 bytes has so many zeros more in its address.
+/// The trace of the program of one store, where an entry of 25 bytes has this number of further zeros in its address.
 fn with_zeros(rt: &impl Abort, alloc: Global, zeros: usize) -> String {
     let zeros = "0".repeat(alloc, zeros).expect(rt, AMPLE);
     format!(in alloc;

@@ -1,6 +1,6 @@
 //! Programs whose runs are recorded.
 
-/// A store with a fence behind it.
+/// A store with a fence after it.
 pub const FENCE_WITHOUT_FLUSH: &str = "@x = global i64 0, section \".pm\"
 declare void @llvm.x86.sse.sfence()
 define i32 @main() {
@@ -11,7 +11,7 @@ entry:
 }
 ";
 
-/// A store with a flush behind it.
+/// A store with a flush after it.
 pub const FLUSH_WITHOUT_FENCE: &str = "@x = global i64 0, section \".pm\"
 declare void @llvm.x86.clwb(ptr)
 define i32 @main() {
@@ -138,7 +138,7 @@ entry:
 }
 ";
 
-/// A trap behind a store.
+/// A trap after a store.
 pub const DIVIDE_BY_ZERO: &str = "@x = global i64 0, section \".pm\"
 define i32 @main() {
 entry:

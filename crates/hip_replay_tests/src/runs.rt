@@ -53,7 +53,7 @@ pub fn record(
     record_run(alloc, checked, input, out).expect(rt, "the run is recorded")
 }
 
-/// A cabinet with the file `trace`, which gives so many bytes at a time.
+/// A cabinet with the file `trace`, which gives `chunk` bytes at a time.
 pub fn in_chunks(rt: &impl Abort, alloc: Global, trace: &[u8], chunk: usize) -> MemCabinet
     requires { 1 ≤ chunk }
 {

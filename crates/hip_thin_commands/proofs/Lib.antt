@@ -1,2 +1,1 @@
-pub mod SparedCounts
 pub mod Thins

@@ -18,10 +18,10 @@ use Rattle.hip_runs.specs.Found.Marks.{IsFound}
 use Rattle.hip_runs.specs.Validity.{IsValid}
 use Rattle.hip_runs.specs.declared.input.Input.{Input}
 use Rattle.hip_runs.specs.declared.report.Findings.{Findings}
-use Rattle.hip_thin_commands.specs.Spared.{spared_count}
+use Rattle.hip_repairing.specs.Spared.{spared_count}
 use Rattle.hip_thin_commands.specs.Thin.{HasThinned, IsThinned, thin_counts, thinned_for}
-use Rattle.hip_thin_commands.specs.Thinning.{IsThinnedFor}
-use Rattle.hip_thin_commands.specs.declared.thinning.Thinned.{Thinned}
+use Rattle.hip_repairing.specs.Making.{IsThinnedFor}
+use Rattle.hip_repairing.specs.declared.thinning.Thinned.{Thinned}
 use Rattle.hip_trace_loading.specs.Runs.{AnswersOnRun}
 use Rattle.hip_sound.specs.Sound.{IsSound}
 
@@ -33,31 +33,31 @@ module _ (P : Program) (I : Input) (found : Findings) (thinned : Thinned) (is : 
     (cured : IsThinned P I found) (s : Sinks) where
   -- how many reports, flushes, fences, hoisted calls, clones and spared stores there are
   abbrev counts : List ℕ
-  counts = thin_counts (length found.reports) thinned.plan (length thinned.repaired.clones) thinned.spared
+  counts = thin_counts (length found.reports) thinned.repair.plan (length thinned.repair.repaired.clones) thinned.spared
 
   -- the answer of `thin`: the repaired program, and the counts on notes
   abbrev answer : Answer
-  answer = record { status = statuses.Done; out = show thinned.repaired.checked; notes = counts }
+  answer = record { status = statuses.Done; out = show thinned.repair.repaired.checked; notes = counts }
 
   row : HasThinned P I found answer
   row = record {
     status_is = refl;
-    out_is = ap show is.program_is;
+    out_is = ap show is.repair.program_is;
     notes_is =
-        ap (λ (n : ℕ). thin_counts (length found.reports) thinned.plan (length thinned.repaired.clones) n) is.spared_is
-        ∙ ap (λ (cs : List CloneOf). thin_counts (length found.reports) thinned.plan (length cs)
-        (spared_count P (plan_for P found))) is.clones_are
+        ap (λ (n : ℕ). thin_counts (length found.reports) thinned.repair.plan (length thinned.repair.repaired.clones) n) is.spared_is
+        ∙ ap (λ (cs : List CloneOf). thin_counts (length found.reports) thinned.repair.plan (length cs)
+        (spared_count P (plan_for P found))) is.repair.clones_are
         ∙ ap (λ (plan : Plan). thin_counts (length found.reports) plan (length (clone_numbers P (plan_for P found)))
-        (spared_count P (plan_for P found))) is.plan_is;
+        (spared_count P (plan_for P found))) is.repair.plan_is;
     cured = cured;
   }
 
   pub written : (tried : Put) (cut : SinkState) (result : Status)
-      → AppendsAll s.out s.out_new (show thinned.repaired.checked) → Writes puts.Done tried s.notes cut counts
+      → AppendsAll s.out s.out_new (show thinned.repair.repaired.checked) → Writes puts.Done tried s.notes cut counts
       → Finishes tried statuses.Done cut s.notes_new result → AnswersOnRun (HasThinned P I found) false s result
   written tried cut result out notes f old new met = finished s answer tried cut result row refl out notes.how f
 
-  pub written_part : AppendsPrefix s.out s.out_new (show thinned.repaired.checked)
+  pub written_part : AppendsPrefix s.out s.out_new (show thinned.repair.repaired.checked)
       → PutsLine statuses.WriteFault s.notes s.notes_new
       → AnswersOnRun (HasThinned P I found) false s statuses.WriteFault
   written_part out line old new met = cut_out s answer row refl out line

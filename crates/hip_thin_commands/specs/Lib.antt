@@ -1,3 +1,1 @@
-pub mod Spared
 pub mod Thin
-pub mod Thinning

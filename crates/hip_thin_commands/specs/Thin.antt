@@ -14,7 +14,7 @@ use Rattle.hip_repairs.specs.declared.plan.Plan.{Plan}
 use Rattle.hip_report_lines.specs.Counts.{count_line, repair_counts}
 use Rattle.hip_runs.specs.declared.input.Input.{Input}
 use Rattle.hip_runs.specs.declared.report.Findings.{Findings}
-use Rattle.hip_thin_commands.specs.Spared.{spared_count}
+use Rattle.hip_repairing.specs.Spared.{spared_count}
 use Rattle.hip_levels.specs.LowStores.{low_stores}
 
 -- the program repaired by the plan for what a run found; the low stores get no flush by cloning

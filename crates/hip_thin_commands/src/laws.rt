@@ -23,7 +23,7 @@ pub fn thins_cure()
     low_stores_are_quiet();
 }
 
-/// Where the files are told, two answers of `thin` on them are the same, unless one of them is a read fault; where the
+/// Where the files are known, two answers of `thin` on them are the same, unless one of them is a read fault; where the
 /// trace's file is current after a read fault, and is not the program's, its bytes that were taken show no misfit; and
 /// where the one file has a program and the other is the trace of a run of it, there is an answer by which `thin` is
 /// carried out.

@@ -3,10 +3,7 @@
 #![tactic(auto)]
 
 mod laws;
-mod spared;
 mod thin;
-mod thinning;
 
 pub use laws::{thins_are_one, thins_cure};
-pub use spared::spared_count;
 pub use thin::thin_file;

@@ -6,13 +6,13 @@ ghost use Rattle.hip_io.specs.Sinks.{Writes};
 ghost use Rattle.hip_runs.specs.Found.Marks.{IsFound};
 ghost use Rattle.hip_runs.specs.Validity.{IsValid};
 ghost use Rattle.hip_thin_commands.specs.Thin.{HasThinned, ThinAnswers, thin_counts};
-ghost use Rattle.hip_thin_commands.specs.Thinning.{IsThinnedFor};
+ghost use Rattle.hip_repairing.specs.Making.{IsThinnedFor};
 ghost use Rattle.hip_trace_loading.specs.Runs.{AnswersOnRun};
 
 use crate::laws::thins_cure;
-use crate::thinning::{Thinned, thin_for};
 use hip_answers::{Status, finish, refuse};
 use hip_io::{Cabinet, Put, Sink};
+use hip_repairing::{Thinned, thin_for};
 use hip_repairs::Plan;
 use hip_report_lines::{put_count, put_repair_counts};
 use hip_sound::Checked;
@@ -52,11 +52,17 @@ fn put_thinned<S: Sink, N: Sink>(
 {
     thins_cure();
     let _program = checked.program();
-    match write(thinned.repaired.checked.program(), out) {
+    match write(thinned.repair.repaired.checked.program(), out) {
         Ok(()) => {
             let reports = replayed.findings.reports.len();
-            let clones = thinned.repaired.clones.len();
-            let tried = put_thin_counts(notes, reports, &thinned.plan, clones, thinned.spared);
+            let clones = thinned.repair.repaired.clones.len();
+            let tried = put_thin_counts(
+                notes,
+                reports,
+                &thinned.repair.plan,
+                clones,
+                thinned.spared,
+            );
             finish(notes, tried, Status::Done)
         }
         Err(_) => refuse(notes, Status::WriteFault),

@@ -1,5 +1,4 @@
 mod OneAnswer
 mod WhatIsAnswered
-mod OneRun
 mod OnFiles
 mod Orders

@@ -10,17 +10,19 @@ use Rattle.hip_answers.specs.RunAnswers.{HasRunOf, TraceAnswers}
 use Rattle.hip_answers.specs.Same.{IsSameAnswer, pathless}
 use Rattle.hip_answers.specs.Statuses as programs
 use Rattle.hip_answers.specs.TraceFiles.{HasNoTrace, IsTraceFile}
+use Rattle.hip_answers.specs.TraceLaws.{never_both, same_trace}
 use Rattle.hip_answers.specs.Traces.{GivesTrace}
 use Rattle.hip_answers.specs.declared.status.Status.{Status}
 use Rattle.hip_answers.specs.declared.status.Status.TheVariants as statuses
-use Rattle.hip_answers.specs.declared.refusal.TraceRefusal.{TraceRefusal}
-use Rattle.hip_answers.specs.declared.refusal.TraceRefusal.TheVariants as traces
+use Rattle.hip_answers.specs.declared.refusal.TraceFileRefusal.{TraceFileRefusal}
+use Rattle.hip_answers.specs.declared.refusal.TraceFileRefusal.TheVariants as traces
 use Rattle.hip_commands.specs.Record.{HasRecorded, RecordAnswers}
 use Rattle.hip_commands.specs.Run.{HasRun, RunAnswers}
 use Rattle.hip_io.specs.Cabinets.{CabinetState}
 use Rattle.hip_io.specs.declared.cabinet.NamedFile.{NamedFile}
 use Rattle.hip_many_commands.specs.Laws.{ManyAreAnswered, ManyAreOne}
 use Rattle.hip_many_commands.specs.Many.{HasRepairedMany, IsUntracedIn, ManyAnswers, status_in}
+use Rattle.hip_many_commands.specs.RunLaws.{one_runs}
 use Rattle.hip_many_commands.specs.Runs.{AreRunsOf, TracedRun}
 use Rattle.hip_program_files.specs.Laws.OneAnswer.{loads_one}
 use Rattle.hip_program_files.specs.Loading.{HasNoProgram, IsProgramOf}
@@ -40,7 +42,6 @@ use Rattle.hip_runs.specs.declared.input.Input.{Input}
 use Rattle.hip_runs.specs.declared.report.Findings.{Findings}
 use Rattle.hip_thin_commands.specs.Thin.{HasThinned}
 use Rattle.hip_levels.specs.LowStores.{low_stores}
-use Rattle.hip_tool.proofs.OneRun.{never_both, same_inputs, same_trace}
 use Rattle.hip_tool.proofs.WhatIsAnswered.{no_fault}
 use Rattle.hip_tool.specs.Headline.{IsRepairOf, NothingFails, OfRun, WritesOutput, WritesRepair}
 use Rattle.hip_tree.specs.declared.program.Program.{Program}
@@ -151,7 +152,7 @@ module _ (files : List NamedFile) (p : List ℕ) (P : Program) (given : IsProgra
   -- ---- many traces
 
   -- an answer that names a file which is not a trace is not an answer of `many` that is carried out
-  not_untraced : (number : ℕ) (why : TraceRefusal) → pathless (status_in number why) ≡ statuses.Done → ⊥
+  not_untraced : (number : ℕ) (why : TraceFileRefusal) → pathless (status_in number why) ≡ statuses.Done → ⊥
   not_untraced number traces.Missing e = cc
   not_untraced number (traces.Misfit entry kind) e = cc
 
@@ -166,7 +167,7 @@ module _ (files : List NamedFile) (p : List ℕ) (P : Program) (given : IsProgra
         status : a.status ≡ status_in u.number u.why
         status = ap (λ (x : Answer). x.status) u.is
 
-        not_fault : (number : ℕ) (why : TraceRefusal) → status_in number why ≡ statuses.ReadFault → ⊥
+        not_fault : (number : ℕ) (why : TraceFileRefusal) → status_in number why ≡ statuses.ReadFault → ⊥
         not_fault number traces.Missing e = cc
         not_fault number (traces.Misfit entry kind) e = cc
 
@@ -184,8 +185,8 @@ module _ (files : List NamedFile) (p : List ℕ) (P : Program) (given : IsProgra
     on_runs a (inr (inr (inr (inr d)))) =
         let programs_are = same_program d.program d.loaded in
         let there = subst (λ (fs : Option (List NamedFile)). AreRunsOf fs d.program names d.runs) told d.are in
-        let inputs_are = same_inputs files P names d.runs rs
-        (subst (λ (Q : Program). AreRunsOf (Some files) Q names d.runs) programs_are there) are in
+        let inputs_are = ap (λ (runs : List TracedRun). map (λ (r : TracedRun). r.input) runs) (one_runs files P names d.runs rs
+        (subst (λ (Q : Program). AreRunsOf (Some files) Q names d.runs) programs_are there) are) in
         subst (λ (inputs : List Input). WritesRepair P inputs a) inputs_are
         (repairs_many P d.runs a (subst (λ (Q : Program). HasRepairedMany Q d.runs a) programs_are d.texts))
 

@@ -1,5 +1,5 @@
 -- The stages of loading a run, as answers.
-use Rattle.std.proofs.Common.{◌≡◌, ◌⊎◌, ℕ, Bool, false, List, Option, Err, inl, inr, refl, subst}
+use Rattle.std.proofs.Common.{◌≡◌, ℕ, Bool, false, List, Option, Err, inl, inr, refl, subst}
 use Rattle.std.specs.Prelude.{IfSome}
 use Rattle.hip_answers.specs.Answers.{HasAnswered, PutsLine, Sinks, refusal}
 use Rattle.hip_answers.specs.Laws.{ran_out, refused}
@@ -7,21 +7,21 @@ use Rattle.hip_answers.specs.declared.status.Status.TheVariants as statuses
 use Rattle.hip_io.specs.Cabinets.{CabinetState}
 use Rattle.hip_io.specs.declared.cabinet.NamedFile.{NamedFile}
 use Rattle.hip_tree.specs.declared.program.Program.{Program}
-use Rattle.hip_program_files.specs.Laws.{met_then}
+use Rattle.hip_program_files.specs.Laws.{fetches_then, met_then}
 use Rattle.hip_program_files.specs.Loading.{IsProgramOf}
-use Rattle.hip_program_files.specs.Outside.{HasMet}
+use Rattle.hip_program_files.specs.Outside.{CountsFetches, HasMet}
 use Rattle.hip_program_files.specs.declared.failure.Failure.{Failure}
 use Rattle.hip_program_files.specs.declared.failure.Failure.TheVariants as failures
-use Rattle.hip_answers.specs.TraceFiles.{HasNoTrace, IsTraceFile, ShowsNoMisfit, is_missing, status_of_refusal, status_of_trace}
-use Rattle.hip_answers.specs.declared.refusal.TraceRefusal.{TraceRefusal}
-use Rattle.hip_answers.specs.declared.refusal.TraceRefusal.TheVariants as traces
+use Rattle.hip_answers.specs.TraceFiles.{FailsToRead, HasNoTrace, IsTraceFile, is_missing, status_of_refusal, status_of_trace}
+use Rattle.hip_answers.specs.declared.refusal.TraceFileRefusal.{TraceFileRefusal}
+use Rattle.hip_answers.specs.declared.refusal.TraceFileRefusal.TheVariants as traces
 use Rattle.hip_following.specs.declared.compared.Replayed.{Replayed}
 use Rattle.hip_trace_loading.specs.Loading.{HasLoadedTrace, LoadsTrace}
 use Rattle.hip_trace_loading.specs.Runs.{HasLoadedRun, LacksRun}
 
 module _ {old mid new : CabinetState} {p t : List ℕ} (P : Program) (met : HasMet false false old mid)
-    (program : IsProgramOf old.files p P) where
-  row : (why : TraceRefusal) → HasMet (is_missing why) false mid new → HasNoTrace mid.files t P why
+    (program : IsProgramOf old.files p P) (fetched : CountsFetches 1 old mid) where
+  row : (why : TraceFileRefusal) → HasMet (is_missing why) false mid new → HasNoTrace mid.files t P why
       → LacksRun old new p t (refusal (status_of_refusal why))
   row why after cause = inr (inr (inl (record {
     program = P;
@@ -32,7 +32,7 @@ module _ {old mid new : CabinetState} {p t : List ℕ} (P : Program) (met : HasM
     is = refl;
   })))
 
-  pub untraced : {begins : Bool} (s : Sinks) (failure : Failure TraceRefusal) → LoadsTrace P t mid new (Err failure)
+  pub untraced : {begins : Bool} (s : Sinks) (failure : Failure TraceFileRefusal) → LoadsTrace P t mid new (Err failure)
       → s.out_new ≡ s.out → PutsLine (status_of_trace failure) s.notes s.notes_new
       → HasAnswered (LacksRun old new p t) begins old new s (status_of_trace failure)
   untraced s (failures.Refused traces.Missing) h kept line =
@@ -44,9 +44,8 @@ module _ {old mid new : CabinetState} {p t : List ℕ} (P : Program) (met : HasM
         program = P;
         loaded = program;
         met = met_then met h.met;
-        taken =
-            subst (λ (fs : Option (List NamedFile)). (new.is_current ≡ false)
-            ⊎ IfSome fs (λ files. ShowsNoMisfit files t P new.rest)) met.files h.taken;
+        fetches = fetches_then 1 1 fetched h.fetches;
+        unread = subst (λ (fs : Option (List NamedFile)). FailsToRead fs t P new) met.files h.unread;
         is = refl;
       })))) kept line
   untraced s failures.NoMemory h kept line = ran_out s (met_then met h) kept line

@@ -1,16 +1,18 @@
 -- What a file gives that was fetched and replayed.
-use Rattle.std.proofs.Common.{◌≡◌, ℕ, false, List, Option, Some, None, ◌∙◌, subst}
+use Rattle.std.proofs.Common.{◌≡◌, ℕ, false, List, Option, Some, None, inr, sym, ap, ◌∙◌, subst, arith}
 use Rattle.std.specs.Prelude.{IfSome}
-use Rattle.hip_io.specs.Cabinets.{CabinetState, IsFetched, IsFirstFile, file_of}
+use Rattle.hip_io.specs.Cabinets.{CabinetState, IsFetched, IsFirstFile, StaysOpen, file_of}
 use Rattle.hip_io.specs.declared.cabinet.NamedFile.{NamedFile}
 use Rattle.hip_tree.specs.declared.program.Program.{Program}
-use Rattle.hip_program_files.specs.Outside.{HasMet}
-use Rattle.hip_answers.specs.TraceFiles.{IsTraceFile}
+use Rattle.hip_program_files.specs.Outside.{CountsFetches, HasMet}
+use Rattle.hip_answers.specs.TraceFiles.{IsTraceFile, ShowsNoMisfit}
 use Rattle.hip_following.specs.Replaying.{HasReplayed}
+use Rattle.hip_lockstep.specs.Refusals.{HasReadFault, ShowsNone}
+use Rattle.hip_io.specs.Counts.{Rose}
 use Rattle.hip_following.specs.declared.compared.Replayed.{Replayed}
 use Rattle.hip_run_traces.specs.Misfits.{IsTraceOf}
 use Rattle.hip_trace.specs.Reads.{IsReading, ReaderState}
-use Rattle.hip_trace_loading.specs.Loading.{HasLoadedTrace}
+use Rattle.hip_trace_loading.specs.Loading.{HasFailedTrace, HasLoadedTrace}
 
 -- what is known of the rest of a file that was fetched is known of the file
 of_file : (mid : CabinetState) (name : List ℕ) (Q : List ℕ → Type 0) (R : List NamedFile → Type 0)
@@ -19,6 +21,11 @@ of_file : (mid : CabinetState) (name : List ℕ) (Q : List ℕ → Type 0) (R : 
 of_file mid name Q R None first q make = first
 of_file mid name Q R (Some fs) first q make =
     make fs first.bytes first.found (subst (λ (rest : Option (List ℕ)). IfSome rest Q) first.rest q)
+
+-- the file was fetched, and then read
+pub fetched_once : {old mid new : CabinetState} {name : List ℕ} → IsFetched old mid name → StaysOpen mid new
+    → CountsFetches 1 old new
+fetched_once f stays = record { count = stays.fetches ∙ f.fetches }
 
 module _ {old mid new : CabinetState} {name : List ℕ} (P : Program) (r : ReaderState) (f : IsFetched old mid name) where
   met_nothing : IsReading mid new → HasMet false false old new
@@ -41,4 +48,28 @@ module _ {old mid new : CabinetState} {name : List ℕ} (P : Program) (r : Reade
     is_trace = h.is_trace;
     ended = h.ended;
     entries = h.entries;
+  }
+
+  -- a read failed
+  pub failed : HasReadFault P mid new → HasFailedTrace P name old new
+  failed h = record {
+    met = record {
+      files = h.stays.files ∙ f.files;
+      misses = h.stays.misses ∙ f.misses;
+      faults = (omega (arith, h.later, f.faults), subst (λ n. Rose n new.faults) f.faults h.rose);
+    };
+    fetches = fetched_once f h.stays;
+    unread = inr (record {
+      current = h.stays.current;
+      named = subst (λ (n : Option (List ℕ)). IfSome n (λ m. m ≡ name)) (sym h.stays.named) f.named;
+      taken =
+          of_file mid name (λ bytes. ShowsNone P bytes new.rest) (λ fs. ShowsNoMisfit fs name P new.rest) old.files f.told
+          h.told (λ fs bytes found shows. record {
+            taken = shows.front;
+            left = shows.taken.left;
+            found = found ∙ ap (λ (x : List ℕ). Some x) shows.taken.bytes_are;
+            rest_is = shows.taken.rest_is;
+            none = shows.none;
+          });
+    });
   }

@@ -1,15 +1,15 @@
 -- What loading the trace of a file answers.
-use Rattle.std.specs.Prelude.{ℕ, ◌≡◌, ◌⊎◌, true, false, List, [], length, Some, IfSome, Result, Ok, Err}
+use Rattle.std.specs.Prelude.{ℕ, ◌≡◌, true, false, List, [], length, Some, IfSome, Result, Ok, Err}
 use Rattle.hip_io.specs.Cabinets.{CabinetState}
 use Rattle.hip_tree.specs.declared.program.Program.{Program}
-use Rattle.hip_program_files.specs.Outside.{HasMet}
+use Rattle.hip_program_files.specs.Outside.{CountsFetches, HasMet}
 use Rattle.hip_program_files.specs.declared.failure.Failure.{Failure}
 use Rattle.hip_program_files.specs.declared.failure.Failure.TheVariants as failures
 use Rattle.hip_lockstep.specs.declared.refusal.ReplayRefusal.{ReplayRefusal}
 use Rattle.hip_lockstep.specs.declared.refusal.ReplayRefusal.TheVariants as refusals
-use Rattle.hip_answers.specs.TraceFiles.{HasNoTrace, IsTraceFile, ShowsNoMisfit, is_missing}
-use Rattle.hip_answers.specs.declared.refusal.TraceRefusal.{TraceRefusal}
-use Rattle.hip_answers.specs.declared.refusal.TraceRefusal.TheVariants as traces
+use Rattle.hip_answers.specs.TraceFiles.{FailsToRead, HasNoTrace, IsTraceFile, is_missing}
+use Rattle.hip_answers.specs.declared.refusal.TraceFileRefusal.{TraceFileRefusal}
+use Rattle.hip_answers.specs.declared.refusal.TraceFileRefusal.TheVariants as traces
 use Rattle.hip_following.specs.declared.compared.Replayed.{Replayed}
 use Rattle.hip_run_traces.specs.Traces.{IsTrace}
 use Rattle.hip_runs.specs.Found.Marks.{IsFound}
@@ -18,13 +18,13 @@ use Rattle.hip_runs.specs.Validity.{IsValid}
 use Rattle.hip_trace.specs.declared.entry.Entry.{Entry}
 
 -- a refusal of the replay, as one of the file
-abbrev pub failure_of : ReplayRefusal → Failure TraceRefusal
+abbrev pub failure_of : ReplayRefusal → Failure TraceFileRefusal
 failure_of (refusals.Misfit entry kind) = failures.Refused (traces.Misfit entry kind)
 failure_of refusals.ReadFault = failures.ReadFault
 failure_of refusals.NoMemory = failures.NoMemory
 
--- The file is the trace of the program's run on the input, and was read to its end. The run found this and has ended
--- so, and its trace has so many entries. Nothing was missing and nothing failed.
+-- The file is the trace of the program's run on the input, and was read to its end. The findings, the ending and the
+-- number of entries are those of that run. Nothing was missing and nothing failed.
 pub record HasLoadedTrace (P : Program) (name : List ℕ) (old new : CabinetState) (replayed : Replayed) : Type 0 where
   pub met : HasMet false false old new
   pub traced : IfSome old.files (λ fs. IsTraceFile fs name P replayed.input)
@@ -36,17 +36,16 @@ pub record HasLoadedTrace (P : Program) (name : List ℕ) (old new : CabinetStat
   pub ended : (run P replayed.input is_trace.steps).world.ending ≡ Some replayed.ending
   pub entries : replayed.entries ≡ length trace
 
--- The file could not be fetched, and no file is current; or it is current and could not be read to its end, and those
--- of its bytes that were taken show no misfit, whatever follows them.
+-- The file could not be fetched, or could not be read to its end.
 pub record HasFailedTrace (P : Program) (name : List ℕ) (old new : CabinetState) : Type 0 where
   pub met : HasMet false true old new
-  pub current : (new.is_current ≡ false) ⊎ IfSome new.name (λ n. n ≡ name)
-  pub taken : (new.is_current ≡ false) ⊎ IfSome old.files (λ fs. ShowsNoMisfit fs name P new.rest)
+  pub fetches : CountsFetches 1 old new
+  pub unread : FailsToRead old.files name P new
 
--- what loading the trace of a file answers; want of memory is free
+-- what loading the trace of a file answers: one file is fetched; out of memory may come anywhere
 abbrev pub LoadsTrace : Program → List ℕ → CabinetState → CabinetState
-    → Result Replayed (Failure TraceRefusal) → Type 0
-LoadsTrace P name old new (Ok replayed) = HasLoadedTrace P name old new replayed
+    → Result Replayed (Failure TraceFileRefusal) → Type 0
+LoadsTrace P name old new (Ok replayed) = HasLoadedTrace P name old new replayed × CountsFetches 1 old new
 LoadsTrace P name old new (Err (failures.Refused why)) =
     HasMet (is_missing why) false old new × HasNoTrace old.files name P why
 LoadsTrace P name old new (Err failures.ReadFault) = HasFailedTrace P name old new

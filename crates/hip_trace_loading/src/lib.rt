@@ -1,4 +1,4 @@
-//! Traces in files: fetched and replayed beside the program, and what the files did meanwhile.
+//! Traces in files: fetched, and replayed beside the program.
 #![tactic(auto)]
 
 mod run;

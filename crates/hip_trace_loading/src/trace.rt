@@ -3,7 +3,7 @@ ghost use Rattle.hip_following.specs.Replaying.{Replays};
 ghost use Rattle.hip_trace.specs.Reads.{ReaderState};
 ghost use Rattle.hip_trace_loading.specs.Loading.{LoadsTrace, failure_of};
 
-use hip_answers::TraceRefusal;
+use hip_answers::TraceFileRefusal;
 use hip_following::{Replayed, replay};
 use hip_io::{Cabinet, Fetched};
 use hip_lockstep::ReplayRefusal;
@@ -12,11 +12,11 @@ use hip_sound::Checked;
 use hip_trace::Reader;
 use std::alloc::Global;
 
-fn failure_of(refusal: ReplayRefusal) -> Failure<TraceRefusal>
+fn failure_of(refusal: ReplayRefusal) -> Failure<TraceFileRefusal>
     ensures { result ≡ failure_of refusal }
 {
     match refusal {
-        ReplayRefusal::Misfit { entry, kind } => Failure::Refused(TraceRefusal::Misfit {
+        ReplayRefusal::Misfit { entry, kind } => Failure::Refused(TraceFileRefusal::Misfit {
             entry,
             kind,
         }),
@@ -45,7 +45,7 @@ pub fn load_trace<C: Cabinet>(
     checked: &Checked,
     cabinet: &mut C,
     name: &str,
-) -> Result<Replayed, Failure<TraceRefusal>>
+) -> Result<Replayed, Failure<TraceFileRefusal>>
     ensures { LoadsTrace checked.now name.now (C.state cabinet.old) (C.state cabinet.new) result }
 {
     match cabinet.fetch(name) {
@@ -53,7 +53,7 @@ pub fn load_trace<C: Cabinet>(
             Ok(replayed) => Ok(replayed),
             Err(refusal) => Err(failure_of(refusal)),
         },
-        Fetched::Missing => Err(Failure::Refused(TraceRefusal::Missing)),
+        Fetched::Missing => Err(Failure::Refused(TraceFileRefusal::Missing)),
         Fetched::Failed => Err(Failure::ReadFault),
     }
 }

@@ -1,41 +1,33 @@
--- Where the files are told, a command has one answer, unless a read fails.
-use Rattle.std.proofs.Common.{◌≡◌, ◌⊎◌, ◌++◌, ℕ, true, false, List, Option, Some, inl, inr, refl, sym, ap, ◌∙◌, subst}
+-- Where the files are known, a command has one answer, unless a read fails.
+use Rattle.std.proofs.Common.{◌≡◌, ◌≢◌, ◌⊎◌, ℕ, true, false, List, Option, Some, inl, inr, refl, sym, ap, ◌∙◌, subst}
 use Rattle.std.specs.Prelude.{IfSome}
 use Rattle.hip_answers.specs.Answers.{Answer, refusal}
+use Rattle.hip_answers.specs.Programs as absent
 use Rattle.hip_answers.specs.Same.{IsSameAnswer}
 use Rattle.hip_answers.specs.SameLaws.{same_answer, same_refusal}
 use Rattle.hip_answers.specs.Statuses as programs
 use Rattle.hip_answers.specs.declared.status.Status.{Status}
 use Rattle.hip_answers.specs.declared.status.Status.TheVariants as statuses
-use Rattle.hip_io.specs.Cabinets.{CabinetState, file_of}
+use Rattle.hip_io.specs.Cabinets.{CabinetState}
 use Rattle.hip_io.specs.declared.cabinet.NamedFile.{NamedFile}
 use Rattle.hip_tree.specs.declared.program.Program.{Program}
-use Rattle.hip_program_files.specs.Laws.OneAnswer.{loads_one, not_there, same_bytes}
+use Rattle.hip_program_files.specs.Laws.OneAnswer.{loads_one}
 use Rattle.hip_program_files.specs.Laws.{LoadsOne}
 use Rattle.hip_program_files.specs.Loading.{HasNoProgram, IsProgramOf}
 use Rattle.hip_program_files.specs.declared.refusal.LoadRefusal.{LoadRefusal}
 use Rattle.hip_program_files.specs.declared.refusal.LoadRefusal.TheVariants as loads
 use Rattle.hip_answers.specs.RunAnswers.{HasRunOf, TraceAnswers}
 use Rattle.hip_answers.specs.RunLaws.{FaultsHideNone, GivesOne}
-use Rattle.hip_answers.specs.TraceFiles.{HasNoTrace, IsMisfitFile, IsTraceFile, ShowsNoMisfit, status_of_refusal}
-use Rattle.hip_answers.specs.declared.refusal.TraceRefusal.{TraceRefusal}
-use Rattle.hip_answers.specs.declared.refusal.TraceRefusal.TheVariants as traces
-use Rattle.hip_run_traces.specs.Headers.{Gives, header}
-use Rattle.hip_run_traces.specs.Laws.MisfitLaws.{no-misfit, one-misfit}
-use Rattle.hip_run_traces.specs.Misfits.{IsMisfit, IsTraceOf}
-use Rattle.hip_run_traces.specs.declared.misfit.MisfitKind.{MisfitKind}
+use Rattle.hip_answers.specs.TraceFiles.{FailsToRead, HasNoTrace, IsTraceFile, ShowsNoMisfit, status_of_refusal}
+use Rattle.hip_answers.specs.TraceLaws.{never_both, same_trace, untraced_once}
+use Rattle.hip_answers.specs.declared.refusal.TraceFileRefusal.{TraceFileRefusal}
+use Rattle.hip_answers.specs.declared.refusal.TraceFileRefusal.TheVariants as traces
 use Rattle.hip_runs.specs.Found.Marks.{IsFound}
 use Rattle.hip_runs.specs.Laws.Found.FoundLaws.{found_is_one}
 use Rattle.hip_runs.specs.declared.input.Input.{Input}
 use Rattle.hip_runs.specs.declared.report.Findings.{Findings}
-use Rattle.hip_trace.specs.Pieces.{spelled}
 
--- ---- what is the same
-
-same_input : (P : Program) (bytes : List ℕ) (I J : Input) → IsTraceOf P bytes I → IsTraceOf P bytes J → I ≡ J
-same_input P bytes I J t u = let k : Gives t.entries I ≡ Gives u.entries J = sym t.header_is ∙ u.header_is in cc
-
--- ---- the answers on files that are told
+-- ---- the answers on files that are known
 
 -- there is no program in file p, and the answer says why
 pub record Unloaded (files : List NamedFile) (p : List ℕ) (a : Answer) : Type 0 where
@@ -47,7 +39,7 @@ pub record Unloaded (files : List NamedFile) (p : List ℕ) (a : Answer) : Type 
 pub record Untraced (files : List NamedFile) (p t : List ℕ) (a : Answer) : Type 0 where
   program : Program
   loaded : IsProgramOf (Some files) p program
-  why : TraceRefusal
+  why : TraceFileRefusal
   cause : HasNoTrace (Some files) t program why
   is : a ≡ refusal (status_of_refusal why)
 
@@ -63,7 +55,7 @@ pub record Carried (Texts : Program → Input → Findings → Answer → Type 0
   found_is : IsFound program input found
   texts : Texts program input found a
 
--- how an answer comes about, as far as the files tell: a read fault, no program, no trace of a run of it, or a run
+-- how an answer comes about: a read fault, no program, no trace of a run of it, or a run
 pub data View (Texts : Program → Input → Findings → Answer → Type 0) (files : List NamedFile) (p t : List ℕ)
     (a : Answer) : Type 0 where
   Faulted : a.status ≡ statuses.ReadFault → View Texts files p t a
@@ -101,50 +93,24 @@ module _ (Texts : Program → Input → Findings → Answer → Type 0) (files :
   one : LoadsOne files p
   one = loads_one files p
 
-  untraced_once : (P : Program) (why other : TraceRefusal) → HasNoTrace (Some files) t P why
-      → HasNoTrace (Some files) t P other → why ≡ other
-  untraced_once P traces.Missing traces.Missing h k = refl
-  untraced_once P traces.Missing (traces.Misfit e k) h m = absurd (not_there (file_of files t) m.bytes m.found h)
-  untraced_once P (traces.Misfit e k) traces.Missing m h = absurd (not_there (file_of files t) m.bytes m.found h)
-  untraced_once P (traces.Misfit e k) (traces.Misfit e' k') m n =
-      let bytes = same_bytes (file_of files t) n.bytes m.bytes n.found m.found in
-      let same = one-misfit P m.bytes true e e' k k' m.misfit
-      (subst (λ bs. IsMisfit P bs true e' k') bytes n.misfit) in
-      made same.0 same.1
-    where
-      made : {x y : ℕ} {u v : MisfitKind} → x ≡ y → u ≡ v → traces.Misfit x u ≡ traces.Misfit y v
-      made a b = cc
-
-  never_both : (P : Program) (why : TraceRefusal) (I : Input) → HasNoTrace (Some files) t P why
-      → IsTraceFile files t P I → ⊥
-  never_both P traces.Missing I h d = not_there (file_of files t) d.bytes d.found h
-  never_both P (traces.Misfit e k) I m d =
-      let bytes = same_bytes (file_of files t) m.bytes d.bytes m.found d.found in
-      no-misfit P d.bytes I e k d.trace (subst (λ bs. IsMisfit P bs true e k) bytes m.misfit)
-
-  same_trace : (P : Program) (I J : Input) → IsTraceFile files t P I → IsTraceFile files t P J → I ≡ J
-  same_trace P I J d e =
-      let bytes = same_bytes (file_of files t) e.bytes d.bytes e.found d.found in
-      same_input P d.bytes I J d.trace (subst (λ bs. IsTraceOf P bs J) bytes e.trace)
-
   two_untraced : (a b : Answer) → Untraced files p t a → Untraced files p t b → IsSameAnswer a b
   two_untraced a b u v =
       let programs_are = one.programs v.program u.program v.loaded u.loaded in
-      let why = untraced_once u.program u.why v.why u.cause
+      let why = untraced_once files t u.program u.why v.why u.cause
       (subst (λ Q. HasNoTrace (Some files) t Q v.why) programs_are v.cause) in
       same_answer (u.is ∙ ap (λ w. refusal (status_of_refusal w)) why ∙ sym v.is)
 
   untraced_carried : (a b : Answer) → Untraced files p t a → Carried Texts files p t b → ⊥
   untraced_carried a b u d =
       let programs_are = one.programs d.program u.program d.loaded u.loaded in
-      never_both u.program u.why d.input u.cause (subst (λ Q. IsTraceFile files t Q d.input) programs_are d.traced)
+      never_both files t u.program u.why d.input u.cause (subst (λ Q. IsTraceFile files t Q d.input) programs_are d.traced)
 
   module _ (alike : (P : Program) (I : Input) (found : Findings) (a b : Answer) → Texts P I found a
       → Texts P I found b → a ≡ b) where
     two_carried : (a b : Answer) → Carried Texts files p t a → Carried Texts files p t b → a ≡ b
     two_carried a b c d =
         let programs_are = one.programs d.program c.program d.loaded c.loaded in
-        let inputs_are = sym (same_trace c.program c.input d.input c.traced
+        let inputs_are = sym (same_trace files t c.program c.input d.input c.traced
         (subst (λ Q. IsTraceFile files t Q d.input) programs_are d.traced)) in
         let there = subst (λ J. IsFound c.program J d.found) inputs_are
         (subst (λ Q. IsFound Q d.input d.found) programs_are d.found_is) in
@@ -188,33 +154,53 @@ no_read_fault loads.Missing e = cc
 no_read_fault loads.TooLarge e = cc
 no_read_fault (loads.Bad why) e = cc
 
-no_trace_fault : (why : TraceRefusal) → status_of_refusal why ≡ statuses.ReadFault → ⊥
+no_trace_fault : (why : TraceFileRefusal) → status_of_refusal why ≡ statuses.ReadFault → ⊥
 no_trace_fault traces.Missing e = cc
 no_trace_fault (traces.Misfit e k) q = cc
+
+not_current : (new : CabinetState) → new.is_current ≡ true → new.is_current ≡ false → ⊥
+not_current new current e = let k : true ≡ false = sym current ∙ e in cc
+
+module _ {files : List NamedFile} (old new : CabinetState) {p : List ℕ} {P : Program} (told : old.files ≡ Some files)
+    (loaded : IsProgramOf (Some files) p P) (current : new.is_current ≡ true) where
+  -- a refusal of the program is no read fault
+  pub loads_no_fault : (a : Answer) → a.status ≡ statuses.ReadFault → absent.IsUnloaded old new p a → ⊥
+  loads_no_fault a status u = no_read_fault u.why (sym (ap (λ (x : Answer). x.status) u.is) ∙ status)
+
+  -- another file than the program's is current, so the program was read
+  pub reads_program : {t : List ℕ} (a : Answer) → new.name ≡ Some t → p ≢ t → absent.IsUnread old new p a → ⊥
+  reads_program {t} a named apart u = go u.current
+    where
+      go : (new.is_current ≡ false) ⊎ IfSome new.name (λ name. name ≡ p) → ⊥
+      go (inl e) = not_current new current e
+      go (inr e) = apart (sym (subst (λ (n : Option (List ℕ)). IfSome n (λ name. name ≡ p)) named e))
+
+  -- a trace that could not be read to its end shows no misfit
+  pub shows_none : (t : List ℕ) (Q : Program) → IsProgramOf old.files p Q → FailsToRead old.files t Q new
+      → ShowsNoMisfit files t P new.rest
+  shows_none t Q there (inl e) = absurd (not_current new current e)
+  shows_none t Q there (inr h) =
+      let same = (loads_one files p).programs Q P (subst (λ fs. IsProgramOf fs p Q) told there) loaded in
+      subst (λ (R : Program). ShowsNoMisfit files t R new.rest) same
+      (subst (λ (fs : Option (List NamedFile)). IfSome fs (λ known. ShowsNoMisfit known t Q new.rest)) told h.taken)
+
+pub hides_none : (Texts : Program → Input → Findings → Answer → Type 0)
+    → ((P : Program) (I : Input) (found : Findings) (a : Answer) → Texts P I found a
+    → a.status ≡ statuses.ReadFault → ⊥)
+    → FaultsHideNone Texts
+hides_none Texts done files old new p t P a told loaded current named apart status (inl u) =
+    absurd (loads_no_fault old new told loaded current a status u)
+hides_none Texts done files old new p t P a told loaded current named apart status (inr (inl u)) =
+    absurd (reads_program old new told loaded current a named apart u)
+hides_none Texts done files old new p t P a told loaded current named apart status (inr (inr (inl (inl u)))) =
+    absurd (no_trace_fault u.why (sym (ap (λ (x : Answer). x.status) u.is) ∙ status))
+hides_none Texts done files old new p t P a told loaded current named apart status (inr (inr (inl (inr u)))) =
+    shows_none old new told loaded current t u.program u.loaded u.unread
+hides_none Texts done files old new p t P a told loaded current named apart status (inr (inr (inr d))) =
+    absurd (done d.program d.input d.found a d.texts status)
 
 pub hide_none : (Texts : Program → Input → Findings → Answer → Type 0)
     → ((P : Program) (I : Input) (found : Findings) (a : Answer) → Texts P I found a → a.status ≡ statuses.Done)
     → FaultsHideNone Texts
-hide_none Texts done files old new p t P a told loaded current named apart status (inl u) =
-    absurd (no_read_fault u.why (sym (ap (λ (x : Answer). x.status) u.is) ∙ status))
-hide_none Texts done files old new p t P a told loaded current named apart status (inr (inl u)) = absurd (go u.current)
-  where
-    go : (new.is_current ≡ false) ⊎ IfSome new.name (λ name. name ≡ p) → ⊥
-    go (inl e) = let k : true ≡ false = sym current ∙ e in cc
-    go (inr e) = apart (sym (subst (λ (n : Option (List ℕ)). IfSome n (λ name. name ≡ p)) named e))
-hide_none Texts done files old new p t P a told loaded current named apart status (inr (inr (inl (inl u)))) =
-    absurd (no_trace_fault u.why (sym (ap (λ (x : Answer). x.status) u.is) ∙ status))
-hide_none Texts done files old new p t P a told loaded current named apart status (inr (inr (inl (inr u)))) = go u.taken
-  where
-    same : u.program ≡ P
-    same = (loads_one files p).programs u.program P (subst (λ fs. IsProgramOf fs p u.program) told u.loaded) loaded
-
-    go : (new.is_current ≡ false) ⊎ IfSome old.files (λ fs. ShowsNoMisfit fs t u.program new.rest)
-        → ShowsNoMisfit files t P new.rest
-    go (inl e) = absurd (let k : true ≡ false = sym current ∙ e in let z : ⊥ = cc in z)
-    go (inr s) = subst (λ (Q : Program). ShowsNoMisfit files t Q new.rest) same
-        (subst (λ (fs : Option (List NamedFile)). IfSome fs
-        (λ told_files. ShowsNoMisfit told_files t u.program new.rest)) told s)
-hide_none Texts done files old new p t P a told loaded current named apart status (inr (inr (inr d))) =
-    absurd (let k : statuses.Done ≡ statuses.ReadFault = sym (done d.program d.input d.found a d.texts) ∙ status in
-    let z : ⊥ = cc in z)
+hide_none Texts done = hides_none Texts (λ P I found a texts status.
+    let both : statuses.Done ≡ statuses.ReadFault = sym (done P I found a texts) ∙ status in let z : ⊥ = cc in z)

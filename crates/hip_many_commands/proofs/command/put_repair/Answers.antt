@@ -5,12 +5,12 @@ use Rattle.hip_many_commands.proofs.command.put_repair.Goals as goal
 pub returns-in-Ok : goal.returns-in-Ok
 returns-in-Ok g c = λ runs many total by cured.
     let s = sinks (g.S.Sink.state c.args.out.now) (g.S.Sink.state c.write.new.out) (g.N.Sink.state c.args.notes.now) (g.N.Sink.state c.finish.new.notes) in
-    repaired c.args.checked.now runs c.args.traces c.args.reports c.args.repair.now many total by cured s
+    repaired c.args.checked.now runs c.args.traces c.args.reports c.args.made.now many total by cured s
     c.put_notes-tried.result (g.N.Sink.state c.put_notes-tried.new.notes) c.finish.result (rw c.program.ensures.is at c.in-Ok.ensures)
     (rw c.program-in-Ok.ensures.is at c.put_notes-tried.ensures) c.finish.ensures
 
 pub returns-in-Err : goal.returns-in-Err
 returns-in-Err g c = λ runs many total by cured.
     let s = sinks (g.S.Sink.state c.args.out.now) (g.S.Sink.state c.write.new.out) (g.N.Sink.state c.args.notes.now) (g.N.Sink.state c.refuse.new.notes) in
-    rw c.refuse.ensures.status (repaired_part c.args.checked.now runs c.args.traces c.args.reports c.args.repair.now many total by
+    rw c.refuse.ensures.status (repaired_part c.args.checked.now runs c.args.traces c.args.reports c.args.made.now many total by
     cured s (rw c.program.ensures.is at c.in-Err.ensures) c.refuse.ensures.line)

@@ -10,11 +10,12 @@ returns-in-Ok-plan g c = record {
   };
   named = refl;
   is = record {
-    traced = c.in-Ok.ensures.traced;
-    valid = c.in-Ok.ensures.valid;
-    found_is = c.in-Ok.ensures.found;
+    traced = c.in-Ok.ensures.0.traced;
+    valid = c.in-Ok.ensures.0.valid;
+    found_is = c.in-Ok.ensures.0.found;
   };
-  met = c.in-Ok.ensures.met;
+  met = c.in-Ok.ensures.0.met;
+  fetches = c.in-Ok.ensures.1;
   plan_is = c.in-Ok-plan.ensures.is;
   reports_are = c.len.ensures;
 }

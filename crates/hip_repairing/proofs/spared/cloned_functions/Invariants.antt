@@ -1,6 +1,6 @@
 use Rattle.std.proofs.Common.{drop}
-use Rattle.hip_thin_commands.proofs.SparedCounts.{HasBut}
-use Rattle.hip_thin_commands.proofs.spared.cloned_functions.Given as goal
+use Rattle.hip_repairing.proofs.SparedCounts.{HasBut}
+use Rattle.hip_repairing.proofs.spared.cloned_functions.Given as goal
 
 abbrev pub invariant-each : goal.invariant-each
 invariant-each l = HasBut l.functions.keys (drop l.clone-index l.clones) l.clones

@@ -1,7 +1,7 @@
 //! The repair for what a run found.
 
 ghost use Rattle.std.specs.Prelude.{IfOk};
-ghost use Rattle.hip_repair_commands.specs.Repairing.{IsRepairFor};
+ghost use Rattle.hip_repairing.specs.Making.{IsRepairFor};
 
 use hip_fix::apply;
 use hip_plan::plan;
@@ -13,17 +13,13 @@ use std::alloc::Global;
 
 /// A plan, and the program that is repaired by it.
 #[derive(Drop)]
-pub(crate) struct Repair {
-    pub(crate) plan: Plan,
-    pub(crate) repaired: Repaired,
+pub struct Repair {
+    pub plan: Plan,
+    pub repaired: Repaired,
 }
 
 /// The plan for what a run found, and the program repaired by it.
-pub(crate) fn repair_for(
-    alloc: Global,
-    checked: &Checked,
-    findings: &Findings,
-) -> Result<Repair, NoMemory>
+pub fn repair_for(alloc: Global, checked: &Checked, findings: &Findings) -> Result<Repair, NoMemory>
     ensures { IfOk result (λ repair. IsRepairFor checked.now findings.now repair) }
 {
     let plan = plan(alloc, checked, findings)?;

@@ -1,33 +1,28 @@
 //! The repair for what a run found, whose clones do not flush the low stores.
 
 ghost use Rattle.std.specs.Prelude.{IfOk};
-ghost use Rattle.hip_thin_commands.specs.Thinning.{IsThinnedFor};
+ghost use Rattle.hip_repairing.specs.Making.{IsThinnedFor};
 
+use crate::one_run::Repair;
 use crate::spared::spared_count;
 use hip_fix::apply_skipping;
 use hip_levels::quiet_stores;
 use hip_plan::plan;
-use hip_repairs::{Plan, Repaired};
 use hip_runs::Findings;
 use hip_sound::Checked;
 use hip_types::NoMemory;
 use std::alloc::Global;
 
-/// A plan, the program that is repaired by it, and how many stores its clones do not flush though they are not direct.
+/// A repair, and how many stores its clones do not flush though they are not direct.
 #[derive(Drop)]
-pub(crate) struct Thinned {
-    pub(crate) plan: Plan,
-    pub(crate) repaired: Repaired,
-    pub(crate) spared: usize,
+pub struct Thinned {
+    pub repair: Repair,
+    pub spared: usize,
 }
 
-/// The plan for what a run found, the program repaired by it whose clones do not flush the low stores, and how many
-/// stores are spared.
-pub(crate) fn thin_for(
-    alloc: Global,
-    checked: &Checked,
-    findings: &Findings,
-) -> Result<Thinned, NoMemory>
+/// The plan for what a run found, the program repaired by it whose clones do not flush the low stores, and the number
+/// of stores that are spared.
+pub fn thin_for(alloc: Global, checked: &Checked, findings: &Findings) -> Result<Thinned, NoMemory>
     ensures { IfOk result (λ thinned. IsThinnedFor checked.now findings.now thinned) }
 {
     let plan = plan(alloc, checked, findings)?;
@@ -41,8 +36,7 @@ pub(crate) fn thin_for(
         repaired.clones.as_slice(),
     )?;
     Ok(Thinned {
-        plan,
-        repaired,
+        repair: Repair { plan, repaired },
         spared,
     })
 }

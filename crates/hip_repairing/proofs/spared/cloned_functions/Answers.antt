@@ -1,7 +1,7 @@
 use Rattle.std.proofs.Common.{get_or, refl}
 use Rattle.hip_repairs.specs.declared.plan.CloneOf.{CloneOf}
-use Rattle.hip_thin_commands.proofs.SparedCounts.{functions_next, functions_whole}
-use Rattle.hip_thin_commands.proofs.spared.cloned_functions.Goals as goal
+use Rattle.hip_repairing.proofs.SparedCounts.{functions_next, functions_whole}
+use Rattle.hip_repairing.proofs.spared.cloned_functions.Goals as goal
 
 pub each-preserved : goal.each-preserved
 each-preserved c =

@@ -1,7 +1,7 @@
 use Rattle.std.proofs.Common.{◌≡◌, ◌+◌, ◌≤◌, drop, length}
 use Rattle.std.specs.List.{filter}
-use Rattle.hip_thin_commands.specs.Spared.{is_spared_by}
-use Rattle.hip_thin_commands.proofs.spared.count_spared.Given as goal
+use Rattle.hip_repairing.specs.Spared.{is_spared_by}
+use Rattle.hip_repairing.proofs.spared.count_spared.Given as goal
 
 abbrev pub invariant-each : goal.invariant-each
 invariant-each l = record {

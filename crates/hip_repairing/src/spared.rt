@@ -4,7 +4,7 @@ ghost use Rattle.std.specs.Prelude.{◌≡◌, ℕ, nat_eq, length, IfOk};
 ghost use Rattle.std.specs.List.{filter, list_any};
 ghost use Rattle.hip_tree.specs.Sites.{sites_of};
 ghost use Rattle.hip_repairs.specs.CloneNumbers.{clone_numbers};
-ghost use Rattle.hip_thin_commands.specs.Spared.{has_original, is_spared_by, spared_count};
+ghost use Rattle.hip_repairing.specs.Spared.{has_original, is_spared_by, spared_count};
 ghost use Rattle.hip_levels.specs.LowStores.{low_stores};
 
 use hip_fix::direct_stores;

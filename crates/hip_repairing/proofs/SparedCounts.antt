@@ -18,7 +18,7 @@ use Rattle.hip_repairs.specs.declared.plan.CloneOf.{CloneOf}
 use Rattle.hip_repairs.specs.declared.plan.Plan.{Plan}
 use Rattle.hip_runs.specs.Laws.Members.{equal_true}
 use Rattle.hip_runs.specs.Places.{blocks_of}
-use Rattle.hip_thin_commands.specs.Spared.{has_original, is_spared, is_spared_by, spared_count}
+use Rattle.hip_repairing.specs.Spared.{has_original, is_spared, is_spared_by, spared_count}
 use Rattle.hip_levels.specs.LowStores.{least_levels, low_stores, stores_low}
 
 -- ---- sets of stores, by the lists of their sites

@@ -5,9 +5,9 @@ use Rattle.hip_tree.specs.declared.program.Program.{Program}
 use Rattle.hip_tree.specs.declared.site.Site.{Site}
 use Rattle.hip_repairs.specs.Direct.{direct}
 use Rattle.hip_repairs.specs.declared.plan.CloneOf.{CloneOf}
-use Rattle.hip_thin_commands.specs.Spared.{has_original, is_spared_by}
-use Rattle.hip_thin_commands.proofs.SparedCounts.{counted}
-use Rattle.hip_thin_commands.proofs.spared.spared_count.Goals as goal
+use Rattle.hip_repairing.specs.Spared.{has_original, is_spared_by}
+use Rattle.hip_repairing.proofs.SparedCounts.{counted}
+use Rattle.hip_repairing.proofs.spared.spared_count.Goals as goal
 
 pub returns : goal.returns
 returns c =

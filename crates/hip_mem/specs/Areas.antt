@@ -81,7 +81,7 @@ after_write w r =
 abbrev pub block_address : Areas → ℕ → ℕ
 block_address r align = next_multiple_of (mark_of r) align
 
--- the mark after a new stack block of a size: the end of the block, which may lie behind the stack's end
+-- the mark after a new stack block of a size: the end of the block, which may lie after the stack's end
 abbrev pub pushed_mark : Areas → ℕ → ℕ → ℕ
 pushed_mark r size align = block_address r align + size
 

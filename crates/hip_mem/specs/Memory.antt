@@ -2,7 +2,7 @@
 use Rattle.std.specs.Prelude.{ℕ, suc, zero, ◌+◌, ◌-◌, Bool, cond, ◌&&◌, nat_lt, nat_le, List, [], ◌∷◌, ◌++◌, length, slice_index}
 use Rattle.hip_types.specs.Areas.{volatile_start, stack_start, stack_end}
 
--- whether a number, say an address, is one of so many from `start` on; a range of 0 contains nothing
+-- whether address a is one of the `size` addresses from `start` on; a range of size 0 contains none
 abbrev pub range_contains : ℕ → ℕ → ℕ → Bool
 range_contains start size a = nat_le start a && nat_lt a (start + size)
 

@@ -397,7 +397,7 @@ fn append_zeros(bytes: &mut Vec<u8>) -> Result<(), NoMemory>
     }
 }
 
-// Copies bytes to the front of a slice. The usual sizes are told apart, since a copy of a fixed size is one move.
+// Copies bytes to the front of a slice. The usual sizes have arms of their own, since a copy of a fixed size is one move.
 #[inline(always)]
 fn copy_front(into: &mut [u8], bytes: &[u8], from: usize, size: usize)
     requires few { size ≤ length into.old }
@@ -426,7 +426,7 @@ fn copy_bytes(into: &mut [u8], bytes: &[u8], from: usize, size: usize)
     into[..size].copy_from_slice(&bytes[from..from + size]);
 }
 
-// Writes bytes into a larger slice; the usual sizes are told apart as in `copy_front`.
+// Writes bytes into a larger slice; the usual sizes have arms of their own, as in `copy_front`.
 #[inline(always)]
 fn put(area: &mut [u8], at: usize, bytes: &[u8])
     requires { at + length bytes.now ≤ length area.old }

@@ -65,7 +65,7 @@ impl Ram {
         })
     }
 
-    /// The number of so many bytes, the lowest first.
+    /// The number that `size` bytes hold, the lowest first.
     #[inline]
     pub fn load(&self, addr: u64, size: u32, align: u32) -> Result<u64, MemTrap>
         requires some { 0 < size }
@@ -135,8 +135,8 @@ impl Ram {
         self.mark
     }
 
-    /// A block of so many bytes at the next multiple of an alignment: its address. The bytes from the old mark on are
-    /// zeros.
+    /// Makes a block of `size` bytes at the next multiple of an alignment, and returns its address. The bytes from the
+    /// old mark on are zeros.
     pub fn push_stack(&mut self, size: u64, align: u64) -> Result<u64, PushRefusal>
         requires { 0 < align }
         ensures full { (result ≡ Err PushRefusal.StackFull) ↔ (stack_end < pushed_mark self.old size align) }
@@ -198,7 +198,7 @@ impl Ram {
     }
 }
 
-// Whether an address is a multiple of an alignment. The most usual ones are told apart, since their rest needs no division.
+// Whether an address is a multiple of an alignment. The most usual ones have arms of their own, since they need no division.
 #[inline(always)]
 fn is_aligned(addr: u64, align: u64) -> bool
     requires { 0 < align }

@@ -12,8 +12,8 @@ use crate::refusal::status_of_image;
 use hip_answers::{Status, refuse};
 use hip_io::{Cabinet, Sink};
 use hip_picks::Pick;
-use hip_sound::Checked;
 use hip_runs::Input;
+use hip_sound::Checked;
 use hip_trace_loading::{Replayed, load_run};
 use std::alloc::Global;
 

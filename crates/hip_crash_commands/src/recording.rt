@@ -7,8 +7,8 @@ ghost use Rattle.hip_trace_loading.specs.Runs.{AnswersOnRun};
 use hip_answers::{Status, finish, put_ending, refuse, status_of_ending};
 use hip_io::Sink;
 use hip_recording::{RecordRefusal, record_run};
-use hip_sound::Checked;
 use hip_runs::Input;
+use hip_sound::Checked;
 use std::alloc::Global;
 
 /// Writes the trace of a run as it runs; then how the run has ended goes to notes.

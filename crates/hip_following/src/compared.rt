@@ -7,13 +7,13 @@ ghost use Rattle.hip_following.specs.Replaying.{Follows, FollowsSteps, Replays};
 ghost use Rattle.hip_report.specs.Tracking.{HasNoted};
 ghost use Rattle.hip_trace.specs.declared.refusal.Progress.TheVariants.{Reading};
 
+use hip_engine::Machine;
 use hip_invariants::runs_are_bounded;
 use hip_io::Cabinet;
 use hip_lockstep::{Begun, Ended, Lockstep, ReplayRefusal, read_header};
 use hip_report::{Findings, Tracker};
 use hip_runs::{Ending, Input, events_tell_output_and_ending, longest, runs_end};
 use hip_sound::Checked;
-use hip_engine::Machine;
 use hip_step::Begin;
 use hip_trace::Reader;
 use std::alloc::Global;

@@ -7,13 +7,13 @@ ghost use Rattle.hip_recording.specs.Printing.{Prints};
 
 use crate::delivery::out_of_memory;
 use crate::refusal::RecordRefusal;
+use hip_engine::Machine;
 use hip_invariants::runs_are_bounded;
 use hip_io::{Put, Sink};
 use hip_lockstep::ending_of;
 use hip_num::decimal_into;
 use hip_runs::{Ending, Event, Input, events_tell_output_and_ending, runs_end};
 use hip_sound::Checked;
-use hip_engine::Machine;
 use hip_step::Begin;
 use std::alloc::Global;
 

@@ -3,8 +3,8 @@ ghost use Rattle.hip_runs.specs.Seen.{after_step, state_of};
 ghost use Rattle.hip_runs.specs.Step.{event};
 ghost use Rattle.hip_recording.specs.Steps.{IsNoted, KeepsNoting};
 
-use hip_report::Tracker;
 use hip_engine::Machine;
+use hip_report::Tracker;
 use hip_runs::Event;
 use hip_types::NoMemory;
 

@@ -18,11 +18,7 @@ pub trait Begin<'a>: Sized {
 impl<'a> Begin<'a> for Machine<'a> {
     /// A machine before its first step. Time and memory are linear in the program's text and in the bytes of the
     /// initial memory that are not 0.
-    fn new(
-        alloc: Global,
-        checked: &'a Checked,
-        input: &'a Input,
-    ) -> Result<Machine<'a>, NoMemory>
+    fn new(alloc: Global, checked: &'a Checked, input: &'a Input) -> Result<Machine<'a>, NoMemory>
         requires { IsValid checked.now input.now }
         ensures { IfOk result (λ m. m ≡ record { program = checked.now; input = input.now; taken = 0 }) }
     {

@@ -267,7 +267,13 @@ fn many_stores_to_a_line(rt: HostRuntime) {
     }
     assert_byte(&rt, &lines, 7, 1, true);
     'bytes: for offset in 8..58u32 {
-        assert_byte(&rt, &lines, offset.into(), u128::from(offset) + 99_942, false);
+        assert_byte(
+            &rt,
+            &lines,
+            offset.into(),
+            u128::from(offset) + 99_942,
+            false,
+        );
     }
     lines.fence();
     assert!(&rt; lines.not_durable(0, 8).next().is_none());

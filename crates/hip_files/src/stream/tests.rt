@@ -57,7 +57,10 @@ fn a_failed_write_shows_at_the_delivery(rt: HostRuntime) {
     let mut stream = Stream::new(rt.alloc(), device(5), false);
     assert!(&rt; stream.put(b"1234567") == Put::Done);
     assert!(&rt; stream.deliver() == Put::Failed);
-    assert_eq!(&rt; (stream.out.taken, stream.held.len(), stream.faults), (5, 2, 1));
+    assert_eq!(&rt;
+        (stream.out.taken, stream.held.len(), stream.faults),
+        (5, 2, 1)
+    );
 }
 
 #[test]

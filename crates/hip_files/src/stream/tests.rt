@@ -24,7 +24,7 @@ impl Write for Device {
     }
 }
 
-fn device(room: usize) -> Device {
+fn device_with(room: usize) -> Device {
     Device {
         room,
         taken: 0,
@@ -34,7 +34,7 @@ fn device(room: usize) -> Device {
 
 #[test]
 fn pieces_are_written_together(rt: HostRuntime) {
-    let mut stream = Stream::new(rt.alloc(), device(100_000), false);
+    let mut stream = Stream::new(rt.alloc(), device_with(100_000), false);
     for _ in 0..10_000 {
         assert!(&rt; stream.put(b"12345\n") == Put::Done);
     }
@@ -45,7 +45,7 @@ fn pieces_are_written_together(rt: HostRuntime) {
 
 #[test]
 fn lines_are_written_at_once(rt: HostRuntime) {
-    let mut stream = Stream::new(rt.alloc(), device(100), true);
+    let mut stream = Stream::new(rt.alloc(), device_with(100), true);
     assert!(&rt; stream.put(b"1") == Put::Done);
     assert_eq!(&rt; stream.out.taken, 0);
     assert!(&rt; stream.put(b"2\n") == Put::Done);
@@ -54,7 +54,7 @@ fn lines_are_written_at_once(rt: HostRuntime) {
 
 #[test]
 fn a_failed_write_shows_at_the_delivery(rt: HostRuntime) {
-    let mut stream = Stream::new(rt.alloc(), device(5), false);
+    let mut stream = Stream::new(rt.alloc(), device_with(5), false);
     assert!(&rt; stream.put(b"1234567") == Put::Done);
     assert!(&rt; stream.deliver() == Put::Failed);
     assert_eq!(&rt;
@@ -67,7 +67,7 @@ fn a_failed_write_shows_at_the_delivery(rt: HostRuntime) {
 fn a_long_piece_follows_what_is_held(rt: HostRuntime) {
     let mut long = Vec::new(rt.alloc());
     long.resize(9_000, b'x').expect(&rt, "there is memory");
-    let mut stream = Stream::new(rt.alloc(), device(10_000), false);
+    let mut stream = Stream::new(rt.alloc(), device_with(10_000), false);
     assert!(&rt; stream.put(b"1234567") == Put::Done);
     assert!(&rt; stream.put(long.as_slice()) == Put::Done);
     assert_eq!(&rt; (stream.out.taken, stream.out.writes), (9_007, 2));

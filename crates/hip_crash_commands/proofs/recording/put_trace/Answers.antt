@@ -5,17 +5,17 @@ use Rattle.hip_crash_commands.proofs.recording.put_trace.Goals as goal
 pub returns-in-Ok : goal.returns-in-Ok
 returns-in-Ok g c =
     has_recorded c.args.checked.now c.args.input.now _ c.in-Ok.recorded c.status_of_ending.result c.put_ending-tried.result
-    (g.N.Sink.state c.put_ending-tried.new.out) c.finish.result c.in-Ok.ensures c.status_of_ending.ensures
+    (g.N.Sink.state c.put_ending-tried.new.out) c.finish.result c.in-Ok.ensures.records c.status_of_ending.ensures
     c.put_ending-tried.ensures c.finish.ensures
 
 pub returns-in-Err-WriteFault : goal.returns-in-Err-WriteFault
 returns-in-Err-WriteFault g c =
     let s = sinks (g.S.Sink.state c.args.out.now) (g.S.Sink.state c.record_run.new.out) (g.N.Sink.state c.args.notes.now) (g.N.Sink.state c.refuse.new.notes) in
     rw c.refuse.ensures.status (was_cut c.args.checked.now c.args.input.now s
-    (rw c.in-Err-WriteFault.field-0-is at c.in-Err-WriteFault.ensures) c.refuse.ensures.line)
+    (rw c.in-Err-WriteFault.field-0-is at c.in-Err-WriteFault.ensures.records) c.refuse.ensures.line)
 
 pub returns-in-Err-NoMemory : goal.returns-in-Err-NoMemory
 returns-in-Err-NoMemory g c =
     let s = sinks (g.S.Sink.state c.args.out.now) (g.S.Sink.state c.record_run.new.out) (g.N.Sink.state c.args.notes.now) (g.N.Sink.state c.refuse-in-Err-NoMemory.new.notes) in
     rw c.refuse-in-Err-NoMemory.ensures.status (ran_out c.args.checked.now c.args.input.now s
-    (rw c.in-Err-NoMemory.field-0-is at c.in-Err-NoMemory.ensures) c.refuse-in-Err-NoMemory.ensures.line)
+    (rw c.in-Err-NoMemory.field-0-is at c.in-Err-NoMemory.ensures.records) c.refuse-in-Err-NoMemory.ensures.line)

@@ -10,7 +10,7 @@ returns-in-Ok g c =
     let s = sinks (g.S.Sink.state c.args.out.now) (g.S.Sink.state c.record_run.new.out) (g.N.Sink.state c.args.notes.now) (g.N.Sink.state c.finish.new.notes) in
     rerun P I found (c.repairs_cure.ensures P I found c.program-program.ensures.sound c.requires.valid c.requires.found)
     c.args.repair.now.repaired.checked c.requires.repair.program_is s c.in-Ok.recorded c.put_rerun_counts-tried.result
-    (g.N.Sink.state c.put_rerun_counts-tried.new.notes) c.finish.result c.in-Ok.ensures
+    (g.N.Sink.state c.put_rerun_counts-tried.new.notes) c.finish.result c.in-Ok.ensures.records
     (rw (c.len-before.ensures, c.len-after.ensures) at c.put_rerun_counts-tried.ensures) c.finish.ensures
 
 pub returns-in-Err-WriteFault : goal.returns-in-Err-WriteFault
@@ -22,7 +22,7 @@ returns-in-Err-WriteFault g c =
     rw c.refuse.ensures.status (rerun_part P I found
     (c.repairs_cure.ensures P I found c.program-program.ensures.sound c.requires.valid c.requires.found)
     c.args.repair.now.repaired.checked c.requires.repair.program_is s
-    (rw c.in-Err-WriteFault.field-0-is at c.in-Err-WriteFault.ensures) c.refuse.ensures.line)
+    (rw c.in-Err-WriteFault.field-0-is at c.in-Err-WriteFault.ensures.records) c.refuse.ensures.line)
 
 pub returns-in-Err-NoMemory : goal.returns-in-Err-NoMemory
 returns-in-Err-NoMemory g c =
@@ -33,4 +33,4 @@ returns-in-Err-NoMemory g c =
     rw c.refuse-in-Err-NoMemory.ensures.status (rerun_stopped P I found
     (c.repairs_cure.ensures P I found c.program-program.ensures.sound c.requires.valid c.requires.found)
     c.args.repair.now.repaired.checked c.requires.repair.program_is s
-    (rw c.in-Err-NoMemory.field-0-is at c.in-Err-NoMemory.ensures) c.refuse-in-Err-NoMemory.ensures.line)
+    (rw c.in-Err-NoMemory.field-0-is at c.in-Err-NoMemory.ensures.records) c.refuse-in-Err-NoMemory.ensures.line)

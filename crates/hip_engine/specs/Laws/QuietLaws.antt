@@ -1,5 +1,5 @@
 -- What steps without an event, and the next event, tell of what a run prints and of its end.
-use Rattle.std.proofs.Common.{◌≡◌, ℕ, zero, suc, ◌+◌, ◌<◌, cond, List, ◌++◌, Option, Some, None, is_some, append-nil, refl, sym, ap, ap₂, ◌∙◌, arith}
+use Rattle.std.proofs.Common.{◌≡◌, ℕ, zero, suc, ◌+◌, ◌<◌, cond, ◌++◌, Option, Some, None, is_some, append-nil, refl, sym, ap, ap₂, ◌∙◌, arith}
 use Rattle.hip_tree.specs.declared.program.Program.{Program}
 use Rattle.hip_runs.specs.Laws.OutputLaws.{IsTold, run_told, step_told}
 use Rattle.hip_runs.specs.Outputs.{ending_by, printed_by}

@@ -1,6 +1,6 @@
 //! Cache lines: which bytes are not durable after stores, flushes and fences.
 
-ghost use Rattle.std.specs.Prelude.{◌≡◌, ◌<◌, ◌≤◌, ◌*◌, length};
+ghost use Rattle.std.specs.Prelude.{◌≡◌, ◌≤◌, ◌*◌, length};
 
 use hip_examples::AMPLE;
 use hip_lines::{Lines, LooseByte};
@@ -22,7 +22,7 @@ enum Call {
     Flush { offset: u64 },
     FlushRange { offset: u64, count: u64 },
     Fence,
-    /// What is not durable among the first n bytes.
+    /// What is not durable among so many bytes from the start.
     NotDurable { among: u64, bytes: &'static [Bytes] },
 }
 
@@ -43,7 +43,7 @@ fn assert_bytes(rt: &impl Abort, found: &[LooseByte], bytes: &[Bytes]) {
     assert!(rt; found.len() == at);
 }
 
-/// One call on n lines.
+/// One call on so many lines.
 fn make_call(rt: &impl Abort, alloc: Global, lines: &mut Lines, count: u64, call: Call)
     requires count { length lines.old.lines ≡ count }
     requires few { count ≤ 1048576 }
@@ -76,7 +76,7 @@ fn make_call(rt: &impl Abort, alloc: Global, lines: &mut Lines, count: u64, call
     }
 }
 
-/// The calls in turn, on n lines.
+/// The calls in turn, on so many lines.
 fn make_calls(rt: &impl Abort, alloc: Global, count: u64, calls: &[Call])
     requires { count ≤ 1048576 }
 {
@@ -251,44 +251,4 @@ fn many_lines(rt: HostRuntime) {
         .collect(rt.alloc())
         .expect(&rt, AMPLE);
     assert_bytes(&rt, found.as_slice(), LAST_STORE);
-}
-
-/// Many stores to the same bytes of one line: each byte shows the last store over it, and a flush before them stays.
-#[test]
-fn many_stores_to_a_line(rt: HostRuntime) {
-    let mut lines = Lines::new(rt.alloc(), 64).expect(&rt, AMPLE);
-    lines.note_store(0, 8, 1).expect(&rt, AMPLE);
-    lines.flush(0);
-    'turns: for turn in 0..100_000u32 {
-        let offset = u64::from(turn % 50) + 8;
-        lines
-            .note_store(offset, 1, u128::from(turn))
-            .expect(&rt, AMPLE);
-    }
-    assert_byte(&rt, &lines, 7, 1, true);
-    'bytes: for offset in 8..58u32 {
-        assert_byte(
-            &rt,
-            &lines,
-            offset.into(),
-            u128::from(offset) + 99_942,
-            false,
-        );
-    }
-    lines.fence();
-    assert!(&rt; lines.not_durable(0, 8).next().is_none());
-    assert_byte(&rt, &lines, 57, 99_999, false);
-}
-
-/// Asserts that the byte of the first line is not durable, by the store with this tag.
-fn assert_byte(rt: &impl Abort, lines: &Lines, offset: u64, tag: u128, flushed: bool)
-    requires line { length lines.now.lines ≡ 1 }
-    requires within { offset < 64 }
-{
-    let byte = LooseByte {
-        offset,
-        tag,
-        flushed,
-    };
-    assert!(rt; lines.not_durable(offset, 1).next() == Some(byte));
 }

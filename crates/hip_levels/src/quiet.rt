@@ -153,6 +153,17 @@ fn levels_of<'p>(scope: &Scope<'p>, program: &'p Program) -> Result<LevelTable<'
     rules.solve(scope.alloc)
 }
 
+/// The sites of the low stores of a program, by its least levels.
+fn sites_in<'p>(scope: &Scope<'p>, program: &'p Program) -> Result<Row<Site>, NoMemory>
+    requires scope { Describes scope.now }
+    requires program { scope.now.program.now ≡ program.now }
+    requires fits { All FunctionFits program.now.functions }
+    ensures { IfOk result (λ sites. sites ≡ filter (low_stores program.now) (sites_of program.now)) }
+{
+    let levels = levels_of(scope, program)?;
+    low_sites(scope, &levels, program)
+}
+
 /// The sites of the stores whose address has another level than Free in the least assignment of levels, in the
 /// program's order: in no run do they lie in the region.
 ///
@@ -163,7 +174,5 @@ pub fn quiet_stores(alloc: Global, checked: &Checked) -> Result<Row<Site>, NoMem
 {
     let program = checked.program();
     let scope = Scope::new(alloc, program)?;
-    let levels = levels_of(&scope, program)?;
-    let sites = low_sites(&scope, &levels, program)?;
-    Ok(sites)
+    sites_in(&scope, program)
 }

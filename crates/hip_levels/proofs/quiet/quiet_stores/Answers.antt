@@ -1,4 +1,5 @@
 use Rattle.std.proofs.Common.{◌≡◌, ◌∙◌, ap, List, sym, subst}
+use Rattle.std.specs.Prelude.{IfOk, Result, Ok, Err}
 use Rattle.std.specs.List.{filter}
 use Rattle.hip_tree.specs.Sites.{has_site, sites_of}
 use Rattle.hip_tree.specs.declared.program.Program.{Program}
@@ -12,11 +13,8 @@ use Rattle.hip_levels.proofs.LowQuiet.{low_quiet}
 use Rattle.hip_levels.proofs.LowSites.{found_low}
 use Rattle.hip_levels.proofs.quiet.quiet_stores.Goals as goal
 
-pub levels_of-requires-clause-fits : goal.levels_of-requires-clause-fits
-levels_of-requires-clause-fits c = functions_fit c.program-program.result.now (subst IsSound (sym c.program-program.ensures.is) c.program-program.ensures.sound)
-
-pub low_sites-requires-clause-fits : goal.low_sites-requires-clause-fits
-low_sites-requires-clause-fits c = functions_fit c.program-program.result.now (subst IsSound (sym c.program-program.ensures.is) c.program-program.ensures.sound)
+pub sites_in-requires-clause-fits : goal.sites_in-requires-clause-fits
+sites_in-requires-clause-fits c = functions_fit c.program-program.result.now (subst IsSound (sym c.program-program.ensures.is) c.program-program.ensures.sound)
 
 -- the sites that were found are quiet
 listed_quiet : (P : Program) (sites : List Site) → IsSound P → sites ≡ filter (low_stores P) (sites_of P) → IsQuiet P (has_site sites)
@@ -24,8 +22,14 @@ listed_quiet P sites sound e =
     let same : has_site sites ≡ low_stores P = λ i s. (ap (λ (xs : List Site). has_site xs s) e ∙ found_low P s) i in
     subst (IsQuiet P) (sym same) (low_quiet P (least_levels P) sound (program_is_least P).closed)
 
+answer_quiet : {E : Type 0} (P : Program) → IsSound P → (r : Result (List Site) E) → IfOk r (λ sites. sites ≡ filter (low_stores P) (sites_of P)) → IfOk r (λ sites. IsQuiet P (has_site sites))
+answer_quiet P sound (Ok sites) e = listed_quiet P sites sound e
+answer_quiet P sound (Err fault) e = e
+
 pub returns : goal.returns
 returns c =
     let P = c.args.checked.now in
-    let listed : c.in_ok-sites.sites ≡ filter (low_stores P) (sites_of P) = c.in_ok-sites.ensures ∙ ap (λ (p : Program). filter (low_stores p) (sites_of p)) c.program-program.ensures.is in
-    record { sites = listed; quiet = listed_quiet P c.in_ok-sites.sites c.program-program.ensures.sound listed }
+    let r = c.sites_in.result in
+    let listed : IfOk r (λ sites. sites ≡ filter (low_stores P) (sites_of P)) =
+    subst (λ (p : Program). IfOk r (λ sites. sites ≡ filter (low_stores p) (sites_of p))) c.program-program.ensures.is c.sites_in.ensures in
+    record { sites = listed; quiet = answer_quiet P c.program-program.ensures.sound r listed }

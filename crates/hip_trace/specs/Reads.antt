@@ -41,7 +41,7 @@ pub record MayGoOn (bytes : List ℕ) : Type 0 where
   pub whole : list_any is_separator bytes ≡ false
   pub few : length bytes ≤ 256
 
--- The last read brought these bytes, and was made only since those before them may go on.
+-- What was held before the last read may go on, and begins with what was held at first. The last read gave `last`.
 pub record WasNeeded (held taken : List ℕ) : Type 0 where
   pub before : List ℕ
   pub last : List ℕ

@@ -16,7 +16,7 @@ pub record IsAlike (j : ℕ) (v : StoredValue) (x : StorePart) : Type 0 where
   pub same_bytes : (b : ℕ) → LINE_SIZE * j ≤ b → b < LINE_SIZE * j + LINE_SIZE → covers x b ≡ true →
       stored_byte v b ≡ byte_of x b
 
--- stored values and parts side by side, as many of the one as of the other, where each gives line j the same bytes
+-- stored values and parts side by side, as many of each, where each pair gives line j the same bytes
 abbrev pub AreAlike : ℕ → List StoredValue → List StorePart → Type 0
 AreAlike j [] [] = Unit {0}
 AreAlike j (v ∷ vs) (x ∷ xs) = IsAlike j v x × AreAlike j vs xs

@@ -1,13 +1,13 @@
--- What is kept of a cache line: its bytes behind the durable stores, how many these are, the later ones in order, and
--- how many of those are flushed.
+-- What is kept of a cache line: its bytes after the durable stores, the number of these, the later ones in order, and
+-- the number of those that are flushed.
 use Rattle.std.specs.Prelude.{ℕ, ◌+◌, ◌*◌, List, [], ◌∷◌, ◌++◌, length, drop, take}
 use Rattle.hip_types.specs.declared.areas.TheConstants.{LINE_SIZE}
 use Rattle.hip_crash.specs.Values.{bytes_after}
 use Rattle.hip_crash.specs.declared.kept_line.KeptLine.{KeptLine}
 use Rattle.hip_crash.specs.declared.values.StoredValue.{StoredValue}
 
--- what is kept of a cache line: its bytes behind the durable stores, how many these are, the later stores, the
--- earliest first, and how many of the later ones are flushed
+-- what is kept of a cache line: its bytes after the durable stores, the number of these, the later stores, the
+-- earliest first, and the number of the later ones that are flushed
 pub record Kept : Type 0 where
   pub bytes : List ℕ
   pub least : ℕ
@@ -18,11 +18,11 @@ pub record Kept : Type 0 where
 abbrev pub kept_in : KeptLine → Kept
 kept_in x = record { bytes = x.bytes; least = x.least; later = x.later.items; flushed = x.flushed }
 
--- the line behind one more store, the last one, which is not flushed
+-- the line after one more store, the last one, which is not flushed
 abbrev pub with_store : StoredValue → Kept → Kept
 with_store v k = record k { later = k.later ++ v ∷ [] }
 
--- the line behind a flush of it, by which all of its later stores are flushed
+-- the line after a flush of it, by which all of its later stores are flushed
 abbrev pub with_flush : Kept → Kept
 with_flush k = record k { flushed = length k.later }
 

@@ -34,7 +34,7 @@ IsFirstKept m from to None = NoneKept m from to
 IsFirstKept m from to (Some x) =
     (line_at m x.line ≡ Some x) × (from ≤ x.line) × (x.line < to) × NoneKept m from x.line
 
--- how many stores are flushed
+-- the number of flushed stores
 abbrev pub flushed_in : Option Kept → ℕ
 flushed_in None = 0
 flushed_in (Some k) = k.flushed

@@ -1,4 +1,4 @@
--- What stands of a cache line, where its initial bytes stand for those of which nothing is kept.
+-- The state of a cache line: what is kept of it, or its initial bytes if nothing is.
 use Rattle.std.specs.Prelude.{ℕ, ◌*◌, List, [], drop, take, Option, Some, None}
 use Rattle.hip_types.specs.declared.areas.TheConstants.{LINE_SIZE}
 use Rattle.hip_crash.specs.Kept.{Kept}
@@ -9,11 +9,11 @@ use Rattle.hip_crash.specs.declared.kept_lines.KeptLines.{KeptLines}
 abbrev pub fresh : List ℕ → ℕ → Kept
 fresh image j = record { bytes = take LINE_SIZE (drop (LINE_SIZE * j) image); least = 0; later = []; flushed = 0 }
 
--- what is kept of line j; the line with its initial bytes, and no store, where nothing is
+-- what is kept of line j; the line with its initial bytes, and no store, if nothing is
 abbrev pub kept_or_fresh : List ℕ → ℕ → Option Kept → Kept
 kept_or_fresh image j None = fresh image j
 kept_or_fresh image j (Some k) = k
 
--- what stands of line j, but for a store or a flush that waits to be taken up
+-- the state of line j, without a store or a flush that waits to be taken up
 abbrev pub now_at : KeptLines → List ℕ → ℕ → Kept
 now_at m image j = kept_or_fresh image j (kept_at m j)

@@ -9,7 +9,7 @@ use Rattle.hip_crash.specs.Picks.{number_for}
 use Rattle.hip_picks.specs.declared.pick.Bounds.{Bounds}
 use Rattle.hip_picks.specs.declared.pick.Pick.{Pick}
 
--- for each of so many lines the number that picks give it, if they do
+-- for each of the first n lines the number that picks give it, if they do
 pub record AreNumbers (count : ℕ) (picks : List Pick) (numbers : List (Option ℕ)) : Type 0 where
   pub many : length numbers ≡ count
   pub are : (j : ℕ) → j < count → slice_get numbers j ≡ Some (number_for picks j)
@@ -19,12 +19,12 @@ pub record IsBetween (bounds : Bounds) (upto : ℕ) : Type 0 where
   pub least : bounds.least ≤ upto
   pub most : upto ≤ bounds.most
 
--- so many first parts an image has in line j, if it is a crash image there
+-- an image has this many first parts in line j, if it is a crash image there
 abbrev pub IsNumberIn : Input → List ℕ → ℕ → Line StorePart → Option ℕ → Type 0
 IsNumberIn I image j l None = (q : ℕ) → IsLineImageAt covers byte_of I.image image j l q → ⊥
 IsNumberIn I image j l (Some q) = IsLineImageAt covers byte_of I.image image j l q
 
--- so many first parts an image has in line j, or none where it is no crash image there; nothing is asked where the
+-- an image has this many first parts in line j, or none if it is not a crash image there; nothing is required if the
 -- region has no line j
 pub record IsNumberOf (I : Input) (s : State) (image : List ℕ) (j : ℕ) (number : Option ℕ) : Type 0 where
   pub is : (l : Line StorePart) → slice_get s.lines j ≡ Some l → IsNumberIn I image j l number

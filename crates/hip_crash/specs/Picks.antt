@@ -10,7 +10,8 @@ use Rattle.hip_picks.specs.declared.pick.Pick.{Pick}
 use Rattle.hip_picks.specs.declared.pick.PickRefusal.{PickRefusal}
 use Rattle.hip_picks.specs.declared.pick.PickRefusal.TheVariants.{NoLine, Repeated, OutOfRange, NoMemory}
 
--- from how many first parts of a cache line to how many a crash may leave: its durable number, and its length
+-- the least and the greatest number of first parts of a cache line that a crash may leave: its durable number, and its
+-- length
 abbrev pub bounds_in : Option (Line StorePart) → Bounds
 bounds_in None = record { least = 0; most = 0 }
 bounds_in (Some l) = record { least = l.durable; most = length l.parts }
@@ -19,12 +20,12 @@ bounds_in (Some l) = record { least = l.durable; most = length l.parts }
 abbrev pub bounds_of : State → ℕ → Bounds
 bounds_of s j = bounds_in (slice_get s.lines j)
 
--- how many first parts the first of the picks that names line j gives it, if one does
+-- the number of first parts that the first pick that names line j gives it, if one does
 abbrev pub number_for : List Pick → ℕ → Option ℕ
 number_for [] j = None
 number_for (p ∷ ps) j = cond (nat_eq p.line j) (Some p.upto) (number_for ps j)
 
--- the number that was picked, or the least one where none was
+-- the number that was picked, or the least one if none was
 abbrev pub number_or : ℕ → Option ℕ → ℕ
 number_or least None = least
 number_or least (Some upto) = upto
@@ -38,7 +39,7 @@ abbrev pub range_failure : ℕ → Bounds → ℕ → Option PickRefusal
 range_failure at bounds upto =
     cond (nat_le bounds.least upto && nat_le upto bounds.most) None (Some (OutOfRange at bounds.least bounds.most))
 
--- How a pick fails behind the earlier ones, counted from 1: for a line outside the region, else for a line that an
+-- How a pick fails after the earlier ones, counted from 1: for a line outside the region, else for a line that an
 -- earlier pick names, else for a number outside the line's bounds.
 abbrev pub failure : State → List Pick → ℕ → Pick → Option PickRefusal
 failure s earlier at p =
@@ -46,22 +47,22 @@ failure s earlier at p =
     (cond (is_some (number_for earlier p.line)) (Some (Repeated at)) (range_failure at (bounds_of s p.line) p.upto))
     (Some (NoLine at))
 
--- the first refusal or, where there is none, the later one
+-- the first refusal or, if there is none, the later one
 abbrev pub first_of : Option PickRefusal → Option PickRefusal → Option PickRefusal
 first_of None later = later
 first_of (Some refusal) later = Some refusal
 
--- how the first of the picks behind earlier ones fails that does, if one does
+-- how the first failing pick after earlier ones fails, if one does
 abbrev pub failure_behind : State → List Pick → List Pick → Option PickRefusal
 failure_behind s earlier [] = None
 failure_behind s earlier (p ∷ ps) =
     first_of (failure s earlier (suc (length earlier)) p) (failure_behind s (earlier ++ p ∷ []) ps)
 
--- how the first of the picks fails that does, if one does
+-- how the first failing pick fails, if one does
 abbrev pub first_failure : State → List Pick → Option PickRefusal
 first_failure s picks = failure_behind s [] picks
 
--- a refusal of picks in a state, which for want of memory may come at any time
+-- a refusal of picks in a state; out of memory may come at any time
 abbrev pub IsRefusal : State → List Pick → PickRefusal → Type 0
 IsRefusal s picks refusal = (refusal ≡ NoMemory) ⊎ (first_failure s picks ≡ Some refusal)
 

@@ -1,11 +1,11 @@
--- Kept lines side by side, and the directory that says which cache line has which.
+-- Kept lines side by side, and the directory that gives each cache line's place among them.
 use Rattle.std.specs.Prelude.{◌≡◌, ◌≢◌, ℕ, zero, suc, ◌≤◌, List, length, Option, Some, None, slice_get}
 use Rattle.hip_directory.specs.declared.directory.Directory.{Directory}
 use Rattle.hip_directory.specs.Directories.{number_at}
 use Rattle.hip_crash.specs.Kept.{Kept, kept_in}
 use Rattle.hip_crash.specs.declared.kept_line.KeptLine.{KeptLine}
 
--- the kept line at a place, counted from 1; at 0 there is none
+-- the kept line at a place, counted from 1; none at 0
 abbrev pub at_place : List KeptLine → ℕ → Option KeptLine
 at_place xs zero = None
 at_place xs (suc n) = slice_get xs n

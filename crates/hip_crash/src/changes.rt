@@ -36,7 +36,7 @@ pub fn line_bytes(image: &[u8], line: u64) -> [u8; LINE_SIZE as usize]
     bytes
 }
 
-/// Takes up the part of a store in one line, whose initial bytes are kept where nothing was stored into it so far.
+/// Takes up the part of a store in one line. Keeps the line's initial bytes if nothing was stored into it so far.
 pub fn push_in(
     lines: &mut KeptLines,
     image: &[u8],
@@ -55,7 +55,7 @@ pub fn push_in(
     lines.push(line, stored)
 }
 
-// Keeps the initial bytes of a line where nothing was stored into it so far.
+// Keeps the initial bytes of a line if nothing was stored into it so far.
 fn ensure_line(lines: &mut KeptLines, image: &[u8], line: u64) -> Result<(), NoMemory>
     requires low { line < 2 ^ 32 }
     requires within { LINE_SIZE * line + LINE_SIZE ≤ length image.now }
@@ -68,8 +68,8 @@ fn ensure_line(lines: &mut KeptLines, image: &[u8], line: u64) -> Result<(), NoM
     }
 }
 
-/// Flushes the lines that have a byte of a range, in time of those of which something is kept, and lists those that
-/// hold flushed stores then.
+/// Flushes the lines that have a byte of a range, in time of the kept ones, and lists those that hold flushed stores
+/// then.
 pub fn flush_in(
     lines: &mut KeptLines,
     flushed: &mut Vec<u64>,
@@ -94,7 +94,7 @@ pub fn flush_in(
     Ok(())
 }
 
-// Flushes a line, and lists it where it holds flushed stores then and held none before.
+// Flushes a line, and lists it if it holds flushed stores then and held none before.
 fn flush_line(lines: &mut KeptLines, flushed: &mut Vec<u64>, line: u64) -> Result<(), NoMemory>
     requires there { IsSome (line_at lines.old line) }
     requires listed { AreListed flushed.old.items lines.old }
@@ -119,7 +119,7 @@ fn is_to_be_listed(lines: &KeptLines, line: u64) -> bool
     }
 }
 
-// Puts a line to the others.
+// Adds a line to the list.
 fn list(flushed: &mut Vec<u64>, line: u64) -> Result<(), NoMemory>
     ensures kept { (j : ℕ) → list_any (nat_eq j) flushed.old.items ≡ true
         → list_any (nat_eq j) flushed.new.items ≡ true }
@@ -141,7 +141,7 @@ pub fn fence_in(lines: &mut KeptLines, flushed: &[u64])
     }
 }
 
-/// Makes all stores of the lines durable that have a byte of a range, in time of those of which something is kept.
+/// Makes all stores of the lines that have a byte of a range durable, in time of the kept ones.
 pub fn persist_in(lines: &mut KeptLines, offset: u64, len: u64)
     requires { offset + len < 2 ^ 40 }
     ensures { (j : ℕ) → kept_at lines.new j

@@ -1,4 +1,4 @@
-//! How many entries a run's trace has: those of its header, and of each step.
+//! The number of entries of a run's trace: those of its header, and of each step.
 
 ghost use Rattle.std.specs.Prelude.{◌≡◌, ◌/◌, length, is_some};
 ghost use Rattle.hip_types.specs.declared.areas.TheConstants.{LINE_SIZE};
@@ -8,7 +8,7 @@ ghost use Rattle.hip_runs.specs.Step.{has_entry, header_entries, image_lines, so
 use hip_runs::{Event, Input};
 use hip_types::LINE_SIZE;
 
-/// How many entries stand before a run's first step, in time of the initial bytes.
+/// The number of entries before a run's first step, in time of the initial bytes.
 pub fn count_header(input: &Input) -> u128
     ensures { result ≡ header_entries input.now }
 {
@@ -16,7 +16,7 @@ pub fn count_header(input: &Input) -> u128
     2 + input.numbers.len() as u128 + lines as u128
 }
 
-// How many lines have an initial byte other than 0.
+// The number of lines with an initial byte other than 0.
 fn count_lines(image: &[u8]) -> u64
     ensures { result ≡ image_lines (length image.now / LINE_SIZE) image.now }
 {

@@ -7,10 +7,10 @@ use crate::values::{StoredValue, put_value};
 use hip_types::{LINE_SIZE, NoMemory};
 use std::alloc::Global;
 
-/// For how many stores a line keeps room for good.
+/// A line always keeps room for this many stores.
 const FEW: usize = 8;
 
-/// The bytes of a line behind its durable stores, how many these are, and the later ones in order, of which the first
+/// The bytes of a line after its durable stores, the number of these, and the later ones in order, of which the first
 /// are flushed.
 #[derive(Drop)]
 pub struct KeptLine {
@@ -65,7 +65,7 @@ impl KeptLine {
         self.flushed = self.later.len();
     }
 
-    /// Lets the flushed stores go, which are durable now.
+    /// Drops the flushed stores, which are durable now.
     #[inline]
     pub fn fence(&mut self)
         ensures line { self.new.line ≡ self.old.line }
@@ -83,7 +83,7 @@ impl KeptLine {
     }
 }
 
-/// Writes so many values in order into the bytes of a line, whose first byte has this offset.
+/// Writes the first `count` values in order into the bytes of a line, whose first byte has this offset.
 pub fn put_front(
     bytes: &mut [u8; LINE_SIZE as usize],
     start: u64,
@@ -99,8 +99,7 @@ pub fn put_front(
     }
 }
 
-// Takes so many values away from the front, and lets room go that is more than a few values and those that are left
-// need.
+// Removes the first `count` values, and frees room beyond what a few values and the rest need.
 fn drop_front(values: &mut Vec<StoredValue>, count: usize)
     requires { count ≤ length values.old.items }
     ensures { values.new.items ≡ drop count values.old.items }

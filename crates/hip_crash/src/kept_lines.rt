@@ -17,7 +17,7 @@ use std::alloc::Global;
 #[derive(Drop)]
 pub struct KeptLines {
     alloc: Global,
-    // For each cache line of which something is kept the place of that, counted from 1.
+    // For each cache line that is kept, its place, counted from 1.
     directory: Directory,
     lines: Vec<KeptLine>,
     ghost placed: { ArePlaced directory lines.items },

@@ -23,9 +23,9 @@ use hip_types::{LINE_SIZE, NoMemory, Row};
 use std::alloc::Global;
 use std::marker::Model;
 
-/// What a crash may leave in the region at each step of a run, which contracts see as the run of its program on its
-/// input, and how many steps of it were noted. It keeps of each cache line that was stored into its bytes behind the
-/// durable stores and the later stores.
+/// What a crash may leave in the region at each step of a run. Contracts see the program, the input, and the number of
+/// steps that were noted. Of each cache line that was stored into, it keeps the bytes after the durable stores, and the
+/// later stores.
 #[derive(Drop)]
 pub struct CrashLog<'a> {
     checked: &'a Checked,
@@ -62,7 +62,7 @@ impl<'a> CrashLog<'a> {
         requires { IsValid checked.now input.now }
         ensures { IfOk result (λ log. log ≡ record { program = checked.now; input = input.now; taken = 0 }) }
     {
-        // No body is longer than a number of 64 bits tells, so that the counts are numbers of 128 bits.
+        // Lemma: each block's length is below 2^64, so the counts fit 128 bits.
         let _longest = longest(checked.program());
         let region = RegionLog::new(alloc)?;
         let entries = count_header(input);
@@ -76,8 +76,7 @@ impl<'a> CrashLog<'a> {
         })
     }
 
-    /// Takes the next step of the machine whose steps it noted so far, and notes it. After want of memory neither has
-    /// changed.
+    /// Takes the next step of the machine whose steps it noted so far, and notes it. Out of memory, neither changes.
     #[inline(always)]
     pub fn advance(&mut self, machine: &mut Machine<'_>) -> Result<Event, NoMemory>
         requires { self.old ≡ machine.old }
@@ -102,24 +101,25 @@ impl<'a> CrashLog<'a> {
         Ok(event)
     }
 
-    /// How many entries the run's trace has so far, those of its header among them.
+    /// The number of entries that the run's trace has so far, including those of its header.
     pub fn entries(&self) -> u128
         ensures { result ≡ (state_of self.now).counts.entries }
     {
         self.entries
     }
 
-    /// From how many first parts of its stores to how many a crash may leave in a line of the region.
+    /// The least and the greatest number of first parts of its stores that a crash may leave in a line of the region.
     pub fn bounds(&self, line: u64) -> Bounds
         requires { LINE_SIZE * line < length self.now.input.image }
         ensures { result ≡ bounds_of (state_of self.now) line }
     {
+        // Lemma: the program is sound.
         let _ = &self.checked;
         self.line_bounds(line)
     }
 
-    /// The image that picks give, where a line that is not named keeps its durable stores alone; or how the first of
-    /// the picks fails that does. It takes memory of the region's size.
+    /// The image that picks give, in which a line that is not named keeps only its durable stores; or how the first
+    /// failing pick fails. It takes memory of the region's size.
     pub fn pick_image(&self, alloc: Global, picks: &[Pick]) -> Result<Row<u8>, PickRefusal>
         ensures image { IfOk result (λ image. image
             ≡ crash_image self.now.input (state_of self.now) (picked (state_of self.now) picks.now)) }
@@ -128,6 +128,7 @@ impl<'a> CrashLog<'a> {
         ensures fit { OnOk result (first_failure (state_of self.now) picks.now ≡ None) }
         ensures refused { IfErr result (λ refusal. IsRefusal (state_of self.now) picks.now refusal) }
     {
+        // Lemma: the program is sound.
         let _ = &self.checked;
         let numbers = self.numbers_of(alloc, picks)?;
         let mut image = Row::new(alloc);
@@ -142,7 +143,7 @@ impl<'a> CrashLog<'a> {
         Ok(image)
     }
 
-    /// The picks of each line, ascending, that give an image, in one pass over it. None exactly where it is no crash
+    /// The picks of each line, ascending, that give an image, in one pass over it. None exactly when it is not a crash
     /// image.
     pub fn find_picks(&self, alloc: Global, image: &[u8]) -> Result<Option<Row<Pick>>, NoMemory>
         requires { length image.now ≡ length self.now.input.image }
@@ -150,6 +151,7 @@ impl<'a> CrashLog<'a> {
             (¬ IsCrashImage self.now.input (state_of self.now) image.now)
             (λ picks. ArePicksOf self.now.input (state_of self.now) picks image.now)) }
     {
+        // Lemma: the program is sound.
         let _ = &self.checked;
         let mut picks = Row::new(alloc);
         'lines: for line in 0..self.count() {
@@ -173,14 +175,14 @@ impl<'a> CrashLog<'a> {
         }
     }
 
-    // How many lines the region has.
+    // The number of lines of the region.
     fn count(&self) -> u64
         ensures { result ≡ length (state_of self.now).lines }
     {
         self.input.image.len() as u64 / LINE_SIZE
     }
 
-    // The numbers that picks give the lines, or how the first of them fails that does.
+    // The numbers that picks give the lines, or how the first failing pick fails.
     fn numbers_of(&self, alloc: Global, picks: &[Pick]) -> Result<Vec<Option<u64>>, PickRefusal>
         ensures numbers { IfOk result (λ numbers. AreNumbers
             (length (state_of self.now).lines) picks.now numbers.items) }
@@ -201,7 +203,7 @@ impl<'a> CrashLog<'a> {
         Ok(numbers)
     }
 
-    // How a pick fails behind earlier ones, which gave the lines these numbers.
+    // How a pick fails after earlier ones, which gave the lines these numbers.
     fn failure_of(&self, numbers: &[Option<u64>], at: usize, pick: Pick) -> Option<PickRefusal>
         requires { length numbers.now ≡ length (state_of self.now).lines }
         ensures { (earlier : List Pick) → AreNumbers (length (state_of self.now).lines) earlier numbers.now →
@@ -226,7 +228,7 @@ impl<'a> CrashLog<'a> {
         view.bytes_after(line * LINE_SIZE, behind(view.least, number))
     }
 
-    // How many first parts an image has of a line, if it is a crash image there.
+    // The number of first parts that an image has of a line, if it is a crash image there.
     fn number_of(&self, line: u64, image: &[u8]) -> Option<u64>
         requires line { line < length (state_of self.now).lines }
         requires whole { length image.now ≡ length self.now.input.image }
@@ -240,7 +242,7 @@ impl<'a> CrashLog<'a> {
     }
 }
 
-// No number for any of so many lines.
+// No number for any of `count` lines.
 fn no_numbers(alloc: Global, count: usize) -> Result<Vec<Option<u64>>, NoMemory>
     ensures { IfOk result (λ numbers. AreNumbers count [] numbers.items) }
 {
@@ -260,7 +262,7 @@ fn number_in(numbers: &[Option<u64>], line: usize) -> Option<u64>
     numbers[line]
 }
 
-// How many stores behind the durable ones a number stands for.
+// The number of stores after the durable ones that a number stands for.
 fn behind(least: u64, number: Option<u64>) -> usize
     requires { least ≤ number_or least number }
     ensures { result ≡ number_or least number - least }

@@ -46,7 +46,7 @@ impl RegionLog {
         })
     }
 
-    /// Takes up what waits. What is seen of the lines stays, whatever the answer.
+    /// Takes up what waits. What is seen of the lines stays, also out of memory.
     #[inline(always)]
     pub fn take_up(&mut self, image: &[u8]) -> Result<(), NoMemory>
         requires whole { length image.now % LINE_SIZE ≡ 0 }
@@ -157,7 +157,7 @@ impl RegionLog {
         self.flushed.clear();
     }
 
-    /// Notes a flush of the lines that have a byte of a range, with a fence behind it.
+    /// Notes a flush of the lines that have a byte of a range, followed by a fence.
     #[inline]
     pub fn note_persist(&mut self, offset: u64, len: u64)
         requires waiting { self.old.waiting ≡ waits.Nothing }

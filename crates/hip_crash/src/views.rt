@@ -8,7 +8,7 @@ use crate::kept_line::put_front;
 use crate::values::{StoredValue, put_value};
 use hip_types::LINE_SIZE;
 
-/// The bytes of a line behind its durable stores, how many these are, and the later ones, of which the last may stand
+/// The bytes of a line after its durable stores, the number of these, and the later ones, of which the last may stand
 /// apart.
 #[derive(Drop)]
 pub struct LineView<'a> {
@@ -19,7 +19,7 @@ pub struct LineView<'a> {
 }
 
 impl<'a> LineView<'a> {
-    /// How many stores there are, the durable ones among them.
+    /// The number of stores, including the durable ones.
     pub fn most(&self) -> u64
         requires { self.now.least + length (later_in self.now) < 2 ^ 63 }
         ensures { result ≡ self.now.least + length (later_in self.now) }
@@ -28,7 +28,7 @@ impl<'a> LineView<'a> {
         self.least + count
     }
 
-    /// The line's bytes, whose first one has this offset, after so many of the later stores.
+    /// The line's bytes, whose first one has this offset, after the first `count` of the later stores.
     pub fn bytes_after(&self, start: u64, count: usize) -> [u8; LINE_SIZE as usize]
         requires start { start < 2 ^ 40 }
         requires count { count ≤ length (later_in self.now) }
@@ -43,8 +43,8 @@ impl<'a> LineView<'a> {
         bytes
     }
 
-    /// After how many of the later stores the line's bytes, whose first one has this offset, are these, if they ever
-    /// are.
+    /// The number of later stores after which the line's bytes, whose first one has this offset, are these, if there is
+    /// one.
     pub fn find(&self, start: u64, wanted: &[u8]) -> Option<usize>
         requires start { start < 2 ^ 40 }
         ensures { MatchOption result

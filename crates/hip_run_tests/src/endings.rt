@@ -7,7 +7,7 @@ use hip_step::{Ending, Event, Input, Machine, TrapKind};
 use std::alloc::Global;
 use std::process::Abort;
 
-/// How many steps a run of these programs has at most.
+/// An upper bound of the steps of these programs' runs.
 const MOST_STEPS: u64 = 40_000;
 
 /// A program without numbers, with its limit, how its run ends, and how many turns it takes.

@@ -11,10 +11,10 @@ use hip_types::Row;
 use std::alloc::Global;
 use std::process::Abort;
 
-/// How many steps a run of these programs has at most.
+/// An upper bound of the steps of these programs' runs.
 const MOST_STEPS: u64 = 40;
 
-/// Two stores to one number, of which none is flushed.
+/// Two stores to one number, neither of them flushed.
 const TWO_STORES: &str = "@x = global i64 0, section \".pm\"
 define i32 @main() {
 entry:
@@ -349,7 +349,7 @@ fn lines_have_bounds(rt: HostRuntime) {
     }
 }
 
-/// An image of the region that has a 7 in front and zeros elsewhere.
+/// An image of the region that begins with a 7 and has zeros elsewhere.
 fn seven_in_front(rt: &impl Abort, alloc: Global, len: usize) -> Row<u8> {
     let mut image = Row::new(alloc);
     image.push(7).expect(rt, AMPLE);

@@ -17,7 +17,7 @@ const VOLATILE: u64 = 65_536;
 /// A function, a block and a place in the block, by their numbers.
 type Place = (usize, usize, usize);
 
-/// The site of the next instruction, how many frames stand, the turns, the call that made the top frame, the first
+/// The site of the next instruction, the number of frames, the turns, the call that made the top frame, the first
 /// pointer operand of the next instruction, and the event of the step.
 #[derive(Clone, Copy, PartialEq, Eq)]
 struct Step {
@@ -291,7 +291,7 @@ fn frames_of_calls(rt: HostRuntime) {
     assert_run(&rt, rt.alloc(), TWO_CALLS, OF_TWO_CALLS);
 }
 
-/// What an address points into after so many steps.
+/// What an address points into after a number of steps.
 struct Pointed {
     steps: usize,
     addr: u64,

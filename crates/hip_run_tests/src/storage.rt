@@ -73,7 +73,7 @@ enum Call {
         size: u64,
         answer: bool,
     },
-    /// How many bytes of the region are not durable, and how many of these are flushed.
+    /// The number of bytes of the region that are not durable, and of those that are flushed among them.
     Loose {
         bytes: usize,
         flushed: usize,

@@ -13,4 +13,5 @@ pub mod Rooms
 pub mod Reporting
 pub mod Searches
 pub mod Telling
+pub mod Thinning
 pub mod noting

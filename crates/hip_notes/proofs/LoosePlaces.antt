@@ -23,7 +23,7 @@ use Rattle.hip_lines.specs.Parts as bytes
 use Rattle.hip_notes.specs.Standing.{IsLooseAt}
 
 -- a loose byte is at its offset
-byte_at : (ws : List (Pending Part)) (c : ℕ) (x : LooseByte) → bytes.loose_at ws c ≡ Some x → x.offset ≡ c
+pub byte_at : (ws : List (Pending Part)) (c : ℕ) (x : LooseByte) → bytes.loose_at ws c ≡ Some x → x.offset ≡ c
 byte_at ws c x e = go (slice_get ws (c / LINE_SIZE)) e
   where
     inner : (w : Pending Part) (o : Option (ℕ × Part)) → option_map (bytes.loose_by w c) o ≡ Some x → x.offset ≡ c

@@ -1,8 +1,10 @@
 -- Notes whose steps ascend, with one more.
 use Rattle.std.proofs.Common.{◌≡◌, ℕ, suc, ◌+◌, ◌<◌, ◌≤◌, Bool, true, false, cond, nat_eq, nat_lt, List, [], ◌∷◌, ◌++◌, Option, Some, None, refl, sym, ap, ap₂, ◌∙◌, filter, arith}
 use Rattle.std.proofs.lemmas.Bool.Decides.{nat_tests}
+use Rattle.std.specs.List.{flat_map}
 use Rattle.hip_notes.specs.declared.pending.FlushNote.{FlushNote}
 use Rattle.hip_notes.specs.declared.pending.StoreNote.{StoreNote}
+use Rattle.hip_notes.specs.Noted.{flush_among}
 use Rattle.hip_notes.specs.Pending.{first_after, FlushesAscend, note_of, StoresAscend}
 
 -- ---- stores
@@ -98,3 +100,35 @@ first_of_more step (g ∷ fs) f lt = go (first_of_more step fs f lt) (nat_lt ste
         → cond t (Some g) (first_after step (fs ++ f ∷ [])) ≡ or_last (cond t (Some g) (first_after step fs)) f
     go rest true = refl
     go rest false = rest
+
+-- ---- some of the flushes
+
+lower_flushes : (a c b : ℕ) (xs : List FlushNote) → a ≤ c → FlushesAscend c b xs → FlushesAscend a b xs
+lower_flushes a c b [] le h = tt
+lower_flushes a c b (x ∷ xs) le h = let low = h.0 in (omega (arith, le, low), h.1, h.2)
+
+module _ (steps : ℕ → Bool) where
+  abbrev pub Flushes_of : List FlushNote → List FlushNote
+  Flushes_of xs = flat_map (flush_among steps) xs
+
+  pub fewer_flushes : (a b : ℕ) (xs : List FlushNote) → FlushesAscend a b xs → FlushesAscend a b (Flushes_of xs)
+  fewer_flushes a b [] h = tt
+  fewer_flushes a b (x ∷ xs) h = go (steps x.step) (fewer_flushes (x.step + 1) b xs h.2)
+    where
+      go : (t : Bool) → FlushesAscend (x.step + 1) b (Flushes_of xs) → FlushesAscend a b (cond t (x ∷ []) [] ++ Flushes_of xs)
+      go true k = (h.0, h.1, k)
+      go false k = let low = h.0 in lower_flushes a (x.step + 1) b (Flushes_of xs) (omega (arith, low)) k
+
+  -- where the first flush after a step is among them, it stays the first one
+  pub first_stays : (tag : ℕ) (xs : List FlushNote) → ((f : FlushNote) → first_after tag xs ≡ Some f → steps f.step ≡ true)
+      → first_after tag (Flushes_of xs) ≡ first_after tag xs
+  first_stays tag [] h = refl
+  first_stays tag (x ∷ xs) h = go (λ k. first_stays tag xs k) (nat_lt tag x.step) refl (steps x.step) refl
+    where
+      go : (((f : FlushNote) → first_after tag xs ≡ Some f → steps f.step ≡ true) → first_after tag (Flushes_of xs) ≡ first_after tag xs)
+          → (s : Bool) → nat_lt tag x.step ≡ s → (t : Bool) → steps x.step ≡ t
+          → first_after tag (cond t (x ∷ []) [] ++ Flushes_of xs) ≡ cond s (Some x) (first_after tag xs)
+      go rest true q true p = ap (λ s. cond s (Some x) (first_after tag (Flushes_of xs))) q
+      go rest true q false p = absurd (let z : steps x.step ≡ true = h x (ap (λ s. cond s (Some x) (first_after tag xs)) q) in let w : false ≡ true = sym p ∙ z in let v : ⊥ = cc in v)
+      go rest false q true p = ap (λ s. cond s (Some x) (first_after tag (Flushes_of xs))) q ∙ rest (λ f e. h f (ap (λ s. cond s (Some x) (first_after tag xs)) q ∙ e))
+      go rest false q false p = rest (λ f e. h f (ap (λ s. cond s (Some x) (first_after tag xs)) q ∙ e))

@@ -1,4 +1,4 @@
--- The calls that frames stand in, as nodes that are shared, and what they tell of a store.
+-- The calls that frames stand in, as shared nodes, and which of them have returned.
 use Rattle.std.specs.Prelude.{◌≡◌, ℕ, suc, Bool, false, cond, nat_eq, List, [], ◌∷◌, ◌++◌, length, Option, Some, None, slice_get}
 use Rattle.hip_runs.specs.State.{Level}
 use Rattle.hip_notes.specs.declared.call_path.Link.{Link}
@@ -10,7 +10,7 @@ abbrev pub levels_in : Link → List Level
 levels_in End = []
 levels_in (Call site birth depth outer) = record { call = site; birth = birth } ∷ outer.value
 
--- a call tells how many calls stood when it was made
+-- a call knows the number of calls that stood when it was made
 abbrev pub HasDepth : Link → Type 0
 HasDepth End = Unit {0}
 HasDepth (Call site birth depth outer) = depth ≡ length outer.value

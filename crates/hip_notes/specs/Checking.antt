@@ -1,4 +1,4 @@
--- What the loose bytes of a check tell of each store, and its report.
+-- The loose bytes of a check, grouped by their stores, and the report of each store.
 use Rattle.std.specs.Prelude.{ℕ, Bool, cond, ◌&&◌, nat_eq, nat_lt, ◌/◌, List, [], ◌∷◌, ◌++◌, map, Option, Some, None, option_map}
 use Rattle.hip_tree.specs.declared.site.Site.{Site}
 use Rattle.hip_types.specs.declared.areas.TheConstants.{LINE_SIZE}
@@ -28,7 +28,7 @@ abbrev pub joined : Bool → Option FlushNote → Option Group → Group
 joined flushed flush None = record { flushed = flushed; latest = flush }
 joined flushed flush (Some g) = record { flushed = g.flushed && flushed; latest = later_note g.latest flush }
 
--- what loose bytes tell of the store of a step, behind what others told of it
+-- the group of the store of a step after more loose bytes
 abbrev pub group_from : (ℕ → Option LineNote) → ℕ → Option Group → List LooseByte → Option Group
 group_from lines tag g [] = g
 group_from lines tag g (b ∷ bs) =

@@ -1,5 +1,5 @@
 -- What a tracker notes of a run.
-use Rattle.std.specs.Prelude.{◌≡◌, ◌⊎◌, ℕ, ◌+◌, ◌-◌, ◌≤◌, ◌<◌, ◌^◌, ◌/◌, Bool, true, cond, filter, List, [], ◌∷◌, ◌++◌, map, nat_lt, length, take, drop, Option, Some, None, option_map}
+use Rattle.std.specs.Prelude.{◌≡◌, ◌⊎◌, ℕ, ◌+◌, ◌-◌, ◌≤◌, ◌<◌, ◌^◌, ◌*◌, ◌/◌, Bool, true, cond, filter, List, [], ◌∷◌, ◌++◌, map, nat_lt, length, take, drop, Option, Some, None, option_map, IsSome}
 use Rattle.hip_tree.specs.declared.program.Program.{Program}
 use Rattle.hip_tree.specs.declared.site.Site.{Site}
 use Rattle.std.specs.BTreeMap as tree
@@ -25,10 +25,11 @@ use Rattle.hip_notes.specs.CallPaths.{births_of}
 use Rattle.hip_notes.specs.Checking.{group_from, reports_told}
 use Rattle.hip_notes.specs.declared.checks.Group.{Group}
 use Rattle.hip_notes.specs.MarkKeys.{AreMet, mark_of, WereHit}
-use Rattle.hip_notes.specs.Pending.{AreBlank, blank, lines_of, with_flush, with_store}
+use Rattle.hip_notes.specs.Pending.{first_after, FlushesAscend, lines_of, with_flush, with_store}
 use Rattle.hip_notes.specs.Standing.{Tells}
 use Rattle.hip_notes.specs.declared.notes.Notes.{Notes}
 use Rattle.hip_notes.specs.declared.pending.Pending.{Pending}
+use Rattle.hip_notes.specs.declared.pending.FlushNote.{FlushNote}
 use Rattle.hip_notes.specs.declared.pending.LineNote.{LineNote}
 use Rattle.hip_notes.specs.declared.pending.StoreNote.{StoreNote}
 
@@ -52,7 +53,7 @@ pub record AreNoted (P : Program) (I : Input) (n : ℕ) (c : Notes) : Type 0 whe
 
 -- ---- what an event does to what is kept of pending stores
 
--- the lines that have one of so many bytes at an offset are changed
+-- the lines that contain one of n bytes at offset o are changed
 abbrev pub ChangeLines : (Option LineNote → Option LineNote) → ℕ → ℕ → Pending → Pending → Type 0
 ChangeLines to o n old new = (j : ℕ)
     → lines_of new.lines j ≡ cond (has_bytes j o n) (to (lines_of old.lines j)) (lines_of old.lines j)
@@ -69,8 +70,8 @@ pub record IsNoteOf (step entry : ℕ) (site : Site) (calls : List Level) (note 
   pub site_is : note.site ≡ site
   pub calls_are : note.calls.value ≡ calls
 
--- a store of m bytes at offset o puts its note behind the others, and its lines have a store since their last flush;
--- nothing is asked without a site
+-- a store of m bytes at offset o appends its note, and its lines have a store since their last flush; without a site
+-- nothing is required
 abbrev pub StoredAt : Option Site → ℕ → ℕ → List Level → ℕ → ℕ → Pending → Pending → Type 0
 StoredAt None step entry calls o m old new = Unit {0}
 StoredAt (Some site) step entry calls o m old new =
@@ -79,21 +80,21 @@ StoredAt (Some site) step entry calls o m old new =
     × ChangeLines (λ l. Some (with_store l)) o m old new
 
 -- a flush of n bytes at offset o goes into the notes of its lines into which a store came since the flush before, and
--- the stores stay; nothing is asked without a site
+-- the stores stay; without a site nothing is required
 abbrev pub FlushedAt : Option Site → ℕ → ℕ → ℕ → Pending → Pending → Type 0
 FlushedAt None step o n old new = Unit {0}
 FlushedAt (Some site) step o n old new =
     (new.stores.items ≡ old.stores.items)
     × ChangeLines (option_map (with_flush (record { step = step; site = site }))) o n old new
 
--- What a step with this event does to what is kept, in a region from a base on: a store and a flush are noted, all
--- else changes nothing, a persist too, behind which its lines have no loose byte.
+-- What a step with this event does to what is kept, in a region from a base on: a store and a flush are noted, and
+-- nothing else changes anything; after a persist its lines have no loose byte.
 abbrev pub Follows : Event → Option Site → ℕ → ℕ → ℕ → List Level → Pending → Pending → Type 0
 Follows (events.Store a v m) site base step entry calls old new = StoredAt site step entry calls (a - base) m old new
 Follows (events.Flush line size) site base step entry calls old new = FlushedAt site step (line - base) size old new
 Follows _ site base step entry calls old new = StaySame old new
 
--- a store or a flush behind a base ends below 2^64
+-- a store or a flush, counted from a base, ends below 2^64
 abbrev pub EndsBelow : ℕ → Event → Type 0
 EndsBelow base (events.Store a v m) = (a - base) + m < 2 ^ 64
 EndsBelow base (events.Flush line size) = (line - base) + size < 2 ^ 64
@@ -101,7 +102,7 @@ EndsBelow base _ = Unit {0}
 
 -- ---- what an event does to the calls
 
--- the calls, where so many frames stood before a step at a site and stand after it
+-- the calls after a step at a site, given the number of frames before and after it
 abbrev pub calls_after : ℕ → ℕ → ℕ → Option Site → List Level → List Level
 calls_after before after step None ls = cond (nat_lt after before) (drop 1 ls) ls
 calls_after before after step (Some site) ls =
@@ -115,7 +116,7 @@ births_after before after step (Some site) bs =
 
 -- ---- what an event checks
 
--- the reports behind others, of a check of a range if there is one
+-- the reports with those of a check of a range appended, if there is one
 abbrev pub Reported : Option Range → List ℕ → ℕ → Option ℕ → Pending → List (Waiting Part)
     → List Report
     → List Report → Type 0
@@ -128,15 +129,35 @@ Reported (Some r) births entry fence p lines old new =
 
 -- ---- what is let go
 
--- What is kept behind a fence of the notes where these bytes are loose: the stores of some steps, those by which bytes
--- are loose among them, and a blank note of each line that has a loose byte.
-pub record IsLetGo (bytes : List LooseByte) (old new : Pending) : Type 0 where
-  pub tags : ℕ → Bool
-  pub told : (x : LooseByte) → In x bytes → tags x.tag ≡ true
-  pub stores : new.stores.items ≡ filter (λ note. tags note.tag) old.stores.items
-  pub lines : (x : LooseByte) → In x bytes → lines_of new.lines (x.offset / LINE_SIZE) ≡ Some blank
-  pub others : AreBlank (lines_of new.lines)
+-- the loose bytes of line j
+unfoldable pub loose_of_line : List (Waiting Part) → ℕ → List LooseByte
+loose_of_line ws j = loose_from ws (LINE_SIZE * j) LINE_SIZE
 
--- all stays, or, behind a fence, only what the loose bytes ask for is kept
-abbrev pub IsForgotten : Bool → List LooseByte → Pending → Pending → Type 0
-IsForgotten fenced bytes old new = (new ≡ old) ⊎ ((fenced ≡ true) × IsLetGo bytes old new)
+-- the flush, where its step is among some
+abbrev pub flush_among : (ℕ → Bool) → FlushNote → List FlushNote
+flush_among steps f = cond (steps f.step) (f ∷ []) []
+
+-- Fewer of the flushes of line j: each loose byte of the line still has the same first flush after its store.
+pub record IsThinned (ws : List (Waiting Part)) (j : ℕ) (old new : List FlushNote) : Type 0 where
+  pub ascend : (a b : ℕ) → FlushesAscend a b old → FlushesAscend a b new
+  pub first : (x : LooseByte) → In x (loose_of_line ws j) → first_after x.tag new ≡ first_after x.tag old
+
+-- line j has no note any more, or its note with fewer flushes
+abbrev pub MayThin : List (Waiting Part) → ℕ → Option LineNote → Option LineNote → Type 0
+MayThin ws j old None = Unit {0}
+MayThin ws j None (Some new) = ⊥
+MayThin ws j (Some old) (Some new) = (new.stored ≡ old.stored) × IsThinned ws j old.flushes new.flushes
+
+-- What is kept of the notes when these parts are pending: some of the stores, including each store by which a byte is
+-- loose, and the note of each line that has a loose byte, maybe with fewer flushes.
+pub record IsLetGo (ws : List (Waiting Part)) (region : ℕ) (old new : Pending) : Type 0 where
+  pub tags : ℕ → Bool
+  pub told : (x : LooseByte) → In x (loose_from ws 0 region) → tags x.tag ≡ true
+  pub stores : new.stores.items ≡ filter (λ note. tags note.tag) old.stores.items
+  pub lines : (j : ℕ) → MayThin ws j (lines_of old.lines j) (lines_of new.lines j)
+  pub there : (x : LooseByte) → In x (loose_from ws 0 region) → IsSome (lines_of old.lines (x.offset / LINE_SIZE))
+      → IsSome (lines_of new.lines (x.offset / LINE_SIZE))
+
+-- all stays, or only what the loose bytes need is kept
+abbrev pub IsForgotten : List (Waiting Part) → ℕ → Pending → Pending → Type 0
+IsForgotten ws region old new = (new ≡ old) ⊎ IsLetGo ws region old new

@@ -1,5 +1,5 @@
 -- What is kept of a run for the checks to come: its stores that may still be reported, and the flushes of their lines.
-use Rattle.std.specs.Prelude.{◌≡◌, ◌⊎◌, ℕ, ◌+◌, ◌<◌, ◌≤◌, Bool, true, false, cond, ◌&&◌, nat_eq, nat_le, nat_lt, List, [], ◌∷◌, ◌++◌, Option, Some, None}
+use Rattle.std.specs.Prelude.{ℕ, ◌+◌, ◌<◌, ◌≤◌, Bool, true, false, cond, ◌&&◌, nat_eq, nat_le, nat_lt, List, [], ◌∷◌, ◌++◌, Option, Some, None}
 use Rattle.std.specs.Ordering.{nat_cmp}
 use Rattle.std.specs.BTreeMap as tree
 use Rattle.std.specs.BTreeMap.{BTreeMap}
@@ -51,13 +51,3 @@ with_store l = record { stored = true; flushes = flushes_in l }
 -- A line after a flush of it, which is noted where a store came since the flush before.
 abbrev pub with_flush : FlushNote → LineNote → LineNote
 with_flush f l = cond l.stored (record { stored = false; flushes = l.flushes ++ f ∷ [] }) l
-
--- ---- what is let go
-
--- A line of which nothing is kept but that a store came, as behind a fence, where no loose byte was flushed.
-abbrev pub blank : LineNote
-blank = record { stored = true; flushes = [] }
-
--- every line that has a note is blank
-abbrev pub AreBlank : (ℕ → Option LineNote) → Type 0
-AreBlank lines = (j : ℕ) → (lines j ≡ None) ⊎ (lines j ≡ Some blank)

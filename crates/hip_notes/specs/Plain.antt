@@ -1,4 +1,4 @@
--- Steps of which nothing is noted but that they were taken, and how many of them are next.
+-- Steps that change no notes but the count of steps, and the number of them that is next.
 use Rattle.std.specs.Prelude.{◌≡◌, ◌⊎◌, ℕ, ◌+◌, ◌<◌, ◌≤◌, Bool, true, false, List, [], ◌∷◌, length, Option, Some, None, slice_get}
 use Rattle.hip_tree.specs.declared.block.End.{End}
 use Rattle.hip_tree.specs.declared.block.End.TheVariants.{Ret}
@@ -33,16 +33,16 @@ abbrev pub IsPlain : List Instr → Option End → ℕ → Type 0
 IsPlain body end place =
     (is_plain_at (slice_get body place) ≡ true) ⊎ ((place ≡ length body) × (stays end ≡ true))
 
--- so many places of a block are plain, from one on
+-- `count` places of a block are plain, from one on
 abbrev pub ArePlain : List Instr → Option End → ℕ → ℕ → Type 0
 ArePlain body end from count = (j : ℕ) → from ≤ j → j < from + count → IsPlain body end j
 
--- so many places from the top frame's on are plain, in its block; without a frame there are none
+-- `count` places from the top frame's on are plain, in its block; without a frame there are none
 abbrev pub PlainAhead : Program → List Frame → ℕ → Type 0
 PlainAhead P [] count = count ≡ 0
 PlainAhead P (f ∷ fs) count = ArePlain (body_at P f.function f.block) (end_at P f) f.place count
 
--- So many plain places are next, in a run that has not ended.
+-- `count` plain places are next, in a run that has not ended.
 pub record IsPlainFor (P : Program) (s : State) (count : ℕ) : Type 0 where
   pub going : 0 < count → has_ended s ≡ false
   pub ahead : PlainAhead P s.frames count

@@ -37,7 +37,7 @@ marks_to P I s site (suc k) = marks_to P I s site k ++ mark_at P I s site k
 abbrev pub AddAlike : List Mark → List Mark → List Mark → Type 0
 AddAlike met_before these those = met same_mark met_before these ≡ met same_mark met_before those
 
--- whether nothing is seen of a step with this event but what it prints
+-- whether a step with this event does nothing that is noted: it is quiet or prints
 abbrev pub is_still : Event → Bool
 is_still events.Quiet = true
 is_still (events.Print z) = true

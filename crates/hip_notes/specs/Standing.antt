@@ -1,4 +1,4 @@
--- When what is kept of pending stores tells what a run's checks will ask.
+-- When the notes of pending stores suffice for the checks to come.
 use Rattle.std.specs.Prelude.{◌≡◌, ℕ, ◌/◌, false, List, Option, Some, option_map, slice_get, IsSome}
 use Rattle.hip_tree.specs.declared.program.Program.{Program}
 use Rattle.hip_lines.specs.Line.{Line}
@@ -24,7 +24,7 @@ abbrev pub flush_of : FlushNote → Flush
 flush_of f = record { step = f.step; site = f.site }
 
 -- What is kept of the part of a store by which byte b is loose: the note of the store, with its site, its calls and,
--- where the header has so many entries as were counted, its entry; and the note of the byte's line, which tells the
+-- when the header has as many entries as were counted, its entry; and the note of the byte's line, which gives the
 -- first flush of the part.
 pub record IsKept (I : Input) (header : ℕ) (notes : List StoreNote) (lines : ℕ
     → Option LineNote) (b : ℕ) (x : StorePart) : Type 0 where

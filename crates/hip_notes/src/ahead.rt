@@ -15,14 +15,14 @@ use hip_types::Scalar;
 /// What is ahead of a step at a site.
 #[derive(Clone, Copy)]
 pub struct Ahead {
-    // How many places from the site on are plain: instructions that are neither stores nor calls, and behind them the
+    // The number of plain places from the site on: instructions that are neither stores nor calls, and after them the
     // end of the block, if it does not return.
     pub plain: usize,
-    // No less than the number of pointer operands of the instruction there.
+    // At least the number of pointer operands of the instruction there.
     pub operands: usize,
 }
 
-/// Nothing that is known.
+/// Nothing is known of what is ahead.
 pub const NOTHING: Ahead = Ahead {
     plain: 0,
     operands: 0,
@@ -71,7 +71,7 @@ fn plain_from(block: &Block, from: usize) -> usize
     }
 }
 
-// Whether the end of a block is no return.
+// Whether the end of a block is not a return.
 #[inline(always)]
 fn stays(end: &End) -> bool
     ensures { result ≡ stays (Some end.now) }
@@ -126,7 +126,7 @@ fn is_plain(instr: &Instr) -> bool
     }
 }
 
-// No less than the number of its pointer operands.
+// At least the number of its pointer operands.
 fn operand_count(instr: &Instr) -> usize
     ensures { (P : Whole) → length (pointer_operands P instr.now) ≤ result }
 {

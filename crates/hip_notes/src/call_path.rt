@@ -121,8 +121,8 @@ impl CallPath {
         }
     }
 
-    /// Puts the sites of the calls behind others, and says how many of the calls have returned where those that stand
-    /// have these births, the outermost one first.
+    /// Appends the sites of the calls, and returns the number of calls that have returned, given the births of the
+    /// calls that stand, the outermost one first.
     pub fn copy_out(&self, births: &[u128], sites: &mut Row<Site>) -> Result<usize, NoMemory>
         ensures sites { OnOk result (sites.new ≡ sites.old ++ map (λ l. l.call) self.now) }
         ensures closed { IfOk result (λ closed. closed ≡ closed_by births.now self.now) }
@@ -137,6 +137,7 @@ impl CallPath {
         } = &rest.link
         {
             sites.push(*site)?;
+            // Lemma: the number of sites is below 2^64.
             let _count = sites.len();
             if !is_standing(births, *depth, *birth) {
                 closed += 1;

@@ -73,7 +73,7 @@ impl Calls {
         Ok(())
     }
 
-    /// The calls in nodes, where so many stand. Each has its node from then on.
+    /// The calls in nodes, when `count` of them stand. Each has its node from then on.
     pub fn path(&mut self, alloc: Global, count: usize) -> Result<Rc<CallPath>, NoMemory>
         requires { count ≡ length self.old }
         ensures path { IfOk result (λ path. path.value ≡ self.old) }
@@ -85,7 +85,7 @@ impl Calls {
     }
 }
 
-// Puts calls inside of those that have nodes, where so many stand in all.
+// Gives nodes to calls inside of those that have them; `count` calls stand in all.
 fn share(
     alloc: Global,
     shared: &mut Rc<CallPath>,

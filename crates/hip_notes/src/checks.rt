@@ -18,7 +18,7 @@ use hip_types::{LINE_SIZE, NoMemory, Row};
 use std::alloc::Global;
 use std::collections::BTreeMap;
 
-/// What the loose bytes of a store tell: whether all are flushed, and the latest of the first flushes of their lines.
+/// A summary of the loose bytes of a store: whether all are flushed, and the latest of their lines' first flushes.
 #[derive(Clone, Copy)]
 pub struct Group {
     pub flushed: bool,
@@ -34,7 +34,7 @@ pub struct Check<'a> {
     pub fence: Option<u128>,
 }
 
-/// Puts the reports of a check of a range behind others, in the order of the stores' steps.
+/// Appends the reports of a check of a range, in the order of the stores' steps.
 pub fn check_range(
     alloc: Global,
     pending: &Pending,

@@ -5,14 +5,14 @@ ghost use Rattle.hip_runs.specs.Found.Marks.{same_mark};
 ghost use Rattle.hip_runs.specs.Found.Reports.{checked_range};
 ghost use Rattle.hip_notes.specs.MarkKeys.{AreMet, mark_of};
 ghost use Rattle.hip_notes.specs.declared.pending.LineNote.{LineNote as Line};
-ghost use Rattle.hip_notes.specs.Noted.{EndsBelow, FlushedAt, Follows, Reported, StoredAt, births_after, calls_after};
+ghost use Rattle.hip_notes.specs.Noted.{Reported, births_after, calls_after};
 ghost use Rattle.hip_notes.specs.Pending.{FlushesAscend, StoresAscend, lines_of};
 
 use crate::calls::Calls;
 use crate::checks::{Check, check_range};
 use crate::marks::{MarkKey, meet_mark};
-use crate::notes::{forget_birth, note_flush, note_store};
-use crate::pending::{FlushNote, Pending, StoreNote};
+use crate::notes::forget_birth;
+use crate::pending::Pending;
 use hip_lines::Lines;
 use hip_runs::{Ending, Event, Mark, Report};
 use hip_tree::Site;
@@ -26,80 +26,6 @@ pub struct Moment {
     pub site: Option<Site>,
     pub step: u128,
     pub entry: u128,
-}
-
-/// Notes what a step with this event does to pending stores, in a region from a base on.
-pub fn note_lines(
-    alloc: Global,
-    pending: &mut Pending,
-    event: Event,
-    moment: Moment,
-    base: u64,
-    calls: &mut Calls,
-    standing: usize,
-) -> Result<(), NoMemory>
-    requires ends { EndsBelow base event }
-    requires standing { standing ≡ length calls.old }
-    ensures follows { OnOk result
-        (Follows event moment.site base moment.step moment.entry calls.old pending.old pending.new) }
-    ensures calls { OnOk result (calls.new ≡ calls.old) }
-{
-    match event {
-        Event::Store { addr, size, .. } => {
-            store_at(
-                alloc,
-                pending,
-                moment,
-                calls,
-                standing,
-                addr.saturating_sub(base),
-                size as u64,
-            )
-        }
-        Event::Flush { line, size } => flush_at(pending, moment, line.saturating_sub(base), size),
-        _ => Ok(()),
-    }
-}
-
-fn store_at(
-    alloc: Global,
-    pending: &mut Pending,
-    moment: Moment,
-    calls: &mut Calls,
-    standing: usize,
-    offset: u64,
-    size: u64,
-) -> Result<(), NoMemory>
-    requires ends { offset + size < 2 ^ 64 }
-    requires standing { standing ≡ length calls.old }
-    ensures stored { OnOk result
-        (StoredAt moment.site moment.step moment.entry calls.old offset size pending.old pending.new) }
-    ensures calls { OnOk result (calls.new ≡ calls.old) }
-{
-    let Some(site) = moment.site else {
-        return Ok(());
-    };
-    let note = StoreNote {
-        tag: moment.step,
-        entry: moment.entry,
-        site,
-        calls: calls.path(alloc, standing)?,
-    };
-    note_store(alloc, pending, note, offset, size)
-}
-
-fn flush_at(pending: &mut Pending, moment: Moment, offset: u64, size: u64) -> Result<(), NoMemory>
-    requires { offset + size < 2 ^ 64 }
-    ensures { OnOk result (FlushedAt moment.site moment.step offset size pending.old pending.new) }
-{
-    let Some(site) = moment.site else {
-        return Ok(());
-    };
-    let flush = FlushNote {
-        step: moment.step,
-        site,
-    };
-    note_flush(pending, flush, offset, size)
 }
 
 /// Notes the calls after a step, by how many frames stood before it and stand after it.
@@ -159,7 +85,7 @@ pub fn note_marks(
     Ok(())
 }
 
-/// Puts the reports of what a step with this event checks behind others.
+/// Appends the reports of what a step with this event checks.
 pub fn note_check(
     alloc: Global,
     pending: &Pending,

@@ -69,7 +69,7 @@ fn place_of(key: MarkKey) -> usize {
     block.wrapping_add(function) % RECENT
 }
 
-/// Whether a mark is at hand.
+/// Whether a mark is among the recent ones.
 #[inline(always)]
 pub fn is_recent(recent: &[Option<MarkKey>], mark: Mark) -> bool
     ensures { result ≡ true → (i : ℕ) × (k : Key) × (slice_get recent.now i ≡ Some (Some k))
@@ -102,7 +102,7 @@ fn keep_recent(recent: &mut Vec<Option<MarkKey>>, key: MarkKey)
     }
 }
 
-/// Puts a mark behind those that were met, unless it was met.
+/// Appends a mark to those that were met, unless it is one of them.
 pub fn meet_mark(
     marks: &mut IndexSet<MarkKey>,
     recent: &mut Vec<Option<MarkKey>>,
@@ -127,7 +127,7 @@ fn meet_key(marks: &mut IndexSet<MarkKey>, key: MarkKey) -> Result<(), NoMemory>
     Ok(())
 }
 
-/// Puts the number of a global behind those that were met, unless it was met.
+/// Appends the number of a global to those that were met, unless it is one of them.
 pub fn meet_global(
     hit: &mut IndexSet<usize>,
     flags: &mut Vec<bool>,

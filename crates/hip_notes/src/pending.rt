@@ -1,10 +1,11 @@
 ghost use Rattle.std.specs.Prelude.{◌≡◌, ◌⊎◌, ℕ, ◌+◌, ◌-◌, ◌/◌, ◌<◌, ◌≤◌, ◌^◌, List, ◌++◌, ◌∷◌, [], Some, None, cond, true, option_map, IfOk, OnOk, IfSome, IsSome};
+ghost use Rattle.hip_lines.specs.Line.{has_bytes};
 ghost use Rattle.hip_notes.specs.declared.pending.StoreNote.{StoreNote as Note};
 ghost use Rattle.hip_notes.specs.Pending.{first_after, flushes_in, FlushesAscend, is_between, lines_of, note_of, StoresAscend, with_flush, with_store};
 
 use crate::call_path::CallPath;
 use hip_tree::Site;
-use hip_types::{NoMemory, Row};
+use hip_types::{LINE_SIZE, NoMemory, Row};
 use std::alloc::Global;
 use std::collections::BTreeMap;
 use std::rc::Rc;
@@ -31,7 +32,7 @@ pub struct FlushNote {
 pub struct LineNote {
     // A store came since the last flush.
     pub stored: bool,
-    // The earliest one first. Those behind which no store came are left out.
+    // The earliest one first. A flush is left out when no store came since the one before.
     pub flushes: Row<FlushNote>,
 }
 
@@ -54,24 +55,37 @@ impl Pending {
         }
     }
 
-    /// Notes a store into the lines from the first one up to the end.
+    /// Notes a store of `size` bytes at an offset of the region.
     pub fn note_store(
         &mut self,
         alloc: Global,
         note: StoreNote,
-        first: u64,
-        end: u64,
+        offset: u64,
+        size: u64,
     ) -> Result<(), NoMemory>
-        requires { first ≤ end }
+        requires { offset + size < 2 ^ 64 }
         ensures stores { OnOk result (self.new.stores.items ≡ self.old.stores.items ++ note ∷ []) }
-        ensures lines { OnOk result ((j : ℕ) → lines_of self.new.lines j ≡ cond (is_between first end j)
+        ensures lines { OnOk result ((j : ℕ) → lines_of self.new.lines j ≡ cond (has_bytes j offset size)
             (Some (with_store (lines_of self.old.lines j))) (lines_of self.old.lines j)) }
     {
-        store_lines(alloc, &mut self.lines, first, end)?;
+        let range = lines_between(offset, size);
+        store_lines(alloc, &mut self.lines, range.first, range.end)?;
         match self.stores.push(note) {
             Ok(()) => Ok(()),
             Err(_) => Err(NoMemory),
         }
+    }
+
+    /// Notes a flush of the lines that contain one of `size` bytes at an offset of the region, in time of those that
+    /// have a note.
+    pub fn note_flush(&mut self, flush: FlushNote, offset: u64, size: u64) -> Result<(), NoMemory>
+        requires { offset + size < 2 ^ 64 }
+        ensures stores { OnOk result (self.new.stores.items ≡ self.old.stores.items) }
+        ensures lines { OnOk result ((j : ℕ) → lines_of self.new.lines j ≡ cond (has_bytes j offset size)
+            (option_map (with_flush flush) (lines_of self.old.lines j)) (lines_of self.old.lines j)) }
+    {
+        let range = lines_between(offset, size);
+        flush_lines(&mut self.lines, flush, range.first, range.end)
     }
 
     /// The note of the store that a step made.
@@ -84,7 +98,29 @@ impl Pending {
     }
 }
 
-// A store came into the lines from the first one up to the end.
+// A range of lines, from the first one up to the end.
+#[derive(Clone, Copy)]
+pub struct LineRange {
+    pub first: u64,
+    pub end: u64,
+}
+
+// The lines that contain one of `size` bytes at an offset.
+fn lines_between(offset: u64, size: u64) -> LineRange
+    requires { offset + size < 2 ^ 64 }
+    ensures is { (j : ℕ) → is_between result.first result.end j ≡ has_bytes j offset size }
+    ensures ordered { result.first ≤ result.end }
+{
+    if size == 0 {
+        return LineRange { first: 0, end: 0 };
+    }
+    LineRange {
+        first: offset / LINE_SIZE,
+        end: (offset + size - 1) / LINE_SIZE + 1,
+    }
+}
+
+// Notes a store into the lines from the first one up to the end.
 fn store_lines(
     alloc: Global,
     lines: &mut BTreeMap<u64, LineNote>,
@@ -101,12 +137,8 @@ fn store_lines(
     Ok(())
 }
 
-/// A store came into a line.
-pub fn store_line(
-    alloc: Global,
-    lines: &mut BTreeMap<u64, LineNote>,
-    line: u64,
-) -> Result<(), NoMemory>
+// Notes a store into a line.
+fn store_line(alloc: Global, lines: &mut BTreeMap<u64, LineNote>, line: u64) -> Result<(), NoMemory>
     ensures here { OnOk result (lines_of lines.new line ≡ Some (with_store (lines_of lines.old line))) }
     ensures others { OnOk result ((j : ℕ) → (j ≡ line → ⊥)
         → lines_of lines.new j ≡ lines_of lines.old j) }
@@ -129,7 +161,7 @@ pub fn store_line(
     }
 }
 
-// The note with a tag, in notes whose tags ascend.
+// The note with a tag, in notes with ascending tags.
 fn find_in(notes: &[StoreNote], tag: u128) -> Option<&StoreNote>
     requires { StoresAscend 0 (2 ^ 128) notes.now }
     ensures found { IfSome result (λ note. note_of notes.now tag ≡ Some note.now) }
@@ -150,8 +182,8 @@ fn this_one(note: &StoreNote, tag: u128) -> Option<&StoreNote>
     if note.tag == tag { Some(note) } else { None }
 }
 
-/// Notes a flush of the lines from the first one up to the end, in time of those that have a note.
-pub fn flush_lines(
+// Notes a flush of the lines from the first one up to the end, in time of those that have a note.
+fn flush_lines(
     lines: &mut BTreeMap<u64, LineNote>,
     flush: FlushNote,
     first: u64,

@@ -6,14 +6,14 @@ ghost use Rattle.hip_runs.specs.Step.{has_entry};
 ghost use Rattle.hip_runs.specs.StoredParts.Since.{fences};
 ghost use Rattle.hip_notes.specs.MarkKeys.{AreMet, mark_of};
 ghost use Rattle.hip_notes.specs.declared.pending.LineNote.{LineNote as Line};
-ghost use Rattle.hip_notes.specs.Noted.{EndsBelow, Follows, IsForgotten, Reported, births_after, calls_after};
-ghost use Rattle.hip_lines.specs.Parts.{loose_from};
+ghost use Rattle.hip_notes.specs.Noted.{EndsBelow, FlushedAt, Follows, IsForgotten, Reported, StoredAt, births_after, calls_after};
 ghost use Rattle.hip_notes.specs.Pending.{FlushesAscend, StoresAscend, lines_of};
 
 use crate::checks::Check;
-use crate::events::{Moment, note_calls, note_check, note_lines, note_marks};
+use crate::events::{Moment, note_calls, note_check, note_marks};
 use crate::forget::forget_in;
 use crate::notes::{ENOUGH_STORES, Notes, fences, has_entry};
+use crate::pending::{FlushNote, StoreNote};
 use hip_lines::Lines;
 use hip_runs::{Event, Mark};
 use hip_types::{LINE_SIZE, NoMemory};
@@ -55,7 +55,7 @@ pub fn step_check(
     )
 }
 
-/// What a step with this event does to pending stores.
+/// Notes what a step with this event does to pending stores, in a region from a base on.
 pub fn step_lines(
     alloc: Global,
     notes: &mut Notes,
@@ -70,16 +70,56 @@ pub fn step_lines(
         notes.new.pending) }
     ensures rest { OnOk result (notes.new ≡ record notes.old { pending = notes.new.pending }) }
 {
+    match event {
+        Event::Store { addr, size, .. } => {
+            let offset = addr.saturating_sub(base);
+            store_at(alloc, notes, moment, offset, size as u64)
+        }
+        Event::Flush { line, size } => flush_at(notes, moment, line.saturating_sub(base), size),
+        _ => Ok(()),
+    }
+}
+
+fn store_at(
+    alloc: Global,
+    notes: &mut Notes,
+    moment: Moment,
+    offset: u64,
+    size: u64,
+) -> Result<(), NoMemory>
+    requires ends { offset + size < 2 ^ 64 }
+    requires births { length notes.old.births.items ≡ length notes.old.calls }
+    ensures stored { OnOk result (StoredAt moment.site moment.step moment.entry notes.old.calls offset size
+        notes.old.pending notes.new.pending) }
+    ensures rest { OnOk result (notes.new ≡ record notes.old { pending = notes.new.pending }) }
+{
+    let Some(site) = moment.site else {
+        return Ok(());
+    };
     let standing = notes.births.len();
-    note_lines(
-        alloc,
-        &mut notes.pending,
-        event,
-        moment,
-        base,
-        &mut notes.calls,
-        standing,
-    )
+    let note = StoreNote {
+        tag: moment.step,
+        entry: moment.entry,
+        site,
+        calls: notes.calls.path(alloc, standing)?,
+    };
+    notes.pending.note_store(alloc, note, offset, size)
+}
+
+fn flush_at(notes: &mut Notes, moment: Moment, offset: u64, size: u64) -> Result<(), NoMemory>
+    requires { offset + size < 2 ^ 64 }
+    ensures flushed { OnOk result
+        (FlushedAt moment.site moment.step offset size notes.old.pending notes.new.pending) }
+    ensures rest { OnOk result (notes.new ≡ record notes.old { pending = notes.new.pending }) }
+{
+    let Some(site) = moment.site else {
+        return Ok(());
+    };
+    let flush = FlushNote {
+        step: moment.step,
+        site,
+    };
+    notes.pending.note_flush(flush, offset, size)
 }
 
 /// The calls after a step.
@@ -131,21 +171,22 @@ pub fn step_counts(notes: &mut Notes, event: Event)
     notes.steps += 1;
 }
 
-/// Behind a fence no loose byte is flushed, and where there are many stores those are let go that no loose byte is of.
-/// It is looked again when there are twice as many as were kept, so that a store is looked at a few times at most.
-pub fn step_forget(alloc: Global, notes: &mut Notes, event: Event, lines: &Lines, region: u64)
-    requires { region ≡ LINE_SIZE * length lines.now.lines }
-    ensures kept { IsForgotten (fences event) (loose_from lines.now.lines 0 region)
-        notes.old.pending notes.new.pending }
+/// Drops the notes that no loose byte needs, when there are twice as many stores as were kept last. So the cost of a
+/// look is spread over as many stores, and memory does not grow with the steps.
+pub fn step_forget(alloc: Global, notes: &mut Notes, lines: &Lines, region: u64)
+    requires region { region ≡ LINE_SIZE * length lines.now.lines }
+    requires flushes { (j : ℕ) → (l : Line) → lines_of notes.old.pending.lines j ≡ Some l
+        → FlushesAscend 0 (2 ^ 128) l.flushes }
+    ensures kept { IsForgotten lines.now.lines region notes.old.pending notes.new.pending }
     ensures rest { notes.new ≡ record notes.old { pending = notes.new.pending; enough = notes.new.enough } }
 {
-    if fences(event) && notes.pending.stores.len() >= notes.enough {
+    if notes.pending.stores.len() >= notes.enough {
         forget_in(alloc, &mut notes.pending, lines, region);
         notes.enough = enough_for(notes.pending.stores.len());
     }
 }
 
-// With how many stores it is looked again, where so many were kept.
+// The number of stores at which to look again, after this many were kept.
 fn enough_for(kept: usize) -> usize {
     kept.saturating_mul(2).max(ENOUGH_STORES)
 }

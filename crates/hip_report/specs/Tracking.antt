@@ -10,7 +10,7 @@ use Rattle.hip_report.specs.declared.tracker.Source.{Source}
 use Rattle.hip_report.specs.declared.tracker.Tracker.TheInside.{Inside}
 
 -- The number of entries before the first step, the machine as it was when its last step was noted, if one was, and
--- whether memory was wanting.
+-- whether the tracker ran out of memory.
 pub record Tracked : Type 0 where
   pub header : ℕ
   pub noted : Option Seen
@@ -21,12 +21,12 @@ abbrev pub notes_all : Option Seen → Seen → Type 0
 notes_all None m = m.taken ≡ 0
 notes_all (Some s) m = s ≡ m
 
--- A tracker that noted every step of a machine so far, and has found memory.
+-- A tracker that noted every step of a machine so far, and has not run out of memory.
 pub record HasNoted (t : Tracked) (m : Seen) : Type 0 where
   pub working : t.failed ≡ false
   pub all : notes_all t.noted m
 
--- One that has noted no step of any machine yet, or every step of a machine, or that found no memory.
+-- One that has noted no step of any machine yet, or every step of a machine, or that ran out of memory.
 abbrev pub MayAdvance : Tracked → Seen → Type 0
 MayAdvance t m = (t.failed ≡ true) ⊎ HasNoted t m
 
@@ -37,8 +37,8 @@ abbrev pub seen_in : Option Source → ℕ → Option Seen
 seen_in None n = None
 seen_in (Some s) n = Some (record { program = s.checked.now; input = s.input.now; taken = n })
 
--- what contracts see of a tracker: the entries of its header, the machine that it noted, and whether memory was
--- wanting
+-- what contracts see of a tracker: the entries of its header, the machine that it noted, and whether it ran out of
+-- memory
 abbrev pub tracked_of : Inside → Tracked
 tracked_of t = record { header = t.notes.header; noted = seen_in t.source t.notes.steps; failed = t.failed }
 
@@ -52,6 +52,6 @@ abbrev pub IsSource : Option Source → Seen → Type 0
 IsSource None m = ⊥
 IsSource (Some s) m = (s.checked.now ≡ m.program) × (s.input.now ≡ m.input)
 
--- Where memory was not wanting, the notes are those of the run that was noted.
+-- Unless the tracker ran out of memory, the notes are those of the run that was noted.
 pub record IsTracking (t : Inside) : Type 0 where
   pub notes : t.failed ≡ false → NotesOf t.source t.notes

@@ -10,9 +10,9 @@ ghost use Rattle.hip_notes.specs.MarkKeys.{AreMet, mark_of};
 ghost use Rattle.hip_notes.specs.Plain.{IsPlainFor};
 ghost use Rattle.hip_notes.specs.Sights.{AddAlike, mark_at, marks_ahead, marks_to};
 
+use hip_engine::Machine;
 use hip_notes::{Ahead, NOTHING, Notes, ahead_at, is_recent};
 use hip_runs::Mark;
-use hip_engine::Machine;
 use hip_tree::Site;
 use hip_types::{NoMemory, Row};
 use std::alloc::Global;
@@ -23,13 +23,13 @@ pub struct Sight {
     pub ended: bool,
     pub site: Option<Site>,
     pub depth: usize,
-    // How many plain places are next.
+    // The number of plain places that are next.
     pub plain: usize,
-    // The marks of the step, if it is taken without a trap, without some that are noted.
+    // The marks of the step, if it does not trap. Some that are noted are left out.
     pub marks: Row<Mark>,
 }
 
-/// Looks at the next step. It takes memory for marks that may be new alone.
+/// Looks at the next step. It allocates only for marks that may be new.
 #[inline(always)]
 pub fn look(alloc: Global, notes: &Notes, machine: &Machine<'_>) -> Result<Sight, NoMemory>
     requires { AreMet (map mark_of notes.now.marks.keys) notes.now.recent.items }
@@ -140,7 +140,7 @@ fn push_operand(
     }
 }
 
-// Puts a mark behind others, unless it is at hand.
+// Appends a mark, unless it is among the recent ones.
 fn push_mark(notes: &Notes, mark: Mark, marks: &mut Row<Mark>) -> Result<(), NoMemory>
     requires { AreMet (map mark_of notes.now.marks.keys) notes.now.recent.items }
     ensures { OnOk result (AddAlike (map mark_of notes.now.marks.keys) marks.new (marks.old ++ mark ∷ [])) }

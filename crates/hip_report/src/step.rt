@@ -7,17 +7,18 @@ ghost use Rattle.hip_runs.specs.Step.{event, has_ended, run};
 ghost use Rattle.hip_runs.specs.Seen.{after_step, next_site, state_of};
 ghost use Rattle.hip_notes.specs.MarkKeys.{mark_of, WereHit};
 ghost use Rattle.hip_notes.specs.Noted.{AreNoted};
-ghost use Rattle.hip_notes.specs.Plain.{AreTracked, IsPlainFor};
-ghost use Rattle.hip_notes.specs.Sights.{AddAlike, is_still, marks_ahead};
+ghost use Rattle.hip_notes.specs.Plain.{AreTracked};
+ghost use Rattle.hip_notes.specs.Sights.{is_still};
+ghost use Rattle.hip_report.specs.Stepping.{HasTaken};
 
 use crate::sight::{Sight, look};
+use hip_engine::Machine;
 use hip_invariants::{runs_are_bounded, stack_keeps_its_shape};
 use hip_notes::{
     Moment, Notes, meet_global, step_calls, step_check, step_counts, step_forget, step_lines,
     step_marks,
 };
 use hip_runs::{Event, Mark, Object};
-use hip_engine::Machine;
 use hip_types::{LINE_SIZE, NoMemory, Row};
 use std::alloc::Global;
 
@@ -55,7 +56,7 @@ fn region_of(machine: &Machine<'_>) -> u64
     machine.input().image.len() as u64
 }
 
-// Whether nothing is to be noted of a step with this event and these new marks but the calls after it.
+// Whether a step with this event and these new marks changes no notes but the calls.
 #[inline(always)]
 fn changes_calls_alone(event: Event, marks: &Row<Mark>) -> bool
     ensures { result ≡ true → (is_still event ≡ true) × (marks.now ≡ []) }
@@ -74,7 +75,7 @@ fn is_still(event: Event) -> bool
     }
 }
 
-// Notes the step that a machine has taken, of which this was seen before it.
+// Notes the step that a machine has taken, given what was seen before it.
 #[inline(always)]
 fn note_event(
     alloc: Global,
@@ -83,56 +84,41 @@ fn note_event(
     seen: Event,
     machine: &Machine<'_>,
 ) -> Result<(), NoMemory>
-    requires taken { 0 < machine.now.taken }
-    requires noted { AreNoted machine.now.program machine.now.input (machine.now.taken - 1) notes.old }
-    requires short { longest machine.now.program < 2 ^ 64 }
-    requires going { has_ended (run machine.now.program machine.now.input (machine.now.taken - 1)) ≡ false }
-    requires event { seen ≡ event machine.now.program machine.now.input (run machine.now.program machine.now.input
-        (machine.now.taken - 1)) }
-    requires site { sight.now.site ≡ next_site machine.now.program (run machine.now.program machine.now.input
-        (machine.now.taken - 1)) }
-    requires depth { sight.now.depth ≡ length (run machine.now.program machine.now.input
-        (machine.now.taken - 1)).frames }
-    requires marks { AddAlike (map mark_of notes.old.marks.keys) sight.now.marks (marks_ahead machine.now.program
-        machine.now.input (run machine.now.program machine.now.input (machine.now.taken - 1))) }
+    requires before { HasTaken machine.now seen notes.old sight.now }
     ensures noted { OnOk result (AreNoted machine.now.program machine.now.input machine.now.taken notes.new) }
     ensures header { OnOk result (notes.new.header ≡ notes.old.header) }
 {
     let after = machine.depth();
     if !changes_calls_alone(seen, &sight.marks) {
-        return note_change(alloc, notes, sight, seen, machine, after);
+        note_change(alloc, notes, sight, seen, machine, after)?;
+        forget(alloc, notes, machine);
+        return Ok(());
     }
     if after != sight.depth {
         return note_calls_alone(notes, sight, seen, machine, after);
     }
-    note_still(notes, seen, machine);
+    note_still(notes, sight, seen, machine);
     Ok(())
 }
 
-// Notes a step of which nothing is to be noted but that it was taken.
+// Notes a step that changes no notes but the count of steps.
 #[inline(always)]
-fn note_still(notes: &mut Notes, seen: Event, machine: &Machine<'_>)
-    requires taken { 0 < machine.now.taken }
-    requires noted { AreNoted machine.now.program machine.now.input (machine.now.taken - 1) notes.old }
-    requires short { longest machine.now.program < 2 ^ 64 }
-    requires going { has_ended (run machine.now.program machine.now.input (machine.now.taken - 1)) ≡ false }
-    requires event { seen ≡ event machine.now.program machine.now.input (run machine.now.program machine.now.input
-        (machine.now.taken - 1)) }
+fn note_still(notes: &mut Notes, sight: &Sight, seen: Event, machine: &Machine<'_>)
+    requires before { HasTaken machine.now seen notes.old sight.now }
     requires still { is_still seen ≡ true }
-    requires depth { length (state_of machine.now).frames ≡ length (run machine.now.program machine.now.input
-        (machine.now.taken - 1)).frames }
-    requires marks { AddAlike (map mark_of notes.old.marks.keys) [] (marks_ahead machine.now.program
-        machine.now.input (run machine.now.program machine.now.input (machine.now.taken - 1))) }
+    requires none { sight.now.marks ≡ [] }
+    requires depth { length (state_of machine.now).frames ≡ sight.now.depth }
     ensures noted { AreNoted machine.now.program machine.now.input machine.now.taken notes.new }
     ensures header { notes.new.header ≡ notes.old.header }
 {
+    // Lemmas: runs are bounded, frames have calls, the input is valid.
     runs_are_bounded();
     stack_keeps_its_shape();
     let _input = machine.input();
     notes.steps += 1;
 }
 
-// Notes a step of which nothing is to be noted but the calls after it.
+// Notes a step that changes no notes but the calls.
 #[inline(always)]
 fn note_calls_alone(
     notes: &mut Notes,
@@ -141,23 +127,14 @@ fn note_calls_alone(
     machine: &Machine<'_>,
     after: usize,
 ) -> Result<(), NoMemory>
-    requires taken { 0 < machine.now.taken }
-    requires noted { AreNoted machine.now.program machine.now.input (machine.now.taken - 1) notes.old }
-    requires short { longest machine.now.program < 2 ^ 64 }
-    requires going { has_ended (run machine.now.program machine.now.input (machine.now.taken - 1)) ≡ false }
-    requires event { seen ≡ event machine.now.program machine.now.input (run machine.now.program machine.now.input
-        (machine.now.taken - 1)) }
+    requires before { HasTaken machine.now seen notes.old sight.now }
     requires still { is_still seen ≡ true }
-    requires site { sight.now.site ≡ next_site machine.now.program (run machine.now.program machine.now.input
-        (machine.now.taken - 1)) }
-    requires depth { sight.now.depth ≡ length (run machine.now.program machine.now.input
-        (machine.now.taken - 1)).frames }
+    requires none { sight.now.marks ≡ [] }
     requires after { after ≡ length (state_of machine.now).frames }
-    requires marks { AddAlike (map mark_of notes.old.marks.keys) [] (marks_ahead machine.now.program
-        machine.now.input (run machine.now.program machine.now.input (machine.now.taken - 1))) }
     ensures noted { OnOk result (AreNoted machine.now.program machine.now.input machine.now.taken notes.new) }
     ensures header { OnOk result (notes.new.header ≡ notes.old.header) }
 {
+    // Lemmas: runs are bounded, frames have calls, the input is valid.
     runs_are_bounded();
     stack_keeps_its_shape();
     let _input = machine.input();
@@ -171,7 +148,7 @@ fn note_calls_alone(
     Ok(())
 }
 
-// Notes a step of which more is to be noted.
+// Notes a step of any kind.
 fn note_change(
     alloc: Global,
     notes: &mut Notes,
@@ -180,27 +157,18 @@ fn note_change(
     machine: &Machine<'_>,
     after: usize,
 ) -> Result<(), NoMemory>
-    requires taken { 0 < machine.now.taken }
-    requires noted { AreNoted machine.now.program machine.now.input (machine.now.taken - 1) notes.old }
-    requires short { longest machine.now.program < 2 ^ 64 }
-    requires going { has_ended (run machine.now.program machine.now.input (machine.now.taken - 1)) ≡ false }
-    requires event { seen ≡ event machine.now.program machine.now.input (run machine.now.program machine.now.input
-        (machine.now.taken - 1)) }
-    requires site { sight.now.site ≡ next_site machine.now.program (run machine.now.program machine.now.input
-        (machine.now.taken - 1)) }
-    requires depth { sight.now.depth ≡ length (run machine.now.program machine.now.input
-        (machine.now.taken - 1)).frames }
+    requires before { HasTaken machine.now seen notes.old sight.now }
     requires after { after ≡ length (state_of machine.now).frames }
-    requires marks { AddAlike (map mark_of notes.old.marks.keys) sight.now.marks (marks_ahead machine.now.program
-        machine.now.input (run machine.now.program machine.now.input (machine.now.taken - 1))) }
     ensures noted { OnOk result (AreNoted machine.now.program machine.now.input machine.now.taken notes.new) }
     ensures header { OnOk result (notes.new.header ≡ notes.old.header) }
 {
+    // Lemmas: runs are bounded, frames have calls, the program is sound.
     runs_are_bounded();
     stack_keeps_its_shape();
-    let base = machine.input().base;
     let checked = machine.checked();
     let _program = checked.program();
+
+    let base = machine.input().base;
     let region = region_of(machine);
     let moment = Moment {
         site: sight.site,
@@ -214,11 +182,26 @@ fn note_change(
     step_marks(notes, seen, sight.marks.as_slice())?;
     step_hit(notes, seen, machine)?;
     step_counts(notes, seen);
-    step_forget(alloc, notes, seen, lines, region);
     Ok(())
 }
 
-// How many plain places are next after a step with this event, before which so many were.
+// Drops the notes that no check will need, after a step that was noted.
+fn forget(alloc: Global, notes: &mut Notes, machine: &Machine<'_>)
+    requires noted { AreNoted machine.now.program machine.now.input machine.now.taken notes.old }
+    requires short { longest machine.now.program < 2 ^ 64 }
+    ensures noted { AreNoted machine.now.program machine.now.input machine.now.taken notes.new }
+    ensures header { notes.new.header ≡ notes.old.header }
+{
+    // Lemmas: runs are bounded, the input is valid.
+    runs_are_bounded();
+    let _input = machine.input();
+
+    let region = region_of(machine);
+    let lines = machine.lines();
+    step_forget(alloc, notes, lines, region);
+}
+
+// The number of plain places that are next after a step with this event, given the number before it.
 fn plain_after(event: Event, plain: usize) -> usize
     ensures { 0 < result → (event ≡ Event.Quiet) × (0 < plain) × (result ≡ plain - 1) }
 {
@@ -237,20 +220,7 @@ fn note_taken(
     seen: Event,
     machine: &Machine<'_>,
 ) -> Result<(), NoMemory>
-    requires taken { 0 < machine.now.taken }
-    requires noted { AreNoted machine.now.program machine.now.input (machine.now.taken - 1) notes.old }
-    requires short { longest machine.now.program < 2 ^ 64 }
-    requires going { has_ended (run machine.now.program machine.now.input (machine.now.taken - 1)) ≡ false }
-    requires event { seen ≡ event machine.now.program machine.now.input (run machine.now.program machine.now.input
-        (machine.now.taken - 1)) }
-    requires site { sight.now.site ≡ next_site machine.now.program (run machine.now.program machine.now.input
-        (machine.now.taken - 1)) }
-    requires depth { sight.now.depth ≡ length (run machine.now.program machine.now.input
-        (machine.now.taken - 1)).frames }
-    requires plain { 0 < sight.now.plain → IsPlainFor machine.now.program (run machine.now.program machine.now.input
-        (machine.now.taken - 1)) sight.now.plain }
-    requires marks { AddAlike (map mark_of notes.old.marks.keys) sight.now.marks (marks_ahead machine.now.program
-        machine.now.input (run machine.now.program machine.now.input (machine.now.taken - 1))) }
+    requires before { HasTaken machine.now seen notes.old sight.now }
     ensures noted { OnOk result (AreTracked machine.now.program machine.now.input machine.now.taken notes.new) }
     ensures header { OnOk result (notes.new.header ≡ notes.old.header) }
 {
@@ -299,6 +269,7 @@ fn note_plain(notes: &mut Notes, seen: Event, machine: &Machine<'_>)
     ensures noted { AreTracked machine.now.program machine.now.input machine.now.taken notes.new }
     ensures header { notes.new.header ≡ notes.old.header }
 {
+    // Lemmas: runs are bounded, frames have calls, the input is valid.
     runs_are_bounded();
     stack_keeps_its_shape();
     let _input = machine.input();
@@ -328,7 +299,7 @@ fn pass(notes: &mut Notes, machine: &mut Machine<'_>) -> Result<Event, NoMemory>
     Ok(event)
 }
 
-/// Takes a machine's step and notes it. After want of memory the machine is as before or has taken the step.
+/// Takes a machine's step and notes it. Out of memory, the machine is as before or has taken the step.
 #[inline(always)]
 pub fn note_step(
     alloc: Global,

@@ -8,10 +8,10 @@ ghost use Rattle.hip_notes.specs.Plain.{AreTracked};
 ghost use Rattle.hip_report.specs.Tracking.{HasNoted, IsSource, MayAdvance, NotesOf, notes_all, seen_in};
 
 use crate::step::note_step;
+use hip_engine::Machine;
 use hip_notes::{Notes, globals_of, marks_of};
 use hip_runs::{Event, Findings, Input, Marks, longest};
 use hip_sound::Checked;
-use hip_engine::Machine;
 use hip_types::NoMemory;
 use std::alloc::Global;
 use std::marker::Model;
@@ -24,7 +24,7 @@ pub struct Source<'a> {
 }
 
 /// A tracker of one run, which contracts see as the machine whose steps it noted, the number of entries before the
-/// first step, and whether memory was wanting. It keeps the stores that may still be reported, and shares the calls
+/// first step, and whether it ran out of memory. It keeps the stores that may still be reported, and shares the calls
 /// that they have in common.
 #[derive(Drop)]
 pub struct Tracker<'a> {
@@ -51,7 +51,7 @@ impl<'a> Model for Tracker<'a> {
 }
 
 impl<'a> Tracker<'a> {
-    /// A tracker that has noted nothing, of a run whose trace has so many entries before the first step.
+    /// A tracker that has noted nothing, of a run whose trace has `header` entries before the first step.
     pub fn new(alloc: Global, header: u128) -> Result<Tracker<'a>, NoMemory>
         requires { header ≤ 2 ^ 64 }
         ensures { IfOk result (λ t. t ≡ record { header = header; noted = None; failed = false }) }
@@ -64,8 +64,8 @@ impl<'a> Tracker<'a> {
         })
     }
 
-    /// Takes the machine's step and notes it. After want of memory the machine is as before or has taken the step, and
-    /// from then on the tracker answers want of memory and leaves machines as they are.
+    /// Takes the machine's step and notes it. Out of memory, the machine is as before or has taken the step, and from
+    /// then on the tracker returns `NoMemory` and leaves machines as they are.
     #[inline(always)]
     pub fn advance(&mut self, machine: &mut Machine<'a>) -> Result<Event, NoMemory>
         requires { MayAdvance self.old machine.old }
@@ -129,6 +129,7 @@ fn begin<'a>(source: &mut Option<Source<'a>>, notes: &Notes, machine: &Machine<'
         Some(_) => {}
         None => {
             let checked = machine.checked();
+            // Lemma: the program's longest block is below 2^64.
             let _most = longest(checked.program());
             *source = Some(Source {
                 checked,

@@ -1,5 +1,5 @@
 -- The notes after all parts of a step.
-use Rattle.std.proofs.Common.{◌≡◌, ℕ, suc, ◌+◌, ◌*◌, ◌<◌, ◌≤◌, ◌^◌, Bool, true, false, cond, List, [], ◌∷◌, length, map, Option, Some, refl, sym, ap, ap₂, ◌∙◌, subst, arith, nat_eq, ◌⊎◌, inl, inr}
+use Rattle.std.proofs.Common.{◌≡◌, ℕ, suc, ◌+◌, ◌*◌, ◌<◌, ◌≤◌, ◌^◌, Bool, true, false, cond, List, [], ◌∷◌, length, map, Option, Some, refl, sym, ap, ap₂, ◌∙◌, subst, arith, nat_eq, inl, inr}
 use Rattle.std.proofs.lemmas.Nat.{mul-le}
 use Rattle.hip_types.specs.Distinct.{met}
 use Rattle.hip_tree.specs.declared.program.Program.{Program}
@@ -29,8 +29,7 @@ use Rattle.hip_notes.specs.CallPaths.{births_of}
 use Rattle.hip_notes.specs.MarkKeys.{AreMet, mark_of, WereHit}
 use Rattle.hip_notes.specs.Noted.{AreNoted, EndsBelow, Follows, Reported, births_after, calls_after}
 use Rattle.hip_notes.specs.Pending.{lines_of}
-use Rattle.hip_runs.specs.Found.Tags.{loose_bytes}
-use Rattle.hip_notes.specs.Noted.{IsForgotten, IsLetGo}
+use Rattle.hip_notes.specs.Noted.{IsForgotten}
 use Rattle.hip_notes.specs.Sights.{marks_ahead}
 use Rattle.hip_notes.specs.Standing.{Tells}
 use Rattle.hip_notes.specs.declared.notes.Notes.{Notes}
@@ -215,10 +214,10 @@ first_frame (f ∷ fs) e = (f, fs, refl)
 
 -- ---- what is let go
 
-pub forgotten : (P : Program) (I : Input) (n region : ℕ) (c c' : Notes) → AreNoted P I (suc n) c → region ≡ 64 * length (run P I (suc n)).lines
-    → IsForgotten (since.fences (event P I (run P I n))) (loose_bytes (run P I (suc n)) 0 region) c.pending c'.pending
-    → c' ≡ record c { pending = c'.pending; enough = c'.enough } → AreNoted P I (suc n) c'
-forgotten P I n region c c' h e k r = subst (λ (x : Notes). AreNoted P I (suc n) x) (sym r) (record {
+pub forgotten : (P : Program) (I : Input) (n region : ℕ) (c c' : Notes) → AreNoted P I n c → region ≡ 64 * length (run P I n).lines
+    → IsForgotten (shown (run P I n).lines) region c.pending c'.pending
+    → c' ≡ record c { pending = c'.pending; enough = c'.enough } → AreNoted P I n c'
+forgotten P I n region c c' h e k r = subst (λ (x : Notes). AreNoted P I n x) (sym r) (record {
   steps = h.steps;
   counted = h.counted;
   entries = h.entries;
@@ -235,7 +234,6 @@ forgotten P I n region c c' h e k r = subst (λ (x : Notes). AreNoted P I (suc n
   reports = h.reports;
 })
   where
-    by : (c'.pending ≡ c.pending) ⊎ ((since.fences (event P I (run P I n)) ≡ true) × IsLetGo (loose_bytes (run P I (suc n)) 0 region) c.pending c'.pending)
-        → Tells P I (suc n) c.header c'.pending.stores.items (lines_of c'.pending.lines)
-    by (inl q) = subst (λ (p : Pending). Tells P I (suc n) c.header p.stores.items (lines_of p.lines)) (sym q) h.pending
-    by (inr q) = let_go P I n c.header region q.0 e c.pending c'.pending h.pending q.1
+    by : IsForgotten (shown (run P I n).lines) region c.pending c'.pending → Tells P I n c.header c'.pending.stores.items (lines_of c'.pending.lines)
+    by (inl q) = subst (λ (p : Pending). Tells P I n c.header p.stores.items (lines_of p.lines)) (sym q) h.pending
+    by (inr q) = let_go P I n c.header region e c.pending c'.pending h.pending q

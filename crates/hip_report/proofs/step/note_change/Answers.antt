@@ -4,9 +4,7 @@ use Rattle.hip_globals.specs.Addresses.{region_size}
 use Rattle.hip_runs.specs.Laws.CrashLaws.{same_size}
 use Rattle.hip_runs.specs.Laws.StepLaws.{standing-frame}
 use Rattle.hip_runs.specs.Step.{event, run}
-use Rattle.hip_runs.specs.Found.Tags.{loose_bytes}
 use Rattle.hip_runs.specs.StoredParts.Shown.{shown}
-use Rattle.hip_runs.specs.StoredParts.Since.{fences}
 use Rattle.hip_runs.specs.declared.event.Event.{Event}
 use Rattle.hip_runs.specs.declared.input.Input.{Input}
 use Rattle.hip_runs.specs.declared.report.Mark.{Mark}
@@ -16,12 +14,9 @@ use Rattle.hip_runs.specs.Found.Marks.{same_mark, unless_ended}
 use Rattle.hip_notes.specs.MarkKeys.{AreMet, mark_of, WereHit}
 use Rattle.hip_notes.specs.Sights.{AddAlike, marks_ahead}
 use Rattle.hip_runs.specs.Seen.{next_site}
-use Rattle.hip_lines.specs.Parts.{loose_from}
-use Rattle.hip_lines.specs.Pending.{Pending as Waiting}
-use Rattle.hip_lines.specs.declared.part.Part.{Part}
-use Rattle.hip_notes.specs.Noted.{AreNoted, EndsBelow, IsForgotten}
+use Rattle.hip_notes.specs.Noted.{AreNoted, EndsBelow}
 use Rattle.hip_notes.specs.declared.notes.Notes.{Notes}
-use Rattle.hip_notes.proofs.noting.Assembled.{Did, assembled, did_at, ends_below, few_at, first_frame, forgotten}
+use Rattle.hip_notes.proofs.noting.Assembled.{Did, assembled, did_at, ends_below, few_at, first_frame}
 use Rattle.hip_notes.proofs.ClosedCalls.{length_births}
 use Rattle.hip_notes.proofs.MarksAtHand.{unless_alike}
 use Rattle.hip_notes.proofs.NoteLists.{more_flushes, more_stores}
@@ -38,16 +33,16 @@ pub step_check-requires-clause-stores : goal.step_check-requires-clause-stores
 step_check-requires-clause-stores c =
     let m = c.args.machine.now in
     let n = m.taken - 1 in
-    let h = c.requires.noted in
-    let few : n < 2 ^ 127 = few_at m.program m.input n c.args.notes.now h (c.runs_are_bounded.ensures.bounded m.program m.input n) c.input.ensures.valid.limit c.requires.short in
+    let h = c.requires.before.1.noted in
+    let few : n < 2 ^ 127 = few_at m.program m.input n c.args.notes.now h (c.runs_are_bounded.ensures.bounded m.program m.input n) c.input.ensures.valid.limit c.requires.before.1.short in
     more_stores 0 n (2 ^ 128) _ (omega (arith, few)) h.pending.stores
 
 pub step_check-requires-clause-flushes : goal.step_check-requires-clause-flushes
 step_check-requires-clause-flushes c j l e =
     let m = c.args.machine.now in
     let n = m.taken - 1 in
-    let h = c.requires.noted in
-    let few : n < 2 ^ 127 = few_at m.program m.input n c.args.notes.now h (c.runs_are_bounded.ensures.bounded m.program m.input n) c.input.ensures.valid.limit c.requires.short in
+    let h = c.requires.before.1.noted in
+    let few : n < 2 ^ 127 = few_at m.program m.input n c.args.notes.now h (c.runs_are_bounded.ensures.bounded m.program m.input n) c.input.ensures.valid.limit c.requires.before.1.short in
     more_flushes 0 n (2 ^ 128) _ (omega (arith, few)) (h.pending.flushes j l e)
 
 pub step_lines-requires-clause-ends : goal.step_lines-requires-clause-ends
@@ -56,12 +51,12 @@ step_lines-requires-clause-ends c =
     let n = m.taken - 1 in
     let size = same_size m.program m.input n c.input.ensures.valid in
     let small : length m.input.image < 2 ^ 64 = (let a = c.input.ensures.valid.image in let b = c.program-program.ensures.sound.sizes.region in let k = ap region_size c.checked-checked.ensures in omega (arith, a, b, k)) in
-    let lies : Lies m.input c.args.seen = subst (λ (e : Event). Lies m.input e) (sym c.requires.event) (event_lies m.program m.input (run m.program m.input n)) in
+    let lies : Lies m.input c.args.seen = subst (λ (e : Event). Lies m.input e) (sym c.requires.before.1.seen) (event_lies m.program m.input (run m.program m.input n)) in
     subst (λ (i : Input). EndsBelow i.base c.args.seen) (sym c.input.ensures.is) (ends_below m.input _ c.args.seen lies size small)
 
 pub step_lines-requires-clause-births : goal.step_lines-requires-clause-births
 step_lines-requires-clause-births c =
-    let h = c.requires.noted in
+    let h = c.requires.before.1.noted in
     let r1 = c.in_ok-step_check.ensures.rest in
     ap (λ (x : Notes). length x.births.items) r1 ∙ ap length h.births ∙ length_births _ ∙ sym (ap length h.calls)
     ∙ sym (ap (λ (x : Notes). length x.calls) r1)
@@ -73,7 +68,7 @@ returns-clause-noted c =
     let P = m.program in
     let I = m.input in
     let s = run P I n in
-    let next : suc n ≡ m.taken = (let t = c.requires.taken in omega (arith, t)) in
+    let next : suc n ≡ m.taken = (let t = c.requires.before.0 in omega (arith, t)) in
     let region : c.region_of-region.result ≡ length I.image = c.region_of-region.ensures in
     let base : c.input.result.now.base ≡ I.base = ap (λ (i : Input). i.base) c.input.ensures.is in
     let marks3 : c.step_calls.new.notes.marks ≡ c.args.notes.now.marks = ap (λ (x : Notes). x.marks) c.in_ok-step_calls.ensures.rest ∙ ap (λ (x : Notes). x.marks) c.in_ok-step_lines.ensures.rest ∙ ap (λ (x : Notes). x.marks) c.in_ok-step_check.ensures.rest in
@@ -87,7 +82,7 @@ returns-clause-noted c =
       r3 = c.in_ok-step_calls.ensures.rest;
       marks = c.in_ok-step_marks.ensures.marks ∙ ap (λ (ms : List Mark). met same_mark (map mark_of c.step_calls.new.notes.marks.keys) (unless_ended c.args.seen ms)) c.as_slice.ensures
           ∙ unless_alike c.args.seen (map mark_of c.step_calls.new.notes.marks.keys) c.args.sight.now.marks (marks_ahead P I s)
-          (subst (λ x. AddAlike (map mark_of x.keys) c.args.sight.now.marks (marks_ahead P I s)) (sym marks3) c.requires.marks);
+          (subst (λ x. AddAlike (map mark_of x.keys) c.args.sight.now.marks (marks_ahead P I s)) (sym marks3) c.requires.before.1.marks);
       known = c.in_ok-step_marks.ensures.known;
       r4 = c.in_ok-step_marks.ensures.rest;
       hits = c.in_ok-step_hit.ensures.hit;
@@ -97,22 +92,16 @@ returns-clause-noted c =
     } in
     let at = did_at P I c.args.notes.now c.step_check.new.notes c.step_lines.new.notes c.step_calls.new.notes c.step_marks.new.notes c.step_hit.new.notes c.step_counts.new.notes c.input.result.now.base c.region_of-region.result
     c.lines-lines.result.now.lines (shown (run P I (suc n)).lines) (c.lines-lines.ensures ∙ ap (λ i. shown (run P I i).lines) (sym next))
-    c.args.seen (event P I s) c.requires.event c.args.sight.now.site (next_site P s) c.requires.site c.args.sight.now.depth (length s.frames) c.requires.depth
+    c.args.seen (event P I s) c.requires.before.1.seen c.args.sight.now.site (next_site P s) c.requires.before.1.site c.args.sight.now.depth (length s.frames) c.requires.before.1.depth
     c.args.after (length (run P I (suc n)).frames) (c.requires.after ∙ ap (λ i. length (run P I i).frames) (sym next)) (marks_ahead P I s) (marks_ahead P I s) refl did in
     let top = first_frame s.frames (standing-frame P I n) in
     let noted : AreNoted P I (suc n) c.step_counts.new.notes =
-    assembled P I n c.requires.going c.args.notes.now c.step_check.new.notes c.step_lines.new.notes c.step_calls.new.notes c.step_marks.new.notes c.step_hit.new.notes c.step_counts.new.notes c.requires.noted c.input.result.now.base c.region_of-region.result base region (c.stack_keeps_its_shape.ensures P I n).is.calls top.0 top.1 top.2 at in
-    let size : c.region_of-region.result ≡ 64 * length (run P I (suc n)).lines = region ∙ same_size P I (suc n) c.input.ensures.valid in
-    let lines : c.lines-lines.result.now.lines ≡ shown (run P I (suc n)).lines = c.lines-lines.ensures ∙ ap (λ i. shown (run P I i).lines) (sym next) in
-    subst (λ i. AreNoted P I i c.step_forget.new.notes) next
-    (forgotten P I n c.region_of-region.result c.step_counts.new.notes c.step_forget.new.notes noted size
-    (subst (λ (e : Event). IsForgotten (fences e) (loose_bytes (run P I (suc n)) 0 c.region_of-region.result) c.step_counts.new.notes.pending c.step_forget.new.notes.pending) c.requires.event
-    (subst (λ (ws : List (Waiting Part)). IsForgotten (fences c.args.seen) (loose_from ws 0 c.region_of-region.result) c.step_counts.new.notes.pending c.step_forget.new.notes.pending) lines c.step_forget.ensures.kept))
-    c.step_forget.ensures.rest)
+    assembled P I n c.requires.before.1.going c.args.notes.now c.step_check.new.notes c.step_lines.new.notes c.step_calls.new.notes c.step_marks.new.notes c.step_hit.new.notes c.step_counts.new.notes c.requires.before.1.noted c.input.result.now.base c.region_of-region.result base region (c.stack_keeps_its_shape.ensures P I n).is.calls top.0 top.1 top.2 at in
+    subst (λ i. AreNoted P I i c.step_counts.new.notes) next noted
 
 pub step_marks-requires : goal.step_marks-requires
 step_marks-requires c =
-    let h = c.requires.noted in
+    let h = c.requires.before.1.noted in
     let r1 = c.in_ok-step_check.ensures.rest in
     let r2 = c.in_ok-step_lines.ensures.rest in
     let r3 = c.in_ok-step_calls.ensures.rest in
@@ -121,16 +110,10 @@ step_marks-requires c =
 
 pub step_hit-requires : goal.step_hit-requires
 step_hit-requires c =
-    let h = c.requires.noted in
+    let h = c.requires.before.1.noted in
     let r1 = c.in_ok-step_check.ensures.rest in
     let r2 = c.in_ok-step_lines.ensures.rest in
     let r3 = c.in_ok-step_calls.ensures.rest in
     let r4 = c.in_ok-step_marks.ensures.rest in
     subst (λ x. WereHit x.keys c.step_marks.new.notes.flags.items) (sym (ap (λ (x : Notes). x.hit) r4 ∙ ap (λ (x : Notes). x.hit) r3 ∙ ap (λ (x : Notes). x.hit) r2 ∙ ap (λ (x : Notes). x.hit) r1))
     (subst (λ x. WereHit c.args.notes.now.hit.keys x.items) (sym (ap (λ (x : Notes). x.flags) r4 ∙ ap (λ (x : Notes). x.flags) r3 ∙ ap (λ (x : Notes). x.flags) r2 ∙ ap (λ (x : Notes). x.flags) r1)) h.flags)
-
-pub step_forget-requires : goal.step_forget-requires
-step_forget-requires c =
-    let m = c.args.machine.now in
-    let is : c.region_of-region.result ≡ length m.input.image = c.region_of-region.ensures in
-    is ∙ same_size m.program m.input m.taken c.input.ensures.valid ∙ ap (λ k. 64 * k) (sym (ap length c.lines-lines.ensures ∙ length-map _ _))

@@ -1,5 +1,5 @@
 -- What is known before a step is so when the machine has taken it.
-use Rattle.std.proofs.Common.{◌≡◌, ℕ, suc, ◌-◌, Bool, false, cond, sym, subst, arith}
+use Rattle.std.proofs.Common.{◌≡◌, suc, ◌-◌, false, cond, sym, subst, arith}
 use Rattle.hip_runs.specs.Seen.{after_step, Seen, state_of}
 use Rattle.hip_runs.specs.Step.{has_ended}
 use Rattle.hip_runs.specs.declared.event.Event.{Event}

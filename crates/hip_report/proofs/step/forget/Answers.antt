@@ -1,10 +1,8 @@
-use Rattle.std.proofs.Common.{◌≡◌, ◌*◌, ◌<◌, ◌^◌, List, length, sym, ap, ◌∙◌, subst, arith}
+use Rattle.std.proofs.Common.{◌*◌, ◌<◌, ◌^◌, List, length, sym, ap, ◌∙◌, subst, arith}
 use Rattle.std.proofs.lemmas.List.{length-map}
 use Rattle.hip_lines.specs.Pending.{Pending as Waiting}
 use Rattle.hip_lines.specs.declared.part.Part.{Part}
 use Rattle.hip_runs.specs.Laws.CrashLaws.{same_size}
-use Rattle.hip_runs.specs.Step.{run}
-use Rattle.hip_runs.specs.StoredParts.Shown.{shown}
 use Rattle.hip_notes.specs.Noted.{IsForgotten}
 use Rattle.hip_notes.proofs.noting.Assembled.{few_at, forgotten}
 use Rattle.hip_notes.proofs.NoteLists.{more_flushes}

@@ -1,6 +1,5 @@
-use Rattle.std.proofs.Common.{◌≡◌, suc, ◌+◌, ◌-◌, [], arith, length, map, refl, ap, ap₂, ◌∙◌, subst, sym}
+use Rattle.std.proofs.Common.{◌≡◌, suc, ◌+◌, ◌-◌, arith, length, map, refl, ap, ap₂, ◌∙◌, subst, sym}
 use Rattle.hip_runs.specs.Step.{run}
-use Rattle.hip_runs.specs.Seen.{next_site}
 use Rattle.hip_notes.specs.MarkKeys.{mark_of}
 use Rattle.hip_notes.specs.Noted.{AreNoted, births_after, calls_after}
 use Rattle.hip_notes.specs.Sights.{AddAlike, is_still, marks_ahead}

@@ -112,6 +112,6 @@ fn the_last_write_fails(rt: HostRuntime) {
     for words in COMMANDS {
         let left = left_by(&rt, rt.alloc(), *words, true);
         assert_eq!(&rt; left.code, 4, "{}", words[0]);
-        assert!(&rt; left.notes.bytes() == b"hippo: write fault\n");
+        assert!(&rt; left.notes.bytes() == b"hippo: write fault\n".as_slice());
     }
 }

@@ -51,5 +51,5 @@ fn many_entries_are_recorded_and_checked(rt: HostRuntime) {
     let checked = outcome_of_bytes(&rt, rt.alloc(), &["check", "a", "b"], files);
     assert_eq!(&rt; checked.code, 0);
     assert_eq!(&rt; checked.out.bytes().len(), 0);
-    assert!(&rt; checked.notes.bytes() == b"reports 0\n");
+    assert!(&rt; checked.notes.bytes() == b"reports 0\n".as_slice());
 }

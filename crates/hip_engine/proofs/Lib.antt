@@ -1,5 +1,6 @@
 pub mod Told
 pub mod Runs
 pub mod Quietly
+pub mod Quickly
 pub mod MainPlace
 pub mod StartStands

@@ -2,4 +2,5 @@ pub mod Given
 pub mod Starting
 pub mod Running
 pub mod Quiet
+pub mod QuickSteps
 pub mod Laws

@@ -2,6 +2,8 @@
 #![tactic(auto)]
 
 mod going;
+mod here;
 mod machine;
+mod quick_steps;
 
 pub use machine::Machine;

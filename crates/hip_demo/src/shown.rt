@@ -56,15 +56,19 @@ fn mend(alloc: Global, checked: &Checked, replayed: Replayed) -> Result<Shown, N
     inputs_stay_valid();
     repairs_cure();
     let _program = checked.program();
-    let Repair { plan, repaired } = repair_for(alloc, checked, &replayed.findings)?;
-    let rerun = keep_run(alloc, &repaired.checked, &replayed.input)?;
+    let repair = repair_for(alloc, checked, &replayed.findings)?;
+    let rerun = keep_run(alloc, &repair.repaired.checked, &replayed.input)?;
+    let reports = replayed.findings.reports.len();
+    let clones = repair.repaired.clones.len();
+    let after = rerun.recorded.findings.reports.len();
+    let Repair { plan, .. } = repair;
     Ok(Shown {
         entries: replayed.entries,
-        reports: replayed.findings.reports.len(),
+        reports,
         plan,
-        clones: repaired.clones.len(),
+        clones,
         rerun: rerun.recorded.entries,
-        after: rerun.recorded.findings.reports.len(),
+        after,
     })
 }
 

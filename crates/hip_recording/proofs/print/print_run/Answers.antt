@@ -17,13 +17,13 @@ returns-in-Done-clause-prints g c =
     subst (λ m. HasPrinted m.program m.input (g.S.Sink.state c.args.out.now) (g.S.Sink.state c.deliver.new.self) c.in-Ok-print_steps.ending) c.in-Ok.ensures
     (has_printed c.in-Ok-print_steps.ensures c.in-Done.ensures.nothing)
 
-pub returns-in-Failed-clause-prints : goal.returns-in-Failed-clause-prints
-returns-in-Failed-clause-prints g c =
+pub returns-in-Ok-print_steps-clause-prints : goal.returns-in-Ok-print_steps-clause-prints
+returns-in-Ok-print_steps-clause-prints g c =
     subst (λ m. HasFailed m.program m.input (g.S.Sink.state c.args.out.now) (g.S.Sink.state c.deliver.new.self)) c.in-Ok.ensures
     (not_delivered c.in-Ok-print_steps.ensures c.in-Failed.ensures.nothing)
 
-pub returns-in-Err-WriteFault-clause-prints : goal.returns-in-Err-WriteFault-clause-prints
-returns-in-Err-WriteFault-clause-prints g c =
+pub returns-clause-prints : goal.returns-clause-prints
+returns-clause-prints g c =
     subst (λ m. HasFailed m.program m.input (g.S.Sink.state c.args.out.now) (g.S.Sink.state c.print_steps.new.out)) c.in-Ok.ensures
     (rw c.in-Err-WriteFault.field-0-is at c.in-Err-WriteFault.ensures)
 

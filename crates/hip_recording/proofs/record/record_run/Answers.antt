@@ -18,5 +18,5 @@ returns-in-Ok-put_header-clause-records g c =
     (subst (λ m. (start : SinkState) → AppendsAll start (g.S.Sink.state c.put_header.new.out) (lines_of (header_of m.input)) → Records m.program m.input start (g.S.Sink.state c.record_steps.new.out) c.record_steps.result) c.in-Ok.ensures c.record_steps.ensures.records)
     (g.S.Sink.state c.args.out.now) c.in-Ok-put_header.ensures.wrote
 
-pub returns-in-Err-put_header-clause-records : goal.returns-in-Err-put_header-clause-records
-returns-in-Err-put_header-clause-records g c = header_failed c.args.checked.now c.args.input.now (g.S.Sink.state c.args.out.now) (g.S.Sink.state c.put_header.new.out) c.in-Err-put_header.ensures.wrote
+pub returns-clause-records : goal.returns-clause-records
+returns-clause-records g c = header_failed c.args.checked.now c.args.input.now (g.S.Sink.state c.args.out.now) (g.S.Sink.state c.put_header.new.out) c.in-Err-put_header.ensures.wrote

@@ -18,5 +18,5 @@ returns-in-Ok-put_header-clause-trace g c =
     (subst (λ m. (start : SinkState) → AppendsAll start (g.S.Sink.state c.put_header.new.out) (lines_of (header_of m.input)) → PutsTrace m.program m.input start (g.S.Sink.state c.put_trace.new.out) c.put_trace.result) c.in-Ok.ensures c.put_trace.ensures.trace)
     (g.S.Sink.state c.args.out.now) c.in-Ok-put_header.ensures.wrote
 
-pub returns-in-Err-put_header-clause-trace : goal.returns-in-Err-put_header-clause-trace
-returns-in-Err-put_header-clause-trace g c = header_failed c.args.checked.now c.args.input.now (g.S.Sink.state c.args.out.now) (g.S.Sink.state c.put_header.new.out) c.in-Err-put_header.ensures.wrote
+pub returns-clause-trace : goal.returns-clause-trace
+returns-clause-trace g c = header_failed c.args.checked.now c.args.input.now (g.S.Sink.state c.args.out.now) (g.S.Sink.state c.put_header.new.out) c.in-Err-put_header.ensures.wrote

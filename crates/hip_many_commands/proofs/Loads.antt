@@ -1,5 +1,5 @@
 -- Traces that are loaded one after the other.
-use Rattle.std.proofs.Common.{◌≡◌, ◌<◌, ◌+◌, ℕ, suc, false, List, [], ◌∷◌, ◌++◌, length, take, drop, get_or, Option, Err, sym, ap, ◌∙◌, subst, arith}
+use Rattle.std.proofs.Common.{◌≡◌, ◌<◌, ◌+◌, ℕ, suc, false, List, [], ◌∷◌, ◌++◌, length, take, drop, get_or, Option, Err, refl, sym, ap, ◌∙◌, subst, arith}
 use Rattle.std.proofs.Math.Seq.{drop-cons}
 use Rattle.std.proofs.lemmas.List.{length-take-le, map-append, take-append-drop, take_more}
 use Rattle.std.proofs.lemmas.List.Elements.{All-append, All-cons, All-nil}
@@ -24,9 +24,21 @@ pub record HasAskedSome (P : Program) (names : List (List ℕ)) (start : Cabinet
   pub runs : List TracedRun
   pub are : AreRunsOf start.files P (take count names) runs
   pub met : HasMet false false start now
-  pub fetches : CountsFetches count start now
+  -- n fetches more are count + n from the start
+  pub fetches : (n : ℕ) (later : CabinetState) → CountsFetches n now later → CountsFetches (count + n) start later
   pub plans_are : plans ≡ plans_of P runs
   pub reports_are : reports ≡ reports_of runs
+
+-- before the first trace
+pub asked_none : (P : Program) (names : List (List ℕ)) (start : CabinetState) → HasAskedSome P names start 0 [] 0 start
+asked_none P names start = record {
+  runs = [];
+  are = record { named = refl; each = All-nil (IsRunOf start.files P) };
+  met = record { files = refl; misses = refl; faults = refl };
+  fetches = λ n later more. subst (λ (k : ℕ). CountsFetches k start later) (let e : n ≡ 0 + n = omega arith in e) more;
+  plans_are = refl;
+  reports_are = refl;
+}
 
 -- ---- one run more
 
@@ -69,7 +81,9 @@ module _ {P : Program} {names : List (List ℕ)} {start mid : CabinetState} {cou
         (runs_more start.files P (take count names) some.runs h.run some.are
         (of_files mid.files start.files some.met.files h.is));
     met = met_then some.met h.met;
-    fetches = fetches_then count 1 some.fetches h.fetches;
+    fetches = λ n later more.
+        subst (λ (k : ℕ). CountsFetches k start later) (let e : count + (1 + n) ≡ (count + 1) + n = omega arith in e)
+        (some.fetches (1 + n) later (fetches_then 1 n h.fetches more));
     plans_are =
         ap (λ (ps : List Plan). ps ++ asked.plan ∷ []) some.plans_are
         ∙ ap (λ (p : Plan). plans_of P some.runs ++ p ∷ []) h.plan_is
@@ -109,7 +123,7 @@ module _ {P : Program} {names : List (List ℕ)} {start mid : CabinetState} {cou
     behind = behind_runs number same;
     met = met_then some.met h.met;
     fetches =
-        subst (λ (n : ℕ). CountsFetches n start new) (sym same) (fetches_then count 1 some.fetches h.fetches);
+        subst (λ (n : ℕ). CountsFetches n start new) (sym same) (some.fetches 1 new h.fetches);
     unread = subst (λ (fs : Option (List NamedFile)). FailsToRead fs name P new) some.met.files h.unread;
   }
   lacked new number failures.NoMemory same h = met_then some.met h

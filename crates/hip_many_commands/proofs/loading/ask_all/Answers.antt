@@ -1,6 +1,7 @@
-use Rattle.std.proofs.Common.{◌+◌, ◌∙◌, refl, arith}
+use Rattle.std.proofs.Common.{List, ◌+◌, ◌∙◌, refl, arith, subst, sym}
 use Rattle.std.proofs.lemmas.List.{get_or_default}
-use Rattle.hip_many_commands.proofs.Loads.{asked_more, lacked}
+use Rattle.hip_many_commands.proofs.Loads.{HasAskedSome, asked_more, asked_none, lacked}
+use Rattle.hip_repairs.specs.declared.plan.Plan.{Plan}
 use Rattle.hip_many_commands.proofs.loading.ask_all.Goals as goal
 
 pub returns-in-Err : goal.returns-in-Err
@@ -8,6 +9,16 @@ returns-in-Err g c =
     rw c.numbered.ensures (lacked c.traces.invariant.asked c.as_str.result.now c.traces-test.true
     (c.as_str.ensures ∙ c.index-traces-index.is ∙ get_or_default _ _ _ _ c.traces-test.true)
     (g.C.Cabinet.state c.ask.new.cabinet) (c.traces.index + 1) c.in-Err.failure refl c.in-Err.ensures)
+
+pub traces-init : goal.traces-init
+traces-init g c =
+    let P = c.args.checked.now in
+    let names = c.args.traces.now in
+    let start = g.C.Cabinet.state c.args.cabinet.now in
+    record {
+      asked = subst (λ (ps : List Plan). HasAskedSome P names start 0 ps 0 start) (sym c.new-plans.ensures) (asked_none P names start);
+      few = omega arith;
+    }
 
 pub traces-preserved : goal.traces-preserved
 traces-preserved g c = record {

@@ -14,15 +14,8 @@ use hip_io::{Cabinet, Sink};
 use hip_picks::Pick;
 use hip_runs::Input;
 use hip_sound::Checked;
-use hip_trace_loading::{Replayed, load_run};
+use hip_trace_loading::load_run;
 use std::alloc::Global;
-
-// The entry of a trace at which a crash image is picked, and the picks.
-#[derive(Clone, Copy)]
-struct Choice<'a> {
-    entry: u64,
-    picks: &'a [Pick],
-}
 
 /// Picks a crash image of the run whose trace a file has, at an entry of that trace, and writes the trace of the run
 /// that begins with it as it runs; then how that run has ended goes to notes.
@@ -45,27 +38,35 @@ pub fn crash_file<C: Cabinet, S: Sink, N: Sink>(
         Ok(loaded) => loaded,
         Err(status) => return status,
     };
-    let choice = Choice { entry, picks };
-    crash_run(alloc, &loaded.checked, loaded.replayed, choice, out, notes)
+    let replayed = loaded.replayed;
+    crash_run(
+        alloc,
+        &loaded.checked,
+        replayed.input,
+        replayed.entries,
+        entry,
+        picks,
+        out,
+        notes,
+    )
 }
 
-// Picks an image of a run, and writes the trace of the run that begins with it.
+// Picks an image of a run, whose trace has `entries` entries, and writes the trace of the run that begins with it.
 fn crash_run<S: Sink, N: Sink>(
     alloc: Global,
     checked: &Checked,
-    replayed: Replayed,
-    choice: Choice<'_>,
+    input: Input,
+    entries: u128,
+    entry: u64,
+    picks: &[Pick],
     out: &mut S,
     notes: &mut N,
 ) -> Status
-    requires valid { IsValid checked.now replayed.input }
-    requires counted { HasEntries checked.now replayed.input replayed.entries }
-    ensures { (found : Findings) → AnswersOnRun
-        (CrashTexts choice.entry choice.picks.now checked.now replayed.input found) true
+    requires valid { IsValid checked.now input }
+    requires counted { HasEntries checked.now input entries }
+    ensures { (found : Findings) → AnswersOnRun (CrashTexts entry picks.now checked.now input found) true
         (sinks (S.state out.old) (S.state out.new) (N.state notes.old) (N.state notes.new)) result }
 {
-    let Choice { entry, picks } = choice;
-    let Replayed { input, entries, .. } = replayed;
     let image = match image_at(alloc, checked, &input, entries, entry, picks) {
         Ok(image) => image,
         Err(failure) => return refuse(notes, status_of_image(failure)),

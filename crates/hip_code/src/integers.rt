@@ -52,7 +52,7 @@ fn operated_narrow(op: IntegerOp, width: Width, left: u64, right: u64) -> Result
 }
 
 /// The number that an operation gives on two numbers that are cut to a width, or why it traps. Numbers of 64 bits,
-/// which need no cut, are told apart.
+/// which need no cut, are a case of their own.
 #[inline(always)]
 pub fn operated(op: IntegerOp, width: Width, left: u64, right: u64) -> Result<u64, NumTrap>
     ensures { result ≡ number_in (operated (operation_of op) width left right) }

@@ -31,8 +31,9 @@ abbrev pub repaired_on : Program → List Repair → Program
 repaired_on P [] = P
 repaired_on P (r ∷ rs) = repaired_on (repaired P r.plan r.skip) rs
 
--- The calls that a repair of P hoisted in Q stay covered in R, whose run goes along Q's. Take the step of R that corresponds
--- to a fence of Q directly after a call of a clone: after it, each part of a store that R made since that call is durable.
+-- The calls that a repair of P hoisted in Q stay covered in R, whose run goes along Q's. Take the step of R that
+-- corresponds to a fence of Q directly after a call of a clone: after it, each part of a store that R made since that
+-- call is durable.
 abbrev pub StaysCovered : Program → Program → Program → Type 0
 StaysCovered P Q R =
     (original : ℕ → ℕ) (I : Input) → IsValid Q I → (along : GoesAlong original Q R I) → (j n : ℕ) →
@@ -41,8 +42,8 @@ StaysCovered P Q R =
     (m : ℕ) (l : Line StorePart) → slice_get (run R I (suc n)).lines m ≡ Some l →
     (k : ℕ) (p : StorePart) → slice_get l.parts k ≡ Some p → j ≤ along.steps_of p.step → k < l.durable
 
--- Q is a repair of P. Whatever repairs follow it, the program after them is sound, does no harm in the place of P, keeps
--- the calls covered that Q hoisted, and has nothing to report on this input.
+-- Q is a repair of P. Whatever repairs follow it, the program after them is sound, does no harm in the place of P,
+-- keeps the calls covered that Q hoisted, and has nothing to report on this input.
 pub record LastsOn (P Q : Program) (I : Input) : Type 0 where
   pub sound : (later : List Repair) → IsSound (repaired_on Q later)
   pub harmless : (later : List Repair) → DoesNoHarm P (repaired_on Q later)
@@ -51,8 +52,9 @@ pub record LastsOn (P Q : Program) (I : Input) : Type 0 where
 
 -- ---- repairs one after another
 
--- What every chain of repairs keeps that makes Q of P, by whatever plans: Q is sound and does no harm in the place of P. A
--- clean run stays clean, no crash history is added, one in which no crash loses anything stays, and each run ends as P's.
+-- What every chain of repairs keeps that makes Q of P, by whatever plans: Q is sound and does no harm in the place of
+-- P. A clean run stays clean, no crash history is added, one in which no crash loses anything stays, and each run
+-- ends as P's.
 pub record KeepsProgram (P Q : Program) : Type 0 where
   pub sound : IsSound Q
   pub harmless : DoesNoHarm P Q
@@ -67,8 +69,8 @@ pub record TraceRepair : Type 0 where
   pub findings : Findings
   pub repair : Repair
 
--- The repair is made for the run of P on its input: its plan has what the run found, and the stores that its clones do not
--- flush never lie in the region.
+-- The repair is made for the run of P on its input: its plan has what the run found, and the stores that its clones
+-- do not flush never lie in the region.
 pub record IsMadeFor (P : Program) (r : TraceRepair) : Type 0 where
   pub valid : IsValid P r.input
   pub found : IsFound P r.input r.findings
@@ -90,8 +92,8 @@ AllStayCovered P [] R = Unit {0}
 AllStayCovered P (r ∷ rs) R = StaysCovered P (repaired P r.repair.plan r.repair.skip) R
     × AllStayCovered (repaired P r.repair.plan r.repair.skip) rs R
 
--- The program after the repairs has nothing to report on the input of every trace so far, and the calls that any of them
--- hoisted are covered.
+-- The program after the repairs has nothing to report on the input of every trace so far, and the calls that any of
+-- them hoisted are covered.
 pub record IsMendedFor (P : Program) (rs : List TraceRepair) : Type 0 where
   pub clean : All (λ r. IsClean (mended P rs) r.input) rs
   pub covered : AllStayCovered P rs (mended P rs)

@@ -1,5 +1,5 @@
--- Crash histories: a program runs, a crash leaves an image, and the program runs again from that image, with any input and
--- any number of times. (This project's own.)
+-- Crash histories: a program runs, a crash leaves an image, and the program runs again from that image, with any
+-- input and any number of times. (This project's own.)
 use Rattle.std.specs.Prelude.{◌≡◌, ℕ, ℤ, List, [], ◌∷◌, Option}
 use Rattle.hip_tree.specs.declared.program.Program.{Program}
 use Rattle.hip_runs.specs.Crash.{IsCrashImage}
@@ -10,8 +10,8 @@ use Rattle.hip_runs.specs.declared.event.Ending.{Ending}
 use Rattle.hip_runs.specs.declared.input.Input.{Input}
 use Rattle.hip_survival.specs.Survival.{working_region}
 
--- A round: the base, the numbers and the limit that its run is given, the number of steps before the crash, and the bytes
--- of the region that the crash leaves.
+-- A round: the base, the numbers and the limit that its run is given, the number of steps before the crash, and the
+-- bytes of the region that the crash leaves.
 pub record Round : Type 0 where
   pub base : ℕ
   pub numbers : List ℤ
@@ -32,7 +32,8 @@ pub record IsRound (P : Program) (bytes : List ℕ) (r : Round) : Type 0 where
   pub valid : IsValid P (input_of bytes r)
   pub left : IsCrashImage (input_of bytes r) (state_of P bytes r) r.image
 
--- Crash history: the first round begins with these bytes, and each later round with the bytes that the crash before it left.
+-- Crash history: the first round begins with these bytes, and each later round with the bytes that the crash before
+-- it left.
 abbrev pub IsHistory : Program → List ℕ → List Round → Type 0
 IsHistory P bytes [] = Unit {0}
 IsHistory P bytes (r ∷ rs) = IsRound P bytes r × IsHistory P r.image rs
@@ -61,7 +62,8 @@ AreSameRounds (r ∷ rs) (r' ∷ rs') = IsSameRound r r' × AreSameRounds rs rs'
 AreSameRounds [] (r' ∷ rs') = ⊥
 AreSameRounds (r ∷ rs) [] = ⊥
 
--- P has a history from these bytes with the same rounds as this history of Q, and in each round the same output and ending.
+-- P has a history from these bytes with the same rounds as this history of Q, and in each round the same output and
+-- ending.
 pub record HasHistoryOf (P Q : Program) (bytes : List ℕ) (rounds' : List Round) : Type 0 where
   pub rounds : List Round
   pub history : IsHistory P bytes rounds

@@ -1,5 +1,5 @@
--- One program does no harm in the place of another. It is what `IsHarmless` says of a repair, said of two programs alone
--- without plans and clones, so that it holds across several repairs. (This project's own.)
+-- One program does no harm in the place of another. It is what `IsHarmless` says of a repair, said of two programs
+-- alone without plans and clones, so that it holds across several repairs. (This project's own.)
 use Rattle.std.specs.Prelude.{◌≡◌, ◌⊎◌, ℕ, suc, ◌<◌, ◌≤◌, List, Some, length, map}
 use Rattle.hip_tree.specs.declared.program.Program.{Program}
 use Rattle.hip_runs.specs.Crash.{IsCrashImage}
@@ -12,8 +12,8 @@ use Rattle.hip_repairs.specs.Harmless.{Extent, contents, extents}
 use Rattle.hip_survival.specs.Survival.{IsLooseAt}
 use Rattle.hip_repair_survival.specs.Kept.{IsAsDurable, IsNoWorse}
 
--- what a frame has besides its place in its block: the function, the block, the registers, the stack mark at its call and
--- its blocks on the stack
+-- what a frame has besides its place in its block: the function, the block, the registers, the stack mark at its call
+-- and its blocks on the stack
 pub record Activation : Type 0 where
   pub function : ℕ
   pub block : ℕ
@@ -41,9 +41,10 @@ pub record Mirrors (original : ℕ → ℕ) (I : Input) (s s' : State) : Type 0 
   pub frames : map (activation original) s'.frames ≡ map (activation (λ f. f)) s.frames
   pub images : (content : List ℕ) → IsCrashImage I s' content → IsCrashImage I s content
 
--- The run of Q goes along the run of P. Each number of Q's steps corresponds to a number of P's steps, which begins with 0
--- and stays or grows by 1 with each step of Q. The states after them match, at least as much is flushed and durable in
--- Q's, no byte is loose in Q's alone, and no check of Q is worse. Each number of P's steps corresponds to one of Q's.
+-- The run of Q goes along the run of P. Each number of Q's steps corresponds to a number of P's steps, which begins
+-- with 0 and stays or grows by 1 with each step of Q. The states after them match, at least as much is flushed and
+-- durable in Q's, no byte is loose in Q's alone, and no check of Q is worse. Each number of P's steps corresponds to
+-- one of Q's.
 pub record GoesAlong (original : ℕ → ℕ) (P Q : Program) (I : Input) : Type 0 where
   pub steps_of : ℕ → ℕ
   pub first : steps_of 0 ≡ 0
@@ -55,9 +56,9 @@ pub record GoesAlong (original : ℕ → ℕ) (P Q : Program) (I : Input) : Type
       IsNoWorse P Q I steps_of n range
   pub progress : (k : ℕ) → (n : ℕ) × (steps_of n ≡ k)
 
--- Q does no harm in the place of P. It has the same globals, so the same addresses and the same valid inputs. It has the
--- functions of P under their numbers, and each further function has a function of P as its original. On each valid input
--- its run goes along P's run.
+-- Q does no harm in the place of P. It has the same globals, so the same addresses and the same valid inputs. It has
+-- the functions of P under their numbers, and each further function has a function of P as its original. On each
+-- valid input its run goes along P's run.
 pub record DoesNoHarm (P Q : Program) : Type 0 where
   pub globals : Q.globals ≡ P.globals
   pub functions : length P.functions ≤ length Q.functions

@@ -12,7 +12,7 @@ use Rattle.hip_scope.specs.Scopes.{names_of}
 use Rattle.hip_instr_ops.specs.declared.path.Path.{Path}
 use Rattle.hip_scope.specs.declared.scope.Scope.{Scope}
 
--- a constant index goes over so many values of a size, another one gives a term
+-- a constant index goes over that number of values of a size; another one gives a term
 abbrev pub is_over : Scope → List ℕ → Arg → ℕ → ℕ → List Term → Type 0
 is_over s constants a size far more =
     ((index : ℕ) × IsFixed s.program.now.globals s.base a index × (far ≡ index * size) × (more ≡ []))

@@ -19,7 +19,7 @@ pub record CabinetState : Type 0 where
   pub misses : ℕ
   pub faults : ℕ
 
--- where the files are told and one is current, so are its name and its rest
+-- where the files are known and one is current, so are its name and its rest
 abbrev pub IsTold : CabinetState → Type 0
 IsTold s = IfSome s.files (λ files. s.is_current ≡ true → (is_some s.name ≡ true) × (is_some s.rest ≡ true))
 
@@ -28,7 +28,7 @@ abbrev pub file_of : List NamedFile → List ℕ → Option (List ℕ)
 file_of [] name = None
 file_of (file ∷ files) name = if bytes_eq file.name name then Some file.bytes else file_of files name
 
--- where the files are told, so are the name and the rest of the one that was fetched
+-- where the files are known, so are the name and the rest of the one that was fetched
 pub record IsFirstFile (files : List NamedFile) (name : List ℕ) (new : CabinetState) : Type 0 where
   pub bytes : List ℕ
   pub found : file_of files name ≡ Some bytes

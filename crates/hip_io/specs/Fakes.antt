@@ -36,7 +36,7 @@ mem_cabinet_state m = record {
   faults = 0;
 }
 
--- the name and the rest of the current file are told
+-- the name and the rest of the current file are known
 pub memory_told : (m : MemFiles) → IsTold (mem_cabinet_state m)
 memory_told m = by_file m.current
   where
@@ -70,13 +70,13 @@ pub record IsFirstAt (files : List NamedFile) (name : List ℕ) (at : ℕ) : Typ
   pub named : file.name ≡ name
   pub first : file_of files name ≡ Some file.bytes
 
--- a `take` gave at most so many bytes; at the end, and where it failed, it gave none
+-- a `take` gave at most n bytes; at the end, and where it failed, it gave none
 abbrev pub GotAtMost : ℕ → Taken → Type 0
 GotAtMost most (Got n) = n ≤ most
 GotAtMost most End = Unit {0}
 GotAtMost most Failed = Unit {0}
 
--- Files in memory of which one fails: at each fetch, or once so many of its bytes were taken. `left` is there
+-- Files in memory of which one fails: at each fetch, or once n of its bytes were taken. `left` is there
 -- while that file is current: how many bytes it still gives.
 pub record FailingFiles : Type 0 where
   pub inner : MemFiles

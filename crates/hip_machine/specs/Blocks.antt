@@ -7,7 +7,7 @@ abbrev pub blocks_of : List Frame → List Slot
 blocks_of [] = []
 blocks_of (f ∷ fs) = blocks_of fs ++ reverse f.slots
 
--- The blocks are those of the frames below, of which there are so many, and then the top frame's own.
+-- The blocks are those of the frames below, whose number is given, and then the top frame's own.
 pub record HoldsBlocks (blocks : List Slot) (count : ℕ) (own : List Slot) (fs : List Frame) : Type 0 where
   pub are : blocks ≡ blocks_of fs ++ reverse own
   pub below : count ≡ length (blocks_of fs)

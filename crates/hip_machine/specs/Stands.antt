@@ -12,7 +12,7 @@ use Rattle.hip_machine.specs.Blocks.{HoldsBlocks}
 use Rattle.hip_machine.specs.Placed.{placed_at}
 use Rattle.hip_machine.specs.declared.core_parts.Core.{Core}
 
--- The parts stand for a state with a frame on top, after so many steps.
+-- The parts stand for a state with a frame on top, after n steps.
 pub record Stands (P : Program) (I : Input) (c : Core) (w : World) (f : Frame) (fs : List Frame)
     (ls : List (Line StorePart)) (n : ℕ) : Type 0 where
   pub limit : c.limit ≡ I.limit
@@ -27,7 +27,7 @@ pub record Stands (P : Program) (I : Input) (c : Core) (w : World) (f : Frame) (
   pub blocks : HoldsBlocks c.blocks c.top.blocks f.slots fs
   pub storage : HoldsRun P I c.storage w.writes w.mark ls
 
--- the parts stand for a state with these frames, the top one first, after so many steps; never without a frame
+-- the parts stand for a state with these frames, the top one first, after n steps; never without a frame
 abbrev pub StandsOn : Program → Input → Core → World → List Frame → List (Line StorePart) → ℕ → Type 0
 StandsOn P I c w [] ls n = ⊥
 StandsOn P I c w (f ∷ fs) ls n = Stands P I c w f fs ls n

@@ -7,12 +7,12 @@ pub record AreInOrder {X : Type 0} (start size : X → ℕ) (xs : List X) : Type
   pub order : (i j : ℕ) (d : X) → i < j → j < length xs →
       start (slice_index_or xs i d) + size (slice_index_or xs i d) ≤ start (slice_index_or xs j d)
 
--- the first ones, so many of them, begin at an address or before it, and the others behind it
+-- the first n of them begin at an address or before it, and the others after it
 pub record AreSplit {X : Type 0} (start : X → ℕ) (xs : List X) (a n : ℕ) : Type 0 where
   pub before : (i : ℕ) (d : X) → i < n → i < length xs → start (slice_index_or xs i d) ≤ a
   pub behind : (i : ℕ) (d : X) → n ≤ i → i < length xs → a < start (slice_index_or xs i d)
 
--- what is told of the first one that has the byte at an address
+-- what the first one that has the byte at an address gives
 abbrev pub first_at : {X B : Type 0} → (X → ℕ) → (X → ℕ) → (X → B) → ℕ → List X → Option B
 first_at start size told a [] = None
 first_at start size told a (x ∷ xs) =

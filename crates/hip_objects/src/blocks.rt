@@ -64,7 +64,7 @@ impl Blocks {
         }
     }
 
-    /// Leaves the oldest blocks, so many of them.
+    /// Leaves the oldest `count` blocks.
     pub fn truncate(&mut self, count: usize)
         ensures { self.new ≡ take count self.old }
     {

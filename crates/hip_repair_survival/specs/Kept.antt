@@ -23,16 +23,16 @@ use Rattle.hip_survival.specs.Survival.{IsLooseAt, IsOfStep, IsOnlyImage, Surviv
 
 -- ---- at corresponding states
 
--- In each cache line of the second state at least as many parts are flushed, and at least as many are durable, as in the
--- first state.
+-- In each cache line of the second state at least as many parts are flushed, and at least as many are durable, as in
+-- the first state.
 abbrev pub IsAsDurable : State → State → Type 0
 IsAsDurable s s' =
     (j : ℕ) (l l' : Line StorePart) → slice_get s.lines j ≡ Some l → slice_get s'.lines j ≡ Some l' →
     (l.flushed ≤ l'.flushed) × (l.durable ≤ l'.durable)
 
--- On every valid input the repaired program has, in each state, at least as much flushed and durable as the program has in
--- the corresponding state. So each byte that is loose here is loose there, and each byte that survives a crash there
--- survives one here.
+-- On every valid input the repaired program has, in each state, at least as much flushed and durable as the program
+-- has in the corresponding state. So each byte that is loose here is loose there, and each byte that survives a crash
+-- there survives one here.
 pub record LoosensNothing (P : Program) (plan : Plan) (skip : Site → Bool) : Type 0 where
   pub durable : (I : Input) → IsValid P I → (n : ℕ) →
       IsAsDurable (run P I (matched P plan skip I n)) (run (repaired P plan skip) I n)
@@ -44,8 +44,8 @@ pub record LoosensNothing (P : Program) (plan : Plan) (skip : Site → Bool) : T
 
 -- ---- checks
 
--- A check of P's run has a report of the same store as a report of Q's check: Q makes that store in a step, and P makes it
--- in the step that corresponds.
+-- A check of P's run has a report of the same store as a report of Q's check: Q makes that store in a step, and P
+-- makes it in the step that corresponds.
 pub record HasReportOf (P Q : Program) (I : Input) (steps_of : ℕ → ℕ) (n : ℕ) (range : Range) (r' : Report) :
     Type 0 where
   pub report : Report
@@ -70,8 +70,8 @@ WorsensNoCheck P plan skip =
 
 -- ---- what survives
 
--- Each byte that a check of the run checks survives a crash at that check. After the run has stopped, every crash image is
--- equal to working memory.
+-- Each byte that a check of the run checks survives a crash at that check. After the run has stopped, every crash
+-- image is equal to working memory.
 pub record ChecksSurvive (P : Program) (I : Input) : Type 0 where
   pub bytes : (n : ℕ) (range : Range) → next_check P I (run P I n) ≡ Some range →
       (b : ℕ) → range.offset ≤ b → b < range.offset + range.size → Survives P I (run P I n) b
@@ -87,8 +87,8 @@ pub record IsStoredSince (s : State) (step b : ℕ) : Type 0 where
   pub over : IsLastOver covers line.parts b place part
   pub since : step ≤ part.step
 
--- Wherever the run of Q stands at a fence directly after a call of a clone, each byte of the region whose last store came
--- since that call survives a crash after the fence.
+-- Wherever the run of Q stands at a fence directly after a call of a clone, each byte of the region whose last store
+-- came since that call survives a crash after the fence.
 abbrev pub CoveredSurvive : Program → Program → Type 0
 CoveredSurvive P Q =
     (I : Input) → IsValid P I → (j n : ℕ) → IsBehindClone Q (length P.functions) (run Q I n) → IsLastBefore Q I j n →

@@ -34,8 +34,8 @@ best_of P found best level (suc more) [] = best
 best_of P found best level (suc more) (site ∷ path) =
     best_of P found (better best (record { level = level; score = score P found site })) (suc level) more path
 
--- The level of the greatest score on a path: of its first site, the store's, which is 0, and of the first `closed` calls
--- after it; the innermost one if scores are equal, and 0 if the path is empty.
+-- The level of the greatest score on a path: of its first site, the store's, which is 0, and of the first `closed`
+-- calls after it; the innermost one if scores are equal, and 0 if the path is empty.
 abbrev pub best_on : Program → Findings → ℕ → List Site → ℕ
 best_on P found closed [] = 0
 best_on P found closed (store ∷ calls) =

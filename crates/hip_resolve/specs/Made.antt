@@ -24,7 +24,7 @@ pub record HasMadeEnd (P : Program) (base : ℕ) (ops : List Op) (t : Tables) (f
   pub end_is : is_end op ≡ true
   pub ends : (u : Tables) → Grows t u → Ends P base f b u op block.end
 
--- each place among so many ops has its op
+-- each place below a number of ops has its op
 pub record IsFront (P : Program) (base : ℕ) (ops : List Op) (t : Tables) : Type 0 where
   pub body : (f b k : ℕ) (block : Block) (i : Instr) → block_at P f b ≡ Some block →
       slice_get block.body k ≡ Some i → entry P f b + k < length ops → HasMade P base ops t f b k i

@@ -13,9 +13,9 @@ use Rattle.hip_trace.specs.declared.entry.Entry.TheVariants.{Start, Register, In
 
 -- how many entries of a trace are its header, and the input that they give, if they give one
 pub data Header : Type 0 where
-  -- only so many entries are valid, which is less than two
+  -- only the first n entries are valid, and n is less than two
   Stops : (entries : ℕ) → Header
-  -- so many entries are valid, and give an input
+  -- the first n entries are valid, and give an input
   Gives : (entries : ℕ) → Input → Header
 
 -- ---- which entries are valid, and what they give
@@ -35,7 +35,7 @@ abbrev pub is_empty : List ℕ → Bool
 is_empty [] = true
 is_empty (b ∷ bs) = false
 
--- What INPUT and IMAGE entries give is told by an input whose initial bytes go up to the last line that an IMAGE told.
+-- INPUT and IMAGE entries give an input whose initial bytes go up to the last line that an IMAGE entry names.
 -- An INPUT stands before each IMAGE, and there are at most 1,048,576.
 abbrev pub with_number : Input → ℤ → Option Input
 with_number I number =
@@ -65,12 +65,12 @@ filled P I = record I { image = I.image ++ zeros (region_size P - length I.image
 
 -- ---- the header
 
--- the header ends behind so many entries where the next piece gives no input, and else goes on with the one it gives
+-- the header ends after n entries where the next piece gives no input, and else goes on with the input it gives
 abbrev pub go_on : Program → Input → ℕ → (Input → Header) → Option Input → Header
 go_on P I count rest None = Gives count (filled P I)
 go_on P I count rest (Some more) = rest more
 
--- the header where so many entries gave the input so far and these pieces follow
+-- the header where n entries gave the input so far and these pieces follow
 abbrev pub header_from : Program → Input → ℕ → List (Option Entry) → Header
 header_from P I count [] = Gives count (filled P I)
 header_from P I count (e ∷ es) = go_on P I count (λ more. header_from P more (suc count) es) (with_entry P I e)

@@ -50,7 +50,7 @@ entry_of_event (events.End ending) = Some (entry_of_ending ending)
 
 -- ---- before the first step
 
--- an IMAGE for each of so many cache lines that has a byte other than 0, the first of which lies at an address
+-- an IMAGE for each of n cache lines that has a byte other than 0, the first of which lies at an address
 abbrev pub image_entries : ℕ → ℕ → List ℕ → List Entry
 image_entries zero addr bytes = []
 image_entries (suc n) addr bytes =
@@ -85,7 +85,7 @@ trace P I (suc n) = trace P I n ++ next_entries P I (run P I n)
 abbrev pub told : List Entry → List (Option Entry)
 told es = map (λ e. Some e) es
 
--- The trace of a run: that of so many steps that it has ended.
+-- The trace of a run: that of its first n steps, after which it has ended.
 pub record IsTrace (P : Program) (I : Input) (es : List Entry) : Type 0 where
   pub steps : ℕ
   pub ended : has_ended (run P I steps) ≡ true

@@ -64,7 +64,7 @@ pub fn trace_entries_are_spelled()
         All IsSpelled (trace P I n) }
 {}
 
-/// There is one misfit at most, and none where the file is the trace of a run; and it stands behind the header.
+/// There is one misfit at most, and none where the file is the trace of a run; and it follows the header.
 pub fn misfits_are_one()
     ensures entry { (P : Program) → (bytes : List ℕ) → (whole : Bool) → (e e' : ℕ) → (k k' : MisfitKind) →
         IsMisfit P bytes whole e k → IsMisfit P bytes whole e' k' → e ≡ e' }

@@ -162,7 +162,7 @@ unfoldable pub entered : Program → ℕ → List ℕ → List ℕ → Option (L
 entered P below callee values dest =
     cond (nat_lt below (MOST_FRAMES - 1)) (numbered_call P (function_number P callee) values dest) (Traps traps.Depth)
 
--- the value of argument k of a call, counted from 0; 0 where there are not so many
+-- the value of argument k of a call, counted from 0; 0 where there are fewer
 abbrev pub arg_value : List ℕ → ℕ → ℕ
 arg_value values k = unwrap_or (slice_get values k) 0
 
@@ -208,7 +208,7 @@ call_action P I w below None callee values dest = entered P below callee values 
 
 -- ---- instructions
 
--- What an instruction does in a world, with the registers of its frame, below which so many frames stand.
+-- What an instruction does in a world, with the registers of its frame and the number of frames below it.
 -- (LLVM's language reference, with traps in place of undefined behaviour.)
 unfoldable pub instr_action : Program → Input → World → ℕ → Registers → Instr → Action
 instr_action P I w below rs (Binary dest op flags width a b) =

@@ -213,7 +213,7 @@ some_byte [] = false
 some_byte (zero ∷ bs) = some_byte bs
 some_byte (suc b ∷ bs) = true
 
--- how many of so many cache lines have an initial byte other than 0
+-- how many of the first n cache lines have an initial byte other than 0
 abbrev pub image_lines : ℕ → List ℕ → ℕ
 image_lines zero bytes = 0
 image_lines (suc n) bytes = cond (some_byte (take LINE_SIZE bytes)) 1 0 + image_lines n (drop LINE_SIZE bytes)

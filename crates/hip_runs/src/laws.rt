@@ -7,7 +7,7 @@ ghost use Rattle.hip_runs.specs.StoredParts.History.{HasHistory};
 ghost use Rattle.hip_runs.specs.Step.{run};
 ghost use Rattle.hip_runs.specs.declared.input.Input.{Input};
 
-/// Every run ends, for a basic block ends with a turn, and an input allows so many turns.
+/// Every run ends, since a basic block ends with a turn, and an input limits the turns.
 pub fn runs_end()
     ensures { (P : Program) → (I : Input) → Ends P I }
 {}

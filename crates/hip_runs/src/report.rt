@@ -2,14 +2,15 @@ use crate::event::Object;
 use hip_tree::Site;
 use hip_types::Row;
 
-/// What a store lacks to be durable, as the Hippocrates paper distinguishes it.
+/// What a store lacks to be durable, as the Hippocrates paper distinguishes it. A store that lies in two cache lines has
+/// a part in each. A part is loose where it is the last one over a checked byte and is not durable.
 #[derive(Clone, Copy, PartialEq, Eq)]
 pub enum Kind {
-    /// A fence came after the store, and no flush before the check.
+    /// A loose part is not flushed, and a fence came after the store.
     MissingFlush,
-    /// The store was flushed, and no fence came behind the flush.
+    /// Each loose part is flushed, and no fence came after its flush.
     MissingFence,
-    /// Neither came.
+    /// A loose part is not flushed, and no fence came after the store.
     MissingBoth,
 }
 

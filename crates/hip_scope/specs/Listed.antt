@@ -7,7 +7,7 @@ use Rattle.hip_names.specs.declared.table.NameTable.{NameTable}
 use Rattle.hip_sound.specs.Sound.{register_names}
 use Rattle.hip_scope.specs.PhiNumbers.{HasTables}
 
--- so many numbers, each of which the place in the list determines
+-- n numbers, each of which its place in the list determines
 pub record Lists (numbers : List ℕ) (count : ℕ) (number : ℕ → ℕ) : Type 0 where
   pub as_long : length numbers ≡ count
   pub at : (k : ℕ) → k < count → slice_get numbers k ≡ Some (number k)

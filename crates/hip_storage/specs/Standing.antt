@@ -42,8 +42,8 @@ pub record Point : Type 0 where
 abbrev pub HoldsAt : Program → Input → Contents → Point → Type 0
 HoldsAt P I s p = HoldsRun P I s p.world.writes p.world.mark p.lines
 
--- A storage at a step of a run: the run's program and input, what the step begins with, and the contents of the storage,
--- which are those of the state there.
+-- A storage at a step of a run: the run's program and input, what the step begins with, and the contents of the
+-- storage, which are those of the state there.
 pub record Stand : Type 0 where
   pub program : Program
   pub input : Input

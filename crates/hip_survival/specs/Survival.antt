@@ -1,5 +1,5 @@
--- What survives a crash: each byte of the region that has, in every crash image, the value that it has in working memory.
--- (This project's own.)
+-- What survives a crash: each byte of the region that has, in every crash image, the value that it has in working
+-- memory. (This project's own.)
 use Rattle.std.specs.Prelude.{◌≡◌, ℕ, ◌+◌, ◌/◌, ◌<◌, ◌≤◌, true, List, [], length, take, Option, Some, None, slice_get, slice_index}
 use Rattle.hip_tree.specs.declared.program.Program.{Program}
 use Rattle.hip_lines.specs.Image.{byte_after, parts_of}
@@ -74,7 +74,8 @@ abbrev pub durable_of : Option (Line StorePart) → List StorePart
 durable_of None = []
 durable_of (Some l) = take l.durable l.parts
 
--- byte b of the region with the durable parts alone: the initial byte, changed by the durable parts of its line in order
+-- byte b of the region with the durable parts alone: the initial byte, changed by the durable parts of its line in
+-- order
 abbrev pub durable_byte : Input → State → ℕ → ℕ
 durable_byte I s b =
     byte_after covers byte_of (durable_of (slice_get s.lines (b / LINE_SIZE))) b (slice_index I.image b)
@@ -92,8 +93,8 @@ pub record IsOfStep (P : Program) (I : Input) (steps : ℕ) (r : Report) : Type 
   pub entry : r.entry ≡ (run P I steps).counts.entries + 1
 
 -- A report is of a byte of the range that was checked. In working memory the byte has the value that the report's store
--- gave it. The part of that store is the last one over the byte and is not durable, and some crash image has at that byte
--- what the parts before it give. So where the store changed the byte, a crash may take the change away.
+-- gave it. The part of that store is the last one over the byte and is not durable, and some crash image has at that
+-- byte what the parts before it give. So where the store changed the byte, a crash may take the change away.
 pub record IsOfByte (P : Program) (I : Input) (s : State) (range : Range) (r : Report) : Type 0 where
   pub byte : ℕ
   pub low : range.offset ≤ byte

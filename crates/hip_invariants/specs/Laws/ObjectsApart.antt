@@ -21,7 +21,7 @@ use Rattle.hip_invariants.specs.StackShape.{lie_between, lie_in_order}
 use Rattle.hip_invariants.specs.Laws.GlobalAddresses.{ends_before_end, starts_behind, one_behind_another}
 use Rattle.hip_invariants.specs.Laws.StackShape.{higher, lower, stack_is_shaped}
 
--- the address is one of so many bytes
+-- the address is one of n bytes
 record IsInside (at size a : ℕ) : Type 0 where
   from : at ≤ a
   to : a < at + size

@@ -27,13 +27,13 @@ record KeepsShape (s : State) : Type 0 where
 
 -- ---- actions
 
--- what an action may ask of the stack, where so many frames stand below
+-- what an action may ask of the stack, with that number of frames below
 abbrev allowed : ℕ → ℕ → Action → Type 0
 allowed mark below (Allocates dest a n) = (mark ≤ a) × (a + n ≤ stack_end)
 allowed mark below (Calls g registers dest) = below < 16383
 allowed mark below _ = Unit {0}
 
--- the action asks no more of the stack than it may, at this mark and with so many frames below
+-- the action asks no more of the stack than it may, at this mark and with that number of frames below
 record Allowed (mark below : ℕ) (x : Action) : Type 0 where
   is : allowed mark below x
 

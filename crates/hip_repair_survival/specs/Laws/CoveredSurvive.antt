@@ -19,7 +19,8 @@ use Rattle.hip_survival.specs.Laws.TightBytes.{tight_survives}
 use Rattle.hip_repair_survival.specs.Kept.{CoveredSurvive}
 
 -- a byte is not loose where the last part over it is durable
-tight_last : (ls : List (Line StorePart)) (j : ℕ) (l : Line StorePart) → slice_get ls j ≡ Some l → (b k : ℕ) (x : StorePart)
+tight_last : (ls : List (Line StorePart)) (j : ℕ) (l : Line StorePart) → slice_get ls j ≡ Some l
+    → (b k : ℕ) (x : StorePart)
     → IsLastOver covers l.parts b k x → k < l.durable
     → (m : Line StorePart) → slice_get ls j ≡ Some m → (k' : ℕ) (x' : StorePart) → IsLooseBy covers m b k' x' → ⊥
 tight_last ls j l e b k x over lt m g k' x' h =

@@ -1,5 +1,5 @@
--- After a repair at least as much is flushed and durable, so no byte is loose that was not, and each byte that survived a
--- crash still survives one.
+-- After a repair at least as much is flushed and durable, so no byte is loose that was not, and each byte that
+-- survived a crash still survives one.
 use Rattle.std.proofs.Common.{◌≡◌, ◌⊎◌, inl, inr, ℕ, zero, suc, ◌+◌, ◌≤◌, Bool, true, false, cond, List, [], ◌∷◌, map, Some, slice_get, refl, sym, ap, ◌∙◌, subst}
 use Rattle.hip_tree.specs.declared.program.Program.{Program}
 use Rattle.hip_tree.specs.declared.site.Site.{Site}

@@ -34,7 +34,8 @@ same_line ls ls' same m l e =
     get-of_map contents ls' m (contents l) seen
 
 -- the part of the second line at the place of a part of the first
-pub same_part : (l l' : Line StorePart) → contents l' ≡ contents l → (k : ℕ) (x : StorePart) → slice_get l.parts k ≡ Some x
+pub same_part : (l l' : Line StorePart) → contents l' ≡ contents l → (k : ℕ) (x : StorePart)
+    → slice_get l.parts k ≡ Some x
     → (x' : StorePart) × (slice_get l'.parts k ≡ Some x')
 same_part l l' same k x e =
     let seen : slice_get (contents l') k ≡ Some (content_of x) =

@@ -127,11 +127,11 @@ define_void name params blocks = record { ret = None; name = name; params = para
 abbrev pub site : ℕ → ℕ → Site
 site function index = record { function = function; block = 0; index = index }
 
--- The input of the examples: a region of so many cache lines of zeros, from 2^32 on, and no numbers.
+-- The input of the examples: a region of n cache lines of zeros, from 2^32 on, and no numbers.
 abbrev pub zeroed : ℕ → Input
 zeroed lines = record { base = 4294967296; image = replicate (64 * lines) 0; numbers = []; limit = 1000000000 }
 
--- The run of a program takes so many steps to its end, finds these reports, and the program is repaired to that one,
+-- The run of a program takes n steps to its end, finds these reports, and the program is repaired to that one,
 -- whatever stores the clones do not flush.
 pub record IsWorked (P : Program) (I : Input) (steps : ℕ) (found : List Report) (Q : Program) : Type 0 where
   pub ended : has_ended (run P I steps) ≡ true

@@ -129,7 +129,7 @@ no-misfit P bytes I e kind t m =
     not_before true (spelled true bytes) d.trace d.count (suc d.count) kind d.differs
     (ap (take (suc d.count)) spells ∙ take_told (suc d.count) d.trace) (omega arith)
 
--- ---- a misfit stands behind the header
+-- ---- a misfit follows the header
 
 trace_zero : (P : Program) (I : Input) → trace P I 0 ≡ header_of I
 unfolding trace

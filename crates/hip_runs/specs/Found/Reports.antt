@@ -18,13 +18,13 @@ use Rattle.hip_runs.specs.declared.event.Event.TheVariants as events
 
 -- ---- loose parts
 
--- whether a range of n bytes from o has a byte of so many bytes from b on that none of the later parts covers
+-- whether a range of n bytes from o has one of the `count` bytes from b on, and none of the later parts covers it
 abbrev pub shows : ℕ → ℕ → ℕ → ℕ → List StorePart → Bool
 shows o n zero b later = false
 shows o n (suc count) b later =
     (nat_le o b && (nat_lt b (o + n) && not (list_any (λ q. covers q b) later))) || shows o n count (suc b) later
 
--- whether a part is the last one over a byte of a range, where these parts stand behind it in its line
+-- whether a part is the last one over a byte of a range, where these parts follow it in its line
 abbrev pub is_last : ℕ → ℕ → StorePart → List StorePart → Bool
 is_last o n p later = shows o n (length p.bytes) p.offset later
 
@@ -34,8 +34,7 @@ pub record LoosePart : Type 0 where
   pub flushed : Bool
 
 -- The loose parts of a step's store in a line, in a range: those that are the last one over a byte of the range, and
--- stand behind all durable ones. These are the line's parts from place k on, of which so many are durable and so many
--- flushed.
+-- follow all durable ones. The list has the line's parts from place k on; `durable` and `flushed` count the line's parts.
 abbrev pub loose_from : ℕ → ℕ → ℕ → ℕ → ℕ → ℕ → List StorePart → List LoosePart
 loose_from o n made durable flushed k [] = []
 loose_from o n made durable flushed k (p ∷ later) =

@@ -205,11 +205,11 @@ entries_rise P I n = go (step_counts P I (run P I n))
         (ap (λ (c : Counts). c.entries) e) in record { least = r.0; most = r.1 }
 
 module _ (P : Program) (I : Input) (entry : ℕ) where
-  -- how many entries are counted after so many steps
+  -- how many entries are counted after n steps
   abbrev entries : ℕ → ℕ
   entries n = (run P I n).counts.entries
 
-  -- below a number of steps either some state is the first with so many entries, or all have fewer
+  -- below a number of steps either some state is the first with that number of entries, or all have fewer
   search_below : (n : ℕ) → ((k : ℕ) × (k < n) × IsAtEntry P I entry k)
       ⊎ ((k : ℕ) → k < n → entries k < entry)
   search_below zero = inr (λ k lt. absurd (omega (arith, lt)))

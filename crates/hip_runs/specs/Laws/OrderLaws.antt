@@ -80,7 +80,7 @@ module _ (P : Program) (I : Input) (n j from : ℕ) where
         fenced = q;
       }
 
--- At place k of line j, of which so many parts are flushed and durable, stands a part of a store of step `from`, before
+-- At place k of line j, with these numbers of flushed and durable parts, stands a part of a store of step `from`, before
 -- step n.
 record IsSeen (P : Program) (I : Input) (n j from k flushed_ones durable_ones : ℕ) : Type 0 where
   made : from < n

@@ -13,7 +13,7 @@ use Rattle.hip_runs.specs.declared.event.Event.TheVariants as events
 abbrev pub flush_at : Counts → Site → Flush
 flush_at counts site = record { step = counts.steps; site = site }
 
--- the lines after a flush of so many bytes from an address on: each that has one of them is flushed
+-- the lines after a flush of n bytes from an address on: each that has one of them is flushed
 abbrev pub flushed_by : Input → Flush → ℕ → ℕ → List (Line StorePart) → List (Line StorePart)
 flushed_by I flush a n ls = change_range (λ _ l. flush_line flush l) (a - I.base) n ls
 

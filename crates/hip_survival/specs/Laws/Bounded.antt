@@ -127,7 +127,8 @@ module _ (P : Program) (I : Input) where
         read [] = record { is = tt {0} }
         read (z ∷ rest) = record { is = tt {0} }
 
-        checked : (a n : ℕ) (b : Bool) → in_region I a n ≡ b → Bounded w.mark (cond b (Asserts a n) (Traps traps.Address))
+        checked : (a n : ℕ) (b : Bool) → in_region I a n ≡ b
+            → Bounded w.mark (cond b (Asserts a n) (Traps traps.Address))
         checked a n true e = record { is = e }
         checked a n false e = record { is = tt {0} }
 

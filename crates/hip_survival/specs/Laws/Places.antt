@@ -46,7 +46,8 @@ module _ (m k : ℕ) where
   abbrev Came : ℕ → List (Line StorePart) → List (Line StorePart) → Type 0
   Came n ls ls' = (t : ℕ) → HasPlace (slice_get ls' m) k t → HasPlace (slice_get ls m) k t ⊎ (t ≡ n)
 
-  stays_flushed : (I : Input) (flush : Flush) (a n : ℕ) (ls : List (Line StorePart)) → Stays ls (flushed_by I flush a n ls)
+  stays_flushed : (I : Input) (flush : Flush) (a n : ℕ) (ls : List (Line StorePart))
+      → Stays ls (flushed_by I flush a n ls)
   stays_flushed I flush a n ls t h =
       subst (λ o. HasPlace o k t) (sym (slice_get-change_range (λ _ l. flush_line flush l) (a - I.base) n ls m))
       (go (has_bytes m (a - I.base) n) (slice_get ls m) h)

@@ -1,5 +1,5 @@
--- The reports of a check are of the stores of its loose parts; each is of a byte that some crash image has as it was before
--- the report's store.
+-- The reports of a check are of the stores of its loose parts; each is of a byte that some crash image has as it was
+-- before the report's store.
 use Rattle.std.proofs.Common.{◌≡◌, inl, inr, ℕ, suc, ◌/◌, ◌<◌, ◌≤◌, Bool, true, false, cond, nat_eq, List, [], ◌∷◌, length, take, Some, slice_get, slice_index, refl, sym, ap, ◌∙◌, subst, arith}
 use Rattle.std.specs.List.{range_with_len}
 use Rattle.hip_tree.specs.declared.program.Program.{Program}

@@ -175,7 +175,8 @@ module _ (I : Input) (counts : Counts) (site : Site) (levels : List Level) (a : 
           ap (λ c. cond c (byte_of part b) old) (none (true_or_not (covers part b)))
           ∙ sym (ap (λ c. cond c (slice_index bytes ((I.base + b) - a)) old) x.0)
         where
-          apart : (I.base + b < a) ⊎ (a + length bytes ≤ I.base + b) → (a - I.base ≤ b) × (b < (a - I.base) + length bytes)
+          apart : (I.base + b < a) ⊎ (a + length bytes ≤ I.base + b)
+              → (a - I.base ≤ b) × (b < (a - I.base) + length bytes)
               → ⊥
           apart (inl lt) r = omega (arith, lt, r.0, from)
           apart (inr le) r = omega (arith, le, r.1, from)

@@ -225,7 +225,7 @@ bytes_in ws o (suc n) x b le lt e = go (λ low. bytes_in ws (suc o) n x b low (o
 
 -- ---- the loose byte of a line
 
--- the loose byte is told by the last part over it, which stands at place k
+-- the last part over the byte, which stands at place k, decides whether it is loose
 record IsTold (l : Line StorePart) (b : ℕ) (x : LooseByte) (k : ℕ) (p : StorePart) : Type 0 where
   by : IsLooseBy covers l b k p
   is : x ≡ record { offset = b; tag = p.step; flushed = nat_lt k l.flushed }

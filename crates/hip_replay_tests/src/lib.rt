@@ -1,4 +1,5 @@
-//! Tests of runs that are recorded and replayed, by public calls alone: traces, reports and misfits.
+//! Tests of runs that are noted, recorded and replayed, by public calls alone: marks, traces, reports, misfits, and the
+//! plans for what runs find.
 #![tactic(auto)]
 
 #[cfg(test)]
@@ -9,6 +10,10 @@ mod log_of_keys;
 mod long_runs;
 #[cfg(test)]
 mod misfits;
+#[cfg(test)]
+mod noted_steps;
+#[cfg(test)]
+mod plans_of_runs;
 #[cfg(test)]
 mod programs;
 #[cfg(test)]

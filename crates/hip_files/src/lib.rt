@@ -6,6 +6,3 @@ mod stream;
 
 pub use files::FileCabinet;
 pub use stream::Stream;
-
-#[cfg(test)]
-mod tests;

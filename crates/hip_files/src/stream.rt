@@ -132,6 +132,3 @@ impl<W: Write + Drop> Sink for Stream<W> {
         self.send()
     }
 }
-
-#[cfg(test)]
-mod tests;

@@ -1,7 +1,7 @@
 //! Scores, levels and plans for given findings.
 
 use crate::programs::{Place, checked, site, sites};
-use hip_examples::{AMPLE, COPY, EVEN_AND_ODD, KEY_VALUE_LOG};
+use hip_examples::{AMPLE, ASSERT_INSIDE_CALLEE, COPY, EVEN_AND_ODD, KEY_VALUE_LOG};
 use hip_fix::suits;
 use hip_plan::{choose, plan, score};
 use hip_runs::{Findings, Kind, Mark, Marks, Object, Report};
@@ -45,23 +45,6 @@ struct Case {
     fences: &'static [Place],
     hoists: &'static [Place],
 }
-
-const ASSERTED_COPY: &str = "@p = global i64 0, section \".pm\"
-@q = global i64 9
-declare void @pm_assert(ptr, i64)
-define void @copy(ptr %dst, ptr %src) {
-entry:
-  %v = load i64, ptr %src
-  store i64 %v, ptr %dst
-  call void @pm_assert(ptr %dst, i64 8)
-  ret void
-}
-define i32 @main() {
-entry:
-  call void @copy(ptr @p, ptr @q)
-  ret i32 0
-}
-";
 
 /// What the run of `COPY` points into: the stack with the first call, persistent memory with the second.
 const COPIED: &[Pointed] = &[
@@ -107,7 +90,7 @@ const COPIED: &[Pointed] = &[
     },
 ];
 
-/// The one call of `ASSERTED_COPY` and its store.
+/// The one call of `ASSERT_INSIDE_CALLEE` and its store.
 const ONE_COPY: &[Pointed] = &[
     Pointed {
         place: (1, 0, 0),
@@ -206,7 +189,7 @@ const CASES: &[Case] = &[
     },
     Case {
         name: "a check inside of the function, and one behind its call",
-        program: ASSERTED_COPY,
+        program: ASSERT_INSIDE_CALLEE,
         found: &[
             Found {
                 kind: Kind::MissingBoth,
@@ -236,7 +219,7 @@ const CASES: &[Case] = &[
     },
     Case {
         name: "a tie goes to the innermost level",
-        program: ASSERTED_COPY,
+        program: ASSERT_INSIDE_CALLEE,
         found: &[Found {
             kind: Kind::MissingFlush,
             entries: (3, 5),

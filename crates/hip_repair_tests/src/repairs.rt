@@ -2,7 +2,10 @@
 
 use crate::programs::{Place, assert_written, checked, site, sites};
 use hip_calls::{callees, fresh_names};
-use hip_examples::{AMPLE, COPY, EVEN_AND_ODD, REACH};
+use hip_examples::{
+    AMPLE, COPY, COPY_REPAIRED, EVEN_AND_ODD, EVEN_AND_ODD_REPAIRED, REACH, REACH_REPAIRED,
+    TWO_LINES, TWO_LINES_REPAIRED,
+};
 use hip_fix::{CloneOf, Plan, apply, apply_skipping, suits};
 use std::alloc::Global;
 use std::process::Abort;
@@ -64,34 +67,6 @@ fn flush_in_callee(rt: HostRuntime) {
     assert_repaired(&rt, rt.alloc(), COPY, &plan, COPY_FLUSHED, &[]);
 }
 
-const COPY_HOISTED: &str = "@p = global i64 0, section \".pm\"
-declare void @llvm.x86.clwb(ptr)
-declare void @llvm.x86.sse.sfence()
-define void @copy(ptr %dst, ptr %src) {
-entry:
-  %v = load i64, ptr %src
-  store i64 %v, ptr %dst
-  ret void
-}
-define i32 @main() {
-entry:
-  %a = alloca i64
-  %b = alloca i64
-  store i64 9, ptr %a
-  call void @copy(ptr %b, ptr %a)
-  call void @copy.pm(ptr @p, ptr %b)
-  call void @llvm.x86.sse.sfence()
-  ret i32 0
-}
-define void @copy.pm(ptr %dst, ptr %src) {
-entry:
-  %v = load i64, ptr %src
-  store i64 %v, ptr %dst
-  call void @llvm.x86.clwb(ptr %dst)
-  ret void
-}
-";
-
 #[test]
 fn copy_hoisted(rt: HostRuntime) {
     let plan = plan(&rt, rt.alloc(), &[], &[], &[(1, 0, 4)]);
@@ -99,71 +74,8 @@ fn copy_hoisted(rt: HostRuntime) {
         original: 0,
         copy: 2,
     };
-    assert_repaired(&rt, rt.alloc(), COPY, &plan, COPY_HOISTED, &[clone]);
+    assert_repaired(&rt, rt.alloc(), COPY, &plan, COPY_REPAIRED, &[clone]);
 }
-
-const COUNTING_CLONES: &str = "@p = global i64 0, section \".pm\"
-declare void @llvm.x86.clwb(ptr)
-declare void @llvm.x86.sse.sfence()
-define void @even(ptr %d, i64 %n) {
-entry:
-  %z = icmp eq i64 %n, 0
-  br i1 %z, label %done, label %more
-more:
-  store i64 %n, ptr %d
-  %m = sub i64 %n, 1
-  call void @odd(ptr %d, i64 %m)
-  br label %done
-done:
-  ret void
-}
-define void @odd(ptr %d, i64 %n) {
-entry:
-  %z = icmp eq i64 %n, 0
-  br i1 %z, label %done, label %more
-more:
-  store i64 %n, ptr %d
-  %m = sub i64 %n, 1
-  call void @even(ptr %d, i64 %m)
-  br label %done
-done:
-  ret void
-}
-define i32 @main() {
-entry:
-  %t = alloca i64
-  call void @even(ptr %t, i64 2)
-  call void @even.pm(ptr @p, i64 2)
-  call void @llvm.x86.sse.sfence()
-  ret i32 0
-}
-define void @even.pm(ptr %d, i64 %n) {
-entry:
-  %z = icmp eq i64 %n, 0
-  br i1 %z, label %done, label %more
-more:
-  store i64 %n, ptr %d
-  call void @llvm.x86.clwb(ptr %d)
-  %m = sub i64 %n, 1
-  call void @odd.pm(ptr %d, i64 %m)
-  br label %done
-done:
-  ret void
-}
-define void @odd.pm(ptr %d, i64 %n) {
-entry:
-  %z = icmp eq i64 %n, 0
-  br i1 %z, label %done, label %more
-more:
-  store i64 %n, ptr %d
-  call void @llvm.x86.clwb(ptr %d)
-  %m = sub i64 %n, 1
-  call void @even.pm(ptr %d, i64 %m)
-  br label %done
-done:
-  ret void
-}
-";
 
 #[test]
 fn mutual_recursion(rt: HostRuntime) {
@@ -181,7 +93,7 @@ fn mutual_recursion(rt: HostRuntime) {
         rt.alloc(),
         EVEN_AND_ODD,
         &plan,
-        COUNTING_CLONES,
+        EVEN_AND_ODD_REPAIRED,
         &[even, odd],
     );
 }
@@ -348,36 +260,6 @@ fn clone_name_taken(rt: HostRuntime) {
     );
 }
 
-const REACH_REPAIRED: &str = "@p = global i64 0, section \".pm\"
-@v = global i64 0
-declare void @llvm.x86.clwb(ptr)
-declare void @llvm.x86.sse.sfence()
-define void @reach(ptr %d, i64 %o) {
-entry:
-  %a = alloca i64
-  %q = getelementptr i8, ptr %a, i64 %o
-  store i64 3, ptr %a
-  store i64 4, ptr %q
-  ret void
-}
-define i32 @main() {
-entry:
-  call void @reach(ptr @v, i64 0)
-  call void @reach.pm(ptr @p, i64 4026531840)
-  call void @llvm.x86.sse.sfence()
-  ret i32 0
-}
-define void @reach.pm(ptr %d, i64 %o) {
-entry:
-  %a = alloca i64
-  %q = getelementptr i8, ptr %a, i64 %o
-  store i64 3, ptr %a
-  store i64 4, ptr %q
-  call void @llvm.x86.clwb(ptr %q)
-  ret void
-}
-";
-
 /// The clones of the repair have no flush of the store into the block of the stack.
 fn assert_skipped(rt: &impl Abort, alloc: Global, plan: &Plan) {
     let program = checked(rt, alloc, REACH);
@@ -395,26 +277,6 @@ fn alloca_gets_no_flush(rt: HostRuntime) {
     assert_repaired(&rt, rt.alloc(), REACH, &plan, REACH_REPAIRED, &[clone]);
     assert_skipped(&rt, rt.alloc(), &plan);
 }
-
-const TWO_LINES: &str = "@a = global [16 x i64] zeroinitializer, section \".pm\"
-define i32 @main() {
-entry:
-  store i64 5, ptr getelementptr ([128 x i8], ptr @a, i64 0, i64 60), align 4
-  ret i32 0
-}
-";
-
-const TWO_LINES_REPAIRED: &str = "@a = global [16 x i64] zeroinitializer, section \".pm\"
-declare void @llvm.x86.sse.sfence()
-declare void @pmem_flush(ptr, i64)
-define i32 @main() {
-entry:
-  store i64 5, ptr getelementptr ([128 x i8], ptr @a, i64 0, i64 60), align 4
-  call void @pmem_flush(ptr getelementptr ([128 x i8], ptr @a, i64 0, i64 60), i64 8)
-  call void @llvm.x86.sse.sfence()
-  ret i32 0
-}
-";
 
 #[test]
 fn store_in_two_lines(rt: HostRuntime) {

@@ -2,71 +2,13 @@
 
 use crate::programs::{assert_written, checked, sites};
 use hip_copies::same;
-use hip_examples::AMPLE;
+use hip_examples::{AMPLE, NOTES, NOTES_THIN};
 use hip_fix::{CloneOf, Plan, apply, apply_skipping, suits};
 use hip_sound::Checked;
 use hip_types::Row;
 use hip_vol::{apply_quiet, quiet_stores};
 use std::alloc::Global;
 use std::process::Abort;
-
-/// One function that stores through each of its parameters, once by another function.
-const NOTE: &str = "@p = global i64 0, section \".pm\"
-define void @note(ptr %t) {
-entry:
-  store i64 1, ptr %t
-  ret void
-}
-define void @work(ptr %d, ptr %t) {
-entry:
-  call void @note(ptr %t)
-  store i64 2, ptr %d
-  ret void
-}
-define i32 @main() {
-entry:
-  %a = alloca i64
-  call void @work(ptr %a, ptr %a)
-  call void @work(ptr @p, ptr %a)
-  ret i32 0
-}
-";
-
-const NOTE_SPARED: &str = "@p = global i64 0, section \".pm\"
-declare void @llvm.x86.clwb(ptr)
-declare void @llvm.x86.sse.sfence()
-define void @note(ptr %t) {
-entry:
-  store i64 1, ptr %t
-  ret void
-}
-define void @work(ptr %d, ptr %t) {
-entry:
-  call void @note(ptr %t)
-  store i64 2, ptr %d
-  ret void
-}
-define i32 @main() {
-entry:
-  %a = alloca i64
-  call void @work(ptr %a, ptr %a)
-  call void @work.pm(ptr @p, ptr %a)
-  call void @llvm.x86.sse.sfence()
-  ret i32 0
-}
-define void @work.pm(ptr %d, ptr %t) {
-entry:
-  call void @note.pm(ptr %t)
-  store i64 2, ptr %d
-  call void @llvm.x86.clwb(ptr %d)
-  ret void
-}
-define void @note.pm(ptr %t) {
-entry:
-  store i64 1, ptr %t
-  ret void
-}
-";
 
 /// The plan that sends the second call of `@work` to clones.
 fn plan(rt: &impl Abort, alloc: Global) -> Plan {
@@ -99,13 +41,13 @@ fn assert_spared(rt: &impl Abort, alloc: Global, checked: &Checked) {
     let plan = plan(rt, alloc);
     assert!(rt; suits(checked, &plan));
     let repaired = apply_quiet(alloc, checked, &plan).expect(rt, AMPLE);
-    assert_written(rt, alloc, repaired.checked.program(), NOTE_SPARED);
+    assert_written(rt, alloc, repaired.checked.program(), NOTES_THIN);
     assert!(rt; repaired.clones.as_slice() == CLONES.as_slice());
 }
 
 #[test]
 fn spared_flush(rt: HostRuntime) {
-    let checked = checked(&rt, rt.alloc(), NOTE);
+    let checked = checked(&rt, rt.alloc(), NOTES);
     assert_quiet(&rt, rt.alloc(), &checked);
     assert_spared(&rt, rt.alloc(), &checked);
 }
@@ -121,6 +63,6 @@ fn assert_nothing_skipped(rt: &impl Abort, alloc: Global, checked: &Checked) {
 /// No address operand is a register assigned by `alloca` or a volatile global there, so that nothing is skipped.
 #[test]
 fn no_direct_store(rt: HostRuntime) {
-    let checked = checked(&rt, rt.alloc(), NOTE);
+    let checked = checked(&rt, rt.alloc(), NOTES);
     assert_nothing_skipped(&rt, rt.alloc(), &checked);
 }

@@ -1,8 +1,7 @@
 //! Reads that fail in the middle of a trace, and sinks that are full in the middle of one.
 
-use crate::programs::OVERWRITTEN;
 use crate::runs::{checked, in_chunks, input, replayed};
-use hip_examples::{AMPLE, ONE_STORE};
+use hip_examples::{AMPLE, ONE_STORE, OVERWRITTEN};
 use hip_io::{FailAt, FailingCabinet, MemSink};
 use hip_replay::{MisfitKind, RecordRefusal, ReplayRefusal, record_run};
 use hip_sound::Checked;

@@ -2,9 +2,9 @@
 
 ghost use Rattle.std.specs.Prelude.{◌≤◌};
 
-use crate::programs::{SEVEN, TWO_LINES, TWO_NUMBERS};
+use crate::programs::TWO_NUMBERS;
 use crate::runs::{assert_reports, checked, in_chunks, replayed};
-use hip_examples::{AMPLE, ENDLESS_LOOP, ONE_STORE};
+use hip_examples::{AMPLE, ENDLESS_LOOP, ONE_STORE, SEVEN, TWO_LINES};
 use hip_replay::{MisfitKind, ReplayRefusal};
 use hip_run_traces::MisfitKind::{Differs, Early, Extra, Malformed};
 use hip_sound::Checked;

@@ -1,8 +1,10 @@
 //! Plans for what runs find: the trace of a run is replayed, and the plan is made for the findings.
 
-use crate::programs::{ASSERT_INSIDE_CALLEE, FENCE_WITHOUT_FLUSH, FLUSH_WITHOUT_FENCE};
 use crate::runs::{checked, in_chunks, replayed};
-use hip_examples::{AMPLE, COPY, EVEN_AND_ODD, ONE_STORE, ONE_STORE_TRACE};
+use hip_examples::{
+    AMPLE, ASSERT_INSIDE_CALLEE, COPY, EVEN_AND_ODD, FENCE_WITHOUT_FLUSH, FLUSH_WITHOUT_FENCE,
+    ONE_STORE, ONE_STORE_TRACE,
+};
 use hip_plan::plan;
 use hip_tree::Site;
 use std::alloc::Global;

@@ -4,7 +4,7 @@ ghost use Rattle.std.specs.Prelude.{◌≡◌};
 
 use crate::machines::{checked, input};
 use hip_crash::{Bounds, CrashLog, Pick, PickRefusal};
-use hip_examples::AMPLE;
+use hip_examples::{AMPLE, OVERWRITTEN};
 use hip_sound::Checked;
 use hip_step::{Begin, Input, Machine, why_not};
 use hip_types::Row;
@@ -13,16 +13,6 @@ use std::process::Abort;
 
 /// An upper bound of the steps of these programs' runs.
 const MOST_STEPS: u64 = 40;
-
-/// Two stores to one number, neither of them flushed.
-const TWO_STORES: &str = "@x = global i64 0, section \".pm\"
-define i32 @main() {
-entry:
-  store i64 5, ptr @x
-  store i64 6, ptr @x
-  ret i32 0
-}
-";
 
 /// A store in two lines, the second of which is then made durable.
 const TWO_LINES: &str = "@a = global [16 x i64] zeroinitializer, section \".pm\"
@@ -80,42 +70,42 @@ struct Bounded {
 const PICKED: &[Picked] = &[
     Picked {
         name: "nothing of two stores",
-        program: TWO_STORES,
+        program: OVERWRITTEN,
         entry: 4,
         picks: &[],
         answer: Ok(&[]),
     },
     Picked {
         name: "the first of two stores",
-        program: TWO_STORES,
+        program: OVERWRITTEN,
         entry: 4,
         picks: &[Pick { line: 0, upto: 1 }],
         answer: Ok(&[(0, 5)]),
     },
     Picked {
         name: "both stores",
-        program: TWO_STORES,
+        program: OVERWRITTEN,
         entry: 4,
         picks: &[Pick { line: 0, upto: 2 }],
         answer: Ok(&[(0, 6)]),
     },
     Picked {
         name: "both stores at the last entry",
-        program: TWO_STORES,
+        program: OVERWRITTEN,
         entry: 5,
         picks: &[Pick { line: 0, upto: 2 }],
         answer: Ok(&[(0, 6)]),
     },
     Picked {
         name: "an entry of the header",
-        program: TWO_STORES,
+        program: OVERWRITTEN,
         entry: 1,
         picks: &[Pick { line: 0, upto: 0 }],
         answer: Ok(&[]),
     },
     Picked {
         name: "a number above the bounds",
-        program: TWO_STORES,
+        program: OVERWRITTEN,
         entry: 3,
         picks: &[Pick { line: 0, upto: 2 }],
         answer: Err(PickRefusal::OutOfRange {
@@ -126,21 +116,21 @@ const PICKED: &[Picked] = &[
     },
     Picked {
         name: "a line that is named twice, before its number",
-        program: TWO_STORES,
+        program: OVERWRITTEN,
         entry: 4,
         picks: &[Pick { line: 0, upto: 2 }, Pick { line: 0, upto: 9 }],
         answer: Err(PickRefusal::Repeated { at: 2 }),
     },
     Picked {
         name: "a line outside the region",
-        program: TWO_STORES,
+        program: OVERWRITTEN,
         entry: 4,
         picks: &[Pick { line: 1, upto: 0 }],
         answer: Err(PickRefusal::NoLine { at: 1 }),
     },
     Picked {
         name: "the first pick that fails",
-        program: TWO_STORES,
+        program: OVERWRITTEN,
         entry: 4,
         picks: &[Pick { line: 0, upto: 3 }, Pick { line: 1, upto: 0 }],
         answer: Err(PickRefusal::OutOfRange {
@@ -369,7 +359,7 @@ fn assert_not_found(rt: &impl Abort, alloc: Global, log: &CrashLog, input: &Inpu
 
 #[test]
 fn what_no_crash_leaves_is_not_found(rt: HostRuntime) {
-    let checked = checked(&rt, rt.alloc(), TWO_STORES);
+    let checked = checked(&rt, rt.alloc(), OVERWRITTEN);
     let input = input(&rt, rt.alloc(), &checked, &[], 100);
     let log = log_at(&rt, rt.alloc(), &checked, &input, 4);
     let image = seven_in_front(&rt, rt.alloc(), input.image.len());

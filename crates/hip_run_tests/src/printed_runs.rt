@@ -1,7 +1,7 @@
 //! What programs print, and how their runs end.
 
 use crate::machines::{checked, input};
-use hip_examples::AMPLE;
+use hip_examples::{AMPLE, SUM_OF_NUMBERS};
 use hip_io::MemSink;
 use hip_replay::print_run;
 use hip_sound::Checked;
@@ -40,18 +40,6 @@ pub fn assert_runs(rt: &impl Abort, alloc: Global, runs: &[Run]) {
         assert_run(rt, alloc, run);
     }
 }
-
-const SUM_OF_NUMBERS: &str = "declare i64 @read_i64()
-declare void @print_i64(i64)
-define i32 @main() {
-entry:
-  %a = call i64 @read_i64()
-  %b = call i64 @read_i64()
-  %c = add i64 %a, %b
-  call void @print_i64(i64 %c)
-  ret i32 0
-}
-";
 
 const ENDLESS_RECURSION: &str = "define void @f() {
 entry:

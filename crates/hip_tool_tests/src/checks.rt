@@ -1,36 +1,11 @@
 //! `check`: a line for each report.
 
 use crate::commands::{Case, assert_cases};
-use crate::programs::{
-    ASSERT_INSIDE_CALLEE, FENCE_WITHOUT_FLUSH, FLUSH_OF_SHARED_LINE, FLUSH_WITHOUT_FENCE,
-    OVERWRITTEN, PERSIST_CALL, PMEM_FLUSH_CALL, STORE_IN_TWO_LINES,
+use hip_examples::{
+    ASSERT_INSIDE_CALLEE, BOTH_LINES_FLUSHED, COPY, EVEN_AND_ODD, FENCE_WITHOUT_FLUSH,
+    FLUSH_OF_A_RANGE, FLUSH_WITHOUT_FENCE, ONE_OF_TWO_LINES, ONE_STORE, ONE_STORE_TRACE,
+    OVERWRITTEN, PERSIST, SHARED_LINE, TWO_LINES,
 };
-use hip_examples::{COPY, EVEN_AND_ODD, ONE_STORE, ONE_STORE_TRACE};
-
-/// One of the two lines is flushed, and a fence comes.
-const ONE_LINE_FLUSHED: &str = "@a = global [16 x i64] zeroinitializer, section \".pm\"
-declare void @llvm.x86.clwb(ptr)
-declare void @llvm.x86.sse.sfence()
-define i32 @main() {
-entry:
-  store i64 5, ptr getelementptr ([128 x i8], ptr @a, i64 0, i64 60), align 4
-  call void @llvm.x86.clwb(ptr @a)
-  call void @llvm.x86.sse.sfence()
-  ret i32 0
-}
-";
-
-/// Both are flushed, and no fence comes.
-const BOTH_LINES_FLUSHED: &str = "@a = global [16 x i64] zeroinitializer, section \".pm\"
-declare void @llvm.x86.clwb(ptr)
-define i32 @main() {
-entry:
-  store i64 5, ptr getelementptr ([128 x i8], ptr @a, i64 0, i64 60), align 4
-  call void @llvm.x86.clwb(ptr @a)
-  call void @llvm.x86.clwb(ptr getelementptr ([128 x i8], ptr @a, i64 0, i64 64))
-  ret i32 0
-}
-";
 
 const ONE_STORES: &[Case] = &[Case {
     words: &["check", "a", "b"],
@@ -96,7 +71,7 @@ const DURABLE: &[Case] = &[
     Case {
         words: &["check", "a", "b"],
         files: &[
-            ("a", FLUSH_OF_SHARED_LINE),
+            ("a", SHARED_LINE),
             (
                 "b",
                 "START;1000000000|REGISTER;0x100000000;0x40|STORE;0x100000000;0x5;0x8|STORE;0x100000008;0x6;0x8|FLUSH;0x100000000;0x40|FENCE|STOP;0",
@@ -109,7 +84,7 @@ const DURABLE: &[Case] = &[
     Case {
         words: &["check", "a", "b"],
         files: &[
-            ("a", PERSIST_CALL),
+            ("a", PERSIST),
             (
                 "b",
                 "START;1000000000|REGISTER;0x100000000;0x40|STORE;0x100000000;0x5;0x8|PERSIST;0x100000000;0x40|STOP;0",
@@ -182,7 +157,7 @@ fn checks_inside_a_callee(rt: HostRuntime) {
 const LIBPMEM: &[Case] = &[Case {
     words: &["check", "a", "b"],
     files: &[
-        ("a", PMEM_FLUSH_CALL),
+        ("a", FLUSH_OF_A_RANGE),
         (
             "b",
             "START;1000000000|REGISTER;0x100000000;0x40|STORE;0x100000000;0x5;0x8|FLUSH;0x100000000;0x40|STOP;0",
@@ -198,11 +173,11 @@ fn kinds_behind_libpmem(rt: HostRuntime) {
     assert_cases(&rt, rt.alloc(), LIBPMEM);
 }
 
-const TWO_LINES: &[Case] = &[
+const IN_TWO_LINES: &[Case] = &[
     Case {
         words: &["check", "a", "b"],
         files: &[
-            ("a", STORE_IN_TWO_LINES),
+            ("a", TWO_LINES),
             (
                 "b",
                 "START;1000000000|REGISTER;0x100000000;0x80|STORE;0x10000003c;0x5;0x8|STOP;0",
@@ -215,7 +190,7 @@ const TWO_LINES: &[Case] = &[
     Case {
         words: &["check", "a", "b"],
         files: &[
-            ("a", ONE_LINE_FLUSHED),
+            ("a", ONE_OF_TWO_LINES),
             (
                 "b",
                 "START;1000000000|REGISTER;0x100000000;0x80|STORE;0x10000003c;0x5;0x8|FLUSH;0x100000000;0x40|FENCE|STOP;0",
@@ -242,5 +217,5 @@ const TWO_LINES: &[Case] = &[
 
 #[test]
 fn two_line_kinds(rt: HostRuntime) {
-    assert_cases(&rt, rt.alloc(), TWO_LINES);
+    assert_cases(&rt, rt.alloc(), IN_TWO_LINES);
 }

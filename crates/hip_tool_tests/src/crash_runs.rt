@@ -1,9 +1,9 @@
 //! `crash`: the trace of the run from a picked crash image.
 
 use crate::commands::{Case, assert_cases};
-use crate::programs::OVERWRITTEN;
+use hip_examples::OVERWRITTEN;
 
-/// The trace of its run.
+/// The trace of the run of `OVERWRITTEN`.
 const TRACE: &str =
     "START;1000000000|REGISTER;0x100000000;0x40|STORE;0x100000000;0x5;0x8|STORE;0x100000000;0x6;0x8|STOP;0";
 

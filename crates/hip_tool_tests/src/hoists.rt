@@ -1,8 +1,10 @@
 //! `repair` by persistent clones of functions, with a fence after the call.
 
 use crate::commands::{Case, assert_cases};
-use crate::programs::{ASSERT_INSIDE_CALLEE, REACH_REPAIRED};
-use hip_examples::{COPY, EVEN_AND_ODD, REACH};
+use hip_examples::{
+    ASSERT_INSIDE_CALLEE, COPY, COPY_REPAIRED, EVEN_AND_ODD, EVEN_AND_ODD_REPAIRED, REACH,
+    REACH_REPAIRED,
+};
 
 /// The counts of one hoisted call and one clone.
 const ONE_HOIST: &str = "reports 1
@@ -12,36 +14,7 @@ hoists 1
 clones 1
 ";
 
-/// `COPY` repaired: the second call copies by the clone.
-const COPY_REPAIRED: &str = "@p = global i64 0, section \".pm\"
-declare void @llvm.x86.clwb(ptr)
-declare void @llvm.x86.sse.sfence()
-define void @copy(ptr %dst, ptr %src) {
-entry:
-  %v = load i64, ptr %src
-  store i64 %v, ptr %dst
-  ret void
-}
-define i32 @main() {
-entry:
-  %a = alloca i64
-  %b = alloca i64
-  store i64 9, ptr %a
-  call void @copy(ptr %b, ptr %a)
-  call void @copy.pm(ptr @p, ptr %b)
-  call void @llvm.x86.sse.sfence()
-  ret i32 0
-}
-define void @copy.pm(ptr %dst, ptr %src) {
-entry:
-  %v = load i64, ptr %src
-  store i64 %v, ptr %dst
-  call void @llvm.x86.clwb(ptr %dst)
-  ret void
-}
-";
-
-/// The same, repaired at the store: the call has not returned where it is checked.
+/// `ASSERT_INSIDE_CALLEE` repaired at the store: the call has not returned where it is checked.
 const ASSERT_INSIDE_CALLEE_REPAIRED: &str = "@p = global i64 0, section \".pm\"
 @q = global i64 9
 declare void @pm_assert(ptr, i64)
@@ -96,70 +69,6 @@ define i32 @main() {
 entry:
   call void @copy(ptr @p, ptr @q)
   ret i32 0
-}
-";
-
-/// `EVEN_AND_ODD` repaired: the clones call each other.
-const EVEN_AND_ODD_REPAIRED: &str = "@p = global i64 0, section \".pm\"
-declare void @llvm.x86.clwb(ptr)
-declare void @llvm.x86.sse.sfence()
-define void @even(ptr %d, i64 %n) {
-entry:
-  %z = icmp eq i64 %n, 0
-  br i1 %z, label %done, label %more
-more:
-  store i64 %n, ptr %d
-  %m = sub i64 %n, 1
-  call void @odd(ptr %d, i64 %m)
-  br label %done
-done:
-  ret void
-}
-define void @odd(ptr %d, i64 %n) {
-entry:
-  %z = icmp eq i64 %n, 0
-  br i1 %z, label %done, label %more
-more:
-  store i64 %n, ptr %d
-  %m = sub i64 %n, 1
-  call void @even(ptr %d, i64 %m)
-  br label %done
-done:
-  ret void
-}
-define i32 @main() {
-entry:
-  %t = alloca i64
-  call void @even(ptr %t, i64 2)
-  call void @even.pm(ptr @p, i64 2)
-  call void @llvm.x86.sse.sfence()
-  ret i32 0
-}
-define void @even.pm(ptr %d, i64 %n) {
-entry:
-  %z = icmp eq i64 %n, 0
-  br i1 %z, label %done, label %more
-more:
-  store i64 %n, ptr %d
-  call void @llvm.x86.clwb(ptr %d)
-  %m = sub i64 %n, 1
-  call void @odd.pm(ptr %d, i64 %m)
-  br label %done
-done:
-  ret void
-}
-define void @odd.pm(ptr %d, i64 %n) {
-entry:
-  %z = icmp eq i64 %n, 0
-  br i1 %z, label %done, label %more
-more:
-  store i64 %n, ptr %d
-  call void @llvm.x86.clwb(ptr %d)
-  %m = sub i64 %n, 1
-  call void @even.pm(ptr %d, i64 %m)
-  br label %done
-done:
-  ret void
 }
 ";
 

@@ -24,8 +24,6 @@ mod long_traces;
 #[cfg(test)]
 mod many_traces;
 #[cfg(test)]
-mod programs;
-#[cfg(test)]
 mod records;
 #[cfg(test)]
 mod refused_functions;

@@ -1,7 +1,7 @@
 //! `record`: the trace of a run.
 
 use crate::commands::{Case, assert_cases};
-use hip_examples::ENDLESS_LOOP;
+use hip_examples::{ENDLESS_LOOP, SEVEN};
 
 /// An empty range at the base, the last byte of the region, and one byte after it.
 const ASSERTED_RANGES: &str = "@p = global i64 0, section \".pm\"
@@ -11,14 +11,6 @@ entry:
   call void @pm_assert(ptr @p, i64 0)
   call void @pm_assert(ptr getelementptr (i8, ptr @p, i64 63), i64 1)
   call void @pm_assert(ptr getelementptr (i8, ptr @p, i64 63), i64 2)
-  ret i32 0
-}
-";
-
-/// A persistent number that is not 0 at the start.
-const INITIAL_IMAGE: &str = "@x = global i64 7, section \".pm\"
-define i32 @main() {
-entry:
   ret i32 0
 }
 ";
@@ -72,7 +64,7 @@ fn asserted_ranges(rt: HostRuntime) {
 
 const IMAGES: &[Case] = &[Case {
     words: &["record", "a"],
-    files: &[("a", INITIAL_IMAGE)],
+    files: &[("a", SEVEN)],
     code: 0,
     out: "START;1000000000\nREGISTER;0x100000000;0x40\nIMAGE;0x100000000;07000000000000000000000000000000000000000000000000000000000000000000000000000000000000000000000000000000000000000000000000000000\nSTOP;0\n",
     notes: "stop 0\n",

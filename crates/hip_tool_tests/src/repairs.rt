@@ -1,11 +1,11 @@
 //! `repair`: a flush after a store, a fence after a flush, and where nothing is to be repaired.
 
 use crate::commands::{Case, assert_cases};
-use crate::programs::{
-    DIVIDE_BY_ZERO, FENCE_WITHOUT_FLUSH, FLUSH_OF_SHARED_LINE, FLUSH_WITHOUT_FENCE, OVERWRITTEN,
-    PERSIST_CALL, PMEM_FLUSH_CALL, STORE_IN_TWO_LINES,
+use hip_examples::{
+    DIVIDE_BY_ZERO, FENCE_WITHOUT_FLUSH, FLUSH_OF_A_RANGE, FLUSH_WITHOUT_FENCE, ONE_STORE,
+    ONE_STORE_REPAIRED, ONE_STORE_TRACE, OVERWRITTEN, PERSIST, SHARED_LINE, TWO_LINES,
+    TWO_LINES_REPAIRED,
 };
-use hip_examples::{ONE_STORE, ONE_STORE_REPAIRED, ONE_STORE_TRACE};
 
 /// The counts of one flush and one fence.
 const ONE_REPAIR: &str = "reports 1
@@ -23,7 +23,7 @@ hoists 0
 clones 0
 ";
 
-/// The same, repaired: the fence that stands serves.
+/// `FENCE_WITHOUT_FLUSH` repaired: the fence that stands serves.
 const FENCE_WITHOUT_FLUSH_REPAIRED: &str = "@x = global i64 0, section \".pm\"
 declare void @llvm.x86.sse.sfence()
 declare void @llvm.x86.clwb(ptr)
@@ -36,7 +36,7 @@ entry:
 }
 ";
 
-/// The same, repaired: the first store needs nothing.
+/// `OVERWRITTEN` repaired: the first store needs nothing.
 const OVERWRITTEN_REPAIRED: &str = "@x = global i64 0, section \".pm\"
 declare void @llvm.x86.clwb(ptr)
 declare void @llvm.x86.sse.sfence()
@@ -50,27 +50,14 @@ entry:
 }
 ";
 
-/// The same, repaired.
-const PMEM_FLUSH_CALL_REPAIRED: &str = "@x = global i64 0, section \".pm\"
+/// `FLUSH_OF_A_RANGE` repaired.
+const FLUSH_OF_A_RANGE_REPAIRED: &str = "@x = global i64 0, section \".pm\"
 declare void @pmem_flush(ptr, i64)
 declare void @llvm.x86.sse.sfence()
 define i32 @main() {
 entry:
   store i64 5, ptr @x
   call void @pmem_flush(ptr @x, i64 8)
-  call void @llvm.x86.sse.sfence()
-  ret i32 0
-}
-";
-
-/// The same, repaired: both lines are flushed by one call.
-const STORE_IN_TWO_LINES_REPAIRED: &str = "@a = global [16 x i64] zeroinitializer, section \".pm\"
-declare void @llvm.x86.sse.sfence()
-declare void @pmem_flush(ptr, i64)
-define i32 @main() {
-entry:
-  store i64 5, ptr getelementptr ([128 x i8], ptr @a, i64 0, i64 60), align 4
-  call void @pmem_flush(ptr getelementptr ([128 x i8], ptr @a, i64 0, i64 60), i64 8)
   call void @llvm.x86.sse.sfence()
   ret i32 0
 }
@@ -178,14 +165,14 @@ const DURABLE: &[Case] = &[
     Case {
         words: &["repair", "a", "b"],
         files: &[
-            ("a", FLUSH_OF_SHARED_LINE),
+            ("a", SHARED_LINE),
             (
                 "b",
                 "START;1000000000|REGISTER;0x100000000;0x40|STORE;0x100000000;0x5;0x8|STORE;0x100000008;0x6;0x8|FLUSH;0x100000000;0x40|FENCE|STOP;0",
             ),
         ],
         code: 0,
-        out: FLUSH_OF_SHARED_LINE,
+        out: SHARED_LINE,
         notes: NO_REPAIR,
     },
     Case {
@@ -204,14 +191,14 @@ const DURABLE: &[Case] = &[
     Case {
         words: &["repair", "a", "b"],
         files: &[
-            ("a", PERSIST_CALL),
+            ("a", PERSIST),
             (
                 "b",
                 "START;1000000000|REGISTER;0x100000000;0x40|STORE;0x100000000;0x5;0x8|PERSIST;0x100000000;0x40|STOP;0",
             ),
         ],
         code: 0,
-        out: PERSIST_CALL,
+        out: PERSIST,
         notes: NO_REPAIR,
     },
 ];
@@ -224,14 +211,14 @@ fn nothing_to_repair(rt: HostRuntime) {
 const PMEM_FLUSHES: &[Case] = &[Case {
     words: &["repair", "a", "b"],
     files: &[
-        ("a", PMEM_FLUSH_CALL),
+        ("a", FLUSH_OF_A_RANGE),
         (
             "b",
             "START;1000000000|REGISTER;0x100000000;0x40|STORE;0x100000000;0x5;0x8|FLUSH;0x100000000;0x40|STOP;0",
         ),
     ],
     code: 0,
-    out: PMEM_FLUSH_CALL_REPAIRED,
+    out: FLUSH_OF_A_RANGE_REPAIRED,
     notes: "reports 1\nflushes 0\nfences 1\nhoists 0\nclones 0\n",
 }];
 
@@ -243,14 +230,14 @@ fn pmem_flush_call(rt: HostRuntime) {
 const WIDE_STORES: &[Case] = &[Case {
     words: &["repair", "a", "b"],
     files: &[
-        ("a", STORE_IN_TWO_LINES),
+        ("a", TWO_LINES),
         (
             "b",
             "START;1000000000|REGISTER;0x100000000;0x80|STORE;0x10000003c;0x5;0x8|STOP;0",
         ),
     ],
     code: 0,
-    out: STORE_IN_TWO_LINES_REPAIRED,
+    out: TWO_LINES_REPAIRED,
     notes: ONE_REPAIR,
 }];
 

@@ -1,8 +1,7 @@
 //! `rerun`: the trace of the repaired program on the trace's input.
 
 use crate::commands::{Case, assert_cases};
-use crate::programs::{OVERWRITTEN, STORE_IN_TWO_LINES};
-use hip_examples::{ENDLESS_LOOP, ONE_STORE, ONE_STORE_TRACE};
+use hip_examples::{ENDLESS_LOOP, ONE_STORE, ONE_STORE_TRACE, OVERWRITTEN, TWO_LINES};
 
 const ONE_STORES: &[Case] = &[Case {
     words: &["rerun", "a", "b"],
@@ -58,7 +57,7 @@ fn endless_loop_again(rt: HostRuntime) {
 const WIDE_STORES: &[Case] = &[Case {
     words: &["rerun", "a", "b"],
     files: &[
-        ("a", STORE_IN_TWO_LINES),
+        ("a", TWO_LINES),
         (
             "b",
             "START;1000000000|REGISTER;0x100000000;0x80|STORE;0x10000003c;0x5;0x8|STOP;0",

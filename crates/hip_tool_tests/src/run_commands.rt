@@ -1,22 +1,8 @@
 //! What `hippo run` answers and writes.
 
 use crate::commands::{Case, assert_cases, assert_outcome, outcome_in_room, outcome_of_fault};
-use crate::programs::DIVIDE_BY_ZERO;
-use hip_examples::{ENDLESS_LOOP, KEY_VALUE_LOG, ONE_STORE};
+use hip_examples::{DIVIDE_BY_ZERO, ENDLESS_LOOP, KEY_VALUE_LOG, ONE_STORE, SUM_OF_NUMBERS};
 use hip_io::FailAt;
-
-/// Two numbers are read, and their sum is printed.
-const SUM: &str = "declare i64 @read_i64()
-declare void @print_i64(i64)
-define i32 @main() {
-entry:
-  %a = call i64 @read_i64()
-  %b = call i64 @read_i64()
-  %c = add i64 %a, %b
-  call void @print_i64(i64 %c)
-  ret i32 0
-}
-";
 
 /// Three numbers are printed, each on a line of two bytes or more, and a negative number is returned.
 const THREE_LINES: &str = "declare void @print_i64(i64)
@@ -38,28 +24,28 @@ entry:
 const SUMS: &[Case] = &[
     Case {
         words: &["run", "a", "--", "-5", "3"],
-        files: &[("a", SUM)],
+        files: &[("a", SUM_OF_NUMBERS)],
         code: 0,
         out: "-2\n",
         notes: "stop 0\n",
     },
     Case {
         words: &["run", "a", "9223372036854775807", "1"],
-        files: &[("a", SUM)],
+        files: &[("a", SUM_OF_NUMBERS)],
         code: 0,
         out: "-9223372036854775808\n",
         notes: "stop 0\n",
     },
     Case {
         words: &["run", "a", "--limit", "0", "7", "8"],
-        files: &[("a", SUM)],
+        files: &[("a", SUM_OF_NUMBERS)],
         code: 10,
         out: "",
         notes: "cut\n",
     },
     Case {
         words: &["run", "a", "7"],
-        files: &[("a", SUM)],
+        files: &[("a", SUM_OF_NUMBERS)],
         code: 9,
         out: "",
         notes: "trap input\n",

@@ -1,32 +1,9 @@
 //! `thin`: clones without the flushes that cannot matter.
 
 use crate::commands::{Case, assert_cases};
-use crate::programs::REACH_REPAIRED;
-use hip_examples::REACH;
+use hip_examples::{NOTES, NOTES_THIN, REACH, REACH_REPAIRED};
 
-/// A function that is called by a hoisted one and never stores into the region.
-const NOTES: &str = "@p = global i64 0, section \".pm\"
-define void @note(ptr %t) {
-entry:
-  store i64 1, ptr %t
-  ret void
-}
-define void @work(ptr %d, ptr %t) {
-entry:
-  call void @note(ptr %t)
-  store i64 2, ptr %d
-  ret void
-}
-define i32 @main() {
-entry:
-  %a = alloca i64
-  call void @work(ptr %a, ptr %a)
-  call void @work(ptr @p, ptr %a)
-  ret i32 0
-}
-";
-
-/// The same, repaired: each clone flushes each store.
+/// `NOTES` repaired: each clone flushes each store.
 const NOTES_REPAIRED: &str = "@p = global i64 0, section \".pm\"
 declare void @llvm.x86.clwb(ptr)
 declare void @llvm.x86.sse.sfence()
@@ -60,43 +37,6 @@ define void @note.pm(ptr %t) {
 entry:
   store i64 1, ptr %t
   call void @llvm.x86.clwb(ptr %t)
-  ret void
-}
-";
-
-/// The same, repaired without the flush in the clone that never stores into the region.
-const NOTES_THIN: &str = "@p = global i64 0, section \".pm\"
-declare void @llvm.x86.clwb(ptr)
-declare void @llvm.x86.sse.sfence()
-define void @note(ptr %t) {
-entry:
-  store i64 1, ptr %t
-  ret void
-}
-define void @work(ptr %d, ptr %t) {
-entry:
-  call void @note(ptr %t)
-  store i64 2, ptr %d
-  ret void
-}
-define i32 @main() {
-entry:
-  %a = alloca i64
-  call void @work(ptr %a, ptr %a)
-  call void @work.pm(ptr @p, ptr %a)
-  call void @llvm.x86.sse.sfence()
-  ret i32 0
-}
-define void @work.pm(ptr %d, ptr %t) {
-entry:
-  call void @note.pm(ptr %t)
-  store i64 2, ptr %d
-  call void @llvm.x86.clwb(ptr %d)
-  ret void
-}
-define void @note.pm(ptr %t) {
-entry:
-  store i64 1, ptr %t
   ret void
 }
 ";

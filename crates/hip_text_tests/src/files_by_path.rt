@@ -1,4 +1,7 @@
-use crate::files::FileCabinet;
+//! Files of the machine, by their paths.
+
+use hip_examples::AMPLE;
+use hip_files::FileCabinet;
 use hip_io::{ReadRefusal, read_all};
 use std::process::Abort;
 use std::{fs, process};
@@ -36,6 +39,6 @@ fn reads_back_a_file_that_was_written(rt: HostRuntime) {
     let path = format!(in rt.alloc();
         "/tmp/hippo-adapter-test-{}",
         process::id(rt.process())
-    ).expect(&rt, "there is memory");
+    ).expect(&rt, AMPLE);
     assert_answers(&rt, &rt, path.as_str());
 }

@@ -29,14 +29,17 @@ fn assert_answer(rt: &impl Abort, found: Answer, expected: Answer, case: &str) {
     assert!(rt; found == expected, "{case}");
 }
 
-/// Reads the entries of the file `t`, and twice what comes after them.
-fn assert_reads<C: Cabinet>(
-    rt: &impl Abort,
-    cabinet: &mut C,
-    entries: &[Entry],
+/// The entries that a text has, what comes after them, and what the text is called.
+#[derive(Clone, Copy)]
+struct Expected<'a> {
+    entries: &'a [Entry],
     end: Answer,
-    case: &str,
-) {
+    case: &'a str,
+}
+
+/// Reads the entries of the file `t`, and twice what comes after them.
+fn assert_reads<C: Cabinet>(rt: &impl Abort, cabinet: &mut C, expected: Expected<'_>) {
+    let Expected { entries, end, case } = expected;
     let fetched = cabinet.fetch("t");
     assert!(rt; matches!(fetched, Fetched::Ready), "{case}");
     let mut reader = Reader::new();
@@ -48,19 +51,11 @@ fn assert_reads<C: Cabinet>(
 }
 
 /// Reads the entries of a text that is given in chunks, and twice what comes after them.
-fn assert_text(
-    rt: &impl Abort,
-    alloc: Global,
-    text: &[u8],
-    chunk: usize,
-    entries: &[Entry],
-    end: Answer,
-    case: &str,
-)
+fn assert_text(rt: &impl Abort, alloc: Global, text: &[u8], chunk: usize, expected: Expected<'_>)
     requires { 1 ≤ chunk }
 {
     let mut cabinet = file(rt, alloc, text, chunk);
-    assert_reads(rt, &mut cabinet, entries, end, case);
+    assert_reads(rt, &mut cabinet, expected);
 }
 
 const NO_MORE: Answer = Ok(None);
@@ -197,7 +192,12 @@ fn read_and_written(rt: HostRuntime) {
     for case in SPELLINGS {
         let entries = &[case.entry];
         let alloc = rt.alloc();
-        assert_text(&rt, alloc, case.text, 7, entries, NO_MORE, case.canonical);
+        let expected = Expected {
+            entries,
+            end: NO_MORE,
+            case: case.canonical,
+        };
+        assert_text(&rt, alloc, case.text, 7, expected);
         assert_written(&rt, alloc, &case.entry, case.canonical);
     }
 }
@@ -254,15 +254,12 @@ fn malformed(rt: HostRuntime) {
         let alloc = rt.alloc();
         let bytes = behind_an_entry(&rt, alloc, *text);
         let entries = &[Entry::Cut];
-        assert_text(
-            &rt,
-            alloc,
-            bytes.as_slice(),
-            4096,
+        let expected = Expected {
             entries,
-            MALFORMED,
-            *text,
-        );
+            end: MALFORMED,
+            case: *text,
+        };
+        assert_text(&rt, alloc, bytes.as_slice(), 4096, expected);
     }
 }
 
@@ -287,17 +284,19 @@ const TWO_STORES_ENTRIES: &[Entry] = &[
 #[test]
 fn cut_anywhere(rt: HostRuntime) {
     for chunk in 1..60 {
-        assert_text(
-            &rt,
-            rt.alloc(),
-            TWO_STORES,
-            chunk,
-            TWO_STORES_ENTRIES,
-            NO_MORE,
-            "two stores",
-        );
+        let expected = Expected {
+            entries: TWO_STORES_ENTRIES,
+            end: NO_MORE,
+            case: "two stores",
+        };
+        assert_text(&rt, rt.alloc(), TWO_STORES, chunk, expected);
     }
-    assert_text(&rt, rt.alloc(), b"", 1, &[], NO_MORE, "no byte");
+    let nothing = Expected {
+        entries: &[],
+        end: NO_MORE,
+        case: "no byte",
+    };
+    assert_text(&rt, rt.alloc(), b"", 1, nothing);
 }
 
 /// A store whose address has enough leading zeros to make the text that long.
@@ -327,15 +326,12 @@ fn assert_long_store(
 {
     let text = long_store(rt, alloc, len);
     assert!(rt; text.len() == len);
-    assert_text(
-        rt,
-        alloc,
-        text.as_slice(),
-        chunk,
+    let expected = Expected {
         entries,
         end,
-        "long store",
-    );
+        case: "long store",
+    };
+    assert_text(rt, alloc, text.as_slice(), chunk, expected);
 }
 
 #[test]
@@ -381,15 +377,12 @@ fn images(rt: HostRuntime) {
     let image = Entry::Image { addr: 64, bytes };
     let text = two_images(&rt, rt.alloc());
     let entries = &[image];
-    assert_text(
-        &rt,
-        rt.alloc(),
-        text.as_slice(),
-        100,
+    let expected = Expected {
         entries,
-        MALFORMED,
-        "image",
-    );
+        end: MALFORMED,
+        case: "image",
+    };
+    assert_text(&rt, rt.alloc(), text.as_slice(), 100, expected);
     assert_image_written(&rt, rt.alloc(), &image);
 }
 
@@ -406,7 +399,12 @@ fn fault_in_the_middle(rt: HostRuntime) {
     let mut cabinet = failing_file(&rt, rt.alloc());
     let first = Entry::Start { limit: 7 };
     let fault = Err(TraceRefusal::ReadFault);
-    assert_reads(&rt, &mut cabinet, &[first], fault, "fault");
+    let expected = Expected {
+        entries: &[first],
+        end: fault,
+        case: "fault",
+    };
+    assert_reads(&rt, &mut cabinet, expected);
 }
 
 #[test]

@@ -21,7 +21,8 @@ LARGEST_TEXT = 16 * MIB
 
 @dataclass(frozen=True)
 class Shape:
-    """Programs that grow in one way: their text for a size, three sizes, the commands, and the MB that a command may take."""
+    """Programs that grow in one way: their text for a size, three sizes, the commands, and the MB that a command may take at the
+    largest size. A command without such a limit has a figure of its MB as well."""
 
     name: str
     text: Callable[[int], str]
@@ -60,7 +61,7 @@ def of_times(hippo: Hippo, title: str, name: str, sizes: list[int], files: list[
     show(title, exponent(sizes, taken), most=STEEPEST, basis=basis)
 
 
-def of_peak(hippo: Hippo, title: str, name: str, file: str, most: int) -> None:
+def of_peak(hippo: Hippo, title: str, name: str, file: str, most: int | None) -> None:
     """The peak of a command."""
     show(title, peak(command_on(hippo, name, file)), most=most, form=".0f")
 
@@ -74,9 +75,9 @@ def of_shape(hippo: Hippo, shape: Shape) -> None:
         for name in shape.commands:
             title = f"{name}: exponent, {shape.name}"
             figures(title, of_times, room, title, name, sizes, files)
-        for name, most in shape.most.items():
+        for name in dict.fromkeys((*shape.commands, *shape.most)):
             title = f"{name}: MB, {sizes[-1]:,} {shape.name}"
-            figures(title, of_peak, room, title, name, files[-1], most)
+            figures(title, of_peak, room, title, name, files[-1], shape.most.get(name))
 
 
 def of_one_to_another(hippo: Hippo) -> None:
@@ -131,9 +132,12 @@ def of_memory(hippo: Hippo) -> None:
     flush, loose, turns = (str(BENCH / f"{name}.ll") for name in ("flush", "loose", "turns"))
     few, many = hippo.size(33_333), hippo.size(333_333)
     region = hippo.file("region.ll", shapes.untouched_region(64 * MIB))
+    stores = hippo.file("stores.ll", shapes.stores_to_one_word(hippo.size(100_000_000)))
     rows = [
         ("run: MB, 10^8 turns without a store", 8, ["run", turns, hippo.size(25_000_000)]),
         ("run: MB, a region of 64 MiB that nothing touches", 16, ["run", region]),
+        ("run: MB, 10^8 stores to one word", 16, ["run", stores]),
+        ("record: MB, 10^8 stores to one word", 64, ["record", stores]),
         ("check: MB, 10^6 entries", 8, ["check", flush, hippo.recorded(flush, many)]),
         ("check: MB, 10^5 entries and one byte never flushed", 8, ["check", loose, hippo.recorded(loose, few)]),
         ("check: MB, 10^6 entries and one byte never flushed", 8, ["check", loose, hippo.recorded(loose, many)]),

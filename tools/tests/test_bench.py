@@ -77,6 +77,13 @@ class Sizes(unittest.TestCase):
     def test_a_switch_has_its_cases(self) -> None:
         self.assertEqual(shapes.wide_switch(9).count("label %again\n"), 9)
 
+    def test_the_smallest_scale_leaves_each_shape_two_sizes(self) -> None:
+        hippo = measuring.Hippo("", "", 1, 0.001)
+        for shape in growth.SHAPES:
+            with self.subTest(shape.name):
+                *_, before, largest = (hippo.size(size) for size in shape.sizes)
+                self.assertGreater(largest, before)
+
     def test_inputs_are_as_long_as_they_say(self) -> None:
         self.assertEqual(len(native.numbers_of("undo", 4)), 1 + 3 * 4)
         self.assertEqual(native.numbers_of("store", 4), [8, 4, 37, 0])

@@ -1,3 +1,4 @@
 pub mod Deliveries
+pub mod Quietly
 pub mod Outputs
 pub mod TraceTexts

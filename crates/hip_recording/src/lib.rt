@@ -5,8 +5,9 @@ mod delivery;
 mod print;
 mod record;
 mod refusal;
-mod steps;
+mod trace;
 
 pub use print::print_run;
-pub use record::{Recorded, record_run, write_trace};
+pub use record::{Recorded, record_run};
 pub use refusal::RecordRefusal;
+pub use trace::write_trace;

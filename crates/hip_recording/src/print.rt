@@ -37,7 +37,16 @@ pub fn print_run<S: Sink>(
         Ok(machine) => machine,
         Err(_) => return Err(out_of_memory(out)),
     };
-    match print_steps(&mut machine, out) {
+    print_whole(&mut machine, out)
+}
+
+// Puts what a run prints, and delivers it.
+fn print_whole<'a, S: Sink>(machine: &mut Machine<'a>, out: &mut S) -> Result<Ending, RecordRefusal>
+    requires { machine.old.taken ≡ 0 }
+    ensures prints { Prints machine.old.program machine.old.input (S.state out.old) (S.state out.new) result }
+    ensures delivered { OnOk result (S.held out.new ≡ 0) }
+{
+    match print_steps(machine, out) {
         Ok(ending) => match out.deliver() {
             Put::Done => Ok(ending),
             Put::Failed => Err(RecordRefusal::WriteFault),
@@ -47,7 +56,7 @@ pub fn print_run<S: Sink>(
     }
 }
 
-// Takes the steps of a run, and puts what they print.
+// Goes from event to event of a run, and puts what is printed in them.
 fn print_steps<'a, S: Sink>(machine: &mut Machine<'a>, out: &mut S) -> Result<Ending, RecordRefusal>
     requires { machine.old.taken ≡ 0 }
     ensures { Prints machine.old.program machine.old.input (S.state out.old) (S.state out.new) result }
@@ -56,7 +65,7 @@ fn print_steps<'a, S: Sink>(machine: &mut Machine<'a>, out: &mut S) -> Result<En
     runs_are_bounded();
     events_tell_output_and_ending();
     'steps: loop {
-        let event = match machine.step() {
+        let event = match machine.next_event() {
             Ok(event) => event,
             Err(_) => return Err(RecordRefusal::NoMemory),
         };

@@ -1,17 +1,14 @@
-ghost use Rattle.std.specs.Prelude.{◌≡◌, true, Some, IfOk, OnOk, length};
+ghost use Rattle.std.specs.Prelude.{◌≡◌, OnOk, length};
 ghost use Rattle.hip_io.specs.Sinks.{AppendsAll, SinkState};
+ghost use Rattle.hip_report.specs.Tracking.{HasNoted};
 ghost use Rattle.hip_run_traces.specs.Traces.{header_of};
-ghost use Rattle.hip_runs.specs.Found.Marks.{IsFound};
-ghost use Rattle.hip_runs.specs.Step.{has_ended, header_entries};
 ghost use Rattle.hip_runs.specs.Validity.{IsValid};
-ghost use Rattle.hip_runs.specs.Seen.{state_of};
 ghost use Rattle.hip_trace.specs.Texts.{lines_of};
 ghost use Rattle.hip_recording.specs.Recording.{PutsTrace, Records};
-ghost use Rattle.hip_recording.specs.Steps.{HasEnded, IsNoted, tracked_header};
+ghost use Rattle.hip_recording.specs.Steps.{HasEnded};
 
 use crate::delivery::out_of_memory;
 use crate::refusal::RecordRefusal;
-use crate::steps::take_step;
 use hip_engine::Machine;
 use hip_invariants::runs_are_bounded;
 use hip_io::{Put, Sink};
@@ -20,7 +17,6 @@ use hip_report::{Findings, Tracker};
 use hip_runs::{Ending, Input, events_tell_output_and_ending, longest, runs_end};
 use hip_sound::Checked;
 use hip_step::Begin;
-use hip_types::NoMemory;
 use std::alloc::Global;
 
 /// How a recorded run has ended, how many entries its trace has, and what it found.
@@ -29,30 +25,6 @@ pub struct Recorded {
     pub ending: Ending,
     pub entries: u128,
     pub findings: Findings,
-}
-
-/// Runs a program on an input, and writes the trace of the run, a line for each entry. The entries are put as the steps
-/// are taken, and delivered at the end and before a refusal, so that after a refusal out has a front of the trace. The
-/// machine alone takes memory.
-pub fn write_trace<S: Sink>(
-    alloc: Global,
-    checked: &Checked,
-    input: &Input,
-    out: &mut S,
-) -> Result<Ended, RecordRefusal>
-    requires { IsValid checked.now input.now }
-    ensures trace { PutsTrace checked.now input.now (S.state out.old) (S.state out.new) result }
-    ensures delivered { OnOk result (S.held out.new ≡ 0) }
-{
-    let mut machine = match Machine::new(alloc, checked, input) {
-        Ok(machine) => machine,
-        Err(_) => return Err(out_of_memory(out)),
-    };
-    let mut tracker = None;
-    match put_header(input, out) {
-        Ok(entries) => put_trace(&mut machine, &mut tracker, entries, out),
-        Err(_) => Err(RecordRefusal::WriteFault),
-    }
 }
 
 /// Runs a program on an input, writes the trace of the run as `write_trace` does, and answers what the run found. Memory
@@ -71,9 +43,22 @@ pub fn record_run<S: Sink>(
         Ok(machine) => machine,
         Err(_) => return Err(out_of_memory(out)),
     };
-    let _program = checked.program();
-    match put_header(input, out) {
-        Ok(entries) => record_steps(alloc, &mut machine, entries, out),
+    record_whole(alloc, &mut machine, out)
+}
+
+// Writes the trace of a run, and notes its steps.
+fn record_whole<'a, S: Sink>(
+    alloc: Global,
+    machine: &mut Machine<'a>,
+    out: &mut S,
+) -> Result<Recorded, RecordRefusal>
+    requires { machine.old.taken ≡ 0 }
+    ensures records { Records machine.old.program machine.old.input (S.state out.old) (S.state out.new) result }
+    ensures delivered { OnOk result (S.held out.new ≡ 0) }
+{
+    let _program = machine.checked().program();
+    match put_header(machine.input(), out) {
+        Ok(header) => record_steps(alloc, machine, header, out),
         Err(_) => Err(RecordRefusal::WriteFault),
     }
 }
@@ -94,16 +79,15 @@ fn record_steps<'a, S: Sink>(
 {
     runs_are_bounded();
     let _program = machine.checked().program();
-    let tracker = match Tracker::new(alloc, header) {
+    let mut tracker = match Tracker::new(alloc, header) {
         Ok(tracker) => tracker,
         Err(_) => return Err(out_of_memory(out)),
     };
-    let mut noting = Some(tracker);
-    let ended = match put_trace(machine, &mut noting, header, out) {
+    let ended = match put_noted(machine, &mut tracker, header, out) {
         Ok(ended) => ended,
         Err(refusal) => return Err(refusal),
     };
-    match findings_of(noting, machine) {
+    match tracker.close(machine) {
         Ok(findings) => Ok(Recorded {
             ending: ended.ending,
             entries: ended.entries,
@@ -113,37 +97,23 @@ fn record_steps<'a, S: Sink>(
     }
 }
 
-// The findings of a run that a tracker noted to its end.
-fn findings_of<'a>(noting: Option<Tracker<'a>>, machine: &Machine<'a>) -> Result<Findings, NoMemory>
-    requires noted { IsNoted noting machine.now }
-    requires ended { has_ended (state_of machine.now) ≡ true }
-    requires header { tracked_header noting ≡ Some (header_entries machine.now.input) }
-    ensures { IfOk result (λ found. IsFound machine.now.program machine.now.input found) }
-{
-    match noting {
-        Some(tracker) => tracker.close(machine),
-        None => unreachable!(),
-    }
-}
-
-// Takes the steps of a run after its header, writes their entries and delivers them. A tracker, where there is one,
-// notes the steps.
-fn put_trace<'a, S: Sink>(
+// Takes the steps of a run after its header, notes them, writes their entries and delivers them.
+fn put_noted<'a, S: Sink>(
     machine: &mut Machine<'a>,
-    tracker: &mut Option<Tracker<'a>>,
+    tracker: &mut Tracker<'a>,
     header: u128,
     out: &mut S,
 ) -> Result<Ended, RecordRefusal>
     requires valid { IsValid machine.old.program machine.old.input }
     requires fresh { machine.old.taken ≡ 0 }
     requires counted { header ≡ length (header_of machine.old.input) }
-    requires noted { IsNoted tracker.old machine.old }
+    requires noted { HasNoted tracker.old machine.old }
     ensures trace { (start : SinkState) → AppendsAll start (S.state out.old) (lines_of (header_of machine.old.input)) →
         PutsTrace machine.old.program machine.old.input start (S.state out.new) result }
     ensures delivered { OnOk result (S.held out.new ≡ 0) }
     ensures ended { OnOk result (HasEnded machine.old machine.new tracker.old tracker.new) }
 {
-    match put_entries(machine, tracker, header, out) {
+    match note_entries(machine, tracker, header, out) {
         Ok(ended) => match out.deliver() {
             Put::Done => Ok(ended),
             Put::Failed => Err(RecordRefusal::WriteFault),
@@ -153,17 +123,17 @@ fn put_trace<'a, S: Sink>(
     }
 }
 
-// Takes the steps of a run after its header, and writes their entries.
-fn put_entries<'a, S: Sink>(
+// Takes the steps of a run after its header, notes them, and writes their entries.
+fn note_entries<'a, S: Sink>(
     machine: &mut Machine<'a>,
-    tracker: &mut Option<Tracker<'a>>,
+    tracker: &mut Tracker<'a>,
     mut entries: u128,
     out: &mut S,
 ) -> Result<Ended, RecordRefusal>
     requires valid { IsValid machine.old.program machine.old.input }
     requires fresh { machine.old.taken ≡ 0 }
     requires counted { entries ≡ length (header_of machine.old.input) }
-    requires noted { IsNoted tracker.old machine.old }
+    requires noted { HasNoted tracker.old machine.old }
     ensures trace { (start : SinkState) → AppendsAll start (S.state out.old) (lines_of (header_of machine.old.input)) →
         PutsTrace machine.old.program machine.old.input start (S.state out.new) result }
     ensures ended { OnOk result (HasEnded machine.old machine.new tracker.old tracker.new) }
@@ -175,7 +145,7 @@ fn put_entries<'a, S: Sink>(
     let program = machine.checked().program();
     let _most = longest(program);
     'steps: loop {
-        let event = match take_step(machine, tracker) {
+        let event = match tracker.advance(machine) {
             Ok(event) => event,
             Err(_) => return Err(RecordRefusal::NoMemory),
         };

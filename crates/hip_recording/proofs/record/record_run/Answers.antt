@@ -1,8 +1,5 @@
-use Rattle.std.proofs.Common.{length, sym, ap, ◌∙◌, subst}
-use Rattle.hip_io.specs.Sinks.{AppendsAll, SinkState}
-use Rattle.hip_run_traces.specs.Traces.{header_of}
-use Rattle.hip_trace.specs.Texts.{lines_of}
-use Rattle.hip_recording.proofs.TraceTexts.{header_failed, ran_out, stopped_first}
+use Rattle.std.proofs.Common.{subst}
+use Rattle.hip_recording.proofs.TraceTexts.{ran_out, stopped_first}
 use Rattle.hip_recording.specs.Recording.{Records}
 use Rattle.hip_recording.proofs.record.record_run.Goals as goal
 
@@ -10,13 +7,7 @@ pub returns-in-Err-clause-records : goal.returns-in-Err-clause-records
 returns-in-Err-clause-records g c =
     ran_out (g.S.Sink.state c.out_of_memory.new.out) c.out_of_memory.result (stopped_first c.args.checked.now c.args.input.now (g.S.Sink.state c.args.out.now)) c.out_of_memory.ensures
 
-pub record_steps-requires-clause-counted : goal.record_steps-requires-clause-counted
-record_steps-requires-clause-counted g c = c.in-Ok-put_header.ensures.count ∙ ap (λ m. length (header_of m.input)) (sym c.in-Ok.ensures)
-
-pub returns-in-Ok-put_header-clause-records : goal.returns-in-Ok-put_header-clause-records
-returns-in-Ok-put_header-clause-records g c =
-    (subst (λ m. (start : SinkState) → AppendsAll start (g.S.Sink.state c.put_header.new.out) (lines_of (header_of m.input)) → Records m.program m.input start (g.S.Sink.state c.record_steps.new.out) c.record_steps.result) c.in-Ok.ensures c.record_steps.ensures.records)
-    (g.S.Sink.state c.args.out.now) c.in-Ok-put_header.ensures.wrote
-
 pub returns-clause-records : goal.returns-clause-records
-returns-clause-records g c = header_failed c.args.checked.now c.args.input.now (g.S.Sink.state c.args.out.now) (g.S.Sink.state c.put_header.new.out) c.in-Err-put_header.ensures.wrote
+returns-clause-records g c =
+    subst (λ m. Records m.program m.input (g.S.Sink.state c.args.out.now) (g.S.Sink.state c.record_whole.new.out) c.record_whole.result) c.in-Ok.ensures
+    c.record_whole.ensures.records

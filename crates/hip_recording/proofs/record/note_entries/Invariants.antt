@@ -3,15 +3,16 @@ use Rattle.hip_io.specs.Sinks.{AppendsAll, SinkState}
 use Rattle.hip_run_traces.specs.Traces.{header_of, trace}
 use Rattle.hip_trace.specs.Texts.{lines_of}
 use Rattle.hip_lockstep.proofs.Going.{IsGoing, steps_ahead}
-use Rattle.hip_recording.specs.Steps.{KeepsNoting}
-use Rattle.hip_recording.proofs.record.put_entries.Given as goal
+use Rattle.hip_report.specs.Tracking.{HasNoted}
+use Rattle.hip_recording.proofs.record.note_entries.Given as goal
 
 abbrev pub invariant-steps : goal.invariant-steps
 invariant-steps g l = record {
   on : IsGoing l.fn.machine.program l.fn.machine.input l.machine;
   counted : l.entries ≡ length (trace l.fn.machine.program l.fn.machine.input l.machine.taken);
   so_far : (start : SinkState) → AppendsAll start (g.S.Sink.state l.fn.out) (lines_of (header_of l.fn.machine.input)) → AppendsAll start (g.S.Sink.state l.out) (lines_of (trace l.fn.machine.program l.fn.machine.input l.machine.taken));
-  noted : KeepsNoting l.fn.tracker l.tracker l.machine;
+  noted : HasNoted l.tracker l.machine;
+  header : l.tracker.header ≡ l.fn.tracker.header;
 }
 
 abbrev pub decreases-steps : goal.decreases-steps

@@ -1,5 +1,5 @@
 use Rattle.hip_recording.proofs.TraceTexts.{has_put, not_delivered, ran_out}
-use Rattle.hip_recording.proofs.record.put_trace.Goals as goal
+use Rattle.hip_recording.proofs.record.put_noted.Goals as goal
 
 pub returns-in-Done-clause-trace : goal.returns-in-Done-clause-trace
 returns-in-Done-clause-trace g c = λ start h. has_put (c.in-Ok.ensures.trace start h) c.in-Done.ensures.nothing

@@ -1,0 +1,32 @@
+use Rattle.std.proofs.Common.{◌+◌, ◌<◌, ◌^◌, length, sym, ap, ◌∙◌, subst, arith}
+use Rattle.hip_runs.specs.declared.input.Input.{Input}
+use Rattle.hip_run_traces.specs.Traces.{header_of}
+use Rattle.hip_io.specs.Sinks.{AppendsAll, AppendsPrefix}
+use Rattle.hip_trace.specs.Texts.{lines_of}
+use Rattle.hip_sound.specs.Sound.{IsSound}
+use Rattle.hip_recording.proofs.TraceTexts.{header_failed}
+use Rattle.hip_recording.proofs.trace.put_trace.Goals as goal
+
+pub put_header-requires : goal.put_header-requires
+put_header-requires g c =
+    let valid = c.input.ensures.valid in
+    let sound = subst (λ p. IsSound p) c.checked.ensures c.program-program.ensures.sound in
+    let high = valid.base.high in
+    let image = valid.image in
+    let region = sound.sizes.region in
+    let within : c.args.machine.now.input.base + length c.args.machine.now.input.image < 2 ^ 64 = omega (arith, high, image, region) in
+    subst (λ (i : Input). i.base + length i.image < 2 ^ 64) (sym c.input.ensures.is) within
+
+pub put_steps-requires-clause-counted : goal.put_steps-requires-clause-counted
+put_steps-requires-clause-counted g c = c.in-Ok.ensures.count ∙ ap (λ (i : Input). length (header_of i)) c.input.ensures.is
+
+pub returns-in-Ok-clause-trace : goal.returns-in-Ok-clause-trace
+returns-in-Ok-clause-trace g c =
+    let start = g.S.Sink.state c.args.out.now in
+    c.put_steps.ensures.trace start (subst (λ (i : Input). AppendsAll start (g.S.Sink.state c.put_header.new.out) (lines_of (header_of i))) c.input.ensures.is c.in-Ok.ensures.wrote)
+
+pub returns-in-Err-clause-trace : goal.returns-in-Err-clause-trace
+returns-in-Err-clause-trace g c =
+    let start = g.S.Sink.state c.args.out.now in
+    header_failed c.args.machine.now.program c.args.machine.now.input start (g.S.Sink.state c.put_header.new.out)
+    (subst (λ (i : Input). AppendsPrefix start (g.S.Sink.state c.put_header.new.out) (lines_of (header_of i))) c.input.ensures.is c.in-Err.ensures.wrote)

@@ -4,6 +4,8 @@
 mod going;
 mod here;
 mod machine;
+mod moves;
+mod quick_calls;
 mod quick_steps;
 
 pub use machine::Machine;

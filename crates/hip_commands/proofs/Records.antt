@@ -1,7 +1,7 @@
 -- What a run has recorded, as an answer of `record`.
 use Rattle.std.proofs.Common.{◌≡◌, ℕ, ℤ, true, false, List, ◌++◌, Option, Some, None, is_some, refl, sym, ap, ◌∙◌, subst, inr}
 use Rattle.std.proofs.lemmas.Grind.{flat_map-append}
-use Rattle.hip_answers.specs.Answers.{Finishes, HasAnswered, PutsLine, Sinks, WritesFront}
+use Rattle.hip_answers.specs.Answers.{Finishes, HasAnswered, PutsLine, RunsOut, Sinks, WritesFront}
 use Rattle.hip_answers.specs.Endings.{ending_line, status_of_ending}
 use Rattle.hip_answers.specs.Laws.{cut_out, finished, ran_out_later}
 use Rattle.hip_answers.specs.declared.status.Status.{Status}
@@ -72,16 +72,17 @@ module _ {old new : CabinetState} {name : List ℕ} {base limit : ℕ} {numbers 
       cut_out s (answer_of (lines_of p.trace) whole.0) (row (lines_of p.trace) whole.0 whole.1) (is_carried_out whole.0)
       p.written line
 
-  pub ran_out : HasStoppedRecording P I s.out s.out_new → PutsLine statuses.NoMemory s.notes s.notes_new
-      → HasAnswered (RecordAnswers old new name base limit numbers) true old new s statuses.NoMemory
-  ran_out p line =
+  pub ran_out : (mid : SinkState) (status : Status) → HasStoppedRecording P I s.out mid
+      → RunsOut (record s { out = mid }) status
+      → HasAnswered (RecordAnswers old new name base limit numbers) true old new s status
+  ran_out mid status p ran =
       let text = lines_of (p.front ++ p.missing) in
       let whole = text_of P I (p.front ++ p.missing) p.is_trace in
-      let front : WritesFront s (answer_of text whole.0) =
+      let front : WritesFront (record s { out_new = mid }) (answer_of text whole.0) =
       record {
         front = lines_of p.front;
         missing = lines_of p.missing;
         parts = flat_map-append line_of p.front p.missing;
         written = p.written;
       } in
-      ran_out_later s met (answer_of text whole.0, row text whole.0 whole.1, front) line
+      ran_out_later s (answer_of text whole.0) mid status met (row text whole.0 whole.1) (is_carried_out whole.0) front ran

@@ -1,6 +1,6 @@
 -- What a run has printed, as an answer of `run`.
 use Rattle.std.proofs.Common.{◌≡◌, ℕ, ℤ, true, false, List, ◌++◌, refl, subst, inr}
-use Rattle.hip_answers.specs.Answers.{Answer, CarriedOut, Finishes, HasAnswered, PutsLine, Sinks, WritesFront, outcome_of}
+use Rattle.hip_answers.specs.Answers.{Answer, CarriedOut, Finishes, HasAnswered, PutsLine, RunsOut, Sinks, WritesFront, outcome_of}
 use Rattle.hip_answers.specs.Endings.{ending_line, status_of_ending}
 use Rattle.hip_answers.specs.Laws.{cut_out, finished, ran_out_later}
 use Rattle.hip_answers.specs.declared.status.Status.{Status}
@@ -58,10 +58,11 @@ module _ {old new : CabinetState} {name : List ℕ} {limit : ℕ} {numbers : Lis
   was_cut p line =
       cut_out s (answer_of p.text p.ending) (row p.text p.ending p.printed) (is_carried_out p.ending) p.written line
 
-  pub ran_out : HasStopped P I s.out s.out_new → PutsLine statuses.NoMemory s.notes s.notes_new
-      → HasAnswered (RunAnswers old new name limit numbers) true old new s statuses.NoMemory
-  ran_out p line =
+  pub ran_out : (mid : SinkState) (status : Status) → HasStopped P I s.out mid → RunsOut (record s { out = mid }) status
+      → HasAnswered (RunAnswers old new name limit numbers) true old new s status
+  ran_out mid status p ran =
       let text = p.front ++ p.missing in
-      let front : WritesFront s (answer_of text p.ending) =
+      let front : WritesFront (record s { out_new = mid }) (answer_of text p.ending) =
       record { front = p.front; missing = p.missing; parts = refl; written = p.written } in
-      ran_out_later s met (answer_of text p.ending, row text p.ending p.printed, front) line
+      ran_out_later s (answer_of text p.ending) mid status met (row text p.ending p.printed) (is_carried_out p.ending)
+      front ran

@@ -1,11 +1,13 @@
 //! `record`: the trace of a program's run.
 
-ghost use Rattle.hip_answers.specs.Answers.{HasAnswered, sinks};
+ghost use Rattle.hip_answers.specs.Answers.{HasAnswered, IsDelivered, sinks};
 ghost use Rattle.hip_commands.specs.Record.{RecordAnswers};
 ghost use Rattle.hip_globals.specs.Addresses.{IsBase};
-ghost use Rattle.std.specs.Prelude.{◌≤◌, true, length};
+ghost use Rattle.std.specs.Prelude.{◌≡◌, ◌≤◌, true, length};
 
-use hip_answers::{Status, finish, put_ending, refuse, status_of_ending, status_of_failure};
+use hip_answers::{
+    Status, finish, put_ending, refuse, run_out, status_of_ending, status_of_failure,
+};
 use hip_io::{Cabinet, Sink};
 use hip_loading::load_program;
 use hip_recording::{RecordRefusal, write_trace};
@@ -28,9 +30,11 @@ pub fn record_file<C: Cabinet, S: Sink, N: Sink>(
     requires base { IsBase base }
     requires limit { limit ≤ MOST_TURNS }
     requires numbers { length numbers ≤ MOST_NUMBERS }
-    ensures { HasAnswered (RecordAnswers (C.state cabinet.old) (C.state cabinet.new) program.now base limit numbers)
+    ensures answered { HasAnswered
+        (RecordAnswers (C.state cabinet.old) (C.state cabinet.new) program.now base limit numbers)
         true (C.state cabinet.old) (C.state cabinet.new)
         (sinks (S.state out.old) (S.state out.new) (N.state notes.old) (N.state notes.new)) result }
+    ensures delivered { S.held out.old ≡ 0 → IsDelivered result (S.held out.new) }
 {
     let checked = match load_program(alloc, cabinet, program) {
         Ok(checked) => checked,
@@ -46,6 +50,6 @@ pub fn record_file<C: Cabinet, S: Sink, N: Sink>(
             finish(notes, tried, status_of_ending(ended.ending))
         }
         Err(RecordRefusal::WriteFault) => refuse(notes, Status::WriteFault),
-        Err(RecordRefusal::NoMemory) => refuse(notes, Status::NoMemory),
+        Err(RecordRefusal::NoMemory) => run_out(out, notes),
     }
 }

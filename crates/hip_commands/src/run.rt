@@ -1,10 +1,12 @@
 //! `run`: what a program prints.
 
-ghost use Rattle.std.specs.Prelude.{◌≤◌, true, length};
-ghost use Rattle.hip_answers.specs.Answers.{HasAnswered, sinks};
+ghost use Rattle.std.specs.Prelude.{◌≡◌, ◌≤◌, true, length};
+ghost use Rattle.hip_answers.specs.Answers.{HasAnswered, IsDelivered, sinks};
 ghost use Rattle.hip_commands.specs.Run.{RunAnswers};
 
-use hip_answers::{Status, finish, put_ending, refuse, status_of_ending, status_of_failure};
+use hip_answers::{
+    Status, finish, put_ending, refuse, run_out, status_of_ending, status_of_failure,
+};
 use hip_io::{Cabinet, Sink};
 use hip_loading::load_program;
 use hip_recording::{RecordRefusal, print_run};
@@ -25,9 +27,11 @@ pub fn run_file<C: Cabinet, S: Sink, N: Sink>(
 ) -> Status
     requires limit { limit ≤ MOST_TURNS }
     requires numbers { length numbers ≤ MOST_NUMBERS }
-    ensures { HasAnswered (RunAnswers (C.state cabinet.old) (C.state cabinet.new) program.now limit numbers) true
+    ensures answered { HasAnswered
+        (RunAnswers (C.state cabinet.old) (C.state cabinet.new) program.now limit numbers) true
         (C.state cabinet.old) (C.state cabinet.new)
         (sinks (S.state out.old) (S.state out.new) (N.state notes.old) (N.state notes.new)) result }
+    ensures delivered { S.held out.old ≡ 0 → IsDelivered result (S.held out.new) }
 {
     let checked = match load_program(alloc, cabinet, program) {
         Ok(checked) => checked,
@@ -43,6 +47,6 @@ pub fn run_file<C: Cabinet, S: Sink, N: Sink>(
             finish(notes, tried, status_of_ending(ending))
         }
         Err(RecordRefusal::WriteFault) => refuse(notes, Status::WriteFault),
-        Err(RecordRefusal::NoMemory) => refuse(notes, Status::NoMemory),
+        Err(RecordRefusal::NoMemory) => run_out(out, notes),
     }
 }

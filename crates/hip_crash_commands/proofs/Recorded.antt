@@ -1,7 +1,7 @@
 -- What a run has recorded, as an answer.
 use Rattle.std.proofs.Common.{◌≡◌, true, false, List, ◌++◌, ℕ, Option, Some, None, is_some, refl, sym, ap, ◌∙◌, subst}
 use Rattle.std.proofs.lemmas.Grind.{flat_map-append}
-use Rattle.hip_answers.specs.Answers.{Answer, CarriedOut, Finishes, PutsLine, Sinks, WritesFront, outcome_of}
+use Rattle.hip_answers.specs.Answers.{Answer, CarriedOut, Finishes, PutsLine, RunsOut, Sinks, WritesFront, outcome_of}
 use Rattle.hip_answers.specs.Endings.{ending_line, status_of_ending}
 use Rattle.hip_answers.specs.Laws.{cut_out, finished, ran_out_later}
 use Rattle.hip_answers.specs.declared.status.Status.{Status}
@@ -63,16 +63,16 @@ module _ (P : Program) (I : Input) (s : Sinks) where
       cut_out s (answer_of (lines_of p.trace) whole.0) (row (lines_of p.trace) whole.0 whole.1) (is_carried_out whole.0)
       p.written line
 
-  pub ran_out : HasStoppedRecording P I s.out s.out_new → PutsLine statuses.NoMemory s.notes s.notes_new
-      → AnswersOnRun (GivesTrace P I) true s statuses.NoMemory
-  ran_out p line = λ old new met.
+  pub ran_out : (mid : SinkState) (status : Status) → HasStoppedRecording P I s.out mid
+      → RunsOut (record s { out = mid }) status → AnswersOnRun (GivesTrace P I) true s status
+  ran_out mid status p ran = λ old new met.
       let text = lines_of (p.front ++ p.missing) in
       let whole = text_of (p.front ++ p.missing) p.is_trace in
-      let front : WritesFront s (answer_of text whole.0) =
+      let front : WritesFront (record s { out_new = mid }) (answer_of text whole.0) =
       record {
         front = lines_of p.front;
         missing = lines_of p.missing;
         parts = flat_map-append line_of p.front p.missing;
         written = p.written;
       } in
-      ran_out_later s met (answer_of text whole.0, row text whole.0 whole.1, front) line
+      ran_out_later s (answer_of text whole.0) mid status met (row text whole.0 whole.1) (is_carried_out whole.0) front ran

@@ -1,5 +1,5 @@
-ghost use Rattle.std.specs.Prelude.{true};
-ghost use Rattle.hip_answers.specs.Answers.{HasAnswered, sinks};
+ghost use Rattle.std.specs.Prelude.{◌≡◌, true};
+ghost use Rattle.hip_answers.specs.Answers.{HasAnswered, IsDelivered, sinks};
 ghost use Rattle.hip_crash_commands.specs.Crash.{CrashAnswers, CrashTexts};
 ghost use Rattle.hip_crash_commands.specs.Images.{HasEntries};
 ghost use Rattle.hip_runs.specs.Validity.{IsValid};
@@ -29,10 +29,11 @@ pub fn crash_file<C: Cabinet, S: Sink, N: Sink>(
     out: &mut S,
     notes: &mut N,
 ) -> Status
-    ensures { HasAnswered
+    ensures answered { HasAnswered
         (CrashAnswers (C.state cabinet.old) (C.state cabinet.new) program.now trace.now entry picks.now) true
         (C.state cabinet.old) (C.state cabinet.new)
         (sinks (S.state out.old) (S.state out.new) (N.state notes.old) (N.state notes.new)) result }
+    ensures delivered { S.held out.old ≡ 0 → IsDelivered result (S.held out.new) }
 {
     let loaded = match load_run(alloc, program, trace, cabinet, notes) {
         Ok(loaded) => loaded,
@@ -64,8 +65,9 @@ fn crash_run<S: Sink, N: Sink>(
 ) -> Status
     requires valid { IsValid checked.now input }
     requires counted { HasEntries checked.now input entries }
-    ensures { (found : Findings) → AnswersOnRun (CrashTexts entry picks.now checked.now input found) true
+    ensures answered { (found : Findings) → AnswersOnRun (CrashTexts entry picks.now checked.now input found) true
         (sinks (S.state out.old) (S.state out.new) (N.state notes.old) (N.state notes.new)) result }
+    ensures delivered { S.held out.old ≡ 0 → IsDelivered result (S.held out.new) }
 {
     let image = match image_at(alloc, checked, &input, entries, entry, picks) {
         Ok(image) => image,

@@ -1,7 +1,7 @@
 //! `demo`: what is shown of a generated program.
 
-ghost use Rattle.std.specs.Prelude.{◌<◌, ◌≤◌, false};
-ghost use Rattle.hip_answers.specs.Answers.{HasAnswered, sinks};
+ghost use Rattle.std.specs.Prelude.{◌≡◌, ◌<◌, ◌≤◌, false};
+ghost use Rattle.hip_answers.specs.Answers.{HasAnswered, IsDelivered, sinks};
 ghost use Rattle.hip_demo.specs.Demo.{DemoAnswers};
 ghost use Rattle.hip_io.specs.Cabinets.{CabinetState};
 
@@ -25,8 +25,9 @@ pub fn demo<S: Sink, N: Sink>(
     requires seed { seed < SEED_END }
     requires some { 1 ≤ size }
     requires small { size ≤ LARGEST_SIZE }
-    ensures { (files : CabinetState) → HasAnswered (DemoAnswers seed size files files) false files files
+    ensures answered { (files : CabinetState) → HasAnswered (DemoAnswers seed size files files) false files files
         (sinks (S.state out.old) (S.state out.new) (N.state notes.old) (N.state notes.new)) result }
+    ensures delivered { S.held out.old ≡ 0 → IsDelivered result (S.held out.new) }
 {
     generated_programs_are_sound();
     match show_generated(alloc, seed, size) {

@@ -1,6 +1,6 @@
 ghost use Rattle.std.specs.List.{All};
 ghost use Rattle.std.specs.Prelude.{◌≡◌, ℕ, false, List, Option, length};
-ghost use Rattle.hip_answers.specs.Answers.{HasAnswered, sinks};
+ghost use Rattle.hip_answers.specs.Answers.{HasAnswered, IsDelivered, sinks};
 ghost use Rattle.hip_io.specs.declared.cabinet.NamedFile.{NamedFile};
 ghost use Rattle.hip_many_commands.specs.Asking.{AreAsked};
 ghost use Rattle.hip_many_commands.specs.Many.{HasRepairedMany, ManyAnswers};
@@ -14,14 +14,14 @@ use crate::loading::{AllAsked, ask_all};
 use crate::notes::put_notes;
 use crate::refusal::status_of_traces;
 use hip_answers::{Status, finish, refuse, status_of_failure};
-use hip_io::{Cabinet, Sink};
+use hip_io::{Cabinet, Put, Sink};
 use hip_loading::load_program;
 use hip_repair_answers::plans_cure;
 use hip_repairing::{ManyRepair, repair_for_all};
 use hip_repairs::direct_stores_are_quiet;
+use hip_report_lines::put_program;
 use hip_sound::Checked;
 use hip_types::{NoMemory, Text};
-use hip_write::write;
 use std::alloc::Global;
 
 /// Repairs the program of a file for the runs whose traces other files have, once for all of them. All memory that it
@@ -34,9 +34,11 @@ pub fn many_file<C: Cabinet, S: Sink, N: Sink>(
     out: &mut S,
     notes: &mut N,
 ) -> Status
-    ensures { HasAnswered (ManyAnswers (C.state cabinet.old) (C.state cabinet.new) program.now traces.now) false
+    ensures answered { HasAnswered
+        (ManyAnswers (C.state cabinet.old) (C.state cabinet.new) program.now traces.now) false
         (C.state cabinet.old) (C.state cabinet.new)
         (sinks (S.state out.old) (S.state out.new) (N.state notes.old) (N.state notes.new)) result }
+    ensures delivered { S.held out.old ≡ 0 → IsDelivered result (S.held out.new) }
 {
     let checked = match load_program(alloc, cabinet, program) {
         Ok(checked) => checked,
@@ -58,10 +60,11 @@ fn repair_many<S: Sink, N: Sink>(
     out: &mut S,
     notes: &mut N,
 ) -> Status
-    ensures { (files : Option (List NamedFile)) → (names : List (List ℕ)) → (runs : List TracedRun) →
+    ensures answered { (files : Option (List NamedFile)) → (names : List (List ℕ)) → (runs : List TracedRun) →
         AreRunsOf files checked.now names runs → traces ≡ length names → AreAsked checked.now runs asked.now →
         AnswersOnRun (HasRepairedMany checked.now runs) false
         (sinks (S.state out.old) (S.state out.new) (N.state notes.old) (N.state notes.new)) result }
+    ensures delivered { S.held out.old ≡ 0 → IsDelivered result (S.held out.new) }
 {
     plans_cure();
     direct_stores_are_quiet();
@@ -81,17 +84,18 @@ fn put_repair<S: Sink, N: Sink>(
     out: &mut S,
     notes: &mut N,
 ) -> Status
-    ensures { (runs : List TracedRun) → traces ≡ length runs → reports ≡ reports_of runs →
+    ensures answered { (runs : List TracedRun) → traces ≡ length runs → reports ≡ reports_of runs →
         IsRepairForAll checked.now (plans_of checked.now runs) made.now →
         All (λ r. IsCuredBy checked.now r.input made.now.repair.plan (direct checked.now)) runs →
         AnswersOnRun (HasRepairedMany checked.now runs) false
         (sinks (S.state out.old) (S.state out.new) (N.state notes.old) (N.state notes.new)) result }
+    ensures delivered { S.held out.old ≡ 0 → IsDelivered result (S.held out.new) }
 {
-    match write(made.repair.repaired.checked.program(), out) {
-        Ok(()) => {
+    match put_program(out, made.repair.repaired.checked.program()) {
+        Put::Done => {
             let tried = put_notes(notes, checked.program(), traces, reports, made);
             finish(notes, tried, Status::Done)
         }
-        Err(_) => refuse(notes, Status::WriteFault),
+        Put::Failed => refuse(notes, Status::WriteFault),
     }
 }

@@ -1,7 +1,7 @@
 //! `check`: the reports of a run.
 
-ghost use Rattle.std.specs.Prelude.{false};
-ghost use Rattle.hip_answers.specs.Answers.{HasAnswered, sinks};
+ghost use Rattle.std.specs.Prelude.{◌≡◌, false};
+ghost use Rattle.hip_answers.specs.Answers.{HasAnswered, IsDelivered, sinks};
 ghost use Rattle.hip_repair_answers.specs.Answers.{CheckAnswers, HasChecked};
 ghost use Rattle.hip_trace_loading.specs.Runs.{AnswersOnRun};
 
@@ -19,8 +19,9 @@ fn report_findings<S: Sink, N: Sink>(
     out: &mut S,
     notes: &mut N,
 ) -> Status
-    ensures { AnswersOnRun (HasChecked checked.now replayed.now.input replayed.now.findings) false
+    ensures answered { AnswersOnRun (HasChecked checked.now replayed.now.input replayed.now.findings) false
         (sinks (S.state out.old) (S.state out.new) (N.state notes.old) (N.state notes.new)) result }
+    ensures delivered { S.held out.old ≡ 0 → IsDelivered result (S.held out.new) }
 {
     let reports = replayed.findings.reports.as_slice();
     match put_reports(out, checked.program(), reports) {
@@ -42,9 +43,11 @@ pub fn check_file<C: Cabinet, S: Sink, N: Sink>(
     out: &mut S,
     notes: &mut N,
 ) -> Status
-    ensures { HasAnswered (CheckAnswers (C.state cabinet.old) (C.state cabinet.new) program.now trace.now) false
+    ensures answered { HasAnswered
+        (CheckAnswers (C.state cabinet.old) (C.state cabinet.new) program.now trace.now) false
         (C.state cabinet.old) (C.state cabinet.new)
         (sinks (S.state out.old) (S.state out.new) (N.state notes.old) (N.state notes.new)) result }
+    ensures delivered { S.held out.old ≡ 0 → IsDelivered result (S.held out.new) }
 {
     match load_run(alloc, program, trace, cabinet, notes) {
         Ok(loaded) => report_findings(&loaded.checked, &loaded.replayed, out, notes),

@@ -1,7 +1,7 @@
 //! `repair`: the repaired program, for the trace of one of its runs.
 
-ghost use Rattle.std.specs.Prelude.{false};
-ghost use Rattle.hip_answers.specs.Answers.{HasAnswered, sinks};
+ghost use Rattle.std.specs.Prelude.{◌≡◌, false};
+ghost use Rattle.hip_answers.specs.Answers.{HasAnswered, IsDelivered, sinks};
 ghost use Rattle.hip_repair_answers.specs.Answers.{HasRepaired, RepairAnswers};
 ghost use Rattle.hip_repairing.specs.Making.{IsRepairFor};
 ghost use Rattle.hip_runs.specs.Found.Marks.{IsFound};
@@ -9,14 +9,13 @@ ghost use Rattle.hip_runs.specs.Validity.{IsValid};
 ghost use Rattle.hip_trace_loading.specs.Runs.{AnswersOnRun};
 
 use hip_answers::{Status, finish, refuse};
-use hip_io::{Cabinet, Sink};
+use hip_io::{Cabinet, Put, Sink};
 use hip_repair_answers::repairs_cure;
 use hip_repairing::{Repair, repair_for};
-use hip_report_lines::put_repair_counts;
+use hip_report_lines::{put_program, put_repair_counts};
 use hip_sound::Checked;
 use hip_trace_loading::{Replayed, load_run};
 use hip_types::NoMemory;
-use hip_write::write;
 use std::alloc::Global;
 
 /// Writes the repaired program; then the counts go to notes.
@@ -30,19 +29,20 @@ fn put_repair<S: Sink, N: Sink>(
     requires valid { IsValid checked.now replayed.now.input }
     requires found { IsFound checked.now replayed.now.input replayed.now.findings }
     requires repair { IsRepairFor checked.now replayed.now.findings repair.now }
-    ensures { AnswersOnRun (HasRepaired checked.now replayed.now.input replayed.now.findings) false
+    ensures answered { AnswersOnRun (HasRepaired checked.now replayed.now.input replayed.now.findings) false
         (sinks (S.state out.old) (S.state out.new) (N.state notes.old) (N.state notes.new)) result }
+    ensures delivered { S.held out.old ≡ 0 → IsDelivered result (S.held out.new) }
 {
     repairs_cure();
     let _program = checked.program();
-    match write(repair.repaired.checked.program(), out) {
-        Ok(()) => {
+    match put_program(out, repair.repaired.checked.program()) {
+        Put::Done => {
             let reports = replayed.findings.reports.len();
             let clones = repair.repaired.clones.len();
             let tried = put_repair_counts(notes, reports, &repair.plan, clones);
             finish(notes, tried, Status::Done)
         }
-        Err(_) => refuse(notes, Status::WriteFault),
+        Put::Failed => refuse(notes, Status::WriteFault),
     }
 }
 
@@ -56,8 +56,9 @@ fn repair_findings<S: Sink, N: Sink>(
 ) -> Status
     requires valid { IsValid checked.now replayed.now.input }
     requires found { IsFound checked.now replayed.now.input replayed.now.findings }
-    ensures { AnswersOnRun (HasRepaired checked.now replayed.now.input replayed.now.findings) false
+    ensures answered { AnswersOnRun (HasRepaired checked.now replayed.now.input replayed.now.findings) false
         (sinks (S.state out.old) (S.state out.new) (N.state notes.old) (N.state notes.new)) result }
+    ensures delivered { S.held out.old ≡ 0 → IsDelivered result (S.held out.new) }
 {
     match repair_for(alloc, checked, &replayed.findings) {
         Ok(repair) => put_repair(checked, replayed, &repair, out, notes),
@@ -75,9 +76,11 @@ pub fn repair_file<C: Cabinet, S: Sink, N: Sink>(
     out: &mut S,
     notes: &mut N,
 ) -> Status
-    ensures { HasAnswered (RepairAnswers (C.state cabinet.old) (C.state cabinet.new) program.now trace.now) false
+    ensures answered { HasAnswered
+        (RepairAnswers (C.state cabinet.old) (C.state cabinet.new) program.now trace.now) false
         (C.state cabinet.old) (C.state cabinet.new)
         (sinks (S.state out.old) (S.state out.new) (N.state notes.old) (N.state notes.new)) result }
+    ensures delivered { S.held out.old ≡ 0 → IsDelivered result (S.held out.new) }
 {
     match load_run(alloc, program, trace, cabinet, notes) {
         Ok(loaded) => repair_findings(alloc, &loaded.checked, &loaded.replayed, out, notes),

@@ -1,14 +1,14 @@
 //! `rerun`: the trace of the repaired program's run, on the input of a trace of the program's.
 
-ghost use Rattle.std.specs.Prelude.{true};
-ghost use Rattle.hip_answers.specs.Answers.{HasAnswered, sinks};
+ghost use Rattle.std.specs.Prelude.{◌≡◌, true};
+ghost use Rattle.hip_answers.specs.Answers.{HasAnswered, IsDelivered, sinks};
 ghost use Rattle.hip_repair_answers.specs.Answers.{HasRerun, RerunAnswers};
 ghost use Rattle.hip_repairing.specs.Making.{IsRepairFor};
 ghost use Rattle.hip_runs.specs.Found.Marks.{IsFound};
 ghost use Rattle.hip_runs.specs.Validity.{IsValid};
 ghost use Rattle.hip_trace_loading.specs.Runs.{AnswersOnRun};
 
-use hip_answers::{Status, finish, refuse};
+use hip_answers::{Status, finish, refuse, run_out};
 use hip_io::{Cabinet, Sink};
 use hip_recording::{RecordRefusal, record_run};
 use hip_repair_answers::repairs_cure;
@@ -32,8 +32,9 @@ fn run_repair<S: Sink, N: Sink>(
     requires valid { IsValid checked.now replayed.now.input }
     requires found { IsFound checked.now replayed.now.input replayed.now.findings }
     requires repair { IsRepairFor checked.now replayed.now.findings repair.now }
-    ensures { AnswersOnRun (HasRerun checked.now replayed.now.input replayed.now.findings) true
+    ensures answered { AnswersOnRun (HasRerun checked.now replayed.now.input replayed.now.findings) true
         (sinks (S.state out.old) (S.state out.new) (N.state notes.old) (N.state notes.new)) result }
+    ensures delivered { S.held out.old ≡ 0 → IsDelivered result (S.held out.new) }
 {
     repairs_cure();
     let _program = checked.program();
@@ -45,7 +46,7 @@ fn run_repair<S: Sink, N: Sink>(
             finish(notes, tried, Status::Done)
         }
         Err(RecordRefusal::WriteFault) => refuse(notes, Status::WriteFault),
-        Err(RecordRefusal::NoMemory) => refuse(notes, Status::NoMemory),
+        Err(RecordRefusal::NoMemory) => run_out(out, notes),
     }
 }
 
@@ -59,8 +60,9 @@ fn rerun_findings<S: Sink, N: Sink>(
 ) -> Status
     requires valid { IsValid checked.now replayed.now.input }
     requires found { IsFound checked.now replayed.now.input replayed.now.findings }
-    ensures { AnswersOnRun (HasRerun checked.now replayed.now.input replayed.now.findings) true
+    ensures answered { AnswersOnRun (HasRerun checked.now replayed.now.input replayed.now.findings) true
         (sinks (S.state out.old) (S.state out.new) (N.state notes.old) (N.state notes.new)) result }
+    ensures delivered { S.held out.old ≡ 0 → IsDelivered result (S.held out.new) }
 {
     match repair_for(alloc, checked, &replayed.findings) {
         Ok(repair) => run_repair(alloc, checked, replayed, &repair, out, notes),
@@ -78,9 +80,10 @@ pub fn rerun_file<C: Cabinet, S: Sink, N: Sink>(
     out: &mut S,
     notes: &mut N,
 ) -> Status
-    ensures { HasAnswered (RerunAnswers (C.state cabinet.old) (C.state cabinet.new) program.now trace.now) true
+    ensures answered { HasAnswered (RerunAnswers (C.state cabinet.old) (C.state cabinet.new) program.now trace.now) true
         (C.state cabinet.old) (C.state cabinet.new)
         (sinks (S.state out.old) (S.state out.new) (N.state notes.old) (N.state notes.new)) result }
+    ensures delivered { S.held out.old ≡ 0 → IsDelivered result (S.held out.new) }
 {
     match load_run(alloc, program, trace, cabinet, notes) {
         Ok(loaded) => rerun_findings(alloc, &loaded.checked, &loaded.replayed, out, notes),

@@ -1,7 +1,7 @@
 //! `thin`: the repaired program, for the trace of one of its runs, whose clones do not flush the low stores.
 
-ghost use Rattle.std.specs.Prelude.{false};
-ghost use Rattle.hip_answers.specs.Answers.{HasAnswered, sinks};
+ghost use Rattle.std.specs.Prelude.{◌≡◌, false};
+ghost use Rattle.hip_answers.specs.Answers.{HasAnswered, IsDelivered, sinks};
 ghost use Rattle.hip_io.specs.Sinks.{Writes};
 ghost use Rattle.hip_runs.specs.Found.Marks.{IsFound};
 ghost use Rattle.hip_runs.specs.Validity.{IsValid};
@@ -14,11 +14,10 @@ use hip_answers::{Status, finish, refuse};
 use hip_io::{Cabinet, Put, Sink};
 use hip_repairing::{Thinned, thin_for};
 use hip_repairs::Plan;
-use hip_report_lines::{put_count, put_repair_counts};
+use hip_report_lines::{put_count, put_program, put_repair_counts};
 use hip_sound::Checked;
 use hip_trace_loading::{Replayed, load_run};
 use hip_types::NoMemory;
-use hip_write::write;
 use std::alloc::Global;
 
 /// What `thin` writes to the notes.
@@ -47,13 +46,14 @@ fn put_thinned<S: Sink, N: Sink>(
     requires valid { IsValid checked.now replayed.now.input }
     requires found { IsFound checked.now replayed.now.input replayed.now.findings }
     requires thinned { IsThinnedFor checked.now replayed.now.findings thinned.now }
-    ensures { AnswersOnRun (HasThinned checked.now replayed.now.input replayed.now.findings) false
+    ensures answered { AnswersOnRun (HasThinned checked.now replayed.now.input replayed.now.findings) false
         (sinks (S.state out.old) (S.state out.new) (N.state notes.old) (N.state notes.new)) result }
+    ensures delivered { S.held out.old ≡ 0 → IsDelivered result (S.held out.new) }
 {
     thins_cure();
     let _program = checked.program();
-    match write(thinned.repair.repaired.checked.program(), out) {
-        Ok(()) => {
+    match put_program(out, thinned.repair.repaired.checked.program()) {
+        Put::Done => {
             let reports = replayed.findings.reports.len();
             let clones = thinned.repair.repaired.clones.len();
             let tried = put_thin_counts(
@@ -65,7 +65,7 @@ fn put_thinned<S: Sink, N: Sink>(
             );
             finish(notes, tried, Status::Done)
         }
-        Err(_) => refuse(notes, Status::WriteFault),
+        Put::Failed => refuse(notes, Status::WriteFault),
     }
 }
 
@@ -79,8 +79,9 @@ fn thin_findings<S: Sink, N: Sink>(
 ) -> Status
     requires valid { IsValid checked.now replayed.now.input }
     requires found { IsFound checked.now replayed.now.input replayed.now.findings }
-    ensures { AnswersOnRun (HasThinned checked.now replayed.now.input replayed.now.findings) false
+    ensures answered { AnswersOnRun (HasThinned checked.now replayed.now.input replayed.now.findings) false
         (sinks (S.state out.old) (S.state out.new) (N.state notes.old) (N.state notes.new)) result }
+    ensures delivered { S.held out.old ≡ 0 → IsDelivered result (S.held out.new) }
 {
     match thin_for(alloc, checked, &replayed.findings) {
         Ok(thinned) => put_thinned(checked, replayed, &thinned, out, notes),
@@ -98,9 +99,10 @@ pub fn thin_file<C: Cabinet, S: Sink, N: Sink>(
     out: &mut S,
     notes: &mut N,
 ) -> Status
-    ensures { HasAnswered (ThinAnswers (C.state cabinet.old) (C.state cabinet.new) program.now trace.now) false
+    ensures answered { HasAnswered (ThinAnswers (C.state cabinet.old) (C.state cabinet.new) program.now trace.now) false
         (C.state cabinet.old) (C.state cabinet.new)
         (sinks (S.state out.old) (S.state out.new) (N.state notes.old) (N.state notes.new)) result }
+    ensures delivered { S.held out.old ≡ 0 → IsDelivered result (S.held out.new) }
 {
     match load_run(alloc, program, trace, cabinet, notes) {
         Ok(loaded) => thin_findings(alloc, &loaded.checked, &loaded.replayed, out, notes),

@@ -1,7 +1,7 @@
 //! The top call.
 
-ghost use Rattle.std.specs.Prelude.{Some, map, string_bytes};
-ghost use Rattle.hip_answers.specs.Answers.{HasAnswered, sinks};
+ghost use Rattle.std.specs.Prelude.{◌≡◌, Some, map, string_bytes};
+ghost use Rattle.hip_answers.specs.Answers.{HasAnswered, IsDelivered, sinks};
 ghost use Rattle.hip_tool.specs.Call.{AnswersTo, IsFit, begins};
 ghost use Rattle.hip_words.specs.Order.{order};
 
@@ -28,9 +28,11 @@ pub fn hippo<C: Cabinet, S: Sink, N: Sink>(
     out: &mut S,
     notes: &mut N,
 ) -> Status
-    ensures { HasAnswered (AnswersTo (order (map string_bytes words.now)) (C.state cabinet.old) (C.state cabinet.new))
+    ensures answered { HasAnswered
+        (AnswersTo (order (map string_bytes words.now)) (C.state cabinet.old) (C.state cabinet.new))
         (begins (order (map string_bytes words.now))) (C.state cabinet.old) (C.state cabinet.new)
         (sinks (S.state out.old) (S.state out.new) (N.state notes.old) (N.state notes.new)) result }
+    ensures delivered { S.held out.old ≡ 0 → IsDelivered result (S.held out.new) }
 {
     runs_are_valid();
     records_are_valid();
@@ -50,9 +52,11 @@ fn carry_out<C: Cabinet, S: Sink, N: Sink>(
     notes: &mut N,
 ) -> Status
     requires { IsFit order }
-    ensures { HasAnswered (AnswersTo (Some order) (C.state cabinet.old) (C.state cabinet.new)) (begins (Some order))
+    ensures answered { HasAnswered
+        (AnswersTo (Some order) (C.state cabinet.old) (C.state cabinet.new)) (begins (Some order))
         (C.state cabinet.old) (C.state cabinet.new)
         (sinks (S.state out.old) (S.state out.new) (N.state notes.old) (N.state notes.new)) result }
+    ensures delivered { S.held out.old ≡ 0 → IsDelivered result (S.held out.new) }
 {
     match order {
         Order::Run {

@@ -2,7 +2,6 @@
 #![tactic(auto)]
 
 use hip_files::{FileCabinet, Stream};
-use hip_io::{Put, Sink};
 use hip_tool::{Status, hippo};
 use std::io::{ErrorKind, IsTerminal};
 use std::process::ExitCode;
@@ -39,10 +38,5 @@ fn main(rt: HostRuntime) -> ExitCode {
         &mut out,
         &mut notes,
     );
-    // Each command delivers its text. Where one did not, this does, so that no text is lost.
-    let status = match out.deliver() {
-        Put::Done => status,
-        Put::Failed => Status::WriteFault,
-    };
     ExitCode::from(status.code())
 }

@@ -1,12 +1,11 @@
 -- Where the files are known, a command has one answer, unless a read fails.
-use Rattle.std.proofs.Common.{◌≡◌, ◌≢◌, ◌⊎◌, ℕ, true, false, List, Option, Some, inl, inr, refl, sym, ap, ◌∙◌, subst}
+use Rattle.std.proofs.Common.{◌≡◌, ◌≢◌, ◌⊎◌, ℕ, true, false, List, Option, Some, inl, inr, sym, ap, ◌∙◌, subst}
 use Rattle.std.specs.Prelude.{IfSome}
 use Rattle.hip_answers.specs.Answers.{Answer, refusal}
 use Rattle.hip_answers.specs.Programs as absent
 use Rattle.hip_answers.specs.Same.{IsSameAnswer}
 use Rattle.hip_answers.specs.SameLaws.{same_answer, same_refusal}
 use Rattle.hip_answers.specs.Statuses as programs
-use Rattle.hip_answers.specs.declared.status.Status.{Status}
 use Rattle.hip_answers.specs.declared.status.Status.TheVariants as statuses
 use Rattle.hip_io.specs.Cabinets.{CabinetState}
 use Rattle.hip_io.specs.declared.cabinet.NamedFile.{NamedFile}
@@ -16,7 +15,7 @@ use Rattle.hip_program_files.specs.Laws.{LoadsOne}
 use Rattle.hip_program_files.specs.Loading.{HasNoProgram, IsProgramOf}
 use Rattle.hip_program_files.specs.declared.refusal.LoadRefusal.{LoadRefusal}
 use Rattle.hip_program_files.specs.declared.refusal.LoadRefusal.TheVariants as loads
-use Rattle.hip_answers.specs.RunAnswers.{HasRunOf, TraceAnswers}
+use Rattle.hip_answers.specs.RunAnswers.{TraceAnswers}
 use Rattle.hip_answers.specs.RunLaws.{FaultsHideNone, GivesOne}
 use Rattle.hip_answers.specs.TraceFiles.{FailsToRead, HasNoTrace, IsTraceFile, ShowsNoMisfit, status_of_refusal}
 use Rattle.hip_answers.specs.TraceLaws.{never_both, same_trace, untraced_once}

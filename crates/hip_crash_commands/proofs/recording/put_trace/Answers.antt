@@ -2,20 +2,20 @@ use Rattle.hip_answers.specs.Answers.{sinks}
 use Rattle.hip_crash_commands.proofs.Recorded.{has_recorded, ran_out, was_cut}
 use Rattle.hip_crash_commands.proofs.recording.put_trace.Goals as goal
 
-pub returns-in-Ok : goal.returns-in-Ok
-returns-in-Ok g c =
+pub returns-in-Ok-clause-answered : goal.returns-in-Ok-clause-answered
+returns-in-Ok-clause-answered g c =
     has_recorded c.args.checked.now c.args.input.now _ c.in-Ok.recorded c.status_of_ending.result c.put_ending-tried.result
     (g.N.Sink.state c.put_ending-tried.new.out) c.finish.result c.in-Ok.ensures.records c.status_of_ending.ensures
     c.put_ending-tried.ensures c.finish.ensures
 
-pub returns-in-Err-WriteFault : goal.returns-in-Err-WriteFault
-returns-in-Err-WriteFault g c =
+pub returns-in-Err-WriteFault-clause-answered : goal.returns-in-Err-WriteFault-clause-answered
+returns-in-Err-WriteFault-clause-answered g c =
     let s = sinks (g.S.Sink.state c.args.out.now) (g.S.Sink.state c.record_run.new.out) (g.N.Sink.state c.args.notes.now) (g.N.Sink.state c.refuse.new.notes) in
     rw c.refuse.ensures.status (was_cut c.args.checked.now c.args.input.now s
     (rw c.in-Err-WriteFault.field-0-is at c.in-Err-WriteFault.ensures.records) c.refuse.ensures.line)
 
-pub returns-in-Err-NoMemory : goal.returns-in-Err-NoMemory
-returns-in-Err-NoMemory g c =
-    let s = sinks (g.S.Sink.state c.args.out.now) (g.S.Sink.state c.record_run.new.out) (g.N.Sink.state c.args.notes.now) (g.N.Sink.state c.refuse-in-Err-NoMemory.new.notes) in
-    rw c.refuse-in-Err-NoMemory.ensures.status (ran_out c.args.checked.now c.args.input.now s
-    (rw c.in-Err-NoMemory.field-0-is at c.in-Err-NoMemory.ensures.records) c.refuse-in-Err-NoMemory.ensures.line)
+pub returns-in-Err-NoMemory-clause-answered : goal.returns-in-Err-NoMemory-clause-answered
+returns-in-Err-NoMemory-clause-answered g c =
+    let s = sinks (g.S.Sink.state c.args.out.now) (g.S.Sink.state c.run_out.new.out) (g.N.Sink.state c.args.notes.now) (g.N.Sink.state c.run_out.new.notes) in
+    ran_out c.args.checked.now c.args.input.now s (g.S.Sink.state c.record_run.new.out) c.run_out.result
+    (rw c.in-Err-NoMemory.field-0-is at c.in-Err-NoMemory.ensures.records) c.run_out.ensures.tried

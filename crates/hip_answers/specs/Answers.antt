@@ -146,8 +146,8 @@ abbrev pub status_of_delivery : Put → Status
 status_of_delivery puts.Done = NoMemory
 status_of_delivery puts.Failed = WriteFault
 
--- Memory ran out while the text for out was being made: the delivery of what was put so far was tried, and then the line
--- of the status.
+-- Memory ran out while the text for out was being made: the delivery of what was put so far was tried, and then the
+-- line of the status.
 pub record RunsOut (s : Sinks) (status : Status) : Type 0 where
   pub tried : Put
   pub out : HasPut s.out s.out_new [] tried

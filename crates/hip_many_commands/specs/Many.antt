@@ -64,7 +64,8 @@ pub record IsUnreadIn (old new : CabinetState) (program_name : List ℕ) (names 
 
 -- Out has the canonical text of the program that is repaired by the union of the runs' plans; its direct stores get no
 -- flush by cloning. Notes has the numbers of traces, reports, flushes, fences, hoisted calls and clones, and for each
--- site of the union how many plans have it. The repaired program does no harm, is clean on the input of each run and has its hoisted calls covered.
+-- site of the union how many plans have it. The repaired program does no harm, is clean on the input of each run and
+-- has its hoisted calls covered.
 pub record HasRepairedMany (P : Program) (runs : List TracedRun) (answer : Answer) : Type 0 where
   pub plan : Plan
   pub union : IsUnion (plans_of P runs) plan

@@ -68,14 +68,15 @@ pub record IsRepairOf (P Q : Program) (I : Input) : Type 0 where
   -- Q is a sound program, and its canonical text reads as it.
   pub sound : IsSound Q
   pub reads : Reads (show Q) Q
-  -- On every valid input Q prints the same and reaches the same memory at corresponding steps, no crash image is new there,
-  -- and no check is worse. Its run ends where the run of P ends, with the same ending.
+  -- On every valid input Q prints the same and reaches the same memory at corresponding steps, no crash image is new
+  -- there, and no check is worse. Its run ends where the run of P ends, with the same ending.
   pub harmless : DoesNoHarm P Q
   pub endings : (J : Input) → IsValid P J → EndAlike P Q J
   -- On this input each byte is durable where it is checked, and survives a crash there.
   pub clean : IsClean Q I
   pub survives : ChecksSurvive Q I
-  -- On every valid input each store under a hoisted call is durable after the fence that follows the call, and survives.
+  -- On every valid input each store under a hoisted call is durable after the fence that follows the call, and
+  -- survives.
   pub covered : IsCovered P Q
   pub calls : CoveredSurvive P Q
   -- On every valid input, through any number of crashes, Q behaves as P may.
@@ -92,9 +93,9 @@ pub record WritesRepair (P : Program) (inputs : List Input) (answer : Answer) : 
 
 -- ---- the headline
 
--- Let the cabinet's files be known, let one be the text of a sound program of at most 16,777,216 bytes, let another be the
--- trace of its run on an input, and let nothing fail. Then `repair` ends out of memory, or it writes a repair of the
--- program for that input.
+-- Let the cabinet's files be known, let one be the text of a sound program of at most 16,777,216 bytes, let another
+-- be the trace of its run on an input, and let nothing fail. Then `repair` ends out of memory, or it writes a repair
+-- of the program for that input.
 abbrev pub Headline : Type 0
 Headline =
     (files : List NamedFile) (program trace : List ℕ) (P : Program) (I : Input) (old new : CabinetState) (s : Sinks)

@@ -1,5 +1,5 @@
-//! Tests of runs that are recorded and replayed, by public calls alone: traces, reports, misfits, and the plans for what
-//! runs find.
+//! Tests of runs that are noted, recorded and replayed, by public calls alone: marks, traces, reports, misfits, and the
+//! plans for what runs find.
 #![tactic(auto)]
 
 #[cfg(test)]
@@ -10,6 +10,8 @@ mod log_of_keys;
 mod long_runs;
 #[cfg(test)]
 mod misfits;
+#[cfg(test)]
+mod noted_steps;
 #[cfg(test)]
 mod plans_of_runs;
 #[cfg(test)]

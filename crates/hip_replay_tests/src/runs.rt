@@ -17,7 +17,7 @@ use std::alloc::Global;
 use std::process::Abort;
 
 /// Where the region begins.
-const BASE: u64 = 4_294_967_296;
+pub const BASE: u64 = 4_294_967_296;
 
 /// The program of a text that is sound.
 pub fn checked(rt: &impl Abort, alloc: Global, text: &str) -> Checked {

@@ -12,6 +12,7 @@ mod pointers;
 mod values;
 
 pub use act::step_core;
+pub use branches::edge_at;
 pub use calls::lengthen;
 pub use core_parts::{Activation, Core};
 pub use pointers::pointer_here;

@@ -1,7 +1,7 @@
 ghost use Rattle.hip_grammar.specs.Show.{show};
 ghost use Rattle.hip_io.specs.Sinks.{Delivers};
 
-use hip_io::{Put, Sink, deliver_after};
+use hip_io::{Put, Sink};
 use hip_tree::Program;
 use hip_write::write;
 
@@ -10,8 +10,7 @@ pub fn put_program<S: Sink>(out: &mut S, program: &Program) -> Put
     ensures { Delivers Put.Done result (S.state out.old) (S.state out.new) (S.held out.new) (show program.now) }
 {
     match write(program, out) {
-        // The clause of `write` does not say that nothing is held back.
-        Ok(()) => deliver_after(Put::Done, out),
+        Ok(()) => Put::Done,
         Err(_) => Put::Failed,
     }
 }

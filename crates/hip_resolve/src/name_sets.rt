@@ -2,16 +2,33 @@ ghost use Rattle.std.specs.Prelude.{◌≡◌, map, IfOk, OnOk};
 ghost use Rattle.std.specs.List.{flat_map};
 ghost use Rattle.std.specs.Str.{bytes_eq};
 ghost use Rattle.hip_types.specs.Distinct.{met};
+ghost use Rattle.hip_globals.specs.Addresses.{IsBase};
+ghost use Rattle.hip_globals.specs.AddressesSeen.{address_beside};
+ghost use Rattle.hip_globals.specs.Values.{global_address};
 ghost use Rattle.hip_names.specs.Names.{AllDiffer};
 ghost use Rattle.hip_sound.specs.Numbering.{function_names};
 ghost use Rattle.hip_sound.specs.Paths.{names_of};
 ghost use Rattle.hip_sound.specs.Registers.{assigned_by, block_registers, phi_registers};
 ghost use Rattle.hip_sound.specs.Sound.{IsSound, register_names};
 
+use hip_globals::GlobalAddresses;
 use hip_names::NameSet;
 use hip_tree::{Block, Function, Instr, Param, Phi, Program};
 use hip_types::NoMemory;
 use std::alloc::Global;
+
+/// The addresses of a program's globals by their names, where the region begins at a base.
+pub fn global_addresses(
+    alloc: Global,
+    program: &Program,
+    base: u64,
+) -> Result<GlobalAddresses<'_>, NoMemory>
+    requires base { IsBase base }
+    requires sound { IsSound program.now }
+    ensures { IfOk result (λ addresses. address_beside addresses ≡ global_address program.now.globals base) }
+{
+    GlobalAddresses::new(alloc, program.globals.as_slice(), base)
+}
 
 fn add_functions<'a>(names: &mut NameSet<'a>, functions: &'a [Function]) -> Result<(), NoMemory>
     ensures { OnOk result (names.new ≡ met bytes_eq names.old (function_names functions.now)) }

@@ -13,7 +13,7 @@ ghost use Rattle.hip_resolve.specs.Made.{IsFront};
 ghost use Rattle.hip_resolve.specs.Resolving.{AreWhole, IsResolved};
 ghost use Rattle.hip_scope.specs.Scopes.{IsKnown};
 
-use crate::name_sets::function_names;
+use crate::name_sets::{function_names, global_addresses};
 use crate::program::resolve_function;
 use crate::scopes::{scope_of, sizes, starts};
 use hip_code::{Code, Op};
@@ -33,7 +33,7 @@ pub fn resolve(alloc: Global, checked: &Checked, base: u64) -> Result<Code, NoMe
     ensures { IfOk result (λ code. IsResolved checked.now base code) }
 {
     let program = checked.program();
-    let addresses = checked.addresses(alloc, base)?;
+    let addresses = global_addresses(alloc, program, base)?;
     let functions = function_names(alloc, program)?;
     with_names(alloc, program, base, &addresses, &functions)
 }

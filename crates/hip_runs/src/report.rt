@@ -48,8 +48,16 @@ pub struct Marks {
 }
 
 /// What a run found.
-#[derive(Drop)]
 pub struct Findings {
     pub reports: Row<Report>,
     pub marks: Marks,
+}
+
+impl Drop for Findings {
+    fn drop(self) {
+        let Findings {
+            reports: _,
+            marks: _,
+        } = self;
+    }
 }

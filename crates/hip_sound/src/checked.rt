@@ -2,8 +2,6 @@ ghost use Rattle.std.specs.Prelude.{◌≡◌, ◌+◌, ◌<◌, true, false, le
 ghost use Rattle.hip_types.specs.Areas.{volatile_start};
 ghost use Rattle.hip_globals.specs.Addresses as spec;
 ghost use Rattle.hip_globals.specs.Addresses.{IsBase};
-ghost use Rattle.hip_globals.specs.AddressesSeen.{address_beside};
-ghost use Rattle.hip_globals.specs.Values.{global_address};
 ghost use Rattle.hip_sound.specs.Given.{CallsAgree, OperandsAgree, LabelsExist, PhisAgree};
 ghost use Rattle.hip_globals.specs.Held.{HoldsGlobals};
 ghost use Rattle.hip_globals.specs.Initial as initial;
@@ -11,7 +9,7 @@ ghost use Rattle.hip_names.specs.Names as names;
 ghost use Rattle.hip_sound.specs.Numbering.{function_names, function_number};
 ghost use Rattle.hip_sound.specs.Sound.{RegistersAssigned, HasMain, IsSound};
 
-use hip_globals::{GlobalAddresses, address, region_bytes, region_size, volatile_bytes};
+use hip_globals::{address, region_bytes, region_size, volatile_bytes};
 use hip_tree::{Function, Program};
 use hip_types::{NoMemory, Row};
 use std::alloc::Global;
@@ -75,14 +73,6 @@ impl Checked {
         ensures { result ≡ spec.address self.now base global }
     {
         address(&self.program, base, global)
-    }
-
-    /// The addresses of all globals by their names, where the region begins at a base: worked out once.
-    pub fn addresses(&self, alloc: Global, base: u64) -> Result<GlobalAddresses<'_>, NoMemory>
-        requires { IsBase base }
-        ensures { IfOk result (λ addresses. address_beside addresses ≡ global_address self.now.globals base) }
-    {
-        GlobalAddresses::new(alloc, self.program.globals.as_slice(), base)
     }
 
     /// The bytes that the region has before a run, from a base on: those of the initialisers, each where its global

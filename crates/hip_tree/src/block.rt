@@ -25,7 +25,6 @@ pub struct Case {
 }
 
 /// The instruction that ends a basic block.
-#[derive(Drop)]
 pub enum End {
     /// A branch to a block.
     Br {
@@ -50,11 +49,42 @@ pub enum End {
     Unreachable,
 }
 
+impl Drop for End {
+    fn drop(self) {
+        match self {
+            End::Br { label: _ } => {}
+            End::CondBr {
+                cond: _,
+                yes: _,
+                no: _,
+            } => {}
+            End::Switch {
+                width: _,
+                value: _,
+                other: _,
+                cases: _,
+            } => {}
+            End::Ret(_) => {}
+            End::Unreachable => {}
+        }
+    }
+}
+
 /// A basic block: its phi instructions, then its other instructions, then its end.
-#[derive(Drop)]
 pub struct Block {
     pub label: Name,
     pub phis: Row<Phi>,
     pub body: Row<Instr>,
     pub end: End,
+}
+
+impl Drop for Block {
+    fn drop(self) {
+        let Block {
+            label: _,
+            phis: _,
+            body: _,
+            end: _,
+        } = self;
+    }
 }

@@ -2,10 +2,18 @@ use crate::constant::Const;
 use hip_types::{BinaryOp, CastOp, Name, Pred, Row, Scalar, Ty, Width};
 
 /// A value that an instruction takes: a register's or a constant.
-#[derive(Drop)]
 pub enum Operand {
     Reg(Name),
     Fixed(Const),
+}
+
+impl Drop for Operand {
+    fn drop(self) {
+        match self {
+            Operand::Reg(_) => {}
+            Operand::Fixed(_) => {}
+        }
+    }
 }
 
 /// An operand with its type.
@@ -34,7 +42,6 @@ pub struct Flags {
 
 /// An instruction that neither stands at the head of a block nor ends it. `dest` is the register that
 /// it assigns, `align` the alignment that is written, in bytes.
-#[derive(Drop)]
 pub enum Instr {
     Binary {
         dest: Name,
@@ -95,4 +102,70 @@ pub enum Instr {
         callee: Name,
         args: Row<Arg>,
     },
+}
+
+impl Drop for Instr {
+    fn drop(self) {
+        match self {
+            Instr::Binary {
+                dest: _,
+                op: _,
+                flags: _,
+                width: _,
+                a: _,
+                b: _,
+            } => {}
+            Instr::Compare {
+                dest: _,
+                pred: _,
+                ty: _,
+                a: _,
+                b: _,
+            } => {}
+            Instr::Select {
+                dest: _,
+                cond: _,
+                ty: _,
+                a: _,
+                b: _,
+            } => {}
+            Instr::Cast {
+                dest: _,
+                op: _,
+                from: _,
+                a: _,
+                to: _,
+            } => {}
+            Instr::Alloca {
+                dest: _,
+                ty: _,
+                align: _,
+            } => {}
+            Instr::Load {
+                dest: _,
+                ty: _,
+                addr: _,
+                align: _,
+            } => {}
+            Instr::Store {
+                ty: _,
+                value: _,
+                addr: _,
+                align: _,
+            } => {}
+            Instr::Gep {
+                dest: _,
+                inbounds: _,
+                ty: _,
+                base: _,
+                indices: _,
+            } => {}
+            Instr::Call {
+                dest: _,
+                ret: _,
+                callee: _,
+                args: _,
+            } => {}
+        }
+    }
 }

@@ -3,7 +3,6 @@ use crate::constant::Const;
 use hip_types::{Name, Row, Scalar, Ty};
 
 /// A global variable.
-#[derive(Drop)]
 pub struct GlobalVar {
     pub name: Name,
     /// Whether it is a `constant`.
@@ -15,6 +14,19 @@ pub struct GlobalVar {
     pub persistent: bool,
     /// The alignment that is written, in bytes.
     pub align: Option<u64>,
+}
+
+impl Drop for GlobalVar {
+    fn drop(self) {
+        let GlobalVar {
+            name: _,
+            fixed: _,
+            ty: _,
+            init: _,
+            persistent: _,
+            align: _,
+        } = self;
+    }
 }
 
 /// A declared function, which the machine knows by its name.
@@ -34,7 +46,6 @@ pub struct Param {
 }
 
 /// A function with its basic blocks.
-#[derive(Drop)]
 pub struct Function {
     /// The type of its result; none for `void`.
     pub ret: Option<Scalar>,
@@ -44,10 +55,31 @@ pub struct Function {
     pub blocks: Row<Block>,
 }
 
+impl Drop for Function {
+    fn drop(self) {
+        let Function {
+            ret: _,
+            name: _,
+            params: _,
+            blocks: _,
+        } = self;
+    }
+}
+
 /// A program: its globals, declared functions and functions, each in the order of the text.
-#[derive(Drop)]
 pub struct Program {
     pub globals: Row<GlobalVar>,
     pub externs: Row<Extern>,
     pub functions: Row<Function>,
+}
+
+// By hand, so that the drop of a whole tree is proved here and not again in each crate that lets a program go.
+impl Drop for Program {
+    fn drop(self) {
+        let Program {
+            globals: _,
+            externs: _,
+            functions: _,
+        } = self;
+    }
 }

@@ -1,5 +1,6 @@
 //! Globals, externs, functions and whole programs.
 
+ghost use Rattle.std.specs.Prelude.{◌≡◌, OnOk};
 ghost use Rattle.hip_io.specs.Sinks.{Writes, Wrote};
 ghost use Rattle.hip_grammar.specs.Show.{fixed_text, section_text, global_text, extern_text, param_text, function_text, show};
 ghost use Rattle.hip_grammar.specs.Words.{scalar_text};
@@ -110,7 +111,8 @@ fn put_program<S: Sink>(before: Put, out: &mut S, program: &Program) -> Put
 /// Appends the canonical text of a program and delivers it. After a fault the sink has a prefix of it. It takes no
 /// memory.
 pub fn write<S: Sink>(program: &Program, out: &mut S) -> Result<(), WriteFault>
-    ensures { Wrote (S.state out.old) (S.state out.new) (show program.now) result }
+    ensures wrote { Wrote (S.state out.old) (S.state out.new) (show program.now) result }
+    ensures delivered { OnOk result (S.held out.new ≡ 0) }
 {
     let put = put_program(Put::Done, out, program);
     match deliver_after(put, out) {

@@ -7,18 +7,29 @@ ghost use Rattle.hip_lines.specs.Uses.{AreNoted, AreUses};
 
 use hip_types::LINE_SIZE;
 
-/// Gives a range of bytes a number.
+/// Gives the bytes from one on a number. The usual sizes have arms of their own, since a fill of a fixed size is one move.
 #[inline(always)]
-pub fn number_bytes(numbers: &mut [u8], from: usize, to: usize, number: u8)
-    requires forward { from ≤ to }
-    requires within { to ≤ length numbers.old }
+pub fn number_bytes(numbers: &mut [u8], from: usize, size: usize, number: u8)
+    requires { from + size ≤ length numbers.old }
     ensures len { length numbers.new ≡ length numbers.old }
     ensures numbers { (i : ℕ) → slice_index numbers.new i
-        ≡ cond (nat_le from i && nat_lt i to) number (slice_index numbers.old i) }
+        ≡ cond (nat_le from i && nat_lt i (from + size)) number (slice_index numbers.old i) }
 {
-    for i in from..to {
-        numbers[i] = number;
+    match size {
+        8 => fill_bytes(numbers, from, 8, number),
+        4 => fill_bytes(numbers, from, 4, number),
+        _ => fill_bytes(numbers, from, size, number),
     }
+}
+
+#[inline(always)]
+fn fill_bytes(numbers: &mut [u8], from: usize, size: usize, number: u8)
+    requires { from + size ≤ length numbers.old }
+    ensures len { length numbers.new ≡ length numbers.old }
+    ensures numbers { (i : ℕ) → slice_index numbers.new i
+        ≡ cond (nat_le from i && nat_lt i (from + size)) number (slice_index numbers.old i) }
+{
+    numbers[from..from + size].fill(number);
 }
 
 /// Lets the first tags go. The others have numbers that are lower by as many, and 0 is the number of what is gone.

@@ -151,7 +151,7 @@ impl Queue {
     {
         let from = (part.offset % LINE_SIZE) as usize;
         let number = (self.tags.len() + 1) as u8;
-        number_bytes(&mut self.numbers, from, from + part.size as usize, number);
+        number_bytes(&mut self.numbers, from, part.size as usize, number);
         self.tags.push_reserved(part.tag);
         let history = self.history.then(&Change::Store(part));
         self.history = history;

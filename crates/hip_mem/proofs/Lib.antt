@@ -3,3 +3,4 @@ pub mod PageKeys
 pub mod Clears
 pub mod RamAreas
 pub mod RamCalls
+pub mod Starts

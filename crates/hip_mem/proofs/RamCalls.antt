@@ -59,6 +59,11 @@ valid_last s r a n false e h p v k t = valid_nowhere s r a n e h p nowhere
     nowhere (inr (inl x)) = k x
     nowhere (inr (inr x)) = let y = t.1 x in let z : ⊥ = cc in z
 
+-- from the region's start on no other area lies
+pub valid_region : (s : Inside) (r : Areas) (a n : ℕ) (b : Bool) → areas_of s ≡ r → IsRam s → 0 < n → s.base ≤ a → (IsTrue b ↔ Lies s.base s.region a n) → b ≡ are_valid r a n
+valid_region s r a n b e h p low t =
+    valid_last s r a n b e h p (λ l. omega (arith, l.1, p, low, h.low, h.volatile)) (λ l. omega (arith, l.1, p, low, h.low, h.start, h.end)) t
+
 -- ---- numbers
 
 take-page_bytes : (m : Pages) (n a : ℕ) (xs : List ℕ) → n ≤ length xs → ((i : ℕ) → i < n → slice_index xs i ≡ page_byte m (a + i)) → take n xs ≡ page_bytes m a n

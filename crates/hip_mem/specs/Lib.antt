@@ -1,6 +1,7 @@
 pub mod Memory
 pub mod Areas
 pub mod Paging
+pub mod Recents
 pub mod Pages
 pub mod Rams
 pub mod Laws

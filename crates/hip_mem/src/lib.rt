@@ -4,6 +4,7 @@
 mod keys;
 mod pages;
 mod ram;
+mod recent;
 mod refusal;
 
 pub use ram::Ram;

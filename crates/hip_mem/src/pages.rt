@@ -4,12 +4,14 @@ ghost use Rattle.std.specs.Prelude.{◌≡◌, ◌≢◌, ℕ, ◌+◌, ◌-◌,
 ghost use Rattle.hip_directory.specs.Directories.{number_at};
 ghost use Rattle.hip_mem.specs.Memory.{byte_written};
 ghost use Rattle.hip_mem.specs.Paging.{ArePages, AreClean};
+ghost use Rattle.hip_mem.specs.Recents.{AreStarts, start_in};
 ghost use Rattle.hip_mem.specs.declared.keys.TheConstants.{LOWEST_REGION_PAGE};
 ghost use Rattle.hip_mem.specs.declared.TheConstants.{PAGE_SIZE};
 ghost use Rattle.hip_types.specs.declared.areas.TheConstants.{STACK_START, STACK_END};
 
 use crate::PAGE_SIZE;
 use crate::keys::{LOWEST_REGION_PAGE, STACK_PAGE, STACK_PAGES, key_of};
+use crate::recent::Recent;
 use hip_directory::Directory;
 use hip_types::{NoMemory, STACK_END, STACK_START};
 use std::alloc::Global;
@@ -25,9 +27,12 @@ pub struct Pages {
     bytes: Vec<u8>,
     // Whether each page may have a byte that is not 0, so that a page is not cleared again before it is written.
     dirty: Vec<bool>,
+    // Where pages begin that were written not long ago.
+    recent: Recent,
     ghost above: { LOWEST_REGION_PAGE ≤ region },
     ghost pages: { ArePages directory bytes.items },
     ghost clean: { AreClean dirty.items bytes.items },
+    ghost starts: { AreStarts recent (start_in directory region) },
 }
 
 // Page by page.
@@ -42,17 +47,33 @@ impl Pages {
     {
         let directory = Directory::new(alloc)?;
         let bytes = zeros(alloc)?;
+        let recent = Recent::new();
         Ok(Pages {
             region: base / PAGE_SIZE,
             directory,
             bytes,
             dirty: Vec::new(alloc),
+            recent,
         })
     }
 
     // Where the bytes of a page begin.
     #[inline(always)]
     fn start(&self, number: u64) -> usize
+        requires { number < 2 ^ 63 }
+        ensures value { result ≡ PAGE_SIZE * place_of self.now number }
+        ensures within { result + PAGE_SIZE ≤ length self.now.bytes.items }
+    {
+        let start = self.recent.get(number);
+        if start != 0 {
+            return start;
+        }
+        self.find_start(number)
+    }
+
+    // The same by the directory.
+    #[inline(always)]
+    fn find_start(&self, number: u64) -> usize
         requires { number < 2 ^ 63 }
         ensures value { result ≡ PAGE_SIZE * place_of self.now number }
         ensures within { result + PAGE_SIZE ≤ length self.now.bytes.items }
@@ -121,13 +142,39 @@ impl Pages {
         ensures kept { (n : ℕ) → IsMade self.old n → IsMade self.new n }
         ensures ok { OnOk result (IsMade self.new number) }
     {
-        if self.start(number) != 0 {
+        if self.recent.get(number) != 0 {
+            return Ok(());
+        }
+        self.note_page(number)
+    }
+
+    // The same, and notes where the page begins.
+    #[inline(never)]
+    fn note_page(&mut self, number: u64) -> Result<(), NoMemory>
+        requires { number < 2 ^ 63 }
+        ensures same { (n i : ℕ) → i < PAGE_SIZE → byte_of self.new n i ≡ byte_of self.old n i }
+        ensures kept { (n : ℕ) → IsMade self.old n → IsMade self.new n }
+        ensures ok { OnOk result (IsMade self.new number) }
+    {
+        self.find_page(number)?;
+        let start = self.find_start(number);
+        self.recent.put(number, start);
+        Ok(())
+    }
+
+    // Makes a page where the directory has none.
+    fn find_page(&mut self, number: u64) -> Result<(), NoMemory>
+        requires { number < 2 ^ 63 }
+        ensures same { (n i : ℕ) → i < PAGE_SIZE → byte_of self.new n i ≡ byte_of self.old n i }
+        ensures kept { (n : ℕ) → IsMade self.old n → IsMade self.new n }
+        ensures ok { OnOk result (IsMade self.new number) }
+    {
+        if self.find_start(number) != 0 {
             return Ok(());
         }
         self.add_page(number)
     }
 
-    #[inline(never)]
     fn add_page(&mut self, number: u64) -> Result<(), NoMemory>
         requires number { number < 2 ^ 63 }
         requires absent { place_of self.old number ≡ 0 }
@@ -318,7 +365,8 @@ fn append_page(
     ensures same { (k i : ℕ) → i < PAGE_SIZE
         → slice_index bytes.new.items (PAGE_SIZE * number_at directory.new k + i)
         ≡ slice_index bytes.old.items (PAGE_SIZE * number_at directory.old k + i) }
-    ensures kept { (k : ℕ) → 0 < number_at directory.old k → 0 < number_at directory.new k }
+    ensures kept { (k : ℕ) → 0 < number_at directory.old k
+        → number_at directory.new k ≡ number_at directory.old k }
     ensures ok { OnOk result (0 < number_at directory.new key) }
 {
     let Ok(place) = u32::try_from(bytes.len() / PAGE_SIZE as usize) else {

@@ -188,6 +188,17 @@ impl Ram {
         requires { 0 < size }
         ensures { result ≡ are_valid self.now addr size }
     {
+        if addr >= self.base {
+            return lies_in(self.base, self.region, addr, size);
+        }
+        self.lies_in_some_area(addr, size)
+    }
+
+    #[inline(always)]
+    fn lies_in_some_area(&self, addr: u64, size: u64) -> bool
+        requires { 0 < size }
+        ensures { result ≡ are_valid self.now addr size }
+    {
         if lies_in(VOLATILE_START, self.volatile, addr, size) {
             return true;
         }

@@ -1,0 +1,57 @@
+//! Where pages begin that were written not long ago.
+
+ghost use Rattle.std.specs.Prelude.{◌≡◌, ◌≢◌, ℕ, ◌<◌, slice_index};
+ghost use Rattle.hip_mem.specs.Recents.{AreStarts};
+
+// How many pages are noted, as a power of 2.
+const SLOT_BITS: u32 = 4;
+
+/// The starts of a few pages, each in the slot of its page's number. 0 notes nothing.
+#[derive(Drop)]
+pub struct Recent {
+    numbers: [u64; 16],
+    starts: [usize; 16],
+}
+
+impl Recent {
+    /// No page is noted.
+    pub fn new() -> Recent
+        ensures { (start_of : ℕ → ℕ) → AreStarts result start_of }
+    {
+        Recent {
+            numbers: [0; 16],
+            starts: [0; 16],
+        }
+    }
+
+    /// Where a page begins, if that is noted; else 0.
+    #[inline(always)]
+    pub fn get(&self, number: u64) -> usize
+        ensures { (start_of : ℕ → ℕ) → AreStarts self.now start_of → result ≢ 0 → result ≡ start_of number }
+    {
+        let slot = slot_of(number);
+        if self.numbers[slot] == number {
+            self.starts[slot]
+        } else {
+            0
+        }
+    }
+
+    /// Notes where a page begins, in place of the page that had its slot.
+    pub fn put(&mut self, number: u64, start: usize)
+        ensures { (start_of : ℕ → ℕ) → AreStarts self.old start_of → start ≡ start_of number
+            → AreStarts self.new start_of }
+    {
+        let slot = slot_of(number);
+        self.numbers[slot] = number;
+        self.starts[slot] = start;
+    }
+}
+
+// The slot of a page: the high bits of a product, so that the first pages of the areas have slots of their own.
+#[inline(always)]
+fn slot_of(number: u64) -> usize
+    ensures { result < 16 }
+{
+    (number.wrapping_mul(0x9E37_79B9_7F4A_7C15) >> (64 - SLOT_BITS)) as usize
+}

@@ -15,7 +15,7 @@ use Rattle.hip_runs.specs.Step.{event, event_at, event_of, event_on_ending, even
 use Rattle.hip_runs.specs.StoredParts.Persistence.{flushes_lines}
 use Rattle.hip_runs.specs.declared.event.Event.TheVariants as events
 
--- what is printed in a step comes behind what was printed before it, and the event tells how the run has ended
+-- what is printed in a step comes after what was printed before it, and the event tells how the run has ended
 pub record IsTold (before after : World) (e : Event) : Type 0 where
   pub output : after.output ≡ before.output ++ printed_by e
   pub ending : after.ending ≡ ending_by e

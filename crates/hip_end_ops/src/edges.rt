@@ -74,6 +74,13 @@ fn new_edge(
     Ok(number)
 }
 
+/// Keeps the number of the edge to a block, where the table by blocks has a place for it.
+fn keep(made: &mut Row<u32>, target: usize, number: u32) {
+    if target < made.len() {
+        made.set(target, number);
+    }
+}
+
 /// The edge from a block to the one with a label. Where `made` has a place for each block of the function, there is one
 /// edge from one block to another, however often it is named.
 pub fn edge(
@@ -98,8 +105,6 @@ pub fn edge(
         return Ok(number);
     }
     let number = new_edge(scope, tables, source, target)?;
-    if target < made.len() {
-        made.set(target, number);
-    }
+    keep(made, target, number);
     Ok(number)
 }

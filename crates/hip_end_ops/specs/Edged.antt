@@ -57,7 +57,7 @@ pub record IsTarget (s : Scope) (source : Source) (target : ℕ) : Type 0 where
   pub here : block_at s.program.now s.number target ≡ Some block
   pub known : PhisKnown (names_of s) source.block.now.label block.phis
 
--- an edge is put into the table, behind the others
+-- an edge is put into the table, after the others
 pub record NewEdge (s : Scope) (t u : Tables) (b number target : ℕ) : Type 0 where
   pub edge : Edge
   pub number_is : number ≡ length t.edges

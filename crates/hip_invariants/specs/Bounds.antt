@@ -7,7 +7,7 @@ use Rattle.hip_runs.specs.Ends.{longest}
 use Rattle.hip_runs.specs.Step.{header_entries, run}
 
 -- After n steps: a block's body and its end, at most, for each turn of the limit and once more; at most one entry for
--- each step behind those of the header, which has two, one for each number, and at most one for each cache line. (This
+-- each step after those of the header, which has two, one for each number, and at most one for each cache line. (This
 -- project's own.)
 pub record IsBounded (P : Program) (I : Input) (n : ℕ) : Type 0 where
   pub steps : (run P I n).counts.steps ≤ suc I.limit * suc (longest P)

@@ -10,7 +10,7 @@ each_register Fact [] = Unit {0}
 each_register Fact (f ∷ fs) =
     ((name : List ℕ) → Fact f.function name (look_up f.registers name)) × each_register Fact fs
 
--- A fact of the frame on top, and one of a frame behind a call of a function, whose result goes into a register.
+-- A fact of the frame on top, and one of a frame after a call of a function, whose result goes into a register.
 module _ (Top : Frame → Type 0) (Below : ℕ → Option (List ℕ) → Frame → Type 0) where
   -- They hold of the frames under one of a function, whose result goes into a register. The bottom frame is of the
   -- first function.

@@ -1,4 +1,4 @@
--- Levels of pointers: how far a pointer may point behind the stack's end.
+-- Levels of pointers: how far past the stack's end a pointer may point.
 use Rattle.std.specs.Prelude.{◌≡◌, ℕ, suc, ◌+◌, ◌*◌, ◌≤◌, cond, nat_eq, nat_lt, List, [], ◌∷◌, map, Option, Some, None, unwrap_or, slice_get}
 use Rattle.hip_types.specs.Layout.{gep_of}
 use Rattle.hip_types.specs.declared.number.Scalar.{Scalar}
@@ -33,7 +33,7 @@ use Rattle.hip_runs.specs.Actions.{index_value}
 use Rattle.hip_runs.specs.State.{Frame}
 use Rattle.hip_invariants.specs.FrameFacts.{each_register}
 
--- A number of steps of less than 64 MiB behind the stack's end; none where nothing is known of the pointer, which is
+-- A number of steps of less than 64 MiB past the stack's end; none where nothing is known of the pointer, which is
 -- the greatest level. (This project's own, as all of this file.)
 abbrev pub PointerLevel : Type 0
 PointerLevel = Option ℕ
@@ -49,7 +49,7 @@ is_at_most a None = Unit {0}
 is_at_most None (Some u) = ⊥
 is_at_most (Some t) (Some u) = t ≤ u
 
--- The level behind an offset: the same behind none, one more behind less than 64 MiB where it is below 32, else none.
+-- The level after an offset: the same after none, one more after less than 64 MiB where it is below 32, else none.
 abbrev pub behind_offset : PointerLevel → ℕ → PointerLevel
 behind_offset None offset = None
 behind_offset (Some t) offset =
@@ -75,7 +75,7 @@ level_step names (Const-F.Address name) = names name
 level_step names (Const-F.Gep level) = level
 level_step names _ = None
 
--- the level of a constant `getelementptr`, from its base's: that behind its offset, 0 where there is no such element
+-- the level of a constant `getelementptr`, from its base's: that after its offset, 0 where there is no such element
 abbrev pub gep_level_step : ConstGep-F PointerLevel PointerLevel PointerLevel → PointerLevel
 gep_level_step gep = behind_offset gep.base (unwrap_or (gep_of gep.ty (map index_of gep.indices)) 0)
 
@@ -83,7 +83,7 @@ gep_level_step gep = behind_offset gep.base (unwrap_or (gep_of gep.ty (map index
 abbrev pub item_level_step : TypedConst-F PointerLevel PointerLevel PointerLevel → PointerLevel
 item_level_step item = item.value
 
--- The level of a constant: 0 for `null` and `zeroinitializer`, a global's own, that behind its offset for a
+-- The level of a constant: 0 for `null` and `zeroinitializer`, a global's own, that after its offset for a
 -- `getelementptr`.
 abbrev pub const_level : List GlobalVar → Const → PointerLevel
 const_level globals =
@@ -108,7 +108,7 @@ abbrev pub known_index : Scalar → Operand → Option ℕ
 known_index ty (Reg name) = None
 known_index ty (Fixed c) = constant_index ty (out-Const c)
 
--- the value of an index in front of those behind it, where all of them have one
+-- the value of an index in front of those after it, where all of them have one
 abbrev pub both : Option ℕ → Option (List ℕ) → Option (List ℕ)
 both (Some i) (Some is) = Some (i ∷ is)
 both _ _ = None
@@ -118,7 +118,7 @@ abbrev pub known_path : List Arg → Option (List ℕ)
 known_path [] = Some []
 known_path (a ∷ args) = both (known_index a.ty a.value) (known_path args)
 
--- The level of a `getelementptr` from a level on: none where an index has no value, else that behind its offset.
+-- The level of a `getelementptr` from a level on: none where an index has no value, else that after its offset.
 abbrev pub gep_level : PointerLevel → Ty → Option (List ℕ) → PointerLevel
 gep_level a ty None = None
 gep_level a ty (Some path) = behind_offset a (unwrap_or (gep_of ty path) 0)

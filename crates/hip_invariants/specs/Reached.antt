@@ -39,6 +39,6 @@ module _ (P : Program) where
   abbrev pub top_is_reached : Frame → Type 0
   top_is_reached f = IsReached P None f.function f.block f.place f.registers
 
-  -- the place behind the call that a frame waits for, whose result goes into a register
+  -- the place after the call that a frame waits for, whose result goes into a register
   abbrev pub caller_is_reached : ℕ → Option (List ℕ) → Frame → Type 0
   caller_is_reached h dest f = IsReached P dest f.function f.block f.place f.registers

@@ -62,7 +62,7 @@ pub fn objects_are_apart()
 {}
 
 /// A run has at most as many steps as its limit of turns, and one more, times the longest body with its end, and at
-/// most one entry for each step behind those of its header. So both counts are numbers of 128 bits where each body's
+/// most one entry for each step after those of its header. So both counts are numbers of 128 bits where each body's
 /// length is one of 64.
 pub fn runs_are_bounded()
     ensures bounded { (P : Program) → (I : Input) → (n : ℕ) → IsBounded P I n }

@@ -70,7 +70,7 @@ acts_too_deep {code} {old} {new} {e} {call} many d = record {
       subst (λ t. Stepped m.program m.input new e (acted m true (cond t calls (Traps trap_kinds.Depth))) (seen_of m (cond t calls (Traps trap_kinds.Depth)))) (sym deep) (d.does m b);
 }
 
--- the frame of a call, in slots behind those of its caller
+-- the frame of a call, in slots after those of its caller
 pub acts_call : {code : Code} {old new : Core} {call : Call} (longer : List ℕ) (mid : Core) → length old.saved.items < MOST_FRAMES - 1 →
     IsLonger old.slots.items longer → old.top.base + call.frame + call.size ≤ length longer →
     mid.saved.items ≡ old.saved.items ++ record old.top { place = old.top.place + 1 } ∷ [] →

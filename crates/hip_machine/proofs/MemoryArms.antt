@@ -92,7 +92,7 @@ left_turned : (turn : Bool) (zs : List ℤ) (w : World) → zs ≡ w.left → zs
 left_turned true zs w e = e
 left_turned false zs w e = e
 
--- the frame behind its instruction, in a world with other memory
+-- the frame after its instruction, in a world with other memory
 pub stands_next : {old new : Core} {m : Moment} (turn : Bool) (st : Contents) (w : World) (ls : List (Line StorePart)) →
     new ≡ record old { storage = st; top = record old.top { place = old.top.place + 1 }; taken = old.taken + 1; turns = turns_after turn old.turns } → Before old m → HasNext old m →
     turns_after turn old.turns ≡ w.turns → old.ending ≡ w.ending → drop old.read m.input.numbers ≡ w.left → HoldsRun m.program m.input st w.writes w.mark ls →

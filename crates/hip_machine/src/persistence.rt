@@ -56,7 +56,7 @@ fn flush_range(core: &mut Core, addr: u64, size: u64) -> Event
     }
 }
 
-// The flush of the lines of a range, and a fence behind it.
+// The flush of the lines of a range, and a fence after it.
 fn persist(core: &mut Core, addr: u64, size: u64) -> Event
     requires taken { core.old.taken + 1 < 2 ^ 128 }
     requires place { core.old.top.place + 1 < 2 ^ 64 }

@@ -1,4 +1,4 @@
--- The search among things that lie one behind the other: of those that begin at an address or before it, the last one alone may have the byte there.
+-- The search among things that lie one after the other: of those that begin at an address or before it, the last one alone may have the byte there.
 use Rattle.std.proofs.Common.{ℕ, zero, suc, ◌+◌, ◌<◌, ◌≤◌, ◌≡◌, Bool, true, false, cond, nat_le, nat_lt, List, [], ◌∷◌, ◌++◌, Some, None, length, slice_index_or, length-append, refl, sym, ap, ◌∙◌, ◌⊎◌, inl, inr, arith, subst}
 use Rattle.std.proofs.Math.Seq.{get_or-append_seam}
 use Rattle.std.specs.List.Sorted.{IsPartitionPoint, IsPartitionedBy}
@@ -84,7 +84,7 @@ module _ {X B : Type 0} (start size : X → ℕ) (told : X → B) where
     behind = λ i d from within. leb-false _ _ (behind i d from within);
   }
 
-  -- ---- one more behind them
+  -- ---- one more after them
 
   pub in_order-pushed : (xs : List X) (b : X) → AreInOrder start size xs → ((i : ℕ) (d : X) → i < length xs → start (slice_index_or xs i d) + size (slice_index_or xs i d) ≤ start b) →
       AreInOrder start size (xs ++ b ∷ [])

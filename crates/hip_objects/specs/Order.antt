@@ -1,4 +1,4 @@
--- Things that lie one behind the other in memory, each from its first byte on.
+-- Things that lie one after the other in memory, each from its first byte on.
 use Rattle.std.specs.Prelude.{ℕ, ◌+◌, ◌<◌, ◌≤◌, cond, List, [], ◌∷◌, Option, Some, None, length, slice_index_or}
 use Rattle.hip_mem.specs.Memory.{range_contains}
 

@@ -15,7 +15,7 @@ pub struct Block {
     pub site: Site,
 }
 
-/// The blocks on the stack, the oldest first, each behind the ones before it.
+/// The blocks on the stack, the oldest first, each after the ones before it.
 #[derive(Drop)]
 pub struct Blocks {
     blocks: Vec<Block>,
@@ -52,7 +52,7 @@ impl Blocks {
         self.blocks.len()
     }
 
-    /// A new block, which begins at the end of the newest one or behind it.
+    /// A new block, which begins at the end of the newest one or after it.
     pub fn push(&mut self, block: Block) -> Result<(), NoMemory>
         requires { IsBehind block.addr self.old }
         ensures ok { OnOk result (self.new ≡ self.old ++ slot_of block ∷ []) }

@@ -18,7 +18,7 @@ known_at s d b block h k i e = instr_known s.program.now d.sound s.number b s.fu
 
 -- ---- places
 
--- a block begins behind the end of the one before it
+-- a block begins after the end of the one before it
 pub next_block : (s : Scope) → Describes s → (b : ℕ) (block : Block) → block_at s.program.now s.number b ≡ Some block → entry s.program.now s.number (b + 1) ≡ entry s.program.now s.number b + length block.body + 1
 next_block s d b block h =
     let at = is_at s d b block h in

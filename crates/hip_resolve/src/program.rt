@@ -1,6 +1,6 @@
 ghost use Rattle.std.specs.Prelude.{◌≡◌, ◌+◌, Some, length, suc, IfOk};
 ghost use Rattle.hip_code.specs.Entries.{entry};
-ghost use Rattle.hip_runs.specs.Places.{block_at, blocks_of};
+ghost use Rattle.hip_runs.specs.Places.{block_at};
 ghost use Rattle.hip_scope.specs.Grown.{grown};
 ghost use Rattle.hip_resolve.specs.Made.{IsFront};
 ghost use Rattle.hip_scope.specs.Scopes.{Describes};
@@ -11,15 +11,8 @@ use hip_instr_ops::instr_op;
 use hip_scope::{Growing, Scope};
 use hip_tree::Block;
 use hip_types::{NoMemory, Row};
-use std::alloc::Global;
 
-fn zeros(alloc: Global, count: usize) -> Result<Row<u32>, NoMemory>
-    ensures { IfOk result (λ row. length row ≡ count) }
-{
-    Ok(Row::from_vec(vec![in alloc; 0u32; count]?))
-}
-
-/// Puts the ops of a block's instructions behind the others.
+/// Puts the ops of a block's instructions after the others.
 fn body_ops(
     scope: &Scope<'_, '_>,
     tables: &mut Growing,
@@ -44,7 +37,7 @@ fn body_ops(
     Ok(())
 }
 
-/// Puts the ops of a block behind the others.
+/// Puts the ops of a block after the others.
 fn block_ops(
     scope: &Scope<'_, '_>,
     tables: &mut Growing,
@@ -55,12 +48,10 @@ fn block_ops(
 ) -> Result<(), NoMemory>
     requires scope { Describes scope.now }
     requires block { block_at scope.now.program.now scope.now.number number ≡ Some block.now }
-    requires as_long { length made.old ≡ length (blocks_of scope.now.program.now scope.now.number) }
     requires front { IsFront scope.now.program.now scope.now.base ops.old (grown tables.old) }
     requires place { length ops.old ≡ entry scope.now.program.now scope.now.number number }
     ensures front { IfOk result (λ _. IsFront scope.now.program.now scope.now.base ops.new (grown tables.new)) }
     ensures place { IfOk result (λ _. length ops.new ≡ entry scope.now.program.now scope.now.number (number + 1)) }
-    ensures as_long { length made.new ≡ length made.old }
 {
     body_ops(scope, tables, ops, number, block)?;
     let source = Source {
@@ -73,7 +64,7 @@ fn block_ops(
     Ok(())
 }
 
-/// Puts the ops of a function behind those of the functions before it.
+/// Puts the ops of a function after those of the functions before it.
 pub fn resolve_function(
     scope: &Scope<'_, '_>,
     tables: &mut Growing,
@@ -86,7 +77,7 @@ pub fn resolve_function(
     ensures place { IfOk result (λ _. length ops.new ≡ entry scope.now.program.now (suc scope.now.number) 0) }
 {
     let blocks = scope.function.blocks.as_slice();
-    let mut made = zeros(scope.alloc, blocks.len())?;
+    let mut made = Row::from_vec(vec![in scope.alloc; 0u32; blocks.len()]?);
     'resolving: for number in 0..blocks.len() {
         let block = &blocks[number];
         block_ops(scope, tables, ops, &mut made, number, block)?;

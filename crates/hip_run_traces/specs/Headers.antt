@@ -42,7 +42,7 @@ with_number I number =
     if is_empty I.image && nat_lt (length I.numbers) MOST_NUMBERS
     then Some (record I { numbers = I.numbers ++ number ∷ [] }) else None
 
--- An IMAGE is of a cache line of the region, behind the lines before it, and has a byte other than 0.
+-- An IMAGE is of a cache line of the region, after the lines before it, and has a byte other than 0.
 abbrev pub is_next_line : Program → Input → ℕ → List ℕ → Bool
 is_next_line P I addr bytes =
     nat_le (I.base + length I.image) addr && (nat_le (addr + LINE_SIZE) (I.base + region_size P) && some_byte bytes)
@@ -59,7 +59,7 @@ with_entry P I (Some (Number number)) = with_number I number
 with_entry P I (Some (Image addr bytes)) = with_line P I addr bytes
 with_entry P I _ = None
 
--- the bytes behind the last line are 0
+-- the bytes after the last line are 0
 abbrev pub filled : Program → Input → Input
 filled P I = record I { image = I.image ++ zeros (region_size P - length I.image) }
 

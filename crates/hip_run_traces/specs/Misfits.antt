@@ -28,7 +28,7 @@ pub record FirstDiffers (whole : Bool) (pieces : List (Option Entry)) (trace : L
   pub before : take count pieces ≡ map (λ e. Some e) (take count trace)
   pub here : DiffersAt whole (slice_get pieces count) (slice_get trace count) kind
 
--- the piece behind a header of less than two entries is not there, or is no valid entry
+-- the piece after a header of less than two entries is not there, or is no valid entry
 abbrev pub StopsAt : Bool → Option (Option Entry) → MisfitKind → Type 0
 StopsAt whole None kind = (whole ≡ true) × (kind ≡ Early)
 StopsAt whole (Some piece) kind = kind ≡ kind_of piece Differs
@@ -42,7 +42,7 @@ pub record DiffersFromRun (P : Program) (I : Input) (whole : Bool) (pieces : Lis
   pub number : entry ≡ count + 1
   pub differs : FirstDiffers whole pieces trace count kind
 
--- Behind a header that gives no input the misfit is the next entry, which is missing or not valid there; behind
+-- After a header that gives no input the misfit is the next entry, which is missing or not valid there; after
 -- another it is the first one at which the pieces differ from the trace of the run on the input.
 abbrev pub MisfitBehind : Header → Program → Bool → List (Option Entry) → ℕ → MisfitKind → Type 0
 MisfitBehind (Stops count) P whole pieces entry kind = (entry ≡ count + 1)

@@ -83,7 +83,7 @@ pub fn first_bytes_decide_misfits()
         IsMisfit P front false e k → IsMisfit P (front ++ rest) whole e k }
 {}
 
-/// Behind entries that the pieces spell, the first difference is the next one. Where pieces differ from the trace of a
+/// After entries that the pieces spell, the first difference is the next one. Where pieces differ from the trace of a
 /// run's first steps before that trace ends, they differ so from the run's trace.
 pub fn first_steps_decide_misfits()
     ensures here { (whole : Bool) → (front : List Entry) → (pieces : List (Option Entry))

@@ -5,6 +5,7 @@ pub mod DurableLaws
 pub mod EndLaws
 pub mod Fits
 pub mod Found
+pub mod HeldBytes
 pub mod HistoryLaws
 pub mod ImageLaws
 pub mod LineOrder

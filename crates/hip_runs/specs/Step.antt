@@ -74,7 +74,7 @@ with_turn w = record w { turns = suc w.turns }
 abbrev pub stop : Ending → World → List Frame → List (Line StorePart) → Counts → State
 stop e w fs ls after = state (record w { ending = Some e }) fs ls after
 
--- the frame behind its instruction
+-- the frame after its instruction
 abbrev pub next : Frame → Frame
 next f = record f { place = suc f.place }
 
@@ -156,7 +156,7 @@ abbrev pub event_at : Input → World → List Frame → Deed → Event
 event_at I w fs d = cond (is_cut I w d) (events.End Cut) (event_of I fs d.action)
 
 -- the state after the top frame's deed: where the run is cut, only its ending and the counts are new; else the action
--- is done, behind one turn more where the deed is one
+-- is done, after one turn more where the deed is one
 unfoldable pub carry_out : Input → World → Frame → List Frame → List (Line StorePart) → Counts → Counts
     → Deed → State
 carry_out I w f fs ls before after d =

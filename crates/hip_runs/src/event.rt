@@ -44,7 +44,7 @@ pub enum Event {
     Store { addr: u64, value: u64, size: u32 },
     /// A flush of cache lines: the first one's address, and 64 times their number.
     Flush { line: u64, size: u64 },
-    /// A flush of cache lines with a fence behind it, as of `Flush`.
+    /// A flush of cache lines with a fence after it, as of `Flush`.
     Persist { line: u64, size: u64 },
     Fence,
     /// `pm_assert` of a range.

@@ -32,7 +32,7 @@ pub fn images_shrink()
 {}
 
 /// A part of a store is durable exactly where its cache line was flushed after the store, and a fence came with the
-/// flush or behind it.
+/// flush or after it.
 pub fn durable_stores_were_flushed_then_fenced()
     ensures came { (P : Program) → (I : Input) → (n line place : ℕ) → (part : StorePart) →
         IsDurableAt (run P I n) line place part → IsFlushedThenFenced P I line part.step n }

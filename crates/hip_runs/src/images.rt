@@ -11,8 +11,8 @@ ghost use Rattle.hip_runs.specs.Validity.{IsInput, IsValid};
 ghost use Rattle.hip_runs.specs.declared.input.Input.{Input};
 ghost use Rattle.std.specs.Prelude.{◌≡◌, ◌-◌, ◌<◌, ◌≤◌, ℕ, List, drop, take, true};
 
-/// A byte after some first parts of its line is what the parts behind the durable ones make of it, where the durable
-/// ones went before.
+/// The first parts of a line, applied to a byte, give what its durable parts give with the rest of the first parts
+/// applied to it.
 pub fn bytes_follow_the_durable()
     ensures { (line : Line StorePart) → (upto byte first : ℕ) → line.durable ≤ upto →
         byte_after covers byte_of (take upto line.parts) byte first
@@ -37,8 +37,8 @@ pub fn images_make_valid_inputs()
         IsCrashImage I (run P I n) content → IsInput (record I { image = content }) }
 {}
 
-/// So many entries are reached after one least number of steps, if they are ever reached; and behind the entries that
-/// stand before the first step, there are just so many then.
+/// A number of entries is reached first after exactly one number of steps, if it is ever reached. The state there has
+/// exactly that number of entries, where it is more than the header's.
 pub fn entries_find_one_state()
     ensures there { (P : Program) → (I : Input) → (entry steps : ℕ)
         → entry ≤ (run P I steps).counts.entries →

@@ -58,7 +58,7 @@ pub fn steps_are_counted()
         run P I (suc n) ≡ run P I n }
 {}
 
-/// The event of a step tells what the run prints in it, which comes behind all that it printed before, and whether it
+/// The event of a step tells what the run prints in it, which comes after all that it printed before, and whether it
 /// ends. One that has ended prints nothing more.
 pub fn events_tell_output_and_ending()
     ensures output { (P : Program) → (I : Input) → (n : ℕ) →

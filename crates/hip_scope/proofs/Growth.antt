@@ -65,11 +65,11 @@ there (y ∷ xs) rest x = there xs rest x
 pub get_extended : {A : Type 0} {xs ys : List A} (k : ℕ) (x : A) → Extends xs ys → slice_get xs k ≡ Some x → slice_get ys k ≡ Some x
 get_extended {A} {xs} {ys} k x e h = subst (λ (l : List A). slice_get l k ≡ Some x) (sym e.is) (get_kept xs e.rest k x h)
 
--- the last item stands behind those before it
+-- the last item stands after those before it
 pub get_last : {A : Type 0} (xs : List A) (x : A) → slice_get (xs ++ x ∷ []) (length xs) ≡ Some x
 get_last xs x = there xs [] x
 
--- a constant is put behind the others
+-- a constant is put after the others
 pub makes_constant : (t : Tables) (v : ℕ) (constants : List ℕ) → constants ≡ t.constants ++ v ∷ [] →
     Makes t (record t { constants = constants }) (λ w. slice_get w.constants (length t.constants) ≡ Some v)
 makes_constant t v constants e = record {

@@ -2,12 +2,12 @@
 use Rattle.std.specs.Prelude.{◌≡◌, List, ◌++◌}
 use Rattle.hip_code.specs.Numbers.{Tables}
 
--- the second list is the first one with more behind it
+-- the second list is the first one with more after it
 pub record Extends {A : Type 0} (xs ys : List A) : Type 0 where
   pub rest : List A
   pub is : ys ≡ xs ++ rest
 
--- each table is as it was, with more behind it
+-- each table is as it was, with more after it
 pub record Grows (t u : Tables) : Type 0 where
   pub constants : Extends t.constants u.constants
   pub terms : Extends t.terms u.terms

@@ -1,7 +1,6 @@
 -- The bytes of a buffer from one place to another, and what is ahead of them in a file.
-use Rattle.std.proofs.Common.{◌≡◌, ℕ, ◌+◌, ◌-◌, ◌≤◌, List, ◌++◌, length, take, drop, slice_range, Option, Some, None, refl, sym, ap, ◌∙◌, arith, append_assoc, length-append}
+use Rattle.std.proofs.Common.{◌≡◌, ℕ, ◌+◌, ◌-◌, ◌≤◌, List, ◌++◌, length, take, drop, slice_range, sym, ap, ◌∙◌, arith, length-append}
 use Rattle.std.proofs.lemmas.List.{drop-take, drop-drop, length-take-le}
-use Rattle.std.specs.Prelude.{option_map}
 use Rattle.hip_io.specs.Cabinets.{CabinetState, HasGot}
 use Rattle.hip_trace.specs.Fronts.{HasTakenSome}
 use lib.Seq.{take-add}

@@ -45,7 +45,7 @@ follows : Follows clone_fences_early input (start clone_fences_early input) befo
 unfolding run_opened
 follows = (refl, simp shape-Int refl, (refl, simp shape-Int refl, (refl, simp int_value refl, (refl, refl, (refl, refl, (refl, refl, (refl, refl, (refl, simp (address_value, shape-Int) refl, (refl, refl, (refl, refl, (refl, refl, (refl, refl, tt))))))))))))
 
--- the state before the clone returns, the one at the fence behind the call, and the one after it
+-- the state before the clone returns, the one at the fence after the call, and the one after it
 abbrev at_return : State
 at_return = after_all input (start clone_fences_early input) before_return
 

@@ -76,7 +76,7 @@ module _ (fn : Function) where
       (among-right (flat_map (whole_block_names fn) earlier) (names_before fn point b) q
       (subst (λ ns. IsAmong ns q) (sym (before_is point b block at)) h))
 
-  -- behind an instruction
+  -- after an instruction
   pub behind : (earlier : List ℕ) (b k : ℕ) (block : Block) (i : Instr) (q : List ℕ)
       → slice_get fn.blocks b ≡ Some block → slice_get block.body k ≡ Some i →
       IsAmong (assigned_on fn earlier b (Before (suc k))) q → IsAmong (assigned_on fn earlier b (Before k)) q
@@ -92,7 +92,7 @@ module _ (fn : Function) where
       (named_either (phi_registers block.phis) (body_registers (take (suc k) block.body)) q m)) r)
       (on_path earlier b block (Before (suc k)) q at h)
 
-  -- at the end of a block is where all instructions are behind
+  -- the end of a block is the place after all its instructions
   pub at_end : (earlier : List ℕ) (b k : ℕ) (block : Block) (q : List ℕ) → slice_get fn.blocks b ≡ Some block
       → drop k block.body ≡ [] → IsAmong (assigned_on fn earlier b AtEnd) q
       → IsAmong (assigned_on fn earlier b (Before k)) q

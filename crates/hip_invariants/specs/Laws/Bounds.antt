@@ -1,4 +1,4 @@
--- A run has no more steps than its limit of turns and the longest body allow, and no more entries than steps behind
+-- A run has no more steps than its limit of turns and the longest body allow, and no more entries than steps after
 -- its header.
 use Rattle.std.proofs.Common.{◌≡◌, ℕ, zero, suc, ◌+◌, ◌-◌, ◌*◌, ◌/◌, ◌≤◌, ◌<◌, ◌^◌, Bool, true, false, cond, List, [], ◌∷◌, length, drop, Option, Some, None, is_some, refl, sym, ap, ◌∙◌, subst, arith}
 use Rattle.std.proofs.lemmas.Nat.{mul-le}

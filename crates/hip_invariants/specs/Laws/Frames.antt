@@ -1,4 +1,4 @@
--- What holds of every frame of every run, told once: a fact of the frame on top and a fact of a frame behind a call
+-- What holds of every frame of every run, told once: a fact of the frame on top and a fact of a frame after a call
 -- hold
 -- throughout, where each action keeps them.
 use Rattle.std.proofs.Common.{◌≡◌, ℕ, zero, suc, Bool, true, false, cond, List, [], ◌∷◌, Option, Some, None, refl, subst}
@@ -34,7 +34,7 @@ called_frame g registers dest mark level =
 abbrev pub frame_in_block : ℕ → Registers → Frame → Frame
 frame_in_block b registers f = record f { block = b; place = 0; registers = registers }
 
--- A fact of the frame on top, and one of a frame behind a call of a function, whose result goes into a register.
+-- A fact of the frame on top, and one of a frame after a call of a function, whose result goes into a register.
 module _ (Top : Frame → Type 0) (Below : ℕ → Option (List ℕ) → Frame → Type 0) where
   -- what an action of a frame has to keep
   abbrev pub keeps : Frame → Action → Type 0

@@ -1,4 +1,4 @@
--- Globals lie one behind another, between the start and the end of all of their kind.
+-- Globals lie one after another, between the start and the end of all of their kind.
 use Rattle.std.proofs.Common.{◌≡◌, ℕ, zero, suc, ◌+◌, ◌≤◌, ◌<◌, Bool, true, false, List, [], ◌∷◌, Some, slice_get, refl, subst, arith}
 use Rattle.std.specs.Prelude.{if◌then◌else◌}
 use Rattle.std.proofs.lemmas.Option.{same_Some}
@@ -55,7 +55,7 @@ ends_before_end persistent at (x ∷ gs) zero g q e =
 ends_before_end persistent at (x ∷ gs) (suc k) g q e =
     ends_before_end persistent (if same_truth x.persistent persistent then behind at x else at) gs k g q e
 
--- a global that is there begins behind the start of all of them
+-- a global that exists begins at or after the start of all of them
 pub starts_behind : (persistent : Bool) (at : ℕ) (gs : List GlobalVar) (k : ℕ) (g : GlobalVar)
     → slice_get gs k ≡ Some g → at ≤ start_of persistent at gs k
 starts_behind persistent at [] k g q = cc
@@ -68,7 +68,7 @@ starts_behind persistent at (x ∷ gs) (suc k) g q =
     go true rest = omega (arith, rest (behind at x), next-le at (global_align x))
     go false rest = rest at
 
--- of two of a kind the later one begins behind the end of the earlier one
+-- of two of a kind the later one begins at or after the end of the earlier one
 pub one_behind_another : (persistent : Bool) (at : ℕ) (gs : List GlobalVar) (j k : ℕ) (g h : GlobalVar)
     → slice_get gs j ≡ Some g → slice_get gs k ≡ Some h → is_persistent gs j ≡ persistent → j < k →
     start_of persistent at gs j + (shape g.ty).size ≤ start_of persistent at gs k

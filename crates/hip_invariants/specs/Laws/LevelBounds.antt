@@ -55,7 +55,7 @@ pub zero_within : (a : Option ℕ) → within_level a 0
 zero_within None = tt
 zero_within (Some t) = omega arith
 
--- what lies behind an offset from a value within a level is within the level behind that offset
+-- an offset from a value within a level is within the level after that offset
 pub offset_within : (a : Option ℕ) (offset v : ℕ) → within_level a v
     → within_level (behind_offset a offset) ((v + offset) % 2 ^ 64)
 offset_within None offset v m = tt
@@ -83,7 +83,7 @@ pub chosen_within : (a : Option ℕ) (b : Bool) (x y : ℕ) → within_level a x
 chosen_within a true x y p q = p
 chosen_within a false x y p q = q
 
--- the level of a constant `getelementptr`: its base's behind the offset of its indices
+-- the level of a constant `getelementptr`: its base's after the offset of its indices
 abbrev const_gep_level : List GlobalVar → ConstGep → Option ℕ
 const_gep_level globals = fold-ConstGep (Option ℕ) (Option ℕ) (Option ℕ)
     (level_step (global_level globals)) gep_level_step item_level_step

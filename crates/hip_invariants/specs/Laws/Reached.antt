@@ -64,7 +64,7 @@ module _ (P : Program) where
   has_now rs q (inl h) = h
   has_now rs q (inr e) = cc
 
-  -- behind an instruction
+  -- after an instruction
   next_reached : (g b k : ℕ) (rs rs' : Registers) (waiting : Option (List ℕ)) (i : Instr)
       → (r : IsReached P None g b k rs) → slice_get r.block.body k ≡ Some i →
       ((q : List ℕ) → IsAmong (assigned_names rs) q → has_or_awaits rs' waiting q)

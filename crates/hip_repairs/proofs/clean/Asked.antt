@@ -31,7 +31,7 @@ module _ (P : Program) (plan : Plan) (found : Findings) (contains : Contains pla
 
 -- ---- the chosen level
 
--- a level of the path: 0, or one behind a call that may be chosen
+-- a level of the path: 0, or one after a call that may be chosen
 abbrev pub IsLevel : ℕ → ℕ → List Site → ℕ → Type 0
 IsLevel first more path level = (k : ℕ) × (k < more) × (k < length path) × (level ≡ first + k)
 
@@ -94,7 +94,7 @@ in_open (l ∷ ls) v (inr i) = go (nat_eq l.birth v.birth) (in_open ls v i)
     go true h = refl
     go false h = h
 
--- where a level behind a call is chosen, that call has returned
+-- where a level after a call is chosen, that call has returned
 pub record IsReturned (standing levels : List Level) (k : ℕ) : Type 0 where
   pub call : Level
   pub of : In call levels

@@ -19,7 +19,7 @@ pub record Safe (plan : Plan) (up : List Level) (F : Flush → Type 0) (durable 
   pub flushes : has_site plan.flush_after x.site ≡ true → k < flushed
   pub both : has_site plan.flush_after x.site ≡ true → has_site plan.fence_after x.site ≡ true → k < durable
   pub fenced : has_site plan.flush_after x.site ≡ true → x.fenced ≡ true → k < durable
-  -- a planned fence behind a flush makes all durable that were flushed
+  -- a planned fence after a flush makes all durable that were flushed
   pub fences : (f h : Flush) → x.first_flush ≡ Some f → F h → f.step ≤ h.step → has_site plan.fence_after h.site ≡ true → k < durable
   pub under : (v : Level) → In v x.levels → has_site plan.hoist v.call ≡ true → k < flushed
   pub closed : (v : Level) → In v x.levels → has_site plan.hoist v.call ≡ true → (k < durable) ⊎ In v up
@@ -54,7 +54,7 @@ module _ (plan : Plan) (up : List Level) where
 
   -- a flush of the line
   module _ (F F' : Flush → Type 0) (flush : Flush) (more : (h : Flush) → F' h → (h ≡ flush) ⊎ F h) (timed : (h : Flush) → F h → h.step < flush.step) where
-    -- a planned fence behind a known flush, which is this one or an earlier one
+    -- a planned fence after a known flush, which is this one or an earlier one
     fences_now : (k g : ℕ) (o : Option Flush) (f h : Flush) → earlier o flush ≡ Some f → f.step ≤ h.step → has_site plan.fence_after h.site ≡ true → (h ≡ flush) ⊎ F h → (has_site plan.fence_after flush.site ≡ true → k < g) → ((f h : Flush) → o ≡ Some f → F h → f.step ≤ h.step → has_site plan.fence_after h.site ≡ true → k < g) → k < g
     fences_now k g o f h e le q (inl same) now old = now (subst (λ (x : Flush). has_site plan.fence_after x.site ≡ true) same q)
     fences_now k g None f h e le q (inr i) now old = let same : f ≡ flush = cc in let t = timed h i in let le' : flush.step ≤ h.step = subst (λ (x : Flush). x.step ≤ h.step) same le in absurd (omega arith)
@@ -111,7 +111,7 @@ module _ (plan : Plan) (up : List Level) where
     safe_fence F F' g p g' (suc k) xs hg hp a.1,
   )
 
-  -- a flush of the line with a fence behind it: all is durable
+  -- a flush of the line with a fence after it: all is durable
   safe_persist : (F F' : Flush → Type 0) (flush : Flush) (g p g' p' k : ℕ) (xs : List StorePart) → g ≤ g' → k + length xs ≤ p' → k + length xs ≤ g' → AllSafe plan up F g p k xs → AllSafe plan up F' g' p' k (map noted_fence (map (noted_flush flush) xs))
   safe_persist F F' flush g p g' p' k [] hg hp hs a = tt
   safe_persist F F' flush g p g' p' k (x ∷ xs) hg hp hs a = (
@@ -301,7 +301,7 @@ module _ (plan : Plan) (up : List Level) where
 
   -- ---- a store of both, and then the inserted flush and fence
 
-  -- what is inserted behind a store at site s: perhaps a flush, perhaps a fence
+  -- what is inserted after a store at site s: perhaps a flush, perhaps a fence
   pub record Wants (s : Site) (b c : Bool) : Type 0 where
     pub flush : has_site plan.flush_after s ≡ true → b ≡ true
     pub fence : has_site plan.fence_after s ≡ true → c ≡ true

@@ -76,7 +76,7 @@ unfolding fresh_lines
 all_start N zero = tt
 all_start N (suc n) = (record { parts = tt }, all_start N n)
 
--- ---- a store, and the flush that is inserted behind it
+-- ---- a store, and the flush that is inserted after it
 
 module _ (N : ℕ) (flush : Flush) (part : ℕ → StorePart) (o n len : ℕ) (same : (j : ℕ) → has_bytes j o n ≡ has_bytes j o len) where
   abbrev with_store : ℕ → Line StorePart → Line StorePart
@@ -99,7 +99,7 @@ module _ (P : Program) (plan : Plan) (skip : Site → Bool) (I : Input) where
   abbrev pub CloneFlushed : List Level → Lines → Lines → Type 0
   CloneFlushed up ls ls' = IsQuiet P skip → AllFlushed (length P.functions) ls'
 
-  -- a store behind which no flush is inserted is none of a clone's
+  -- a store after which no flush is inserted is none of a clone's
   no_clone : (planned clone skipped : Bool) → skipped ≡ false → planned || (clone && not skipped) ≡ false → clone ≡ false
   no_clone true clone skipped e h = absurd (let z : ⊥ = cc in z)
   no_clone false true true e h = absurd (let z : ⊥ = cc in z)

@@ -82,7 +82,7 @@ module _ (Q : Program) where
 
 -- ---- places in lists
 
--- an item and what stands behind it
+-- an item and what stands after it
 record IsAt {A : Type 0} (xs : List A) (k : ℕ) (o : Option A) : Type 0 where
   item : A
   behind : List A

@@ -1,4 +1,4 @@
--- From the call of a clone to the fence behind it: what was stored since then was stored by clones.
+-- From the call of a clone to the fence after it: what was stored since then was stored by clones.
 use Rattle.std.proofs.Common.{◌≡◌, ◌≢◌, ◌⊎◌, inl, inr, ⊎_elim, ℕ, zero, suc, ◌+◌, ◌-◌, ◌<◌, ◌≤◌, Bool, true, false, nat_lt, nat_eq, List, [], ◌∷◌, ◌++◌, length, Option, Some, None, slice_get, refl, sym, ap, ap₂, ◌∙◌, subst, arith, ltb-true, length-append}
 use Rattle.std.proofs.lemmas.Bool.Decides.{nat_tests}
 use Rattle.hip_tree.specs.declared.instr.Instr.{Instr}
@@ -93,7 +93,7 @@ record Over (N g : ℕ) (c : Frame) (rest : List Frame) (fs : List Frame) : Type
   frames : fs ≡ top ∷ (above ++ next c ∷ rest)
   clones : N ≤ g → AllFrom N (top ∷ above)
 
--- the one that called stands behind its call
+-- the one that called stands after its call
 record Behind (c : Frame) (rest : List Frame) (fs : List Frame) : Type 0 where
   dest : Option (List ℕ)
   value : ℕ
@@ -239,7 +239,7 @@ module _ (Q : Program) (I : Input) (full : (i : ℕ) → (f : Frame) × (fs : Li
   unfolding run
   start_at = record { top = _; others = []; frames = refl; place = refl }
 
-  -- behind a call of a clone there is a last state before with as many frames
+  -- after a call of a clone there is a last state before with as many frames
   pub last_before : (n : ℕ) → IsBehindClone Q N (run Q I n) → (j : ℕ) × IsLastBefore Q I j n
   last_before n behind = go (find_last (depth n) n)
     where
@@ -285,7 +285,7 @@ module _ (Q : Program) (I : Input) (full : (i : ℕ) → (f : Frame) × (fs : Li
           go zero q = omega arith
           go (suc m) q = absurd (last.between (suc j) (omega arith) (omega arith) (ap length e ∙ sym depth_n))
 
-      -- where the frame stands one place behind c, c stands at the call
+      -- where the frame stands one place after c, c stands at the call
       call_here : (f : Frame) → behind.frame ≡ f → f.function ≡ c.function → f.block ≡ c.block → f.place ≡ suc c.place → IsCallFrom Q N (instr_here Q c)
       call_here f e function block place =
           let p = ap (λ (x : Frame). x.place) e in

@@ -211,7 +211,7 @@ module _ (P : Program) (plan : Plan) (skip : Site → Bool) where
       let there = any_back (bytes_eq name) (map (λ g. g.name) P.globals) _ (any_back (bytes_eq name) (map (λ e. e.name) P.externs) _ here) in
       cc
 
-  -- the clone of a function has the number of its place behind all functions
+  -- the clone of a function has the number of its place after all functions
   pub clone_number : (k : ℕ) (name : List ℕ) → slice_get fresh k ≡ Some name → function_number (repaired P plan skip) name ≡ Some (length P.functions + k)
   clone_number k name e =
       ap (λ names. number_of names name) names_then

@@ -273,7 +273,7 @@ module _ (P : Program) (plan : Plan) (skip : Site → Bool) (I : Input) (good : 
     unfolding perform
     trapped i h w c d c' d' kind = after_stop clone (at_frame k regs slots) (at_frame' k' regs slots') fs fs' ls ls' (here_tied i h) below ahead holds (Trap kind) w d d'
 
-    -- an instruction behind which at most a fence is inserted
+    -- an instruction after which at most a fence is inserted
     module _ (i : Instr) (h : Here i) (behind : inserted i ≡ cond fenced_here ((the_fence, true) ∷ []) []) (c d c' d' : Counts) (timed : (g : Flush) → Known ls g → g.step < c.steps) where
       next_plain : (w : World) (rs : Registers) (sl sl' : List Slot) (ms ms' : Lines) → extents sl' ≡ extents sl → Ahead ms ms' → Holds up ms (fence_if fenced_here ms') →
           After (state w (at_frame (suc k) rs sl ∷ fs) ms d) (state w (at_frame' (suc k') rs sl' ∷ fs') ms' d')

@@ -1,4 +1,4 @@
--- The inserted instructions meet the rules of their places, since the stores that they stand behind do.
+-- The inserted instructions meet the rules of their places, since the stores that they stand after do.
 use Rattle.std.proofs.Common.{◌≡◌, ◌⊎◌, inl, inr, ℕ, Bool, true, false, cond, ◌&&◌, List, [], ◌∷◌, ◌++◌, All, Option, None, is_some, refl, sym, ap, ◌∙◌, subst}
 use Rattle.std.specs.List.{list_all}
 use Rattle.std.proofs.lemmas.List.Elements.{All-nil}
@@ -63,7 +63,7 @@ types_second : (value addr : Operand) (ty : Scalar) → All Fits (used_constant_
 types_second (Reg v) addr ty h = h
 types_second (Fixed v) addr ty h = all-back Fits (types_in v) (used_constant_types (use_of addr Ptr ∷ [])) h
 
--- ---- with the size behind them
+-- ---- with the size after them
 
 module _ (n : ℕ) where
   abbrev size_use : Use

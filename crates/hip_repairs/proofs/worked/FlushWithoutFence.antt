@@ -1,4 +1,4 @@
--- The run of a store with a flush and no fence behind it, and its repair.
+-- The run of a store with a flush and no fence after it, and its repair.
 use Rattle.std.proofs.Common.{◌≡◌, true, false, [], ◌∷◌, List, refl, ap}
 use Rattle.hip_types.specs.Laws.LayoutLaws.{shape-Int}
 use Rattle.hip_runs.specs.Actions.{Deed, Flushes, Returns, Stores}

@@ -58,7 +58,7 @@ copy_caller = main_of (call_void (codes "copy") (ptr_arg (at (codes "p")) ∷ pt
 -- @p = global i64 0, section ".pm"
 -- @q = global i64 9
 -- declare void @pm_assert(ptr, i64)
--- @copy as above with `call void @pm_assert(ptr %dst, i64 8)` behind the store, and @main
+-- @copy as above with `call void @pm_assert(ptr %dst, i64 8)` after the store, and @main
 abbrev pub assert_inside_callee : Program
 assert_inside_callee =
     record {
@@ -94,7 +94,7 @@ assert_inside_callee_reports =
 -- declare void @pm_assert(ptr, i64)
 -- declare void @llvm.x86.clwb(ptr)
 -- declare void @llvm.x86.sse.sfence()
--- @copy as above with these three behind the store, and @main
+-- @copy as above with these three after the store, and @main
 --   call void @llvm.x86.clwb(ptr %dst)
 --   call void @llvm.x86.sse.sfence()
 --   call void @pm_assert(ptr %dst, i64 8)

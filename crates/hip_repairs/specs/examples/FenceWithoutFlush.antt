@@ -1,4 +1,4 @@
--- A store with a fence and no flush behind it.
+-- A store with a fence and no flush after it.
 use Rattle.std.specs.Prelude.{[], ◌∷◌, None, codes}
 use Rattle.hip_tree.specs.declared.program.Program.{Program}
 use Rattle.hip_runs.specs.declared.report.Kind.TheVariants.{MissingFlush}

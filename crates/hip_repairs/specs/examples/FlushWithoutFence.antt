@@ -1,4 +1,4 @@
--- A store with a flush and no fence behind it.
+-- A store with a flush and no fence after it.
 use Rattle.std.specs.Prelude.{[], ◌∷◌, Some, codes}
 use Rattle.hip_tree.specs.declared.program.Program.{Program}
 use Rattle.hip_runs.specs.declared.report.Kind.TheVariants.{MissingFence}

@@ -98,7 +98,7 @@ mutual_recursion_report =
 -- declare void @llvm.x86.clwb(ptr)
 -- declare void @llvm.x86.sse.sfence()
 -- @even and @odd as before, @main with these two at last, and @even.pm and @odd.pm, which call one another and have a
--- clwb of %d behind the store
+-- clwb of %d after the store
 --   call void @even.pm(ptr @p, i64 2)
 --   call void @llvm.x86.sse.sfence()
 abbrev pub mutual_recursion_repaired : Program

@@ -52,7 +52,7 @@ fit_pieces whole bytes = fit_texts (pieces whole bytes)
 
 -- ---- what a header has given so far
 
--- the entries behind START and REGISTER that give so much
+-- the entries after START and REGISTER that give so much
 abbrev so_far : Input → List Entry
 so_far J = map (λ z. Number z) J.numbers ++ image_entries (length J.image / 64) J.base J.image
 

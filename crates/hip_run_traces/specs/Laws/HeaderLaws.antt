@@ -58,7 +58,7 @@ ends_there : (P : Program) (J : Input) (c : ℕ) (es : List Entry) → EndsHeade
 ends_there P J c [] h = refl
 ends_there P J c (e ∷ es) h = ap (go_on P J c (λ more. header_from P more (suc c) (told es))) (h.is J)
 
--- the entries of a run's steps, behind its header
+-- the entries of a run's steps, after its header
 record StepsOf (P : Program) (I : Input) (n : ℕ) : Type 0 where
   steps : List Entry
   ends : EndsHeader P steps

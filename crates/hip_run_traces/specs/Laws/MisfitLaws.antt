@@ -330,7 +330,7 @@ step-differs P I n whole ps es c kind t lt d =
           (sym (ap (λ (xs : List Entry). slice_get xs c) f.1 ∙ get_appended (trace P I n) f.0 c lt)) d.here;
     }
 
--- behind entries that the pieces spell, the first difference is the next one
+-- after entries that the pieces spell, the first difference is the next one
 pub differs-behind : (whole : Bool) (front : List Entry) (ps : List (Option Entry)) (more : List Entry)
     (kind : MisfitKind) → DiffersAt whole (slice_get ps 0) (slice_get more 0) kind
     → FirstDiffers whole (told front ++ ps) (front ++ more) (length front) kind

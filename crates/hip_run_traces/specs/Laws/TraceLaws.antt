@@ -99,7 +99,7 @@ module _ (P : Program) (I : Input) where
 
   -- ---- the whole
 
-  -- behind the end nothing more comes
+  -- after the end nothing more comes
   rests : (n d : ℕ) → has_ended (run P I n) ≡ true → (has_ended (run P I (n + d)) ≡ true)
       × (trace P I (n + d) ≡ trace P I n)
   rests n zero h =

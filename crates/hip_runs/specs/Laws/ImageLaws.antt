@@ -20,7 +20,7 @@ use Rattle.hip_runs.specs.Step.{run}
 use Rattle.hip_runs.specs.Validity.{IsInput, IsValid}
 use Rattle.hip_tree.specs.declared.program.Program.{Program}
 
--- ---- the parts behind the durable ones
+-- ---- the parts after the durable ones
 
 after_append : (xs ys : List StorePart) (b first : ℕ)
     → byte_after covers byte_of (xs ++ ys) b first
@@ -41,8 +41,8 @@ take_parts (suc d) (suc q) (x ∷ xs) le =
     ap (λ ys. x ∷ ys) (take_parts d q xs (omega (arith, le)))
     ∙ ap (λ k. x ∷ (take d xs ++ take k (drop d xs))) (let e : q - d ≡ suc q - suc d = omega arith in e)
 
--- a byte after some first parts is that after the parts behind the durable ones, where it was what the durable ones
--- leave before
+-- The first parts of a line, applied to a byte, give what its durable parts give with the rest of the first parts
+-- applied to it.
 pub behind_durable : (l : Line StorePart) (q b first : ℕ) → l.durable ≤ q →
     byte_after covers byte_of (take q l.parts) b first
     ≡ byte_after covers byte_of (take (q - l.durable) (drop l.durable l.parts)) b

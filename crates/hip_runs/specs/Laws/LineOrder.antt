@@ -93,7 +93,7 @@ well_fence n m l h = record {
       ∙ h.unflushed k r.0 r.1 le;
 }
 
--- a place of a list that one more item was put behind
+-- a place of a list to which one more item was added
 data Place {A : Type 0} (xs : List A) (y : A) (k : ℕ) (x : A) : Type 0 where
   before : k < length xs → slice_get xs k ≡ Some x → Place xs y k x
   last : k ≡ length xs → x ≡ y → Place xs y k x

@@ -251,7 +251,7 @@ module _ (P : Program) (I : Input) (entry : ℕ) where
       go (inr (inl e)) = e
       go (inr (inr lt)) = absurd (let h = f.least n lt in omega (arith, h, g.enough))
 
-  -- behind the entries before the first step, there are just so many
+  -- a step that reaches an entry after those of the header has exactly that number of entries
   pub entry_exact : (n : ℕ) → header_entries I < entry → IsAtEntry P I entry n → entries n ≡ entry
   unfolding run
   entry_exact zero h a = absurd (let le = a.enough in omega (arith, le, h))

@@ -1,4 +1,4 @@
--- A part of a store is durable exactly where its cache line was flushed after it and a fence came behind the flush.
+-- A part of a store is durable exactly where its cache line was flushed after it and a fence came after the flush.
 use Rattle.std.proofs.Common.{◌≡◌, ◌⊎◌, inl, inr, ℕ, zero, suc, ◌-◌, ◌<◌, ◌≤◌, Bool, true, false, cond, List, [], ◌∷◌, ◌++◌, length, map, Option, Some, None, option_map, slice_get, refl, sym, ap, ◌∙◌, subst, arith}
 use Rattle.hip_tree.specs.declared.program.Program.{Program}
 use Rattle.hip_lines.specs.Line.{Line, IsOrdered, with_part, has_bytes, fresh_lines}
@@ -277,7 +277,7 @@ module _ (P : Program) (I : Input) (n : ℕ) where
   abbrev AreSeen : ℕ → List (Line StorePart) → Type 0
   AreSeen m ls = (j : ℕ) → AllSeen P I n j m (slice_get ls j)
 
-  -- if this is the event of step n, the same of each of these lines behind it
+  -- if this is the event of step n, the same of each of these lines after it
   abbrev Next : Event → List (Line StorePart) → Type 0
   Next e ls = event P I (run P I n) ≡ e → AreSeen (suc n) ls
 
@@ -335,7 +335,7 @@ part_seen : (P : Program) (I : Input) (n j k : ℕ) (x : StorePart) (l : Line St
 part_seen P I n j k x l e g =
     let all : AllSeen P I n j n (Some l) = subst (AllSeen P I n j n) e (run_seen P I n j) in all k x g
 
--- a durable part's line was flushed after the store, and a fence came behind the flush
+-- a durable part's line was flushed after the store, and a fence came after the flush
 pub durable_told : (P : Program) (I : Input) (n j k : ℕ) (x : StorePart) → IsDurableAt (run P I n) j k x
     → IsFlushedThenFenced P I j x.step n
 durable_told P I n j k x d = go (slice_get (run P I n).lines j) refl d

@@ -1,5 +1,5 @@
 -- The event of a step tells what the run prints in it, and whether it ends.
-use Rattle.std.proofs.Common.{◌≡◌, ℕ, zero, suc, Bool, true, false, cond, List, [], ◌∷◌, ◌++◌, length, Option, Some, None, append-nil, refl, sym, ap, ◌∙◌}
+use Rattle.std.proofs.Common.{◌≡◌, ℕ, suc, Bool, true, false, cond, List, [], ◌∷◌, ◌++◌, length, Option, Some, None, append-nil, refl, sym, ap, ◌∙◌}
 use Rattle.std.specs.Fmt.{signed_decimal}
 use Rattle.std.specs.Prelude.{codes}
 use Rattle.hip_tree.specs.declared.program.Program.{Program}
@@ -15,7 +15,7 @@ use Rattle.hip_runs.specs.Step.{event, event_at, event_of, event_on_ending, even
 use Rattle.hip_runs.specs.StoredParts.Persistence.{flushes_lines}
 use Rattle.hip_runs.specs.declared.event.Event.TheVariants as events
 
--- what is printed in a step comes behind what was printed before it, and the event tells how the run has ended
+-- what is printed in a step comes after what was printed before it, and the event tells how the run has ended
 pub record IsTold (before after : World) (e : Event) : Type 0 where
   pub output : after.output ≡ before.output ++ printed_by e
   pub ending : after.ending ≡ ending_by e

@@ -1,10 +1,9 @@
 -- The parts of the cache lines are those of the stores that the run made.
-use Rattle.std.proofs.Common.{◌≡◌, ◌⊎◌, inl, inr, ℕ, zero, suc, ◌+◌, ◌-◌, ◌/◌, ◌<◌, ◌≤◌, Bool, true, false, cond, ◌&&◌, nat_lt, nat_le, List, [], ◌∷◌, length, take, drop, Some, slice_get, slice_index, refl, sym, ap, ◌∙◌, subst, arith}
+use Rattle.std.proofs.Common.{◌≡◌, ◌⊎◌, inl, inr, ℕ, zero, suc, ◌+◌, ◌-◌, ◌≤◌, Bool, true, false, cond, List, ◌∷◌, length, Some, slice_get, slice_index, refl, sym, ap, ◌∙◌, subst, arith}
 use Rattle.std.proofs.lemmas.Bool.Decides.{nat_tests}
-use Rattle.std.proofs.lemmas.List.{length-take-le, length-drop}
 use Rattle.hip_tree.specs.declared.program.Program.{Program}
 use Rattle.hip_types.specs.Bytes.{little_endian, bytes_of}
-use Rattle.hip_lines.specs.Line.{Line, start_in, end_in, has_bytes}
+use Rattle.hip_lines.specs.Line.{Line, has_bytes}
 use Rattle.hip_lines.specs.Laws.LineLaws.{byte-of_part}
 use Rattle.hip_runs.specs.declared.event.Event.{Event}
 use Rattle.hip_runs.specs.declared.input.Input.{Input}
@@ -12,89 +11,15 @@ use Rattle.hip_runs.specs.Actions.{in_region}
 use Rattle.hip_runs.specs.StoredParts.Parts.{PartOf}
 use Rattle.hip_runs.specs.StoredParts.Persistence.{part_of_store, noted_flush, noted_fence}
 use Rattle.hip_runs.specs.StoredParts.Since.{top_site, IsOfStore}
+use Rattle.hip_runs.specs.Laws.HeldBytes.{held, holds_byte, held_byte, line_byte}
 use Rattle.hip_runs.specs.Laws.SinceLaws.{InLine, line_of_part, of_fenced, of_flushed, of_stored, line_of_start, no_part}
 use Rattle.hip_runs.specs.State.{Flush, StorePart, Frame, levels_of, site_of}
 use Rattle.hip_runs.specs.Step.{event, run}
 use Rattle.hip_runs.specs.Laws.StepLaws.{Cases, IsTop, step-cases, counted-steps}
 use Rattle.hip_runs.specs.declared.event.Event.TheVariants as events
 
--- ---- the bytes of a part
-
-index_take : (n : ℕ) (xs : List ℕ) (i : ℕ) → i < n → slice_index (take n xs) i ≡ slice_index xs i
-index_take zero xs i h = absurd (omega arith)
-index_take (suc n) [] i h = refl
-index_take (suc n) (x ∷ xs) zero h = refl
-index_take (suc n) (x ∷ xs) (suc i) h = index_take n xs i (omega arith)
-
-index_drop : (n : ℕ) (xs : List ℕ) (i : ℕ) → slice_index (drop n xs) i ≡ slice_index xs (n + i)
-index_drop zero xs i = let e : i ≡ 0 + i = omega arith in ap (slice_index xs) e
-index_drop (suc n) [] i = refl
-index_drop (suc n) (x ∷ xs) i =
-    index_drop n xs i ∙ (let e : suc (n + i) ≡ suc n + i = omega arith in ap (slice_index (x ∷ xs)) e)
-
-covered : (first size b : ℕ) → nat_le first b && nat_lt b (first + size) ≡ true → (first ≤ b)
-    × (b < first + size)
-covered first size b h = (grind (arith, nat_tests), grind (arith, nat_tests))
-
-cover : (first size b : ℕ) → first ≤ b → b < first + size → nat_le first b && nat_lt b (first + size) ≡ true
-cover first size b h k = grind (arith, nat_tests)
-
 in_there : (I : Input) (a n : ℕ) → in_region I a n ≡ true → I.base ≤ a
 in_there I a n h = grind (arith, nat_tests)
-
-module _ (o : ℕ) (bytes : List ℕ) (j : ℕ) where
-  -- the bytes of a store at offset o that lie in cache line j
-  abbrev Held : List ℕ
-  Held = take (end_in j o (length bytes) - start_in j o) (drop (start_in j o - o) bytes)
-
-  fits : (n rest : ℕ) → rest ≡ n - (start_in j o - o) → end_in j o n - start_in j o ≤ rest
-  fits n rest e = omega (arith, e)
-
-  length_held : length Held ≡ end_in j o (length bytes) - start_in j o
-  length_held =
-      length-take-le (end_in j o (length bytes) - start_in j o) (drop (start_in j o - o) bytes)
-      (fits (length bytes) (length (drop (start_in j o - o) bytes)) (length-drop (start_in j o - o) bytes))
-
-  ends : (n b : ℕ) → start_in j o ≤ b → b < start_in j o + (end_in j o n - start_in j o) → b < end_in j o n
-  ends n b h k = omega arith
-
-  starts : (n b : ℕ) → start_in j o ≤ b → b < end_in j o n → b < start_in j o + (end_in j o n - start_in j o)
-  starts n b h k = omega arith
-
-  -- a byte that the part covers lies in the part's line and in the store
-  held : (b : ℕ) → nat_le (start_in j o) b && nat_lt b (start_in j o + length Held) ≡ true
-      → (start_in j o ≤ b) × (b < end_in j o (length bytes))
-  held b h =
-      let c = covered (start_in j o) (length Held) b h in
-      (c.0, ends (length bytes) b c.0 (subst (λ k. b < start_in j o + k) length_held c.1))
-
-  holds_byte : (b : ℕ) → start_in j o ≤ b → b < end_in j o (length bytes)
-      → nat_le (start_in j o) b && nat_lt b (start_in j o + length Held) ≡ true
-  holds_byte b h k =
-      cover (start_in j o) (length Held) b h (subst (λ i. b < start_in j o + i) (sym length_held)
-      (starts (length bytes) b h k))
-
-  behind : (n b : ℕ) → start_in j o ≤ b → b < end_in j o n → b - start_in j o < end_in j o n - start_in j o
-  behind n b h k = omega arith
-
-  sums : (b : ℕ) → start_in j o ≤ b → (start_in j o - o) + (b - start_in j o) ≡ b - o
-  sums b h = omega arith
-
-  held_byte : (b : ℕ) → start_in j o ≤ b → b < end_in j o (length bytes)
-      → slice_index Held (b - start_in j o) ≡ slice_index bytes (b - o)
-  held_byte b h k =
-      index_take (end_in j o (length bytes) - start_in j o) (drop (start_in j o - o) bytes) (b - start_in j o)
-      (behind (length bytes) b h k)
-      ∙ index_drop (start_in j o - o) bytes (b - start_in j o)
-      ∙ ap (slice_index bytes) (sums b h)
-
-  -- a byte of the store that lies in the line is one that the part covers
-  line_byte : (b : ℕ) → o ≤ b → b < o + length bytes → b / 64 ≡ j → (start_in j o ≤ b)
-      × (b < end_in j o (length bytes))
-  line_byte b h k e = inside (length bytes) b h k e
-    where
-      inside : (n b : ℕ) → o ≤ b → b < o + n → b / 64 ≡ j → (start_in j o ≤ b) × (b < end_in j o n)
-      inside n b h k e = (omega (arith, e), omega (arith, e))
 
 -- ---- a step
 

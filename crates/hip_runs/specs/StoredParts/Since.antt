@@ -17,7 +17,7 @@ abbrev pub stores : Event → Bool
 stores (events.Store addr value size) = true
 stores _ = false
 
--- whether a step with this event is a fence: one by itself, or the one behind the flushes of a persist
+-- whether a step with this event is a fence: one by itself, or the one after the flushes of a persist
 abbrev pub fences : Event → Bool
 fences events.Fence = true
 fences (events.Persist line size) = true
@@ -64,7 +64,7 @@ abbrev pub FlushedSince : Program → Input → ℕ → ℕ → ℕ → Type 0
 FlushedSince P I j from n = (m : ℕ) × (from < m) × (m < n) × (flushes I.base j (event P I (run P I m)) ≡ true)
 
 -- A step after step `from` flushes cache line j, and before step n a fence comes with it or after it. (Intel's
--- manual: a line is durable where it was flushed and a fence came behind the flush.)
+-- manual: a line is durable where it was flushed and a fence came after the flush.)
 pub record IsFlushedThenFenced (P : Program) (I : Input) (j from n : ℕ) : Type 0 where
   pub flush : ℕ
   pub fence : ℕ

@@ -1,15 +1,15 @@
 -- A line after a store, a flush and a fence, byte by byte.
-use Rattle.std.proofs.Common.{◌≡◌, ◌⊎◌, inl, inr, ℕ, zero, suc, ◌+◌, ◌-◌, ◌/◌, ◌<◌, ◌≤◌, Bool, true, false, cond, ◌&&◌, nat_lt, nat_le, List, [], ◌∷◌, length, map, take, drop, Option, Some, None, option_map, slice_get, slice_index, refl, sym, ap, ◌∙◌, subst, arith}
+use Rattle.std.proofs.Common.{◌≡◌, ◌⊎◌, inl, inr, ℕ, ◌+◌, ◌-◌, ◌/◌, ◌<◌, ◌≤◌, Bool, true, false, cond, ◌&&◌, nat_lt, nat_le, List, [], ◌∷◌, length, map, Option, Some, None, option_map, slice_get, slice_index, refl, sym, ap, ◌∙◌, arith}
 use Rattle.std.proofs.lemmas.Bool.Decides.{nat_tests}
-use Rattle.std.proofs.lemmas.List.{length-take-le, length-drop}
 use Rattle.hip_tree.specs.declared.site.Site.{Site}
 use Rattle.hip_lines.specs.Image.{byte_after, parts_of}
-use Rattle.hip_lines.specs.Line.{Line, with_part, start_in, end_in, has_bytes, change_range, stored}
+use Rattle.hip_lines.specs.Line.{Line, with_part, start_in, has_bytes, change_range, stored}
 use Rattle.hip_lines.specs.Laws.LineLaws.{byte-of_part, has_bytes-of_byte, slice_get-change_range}
 use Rattle.hip_mem.specs.Memory.{write_covers, byte_written}
 use Rattle.hip_mem.specs.Laws.AreasLaws.{covered_or_not}
 use Rattle.hip_runs.specs.Actions.{in_region}
 use Rattle.hip_runs.specs.Crash.{covers, byte_of}
+use Rattle.hip_runs.specs.Laws.HeldBytes.{Held, held, holds_byte, held_byte}
 use Rattle.hip_runs.specs.Laws.SinceLaws.{get_mapped}
 use Rattle.hip_runs.specs.State.{Level, Flush, StorePart, Counts}
 use Rattle.hip_runs.specs.StoredParts.Persistence.{part_of_store, noted_flush, noted_fence, flush_line, fence_line, flushes_lines, flushed_lines, fenced_lines}
@@ -66,79 +66,17 @@ line_byte-fenced I ls b =
 
 -- ---- a store writes its bytes
 
-index_take : (n : ℕ) (xs : List ℕ) (i : ℕ) → i < n → slice_index (take n xs) i ≡ slice_index xs i
-index_take zero xs i h = absurd (omega arith)
-index_take (suc n) [] i h = refl
-index_take (suc n) (x ∷ xs) zero h = refl
-index_take (suc n) (x ∷ xs) (suc i) h = index_take n xs i (omega arith)
-
-index_drop : (n : ℕ) (xs : List ℕ) (i : ℕ) → slice_index (drop n xs) i ≡ slice_index xs (n + i)
-index_drop zero xs i = let e : i ≡ 0 + i = omega arith in ap (slice_index xs) e
-index_drop (suc n) [] i = refl
-index_drop (suc n) (x ∷ xs) i =
-    index_drop n xs i ∙ (let e : suc (n + i) ≡ suc n + i = omega arith in ap (slice_index (x ∷ xs)) e)
-
--- a test on a range, by what it says
-range_test : (first size b : ℕ) → nat_le first b && nat_lt b (first + size) ≡ true → (first ≤ b)
-    × (b < first + size)
-range_test first size b h = (grind (arith, nat_tests), grind (arith, nat_tests))
-
-test_range : (first size b : ℕ) → first ≤ b → b < first + size → nat_le first b && nat_lt b (first + size) ≡ true
-test_range first size b h k = grind (arith, nat_tests)
-
 true_or_not : (c : Bool) → (c ≡ true) ⊎ (c ≡ false)
 true_or_not true = inl refl
 true_or_not false = inr refl
 
-module _ (o : ℕ) (bytes : List ℕ) (j : ℕ) where
-  -- the bytes of a store at offset o that lie in cache line j
-  abbrev Held : List ℕ
-  Held = take (end_in j o (length bytes) - start_in j o) (drop (start_in j o - o) bytes)
-
-  fits : (n rest : ℕ) → rest ≡ n - (start_in j o - o) → end_in j o n - start_in j o ≤ rest
-  fits n rest e = omega (arith, e)
-
-  length_held : length Held ≡ end_in j o (length bytes) - start_in j o
-  length_held =
-      length-take-le (end_in j o (length bytes) - start_in j o) (drop (start_in j o - o) bytes)
-      (fits (length bytes) (length (drop (start_in j o - o) bytes)) (length-drop (start_in j o - o) bytes))
-
-  ends : (n b : ℕ) → start_in j o ≤ b → b < start_in j o + (end_in j o n - start_in j o) → b < end_in j o n
-  ends n b h k = omega arith
-
-  starts : (n b : ℕ) → start_in j o ≤ b → b < end_in j o n → b < start_in j o + (end_in j o n - start_in j o)
-  starts n b h k = omega arith
-
-  behind : (n b : ℕ) → start_in j o ≤ b → b < end_in j o n → b - start_in j o < end_in j o n - start_in j o
-  behind n b h k = omega arith
-
-  sums : (b : ℕ) → start_in j o ≤ b → (start_in j o - o) + (b - start_in j o) ≡ b - o
-  sums b h = omega arith
-
-  -- a byte that the part covers is one of the store
-  pub held-stored : (b : ℕ) → nat_le (start_in j o) b && nat_lt b (start_in j o + length Held) ≡ true
-      → (o ≤ b) × (b < o + length bytes)
-  held-stored b h =
-      let c = range_test (start_in j o) (length Held) b h in
-      let e : b < end_in j o (length bytes) =
-      ends (length bytes) b c.0 (subst (λ k. b < start_in j o + k) length_held c.1) in
-      let r = byte-of_part o (length bytes) j b c.0 e in (r.0, r.1)
-
-  -- a byte of the store in the line is one that the part covers
-  pub stored-held : (b : ℕ) → start_in j o ≤ b → b < end_in j o (length bytes)
-      → nat_le (start_in j o) b && nat_lt b (start_in j o + length Held) ≡ true
-  stored-held b h k =
-      test_range (start_in j o) (length Held) b h
-      (subst (λ i. b < start_in j o + i) (sym length_held) (starts (length bytes) b h k))
-
-  -- and has its value there
-  pub held-byte : (b : ℕ) → start_in j o ≤ b → b < end_in j o (length bytes)
-      → slice_index Held (b - start_in j o) ≡ slice_index bytes (b - o)
-  held-byte b h k =
-      index_take (end_in j o (length bytes) - start_in j o) (drop (start_in j o - o) bytes) (b - start_in j o)
-      (behind (length bytes) b h k)
-      ∙ index_drop (start_in j o - o) bytes (b - start_in j o)
-      ∙ ap (slice_index bytes) (sums b h)
+-- a byte that the part covers is one of the store
+held-stored : (o : ℕ) (bytes : List ℕ) (j b : ℕ)
+    → nat_le (start_in j o) b && nat_lt b (start_in j o + length (Held o bytes j)) ≡ true
+    → (o ≤ b) × (b < o + length bytes)
+held-stored o bytes j b h =
+    let c = held o bytes j b h in
+    let r = byte-of_part o (length bytes) j b c.0 c.1 in (r.0, r.1)
 
 within : (base size a n : ℕ) → nat_le base a && nat_le (a + n) (base + size) ≡ true → base ≤ a
 within base size a n h = grind (arith, nat_tests)
@@ -167,8 +105,8 @@ module _ (I : Input) (counts : Counts) (site : Site) (levels : List Level) (a : 
           let high : b < (a - I.base) + length bytes = omega (arith, x.2, from) in
           let r = has_bytes-of_byte (a - I.base) (length bytes) b low high in
           let at : b - (a - I.base) ≡ (I.base + b) - a = omega (arith, from, low) in
-          ap (λ c. cond c (byte_of part b) old) (stored-held (a - I.base) bytes (b / 64) b r.1 r.2)
-          ∙ held-byte (a - I.base) bytes (b / 64) b r.1 r.2
+          ap (λ c. cond c (byte_of part b) old) (holds_byte (a - I.base) bytes (b / 64) b r.1 r.2)
+          ∙ held_byte (a - I.base) bytes (b / 64) b r.1 r.2
           ∙ ap (slice_index bytes) at
           ∙ sym (ap (λ c. cond c (slice_index bytes ((I.base + b) - a)) old) x.0)
       go (inr x) =

@@ -66,11 +66,16 @@ module _ (P : Program) (I : Input) (low : volatile_end P ≤ I.base) (above : st
     where
       go : (is_within volatile_start (volatile_end P) a n ≡ true)
           ⊎ (is_within stack_start mark a n || in_region I a n ≡ true) → a + n ≤ I.base
-      go (inl e) = let h : a + n ≤ volatile_end P = le_true (a + n) (volatile_end P) (both_true (nat_le volatile_start a) (nat_le (a + n) (volatile_end P)) e).1 in omega (arith, h, low)
+      go (inl e) =
+          let both = both_true (nat_le volatile_start a) (nat_le (a + n) (volatile_end P)) e in
+          let h : a + n ≤ volatile_end P = le_true (a + n) (volatile_end P) both.1 in
+          omega (arith, h, low)
       go (inr e) = next (either (is_within stack_start mark a n) _ e)
         where
           next : (is_within stack_start mark a n ≡ true) ⊎ (in_region I a n ≡ true) → a + n ≤ I.base
-          next (inl g) = let h : a + n ≤ mark = le_true (a + n) mark (both_true (nat_le stack_start a) (nat_le (a + n) mark) g).1 in omega (arith, h, m, above)
+          next (inl g) =
+              let h : a + n ≤ mark = le_true (a + n) mark (both_true (nat_le stack_start a) (nat_le (a + n) mark) g).1 in
+              omega (arith, h, m, above)
           next (inr g) = absurd (let z : false ≡ true = sym f ∙ g in let u : ⊥ = cc in u)
 
   store_agrees : (mark : ℕ) (ws : List Write) (ls : List (Line StorePart)) (counts : Counts) (site : Site)

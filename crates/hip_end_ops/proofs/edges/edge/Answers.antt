@@ -14,7 +14,7 @@ new_edge-requires-clause-target c =
     is_target c.args.scope.now c.requires.scope c.args.source.now c.requires.source c.args.label.now c.in-Some.number c.requires.named
     (ap (λ ns. number_of ns c.args.label.now) (sym c.requires.scope.labels) ∙ ap (number_of c.args.scope.now.labels) (sym c.as_slice.ensures) ∙ sym c.number_of.ensures ∙ c.in-Some.is)
 
-pub returns-clause-edge : goal.returns-clause-edge
-returns-clause-edge c =
+pub returns : goal.returns
+returns c =
     edge_new c.args.scope.now _ _ c.args.source.now c.in_ok-number.number c.in-Some.number c.args.label.now c.requires.lead c.in_ok-number.ensures
     (ap (λ ns. number_of ns c.args.label.now) (sym c.requires.scope.labels) ∙ ap (number_of c.args.scope.now.labels) (sym c.as_slice.ensures) ∙ sym c.number_of.ensures ∙ c.in-Some.is)

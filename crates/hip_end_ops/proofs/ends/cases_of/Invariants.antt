@@ -1,11 +1,10 @@
-use Rattle.std.proofs.Common.{◌≡◌, length, take}
+use Rattle.std.proofs.Common.{take}
 use Rattle.hip_scope.specs.Grown.{grown}
 use Rattle.hip_end_ops.specs.Switched.{HasCases}
 use Rattle.hip_end_ops.proofs.ends.cases_of.Given as goal
 
 pub record Invariant (l : goal.Live-switching) : Type 0 where
   pub cases : HasCases l.scope (grown l.initial.tables) (grown l.tables) l.source (take l.index l.cases)
-  pub as_long : length l.made ≡ length l.initial.made
 
 abbrev pub invariant-switching : goal.invariant-switching
 invariant-switching l = Invariant l

@@ -11,5 +11,5 @@ branch_on-requires-clause-test c = subst (EndKnown (names_of c.args.scope.now)) 
 pub switch-requires-clause-value : goal.switch-requires-clause-value
 switch-requires-clause-value c = subst (EndKnown (names_of c.args.scope.now)) c.in-Switch.is (known_end c.args.scope.now c.requires.scope c.args.source.now c.requires.source)
 
-pub returns-in-Unreachable-clause-op : goal.returns-in-Unreachable-clause-op
-returns-in-Unreachable-clause-op c = ends_unreachable c.args.scope.now c.args.source.now (grown c.args.tables.now) c.in-Unreachable.is
+pub returns-in-Unreachable : goal.returns-in-Unreachable
+returns-in-Unreachable c = ends_unreachable c.args.scope.now c.args.source.now (grown c.args.tables.now) c.in-Unreachable.is

@@ -13,7 +13,7 @@ cases_of-requires-clause-named c = record {
   at = λ k d e. subst (λ (x : End). IsAmong (end_labels x) d.label) (sym c.requires.last.1) (inr (case_named c.args.cases.now k d e));
 }
 
-pub returns-clause-op : goal.returns-clause-op
-returns-clause-op c =
-    ends_switch _ _ _ _ _ _ c.requires.last.0 _ _ _ _ _ _ _ c.requires.last.1 c.in_ok-value.ensures.stands c.in_ok-cases_of.ensures.cases c.in_ok-other.ensures.edge
+pub returns : goal.returns
+returns c =
+    ends_switch _ _ _ _ _ _ c.requires.last.0 _ _ _ _ _ _ _ c.requires.last.1 c.in_ok-value.ensures.stands c.in_ok-cases_of.ensures c.in_ok-other.ensures
     (c.in_ok-from.ensures ∙ c.len.ensures) c.in_ok-count.ensures

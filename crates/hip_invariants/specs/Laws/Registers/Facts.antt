@@ -46,7 +46,7 @@ module _ (Fact : ℕ → List ℕ → ℕ → Type 0) (Returned : ℕ → ℕ �
   pub record WaitsFor (g : ℕ) (dest : Option (List ℕ)) (h : ℕ) : Type 0 where
     pub for_result : (v : ℕ) → Returned h v → assigned_fact g dest v
 
-  -- a frame behind a call of a function, whose result goes into a register
+  -- a frame after a call of a function, whose result goes into a register
   pub record IsBehindCall (h : ℕ) (dest : Option (List ℕ)) (g : Frame) : Type 0 where
     pub hold : ValuesHold g.function g.registers
     pub waits : WaitsFor g.function dest h

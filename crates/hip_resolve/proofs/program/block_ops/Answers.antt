@@ -11,7 +11,7 @@ pub returns-clause-front : goal.returns-clause-front
 returns-clause-front c =
     let P = c.args.scope.now.program.now in
     let base = c.args.scope.now.base in
-    let last = c.in_ok-op.ensures.op in
+    let last = c.in_ok-op.ensures in
     let front = front_grows P base c.body_ops.new.ops _ _ c.in_ok-body_ops.ensures.front last.makes.grows in
     subst (λ (xs : List Op). IsFront P base xs (grown c.end_op.new.tables)) (sym c.in_ok-push.ensures.ok)
     (front_end P base c.body_ops.new.ops (grown c.end_op.new.tables) c.in_ok-op.op c.args.scope.now.number c.args.number c.args.block.now front c.requires.block c.in_ok-body_ops.ensures.place last.end_is last.makes.lasts)

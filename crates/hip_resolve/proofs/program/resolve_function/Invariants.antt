@@ -1,6 +1,5 @@
 use Rattle.std.proofs.Common.{◌≡◌, length}
 use Rattle.hip_code.specs.Entries.{entry}
-use Rattle.hip_runs.specs.Places.{blocks_of}
 use Rattle.hip_scope.specs.Grown.{grown}
 use Rattle.hip_resolve.specs.Made.{IsFront}
 use Rattle.hip_resolve.proofs.program.resolve_function.Given as goal
@@ -8,7 +7,6 @@ use Rattle.hip_resolve.proofs.program.resolve_function.Given as goal
 pub record Invariant (l : goal.Live-resolving) : Type 0 where
   pub front : IsFront l.scope.program.now l.scope.base l.ops (grown l.tables)
   pub place : length l.ops ≡ entry l.scope.program.now l.scope.number l.number
-  pub as_long : length l.made ≡ length (blocks_of l.scope.program.now l.scope.number)
 
 abbrev pub invariant-resolving : goal.invariant-resolving
 invariant-resolving l = Invariant l

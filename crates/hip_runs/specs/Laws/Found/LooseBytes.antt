@@ -94,7 +94,7 @@ byte_shown o n (suc count) b later c s = go (λ t. byte_shown o n count (suc b) 
 -- ---- the loose parts of a line, by their places
 
 -- Loose part y is of part p at place i of these parts, at place k + i of its line: it is of the store of step
--- `made`, behind the d durable parts, the last one over a byte of the range, and flushed if it is of the first f.
+-- `made`, after the d durable parts, the last one over a byte of the range, and flushed if it is of the first f.
 pub record IsOfPart (o n made d f k : ℕ) (ps : List StorePart) (y : LoosePart) (i : ℕ) (p : StorePart) : Type 0 where
   pub at : slice_get ps i ≡ Some p
   pub step : p.step ≡ made

@@ -1,5 +1,5 @@
 use Rattle.std.proofs.Common.{sym}
-use Rattle.hip_trace.proofs.ReaderLaws.{failed_first, holds_on, holds_still, may_go_on, rest_first}
+use Rattle.hip_trace.proofs.ReaderLaws.{holds_on, holds_still, may_go_on, rest_first}
 use Rattle.hip_trace.proofs.front.find_front.Goals as goal
 
 pub more-init : goal.more-init

@@ -1,3 +1,4 @@
+use crate::comparisons::{same_four, same_three};
 use crate::copies::{copy_four, copy_three};
 use crate::structural::Structural;
 use hip_tree::{Block, Case, Edge, End, Phi};
@@ -83,7 +84,7 @@ impl Structural for End {
                     yes: left,
                     no: right,
                 },
-            ) => cond.same(test) && yes.same(left) && no.same(right),
+            ) => same_three(cond, test, yes, left, no, right),
             (
                 End::Switch {
                     width,
@@ -97,7 +98,7 @@ impl Structural for End {
                     other: last,
                     cases: arms,
                 },
-            ) => width.same(wide) && value.same(x) && rest.same(last) && cases.same(arms),
+            ) => same_four(width, wide, value, x, rest, last, cases, arms),
             (End::Ret(arg), End::Ret(with)) => arg.same(with),
             (End::Unreachable, End::Unreachable) => true,
             _ => false,

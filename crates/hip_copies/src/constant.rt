@@ -1,8 +1,10 @@
 ghost use Rattle.std.specs.Prelude.{◌≡◌, ◌↔◌, IsTrue, IfOk};
+ghost use Rattle.hip_tree.specs.declared.constant.Const.TheVariants as consts;
 
+use crate::copies::copy_two;
 use crate::structural::Structural;
 use hip_tree::{Const, ConstGep, TypedConst};
-use hip_types::{Link, NoMemory, Row, copy_ty, same_ty};
+use hip_types::{Link, NoMemory, Row, Ty, copy_ty, same_ty};
 use std::alloc::Global;
 
 /// A constant of its own that is equal to the given one.
@@ -15,32 +17,39 @@ pub fn copy_const(alloc: Global, value: &Const) -> Result<Const, NoMemory>
         Const::Null => Ok(Const::Null),
         Const::Zero => Ok(Const::Zero),
         Const::Address(name) => Ok(Const::Address(name.copy(alloc)?)),
-        Const::Gep(gep) => Ok(Const::Gep(Link::new(alloc, copy_gep(alloc, gep.get())?)?)),
+        Const::Gep(gep) => copy_gep(alloc, gep.get()),
         Const::Array(items) => Ok(Const::Array(copy_items(alloc, items.as_slice())?)),
         Const::Struct(items) => Ok(Const::Struct(copy_items(alloc, items.as_slice())?)),
     }
 }
 
 #[cycle(copy)]
-fn copy_gep(alloc: Global, gep: &ConstGep) -> Result<ConstGep, NoMemory>
-    ensures { IfOk result (λ c. c ≡ gep.now) }
+fn copy_gep(alloc: Global, gep: &ConstGep) -> Result<Const, NoMemory>
+    ensures { IfOk result (λ c. c ≡ consts.Gep gep.now) }
 {
-    Ok(ConstGep {
-        inbounds: gep.inbounds,
-        ty: copy_ty(alloc, &gep.ty)?,
-        base: copy_const(alloc, &gep.base)?,
-        indices: gep.indices.copy(alloc)?,
-    })
+    match copy_const(alloc, &gep.base) {
+        Ok(base) => gep_from(alloc, gep, base),
+        Err(refused) => Err(refused),
+    }
 }
 
-#[cycle(copy)]
-fn copy_typed(alloc: Global, item: &TypedConst) -> Result<TypedConst, NoMemory>
-    ensures { IfOk result (λ c. c ≡ item.now) }
+// The constant with a copy of its base, which is moved into it.
+fn gep_from(alloc: Global, gep: &ConstGep, base: Const) -> Result<Const, NoMemory>
+    requires { base ≡ gep.now.base }
+    ensures { IfOk result (λ c. c ≡ consts.Gep gep.now) }
 {
-    Ok(TypedConst {
-        ty: copy_ty(alloc, &item.ty)?,
-        value: copy_const(alloc, &item.value)?,
-    })
+    match copy_two(alloc, &gep.ty, &gep.indices) {
+        Ok((ty, indices)) => {
+            let copy = ConstGep {
+                inbounds: gep.inbounds,
+                ty,
+                base,
+                indices,
+            };
+            Ok(Const::Gep(Link::new(alloc, copy)?))
+        }
+        Err(refused) => Err(refused),
+    }
 }
 
 #[cycle(copy)]
@@ -53,6 +62,26 @@ fn copy_items(alloc: Global, items: &[TypedConst]) -> Result<Row<TypedConst>, No
         copies.push(copy_typed(alloc, item)?)?;
     }
     Ok(copies)
+}
+
+#[cycle(copy)]
+fn copy_typed(alloc: Global, item: &TypedConst) -> Result<TypedConst, NoMemory>
+    ensures { IfOk result (λ c. c ≡ item.now) }
+{
+    match copy_const(alloc, &item.value) {
+        Ok(value) => typed_from(alloc, &item.ty, value),
+        Err(refused) => Err(refused),
+    }
+}
+
+// A value, which is moved, with a copy of its type.
+fn typed_from(alloc: Global, ty: &Ty, value: Const) -> Result<TypedConst, NoMemory>
+    ensures { IfOk result (λ c. c ≡ record { ty = ty.now; value = value }) }
+{
+    match copy_ty(alloc, ty) {
+        Ok(ty) => Ok(TypedConst { ty, value }),
+        Err(refused) => Err(refused),
+    }
 }
 
 /// Whether two constants are equal.

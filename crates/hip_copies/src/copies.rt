@@ -12,7 +12,11 @@ pub fn copy_two<A: Structural, B: Structural>(
 ) -> Result<(A, B), NoMemory>
     ensures { IfOk result (λ copies. copies ≡ (a.now, b.now)) }
 {
-    Ok((a.copy(alloc)?, b.copy(alloc)?))
+    let a = a.copy(alloc)?;
+    match b.copy(alloc) {
+        Ok(b) => Ok((a, b)),
+        Err(refused) => Err(refused),
+    }
 }
 
 /// Copies of three values.
@@ -24,7 +28,11 @@ pub fn copy_three<A: Structural, B: Structural, C: Structural>(
 ) -> Result<(A, B, C), NoMemory>
     ensures { IfOk result (λ copies. copies ≡ (a.now, b.now, c.now)) }
 {
-    Ok((a.copy(alloc)?, b.copy(alloc)?, c.copy(alloc)?))
+    let (a, b) = copy_two(alloc, a, b)?;
+    match c.copy(alloc) {
+        Ok(c) => Ok((a, b, c)),
+        Err(refused) => Err(refused),
+    }
 }
 
 /// Copies of four values.
@@ -38,6 +46,8 @@ pub fn copy_four<A: Structural, B: Structural, C: Structural, D: Structural>(
     ensures { IfOk result (λ copies. copies ≡ (a.now, b.now, c.now, d.now)) }
 {
     let (a, b) = copy_two(alloc, a, b)?;
-    let (c, d) = copy_two(alloc, c, d)?;
-    Ok((a, b, c, d))
+    match copy_two(alloc, c, d) {
+        Ok((c, d)) => Ok((a, b, c, d)),
+        Err(refused) => Err(refused),
+    }
 }

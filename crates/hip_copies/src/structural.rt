@@ -1,4 +1,4 @@
-ghost use Rattle.std.specs.Prelude.{◌≡◌, ◌↔◌, IsTrue, IfOk};
+ghost use Rattle.std.specs.Prelude.{◌≡◌, ◌↔◌, [], ◌∷◌, ◌++◌, IsTrue, IfOk, OnOk};
 
 use hip_types::{BinaryOp, Bits, CastOp, NoMemory, Pred, Row, Scalar, Ty, Width, copy_ty, same_ty};
 use std::alloc::Global;
@@ -111,12 +111,22 @@ impl<T: Structural> Structural for Option<T> {
     }
 }
 
+/// Adds a copy of an item.
+fn push_copy<T: Structural>(alloc: Global, copies: &mut Row<T>, item: &T) -> Result<(), NoMemory>
+    ensures { OnOk result (copies.new ≡ copies.old ++ item.now ∷ []) }
+{
+    match item.copy(alloc) {
+        Ok(item) => copies.push(item),
+        Err(refused) => Err(refused),
+    }
+}
+
 impl<T: Structural> Structural for Row<T> {
     fn copy(&self, alloc: Global) -> Result<Row<T>, NoMemory> {
         let mut copies = Row::new(alloc);
         copies.reserve(self.len())?;
         for item in self.as_slice() {
-            copies.push(item.copy(alloc)?)?;
+            push_copy(alloc, &mut copies, item)?;
         }
         Ok(copies)
     }

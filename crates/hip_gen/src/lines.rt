@@ -2,7 +2,7 @@
 
 ghost use Rattle.std.specs.Prelude.{◌+◌, ◌<◌, OnOk};
 ghost use Rattle.std.specs.Fmt.{decimal};
-ghost use Rattle.hip_gen.specs.Appends.{Appends};
+ghost use Rattle.hip_gen.specs.Appends.{Appends, AppendsBoth};
 ghost use Rattle.hip_gen.specs.Lines.{element_text, persistent_element, store_line, flush_line, put_line, group_lines};
 ghost use Rattle.hip_gen.specs.declared.limits.TheConstants.{LARGEST_SIZE};
 
@@ -18,7 +18,7 @@ pub fn push(text: &mut Row<u8>, piece: &[u8]) -> Result<(), NoMemory>
     text.extend_from_slice(piece)
 }
 
-pub fn push_number(text: &mut Row<u8>, number: u64) -> Result<(), NoMemory>
+fn push_number(text: &mut Row<u8>, number: u64) -> Result<(), NoMemory>
     ensures { OnOk result (Appends text.old text.new (decimal number)) }
 {
     let mut digits = [0; 40];
@@ -26,29 +26,32 @@ pub fn push_number(text: &mut Row<u8>, number: u64) -> Result<(), NoMemory>
     push(text, &digits[..len])
 }
 
+/// Puts a piece and then a number at the end of the text.
+pub fn push_with_number(text: &mut Row<u8>, piece: &[u8], number: u64) -> Result<(), NoMemory>
+    ensures { OnOk result (AppendsBoth text.old text.new piece.now (decimal number)) }
+{
+    push(text, piece)?;
+    push_number(text, number)
+}
+
 fn push_element(text: &mut Row<u8>, name: &[u8], length: u64, index: u64) -> Result<(), NoMemory>
     ensures { OnOk result (Appends text.old text.new (element_text name.now length index)) }
 {
-    push(text, b"getelementptr ([")?;
-    push_number(text, length)?;
+    push_with_number(text, b"getelementptr ([", length)?;
     push(text, b" x i64], ptr @")?;
     push(text, name)?;
-    push(text, b", i64 0, i64 ")?;
-    push_number(text, index)?;
-    push(text, b")")?;
-    Ok(())
+    push_with_number(text, b", i64 0, i64 ", index)?;
+    push(text, b")")
 }
 
 fn push_store(text: &mut Row<u8>, size: u64, group: u64) -> Result<(), NoMemory>
     requires { group < LARGEST_SIZE }
     ensures { OnOk result (Appends text.old text.new (store_line (persistent_element size group) (group + 1))) }
 {
-    push(text, b"  store i64 ")?;
-    push_number(text, group + 1)?;
+    push_with_number(text, b"  store i64 ", group + 1)?;
     push(text, b", ptr ")?;
     push_element(text, b"data", size, group)?;
-    push(text, b"\n")?;
-    Ok(())
+    push(text, b"\n")
 }
 
 fn push_flush(text: &mut Row<u8>, size: u64, group: u64) -> Result<(), NoMemory>
@@ -56,8 +59,7 @@ fn push_flush(text: &mut Row<u8>, size: u64, group: u64) -> Result<(), NoMemory>
 {
     push(text, b"  call void @llvm.x86.clwb(ptr ")?;
     push_element(text, b"data", size, group)?;
-    push(text, b")\n")?;
-    Ok(())
+    push(text, b")\n")
 }
 
 /// Puts a call of `put`, with an element and a value, at the end of the text.
@@ -72,10 +74,8 @@ fn push_call(
 {
     push(text, b"  call void @put(ptr ")?;
     push_element(text, name, length, index)?;
-    push(text, b", i64 ")?;
-    push_number(text, value)?;
-    push(text, b")\n")?;
-    Ok(())
+    push_with_number(text, b", i64 ", value)?;
+    push(text, b")\n")
 }
 
 /// Puts the lines of a group at the end of the text.

@@ -6,7 +6,7 @@ ghost use Rattle.hip_gen.specs.Lines.{first_lines, generated_text, lines_before}
 ghost use Rattle.hip_gen.specs.declared.limits.TheConstants.{LARGEST_SIZE, SEED_END};
 
 use crate::kinds::{kind_by, next_draw};
-use crate::lines::{push, push_group, push_number};
+use crate::lines::{push, push_group, push_with_number};
 use hip_types::{NoMemory, Row};
 use std::alloc::Global;
 
@@ -14,19 +14,17 @@ use std::alloc::Global;
 fn push_first_lines(text: &mut Row<u8>, size: u64) -> Result<(), NoMemory>
     ensures { OnOk result (Appends text.old text.new (first_lines size)) }
 {
-    push(text, b"@data = global [")?;
-    push_number(text, size)?;
-    push(text, b" x i64] zeroinitializer, section \".pm\"\n")?;
-    push(text, b"@temp = global [8 x i64] zeroinitializer\n")?;
-    push(text, b"declare void @llvm.x86.clwb(ptr)\n")?;
-    push(text, b"define void @put(ptr %p, i64 %v) {\n")?;
-    push(text, b"entry:\n")?;
-    push(text, b"  store i64 %v, ptr %p\n")?;
-    push(text, b"  ret void\n")?;
-    push(text, b"}\n")?;
-    push(text, b"define i32 @main() {\n")?;
-    push(text, b"entry:\n")?;
-    Ok(())
+    push_with_number(text, b"@data = global [", size)?;
+    push(
+        text,
+        b" x i64] zeroinitializer, section \".pm\"\n\
+        @temp = global [8 x i64] zeroinitializer\n\
+        declare void @llvm.x86.clwb(ptr)\n\
+        define void @put(ptr %p, i64 %v) {\n\
+        entry:\n  store i64 %v, ptr %p\n  ret void\n}\n\
+        define i32 @main() {\n\
+        entry:\n",
+    )
 }
 
 /// Puts the lines of all groups at the end of the text.
@@ -54,7 +52,6 @@ pub fn generate(alloc: Global, seed: u64, size: u64) -> Result<Row<u8>, NoMemory
     let mut text = Row::new(alloc);
     push_first_lines(&mut text, size)?;
     push_groups(&mut text, seed, size)?;
-    push(&mut text, b"  ret i32 0\n")?;
-    push(&mut text, b"}\n")?;
+    push(&mut text, b"  ret i32 0\n}\n")?;
     Ok(text)
 }

@@ -1,5 +1,7 @@
-use Rattle.hip_gen.specs.Appends.{and_then}
+use Rattle.hip_gen.specs.Appends.{and_then, on_ok}
 use Rattle.hip_gen.proofs.lines.push_flush.Goals as goal
 
 pub returns : goal.returns
-returns c = and_then c.in_ok-push.ensures (and_then c.in_ok-push_element.ensures c.in_ok-push-2.ensures)
+returns c =
+    on_ok c.push-2.result c.push-2.ensures (λ last. and_then c.in_ok-push.ensures
+    (and_then c.in_ok-push_element.ensures last))

@@ -1,19 +1,13 @@
-use Rattle.std.proofs.Common.{◌≡◌, ◌∙◌, ℕ, List, Option, sym}
-use Rattle.std.specs.Prelude.{◌↔◌, IsTrue, Bool}
+use Rattle.std.proofs.Common.{◌≡◌, ℕ, List, Option}
+use Rattle.std.specs.Prelude.{◌↔◌}
 use Rattle.hip_types.specs.declared.number.CastOp.{CastOp}
 use Rattle.hip_types.specs.declared.number.Pred.{Pred}
 use Rattle.hip_types.specs.declared.number.Scalar.{Scalar}
 use Rattle.hip_tree.specs.declared.instr.Arg.{Arg}
-use Rattle.hip_tree.specs.declared.instr.Instr.{Instr}
 use Rattle.hip_tree.specs.declared.instr.Instr.TheVariants as instrs
 use Rattle.hip_tree.specs.declared.instr.Operand.{Operand}
+use Rattle.hip_copies.proofs.Compared.{of_fields}
 use Rattle.hip_copies.proofs.instr.InstrStructural.same.Goals as goal
-
--- A test of the fields of two values of one variant tests the values.
-of_fields : {P : Type 0} {b : Bool} {p q m n : Instr} → p ≡ m → q ≡ n
-    → (P ↔ (m ≡ n)) → (IsTrue b ↔ P) → IsTrue b ↔ (p ≡ q)
-of_fields l r fields test =
-    (λ t. l ∙ (fields.0 (test.0 t) ∙ sym r), λ e. test.1 (fields.1 (sym l ∙ (e ∙ r))))
 
 compare_fields : {d t : List ℕ} {p q : Pred} {s r : Scalar} {a b x y : Operand}
     → ((d ≡ t) × ((p ≡ q) × ((s ≡ r) × ((a ≡ x) × (b ≡ y)))))

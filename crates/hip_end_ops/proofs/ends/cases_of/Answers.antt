@@ -1,4 +1,4 @@
-use Rattle.std.proofs.Common.{refl, ◌∙◌}
+use Rattle.std.proofs.Common.{refl}
 use Rattle.hip_scope.specs.Grown.{grown}
 use Rattle.hip_end_ops.proofs.EndOps.{cases_none, cases_on, cases_all}
 use Rattle.hip_end_ops.proofs.ends.cases_of.Goals as goal

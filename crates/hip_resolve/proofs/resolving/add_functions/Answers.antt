@@ -1,4 +1,4 @@
-use Rattle.std.proofs.Common.{suc, length, sym, ap, ◌∙◌, subst, arith}
+use Rattle.std.proofs.Common.{length, sym, ap, ◌∙◌, subst, arith}
 use Rattle.hip_code.specs.Entries.{entry}
 use Rattle.hip_scope.specs.Grown.{grown}
 use Rattle.hip_resolve.specs.Made.{IsFront}

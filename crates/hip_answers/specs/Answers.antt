@@ -4,7 +4,7 @@ use Rattle.hip_answers.specs.Lines.{line_of}
 use Rattle.hip_answers.specs.declared.status.Status.{Status}
 use Rattle.hip_answers.specs.declared.status.Status.TheVariants.{Done, WriteFault, NoMemory, Trapped, Cut}
 use Rattle.hip_io.specs.Cabinets.{CabinetState}
-use Rattle.hip_io.specs.Sinks.{SinkState, AppendsAll, AppendsPrefix, HasPut}
+use Rattle.hip_io.specs.Sinks.{SinkState, AppendsAll, AppendsPrefix}
 use Rattle.hip_io.specs.declared.sink.Put.{Put}
 use Rattle.hip_io.specs.declared.sink.Put.TheVariants as puts
 use Rattle.hip_program_files.specs.Outside.{HasMet}
@@ -140,16 +140,3 @@ IsDelivered status held = status ≢ WriteFault → held ≡ 0
 abbrev pub Finishes : Put → Status → SinkState → SinkState → Status → Type 0
 Finishes puts.Done status old new result = (result ≡ status) × (new ≡ old)
 Finishes puts.Failed status old new result = (result ≡ WriteFault) × PutsLine WriteFault old new
-
--- the status of a call that ran out of memory and then delivered its text so far, by the outcome of the delivery
-abbrev pub status_of_delivery : Put → Status
-status_of_delivery puts.Done = NoMemory
-status_of_delivery puts.Failed = WriteFault
-
--- Memory ran out while the text for out was being made: the delivery of what was put so far was tried, and then the
--- line of the status.
-pub record RunsOut (s : Sinks) (status : Status) : Type 0 where
-  pub tried : Put
-  pub out : HasPut s.out s.out_new [] tried
-  pub status_is : status ≡ status_of_delivery tried
-  pub line : PutsLine status s.notes s.notes_new

@@ -1,14 +1,13 @@
 -- How the answer of a call follows from what was met and written.
-use Rattle.std.specs.Prelude.{ℕ, ◌≡◌, ◌⊎◌, Bool, true, false, List, [], Err}
-use Rattle.std.proofs.Common.{inl, inr, refl, sym, subst, append-nil}
-use Rattle.hip_answers.specs.Answers.{Answer, CarriedOut, CutShort, Finishes, HasAnswered, HasBegun, Outcome, PutsLine, RanOut, Refused, RunsOut, Sinks, WritesFront, answered, outcome_of, refusal, status_of_delivery}
+use Rattle.std.specs.Prelude.{ℕ, ◌≡◌, ◌⊎◌, Bool, true, false, List, Err}
+use Rattle.std.proofs.Common.{inl, inr, refl, sym, subst}
+use Rattle.hip_answers.specs.Answers.{Answer, CarriedOut, CutShort, Finishes, HasAnswered, HasBegun, Outcome, PutsLine, RanOut, Refused, Sinks, WritesFront, answered, outcome_of, refusal}
 use Rattle.hip_answers.specs.Programs.{IsUnloaded, LacksProgram}
 use Rattle.hip_answers.specs.Statuses.{status_of_failure}
 use Rattle.hip_answers.specs.declared.status.Status.{Status}
 use Rattle.hip_answers.specs.declared.status.Status.TheVariants as statuses
 use Rattle.hip_io.specs.Cabinets.{CabinetState}
-use Rattle.hip_io.specs.Laws.SinkLaws.{and_then, prefix_of_more}
-use Rattle.hip_io.specs.Sinks.{AppendsAll, AppendsPrefix, HasPut, SinkState, Writes}
+use Rattle.hip_io.specs.Sinks.{AppendsAll, AppendsPrefix, HasPut, SinkState}
 use Rattle.hip_io.specs.declared.sink.Put.{Put}
 use Rattle.hip_io.specs.declared.sink.Put.TheVariants as puts
 use Rattle.hip_program_files.specs.Loading.{HasFailedLoading, Loads}
@@ -49,38 +48,12 @@ cut_out s answer row carried out line = record {
   };
 }
 
--- the text so far, and then a delivery of what is held back of it
-then_tried : (old mid new : SinkState) (text : List ℕ) (tried : Put) → AppendsAll old mid text
-    → HasPut mid new [] tried → HasPut old new text tried
-then_tried old mid new text tried put delivery =
-    let first : Writes puts.Done puts.Done old mid text = record { how = put } in
-    let last : Writes puts.Done tried mid new [] = record { how = delivery } in
-    subst (λ (t : List ℕ). HasPut old new t tried) (append-nil text) (and_then first last).how
-
--- no memory, while the text for out was being made: a front of it was put, and what was held back of that was tried
-pub ran_out_later : {table : Answer → Type 0} {old new : CabinetState} (s : Sinks) (answer : Answer) (mid : SinkState)
-    (status : Status) → HasMet false false old new → table answer → outcome_of answer.status ≡ CarriedOut
-    → WritesFront (record s { out_new = mid }) answer → RunsOut (record s { out = mid }) status
-    → HasAnswered table true old new s status
-ran_out_later {table} {old} {new} s answer mid status met row carried begun ran =
-    subst (λ x. HasAnswered table true old new s x) (sym ran.status_is)
-    (by_delivery ran.tried ran.out (subst (λ x. PutsLine x s.notes s.notes_new) ran.status_is ran.line))
-  where
-    by_delivery : (tried : Put) → HasPut mid s.out_new [] tried
-        → PutsLine (status_of_delivery tried) s.notes s.notes_new
-        → HasAnswered table true old new s (status_of_delivery tried)
-    by_delivery puts.Done delivery line =
-        let front : WritesFront s answer = record {
-          front = begun.front;
-          missing = begun.missing;
-          parts = begun.parts;
-          written = then_tried s.out mid s.out_new begun.front puts.Done begun.written delivery;
-        } in
-        record { how = record { met = met; out = inr (answer, row, front); line = line } }
-    by_delivery puts.Failed delivery line =
-        let part = prefix_of_more s.out s.out_new begun.front begun.missing
-        (then_tried s.out mid s.out_new begun.front puts.Failed begun.written delivery) in
-        cut_out s answer row carried (subst (AppendsPrefix s.out s.out_new) (sym begun.parts) part) line
+-- no memory, while the text for out was being made: a front of it is written
+pub ran_out_later : {table : Answer → Type 0} {old new : CabinetState} (s : Sinks) (answer : Answer)
+    → HasMet false false old new → table answer → WritesFront s answer → PutsLine statuses.NoMemory s.notes s.notes_new
+    → HasAnswered table true old new s statuses.NoMemory
+ran_out_later s answer met row front line =
+    record { how = record { met = met; out = inr (answer, row, front); line = line } }
 
 -- the text for out is written whole, and that for notes was tried
 pub finished : {table : Answer → Type 0} {begins : Bool} {old new : CabinetState} (s : Sinks) (answer : Answer)

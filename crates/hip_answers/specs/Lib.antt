@@ -1,4 +1,5 @@
 pub mod Answers
+pub mod EndingLaws
 pub mod Endings
 pub mod Laws
 pub mod Lines

@@ -1,7 +1,7 @@
 //! The end of a call, when the status is known.
 
 ghost use Rattle.std.specs.Prelude.{◌≡◌};
-ghost use Rattle.hip_answers.specs.Answers.{Finishes, IsDelivered, PutsLine, RunsOut, sinks};
+ghost use Rattle.hip_answers.specs.Answers.{Finishes, PutsLine};
 
 use crate::lines::put_line;
 use crate::status::Status;
@@ -23,18 +23,6 @@ pub fn finish<N: Sink>(notes: &mut N, tried: Put, status: Status) -> Status
 {
     match tried {
         Put::Done => status,
-        Put::Failed => refuse(notes, Status::WriteFault),
-    }
-}
-
-/// Ends a call that ran out of memory while it made the text for the output: delivers what was put of it so far, and
-/// writes the line of the status, which is a write fault where that failed.
-pub fn run_out<S: Sink, N: Sink>(out: &mut S, notes: &mut N) -> Status
-    ensures tried { RunsOut (sinks (S.state out.old) (S.state out.new) (N.state notes.old) (N.state notes.new)) result }
-    ensures delivered { IsDelivered result (S.held out.new) }
-{
-    match out.deliver() {
-        Put::Done => refuse(notes, Status::NoMemory),
         Put::Failed => refuse(notes, Status::WriteFault),
     }
 }

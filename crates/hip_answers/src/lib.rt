@@ -8,7 +8,7 @@ mod refusal;
 mod status;
 mod texts;
 
-pub use closing::{finish, refuse, run_out};
+pub use closing::{finish, refuse};
 pub use endings::{put_ending, status_of_ending};
 pub use refusal::{TraceFileRefusal, status_of_trace};
 pub use status::{FileRole, Status, status_of_failure};

@@ -1,12 +1,12 @@
 -- What a run has recorded, as an answer of `record`.
-use Rattle.std.proofs.Common.{◌≡◌, ℕ, ℤ, true, false, List, ◌++◌, Option, Some, None, is_some, refl, sym, ap, ◌∙◌, subst, inr}
+use Rattle.std.proofs.Common.{◌≡◌, ℕ, ℤ, true, false, List, ◌++◌, refl, subst, inr}
 use Rattle.std.proofs.lemmas.Grind.{flat_map-append}
-use Rattle.hip_answers.specs.Answers.{Finishes, HasAnswered, PutsLine, RunsOut, Sinks, WritesFront}
+use Rattle.hip_answers.specs.Answers.{Finishes, HasAnswered, PutsLine, Sinks, WritesFront}
+use Rattle.hip_answers.specs.EndingLaws.{answer_of, is_carried_out, text_of}
 use Rattle.hip_answers.specs.Endings.{ending_line, status_of_ending}
 use Rattle.hip_answers.specs.Laws.{cut_out, finished, ran_out_later}
 use Rattle.hip_answers.specs.declared.status.Status.{Status}
 use Rattle.hip_answers.specs.declared.status.Status.TheVariants as statuses
-use Rattle.hip_commands.proofs.Runs.{answer_of, is_carried_out}
 use Rattle.hip_runs.specs.FirstInput.{first_input}
 use Rattle.hip_commands.specs.Record.{RecordAnswers}
 use Rattle.hip_run_traces.specs.TraceTexts.{IsTraceText}
@@ -19,22 +19,9 @@ use Rattle.hip_program_files.specs.Loading.{IsProgramOf}
 use Rattle.hip_program_files.specs.Outside.{HasMet}
 use Rattle.hip_lockstep.specs.declared.ended.Ended.{Ended}
 use Rattle.hip_recording.specs.Recording.{HasFailedRecording, HasPutTrace, HasStoppedRecording}
-use Rattle.hip_run_traces.specs.Traces.{IsTrace}
-use Rattle.hip_runs.specs.Step.{run}
 use Rattle.hip_runs.specs.declared.event.Ending.{Ending}
 use Rattle.hip_runs.specs.declared.input.Input.{Input}
 use Rattle.hip_trace.specs.Texts.{line_of, lines_of}
-use Rattle.hip_trace.specs.declared.entry.Entry.{Entry}
-
--- the lines of a run's trace are its text, and the run has ended in some way
-text_of : (P : Program) (I : Input) (trace : List Entry) → IsTrace P I trace
-    → (ending : Ending) × IsTraceText P I (lines_of trace) ending
-text_of P I trace t = by_end (run P I t.steps).world.ending refl
-  where
-    by_end : (e : Option Ending) → (run P I t.steps).world.ending ≡ e
-        → (ending : Ending) × IsTraceText P I (lines_of trace) ending
-    by_end (Some ending) ended = (ending, record { trace = trace; is_trace = t; ended = ended; is = refl })
-    by_end None ended = absurd (let no : false ≡ true = sym (ap is_some ended) ∙ t.ended in cc)
 
 module _ {old new : CabinetState} {name : List ℕ} {base limit : ℕ} {numbers : List ℤ} (P : Program) (I : Input)
     (s : Sinks) (met : HasMet false false old new) (loaded : IsProgramOf old.files name P)
@@ -72,17 +59,16 @@ module _ {old new : CabinetState} {name : List ℕ} {base limit : ℕ} {numbers 
       cut_out s (answer_of (lines_of p.trace) whole.0) (row (lines_of p.trace) whole.0 whole.1) (is_carried_out whole.0)
       p.written line
 
-  pub ran_out : (mid : SinkState) (status : Status) → HasStoppedRecording P I s.out mid
-      → RunsOut (record s { out = mid }) status
-      → HasAnswered (RecordAnswers old new name base limit numbers) true old new s status
-  ran_out mid status p ran =
+  pub ran_out : HasStoppedRecording P I s.out s.out_new → PutsLine statuses.NoMemory s.notes s.notes_new
+      → HasAnswered (RecordAnswers old new name base limit numbers) true old new s statuses.NoMemory
+  ran_out p line =
       let text = lines_of (p.front ++ p.missing) in
       let whole = text_of P I (p.front ++ p.missing) p.is_trace in
-      let front : WritesFront (record s { out_new = mid }) (answer_of text whole.0) =
+      let front : WritesFront s (answer_of text whole.0) =
       record {
         front = lines_of p.front;
         missing = lines_of p.missing;
         parts = flat_map-append line_of p.front p.missing;
         written = p.written;
       } in
-      ran_out_later s (answer_of text whole.0) mid status met (row text whole.0 whole.1) (is_carried_out whole.0) front ran
+      ran_out_later s (answer_of text whole.0) met (row text whole.0 whole.1) front line

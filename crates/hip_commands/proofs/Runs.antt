@@ -1,6 +1,7 @@
 -- What a run has printed, as an answer of `run`.
 use Rattle.std.proofs.Common.{◌≡◌, ℕ, ℤ, true, false, List, ◌++◌, refl, subst, inr}
-use Rattle.hip_answers.specs.Answers.{Answer, CarriedOut, Finishes, HasAnswered, PutsLine, RunsOut, Sinks, WritesFront, outcome_of}
+use Rattle.hip_answers.specs.Answers.{Finishes, HasAnswered, PutsLine, Sinks, WritesFront}
+use Rattle.hip_answers.specs.EndingLaws.{answer_of, is_carried_out}
 use Rattle.hip_answers.specs.Endings.{ending_line, status_of_ending}
 use Rattle.hip_answers.specs.Laws.{cut_out, finished, ran_out_later}
 use Rattle.hip_answers.specs.declared.status.Status.{Status}
@@ -16,19 +17,8 @@ use Rattle.hip_program_files.specs.Loading.{IsProgramOf}
 use Rattle.hip_program_files.specs.Outside.{HasMet}
 use Rattle.hip_recording.specs.Printing.{HasFailed, HasPrinted, HasStopped, IsPrinted}
 use Rattle.hip_runs.specs.declared.event.Ending.{Ending}
-use Rattle.hip_runs.specs.declared.event.Ending.TheVariants as endings
 use Rattle.hip_runs.specs.declared.input.Input.{Input}
 use Rattle.hip_types.specs.declared.limits.TheConstants.{LOWEST_BASE}
-
--- every ending is one of a command that was carried out
-pub is_carried_out : (ending : Ending) → outcome_of (status_of_ending ending) ≡ CarriedOut
-is_carried_out (endings.Stop code) = refl
-is_carried_out (endings.Trap kind) = refl
-is_carried_out endings.Cut = refl
-
--- the answer of a run that prints the text and ends so
-abbrev pub answer_of : List ℕ → Ending → Answer
-answer_of text ending = record { status = status_of_ending ending; out = text; notes = ending_line ending }
 
 module _ {old new : CabinetState} {name : List ℕ} {limit : ℕ} {numbers : List ℤ} (P : Program) (I : Input)
     (s : Sinks) (met : HasMet false false old new) (loaded : IsProgramOf old.files name P)
@@ -58,11 +48,10 @@ module _ {old new : CabinetState} {name : List ℕ} {limit : ℕ} {numbers : Lis
   was_cut p line =
       cut_out s (answer_of p.text p.ending) (row p.text p.ending p.printed) (is_carried_out p.ending) p.written line
 
-  pub ran_out : (mid : SinkState) (status : Status) → HasStopped P I s.out mid → RunsOut (record s { out = mid }) status
-      → HasAnswered (RunAnswers old new name limit numbers) true old new s status
-  ran_out mid status p ran =
+  pub ran_out : HasStopped P I s.out s.out_new → PutsLine statuses.NoMemory s.notes s.notes_new
+      → HasAnswered (RunAnswers old new name limit numbers) true old new s statuses.NoMemory
+  ran_out p line =
       let text = p.front ++ p.missing in
-      let front : WritesFront (record s { out_new = mid }) (answer_of text p.ending) =
+      let front : WritesFront s (answer_of text p.ending) =
       record { front = p.front; missing = p.missing; parts = refl; written = p.written } in
-      ran_out_later s (answer_of text p.ending) mid status met (row text p.ending p.printed) (is_carried_out p.ending)
-      front ran
+      ran_out_later s (answer_of text p.ending) met (row text p.ending p.printed) front line

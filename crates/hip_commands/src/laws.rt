@@ -3,7 +3,6 @@
 ghost use Rattle.hip_commands.specs.Laws.{RecordsAreOne, RunsAreOne};
 
 use hip_program_files::files_give_one_answer;
-use hip_run_traces::each_run_has_one_trace;
 
 /// If the files are known, `run` has one answer on them, apart from read faults.
 pub fn runs_are_one()
@@ -17,5 +16,4 @@ pub fn records_are_one()
     ensures { RecordsAreOne }
 {
     files_give_one_answer();
-    each_run_has_one_trace();
 }

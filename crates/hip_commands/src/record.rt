@@ -5,9 +5,7 @@ ghost use Rattle.hip_commands.specs.Record.{RecordAnswers};
 ghost use Rattle.hip_globals.specs.Addresses.{IsBase};
 ghost use Rattle.std.specs.Prelude.{◌≡◌, ◌≤◌, true, length};
 
-use hip_answers::{
-    Status, finish, put_ending, refuse, run_out, status_of_ending, status_of_failure,
-};
+use hip_answers::{Status, finish, put_ending, refuse, status_of_ending, status_of_failure};
 use hip_io::{Cabinet, Sink};
 use hip_loading::load_program;
 use hip_recording::{RecordRefusal, write_trace};
@@ -50,6 +48,6 @@ pub fn record_file<C: Cabinet, S: Sink, N: Sink>(
             finish(notes, tried, status_of_ending(ended.ending))
         }
         Err(RecordRefusal::WriteFault) => refuse(notes, Status::WriteFault),
-        Err(RecordRefusal::NoMemory) => run_out(out, notes),
+        Err(RecordRefusal::NoMemory) => refuse(notes, Status::NoMemory),
     }
 }

@@ -4,9 +4,7 @@ ghost use Rattle.std.specs.Prelude.{◌≡◌, ◌≤◌, true, length};
 ghost use Rattle.hip_answers.specs.Answers.{HasAnswered, IsDelivered, sinks};
 ghost use Rattle.hip_commands.specs.Run.{RunAnswers};
 
-use hip_answers::{
-    Status, finish, put_ending, refuse, run_out, status_of_ending, status_of_failure,
-};
+use hip_answers::{Status, finish, put_ending, refuse, status_of_ending, status_of_failure};
 use hip_io::{Cabinet, Sink};
 use hip_loading::load_program;
 use hip_recording::{RecordRefusal, print_run};
@@ -47,6 +45,6 @@ pub fn run_file<C: Cabinet, S: Sink, N: Sink>(
             finish(notes, tried, status_of_ending(ending))
         }
         Err(RecordRefusal::WriteFault) => refuse(notes, Status::WriteFault),
-        Err(RecordRefusal::NoMemory) => run_out(out, notes),
+        Err(RecordRefusal::NoMemory) => refuse(notes, Status::NoMemory),
     }
 }

@@ -1,13 +1,14 @@
 -- A run up to an entry of its trace.
 use Rattle.std.proofs.Common.{◌≡◌, ◌⊎◌, ◌≤◌, ◌<◌, ◌+◌, ◌-◌, ℕ, zero, suc, true, false, Bool, cond, length, inl, inr, refl, sym, ap, ◌∙◌, subst, arith}
 use Rattle.std.proofs.lemmas.Bool.{cases_order}
+use Rattle.hip_answers.specs.EndingLaws.{rests_later}
 use Rattle.hip_crash_commands.specs.Advancing.{Reaches}
 use Rattle.hip_crash_commands.specs.Images.{HasEntry, StandsAt}
 use Rattle.hip_tree.specs.declared.program.Program.{Program}
 use Rattle.hip_run_traces.specs.Laws.TraceLaws.{length-trace}
 use Rattle.hip_runs.specs.Entry.{IsAtEntry}
 use Rattle.hip_runs.specs.Laws.EndLaws.{runs_end}
-use Rattle.hip_runs.specs.Laws.NextLaws.{entry_there, rests-ended}
+use Rattle.hip_runs.specs.Laws.NextLaws.{entry_there}
 use Rattle.hip_runs.specs.State.{State}
 use Rattle.hip_runs.specs.Step.{has_ended, run}
 use Rattle.hip_runs.specs.declared.input.Input.{Input}
@@ -22,18 +23,6 @@ pub record IsBefore (P : Program) (I : Input) (entry : ℕ) (m : Seen) : Type 0 
   pub program : m.program ≡ P
   pub input : m.input ≡ I
   pub least : (k : ℕ) → k < m.taken → (run P I k).counts.entries < entry
-
--- a run that has ended stays as it is
-stays : (P : Program) (I : Input) (k n : ℕ) → has_ended (run P I k) ≡ true → run P I (k + n) ≡ run P I k
-stays P I k zero ended = ap (run P I) (let e : k + 0 ≡ k = omega arith in e)
-stays P I k (suc n) ended =
-    let before = stays P I k n ended in
-    ap (run P I) (let e : k + suc n ≡ suc (k + n) = omega arith in e)
-    ∙ rests-ended P I (k + n) (ap has_ended before ∙ ended) ∙ before
-
-pub later : (P : Program) (I : Input) (k n : ℕ) → k ≤ n → has_ended (run P I k) ≡ true → run P I n ≡ run P I k
-later P I k n less ended =
-    ap (run P I) (let e : n ≡ k + (n - k) = omega (arith, less) in e) ∙ stays P I k (n - k) ended
 
 -- the run comes to the entry
 pub comes : (P : Program) (I : Input) (entry : ℕ) → HasEntry P I entry → (n : ℕ) × IsAtEntry P I entry n
@@ -60,7 +49,7 @@ module _ {P : Program} {I : Input} {entry : ℕ} (has : HasEntry P I entry) {m :
       go false e = e
       go true e =
           let at = comes P I entry has in
-          let same = ap (λ (s : State). s.counts.entries) (later P I m.taken at.0 (ahead at.0 at.1) e) in
+          let same = ap (λ (s : State). s.counts.entries) (rests_later P I m.taken at.0 (ahead at.0 at.1) e) in
           let enough = at.1.enough in
           absurd (omega (arith, same, few, enough))
 
@@ -92,7 +81,7 @@ module _ {P : Program} {I : Input} {entry : ℕ} (has : HasEntry P I entry) {m :
     where
       no : (n : ℕ) → has_ended (run P I n) ≡ true → n ≤ m.taken → ⊥
       no n ended le =
-          let same : false ≡ true = sym goes_on ∙ ap has_ended (later P I n m.taken le ended) ∙ ended in cc
+          let same : false ≡ true = sym goes_on ∙ ap has_ended (rests_later P I n m.taken le ended) ∙ ended in cc
 
       go : (n : ℕ) → has_ended (run P I n) ≡ true → (m.taken ≡ n) ⊎ ((m.taken < n) ⊎ (n < m.taken)) → m.taken < n
       go n ended (inl same) = absurd (no n ended (omega (arith, same)))

@@ -1,10 +1,8 @@
 -- The files give one answer of `crash`.
-use Rattle.std.proofs.Common.{◌≡◌, ◌⊎◌, ◌<◌, ℕ, true, List, length, Some, None, is_some, inl, inr, sym, ap, ◌∙◌, subst, arith}
-use Rattle.std.proofs.lemmas.Bool.{cases_order}
+use Rattle.std.proofs.Common.{◌≡◌, ◌⊎◌, ◌<◌, ℕ, List, length, Some, None, inl, inr, sym, ap, ◌∙◌, subst, arith}
 use Rattle.hip_answers.specs.Answers.{Answer, refusal}
-use Rattle.hip_answers.specs.Endings.{ending_line, status_of_ending}
+use Rattle.hip_answers.specs.EndingLaws.{one_given}
 use Rattle.hip_crash.specs.Picks.{first_failure, picked}
-use Rattle.hip_crash_commands.proofs.Advances.{later}
 use Rattle.hip_crash_commands.specs.Crash.{CrashTexts}
 use Rattle.hip_crash_commands.specs.Images.{HasEntries, HasEntry, HasImage, HasNoImage, LacksEntry, StandsAt, begun_with, status_of_refusal}
 use Rattle.hip_answers.specs.Traces.{GivesTrace}
@@ -16,42 +14,11 @@ use Rattle.hip_run_traces.specs.Laws.TraceLaws.{one-trace}
 use Rattle.hip_runs.specs.Crash.{crash_image}
 use Rattle.hip_runs.specs.Laws.NextLaws.{entry_is_one}
 use Rattle.hip_runs.specs.State.{State}
-use Rattle.hip_runs.specs.Step.{has_ended, run}
-use Rattle.hip_runs.specs.declared.event.Ending.{Ending}
+use Rattle.hip_runs.specs.Step.{run}
 use Rattle.hip_runs.specs.declared.input.Input.{Input}
 use Rattle.hip_runs.specs.declared.report.Findings.{Findings}
-use Rattle.hip_trace.specs.Texts.{lines_of}
 
-answer_is : {a : Answer} (b : Answer) → a.status ≡ b.status → a.out ≡ b.out → a.notes ≡ b.notes → a ≡ b
-answer_is b e f g = λ i. record { status = e i; out = f i; notes = g i }
-
--- ---- the trace of a run is one
-
-one_end : (P : Program) (I : Input) (k m : ℕ) → has_ended (run P I k) ≡ true → has_ended (run P I m) ≡ true
-    → run P I k ≡ run P I m
-one_end P I k m at_k at_m = by_order (cases_order k m)
-  where
-    by_order : (k ≡ m) ⊎ ((k < m) ⊎ (m < k)) → run P I k ≡ run P I m
-    by_order (inl same) = ap (run P I) same
-    by_order (inr (inl less)) = sym (later P I k m (omega (arith, less)) at_k)
-    by_order (inr (inr more)) = later P I m k (omega (arith, more)) at_m
-
-one_ending : (P : Program) (I : Input) (k m : ℕ) (e f : Ending) → (run P I k).world.ending ≡ Some e
-    → (run P I m).world.ending ≡ Some f → e ≡ f
-one_ending P I k m e f at_k at_m =
-    let same = one_end P I k m (ap is_some at_k) (ap is_some at_m) in
-    let both : Some e ≡ Some f = sym at_k ∙ ap (λ (s : State). s.world.ending) same ∙ at_m in cc
-
-one_given : (P : Program) (I : Input) (a b : Answer) → GivesTrace P I a → GivesTrace P I b → a ≡ b
-one_given P I a b x y =
-    let u = x.traced in
-    let v = y.traced in
-    let ending = one_ending P I u.is_trace.steps v.is_trace.steps x.ending y.ending u.ended v.ended in
-    let trace = one-trace P I u.trace v.trace u.is_trace v.is_trace in
-    answer_is b (x.status_is ∙ ap status_of_ending ending ∙ sym y.status_is)
-    (u.is ∙ ap lines_of trace ∙ sym v.is) (x.notes_is ∙ ap ending_line ending ∙ sym y.notes_is)
-
--- ---- so are its number of entries, and the state at an entry
+-- ---- the number of entries of a trace is one, and so is the state at an entry
 
 module _ (P : Program) (I : Input) (entry : ℕ) (ps : List Pick) where
   one_number : (m n : ℕ) → HasEntries P I m → HasEntries P I n → m ≡ n

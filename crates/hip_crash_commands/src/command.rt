@@ -3,7 +3,6 @@ ghost use Rattle.hip_answers.specs.Answers.{HasAnswered, IsDelivered, sinks};
 ghost use Rattle.hip_crash_commands.specs.Crash.{CrashAnswers, CrashTexts};
 ghost use Rattle.hip_crash_commands.specs.Images.{HasEntries};
 ghost use Rattle.hip_runs.specs.Validity.{IsValid};
-ghost use Rattle.hip_runs.specs.declared.report.Findings.{Findings};
 ghost use Rattle.hip_trace_loading.specs.Runs.{AnswersOnRun};
 
 use crate::picking::image_at;
@@ -13,8 +12,7 @@ use hip_answers::{Status, refuse};
 use hip_io::{Cabinet, Sink};
 use hip_picks::Pick;
 use hip_runs::Input;
-use hip_sound::Checked;
-use hip_trace_loading::load_run;
+use hip_trace_loading::{LoadedRun, load_run};
 use std::alloc::Global;
 
 /// Picks a crash image of the run whose trace a file has, at an entry of that trace, and writes the trace of the run
@@ -35,41 +33,38 @@ pub fn crash_file<C: Cabinet, S: Sink, N: Sink>(
         (sinks (S.state out.old) (S.state out.new) (N.state notes.old) (N.state notes.new)) result }
     ensures delivered { S.held out.old ≡ 0 → IsDelivered result (S.held out.new) }
 {
-    let loaded = match load_run(alloc, program, trace, cabinet, notes) {
-        Ok(loaded) => loaded,
-        Err(status) => return status,
-    };
-    let replayed = loaded.replayed;
-    crash_run(
-        alloc,
-        &loaded.checked,
-        replayed.input,
-        replayed.entries,
-        entry,
-        picks,
-        out,
-        notes,
-    )
+    match load_run(alloc, program, trace, cabinet, notes) {
+        Ok(loaded) => crash_run(alloc, loaded, entry, picks, out, notes),
+        Err(status) => status,
+    }
 }
 
-// Picks an image of a run, whose trace has `entries` entries, and writes the trace of the run that begins with it.
+// Picks an image of a run that is loaded, and writes the trace of the run that begins with it.
 fn crash_run<S: Sink, N: Sink>(
     alloc: Global,
-    checked: &Checked,
-    input: Input,
-    entries: u128,
+    loaded: LoadedRun,
     entry: u64,
     picks: &[Pick],
     out: &mut S,
     notes: &mut N,
 ) -> Status
-    requires valid { IsValid checked.now input }
-    requires counted { HasEntries checked.now input entries }
-    ensures answered { (found : Findings) → AnswersOnRun (CrashTexts entry picks.now checked.now input found) true
+    requires valid { IsValid loaded.checked loaded.replayed.input }
+    requires counted { HasEntries loaded.checked loaded.replayed.input loaded.replayed.entries }
+    ensures answered { AnswersOnRun
+        (CrashTexts entry picks.now loaded.checked loaded.replayed.input loaded.replayed.findings) true
         (sinks (S.state out.old) (S.state out.new) (N.state notes.old) (N.state notes.new)) result }
     ensures delivered { S.held out.old ≡ 0 → IsDelivered result (S.held out.new) }
 {
-    let image = match image_at(alloc, checked, &input, entries, entry, picks) {
+    let checked = &loaded.checked;
+    let input = loaded.replayed.input;
+    let image = match image_at(
+        alloc,
+        checked,
+        &input,
+        loaded.replayed.entries,
+        entry,
+        picks,
+    ) {
         Ok(image) => image,
         Err(failure) => return refuse(notes, status_of_image(failure)),
     };

@@ -4,7 +4,7 @@ ghost use Rattle.hip_answers.specs.Traces.{GivesTrace};
 ghost use Rattle.hip_runs.specs.Validity.{IsValid};
 ghost use Rattle.hip_trace_loading.specs.Runs.{AnswersOnRun};
 
-use hip_answers::{Status, finish, put_ending, refuse, run_out, status_of_ending};
+use hip_answers::{Status, finish, put_ending, refuse, status_of_ending};
 use hip_io::Sink;
 use hip_recording::{RecordRefusal, record_run};
 use hip_runs::Input;
@@ -30,6 +30,6 @@ pub(crate) fn put_trace<S: Sink, N: Sink>(
             finish(notes, tried, status_of_ending(recorded.ending))
         }
         Err(RecordRefusal::WriteFault) => refuse(notes, Status::WriteFault),
-        Err(RecordRefusal::NoMemory) => run_out(out, notes),
+        Err(RecordRefusal::NoMemory) => refuse(notes, Status::NoMemory),
     }
 }

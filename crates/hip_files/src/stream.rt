@@ -18,9 +18,11 @@ pub struct Stream<W> {
     faults: u64,
 }
 
-impl<W> Stream<W> {
+impl<W: Write + Drop> Stream<W> {
     /// A stream that holds nothing back yet.
-    pub fn new(alloc: Global, out: W, lines: bool) -> Stream<W> {
+    pub fn new(alloc: Global, out: W, lines: bool) -> Stream<W>
+        ensures { ⟦<Stream<W> as Sink>⟧.held result ≡ 0 }
+    {
         Stream {
             out,
             held: Vec::new(alloc),
@@ -28,9 +30,7 @@ impl<W> Stream<W> {
             faults: 0,
         }
     }
-}
 
-impl<W: Write + Drop> Stream<W> {
     /// Counts a fault.
     fn fail(&mut self) -> Put
         ensures fails { result ≡ Put.Failed }

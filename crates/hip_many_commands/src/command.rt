@@ -14,14 +14,14 @@ use crate::loading::{AllAsked, ask_all};
 use crate::notes::put_notes;
 use crate::refusal::status_of_traces;
 use hip_answers::{Status, finish, refuse, status_of_failure};
-use hip_io::{Cabinet, Put, Sink};
+use hip_io::{Cabinet, Sink, WriteFault};
 use hip_loading::load_program;
 use hip_repair_answers::plans_cure;
 use hip_repairing::{ManyRepair, repair_for_all};
 use hip_repairs::direct_stores_are_quiet;
-use hip_report_lines::put_program;
 use hip_sound::Checked;
 use hip_types::{NoMemory, Text};
+use hip_write::write;
 use std::alloc::Global;
 
 /// Repairs the program of a file for the runs whose traces other files have, once for all of them. All memory that it
@@ -91,11 +91,11 @@ fn put_repair<S: Sink, N: Sink>(
         (sinks (S.state out.old) (S.state out.new) (N.state notes.old) (N.state notes.new)) result }
     ensures delivered { S.held out.old ≡ 0 → IsDelivered result (S.held out.new) }
 {
-    match put_program(out, made.repair.repaired.checked.program()) {
-        Put::Done => {
+    match write(made.repair.repaired.checked.program(), out) {
+        Ok(()) => {
             let tried = put_notes(notes, checked.program(), traces, reports, made);
             finish(notes, tried, Status::Done)
         }
-        Put::Failed => refuse(notes, Status::WriteFault),
+        Err(WriteFault) => refuse(notes, Status::WriteFault),
     }
 }

@@ -1,11 +1,12 @@
-ghost use Rattle.hip_recording.specs.Delivery.{EndsOutOfMemory};
+ghost use Rattle.hip_recording.specs.Delivery.{EndsOutOfMemory, HoldsNothingAfter};
 
 use crate::refusal::RecordRefusal;
 use hip_io::{Put, Sink};
 
 /// The refusal of a run that ends out of memory: what the sink holds back is delivered, or a write fails.
 pub(crate) fn out_of_memory<S: Sink>(out: &mut S) -> RecordRefusal
-    ensures { EndsOutOfMemory (S.state out.old) (S.state out.new) result }
+    ensures ends { EndsOutOfMemory (S.state out.old) (S.state out.new) result }
+    ensures delivered { HoldsNothingAfter result (S.held out.new) }
 {
     match out.deliver() {
         Put::Done => RecordRefusal::NoMemory,

@@ -1,8 +1,9 @@
-ghost use Rattle.std.specs.Prelude.{◌≡◌, ◌++◌, OnOk, codes};
+ghost use Rattle.std.specs.Prelude.{◌≡◌, ◌++◌, codes};
 ghost use Rattle.std.specs.Fmt.{signed_decimal};
 ghost use Rattle.hip_io.specs.Sinks.{HasPut};
 ghost use Rattle.hip_runs.specs.Outputs.{printed_by};
 ghost use Rattle.hip_runs.specs.Validity.{IsValid};
+ghost use Rattle.hip_recording.specs.Delivery.{HoldsNothing};
 ghost use Rattle.hip_recording.specs.Printing.{Prints};
 
 use crate::delivery::out_of_memory;
@@ -28,7 +29,7 @@ pub fn print_run<S: Sink>(
 ) -> Result<Ending, RecordRefusal>
     requires { IsValid checked.now input.now }
     ensures prints { Prints checked.now input.now (S.state out.old) (S.state out.new) result }
-    ensures delivered { OnOk result (S.held out.new ≡ 0) }
+    ensures delivered { HoldsNothing result (S.held out.new) }
 {
     runs_end();
     runs_are_bounded();
@@ -44,7 +45,7 @@ pub fn print_run<S: Sink>(
 fn print_whole<'a, S: Sink>(machine: &mut Machine<'a>, out: &mut S) -> Result<Ending, RecordRefusal>
     requires { machine.old.taken ≡ 0 }
     ensures prints { Prints machine.old.program machine.old.input (S.state out.old) (S.state out.new) result }
-    ensures delivered { OnOk result (S.held out.new ≡ 0) }
+    ensures delivered { HoldsNothing result (S.held out.new) }
 {
     match print_steps(machine, out) {
         Ok(ending) => match out.deliver() {

@@ -4,6 +4,7 @@ ghost use Rattle.hip_report.specs.Tracking.{HasNoted};
 ghost use Rattle.hip_run_traces.specs.Traces.{header_of};
 ghost use Rattle.hip_runs.specs.Validity.{IsValid};
 ghost use Rattle.hip_trace.specs.Texts.{lines_of};
+ghost use Rattle.hip_recording.specs.Delivery.{HoldsNothing};
 ghost use Rattle.hip_recording.specs.Recording.{PutsTrace, Records};
 ghost use Rattle.hip_recording.specs.Steps.{HasEnded};
 
@@ -37,7 +38,7 @@ pub fn record_run<S: Sink>(
 ) -> Result<Recorded, RecordRefusal>
     requires { IsValid checked.now input.now }
     ensures records { Records checked.now input.now (S.state out.old) (S.state out.new) result }
-    ensures delivered { OnOk result (S.held out.new ≡ 0) }
+    ensures delivered { HoldsNothing result (S.held out.new) }
 {
     let mut machine = match Machine::new(alloc, checked, input) {
         Ok(machine) => machine,
@@ -54,7 +55,7 @@ fn record_whole<'a, S: Sink>(
 ) -> Result<Recorded, RecordRefusal>
     requires { machine.old.taken ≡ 0 }
     ensures records { Records machine.old.program machine.old.input (S.state out.old) (S.state out.new) result }
-    ensures delivered { OnOk result (S.held out.new ≡ 0) }
+    ensures delivered { HoldsNothing result (S.held out.new) }
 {
     let _program = machine.checked().program();
     match put_header(machine.input(), out) {
@@ -75,7 +76,7 @@ fn record_steps<'a, S: Sink>(
     requires counted { header ≡ length (header_of machine.old.input) }
     ensures records { (start : SinkState) → AppendsAll start (S.state out.old) (lines_of (header_of machine.old.input)) →
         Records machine.old.program machine.old.input start (S.state out.new) result }
-    ensures delivered { OnOk result (S.held out.new ≡ 0) }
+    ensures delivered { HoldsNothing result (S.held out.new) }
 {
     runs_are_bounded();
     let _program = machine.checked().program();
@@ -110,7 +111,7 @@ fn put_noted<'a, S: Sink>(
     requires noted { HasNoted tracker.old machine.old }
     ensures trace { (start : SinkState) → AppendsAll start (S.state out.old) (lines_of (header_of machine.old.input)) →
         PutsTrace machine.old.program machine.old.input start (S.state out.new) result }
-    ensures delivered { OnOk result (S.held out.new ≡ 0) }
+    ensures delivered { HoldsNothing result (S.held out.new) }
     ensures ended { OnOk result (HasEnded machine.old machine.new tracker.old tracker.new) }
 {
     match note_entries(machine, tracker, header, out) {

@@ -1,8 +1,9 @@
-ghost use Rattle.std.specs.Prelude.{◌≡◌, OnOk, length};
+ghost use Rattle.std.specs.Prelude.{◌≡◌, length};
 ghost use Rattle.hip_io.specs.Sinks.{AppendsAll, SinkState};
 ghost use Rattle.hip_run_traces.specs.Traces.{header_of};
 ghost use Rattle.hip_runs.specs.Validity.{IsValid};
 ghost use Rattle.hip_trace.specs.Texts.{lines_of};
+ghost use Rattle.hip_recording.specs.Delivery.{HoldsNothing};
 ghost use Rattle.hip_recording.specs.Recording.{PutsTrace};
 
 use crate::delivery::out_of_memory;
@@ -27,7 +28,7 @@ pub fn write_trace<S: Sink>(
 ) -> Result<Ended, RecordRefusal>
     requires { IsValid checked.now input.now }
     ensures trace { PutsTrace checked.now input.now (S.state out.old) (S.state out.new) result }
-    ensures delivered { OnOk result (S.held out.new ≡ 0) }
+    ensures delivered { HoldsNothing result (S.held out.new) }
 {
     let mut machine = match Machine::new(alloc, checked, input) {
         Ok(machine) => machine,
@@ -40,7 +41,7 @@ pub fn write_trace<S: Sink>(
 fn put_trace<'a, S: Sink>(machine: &mut Machine<'a>, out: &mut S) -> Result<Ended, RecordRefusal>
     requires { machine.old.taken ≡ 0 }
     ensures trace { PutsTrace machine.old.program machine.old.input (S.state out.old) (S.state out.new) result }
-    ensures delivered { OnOk result (S.held out.new ≡ 0) }
+    ensures delivered { HoldsNothing result (S.held out.new) }
 {
     let _program = machine.checked().program();
     match put_header(machine.input(), out) {
@@ -60,7 +61,7 @@ fn put_steps<'a, S: Sink>(
     requires counted { header ≡ length (header_of machine.old.input) }
     ensures trace { (start : SinkState) → AppendsAll start (S.state out.old) (lines_of (header_of machine.old.input)) →
         PutsTrace machine.old.program machine.old.input start (S.state out.new) result }
-    ensures delivered { OnOk result (S.held out.new ≡ 0) }
+    ensures delivered { HoldsNothing result (S.held out.new) }
 {
     match put_entries(machine, header, out) {
         Ok(ended) => match out.deliver() {

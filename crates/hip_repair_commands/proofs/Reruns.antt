@@ -1,7 +1,7 @@
 -- What was recorded of the repaired program's run, as an answer of `rerun`.
 use Rattle.std.proofs.Common.{◌≡◌, true, List, ◌++◌, length, refl, ap, ◌∙◌, subst}
 use Rattle.std.proofs.lemmas.Grind.{flat_map-append}
-use Rattle.hip_answers.specs.Answers.{Answer, Finishes, PutsLine, RunsOut, Sinks, WritesFront}
+use Rattle.hip_answers.specs.Answers.{Answer, Finishes, PutsLine, Sinks, WritesFront}
 use Rattle.hip_answers.specs.Laws.{cut_out, finished, ran_out_later}
 use Rattle.hip_answers.specs.declared.status.Status.{Status}
 use Rattle.hip_answers.specs.declared.status.Status.TheVariants as statuses
@@ -64,17 +64,17 @@ module _ (P : Program) (I : Input) (found : Findings) (cured : IsCured P I found
       let after : (f : Findings) × IsFound (repaired_for P found) I f = found_exists (repaired_for P found) I in
       cut_out s (answer found r.trace after.0) (row r.trace after.0 r.is_trace after.1) refl r.written line
 
-  pub rerun_stopped : (mid : SinkState) (status : Status) → HasStoppedRecording Q I s.out mid
-      → RunsOut (record s { out = mid }) status → AnswersOnRun (HasRerun P I found) true s status
-  rerun_stopped mid status h ran old new met =
-      let r : HasStoppedRecording (repaired_for P found) I s.out mid =
-      subst (λ (R : Program). HasStoppedRecording R I s.out mid) same h in
+  pub rerun_stopped : HasStoppedRecording Q I s.out s.out_new → PutsLine statuses.NoMemory s.notes s.notes_new
+      → AnswersOnRun (HasRerun P I found) true s statuses.NoMemory
+  rerun_stopped h line old new met =
+      let r : HasStoppedRecording (repaired_for P found) I s.out s.out_new =
+      subst (λ (R : Program). HasStoppedRecording R I s.out s.out_new) same h in
       let after : (f : Findings) × IsFound (repaired_for P found) I f = found_exists (repaired_for P found) I in
       let trace = r.front ++ r.missing in
-      let front : WritesFront (record s { out_new = mid }) (answer found trace after.0) = record {
+      let front : WritesFront s (answer found trace after.0) = record {
         front = lines_of r.front;
         missing = lines_of r.missing;
         parts = flat_map-append line_of r.front r.missing;
         written = r.written;
       } in
-      ran_out_later s (answer found trace after.0) mid status met (row trace after.0 r.is_trace after.1) refl front ran
+      ran_out_later s (answer found trace after.0) met (row trace after.0 r.is_trace after.1) front line

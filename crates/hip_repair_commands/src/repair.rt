@@ -9,13 +9,14 @@ ghost use Rattle.hip_runs.specs.Validity.{IsValid};
 ghost use Rattle.hip_trace_loading.specs.Runs.{AnswersOnRun};
 
 use hip_answers::{Status, finish, refuse};
-use hip_io::{Cabinet, Put, Sink};
+use hip_io::{Cabinet, Sink, WriteFault};
 use hip_repair_answers::repairs_cure;
 use hip_repairing::{Repair, repair_for};
-use hip_report_lines::{put_program, put_repair_counts};
+use hip_report_lines::put_repair_counts;
 use hip_sound::Checked;
 use hip_trace_loading::{Replayed, load_run};
 use hip_types::NoMemory;
+use hip_write::write;
 use std::alloc::Global;
 
 /// Writes the repaired program; then the counts go to notes.
@@ -35,14 +36,14 @@ fn put_repair<S: Sink, N: Sink>(
 {
     repairs_cure();
     let _program = checked.program();
-    match put_program(out, repair.repaired.checked.program()) {
-        Put::Done => {
+    match write(repair.repaired.checked.program(), out) {
+        Ok(()) => {
             let reports = replayed.findings.reports.len();
             let clones = repair.repaired.clones.len();
             let tried = put_repair_counts(notes, reports, &repair.plan, clones);
             finish(notes, tried, Status::Done)
         }
-        Put::Failed => refuse(notes, Status::WriteFault),
+        Err(WriteFault) => refuse(notes, Status::WriteFault),
     }
 }
 

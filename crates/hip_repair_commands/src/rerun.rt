@@ -8,7 +8,7 @@ ghost use Rattle.hip_runs.specs.Found.Marks.{IsFound};
 ghost use Rattle.hip_runs.specs.Validity.{IsValid};
 ghost use Rattle.hip_trace_loading.specs.Runs.{AnswersOnRun};
 
-use hip_answers::{Status, finish, refuse, run_out};
+use hip_answers::{Status, finish, refuse};
 use hip_io::{Cabinet, Sink};
 use hip_recording::{RecordRefusal, record_run};
 use hip_repair_answers::repairs_cure;
@@ -46,7 +46,7 @@ fn run_repair<S: Sink, N: Sink>(
             finish(notes, tried, Status::Done)
         }
         Err(RecordRefusal::WriteFault) => refuse(notes, Status::WriteFault),
-        Err(RecordRefusal::NoMemory) => run_out(out, notes),
+        Err(RecordRefusal::NoMemory) => refuse(notes, Status::NoMemory),
     }
 }
 

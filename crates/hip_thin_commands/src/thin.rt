@@ -11,13 +11,14 @@ ghost use Rattle.hip_trace_loading.specs.Runs.{AnswersOnRun};
 
 use crate::laws::thins_cure;
 use hip_answers::{Status, finish, refuse};
-use hip_io::{Cabinet, Put, Sink};
+use hip_io::{Cabinet, Put, Sink, WriteFault};
 use hip_repairing::{Thinned, thin_for};
 use hip_repairs::Plan;
-use hip_report_lines::{put_count, put_program, put_repair_counts};
+use hip_report_lines::{put_count, put_repair_counts};
 use hip_sound::Checked;
 use hip_trace_loading::{Replayed, load_run};
 use hip_types::NoMemory;
+use hip_write::write;
 use std::alloc::Global;
 
 /// What `thin` writes to the notes.
@@ -52,8 +53,8 @@ fn put_thinned<S: Sink, N: Sink>(
 {
     thins_cure();
     let _program = checked.program();
-    match put_program(out, thinned.repair.repaired.checked.program()) {
-        Put::Done => {
+    match write(thinned.repair.repaired.checked.program(), out) {
+        Ok(()) => {
             let reports = replayed.findings.reports.len();
             let clones = thinned.repair.repaired.clones.len();
             let tried = put_thin_counts(
@@ -65,7 +66,7 @@ fn put_thinned<S: Sink, N: Sink>(
             );
             finish(notes, tried, Status::Done)
         }
-        Put::Failed => refuse(notes, Status::WriteFault),
+        Err(WriteFault) => refuse(notes, Status::WriteFault),
     }
 }
 

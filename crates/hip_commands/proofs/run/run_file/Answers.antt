@@ -16,7 +16,10 @@ returns-in-Err-WriteFault-clause-answered g c =
 
 pub returns-clause-answered : goal.returns-clause-answered
 returns-clause-answered g c =
-    let s = sinks (g.S.Sink.state c.args.out.now) (g.S.Sink.state c.run_out.new.out) (g.N.Sink.state c.args.notes.now) (g.N.Sink.state c.run_out.new.notes) in
-    ran_out c.in-Ok.checked c.in-Ok-first_input.input s c.in-Ok.ensures.0 c.in-Ok.ensures.1 c.in-Ok-first_input.ensures.is
-    (g.S.Sink.state c.print_run.new.out) c.run_out.result (rw c.in-Err-NoMemory.field-0-is at c.in-Err-NoMemory.ensures.prints)
-    c.run_out.ensures.tried
+    let s = sinks (g.S.Sink.state c.args.out.now) (g.S.Sink.state c.print_run.new.out) (g.N.Sink.state c.args.notes.now) (g.N.Sink.state c.refuse-in-Err-NoMemory.new.notes) in
+    rw c.refuse-in-Err-NoMemory.ensures.status (ran_out c.in-Ok.checked c.in-Ok-first_input.input s c.in-Ok.ensures.0 c.in-Ok.ensures.1 c.in-Ok-first_input.ensures.is
+    (rw c.in-Err-NoMemory.field-0-is at c.in-Err-NoMemory.ensures.prints) c.refuse-in-Err-NoMemory.ensures.line)
+
+pub returns-clause-delivered : goal.returns-clause-delivered
+returns-clause-delivered g c = λ start fault.
+    rw c.in-Err-NoMemory.field-0-is at c.in-Err-NoMemory.ensures.delivered

@@ -9,7 +9,7 @@ returns-in-Err-clause-prints g c =
     ran_out (g.S.Sink.state c.out_of_memory.new.out) c.out_of_memory.result
     (stopped (told_by c.args.checked.now c.args.input.now c.events_tell_output_and_ending.ensures.output c.events_tell_output_and_ending.ensures.ending c.runs_end.ensures c.runs_are_bounded.ensures.bounded)
     (started c.args.checked.now c.args.input.now (g.S.Sink.state c.args.out.now)))
-    c.out_of_memory.ensures
+    c.out_of_memory.ensures.ends
 
 pub returns-clause-prints : goal.returns-clause-prints
 returns-clause-prints g c =

@@ -9,4 +9,4 @@ returns-in-Failed-clause-prints g c = not_delivered c.in-Ok.ensures c.in-Failed.
 
 pub returns-in-Err-NoMemory-clause-prints : goal.returns-in-Err-NoMemory-clause-prints
 returns-in-Err-NoMemory-clause-prints g c =
-    ran_out (g.S.Sink.state c.out_of_memory.new.out) c.out_of_memory.result (rw c.in-Err-NoMemory.field-0-is at c.in-Err-NoMemory.ensures) c.out_of_memory.ensures
+    ran_out (g.S.Sink.state c.out_of_memory.new.out) c.out_of_memory.result (rw c.in-Err-NoMemory.field-0-is at c.in-Err-NoMemory.ensures) c.out_of_memory.ensures.ends

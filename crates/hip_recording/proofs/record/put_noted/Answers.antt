@@ -9,4 +9,4 @@ returns-in-Failed-clause-trace g c = λ start h. not_delivered (c.in-Ok.ensures.
 
 pub returns-in-Err-NoMemory-clause-trace : goal.returns-in-Err-NoMemory-clause-trace
 returns-in-Err-NoMemory-clause-trace g c = λ start h.
-    ran_out (g.S.Sink.state c.out_of_memory.new.out) c.out_of_memory.result (rw c.in-Err-NoMemory.field-0-is at (c.in-Err-NoMemory.ensures.trace start h)) c.out_of_memory.ensures
+    ran_out (g.S.Sink.state c.out_of_memory.new.out) c.out_of_memory.result (rw c.in-Err-NoMemory.field-0-is at (c.in-Err-NoMemory.ensures.trace start h)) c.out_of_memory.ensures.ends

@@ -10,7 +10,7 @@ use Rattle.hip_recording.proofs.record.record_steps.Goals as goal
 
 pub returns-in-Err-clause-records : goal.returns-in-Err-clause-records
 returns-in-Err-clause-records g c = λ start h.
-    ran_out (g.S.Sink.state c.out_of_memory.new.out) c.out_of_memory.result (stopped_header c.args.machine.now.program c.args.machine.now.input start (g.S.Sink.state c.args.out.now) h) c.out_of_memory.ensures
+    ran_out (g.S.Sink.state c.out_of_memory.new.out) c.out_of_memory.result (stopped_header c.args.machine.now.program c.args.machine.now.input start (g.S.Sink.state c.args.out.now) h) c.out_of_memory.ensures.ends
 
 pub new-requires : goal.new-requires
 new-requires g c = header_small c.args.machine.now.program c.args.machine.now.input (subst (λ p. IsSound p) c.checked.ensures c.program-program.ensures.sound) c.requires.valid (c.runs_are_bounded.ensures.bounded c.args.machine.now.program c.args.machine.now.input) c.args.header c.requires.counted

@@ -5,7 +5,7 @@ use Rattle.hip_recording.proofs.trace.write_trace.Goals as goal
 
 pub returns-in-Err-clause-trace : goal.returns-in-Err-clause-trace
 returns-in-Err-clause-trace g c =
-    ran_out (g.S.Sink.state c.out_of_memory.new.out) c.out_of_memory.result (stopped_first c.args.checked.now c.args.input.now (g.S.Sink.state c.args.out.now)) c.out_of_memory.ensures
+    ran_out (g.S.Sink.state c.out_of_memory.new.out) c.out_of_memory.result (stopped_first c.args.checked.now c.args.input.now (g.S.Sink.state c.args.out.now)) c.out_of_memory.ensures.ends
 
 pub returns-clause-trace : goal.returns-clause-trace
 returns-clause-trace g c =

@@ -2,24 +2,24 @@ use Rattle.hip_answers.specs.Answers.{sinks}
 use Rattle.hip_repair_commands.proofs.Repairs.{repaired, repaired_part}
 use Rattle.hip_repair_commands.proofs.repair.put_repair.Goals as goal
 
-pub returns-in-Done-clause-answered : goal.returns-in-Done-clause-answered
-returns-in-Done-clause-answered g c =
+pub returns-in-Ok-clause-answered : goal.returns-in-Ok-clause-answered
+returns-in-Ok-clause-answered g c =
     let P = c.args.checked.now in
     let I = c.args.replayed.now.input in
     let found = c.args.replayed.now.findings in
-    let s = sinks (g.S.Sink.state c.args.out.now) (g.S.Sink.state c.put_program.new.out) (g.N.Sink.state c.args.notes.now) (g.N.Sink.state c.finish.new.notes) in
+    let s = sinks (g.S.Sink.state c.args.out.now) (g.S.Sink.state c.write.new.out) (g.N.Sink.state c.args.notes.now) (g.N.Sink.state c.finish.new.notes) in
     repaired P I found c.args.repair.now c.requires.repair
     (c.repairs_cure.ensures P I found c.program-program.ensures.sound c.requires.valid c.requires.found) s
     c.put_repair_counts-tried.result (g.N.Sink.state c.put_repair_counts-tried.new.notes) c.finish.result
-    (rw c.program.ensures.is at c.in-Done.ensures.how)
+    (rw c.program.ensures.is at c.in-Ok.ensures.wrote)
     (rw (c.len-reports.ensures, c.len-clones.ensures) at c.put_repair_counts-tried.ensures) c.finish.ensures
 
-pub returns-in-Failed-clause-answered : goal.returns-in-Failed-clause-answered
-returns-in-Failed-clause-answered g c =
+pub returns-in-Err-clause-answered : goal.returns-in-Err-clause-answered
+returns-in-Err-clause-answered g c =
     let P = c.args.checked.now in
     let I = c.args.replayed.now.input in
     let found = c.args.replayed.now.findings in
-    let s = sinks (g.S.Sink.state c.args.out.now) (g.S.Sink.state c.put_program.new.out) (g.N.Sink.state c.args.notes.now) (g.N.Sink.state c.refuse.new.notes) in
+    let s = sinks (g.S.Sink.state c.args.out.now) (g.S.Sink.state c.write.new.out) (g.N.Sink.state c.args.notes.now) (g.N.Sink.state c.refuse.new.notes) in
     rw c.refuse.ensures.status (repaired_part P I found c.args.repair.now c.requires.repair
     (c.repairs_cure.ensures P I found c.program-program.ensures.sound c.requires.valid c.requires.found) s
-    (rw c.program.ensures.is at c.in-Failed.ensures.how) c.refuse.ensures.line)
+    (rw c.program.ensures.is at c.in-Err.ensures.wrote) c.refuse.ensures.line)

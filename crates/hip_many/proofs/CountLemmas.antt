@@ -1,6 +1,5 @@
 -- Counts of sites, plan by plan.
-use Rattle.std.proofs.Common.{◌≡◌, ℕ, ◌+◌, ◌-◌, ◌^◌, ◌<◌, ◌≤◌, min, Bool, true, false, cond, ◌&&◌, ◌||◌, nat_eq, List, [], ◌∷◌, ◌++◌, length, take, get_or, Option, Some, None, refl, sym, ap, ap₂, ◌∙◌, subst, arith, count_by}
-use Rattle.std.specs.List.{list_any}
+use Rattle.std.proofs.Common.{◌≡◌, ℕ, ◌+◌, ◌-◌, ◌^◌, ◌<◌, ◌≤◌, min, Bool, true, false, cond, ◌||◌, nat_eq, List, [], ◌∷◌, length, take, get_or, Some, refl, sym, ap, ◌∙◌, subst, arith}
 use Rattle.std.specs.Map.{lookup}
 use Rattle.std.specs.Prelude.{unwrap_or}
 use Rattle.std.proofs.lemmas.Bool.Decides.{nat_tests}
@@ -10,38 +9,21 @@ use Rattle.std.proofs.lemmas.List.Sums.{count_by-le-length, count_by_more_no, co
 use Rattle.hip_tree.specs.Sites.{has_site, same_site}
 use Rattle.hip_tree.specs.declared.site.Site.{Site}
 use Rattle.hip_runs.specs.Laws.Found.FoundLaws.{same_site_equal}
-use Rattle.hip_insertions.specs.SiteSets.{Key, same_key}
 use Rattle.hip_repairs.specs.declared.plan.Plan.{Plan}
 use Rattle.hip_many.specs.Counts.{count_at, counted, none_met}
 use Rattle.hip_many.specs.Reasons.{plans_with, sites_in}
 use Rattle.hip_many.specs.declared.counts.Count.{Count}
 use Rattle.hip_many.specs.declared.reason.Sort.{Sort}
 
-abbrev pub key : Site → Key
-key s = (s.function, s.block, s.index)
-
-flipped : (m n : ℕ) → nat_eq m n ≡ nat_eq n m
-flipped m n = grind (arith, nat_tests)
-
--- keys are the same where the sites are
-key_same : (x s : Site) → same_key (key x) (key s) ≡ same_site s x
-key_same x s = regroup (nat_eq x.function s.function) (nat_eq x.block s.block) (nat_eq x.index s.index)
-    ∙ ap₂ (λ (a b : Bool). a && b) (flipped x.function s.function) (ap₂ (λ (a b : Bool). a && b) (flipped x.block s.block) (flipped x.index s.index))
-  where
-    regroup : (a b c : Bool) → a && b && c ≡ a && (b && c)
-    regroup true b c = refl
-    regroup false b c = refl
-
-pub one_noted : (old new : List (Key × Count)) (x : Site) (k : Key) (v w : Count) (number : ℕ) → k ≡ key x → v ≡ counted w number → w ≡ count_at old x →
-    ((q : Key) → lookup (same_key q) new ≡ cond (same_key k q) (Some v) (lookup (same_key q) old)) →
+pub one_noted : (old new : List (Site × Count)) (x : Site) (v w : Count) (number : ℕ) → v ≡ counted w number → w ≡ count_at old x →
+    ((q : Site) → lookup (same_site q) new ≡ cond (same_site q x) (Some v) (lookup (same_site q) old)) →
     (s : Site) → count_at new s ≡ cond (same_site s x) (counted (count_at old x) number) (count_at old s)
-one_noted old new x k v w number at is from updates s =
-    ap (λ o. unwrap_or o none_met) (updates (key s))
-    ∙ ap (λ b. unwrap_or (cond b (Some v) (lookup (same_key (key s)) old)) none_met) (ap (λ q. same_key q (key s)) at ∙ key_same x s)
+one_noted old new x v w number is from updates s =
+    ap (λ o. unwrap_or o none_met) (updates s)
     ∙ by_test (same_site s x)
     ∙ ap (λ (c : Count). cond (same_site s x) c (count_at old s)) (is ∙ ap (λ (c : Count). counted c number) from)
   where
-    by_test : (b : Bool) → unwrap_or (cond b (Some v) (lookup (same_key (key s)) old)) none_met ≡ cond b v (count_at old s)
+    by_test : (b : Bool) → unwrap_or (cond b (Some v) (lookup (same_site s) old)) none_met ≡ cond b v (count_at old s)
     by_test true = refl
     by_test false = refl
 
@@ -60,13 +42,13 @@ counted_twice c number = by_test (nat_eq c.last number) refl
     by_test false e = ap (λ t. cond t (record { plans = min (c.plans + 1) (2 ^ 64 - 1); last = number }) (record { plans = min (min (c.plans + 1) (2 ^ 64 - 1) + 1) (2 ^ 64 - 1); last = number })) (same number)
 
 -- each of the sites was met in the plan of that number
-pub record AreNoted (old : List (Key × Count)) (sites : List Site) (number : ℕ) (now : List (Key × Count)) : Type 0 where
+pub record AreNoted (old : List (Site × Count)) (sites : List Site) (number : ℕ) (now : List (Site × Count)) : Type 0 where
   pub count : (s : Site) → count_at now s ≡ cond (has_site sites s) (counted (count_at old s) number) (count_at old s)
 
-pub none_noted : (old : List (Key × Count)) (sites : List Site) (number : ℕ) → AreNoted old (take 0 sites) number old
+pub none_noted : (old : List (Site × Count)) (sites : List Site) (number : ℕ) → AreNoted old (take 0 sites) number old
 none_noted old sites number = record { count = λ s. refl }
 
-pub next_noted : (old now new : List (Key × Count)) (sites : List Site) (i : ℕ) (d : Site) (number : ℕ) → i < length sites →
+pub next_noted : (old now new : List (Site × Count)) (sites : List Site) (i : ℕ) (d : Site) (number : ℕ) → i < length sites →
     ((s : Site) → count_at new s ≡ cond (same_site s (get_or sites i d)) (counted (count_at now (get_or sites i d)) number) (count_at now s)) →
     AreNoted old (take i sites) number now → AreNoted old (take (i + 1) sites) number new
 next_noted old now new sites i d number h put so_far = record { count = by_site }
@@ -90,19 +72,19 @@ next_noted old now new sites i d number h put so_far = record { count = by_site 
         ∙ ap (λ t. cond t (counted (count_at old s) number) (count_at old s)) (sym (list_any-append (same_site s) (take i sites) (get_or sites i d ∷ [])))
         ∙ ap (λ xs. cond (has_site xs s) (counted (count_at old s) number) (count_at old s)) (sym (take_more sites i d h))
 
-pub all_noted : (old now : List (Key × Count)) (sites : List Site) (i number : ℕ) → length sites ≤ i → AreNoted old (take i sites) number now → (s : Site) →
+pub all_noted : (old now : List (Site × Count)) (sites : List Site) (i number : ℕ) → length sites ≤ i → AreNoted old (take i sites) number now → (s : Site) →
     count_at now s ≡ cond (has_site sites s) (counted (count_at old s) number) (count_at old s)
 all_noted old now sites i number h so_far s = so_far.count s ∙ ap (λ xs. cond (has_site xs s) (counted (count_at old s) number) (count_at old s)) (take_all i sites h)
 
 -- the counts of so many plans
-pub record Tallies (entries : List (Key × Count)) (sort : Sort) (plans : List Plan) (number : ℕ) : Type 0 where
+pub record Tallies (entries : List (Site × Count)) (sort : Sort) (plans : List Plan) (number : ℕ) : Type 0 where
   pub plans_are : (s : Site) → (count_at entries s).plans ≡ plans_with sort plans s
   pub last : (s : Site) → (count_at entries s).last ≤ number
 
 pub none_tallied : (sort : Sort) (plans : List Plan) → Tallies [] sort (take 0 plans) 0
 none_tallied sort plans = record { plans_are = λ s. refl; last = λ s. omega arith }
 
-pub next_tallied : (old new : List (Key × Count)) (sort : Sort) (plans : List Plan) (i : ℕ) (d : Plan) (sites : List Site) → i < length plans → i + 1 < 2 ^ 64 → sites ≡ sites_in sort (get_or plans i d) →
+pub next_tallied : (old new : List (Site × Count)) (sort : Sort) (plans : List Plan) (i : ℕ) (d : Plan) (sites : List Site) → i < length plans → i + 1 < 2 ^ 64 → sites ≡ sites_in sort (get_or plans i d) →
     ((s : Site) → count_at new s ≡ cond (has_site sites s) (counted (count_at old s) (i + 1)) (count_at old s)) →
     Tallies old sort (take i plans) i → Tallies new sort (take (i + 1) plans) (i + 1)
 next_tallied old new sort plans i d sites h fits same put before = record { plans_are = λ s. (by_site s).0; last = λ s. (by_site s).1 }
@@ -130,6 +112,6 @@ next_tallied old new sort plans i d sites h fits same put before = record { plan
     by_site : (s : Site) → Fine s (count_at new s)
     by_site s = subst (Fine s) (sym (put s)) (by_test s (has_site sites s) refl)
 
-pub all_tallied : (entries : List (Key × Count)) (sort : Sort) (plans : List Plan) (i : ℕ) → length plans ≤ i → Tallies entries sort (take i plans) i → (s : Site) →
+pub all_tallied : (entries : List (Site × Count)) (sort : Sort) (plans : List Plan) (i : ℕ) → length plans ≤ i → Tallies entries sort (take i plans) i → (s : Site) →
     (count_at entries s).plans ≡ plans_with sort plans s
 all_tallied entries sort plans i h so_far s = so_far.plans_are s ∙ ap (λ ps. plans_with sort ps s) (take_all i plans h)

@@ -9,23 +9,14 @@ use crate::reason::Sort;
 use hip_repairs::Plan;
 use hip_tree::Site;
 use hip_types::NoMemory;
-use indexmap::IndexMap;
 use std::alloc::Global;
+use std::collections::BTreeMap;
 
 /// In how many plans a site was met, and the number of the last one, from 1; 0 where there was none.
 #[derive(Clone, Copy)]
 pub struct Count {
     pub plans: u64,
     pub last: u64,
-}
-
-/// Function, block and index of a site.
-type Key = (usize, usize, usize);
-
-fn key_of(site: Site) -> Key
-    ensures { result ≡ (site.function, site.block, site.index) }
-{
-    (site.function, site.block, site.index)
 }
 
 /// The count after the site was met in the plan of that number.
@@ -43,25 +34,25 @@ fn counted(count: Count, number: u64) -> Count
 }
 
 /// The count of a site.
-pub fn count_of(counts: &IndexMap<Key, Count>, site: Site) -> Count
+pub fn count_of(counts: &BTreeMap<Site, Count>, site: Site) -> Count
     ensures { result ≡ count_at counts.now.entries site }
 {
-    match counts.get(&key_of(site)) {
+    match counts.get(&site) {
         Some(count) => *count,
         None => Count { plans: 0, last: 0 },
     }
 }
 
-fn note(counts: &mut IndexMap<Key, Count>, site: Site, number: u64) -> Result<(), NoMemory>
+fn note(counts: &mut BTreeMap<Site, Count>, site: Site, number: u64) -> Result<(), NoMemory>
     ensures { OnOk result ((s : Site) → count_at counts.new.entries s ≡ cond (same_site s site)
         (spec.counted (count_at counts.old.entries site) number) (count_at counts.old.entries s)) }
 {
     let count = counted(count_of(counts, site), number);
-    counts.insert(key_of(site), count)?;
+    counts.insert(site, count)?;
     Ok(())
 }
 
-fn note_all(counts: &mut IndexMap<Key, Count>, sites: &[Site], number: u64) -> Result<(), NoMemory>
+fn note_all(counts: &mut BTreeMap<Site, Count>, sites: &[Site], number: u64) -> Result<(), NoMemory>
     ensures { OnOk result ((s : Site) → count_at counts.new.entries s ≡ cond (has_site sites.now s)
         (spec.counted (count_at counts.old.entries s) number) (count_at counts.old.entries s)) }
 {
@@ -76,11 +67,11 @@ pub fn counts_of(
     alloc: Global,
     sort: Sort,
     plans: &[Plan],
-) -> Result<IndexMap<Key, Count>, NoMemory>
+) -> Result<BTreeMap<Site, Count>, NoMemory>
     ensures { IfOk result (λ counts. (s : Site) →
         (count_at counts.entries s).plans ≡ plans_with sort plans.now s) }
 {
-    let mut counts = IndexMap::new(alloc);
+    let mut counts = BTreeMap::new(alloc);
     'each: for index in 0..plans.len() {
         note_all(&mut counts, sort.sites(&plans[index]), index as u64 + 1)?;
     }

@@ -66,7 +66,7 @@ fn add_reasons(
 /// A reason for each site of a plan that is the union of others: for those of `flush_after`, then of `fence_after`,
 /// then of `hoist`. It holds of any plan.
 ///
-/// Time and memory are linear in the plans.
+/// Memory is linear in the plans, and so is the time, but that sites are sorted.
 pub fn reasons(alloc: Global, plans: &[Plan], plan: &Plan) -> Result<Row<Reason>, NoMemory>
     ensures { IfOk result (λ rows. rows ≡ spec.reasons plans.now plan.now) }
 {

@@ -1,5 +1,4 @@
-ghost use Rattle.std.specs.Prelude.{◌≡◌, ◌||◌, Bool, IfOk, OnOk};
-ghost use Rattle.hip_tree.specs.Sites.{has_site};
+ghost use Rattle.std.specs.Prelude.{Bool, IfOk, OnOk};
 ghost use Rattle.hip_tree.specs.declared.program.Program.{Program};
 ghost use Rattle.hip_tree.specs.declared.site.Site.{Site};
 ghost use Rattle.hip_sound.specs.Sound.{IsSound};
@@ -14,20 +13,20 @@ ghost use Rattle.hip_repairs.specs.Quiet.{IsQuiet};
 ghost use Rattle.hip_repairs.specs.Repaired.{repaired};
 ghost use Rattle.hip_repairs.specs.Suits.{IsSuiting};
 ghost use Rattle.hip_repairs.specs.declared.plan.Plan.{Plan};
-ghost use Rattle.hip_many.specs.Union.{IsUnion};
+ghost use Rattle.hip_many.specs.Union.{HasPut, IsUnion};
 
-use hip_plan::SiteSet;
+use hip_plan::PlanSites;
 use hip_repairs::{Plan, repairs_are_clean};
-use hip_tree::Site;
 use hip_types::NoMemory;
 use std::alloc::Global;
 
-fn add_all(set: &mut SiteSet, sites: &[Site]) -> Result<(), NoMemory>
-    ensures { OnOk result ((s : Site) → has_site set.new s ≡ (has_site sites.now s || has_site set.old s)) }
+/// Puts in the sites of a plan.
+fn add_plan(sites: &mut PlanSites, plan: &Plan) -> Result<(), NoMemory>
+    ensures { OnOk result (HasPut plan.now sites.old sites.new) }
 {
-    'each: for site in sites {
-        set.insert(*site)?;
-    }
+    sites.flush_after.insert_all(plan.flush_after.as_slice())?;
+    sites.fence_after.insert_all(plan.fence_after.as_slice())?;
+    sites.hoist.insert_all(plan.hoist.as_slice())?;
     Ok(())
 }
 
@@ -47,17 +46,9 @@ pub fn plan_many(alloc: Global, plans: &[Plan]) -> Result<Plan, NoMemory>
         IsClean (repaired P plan skip) I) }
 {
     repairs_are_clean();
-    let mut flush_after = SiteSet::new(alloc);
-    let mut fence_after = SiteSet::new(alloc);
-    let mut hoist = SiteSet::new(alloc);
+    let mut sites = PlanSites::new(alloc);
     'each: for plan in plans {
-        add_all(&mut flush_after, plan.flush_after.as_slice())?;
-        add_all(&mut fence_after, plan.fence_after.as_slice())?;
-        add_all(&mut hoist, plan.hoist.as_slice())?;
+        add_plan(&mut sites, plan)?;
     }
-    Ok(Plan {
-        flush_after: flush_after.to_row(alloc)?,
-        fence_after: fence_after.to_row(alloc)?,
-        hoist: hoist.to_row(alloc)?,
-    })
+    sites.to_plan(alloc)
 }

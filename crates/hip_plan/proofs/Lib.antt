@@ -2,7 +2,9 @@ mod Calls
 mod Greatest
 mod Levels
 mod Listed
+mod Numbers
 mod Places
-mod Sites
+mod Put
+pub mod Sites
 mod Sums
 mod Tables

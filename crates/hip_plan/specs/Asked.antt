@@ -1,10 +1,13 @@
 -- The sites that a report asks for.
-use Rattle.std.specs.Prelude.{ℕ, Bool, cond, nat_eq, is_some, List, Option, None, slice_get}
-use Rattle.hip_tree.specs.Sites.{instr_of}
+use Rattle.std.specs.Prelude.{◌≡◌, ◌&&◌, ◌||◌, ℕ, Bool, cond, nat_eq, is_some, List, Option, None, slice_get}
+use Rattle.hip_tree.specs.Sites.{has_site, instr_of}
 use Rattle.hip_tree.specs.declared.program.Program.{Program}
 use Rattle.hip_tree.specs.declared.site.Site.{Site}
+use Rattle.hip_repairs.specs.Choice.{is_site}
 use Rattle.hip_runs.specs.declared.report.Kind.{Kind}
 use Rattle.hip_runs.specs.declared.report.Kind.TheVariants.{MissingFlush, MissingFence, MissingBoth}
+use Rattle.hip_runs.specs.declared.report.Report.{Report}
+use Rattle.hip_plan.specs.declared.plan_sites.PlanSites.{PlanSites}
 
 -- the site of the store, where a report is repaired there
 abbrev pub store_at : ℕ → List Site → Option Site
@@ -37,3 +40,13 @@ hoist_asked MissingBoth level path = call_at level path
 -- whether an instruction of the program stands at the site
 abbrev pub is_there : Program → Site → Bool
 is_there P s = is_some (instr_of P s)
+
+-- a set of sites after one was put in, where there is one and the program has it
+abbrev pub puts : Program → Option Site → List Site → List Site → Type 0
+puts P asked old new = (s : Site) → has_site new s ≡ ((is_site asked s && is_there P s) || has_site old s)
+
+-- the sites of a plan after those that a report asks for, at its level, were put in
+pub record HasPut (P : Program) (r : Report) (level : ℕ) (old new : PlanSites) : Type 0 where
+  pub flushes : puts P (flush_asked r.kind level r.path) old.flush_after new.flush_after
+  pub fences : puts P (fence_asked r.kind level r.flush_site r.path) old.fence_after new.fence_after
+  pub hoists : puts P (hoist_asked r.kind level r.path) old.hoist new.hoist

@@ -29,13 +29,13 @@ greatest (Some b) a = Some (cond (int_lt b a) a b)
 
 -- ---- the table of worths
 
--- function, block and index of a site, and the number of one of its pointer operands
+-- a site, and the number of one of its pointer operands
 abbrev pub OperandKey : Type 0
-OperandKey = ℕ × ℕ × ℕ × ℕ
+OperandKey = Site × ℕ
 
 -- whether two keys are of the same pointer operand of the same site
 abbrev pub same_operand : OperandKey → OperandKey → Bool
-same_operand a b = nat_eq a.0 b.0 && nat_eq a.1 b.1 && nat_eq a.2 b.2 && nat_eq a.3 b.3
+same_operand a b = same_site a.0 b.0 && nat_eq a.1 b.1
 
 -- the worth that stands in the table for an operand; 0 where none does
 abbrev pub worth_among : List (OperandKey × ℤ) → OperandKey → ℤ
@@ -44,4 +44,4 @@ worth_among entries key = unwrap_or (lookup (same_operand key) entries) (pos 0)
 -- the table has the worths by these marks
 pub record HasWorths (entries : List (OperandKey × ℤ)) (hit : List ℕ) (marks : List Mark) : Type 0 where
   pub worth : (site : Site) (operand : ℕ) →
-      worth_among entries (site.function, site.block, site.index, operand) ≡ worth_in hit site operand marks (pos 0)
+      worth_among entries (site, operand) ≡ worth_in hit site operand marks (pos 0)

@@ -3,6 +3,7 @@
 
 mod choice;
 mod making;
+mod plan_sites;
 mod scores;
 mod site_set;
 mod worth_table;
@@ -10,5 +11,6 @@ mod worths;
 
 pub use choice::choose;
 pub use making::plan;
+pub use plan_sites::PlanSites;
 pub use scores::score;
 pub use site_set::SiteSet;

@@ -6,9 +6,10 @@ ghost use Rattle.hip_runs.specs.declared.input.Input.{Input};
 ghost use Rattle.hip_repairs.specs.Choice.{is_site, plan_for};
 ghost use Rattle.hip_repairs.specs.Suits.{IsSuiting};
 ghost use Rattle.hip_plan.specs.Asked as spec;
-ghost use Rattle.hip_plan.specs.Asked.{is_there};
+ghost use Rattle.hip_plan.specs.Asked.{HasPut, is_there};
 
 use crate::choice::choose_by;
+use crate::plan_sites::PlanSites;
 use crate::site_set::SiteSet;
 use crate::worth_table::WorthTable;
 use hip_repairs::Plan;
@@ -67,6 +68,21 @@ fn add(sites: &mut SiteSet, program: &Program, site: Option<Site>) -> Result<(),
     }
 }
 
+/// Puts in what a report asks for.
+fn add_asked(
+    sites: &mut PlanSites,
+    program: &Program,
+    report: &Report,
+    level: usize,
+) -> Result<(), NoMemory>
+    ensures { OnOk result (HasPut program.now report.now level sites.old sites.new) }
+{
+    add(&mut sites.flush_after, program, flush_asked(report, level))?;
+    add(&mut sites.fence_after, program, fence_asked(report, level))?;
+    add(&mut sites.hoist, program, hoist_asked(report, level))?;
+    Ok(())
+}
+
 /// The plan for what was found: in each list the sites of the program that some report needs, in ascending order. It
 /// suits the program if a run of the program found this.
 ///
@@ -78,18 +94,10 @@ pub fn plan(alloc: Global, checked: &Checked, findings: &Findings) -> Result<Pla
 {
     let program = checked.program();
     let worths = WorthTable::new(alloc, findings)?;
-    let mut flush_after = SiteSet::new(alloc);
-    let mut fence_after = SiteSet::new(alloc);
-    let mut hoist = SiteSet::new(alloc);
+    let mut sites = PlanSites::new(alloc);
     'each: for report in findings.reports.as_slice() {
         let level = choose_by(checked, &worths, report);
-        add(&mut flush_after, program, flush_asked(report, level))?;
-        add(&mut fence_after, program, fence_asked(report, level))?;
-        add(&mut hoist, program, hoist_asked(report, level))?;
+        add_asked(&mut sites, program, report, level)?;
     }
-    Ok(Plan {
-        flush_after: flush_after.to_row(alloc)?,
-        fence_after: fence_after.to_row(alloc)?,
-        hoist: hoist.to_row(alloc)?,
-    })
+    sites.to_plan(alloc)
 }

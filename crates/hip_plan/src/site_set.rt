@@ -10,19 +10,24 @@ use std::collections::BTreeSet;
 use std::marker::Model;
 
 /// A set of sites. Contracts see the ascending list of them.
-#[derive(Drop)]
 pub struct SiteSet {
     sites: BTreeSet<Site>,
 }
 
 impl Model for SiteSet {
-    ghost use Rattle.std.specs.Prelude.{◌≡◌, List, true};
+    ghost use Rattle.std.specs.Prelude.{List};
     ghost use Rattle.hip_tree.specs.declared.site.Site.{Site};
-    ghost use Rattle.hip_repairs.specs.Suits.{is_ascending};
 
     ghost Value = { List Site };
 
     ghost view = { λ s. s.sites.keys };
+}
+
+// By hand, so that the drop of a set is proved here and not again in each crate that lets one go.
+impl Drop for SiteSet {
+    fn drop(self) {
+        let SiteSet { sites: _ } = self;
+    }
 }
 
 impl SiteSet {
@@ -44,6 +49,16 @@ impl SiteSet {
             Ok(_) => Ok(()),
             Err(_) => Err(NoMemory),
         }
+    }
+
+    /// Puts the sites of a list in.
+    pub fn insert_all(&mut self, sites: &[Site]) -> Result<(), NoMemory>
+        ensures { OnOk result ((s : Site) → has_site self.new s ≡ (has_site sites.now s || has_site self.old s)) }
+    {
+        'each: for site in sites {
+            self.insert(*site)?;
+        }
+        Ok(())
     }
 
     /// The sites, in ascending order.

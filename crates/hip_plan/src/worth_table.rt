@@ -7,18 +7,27 @@ use crate::worths::{Worths, worth_of};
 use hip_runs::{Findings, Mark, Object};
 use hip_tree::Site;
 use hip_types::NoMemory;
-use indexmap::{IndexMap, IndexSet};
 use std::alloc::Global;
+use std::collections::{BTreeMap, BTreeSet};
 use std::marker::Model;
 
-/// Function, block and index of a site, and the number of one of its pointer operands.
-type OperandKey = (usize, usize, usize, usize);
+/// A site, and the number of one of its pointer operands.
+type OperandKey = (Site, usize);
 
 /// What a run found, with the worth of each operand in a table. Contracts see the findings.
-#[derive(Drop)]
 pub struct WorthTable<'a> {
     found: &'a Findings,
-    worths: IndexMap<OperandKey, i128>,
+    worths: BTreeMap<OperandKey, i128>,
+}
+
+// By hand, so that each exit of a function that has a table is one call.
+impl Drop for WorthTable<'_> {
+    fn drop(self) {
+        let WorthTable {
+            found: _,
+            worths: _,
+        } = self;
+    }
 }
 
 impl<'a> Model for WorthTable<'a> {
@@ -32,34 +41,33 @@ impl<'a> Model for WorthTable<'a> {
     ghost invariant = { λ t. HasWorths t.worths.entries t.found.now.marks.hit t.found.now.marks.pointed };
 }
 
-fn key_of(site: Site, operand: usize) -> OperandKey
-    ensures { result ≡ (site.function, site.block, site.index, operand) }
-{
-    (site.function, site.block, site.index, operand)
-}
-
-/// The numbers of a list, looked up by their hashes.
-fn set_of(alloc: Global, numbers: &[usize]) -> Result<IndexSet<usize>, NoMemory>
+fn set_of(alloc: Global, numbers: &[usize]) -> Result<BTreeSet<usize>, NoMemory>
     ensures { IfOk result (λ set. (n : ℕ) → list_any (nat_eq n) set.keys ≡ list_any (nat_eq n) numbers.now) }
 {
-    let mut set = IndexSet::new(alloc);
+    let mut set = BTreeSet::new(alloc);
     'each: for number in numbers {
         let _is_new = set.insert(*number)?;
     }
     Ok(set)
 }
 
-fn is_marked(hit: &IndexSet<usize>, object: Object) -> bool
+fn is_hit(hit: &BTreeSet<usize>, global: usize) -> bool
+    ensures { result ≡ list_any (nat_eq global) hit.now.keys }
+{
+    hit.contains(&global)
+}
+
+fn is_marked(hit: &BTreeSet<usize>, object: Object) -> bool
     ensures { result ≡ is_marked hit.now.keys object }
 {
     match object {
-        Object::Global(global) => hit.contains(&global),
+        Object::Global(global) => is_hit(hit, global),
         Object::Slot(_) => false,
     }
 }
 
 /// The worth that stands in the table for an operand; 0 where none does.
-fn worth_among(worths: &IndexMap<OperandKey, i128>, key: OperandKey) -> i128
+fn worth_among(worths: &BTreeMap<OperandKey, i128>, key: OperandKey) -> i128
     ensures { result ≡ worth_among worths.now.entries key }
 {
     worths.get(&key).copied().unwrap_or(0)
@@ -70,13 +78,13 @@ fn worths_of(
     alloc: Global,
     hit: &[usize],
     pointed: &[Mark],
-) -> Result<IndexMap<OperandKey, i128>, NoMemory>
+) -> Result<BTreeMap<OperandKey, i128>, NoMemory>
     ensures { IfOk result (λ worths. HasWorths worths.entries hit.now pointed.now) }
 {
     let hit = set_of(alloc, hit)?;
-    let mut worths = IndexMap::new(alloc);
+    let mut worths = BTreeMap::new(alloc);
     'each: for mark in pointed {
-        let key = key_of(mark.site, mark.operand);
+        let key = (mark.site, mark.operand);
         let worth = worth_among(&worths, key) + worth_of(is_marked(&hit, mark.object));
         worths.insert(key, worth)?;
     }
@@ -84,7 +92,7 @@ fn worths_of(
 }
 
 impl<'a> WorthTable<'a> {
-    /// The table of a run's marks. It takes time and memory linear in the marks.
+    /// The table of a run's marks. It takes memory linear in the marks, and time linear but that operands are sorted.
     pub fn new(alloc: Global, found: &'a Findings) -> Result<WorthTable<'a>, NoMemory>
         ensures { IfOk result (λ table. table ≡ found.now) }
     {
@@ -101,6 +109,6 @@ impl<'a> Worths for WorthTable<'a> {
     ghost found = { λ f. f };
 
     fn worth(&self, site: Site, operand: usize) -> i128 {
-        worth_among(&self.worths, key_of(site, operand))
+        worth_among(&self.worths, (site, operand))
     }
 }

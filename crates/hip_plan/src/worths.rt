@@ -34,7 +34,7 @@ impl Worths for Findings {
 fn is_hit(hit: &[usize], global: usize) -> bool
     ensures { result ≡ list_any (nat_eq global) hit.now }
 {
-    hit.iter().any(|number| global == *number)
+    hit.contains(&global)
 }
 
 /// Whether the object is a persistent global that was stored into.

@@ -3,4 +3,5 @@ pub mod Starting
 pub mod Running
 pub mod Quiet
 pub mod QuickSteps
+pub mod LocalSteps
 pub mod Laws

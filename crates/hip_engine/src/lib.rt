@@ -3,6 +3,7 @@
 
 mod going;
 mod here;
+mod local_steps;
 mod machine;
 mod moves;
 mod quick_calls;

@@ -1,6 +1,6 @@
 -- Notes of no steps, and notes of a machine's run.
 use Rattle.std.proofs.Common.{◌≡◌, ℕ, ◌/◌, ◌<◌, ◌≤◌, ◌^◌, List, [], map, Option, Some, None, refl, sym, ap, ◌∙◌, subst, arith}
-use Rattle.std.specs.Prelude.{OnOk, Result, Ok, Err}
+use Rattle.std.specs.Prelude.{IfOk, OnOk, Result, Ok, Err}
 use Rattle.hip_tree.specs.declared.program.Program.{Program}
 use Rattle.hip_lines.specs.Line.{Line}
 use Rattle.hip_runs.specs.Ends.{longest}
@@ -11,8 +11,10 @@ use Rattle.hip_runs.specs.Laws.SinceLaws.{InLine, no_part}
 use Rattle.hip_runs.specs.State.{StorePart}
 use Rattle.hip_runs.specs.Step.{run}
 use Rattle.hip_runs.specs.StoredParts.Order.{last_fence}
+use Rattle.hip_runs.specs.declared.event.Event.{Event}
 use Rattle.hip_runs.specs.declared.input.Input.{Input}
 use Rattle.hip_runs.specs.Seen.{Seen, after_step}
+use Rattle.hip_engine.specs.Quiet.{ComesTo}
 use Rattle.hip_notes.specs.MarkKeys.{AreMet, mark_of, WereHit}
 use Rattle.hip_notes.specs.Plain.{AreTracked}
 use Rattle.hip_notes.specs.Noted.{AreNoted}
@@ -68,20 +70,38 @@ pub both_ok : {A B : Type 0} (Q R S : Type 0) (r : Result A B) → OnOk r Q → 
 both_ok Q R S (Ok x) h k f = f h k
 both_ok Q R S (Err e) h k f = h
 
-pub notes_of : (o : Option Source) (m m' : Seen) (c : Notes) → IsSource o m → longest m.program < 2 ^ 64 → m' ≡ after_step m → AreTracked m'.program m'.input m'.taken c → NotesOf o c
+pub if_ok : {A B : Type 0} (Q : A → Type 0) (R S : Type 0) (r : Result A B) → IfOk r Q → OnOk r R → ((x : A) → Q x → R → S) → OnOk r S
+if_ok Q R S (Ok x) h k f = f x h k
+if_ok Q R S (Err e) h k f = h
+
+-- a machine in the same run
+pub record IsInRun (m m' : Seen) : Type 0 where
+  pub program : m'.program ≡ m.program
+  pub input : m'.input ≡ m.input
+
+pub step_in_run : (m m' : Seen) → m' ≡ after_step m → IsInRun m m'
+step_in_run m m' e = record { program = ap (λ (x : Seen). x.program) e; input = ap (λ (x : Seen). x.input) e }
+
+pub event_in_run : (m m' : Seen) (e : Event) → ComesTo m m' e → IsInRun m m'
+event_in_run m m' e c = record {
+  program = ap (λ (x : Seen). x.program) c.step ∙ ap (λ (x : Seen). x.program) c.quiet.is;
+  input = ap (λ (x : Seen). x.input) c.step ∙ ap (λ (x : Seen). x.input) c.quiet.is;
+}
+
+pub notes_of : (o : Option Source) (m m' : Seen) (c : Notes) → IsSource o m → longest m.program < 2 ^ 64 → IsInRun m m' → AreTracked m'.program m'.input m'.taken c → NotesOf o c
 notes_of None m m' c s short e h = absurd s
 notes_of (Some s) m m' c is short e h =
-    let p : m'.program ≡ s.checked.now = ap (λ (x : Seen). x.program) e ∙ sym is.0 in
-    let i : m'.input ≡ s.input.now = ap (λ (x : Seen). x.input) e ∙ sym is.1 in (
+    let p : m'.program ≡ s.checked.now = e.program ∙ sym is.0 in
+    let i : m'.input ≡ s.input.now = e.input ∙ sym is.1 in (
       subst (λ k. AreTracked s.checked.now s.input.now k c) (sym h.noted.steps) (subst (λ (x : Input). AreTracked s.checked.now x m'.taken c) i (subst (λ (x : Program). AreTracked x m'.input m'.taken c) p h)),
       subst (λ (x : Program). longest x < 2 ^ 64) (sym is.0) short,
     )
 
-pub seen_is : (o : Option Source) (m m' : Seen) (c : Notes) → IsSource o m → m' ≡ after_step m → AreTracked m'.program m'.input m'.taken c → seen_in o c.steps ≡ Some m'
+pub seen_is : (o : Option Source) (m m' : Seen) (c : Notes) → IsSource o m → IsInRun m m' → AreTracked m'.program m'.input m'.taken c → seen_in o c.steps ≡ Some m'
 seen_is None m m' c s e h = absurd s
 seen_is (Some s) m m' c is e h =
-    let p : s.checked.now ≡ m'.program = is.0 ∙ sym (ap (λ (x : Seen). x.program) e) in
-    let i : s.input.now ≡ m'.input = is.1 ∙ sym (ap (λ (x : Seen). x.input) e) in
+    let p : s.checked.now ≡ m'.program = is.0 ∙ sym e.program in
+    let i : s.input.now ≡ m'.input = is.1 ∙ sym e.input in
     ap (λ (x : Program). Some (record { program = x; input = s.input.now; taken = c.steps })) p
     ∙ ap (λ (x : Input). Some (record { program = m'.program; input = x; taken = c.steps })) i
     ∙ ap (λ k. Some (record { program = m'.program; input = m'.input; taken = k })) h.noted.steps

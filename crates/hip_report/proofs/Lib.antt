@@ -1,3 +1,4 @@
 pub mod Blank
 pub mod Noted
 pub mod Stepping
+pub mod Locally

@@ -1,3 +1,4 @@
 pub mod Tracking
 pub mod Noting
 pub mod Stepping
+pub mod Passing

@@ -1,12 +1,15 @@
 ghost use Rattle.std.specs.Prelude.{◌≡◌, ◌⊎◌, ◌≤◌, ◌<◌, ◌^◌, Some, None, true, false, map, IfOk, OnErr, OnOk, IsErr};
+ghost use Rattle.hip_engine.specs.Quiet.{ComesTo};
 ghost use Rattle.hip_runs.specs.Ends.{longest};
 ghost use Rattle.hip_runs.specs.Found.Marks.{IsFound};
 ghost use Rattle.hip_runs.specs.Step.{event, has_ended, header_entries};
 ghost use Rattle.hip_runs.specs.Seen.{after_step, state_of};
 ghost use Rattle.hip_notes.specs.MarkKeys.{mark_of};
 ghost use Rattle.hip_notes.specs.Plain.{AreTracked};
+ghost use Rattle.hip_report.specs.Passing.{StopsShort};
 ghost use Rattle.hip_report.specs.Tracking.{HasNoted, IsSource, MayAdvance, NotesOf, notes_all, seen_in};
 
+use crate::passing::note_next_event;
 use crate::step::note_step;
 use hip_engine::Machine;
 use hip_notes::{Notes, globals_of, marks_of};
@@ -89,6 +92,29 @@ impl<'a> Tracker<'a> {
         }
     }
 
+    /// Takes the machine's steps up to the next event, and notes them. Out of memory, the machine has stopped on the way
+    /// there, and from then on the tracker returns `NoMemory` and leaves machines as they are.
+    pub fn next_event(&mut self, machine: &mut Machine<'a>) -> Result<Event, NoMemory>
+        requires { MayAdvance self.old machine.old }
+        ensures machine { IfOk result (λ e. ComesTo machine.old machine.new e) }
+        ensures noted { OnOk result (self.new
+            ≡ record { header = self.old.header; noted = Some machine.new; failed = false }) }
+        ensures err { OnErr result (StopsShort machine.old machine.new) }
+        ensures failed { OnErr result (self.new.failed ≡ true) }
+        ensures repeats { self.old.failed ≡ true → IsErr result × (machine.new ≡ machine.old) }
+    {
+        if self.failed {
+            return Err(NoMemory);
+        }
+        match next_event_in(self.alloc, &mut self.source, &mut self.notes, machine) {
+            Ok(event) => Ok(event),
+            Err(_) => {
+                self.failed = true;
+                Err(NoMemory)
+            }
+        }
+    }
+
     /// The findings of the run, where every step of the machine was noted, it has ended, and the header's entries are
     /// those of the run's trace.
     pub fn close(self, machine: &Machine<'a>) -> Result<Findings, NoMemory>
@@ -158,4 +184,23 @@ fn advance_in<'a>(
 {
     begin(source, notes, machine);
     note_step(alloc, notes, machine)
+}
+
+// Takes a machine's steps up to the next event and notes them.
+fn next_event_in<'a>(
+    alloc: Global,
+    source: &mut Option<Source<'a>>,
+    notes: &mut Notes,
+    machine: &mut Machine<'a>,
+) -> Result<Event, NoMemory>
+    requires notes { NotesOf source.old notes.old }
+    requires all { notes_all (seen_in source.old notes.old.steps) machine.old }
+    ensures ok { IfOk result (λ e. ComesTo machine.old machine.new e) }
+    ensures noted { OnOk result (NotesOf source.new notes.new) }
+    ensures seen { OnOk result (seen_in source.new notes.new.steps ≡ Some machine.new) }
+    ensures header { OnOk result (notes.new.header ≡ notes.old.header) }
+    ensures err { OnErr result (StopsShort machine.old machine.new) }
+{
+    begin(source, notes, machine);
+    note_next_event(alloc, notes, machine)
 }

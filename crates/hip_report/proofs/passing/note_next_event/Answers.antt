@@ -1,0 +1,57 @@
+use Rattle.std.proofs.Common.{◌-◌, ◌^◌, ◌<◌, arith, refl, ap, sym, ◌∙◌}
+use Rattle.hip_engine.proofs.Quietly.{no_steps, steps_then}
+use Rattle.hip_runs.specs.Seen.{Seen}
+use Rattle.hip_report.specs.Passing.{StopsShort}
+use Rattle.hip_report.proofs.Locally.{goes_one_more, on_err, one_more, same_short}
+use Rattle.hip_report.proofs.passing.note_next_event.Goals as goal
+
+pub steps-init : goal.steps-init
+steps-init c = record { quiet = no_steps c.args.machine.now; noted = c.requires.noted; header = refl }
+
+pub pass_locally-requires-clause-noted : goal.pass_locally-requires-clause-noted
+pass_locally-requires-clause-noted c = c.steps.invariant.noted
+
+pub pass_locally-requires-clause-short : goal.pass_locally-requires-clause-short
+pass_locally-requires-clause-short c = same_short c.args.machine.now c.steps.machine c.steps.invariant.quiet c.requires.short
+
+pub note_step-requires-clause-short : goal.note_step-requires-clause-short
+note_step-requires-clause-short c =
+    same_short c.steps.machine c.pass_locally.new.machine c.pass_locally.ensures.passes (same_short c.args.machine.now c.steps.machine c.steps.invariant.quiet c.requires.short)
+
+pub steps-preserved : goal.steps-preserved
+steps-preserved c =
+    let quiet = steps_then c.args.machine.now c.steps.machine c.pass_locally.new.machine c.steps.invariant.quiet c.pass_locally.ensures.passes in
+    let none = c.is_quiet.ensures.0 c.if-not-is_quiet.false in
+    record {
+      quiet = goes_one_more c.args.machine.now c.pass_locally.new.machine c.note_step.new.machine quiet c.in_ok-event.ensures.ok (sym c.in_ok-event.ensures.event ∙ none);
+      noted = c.in_ok-event.ensures.noted;
+      header = c.in_ok-event.ensures.header ∙ c.pass_locally.ensures.header ∙ c.steps.invariant.header;
+    }
+
+pub steps-smaller : goal.steps-smaller
+steps-smaller c =
+    let none = c.is_quiet.ensures.0 c.if-not-is_quiet.false in
+    let passed = ap (λ (m : Seen). m.taken) c.pass_locally.ensures.passes.is in
+    let next = ap (λ (m : Seen). m.taken) (one_more c.pass_locally.new.machine c.note_step.new.machine c.in_ok-event.ensures.ok (sym c.in_ok-event.ensures.event ∙ none)) in
+    let before = c.steps.invariant.noted.noted.steps in
+    let after = c.in_ok-event.ensures.noted.noted.steps in
+    let few = c.pass_locally.ensures.few in
+    let e : 2 ^ 128 - c.note_step.new.notes.steps < 2 ^ 128 - c.steps.notes.steps = omega (arith, passed, next, before, after, few) in e
+
+pub returns-then-not-is_quiet-clause-ok : goal.returns-then-not-is_quiet-clause-ok
+returns-then-not-is_quiet-clause-ok c = record {
+  before = c.pass_locally.new.machine;
+  quiet = steps_then c.args.machine.now c.steps.machine c.pass_locally.new.machine c.steps.invariant.quiet c.pass_locally.ensures.passes;
+  step = c.in_ok-event.ensures.ok;
+  is = c.in_ok-event.ensures.event;
+  some = λ quiet. let is = c.is_quiet.ensures.1 quiet in let not = c.if-not-is_quiet.true in let z : ⊥ = cc in z;
+}
+
+pub returns-in_err-event-clause-err : goal.returns-in_err-event-clause-err
+returns-in_err-event-clause-err c =
+    let stops : StopsShort c.args.machine.now c.note_step.new.machine = record {
+      before = c.pass_locally.new.machine;
+      quiet = steps_then c.args.machine.now c.steps.machine c.pass_locally.new.machine c.steps.invariant.quiet c.pass_locally.ensures.passes;
+      is = c.in_err-event.ensures.err;
+    } in
+    on_err c.from_residual.result stops

@@ -153,7 +153,7 @@ fn follow<'a, C: Cabinet>(
     let program = machine.checked().program();
     let _most = longest(program);
     'steps: loop {
-        let event = match tracker.advance(machine) {
+        let event = match tracker.next_event(machine) {
             Ok(event) => event,
             Err(_) => return Err(ReplayRefusal::NoMemory),
         };

@@ -24,7 +24,7 @@ use Rattle.hip_sound.specs.declared.fault.TypeFault.{TypeFault}
 use Rattle.hip_sound.specs.declared.fault.TypeFault.TheVariants as faults
 use Rattle.hip_sound.specs.declared.fault.TypeRefusal.{TypeRefusal}
 use Rattle.hip_tree.specs.declared.program.Program.{Program}
-use Rattle.hip_typing.specs.Checks.{Refuses, refuses}
+use Rattle.hip_typing.specs.Checks.{Refuses}
 
 -- what the exit of a `?` answers
 fails : {T E : Type 0} (P : Result T E → Type 0) (r : Result T E) (e : E) → IsErrAnd r (λ y. y ≡ e) → P (Err e)
@@ -48,7 +48,7 @@ pub text_refused : (text : List ℕ) (why : ParseRefusal) (r : Result Program (F
 text_refused text why r only cause h = fails (ReadsProgram text) r (failure_of_text why) h (unread text why only cause)
 
 unsound : (text : List ℕ) (program : Program) (fault : TypeFault) (place : Place) → Reads text program
-    → refuses program fault place → ReadsProgram text (Err (failure_of_fault fault place))
+    → Refuses program (record { fault = fault; place = place }) → ReadsProgram text (Err (failure_of_fault fault place))
 unsound text program faults.NoMemory place reads refused = tt {0}
 unsound text program _ place reads refused = (program, reads, refused)
 

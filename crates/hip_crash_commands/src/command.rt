@@ -55,19 +55,13 @@ fn crash_run<S: Sink, N: Sink>(
         (sinks (S.state out.old) (S.state out.new) (N.state notes.old) (N.state notes.new)) result }
     ensures delivered { S.held out.old ≡ 0 → IsDelivered result (S.held out.new) }
 {
-    let checked = &loaded.checked;
-    let input = loaded.replayed.input;
-    let image = match image_at(
-        alloc,
-        checked,
-        &input,
-        loaded.replayed.entries,
-        entry,
-        picks,
-    ) {
+    let LoadedRun { checked, replayed } = loaded;
+    let entries = replayed.entries;
+    let input = replayed.input;
+    let image = match image_at(alloc, &checked, &input, entries, entry, picks) {
         Ok(image) => image,
         Err(failure) => return refuse(notes, status_of_image(failure)),
     };
     let begun = Input { image, ..input };
-    put_trace(alloc, checked, &begun, out, notes)
+    put_trace(alloc, &checked, &begun, out, notes)
 }

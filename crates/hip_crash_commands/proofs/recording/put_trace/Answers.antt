@@ -10,9 +10,9 @@ returns-in-Ok-clause-answered g c =
 
 pub returns-in-Err-WriteFault-clause-answered : goal.returns-in-Err-WriteFault-clause-answered
 returns-in-Err-WriteFault-clause-answered g c =
-    let s = sinks (g.S.Sink.state c.args.out.now) (g.S.Sink.state c.record_run.new.out) (g.N.Sink.state c.args.notes.now) (g.N.Sink.state c.refuse-in-Err-WriteFault.new.notes) in
-    rw c.refuse-in-Err-WriteFault.ensures.status (was_cut c.args.checked.now c.args.input.now s
-    (rw c.in-Err-WriteFault.field-0-is at c.in-Err-WriteFault.ensures.records) c.refuse-in-Err-WriteFault.ensures.line)
+    let s = sinks (g.S.Sink.state c.args.out.now) (g.S.Sink.state c.record_run.new.out) (g.N.Sink.state c.args.notes.now) (g.N.Sink.state c.refuse.new.notes) in
+    rw c.refuse.ensures.status (was_cut c.args.checked.now c.args.input.now s
+    (rw c.in-Err-WriteFault.field-0-is at c.in-Err-WriteFault.ensures.records) c.refuse.ensures.line)
 
 pub returns-in-Err-NoMemory-clause-answered : goal.returns-in-Err-NoMemory-clause-answered
 returns-in-Err-NoMemory-clause-answered g c =

@@ -18,11 +18,11 @@ returns-in-Err-WriteFault-clause-answered g c =
     let P = c.args.checked.now in
     let I = c.args.replayed.now.input in
     let found = c.args.replayed.now.findings in
-    let s = sinks (g.S.Sink.state c.args.out.now) (g.S.Sink.state c.record_run.new.out) (g.N.Sink.state c.args.notes.now) (g.N.Sink.state c.refuse-in-Err-WriteFault.new.notes) in
-    rw c.refuse-in-Err-WriteFault.ensures.status (rerun_part P I found
+    let s = sinks (g.S.Sink.state c.args.out.now) (g.S.Sink.state c.record_run.new.out) (g.N.Sink.state c.args.notes.now) (g.N.Sink.state c.refuse.new.notes) in
+    rw c.refuse.ensures.status (rerun_part P I found
     (c.repairs_cure.ensures P I found c.program-program.ensures.sound c.requires.valid c.requires.found)
     c.args.repair.now.repaired.checked c.requires.repair.program_is s
-    (rw c.in-Err-WriteFault.field-0-is at c.in-Err-WriteFault.ensures.records) c.refuse-in-Err-WriteFault.ensures.line)
+    (rw c.in-Err-WriteFault.field-0-is at c.in-Err-WriteFault.ensures.records) c.refuse.ensures.line)
 
 pub returns-in-Err-NoMemory-clause-answered : goal.returns-in-Err-NoMemory-clause-answered
 returns-in-Err-NoMemory-clause-answered g c =

@@ -1,5 +1,5 @@
 -- The files give one answer of `many`.
-use Rattle.std.proofs.Common.{◌≡◌, ◌⊎◌, ◌++◌, ℕ, suc, true, List, [], ◌∷◌, length, map, Option, Some, None, inl, inr, refl, sym, ap, ◌∙◌, subst}
+use Rattle.std.proofs.Common.{◌≡◌, ◌⊎◌, ◌++◌, ℕ, suc, List, [], ◌∷◌, length, map, Some, inl, inr, refl, sym, ap, ◌∙◌, subst}
 use Rattle.std.proofs.lemmas.List.Elements.{All-cons, All-head, All-nil, All-tail}
 use Rattle.std.specs.List.{All}
 use Rattle.hip_answers.specs.Answers.{Answer, refusal}
@@ -28,7 +28,6 @@ use Rattle.hip_repair_answers.specs.Laws.Repairs.{answer_is}
 use Rattle.hip_answers.specs.TraceFiles.{HasNoTrace, IsTraceFile}
 use Rattle.hip_answers.specs.TraceLaws.{never_both, untraced_once}
 use Rattle.hip_answers.specs.declared.refusal.TraceFileRefusal.{TraceFileRefusal}
-use Rattle.hip_answers.specs.declared.refusal.TraceFileRefusal.TheVariants as traces
 use Rattle.hip_repairs.specs.CloneNumbers.{clone_numbers}
 use Rattle.hip_repairs.specs.declared.plan.Plan.{Plan}
 use Rattle.hip_runs.specs.declared.input.Input.{Input}

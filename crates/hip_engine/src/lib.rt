@@ -8,5 +8,6 @@ mod machine;
 mod moves;
 mod quick_calls;
 mod quick_steps;
+mod quick_stores;
 
 pub use machine::Machine;
